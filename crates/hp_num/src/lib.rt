@@ -1,0 +1,17 @@
+//! Names, lists and exact arithmetic.
+#![tactic(auto)]
+
+pub mod list;
+pub mod memory;
+pub mod name;
+pub mod size;
+pub mod whole;
+
+pub use list::List;
+pub use memory::Memory;
+pub use name::Name;
+pub use size::Size;
+pub use whole::{add_product, floor_div};
+
+#[cfg(test)]
+mod worked_values;
