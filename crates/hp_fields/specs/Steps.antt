@@ -1,0 +1,46 @@
+-- Steps that may refuse, and what code gives of them.
+use Rattle.std.specs.Prelude.{◌≡◌, ℕ, suc, List, [], ◌∷◌, Result, Ok, Err}
+use Rattle.serde_json.specs.Data.{Data, Items, no_items, item, Members, no_members, member}
+use Rattle.hp_problem.specs.declared.refusal.Refusal.{Refusal}
+use Rattle.hp_fields.specs.declared.refusal.ReadRefusal.{ReadRefusal}
+use Rattle.hp_fields.specs.declared.refusal.ReadRefusal.TheVariants as refusals
+
+infixl 10 ◌>>=◌
+abbrev pub ◌>>=◌ : {A B : Type 0} → Result A Refusal → (A → Result B Refusal) → Result B Refusal
+(Ok x) >>= f = f x
+(Err e) >>= f = Err e
+
+-- What a function returned, seen by view, is what reading gives, unless memory ran out.
+abbrev pub Fails : {Y : Type 0} → ReadRefusal → Result Y Refusal → Type 0
+Fails (refusals.Refused r) read = read ≡ Err r
+Fails refusals.Memory read = Unit {0}
+
+abbrev pub Gives : {X Y : Type 0} → (X → Y) → Result X ReadRefusal → Result Y Refusal → Type 0
+Gives view (Ok x) read = read ≡ Ok (view x)
+Gives view (Err e) read = Fails e read
+
+-- the members one after another, with their numbers; what was found so far is handed on
+unfoldable pub walk_members : {A : Type 0} → (A → ℕ → List ℕ → Data → Result A Refusal) → A → ℕ → Members → Result A Refusal
+walk_members step found i no_members = Ok found
+walk_members step found i (member k d ms) = do
+  next ← step found i k d
+  walk_members step next (suc i) ms
+
+-- the items one after another
+unfoldable pub walk_items : {A : Type 0} → (A → ℕ → Data → Result A Refusal) → A → ℕ → Items → Result A Refusal
+walk_items step found i no_items = Ok found
+walk_items step found i (item d ds) = do
+  next ← step found i d
+  walk_items step next (suc i) ds
+
+-- the entries of a list one after another
+unfoldable pub walk_list : {A B : Type 0} → (A → ℕ → B → Result A Refusal) → A → ℕ → List B → Result A Refusal
+walk_list step found i [] = Ok found
+walk_list step found i (x ∷ xs) = do
+  next ← step found i x
+  walk_list step next (suc i) xs
+
+-- The same of a function that takes no memory.
+abbrev pub Shows : {X Y : Type 0} → (X → Y) → Result X Refusal → Result Y Refusal → Type 0
+Shows view (Ok x) read = read ≡ Ok (view x)
+Shows view (Err e) read = read ≡ Err e

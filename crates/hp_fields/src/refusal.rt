@@ -1,0 +1,48 @@
+// Why nothing was read.
+ghost use Rattle.std.specs.Prelude.{◌≡◌};
+ghost use Rattle.hp_fields.specs.declared.refusal.ReadRefusal.TheVariants as refusals;
+
+use hp_num::Memory;
+use hp_problem::Refusal;
+use std::alloc::{AllocError, AllocFailed};
+
+/// Why nothing was read.
+#[derive(Clone, Copy, Debug, PartialEq, Eq)]
+pub enum ReadRefusal {
+    /// What is wrong first, and where.
+    Refused(Refusal),
+    /// Memory was refused.
+    Memory,
+}
+
+impl From<Refusal> for ReadRefusal {
+    ghost from_gives = { λ r e. e ≡ refusals.Refused r };
+
+    fn from(refusal: Refusal) -> Self {
+        ReadRefusal::Refused(refusal)
+    }
+}
+
+impl From<Memory> for ReadRefusal {
+    ghost from_gives = { λ _ e. e ≡ refusals.Memory };
+
+    fn from(_: Memory) -> Self {
+        ReadRefusal::Memory
+    }
+}
+
+impl From<AllocError> for ReadRefusal {
+    ghost from_gives = { λ _ e. e ≡ refusals.Memory };
+
+    fn from(_: AllocError) -> Self {
+        ReadRefusal::Memory
+    }
+}
+
+impl<T: Drop> From<AllocFailed<T>> for ReadRefusal {
+    ghost from_gives = { λ _ e. e ≡ refusals.Memory };
+
+    fn from(_: AllocFailed<T>) -> Self {
+        ReadRefusal::Memory
+    }
+}
