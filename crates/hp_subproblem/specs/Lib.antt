@@ -1,0 +1,14 @@
+pub mod Variables
+pub mod Roles
+pub mod States
+pub mod Randoms
+pub mod Decisions
+pub mod Function
+pub mod Objective
+pub mod Sides
+pub mod Rows
+pub mod Constraint
+pub mod Boxes
+pub mod Parts
+pub mod Shown
+pub mod Subproblem
