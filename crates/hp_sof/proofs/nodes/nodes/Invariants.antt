@@ -1,0 +1,14 @@
+use Rattle.std.proofs.Common.{◌≡◌, ◌+◌}
+use Rattle.serde_json.specs.Events.{members_len}
+use Rattle.serde_json.specs.View.{members_view}
+use Rattle.hp_fields.specs.Steps.{walk_members}
+use Rattle.hp_sof.specs.Nodes.{node_at, nodes_at}
+use Rattle.hp_sof.proofs.nodes.nodes.Given as goal
+
+abbrev pub invariant-loop-name : goal.invariant-loop-name
+invariant-loop-name l = record {
+  can : (goal.iterator-loop-name).can_next l.name-iterator;
+  finite : (goal.iterator-loop-name).is_finite l.name-iterator;
+  counted : l.n + members_len (members_view l.name-iterator) ≡ members_len (members_view l.table.entries);
+  walked : walk_members (node_at l.names l.directory) l.found l.n (members_view l.name-iterator) ≡ nodes_at l.names l.directory (members_view l.table.entries);
+}

@@ -1,0 +1,13 @@
+pub mod Version
+pub mod Weights
+pub mod Successors
+pub mod Root
+pub mod Values
+pub mod Realizations
+pub mod Nodes
+pub mod Scenarios
+pub mod Tables
+pub mod Shown
+pub mod Subproblems
+pub mod Read
+pub mod Problem

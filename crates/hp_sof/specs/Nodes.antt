@@ -1,0 +1,51 @@
+-- The nodes of the policy graph.
+use Rattle.std.specs.Prelude.{ℕ, pos, List, [], ◌∷◌, ◌++◌, Option, Some, None, Result, Ok, int_lt, position, codes, unsigned_abs, if◌then◌else◌}
+use Rattle.std.specs.Str.{bytes_eq}
+use Rattle.serde_json.specs.Data.{Data, Members}
+use Rattle.serde_json.specs.Find.{get}
+use Rattle.hp_problem.specs.declared.raw.Node.{Node}
+use Rattle.hp_problem.specs.declared.refusal.Refusal.{Refusal}
+use Rattle.hp_problem.specs.declared.refusal.RefusalKind.TheVariants as kinds
+use Rattle.hp_problem.specs.declared.refusal.Part.TheVariants as parts
+use Rattle.hp_problem.specs.declared.refusal.Place.{Place}
+use Rattle.hp_fields.specs.Steps.{◌>>=◌, walk_members}
+use Rattle.hp_fields.specs.Fields.{refuse, whole_at, key_at, string_at, present_at, object_at}
+use Rattle.hp_fields.specs.Limits.{known_at, members_at, items_at}
+use Rattle.hp_sof.specs.Realizations.{at_node, realizations_at}
+use Rattle.hp_sof.specs.Successors.{successors_at}
+use Rattle.hp_sof.specs.Values.{randoms_of}
+use Rattle.hp_sof.specs.Weights.{weights_at}
+use Rattle.hp_sof.specs.declared.nodes.Ways.{Ways}
+use Rattle.hp_sof.specs.declared.subproblems.Directory.{Directory}
+
+-- the weight with which the horizon ends at a node, 0 where it is absent
+unfoldable pub stop_at : Place → Option Data → Result ℕ Refusal
+stop_at p None = Ok 0
+stop_at p (Some d) = do
+  stop ← whole_at p d
+  if int_lt stop (pos 0) then refuse kinds.Weight p else Ok (unsigned_abs stop)
+
+-- where a path may go on from node n, or end; names are those of all nodes
+unfoldable pub branches_at : List (List ℕ) → ℕ → Members → Option Data → Result Ways Refusal
+branches_at names n successors ending = do
+  links ← successors_at parts.Successor n names successors
+  stop ← stop_at (at_node n) ending
+  weights ← weights_at (at_node n) stop links.weights
+  Ok (record { nodes = links.nodes; weights = weights; stop = stop })
+
+unfoldable pub node_at : List (List ℕ) → Directory → List Node → ℕ → List ℕ → Data → Result (List Node) Refusal
+node_at names directory found n k d = do
+  name ← key_at (at_node n) k
+  all ← object_at (at_node n) d
+  inner ← present_at (at_node n) (get (codes "subproblem") d)
+  sub_name ← string_at (at_node n) inner
+  realizations ← items_at (at_node n) (get (codes "realizations") d)
+  successors ← members_at (at_node n) (get (codes "successors") d)
+  sub ← known_at (at_node n) (position (bytes_eq sub_name) directory.names)
+  chances ← realizations_at n (randoms_of directory.subs sub) realizations
+  weights ← weights_at (at_node n) 0 chances.weights
+  branches ← branches_at names n successors (get (codes "stop") d)
+  Ok (found ++ record { name = name; sub = sub; weights = weights; values = chances.values; links = branches.nodes; link_weights = branches.weights; stop = branches.stop } ∷ [])
+
+unfoldable pub nodes_at : List (List ℕ) → Directory → Members → Result (List Node) Refusal
+nodes_at names directory ms = walk_members (node_at names directory) [] 0 ms

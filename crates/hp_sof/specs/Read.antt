@@ -1,0 +1,27 @@
+-- The parts of a problem from the bytes of its file.
+use Rattle.std.specs.Prelude.{ℕ, List, [], Result, Ok}
+use Rattle.hp_problem.specs.declared.raw.Raw.{Raw}
+use Rattle.hp_problem.specs.declared.refusal.Refusal.{Refusal}
+use Rattle.hp_fields.specs.Steps.{◌>>=◌}
+use Rattle.hp_fields.specs.Fields.{keys_of, json_at}
+use Rattle.hp_sof.specs.Nodes.{nodes_at}
+use Rattle.hp_sof.specs.Root.{root_at}
+use Rattle.hp_sof.specs.Scenarios.{scenarios_at}
+use Rattle.hp_sof.specs.Subproblems.{subproblems_at}
+use Rattle.hp_sof.specs.Tables.{Tables, tables_at}
+
+-- the root, the subproblems and the nodes, where names are those of the nodes
+unfoldable pub graph_at : List (List ℕ) → Tables → Result Raw Refusal
+graph_at names tables = do
+  start ← root_at names tables.root
+  directory ← subproblems_at start.states tables.subproblems
+  nodes ← nodes_at names directory tables.nodes
+  Ok (record { states = start.states; root = start.nodes; root_weights = start.weights; nodes = nodes; subs = directory.subs; scenarios = [] })
+
+unfoldable pub raw_of : List ℕ → Result Raw Refusal
+raw_of bytes = do
+  d ← json_at bytes
+  tables ← tables_at d
+  graph ← graph_at (keys_of tables.nodes) tables
+  scenarios ← scenarios_at (keys_of tables.nodes) graph tables.scenarios
+  Ok (record graph { scenarios = scenarios })

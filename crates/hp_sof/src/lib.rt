@@ -1,0 +1,23 @@
+//! Reads a problem from JSON.
+#![tactic(auto)]
+
+mod nodes;
+mod problem;
+mod read;
+mod realizations;
+mod root;
+mod scenarios;
+mod subproblems;
+mod successors;
+mod tables;
+mod values;
+mod version;
+mod weights;
+
+pub use hp_fields::{ReadRefusal, weight as read_weight};
+pub use hp_problem::{Part, Place, Refusal, RefusalKind};
+pub use problem::read_problem;
+pub use read::read_raw;
+
+#[cfg(test)]
+mod tests;

@@ -1,0 +1,127 @@
+// The nodes of the policy graph.
+ghost use Rattle.std.specs.Prelude.{◌≡◌, ◌≤◌, ◌^◌, length, option_map};
+ghost use Rattle.serde_json.specs.View.{view, members_view};
+ghost use Rattle.hp_fields.specs.Steps.{Gives};
+ghost use Rattle.hp_sof.specs.Nodes.{stop_at, branches_at, node_at, nodes_at};
+
+use crate::realizations::realizations;
+use crate::subproblems::Directory;
+use crate::successors::{known, successors};
+use crate::values::randoms;
+use crate::weights::weights;
+use hp_fields::{
+    Names, ReadRefusal, count, few, items, key, members, object, present, string, whole,
+};
+use hp_num::List;
+use hp_problem::{Node, Part, Place, Refusal, RefusalKind};
+use serde_json::{Map, Value};
+use std::alloc::Global;
+
+// Where a path may go on from a node, or end.
+#[derive(Drop)]
+struct Ways {
+    nodes: List<u32>,
+    weights: List<u32>,
+    stop: u32,
+}
+
+/// The weight with which the horizon ends at a node, 0 where it is absent: a whole number, and Weight
+/// below 0.
+#[tactic(auto, unfolding(crate::specs::Nodes::stop_at))]
+fn stop(value: Option<&Value>, place: Place) -> Result<u64, Refusal>
+    ensures { result ≡ stop_at place (option_map (λ v. view v.now) value.entry) }
+{
+    let Some(value) = value else {
+        return Ok(0);
+    };
+    let stop = whole(value, place)?;
+    if stop < 0 {
+        return Err(RefusalKind::Weight.at(place));
+    }
+    Ok(stop.unsigned_abs())
+}
+
+#[tactic(auto, unfolding(crate::specs::Nodes::branches_at))]
+fn branches(
+    alloc: Global,
+    names: &Names,
+    n: u32,
+    members: &Map<String, Value>,
+    ending: Option<&Value>,
+) -> Result<Ways, ReadRefusal>
+    requires { length names.now ≤ 2 ^ 32 }
+    ensures { Gives (λ b. b) result (branches_at names.now n (members_view members.now.entries)
+        (option_map (λ v. view v.now) ending.entry)) }
+{
+    let place = Place::new(Part::Node, n, 0, 0);
+    let links = successors(alloc, names, Part::Successor, n, members)?;
+    let stop = stop(ending, place)?;
+    let weights = weights(alloc, stop, links.weights.as_slice(), place)?;
+    Ok(Ways {
+        nodes: links.nodes,
+        weights,
+        stop: stop as u32,
+    })
+}
+
+#[tactic(auto, unfolding(crate::specs::Nodes::node_at))]
+fn node(
+    alloc: Global,
+    names: &Names,
+    directory: &Directory,
+    found: &mut List<Node>,
+    n: u32,
+    name: &str,
+    value: &Value,
+) -> Result<(), ReadRefusal>
+    requires few_nodes { length names.now ≤ 2 ^ 32 }
+    requires few_subproblems { length directory.now.names ≤ 2 ^ 32 }
+    ensures { Gives (λ _. found.new) result
+        (node_at names.now directory.now found.old n name.now (view value.now)) }
+{
+    let place = Place::new(Part::Node, n, 0, 0);
+    let none = Map::new(alloc);
+    let name = key(alloc, name, place)?;
+    object(value, place)?;
+    let sub_name = string(present(value.get("subproblem"), place)?, place)?;
+    let all_realizations = items(value.get("realizations"), place)?;
+    let all_successors = members(value.get("successors"), &none, place)?;
+    let sub = known(&directory.names, sub_name, place)?;
+    let randoms = randoms(directory.subs.as_slice(), sub);
+    let chances = realizations(alloc, randoms, n, all_realizations)?;
+    let weights = weights(alloc, 0, chances.weights.as_slice(), place)?;
+    let branches = branches(alloc, names, n, all_successors, value.get("stop"))?;
+    found.push(Node {
+        name,
+        sub,
+        weights,
+        values: chances.values,
+        links: branches.nodes,
+        link_weights: branches.weights,
+        stop: branches.stop,
+    })?;
+    Ok(())
+}
+
+/// The nodes, in the byte order of their `names`: for each its subproblem, its realizations, its
+/// successors and the weight with which the horizon ends there.
+pub(crate) fn nodes(
+    alloc: Global,
+    names: &Names,
+    directory: &Directory,
+    table: &Map<String, Value>,
+) -> Result<List<Node>, ReadRefusal>
+    requires few_nodes { length names.now ≤ 2 ^ 32 }
+    requires few_subproblems { length directory.now.names ≤ 2 ^ 32 }
+    ensures { Gives (λ l. l) result
+        (nodes_at names.now directory.now (members_view table.now.entries)) }
+{
+    few(count(table))?;
+    let mut found = List::new(alloc);
+    let mut n = 0u32;
+    for (name, value) in table.iter() {
+        node(alloc, names, directory, &mut found, n, name.as_str(), value)?;
+        n += 1;
+    }
+    Ok(found)
+}

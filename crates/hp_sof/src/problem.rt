@@ -1,0 +1,40 @@
+// A problem from the bytes of its file.
+ghost use Rattle.std.specs.Prelude.{◌≡◌};
+ghost use Rattle.hp_fields.specs.Steps.{Gives};
+ghost use Rattle.hp_graph.specs.Lone.{arranged};
+ghost use Rattle.hp_sof.specs.Problem.{problem_at};
+
+use crate::read::read_raw;
+use hp_fields::ReadRefusal;
+use hp_graph::{ArrangeFault, arrange};
+use hp_problem::{Part, Place, Problem, Raw, RefusalKind};
+use std::alloc::Global;
+
+// The problem of these parts, or the first refusal of its graph.
+fn arranged(alloc: Global, raw: Raw) -> Result<Option<Problem>, ReadRefusal>
+    ensures { Gives (λ p. p) result (arranged raw) }
+{
+    match arrange(alloc, raw) {
+        Ok(problem) => Ok(problem),
+        Err(ArrangeFault::Cycle { node }) => Err(ReadRefusal::Refused(RefusalKind::Cycle.at(
+            Place::new(Part::Node, node, 0, 0),
+        ))),
+        Err(ArrangeFault::Unreachable { node }) => Err(ReadRefusal::Refused(
+            RefusalKind::Unreachable.at(Place::new(Part::Node, node, 0, 0)),
+        )),
+        Err(ArrangeFault::BoxGap { node, state }) => Err(ReadRefusal::Refused(
+            RefusalKind::BoxGap.at(Place::new(Part::Node, node, state, 0)),
+        )),
+        Err(ArrangeFault::Memory) => Err(ReadRefusal::Memory),
+    }
+}
+
+/// The problem that the bytes of its file give, or the first refusal of the reading and of the graph.
+/// None where the problem has more than one node.
+#[tactic(auto, unfolding(crate::specs::Problem::problem_at))]
+pub fn read_problem(alloc: Global, bytes: &[u8]) -> Result<Option<Problem>, ReadRefusal>
+    ensures { Gives (λ p. p) result (problem_at bytes.now) }
+{
+    let raw = read_raw(alloc, bytes)?;
+    arranged(alloc, raw)
+}

@@ -1,0 +1,50 @@
+// The parts of a problem from the bytes of its file.
+ghost use Rattle.std.specs.Prelude.{◌≡◌, ◌≤◌, ◌^◌, length};
+ghost use Rattle.serde_json.specs.Events.{members_len};
+ghost use Rattle.serde_json.specs.View.{members_view};
+ghost use Rattle.hp_fields.specs.Steps.{Gives};
+ghost use Rattle.hp_sof.specs.Read.{graph_at, raw_of};
+ghost use Rattle.hp_sof.specs.Shown.{shown};
+
+use crate::nodes::nodes;
+use crate::root::root;
+use crate::scenarios::scenarios;
+use crate::subproblems::subproblems;
+use crate::tables::{Tables, tables_of};
+use hp_fields::{Names, ReadRefusal, json, keys};
+use hp_num::List;
+use hp_problem::Raw;
+use std::alloc::Global;
+
+// A problem without its scenarios, where `names` are those of the nodes.
+#[tactic(auto, unfolding(crate::specs::Read::graph_at))]
+fn graph(alloc: Global, names: &Names, tables: &Tables) -> Result<Raw, ReadRefusal>
+    requires few_nodes { length names.now ≤ 2 ^ 32 }
+    requires few_subproblems { members_len (members_view tables.now.subproblems.now.entries) ≤ 2 ^ 32 }
+    ensures { Gives (λ r. r) result (graph_at names.now (shown tables.now)) }
+{
+    let start = root(alloc, names, tables.root)?;
+    let directory = subproblems(alloc, start.states.as_slice(), tables.subproblems)?;
+    let nodes = nodes(alloc, names, &directory, tables.nodes)?;
+    Ok(Raw {
+        states: start.states,
+        root: start.nodes,
+        root_weights: start.weights,
+        nodes,
+        subs: directory.subs,
+        scenarios: List::new(alloc),
+    })
+}
+
+/// The parts of a problem from the bytes of its file, or the first refusal.
+#[tactic(auto, unfolding(crate::specs::Read::raw_of), using(hp_fields::proofs::InOrder::counts))]
+pub fn read_raw(alloc: Global, bytes: &[u8]) -> Result<Raw, ReadRefusal>
+    ensures { Gives (λ r. r) result (raw_of bytes.now) }
+{
+    let value = json(alloc, bytes)?;
+    let tables = tables_of(&value)?;
+    let names = keys(alloc, tables.nodes)?;
+    let graph = graph(alloc, &names, &tables)?;
+    let scenarios = scenarios(alloc, &names, &graph, tables.scenarios)?;
+    Ok(Raw { scenarios, ..graph })
+}

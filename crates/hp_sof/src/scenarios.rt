@@ -1,0 +1,152 @@
+// The stored scenarios: paths through the graph with the values of their random variables.
+ghost use Rattle.std.specs.Prelude.{◌≡◌, ◌≤◌, ◌-◌, ◌^◌, length, option_map, slice_get};
+ghost use Rattle.serde_json.specs.View.{view, items_view};
+ghost use Rattle.hp_fields.specs.Steps.{Gives, Shows};
+ghost use Rattle.hp_sof.specs.Scenarios.{ways_from, randoms_in, follows_at, moment_at, moments_at, steps_at, some_at, scenario_at, scenarios_at};
+
+use crate::successors::known;
+use crate::values::{randoms, values};
+use hp_fields::{Names, ReadRefusal, array, few, members, object, present, string};
+use hp_num::{List, Name};
+use hp_problem::{Moment, Part, Place, Raw, Refusal, RefusalKind};
+use serde_json::{Map, Value};
+use std::alloc::Global;
+
+// The nodes that a path may go on to: the root's successors at first, then those of its last node.
+fn ways<'r>(raw: &'r Raw, path: &[Moment]) -> &'r [u32]
+    ensures { result.now ≡ ways_from raw.now (slice_get path.now (length path.now - 1)) }
+{
+    match path.last() {
+        Some(last) => match raw.nodes.as_slice().get(last.node as usize) {
+            Some(node) => node.links.as_slice(),
+            None => &[],
+        },
+        None => raw.root.as_slice(),
+    }
+}
+
+#[tactic(auto, unfolding(crate::specs::Scenarios::follows_at))]
+fn follows(raw: &Raw, path: &[Moment], node: u32, place: Place) -> Result<(), Refusal>
+    ensures { result ≡ follows_at place raw.now path.now node }
+{
+    if ways(raw, path).contains(&node) {
+        Ok(())
+    } else {
+        Err(RefusalKind::Scenario.at(place))
+    }
+}
+
+fn node_randoms(raw: &Raw, node: u32) -> &[Name]
+    ensures { result.now ≡ randoms_in raw.now (slice_get raw.now.nodes node) }
+{
+    match raw.nodes.as_slice().get(node as usize) {
+        Some(node) => randoms(raw.subs.as_slice(), node.sub),
+        None => &[],
+    }
+}
+
+#[tactic(auto, unfolding(crate::specs::Scenarios::moment_at))]
+fn moment(
+    alloc: Global,
+    names: &Names,
+    raw: &Raw,
+    path: &mut List<Moment>,
+    k: u32,
+    t: u32,
+    value: &Value,
+) -> Result<(), ReadRefusal>
+    requires { length names.now ≤ 2 ^ 32 }
+    ensures { Gives (λ _. path.new) result
+        (moment_at names.now raw.now k path.old t (view value.now)) }
+{
+    let place = Place::new(Part::Step, k, t, 0);
+    let none = Map::new(alloc);
+    object(value, place)?;
+    let name = string(present(value.get("node"), place)?, place)?;
+    let support = members(value.get("support"), &none, place)?;
+    let node = known(names, name, place)?;
+    follows(raw, path.as_slice(), node, place)?;
+    let values = values(alloc, Part::Step, k, t, node_randoms(raw, node), support)?;
+    path.push(Moment { node, values })?;
+    Ok(())
+}
+
+fn moments(
+    alloc: Global,
+    names: &Names,
+    raw: &Raw,
+    k: u32,
+    items: &[Value],
+) -> Result<List<Moment>, ReadRefusal>
+    requires { length names.now ≤ 2 ^ 32 }
+    ensures { Gives (λ l. l) result (moments_at names.now raw.now k (items_view items.now)) }
+{
+    few(items.len())?;
+    let mut path = List::new(alloc);
+    for (t, value) in items.iter().enumerate() {
+        moment(alloc, names, raw, &mut path, k, t as u32, value)?;
+    }
+    Ok(path)
+}
+
+#[tactic(auto, unfolding(crate::specs::Scenarios::steps_at))]
+fn steps(value: &Value, place: Place) -> Result<&[Value], Refusal>
+    ensures { Shows (λ items. items_view items.now) result (steps_at place (view value.now)) }
+{
+    match value {
+        Value::Array(items) => Ok(items.as_slice()),
+        Value::Object(_) => array(present(value.get("scenario"), place)?, place),
+        _ => Err(RefusalKind::Shape.at(place)),
+    }
+}
+
+#[tactic(auto, unfolding(crate::specs::Scenarios::some_at), using(hp_fields::proofs::InOrder::counts))]
+fn some(items: &[Value], place: Place) -> Result<&[Value], Refusal>
+    ensures { Shows (λ items. items_view items.now) result (some_at place (items_view items.now)) }
+{
+    if items.is_empty() {
+        Err(RefusalKind::Scenario.at(place))
+    } else {
+        Ok(items)
+    }
+}
+
+#[tactic(auto, unfolding(crate::specs::Scenarios::scenario_at))]
+fn scenario(
+    alloc: Global,
+    names: &Names,
+    raw: &Raw,
+    found: &mut List<List<Moment>>,
+    k: u32,
+    value: &Value,
+) -> Result<(), ReadRefusal>
+    requires { length names.now ≤ 2 ^ 32 }
+    ensures { Gives (λ _. found.new) result
+        (scenario_at names.now raw.now found.old k (view value.now)) }
+{
+    let place = Place::new(Part::Scenario, k, 0, 0);
+    let steps = some(steps(value, place)?, place)?;
+    let path = moments(alloc, names, raw, k, steps)?;
+    found.push(path)?;
+    Ok(())
+}
+
+/// The stored scenarios of a problem whose other parts are there: each a path of known nodes that
+/// begins at a successor of the root, where each node leads to the next, with the values of the
+/// random variables at each.
+pub(crate) fn scenarios(
+    alloc: Global,
+    names: &Names,
+    raw: &Raw,
+    items: &[Value],
+) -> Result<List<List<Moment>>, ReadRefusal>
+    requires { length names.now ≤ 2 ^ 32 }
+    ensures { Gives (λ l. l) result (scenarios_at names.now raw.now (items_view items.now)) }
+{
+    few(items.len())?;
+    let mut found = List::new(alloc);
+    for (k, value) in items.iter().enumerate() {
+        scenario(alloc, names, raw, &mut found, k as u32, value)?;
+    }
+    Ok(found)
+}

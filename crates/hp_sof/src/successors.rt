@@ -1,0 +1,84 @@
+// Successors with their weights.
+ghost use Rattle.std.specs.Prelude.{◌≡◌, ◌≤◌, ◌^◌, length, position};
+ghost use Rattle.std.specs.Str.{bytes_eq};
+ghost use Rattle.serde_json.specs.View.{view, members_view};
+ghost use Rattle.hp_fields.specs.Limits.{known_at};
+ghost use Rattle.hp_fields.specs.Steps.{Gives};
+ghost use Rattle.hp_sof.specs.Successors.{successor_at, successors_at};
+
+use hp_fields::{Names, ReadRefusal, count, few, weight};
+use hp_num::List;
+use hp_problem::{Part, Place, Refusal, RefusalKind};
+use serde_json::{Map, Value};
+use std::alloc::Global;
+
+/// Successors in the byte order of their names.
+#[derive(Drop)]
+pub(crate) struct Links {
+    pub(crate) nodes: List<u32>,
+    /// One weight per successor, each at least 1.
+    pub(crate) weights: List<u64>,
+}
+
+/// The number of a known name, else UnknownName.
+#[tactic(auto, unfolding(hp_fields::specs::Limits::known_at))]
+pub(crate) fn known(names: &Names, name: &str, place: Place) -> Result<u32, Refusal>
+    requires { length names.now ≤ 2 ^ 32 }
+    ensures { result ≡ known_at place (position (bytes_eq name.now) names.now) }
+{
+    match names.position(name) {
+        Some(at) => Ok(at as u32),
+        None => Err(RefusalKind::UnknownName.at(place)),
+    }
+}
+
+#[tactic(auto, unfolding(crate::specs::Successors::successor_at))]
+fn successor(
+    names: &Names,
+    found: &mut Links,
+    place: Place,
+    name: &str,
+    value: &Value,
+) -> Result<(), ReadRefusal>
+    requires { length names.now ≤ 2 ^ 32 }
+    ensures { Gives (λ _. found.new) result
+        (successor_at place names.now found.old name.now (view value.now)) }
+{
+    let weight = weight(value, place)?;
+    let node = known(names, name, place)?;
+    found.nodes.push(node)?;
+    found.weights.push(weight.unsigned_abs())?;
+    Ok(())
+}
+
+/// The successors that an object's members name: each a weight, then the key of a known node. The
+/// place of successor i has the part and the numbers `a`, i and 0.
+pub(crate) fn successors(
+    alloc: Global,
+    names: &Names,
+    part: Part,
+    a: u32,
+    members: &Map<String, Value>,
+) -> Result<Links, ReadRefusal>
+    requires { length names.now ≤ 2 ^ 32 }
+    ensures { Gives (λ s. s) result
+        (successors_at part a names.now (members_view members.now.entries)) }
+{
+    few(count(members))?;
+    let mut found = Links {
+        nodes: List::new(alloc),
+        weights: List::new(alloc),
+    };
+    let mut i = 0u32;
+    for (name, value) in members.iter() {
+        successor(
+            names,
+            &mut found,
+            Place::new(part, a, i, 0),
+            name.as_str(),
+            value,
+        )?;
+        i += 1;
+    }
+    Ok(found)
+}
