@@ -1,0 +1,27 @@
+-- What stands under the cost of a tree is positive.
+use Rattle.std.proofs.Common.{ℕ, ◌<◌, ℤ, List, [], ◌∷◌, All, arith, mul-pos}
+use Rattle.hp_num.proofs.Sums.{All_head, All_tail}
+use Rattle.hp_theory.specs.Cost.{cost, cost_sum, costs_of}
+use Rattle.hp_theory.specs.Fraction.{weighted}
+use Rattle.hp_theory.specs.Premises.{Known}
+use Rattle.hp_theory.specs.Problem.{Realization, Link, Node, Problem, node_at, link_weights, successor_weight}
+use Rattle.hp_theory.specs.Tree.{next_state, Tree, Forest, no_branch, branch, no_tree, tree}
+
+mutual
+  tree_under : (p : Problem) (count units : ℕ) (n : Node) (rs : List Realization) (xi : List ℤ) (t : Tree) → 0 < units → Known p count → 0 < successor_weight n → All (λ (l : Link). l.node < count) n.links → 0 < (cost_sum p units n rs xi t).under
+  tree_under p count units n rs xi no_branch z k q h = omega arith
+  tree_under p count units n [] xi (branch u f t) z k q h = omega arith
+  tree_under p count units n (r ∷ rs) xi (branch u f t) z k q h =
+      mul-pos (mul-pos z (mul-pos (forest_under p count units (link_weights n.links) n.links (next_state n u) f z k h) q)) (tree_under p count units n rs xi t z k q h)
+
+  forest_under : (p : Problem) (count units : ℕ) (ws : List ℕ) (ls : List Link) (x : List ℤ) (f : Forest) → 0 < units → Known p count → All (λ (l : Link). l.node < count) ls → 0 < (weighted ws (costs_of p units ls x f)).under
+  forest_under p count units [] ls x f z k h = omega arith
+  forest_under p count units (w ∷ ws) ls x no_tree z k h = omega arith
+  forest_under p count units (w ∷ ws) [] x (tree t f) z k h = omega arith
+  forest_under p count units (w ∷ ws) (l ∷ ls) x (tree t f) z k h =
+      let b : l.node < count = All_head (λ (l : Link). l.node < count) l ls h in
+      mul-pos (mul-pos (tree_under p count units (node_at p l.node) (node_at p l.node).realizations x t z k (k.successors l.node b) (k.links l.node b)) (k.realizations l.node b))
+      (forest_under p count units ws ls x f z k (All_tail (λ (l : Link). l.node < count) l ls h))
+
+pub positive_under : (p : Problem) (count m units : ℕ) (xi : List ℤ) (t : Tree) → Known p count → m < count → 0 < units → 0 < (cost p units m xi t).under
+positive_under p count m units xi t k b z = mul-pos (tree_under p count units (node_at p m) (node_at p m).realizations xi t z k (k.successors m b) (k.links m b)) (k.realizations m b)

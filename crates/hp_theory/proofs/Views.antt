@@ -1,0 +1,94 @@
+-- What the definitions see of a sealed problem, field by field.
+use Rattle.std.proofs.Common.{◌≡◌, ℕ, ◌+◌, ℤ, List, [], ◌∷◌, length, map, get_or, sum, Some, None, refl, ap, sym, ◌∙◌, arith}
+use Rattle.std.proofs.lemmas.List.Sums.{sum_by-cons}
+use Rattle.std.specs.Prelude.{slice_get}
+use Rattle.hp_problem.specs.Sealed.{Sealed}
+use Rattle.hp_theory.specs.Problem.{no_node, node_at, weight_of_realizations, link_weights}
+use Rattle.hp_theory.specs.View.{realizations_of, links_of, node_of, problem_of}
+use Rattle.hp_problem.specs.declared.raw.Decision.{Decision}
+use Rattle.hp_problem.specs.declared.raw.Subproblem.{Subproblem}
+use Rattle.hp_problem.specs.declared.raw.State.{State}
+use Rattle.hp_problem.specs.declared.raw.Node as nodes
+
+-- the node m, where it and its subproblem are there
+pub node_at-problem_of : (s : Sealed) (m : ℕ) (n : nodes.Node) (sub : Subproblem) → slice_get s.raw.nodes m ≡ Some n → slice_get s.raw.subs n.sub ≡ Some sub → node_at (problem_of s) m ≡ node_of n sub (get_or s.lo m []) (get_or s.hi m [])
+unfolding problem_of
+node_at-problem_of s m n sub e f = rw (e, f) refl
+
+-- a node that is not there
+pub node_at-past : (s : Sealed) (m : ℕ) → slice_get s.raw.nodes m ≡ None → node_at (problem_of s) m ≡ no_node
+unfolding problem_of
+node_at-past s m e = rw e refl
+
+pub root-problem_of : (s : Sealed) → (problem_of s).root ≡ links_of s.raw.root s.raw.root_weights
+unfolding problem_of
+root-problem_of s = refl
+
+pub initial-problem_of : (s : Sealed) → (problem_of s).initial ≡ map (λ (state : State). state.initial) s.raw.states
+unfolding problem_of
+initial-problem_of s = refl
+
+-- their weights
+pub weight-realizations_of : (ws : List ℕ) (vs : List (List ℤ)) → length ws ≡ length vs → weight_of_realizations (realizations_of ws vs) ≡ sum ws
+weight-realizations_of [] vs e = refl
+weight-realizations_of (w ∷ ws) [] e = absurd (omega arith)
+weight-realizations_of (w ∷ ws) (v ∷ vs) e = ap (λ k. w + k) (weight-realizations_of ws vs (omega arith)) ∙ sym (sum_by-cons (λ k. k) w ws)
+
+pub link_weights-links_of : (ms ws : List ℕ) → length ms ≡ length ws → link_weights (links_of ms ws) ≡ ws
+link_weights-links_of [] [] e = refl
+link_weights-links_of [] (w ∷ ws) e = absurd (omega arith)
+link_weights-links_of (m ∷ ms) [] e = absurd (omega arith)
+link_weights-links_of (m ∷ ms) (w ∷ ws) e = ap (λ (k : List ℕ). w ∷ k) (link_weights-links_of ms ws (omega arith))
+
+module _ (n : nodes.Node) (s : Subproblem) (low high : List ℤ) where
+  pub decision_low-node_of : (node_of n s low high).decision_low ≡ map (λ (d : Decision). d.low) s.decisions
+  unfolding node_of
+  decision_low-node_of = refl
+
+  pub decision_high-node_of : (node_of n s low high).decision_high ≡ map (λ (d : Decision). d.high) s.decisions
+  unfolding node_of
+  decision_high-node_of = refl
+
+  pub costs-node_of : (node_of n s low high).costs ≡ map (λ (d : Decision). d.cost) s.decisions
+  unfolding node_of
+  costs-node_of = refl
+
+  pub outs-node_of : (node_of n s low high).outs ≡ s.outs
+  unfolding node_of
+  outs-node_of = refl
+
+  pub rows-node_of : (node_of n s low high).rows ≡ s.rows
+  unfolding node_of
+  rows-node_of = refl
+
+  pub constant-node_of : (node_of n s low high).constant ≡ s.constant
+  unfolding node_of
+  constant-node_of = refl
+
+  pub state_costs-node_of : (node_of n s low high).state_costs ≡ s.state_costs
+  unfolding node_of
+  state_costs-node_of = refl
+
+  pub random_costs-node_of : (node_of n s low high).random_costs ≡ s.random_costs
+  unfolding node_of
+  random_costs-node_of = refl
+
+  pub low-node_of : (node_of n s low high).low ≡ low
+  unfolding node_of
+  low-node_of = refl
+
+  pub high-node_of : (node_of n s low high).high ≡ high
+  unfolding node_of
+  high-node_of = refl
+
+  pub realizations-node_of : (node_of n s low high).realizations ≡ realizations_of n.weights n.values
+  unfolding node_of
+  realizations-node_of = refl
+
+  pub links-node_of : (node_of n s low high).links ≡ links_of n.links n.link_weights
+  unfolding node_of
+  links-node_of = refl
+
+  pub stop-node_of : (node_of n s low high).stop ≡ n.stop
+  unfolding node_of
+  stop-node_of = refl

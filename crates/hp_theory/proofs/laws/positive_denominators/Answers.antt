@@ -1,0 +1,5 @@
+use Rattle.hp_theory.proofs.Denominators as lemmas
+use Rattle.hp_theory.proofs.laws.positive_denominators.Goals as goal
+
+pub returns : goal.returns
+returns c = lemmas.positive_under

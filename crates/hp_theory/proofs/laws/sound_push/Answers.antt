@@ -1,0 +1,5 @@
+use Rattle.hp_theory.proofs.Appending as lemmas
+use Rattle.hp_theory.proofs.laws.sound_push.Goals as goal
+
+pub returns : goal.returns
+returns c = lemmas.push_sound

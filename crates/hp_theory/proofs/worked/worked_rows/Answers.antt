@@ -1,0 +1,17 @@
+use Rattle.hp_theory.proofs.WorkedTrees as trees
+use Rattle.hp_theory.proofs.WorkedCuts as cuts
+use Rattle.hp_theory.proofs.WorkedSizes as sizes
+use Rattle.hp_theory.proofs.worked.worked_rows.Goals as goal
+
+pub returns : goal.returns
+returns c = record {
+  policy = trees.policy_in_halves;
+  no_policy = trees.wrong_policy;
+  cost_of_policy = trees.policy_cost_in_halves;
+  stopped_cost = trees.stop_cost;
+  weighted_cut = cuts.weights_1_2;
+  rounded_cut = cuts.rounded_over_the_box;
+  bound_of_base = cuts.stop_bound;
+  size_of_base = sizes.edge_base;
+  size_beyond = sizes.edge_beyond;
+}

@@ -1,0 +1,37 @@
+-- The value of a node's cuts at a state, and the bound of pools.
+-- Source: Pereira and Pinto 1991.
+use Rattle.std.specs.Prelude.{ℕ, ◌<◌, ℤ, pos, ◌+ℤ◌, ◌*ℤ◌, List, [], ◌∷◌, sum}
+use Rattle.std.specs.Int.{int_max}
+use Rattle.hp_num.specs.Sums.{total, dot, floor_over}
+use Rattle.hp_theory.specs.declared.cut.Cut.{Cut}
+use Rattle.hp_theory.specs.Fraction.{◌≤ᶠ◌}
+use Rattle.hp_theory.specs.Problem.{S, Link, Problem, link_weights}
+use Rattle.hp_theory.specs.Tree.{Forest, Policy}
+use Rattle.hp_theory.specs.Cost.{policy_cost}
+use Rattle.hp_theory.specs.Pools.{pool}
+
+-- alpha + beta·x
+abbrev pub height : Cut → List ℤ → ℤ
+height c x = c.alpha +ℤ dot c.beta x
+
+-- the greatest height of the cuts, and 0 where there is none
+abbrev pub greatest : List Cut → List ℤ → ℤ
+greatest [] x = pos 0
+greatest (c ∷ []) x = height c x
+greatest (c ∷ (d ∷ cs)) x = int_max (height c x) (greatest (d ∷ cs) x)
+
+-- Value: the greatest alpha + beta·x over the cuts of the node m
+abbrev pub value : List (List Cut) → ℕ → List ℤ → ℤ
+value pools m x = greatest (pool pools m) x
+
+-- the sum of the weights times the values
+abbrev pub weighted_value : List (List Cut) → List ℤ → List Link → ℤ
+weighted_value pools x ls = total (λ (l : Link). pos l.weight *ℤ value pools l.node x) ls
+
+-- Bound: the average of the values of the root's successors at the initial state, rounded down
+abbrev pub bound : Problem → List (List Cut) → ℤ
+bound p pools = floor_over (weighted_value pools p.initial p.root) (sum (link_weights p.root))
+
+-- b / S is at most the cost of each policy, in any units
+abbrev pub Under : Problem → ℤ → Type 0
+Under p b = (units : ℕ) (f : Forest) → 0 < units → Policy p units f → record { up = b; under = S } ≤ᶠ policy_cost p units f

@@ -1,0 +1,16 @@
+pub mod Fraction
+pub mod Problem
+pub mod View
+pub mod Tree
+pub mod Cost
+pub mod Pools
+pub mod Certificates
+pub mod CutOf
+pub mod Size
+pub mod Range
+pub mod Fit
+pub mod Bound
+pub mod Base
+pub mod Leaf
+pub mod Premises
+pub mod Examples
