@@ -1,0 +1,4 @@
+mod Replaced
+pub mod Products
+pub mod Reach
+pub mod Weighted

@@ -1,0 +1,71 @@
+-- Cuts that fit stay small at each state of the box.
+use Rattle.std.proofs.Common.{◌≡◌, ℕ, zero, suc, ◌<◌, ◌^◌, ℤ, pos, ◌+ℤ◌, ◌*ℤ◌, ◌≤ℤ◌, List, [], ◌∷◌, length, get_or, sum, All, max, nat_abs, refl, sym, ap, ◌∙◌, subst, arith}
+use Rattle.std.proofs.lemmas.Int.{ints}
+use Rattle.std.proofs.lemmas.List.Sums.{sum_by-cons}
+use Rattle.hp_num.specs.Sums.{sum_to, total, entry, dot}
+use Rattle.hp_num.proofs.Ring.{ring, var, num, ◌⊕◌, ◌⊗◌}
+use Rattle.hp_num.proofs.Order.{le_refl, le_trans, le_add, le_scale}
+use Rattle.hp_theory.specs.declared.cut.Cut.{Cut}
+use Rattle.hp_theory.specs.Problem.{Link, Node, Problem, link_weights}
+use Rattle.hp_theory.specs.Tree.{InBox}
+use Rattle.hp_theory.specs.Size.{magnitude, magnitudes, reach}
+use Rattle.hp_theory.specs.Fit.{CutFits, cut_size}
+use Rattle.hp_theory.specs.View.{links_of}
+use Rattle.hp_theory.specs.Premises.{StartsIn}
+use Rattle.hp_cut.specs.Reaches.{Reaches, height_size}
+
+dot_below : (bs xs : List ℤ) (r : ℕ → ℤ) → length bs ≡ length xs → ((k : ℕ) → k < length xs → magnitude (entry xs k) ≤ℤ r k) → dot (magnitudes bs) (magnitudes xs) ≤ℤ sum_to (length bs) (λ k. magnitude (entry bs k) *ℤ r k)
+dot_below [] xs r e h = le_refl (pos 0)
+dot_below (b ∷ bs) [] r e h = absurd (omega arith)
+dot_below (b ∷ bs) (x ∷ xs) r e h =
+    le_add (magnitude b *ℤ magnitude x) (magnitude b *ℤ r 0) (dot (magnitudes bs) (magnitudes xs)) (sum_to (length bs) (λ k. magnitude (entry bs k) *ℤ r (suc k)))
+    (le_scale (nat_abs b) (magnitude x) (r 0) (h 0 (omega arith))) (dot_below bs xs (λ k. r (suc k)) (omega arith) (λ k p. h (suc k) (omega arith)))
+
+inside_reach : (l x h : ℤ) → (pos 1 *ℤ l) ≤ℤ x → x ≤ℤ (pos 1 *ℤ h) → magnitude x ≤ℤ pos (max 1 (max (nat_abs l) (nat_abs h)))
+inside_reach l x h p q = omega (arith, ints)
+
+pub reaches : (n : Node) (x : List ℤ) (c : Cut) → InBox 1 n.low n.high x → CutFits n c → Reaches x c
+reaches n x c b f =
+    let count : length c.beta ≡ length x = f.slopes ∙ sym b.count in
+    let below : dot (magnitudes c.beta) (magnitudes x) ≤ℤ sum_to (length c.beta) (λ k. magnitude (entry c.beta k) *ℤ reach n.low n.high k) =
+    dot_below c.beta x (reach n.low n.high) count (λ k h. let i : k < length n.low = omega (arith, b.count) in inside_reach (entry n.low k) (entry x k) (entry n.high k) (b.above k i) (b.below k i)) in
+    let same : sum_to (length c.beta) (λ k. magnitude (entry c.beta k) *ℤ reach n.low n.high k) ≡ sum_to (length n.low) (λ k. magnitude (entry c.beta k) *ℤ reach n.low n.high k) = ap (λ (k : ℕ). sum_to k (λ k. magnitude (entry c.beta k) *ℤ reach n.low n.high k)) f.slopes in
+    record {
+      slopes = count;
+      small = le_trans (height_size c x) (cut_size n c) (pos (2 ^ 104))
+          (le_add (magnitude c.alpha) (magnitude c.alpha) (dot (magnitudes c.beta) (magnitudes x)) (sum_to (length n.low) (λ k. magnitude (entry c.beta k) *ℤ reach n.low n.high k)) (le_refl (magnitude c.alpha))
+          (subst (λ (z : ℤ). dot (magnitudes c.beta) (magnitudes x) ≤ℤ z) same below)) f.small;
+    }
+
+pub all_reach : (n : Node) (x : List ℤ) (cs : List Cut) → InBox 1 n.low n.high x → All (CutFits n) cs → All (Reaches x) cs
+all_reach n x cs b f = λ k d h. reaches n x (get_or cs k d) b (f k d h)
+
+one_mul_le : (a b : ℤ) → a ≤ℤ b → (pos 1 *ℤ a) ≤ℤ b
+one_mul_le a b h = omega (arith, ints)
+
+le_one_mul : (a b : ℤ) → a ≤ℤ b → a ≤ℤ (pos 1 *ℤ b)
+le_one_mul a b h = omega (arith, ints)
+
+-- the initial state is in the box, in whole units
+pub start_box : (p : Problem) (n : Node) → StartsIn p n → InBox 1 n.low n.high p.initial
+start_box p n s = record { count = s.count; above = λ k h. one_mul_le (entry n.low k) (entry p.initial k) (s.lows k h); below = λ k h. le_one_mul (entry p.initial k) (entry n.high k) (s.highs k h) }
+
+-- the links of two lists, one by one
+pub link_at : (ms ws : List ℕ) (i : ℕ) (d : Link) → length ws ≡ length ms → i < length ms → get_or (links_of ms ws) i d ≡ record { node = get_or ms i 0; weight = get_or ws i 0 }
+link_at [] ws i d e h = absurd (omega arith)
+link_at (m ∷ ms) [] i d e h = absurd (omega arith)
+link_at (m ∷ ms) (w ∷ ws) zero d e h = refl
+link_at (m ∷ ms) (w ∷ ws) (suc i) d e h = link_at ms ws i d (omega arith) (omega arith)
+
+pub length-links_of : (ms ws : List ℕ) → length ws ≡ length ms → length (links_of ms ws) ≡ length ms
+length-links_of [] ws e = refl
+length-links_of (m ∷ ms) [] e = absurd (omega arith)
+length-links_of (m ∷ ms) (w ∷ ws) e = ap suc (length-links_of ms ws (omega arith))
+
+-- weights times one number
+pub total-weights : (c : ℕ) (ls : List Link) → total (λ (l : Link). pos l.weight *ℤ pos c) ls ≡ pos (sum (link_weights ls)) *ℤ pos c
+total-weights c [] = ring (pos c ∷ []) (num (pos 0)) (num (pos 0) ⊗ var 0) tt
+total-weights c (l ∷ ls) =
+    ap (λ (k : ℤ). pos l.weight *ℤ pos c +ℤ k) (total-weights c ls)
+    ∙ ring (pos l.weight ∷ pos c ∷ pos (sum (link_weights ls)) ∷ []) (var 0 ⊗ var 1 ⊕ var 2 ⊗ var 1) ((var 0 ⊕ var 2) ⊗ var 1) tt
+    ∙ ap (λ (k : ℕ). pos k *ℤ pos c) (sym (sum_by-cons (λ k. k) l.weight (link_weights ls)))

@@ -1,0 +1,9 @@
+-- Pools as contracts see them.
+use Rattle.std.specs.Prelude.{ℕ, List}
+use Rattle.hp_theory.specs.declared.cut.Cut.{Cut}
+
+pub record Pooled : Type 0 where
+  -- the cuts of each node
+  pub lists : List (List Cut)
+  -- for each node, how many more cuts have room
+  pub spare : List ℕ

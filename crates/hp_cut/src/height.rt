@@ -1,0 +1,64 @@
+// The value of a cut at a state, and the greatest of them.
+ghost use Rattle.std.specs.Prelude.{◌≡◌, ◌^◌, ◌<◌, ℤ, pos, ◌+ℤ◌, ◌≤ℤ◌, ◌<ℤ◌, length, All};
+ghost use Rattle.std.specs.Int.{int_max};
+ghost use Rattle.hp_num.specs.Sums.{dot};
+ghost use Rattle.hp_theory.specs.Size.{magnitude, magnitudes};
+ghost use Rattle.hp_theory.specs.Bound.{height, greatest};
+ghost use Rattle.hp_cut.specs.Reaches.{Reaches};
+
+use hp_num::add_product;
+use hp_theory::Cut;
+
+fn slopes_at(xs: &[i128], ys: &[i64]) -> i128
+    requires lengths { length xs.now ≡ length ys.now }
+    requires small { dot (magnitudes xs.now) (magnitudes ys.now) <ℤ pos (2 ^ 127) }
+    ensures { result ≡ dot xs.now ys.now }
+{
+    let mut sum: i128 = 0;
+    for i in 0..xs.len() {
+        sum = add_product(sum, xs[i], i128::from(ys[i]));
+    }
+    sum
+}
+
+fn add(a: i128, b: i128) -> i128
+    requires { (magnitude a +ℤ magnitude b) ≤ℤ pos (2 ^ 104) }
+    ensures value { result ≡ a +ℤ b }
+    ensures small { magnitude result ≤ℤ pos (2 ^ 104) }
+{
+    a + b
+}
+
+/// alpha + beta·x, at scale 2^24.
+pub(crate) fn height(cut: &Cut, state: &[i64]) -> i128
+    requires { Reaches state.now cut.now }
+    ensures value { result ≡ height cut.now state.now }
+    ensures small { magnitude result ≤ℤ pos (2 ^ 104) }
+{
+    add(cut.alpha, slopes_at(cut.beta.as_slice(), state))
+}
+
+/// The greatest height of some cuts, at scale 2^24.
+pub(crate) fn greatest(cuts: &[Cut], state: &[i64]) -> i128
+    requires some { 0 < length cuts.now }
+    requires reach { All (Reaches state.now) cuts.now }
+    ensures value { result ≡ greatest cuts.now state.now }
+    ensures small { magnitude result ≤ℤ pos (2 ^ 104) }
+{
+    let mut i = cuts.len() - 1;
+    let mut best = height(&cuts[i], state);
+    while i > 0 {
+        i -= 1;
+        best = greater(height(&cuts[i], state), best);
+    }
+    best
+}
+
+fn greater(a: i128, b: i128) -> i128
+    requires a_small { magnitude a ≤ℤ pos (2 ^ 104) }
+    requires b_small { magnitude b ≤ℤ pos (2 ^ 104) }
+    ensures value { result ≡ int_max a b }
+    ensures small { magnitude result ≤ℤ pos (2 ^ 104) }
+{
+    a.max(b)
+}

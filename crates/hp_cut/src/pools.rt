@@ -1,0 +1,159 @@
+// Pools of cuts.
+ghost use Rattle.std.specs.Int.{w128};
+ghost use Rattle.std.specs.Prelude.{◌≡◌, ◌<◌, ◌≤◌, ◌^◌, ◌*◌, ℤ, pos, ◌+ℤ◌, ◌*ℤ◌, ◌≤ℤ◌, [], ◌∷◌, ◌++◌, vec_len, vec_capacity, length, sum, true, replicate, get_or, set, take, if◌then◌else◌, is_ok, IfOk, OnOk, IsOk};
+ghost use Rattle.hp_num.specs.Sums.{total};
+ghost use Rattle.hp_problem.specs.Sealed.{is_sealed};
+ghost use Rattle.hp_theory.specs.Problem.{node_at, link_weights};
+ghost use Rattle.hp_theory.specs.Tree.{InBox};
+ghost use Rattle.hp_theory.specs.Size.{magnitude};
+ghost use Rattle.hp_theory.specs.Fit.{Fit};
+ghost use Rattle.hp_theory.specs.Pools.{pool, push, Sound};
+ghost use Rattle.hp_theory.specs.Bound.{value, weighted_value, bound, Under};
+ghost use Rattle.hp_theory.specs.View.{problem_of, links_of};
+
+use crate::height::greatest;
+use hp_num::{Memory, add_product, floor_div};
+use hp_problem::Problem;
+use hp_theory::Cut;
+use std::alloc::Global;
+use std::marker::Model;
+
+/// One list of cuts per node, over the values of its incoming state, at scale 2^24. A list has at most
+/// 2^24 cuts.
+#[derive(Drop)]
+pub struct Pools {
+    lists: Vec<Vec<Cut>>,
+}
+
+impl Model for Pools {
+    ghost use Rattle.std.specs.Prelude.{◌-◌, map, vec_len, vec_capacity};
+    ghost use Rattle.hp_cut.specs.Pooled.{Pooled};
+
+    ghost Value = { Pooled };
+
+    ghost view = { λ p. record { lists = map (λ v. v.items) p.lists.items; spare = map (λ v. vec_capacity v - vec_len v) p.lists.items } };
+}
+
+impl Pools {
+    /// Empty lists, one per node. [`Memory`] where memory was refused.
+    pub fn new(alloc: Global, nodes: u32) -> Result<Pools, Memory>
+        ensures { IfOk result (λ p. p.lists ≡ replicate nodes []) }
+    {
+        let mut lists = Vec::new(alloc);
+        for _ in 0..nodes {
+            lists.push(Vec::new(alloc))?;
+        }
+        Ok(Pools { lists })
+    }
+
+    /// Makes room for one more cut of a node. [`Memory`] where memory was refused. The cuts stay in
+    /// either case.
+    pub fn reserve(&mut self, node: u32) -> Result<(), Memory>
+        requires { node < length self.old.lists }
+        ensures cuts { self.new.lists ≡ self.old.lists }
+        ensures room { OnOk result (1 ≤ get_or self.new.spare node 0) }
+    {
+        self.lists[node as usize].reserve(1)?;
+        Ok(())
+    }
+
+    /// Appends a cut to a node's list. [`Memory`] comes only where there was no room, and then the
+    /// cut is dropped and the lists are as before.
+    pub fn push(&mut self, node: u32, cut: Cut) -> Result<(), Memory>
+        requires known { node < length self.old.lists }
+        requires few { length (pool self.old.lists node) < 2 ^ 24 }
+        ensures cuts { self.new.lists ≡ (if is_ok result then push self.old.lists node cut else self.old.lists) }
+        ensures room { 1 ≤ get_or self.old.spare node 0 → IsOk result }
+    {
+        append(&mut self.lists[node as usize], cut)
+    }
+
+    /// Keeps the first cuts of a node, as many as the count says.
+    pub fn truncate(&mut self, node: u32, count: u32)
+        requires { node < length self.old.lists }
+        ensures { self.new.lists ≡ set self.old.lists node (take count (pool self.old.lists node)) }
+    {
+        self.lists[node as usize].truncate(count as usize);
+    }
+
+    /// The number of nodes.
+    pub fn nodes(&self) -> usize
+        ensures { result ≡ length self.now.lists }
+    {
+        self.lists.len()
+    }
+
+    /// The cuts of a node.
+    pub fn cuts(&self, node: usize) -> &[Cut]
+        requires { node < length self.now.lists }
+        ensures { result.now ≡ pool self.now.lists node }
+    {
+        self.lists[node].as_slice()
+    }
+
+    /// The greatest value of a node's cuts at a whole state inside its box, at scale 2^24.
+    pub fn value_at(&self, problem: &Problem, node: u32, state: &[i64]) -> i128
+        requires fit { Fit (problem_of problem.now) (length problem.now.raw.nodes) self.now.lists }
+        requires known { node < length problem.now.raw.nodes }
+        requires inside { InBox 1 (node_at (problem_of problem.now) node).low
+            (node_at (problem_of problem.now) node).high state.now }
+        ensures value { result ≡ value self.now.lists node state.now }
+        ensures small { magnitude result ≤ℤ pos (2 ^ 104) }
+    {
+        let _ = problem;
+        greatest(self.cuts(node as usize), state)
+    }
+
+    // The sum of the weights of the root's successors times their values at the initial state.
+    fn weighted(&self, problem: &Problem) -> i128
+        requires { Fit (problem_of problem.now) (length problem.now.raw.nodes) self.now.lists }
+        ensures { result ≡ weighted_value self.now.lists (problem_of problem.now).initial (problem_of problem.now).root }
+    {
+        let raw = problem.raw();
+        let state = problem.initial();
+        let nodes = raw.root.as_slice();
+        let weights = raw.root_weights.as_slice();
+        let mut sum: i128 = 0;
+        for i in 0..nodes.len() {
+            let value = self.value_at(problem, nodes[i], state);
+            sum = add_product(sum, i128::from(weights[i]), value);
+        }
+        sum
+    }
+
+    /// The bound of the pools, at scale 2^24: the average of the values of the root's successors at
+    /// the initial state by the root's weights, rounded down (Pereira and Pinto 1991).
+    pub fn bound(&self, problem: &Problem) -> i128
+        requires { Fit (problem_of problem.now) (length problem.now.raw.nodes) self.now.lists }
+        ensures value { result ≡ bound (problem_of problem.now) self.now.lists }
+        ensures sound { Sound (problem_of problem.now) self.now.lists → Under (problem_of problem.now) result }
+    {
+        floor_div(self.weighted(problem), root_weight(problem))
+    }
+}
+
+// Appends a cut, or leaves the cuts as they are where memory was refused.
+fn append(cuts: &mut Vec<Cut>, cut: Cut) -> Result<(), Memory>
+    ensures cuts { cuts.new.items ≡ (if is_ok result then cuts.old.items ++ cut ∷ [] else cuts.old.items) }
+    ensures room { vec_len cuts.old < vec_capacity cuts.old → IsOk result }
+{
+    match cuts.push(cut) {
+        Ok(()) => Ok(()),
+        Err(_) => Err(Memory),
+    }
+}
+
+fn root_weight(problem: &Problem) -> i128
+    ensures value { result ≡ pos (sum (link_weights (problem_of problem.now).root)) }
+    ensures some { pos 1 ≤ℤ result }
+    ensures sealed { is_sealed problem.now ≡ true }
+{
+    i128::from(total(problem.raw().root_weights.as_slice()))
+}
+
+fn total(weights: &[u32]) -> u64
+    requires { length weights.now ≤ 2 ^ 16 }
+    ensures { result ≡ sum weights.now }
+{
+    weights.iter().map(|weight| u64::from(*weight)).sum()
+}
