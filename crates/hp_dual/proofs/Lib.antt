@@ -1,0 +1,7 @@
+pub mod Adding
+pub mod SubproblemSize
+pub mod Realizations
+pub mod Fits
+pub mod LeafParts
+pub mod LeafFits
+pub mod LoneParts
