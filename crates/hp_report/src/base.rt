@@ -1,0 +1,25 @@
+// The report of the base cuts.
+ghost use Rattle.std.specs.Prelude.{◌≡◌, IfOk, length};
+ghost use Rattle.hp_report.specs.Report.{base_text};
+ghost use Rattle.hp_theory.specs.Fit.{Fit};
+ghost use Rattle.hp_theory.specs.View.{problem_of};
+
+use crate::cuts::{push_bound, push_cuts};
+use crate::head::push_head;
+use hp_cut::Pools;
+use hp_num::Memory;
+use hp_problem::Problem;
+use std::alloc::Global;
+
+/// The report of the base cuts: the head, a line for each cut, and the line of the bound.
+#[tactic(auto, unfolding(crate::specs::Report::base_text))]
+pub fn base_report(alloc: Global, problem: &Problem, pools: &Pools) -> Result<Vec<u8>, Memory>
+    requires { Fit (problem_of problem.now) (length problem.now.raw.nodes) pools.now.lists }
+    ensures { IfOk result (λ v. v.items ≡ base_text problem.now pools.now.lists) }
+{
+    let mut out = Vec::new(alloc);
+    push_head(&mut out, problem.raw())?;
+    push_cuts(&mut out, pools)?;
+    push_bound(&mut out, pools.bound(problem))?;
+    Ok(out)
+}

@@ -1,0 +1,70 @@
+// Lines of cuts and bounds.
+ghost use Rattle.std.specs.Prelude.{◌≡◌, ◌++◌, OnOk};
+ghost use Rattle.std.specs.List.{flat_map};
+ghost use Rattle.hp_report.specs.Lines.{numbered};
+ghost use Rattle.hp_report.specs.Report.{word, cut_words, cut_line, node_cuts, cut_lines, bound_line};
+
+use hp_cut::{Cut, Pools};
+use hp_num::Memory;
+use hp_text::{push_bytes, push_whole};
+
+fn push_word(out: &mut Vec<u8>, number: i128) -> Result<(), Memory>
+    ensures { OnOk result (out.new.items ≡ out.old.items ++ word number) }
+{
+    push_bytes(out, b" ")?;
+    push_whole(out, number)
+}
+
+fn push_words(out: &mut Vec<u8>, numbers: &[i128]) -> Result<(), Memory>
+    ensures { OnOk result (out.new.items ≡ out.old.items ++ flat_map word numbers.now) }
+{
+    for number in numbers {
+        push_word(out, *number)?;
+    }
+    Ok(())
+}
+
+fn push_cut(out: &mut Vec<u8>, node: usize, place: usize, cut: &Cut) -> Result<(), Memory>
+    ensures { OnOk result (out.new.items ≡ out.old.items ++ cut_line node place cut.now) }
+{
+    push_bytes(out, b"cut")?;
+    push_word(out, node as i128)?;
+    push_word(out, place as i128)?;
+    push_cut_words(out, cut)?;
+    push_bytes(out, b"\n")
+}
+
+fn push_cut_words(out: &mut Vec<u8>, cut: &Cut) -> Result<(), Memory>
+    ensures { OnOk result (out.new.items ≡ out.old.items ++ cut_words cut.now) }
+{
+    push_word(out, cut.alpha)?;
+    push_words(out, cut.beta.as_slice())
+}
+
+fn push_node_cuts(out: &mut Vec<u8>, node: usize, cuts: &[Cut]) -> Result<(), Memory>
+    ensures { OnOk result (out.new.items ≡ out.old.items ++ node_cuts node cuts.now) }
+{
+    for (place, cut) in cuts.iter().enumerate() {
+        push_cut(out, node, place, cut)?;
+    }
+    Ok(())
+}
+
+/// Appends a line for each cut of each node.
+pub(crate) fn push_cuts(out: &mut Vec<u8>, pools: &Pools) -> Result<(), Memory>
+    ensures { OnOk result (out.new.items ≡ out.old.items ++ cut_lines pools.now.lists) }
+{
+    for node in 0..pools.nodes() {
+        push_node_cuts(out, node, pools.cuts(node))?;
+    }
+    Ok(())
+}
+
+/// Appends the line of a bound, at scale 2^24.
+pub(crate) fn push_bound(out: &mut Vec<u8>, bound: i128) -> Result<(), Memory>
+    ensures { OnOk result (out.new.items ≡ out.old.items ++ bound_line bound) }
+{
+    push_bytes(out, b"bound")?;
+    push_word(out, bound)?;
+    push_bytes(out, b"\n")
+}
