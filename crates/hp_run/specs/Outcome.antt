@@ -1,0 +1,39 @@
+-- What the bytes of a problem give, and when a text is sound.
+use Rattle.std.specs.Prelude.{◌≡◌, ℕ, List, Option, Some, None, Result, Ok, Err}
+use Rattle.hp_problem.specs.declared.refusal.Refusal.{Refusal}
+use Rattle.hp_problem.specs.declared.refusal.RefusalKind.TheVariants as kinds
+use Rattle.hp_problem.specs.declared.refusal.Part.TheVariants as parts
+use Rattle.hp_problem.specs.Sealed.{Sealed}
+use Rattle.hp_fields.specs.Steps.{◌>>=◌}
+use Rattle.hp_fields.specs.Fields.{place, refuse}
+use Rattle.hp_sof.specs.Problem.{problem_at}
+use Rattle.hp_theory.specs.declared.cut.Cut.{Cut}
+use Rattle.hp_theory.specs.Pools.{Sound}
+use Rattle.hp_theory.specs.Bound.{bound, Under}
+use Rattle.hp_theory.specs.Range.{based}
+use Rattle.hp_theory.specs.View.{problem_of}
+use Rattle.hp_report.specs.Report.{base_text}
+
+-- the report of the base cuts, or the realization at which their size passes its range
+abbrev pub report_based : Sealed → Result (List (List Cut)) (ℕ × ℕ) → Result (Option (List ℕ)) Refusal
+report_based p (Ok pools) = Ok (Some (base_text p pools))
+report_based p (Err at) = refuse kinds.Range (place parts.Realization at.0 at.1 0)
+
+unfoldable pub report_found : Option Sealed → Result (Option (List ℕ)) Refusal
+report_found None = Ok None
+report_found (Some p) = report_based p (based p)
+
+-- the report that the bytes of a problem give, or their first refusal; none where the problem has more than one node
+unfoldable pub report_at : List ℕ → Result (Option (List ℕ)) Refusal
+report_at bytes = do
+  found ← problem_at bytes
+  report_found found
+
+-- the text is a report of the problem that the bytes give: each cut in it holds at its node, and its bound is under the cost of each policy
+pub record SoundText (bytes text : List ℕ) : Type 0 where
+  pub problem : Sealed
+  pub pools : List (List Cut)
+  pub read : problem_at bytes ≡ Ok (Some problem)
+  pub is : text ≡ base_text problem pools
+  pub cuts : Sound (problem_of problem) pools
+  pub bound : Under (problem_of problem) (bound (problem_of problem) pools)

@@ -1,0 +1,14 @@
+//! What the program does with its words, a problem and a sink.
+#![tactic(auto)]
+
+mod outcome;
+mod reading;
+mod status;
+mod top;
+mod writing;
+
+pub use status::{Status, number, status_line};
+pub use top::run;
+
+#[cfg(test)]
+mod tests;
