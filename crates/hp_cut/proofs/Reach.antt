@@ -1,5 +1,5 @@
 -- Cuts that fit stay small at each state of the box.
-use Rattle.std.proofs.Common.{◌≡◌, ℕ, zero, suc, ◌<◌, ◌^◌, ℤ, pos, ◌+ℤ◌, ◌*ℤ◌, ◌≤ℤ◌, List, [], ◌∷◌, length, get_or, sum, All, max, nat_abs, refl, sym, ap, ◌∙◌, subst, arith}
+use Rattle.std.proofs.Common.{◌≡◌, ℕ, suc, ◌<◌, ◌^◌, ℤ, pos, ◌+ℤ◌, ◌*ℤ◌, ◌≤ℤ◌, List, [], ◌∷◌, length, get_or, sum, All, max, nat_abs, sym, ap, ◌∙◌, subst, arith}
 use Rattle.std.proofs.lemmas.Int.{ints}
 use Rattle.std.proofs.lemmas.List.Sums.{sum_by-cons}
 use Rattle.hp_num.specs.Sums.{sum_to, total, entry, dot}
@@ -10,7 +10,6 @@ use Rattle.hp_theory.specs.Problem.{Link, Node, Problem, link_weights}
 use Rattle.hp_theory.specs.Tree.{InBox}
 use Rattle.hp_theory.specs.Size.{magnitude, magnitudes, reach}
 use Rattle.hp_theory.specs.Fit.{CutFits, cut_size}
-use Rattle.hp_theory.specs.View.{links_of}
 use Rattle.hp_theory.specs.Premises.{StartsIn}
 use Rattle.hp_cut.specs.Reaches.{Reaches, height_size}
 
@@ -49,18 +48,6 @@ le_one_mul a b h = omega (arith, ints)
 -- the initial state is in the box, in whole units
 pub start_box : (p : Problem) (n : Node) → StartsIn p n → InBox 1 n.low n.high p.initial
 start_box p n s = record { count = s.count; above = λ k h. one_mul_le (entry n.low k) (entry p.initial k) (s.lows k h); below = λ k h. le_one_mul (entry p.initial k) (entry n.high k) (s.highs k h) }
-
--- the links of two lists, one by one
-pub link_at : (ms ws : List ℕ) (i : ℕ) (d : Link) → length ws ≡ length ms → i < length ms → get_or (links_of ms ws) i d ≡ record { node = get_or ms i 0; weight = get_or ws i 0 }
-link_at [] ws i d e h = absurd (omega arith)
-link_at (m ∷ ms) [] i d e h = absurd (omega arith)
-link_at (m ∷ ms) (w ∷ ws) zero d e h = refl
-link_at (m ∷ ms) (w ∷ ws) (suc i) d e h = link_at ms ws i d (omega arith) (omega arith)
-
-pub length-links_of : (ms ws : List ℕ) → length ws ≡ length ms → length (links_of ms ws) ≡ length ms
-length-links_of [] ws e = refl
-length-links_of (m ∷ ms) [] e = absurd (omega arith)
-length-links_of (m ∷ ms) (w ∷ ws) e = ap suc (length-links_of ms ws (omega arith))
 
 -- weights times one number
 pub total-weights : (c : ℕ) (ls : List Link) → total (λ (l : Link). pos l.weight *ℤ pos c) ls ≡ pos (sum (link_weights ls)) *ℤ pos c

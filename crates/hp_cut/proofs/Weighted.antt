@@ -17,12 +17,12 @@ use Rattle.hp_theory.specs.Bound.{value}
 use Rattle.hp_theory.specs.Premises.{StartsIn, HaveCuts}
 use Rattle.hp_theory.specs.Fit.{Fit}
 use Rattle.hp_theory.specs.View.{problem_of, links_of}
-use Rattle.hp_theory.proofs.Views.{root-problem_of, initial-problem_of, link_weights-links_of}
-use Rattle.hp_theory.proofs.SealedPremises.{lone, root_shaped-lone, have_cuts-lone}
+use Rattle.hp_theory.proofs.Views.{root-problem_of, initial-problem_of, link_weights-links_of, link_at, length-links_of}
+use Rattle.hp_theory.proofs.SealedPremises.{root_shaped-sealed, have_cuts-root}
 use Rattle.hp_theory.proofs.SizeToFit.{size_times}
 use Rattle.hp_theory.proofs.OneMore.{Added, total_step}
 use Rattle.hp_num.proofs.Order.{le_refl}
-use Rattle.hp_cut.proofs.Reach.{start_box, link_at, length-links_of, total-weights}
+use Rattle.hp_cut.proofs.Reach.{start_box, total-weights}
 
 -- a successor's weight times its value at the state x, and the most that it can be
 abbrev pub part : List (List Cut) → List ℤ → Link → ℤ
@@ -66,7 +66,7 @@ starts p i e h =
     let no_link : Link = record { node = 0; weight = 0 } in
     let same = link_at p.raw.root p.raw.root_weights i no_link lengths h in
     let here : i < length (problem_of p).root = subst (λ (ls : List Link). i < length ls) (sym (root-problem_of p)) (omega (arith, length-links_of p.raw.root p.raw.root_weights lengths)) in
-    let at : StartsIn (problem_of p) (node_at (problem_of p) (get_or (problem_of p).root i no_link).node) = (root_shaped-lone p e).boxes i no_link here in
+    let at : StartsIn (problem_of p) (node_at (problem_of p) (get_or (problem_of p).root i no_link).node) = (root_shaped-sealed p e).boxes i no_link here in
     let in_links : StartsIn (problem_of p) (node_at (problem_of p) (get_or (links_of p.raw.root p.raw.root_weights) i no_link).node) = subst (λ (ls : List Link). StartsIn (problem_of p) (node_at (problem_of p) (get_or ls i no_link).node)) (root-problem_of p) at in
     let of_root : StartsIn (problem_of p) (node_at (problem_of p) (get_or p.raw.root i 0)) = subst (λ (l : Link). StartsIn (problem_of p) (node_at (problem_of p) l.node)) same in_links in
     subst (λ (x : List ℤ). InBox 1 (node_at (problem_of p) (get_or p.raw.root i 0)).low (node_at (problem_of p) (get_or p.raw.root i 0)).high x) (initial-problem_of p) (start_box (problem_of p) (node_at (problem_of p) (get_or p.raw.root i 0)) of_root)
@@ -104,8 +104,8 @@ pub root_weights : (p : Sealed) → is_sealed p ≡ true → sum (link_weights (
 root_weights p e = ap (λ (ls : List Link). sum (link_weights ls)) (root-problem_of p) ∙ ap (λ (ws : List ℕ). sum ws) (link_weights-links_of p.raw.root p.raw.root_weights (sym (root p e).lengths))
 
 pub root_some : (p : Sealed) → is_sealed p ≡ true → 0 < sum p.raw.root_weights
-root_some p e = subst (λ (k : ℕ). 0 < k) (root_weights p e) (root_shaped-lone p e).some
+root_some p e = subst (λ (k : ℕ). 0 < k) (root_weights p e) (root_shaped-sealed p e).some
 
 -- pools that fit have a cut for each successor of the root
 pub have_cuts-fit : (p : Sealed) (pools : List (List Cut)) → is_sealed p ≡ true → Fit (problem_of p) (length p.raw.nodes) pools → HaveCuts pools (problem_of p).root
-have_cuts-fit p pools e f = have_cuts-lone p pools e (f.some 0 (let one : length p.raw.nodes ≡ 1 = ap length (lone p e).the_nodes in omega arith))
+have_cuts-fit p pools e f = have_cuts-root p pools e f.some

@@ -26,12 +26,14 @@ pub struct Pools {
 }
 
 impl Model for Pools {
-    ghost use Rattle.std.specs.Prelude.{◌-◌, map, vec_len, vec_capacity};
+    ghost use Rattle.std.specs.Prelude.{◌-◌, ◌≤◌, ◌^◌, All, map, vec_len, vec_capacity};
     ghost use Rattle.hp_cut.specs.Pooled.{Pooled};
 
     ghost Value = { Pooled };
 
     ghost view = { λ p. record { lists = map (λ v. v.items) p.lists.items; spare = map (λ v. vec_capacity v - vec_len v) p.lists.items } };
+
+    ghost invariant = { λ p. All (λ v. vec_len v ≤ 2 ^ 24) p.lists.items };
 }
 
 impl Pools {
@@ -81,6 +83,15 @@ impl Pools {
         ensures { result ≡ length self.now.lists }
     {
         self.lists.len()
+    }
+
+    /// The number of a node's cuts.
+    pub fn count(&self, node: usize) -> u32
+        requires { node < length self.now.lists }
+        ensures value { result ≡ length (pool self.now.lists node) }
+        ensures few { result ≤ 2 ^ 24 }
+    {
+        self.lists[node].len() as u32
     }
 
     /// The cuts of a node.

@@ -1,7 +1,23 @@
-pub mod Adding
-pub mod SubproblemSize
-pub mod Realizations
-pub mod Fits
-pub mod LeafParts
-pub mod LeafFits
-pub mod LoneParts
+pub mod Accepted
+mod Walking
+mod GivenNode
+mod Passing
+mod SealedWithin
+mod OwnWeights
+pub mod Faultless
+mod Basing
+mod Standing
+pub mod Fitting
+pub mod Amounts
+pub mod Congruence
+pub mod Places
+pub mod SizeParts
+pub mod SizeRange
+pub mod SizeWhole
+pub mod Tables
+pub mod Weighted
+pub mod Viewed
+pub mod InSize
+pub mod Divisor
+pub mod SealedNode
+pub mod SealedCuttable

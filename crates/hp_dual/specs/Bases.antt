@@ -1,16 +1,50 @@
--- What `base` answers.
-use Rattle.std.specs.Prelude.{◌≡◌, ℕ, List, Result, Ok, Err}
+-- The base cuts as they are made: the certificates, one node more, and the answer.
+use Rattle.std.specs.Prelude.{◌≡◌, ℕ, ◌*◌, pos, List, [], ◌∷◌, map, Option, Some, None, Result, Ok, Err}
+use Rattle.hp_problem.specs.declared.raw.Row.{Row}
+use Rattle.hp_problem.specs.declared.raw.Node as nodes
+use Rattle.hp_problem.specs.declared.raw.Subproblem.{Subproblem}
 use Rattle.hp_theory.specs.declared.cut.Cut.{Cut}
+use Rattle.hp_theory.specs.declared.cut.Certificate.{Certificate}
+use Rattle.hp_theory.specs.Problem.{S, Node}
+use Rattle.hp_theory.specs.Pools.{push}
+use Rattle.hp_theory.specs.CutOf.{cut_of}
+use Rattle.hp_theory.specs.Range.{range_of}
+use Rattle.hp_theory.specs.Base.{base_list}
 use Rattle.hp_cut.specs.Pooled.{Pooled}
-use Rattle.hp_dual.specs.declared.leaf.BaseCutFault.{BaseCutFault}
-use Rattle.hp_dual.specs.declared.leaf.BaseCutFault.TheVariants as faults
+use Rattle.hp_dual.specs.declared.fault.CertFault.{CertFault}
+use Rattle.hp_dual.specs.declared.fault.CertFault.TheVariants as faults
 use Rattle.hp_dual.specs.declared.base_pools.BaseFault.{BaseFault}
 use Rattle.hp_dual.specs.declared.base_pools.BaseFault.TheVariants.{Range, Memory}
 
--- the fault of the base cut of the node m
-abbrev pub fault_of : ℕ → BaseCutFault → BaseFault
-fault_of m (faults.Range r) = Range m r
-fault_of m faults.Memory = Memory
+-- all rows 0, and for each successor its first cut with all of its weight
+abbrev pub certificate_of : nodes.Node → Subproblem → Certificate
+certificate_of n s = record { rows = map (λ (row : Row). pos 0) s.rows; cuts = map (λ (w : ℕ). (0, S * w) ∷ []) n.link_weights }
+
+-- the realization of a fault
+abbrev pub realization_of : CertFault → ℕ
+realization_of (faults.Shape r) = r
+realization_of (faults.Sign r i) = r
+realization_of (faults.Cutless r i e) = r
+realization_of (faults.Sum r i) = r
+realization_of (faults.Range r) = r
+
+-- a size in range, or the place at which it passes the range
+abbrev pub InRange : ℕ → Option ℕ → Result (Unit {0}) BaseFault → Type 0
+InRange m place (Ok u) = place ≡ None
+InRange m place (Err (Range k r)) = (k ≡ m) × (place ≡ Some r)
+InRange m place (Err Memory) = ⊥
+
+-- the base cut of the node m, or the realization at which its size passes the range; want of memory is free
+abbrev pub GivesCut : ℕ → List (List Cut) → Node → Result Cut BaseFault → Type 0
+GivesCut m pools n (Ok cut) = (range_of pools n (base_list n) ≡ None) × (cut ≡ cut_of pools n (base_list n))
+GivesCut m pools n (Err (Range k r)) = (k ≡ m) × (range_of pools n (base_list n) ≡ Some r)
+GivesCut m pools n (Err Memory) = Unit {0}
+
+-- the pools with the base cut of the node m, or the realization at which its size passes the range
+abbrev pub AddsCut : ℕ → List (List Cut) → Node → List (List Cut) → Result (Unit {0}) BaseFault → Type 0
+AddsCut m pools n new (Ok u) = (range_of pools n (base_list n) ≡ None) × (new ≡ push pools m (cut_of pools n (base_list n)))
+AddsCut m pools n new (Err (Range k r)) = (k ≡ m) × (range_of pools n (base_list n) ≡ Some r)
+AddsCut m pools n new (Err Memory) = Unit {0}
 
 -- the base cuts, or the node and the realization; want of memory is free
 abbrev pub Bases : Result Pooled BaseFault → Result (List (List Cut)) (ℕ × ℕ) → Type 0

@@ -1,17 +1,26 @@
 // The base cuts of a problem.
-ghost use Rattle.std.specs.Prelude.{◌≡◌, IfOk, length, [], ◌∷◌};
-ghost use Rattle.hp_theory.specs.Range.{based};
-ghost use Rattle.hp_theory.specs.Fit.{Fit};
-ghost use Rattle.hp_theory.specs.Pools.{Sound};
+ghost use Rattle.std.specs.Prelude.{◌≡◌, ℕ, ◌<◌, ◌*◌, ◌^◌, pos, IfOk, length, [], ◌∷◌, map, All};
+ghost use Rattle.hp_problem.specs.declared.raw.Row.{Row};
+ghost use Rattle.hp_theory.specs.Problem.{S, Link, node_at};
+ghost use Rattle.hp_theory.specs.Range.{range_of, based};
+ghost use Rattle.hp_theory.specs.Certificates.{Right};
+ghost use Rattle.hp_theory.specs.Fit.{Fit, FitFor};
+ghost use Rattle.hp_theory.specs.Pools.{Sound, pool};
 ghost use Rattle.hp_theory.specs.View.{problem_of};
 ghost use Rattle.hp_dual.specs.declared.base_pools.BaseFault.TheVariants as faults;
-ghost use Rattle.hp_dual.specs.Bases.{Bases, fault_of};
+ghost use Rattle.hp_dual.specs.Bases.{certificate_of, realization_of, InRange, GivesCut, AddsCut, Bases};
 
-use crate::leaf::{BaseCutFault, base_cut};
+use crate::accept::accept;
+use crate::fault::CertFault;
+use crate::make::make_into;
 use hp_cut::{Cut, Pools};
-use hp_num::Memory;
-use hp_problem::Problem;
+use hp_num::{List, Memory};
+use hp_problem::{Node, Problem, Row, Subproblem};
+use hp_theory::Certificate;
 use std::alloc::Global;
+
+/// The scale of multipliers.
+const SCALE: u64 = 1 << 24;
 
 /// Why there are no base cuts.
 #[derive(Clone, Copy, Debug, PartialEq, Eq)]
@@ -30,35 +39,147 @@ impl From<Memory> for BaseFault {
     }
 }
 
-// The pools of one node with one cut.
-fn pools_of(alloc: Global, cut: Cut) -> Result<Pools, Memory>
-    ensures { IfOk result (λ p. p.lists ≡ (cut ∷ []) ∷ []) }
+/// A multiplier 0 for each row.
+fn no_multipliers(alloc: Global, rows: &[Row]) -> Result<List<i64>, Memory>
+    ensures { IfOk result (λ found. found ≡ map (λ (row : Row). pos 0) rows.now) }
 {
-    let mut pools = Pools::new(alloc, 1)?;
-    pools.push(0, cut)?;
-    Ok(pools)
+    let mut found = List::new(alloc);
+    for _ in rows {
+        found.push(0)?;
+    }
+    Ok(found)
 }
 
-fn fault_at(node: u32, fault: BaseCutFault) -> BaseFault
-    ensures { result ≡ fault_of node fault }
+/// The first cut with all of a successor's weight.
+#[tactic(auto, unfolding(hp_theory::specs::Problem::S))]
+fn first_cut(alloc: Global, weight: u32) -> Result<List<(u32, u64)>, Memory>
+    ensures { IfOk result (λ pairs. pairs ≡ (0, S * weight) ∷ []) }
+{
+    let mut pairs = List::new(alloc);
+    pairs.push((0, SCALE * u64::from(weight)))?;
+    Ok(pairs)
+}
+
+/// The first cut of each successor with all of its weight.
+fn first_cuts(alloc: Global, weights: &[u32]) -> Result<List<List<(u32, u64)>>, Memory>
+    ensures { IfOk result (λ found. found ≡ map (λ (w : ℕ). (0, S * w) ∷ []) weights.now) }
+{
+    let mut found = List::new(alloc);
+    for weight in weights {
+        found.push(first_cut(alloc, *weight)?)?;
+    }
+    Ok(found)
+}
+
+/// All rows 0, and for each successor its first cut with all of its weight.
+fn base_certificate(alloc: Global, node: &Node, sub: &Subproblem) -> Result<Certificate, Memory>
+    ensures { IfOk result (λ c. c ≡ certificate_of node.now sub.now) }
+{
+    let rows = no_multipliers(alloc, sub.rows.as_slice())?;
+    let cuts = first_cuts(alloc, node.link_weights.as_slice())?;
+    Ok(Certificate { rows, cuts })
+}
+
+/// The base certificate once per realization.
+fn base_list(alloc: Global, node: &Node, sub: &Subproblem) -> Result<List<Certificate>, Memory>
+    ensures { IfOk result (λ list. list ≡ map (λ (w : ℕ). certificate_of node.now sub.now) node.now.weights) }
+{
+    let mut list = List::new(alloc);
+    for _ in node.weights.as_slice() {
+        list.push(base_certificate(alloc, node, sub)?)?;
+    }
+    Ok(list)
+}
+
+/// A cut of so many slopes, all 0.
+fn no_slopes(alloc: Global, states: usize) -> Result<Cut, Memory>
+    ensures { IfOk result (λ cut. length cut.beta ≡ states) }
+{
+    let mut beta = List::new(alloc);
+    for _ in 0..states {
+        beta.push(0)?;
+    }
+    Ok(Cut { alpha: 0, beta })
+}
+
+/// The base cut of a node over the cuts of its successors.
+fn base_cut(alloc: Global, problem: &Problem, pools: &Pools, node: u32) -> Result<Cut, BaseFault>
+    requires known { node < length problem.now.raw.nodes }
+    requires fit { FitFor (problem_of problem.now) (length problem.now.raw.nodes) pools.now.lists node }
+    ensures { GivesCut node pools.now.lists (node_at (problem_of problem.now) node) result }
+{
+    let raw = problem.raw();
+    let own = &raw.nodes.as_slice()[node as usize];
+    let list = base_list(alloc, own, problem.sub(node))?;
+    check_base(problem, pools, node, list.as_slice())?;
+    let mut cut = no_slopes(alloc, raw.states.len())?;
+    make_into(problem, pools, node, list.as_slice(), &mut cut);
+    Ok(cut)
+}
+
+fn realization(fault: CertFault) -> u32
+    ensures { result ≡ realization_of fault }
 {
     match fault {
-        BaseCutFault::Range { realization } => BaseFault::Range { node, realization },
-        BaseCutFault::Memory => BaseFault::Memory,
+        CertFault::Shape { realization } => realization,
+        CertFault::Sign { realization, .. } => realization,
+        CertFault::Cutless { realization, .. } => realization,
+        CertFault::Sum { realization, .. } => realization,
+        CertFault::Range { realization } => realization,
     }
 }
 
-/// The base cuts of a problem of one node: one cut that needs no solver (Neumaier and Shcherbina
-/// 2004, with all multipliers 0). Each base cut holds, and its numbers stay small.
+/// The base certificates of a node are accepted, unless their size passes the range.
+fn check_base(
+    problem: &Problem,
+    pools: &Pools,
+    node: u32,
+    list: &[Certificate],
+) -> Result<(), BaseFault>
+    requires known { node < length problem.now.raw.nodes }
+    requires fit { FitFor (problem_of problem.now) (length problem.now.raw.nodes) pools.now.lists node }
+    requires right { Right pools.now.lists (node_at (problem_of problem.now) node) list.now }
+    ensures { InRange node (range_of pools.now.lists (node_at (problem_of problem.now) node) list.now) result }
+{
+    match accept(problem, pools, node, list) {
+        Ok(()) => Ok(()),
+        Err(fault) => Err(BaseFault::Range {
+            node,
+            realization: realization(fault),
+        }),
+    }
+}
+
+/// Appends the base cut of a node.
+fn add_base_cut(
+    alloc: Global,
+    problem: &Problem,
+    pools: &mut Pools,
+    node: u32,
+) -> Result<(), BaseFault>
+    requires known { node < length problem.now.raw.nodes }
+    requires fit { FitFor (problem_of problem.now) (length problem.now.raw.nodes) pools.old.lists node }
+    requires few { length (pool pools.old.lists node) < 2 ^ 24 }
+    ensures { AddsCut node pools.old.lists (node_at (problem_of problem.now) node) pools.new.lists result }
+{
+    let cut = base_cut(alloc, problem, pools, node)?;
+    match pools.push(node, cut) {
+        Ok(()) => Ok(()),
+        Err(Memory) => Err(BaseFault::Memory),
+    }
+}
+
+/// The base cuts of a problem: one for each node, which needs no solver (Neumaier and Shcherbina 2004, with all
+/// multipliers of rows 0 and all weight on each successor's first cut). Each base cut holds, and its numbers stay small.
 pub fn base(alloc: Global, problem: &Problem) -> Result<Pools, BaseFault>
     ensures value { Bases result (based problem.now) }
     ensures fit { IfOk result (λ p. Fit (problem_of problem.now) (length problem.now.raw.nodes) p.lists) }
     ensures sound { IfOk result (λ p. Sound (problem_of problem.now) p.lists) }
 {
-    let m = problem.order()[0];
-    let node = problem.node(m);
-    match base_cut(alloc, node, problem.sub(m), problem.lo(m), problem.hi(m)) {
-        Ok(cut) => Ok(pools_of(alloc, cut)?),
-        Err(fault) => Err(fault_at(m, fault)),
+    let order = problem.order();
+    let mut pools = Pools::new(alloc, problem.raw().nodes.len() as u32)?;
+    for node in order {
+        add_base_cut(alloc, problem, &mut pools, *node)?;
     }
+    Ok(pools)
 }

@@ -1,68 +1,177 @@
-use crate::{BaseCutFault, base_cut};
-use hp_num::{List, Name};
-use hp_problem::{Decision, Node, Subproblem};
+ghost use Rattle.std.specs.Prelude.{length};
+ghost use Rattle.hp_theory.specs.Fit.{Fit};
+ghost use Rattle.hp_theory.specs.View.{problem_of};
+
+use crate::accept::accept;
+use crate::{CertFault, base};
+use hp_cut::Pools;
+use hp_num::{List, Memory, Name};
+use hp_problem::{Decision, Node, Problem, Raw, Row, State, Subproblem};
+use hp_theory::Certificate;
 use std::alloc::Global;
 use std::test::Fail;
 
-fn decisions(alloc: Global, boxes: &[(i64, i64, i64)]) -> Result<List<Decision>, Fail> {
-    let mut all = Vec::new(alloc);
-    for (low, high, cost) in boxes {
-        all.push(Decision {
-            name: Name::new(alloc, "u")?,
-            low: *low,
-            high: *high,
-            cost: *cost,
-        })?;
-    }
-    Ok(List::from_vec(all))
+const SCALE: u64 = 1 << 24;
+
+fn one<T: Drop>(alloc: Global, item: T) -> Result<List<T>, Memory> {
+    let mut found = List::new(alloc);
+    found.push(item)?;
+    Ok(found)
 }
 
-/// The base cut's first number, at one state in [0,10] and one realization without random values.
-fn first_number(
-    alloc: Global,
-    constant: i64,
-    boxes: &[(i64, i64, i64)],
-) -> Result<Result<i128, BaseCutFault>, Fail> {
-    let node = Node {
-        name: Name::new(alloc, "n")?,
-        sub: 0,
-        weights: List::from_vec(vec![in alloc; 1]?),
-        values: List::from_vec(vec![in alloc; List::new(alloc)]?),
-        links: List::new(alloc),
-        link_weights: List::new(alloc),
-        stop: 0,
+fn two<T: Drop>(alloc: Global, first: T, second: T) -> Result<List<T>, Memory> {
+    let mut found = List::new(alloc);
+    found.push(first)?;
+    found.push(second)?;
+    Ok(found)
+}
+
+// A stage with one decision, which is the outgoing value of the only state, and one row with a lower side.
+fn stage(alloc: Global, constant: i64) -> Result<Subproblem, Memory> {
+    let release = Decision {
+        name: Name::new(alloc, "release")?,
+        low: 0,
+        high: 10,
+        cost: 0,
     };
-    let sub = Subproblem {
-        decisions: decisions(alloc, boxes)?,
-        outs: List::from_vec(vec![in alloc; 0]?),
+    let row = Row {
+        low: Some(0),
+        high: None,
+        decisions: one(alloc, (0, 1))?,
+        states: List::new(alloc),
         randoms: List::new(alloc),
-        rows: List::new(alloc),
-        constant,
-        state_costs: List::from_vec(vec![in alloc; 0]?),
-        random_costs: List::new(alloc),
-        low: List::from_vec(vec![in alloc; Some(0)]?),
-        high: List::from_vec(vec![in alloc; Some(10)]?),
     };
-    match base_cut(alloc, &node, &sub, &[0], &[10]) {
-        Ok(cut) => Ok(Ok(cut.alpha)),
-        Err(fault) => Ok(Err(fault)),
+    Ok(Subproblem {
+        decisions: one(alloc, release)?,
+        outs: one(alloc, 0)?,
+        randoms: List::new(alloc),
+        rows: one(alloc, row)?,
+        constant,
+        state_costs: one(alloc, 0)?,
+        random_costs: List::new(alloc),
+        low: one(alloc, None)?,
+        high: one(alloc, None)?,
+    })
+}
+
+fn node(
+    alloc: Global,
+    name: &str,
+    sub: u32,
+    links: List<u32>,
+    link_weights: List<u32>,
+) -> Result<Node, Memory> {
+    Ok(Node {
+        name: Name::new(alloc, name)?,
+        sub,
+        weights: one(alloc, 1)?,
+        values: one(alloc, List::new(alloc))?,
+        links,
+        link_weights,
+        stop: 0,
+    })
+}
+
+// Two nodes, the first of which leads to the second.
+fn pair(alloc: Global, first: i64, second: i64) -> Result<Raw, Memory> {
+    let volume = State {
+        name: Name::new(alloc, "volume")?,
+        initial: 4,
+    };
+    let start = node(alloc, "first", 0, one(alloc, 1)?, one(alloc, 1)?)?;
+    let end = node(alloc, "second", 1, List::new(alloc), List::new(alloc))?;
+    Ok(Raw {
+        states: one(alloc, volume)?,
+        root: one(alloc, 0)?,
+        root_weights: one(alloc, 1)?,
+        nodes: two(alloc, start, end)?,
+        subs: two(alloc, stage(alloc, first)?, stage(alloc, second)?)?,
+        scenarios: List::new(alloc),
+    })
+}
+
+fn problem(alloc: Global, first: i64, second: i64) -> Result<Problem, Fail> {
+    let raw = pair(alloc, first, second)?;
+    let order = two(alloc, 1, 0)?;
+    let lo = two(alloc, one(alloc, 0)?, one(alloc, 0)?)?;
+    let hi = two(alloc, one(alloc, 10)?, one(alloc, 10)?)?;
+    Ok(Problem::seal(alloc, raw, order, 2, lo, hi)?)
+}
+
+fn list(alloc: Global, rows: &[i64], pairs: &[(u32, u64)]) -> Result<List<Certificate>, Fail> {
+    let mut multipliers = List::new(alloc);
+    for row in rows {
+        multipliers.push(*row)?;
     }
+    let mut cuts = List::new(alloc);
+    for pair in pairs {
+        cuts.push(*pair)?;
+    }
+    let certificate = Certificate {
+        rows: multipliers,
+        cuts: one(alloc, cuts)?,
+    };
+    Ok(one(alloc, certificate)?)
+}
+
+fn fault(problem: &Problem, pools: &Pools, list: &[Certificate]) -> Option<CertFault>
+    requires { Fit (problem_of problem.now) (length problem.now.raw.nodes) pools.now.lists }
+{
+    if problem.raw().nodes.is_empty() {
+        return None;
+    }
+    accept(problem, pools, 0, list).err()
+}
+
+// What is said of one certificate at the first of two nodes, over the base cuts.
+fn said(alloc: Global, rows: &[i64], pairs: &[(u32, u64)]) -> Result<Option<CertFault>, Fail> {
+    let problem = problem(alloc, 4, 8)?;
+    let pools = base(alloc, &problem)?;
+    let list = list(alloc, rows, pairs)?;
+    Ok(fault(&problem, &pools, list.as_slice()))
 }
 
 #[test]
-fn base_cuts(rt: HostRuntime) -> Result<(), Fail> {
-    let dear = (0, 1 << 39, (1 << 40) - 1);
-    for (constant, boxes, answer) in [
-        (8, [(0, 10, 0)].as_slice(), Ok(134217728)),
-        (4, [(0, 10, 0)].as_slice(), Ok(67108864)),
-        (0, [dear, (0, (1 << 39) - 1, 1)].as_slice(), Ok(0)),
-        (
-            0,
-            [dear, (0, 1 << 39, 1)].as_slice(),
-            Err(BaseCutFault::Range { realization: 0 }),
-        ),
-    ] {
-        assert_eq!(rt; first_number(rt.alloc(), constant, boxes)?, answer);
-    }
+fn accepts_all_of_the_weight(rt: HostRuntime) -> Result<(), Fail> {
+    assert_eq!(rt; said(rt.alloc(), &[7], &[(0, SCALE)])?, None);
+    Ok(())
+}
+
+#[test]
+fn finds_a_sum_one_less(rt: HostRuntime) -> Result<(), Fail> {
+    let sum = CertFault::Sum {
+        realization: 0,
+        successor: 0,
+    };
+    assert_eq!(rt; said(rt.alloc(), &[0], &[(0, SCALE - 1)])?, Some(sum));
+    Ok(())
+}
+
+#[test]
+fn finds_a_place_past_the_pool(rt: HostRuntime) -> Result<(), Fail> {
+    let cutless = CertFault::Cutless {
+        realization: 0,
+        successor: 0,
+        entry: 0,
+    };
+    assert_eq!(rt; said(rt.alloc(), &[0], &[(1, SCALE)])?, Some(cutless));
+    assert_eq!(rt; said(rt.alloc(), &[0], &[(0, 0)])?, Some(cutless));
+    Ok(())
+}
+
+#[test]
+fn finds_a_sign_without_a_side(rt: HostRuntime) -> Result<(), Fail> {
+    let sign = CertFault::Sign {
+        realization: 0,
+        row: 0,
+    };
+    assert_eq!(rt; said(rt.alloc(), &[-1], &[(0, SCALE)])?, Some(sign));
+    Ok(())
+}
+
+#[test]
+fn finds_a_missing_row(rt: HostRuntime) -> Result<(), Fail> {
+    let shape = CertFault::Shape { realization: 0 };
+    assert_eq!(rt; said(rt.alloc(), &[], &[(0, SCALE)])?, Some(shape));
     Ok(())
 }

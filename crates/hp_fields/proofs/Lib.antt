@@ -2,4 +2,6 @@ pub mod Texts
 pub mod Walks
 pub mod Named
 pub mod InOrder
+pub mod Accepted
+pub mod Rising
 pub mod Answered

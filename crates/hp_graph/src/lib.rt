@@ -1,9 +1,12 @@
 //! The graph of a problem: the order of its nodes and the boxes of their incoming states.
 #![tactic(auto)]
 
-pub mod lone;
+pub mod boxes;
+pub mod graph;
+pub mod hull;
+pub mod side;
 
-pub use lone::{ArrangeFault, arrange};
+pub use graph::{ArrangeFault, arrange};
 
 #[cfg(test)]
 mod tests;

@@ -1,6 +1,6 @@
 use super::*;
 use hp_num::{List, Memory, Name};
-use hp_problem::{Decision, Node, Raw, State, Subproblem};
+use hp_problem::{Decision, Node, Raw, State, Subproblem, raw_fits};
 use std::alloc::Global;
 use std::test::Fail;
 
@@ -10,7 +10,7 @@ fn one<T: Drop>(alloc: Global, item: T) -> Result<List<T>, Memory> {
     Ok(found)
 }
 
-// A stage with one decision, which is the outgoing value of the only state.
+// A stage with one decision from 0 to 10, which is the outgoing value of the only state.
 fn stage(alloc: Global) -> Result<Subproblem, Memory> {
     let release = Decision {
         name: Name::new(alloc, "release")?,
@@ -50,16 +50,14 @@ fn node(alloc: Global, leads_to: &[u32]) -> Result<Node, Memory> {
     })
 }
 
-// A problem with one state, and one node or two.
-fn raw(alloc: Global, initial: i64, leads_to: &[u32], both: bool) -> Result<Raw, Memory> {
+// Two nodes, the first of which the root leads to.
+fn raw(alloc: Global, initial: i64, first: &[u32], second: &[u32]) -> Result<Raw, Memory> {
     let volume = State {
         name: Name::new(alloc, "volume")?,
         initial,
     };
-    let mut nodes = one(alloc, node(alloc, leads_to)?)?;
-    if both {
-        nodes.push(node(alloc, [].as_slice())?)?;
-    }
+    let mut nodes = one(alloc, node(alloc, first)?)?;
+    nodes.push(node(alloc, second)?)?;
     Ok(Raw {
         states: one(alloc, volume)?,
         root: one(alloc, 0)?,
@@ -70,22 +68,43 @@ fn raw(alloc: Global, initial: i64, leads_to: &[u32], both: bool) -> Result<Raw,
     })
 }
 
-#[test]
-fn arranges_one_node(rt: HostRuntime) -> Result<(), Fail> {
-    let gap = ArrangeFault::BoxGap { node: 0, state: 0 };
-    let cycle = ArrangeFault::Cycle { node: 0 };
-    for (initial, leads_to, both, longest) in [
-        (4, [].as_slice(), false, Ok(Some(1))),
-        (0, [].as_slice(), false, Ok(Some(1))),
-        (10, [].as_slice(), false, Ok(Some(1))),
-        (11, [].as_slice(), false, Err(gap)),
-        (-1, [].as_slice(), false, Err(gap)),
-        (4, [0].as_slice(), false, Err(cycle)),
-        (4, [].as_slice(), true, Ok(None)),
-    ] {
-        let found = arrange(rt.alloc(), raw(rt.alloc(), initial, leads_to, both)?);
-        let found = found.map(|problem| problem.map(|problem| problem.longest()));
-        assert_eq!(rt; found, longest, "initial value {initial}");
+// The length of the longest path, or the refusal.
+fn longest(
+    alloc: Global,
+    initial: i64,
+    first: &[u32],
+    second: &[u32],
+) -> Result<u32, ArrangeFault> {
+    let raw = raw(alloc, initial, first, second)?;
+    if !raw_fits(&raw) {
+        return Err(ArrangeFault::Memory);
     }
+    Ok(arrange(alloc, raw)?.longest())
+}
+
+#[test]
+fn arranges_two_nodes(rt: HostRuntime) -> Result<(), Fail> {
+    assert_eq!(rt; longest(rt.alloc(), 4, &[1], &[]), Ok(2));
+    Ok(())
+}
+
+#[test]
+fn finds_a_cycle(rt: HostRuntime) -> Result<(), Fail> {
+    let cycle = ArrangeFault::Cycle { node: 0 };
+    assert_eq!(rt; longest(rt.alloc(), 4, &[1], &[0]), Err(cycle));
+    Ok(())
+}
+
+#[test]
+fn finds_what_is_not_reached(rt: HostRuntime) -> Result<(), Fail> {
+    let unreachable = ArrangeFault::Unreachable { node: 1 };
+    assert_eq!(rt; longest(rt.alloc(), 4, &[], &[]), Err(unreachable));
+    Ok(())
+}
+
+#[test]
+fn finds_a_gap(rt: HostRuntime) -> Result<(), Fail> {
+    let gap = ArrangeFault::BoxGap { node: 0, state: 0 };
+    assert_eq!(rt; longest(rt.alloc(), 11, &[1], &[]), Err(gap));
     Ok(())
 }

@@ -24,6 +24,26 @@ impl Size {
         self.total
     }
 
+    // The sum, where it is in range.
+    fn within_range(total: u128) -> Option<Size>
+        ensures { MatchOption result (2 ^ 127 ≤ total) (λ size. size.total ≡ total) }
+    {
+        if total < 1 << 127 {
+            Some(Size { total })
+        } else {
+            None
+        }
+    }
+
+    /// The sum with the product of two factors added; none exactly where that exceeds 2^127 - 1.
+    pub fn plus_product(self, x: u128, y: u128) -> Option<Size>
+        ensures { MatchOption result (2 ^ 127 ≤ self.total + x * y)
+            (λ size. size.total ≡ self.total + x * y) }
+    {
+        let product = x.checked_mul(y)?;
+        Size::within_range(self.total.checked_add(product)?)
+    }
+
     /// The sum with the product of the four factors added; none exactly where that exceeds 2^127 - 1.
     pub fn plus(self, factors: [u128; 4]) -> Option<Size>
         ensures { MatchOption result (2 ^ 127 ≤ self.total + product_of factors)
@@ -35,11 +55,6 @@ impl Size {
         let first = factors[0].checked_mul(factors[1])?;
         let second = first.checked_mul(factors[2])?;
         let third = second.checked_mul(factors[3])?;
-        let total = self.total.checked_add(third)?;
-        if total < 1 << 127 {
-            Some(Size { total })
-        } else {
-            None
-        }
+        Size::within_range(self.total.checked_add(third)?)
     }
 }

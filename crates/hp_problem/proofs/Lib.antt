@@ -1,1 +1,4 @@
 pub mod SealedFacts
+pub mod BoxFacts
+pub mod Ranked
+pub mod Bounds

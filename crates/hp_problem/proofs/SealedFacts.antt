@@ -1,14 +1,17 @@
 -- What holds of each problem, fact by fact.
-use Rattle.std.proofs.Common.{◌≡◌, ℕ, ◌<◌, Bool, true, false, ◌&&◌, ◌==◌, List, length, get_or, Option, Some, None, slice_get, subst, arith}
+use Rattle.std.proofs.Common.{◌≡◌, ℕ, ◌<◌, Bool, true, false, ◌&&◌, List, [], ◌∷◌, length, map, get_or, Option, Some, None, slice_get, subst, arith}
 use Rattle.std.specs.List.{list_all}
-use Rattle.std.proofs.lemmas.Bool.{eqb-true}
+use Rattle.std.proofs.lemmas.Bool.Decides.{nat_tests}
+use Rattle.std.proofs.lemmas.Grind.{common_steps}
+use Rattle.std.proofs.lemmas.List.{length-map}
 use Rattle.std.proofs.lemmas.Option.{slice_get_within, get_or_from_slice_get}
 use Rattle.hp_num.proofs.Tests.{and_first, and_second, all_at}
+use Rattle.hp_paths.specs.Paths.{are_known, is_graph}
 use Rattle.hp_problem.specs.declared.raw.Raw.{Raw}
 use Rattle.hp_problem.specs.declared.raw.Node.{Node}
 use Rattle.hp_problem.specs.declared.raw.Subproblem.{Subproblem}
 use Rattle.hp_problem.specs.Limits.{raw_fits, subproblem_fits, root_fits, node_fits, values_fit, is_name, links_fit}
-use Rattle.hp_problem.specs.Sealed.{Sealed, is_sealed, graph_fits, boxes_fit, all_boxes}
+use Rattle.hp_problem.specs.Sealed.{Sealed, is_sealed, graph_fits, boxes_fit, graph_of}
 
 pub raw-is_sealed : (p : Sealed) → is_sealed p ≡ true → raw_fits p.raw ≡ true
 unfolding is_sealed
@@ -24,11 +27,10 @@ boxes-is_sealed p e = and_second (raw_fits p.raw && graph_fits p.raw p.order p.l
 
 -- as many lists of lower and of upper ends as there are nodes
 pub box_counts : (p : Sealed) → is_sealed p ≡ true → (length p.lo ≡ length p.raw.nodes) × (length p.hi ≡ length p.raw.nodes)
+unfolding boxes_fit
 box_counts p e =
-    let b = boxes-is_sealed p e in
-    let lo = length p.lo == length p.raw.nodes in
-    let hi = length p.hi == length p.raw.nodes in
-    (eqb-true (length p.lo) (length p.raw.nodes) (and_first lo hi (and_first (lo && hi) (all_boxes p.raw.states p.lo p.hi) b)), eqb-true (length p.hi) (length p.raw.nodes) (and_second lo hi (and_first (lo && hi) (all_boxes p.raw.states p.lo p.hi) b)))
+    let b : boxes_fit p.raw p.lo p.hi ≡ true = boxes-is_sealed p e in
+    (grind (arith, nat_tests, common_steps, b), grind (arith, nat_tests, common_steps, b))
 
 pub nodes_fit : (raw : Raw) → raw_fits raw ≡ true → list_all (node_fits raw) raw.nodes ≡ true
 nodes_fit raw e = and_second _ (list_all (node_fits raw) raw.nodes) (and_first _ (root_fits raw) e)
@@ -54,3 +56,26 @@ known_subproblem p m n e is =
     let values = and_second (is_name n.name) (values_fit (slice_get p.raw.subs n.sub) n) (and_first (is_name n.name && values_fit (slice_get p.raw.subs n.sub) n) (links_fit (length p.raw.nodes) n) fits) in
     let s = some_values (slice_get p.raw.subs n.sub) n values in
     slice_get_within p.raw.subs n.sub s.0 s.1
+
+and_both : (a b : Bool) → a ≡ true → b ≡ true → (a && b) ≡ true
+and_both true b e f = f
+and_both false b e f = e
+
+-- a test that follows for what is made of each
+pub all_map : {A B : Type 0} (f : A → B) (p : A → Bool) (q : B → Bool) → ((x : A) → p x ≡ true → q (f x) ≡ true) → (xs : List A) → list_all p xs ≡ true → list_all q (map f xs) ≡ true
+all_map f p q follows [] e = e
+all_map f p q follows (x ∷ xs) e = and_both (q (f x)) (list_all q (map f xs)) (follows x (and_first (p x) (list_all p xs) e)) (all_map f p q follows xs (and_second (p x) (list_all p xs) e))
+
+known_links : (raw : Raw) (n : Node) → node_fits raw n ≡ true → are_known (length raw.nodes) n.links ≡ true
+known_links raw n e = grind (arith, nat_tests, common_steps, e)
+
+-- each successor is a node
+pub known_graph : (raw : Raw) → raw_fits raw ≡ true → is_graph (graph_of raw) ≡ true
+known_graph raw e = rw (length-map) (all_map (λ (n : Node). n.links) (node_fits raw) (are_known (length raw.nodes)) (known_links raw) raw.nodes (nodes_fit raw e))
+
+-- each successor of the root is a node
+pub known_root : (raw : Raw) → raw_fits raw ≡ true → are_known (length (graph_of raw)) raw.root ≡ true
+known_root raw e =
+    let r : root_fits raw ≡ true = root-raw_fits raw e in
+    let known : are_known (length raw.nodes) raw.root ≡ true = grind (arith, nat_tests, common_steps, r) in
+    rw length-map known

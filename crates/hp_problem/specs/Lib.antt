@@ -1,2 +1,3 @@
 pub mod Sealed
 pub mod Limits
+pub mod Formulas

@@ -1,5 +1,5 @@
 -- The limits that the parts of a problem keep.
-use Rattle.std.specs.Prelude.{ℕ, suc, ◌^◌, ◌+◌, ℤ, Bool, true, false, ◌&&◌, ◌==◌, not, List, [], ◌∷◌, length, Option, Some, None, nat_le, nat_lt, int_le, unsigned_abs, sum, slice_get}
+use Rattle.std.specs.Prelude.{ℕ, ◌^◌, ◌+◌, ℤ, Bool, true, false, ◌&&◌, ◌==◌, not, List, [], ◌∷◌, length, Option, Some, None, nat_le, nat_lt, int_le, unsigned_abs, sum, slice_get}
 use Rattle.std.specs.List.{list_all}
 use Rattle.hp_problem.specs.declared.raw.Raw.{Raw}
 use Rattle.hp_problem.specs.declared.raw.State.{State}

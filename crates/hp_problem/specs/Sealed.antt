@@ -1,16 +1,23 @@
 -- A problem as contracts see it: its parts, and what was found out about its graph.
-use Rattle.std.specs.Prelude.{◌≡◌, ℕ, ℤ, Bool, true, false, ◌&&◌, ◌==◌, List, [], ◌∷◌, length, map, Option, Result, Ok, Err, int_le, slice_get, option_and_then}
+use Rattle.std.specs.Prelude.{◌≡◌, ℕ, ℤ, Bool, true, false, ◌&&◌, ◌==◌, List, [], ◌∷◌, length, map, Option, Result, Ok, Err, int_le, get_or, slice_get, option_and_then, is_none}
 use Rattle.std.specs.List.{list_all}
+use lib.Pointwise.{pointwise}
+use Rattle.std.specs.Bool.{nat_eq}
+use Rattle.hp_num.specs.Sums.{entry}
+use Rattle.hp_paths.specs.Paths.{first_in_cycle, first_unreached}
+use Rattle.hp_paths.specs.Ranks.{ranks, by_rank, longest_from}
 use Rattle.hp_problem.specs.declared.raw.State.{State}
+use Rattle.hp_problem.specs.declared.raw.Decision.{Decision}
+use Rattle.hp_problem.specs.declared.raw.Node.{Node}
 use Rattle.hp_problem.specs.declared.raw.Subproblem.{Subproblem}
 use Rattle.hp_problem.specs.declared.raw.Raw.{Raw}
 use Rattle.hp_problem.specs.declared.sealed.SealFault.{SealFault}
 use Rattle.hp_problem.specs.declared.sealed.SealFault.TheVariants.{NotRaw, Memory}
-use Rattle.hp_problem.specs.Limits.{is_small, raw_fits}
+use Rattle.hp_problem.specs.Limits.{are_numbers, raw_fits}
 
 pub record Sealed : Type 0 where
   pub raw : Raw
-  -- the nodes, each after its successors
+  -- the nodes by rank, the steps of the longest path from there, and then by number
   pub order : List ℕ
   -- the number of nodes on the longest path from the root
   pub longest : ℕ
@@ -18,33 +25,58 @@ pub record Sealed : Type 0 where
   pub lo : List (List ℤ)
   pub hi : List (List ℤ)
 
--- one node, without successors
-abbrev pub graph_fits : Raw → List ℕ → ℕ → Bool
+-- the successors of each node
+abbrev pub graph_of : Raw → List (List ℕ)
+graph_of raw = map (λ (n : Node). n.links) raw.nodes
+
+abbrev pub is_order : List ℕ → List ℕ → Bool
+is_order order rs = pointwise nat_eq order (by_rank rs)
+
+-- no node reaches itself, the root reaches each node, and the order and the length of the longest path are those of the ranks
+unfoldable pub graph_fits : Raw → List ℕ → ℕ → Bool
 graph_fits raw order longest =
-    (length raw.nodes == 1) && list_all (λ n. length n.links == 0) raw.nodes && (length order == 1) && list_all (λ m. m == 0) order && (longest == 1)
+    is_none (first_in_cycle (graph_of raw)) && is_none (first_unreached (graph_of raw) raw.root)
+    && is_order order (ranks (graph_of raw)) && (longest == longest_from (ranks (graph_of raw)) raw.root)
 
--- the initial value is inside the box
-abbrev pub starts_inside : State → ℤ → ℤ → Bool
-starts_inside s low high = is_small low && is_small high && int_le low s.initial && int_le s.initial high
+-- the state before the first stage
+abbrev pub initial_values : Raw → List ℤ
+initial_values raw = map (λ (s : State). s.initial) raw.states
 
-abbrev pub all_inside : List State → List ℤ → List ℤ → Bool
-all_inside [] ls hs = true
-all_inside (s ∷ ss) [] hs = true
-all_inside (s ∷ ss) (l ∷ ls) [] = true
-all_inside (s ∷ ss) (l ∷ ls) (h ∷ hs) = starts_inside s l h && all_inside ss ls hs
+-- the least values of the decisions that leave as states, one per state
+abbrev pub out_lows : Subproblem → List ℤ
+out_lows s = map (λ o. entry (map (λ (d : Decision). d.low) s.decisions) o) s.outs
 
--- as many entries as there are states, and each initial value inside
-abbrev pub box_fits : List State → List ℤ → List ℤ → Bool
-box_fits states low high = (length low == length states) && (length high == length states) && all_inside states low high
+-- the greatest ones
+abbrev pub out_highs : Subproblem → List ℤ
+out_highs s = map (λ o. entry (map (λ (d : Decision). d.high) s.decisions) o) s.outs
 
-abbrev pub all_boxes : List State → List (List ℤ) → List (List ℤ) → Bool
-all_boxes states [] hi = true
-all_boxes states (l ∷ lo) [] = true
-all_boxes states (l ∷ lo) (h ∷ hi) = box_fits states l h && all_boxes states lo hi
+-- what leaves a node
+abbrev pub lows_from : Raw → Node → List ℤ
+lows_from raw n = get_or (map out_lows raw.subs) n.sub []
 
--- a box for each node
-abbrev pub boxes_fit : Raw → List (List ℤ) → List (List ℤ) → Bool
-boxes_fit raw lo hi = (length lo == length raw.nodes) && (length hi == length raw.nodes) && all_boxes raw.states lo hi
+abbrev pub highs_from : Raw → Node → List ℤ
+highs_from raw n = get_or (map out_highs raw.subs) n.sub []
+
+-- each number is at most the one beside it, as far as both lists go
+abbrev pub at_most : List ℤ → List ℤ → Bool
+at_most [] ys = true
+at_most (x ∷ xs) [] = true
+at_most (x ∷ xs) (y ∷ ys) = int_le x y && at_most xs ys
+
+-- the box of the node m holds the box from these lows to these highs
+abbrev pub holds_box : List (List ℤ) → List (List ℤ) → List ℤ → List ℤ → ℕ → Bool
+holds_box lo hi lows highs m = at_most (get_or lo m []) lows && at_most highs (get_or hi m [])
+
+-- what leaves a node lies in the boxes of its successors
+abbrev pub leaves_inside : Raw → List (List ℤ) → List (List ℤ) → Node → Bool
+leaves_inside raw lo hi n = list_all (holds_box lo hi (lows_from raw n) (highs_from raw n)) n.links
+
+-- one box per node with one small entry per state; what leaves a node lies in the boxes of its successors, and the initial values lie in those of the root's
+unfoldable pub boxes_fit : Raw → List (List ℤ) → List (List ℤ) → Bool
+boxes_fit raw lo hi =
+    (length lo == length raw.nodes) && (length hi == length raw.nodes)
+    && list_all (are_numbers (length raw.states)) lo && list_all (are_numbers (length raw.states)) hi
+    && list_all (leaves_inside raw lo hi) raw.nodes && list_all (holds_box lo hi (initial_values raw) (initial_values raw)) raw.root
 
 -- what holds of each problem
 unfoldable pub is_sealed : Sealed → Bool
@@ -58,7 +90,3 @@ SealsTo p (Err Memory) = Unit {0}
 -- the subproblem of a node
 abbrev pub subproblem_of : Sealed → ℕ → Option Subproblem
 subproblem_of p m = option_and_then (λ n. slice_get p.raw.subs n.sub) (slice_get p.raw.nodes m)
-
--- the state before the first stage
-abbrev pub initial_values : Raw → List ℤ
-initial_values raw = map (λ (s : State). s.initial) raw.states

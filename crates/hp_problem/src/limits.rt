@@ -8,9 +8,11 @@ use hp_num::{List, Name};
 
 const GREATEST: u64 = 1 << 40;
 
-const NAME_BYTES: usize = 128;
+/// The most bytes of a name.
+pub const NAME_BYTES: usize = 128;
 
-const MOST_STATES: usize = 50;
+/// The most states of a problem.
+pub const MOST_STATES: usize = 50;
 
 const MOST_NODES: usize = 1000;
 
@@ -193,7 +195,7 @@ fn realizations_fit(node: &Node, randoms: usize) -> bool
         && all_numbers(node.values.as_slice(), randoms)
 }
 
-fn all_numbers(lists: &[List<i64>], count: usize) -> bool
+pub(crate) fn all_numbers(lists: &[List<i64>], count: usize) -> bool
     ensures { result ≡ list_all (are_numbers count) lists.now }
 {
     lists.iter().all(|numbers| are_numbers(numbers, count))
@@ -266,7 +268,14 @@ fn root_fits(raw: &Raw) -> bool
 }
 
 /// Whether all parts but the stored scenarios keep the limits.
-pub(crate) fn raw_fits(raw: &Raw) -> bool
+///
+/// There are at most 50 states, 1000 nodes with 1 to 100 realizations each, and 1000 subproblems with at most 200
+/// decisions, 200 rows and 50 random variables each. Names have at most 128 bytes, and numbers are at most 2^40
+/// either way. The low side of a decision or a row is at most its high side. The numbers of a row's terms rise, and no
+/// factor is 0. Weights are at least 1, and those of one list, with the stop weight beside successors, make at most
+/// 65535. The root leads somewhere. Each list has an entry for each part that it speaks of, and each number of a part
+/// is that of a part that is there.
+pub fn raw_fits(raw: &Raw) -> bool
     ensures { result ≡ raw_fits raw.now }
 {
     raw.states.len() <= MOST_STATES

@@ -1,15 +1,18 @@
 // A problem whose parts fit together.
 ghost use Rattle.std.specs.Prelude.{◌≡◌, ◌<◌, ◌==◌, ◌+◌, ◌≤◌, ℕ, List, length, Some, true, slice_get, slice_index_or, sum, ℤ, [], ◌∷◌, map, IfOk};
 ghost use Rattle.std.specs.List.{list_all};
-ghost use Rattle.hp_problem.specs.Sealed.{Sealed, SealsTo, is_sealed, graph_fits, starts_inside, all_inside, box_fits, all_boxes, boxes_fit, subproblem_of, initial_values};
+ghost use Rattle.hp_problem.specs.Sealed.{Sealed, SealsTo, is_sealed, subproblem_of, initial_values};
+ghost use Rattle.hp_problem.specs.declared.sealed.SealFault.TheVariants as faults;
 
-use crate::limits::{is_small, raw_fits};
+use crate::boxes::boxes_fit;
+use crate::graph::graph_fits;
+use crate::limits::raw_fits;
 use crate::raw::{Node, Raw, State, Subproblem};
 use hp_num::{List, Memory};
 use std::alloc::Global;
 use std::marker::Model;
 
-/// A problem: its parts, the order of its nodes, and the boxes of their incoming states.
+/// A problem whose parts fit together: the parts, the order of the nodes, and the boxes of their incoming states.
 #[derive(Drop)]
 pub struct Problem {
     raw: Raw,
@@ -41,84 +44,12 @@ pub enum SealFault {
     Memory,
 }
 
-fn are_leaves(nodes: &[Node]) -> bool
-    ensures { result ≡ list_all (λ n. length n.links == 0) nodes.now }
-{
-    nodes.iter().all(|node| node.links.is_empty())
-}
+impl From<Memory> for SealFault {
+    ghost from_gives = { λ _ e. e ≡ faults.Memory };
 
-fn are_zero(numbers: &[u32]) -> bool
-    ensures { result ≡ list_all (λ m. m == 0) numbers.now }
-{
-    numbers.iter().all(|number| *number == 0)
-}
-
-fn graph_fits(raw: &Raw, order: &List<u32>, longest: u32) -> bool
-    ensures { result ≡ graph_fits raw.now order.now longest }
-{
-    raw.nodes.len() == 1
-        && are_leaves(raw.nodes.as_slice())
-        && order.len() == 1
-        && are_zero(order.as_slice())
-        && longest == 1
-}
-
-fn starts_inside(state: &State, low: i64, high: i64) -> bool
-    ensures { result ≡ starts_inside state.now low high }
-{
-    is_small(low) && is_small(high) && low <= state.initial && state.initial <= high
-}
-
-fn all_inside(states: &[State], low: &[i64], high: &[i64]) -> bool
-    requires low { length low.now ≡ length states.now }
-    requires high { length high.now ≡ length states.now }
-    ensures { result ≡ all_inside states.now low.now high.now }
-{
-    for (k, state) in states.iter().enumerate() {
-        if !starts_inside(state, low[k], high[k]) {
-            return false;
-        }
+    fn from(_: Memory) -> Self {
+        SealFault::Memory
     }
-    true
-}
-
-fn box_fits(states: &[State], low: &[i64], high: &[i64]) -> bool
-    ensures { result ≡ box_fits states.now low.now high.now }
-{
-    low.len() == states.len() && high.len() == states.len() && all_inside(states, low, high)
-}
-
-fn all_boxes(states: &[State], lo: &[List<i64>], hi: &[List<i64>]) -> bool
-    requires { length hi.now ≡ length lo.now }
-    ensures { result ≡ all_boxes states.now lo.now hi.now }
-{
-    for (m, low) in lo.iter().enumerate() {
-        if !box_fits(states, low.as_slice(), hi[m].as_slice()) {
-            return false;
-        }
-    }
-    true
-}
-
-fn boxes_fit(raw: &Raw, lo: &List<List<i64>>, hi: &List<List<i64>>) -> bool
-    ensures { result ≡ boxes_fit raw.now lo.now hi.now }
-{
-    lo.len() == raw.nodes.len()
-        && hi.len() == raw.nodes.len()
-        && all_boxes(raw.states.as_slice(), lo.as_slice(), hi.as_slice())
-}
-
-#[tactic(auto, unfolding(crate::specs::Sealed::is_sealed))]
-fn fits(
-    raw: &Raw,
-    order: &List<u32>,
-    longest: u32,
-    lo: &List<List<i64>>,
-    hi: &List<List<i64>>,
-) -> bool
-    ensures { result ≡ is_sealed (record { raw = raw.now; order = order.now; longest = longest; lo = lo.now; hi = hi.now }) }
-{
-    raw_fits(raw) && graph_fits(raw, order, longest) && boxes_fit(raw, lo, hi)
 }
 
 fn initial_values(alloc: Global, states: &[State]) -> Result<List<i64>, Memory>
@@ -131,6 +62,25 @@ fn initial_values(alloc: Global, states: &[State]) -> Result<List<i64>, Memory>
     Ok(found)
 }
 
+#[tactic(auto, unfolding(crate::specs::Sealed::is_sealed))]
+fn fits(
+    alloc: Global,
+    raw: &Raw,
+    order: &[u32],
+    longest: u32,
+    lo: &[List<i64>],
+    hi: &[List<i64>],
+    initial: &[i64],
+) -> Result<bool, Memory>
+    requires { initial.now ≡ initial_values raw.now }
+    ensures { IfOk result (λ b. b ≡ is_sealed (record { raw = raw.now; order = order.now; longest = longest; lo = lo.now; hi = hi.now })) }
+{
+    if !raw_fits(raw) || !graph_fits(alloc, raw, order, longest)? {
+        return Ok(false);
+    }
+    boxes_fit(alloc, raw, lo, hi, initial)
+}
+
 fn list_at(lists: &List<List<i64>>, node: u32) -> &[i64]
     requires { node < length lists.now }
     ensures { slice_get lists.now node ≡ Some result.now }
@@ -138,7 +88,7 @@ fn list_at(lists: &List<List<i64>>, node: u32) -> &[i64]
     item_at(lists.as_slice(), node as usize).as_slice()
 }
 
-fn item_at<T>(items: &[T], at: usize) -> &T
+pub(crate) fn item_at<T>(items: &[T], at: usize) -> &T
     requires { at < length items.now }
     ensures { slice_get items.now at ≡ Some result.now }
 {
@@ -148,9 +98,11 @@ fn item_at<T>(items: &[T], at: usize) -> &T
 impl Problem {
     /// The problem, where its parts fit together.
     ///
-    /// `lo` and `hi` have one list per node with one entry per state; `order` has each node after its
-    /// successors; `longest` is the number of nodes on the longest path from the root. NotRaw exactly
-    /// where the parts do not fit. What was handed in is dropped after a fault.
+    /// They fit where `raw` keeps its limits, no node reaches itself and the root reaches each node; `order` has the
+    /// nodes by rank, the steps of the longest path from there, and then by number; `longest` is the number of nodes
+    /// on the longest path from the root; `lo` and `hi` have one list per node with one small entry per state, which
+    /// hold what leaves the nodes that lead there, and the initial values where the root leads there. NotRaw exactly
+    /// where the parts do not fit, Memory where memory was refused. What was handed in is dropped after a fault.
     pub fn seal(
         alloc: Global,
         raw: Raw,
@@ -161,12 +113,19 @@ impl Problem {
     ) -> Result<Problem, SealFault>
         ensures { SealsTo (record { raw = raw; order = order; longest = longest; lo = lo; hi = hi }) result }
     {
-        if !fits(&raw, &order, longest, &lo, &hi) {
+        let initial = initial_values(alloc, raw.states.as_slice())?;
+        let fits = fits(
+            alloc,
+            &raw,
+            order.as_slice(),
+            longest,
+            lo.as_slice(),
+            hi.as_slice(),
+            initial.as_slice(),
+        )?;
+        if !fits {
             return Err(SealFault::NotRaw);
         }
-        let Ok(initial) = initial_values(alloc, raw.states.as_slice()) else {
-            return Err(SealFault::Memory);
-        };
         Ok(Problem {
             raw,
             order,
@@ -185,7 +144,8 @@ impl Problem {
         &self.raw
     }
 
-    /// The numbers of the nodes, each after its successors.
+    /// The numbers of the nodes by rank, the steps of the longest path from there, and then by number. So each node
+    /// stands after its successors.
     pub fn order(&self) -> &[u32]
         ensures value { result.now ≡ self.now.order }
         ensures sealed { is_sealed self.now ≡ true }

@@ -3,22 +3,72 @@ use hp_num::{List, Memory, Name};
 use std::alloc::Global;
 use std::test::Fail;
 
+mod chains;
+mod pairs;
+
 fn one<T: Drop>(alloc: Global, item: T) -> Result<List<T>, Memory> {
     let mut found = List::new(alloc);
     found.push(item)?;
     Ok(found)
 }
 
-// A stage with one decision, which is the outgoing value of the only state.
-fn stage(alloc: Global) -> Result<Subproblem, Memory> {
-    let release = Decision {
+fn copied<T: Copy + Drop>(alloc: Global, items: &[T]) -> Result<List<T>, Memory> {
+    let mut found = List::new(alloc);
+    for item in items {
+        found.push(*item)?;
+    }
+    Ok(found)
+}
+
+fn many<T: Copy + Drop>(alloc: Global, item: T, count: u32) -> Result<List<T>, Memory> {
+    let mut found = List::new(alloc);
+    for _ in 0..count {
+        found.push(item)?;
+    }
+    Ok(found)
+}
+
+fn decision(alloc: Global) -> Result<Decision, Memory> {
+    Ok(Decision {
         name: Name::new(alloc, "release")?,
         low: 0,
         high: 10,
         cost: 3,
-    };
+    })
+}
+
+fn state(alloc: Global, initial: i64) -> Result<State, Memory> {
+    Ok(State {
+        name: Name::new(alloc, "volume")?,
+        initial,
+    })
+}
+
+// A node of the only subproblem, with realizations of these weights, that leads to these nodes.
+fn node(alloc: Global, weights: &[u32], links: &[u32], stop: u32) -> Result<Node, Memory> {
+    let mut values = List::new(alloc);
+    for _ in weights {
+        values.push(List::new(alloc))?;
+    }
+    let mut link_weights = List::new(alloc);
+    for _ in links {
+        link_weights.push(2)?;
+    }
+    Ok(Node {
+        name: Name::new(alloc, "only")?,
+        sub: 0,
+        weights: copied(alloc, weights)?,
+        values,
+        links: copied(alloc, links)?,
+        link_weights,
+        stop,
+    })
+}
+
+// A stage with one decision, which is the outgoing value of the only state.
+fn stage(alloc: Global) -> Result<Subproblem, Memory> {
     Ok(Subproblem {
-        decisions: one(alloc, release)?,
+        decisions: one(alloc, decision(alloc)?)?,
         outs: one(alloc, 0)?,
         randoms: List::new(alloc),
         rows: List::new(alloc),
@@ -30,44 +80,24 @@ fn stage(alloc: Global) -> Result<Subproblem, Memory> {
     })
 }
 
-fn leaf(alloc: Global, weight: u32) -> Result<Node, Memory> {
-    Ok(Node {
-        name: Name::new(alloc, "only")?,
-        sub: 0,
-        weights: one(alloc, weight)?,
-        values: one(alloc, List::new(alloc))?,
-        links: List::new(alloc),
-        link_weights: List::new(alloc),
-        stop: 0,
-    })
-}
-
-fn lone(alloc: Global, weight: u32, initial: i64) -> Result<Raw, Memory> {
-    let volume = State {
-        name: Name::new(alloc, "volume")?,
-        initial,
-    };
+// A problem with one state and these nodes, of which the root leads to one.
+fn raw(alloc: Global, initial: i64, root: u32, nodes: List<Node>) -> Result<Raw, Memory> {
     Ok(Raw {
-        states: one(alloc, volume)?,
-        root: one(alloc, 0)?,
+        states: one(alloc, state(alloc, initial)?)?,
+        root: one(alloc, root)?,
         root_weights: one(alloc, 1)?,
-        nodes: one(alloc, leaf(alloc, weight)?)?,
+        nodes,
         subs: one(alloc, stage(alloc)?)?,
         scenarios: List::new(alloc),
     })
 }
 
-fn sealed(alloc: Global, weight: u32, initial: i64) -> Result<Problem, SealFault> {
-    let Ok(raw) = lone(alloc, weight, initial) else {
-        return Err(SealFault::Memory);
-    };
-    let (Ok(order), Ok(low), Ok(high)) = (one(alloc, 0), one(alloc, 0), one(alloc, 10)) else {
-        return Err(SealFault::Memory);
-    };
-    let (Ok(lo), Ok(hi)) = (one(alloc, low), one(alloc, high)) else {
-        return Err(SealFault::Memory);
-    };
-    Problem::seal(alloc, raw, order, 1, lo, hi)
+fn lone(alloc: Global, weight: u32, initial: i64) -> Result<Problem, SealFault> {
+    let leaf = node(alloc, &[weight], &[], 7)?;
+    let raw = raw(alloc, initial, 0, one(alloc, leaf)?)?;
+    let lo = one(alloc, one(alloc, 0)?)?;
+    let hi = one(alloc, one(alloc, 10)?)?;
+    Problem::seal(alloc, raw, one(alloc, 0)?, 1, lo, hi)
 }
 
 #[test]
@@ -80,14 +110,14 @@ fn seals_one_node(rt: HostRuntime) {
         (1, 11, Some(SealFault::NotRaw)),
         (1, -1, Some(SealFault::NotRaw)),
     ] {
-        let found = sealed(rt.alloc(), weight, initial).err();
+        let found = lone(rt.alloc(), weight, initial).err();
         assert_eq!(rt; found, fault, "weight {weight} and initial value {initial}");
     }
 }
 
 #[test]
 fn shows_its_parts(rt: HostRuntime) -> Result<(), Fail> {
-    let problem = sealed(rt.alloc(), 7, 4)?;
+    let problem = lone(rt.alloc(), 7, 4)?;
     assert_eq!(rt; problem.order(), [0].as_slice());
     assert_eq!(rt; problem.longest(), 1);
     assert_eq!(rt; problem.initial(), [4].as_slice());
@@ -96,6 +126,7 @@ fn shows_its_parts(rt: HostRuntime) -> Result<(), Fail> {
         assert_eq!(rt; problem.sub(0).decisions.len(), 1);
         assert_eq!(rt; problem.lo(0), [0].as_slice());
         assert_eq!(rt; problem.hi(0), [10].as_slice());
+        assert_eq!(rt; problem.q(0), 1);
     }
     let place = Place::new(Part::Node, 0, 0, 0);
     let refusal = RefusalKind::Cycle.at(place);

@@ -5,7 +5,10 @@ use Rattle.std.proofs.lemmas.Bool.Decides.{nat_tests}
 use Rattle.hp_problem.specs.declared.raw.Raw.{Raw}
 use Rattle.hp_problem.specs.declared.refusal.Refusal.{Refusal}
 use Rattle.hp_problem.specs.Sealed.{Sealed, is_sealed}
-use Rattle.hp_graph.specs.Lone.{only_box, sealed_with, arranged_with, arranged}
+use Rattle.hp_graph.specs.Arranged.{arranged}
+use Rattle.hp_graph.proofs.Fitting.{arranged_sealed}
+use Rattle.hp_problem.specs.Limits.{raw_fits}
+use Rattle.hp_sof.proofs.ReadFits.{raw_fits-read}
 use Rattle.hp_fields.specs.Steps.{◌>>=◌}
 use Rattle.hp_sof.specs.Read.{raw_of}
 use Rattle.hp_sof.specs.Problem.{problem_at}
@@ -14,74 +17,51 @@ use Rattle.hp_theory.specs.Pools.{pool, Sound}
 use Rattle.hp_theory.specs.Range.{based}
 use Rattle.hp_theory.specs.View.{problem_of}
 use Rattle.hp_theory.proofs.BoundBelow.{sound_bound}
-use Rattle.hp_theory.proofs.SealedPremises.{root_shaped-lone, have_cuts-lone}
-use Rattle.hp_theory.proofs.BasedLone.{pools-based, sound-lone}
+use Rattle.hp_theory.proofs.SealedPremises.{root_shaped-sealed, have_cuts-root}
+use Rattle.hp_theory.proofs.Based.{sound-based, fit-based}
 use Rattle.hp_report.specs.Report.{base_text}
-use Rattle.hp_run.specs.Outcome.{report_based, report_found, report_at, SoundText}
+use Rattle.hp_run.specs.Outcome.{report_based, report_of, report_at, SoundText}
 use Rattle.hp_run.specs.Causes.{Ends, Explains, status_of, expected, Completes, Sounds}
 use Rattle.hp_run.specs.declared.status.Status.{Status}
-use Rattle.hp_run.specs.declared.status.Status.TheVariants.{Done, Usage, ReadFault, TooLong, ProblemRefused, WriteFault, Memory, NotYet}
+use Rattle.hp_run.specs.declared.status.Status.TheVariants.{Done, Usage, ReadFault, TooLong, ProblemRefused, WriteFault, Memory}
 
 not_both : {A E : Type 0} (x : E) (y : A) → Err x ≡ Ok y → ⊥
 not_both x y h = cc
 
-not_none : {A : Type 0} (y : A) → None ≡ Some y → ⊥
-not_none y h = cc
-
-same_some : {A : Type 0} (x y : A) → Some x ≡ Some y → x ≡ y
-same_some x y h = cc
-
 same_ok : {A : Type 0} (x y : A) → (let l : Result A Refusal = Ok x in l ≡ Ok y) → x ≡ y
 same_ok x y h = cc
 
--- what is arranged is sealed
-with_test : (q p : Sealed) (t : Bool) → is_sealed q ≡ t → (if t then Some q else None) ≡ Some p → is_sealed p ≡ true
-with_test q p true e h = subst (λ (k : Sealed). is_sealed k ≡ true) (same_some q p h) e
-with_test q p false e h = absurd (not_none p h)
+-- what is read is sealed
+read_sealed : (raw : Result Raw Refusal) (p : Sealed) → ((r : Raw) → raw ≡ Ok r → raw_fits r ≡ true) → (raw >>= arranged) ≡ Ok p → is_sealed p ≡ true
+read_sealed (Err e) p f h = absurd (not_both e p h)
+read_sealed (Ok raw) p f h = arranged_sealed raw p (f raw refl) h
 
-sealed_box : (raw : Raw) (box : Result (Option (List ℤ × List ℤ)) Refusal) (p : Sealed) → arranged_with raw box ≡ Ok (Some p) → is_sealed p ≡ true
-sealed_box raw (Err e) p h = absurd (not_both e (Some p) h)
-sealed_box raw (Ok None) p h = absurd (not_none p (same_ok None (Some p) h))
-sealed_box raw (Ok (Some b)) p h =
-    let q : Sealed = record { raw = raw; order = 0 ∷ []; longest = 1; lo = b.0 ∷ []; hi = b.1 ∷ [] } in
-    with_test q p (is_sealed q) refl (same_ok (sealed_with raw (Some b)) (Some p) h)
-
-arranged_sealed : (raw : Raw) (p : Sealed) → arranged raw ≡ Ok (Some p) → is_sealed p ≡ true
-unfolding arranged
-arranged_sealed raw p h = sealed_box raw (only_box raw) p h
-
-read_sealed : (raw : Result Raw Refusal) (p : Sealed) → (raw >>= arranged) ≡ Ok (Some p) → is_sealed p ≡ true
-read_sealed (Err e) p h = absurd (not_both e (Some p) h)
-read_sealed (Ok raw) p h = arranged_sealed raw p h
-
-problem_sealed : (bytes : List ℕ) (p : Sealed) → problem_at bytes ≡ Ok (Some p) → is_sealed p ≡ true
+problem_sealed : (bytes : List ℕ) (p : Sealed) → problem_at bytes ≡ Ok p → is_sealed p ≡ true
 unfolding problem_at
-problem_sealed bytes p h = read_sealed (raw_of bytes) p h
+problem_sealed bytes p h = read_sealed (raw_of bytes) p (raw_fits-read bytes) h
 
 -- a report is sound
-sound_based : (bytes text : List ℕ) (p : Sealed) (b : Result (List (List Cut)) (ℕ × ℕ)) → problem_at bytes ≡ Ok (Some p) → based p ≡ b → report_based p b ≡ Ok (Some text) → SoundText bytes text
-sound_based bytes text p (Err at) e is h = absurd (not_both _ (Some text) h)
+sound_based : (bytes text : List ℕ) (p : Sealed) (b : Result (List (List Cut)) (ℕ × ℕ)) → problem_at bytes ≡ Ok p → based p ≡ b → report_based p b ≡ Ok text → SoundText bytes text
+sound_based bytes text p (Err at) e is h = absurd (not_both _ text h)
 sound_based bytes text p (Ok pools) e is h =
     let sealed = problem_sealed bytes p e in
-    let lone = pools-based p pools sealed is in
-    let sound : Sound (problem_of p) pools = subst (λ (k : List (List Cut)). Sound (problem_of p) k) lone (sound-lone p sealed) in
-    let some : 0 < length (pool pools 0) = subst (λ (k : List (List Cut)). 0 < length (pool k 0)) lone (omega arith) in
+    let fit = fit-based p pools sealed is in
+    let sound = sound-based p pools sealed is in
     record {
       problem = p;
       pools = pools;
       read = e;
-      is = sym (same_some (base_text p pools) text (same_ok (Some (base_text p pools)) (Some text) h));
+      is = sym (same_ok (base_text p pools) text h);
       cuts = sound;
-      bound = sound_bound (problem_of p) pools (root_shaped-lone p sealed) (have_cuts-lone p pools sealed some) sound;
+      bound = sound_bound (problem_of p) pools (root_shaped-sealed p sealed) (have_cuts-root p pools sealed fit.some) sound;
     }
 
-sound_found : (bytes text : List ℕ) (found : Result (Option Sealed) Refusal) → problem_at bytes ≡ found → (found >>= report_found) ≡ Ok (Some text) → SoundText bytes text
-unfolding report_found
-sound_found bytes text (Err e) is h = absurd (not_both e (Some text) h)
-sound_found bytes text (Ok None) is h = absurd (not_none text (same_ok None (Some text) h))
-sound_found bytes text (Ok (Some p)) is h = sound_based bytes text p (based p) is refl h
+sound_found : (bytes text : List ℕ) (found : Result Sealed Refusal) → problem_at bytes ≡ found → (found >>= report_of) ≡ Ok text → SoundText bytes text
+unfolding report_of
+sound_found bytes text (Err e) is h = absurd (not_both e text h)
+sound_found bytes text (Ok p) is h = sound_based bytes text p (based p) is refl h
 
-pub sound_report : (bytes text : List ℕ) → report_at bytes ≡ Ok (Some text) → SoundText bytes text
+pub sound_report : (bytes text : List ℕ) → report_at bytes ≡ Ok text → SoundText bytes text
 unfolding report_at
 sound_report bytes text h = sound_found bytes text (problem_at bytes) refl h
 
@@ -97,7 +77,6 @@ sounds base e Usage h = tt
 sounds base e ReadFault h = tt
 sounds base e TooLong h = tt
 sounds base e (ProblemRefused r) h = tt
-sounds base e NotYet h = tt
 sounds base e Memory h = tt
 
 at_bytes : (o : Option (List ℕ)) (P : List ℕ → Type 0) (bytes : List ℕ) → o ≡ Some bytes → IfSome o P → P bytes
@@ -109,7 +88,7 @@ few bytes s h = let t : nat_le (length bytes) (2 ^ 24) ≡ true = grind (arith, 
 many : (bytes : List ℕ) (s : Status) → 2 ^ 24 < length bytes → (if nat_le (length bytes) (2 ^ 24) then s else TooLong) ≡ TooLong
 many bytes s h = let t : nat_le (length bytes) (2 ^ 24) ≡ false = grind (arith, nat_tests) in rw t refl
 
-outcome_is : (base : Bool) (bytes : List ℕ) (r : Result (Option (List ℕ)) Refusal) → base ≡ true → length bytes ≤ 2 ^ 24 → report_at bytes ≡ r → status_of r ≡ expected base bytes
+outcome_is : (base : Bool) (bytes : List ℕ) (r : Result (List ℕ) Refusal) → base ≡ true → length bytes ≤ 2 ^ 24 → report_at bytes ≡ r → status_of r ≡ expected base bytes
 outcome_is false bytes r b h e = absurd (no b)
   where
     no : false ≡ true → ⊥
@@ -136,13 +115,12 @@ front_length (Some rest) bytes piece h = omega (arith, ap length h, length-appen
 
 -- each status is the expected one, where no count rose and memory was there
 pub completes : (base : Bool) (e : Ends) (status : Status) → Explains base e status → Completes base e status
-completes base e Done h = λ bytes is nr nw. let w = at_bytes e.left _ bytes is h.2 in inl (outcome_is base bytes (Ok (Some w.0)) h.0 w.1 w.2)
+completes base e Done h = λ bytes is nr nw. let w = at_bytes e.left _ bytes is h.2 in inl (outcome_is base bytes (Ok w.0) h.0 w.1 w.2)
 completes base e Usage h = λ bytes is nr nw. inl (usage_is base bytes h.0)
 completes base e ReadFault h = λ bytes is nr nw. absurd (nr h.1)
 completes base e TooLong h = λ bytes is nr nw.
     let f = front_length e.left_now bytes h.1.0 (subst (λ (o : Option (List ℕ)). Consumes o e.left_now h.1.0) is h.1.2) in
     inl (long_is base bytes h.0 (omega (arith, h.1.1)))
 completes base e (ProblemRefused r) h = λ bytes is nr nw. let w = at_bytes e.left _ bytes is h.1.1 in inl (outcome_is base bytes (Err r) h.0 w.0 w.1)
-completes base e NotYet h = λ bytes is nr nw. let w = at_bytes e.left _ bytes is h.1.1 in inl (outcome_is base bytes (Ok None) h.0 w.0 w.1)
 completes base e WriteFault h = λ bytes is nr nw. absurd (nw h.1)
 completes base e Memory h = λ bytes is nr nw. inr refl

@@ -1,5 +1,5 @@
 -- What the bytes of a problem give, and when a text is sound.
-use Rattle.std.specs.Prelude.{◌≡◌, ℕ, List, Option, Some, None, Result, Ok, Err}
+use Rattle.std.specs.Prelude.{◌≡◌, ℕ, List, Result, Ok, Err}
 use Rattle.hp_problem.specs.declared.refusal.Refusal.{Refusal}
 use Rattle.hp_problem.specs.declared.refusal.RefusalKind.TheVariants as kinds
 use Rattle.hp_problem.specs.declared.refusal.Part.TheVariants as parts
@@ -15,25 +15,24 @@ use Rattle.hp_theory.specs.View.{problem_of}
 use Rattle.hp_report.specs.Report.{base_text}
 
 -- the report of the base cuts, or the realization at which their size passes its range
-abbrev pub report_based : Sealed → Result (List (List Cut)) (ℕ × ℕ) → Result (Option (List ℕ)) Refusal
-report_based p (Ok pools) = Ok (Some (base_text p pools))
+abbrev pub report_based : Sealed → Result (List (List Cut)) (ℕ × ℕ) → Result (List ℕ) Refusal
+report_based p (Ok pools) = Ok (base_text p pools)
 report_based p (Err at) = refuse kinds.Range (place parts.Realization at.0 at.1 0)
 
-unfoldable pub report_found : Option Sealed → Result (Option (List ℕ)) Refusal
-report_found None = Ok None
-report_found (Some p) = report_based p (based p)
+unfoldable pub report_of : Sealed → Result (List ℕ) Refusal
+report_of p = report_based p (based p)
 
--- the report that the bytes of a problem give, or their first refusal; none where the problem has more than one node
-unfoldable pub report_at : List ℕ → Result (Option (List ℕ)) Refusal
+-- the report that the bytes of a problem give, or their first refusal
+unfoldable pub report_at : List ℕ → Result (List ℕ) Refusal
 report_at bytes = do
-  found ← problem_at bytes
-  report_found found
+  problem ← problem_at bytes
+  report_of problem
 
 -- the text is a report of the problem that the bytes give: each cut in it holds at its node, and its bound is under the cost of each policy
 pub record SoundText (bytes text : List ℕ) : Type 0 where
   pub problem : Sealed
   pub pools : List (List Cut)
-  pub read : problem_at bytes ≡ Ok (Some problem)
+  pub read : problem_at bytes ≡ Ok problem
   pub is : text ≡ base_text problem pools
   pub cuts : Sound (problem_of problem) pools
   pub bound : Under (problem_of problem) (bound (problem_of problem) pools)

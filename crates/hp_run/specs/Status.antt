@@ -8,7 +8,7 @@ use Rattle.hp_problem.specs.declared.refusal.Part.TheVariants as parts
 use Rattle.hp_problem.specs.declared.refusal.Place.{Place}
 use Rattle.hp_problem.specs.declared.refusal.Refusal.{Refusal}
 use Rattle.hp_run.specs.declared.status.Status.{Status}
-use Rattle.hp_run.specs.declared.status.Status.TheVariants.{Done, Usage, ReadFault, TooLong, ProblemRefused, WriteFault, Memory, NotYet}
+use Rattle.hp_run.specs.declared.status.Status.TheVariants.{Done, Usage, ReadFault, TooLong, ProblemRefused, WriteFault, Memory}
 
 abbrev pub number_of : Status → ℕ
 number_of Done = 0
@@ -18,7 +18,6 @@ number_of TooLong = 4
 number_of (ProblemRefused r) = 5
 number_of WriteFault = 11
 number_of Memory = 12
-number_of NotYet = 13
 
 unfoldable pub kind_text : RefusalKind → List ℕ
 kind_text kinds.NotJson = codes "NotJson"
@@ -80,7 +79,6 @@ status_text TooLong = codes "problem is longer than 16777216 bytes"
 status_text (ProblemRefused r) = refusal_text r
 status_text WriteFault = codes "output failed"
 status_text Memory = codes "memory"
-status_text NotYet = codes "not yet"
 
 -- the program's name
 unfoldable pub name : List ℕ
@@ -95,4 +93,3 @@ status_line_text TooLong = name ++ status_text TooLong ++ codes "\n"
 status_line_text (ProblemRefused r) = name ++ status_text (ProblemRefused r) ++ codes "\n"
 status_line_text WriteFault = name ++ status_text WriteFault ++ codes "\n"
 status_line_text Memory = name ++ status_text Memory ++ codes "\n"
-status_line_text NotYet = name ++ status_text NotYet ++ codes "\n"

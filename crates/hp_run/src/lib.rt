@@ -12,3 +12,5 @@ pub use top::run;
 
 #[cfg(test)]
 mod tests;
+#[cfg(test)]
+mod worked_problems;

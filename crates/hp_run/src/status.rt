@@ -24,9 +24,6 @@ pub enum Status {
     WriteFault,
     /// Memory was refused.
     Memory,
-    /// The problem is accepted so far, but of a kind that this version does not plan yet: it has
-    /// more than one node.
-    NotYet,
 }
 
 /// The number that a status ends the process with.
@@ -41,7 +38,6 @@ pub fn number(status: &Status) -> u8
         Status::ProblemRefused(_) => 5,
         Status::WriteFault => 11,
         Status::Memory => 12,
-        Status::NotYet => 13,
     }
 }
 
@@ -146,7 +142,6 @@ fn push_status(out: &mut Vec<u8>, status: &Status) -> Result<(), Memory>
         Status::ProblemRefused(refusal) => push_refusal(out, *refusal),
         Status::WriteFault => push_bytes(out, b"output failed"),
         Status::Memory => push_bytes(out, b"memory"),
-        Status::NotYet => push_bytes(out, b"not yet"),
     }
 }
 

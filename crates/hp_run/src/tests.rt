@@ -166,7 +166,6 @@ fn lines(rt: HostRuntime) -> Result<(), Fail> {
             Status::ProblemRefused(NOT_JSON),
             b"hydroplan: problem refused: NotJson at whole 0 0 0\n".as_slice(),
         ),
-        (Status::NotYet, b"hydroplan: not yet\n".as_slice()),
     ] {
         assert_eq!(rt; status_line(rt.alloc(), &status)?.as_slice(), line);
     }

@@ -97,8 +97,7 @@ fn act<I: Source, O: Sink>(alloc: Global, words: &[String], problem: &mut I, out
         Err(GatherFault::Memory) => return Status::Memory,
     };
     let text = match report_of(alloc, bytes.as_slice()) {
-        Ok(Some(text)) => text,
-        Ok(None) => return Status::NotYet,
+        Ok(text) => text,
         Err(ReadRefusal::Refused(refusal)) => return Status::ProblemRefused(refusal),
         Err(ReadRefusal::Memory) => return Status::Memory,
     };

@@ -1,0 +1,4 @@
+pub mod LinksFit
+pub mod RootFits
+pub mod NodesFit
+pub mod ReadFits

@@ -1,7 +1,8 @@
 // A problem from the bytes of its file.
-ghost use Rattle.std.specs.Prelude.{◌≡◌};
+ghost use Rattle.std.specs.Prelude.{◌≡◌, true};
+ghost use Rattle.hp_problem.specs.Limits.{raw_fits};
 ghost use Rattle.hp_fields.specs.Steps.{Gives};
-ghost use Rattle.hp_graph.specs.Lone.{arranged};
+ghost use Rattle.hp_graph.specs.Arranged.{arranged};
 ghost use Rattle.hp_sof.specs.Problem.{problem_at};
 
 use crate::read::read_raw;
@@ -11,7 +12,8 @@ use hp_problem::{Part, Place, Problem, Raw, RefusalKind};
 use std::alloc::Global;
 
 // The problem of these parts, or the first refusal of its graph.
-fn arranged(alloc: Global, raw: Raw) -> Result<Option<Problem>, ReadRefusal>
+fn arranged(alloc: Global, raw: Raw) -> Result<Problem, ReadRefusal>
+    requires { raw_fits raw ≡ true }
     ensures { Gives (λ p. p) result (arranged raw) }
 {
     match arrange(alloc, raw) {
@@ -30,9 +32,8 @@ fn arranged(alloc: Global, raw: Raw) -> Result<Option<Problem>, ReadRefusal>
 }
 
 /// The problem that the bytes of its file give, or the first refusal of the reading and of the graph.
-/// None where the problem has more than one node.
 #[tactic(auto, unfolding(crate::specs::Problem::problem_at))]
-pub fn read_problem(alloc: Global, bytes: &[u8]) -> Result<Option<Problem>, ReadRefusal>
+pub fn read_problem(alloc: Global, bytes: &[u8]) -> Result<Problem, ReadRefusal>
     ensures { Gives (λ p. p) result (problem_at bytes.now) }
 {
     let raw = read_raw(alloc, bytes)?;

@@ -1,7 +1,8 @@
 // The parts of a problem from the bytes of its file.
-ghost use Rattle.std.specs.Prelude.{◌≡◌, ◌≤◌, ◌^◌, length};
+ghost use Rattle.std.specs.Prelude.{◌≡◌, ◌≤◌, ◌^◌, true, length, IfOk};
 ghost use Rattle.serde_json.specs.Events.{members_len};
 ghost use Rattle.serde_json.specs.View.{members_view};
+ghost use Rattle.hp_problem.specs.Limits.{raw_fits};
 ghost use Rattle.hp_fields.specs.Steps.{Gives};
 ghost use Rattle.hp_sof.specs.Read.{graph_at, raw_of};
 ghost use Rattle.hp_sof.specs.Shown.{shown};
@@ -36,10 +37,11 @@ fn graph(alloc: Global, names: &Names, tables: &Tables) -> Result<Raw, ReadRefus
     })
 }
 
-/// The parts of a problem from the bytes of its file, or the first refusal.
+/// The parts of a problem from the bytes of its file, or the first refusal. What is read keeps the limits.
 #[tactic(auto, unfolding(crate::specs::Read::raw_of), using(hp_fields::proofs::InOrder::counts))]
 pub fn read_raw(alloc: Global, bytes: &[u8]) -> Result<Raw, ReadRefusal>
-    ensures { Gives (λ r. r) result (raw_of bytes.now) }
+    ensures value { Gives (λ r. r) result (raw_of bytes.now) }
+    ensures fits { IfOk result (λ raw. raw_fits raw ≡ true) }
 {
     let value = json(alloc, bytes)?;
     let tables = tables_of(&value)?;

@@ -1,6 +1,6 @@
 // Refusals with their places, and one problem field by field.
 use super::*;
-use hp_problem::{Moment, Node, Raw};
+use hp_problem::{Moment, Node, Problem, Raw};
 use serde_json::Value;
 use std::alloc::Global;
 use std::test::Fail;
@@ -81,7 +81,15 @@ const EDITS: &str = r#""minor":0 => "minor":1e400 => NotJson Whole 0 0 0
 "successors":{}} => "successors":{"n":65536},"stop":0.5} => NotWhole Node 0 0 0
 "successors":{}} => "successors":{"n":65536}} => Weight Node 0 0 0
 "successors":{}} => "successors":{"n":65535},"stop":1} => Weight Node 0 0 0
-"successors":{}} => "successors":{"n":65535}} => Ok
+"successors":{}} => "successors":{"n":65535}} => Cycle Node 0 0 0
+"successors":{}} => "successors":{"o":1}},"o":{"subproblem":"p","realizations":[{"probability":1,"support":{"w":1}}],"successors":{"n":1}} => Cycle Node 0 0 0
+"successors":{}} => "successors":{}},"o":{"subproblem":"p","realizations":[{"probability":1,"support":{"w":1}}]} => Unreachable Node 1 0 0
+"successors":{}} => "successors":{}},"a":{"subproblem":"p","realizations":[{"probability":1,"support":{"w":1}}],"successors":{"n":1}} => Unreachable Node 0 0 0
+"v":4 => "v":10 => Ok
+"v":4 => "v":11 => BoxGap Node 0 0 0
+"v":4 => "v":-1 => BoxGap Node 0 0 0
+"name":"v_in"},"set":{"type":"Interval","lower":0,"upper":10} => "name":"v_in"},"set":{"type":"GreaterThan","lower":5} => BoxGap Node 0 0 0
+"name":"v_in"},"set":{"type":"Interval","lower":0,"upper":10} => "name":"v_in"},"set":{"type":"LessThan","upper":4} => Ok
 "successors":{}} => "successors":{},"stop":-1} => Weight Node 0 0 0
 "successors":{}} => "successors":{},"stop":null} => Shape Node 0 0 0
 "successors":{}} => "successors":{},"stop":1099511627777} => TooLarge Node 0 0 0
@@ -118,7 +126,7 @@ fn edited(alloc: Global, text: &str, piece: &str, other: &str) -> Result<String,
 
 fn answer(alloc: Global, text: &str) -> Result<String, Fail> {
     let written = expanded(alloc, expanded(alloc, text)?.as_str())?;
-    Ok(match read_raw(alloc, written.as_bytes()) {
+    Ok(match read_problem(alloc, written.as_bytes()) {
         Ok(_) => String::from_str(alloc, "Ok")?,
         Err(ReadRefusal::Memory) => String::from_str(alloc, "Memory")?,
         Err(ReadRefusal::Refused(refusal)) => {
@@ -144,6 +152,48 @@ fn refusals(rt: HostRuntime) -> Result<(), Fail> {
         let text = edited(alloc, P1, piece, other)?;
         assert_eq!(rt; answer(alloc, text.as_str())?.as_str(), want, "at {line}");
     }
+    Ok(())
+}
+
+// Two nodes that lead to a third, whose incoming state has no bounds.
+const JOINING: &str =
+    r#"{"version":{"major":1},"root":{"state_variables":{"v":4},"successors":{"a":1,"b":1}},"nodes":{"a":{"subproblem":"a","successors":{"c":1}},"b":{"subproblem":"b","successors":{"c":1}},"c":{"subproblem":"c"}},"subproblems":{"a":{"state_variables":{"v":{"in":"x","out":"y"}},"subproblem":{"variables":[{"name":"x"},{"name":"y"}],"objective":{"sense":"feasibility"},"constraints":[{"function":{"type":"Variable","name":"y"},"set":{"type":"Interval","lower":0,"upper":5}}]}},"b":{"state_variables":{"v":{"in":"x","out":"y"}},"subproblem":{"variables":[{"name":"x"},{"name":"y"}],"objective":{"sense":"feasibility"},"constraints":[{"function":{"type":"Variable","name":"y"},"set":{"type":"Interval","lower":3,"upper":9}}]}},"c":{"state_variables":{"v":{"in":"x","out":"y"}},"subproblem":{"variables":[{"name":"x"},{"name":"y"}],"objective":{"sense":"feasibility"},"constraints":[{"function":{"type":"Variable","name":"y"},"set":{"type":"Interval","lower":0,"upper":1}}]}}}}"#;
+
+// The order, the longest path, and the box of each node.
+fn arranged(alloc: Global, problem: &Problem) -> Result<String, Fail> {
+    let mut text = format!(in alloc; "{:?} {}", problem.order(), problem.longest())?;
+    for node in problem.order() {
+        if (*node as usize) < problem.raw().nodes.len() {
+            write!(text, " {:?} {:?}", problem.lo(*node), problem.hi(*node))?;
+        }
+    }
+    Ok(text)
+}
+
+#[test]
+fn derives_boxes(rt: HostRuntime) -> Result<(), Fail> {
+    let alloc = rt.alloc();
+    for (piece, other, want) in [
+        ("", "", "[2, 0, 1] 2 [0] [9] [4] [4] [4] [4]"),
+        (
+            r#"{"v":4},"successors":{"a":1"#,
+            r#"{"v":-1},"successors":{"c":1,"a":1"#,
+            "[2, 0, 1] 2 [-1] [9] [-1] [-1] [-1] [-1]",
+        ),
+    ] {
+        let text = edited(alloc, JOINING, piece, other)?;
+        let problem = read_problem(alloc, text.as_bytes())?;
+        assert_eq!(rt; arranged(alloc, &problem)?.as_str(), want);
+    }
+    let inside =
+        r#""constraints":[{"function":{"type":"Variable","name":"x"},"set":{"type":"Interval","lower":0,"upper":8}},{"function":{"type":"Variable","name":"y"},"set":{"type":"Interval","lower":0,"upper":1}}"#;
+    let gap = edited(
+        alloc,
+        JOINING,
+        r#""constraints":[{"function":{"type":"Variable","name":"y"},"set":{"type":"Interval","lower":0,"upper":1}}"#,
+        inside,
+    )?;
+    assert_eq!(rt; answer(alloc, gap.as_str())?.as_str(), "BoxGap Node 2 0 0");
     Ok(())
 }
 

@@ -2,3 +2,9 @@ pub mod Lists
 pub mod Names
 pub mod Sums
 pub mod InOrder
+pub mod SmallFunctions
+pub mod SidesFit
+pub mod RowsFit
+pub mod UsesFit
+pub mod BoxesFit
+pub mod Fits

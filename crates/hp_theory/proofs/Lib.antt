@@ -16,6 +16,8 @@ pub mod WorkedCertificates
 pub mod Views
 pub mod OneMore
 pub mod Ranges
+pub mod SealedParts
 pub mod SealedPremises
-pub mod BasedLone
+pub mod SealedOrder
+pub mod Based
 pub mod LeafBase

@@ -1,225 +1,212 @@
 -- What the laws ask of a problem, from what holds of each sealed one.
-use Rattle.std.proofs.Common.{◌≡◌, ℕ, zero, suc, ◌+◌, ◌*◌, nat_abs, ◌<◌, ◌≤◌, ◌^◌, ℤ, pos, ◌≤ℤ◌, ◌+ℤ◌, Bool, true, false, ◌&&◌, ◌==◌, List, [], ◌∷◌, length, get_or, map, All, Contains, sum, Option, Some, None, slice_get, nat_lt, nat_le, refl, sym, ap, ◌∙◌, subst, arith}
+use Rattle.std.proofs.Common.{◌≡◌, ℕ, zero, suc, ◌+◌, ◌*◌, nat_abs, ◌<◌, ◌≤◌, ◌^◌, ℤ, pos, ◌≤ℤ◌, ◌+ℤ◌, true, List, [], ◌∷◌, length, get_or, map, All, Contains, sum, Some, slice_get, nat_lt, nat_le, sym, ap, ◌∙◌, subst, arith}
 use Rattle.std.specs.Prelude.{int_le}
 use Rattle.std.specs.List.{list_all}
+use Rattle.std.specs.Option.{option_map}
 use Rattle.std.proofs.lemmas.Grind.{common_steps}
 use Rattle.std.proofs.lemmas.Bool.Decides.{nat_tests}
 use Rattle.std.proofs.lemmas.Int.{ints}
-use Rattle.std.proofs.lemmas.List.Elements.{All-cons}
+use Rattle.std.proofs.lemmas.List.{length-map, get_or-map}
+use Rattle.std.proofs.lemmas.List.Elements.{Contains-get_or, All-weaker}
+use Rattle.std.proofs.lemmas.Option.{slice_get-map, get_or_from_slice_get}
+use Rattle.hp_num.proofs.Tests.{and_first, and_second, all_at}
+use Rattle.hp_num.specs.Sums.{sum_to, entry}
+use Rattle.hp_paths.specs.Paths.{links_at}
+use Rattle.hp_paths.proofs.Paths.{leads_to}
 use Rattle.hp_problem.specs.declared.raw.Node as nodes
 use Rattle.hp_problem.specs.declared.raw.State.{State}
 use Rattle.hp_problem.specs.declared.raw.Raw.{Raw}
 use Rattle.hp_problem.specs.declared.raw.Decision.{Decision}
 use Rattle.hp_problem.specs.declared.raw.Subproblem.{Subproblem}
-use Rattle.hp_problem.specs.Limits.{node_fits, values_fit, realizations_fit, subproblem_fits, state_fits, root_fits, raw_fits}
-use Rattle.hp_problem.specs.Sealed.{Sealed, is_sealed, all_inside, all_boxes}
-use Rattle.hp_problem.proofs.SealedFacts.{raw-is_sealed, graph-is_sealed, boxes-is_sealed, box_counts, nodes_fit, subproblems_fit, root-raw_fits}
-use Rattle.hp_num.proofs.Tests.{and_first, all_get}
-use Rattle.hp_num.specs.Sums.{sum_to, entry}
-use Rattle.std.proofs.lemmas.List.{length-map}
+use Rattle.hp_problem.specs.Limits.{are_numbers, are_weights, node_fits, subproblem_fits, state_fits, root_fits, raw_fits}
+use Rattle.hp_problem.specs.Sealed.{Sealed, is_sealed, graph_of, at_most, holds_box, out_lows, out_highs, lows_from, highs_from, initial_values}
+use Rattle.hp_problem.proofs.SealedFacts.{raw-is_sealed, root-raw_fits, known_graph}
 use Rattle.hp_theory.specs.Problem.{Link, Node, Problem, node_at, link_weights, weight_of_successors}
 use Rattle.hp_theory.specs.View.{node_of, links_of, problem_of}
-use Rattle.hp_theory.specs.Premises.{Shaped, Nested, InOrder, StartsIn, RootShaped, HaveCuts, Narrow}
-use Rattle.hp_theory.specs.Size.{reach}
-use Rattle.hp_theory.proofs.Views.{node_at-problem_of, weight-realizations_of, link_weights-links_of, root-problem_of, initial-problem_of}
+use Rattle.hp_theory.specs.Premises.{Shaped, Nested, StartsIn, RootShaped, HaveCuts, Known, Narrow}
 use Rattle.hp_theory.specs.declared.cut.Cut.{Cut}
 use Rattle.hp_theory.specs.Pools.{pool}
-use Rattle.hp_theory.specs.Base.{base, base_list}
-use Rattle.hp_theory.specs.CutOf.{cut_of}
+use Rattle.hp_theory.specs.Size.{reach}
+use Rattle.hp_theory.proofs.Views.{weight-realizations_of, link_weights-links_of, root-problem_of, initial-problem_of, All-links_of}
+use Rattle.hp_theory.proofs.SealedParts.{PartsFit, Parts, parts, boxes-sealed, weighty, weights_positive, linked, links_known, links_positive, counted, outs_known, numbers_counted, numbers_small}
 
+-- lists
 le-int_le : (a b : ℤ) → int_le a b ≡ true → a ≤ℤ b
 le-int_le a b e = grind (arith, ints)
 
-pub weighty : (n : nodes.Node) (randoms : ℕ) → realizations_fit randoms n ≡ true → (0 < length n.weights) × (sum n.weights ≤ 65535) × (length n.values ≡ length n.weights)
-weighty n randoms e = grind (arith, nat_tests, common_steps)
+lt-nat_lt : (m n : ℕ) → nat_lt m n ≡ true → m < n
+lt-nat_lt m n e = grind (arith, nat_tests)
 
-pub costs_counted : (s : Subproblem) (states : ℕ) → subproblem_fits states s ≡ true → length s.state_costs ≡ states
-costs_counted s states e = grind (arith, nat_tests, common_steps)
+-- numbers that are at most those beside them
+at_most_at : (xs ys : List ℤ) (k : ℕ) → at_most xs ys ≡ true → k < length xs → k < length ys → entry xs k ≤ℤ entry ys k
+at_most_at [] ys k e h i = absurd (omega arith)
+at_most_at (x ∷ xs) [] k e h i = absurd (omega arith)
+at_most_at (x ∷ xs) (y ∷ ys) zero e h i = le-int_le x y (and_first (int_le x y) (at_most xs ys) e)
+at_most_at (x ∷ xs) (y ∷ ys) (suc k) e h i = at_most_at xs ys k (and_second (int_le x y) (at_most xs ys) e) (omega arith) (omega arith)
 
-one_item : {A : Type 0} (xs : List A) → length xs ≡ 1 → (x : A) × (xs ≡ x ∷ [])
-one_item [] e = absurd (omega arith)
-one_item (x ∷ []) e = (x, refl)
-one_item (x ∷ (y ∷ xs)) e = absurd (omega arith)
+map_at : {A B : Type 0} (f : A → B) (xs : List A) (i : ℕ) (x : A) (d : B) → slice_get xs i ≡ Some x → get_or (map f xs) i d ≡ f x
+map_at f xs i x d e = get_or_from_slice_get (map f xs) i (f x) d (slice_get-map f xs i ∙ ap (option_map f) e)
 
-no_item : {A : Type 0} (xs : List A) → length xs ≡ 0 → xs ≡ []
-no_item [] e = refl
-no_item (x ∷ xs) e = absurd (omega arith)
-
-positive_sum : (ws : List ℕ) → 0 < length ws → list_all (λ w. nat_lt 0 w) ws ≡ true → 0 < sum ws
+positive_sum : (ws : List ℕ) → 0 < length ws → are_weights ws ≡ true → 0 < sum ws
 positive_sum [] h e = absurd (omega arith)
 positive_sum (w ∷ ws) h e = grind (arith, nat_tests, common_steps)
 
--- the initial value of each state is in the box
-inside_at : (ss : List State) (ls hs : List ℤ) (k : ℕ) → all_inside ss ls hs ≡ true → length ls ≡ length ss → length hs ≡ length ss → k < length ls
-    → (entry ls k ≤ℤ entry (map (λ (s : State). s.initial) ss) k) × (entry (map (λ (s : State). s.initial) ss) k ≤ℤ entry hs k)
-inside_at [] ls hs k e p q h = absurd (omega arith)
-inside_at (s ∷ ss) [] hs k e p q h = absurd (omega arith)
-inside_at (s ∷ ss) (l ∷ ls) [] k e p q h = absurd (omega arith)
-inside_at (s ∷ ss) (l ∷ ls) (x ∷ hs) zero e p q h = (le-int_le l s.initial (grind arith), le-int_le s.initial x (grind arith))
-inside_at (s ∷ ss) (l ∷ ls) (x ∷ hs) (suc k) e p q h = inside_at ss ls hs k (grind arith) (omega arith) (omega arith) (omega arith)
+some_successor_weight : (stop : ℕ) (ms ws : List ℕ) → length ws ≡ length ms → are_weights ws ≡ true → 0 < weight_of_successors stop (links_of ms ws)
+some_successor_weight stop [] ws e h = omega arith
+some_successor_weight stop (m ∷ ms) [] e h = absurd (omega arith)
+some_successor_weight stop (m ∷ ms) (w ∷ ws) e h =
+    let is : sum (link_weights (links_of (m ∷ ms) (w ∷ ws))) ≡ sum (w ∷ ws) = ap (λ (k : List ℕ). sum k) (link_weights-links_of (m ∷ ms) (w ∷ ws) (sym e)) in
+    let some : 0 < sum (w ∷ ws) = positive_sum (w ∷ ws) (omega arith) h in
+    omega arith
 
--- the parts of a problem of one node
-pub record Lone (p : Sealed) : Type 0 where
-  pub node : nodes.Node
-  pub subproblem : Subproblem
-  pub low : List ℤ
-  pub high : List ℤ
-  pub the_nodes : p.raw.nodes ≡ node ∷ []
-  pub the_subproblem : slice_get p.raw.subs node.sub ≡ Some subproblem
-  pub the_low : p.lo ≡ low ∷ []
-  pub the_high : p.hi ≡ high ∷ []
-  pub the_order : p.order ≡ 0 ∷ []
-  pub leaf : node.links ≡ []
-  pub fits : realizations_fit (length subproblem.randoms) node ≡ true
-  pub subproblem_fits : subproblem_fits (length p.raw.states) subproblem ≡ true
-  pub low_count : length low ≡ length p.raw.states
-  pub high_count : length high ≡ length p.raw.states
-  pub inside : all_inside p.raw.states low high ≡ true
-
-some_subproblem : (s : Option Subproblem) (n : nodes.Node) → values_fit s n ≡ true → (t : Subproblem) × (s ≡ Some t) × (realizations_fit (length t.randoms) n ≡ true)
-some_subproblem None n e = absurd (no e)
-  where
-    no : false ≡ true → ⊥
-    no h = cc
-some_subproblem (Some t) n e = (t, refl, e)
-
-all_zero : (ms : List ℕ) → length ms ≡ 1 → list_all (λ m. m == 0) ms ≡ true → ms ≡ 0 ∷ []
-all_zero [] h e = absurd (omega arith)
-all_zero (m ∷ []) h e = let z : m ≡ 0 = grind (arith, nat_tests) in ap (λ k. k ∷ []) z
-all_zero (m ∷ (k ∷ ms)) h e = absurd (omega arith)
-
-pub lone : (p : Sealed) → is_sealed p ≡ true → Lone p
-lone p e =
-    let raw = raw-is_sealed p e in
-    let graph = graph-is_sealed p e in
-    let boxes = boxes-is_sealed p e in
-    let n = one_item p.raw.nodes (grind (arith, nat_tests)) in
-    let counts = box_counts p e in
-    let l = one_item p.lo (counts.0 ∙ ap length n.1) in
-    let h = one_item p.hi (counts.1 ∙ ap length n.1) in
-    let all : list_all (node_fits p.raw) (n.0 ∷ []) ≡ true = subst (λ (ns : List nodes.Node). list_all (node_fits p.raw) ns ≡ true) n.1 (nodes_fit p.raw raw) in
-    let one : node_fits p.raw n.0 ≡ true = grind (arith, nat_tests) in
-    let values : values_fit (slice_get p.raw.subs n.0.sub) n.0 ≡ true = grind (arith, nat_tests) in
-    let s = some_subproblem (slice_get p.raw.subs n.0.sub) n.0 values in
-    let box : all_boxes p.raw.states (l.0 ∷ []) (h.0 ∷ []) ≡ true = subst (λ (hs : List (List ℤ)). all_boxes p.raw.states (l.0 ∷ []) hs ≡ true) h.1 (subst (λ (ls : List (List ℤ)). all_boxes p.raw.states ls p.hi ≡ true) l.1 (grind (arith, nat_tests))) in
-    let leaves : list_all (λ (k : nodes.Node). length k.links == 0) (n.0 ∷ []) ≡ true = subst (λ (ns : List nodes.Node). list_all (λ (k : nodes.Node). length k.links == 0) ns ≡ true) n.1 (grind (arith, nat_tests)) in
-    record {
-      node = n.0;
-      subproblem = s.0;
-      low = l.0;
-      high = h.0;
-      the_nodes = n.1;
-      the_subproblem = s.1;
-      the_low = l.1;
-      the_high = h.1;
-      the_order = all_zero p.order (grind (arith, nat_tests)) (grind (arith, nat_tests));
-      leaf = no_item n.0.links (grind (arith, nat_tests));
-      fits = s.2;
-      subproblem_fits = all_get (subproblem_fits (length p.raw.states)) p.raw.subs n.0.sub s.0 (subproblems_fit p.raw raw) s.1;
-      low_count = grind (arith, nat_tests);
-      high_count = grind (arith, nat_tests);
-      inside = grind (arith, nat_tests);
-    }
-
--- the node of a problem of one node
-pub node_at-lone : (p : Sealed) (l : Lone p) → node_at (problem_of p) 0 ≡ node_of l.node l.subproblem l.low l.high
-node_at-lone p l =
-    node_at-problem_of p 0 l.node l.subproblem (ap (λ (ns : List nodes.Node). slice_get ns 0) l.the_nodes) l.the_subproblem
-    ∙ ap (λ (ls : List (List ℤ)). node_of l.node l.subproblem (get_or ls 0 []) (get_or p.hi 0 [])) l.the_low
-    ∙ ap (λ (hs : List (List ℤ)). node_of l.node l.subproblem l.low (get_or hs 0 [])) l.the_high
-
-no_links : (P : Link → Type 0) (ms ws : List ℕ) → ms ≡ [] → All P (links_of ms ws)
-no_links P ms ws e = subst (λ (k : List ℕ). All P (links_of k ws)) (sym e) (λ k d h. absurd (omega arith))
-
-one_successor_weight : (z : ℕ) (ms ws : List ℕ) → ms ≡ [] → 0 < weight_of_successors z (links_of ms ws)
-one_successor_weight z ms ws e = subst (λ (k : List ℕ). 0 < weight_of_successors z (links_of k ws)) (sym e) (omega arith)
-
-shaped_leaf : (p : Problem) (n : nodes.Node) (s : Subproblem) (low high : List ℤ) → n.links ≡ [] → length low ≡ length s.state_costs → 0 < sum n.weights → length n.values ≡ length n.weights → Shaped p (node_of n s low high)
+-- what leaves a node lies in the box of another
+nested : (n k : nodes.Node) (s t : Subproblem) (low high low' high' : List ℤ) → length s.outs ≡ length low' → length s.outs ≡ length high' → list_all (λ o. nat_lt o (length s.decisions)) s.outs ≡ true
+    → at_most low' (out_lows s) ≡ true → at_most (out_highs s) high' ≡ true → Nested (node_of n s low high) (node_of k t low' high')
 unfolding node_of
-shaped_leaf p n s low high leaf states some values = record {
-  decisions = length-map s.decisions (λ (d : Decision). d.low) ∙ sym (length-map s.decisions (λ (d : Decision). d.cost));
-  states = states;
-  realizations = subst (λ (k : ℕ). 0 < k) (sym (weight-realizations_of n.weights n.values (sym values))) some;
-  successors = one_successor_weight n.stop n.links n.link_weights leaf;
-  nested = no_links (λ (k : Link). Nested (node_of n s low high) (node_at p k.node)) n.links n.link_weights leaf;
+nested n k s t low high low' high' lows highs known above below = record {
+  count = lows;
+  places = λ i h. subst (λ (c : ℕ). get_or s.outs i 0 < c) (sym (length-map s.decisions (λ (d : Decision). d.low))) (lt-nat_lt (get_or s.outs i 0) (length s.decisions) (all_at (λ o. nat_lt o (length s.decisions)) s.outs i 0 known (omega arith)));
+  lows = λ i h. subst (λ (z : ℤ). entry low' i ≤ℤ z) (at (λ (d : Decision). d.low) i h) (at_most_at low' (out_lows s) i above h (inside (λ (d : Decision). d.low) i h));
+  highs = λ i h. subst (λ (z : ℤ). z ≤ℤ entry high' i) (at (λ (d : Decision). d.high) i h) (at_most_at (out_highs s) high' i below (inside (λ (d : Decision). d.high) i h) (omega arith));
+}
+  where
+    at : (f : Decision → ℤ) (i : ℕ) → i < length low' → entry (map (λ o. entry (map f s.decisions) o) s.outs) i ≡ entry (map f s.decisions) (get_or s.outs i 0)
+    at f i h = get_or-map (λ o. entry (map f s.decisions) o) s.outs i 0 (pos 0) (omega arith)
+
+    inside : (f : Decision → ℤ) (i : ℕ) → i < length low' → i < length (map (λ o. entry (map f s.decisions) o) s.outs)
+    inside f i h = omega (arith, length-map s.outs (λ o. entry (map f s.decisions) o))
+
+-- the numbers and the weights of a node's links
+module _ (p : Sealed) (e : is_sealed p ≡ true) (m : ℕ) (n : nodes.Node) (s : Subproblem) (low high : List ℤ) (fit : PartsFit p m n s low high) where
+  link_there : (i : ℕ) → i < length n.links → get_or n.links i 0 < length p.raw.nodes
+  link_there i h = lt-nat_lt (get_or n.links i 0) (length p.raw.nodes) (all_at (λ m. nat_lt m (length p.raw.nodes)) n.links i 0 (links_known n (length p.raw.nodes) fit.links) h)
+
+  nested_link : (i : ℕ) → i < length n.links → Nested (node_of n s low high) (node_at (problem_of p) (get_or n.links i 0))
+  nested_link i h =
+      let k : ℕ = get_or n.links i 0 in
+      let q : Parts p k = parts p k e (link_there i h) in
+      let holds : holds_box p.lo p.hi (lows_from p.raw n) (highs_from p.raw n) k ≡ true = all_at (holds_box p.lo p.hi (lows_from p.raw n) (highs_from p.raw n)) n.links i 0 fit.leaves h in
+      let above : at_most (get_or p.lo k []) (lows_from p.raw n) ≡ true = and_first _ (at_most (highs_from p.raw n) (get_or p.hi k [])) holds in
+      let below : at_most (highs_from p.raw n) (get_or p.hi k []) ≡ true = and_second (at_most (get_or p.lo k []) (lows_from p.raw n)) _ holds in
+      let outs : length s.outs ≡ length p.raw.states = (counted s (length p.raw.states) fit.subproblem).1 in
+      let lows : lows_from p.raw n ≡ out_lows s = map_at out_lows p.raw.subs n.sub s [] fit.the_subproblem in
+      let highs : highs_from p.raw n ≡ out_highs s = map_at out_highs p.raw.subs n.sub s [] fit.the_subproblem in
+      let low' : get_or p.lo k [] ≡ q.low = get_or_from_slice_get p.lo k q.low [] q.fit.the_low in
+      let high' : get_or p.hi k [] ≡ q.high = get_or_from_slice_get p.hi k q.high [] q.fit.the_high in
+      subst (λ (x : Node). Nested (node_of n s low high) x) (sym q.fit.is)
+      (nested n q.node s q.subproblem low high q.low q.high
+      (outs ∙ sym (numbers_counted q.low (length p.raw.states) q.fit.lows)) (outs ∙ sym (numbers_counted q.high (length p.raw.states) q.fit.highs)) (outs_known s (length p.raw.states) fit.subproblem)
+      (rw (low', lows) at above) (rw (highs, high') at below))
+
+  shaped_parts : Shaped (problem_of p) (node_of n s low high)
+  unfolding node_of
+  shaped_parts =
+      let w = weighty n (length s.randoms) fit.realizations in
+      let l = linked n (length p.raw.nodes) fit.links in
+      record {
+        decisions = length-map s.decisions (λ (d : Decision). d.low) ∙ sym (length-map s.decisions (λ (d : Decision). d.cost));
+        states = numbers_counted low (length p.raw.states) fit.lows ∙ sym (counted s (length p.raw.states) fit.subproblem).0;
+        realizations = subst (λ (k : ℕ). 0 < k) (sym (weight-realizations_of n.weights n.values (sym w.3))) (positive_sum n.weights w.0 (weights_positive n (length s.randoms) fit.realizations));
+        successors = some_successor_weight n.stop n.links n.link_weights l.1 (links_positive n (length p.raw.nodes) fit.links);
+        nested = All-links_of (λ (k : Link). Nested (node_of n s low high) (node_at (problem_of p) k.node)) n.links n.link_weights l.1 nested_link;
+      }
+
+  -- each link has weight and leads to a node that the graph has there
+  leads_parts : All (λ (l : Link). (0 < l.weight) × Contains (links_at (graph_of p.raw) m) l.node) (node_of n s low high).links
+  unfolding node_of
+  leads_parts =
+      let l = linked n (length p.raw.nodes) fit.links in
+      let links : links_at (graph_of p.raw) m ≡ n.links = map_at (λ (k : nodes.Node). k.links) p.raw.nodes m n [] fit.the_node in
+      subst (λ (ks : List ℕ). All (λ (k : Link). (0 < k.weight) × Contains ks k.node) (links_of n.links n.link_weights)) (sym links)
+      (All-links_of (λ (k : Link). (0 < k.weight) × Contains n.links k.node) n.links n.link_weights l.1 (λ i h. (lt-nat_lt 0 (get_or n.link_weights i 0) (all_at (λ w. nat_lt 0 w) n.link_weights i 0 (links_positive n (length p.raw.nodes) fit.links) (omega (arith, l.1))), Contains-get_or n.links i 0 h)))
+
+-- the lists of each node fit
+pub shaped-sealed : (p : Sealed) (m : ℕ) → is_sealed p ≡ true → m < length p.raw.nodes → Shaped (problem_of p) (node_at (problem_of p) m)
+shaped-sealed p m e h = let q = parts p m e h in subst (λ (n : Node). Shaped (problem_of p) n) (sym q.fit.is) (shaped_parts p e m q.node q.subproblem q.low q.high q.fit)
+
+pub leads-sealed : (p : Sealed) (m : ℕ) → is_sealed p ≡ true → m < length p.raw.nodes → All (λ (l : Link). (0 < l.weight) × Contains (links_at (graph_of p.raw) m) l.node) (node_at (problem_of p) m).links
+leads-sealed p m e h = let q = parts p m e h in subst (λ (n : Node). All (λ (l : Link). (0 < l.weight) × Contains (links_at (graph_of p.raw) m) l.node) n.links) (sym q.fit.is) (leads_parts p e m q.node q.subproblem q.low q.high q.fit)
+
+-- each link leads to a node that is there
+pub links-sealed : (p : Sealed) (m : ℕ) → is_sealed p ≡ true → m < length p.raw.nodes → All (λ (l : Link). l.node < length p.raw.nodes) (node_at (problem_of p) m).links
+links-sealed p m e h =
+    All-weaker (λ (l : Link). (0 < l.weight) × Contains (links_at (graph_of p.raw) m) l.node) (λ (l : Link). l.node < length p.raw.nodes)
+    (λ l q. subst (λ (c : ℕ). l.node < c) (length-map p.raw.nodes (λ (n : nodes.Node). n.links)) (leads_to (graph_of p.raw) m l.node (known_graph p.raw (raw-is_sealed p e)) q.1))
+    (node_at (problem_of p) m).links (leads-sealed p m e h)
+
+-- the nodes have weights and lead to nodes
+pub known-sealed : (p : Sealed) → is_sealed p ≡ true → Known (problem_of p) (length p.raw.nodes)
+known-sealed p e = record {
+  realizations = λ m h. (shaped-sealed p m e h).realizations;
+  successors = λ m h. (shaped-sealed p m e h).successors;
+  links = λ m h. links-sealed p m e h;
 }
 
-total_weight : (n : nodes.Node) (randoms : ℕ) → realizations_fit randoms n ≡ true → 0 < sum n.weights
-total_weight n randoms e = positive_sum n.weights (weighty n randoms e).0 (grind (arith, nat_tests))
-
-pub shaped-lone : (p : Sealed) → is_sealed p ≡ true → Shaped (problem_of p) (node_at (problem_of p) 0)
-shaped-lone p e =
-    let l = lone p e in
-    subst (λ (n : Node). Shaped (problem_of p) n) (sym (node_at-lone p l))
-    (shaped_leaf (problem_of p) l.node l.subproblem l.low l.high l.leaf (l.low_count ∙ sym (costs_counted l.subproblem (length p.raw.states) l.subproblem_fits)) (total_weight l.node (length l.subproblem.randoms) l.fits) (weighty l.node (length l.subproblem.randoms) l.fits).2)
-
-leaf_links : {p : Sealed} (l : Lone p) → All (λ (k : Link). (0 < k.weight) × Contains [] k.node) (node_of l.node l.subproblem l.low l.high).links
-unfolding node_of
-leaf_links l = no_links (λ (k : Link). (0 < k.weight) × Contains [] k.node) l.node.links l.node.link_weights l.leaf
-
--- the only node is in order
-pub in_order-lone : (p : Sealed) → is_sealed p ≡ true → InOrder (problem_of p) (length p.raw.nodes) [] p.order
-in_order-lone p e =
-    let l = lone p e in
-    let one : length p.raw.nodes ≡ 1 = ap length l.the_nodes in
-    let links : All (λ (k : Link). (0 < k.weight) × Contains [] k.node) (node_at (problem_of p) 0).links =
-    subst (λ (n : Node). All (λ (k : Link). (0 < k.weight) × Contains [] k.node) n.links) (sym (node_at-lone p l)) (leaf_links l) in
-    subst (λ (ms : List ℕ). InOrder (problem_of p) (length p.raw.nodes) [] ms) (sym l.the_order) (omega arith, shaped-lone p e, links, tt)
-
-all_links_zero : (P : Link → Type 0) (ms ws : List ℕ) → list_all (λ m. nat_lt m 1) ms ≡ true → ((w : ℕ) → P (record { node = 0; weight = w })) → All P (links_of ms ws)
-all_links_zero P [] ws e h = λ k d i. absurd (omega arith)
-all_links_zero P (m ∷ ms) [] e h = λ k d i. absurd (omega arith)
-all_links_zero P (m ∷ ms) (w ∷ ws) e h =
-    let z : 0 ≡ m = grind (arith, nat_tests) in
-    All-cons P (record { node = m; weight = w }) (links_of ms ws) (subst (λ (k : ℕ). P (record { node = k; weight = w })) z (h w)) (all_links_zero P ms ws (grind (arith, nat_tests)) h)
-
+-- the root
 root_facts : (raw : Raw) → root_fits raw ≡ true → (0 < length raw.root_weights) × (length raw.root_weights ≡ length raw.root)
 root_facts raw e = grind (arith, nat_tests)
 
 root_known : (raw : Raw) → root_fits raw ≡ true → list_all (λ m. nat_lt m (length raw.nodes)) raw.root ≡ true
 root_known raw e = grind (arith, nat_tests)
 
-root_weighted : (raw : Raw) → root_fits raw ≡ true → list_all (λ w. nat_lt 0 w) raw.root_weights ≡ true
+root_weighted : (raw : Raw) → root_fits raw ≡ true → are_weights raw.root_weights ≡ true
 root_weighted raw e = grind (arith, nat_tests)
 
--- the root leads to the only node
-root_zero : (p : Sealed) → is_sealed p ≡ true → list_all (λ m. nat_lt m 1) p.raw.root ≡ true
-root_zero p e =
-    let l = lone p e in
-    subst (λ (k : ℕ). list_all (λ m. nat_lt m k) p.raw.root ≡ true) (ap length l.the_nodes) (root_known p.raw (root-raw_fits p.raw (raw-is_sealed p e)))
-
-starts_leaf : (p : Problem) (raw : Raw) (n : nodes.Node) (s : Subproblem) (low high : List ℤ) → p.initial ≡ map (λ (x : State). x.initial) raw.states → length low ≡ length raw.states → length high ≡ length raw.states → all_inside raw.states low high ≡ true → StartsIn p (node_of n s low high)
+starts_parts : (p : Problem) (raw : Raw) (n : nodes.Node) (s : Subproblem) (low high : List ℤ) → p.initial ≡ initial_values raw → length low ≡ length raw.states → length high ≡ length raw.states → at_most low (initial_values raw) ≡ true → at_most (initial_values raw) high ≡ true → StartsIn p (node_of n s low high)
 unfolding node_of
-starts_leaf p raw n s low high is lows highs inside = record {
-  count = ap length is ∙ length-map raw.states (λ (x : State). x.initial) ∙ sym lows;
-  lows = λ k h. subst (λ (xs : List ℤ). entry low k ≤ℤ entry xs k) (sym is) (inside_at raw.states low high k inside lows highs h).0;
-  highs = λ k h. subst (λ (xs : List ℤ). entry xs k ≤ℤ entry high k) (sym is) (inside_at raw.states low high k inside lows highs h).1;
-}
-
--- the initial state is in the box of the root's successor
-pub root_shaped-lone : (p : Sealed) → is_sealed p ≡ true → RootShaped (problem_of p)
-root_shaped-lone p e =
-    let l = lone p e in
-    let fits = root-raw_fits p.raw (raw-is_sealed p e) in
-    let facts = root_facts p.raw fits in
-    let starts : StartsIn (problem_of p) (node_at (problem_of p) 0) = subst (λ (n : Node). StartsIn (problem_of p) n) (sym (node_at-lone p l)) (starts_leaf (problem_of p) p.raw l.node l.subproblem l.low l.high (initial-problem_of p) l.low_count l.high_count l.inside) in
-    let weights : 0 < sum p.raw.root_weights = positive_sum p.raw.root_weights facts.0 (root_weighted p.raw fits) in
+starts_parts p raw n s low high is lows highs above below =
+    let count : length (initial_values raw) ≡ length raw.states = length-map raw.states (λ (x : State). x.initial) in
     record {
-      some = subst (λ (ls : List Link). 0 < sum (link_weights ls)) (sym (root-problem_of p)) (subst (λ (ws : List ℕ). 0 < sum ws) (sym (link_weights-links_of p.raw.root p.raw.root_weights (sym facts.1))) weights);
-      boxes = subst (λ (ls : List Link). All (λ (k : Link). StartsIn (problem_of p) (node_at (problem_of p) k.node)) ls) (sym (root-problem_of p)) (all_links_zero (λ (k : Link). StartsIn (problem_of p) (node_at (problem_of p) k.node)) p.raw.root p.raw.root_weights (root_zero p e) (λ w. starts));
+      count = ap length is ∙ count ∙ sym lows;
+      lows = λ k h. subst (λ (xs : List ℤ). entry low k ≤ℤ entry xs k) (sym is) (at_most_at low (initial_values raw) k above h (omega arith));
+      highs = λ k h. subst (λ (xs : List ℤ). entry xs k ≤ℤ entry high k) (sym is) (at_most_at (initial_values raw) high k below (omega arith) (omega arith));
     }
 
--- each successor of the root has a cut, where the only node has
-pub have_cuts-lone : (p : Sealed) (pools : List (List Cut)) → is_sealed p ≡ true → 0 < length (pool pools 0) → HaveCuts pools (problem_of p).root
-have_cuts-lone p pools e some =
-    subst (λ (ls : List Link). HaveCuts pools ls) (sym (root-problem_of p)) (all_links_zero (λ (k : Link). 0 < length (pool pools k.node)) p.raw.root p.raw.root_weights (root_zero p e) (λ w. some))
+module _ (p : Sealed) (e : is_sealed p ≡ true) where
+  root_there : (i : ℕ) → i < length p.raw.root → get_or p.raw.root i 0 < length p.raw.nodes
+  root_there i h = lt-nat_lt (get_or p.raw.root i 0) (length p.raw.nodes) (all_at (λ m. nat_lt m (length p.raw.nodes)) p.raw.root i 0 (root_known p.raw (root-raw_fits p.raw (raw-is_sealed p e))) h)
 
--- the base pools of one node
-pub base-lone : (p : Sealed) → is_sealed p ≡ true → base (problem_of p) (length p.raw.nodes) p.order ≡ (cut_of ([] ∷ []) (node_at (problem_of p) 0) (base_list (node_at (problem_of p) 0)) ∷ []) ∷ []
-base-lone p e =
-    let l = lone p e in
-    ap (λ (ms : List ℕ). base (problem_of p) (length p.raw.nodes) ms) l.the_order ∙ ap (λ (k : ℕ). base (problem_of p) k (0 ∷ [])) (ap length l.the_nodes)
+  starts_at : (i : ℕ) → i < length p.raw.root → StartsIn (problem_of p) (node_at (problem_of p) (get_or p.raw.root i 0))
+  starts_at i h =
+      let k : ℕ = get_or p.raw.root i 0 in
+      let q : Parts p k = parts p k e (root_there i h) in
+      let x : List ℤ = initial_values p.raw in
+      let holds : holds_box p.lo p.hi x x k ≡ true = all_at (holds_box p.lo p.hi x x) p.raw.root i 0 (boxes-sealed p e).starts h in
+      let above : at_most (get_or p.lo k []) x ≡ true = and_first _ (at_most x (get_or p.hi k [])) holds in
+      let below : at_most x (get_or p.hi k []) ≡ true = and_second (at_most (get_or p.lo k []) x) _ holds in
+      let low : get_or p.lo k [] ≡ q.low = get_or_from_slice_get p.lo k q.low [] q.fit.the_low in
+      let high : get_or p.hi k [] ≡ q.high = get_or_from_slice_get p.hi k q.high [] q.fit.the_high in
+      subst (λ (n : Node). StartsIn (problem_of p) n) (sym q.fit.is)
+      (starts_parts (problem_of p) p.raw q.node q.subproblem q.low q.high (initial-problem_of p) (numbers_counted q.low (length p.raw.states) q.fit.lows) (numbers_counted q.high (length p.raw.states) q.fit.highs) (rw low at above) (rw high at below))
 
+  -- the root's links lead to nodes
+  pub root-sealed : All (λ (l : Link). l.node < length p.raw.nodes) (problem_of p).root
+  root-sealed =
+      let f = root_facts p.raw (root-raw_fits p.raw (raw-is_sealed p e)) in
+      subst (λ (ls : List Link). All (λ (l : Link). l.node < length p.raw.nodes) ls) (sym (root-problem_of p)) (All-links_of (λ (l : Link). l.node < length p.raw.nodes) p.raw.root p.raw.root_weights f.1 root_there)
+
+  -- the initial state lies in the boxes of the root's successors
+  pub root_shaped-sealed : RootShaped (problem_of p)
+  root_shaped-sealed =
+      let fits = root-raw_fits p.raw (raw-is_sealed p e) in
+      let f = root_facts p.raw fits in
+      let weights : sum (link_weights (links_of p.raw.root p.raw.root_weights)) ≡ sum p.raw.root_weights = ap (λ (ws : List ℕ). sum ws) (link_weights-links_of p.raw.root p.raw.root_weights (sym f.1)) in
+      record {
+        some = subst (λ (ls : List Link). 0 < sum (link_weights ls)) (sym (root-problem_of p)) (subst (λ (k : ℕ). 0 < k) (sym weights) (positive_sum p.raw.root_weights f.0 (root_weighted p.raw fits)));
+        boxes = subst (λ (ls : List Link). All (λ (l : Link). StartsIn (problem_of p) (node_at (problem_of p) l.node)) ls) (sym (root-problem_of p)) (All-links_of (λ (l : Link). StartsIn (problem_of p) (node_at (problem_of p) l.node)) p.raw.root p.raw.root_weights f.1 starts_at);
+      }
+
+-- where each node has a cut, so have the successors of the root and of each node
+have_cuts : (pools : List (List Cut)) (count : ℕ) (ls : List Link) → ((k : ℕ) → k < count → 0 < length (pool pools k)) → All (λ (l : Link). l.node < count) ls → HaveCuts pools ls
+have_cuts pools count ls some known = All-weaker (λ (l : Link). l.node < count) (λ (l : Link). 0 < length (pool pools l.node)) (λ l h. some l.node h) ls known
+
+pub have_cuts-root : (p : Sealed) (pools : List (List Cut)) → is_sealed p ≡ true → ((k : ℕ) → k < length p.raw.nodes → 0 < length (pool pools k)) → HaveCuts pools (problem_of p).root
+have_cuts-root p pools e some = have_cuts pools (length p.raw.nodes) (problem_of p).root some (root-sealed p e)
+
+pub have_cuts-links : (p : Sealed) (pools : List (List Cut)) (m : ℕ) → is_sealed p ≡ true → m < length p.raw.nodes → ((k : ℕ) → k < length p.raw.nodes → 0 < length (pool pools k)) → HaveCuts pools (node_at (problem_of p) m).links
+have_cuts-links p pools m e h some = have_cuts pools (length p.raw.nodes) (node_at (problem_of p) m).links some (links-sealed p m e h)
+
+-- the sides of each box are small
 sum_at_most : (n c : ℕ) (f : ℕ → ℤ) → ((k : ℕ) → k < n → f k ≤ℤ pos c) → sum_to n f ≤ℤ pos (n * c)
 sum_at_most zero c f h = omega (arith, ints)
 sum_at_most (suc n) c f h =
@@ -229,32 +216,25 @@ sum_at_most (suc n) c f h =
     let more : suc n * c ≡ c + n * c = omega arith in
     omega (arith, ints, both, more)
 
-small_at : (ss : List State) (ls hs : List ℤ) (k : ℕ) → all_inside ss ls hs ≡ true → length ls ≡ length ss → length hs ≡ length ss → k < length ls
-    → (nat_abs (entry ls k) ≤ 2 ^ 40) × (nat_abs (entry hs k) ≤ 2 ^ 40)
-small_at [] ls hs k e p q h = absurd (omega arith)
-small_at (s ∷ ss) [] hs k e p q h = absurd (omega arith)
-small_at (s ∷ ss) (l ∷ ls) [] k e p q h = absurd (omega arith)
-small_at (s ∷ ss) (l ∷ ls) (x ∷ hs) zero e p q h = (grind (arith, nat_tests), grind (arith, nat_tests))
-small_at (s ∷ ss) (l ∷ ls) (x ∷ hs) (suc k) e p q h = small_at ss ls hs k (grind arith) (omega arith) (omega arith) (omega arith)
-
 reach_small : (low high : List ℤ) (k : ℕ) → nat_abs (entry low k) ≤ 2 ^ 40 → nat_abs (entry high k) ≤ 2 ^ 40 → reach low high k ≤ℤ pos (2 ^ 40)
 reach_small low high k a b = omega (arith, ints)
 
-narrow_box : (ss : List State) (low high : List ℤ) → all_inside ss low high ≡ true → length low ≡ length ss → length high ≡ length ss → length ss ≤ 50 → (pos 1 +ℤ sum_to (length low) (reach low high)) ≤ℤ pos (2 ^ 46)
-narrow_box ss low high e p q few =
-    let small : sum_to (length low) (reach low high) ≤ℤ pos (length low * 2 ^ 40) = sum_at_most (length low) (2 ^ 40) (reach low high) (λ k h. let s = small_at ss low high k e p q h in reach_small low high k s.0 s.1) in
-    let count : length low * 2 ^ 40 ≤ 50 * 2 ^ 40 = omega arith in
-    omega (arith, ints, small, count)
+narrow_box : (low high : List ℤ) (count : ℕ) → are_numbers count low ≡ true → are_numbers count high ≡ true → count ≤ 50 → (pos 1 +ℤ sum_to (length low) (reach low high)) ≤ℤ pos (2 ^ 46)
+narrow_box low high count e f few =
+    let lows : length low ≡ count = numbers_counted low count e in
+    let highs : length high ≡ count = numbers_counted high count f in
+    let small : sum_to (length low) (reach low high) ≤ℤ pos (length low * 2 ^ 40) = sum_at_most (length low) (2 ^ 40) (reach low high) (λ k h. reach_small low high k (numbers_small low count k e h) (numbers_small high count k f (omega arith))) in
+    let at_most : length low * 2 ^ 40 ≤ 50 * 2 ^ 40 = omega arith in
+    omega (arith, ints, small, at_most)
 
 few_states : (raw : Raw) → raw_fits raw ≡ true → length raw.states ≤ 50
 few_states raw e = let t : nat_le (length raw.states) 50 ≡ true = and_first _ (nat_le (length raw.nodes) 1000) (and_first _ (nat_le (length raw.subs) 1000) (and_first _ (list_all state_fits raw.states) (and_first _ (list_all (subproblem_fits (length raw.states)) raw.subs) (and_first _ (list_all (node_fits raw) raw.nodes) (and_first _ (root_fits raw) e))))) in grind (arith, nat_tests)
 
-narrow_leaf : (n : nodes.Node) (s : Subproblem) (low high : List ℤ) → (pos 1 +ℤ sum_to (length low) (reach low high)) ≤ℤ pos (2 ^ 46) → Narrow (node_of n s low high)
+narrow_parts : (n : nodes.Node) (s : Subproblem) (low high : List ℤ) → (pos 1 +ℤ sum_to (length low) (reach low high)) ≤ℤ pos (2 ^ 46) → Narrow (node_of n s low high)
 unfolding node_of
-narrow_leaf n s low high h = h
+narrow_parts n s low high h = h
 
--- the sides of the box are small
-pub narrow-lone : (p : Sealed) → is_sealed p ≡ true → Narrow (node_at (problem_of p) 0)
-narrow-lone p e =
-    let l = lone p e in
-    subst (λ (n : Node). Narrow n) (sym (node_at-lone p l)) (narrow_leaf l.node l.subproblem l.low l.high (narrow_box p.raw.states l.low l.high l.inside l.low_count l.high_count (few_states p.raw (raw-is_sealed p e))))
+pub narrow-sealed : (p : Sealed) (m : ℕ) → is_sealed p ≡ true → m < length p.raw.nodes → Narrow (node_at (problem_of p) m)
+narrow-sealed p m e h =
+    let q = parts p m e h in
+    subst (λ (n : Node). Narrow n) (sym q.fit.is) (narrow_parts q.node q.subproblem q.low q.high (narrow_box q.low q.high (length p.raw.states) q.fit.lows q.fit.highs (few_states p.raw (raw-is_sealed p e))))

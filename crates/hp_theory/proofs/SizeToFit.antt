@@ -93,7 +93,7 @@ size_box low high j d x h =
 pub size_scaled : (k : ℕ) (a x : ℤ) → magnitude a ≤ℤ x → magnitude (pos k *ℤ a) ≤ℤ (pos k *ℤ x)
 size_scaled k a x h = size_times (pos k) a (pos k) x (le_refl (pos k)) h
 
-size_reduced : (pools : List (List Cut)) (n : Node) (c : Certificate) (j : ℕ) → magnitude (reduced_cost pools n c j) ≤ℤ reduced_size pools n c j
+pub size_reduced : (pools : List (List Cut)) (n : Node) (c : Certificate) (j : ℕ) → magnitude (reduced_cost pools n c j) ≤ℤ reduced_size pools n c j
 size_reduced pools n c j =
     size_add (scale n *ℤ entry n.costs j -ℤ pos S *ℤ over_rows n c (λ row y. coefficient row.decisions j)) (over_pairs pools n c (λ cut. coefficient (placed n.outs cut.beta) j))
     (scale n *ℤ magnitude (entry n.costs j) +ℤ pos S *ℤ rows_size n c (λ row y. magnitude (coefficient row.decisions j))) (over_pairs pools n c (λ cut. coefficient_size (placed n.outs cut.beta) j))
@@ -102,7 +102,7 @@ size_reduced pools n c j =
     (size_scaled S (over_rows n c (λ row y. coefficient row.decisions j)) (rows_size n c (λ row y. magnitude (coefficient row.decisions j))) (size_rows n c (λ row y. coefficient row.decisions j) (λ row y. magnitude (coefficient row.decisions j)) (λ row y. size_same (coefficient row.decisions j)))))
     (size_pairs pools n c (λ cut. coefficient (placed n.outs cut.beta) j) (λ cut. coefficient_size (placed n.outs cut.beta) j) (λ cut. size_coefficient (placed n.outs cut.beta) j))
 
-size_alpha : (pools : List (List Cut)) (n : Node) (values : List ℤ) (c : Certificate) → magnitude (alpha_at pools n values c) ≤ℤ alpha_size pools n values c
+pub size_alpha : (pools : List (List Cut)) (n : Node) (values : List ℤ) (c : Certificate) → magnitude (alpha_at pools n values c) ≤ℤ alpha_size pools n values c
 size_alpha pools n values c =
     let a : ℤ = scale n *ℤ (n.constant +ℤ dot n.random_costs values) in
     let b : ℤ = pos S *ℤ over_rows n c (λ row y. side row y -ℤ at_terms row.randoms (entry values)) in
@@ -120,7 +120,7 @@ size_alpha pools n values c =
     (size_pairs pools n c (λ cut. cut.alpha) (λ cut. magnitude cut.alpha) (λ cut. size_same cut.alpha)))
     (size_sum (length n.costs) (λ j. box_least n j (reduced_cost pools n c j)) (λ j. reach n.decision_low n.decision_high j *ℤ reduced_size pools n c j) (λ j. size_box n.decision_low n.decision_high j (reduced_cost pools n c j) (reduced_size pools n c j) (size_reduced pools n c j)))
 
-size_beta : (n : Node) (c : Certificate) (k : ℕ) → magnitude (beta_at n c k) ≤ℤ beta_size n c k
+pub size_beta : (n : Node) (c : Certificate) (k : ℕ) → magnitude (beta_at n c k) ≤ℤ beta_size n c k
 size_beta n c k =
     size_minus (scale n *ℤ entry n.state_costs k) (pos S *ℤ over_rows n c (λ row y. coefficient row.states k)) (scale n *ℤ magnitude (entry n.state_costs k)) (pos S *ℤ rows_size n c (λ row y. magnitude (coefficient row.states k)))
     (size_scaled (S * S * successor_weight n) (entry n.state_costs k) (magnitude (entry n.state_costs k)) (size_same (entry n.state_costs k)))
@@ -137,15 +137,15 @@ entry_table (suc n) f zero h = refl
 entry_table (suc n) f (suc k) h = entry_table n (λ j. f (suc j)) k (omega arith)
 
 -- B_k is at most the sum of its magnitudes
-beta_sum_size : (n : Node) (list : List Certificate) (k : ℕ) → magnitude (beta_sum n list k) ≤ℤ total (λ (q : Realization × Certificate). pos q.0.weight *ℤ beta_size n q.1 k) (zip n.realizations list)
+pub beta_sum_size : (n : Node) (list : List Certificate) (k : ℕ) → magnitude (beta_sum n list k) ≤ℤ total (λ (q : Realization × Certificate). pos q.0.weight *ℤ beta_size n q.1 k) (zip n.realizations list)
 beta_sum_size n list k = size_total (λ (q : Realization × Certificate). pos q.0.weight *ℤ beta_at n q.1 k) (λ (q : Realization × Certificate). pos q.0.weight *ℤ beta_size n q.1 k) (zip n.realizations list)
     (λ q. size_scaled q.0.weight (beta_at n q.1 k) (beta_size n q.1 k) (size_beta n q.1 k))
 
-alpha_sum_size : (pools : List (List Cut)) (n : Node) (list : List Certificate) → magnitude (alpha_sum pools n list) ≤ℤ total (λ (q : Realization × Certificate). pos q.0.weight *ℤ alpha_size pools n q.0.values q.1) (zip n.realizations list)
+pub alpha_sum_size : (pools : List (List Cut)) (n : Node) (list : List Certificate) → magnitude (alpha_sum pools n list) ≤ℤ total (λ (q : Realization × Certificate). pos q.0.weight *ℤ alpha_size pools n q.0.values q.1) (zip n.realizations list)
 alpha_sum_size pools n list = size_total (λ (q : Realization × Certificate). pos q.0.weight *ℤ alpha_at pools n q.0.values q.1) (λ (q : Realization × Certificate). pos q.0.weight *ℤ alpha_size pools n q.0.values q.1) (zip n.realizations list)
     (λ q. size_scaled q.0.weight (alpha_at pools n q.0.values q.1) (alpha_size pools n q.0.values q.1) (size_alpha pools n q.0.values q.1))
 
-rest_sum_size : (n : Node) (list : List Certificate) → 0 < divisor n → magnitude (sum_to (length n.low) (λ k. remainder n list k *ℤ entry n.low k)) ≤ℤ sum_to (length n.low) (λ k. remainder n list k *ℤ magnitude (entry n.low k))
+pub rest_sum_size : (n : Node) (list : List Certificate) → 0 < divisor n → magnitude (sum_to (length n.low) (λ k. remainder n list k *ℤ entry n.low k)) ≤ℤ sum_to (length n.low) (λ k. remainder n list k *ℤ magnitude (entry n.low k))
 rest_sum_size n list z = size_sum (length n.low) (λ k. remainder n list k *ℤ entry n.low k) (λ k. remainder n list k *ℤ magnitude (entry n.low k))
     (λ k. size_times (remainder n list k) (entry n.low k) (remainder n list k) (magnitude (entry n.low k)) (rest_own (beta_sum n list k) (pos (divisor n) *ℤ slope n list k) (floor_at_most (beta_sum n list k) (divisor n) z)) (size_same (entry n.low k)))
   where

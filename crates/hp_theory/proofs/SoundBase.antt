@@ -59,7 +59,7 @@ sound_steps p count done (m ∷ ms) pools e d o s =
     (All-cons (Done (push pools m c)) m done (pushed_some pools m c (subst (λ (k : ℕ). m < k) (sym e) o.0)) (All-weaker (Done pools) (Done (push pools m c)) (λ k h. kept_some pools m k c h) done d))
     o.3 (push_sound p pools m c s (weak_duality p pools m (base_list n) o.1 s (base_right pools n ready)))
 
-no_cuts : (count m : ℕ) (P : Cut → Type 0) → All P (pool (replicate count []) m)
+pub no_cuts : (count m : ℕ) (P : Cut → Type 0) → All P (pool (replicate count []) m)
 no_cuts zero m P = All-nil P
 no_cuts (suc count) zero P = All-nil P
 no_cuts (suc count) (suc m) P = no_cuts count m P

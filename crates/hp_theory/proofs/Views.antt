@@ -1,9 +1,9 @@
 -- What the definitions see of a sealed problem, field by field.
-use Rattle.std.proofs.Common.{◌≡◌, ℕ, ◌+◌, ℤ, List, [], ◌∷◌, length, map, get_or, sum, Some, None, refl, ap, sym, ◌∙◌, arith}
+use Rattle.std.proofs.Common.{◌≡◌, ℕ, zero, suc, ◌+◌, ◌<◌, ℤ, All, subst, List, [], ◌∷◌, length, map, get_or, sum, Some, None, refl, ap, sym, ◌∙◌, arith}
 use Rattle.std.proofs.lemmas.List.Sums.{sum_by-cons}
 use Rattle.std.specs.Prelude.{slice_get}
 use Rattle.hp_problem.specs.Sealed.{Sealed}
-use Rattle.hp_theory.specs.Problem.{no_node, node_at, weight_of_realizations, link_weights}
+use Rattle.hp_theory.specs.Problem.{Link, no_node, node_at, weight_of_realizations, link_weights}
 use Rattle.hp_theory.specs.View.{realizations_of, links_of, node_of, problem_of}
 use Rattle.hp_problem.specs.declared.raw.Decision.{Decision}
 use Rattle.hp_problem.specs.declared.raw.Subproblem.{Subproblem}
@@ -39,6 +39,23 @@ link_weights-links_of [] [] e = refl
 link_weights-links_of [] (w ∷ ws) e = absurd (omega arith)
 link_weights-links_of (m ∷ ms) [] e = absurd (omega arith)
 link_weights-links_of (m ∷ ms) (w ∷ ws) e = ap (λ (k : List ℕ). w ∷ k) (link_weights-links_of ms ws (omega arith))
+
+-- the links of two lists, one by one
+pub link_at : (ms ws : List ℕ) (i : ℕ) (d : Link) → length ws ≡ length ms → i < length ms → get_or (links_of ms ws) i d ≡ record { node = get_or ms i 0; weight = get_or ws i 0 }
+link_at [] ws i d e h = absurd (omega arith)
+link_at (m ∷ ms) [] i d e h = absurd (omega arith)
+link_at (m ∷ ms) (w ∷ ws) zero d e h = refl
+link_at (m ∷ ms) (w ∷ ws) (suc i) d e h = link_at ms ws i d (omega arith) (omega arith)
+
+pub length-links_of : (ms ws : List ℕ) → length ws ≡ length ms → length (links_of ms ws) ≡ length ms
+length-links_of [] ws e = refl
+length-links_of (m ∷ ms) [] e = absurd (omega arith)
+length-links_of (m ∷ ms) (w ∷ ws) e = ap suc (length-links_of ms ws (omega arith))
+
+pub All-links_of : (P : Link → Type 0) (ms ws : List ℕ) → length ws ≡ length ms → ((i : ℕ) → i < length ms → P (record { node = get_or ms i 0; weight = get_or ws i 0 })) → All P (links_of ms ws)
+All-links_of P ms ws e h = λ i d l.
+    let inside : i < length ms = omega (arith, l, length-links_of ms ws e) in
+    subst P (sym (link_at ms ws i d e inside)) (h i inside)
 
 module _ (n : nodes.Node) (s : Subproblem) (low high : List ℤ) where
   pub decision_low-node_of : (node_of n s low high).decision_low ≡ map (λ (d : Decision). d.low) s.decisions

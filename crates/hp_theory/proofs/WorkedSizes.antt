@@ -1,9 +1,10 @@
 -- Sizes that were worked out by hand, some at the edge of 128 bits, by computing.
 use Rattle.std.proofs.lemmas.Int.{ints}
-use Rattle.std.proofs.Common.{◌*◌, negsuc, arith, ◌≡◌, ◌-◌, ◌^◌, pos, [], ◌∷◌, refl}
+use Rattle.std.proofs.Common.{◌*◌, negsuc, arith, ◌≡◌, ◌-◌, ◌^◌, pos, [], ◌∷◌, Some, None, refl}
 use Rattle.hp_theory.specs.Base.{base_list, base}
-use Rattle.hp_theory.specs.Examples.{reservoir, reservoir_certificate, negative_box, with_row, fork, fork_problem, with_pairs, edge}
+use Rattle.hp_theory.specs.Examples.{reservoir, reservoir_certificate, negative_box, with_row, fork, fork_problem, with_pairs, edge, edge_twice}
 use Rattle.hp_theory.specs.Problem.{S, node_at}
+use Rattle.hp_theory.specs.Range.{range_of}
 use Rattle.hp_theory.specs.Size.{remainder_size, size_of, RangeAt}
 
 pub edge_base : size_of [] (edge (pos (2 ^ 39 - 1))) (base_list (edge (pos (2 ^ 39 - 1)))) ≡ pos (2 ^ 127 - 2 ^ 48)
@@ -55,3 +56,20 @@ box_remainder = refl
 pub passes : RangeAt [] (edge (pos (2 ^ 39))) (base_list (edge (pos (2 ^ 39)))) 0
 unfolding S
 passes = record { within = omega arith; before = omega (arith, ints); beyond = omega (arith, ints) }
+
+-- where the size passes the range: at the first realization, or only with the remainder 2^24
+pub edge_in_range : range_of [] (edge (pos (2 ^ 39 - 1))) (with_row (pos 16777215) ∷ []) ≡ None
+unfolding S
+edge_in_range = refl
+
+pub edge_out_of_range : range_of [] (edge (pos (2 ^ 39 - 1))) (with_row (pos 16777216) ∷ []) ≡ Some 0
+unfolding S
+edge_out_of_range = refl
+
+pub remainders_in_range : range_of [] edge_twice (with_row (pos 16777215) ∷ with_row (pos 16777215) ∷ []) ≡ None
+unfolding S
+remainders_in_range = refl
+
+pub remainders_out_of_range : range_of [] edge_twice (with_row (pos 16777216) ∷ with_row (pos 16777215) ∷ []) ≡ Some 2
+unfolding S
+remainders_out_of_range = refl

@@ -1,12 +1,13 @@
 // Rows that were worked out by hand, over the small problems of specs/Examples.antt.
-ghost use Rattle.std.specs.Prelude.{◌≡◌, ◌-◌, ◌^◌, pos, negsuc, [], ◌∷◌};
+ghost use Rattle.std.specs.Prelude.{◌≡◌, ◌-◌, ◌^◌, pos, negsuc, [], ◌∷◌, Some, None};
 ghost use Rattle.hp_theory.specs.Tree.{Policy};
 ghost use Rattle.hp_theory.specs.Cost.{policy_cost};
 ghost use Rattle.hp_theory.specs.CutOf.{cut_of};
 ghost use Rattle.hp_theory.specs.Size.{size_of};
+ghost use Rattle.hp_theory.specs.Range.{range_of};
 ghost use Rattle.hp_theory.specs.Bound.{bound};
 ghost use Rattle.hp_theory.specs.Base.{base, base_list};
-ghost use Rattle.hp_theory.specs.Examples.{reservoir, reservoir_problem, reservoir_certificate, tree_in_halves, wrong_tree, fork_tree, policy_of, negative_box, with_row, fork_problem, edge};
+ghost use Rattle.hp_theory.specs.Examples.{reservoir, reservoir_problem, reservoir_certificate, tree_in_halves, wrong_tree, fork_tree, policy_of, negative_box, with_row, fork_problem, edge, edge_twice};
 
 /// What the definitions give on small problems; a definition with one number changed gives something else.
 pub fn worked_rows()
@@ -27,4 +28,11 @@ pub fn worked_rows()
         ≡ pos (2 ^ 127 - 2 ^ 48) }
     ensures size_beyond { size_of [] (edge (pos (2 ^ 39 - 1))) (with_row (pos 16777216) ∷ [])
         ≡ pos (2 ^ 127) }
+    ensures in_range { range_of [] (edge (pos (2 ^ 39 - 1))) (with_row (pos 16777215) ∷ []) ≡ None }
+    ensures out_of_range { range_of [] (edge (pos (2 ^ 39 - 1))) (with_row (pos 16777216) ∷ [])
+        ≡ Some 0 }
+    ensures remainders_in_range { range_of [] edge_twice
+        (with_row (pos 16777215) ∷ with_row (pos 16777215) ∷ []) ≡ None }
+    ensures remainders_out_of_range { range_of [] edge_twice
+        (with_row (pos 16777216) ∷ with_row (pos 16777215) ∷ []) ≡ Some 2 }
 {}

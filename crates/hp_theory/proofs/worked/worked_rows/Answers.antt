@@ -14,4 +14,8 @@ returns c = record {
   bound_of_base = cuts.stop_bound;
   size_of_base = sizes.edge_base;
   size_beyond = sizes.edge_beyond;
+  in_range = sizes.edge_in_range;
+  out_of_range = sizes.edge_out_of_range;
+  remainders_in_range = sizes.remainders_in_range;
+  remainders_out_of_range = sizes.remainders_out_of_range;
 }

@@ -9,8 +9,7 @@ use lib.IntN.{+ℤ_idr}
 use Rattle.hp_num.specs.Sums.{total}
 use Rattle.hp_theory.specs.Problem.{Link}
 use Rattle.hp_theory.specs.View.{problem_of, links_of}
-use Rattle.hp_theory.proofs.Views.{root-problem_of, initial-problem_of}
-use Rattle.hp_cut.proofs.Reach.{length-links_of}
+use Rattle.hp_theory.proofs.Views.{root-problem_of, initial-problem_of, length-links_of}
 use Rattle.hp_cut.proofs.Weighted.{part, known, starts, root, next}
 use Rattle.hp_cut.proofs.pools.Pools.weighted.Goals as goal
 

@@ -1,0 +1,178 @@
+-- An accepted list of certificates is right, and its size is in range.
+use Rattle.std.proofs.Common.{◌≡◌, ℕ, zero, suc, ◌+◌, ◌*◌, ◌<◌, ◌≤◌, ◌-◌, ◌^◌, ℤ, pos, negsuc, ◌≤ℤ◌, Bool, true, false, ◌==◌, if◌then◌else◌, List, [], ◌∷◌, length, get_or, zip, min, All, IsSome, Option, Some, None, refl, arith}
+use Rattle.std.specs.Prelude.{is_some}
+use Rattle.std.specs.Option.{option_map}
+use Rattle.std.proofs.lemmas.Grind.{common_steps}
+use Rattle.std.proofs.lemmas.Bool.Decides.{nat_tests}
+use Rattle.std.proofs.lemmas.List.Elements.{All-nil, All-cons, All-head, All-tail}
+use Rattle.hp_problem.specs.declared.raw.Row.{Row}
+use Rattle.hp_theory.specs.declared.cut.Cut.{Cut}
+use Rattle.hp_theory.specs.declared.cut.Certificate.{Certificate}
+use Rattle.hp_theory.specs.Problem.{S, Link, Node}
+use Rattle.hp_theory.specs.Pools.{pool}
+use Rattle.hp_theory.specs.Certificates.{SignRight, Rising, multipliers, PairsRight, RightAt, Right}
+use Rattle.hp_theory.specs.Size.{size_of}
+use Rattle.hp_theory.specs.Range.{range_of}
+use Rattle.hp_theory.proofs.Ranges.{within-range_of}
+use Rattle.hp_dual.specs.declared.fault.CertFault.{CertFault}
+use Rattle.hp_dual.specs.declared.fault.CertFault.TheVariants.{Shape, Sign, Cutless, Sum, Range}
+use Rattle.hp_dual.specs.Acceptance.{or_then, is_shaped, first_unshaped, shape_fault, is_sign, sign_fault, is_pair, pair_fault, sum_fault, links_fault, certificates_fault, range_fault, fault_of}
+
+-- a fault that is not there
+pub none-or_then : (a b : Option CertFault) → or_then a b ≡ None → (a ≡ None) × (b ≡ None)
+none-or_then None b e = (refl, e)
+none-or_then (Some f) b e = absurd (no e)
+  where
+    no : (let o : Option CertFault = Some f in o ≡ None) → ⊥
+    no h = cc
+
+pub none-if : (b : Bool) (x : Option CertFault) (f : CertFault) → (if b then x else Some f) ≡ None → (b ≡ true) × (x ≡ None)
+none-if true x f e = (refl, e)
+none-if false x f e = absurd (no e)
+  where
+    no : (let o : Option CertFault = Some f in o ≡ None) → ⊥
+    no h = cc
+
+-- shapes
+abbrev pub IsShaped : Node → Certificate → Type 0
+IsShaped n c = (length c.rows ≡ length n.rows) × (length c.cuts ≡ length n.links)
+
+shaped : (n : Node) (c : Certificate) → is_shaped n c ≡ true → IsShaped n c
+shaped n c e = grind (arith, nat_tests, common_steps)
+
+pub shaped-first_unshaped : (n : Node) (r : ℕ) (list : List Certificate) → first_unshaped n r list ≡ None → All (IsShaped n) list
+shaped-first_unshaped n r [] e = All-nil (IsShaped n)
+shaped-first_unshaped n r (c ∷ cs) e =
+    let q = none-if (is_shaped n c) (first_unshaped n (suc r) cs) (Shape r) e in
+    All-cons (IsShaped n) c cs (shaped n c q.0) (shaped-first_unshaped n (suc r) cs q.1)
+
+pub shaped-shape_fault : (n : Node) (list : List Certificate) → shape_fault n list ≡ None → (length list ≡ length n.realizations) × All (IsShaped n) list
+shaped-shape_fault n list e =
+    let q = none-if (length list == length n.realizations) (first_unshaped n 0 list) (Shape (min (length list) (length n.realizations))) e in
+    (same (length list) (length n.realizations) q.0, shaped-first_unshaped n 0 list q.1)
+  where
+    same : (a b : ℕ) → (a == b) ≡ true → a ≡ b
+    same a b h = grind (arith, nat_tests)
+
+-- signs
+abbrev RightSign : Row × ℤ → Type 0
+RightSign q = SignRight q.0 q.1
+
+some-is_some : (o : Option ℤ) → is_some o ≡ true → IsSome o
+some-is_some None e = cc
+some-is_some (Some x) e = cc
+
+right_sign : (row : Row) (y : ℤ) → is_sign row y ≡ true → SignRight row y
+right_sign row (pos zero) e = tt
+right_sign row (pos (suc y)) e = some-is_some row.low e
+right_sign row (negsuc y) e = some-is_some row.high e
+
+right-sign_fault : (r i : ℕ) (qs : List (Row × ℤ)) → sign_fault r i qs ≡ None → All RightSign qs
+right-sign_fault r i [] e = All-nil RightSign
+right-sign_fault r i (q ∷ qs) e =
+    let t = none-if (is_sign q.0 q.1) (sign_fault r (suc i) qs) (Sign r i) e in
+    All-cons RightSign q qs (right_sign q.0 q.1 t.0) (right-sign_fault r (suc i) qs t.1)
+
+-- pairs
+abbrev IsPair : ℕ → ℕ → ℕ × ℕ → Type 0
+IsPair least count s = (least ≤ s.0) × (s.0 < count) × (0 < s.1)
+
+right_pair : (least count : ℕ) (s : ℕ × ℕ) → is_pair least count s ≡ true → IsPair least count s
+right_pair least count s e = grind (arith, nat_tests, common_steps)
+
+record Pairs (count least : ℕ) (ss : List (ℕ × ℕ)) : Type 0 where
+  first : 0 < length ss → least ≤ (get_or ss 0 (0, 0)).0
+  rising : Rising ss
+  there : All (λ (s : ℕ × ℕ). s.0 < count) ss
+  positive : All (λ (s : ℕ × ℕ). 0 < s.1) ss
+
+rising_more : (s : ℕ × ℕ) (ss : List (ℕ × ℕ)) → (0 < length ss → s.0 + 1 ≤ (get_or ss 0 (0, 0)).0) → Rising ss → Rising (s ∷ ss)
+rising_more s [] h t = tt
+rising_more s (n ∷ ss) h t = (omega (arith, h (omega arith)), t)
+
+right-pair_fault : (r i count e least : ℕ) (ss : List (ℕ × ℕ)) → pair_fault r i count e least ss ≡ None → Pairs count least ss
+right-pair_fault r i count e least [] h = record {
+  first = λ l. absurd (omega arith);
+  rising = tt;
+  there = All-nil (λ (s : ℕ × ℕ). s.0 < count);
+  positive = All-nil (λ (s : ℕ × ℕ). 0 < s.1);
+}
+right-pair_fault r i count e least (s ∷ ss) h =
+    let t = none-if (is_pair least count s) (pair_fault r i count (suc e) (s.0 + 1) ss) (Cutless r i e) h in
+    let here : IsPair least count s = right_pair least count s t.0 in
+    let rest : Pairs count (s.0 + 1) ss = right-pair_fault r i count (suc e) (s.0 + 1) ss t.1 in
+    record {
+      first = λ l. here.0;
+      rising = rising_more s ss rest.first rest.rising;
+      there = All-cons (λ (s : ℕ × ℕ). s.0 < count) s ss here.1 rest.there;
+      positive = All-cons (λ (s : ℕ × ℕ). 0 < s.1) s ss here.2 rest.positive;
+    }
+
+right-sum_fault : (r i : ℕ) (link : Link) (ss : List (ℕ × ℕ)) → sum_fault r i link ss ≡ None → multipliers ss ≡ S * link.weight
+right-sum_fault r i link ss e = same (multipliers ss) (S * link.weight) (none-if (multipliers ss == S * link.weight) None (Sum r i) e).0
+  where
+    same : (a b : ℕ) → (a == b) ≡ true → a ≡ b
+    same a b h = grind (arith, nat_tests)
+
+right-links_fault : (pools : List (List Cut)) (r i : ℕ) (qs : List (Link × List (ℕ × ℕ))) → links_fault pools r i qs ≡ None → All (PairsRight pools) qs
+right-links_fault pools r i [] e = All-nil (PairsRight pools)
+right-links_fault pools r i (q ∷ qs) e =
+    let a = none-or_then (pair_fault r i (length (pool pools q.0.node)) 0 0 q.1) (or_then (sum_fault r i q.0 q.1) (links_fault pools r (suc i) qs)) e in
+    let b = none-or_then (sum_fault r i q.0 q.1) (links_fault pools r (suc i) qs) a.1 in
+    let pairs : Pairs (length (pool pools q.0.node)) 0 q.1 = right-pair_fault r i (length (pool pools q.0.node)) 0 0 q.1 a.0 in
+    All-cons (PairsRight pools) q qs
+    (record { rising = pairs.rising; there = pairs.there; positive = pairs.positive; sum = right-sum_fault r i q.0 q.1 b.0 })
+    (right-links_fault pools r (suc i) qs b.1)
+
+-- certificates
+right-certificates_fault : (pools : List (List Cut)) (n : Node) (r : ℕ) (list : List Certificate) → All (IsShaped n) list → certificates_fault pools n r list ≡ None → All (RightAt pools n) list
+right-certificates_fault pools n r [] h e = All-nil (RightAt pools n)
+right-certificates_fault pools n r (c ∷ cs) h e =
+    let a = none-or_then (sign_fault r 0 (zip n.rows c.rows)) (or_then (links_fault pools r 0 (zip n.links c.cuts)) (certificates_fault pools n (suc r) cs)) e in
+    let b = none-or_then (links_fault pools r 0 (zip n.links c.cuts)) (certificates_fault pools n (suc r) cs) a.1 in
+    let s : IsShaped n c = All-head (IsShaped n) c cs h in
+    All-cons (RightAt pools n) c cs
+    (record { rows = s.0; links = s.1; signs = right-sign_fault r 0 (zip n.rows c.rows) a.0; pairs = right-links_fault pools r 0 (zip n.links c.cuts) b.0 })
+    (right-certificates_fault pools n (suc r) cs (All-tail (IsShaped n) c cs h) b.1)
+
+-- a list without faults before its size is right
+pub right-walk : (pools : List (List Cut)) (n : Node) (list : List Certificate) → shape_fault n list ≡ None → certificates_fault pools n 0 list ≡ None → Right pools n list
+right-walk pools n list e h =
+    let s = shaped-shape_fault n list e in
+    record { count = s.0; each = right-certificates_fault pools n 0 list s.1 h }
+
+-- an accepted list is right, and its size is in range
+module _ (pools : List (List Cut)) (n : Node) (list : List Certificate) (e : fault_of pools n list ≡ None) where
+  none-shape : (shape_fault n list ≡ None) × (or_then (certificates_fault pools n 0 list) (range_fault pools n list) ≡ None)
+  unfolding fault_of
+  none-shape = none-or_then (shape_fault n list) (or_then (certificates_fault pools n 0 list) (range_fault pools n list)) e
+
+  none-rest : (certificates_fault pools n 0 list ≡ None) × (range_fault pools n list ≡ None)
+  none-rest = none-or_then (certificates_fault pools n 0 list) (range_fault pools n list) none-shape.1
+
+  pub right-fault_of : Right pools n list
+  right-fault_of = right-walk pools n list none-shape.0 none-rest.0
+
+  pub size-fault_of : size_of pools n list ≤ℤ pos (2 ^ 127 - 1)
+  size-fault_of = within-range_of pools n list (none-option_map (range_of pools n list) none-rest.1)
+    where
+      none-option_map : (o : Option ℕ) → option_map Range o ≡ None → o ≡ None
+      none-option_map None h = refl
+      none-option_map (Some r) h = absurd (no h)
+        where
+          no : (let o : Option CertFault = Some (Range r) in o ≡ None) → ⊥
+          no h = cc
+
+-- the first fault, walk by walk
+module _ (pools : List (List Cut)) (n : Node) (list : List Certificate) where
+  pub fault-shape : (f : CertFault) → shape_fault n list ≡ Some f → fault_of pools n list ≡ Some f
+  unfolding fault_of
+  fault-shape f e = rw e refl
+
+  pub fault-certificates : (f : CertFault) → shape_fault n list ≡ None → certificates_fault pools n 0 list ≡ Some f → fault_of pools n list ≡ Some f
+  unfolding fault_of
+  fault-certificates f e h = rw (e, h) refl
+
+  pub fault-range : shape_fault n list ≡ None → certificates_fault pools n 0 list ≡ None → fault_of pools n list ≡ range_fault pools n list
+  unfolding fault_of
+  fault-range e h = rw (e, h) refl

@@ -1,0 +1,41 @@
+-- The weights of a sealed problem's node are such as may be given.
+use Rattle.std.proofs.Common.{◌≡◌, ℕ, ◌<◌, ◌≤◌, ℤ, true, List, length, get_or, All, sum, nat_lt, sym, ap, ◌∙◌, subst, arith}
+use Rattle.std.proofs.lemmas.Bool.Decides.{nat_tests}
+use Rattle.std.proofs.lemmas.Option.{get_or_from_slice_get}
+use Rattle.hp_problem.specs.declared.raw.Raw.{Raw}
+use Rattle.hp_problem.specs.declared.raw.Node as nodes
+use Rattle.hp_problem.specs.declared.raw.Subproblem.{Subproblem}
+use Rattle.hp_problem.specs.Sealed.{Sealed, is_sealed}
+use Rattle.hp_num.proofs.Tests.{all_at}
+use Rattle.hp_theory.specs.Problem.{Node, node_at, with_weights}
+use Rattle.hp_theory.specs.View.{node_of, problem_of}
+use Rattle.hp_theory.proofs.SealedParts.{PartsFit, Parts, parts, weighty, weights_positive}
+use Rattle.hp_dual.proofs.GivenNode.{length-realizations, with_weights-own}
+
+-- one per realization, each at least 1, of at most 65535 together; and they change nothing
+pub record OwnWeights (ws : List ℕ) (k : Node) : Type 0 where
+  pub count : length ws ≡ length k.realizations
+  pub positive : All (λ w. 1 ≤ w) ws
+  pub total : sum ws ≤ 65535
+  pub own : with_weights ws k ≡ k
+
+own_weights : (p : Sealed) (m : ℕ) (n : nodes.Node) (s : Subproblem) (low high : List ℤ) → PartsFit p m n s low high → OwnWeights n.weights (node_of n s low high)
+own_weights p m n s low high fit =
+    let w = weighty n (length s.randoms) fit.realizations in
+    record {
+      count = sym (length-realizations n s low high w.3);
+      positive = λ k d h. some (get_or n.weights k d) (all_at (λ w. nat_lt 0 w) n.weights k d (weights_positive n (length s.randoms) fit.realizations) h);
+      total = w.2;
+      own = with_weights-own n s low high w.3;
+    }
+  where
+    some : (w : ℕ) → nat_lt 0 w ≡ true → 1 ≤ w
+    some w h = grind (arith, nat_tests)
+
+-- the weights of the node that a problem gives out
+pub own_weights-sealed : (p : Sealed) (raw : Raw) (ns : List nodes.Node) (ws : List ℕ) (m : ℕ) (n : nodes.Node) → is_sealed p ≡ true → raw ≡ p.raw → ns ≡ raw.nodes → m < length p.raw.nodes → n ≡ get_or ns m n → ws ≡ n.weights → OwnWeights ws (node_at (problem_of p) m)
+own_weights-sealed p raw ns ws m n e is list h at eq =
+    let q : Parts p m = parts p m e h in
+    let same : n ≡ q.node = at ∙ ap (λ (ks : List nodes.Node). get_or ks m n) (list ∙ ap (λ (r : Raw). r.nodes) is) ∙ get_or_from_slice_get p.raw.nodes m q.node n q.fit.the_node in
+    let weights : ws ≡ q.node.weights = eq ∙ ap (λ (k : nodes.Node). k.weights) same in
+    subst (λ (k : Node). OwnWeights ws k) (sym q.fit.is) (subst (λ (vs : List ℕ). OwnWeights vs (node_of q.node q.subproblem q.low q.high)) (sym weights) (own_weights p m q.node q.subproblem q.low q.high q.fit))

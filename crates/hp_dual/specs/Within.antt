@@ -1,0 +1,13 @@
+-- What the walk over a list of certificates needs of a node's parts.
+use Rattle.std.specs.Prelude.{◌≡◌, ℕ, ◌<◌, ◌≤◌, ◌^◌, length, All}
+use Rattle.hp_problem.specs.declared.raw.Node.{Node}
+use Rattle.hp_problem.specs.declared.raw.Subproblem.{Subproblem}
+
+-- few realizations, rows and successors, a value list per realization, a weight per successor, and each successor among `count` nodes
+pub record Within (count : ℕ) (n : Node) (s : Subproblem) : Type 0 where
+  pub values : length n.values ≡ length n.weights
+  pub realizations : length n.weights ≤ 100
+  pub rows : length s.rows ≤ 200
+  pub link_weights : length n.link_weights ≡ length n.links
+  pub links : length n.links ≤ 2 ^ 16
+  pub known : All (λ m. m < count) n.links

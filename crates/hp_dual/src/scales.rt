@@ -1,0 +1,59 @@
+// The weights of a node and the scale of its certificates.
+ghost use Rattle.std.specs.Prelude.{◌≡◌, ◌+◌, ◌*◌, ◌^◌, ◌<◌, ◌≤◌, ℕ, pos, length, sum};
+ghost use Rattle.hp_theory.specs.Problem.{S, weight_of_successors};
+ghost use Rattle.hp_theory.specs.View.{links_of};
+
+use hp_problem::Node;
+
+/// The scale of cuts, S.
+pub(crate) const SCALE: i128 = 1 << 24;
+
+/// The total of the weights.
+fn total(weights: &[u32]) -> u64
+    requires { length weights.now ≤ 2 ^ 16 }
+    ensures { result ≡ sum weights.now }
+{
+    weights.iter().map(|weight| u64::from(*weight)).sum()
+}
+
+/// The stop weight and the successor weights, 1 without successors.
+pub(crate) fn successor_weight(node: &Node) -> u64
+    requires links { length node.now.link_weights ≡ length node.now.links }
+    requires few { length node.now.links ≤ 2 ^ 16 }
+    requires small { sum node.now.link_weights + node.now.stop ≤ 65535 }
+    ensures value { result
+        ≡ weight_of_successors node.now.stop (links_of node.now.links node.now.link_weights) }
+    ensures small { result ≤ 65535 }
+{
+    if node.links.is_empty() {
+        return 1;
+    }
+    u64::from(node.stop) + total(node.link_weights.as_slice())
+}
+
+/// S^2 * Q: the scale of a realization's numbers.
+#[tactic(auto, unfolding(hp_theory::specs::Problem::S))]
+pub(crate) fn scale(node: &Node) -> i128
+    requires links { length node.now.link_weights ≡ length node.now.links }
+    requires few { length node.now.links ≤ 2 ^ 16 }
+    requires small { sum node.now.link_weights + node.now.stop ≤ 65535 }
+    ensures { result ≡ pos (S * S
+        * weight_of_successors node.now.stop (links_of node.now.links node.now.link_weights)) }
+{
+    SCALE * SCALE * i128::from(successor_weight(node))
+}
+
+/// S * Q * W: what the sums over the realizations are divided by.
+#[tactic(auto, unfolding(hp_theory::specs::Problem::S))]
+pub(crate) fn divisor(node: &Node, weights: &[u32]) -> i128
+    requires links { length node.now.link_weights ≡ length node.now.links }
+    requires few { length node.now.links ≤ 2 ^ 16 }
+    requires small { sum node.now.link_weights + node.now.stop ≤ 65535 }
+    requires count { length weights.now ≤ 100 }
+    requires weight { sum weights.now ≤ 65535 }
+    ensures { result ≡ pos (S
+        * weight_of_successors node.now.stop (links_of node.now.links node.now.link_weights)
+        * sum weights.now) }
+{
+    SCALE * i128::from(successor_weight(node)) * i128::from(total(weights))
+}

@@ -1,0 +1,151 @@
+// What comes into a node.
+ghost use Rattle.std.specs.Prelude.{◌≡◌, ◌≤◌, ◌<◌, ℤ, pos, [], ◌∷◌, List, length, map, IfOk, slice_get, option_and_then, unwrap_or, ◌==◌, if◌then◌else◌, Option, Some, None, get_or};
+ghost use Rattle.std.specs.List.{list_any, fold, cons_option};
+ghost use Rattle.hp_paths.specs.Paths.{numbers};
+ghost use Rattle.hp_paths.specs.Ranks.{predecessors};
+ghost use Rattle.hp_problem.specs.Sealed.{graph_of, initial_values};
+ghost use Rattle.hp_graph.specs.Hull.{outer, outermost, ends, end_at, start_at, incoming, hull, hulls};
+
+use crate::side::{Side, outer};
+use hp_num::{List, Memory};
+use hp_problem::{Node, Raw, out_highs, out_lows};
+use std::alloc::Global;
+
+// One list per subproblem with one entry per state.
+pub(crate) fn ends(alloc: Global, side: Side, raw: &Raw) -> Result<List<List<i64>>, Memory>
+    ensures { IfOk result (λ l. l ≡ ends side raw.now) }
+{
+    match side {
+        Side::Low => out_lows(alloc, raw.subs.as_slice()),
+        Side::High => out_highs(alloc, raw.subs.as_slice()),
+    }
+}
+
+fn found_end(nodes: &[Node], ends: &[List<i64>], state: usize, node: u32) -> Option<i64>
+    ensures { result ≡ option_and_then (λ n. option_and_then (λ es. slice_get es state) (slice_get ends.now n.sub)) (slice_get nodes.now node) }
+{
+    let node = nodes.get(node as usize)?;
+    let ends = ends.get(node.sub as usize)?;
+    ends.as_slice().get(state).copied()
+}
+
+fn end_at(nodes: &[Node], ends: &[List<i64>], state: usize, node: u32) -> i64
+    ensures { result ≡ end_at nodes.now ends.now state node }
+{
+    found_end(nodes, ends, state, node).unwrap_or(0)
+}
+
+// The outermost of the first number and of what the nodes let out.
+fn outermost_from(
+    side: Side,
+    first: i64,
+    nodes: &[Node],
+    ends: &[List<i64>],
+    state: usize,
+    into: &[u32],
+) -> i64
+    ensures { result ≡ fold (outer side) first (map (end_at nodes.now ends.now state) into.now) }
+{
+    let mut found = first;
+    for node in into {
+        found = outer(side, found, end_at(nodes, ends, state, *node));
+    }
+    found
+}
+
+fn leads_to(root: &[u32], node: u32) -> bool
+    ensures { result ≡ list_any (λ m. m == node) root.now }
+{
+    root.iter().any(|link| *link == node)
+}
+
+fn initial_value(raw: &Raw, state: usize) -> Option<i64>
+    ensures { result ≡ slice_get (initial_values raw.now) state }
+{
+    match raw.states.as_slice().get(state) {
+        Some(state) => Some(state.initial),
+        None => None,
+    }
+}
+
+fn start_at(raw: &Raw, node: u32, state: usize) -> Option<i64>
+    ensures { result ≡ start_at raw.now node state }
+{
+    if leads_to(raw.root.as_slice(), node) {
+        initial_value(raw, state)
+    } else {
+        None
+    }
+}
+
+// The outermost number of what comes into a node: its start, where there is one, and what the nodes `into` let out.
+fn outermost(
+    side: Side,
+    start: Option<i64>,
+    nodes: &[Node],
+    ends: &[List<i64>],
+    state: usize,
+    into: &[u32],
+) -> i64
+    ensures { result ≡ outermost side (cons_option start (map (end_at nodes.now ends.now state) into.now)) }
+{
+    match (start, into) {
+        (Some(start), into) => outermost_from(side, start, nodes, ends, state, into),
+        (None, [first, rest @ ..]) => {
+            let first = end_at(nodes, ends, state, *first);
+            outermost_from(side, first, nodes, ends, state, rest)
+        }
+        (None, []) => 0,
+    }
+}
+
+#[tactic(auto, unfolding(crate::specs::Hull::hull), using(hp_paths::proofs::Numbers::map_more))]
+// The hull of a node, one entry per state; `into` are its predecessors.
+fn hull_of(
+    alloc: Global,
+    side: Side,
+    raw: &Raw,
+    outs: &[List<i64>],
+    node: u32,
+    into: &[u32],
+) -> Result<List<i64>, Memory>
+    requires outs { outs.now ≡ ends side raw.now }
+    requires into { into.now ≡ predecessors (graph_of raw.now) node }
+    ensures { IfOk result (λ l. l ≡ hull side raw.now node) }
+{
+    let mut found = List::new(alloc);
+    for state in 0..raw.states.len() {
+        let start = start_at(raw, node, state);
+        let nodes = raw.nodes.as_slice();
+        found.push(outermost(side, start, nodes, outs, state, into))?;
+    }
+    Ok(found)
+}
+
+pub(crate) fn list_at<T>(lists: &[List<T>], at: usize) -> &[T]
+    requires { at < length lists.now }
+    ensures { result.now ≡ get_or lists.now at [] }
+{
+    lists[at].as_slice()
+}
+
+#[tactic(auto, using(hp_paths::proofs::Numbers::map_more))]
+/// The hulls, one list per node with one entry per state. `into` has the predecessors of each node.
+pub(crate) fn hulls(
+    alloc: Global,
+    side: Side,
+    raw: &Raw,
+    into: &[List<u32>],
+) -> Result<List<List<i64>>, Memory>
+    requires into { into.now ≡ map (predecessors (graph_of raw.now)) (numbers (length raw.now.nodes)) }
+    requires count { length raw.now.nodes ≤ 1000 }
+    ensures { IfOk result (λ l. l ≡ hulls side raw.now) }
+{
+    let outs = ends(alloc, side, raw)?;
+    let mut found = List::new(alloc);
+    for node in 0..raw.nodes.len() {
+        let into = list_at(into, node);
+        found.push(hull_of(alloc, side, raw, outs.as_slice(), node as u32, into)?)?;
+    }
+    Ok(found)
+}

@@ -1,0 +1,12 @@
+pub mod AllRanked
+pub mod Falling
+pub mod Leading
+pub mod Least
+pub mod Marks
+pub mod Numbers
+pub mod Paths
+pub mod Placing
+pub mod RankTable
+pub mod Reached
+pub mod Scattered
+pub mod Searches

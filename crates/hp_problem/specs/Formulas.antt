@@ -1,0 +1,78 @@
+-- The weights of a node, and the formulas that bound what training and simulating take.
+use Rattle.std.specs.Prelude.{ℕ, ◌+◌, ◌*◌, ◌^◌, List, [], ◌∷◌, length, map, Option, Some, None, slice_get, sum, if◌then◌else◌, nat_lt}
+use Rattle.std.specs.List.{sum_by}
+use Rattle.hp_paths.specs.Ranks.{greatest}
+use Rattle.hp_problem.specs.declared.raw.Node.{Node}
+use Rattle.hp_problem.specs.declared.raw.Subproblem.{Subproblem}
+use Rattle.hp_problem.specs.declared.raw.Raw.{Raw}
+use Rattle.hp_problem.specs.declared.formulas.TooMuch.{TooMuch}
+use Rattle.hp_problem.specs.Sealed.{Sealed}
+
+-- the sum of the weights, and 1 without any
+abbrev pub total_weight : List ℕ → ℕ
+total_weight [] = 1
+total_weight (w ∷ ws) = sum (w ∷ ws)
+
+-- the stop weight and the weights of a node's successors together, and 1 without successors
+abbrev pub successor_total : ℕ → List ℕ → ℕ
+successor_total stop [] = 1
+successor_total stop (w ∷ ws) = stop + sum (w ∷ ws)
+
+-- the rows of a node's subproblem, and its decisions
+abbrev pub row_count : Option Subproblem → ℕ
+row_count None = 0
+row_count (Some s) = length s.rows
+
+abbrev pub decision_count : Option Subproblem → ℕ
+decision_count None = 0
+decision_count (Some s) = length s.decisions
+
+abbrev pub subproblem_at : Raw → Node → Option Subproblem
+subproblem_at raw n = slice_get raw.subs n.sub
+
+-- formula 1: the numbers of all cuts of one path, with `cuts` cuts at each node
+abbrev pub cut_numbers : Sealed → ℕ → ℕ
+cut_numbers p cuts = cuts * p.longest * (length p.raw.states + 1)
+
+-- formula 2: the numbers of a node's dictionary
+abbrev pub dictionary : Raw → ℕ → Node → ℕ
+dictionary raw cuts n =
+    (row_count (subproblem_at raw n) + (cuts + 1) * length n.links) * (decision_count (subproblem_at raw n) + length n.links)
+
+-- formula 3: the bytes of a node's step in a record
+abbrev pub step_bytes : Raw → ℕ → Node → ℕ
+step_bytes raw cuts n = 2 + length n.weights * (8 * row_count (subproblem_at raw n) + length n.links * (4 + 12 * (cuts + 1)))
+
+abbrev pub record_bytes : Raw → ℕ → ℕ → ℕ
+record_bytes raw cuts batch = batch * (10 + sum_by (step_bytes raw cuts) raw.nodes)
+
+-- formula 4: the numbers of a step of a trace
+abbrev pub step_numbers : ℕ → Subproblem → ℕ
+step_numbers states s = length s.decisions + length s.rows + length s.randoms + states + 4
+
+abbrev pub trace_numbers : Sealed → ℕ → ℕ
+trace_numbers p count = count * p.longest * greatest (map (step_numbers (length p.raw.states)) p.raw.subs)
+
+-- the formula with this number and value, where the value is above the limit
+abbrev pub above : ℕ → ℕ → ℕ → Option TooMuch
+above which limit value = if nat_lt limit value then Some (record { which = which; value = value }) else None
+
+-- the first of these that is there
+abbrev pub or_then : Option TooMuch → Option TooMuch → Option TooMuch
+or_then (Some t) u = Some t
+or_then None u = u
+
+-- the first node whose dictionary is too large
+abbrev pub first_dictionary : Raw → ℕ → List Node → Option TooMuch
+first_dictionary raw cuts [] = None
+first_dictionary raw cuts (n ∷ ns) = or_then (above 2 (2 ^ 22) (dictionary raw cuts n)) (first_dictionary raw cuts ns)
+
+-- the first of formulas 1 to 3 that is above its limit, after k iterations of `batch` paths each
+unfoldable pub too_much : Sealed → ℕ → ℕ → Option TooMuch
+too_much p k batch =
+    or_then (above 1 (2 ^ 24) (cut_numbers p (k * batch)))
+    (or_then (first_dictionary p.raw (k * batch) p.raw.nodes) (above 3 (2 ^ 26) (record_bytes p.raw (k * batch) batch)))
+
+-- formula 4, where it is above its limit
+unfoldable pub too_wide : Sealed → ℕ → Option TooMuch
+too_wide p count = above 4 (2 ^ 22) (trace_numbers p count)

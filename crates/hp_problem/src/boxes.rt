@@ -1,0 +1,198 @@
+// The boxes of the incoming states, and what leaves a node.
+ghost use Rattle.std.specs.Prelude.{◌≡◌, ◌&&◌, ◌==◌, ◌<◌, [], true, length, map, get_or, int_le, IfOk};
+ghost use Rattle.std.specs.List.{list_all, zip};
+ghost use Rattle.hp_num.specs.Sums.{entry};
+ghost use Rattle.hp_problem.specs.Limits.{are_numbers};
+ghost use Rattle.hp_problem.specs.Sealed.{at_most, boxes_fit, holds_box, initial_values, leaves_inside, out_highs, out_lows};
+
+use crate::limits::all_numbers;
+use crate::raw::{Decision, Node, Raw, Subproblem};
+use hp_num::{List, Memory};
+use std::alloc::Global;
+
+fn low_at(subproblem: &Subproblem, number: u32) -> i64
+    ensures { result ≡ entry (map (λ d. d.low) subproblem.now.decisions) number }
+{
+    match subproblem.decisions.as_slice().get(number as usize) {
+        Some(decision) => decision.low,
+        None => 0,
+    }
+}
+
+fn lows_of(alloc: Global, subproblem: &Subproblem) -> Result<List<i64>, Memory>
+    ensures { IfOk result (λ l. l ≡ out_lows subproblem.now) }
+{
+    let mut found = List::new(alloc);
+    for out in subproblem.outs.as_slice() {
+        found.push(low_at(subproblem, *out))?;
+    }
+    Ok(found)
+}
+
+fn high_at(subproblem: &Subproblem, number: u32) -> i64
+    ensures { result ≡ entry (map (λ d. d.high) subproblem.now.decisions) number }
+{
+    match subproblem.decisions.as_slice().get(number as usize) {
+        Some(decision) => decision.high,
+        None => 0,
+    }
+}
+
+fn highs_of(alloc: Global, subproblem: &Subproblem) -> Result<List<i64>, Memory>
+    ensures { IfOk result (λ l. l ≡ out_highs subproblem.now) }
+{
+    let mut found = List::new(alloc);
+    for out in subproblem.outs.as_slice() {
+        found.push(high_at(subproblem, *out))?;
+    }
+    Ok(found)
+}
+
+/// One list per subproblem: the least values of the decisions that leave as states, one per state, in the states'
+/// units. Memory where memory was refused.
+pub fn out_lows(alloc: Global, subproblems: &[Subproblem]) -> Result<List<List<i64>>, Memory>
+    ensures { IfOk result (λ l. l ≡ map out_lows subproblems.now) }
+{
+    let mut found = List::new(alloc);
+    for subproblem in subproblems {
+        let lows = lows_of(alloc, subproblem)?;
+        found.push(lows)?;
+    }
+    Ok(found)
+}
+
+/// One list per subproblem: the greatest values of the decisions that leave as states, one per state, in the states'
+/// units. Memory where memory was refused.
+pub fn out_highs(alloc: Global, subproblems: &[Subproblem]) -> Result<List<List<i64>>, Memory>
+    ensures { IfOk result (λ l. l ≡ map out_highs subproblems.now) }
+{
+    let mut found = List::new(alloc);
+    for subproblem in subproblems {
+        let highs = highs_of(alloc, subproblem)?;
+        found.push(highs)?;
+    }
+    Ok(found)
+}
+
+// The list with a number; empty where there is none.
+fn list_or_empty(lists: &[List<i64>], number: u32) -> &[i64]
+    ensures { result.now ≡ get_or lists.now number [] }
+{
+    match lists.get(number as usize) {
+        Some(list) => list.as_slice(),
+        None => &[],
+    }
+}
+
+fn all_rise(lesser: &[i64], greater: &[i64]) -> bool
+    ensures { result ≡ list_all (λ p. int_le p.0 p.1) (zip lesser.now greater.now) }
+{
+    lesser
+        .iter()
+        .zip(greater)
+        .all(|(lesser, greater)| *lesser <= *greater)
+}
+
+#[tactic(auto, using(crate::proofs::BoxFacts::at_most_zip))]
+fn at_most(lesser: &[i64], greater: &[i64]) -> bool
+    ensures { result ≡ at_most lesser.now greater.now }
+{
+    all_rise(lesser, greater)
+}
+
+// Whether the box of a node holds the box from `lows` to `highs`.
+fn holds_box(lo: &[List<i64>], hi: &[List<i64>], lows: &[i64], highs: &[i64], node: u32) -> bool
+    ensures { result ≡ holds_box lo.now hi.now lows.now highs.now node }
+{
+    at_most(list_or_empty(lo, node), lows) && at_most(highs, list_or_empty(hi, node))
+}
+
+fn all_hold(nodes: &[u32], lo: &[List<i64>], hi: &[List<i64>], lows: &[i64], highs: &[i64]) -> bool
+    ensures { result ≡ list_all (holds_box lo.now hi.now lows.now highs.now) nodes.now }
+{
+    nodes
+        .iter()
+        .all(|node| holds_box(lo, hi, lows, highs, *node))
+}
+
+// Whether what leaves a node, from `lows` to `highs` of its subproblem, lies in the boxes of its successors.
+fn leaves_inside(
+    node: &Node,
+    lo: &[List<i64>],
+    hi: &[List<i64>],
+    lows: &[List<i64>],
+    highs: &[List<i64>],
+) -> bool
+    ensures { result ≡ list_all (holds_box lo.now hi.now (get_or lows.now node.now.sub []) (get_or highs.now node.now.sub [])) node.now.links }
+{
+    all_hold(
+        node.links.as_slice(),
+        lo,
+        hi,
+        list_or_empty(lows, node.sub),
+        list_or_empty(highs, node.sub),
+    )
+}
+
+fn all_leave_inside(
+    nodes: &[Node],
+    lo: &[List<i64>],
+    hi: &[List<i64>],
+    lows: &[List<i64>],
+    highs: &[List<i64>],
+) -> bool
+    ensures { result ≡ list_all (λ n. list_all (holds_box lo.now hi.now (get_or lows.now n.sub []) (get_or highs.now n.sub [])) n.links) nodes.now }
+{
+    nodes
+        .iter()
+        .all(|node| leaves_inside(node, lo, hi, lows, highs))
+}
+
+fn are_boxes(sides: &[List<i64>], nodes: usize, states: usize) -> bool
+    ensures { result ≡ ((length sides.now == nodes) && list_all (are_numbers states) sides.now) }
+{
+    sides.len() == nodes && all_numbers(sides, states)
+}
+
+fn all_outs_inside(
+    alloc: Global,
+    raw: &Raw,
+    lo: &[List<i64>],
+    hi: &[List<i64>],
+) -> Result<bool, Memory>
+    ensures { IfOk result (λ b. b ≡ list_all (leaves_inside raw.now lo.now hi.now) raw.now.nodes) }
+{
+    let lows = out_lows(alloc, raw.subs.as_slice())?;
+    let highs = out_highs(alloc, raw.subs.as_slice())?;
+    Ok(all_leave_inside(
+        raw.nodes.as_slice(),
+        lo,
+        hi,
+        lows.as_slice(),
+        highs.as_slice(),
+    ))
+}
+
+/// Whether there is one box per node with one small entry per state, what leaves a node lies in the boxes of its
+/// successors, and the initial values lie in those of the root's.
+#[tactic(auto, unfolding(crate::specs::Sealed::boxes_fit))]
+pub(crate) fn boxes_fit(
+    alloc: Global,
+    raw: &Raw,
+    lo: &[List<i64>],
+    hi: &[List<i64>],
+    initial: &[i64],
+) -> Result<bool, Memory>
+    requires { initial.now ≡ initial_values raw.now }
+    ensures { IfOk result (λ b. b ≡ boxes_fit raw.now lo.now hi.now) }
+{
+    let nodes = raw.nodes.len();
+    let states = raw.states.len();
+    if !are_boxes(lo, nodes, states) || !are_boxes(hi, nodes, states) {
+        return Ok(false);
+    }
+    if !all_hold(raw.root.as_slice(), lo, hi, initial, initial) {
+        return Ok(false);
+    }
+    all_outs_inside(alloc, raw, lo, hi)
+}

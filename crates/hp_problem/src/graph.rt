@@ -1,0 +1,101 @@
+// The graph of a problem: who leads to whom, and whether an order and a length are those of its nodes.
+ghost use Rattle.std.specs.Prelude.{◌≡◌, ◌&&◌, ◌==◌, ◌≤◌, true, length, map, IfOk, is_none};
+ghost use Rattle.hp_paths.specs.Paths.{are_known, first_in_cycle, first_unreached, is_graph};
+ghost use Rattle.hp_paths.specs.Ranks.{ranks, longest_from};
+ghost use Rattle.hp_problem.specs.Limits.{raw_fits};
+ghost use Rattle.hp_problem.specs.Sealed.{graph_fits, graph_of, is_order};
+
+use crate::raw::{Node, Raw};
+use hp_num::{List, Memory};
+use hp_paths::{RankFault, by_rank, first_unreached, longest_from, ranks};
+use std::alloc::Global;
+
+fn copied(alloc: Global, numbers: &[u32]) -> Result<List<u32>, Memory>
+    ensures { IfOk result (λ l. l ≡ numbers.now) }
+{
+    let mut found = List::new(alloc);
+    for number in numbers {
+        found.push(*number)?;
+    }
+    Ok(found)
+}
+
+/// One list per node: the numbers of its successors. Memory where memory was refused.
+pub fn successors(alloc: Global, nodes: &[Node]) -> Result<List<List<u32>>, Memory>
+    ensures { IfOk result (λ l. l ≡ map (λ n. n.links) nodes.now) }
+{
+    let mut found = List::new(alloc);
+    for node in nodes {
+        let links = copied(alloc, node.links.as_slice())?;
+        found.push(links)?;
+    }
+    Ok(found)
+}
+
+// Whether these are the nodes by rank.
+fn is_order(alloc: Global, order: &[u32], ranks: &[u32]) -> Result<bool, Memory>
+    requires { length ranks.now ≤ 1000 }
+    ensures { IfOk result (λ b. b ≡ is_order order.now ranks.now) }
+{
+    let by_rank = by_rank(alloc, ranks)?;
+    Ok(order == by_rank.as_slice())
+}
+
+// Whether the root reaches each node, and the order and the length of the longest path from it are those of the ranks.
+fn ranked_fits(
+    alloc: Global,
+    graph: &[List<u32>],
+    ranks: &[u32],
+    root: &[u32],
+    order: &[u32],
+    longest: u32,
+) -> Result<bool, Memory>
+    requires known { is_graph graph.now ≡ true }
+    requires starts { are_known (length graph.now) root.now ≡ true }
+    requires count { length graph.now ≤ 1000 }
+    requires ranked { length ranks.now ≤ 1000 }
+    requires below { are_known (length ranks.now) ranks.now ≡ true }
+    ensures { IfOk result (λ b. b ≡ (is_none (first_unreached graph.now root.now) && is_order order.now ranks.now && (longest == longest_from ranks.now root.now))) }
+{
+    let unreached = first_unreached(alloc, graph, root)?;
+    if unreached.is_some() || longest != longest_from(ranks, root) {
+        return Ok(false);
+    }
+    is_order(alloc, order, ranks)
+}
+
+// The same, and whether no node reaches itself.
+fn links_fit(
+    alloc: Global,
+    graph: &[List<u32>],
+    root: &[u32],
+    order: &[u32],
+    longest: u32,
+) -> Result<bool, Memory>
+    requires known { is_graph graph.now ≡ true }
+    requires starts { are_known (length graph.now) root.now ≡ true }
+    requires count { length graph.now ≤ 1000 }
+    ensures { IfOk result (λ b. b ≡ (is_none (first_in_cycle graph.now) && is_none (first_unreached graph.now root.now) && is_order order.now (ranks graph.now) && (longest == longest_from (ranks graph.now) root.now))) }
+{
+    match ranks(alloc, graph) {
+        Ok(ranks) => ranked_fits(alloc, graph, ranks.as_slice(), root, order, longest),
+        Err(RankFault::Cycle { .. }) => Ok(false),
+        Err(RankFault::Memory) => Err(Memory),
+    }
+}
+
+/// Whether no node reaches itself, the root reaches each node, and the order and the length of the longest path
+/// from the root are those of the nodes' ranks.
+#[tactic(auto, unfolding(crate::specs::Sealed::graph_fits))]
+pub(crate) fn graph_fits(
+    alloc: Global,
+    raw: &Raw,
+    order: &[u32],
+    longest: u32,
+) -> Result<bool, Memory>
+    requires { raw_fits raw.now ≡ true }
+    ensures { IfOk result (λ b. b ≡ graph_fits raw.now order.now longest) }
+{
+    let graph = successors(alloc, raw.nodes.as_slice())?;
+    links_fit(alloc, graph.as_slice(), raw.root.as_slice(), order, longest)
+}

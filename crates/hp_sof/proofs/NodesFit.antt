@@ -1,0 +1,189 @@
+-- The nodes that were read keep their limits.
+use Rattle.std.proofs.Common.{◌≡◌, ◌<◌, ◌+◌, ◌==◌, ◌&&◌, ℕ, zero, suc, ℤ, List, [], ◌∷◌, length, sum, Bool, true, false, if◌then◌else◌, nat_le, nat_lt, codes, slice_get, Option, Some, position, Ok, unsigned_abs, bytes_eq, refl, sym, ap, subst, ◌∙◌, arith}
+use Rattle.std.specs.List.{list_all}
+use Rattle.std.proofs.lemmas.Bool.{and_from, le-leb, eq-eqb, eqb-true}
+use Rattle.serde_json.specs.Data.{Data, Items, Members}
+use Rattle.serde_json.specs.Events.{items_len, members_len}
+use Rattle.hp_problem.specs.Limits.{is_small, are_small, are_numbers, is_name, are_weights, values_fit, links_fit}
+use Rattle.hp_problem.specs.declared.raw.Node.{Node}
+use Rattle.hp_problem.specs.declared.raw.Subproblem.{Subproblem}
+use Rattle.hp_problem.specs.declared.refusal.Part.{Part}
+use Rattle.hp_problem.specs.declared.refusal.Part.TheVariants as parts
+use Rattle.hp_problem.specs.declared.refusal.Place.{Place}
+use Rattle.hp_fields.specs.Fields.{place, key_at, whole_at, weight_at, string_at, present_at, object_at}
+use Rattle.hp_fields.specs.Limits.{known_at, members_at, items_at}
+use Rattle.hp_fields.proofs.Accepted.{then-Ok, Ok-is, test-Ok, All-any, list_all-push, whole_at-small, weight_at-positive, key_at-name, known_at-Ok, walk_items-Ok, walk_list-Ok, walk_members-Ok}
+use Rattle.hp_fields.proofs.Rising.{Rising, RisingMembers, get-rising, members_at-rising, each-rising, known-position}
+use Rattle.hp_sof.specs.declared.realizations.Chances.{Chances}
+use Rattle.hp_sof.specs.declared.nodes.Ways.{Ways}
+use Rattle.hp_sof.specs.declared.subproblems.Directory.{Directory}
+use Rattle.hp_sof.specs.Values.{randoms_in, randoms_of, value_at, values_at}
+use Rattle.hp_sof.specs.Realizations.{at_node, no_chances, realization_at, certain_at, listed_at, realizations_at}
+use Rattle.hp_sof.specs.Successors.{successors_at}
+use Rattle.hp_sof.specs.Weights.{weights_at}
+use Rattle.hp_sof.specs.Nodes.{stop_at, branches_at, node_at, nodes_at}
+use Rattle.hp_sof.proofs.LinksFit.{positive, one_more, weights_at-Ok, successors_at-fit, successors_at-few}
+
+-- ---- realizations
+
+-- so many small values
+record ValuesFit (count : ℕ) (zs : List ℤ) : Type 0 where
+  many : length zs ≡ count
+  small : are_small zs ≡ true
+
+value_at-fits : (p : Place) (support : Members) (found next : List ℤ) (i : ℕ) (name : List ℕ) → value_at p support found name ≡ Ok next → ValuesFit i found → ValuesFit (suc i) next
+unfolding value_at
+value_at-fits p support found next i name e so_far =
+    then-Ok (present_at _ _) _ next e (λ inner is e.
+    then-Ok (whole_at _ _) _ next e (λ z is_z e.
+    subst (ValuesFit (suc i)) (Ok-is _ next e) (record {
+      many = one_more found z i so_far.many;
+      small = list_all-push is_small found z so_far.small (whole_at-small p inner z is_z);
+    })))
+
+values_at-fit : (part : Part) (a b : ℕ) (randoms : List (List ℕ)) (support : Members) (zs : List ℤ) → values_at part a b randoms support ≡ Ok zs → are_numbers (length randoms) zs ≡ true
+unfolding values_at
+values_at-fit part a b randoms support zs e =
+    let v = walk_list-Ok ValuesFit (λ name. Unit {0}) (λ found i name. value_at (place part a b i) support found name) (λ found next i name any e so_far. value_at-fits _ support found next i name e so_far)
+    randoms [] zs 0 (length randoms) (omega arith) (All-any randoms) e (record { many = refl; small = refl }) in
+    and_from (length zs == length randoms) (are_small zs) (eq-eqb (length zs) (length randoms) v.many) v.small
+
+-- so many realizations of so many random variables
+record ListedFit (randoms count : ℕ) (c : Chances) : Type 0 where
+  many : length c.weights ≡ count
+  paired : length c.values ≡ count
+  weighty : are_weights c.weights ≡ true
+  values : list_all (are_numbers randoms) c.values ≡ true
+
+realization_at-fits : (n : ℕ) (randoms : List (List ℕ)) (found next : Chances) (r : ℕ) (d : Data) → realization_at n randoms found r d ≡ Ok next → ListedFit (length randoms) r found → ListedFit (length randoms) (suc r) next
+unfolding realization_at
+realization_at-fits n randoms found next r d e so_far =
+    then-Ok (object_at _ _) _ next e (λ all is e.
+    then-Ok (members_at _ _) _ next e (λ support is e.
+    then-Ok (present_at _ _) _ next e (λ inner is e.
+    then-Ok (weight_at _ _) _ next e (λ weight is_weight e.
+    then-Ok (values_at _ _ _ _ _) _ next e (λ values is_values e.
+    subst (ListedFit (length randoms) (suc r)) (Ok-is _ next e) (record {
+      many = one_more found.weights (unsigned_abs weight) r so_far.many;
+      paired = one_more found.values values r so_far.paired;
+      weighty = list_all-push (λ w. nat_lt 0 w) found.weights (unsigned_abs weight) so_far.weighty (weight_at-positive _ inner weight is_weight);
+      values = list_all-push (are_numbers (length randoms)) found.values values so_far.values (values_at-fit parts.Support n r randoms support values is_values);
+    }))))))
+
+-- realizations of so many random variables, by their weights and values
+record ChancesFit (randoms : ℕ) (weights : List ℕ) (values : List (List ℤ)) : Type 0 where
+  some : nat_lt 0 (length weights) ≡ true
+  few : nat_le (length weights) 100 ≡ true
+  paired : (length values == length weights) ≡ true
+  weighty : are_weights weights ≡ true
+  fit : list_all (are_numbers randoms) values ≡ true
+
+certain_at-fits : (p : Place) (randoms : List (List ℕ)) (c : Chances) → certain_at p randoms ≡ Ok c → ChancesFit (length randoms) c.weights c.values
+unfolding certain_at
+certain_at-fits p randoms c e =
+    let parts = test-Ok (length randoms == 0) _ _ p c e in
+    let none : (0 == length randoms) ≡ true = eq-eqb 0 (length randoms) (sym (eqb-true (length randoms) 0 parts.0)) in
+    subst (λ c. ChancesFit (length randoms) c.weights c.values) (Ok-is _ c parts.1) (record { some = refl; few = refl; paired = refl; weighty = refl; fit = rw none refl })
+
+listed_at-fits : (n : ℕ) (randoms : List (List ℕ)) (ds : Items) (c : Chances) → (items_len ds == 0) ≡ false → nat_le (items_len ds) 100 ≡ true → listed_at n randoms ds ≡ Ok c → ChancesFit (length randoms) c.weights c.values
+listed_at-fits n randoms ds c some few e =
+    let l = walk_items-Ok (ListedFit (length randoms)) (realization_at n randoms) (λ found next r d e so_far. realization_at-fits n randoms found next r d e so_far)
+    ds no_chances c 0 (items_len ds) (omega arith) e (record { many = refl; paired = refl; weighty = refl; values = refl }) in
+    record {
+      some = rw l.many (positive (items_len ds) some);
+      few = rw l.many few;
+      paired = eq-eqb _ _ (l.paired ∙ sym l.many);
+      weighty = l.weighty;
+      fit = l.values;
+    }
+
+realizations_at-fit : (n : ℕ) (randoms : List (List ℕ)) (ds : Items) (c : Chances) → realizations_at n randoms ds ≡ Ok c → ChancesFit (length randoms) c.weights c.values
+unfolding realizations_at
+realizations_at-fit n randoms ds c e = let parts = test-Ok (nat_le (items_len ds) 100) _ _ _ c e in by (items_len ds == 0) refl parts.0 parts.1
+  where
+    by : (b : Bool) → (items_len ds == 0) ≡ b → nat_le (items_len ds) 100 ≡ true → (if b then certain_at (at_node n) randoms else listed_at n randoms ds) ≡ Ok c → ChancesFit (length randoms) c.weights c.values
+    by true is few h = certain_at-fits (at_node n) randoms c h
+    by false is few h = listed_at-fits n randoms ds c is few h
+
+-- ---- where a path may go on
+
+-- among so many nodes
+record WaysFit (nodes : ℕ) (links weights : List ℕ) (stop : ℕ) : Type 0 where
+  few : nat_le (length links) nodes ≡ true
+  paired : (length weights == length links) ≡ true
+  known : list_all (λ m. nat_lt m nodes) links ≡ true
+  weighty : are_weights weights ≡ true
+  total : nat_le (sum weights + stop) 65535 ≡ true
+
+branches_at-fit : (names : List (List ℕ)) (n : ℕ) (successors : Members) (ending : Option Data) (ways : Ways) → RisingMembers successors → branches_at names n successors ending ≡ Ok ways → WaysFit (length names) ways.nodes ways.weights ways.stop
+unfolding branches_at
+branches_at-fit names n successors ending ways rising e =
+    then-Ok (successors_at _ _ _ _) _ ways e (λ links is_links e.
+    then-Ok (stop_at _ _) _ ways e (λ stop is e.
+    then-Ok (weights_at _ _ _) _ ways e (λ weights is_weights e.
+    let l = successors_at-fit parts.Successor n names successors links is_links in
+    let few = successors_at-few parts.Successor n names successors links rising is_links in
+    let w = weights_at-Ok (at_node n) stop links.weights weights is_weights in
+    subst (λ w. WaysFit (length names) w.nodes w.weights w.stop) (Ok-is _ ways e) (record {
+      few = rw l.many (le-leb (members_len successors) (length names) few);
+      paired = rw (← w.0) (eq-eqb _ _ (l.paired ∙ sym l.many));
+      known = l.known;
+      weighty = rw (← w.0) l.weighty;
+      total = le-leb (sum weights + stop) 65535 w.1;
+    }))))
+
+-- ---- nodes
+
+-- among these subproblems and so many nodes
+abbrev pub node_among : List Subproblem → ℕ → Node → Bool
+node_among subs nodes n = is_name n.name && values_fit (slice_get subs n.sub) n && links_fit nodes n
+
+-- so many nodes
+pub record NodesFit (subs : List Subproblem) (nodes count : ℕ) (found : List Node) : Type 0 where
+  pub many : length found ≡ count
+  pub fit : list_all (node_among subs nodes) found ≡ true
+
+sub_there : (subs : List Subproblem) (i : ℕ) → i < length subs → (s : Subproblem) × (slice_get subs i ≡ Some s)
+sub_there [] i h = absurd (omega arith)
+sub_there (s ∷ ss) zero h = (s, refl)
+sub_there (s ∷ ss) (suc i) h = sub_there ss i (omega arith)
+
+node-fits : (subs : List Subproblem) (nodes : ℕ) (s : Subproblem) (n : Node) → is_name n.name ≡ true → slice_get subs n.sub ≡ Some s → ChancesFit (length s.randoms) n.weights n.values → nat_le (sum n.weights) 65535 ≡ true
+    → WaysFit nodes n.links n.link_weights n.stop → node_among subs nodes n ≡ true
+node-fits subs nodes s n named is c total w = rw (named, is, c.some, c.few, c.paired, c.weighty, total, c.fit, w.few, w.paired, w.known, w.weighty, w.total) refl
+
+node_at-fits : (names : List (List ℕ)) (directory : Directory) (found next : List Node) (n : ℕ) (k : List ℕ) (d : Data) → length directory.names ≡ length directory.subs → Rising d → node_at names directory found n k d ≡ Ok next
+    → NodesFit directory.subs (length names) n found → NodesFit directory.subs (length names) (suc n) next
+unfolding node_at
+node_at-fits names directory found next n k d paired rising e so_far =
+    then-Ok (key_at _ _) _ next e (λ name is_name_of e.
+    then-Ok (object_at _ _) _ next e (λ all is e.
+    then-Ok (present_at _ _) _ next e (λ inner is e.
+    then-Ok (string_at _ _) _ next e (λ sub_name is e.
+    then-Ok (items_at _ _) _ next e (λ realizations is e.
+    then-Ok (members_at _ _) _ next e (λ successors is_successors e.
+    then-Ok (known_at _ _) _ next e (λ sub is_sub e.
+    then-Ok (realizations_at _ _ _) _ next e (λ chances is_chances e.
+    then-Ok (weights_at _ _ _) _ next e (λ weights is_weights e.
+    then-Ok (branches_at _ _ _ _) _ next e (λ branches is_branches e.
+    let place = known-position directory.names sub_name sub (known_at-Ok _ (position (bytes_eq sub_name) directory.names) sub is_sub) in
+    let s = sub_there directory.subs sub (omega (arith, place.0, paired)) in
+    let randoms = ap (λ o. length (randoms_in o)) s.1 in
+    let w = weights_at-Ok _ 0 chances.weights weights is_weights in
+    let c = realizations_at-fit n (randoms_of directory.subs sub) realizations chances is_chances in
+    let in_order = members_at-rising _ _ successors (get-rising (codes "successors") d rising) is_successors in
+    subst (NodesFit directory.subs (length names) (suc n)) (Ok-is _ next e) (record {
+      many = one_more found _ n so_far.many;
+      fit = list_all-push (node_among directory.subs (length names)) found _ so_far.fit
+          (node-fits directory.subs (length names) s.0 _ (key_at-name _ k name is_name_of).1 s.1
+          (subst (λ r. ChancesFit r weights chances.values) randoms (subst (λ ws. ChancesFit (length (randoms_of directory.subs sub)) ws chances.values) w.0 c))
+          (le-leb (sum weights) 65535 (omega (arith, w.1)))
+          (branches_at-fit names n successors _ branches in_order is_branches));
+    })))))))))))
+
+pub nodes_at-fit : (names : List (List ℕ)) (directory : Directory) (ms : Members) (nodes : List Node) → length directory.names ≡ length directory.subs → RisingMembers ms → nodes_at names directory ms ≡ Ok nodes
+    → NodesFit directory.subs (length names) (members_len ms) nodes
+unfolding nodes_at
+nodes_at-fit names directory ms nodes paired rising e =
+    walk_members-Ok (NodesFit directory.subs (length names)) (λ k d. Rising d) (node_at names directory) (λ found next n k d rising e so_far. node_at-fits names directory found next n k d paired rising e so_far)
+    ms [] nodes 0 (members_len ms) (omega arith) (each-rising ms rising) e (record { many = refl; fit = refl })

@@ -1,0 +1,123 @@
+-- What the reader accepts keeps the limits.
+use Rattle.std.proofs.Common.{◌≡◌, ℕ, suc, List, [], length, true, ◌&&◌, nat_le, Ok, refl, sym, subst, ◌∙◌, arith}
+use Rattle.std.specs.List.{list_all}
+use Rattle.serde_json.specs.Data.{Data, Items, Members}
+use Rattle.serde_json.specs.Events.{items_len, members_len}
+use Rattle.hp_num.proofs.Tests.{and_first, and_second}
+use Rattle.hp_problem.specs.Limits.{subproblem_fits, raw_fits}
+use Rattle.hp_problem.specs.declared.raw.Raw.{Raw}
+use Rattle.hp_problem.specs.declared.raw.State.{State}
+use Rattle.hp_problem.specs.declared.raw.Subproblem.{Subproblem}
+use Rattle.hp_fields.specs.Fields.{whole, keys_of, json_at, present_at, object_at}
+use Rattle.hp_fields.specs.Limits.{items_at}
+use Rattle.hp_fields.proofs.Accepted.{then-Ok, Ok-is, test-Ok, list_all-push, AllMembers-any, walk_members-Ok}
+use Rattle.hp_fields.proofs.InOrder.{length-keys_of}
+use Rattle.hp_fields.proofs.Rising.{Rising, RisingMembers, json_at-rising, get-rising, present_at-rising, object_at-rising}
+use Rattle.hp_subproblem.specs.Subproblem.{subproblem_at}
+use Rattle.hp_subproblem.proofs.Fits.{subproblem_at-fits}
+use Rattle.hp_sof.specs.declared.subproblems.Directory.{Directory}
+use Rattle.hp_sof.specs.Nodes.{nodes_at}
+use Rattle.hp_sof.specs.Read.{graph_at, raw_of}
+use Rattle.hp_sof.specs.Root.{root_at}
+use Rattle.hp_sof.specs.Scenarios.{scenarios_at}
+use Rattle.hp_sof.specs.Subproblems.{another_at, listed_at, subproblems_at}
+use Rattle.hp_sof.specs.Tables.{Tables, table_at, sizes_at, tables_at}
+use Rattle.hp_sof.specs.Version.{version_at}
+use Rattle.hp_sof.proofs.LinksFit.{one_more}
+use Rattle.hp_sof.proofs.RootFits.{StartFits, root_at-fits}
+use Rattle.hp_sof.proofs.NodesFit.{node_among, nodes_at-fit}
+
+-- ---- subproblems
+
+-- so many subproblems of a problem with so many states
+record SubproblemsFit (states count : ℕ) (subs : List Subproblem) : Type 0 where
+  many : length subs ≡ count
+  fit : list_all (subproblem_fits states) subs ≡ true
+
+another_at-fits : (states : List State) (found next : List Subproblem) (p : ℕ) (k : List ℕ) (d : Data) → another_at states found p k d ≡ Ok next → SubproblemsFit (length states) p found → SubproblemsFit (length states) (suc p) next
+unfolding another_at
+another_at-fits states found next p k d e so_far =
+    then-Ok (subproblem_at _ _ _ _) _ next e (λ sub is e.
+    subst (SubproblemsFit (length states) (suc p)) (Ok-is _ next e) (record {
+      many = one_more found sub p so_far.many;
+      fit = list_all-push (subproblem_fits (length states)) found sub so_far.fit (subproblem_at-fits states p k d sub is);
+    }))
+
+-- a subproblem for each name
+record DirectoryFits (states count : ℕ) (d : Directory) : Type 0 where
+  paired : length d.names ≡ length d.subs
+  subs : SubproblemsFit states count d.subs
+
+subproblems_at-fit : (states : List State) (ms : Members) (directory : Directory) → subproblems_at states ms ≡ Ok directory → DirectoryFits (length states) (members_len ms) directory
+unfolding subproblems_at listed_at
+subproblems_at-fit states ms directory e =
+    then-Ok (listed_at _ _) _ directory e (λ subs is e.
+    let s = walk_members-Ok (SubproblemsFit (length states)) (λ k d. Unit {0}) (another_at states) (λ found next p k d any e so_far. another_at-fits states found next p k d e so_far)
+    ms [] subs 0 (members_len ms) (omega arith) (AllMembers-any ms) is (record { many = refl; fit = refl }) in
+    subst (DirectoryFits (length states) (members_len ms)) (Ok-is _ directory e) (record { paired = length-keys_of ms ∙ sym s.many; subs = s }))
+
+-- ---- tables
+
+record TablesFit (t : Tables) : Type 0 where
+  root : RisingMembers t.root
+  nodes : RisingMembers t.nodes
+  few_nodes : nat_le (members_len t.nodes) 1000 ≡ true
+  few_subproblems : nat_le (members_len t.subproblems) 1000 ≡ true
+
+table_at-rising : (k : List ℕ) (d : Data) (ms : Members) → Rising d → table_at k d ≡ Ok ms → RisingMembers ms
+unfolding table_at
+table_at-rising k d ms rising e = then-Ok (present_at _ _) _ ms e (λ inner is e. object_at-rising whole inner ms (present_at-rising whole _ inner (get-rising k d rising) is) e)
+
+sizes_at-few : (nodes subproblems : Members) (scenarios : Items) (x : Unit {0}) → sizes_at nodes subproblems scenarios ≡ Ok x → (nat_le (members_len nodes) 1000 ≡ true) × (nat_le (members_len subproblems) 1000 ≡ true)
+unfolding sizes_at
+sizes_at-few nodes subproblems scenarios x e =
+    let a = nat_le (members_len nodes) 1000 in
+    let b = nat_le (members_len subproblems) 1000 in
+    let c = nat_le (items_len scenarios) 1000 in
+    let all = (test-Ok (a && (b && c)) _ _ whole x e).0 in
+    (and_first a (b && c) all, and_first b c (and_second a (b && c) all))
+
+tables_at-fit : (d : Data) (t : Tables) → Rising d → tables_at d ≡ Ok t → TablesFit t
+unfolding tables_at
+tables_at-fit d t rising e =
+    then-Ok (object_at _ _) _ t e (λ all is e.
+    then-Ok (version_at _) _ t e (λ version is e.
+    then-Ok (table_at _ _) _ t e (λ root is_root e.
+    then-Ok (table_at _ _) _ t e (λ nodes is_nodes e.
+    then-Ok (table_at _ _) _ t e (λ subproblems is e.
+    then-Ok (items_at _ _) _ t e (λ scenarios is e.
+    then-Ok (sizes_at _ _ _) _ t e (λ sizes is_sizes e.
+    let few = sizes_at-few nodes subproblems scenarios sizes is_sizes in
+    subst TablesFit (Ok-is _ t e) (record { root = table_at-rising _ d root rising is_root; nodes = table_at-rising _ d nodes rising is_nodes; few_nodes = few.0; few_subproblems = few.1 }))))))))
+
+-- ---- the whole
+
+graph_at-fits : (t : Tables) (raw : Raw) → TablesFit t → graph_at (keys_of t.nodes) t ≡ Ok raw → raw_fits raw ≡ true
+unfolding graph_at
+graph_at-fits t raw h e =
+    then-Ok (root_at _ _) _ raw e (λ start is_start e.
+    then-Ok (subproblems_at _ _) _ raw e (λ directory is_directory e.
+    then-Ok (nodes_at _ _ _) _ raw e (λ nodes is_nodes e.
+    let names = keys_of t.nodes in
+    let count = length-keys_of t.nodes in
+    let s = root_at-fits names t.root start h.root is_start in
+    let p = subproblems_at-fit start.states t.subproblems directory is_directory in
+    let n = nodes_at-fit names directory t.nodes nodes p.paired h.nodes is_nodes in
+    let as_many : length names ≡ length nodes = count ∙ sym n.many in
+    let few_nodes : nat_le (length nodes) 1000 ≡ true = rw n.many h.few_nodes in
+    let few_subs : nat_le (length directory.subs) 1000 ≡ true = rw p.subs.many h.few_subproblems in
+    let fit : list_all (node_among directory.subs (length nodes)) nodes ≡ true = subst (λ c. list_all (node_among directory.subs c) nodes ≡ true) as_many n.fit in
+    let r : StartFits (length nodes) start = subst (λ c. StartFits c start) as_many s in
+    subst (λ raw. raw_fits raw ≡ true) (Ok-is _ raw e)
+    (rw (r.few_states, few_nodes, few_subs, r.states, p.subs.fit, fit, r.some, r.few, r.paired, r.known, r.weighty, r.total) refl))))
+
+-- what the reader accepts keeps the limits
+pub raw_fits-read : (bytes : List ℕ) (raw : Raw) → raw_of bytes ≡ Ok raw → raw_fits raw ≡ true
+unfolding raw_of
+raw_fits-read bytes raw e =
+    then-Ok (json_at _) _ raw e (λ d is_d e.
+    then-Ok (tables_at _) _ raw e (λ t is_t e.
+    then-Ok (graph_at _ _) _ raw e (λ graph is_graph e.
+    then-Ok (scenarios_at _ _ _) _ raw e (λ scenarios is e.
+    let rising = json_at-rising bytes d is_d in
+    subst (λ raw. raw_fits raw ≡ true) (Ok-is _ raw e) (graph_at-fits t graph (tables_at-fit d t rising is_t) is_graph)))))

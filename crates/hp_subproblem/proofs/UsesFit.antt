@@ -1,0 +1,245 @@
+-- What the variables of a subproblem are used for: how many there are of each, and that each outgoing variable is a decision.
+use Rattle.std.proofs.Common.{◌≡◌, ◌<◌, ◌+◌, ◌==◌, ℕ, zero, suc, List, [], ◌∷◌, ◌++◌, length, Bool, true, false, not, nat_le, nat_lt, slice_get, slice_set, Option, Some, None, unwrap_or, position, Ok, if◌then◌else◌, bytes_eq, map, cond, ◌||◌, refl, sym, ap, subst, ◌∙◌, arith}
+use Rattle.std.specs.List.{AllByRecursion, list_all, list_any, position_or_len}
+use Rattle.std.proofs.lemmas.List.{length-set, length-replicate, length_push}
+use Rattle.std.proofs.lemmas.Bool.{true≢false, lt-ltb, eq-eqb, or_left, or_right, and_from, cond-true}
+use Rattle.std.proofs.lemmas.Option.{same_Some}
+use Rattle.serde_json.specs.Data.{Data, Items, Members, no_members, member}
+use Rattle.serde_json.specs.Events.{items_len, members_len}
+use Rattle.hp_num.proofs.Tests.{and_second}
+use Rattle.hp_problem.specs.declared.raw.State.{State}
+use Rattle.hp_problem.specs.declared.refusal.Place.{Place}
+use Rattle.hp_problem.specs.Limits.{is_name}
+use Rattle.hp_fields.specs.Fields.{present_at, string_at}
+use Rattle.hp_fields.specs.Limits.{name_at, known_at}
+use Rattle.hp_fields.proofs.Accepted.{then-Ok, Ok-is, test-Ok, unless-Ok, list_all-push, name_at-name, walk_items-Ok, walk_members-Ok, AllMembers-any}
+use Rattle.hp_subproblem.specs.declared.role.Role.{Role}
+use Rattle.hp_subproblem.specs.declared.role.Role.TheVariants.{Free, Incoming, Outgoing, Random}
+use Rattle.hp_subproblem.specs.declared.role.Uses.{Uses}
+use Rattle.hp_subproblem.specs.declared.variables.Variables.{Variables}
+use Rattle.hp_subproblem.specs.Variables.{variable_at, names_at}
+use Rattle.hp_subproblem.specs.Roles.{is_free, taken_at, unused}
+use Rattle.hp_subproblem.specs.States.{are_keys, state_at, each_state_at, states_at}
+use Rattle.hp_subproblem.specs.Randoms.{random_at, each_random_at, randoms_at}
+use Rattle.hp_subproblem.specs.Decisions.{is_decision, decisions_from, decisions_at}
+use Rattle.hp_subproblem.specs.Parts.{Pieces}
+use Rattle.hp_subproblem.specs.Subproblem.{variables_at, number_of, outs_of}
+
+-- ---- names
+
+variable_at-names : (p : ℕ) (found next : List (List ℕ)) (i : ℕ) (d : Data) → variable_at p found i d ≡ Ok next → list_all is_name found ≡ true → list_all is_name next ≡ true
+unfolding variable_at
+variable_at-names p found next i d e all =
+    then-Ok (present_at _ _) _ next e (λ inner is e.
+    then-Ok (name_at _ _) _ next e (λ name is_name_of e.
+    let parts = unless-Ok (list_any _ found) _ _ _ next e in
+    subst (λ ns. list_all is_name ns ≡ true) (Ok-is _ next parts.1) (list_all-push is_name found name all (name_at-name _ inner name is_name_of))))
+
+names_at-names : (p : ℕ) (ds : Items) (names : List (List ℕ)) → names_at p ds ≡ Ok names → list_all is_name names ≡ true
+unfolding names_at
+names_at-names p ds names e =
+    walk_items-Ok (λ i ns. list_all is_name ns ≡ true) (variable_at p) (λ found next i d e all. variable_at-names p found next i d e all) ds [] names 0 (items_len ds) (omega arith) e refl
+
+-- ---- roles
+
+abbrev IsOutgoing : List Role → ℕ → Type 0
+IsOutgoing roles v = slice_get roles v ≡ Some Outgoing
+
+-- what a variable has stays where another one gets a role, and the one gets it
+set_there : {A : Type 0} (xs : List A) (i : ℕ) (x y : A) → slice_get xs i ≡ Some y → slice_get (slice_set xs i x) i ≡ Some x
+set_there [] i x y e = cc
+set_there (z ∷ zs) zero x y e = refl
+set_there (z ∷ zs) (suc i) x y e = set_there zs i x y e
+
+free_is : (o : Option Role) → is_free o ≡ true → o ≡ Some Free
+free_is None e = cc
+free_is (Some Free) e = refl
+free_is (Some Incoming) e = cc
+free_is (Some Outgoing) e = cc
+free_is (Some Random) e = cc
+
+stays : (roles : List Role) (v w : ℕ) (role : Role) → is_free (slice_get roles v) ≡ true → IsOutgoing roles w → IsOutgoing (slice_set roles v role) w
+stays [] v w role free out = out
+stays (r ∷ rs) zero zero role free out = absurd (true≢false (sym free ∙ ap is_free out))
+stays (r ∷ rs) zero (suc w) role free out = out
+stays (r ∷ rs) (suc v) zero role free out = out
+stays (r ∷ rs) (suc v) (suc w) role free out = stays rs v w role free out
+
+all-weaker : {A : Type 0} (P Q : A → Type 0) (xs : List A) → ((x : A) → P x → Q x) → AllByRecursion P xs → AllByRecursion Q xs
+all-weaker P Q [] f all = tt
+all-weaker P Q (x ∷ xs) f all = (f x all.0, all-weaker P Q xs f all.1)
+
+all-push : {A : Type 0} (P : A → Type 0) (xs : List A) (x : A) → AllByRecursion P xs → P x → AllByRecursion P (xs ++ x ∷ [])
+all-push P [] x all p = (p, tt)
+all-push P (y ∷ ys) x all p = (all.0, all-push P ys x all.1 p)
+
+-- a role that was given: the list is as long, and outgoing variables stay
+record Taken (old new : List Role) (v : ℕ) (role : Role) : Type 0 where
+  long : length new ≡ length old
+  there : slice_get new v ≡ Some role
+  outgoing : (w : ℕ) → IsOutgoing old w → IsOutgoing new w
+
+taken_at-Ok : (at : Place) (old new : List Role) (v : ℕ) (role : Role) → taken_at at old v role ≡ Ok new → Taken old new v role
+unfolding taken_at
+taken_at-Ok at old new v role e =
+    let parts = test-Ok (is_free (slice_get old v)) _ _ at new e in
+    subst (λ rs. Taken old rs v role) (Ok-is _ new parts.1) (record {
+      long = length-set old v role;
+      there = set_there old v role Free (free_is (slice_get old v) parts.0);
+      outgoing = λ w out. stays old v w role parts.0 out;
+    })
+
+-- ---- states
+
+-- n variables, of which so many are used by states and so many are random
+record Used (n states randoms : ℕ) (u : Uses) : Type 0 where
+  roles : length u.roles ≡ n
+  incoming : length u.incoming ≡ states
+  outgoing : length u.outgoing ≡ states
+  randoms_used : length u.randoms ≡ randoms
+  randoms_named : length u.names ≡ randoms
+  outs : AllByRecursion (IsOutgoing u.roles) u.outgoing
+
+state_at-used : (names : List (List ℕ)) (p n states randoms : ℕ) (found next : Uses) (s : ℕ) (k : List ℕ) (d : Data) → state_at names p found s k d ≡ Ok next → Used n states randoms found → Used n (suc states) randoms next
+unfolding state_at
+state_at-used names p n states randoms found next s k d e u =
+    then-Ok (present_at _ _) _ next e (λ before is e.
+    then-Ok (string_at _ _) _ next e (λ first is e.
+    then-Ok (present_at _ _) _ next e (λ after is e.
+    then-Ok (string_at _ _) _ next e (λ second is e.
+    then-Ok (known_at _ _) _ next e (λ incoming is e.
+    then-Ok (known_at _ _) _ next e (λ outgoing is e.
+    then-Ok (taken_at _ _ _ _) _ next e (λ once is_once e.
+    then-Ok (taken_at _ _ _ _) _ next e (λ twice is_twice e.
+    let a = taken_at-Ok _ found.roles once incoming Incoming is_once in
+    let b = taken_at-Ok _ once twice outgoing Outgoing is_twice in
+    subst (Used n (suc states) randoms) (Ok-is _ next e) (record {
+      roles = b.long ∙ a.long ∙ u.roles;
+      incoming = omega (arith, length_push found.incoming incoming, u.incoming);
+      outgoing = omega (arith, length_push found.outgoing outgoing, u.outgoing);
+      randoms_used = u.randoms_used;
+      randoms_named = u.randoms_named;
+      outs = all-push (IsOutgoing twice) found.outgoing outgoing (all-weaker (IsOutgoing found.roles) (IsOutgoing twice) found.outgoing (λ w out. b.outgoing w (a.outgoing w out)) u.outs) b.there;
+    })))))))))
+
+unused-used : (n : ℕ) → Used n 0 0 (unused n)
+unused-used n = record { roles = length-replicate n Free; incoming = refl; outgoing = refl; randoms_used = refl; randoms_named = refl; outs = tt }
+
+keys_many : (states : List State) (ms : Members) → are_keys states ms ≡ true → members_len ms ≡ length states
+keys_many [] no_members e = refl
+keys_many [] (member k d ms) e = cc
+keys_many (s ∷ ss) no_members e = cc
+keys_many (s ∷ ss) (member k d ms) e = ap suc (keys_many ss ms (and_second (bytes_eq k s.name) (are_keys ss ms) e))
+
+states_at-used : (states : List State) (names : List (List ℕ)) (p n : ℕ) (ms : Members) (next : Uses) → states_at states names p (unused n) ms ≡ Ok next → Used n (length states) 0 next
+unfolding states_at each_state_at
+states_at-used states names p n ms next e =
+    let parts = test-Ok (are_keys states ms) _ _ _ next e in
+    walk_members-Ok (λ i u. Used n i 0 u) (λ k d. Unit {0}) (state_at names p) (λ found next i k d any e u. state_at-used names p n i 0 found next i k d e u)
+    ms (unused n) next 0 (length states) (omega (arith, keys_many states ms parts.0)) (AllMembers-any ms) parts.1 (unused-used n)
+
+-- ---- random variables
+
+random_at-used : (names : List (List ℕ)) (p n states randoms : ℕ) (found next : Uses) (i : ℕ) (d : Data) → random_at names p found i d ≡ Ok next → Used n states randoms found → Used n states (suc randoms) next
+unfolding random_at
+random_at-used names p n states randoms found next i d e u =
+    then-Ok (string_at _ _) _ next e (λ name is e.
+    then-Ok (known_at _ _) _ next e (λ v is e.
+    then-Ok (taken_at _ _ _ _) _ next e (λ roles is_roles e.
+    let a = taken_at-Ok _ found.roles roles v Random is_roles in
+    subst (Used n states (suc randoms)) (Ok-is _ next e) (record {
+      roles = a.long ∙ u.roles;
+      incoming = u.incoming;
+      outgoing = u.outgoing;
+      randoms_used = omega (arith, length_push found.randoms v, u.randoms_used);
+      randoms_named = omega (arith, length_push found.names name, u.randoms_named);
+      outs = all-weaker (IsOutgoing found.roles) (IsOutgoing roles) found.outgoing a.outgoing u.outs;
+    }))))
+
+randoms_at-used : (names : List (List ℕ)) (p n states : ℕ) (found next : Uses) (ds : Items) → randoms_at names p found ds ≡ Ok next → Used n states 0 found → Used n states (items_len ds) next × (nat_le (items_len ds) 50 ≡ true)
+unfolding randoms_at each_random_at
+randoms_at-used names p n states found next ds e u =
+    let parts = test-Ok (nat_le (items_len ds) 50) _ _ _ next e in (
+      walk_items-Ok (λ i u. Used n states i u) (random_at names p) (λ found next i d e u. random_at-used names p n states i found next i d e u) ds found next 0 (items_len ds) (omega arith) parts.1 u,
+      parts.0,
+    )
+
+-- ---- decisions
+
+place_from_any : {A : Type 0} (test : A → Bool) (xs : List A) → list_any test xs ≡ true → position_or_len test xs < length xs
+place_from_any test [] h = cc
+place_from_any test (x ∷ xs) h = by (test x) h (place_from_any test xs)
+  where
+    by : (b : Bool) → (b || list_any test xs) ≡ true → (list_any test xs ≡ true → position_or_len test xs < length xs) → cond (not b) (1 + position_or_len test xs) 0 < suc (length xs)
+    by true h rest = omega arith
+    by false h rest = omega (arith, rest h)
+
+number_of-within : (decisions : List ℕ) (v : ℕ) → list_any (λ w. w == v) decisions ≡ true → number_of decisions v < length decisions
+unfolding number_of
+number_of-within decisions v any =
+    let place = position_or_len (λ w. w == v) decisions in
+    let within : place < length decisions = place_from_any (λ w. w == v) decisions any in
+    let found : position (λ w. w == v) decisions ≡ Some place = cond-true (nat_lt place (length decisions)) (Some place) None (lt-ltb place (length decisions) within) in
+    subst (λ o. unwrap_or o (length decisions) < length decisions) (sym found) within
+
+-- the variable is among the decisions, where the first role is that of variable k
+outgoing_decides : (roles : List Role) (k v j : ℕ) → k + v ≡ j → IsOutgoing roles v → list_any (λ w. w == j) (decisions_from k roles) ≡ true
+outgoing_decides [] k v j is out = cc
+outgoing_decides (r ∷ rs) k zero j is out =
+    subst (λ r. list_any (λ w. w == j) (decisions_from k (r ∷ rs)) ≡ true) (sym (same_Some r Outgoing out)) (or_left (k == j) (list_any (λ w. w == j) (decisions_from (k + 1) rs)) (eq-eqb k j (omega arith)))
+outgoing_decides (r ∷ rs) k (suc v) j is out = by (is_decision r) (outgoing_decides rs (k + 1) v j (omega arith) out)
+  where
+    more : List ℕ
+    more = decisions_from (k + 1) rs
+
+    by : (b : Bool) → list_any (λ w. w == j) more ≡ true → list_any (λ w. w == j) (if b then k ∷ more else more) ≡ true
+    by true h = or_right (k == j) (list_any (λ w. w == j) more) h
+    by false h = h
+
+outs_of-within : (roles : List Role) (outgoing : List ℕ) → AllByRecursion (IsOutgoing roles) outgoing → list_all (λ o. nat_lt o (length (decisions_from 0 roles))) (outs_of (decisions_from 0 roles) outgoing) ≡ true
+unfolding outs_of
+outs_of-within roles [] all = refl
+outs_of-within roles (v ∷ vs) all =
+    let decisions = decisions_from 0 roles in
+    let within = number_of-within decisions v (outgoing_decides roles 0 v v (omega arith) all.0) in
+    and_from (nat_lt (number_of decisions v) (length decisions)) (list_all (λ o. nat_lt o (length decisions)) (map (number_of decisions) vs)) (lt-ltb (number_of decisions v) (length decisions) within) (outs_of-within roles vs all.1)
+
+decisions_at-Ok : (p : ℕ) (roles : List Role) (decisions : List ℕ) → decisions_at p roles ≡ Ok decisions → (decisions_from 0 roles ≡ decisions) × (nat_le (length (decisions_from 0 roles)) 200 ≡ true)
+unfolding decisions_at
+decisions_at-Ok p roles decisions e = let parts = test-Ok (nat_le (length (decisions_from 0 roles)) 200) _ _ _ decisions e in (Ok-is _ decisions parts.1, parts.0)
+
+-- ---- variables
+
+-- the variables of a subproblem of a problem with so many states
+pub record VariablesFit (states : ℕ) (vars : Variables) : Type 0 where
+  pub names : list_all is_name vars.names ≡ true
+  pub roles : length vars.uses.roles ≡ length vars.names
+  pub incoming : length vars.uses.incoming ≡ states
+  pub outgoing : length vars.uses.outgoing ≡ states
+  pub randoms : length vars.uses.randoms ≡ length vars.uses.names
+  pub few_randoms : nat_le (length vars.uses.names) 50 ≡ true
+  pub decisions : decisions_from 0 vars.uses.roles ≡ vars.decisions
+  pub few_decisions : nat_le (length vars.decisions) 200 ≡ true
+  pub outs : list_all (λ o. nat_lt o (length vars.decisions)) (outs_of vars.decisions vars.uses.outgoing) ≡ true
+
+pub variables_at-fit : (states : List State) (p : ℕ) (pieces : Pieces) (vars : Variables) → variables_at states p pieces ≡ Ok vars → VariablesFit (length states) vars
+unfolding variables_at
+variables_at-fit states p pieces vars e =
+    then-Ok (names_at _ _) _ vars e (λ names is_names e.
+    then-Ok (states_at _ _ _ _ _) _ vars e (λ with_states is_states e.
+    then-Ok (randoms_at _ _ _ _) _ vars e (λ uses is_uses e.
+    then-Ok (decisions_at _ _) _ vars e (λ decisions is_decisions e.
+    let before = states_at-used states names p (length names) pieces.states with_states is_states in
+    let all = randoms_at-used names p (length names) (length states) with_states uses pieces.randoms is_uses before in
+    let numbers = decisions_at-Ok p uses.roles decisions is_decisions in
+    subst (VariablesFit (length states)) (Ok-is _ vars e) (record {
+      names = names_at-names p pieces.variables names is_names;
+      roles = all.0.roles;
+      incoming = all.0.incoming;
+      outgoing = all.0.outgoing;
+      randoms = all.0.randoms_used ∙ sym all.0.randoms_named;
+      few_randoms = rw all.0.randoms_named all.1;
+      decisions = numbers.0;
+      few_decisions = rw (← numbers.0) numbers.1;
+      outs = rw (← numbers.0) (outs_of-within uses.roles uses.outgoing all.0.outs);
+    })))))
