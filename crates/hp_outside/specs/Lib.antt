@@ -1,3 +1,11 @@
 pub mod Causes
+pub mod Changes
 pub mod Counted
+pub mod Crashes
+pub mod Disks
+pub mod Faultless
+pub mod Histories
 pub mod InMemory
+pub mod MemoryDisks
+pub mod Readings
+pub mod Since

@@ -1,202 +1,81 @@
 // A file of bytes that are read and written at any place.
-ghost use Rattle.std.specs.Prelude.{◌≡◌, ℕ, is_ok};
-ghost use Rattle.hp_outside.specs.Causes.{HasCause, faults_after};
+ghost use Rattle.std.specs.Prelude.{◌≡◌, ◌≤◌, ◌+◌, ◌^◌, ℕ, List, length, take, drop, min, is_some, option_map, IfOk, IfSome, OnOk, MatchResult};
+ghost use Rattle.hp_outside.specs.Disks.{Store, Torn, Cut, Follows, Only, Elapses, Stays, Lawful, written};
+ghost use Rattle.hp_outside.specs.Causes.{HasCause};
 
 use crate::Failed;
-use crate::memory::next;
-use hp_num::Name;
-use std::fs::{OpenFile, OpenOptions};
-use std::io;
-use std::io::{Read, Seek, SeekFrom, Write};
-use std::marker::Model;
-use std::rt::Files;
 
-/// A disk: bytes in order, read and written at any place. All ends of ranges are at most 2^62.
+/// A disk: bytes in order, read and written at any place. All ends of ranges are at most 2^62. A disk
+/// that tells its bytes keeps telling them, and one that does not never does.
 /// Of each call: `Failed` comes only where the count of faults rose, or stands at its type's end.
 pub trait Disk {
+    /// What it holds and what a crash may leave, where it tells them, and its clock.
+    ghost store: { Self → Store };
+
+    /// How far it may be read: to the length last told, and to no more than each later cut.
+    ghost readable: { Self → ℕ };
+
     /// How often it has failed; it never falls.
     ghost faults: { Self → ℕ };
 
+    /// As it reads it is one of its images, and its images are those of its last moment.
+    ghost lawful: { (disk : Self) → Lawful (store disk) };
+
     /// The present length in bytes.
     fn len(&mut self) -> Result<u64, Failed>
+        ensures value { IfOk result (λ n. IfSome (store self.old).reads (λ bytes. n ≡ length bytes)) }
+        ensures readable { MatchResult result (λ n. n ≤ readable self.new)
+            (λ _. readable self.old ≤ readable self.new) }
+        ensures stays { Stays (store self.old) (store self.new) }
         ensures cause { HasCause (faults self.old) (faults self.new) result };
 
     /// Fills `into` with the bytes from the place `at` on. The range lies inside the length last
     /// told, and inside the length of each `cut` that was called since.
     fn read_at(&mut self, at: u64, into: &mut [u8]) -> Result<(), Failed>
+        requires range { at + length into.old ≤ readable self.old }
+        requires end { at + length into.old ≤ 2 ^ 62 }
+        ensures value { OnOk result (IfSome (store self.old).reads (λ bytes.
+            into.new ≡ take (length into.old) (drop at bytes))) }
+        ensures readable { readable self.old ≤ readable self.new }
+        ensures stays { Stays (store self.old) (store self.new) }
         ensures cause { HasCause (faults self.old) (faults self.new) result };
 
     /// Writes the piece from the place `at` on, where `at` is at most the length, and extends the
     /// disk where the piece reaches past its end. Until a sync succeeds, a crash may leave any bytes
     /// in the range of the piece.
     fn write_at(&mut self, at: u64, piece: &[u8]) -> Result<(), Failed>
+        requires place { IfSome (store self.old).reads (λ bytes. at ≤ length bytes) }
+        requires end { at + length piece.now ≤ 2 ^ 62 }
+        ensures written { OnOk result ((store self.new).reads
+            ≡ option_map (λ bytes. written bytes at piece.now) (store self.old).reads) }
+        ensures tells { is_some (store self.new).reads ≡ is_some (store self.old).reads }
+        ensures readable { readable self.old ≤ readable self.new }
+        ensures crash { Follows (Torn at (length piece.now)) (store self.old) (store self.new) }
+        ensures time { Elapses (store self.old) (store self.new) }
         ensures cause { HasCause (faults self.old) (faults self.new) result };
 
     /// Cuts the disk to its first `len` bytes, where `len` is at most the length. Until a sync
     /// succeeds, a crash may leave any length from `len` to the old one.
     fn cut(&mut self, len: u64) -> Result<(), Failed>
+        requires place { IfSome (store self.old).reads (λ bytes. len ≤ length bytes) }
+        requires end { len ≤ 2 ^ 62 }
+        ensures cut { OnOk result ((store self.new).reads
+            ≡ option_map (take len) (store self.old).reads) }
+        ensures tells { is_some (store self.new).reads ≡ is_some (store self.old).reads }
+        ensures readable { min (readable self.old) len ≤ readable self.new }
+        ensures crash { Follows (Cut len) (store self.old) (store self.new) }
+        ensures time { Elapses (store self.old) (store self.new) }
         ensures cause { HasCause (faults self.old) (faults self.new) result };
 
     /// Makes what was written and cut last: after `Ok` a crash leaves what a read gives.
     fn sync(&mut self) -> Result<(), Failed>
+        ensures durable { OnOk result (IfSome (store self.old).reads (λ bytes. Only bytes (store self.new))) }
+        ensures reads { (store self.new).reads ≡ (store self.old).reads }
+        ensures readable { readable self.old ≤ readable self.new }
+        ensures crash { (c : List ℕ) → (store self.new).images c → (store self.old).images c }
+        ensures time { Elapses (store self.old) (store self.new) }
         ensures cause { HasCause (faults self.old) (faults self.new) result };
 }
 
-/// A file of a runtime, opened at the first call. It tells nothing of its bytes. A refused call of
-/// the file is a failed call, and so is a refused opening, for want of memory too.
-#[derive(Drop)]
-pub struct FileDisk<'a, R: Files> {
-    rt: &'a R,
-    name: Name,
-    write: bool,
-    file: Option<R::File>,
-    faults: u64,
-}
-
-impl<'a, R: Files> Model for FileDisk<'a, R> {
-    ghost use Rattle.hp_outside.specs.Counted.{CountedFile};
-
-    ghost Value = { CountedFile };
-
-    ghost view = { λ d. record { name = d.name; write = d.write; faults = d.faults } };
-}
-
-impl<'a, R: Files> FileDisk<'a, R> {
-    /// The file of this name, not yet opened, that has not failed. With `write` it is opened for
-    /// reading and writing, and a missing one is made; without, it is opened for reading, and the
-    /// first call of a missing one fails.
-    pub fn at(rt: &'a R, name: Name, write: bool) -> FileDisk<'a, R>
-        ensures { result ≡ record { name = name; write = write; faults = 0 } }
-    {
-        FileDisk {
-            rt,
-            name,
-            write,
-            file: None,
-            faults: 0,
-        }
-    }
-}
-
-// The open file, opened now where it was not yet.
-fn opened<'f, R: Files>(
-    rt: &R,
-    name: &Name,
-    write: bool,
-    file: &'f mut Option<R::File>,
-) -> io::Result<&'f mut R::File> {
-    match file {
-        Some(file) => Ok(file),
-        None => {
-            let mut how = OpenOptions::new();
-            how.read(true).write(write).create(write);
-            Ok(file.insert(how.open(rt, name.as_str())?))
-        }
-    }
-}
-
-impl<'a, R: Files> FileDisk<'a, R> {
-    fn measured(&mut self) -> io::Result<u64>
-        ensures { self.new ≡ self.old }
-    {
-        let file = opened(self.rt, &self.name, self.write, &mut self.file)?;
-        Ok(file.metadata()?.len())
-    }
-
-    // The bytes from this place on, or an error where the file ends before the buffer is full.
-    fn fetched(&mut self, at: u64, into: &mut [u8]) -> io::Result<()>
-        ensures { self.new ≡ self.old }
-    {
-        let file = opened(self.rt, &self.name, self.write, &mut self.file)?;
-        file.seek(SeekFrom::Start(at))?;
-        file.read_exact(into)
-    }
-
-    fn put(&mut self, at: u64, piece: &[u8]) -> io::Result<()>
-        ensures { self.new ≡ self.old }
-    {
-        let file = opened(self.rt, &self.name, self.write, &mut self.file)?;
-        file.seek(SeekFrom::Start(at))?;
-        file.write_all(piece)
-    }
-
-    fn resized(&mut self, len: u64) -> io::Result<()>
-        ensures { self.new ≡ self.old }
-    {
-        opened(self.rt, &self.name, self.write, &mut self.file)?.set_len(len)
-    }
-
-    fn synced(&mut self) -> io::Result<()>
-        ensures { self.new ≡ self.old }
-    {
-        opened(self.rt, &self.name, self.write, &mut self.file)?.sync_all()
-    }
-
-    // What a call answers: a refused call of the file is counted.
-    fn counted<T>(&mut self, outcome: io::Result<T>) -> Result<T, Failed>
-        ensures same { is_ok result ≡ is_ok outcome }
-        ensures cause { HasCause self.old.faults self.new.faults result }
-        ensures counted { self.new
-            ≡ record self.old { faults = faults_after self.old.faults result } }
-    {
-        match outcome {
-            Ok(value) => Ok(value),
-            Err(_) => {
-                self.faults = next(self.faults);
-                Err(Failed)
-            }
-        }
-    }
-}
-
-impl<'a, R: Files> Disk for FileDisk<'a, R> {
-    ghost faults = { λ d. d.faults };
-
-    fn len(&mut self) -> Result<u64, Failed>
-        ensures cause { HasCause self.old.faults self.new.faults result }
-        ensures counted { self.new
-            ≡ record self.old { faults = faults_after self.old.faults result } }
-    {
-        let outcome = self.measured();
-        self.counted(outcome)
-    }
-
-    fn read_at(&mut self, at: u64, into: &mut [u8]) -> Result<(), Failed>
-        ensures cause { HasCause self.old.faults self.new.faults result }
-        ensures counted { self.new
-            ≡ record self.old { faults = faults_after self.old.faults result } }
-    {
-        let outcome = self.fetched(at, into);
-        self.counted(outcome)
-    }
-
-    fn write_at(&mut self, at: u64, piece: &[u8]) -> Result<(), Failed>
-        ensures cause { HasCause self.old.faults self.new.faults result }
-        ensures counted { self.new
-            ≡ record self.old { faults = faults_after self.old.faults result } }
-    {
-        let outcome = self.put(at, piece);
-        self.counted(outcome)
-    }
-
-    fn cut(&mut self, len: u64) -> Result<(), Failed>
-        ensures cause { HasCause self.old.faults self.new.faults result }
-        ensures counted { self.new
-            ≡ record self.old { faults = faults_after self.old.faults result } }
-    {
-        let outcome = self.resized(len);
-        self.counted(outcome)
-    }
-
-    fn sync(&mut self) -> Result<(), Failed>
-        ensures cause { HasCause self.old.faults self.new.faults result }
-        ensures counted { self.new
-            ≡ record self.old { faults = faults_after self.old.faults result } }
-    {
-        let outcome = self.synced();
-        self.counted(outcome)
-    }
-}
-
 #[cfg(test)]
-mod tests;
+pub(crate) mod tests;

@@ -1,12 +1,20 @@
-//! A source, a sink and a disk, each with a count of its faults: over memory, std and a file.
+//! A source, a sink and a disk, each with a count of its faults: over memory, over std and a file, and
+//! without faults.
 #![tactic(auto)]
 
 pub mod disk;
+pub mod faultless;
+pub mod file_disk;
 pub mod memory;
+pub mod memory_disk;
 pub mod sink;
 pub mod source;
+mod worked;
 
-pub use disk::{Disk, FileDisk};
+pub use disk::Disk;
+pub use faultless::{FaultlessDisk, FaultlessSink, FaultlessSource};
+pub use file_disk::FileDisk;
+pub use memory_disk::{Crash, MemDisk};
 pub use sink::{MemSink, Sink, StdSink};
 pub use source::{MemSource, Source, StdSource};
 

@@ -186,7 +186,7 @@ impl Source for MemSource {
 }
 
 // Copies the front of `from`, at most `most` bytes, as far as there is room, and answers how many.
-fn copy(buf: &mut [u8], from: &[u8], most: usize) -> usize
+pub(crate) fn copy(buf: &mut [u8], from: &[u8], most: usize) -> usize
     requires { 1 ≤ most }
     ensures count { result ≡ min (length buf.old) (min most (length from.now)) }
     ensures copied { buf.new ≡ take result from.now ++ drop result buf.old }

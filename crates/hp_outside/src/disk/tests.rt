@@ -1,44 +1,11 @@
 use super::*;
-use std::alloc::Global;
 use std::process::Abort;
-use std::test::Fail;
 
-// The whole file, as a disk reads it.
-fn assert_holds<D: Disk>(rt: &impl Abort, disk: &mut D, want: &[u8]) {
+// The whole disk, as it reads; at most eight bytes.
+pub(crate) fn assert_holds<D: Disk>(rt: &impl Abort, disk: &mut D, want: &[u8]) {
     let mut bytes = [0; 8];
     let count = want.len().min(8);
     assert_eq!(rt; disk.len(), Ok(want.len() as u64));
     assert_eq!(rt; disk.read_at(0, &mut bytes[..count]), Ok(()));
     assert_eq!(rt; &bytes[..count], want);
-}
-
-fn disk<R: Files>(rt: &R, alloc: Global, write: bool) -> Result<FileDisk<'_, R>, Fail> {
-    let name = Name::new(alloc, "kept_file")?;
-    Ok(FileDisk::at(rt, name, write))
-}
-
-#[test]
-fn keeps_a_file(rt: HostRuntime) -> Result<(), Fail> {
-    let mut missing = disk(&rt, rt.alloc(), false)?;
-    assert_eq!(rt; missing.len(), Err(Failed));
-    assert_eq!(rt; missing.sync(), Err(Failed));
-    assert_eq!(rt; missing.faults, 2);
-
-    let mut file = disk(&rt, rt.alloc(), true)?;
-    assert_eq!(rt; file.write_at(0, b"abcd"), Ok(()));
-    assert_eq!(rt; file.write_at(2, b"xyz"), Ok(()));
-    assert_eq!(rt; file.sync(), Ok(()));
-    assert_holds(&rt, &mut file, b"abxyz");
-    assert_eq!(rt; file.cut(3), Ok(()));
-    assert_holds(&rt, &mut file, b"abx");
-    let mut past = [0; 2];
-    assert_eq!(rt; file.read_at(2, &mut past), Err(Failed));
-    assert_eq!(rt; file.faults, 1);
-
-    let mut shut = disk(&rt, rt.alloc(), false)?;
-    assert_holds(&rt, &mut shut, b"abx");
-    assert_eq!(rt; shut.write_at(0, b"q"), Err(Failed));
-    assert_eq!(rt; shut.faults, 1);
-    std::fs::remove_file(&rt, "kept_file")?;
-    Ok(())
 }
