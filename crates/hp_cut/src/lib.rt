@@ -1,9 +1,11 @@
-//! Cuts, and pools of them: one list of cuts per node.
+//! Cuts, pools of them (one list of cuts per node), and the entries of training that cuts are made from.
 #![tactic(auto)]
 
+pub mod entry;
 mod height;
 pub mod pools;
 
+pub use entry::{Entry, EntryStep};
 pub use hp_theory::{Certificate, Cut};
 pub use pools::Pools;
 

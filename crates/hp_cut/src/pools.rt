@@ -7,7 +7,7 @@ ghost use Rattle.hp_theory.specs.Problem.{node_at, link_weights};
 ghost use Rattle.hp_theory.specs.Tree.{InBox};
 ghost use Rattle.hp_theory.specs.Size.{magnitude};
 ghost use Rattle.hp_theory.specs.Fit.{Fit};
-ghost use Rattle.hp_theory.specs.Pools.{pool, push, Sound};
+ghost use Rattle.hp_theory.specs.Pools.{pool, no_cut, push, Sound};
 ghost use Rattle.hp_theory.specs.Bound.{value, weighted_value, bound, Under};
 ghost use Rattle.hp_theory.specs.View.{problem_of, links_of};
 
@@ -86,12 +86,21 @@ impl Pools {
     }
 
     /// The number of a node's cuts.
-    pub fn count(&self, node: usize) -> u32
+    pub fn count(&self, node: u32) -> u32
         requires { node < length self.now.lists }
         ensures value { result ≡ length (pool self.now.lists node) }
         ensures few { result ≤ 2 ^ 24 }
     {
-        self.lists[node].len() as u32
+        self.lists[node as usize].len() as u32
+    }
+
+    /// The cut of a node at a place, from 0.
+    pub fn cut(&self, node: u32, place: u32) -> &Cut
+        requires known { node < length self.now.lists }
+        requires there { place < length (pool self.now.lists node) }
+        ensures { result.now ≡ get_or (pool self.now.lists node) place no_cut }
+    {
+        &self.cuts(node as usize)[place as usize]
     }
 
     /// The cuts of a node.

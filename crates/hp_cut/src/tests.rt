@@ -9,19 +9,11 @@ fn flat(alloc: Global, alpha: i128) -> Result<Cut, Memory> {
     Ok(Cut { alpha, beta })
 }
 
-fn first(pools: &Pools, node: usize) -> Option<i128> {
-    if node < pools.nodes() {
-        pools.cuts(node).first().map(|cut| cut.alpha)
+fn alpha(pools: &Pools, node: u32, place: u32) -> Option<i128> {
+    if (node as usize) < pools.nodes() && place < pools.count(node) {
+        Some(pools.cut(node, place).alpha)
     } else {
         None
-    }
-}
-
-fn count(pools: &Pools, node: usize) -> usize {
-    if node < pools.nodes() {
-        pools.cuts(node).len()
-    } else {
-        0
     }
 }
 
@@ -32,11 +24,35 @@ fn holds_lists_of_cuts(rt: HostRuntime) -> Result<(), Fail> {
     pools.reserve(1)?;
     pools.push(1, flat(rt.alloc(), -3)?)?;
     pools.push(1, flat(rt.alloc(), 5)?)?;
-    assert_eq!(rt; count(&pools, 0), 0);
-    assert_eq!(rt; count(&pools, 1), 2);
-    assert_eq!(rt; first(&pools, 1), Some(-3));
+    assert_eq!(rt; alpha(&pools, 0, 0), None);
+    assert_eq!(rt; alpha(&pools, 1, 0), Some(-3));
+    assert_eq!(rt; alpha(&pools, 1, 1), Some(5));
+    assert_eq!(rt; alpha(&pools, 1, 2), None);
     pools.truncate(1, 1);
-    assert_eq!(rt; count(&pools, 1), 1);
-    assert_eq!(rt; first(&pools, 1), Some(-3));
+    assert_eq!(rt; alpha(&pools, 1, 0), Some(-3));
+    assert_eq!(rt; alpha(&pools, 1, 1), None);
+    Ok(())
+}
+
+// A value that threads may send and share.
+fn is_shared<T: Send + Sync>(_value: &T) -> bool {
+    true
+}
+
+#[test]
+fn threads_share_pools_and_entries(rt: HostRuntime) -> Result<(), Fail> {
+    assert!(rt; is_shared(&Pools::new(rt.alloc(), 1)?));
+    assert!(rt; is_shared(&flat(rt.alloc(), 0)?));
+    let certificate = Certificate {
+        rows: List::new(rt.alloc()),
+        cuts: List::new(rt.alloc()),
+    };
+    assert!(rt; is_shared(&certificate));
+    let entry = Entry {
+        iteration: 1,
+        unsettled: 0,
+        steps: List::new(rt.alloc()),
+    };
+    assert!(rt; is_shared(&entry));
     Ok(())
 }

@@ -3,7 +3,7 @@ mod Walking
 mod GivenNode
 mod Passing
 mod SealedWithin
-mod OwnWeights
+pub mod OwnWeights
 pub mod Faultless
 mod Basing
 mod Standing

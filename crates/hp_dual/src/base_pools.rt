@@ -10,7 +10,7 @@ ghost use Rattle.hp_theory.specs.View.{problem_of};
 ghost use Rattle.hp_dual.specs.declared.base_pools.BaseFault.TheVariants as faults;
 ghost use Rattle.hp_dual.specs.Bases.{certificate_of, realization_of, InRange, GivesCut, AddsCut, Bases};
 
-use crate::accept::accept;
+use crate::checker::accept;
 use crate::fault::CertFault;
 use crate::make::make_into;
 use hp_cut::{Cut, Pools};

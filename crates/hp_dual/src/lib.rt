@@ -1,9 +1,9 @@
 //! Cuts from certificates, in exact 128-bit arithmetic.
 #![tactic(auto)]
 
-pub mod accept;
 pub mod base_pools;
 mod certificate_size;
+pub mod checker;
 mod constants;
 mod divided;
 pub mod fault;
@@ -12,12 +12,10 @@ mod reduced;
 mod scales;
 mod slopes;
 mod sums;
-#[cfg(test)]
-mod tests;
 mod walk;
-#[cfg(test)]
-mod worked_cuts;
 mod wrapping;
 
 pub use base_pools::{BaseFault, base};
+pub use checker::{accept, accept_with};
 pub use fault::CertFault;
+pub use make::{make_into, make_with};

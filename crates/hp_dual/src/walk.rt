@@ -154,7 +154,7 @@ fn check_link(
     requires { node < length pools.now.lists }
     ensures { Accepts result (or_then (pair_fault r i (length (pool pools.now.lists node)) 0 0 pairs.now) (sum_fault r i (record { node = node; weight = weight }) pairs.now)) }
 {
-    check_pairs(r, i, pools.count(node as usize), pairs)?;
+    check_pairs(r, i, pools.count(node), pairs)?;
     check_sum(r, i, weight, pairs)
 }
 

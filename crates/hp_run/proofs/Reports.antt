@@ -1,5 +1,5 @@
 -- A report is a sound text, and each status is the expected one where no device fails.
-use Rattle.std.proofs.Common.{◌≡◌, inl, inr, ℕ, ◌<◌, ◌≤◌, ◌^◌, ℤ, if◌then◌else◌, Bool, true, false, List, [], ◌∷◌, length, Option, Some, None, IfSome, Result, Ok, Err, nat_le, refl, sym, ap, ◌∙◌, subst, length-append, arith}
+use Rattle.std.proofs.Common.{◌≡◌, inl, inr, ℕ, ◌<◌, ◌≤◌, ◌^◌, if◌then◌else◌, Bool, true, false, List, length, Option, Some, None, IfSome, Result, Ok, Err, nat_le, refl, sym, ap, ◌∙◌, subst, length-append, arith}
 use Rattle.std.specs.Io.KnownBytes.{Consumes}
 use Rattle.std.proofs.lemmas.Bool.Decides.{nat_tests}
 use Rattle.hp_problem.specs.declared.raw.Raw.{Raw}
@@ -13,7 +13,6 @@ use Rattle.hp_fields.specs.Steps.{◌>>=◌}
 use Rattle.hp_sof.specs.Read.{raw_of}
 use Rattle.hp_sof.specs.Problem.{problem_at}
 use Rattle.hp_theory.specs.declared.cut.Cut.{Cut}
-use Rattle.hp_theory.specs.Pools.{pool, Sound}
 use Rattle.hp_theory.specs.Range.{based}
 use Rattle.hp_theory.specs.View.{problem_of}
 use Rattle.hp_theory.proofs.BoundBelow.{sound_bound}

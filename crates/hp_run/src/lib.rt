@@ -13,4 +13,6 @@ pub use top::run;
 #[cfg(test)]
 mod tests;
 #[cfg(test)]
+mod worked_certificates;
+#[cfg(test)]
 mod worked_problems;

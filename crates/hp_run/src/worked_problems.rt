@@ -9,7 +9,7 @@ use std::rt::Files;
 use std::test::Fail;
 use std::thread::Threads;
 
-const CHOICE: &[u8] =
+pub(crate) const CHOICE: &[u8] =
     b"{\"version\":{\"major\":1},\"root\":{\"state_variables\":{\"v\":0},\"successors\":{\"n\":1}},\n\
 \"nodes\":{\"n\":{\"subproblem\":\"n\",\"realizations\":[],\"successors\":{\"a\":1,\"b\":3}},\n\
 \"a\":{\"subproblem\":\"a\",\"realizations\":[]},\"b\":{\"subproblem\":\"b\",\"realizations\":[]}},\n\
@@ -43,7 +43,7 @@ const CHOICE_OR_STOP: &[u8] =
 \"constraints\":[{\"function\":{\"type\":\"Variable\",\"name\":\"x\"},\"set\":{\"type\":\"Interval\",\"lower\":0,\"upper\":10}},\n\
 {\"function\":{\"type\":\"Variable\",\"name\":\"y\"},\"set\":{\"type\":\"Interval\",\"lower\":0,\"upper\":10}}]}}}}";
 
-const EDGE: &[u8] =
+pub(crate) const EDGE: &[u8] =
     b"{\"version\":{\"major\":1},\"root\":{\"state_variables\":{\"v\":0},\"successors\":{\"n\":1}},\"nodes\":{\"n\":{\"subproblem\":\"s\"}},\n\
 \"subproblems\":{\"s\":{\"state_variables\":{\"v\":{\"in\":\"x\",\"out\":\"y\"}},\"subproblem\":{\n\
 \"variables\":[{\"name\":\"x\"},{\"name\":\"y\"},{\"name\":\"u\"},{\"name\":\"z\"}],\n\
@@ -56,7 +56,7 @@ const EDGE: &[u8] =
 {\"function\":{\"type\":\"ScalarAffineFunction\",\"terms\":[{\"coefficient\":1,\"variable\":\"x\"}]},\n\
 \"set\":{\"type\":\"GreaterThan\",\"lower\":0}}]}}}}";
 
-const BEYOND: &[u8] =
+pub(crate) const BEYOND: &[u8] =
     b"{\"version\":{\"major\":1},\"root\":{\"state_variables\":{\"v\":0},\"successors\":{\"n\":1}},\"nodes\":{\"n\":{\"subproblem\":\"s\"}},\n\
 \"subproblems\":{\"s\":{\"state_variables\":{\"v\":{\"in\":\"x\",\"out\":\"y\"}},\"subproblem\":{\n\
 \"variables\":[{\"name\":\"x\"},{\"name\":\"y\"},{\"name\":\"u\"},{\"name\":\"z\"}],\n\

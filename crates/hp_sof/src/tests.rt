@@ -41,6 +41,25 @@ const EDITS: &str = r#""minor":0 => "minor":1e400 => NotJson Whole 0 0 0
 "n":1}} => "n":65536}} => Weight Root 0 0 0
 "n":1}} => "n":65535}} => Ok
 "subproblems":{"p":{ => "subproblems":{"p":1,"r":{ => Shape Subproblem 0 0 0
+"subproblems":{"p":{ => "subproblems":{"<k*129>":{ => TooLarge Subproblem 0 0 0
+"random_variables":["w"] => "random_variables":[<"w",*50>"w"] => TooLarge Subproblem 0 0 0
+"state_variables":{"v":{ => "state_variables":{"u":{ => States Subproblem 0 0 0
+{"name":"v_in"},{"name":"w"} => "v_in",{"name":"w"} => Shape Variable 0 0 0
+{"name":"g"}] => {"name":"<k*129>"}] => TooLarge Variable 0 4 0
+{"name":"g"}] => {"name":"q"}] => Duplicate Variable 0 4 0
+"lower":0,"upper":20}} => "lower":0,"upper":20}},{"function":{"type":"Variable","name":"g"},"set":{"type":"GreaterThan","lower":21}} => EmptyBox Variable 0 4 0
+"in":"v_in" => "in":1 => Shape State 0 0 0
+"in":"v_in" => "in":"no" => UnknownName State 0 0 0
+"out":"v_out" => "out":"v_in" => Duplicate State 0 0 0
+"random_variables":["w"] => "random_variables":[1] => Shape Random 0 0 0
+"random_variables":["w"] => "random_variables":["no"] => UnknownName Random 0 0 0
+"random_variables":["w"] => "random_variables":["w","w"] => Duplicate Random 0 1 0
+"sense":"min" => "sense":1 => Shape Objective 0 0 0
+"coefficient":5 => "coefficient":5.5 => NotWhole Objective 0 1 0
+"coefficient":5 => "coefficient":1099511627777 => TooLarge Objective 0 1 0
+"coefficient":5,"variable":"g" => "coefficient":5,"variable":"no" => UnknownName Objective 0 1 0
+"type":"EqualTo","value":9 => "type":"EqualTo" => Shape Constraint 0 1 0
+"variable":"v_out"} => "variable":"no"} => UnknownName Constraint 0 0 1
 "n":1}},"nodes":{"n":{ => "<k*129>":1}},"nodes":{"<k*129>":{ => TooLarge Node 0 0 0
 "n":1}},"nodes":{"n":{ => "<k*128>":1}},"nodes":{"<k*128>":{ => Ok
 "value":9} => "value":9.0} => NotWhole Constraint 0 1 0

@@ -2,7 +2,7 @@ use Rattle.std.proofs.Common.{arith, sym}
 use Rattle.hp_theory.specs.Problem.{with_weights}
 use Rattle.hp_theory.specs.View.{node_of}
 use Rattle.hp_dual.proofs.Passing.{few-range_of}
-use Rattle.hp_dual.proofs.accept.check_range.Goals as goal
+use Rattle.hp_dual.proofs.checker.check_range.Goals as goal
 
 pub overflow_cast-result : goal.overflow_cast-result
 overflow_cast-result c =

@@ -3,7 +3,7 @@ use Rattle.hp_theory.specs.Problem.{Node, with_weights}
 use Rattle.hp_dual.specs.Acceptance.{Accepts, fault_of}
 use Rattle.hp_dual.proofs.GivenNode.{length-realizations}
 use Rattle.hp_dual.proofs.SealedWithin.{within-sealed, sized-sealed, parts_read}
-use Rattle.hp_dual.proofs.accept.accept_with.Goals as goal
+use Rattle.hp_dual.proofs.checker.accept_with.Goals as goal
 
 pub check-requires : goal.check-requires
 check-requires c =

@@ -2,7 +2,7 @@ use Rattle.std.proofs.Common.{◌<◌, length, ap, arith}
 use Rattle.std.proofs.lemmas.Bool.Decides.{nat_tests}
 use Rattle.hp_problem.specs.declared.raw.Raw.{Raw}
 use Rattle.hp_dual.proofs.Fitting.{fit_for-fit}
-use Rattle.hp_dual.proofs.worked_cuts.is_made.Goals as goal
+use Rattle.hp_run.proofs.worked_certificates.is_made.Goals as goal
 
 pub accept-requires-clause-fit : goal.accept-requires-clause-fit
 accept-requires-clause-fit c =

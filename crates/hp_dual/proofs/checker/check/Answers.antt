@@ -6,7 +6,7 @@ use Rattle.hp_dual.specs.Sized.{Sized}
 use Rattle.hp_dual.proofs.SealedWithin.{within-sized}
 use Rattle.hp_dual.proofs.Accepted.{shaped-shape_fault, fault-shape, fault-certificates, fault-range}
 use Rattle.hp_dual.proofs.GivenNode.{Seen, seen}
-use Rattle.hp_dual.proofs.accept.check.Goals as goal
+use Rattle.hp_dual.proofs.checker.check.Goals as goal
 
 pub check_count-requires : goal.check_count-requires
 check_count-requires g c =

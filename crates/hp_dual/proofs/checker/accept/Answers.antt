@@ -2,7 +2,7 @@ use Rattle.std.proofs.Common.{subst}
 use Rattle.hp_theory.specs.Problem.{Node}
 use Rattle.hp_dual.specs.Acceptance.{Accepts, fault_of}
 use Rattle.hp_dual.proofs.OwnWeights.{own_weights-sealed}
-use Rattle.hp_dual.proofs.accept.accept.Goals as goal
+use Rattle.hp_dual.proofs.checker.accept.Goals as goal
 
 pub accept_with-requires-clause-count : goal.accept_with-requires-clause-count
 accept_with-requires-clause-count c =

@@ -2,7 +2,7 @@ use Rattle.hp_theory.specs.Base.{base_list}
 use Rattle.hp_theory.proofs.SoundBase.{base_right}
 use Rattle.hp_dual.proofs.Accepted as laws
 use Rattle.hp_dual.proofs.Faultless.{accepted, right-range_fault}
-use Rattle.hp_dual.proofs.accept.acceptance.Goals as goal
+use Rattle.hp_dual.proofs.checker.acceptance.Goals as goal
 
 pub returns-clause-right : goal.returns-clause-right
 returns-clause-right c = laws.right-fault_of

@@ -1,4 +1,4 @@
-use Rattle.hp_dual.proofs.accept.check.Given as goal
+use Rattle.hp_dual.proofs.checker.check.Given as goal
 
 abbrev pub ghost-check_count : goal.ghost-check_count
 ghost-check_count g a = g.n

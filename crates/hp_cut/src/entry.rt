@@ -1,0 +1,23 @@
+// What one iteration of training adds along one path.
+use hp_num::List;
+use hp_theory::Certificate;
+
+/// The certificates of one cut: what one node of a path adds.
+#[derive(Drop)]
+pub struct EntryStep {
+    /// The number of the node.
+    pub node: u32,
+    /// One certificate per realization of the node.
+    pub list: List<Certificate>,
+}
+
+/// What one path of an iteration adds: one step per node of the path, from its last node back to its first.
+#[derive(Drop)]
+pub struct Entry {
+    /// The number of the iteration, from 1.
+    pub iteration: u32,
+    /// How many solves of the path, forward and backward, gave an answer that was of no use.
+    pub unsettled: u32,
+    /// One step per node of the path, the last node first.
+    pub steps: List<EntryStep>,
+}
