@@ -1,0 +1,150 @@
+-- What the limits of a sealed problem say of the weights that a path picks among.
+use Rattle.std.proofs.Common.{◌≡◌, ℕ, suc, ◌+◌, ◌<◌, ◌≤◌, true, false, List, [], ◌∷◌, ◌++◌, length, map, get_or, sum, Option, Some, None, IfSome, slice_get, nat_lt, refl, sym, ap, subst, ◌∙◌, arith}
+use Rattle.std.specs.List.{list_all}
+use Rattle.std.proofs.lemmas.Bool.{ltb-true}
+use Rattle.std.proofs.lemmas.Bool.Decides.{nat_tests}
+use Rattle.std.proofs.lemmas.Grind.{common_steps}
+use Rattle.std.proofs.lemmas.List.{append_assoc, get_or-map}
+use Rattle.std.proofs.lemmas.Option.{slice_get-get_or, slice_get_past, slice_get_within, get_or_from_slice_get}
+use Rattle.hp_num.proofs.Tests.{all_get}
+use Rattle.hp_problem.specs.declared.raw.Node.{Node}
+use Rattle.hp_problem.specs.declared.raw.Raw.{Raw}
+use Rattle.hp_problem.specs.declared.raw.Subproblem.{Subproblem}
+use Rattle.hp_problem.specs.Limits.{are_weights, links_fit, node_fits, root_fits, values_fit}
+use Rattle.hp_problem.specs.Sealed.{Sealed, is_sealed}
+use Rattle.hp_problem.proofs.SealedFacts.{raw-is_sealed, nodes_fit, root-raw_fits}
+use Rattle.hp_sampler.specs.Picked.{picked}
+use Rattle.rand_chacha.specs.ChaCha.{ChaCha}
+use Rattle.hp_sampler.specs.declared.steps.Step.{Step}
+use Rattle.hp_sampler.specs.Drawn.{choices, first_node, next_node, path, path_from, step_at, steps_of, stream_of, successors_at, weights_at, word_in}
+
+-- what is made of the node m
+pub made_at : {A : Type 0} (f : Node → A) (nodes : List Node) (m : ℕ) (n : Node) (d : A) → slice_get nodes m ≡ Some n → get_or (map f nodes) m d ≡ f n
+made_at f nodes m n d is = get_or-map f nodes m n d (slice_get_within nodes m n is) ∙ ap f (get_or_from_slice_get nodes m n n is)
+
+-- weights that can be picked among
+pub record Weighty (ws : List ℕ) : Type 0 where
+  pub some : 0 < length ws
+  pub weights : are_weights ws ≡ true
+  pub total : sum ws ≤ 65535
+
+-- the weights of the root's successors
+pub root_weighty : (p : Sealed) → is_sealed p ≡ true → Weighty p.raw.root_weights
+root_weighty p e =
+    let fits : root_fits p.raw ≡ true = root-raw_fits p.raw (raw-is_sealed p e) in
+    record { some = grind (arith, nat_tests, common_steps); weights = grind (arith, nat_tests); total = grind (arith, nat_tests, common_steps) }
+
+pub root_counted : (p : Sealed) → is_sealed p ≡ true → length p.raw.root_weights ≡ length p.raw.root
+root_counted p e = let fits : root_fits p.raw ≡ true = root-raw_fits p.raw (raw-is_sealed p e) in grind (arith, nat_tests)
+
+pub root_known : (p : Sealed) → is_sealed p ≡ true → list_all (λ m. nat_lt m (length p.raw.nodes)) p.raw.root ≡ true
+root_known p e = let fits : root_fits p.raw ≡ true = root-raw_fits p.raw (raw-is_sealed p e) in grind (arith, nat_tests)
+
+-- where the root leads
+pub root_inside : (p : Sealed) (i m : ℕ) → is_sealed p ≡ true → slice_get p.raw.root i ≡ Some m → m < length p.raw.nodes
+root_inside p i m e is = ltb-true m (length p.raw.nodes) (all_get (λ k. nat_lt k (length p.raw.nodes)) p.raw.root i m (root_known p e) is)
+
+node_fits-sealed : (p : Sealed) (m : ℕ) (n : Node) → is_sealed p ≡ true → slice_get p.raw.nodes m ≡ Some n → node_fits p.raw n ≡ true
+node_fits-sealed p m n e is = all_get (node_fits p.raw) p.raw.nodes m n (nodes_fit p.raw (raw-is_sealed p e)) is
+
+weighty_values : (s : Option Subproblem) (n : Node) → values_fit s n ≡ true → Weighty n.weights
+weighty_values None n e = absurd (no e)
+  where
+    no : false ≡ true → ⊥
+    no h = cc
+weighty_values (Some s) n e = record { some = grind (arith, nat_tests, common_steps); weights = grind (arith, nat_tests); total = grind (arith, nat_tests, common_steps) }
+
+-- the weights of a node's realizations
+pub node_weighty : (p : Sealed) (m : ℕ) (n : Node) → is_sealed p ≡ true → slice_get p.raw.nodes m ≡ Some n → Weighty n.weights
+node_weighty p m n e is =
+    let fits : node_fits p.raw n ≡ true = node_fits-sealed p m n e is in
+    weighty_values (slice_get p.raw.subs n.sub) n (grind (arith, nat_tests))
+
+-- the weights of a node's successors
+pub record Linked (p : Sealed) (n : Node) : Type 0 where
+  pub counted : length n.link_weights ≡ length n.links
+  pub weights : are_weights n.link_weights ≡ true
+  pub total : sum n.link_weights + n.stop ≤ 65535
+  pub known : list_all (λ m. nat_lt m (length p.raw.nodes)) n.links ≡ true
+
+pub node_linked : (p : Sealed) (m : ℕ) (n : Node) → is_sealed p ≡ true → slice_get p.raw.nodes m ≡ Some n → Linked p n
+node_linked p m n e is =
+    let fits : node_fits p.raw n ≡ true = node_fits-sealed p m n e is in
+    let links : links_fit (length p.raw.nodes) n ≡ true = grind (arith, nat_tests) in
+    record { counted = grind (arith, nat_tests); weights = grind (arith, nat_tests); total = grind (arith, nat_tests, common_steps); known = grind (arith, nat_tests) }
+
+-- where a node leads
+pub link_inside : (p : Sealed) (n : Node) (i k : ℕ) → Linked p n → slice_get n.links i ≡ Some k → k < length p.raw.nodes
+link_inside p n i k l is = ltb-true k (length p.raw.nodes) (all_get (λ j. nat_lt j (length p.raw.nodes)) n.links i k l.known is)
+
+-- the node where a path begins, by lists that are the root's
+pub first_is : (p : Sealed) (ms ws : List ℕ) (word place : ℕ) → ms ≡ p.raw.root → ws ≡ p.raw.root_weights → place ≡ picked ws word → place < length ms → first_node p.raw word ≡ Some (get_or ms place 0)
+first_is p ms ws word place em ew at inside =
+    ap (λ (vs : List ℕ). slice_get p.raw.root (picked vs word)) (sym ew) ∙ ap (slice_get p.raw.root) (sym at) ∙ ap (λ (ks : List ℕ). slice_get ks place) (sym em) ∙ slice_get-get_or ms place 0 inside
+
+-- the same at a node
+pub realization_is : (p : Sealed) (m : ℕ) (n : Node) (word : ℕ) → slice_get p.raw.nodes m ≡ Some n → picked n.weights word ≡ picked (weights_at p.raw m) word
+realization_is p m n word is = ap (λ (ws : List ℕ). picked ws word) (sym (made_at (λ (k : Node). k.weights) p.raw.nodes m n [] is))
+
+pub next_is : (p : Sealed) (m : ℕ) (n : Node) (word : ℕ) → slice_get p.raw.nodes m ≡ Some n → slice_get n.links (picked (choices n) word) ≡ next_node p.raw m word
+next_is p m n word is =
+    ap (λ (ks : List ℕ). slice_get ks (picked (choices n) word)) (sym (made_at (λ (k : Node). k.links) p.raw.nodes m n [] is))
+    ∙ ap (λ (ws : List ℕ). slice_get (successors_at p.raw m) (picked ws word)) (sym (made_at choices p.raw.nodes m n [] is))
+
+-- at a node without successors a path ends
+pub next_none : (p : Sealed) (m : ℕ) (n : Node) (word : ℕ) → slice_get p.raw.nodes m ≡ Some n → length n.links ≡ 0 → next_node p.raw m word ≡ None
+next_none p m n word is none = sym (next_is p m n word is) ∙ slice_get_past n.links (picked (choices n) word) (omega (arith, none))
+
+pub first_inside : (p : Sealed) (ms : List ℕ) (place : ℕ) → is_sealed p ≡ true → ms ≡ p.raw.root → place < length ms → get_or ms place 0 < length p.raw.nodes
+first_inside p ms place e em inside = root_inside p place (get_or ms place 0) e (subst (λ (ks : List ℕ). slice_get ks place ≡ Some (get_or ms place 0)) em (slice_get-get_or ms place 0 inside))
+
+pub next_inside : (p : Sealed) (n : Node) (i : ℕ) (o : Option ℕ) → Linked p n → o ≡ slice_get n.links i → IfSome o (λ m. m < length p.raw.nodes)
+next_inside p n i None l e = tt
+next_inside p n i (Some k) l e = link_inside p n i k l (sym e)
+
+-- a generator's words are the same at each place
+pub word_in-moved : (g : ChaCha) (at place : ℕ) → word_in (record g { word_pos = at }) place ≡ word_in g place
+unfolding word_in
+word_in-moved g at place = refl
+
+-- one more step
+pub steps_more : (raw : Raw) (word : ℕ → ℕ) (left n place m k : ℕ) (found whole : List Step) → left ≡ suc n → next_node raw m (word (place + 1)) ≡ Some k → found ++ path_from raw word left place m ≡ whole
+    → (found ++ step_at raw m (word place) ∷ []) ++ path_from raw word n (place + 2) k ≡ whole
+steps_more raw word left n place m k found whole e next is =
+    append_assoc found (step_at raw m (word place) ∷ []) (path_from raw word n (place + 2) k)
+    ∙ ap (λ (o : Option ℕ). found ++ step_at raw m (word place) ∷ steps_of (λ j. path_from raw word n (place + 2) j) o) (sym next)
+    ∙ ap (λ (j : ℕ). found ++ path_from raw word j place m) (sym e) ∙ is
+
+-- the last step
+pub steps_done : (raw : Raw) (word : ℕ → ℕ) (left n place m : ℕ) (found whole : List Step) → left ≡ suc n → next_node raw m (word (place + 1)) ≡ None → found ++ path_from raw word left place m ≡ whole
+    → found ++ step_at raw m (word place) ∷ [] ≡ whole
+steps_done raw word left n place m found whole e next is =
+    ap (λ (o : Option ℕ). found ++ step_at raw m (word place) ∷ steps_of (λ j. path_from raw word n (place + 2) j) o) (sym next)
+    ∙ ap (λ (j : ℕ). found ++ path_from raw word j place m) (sym e) ∙ is
+
+-- the word that a generator gives at its place
+pub at_place : (g w : ChaCha) (at : ℕ) → w ≡ record g { word_pos = at } → word_in w w.word_pos ≡ word_in g at
+at_place g w at e = ap (λ (v : ChaCha). word_in v v.word_pos) e ∙ word_in-moved g at at
+
+-- a generator after one more word
+pub later : (g w v : ChaCha) (at : ℕ) → w ≡ record g { word_pos = at } → v ≡ record w { word_pos = w.word_pos + 1 } → v ≡ record g { word_pos = at + 1 }
+later g w v at e f = f ∙ ap (λ (u : ChaCha). record u { word_pos = u.word_pos + 1 }) e
+
+pub starts_at : (seed stream : ℕ) → (stream_of seed stream).word_pos ≡ 0
+unfolding stream_of
+starts_at seed stream = refl
+
+same_words : (g : ChaCha) (at : ℕ) → word_in (record g { word_pos = at }) ≡ word_in g
+unfolding word_in
+same_words g at = refl
+
+-- the first node and the steps from there are the path
+pub path_is : (p : Sealed) (seed stream : ℕ) (w v : ChaCha) (first : ℕ) → w ≡ stream_of seed stream → v ≡ record w { word_pos = w.word_pos + 1 } → first_node p.raw (word_in w w.word_pos) ≡ Some first
+    → path_from p.raw (word_in v) p.longest 1 first ≡ path p seed stream
+unfolding path
+path_is p seed stream w v first e f is =
+    let g : ChaCha = stream_of seed stream in
+    let words : word_in v ≡ word_in g = ap word_in f ∙ same_words w (w.word_pos + 1) ∙ ap word_in e in
+    let zero : word_in w w.word_pos ≡ word_in g 0 = ap (λ (u : ChaCha). word_in u u.word_pos) e ∙ ap (word_in g) (starts_at seed stream) in
+    ap (λ (word : ℕ → ℕ). path_from p.raw word p.longest 1 first) words
+    ∙ ap (steps_of (λ m. path_from p.raw (word_in g) p.longest 1 m)) (sym is ∙ ap (first_node p.raw) zero)

@@ -1,0 +1,195 @@
+-- A drawn path starts at a successor of the root, follows the arcs, and ends where it may, within the longest path.
+use Rattle.std.proofs.Common.{◌≡◌, ℕ, zero, suc, ◌+◌, ◌<◌, ◌≤◌, ◌^◌, ◌⊎◌, inl, inr, true, false, List, [], ◌∷◌, ◌++◌, length, map, get_or, Option, Some, None, All, Contains, slice_get, nat_lt, is_none, refl, sym, ap, subst, ◌∙◌, arith}
+use Rattle.std.proofs.lemmas.List.Elements.{All-nil, All-cons}
+use Rattle.std.proofs.Math.Nat.{mod-lt}
+use Rattle.std.proofs.lemmas.Bool.{cases_lt}
+use Rattle.std.proofs.lemmas.Bool.Decides.{nat_tests}
+use Rattle.std.proofs.lemmas.Grind.{common_steps}
+use Rattle.std.proofs.lemmas.List.{length-append, length-map}
+use Rattle.std.proofs.lemmas.List.FromFn.{get_or-map-range_with_len}
+use Rattle.std.proofs.lemmas.Option.{slice_get-get_or, slice_get_within, get_or_from_slice_get}
+use Rattle.rand_chacha.specs.ChaCha.{ChaCha}
+use Rattle.rand_chacha.specs.Block.{block_word}
+use Rattle.hp_num.proofs.Tests.{and_first, and_second}
+use Rattle.hp_paths.specs.Paths.{first_in_cycle}
+use Rattle.hp_paths.specs.Ranks.{greatest, longest_from, rank, ranks}
+use Rattle.hp_paths.proofs.Falling.{rank_falls}
+use Rattle.hp_paths.proofs.Paths.{leads_to}
+use Rattle.hp_problem.specs.declared.raw.Node.{Node}
+use Rattle.hp_problem.specs.Limits.{are_weights}
+use Rattle.hp_problem.specs.Sealed.{Sealed, is_sealed, graph_fits, graph_of}
+use Rattle.hp_problem.proofs.SealedFacts.{raw-is_sealed, graph-is_sealed, known_graph}
+use Rattle.hp_sampler.specs.declared.steps.Step.{Step}
+use Rattle.hp_sampler.specs.Picked.{picked, stop_weight}
+use Rattle.hp_sampler.specs.Drawn.{choices, choices_at, EndsRight, first_node, Follows, FollowsArcs, IsInRange, last_node, MayEnd, next_node, path, path_from, StartsAtRoot, step_at, steps_of, stream_of, successors_at, weights_at, word_in}
+use Rattle.hp_sampler.proofs.Picking.{picked_in_range}
+use Rattle.hp_sampler.proofs.Draws.{Linked, made_at, next_is, node_linked, node_weighty, root_counted, root_inside, root_weighty}
+
+-- each word has 32 bits
+word_small : (g : ChaCha) (place : ℕ) → word_in g place < 2 ^ 32
+unfolding word_in block_word
+word_small g place = mod-lt _ (omega arith)
+
+-- what stands at a place of a list is in it
+contained : (ks : List ℕ) (i k : ℕ) → slice_get ks i ≡ Some k → Contains ks k
+contained ks i k is = (i, slice_get_within ks i k is, get_or_from_slice_get ks i k k is)
+
+is_none-true : {A : Type 0} (o : Option A) → is_none o ≡ true → o ≡ None
+is_none-true None e = refl
+is_none-true (Some x) e = absurd (no e)
+  where
+    no : false ≡ true → ⊥
+    no h = cc
+
+greatest_over : (f : ℕ → ℕ) (ks : List ℕ) (k : ℕ) → Contains ks k → f k ≤ greatest (map f ks)
+greatest_over f [] k c = absurd (omega (arith, c.1))
+greatest_over f (i ∷ ks) k (zero, l, e) = omega (arith, ap f e)
+greatest_over f (i ∷ ks) k (suc n, l, e) = omega (arith, greatest_over f ks k (n, omega arith, e))
+
+-- weights and a stop weight behind them
+weights_stop : (ws : List ℕ) (stop : ℕ) → are_weights ws ≡ true → are_weights (ws ++ stop_weight stop) ≡ true
+weights_stop [] zero e = refl
+weights_stop [] (suc n) e = grind (arith, nat_tests)
+weights_stop (w ∷ ws) stop e =
+    let here : nat_lt 0 w ≡ true = and_first (nat_lt 0 w) (are_weights ws) e in
+    let rest : are_weights (ws ++ stop_weight stop) ≡ true = weights_stop ws stop (and_second (nat_lt 0 w) (are_weights ws) e) in
+    rw here rest
+
+-- a word that picks none of the successors picks the stop weight
+stops : (links ws : List ℕ) (stop word : ℕ) → length ws ≡ length links → are_weights ws ≡ true → word < 2 ^ 32 → 0 < length links → length links ≤ picked (ws ++ stop_weight stop) word → 0 < stop
+stops links ws zero word count e small some past =
+    let inside : picked (ws ++ []) word < length (ws ++ []) = picked_in_range (ws ++ []) word small (omega (arith, count, length-append ws (stop_weight zero))) (weights_stop ws zero e) in
+    absurd (omega (arith, inside, count, past, length-append ws (stop_weight zero)))
+stops links ws (suc n) word count e small some past = omega arith
+
+some_of : {A : Type 0} (xs : List A) (i : ℕ) → i < length xs → (x : A) × (slice_get xs i ≡ Some x)
+some_of [] i h = absurd (omega arith)
+some_of (x ∷ xs) i h = (get_or (x ∷ xs) i x, slice_get-get_or (x ∷ xs) i x h)
+
+-- an empty list, or one whose places are below its length
+some_or_none : {A : Type 0} (xs : List A) → (xs ≡ []) ⊎ (0 < length xs)
+some_or_none [] = inl refl
+some_or_none (x ∷ xs) = inr (omega arith)
+
+not_both : (o : Option ℕ) (k : ℕ) → o ≡ None → o ≡ Some k → ⊥
+not_both o k none some = cc
+
+past_end : (ks : List ℕ) (i : ℕ) → slice_get ks i ≡ None → length ks ≤ i
+past_end ks i none = by (cases_lt i (length ks))
+  where
+    by : (i < length ks) ⊎ (length ks ≤ i) → length ks ≤ i
+    by (inl h) = let k = some_of ks i h in absurd (not_both (slice_get ks i) k.0 none k.1)
+    by (inr h) = h
+
+module _ (p : Sealed) (e : is_sealed p ≡ true) where
+  abbrev graph : List (List ℕ)
+  graph = graph_of p.raw
+
+  no_cycle : first_in_cycle graph ≡ None
+  unfolding graph_fits
+  no_cycle = let g : graph_fits p.raw p.order p.longest ≡ true = graph-is_sealed p e in is_none-true (first_in_cycle graph) (grind (arith, nat_tests, g))
+
+  longest_is : p.longest ≡ longest_from (ranks graph) p.raw.root
+  unfolding graph_fits
+  longest_is = let g : graph_fits p.raw p.order p.longest ≡ true = graph-is_sealed p e in grind (arith, nat_tests, common_steps, g)
+
+  -- a successor of a lower rank
+  falls : (m k : ℕ) → Contains (successors_at p.raw m) k → rank graph k < rank graph m
+  falls m k c = rank_falls graph m k (known_graph p.raw (raw-is_sealed p e)) no_cycle c
+
+  starts_low : (m : ℕ) → m < length p.raw.nodes → Contains p.raw.root m → rank graph m < p.longest
+  starts_low m h c =
+      let most : suc (get_or (ranks graph) m 0) ≤ longest_from (ranks graph) p.raw.root = greatest_over (λ k. suc (get_or (ranks graph) k 0)) p.raw.root m c in
+      let at : get_or (ranks graph) m 0 ≡ rank graph m = get_or-map-range_with_len (rank graph) 0 (length graph) m m 0 (omega (arith, h, length-map p.raw.nodes (λ (n : Node). n.links))) (omega arith) in
+      omega (arith, most, at, longest_is)
+
+  -- where a word picks no successor, the path may end
+  may_end : (m word : ℕ) (n : Node) → slice_get p.raw.nodes m ≡ Some n → word < 2 ^ 32 → next_node p.raw m word ≡ None → MayEnd p.raw m
+  may_end m word n is small none = by (some_or_none n.links)
+    where
+      linked : Linked p n
+      linked = node_linked p m n e is
+
+      past : length n.links ≤ picked (choices n) word
+      past = past_end n.links (picked (choices n) word) (next_is p m n word is ∙ none)
+
+      by : (n.links ≡ []) ⊎ (0 < length n.links) → MayEnd p.raw m
+      by (inl empty) = inl (made_at (λ (k : Node). k.links) p.raw.nodes m n [] is ∙ empty)
+      by (inr some) = inr (subst (λ (k : ℕ). 0 < k) (sym (made_at (λ (k : Node). k.stop) p.raw.nodes m n 0 is)) (stops n.links n.link_weights n.stop word linked.counted linked.weights small some past))
+
+  step_in_range : (m word : ℕ) → m < length p.raw.nodes → word < 2 ^ 32 → IsInRange p.raw (step_at p.raw m word)
+  step_in_range m word h small =
+      let n = some_of p.raw.nodes m h in
+      let w = node_weighty p m n.0 e n.1 in
+      let at : weights_at p.raw m ≡ n.0.weights = made_at (λ (k : Node). k.weights) p.raw.nodes m n.0 [] n.1 in
+      (h, subst (λ (ws : List ℕ). picked ws word < length ws) (sym at) (picked_in_range n.0.weights word small w.some w.weights))
+
+  -- what holds of the steps after one at the node m, of at most n steps
+  record Tail (n m : ℕ) (steps : List Step) : Type 0 where
+    pub follows : Follows p.raw m steps
+    pub ends : MayEnd p.raw (last_node m steps)
+    pub in_range : All (IsInRange p.raw) steps
+    pub few : length steps ≤ n
+
+  tail_done : (n m : ℕ) → MayEnd p.raw m → Tail n m []
+  tail_done n m ends = record { follows = tt; ends = ends; in_range = All-nil (IsInRange p.raw); few = omega arith }
+
+  -- a step at k, a successor of m, and the steps after it
+  tail_more : (n m k word : ℕ) (steps : List Step) → word < 2 ^ 32 → k < length p.raw.nodes → Contains (successors_at p.raw m) k → Tail n k steps → Tail (suc n) m (step_at p.raw k word ∷ steps)
+  tail_more n m k word steps small h c t = record { follows = (c, t.follows); ends = t.ends; in_range = All-cons (IsInRange p.raw) (step_at p.raw k word) steps (step_in_range k word h small) t.in_range; few = omega (arith, t.few) }
+
+  successor_inside : (m k : ℕ) → m < length p.raw.nodes → Contains (successors_at p.raw m) k → k < length p.raw.nodes
+  successor_inside m k h c = subst (λ (count : ℕ). k < count) (length-map p.raw.nodes (λ (n : Node). n.links)) (leads_to graph m k (known_graph p.raw (raw-is_sealed p e)) c)
+
+  -- the steps that the words draw after one at the node m
+  tail : (g : ChaCha) (n place m word : ℕ) → m < length p.raw.nodes → rank graph m ≤ n → word < 2 ^ 32 → Tail n m (steps_of (λ k. path_from p.raw (word_in g) n place k) (next_node p.raw m word))
+  tail g zero place m word h low small = by (next_node p.raw m word) refl
+    where
+      n : (x : Node) × (slice_get p.raw.nodes m ≡ Some x)
+      n = some_of p.raw.nodes m h
+
+      by : (o : Option ℕ) → next_node p.raw m word ≡ o → Tail zero m (steps_of (λ k. path_from p.raw (word_in g) zero place k) o)
+      by None is = tail_done zero m (may_end m word n.0 n.1 small is)
+      by (Some k) is = absurd (omega (arith, low, falls m k (contained (successors_at p.raw m) (picked (choices_at p.raw m) word) k is)))
+  tail g (suc l) place m word h low small = by (λ k inside lower. tail g l (place + 2) k (word_in g (place + 1)) inside lower (word_small g (place + 1))) (next_node p.raw m word) refl
+    where
+      n : (x : Node) × (slice_get p.raw.nodes m ≡ Some x)
+      n = some_of p.raw.nodes m h
+
+      by : ((k : ℕ) → k < length p.raw.nodes → rank graph k ≤ l → Tail l k (steps_of (λ j. path_from p.raw (word_in g) l (place + 2) j) (next_node p.raw k (word_in g (place + 1)))))
+          → (o : Option ℕ) → next_node p.raw m word ≡ o → Tail (suc l) m (steps_of (λ k. path_from p.raw (word_in g) (suc l) place k) o)
+      by rest None is = tail_done (suc l) m (may_end m word n.0 n.1 small is)
+      by rest (Some k) is =
+          let c = contained (successors_at p.raw m) (picked (choices_at p.raw m) word) k is in
+          let inside = successor_inside m k h c in
+          tail_more l m k (word_in g place) _ (word_small g place) inside c (rest k inside (omega (arith, low, falls m k c)))
+
+  -- what holds of a path
+  pub record Drawn (steps : List Step) : Type 0 where
+    pub starts : StartsAtRoot p.raw steps
+    pub follows : FollowsArcs p.raw steps
+    pub ends : EndsRight p.raw steps
+    pub in_range : All (IsInRange p.raw) steps
+    pub few : length steps ≤ p.longest
+
+  drawn_from : (g : ChaCha) (longest m : ℕ) → longest ≡ p.longest → Contains p.raw.root m → m < length p.raw.nodes → rank graph m < longest → Drawn (path_from p.raw (word_in g) longest 1 m)
+  drawn_from g zero m is c h low = absurd (omega arith)
+  drawn_from g (suc n) m is c h low =
+      let t = tail g n 3 m (word_in g 2) h (omega arith) (word_small g 2) in
+      record { starts = c; follows = t.follows; ends = t.ends; in_range = All-cons (IsInRange p.raw) _ _ (step_in_range m (word_in g 1) h (word_small g 1)) t.in_range; few = omega (arith, t.few, is) }
+
+  pub drawn : (seed stream : ℕ) → Drawn (path p seed stream)
+  unfolding path
+  drawn seed stream = by (some_of p.raw.root (picked p.raw.root_weights (word_in g 0)) place)
+    where
+      g : ChaCha
+      g = stream_of seed stream
+
+      place : picked p.raw.root_weights (word_in g 0) < length p.raw.root
+      place = let w = root_weighty p e in omega (arith, root_counted p e, picked_in_range p.raw.root_weights (word_in g 0) (word_small g 0) w.some w.weights)
+
+      by : (m : ℕ) × (first_node p.raw (word_in g 0) ≡ Some m) → Drawn (steps_of (λ m. path_from p.raw (word_in g) p.longest 1 m) (first_node p.raw (word_in g 0)))
+      by (m, is) =
+          let c = contained p.raw.root (picked p.raw.root_weights (word_in g 0)) m is in
+          let h = root_inside p (picked p.raw.root_weights (word_in g 0)) m e is in
+          subst (λ (o : Option ℕ). Drawn (steps_of (λ m. path_from p.raw (word_in g) p.longest 1 m) o)) (sym is) (drawn_from g p.longest m refl c h (starts_low m h c))
