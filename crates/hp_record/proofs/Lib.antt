@@ -1,0 +1,9 @@
+pub mod Fields
+pub mod Loop
+pub mod Taken
+pub mod Again
+pub mod Ways
+pub mod Room
+pub mod Whole
+pub mod Lengths
+pub mod WayBack

@@ -1,0 +1,5 @@
+pub mod Spelling
+pub mod Shape
+pub mod Reading
+pub mod Examples
+pub mod Backwards

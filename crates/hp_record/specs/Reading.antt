@@ -1,0 +1,132 @@
+-- Reading entries from left to right. A fault is told by the number of bytes from it to the end.
+use Rattle.std.specs.Prelude.{◌≡◌, ◌≢◌, ℕ, zero, suc, ◌-◌, ◌==◌, ◌&&◌, ℤ, Bool, List, [], ◌∷◌, length, take, drop, Option, Some, None, Result, Ok, Err, nat_lt, nat_le, if◌then◌else◌}
+use Rattle.std.specs.Int.{Width, w16, w32, w64, byte_len, from_be_bytes, cast_signed}
+use Rattle.hp_problem.specs.Sealed.{Sealed}
+use Rattle.hp_theory.specs.declared.cut.Certificate.{Certificate}
+use Rattle.hp_cut.specs.declared.entry.Entry.{Entry}
+use Rattle.hp_cut.specs.declared.entry.EntryStep.{EntryStep}
+use Rattle.hp_record.specs.declared.sizes.Sizes.{Sizes}
+use Rattle.hp_record.specs.declared.fault.ReadFault.{ReadFault}
+use Rattle.hp_record.specs.declared.fault.ReadFault.TheVariants as reads
+use Rattle.hp_record.specs.declared.fault.EntryFault.{EntryFault}
+use Rattle.hp_record.specs.declared.fault.EntryFault.TheVariants as faults
+use Rattle.hp_record.specs.Shape.{sizes_of, may_stand, IsBatch}
+use Rattle.hp_record.specs.Spelling.{spell}
+
+infixl 10 ◌>>=◌
+abbrev pub ◌>>=◌ : {A B : Type 0} → Result A ℕ → (A → Result B ℕ) → Result B ℕ
+(Ok x) >>= f = f x
+(Err n) >>= f = Err n
+
+-- What a function returned, seen by view, is what reading gives, unless memory ran out.
+abbrev pub Fails : {Y : Type 0} → ReadFault → Result Y ℕ → Type 0
+Fails (reads.Bad left) read = read ≡ Err left
+Fails reads.Memory read = Unit {0}
+
+abbrev pub Gives : {X Y : Type 0} → (X → Y) → Result X ReadFault → Result Y ℕ → Type 0
+Gives view (Ok x) read = read ≡ Ok (view x)
+Gives view (Err e) read = Fails e read
+
+-- A field is a value and the bytes after it.
+abbrev pub number_at : Width → List ℕ → Result (ℕ × List ℕ) ℕ
+number_at w bytes = if nat_lt (length bytes) (byte_len w) then Err (length bytes) else Ok (from_be_bytes w (take (byte_len w) bytes), drop (byte_len w) bytes)
+
+-- so many values one after another
+unfoldable pub many : {A : Type 0} → (List ℕ → Result (A × List ℕ) ℕ) → ℕ → List ℕ → Result (List A × List ℕ) ℕ
+many field zero bytes = Ok ([], bytes)
+many field (suc n) bytes = do
+  first ← field bytes
+  others ← many field n first.1
+  Ok (first.0 ∷ others.0, others.1)
+
+unfoldable pub row_at : List ℕ → Result (ℤ × List ℕ) ℕ
+row_at bytes = do
+  n ← number_at w64 bytes
+  Ok (cast_signed w64 n.0, n.1)
+
+unfoldable pub pair_at : List ℕ → Result ((ℕ × ℕ) × List ℕ) ℕ
+pair_at bytes = do
+  place ← number_at w32 bytes
+  multiplier ← number_at w64 place.1
+  Ok ((place.0, multiplier.0), multiplier.1)
+
+unfoldable pub pairs_at : List ℕ → Result (List (ℕ × ℕ) × List ℕ) ℕ
+pairs_at bytes = do
+  count ← number_at w32 bytes
+  many pair_at count.0 count.1
+
+unfoldable pub certificate_at : Sizes → List ℕ → Result (Certificate × List ℕ) ℕ
+certificate_at z bytes = do
+  rows ← many row_at z.rows bytes
+  cuts ← many pairs_at z.successors rows.1
+  Ok (record { rows = rows.0; cuts = cuts.0 }, cuts.1)
+
+-- a node that may stand there
+unfoldable pub node_at : Sealed → Option ℕ → Bool → List ℕ → Result (ℕ × List ℕ) ℕ
+node_at p before last bytes = do
+  node ← number_at w16 bytes
+  if may_stand p before last node.0 then Ok node else Err (length bytes)
+
+unfoldable pub step_at : Sealed → Option ℕ → Bool → List ℕ → Result (EntryStep × List ℕ) ℕ
+step_at p before last bytes = do
+  node ← node_at p before last bytes
+  list ← many (certificate_at (sizes_of p node.0)) (sizes_of p node.0).realizations node.1
+  Ok (record { node = node.0; list = list.0 }, list.1)
+
+unfoldable pub steps_at : Sealed → Option ℕ → ℕ → List ℕ → Result (List EntryStep × List ℕ) ℕ
+steps_at p before zero bytes = Ok ([], bytes)
+steps_at p before (suc n) bytes = do
+  first ← step_at p before (n == 0) bytes
+  others ← steps_at p (Some first.0.node) n first.1
+  Ok (first.0 ∷ others.0, others.1)
+
+-- the wanted iteration
+unfoldable pub iteration_at : ℕ → List ℕ → Result (ℕ × List ℕ) ℕ
+iteration_at wanted bytes = do
+  n ← number_at w32 bytes
+  if n.0 == wanted then Ok n else Err (length bytes)
+
+-- at least one step, and no more than the longest path has nodes
+unfoldable pub count_at : Sealed → List ℕ → Result (ℕ × List ℕ) ℕ
+count_at p bytes = do
+  n ← number_at w16 bytes
+  if nat_lt 0 n.0 && nat_le n.0 p.longest then Ok n else Err (length bytes)
+
+unfoldable pub entry_at : Sealed → ℕ → List ℕ → Result (Entry × List ℕ) ℕ
+entry_at p wanted bytes = do
+  iteration ← iteration_at wanted bytes
+  unsettled ← number_at w32 iteration.1
+  count ← count_at p unsettled.1
+  steps ← steps_at p None count.0 count.1
+  Ok (record { iteration = iteration.0; unsettled = unsettled.0; steps = steps.0 }, steps.1)
+
+-- so many entries, and no byte behind them
+unfoldable pub entries_at : Sealed → ℕ → ℕ → List ℕ → Result (List Entry) ℕ
+entries_at p wanted count bytes = do
+  entries ← many (entry_at p wanted) count bytes
+  if length entries.1 == 0 then Ok entries.0 else Err (length entries.1)
+
+-- a fault's place from the front, where so many bytes stand from it to the end
+abbrev pub placed : {A : Type 0} → ℕ → Result A ℕ → Result A ℕ
+placed total (Ok x) = Ok x
+placed total (Err left) = Err (total - left)
+
+-- The entries that the payload has, or the place of its first fault.
+unfoldable pub read_batch : Sealed → ℕ → ℕ → List ℕ → Result (List Entry) ℕ
+read_batch p wanted count payload = placed (length payload) (entries_at p wanted count payload)
+
+-- the answer is what reading gives, unless memory was refused
+abbrev pub Answers : {X Y : Type 0} → (X → Y) → Result X EntryFault → Result Y ℕ → Type 0
+Answers view (Ok x) read = read ≡ Ok (view x)
+Answers view (Err (faults.Bad place)) read = read ≡ Err place
+Answers view (Err faults.Memory) read = Unit {0}
+
+-- The payload is the text of no such batch.
+abbrev pub IsNoText : Sealed → ℕ → ℕ → List ℕ → Type 0
+IsNoText p iteration count payload = (es : List Entry) → IsBatch p iteration count es → payload ≢ spell es
+
+-- where the answer is Bad
+abbrev pub OnBad : {X : Type 0} → Result X EntryFault → Type 0 → Type 0
+OnBad (Ok x) P = Unit {0}
+OnBad (Err (faults.Bad place)) P = P
+OnBad (Err faults.Memory) P = Unit {0}

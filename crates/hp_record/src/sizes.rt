@@ -1,0 +1,37 @@
+// How long the lists of a node's certificates are.
+ghost use Rattle.std.specs.Prelude.{◌≡◌, ◌<◌, length, true};
+ghost use Rattle.hp_problem.specs.Sealed.{is_sealed};
+ghost use Rattle.hp_record.specs.Shape.{sizes_of};
+
+use hp_problem::Problem;
+
+/// How long the lists of a node's certificates are.
+#[derive(Clone, Copy, Debug)]
+pub(crate) struct Sizes {
+    /// One certificate per realization.
+    pub(crate) realizations: usize,
+    /// One multiplier per row.
+    pub(crate) rows: usize,
+    /// One list of pairs per successor.
+    pub(crate) successors: usize,
+}
+
+pub(crate) fn sizes_of(problem: &Problem, node: u32) -> Sizes
+    requires { node < length problem.now.raw.nodes }
+    ensures { result ≡ sizes_of problem.now node }
+{
+    let rows = problem.sub(node).rows.len();
+    let node = problem.node(node);
+    Sizes {
+        realizations: node.weights.len(),
+        rows,
+        successors: node.links.len(),
+    }
+}
+
+// Each problem's parts fit together. It does nothing.
+pub(crate) fn sealed(problem: &Problem)
+    ensures { is_sealed problem.now ≡ true }
+{
+    problem.raw();
+}

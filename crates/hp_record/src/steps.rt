@@ -1,0 +1,86 @@
+// The steps of an entry, read from the front of bytes, with the bytes behind them.
+ghost use Rattle.std.specs.Prelude.{◌≡◌, ◌<◌, length, Some, None};
+ghost use Rattle.hp_record.specs.Shape.{is_among, leads_on, links_of, may_stand, sizes_of};
+ghost use Rattle.hp_record.specs.Reading.{Gives, node_at, step_at, steps_at};
+
+use crate::certificates::certificates;
+use crate::fault::ReadFault;
+use crate::numbers::u16_at;
+use crate::sizes::sizes_of;
+use hp_cut::EntryStep;
+use hp_num::List;
+use hp_problem::Problem;
+use std::alloc::Global;
+
+// Whether the node leads to the one of the step before.
+fn leads_on(problem: &Problem, node: u32, before: Option<u32>) -> bool
+    requires { node < length problem.now.raw.nodes }
+    ensures { result ≡ leads_on problem.now node before }
+{
+    match before {
+        None => true,
+        Some(next) => problem.node(node).links.as_slice().contains(&next),
+    }
+}
+
+// Whether this may be the node of a step, after the node of the step before.
+fn may_stand(problem: &Problem, before: Option<u32>, last: bool, node: u32) -> bool
+    ensures { result ≡ may_stand problem.now before last node }
+{
+    (node as usize) < problem.raw().nodes.len()
+        && leads_on(problem, node, before)
+        && (!last || problem.raw().root.as_slice().contains(&node))
+}
+
+#[tactic(auto, unfolding(crate::specs::Reading::node_at))]
+fn node_at<'a>(
+    problem: &Problem,
+    before: Option<u32>,
+    last: bool,
+    bytes: &'a [u8],
+) -> Result<(u32, &'a [u8]), ReadFault>
+    ensures { Gives (λ x. (x.0, x.1.now)) result (node_at problem.now before last bytes.now) }
+{
+    let (node, rest) = u16_at(bytes)?;
+    let node = node as u32;
+    if !may_stand(problem, before, last, node) {
+        return Err(ReadFault::Bad { left: bytes.len() });
+    }
+    Ok((node, rest))
+}
+
+#[tactic(auto, unfolding(crate::specs::Reading::step_at))]
+fn step<'a>(
+    alloc: Global,
+    problem: &Problem,
+    before: Option<u32>,
+    last: bool,
+    bytes: &'a [u8],
+) -> Result<(EntryStep, &'a [u8]), ReadFault>
+    ensures { Gives (λ x. (x.0, x.1.now)) result (step_at problem.now before last bytes.now) }
+{
+    let (node, rest) = node_at(problem, before, last, bytes)?;
+    let (list, rest) = certificates(alloc, sizes_of(problem, node), rest)?;
+    Ok((EntryStep { node, list }, rest))
+}
+
+// So many steps, of which the last one's node is a successor of the root.
+pub(crate) fn steps<'a>(
+    alloc: Global,
+    problem: &Problem,
+    count: usize,
+    bytes: &'a [u8],
+) -> Result<(List<EntryStep>, &'a [u8]), ReadFault>
+    ensures { Gives (λ x. (x.0, x.1.now)) result (steps_at problem.now None count bytes.now) }
+{
+    let mut found = Vec::with_capacity(alloc, count.min(bytes.len() / 2))?;
+    let mut before = None;
+    let mut rest = bytes;
+    for i in 0..count {
+        let (step, after) = step(alloc, problem, before, i + 1 == count, rest)?;
+        before = Some(step.node);
+        found.push(step)?;
+        rest = after;
+    }
+    Ok((List::from_vec(found), rest))
+}
