@@ -1,0 +1,74 @@
+-- What a torn write and a cut leave of bytes in parts.
+use Rattle.std.proofs.Common.{◌≡◌, ℕ, zero, suc, ◌+◌, ◌≤◌, ◌<◌, List, [], ◌∷◌, ◌++◌, length, get_or, take, drop, refl, sym, ◌∙◌, ap, arith, append_assoc, length-append, take-append-drop}
+use Rattle.std.proofs.lemmas.List.{take_at, drop_at, drop_more, take_all, drop_all, append-nil, length-take}
+use Rattle.hp_outside.specs.Disks.{Torn, Cut, written}
+
+module _ (f : List ℕ) where
+  -- a torn byte
+  pub torn_byte : (g : ℕ) (rest c : List ℕ) (at : ℕ) → at ≡ length f → Torn at 1 (f ++ g ∷ rest) c → (h : ℕ) × (c ≡ f ++ h ∷ rest)
+  torn_byte g rest c at is torn =
+      let long : length f < length c = omega (arith, torn.no_shorter, length-append f (g ∷ rest)) in
+      let front : take at c ≡ f = torn.before ∙ take_at f (g ∷ rest) at (sym is) in
+      let split : f ++ g ∷ rest ≡ (f ++ g ∷ []) ++ rest = sym (append_assoc f (g ∷ []) rest) in
+      let behind : drop (at + 1) (f ++ g ∷ rest) ≡ rest = ap (λ (l : List ℕ). drop (at + 1) l) split ∙ drop_at (f ++ g ∷ []) rest (at + 1) (omega (arith, is, length-append f (g ∷ []))) in
+      let h = get_or c at 0 in
+      let back : drop at c ≡ h ∷ rest = drop_more c at 0 (omega (arith, long, is)) ∙ ap (λ (l : List ℕ). h ∷ l) (torn.after ∙ behind) in
+      (h, sym (take-append-drop at c) ∙ ap (λ (l : List ℕ). l ++ drop at c) front ∙ ap (λ (l : List ℕ). f ++ l) back)
+
+  -- a torn piece behind the last byte
+  pub torn_end : (g : ℕ) (c : List ℕ) (at n : ℕ) → at ≡ length f → Torn (at + 1) n (f ++ g ∷ []) c → (rest : List ℕ) × (c ≡ f ++ g ∷ rest)
+  torn_end g c at n is torn =
+      let front : take (at + 1) c ≡ f ++ g ∷ [] = torn.before ∙ take_all (at + 1) (f ++ g ∷ []) (omega (arith, is, length-append f (g ∷ []))) in
+      (drop (at + 1) c, sym (take-append-drop (at + 1) c) ∙ ap (λ (l : List ℕ). l ++ drop (at + 1) c) front ∙ append_assoc f (g ∷ []) (drop (at + 1) c))
+
+  -- a cut behind a byte
+  pub cut_rest : (g : ℕ) (rest c : List ℕ) (at : ℕ) → at ≡ length f → Cut (at + 1) (f ++ g ∷ rest) c → (left : List ℕ) × (c ≡ f ++ g ∷ left)
+  cut_rest g rest c at is cut =
+      let split : f ++ g ∷ rest ≡ (f ++ g ∷ []) ++ rest = sym (append_assoc f (g ∷ []) rest) in
+      let long : at + 1 ≤ length c = omega (arith, cut.no_shorter, is, length-append f (g ∷ rest)) in
+      let n = length c in
+      let front : take (at + 1) c ≡ f ++ g ∷ [] = ap (λ (l : List ℕ). take (at + 1) l) (sym cut.front) ∙ take_less (at + 1) n (f ++ g ∷ rest) long ∙ ap (λ (l : List ℕ). take (at + 1) l) split ∙ take_at (f ++ g ∷ []) rest (at + 1) (omega (arith, is, length-append f (g ∷ []))) in
+      (drop (at + 1) c, sym (take-append-drop (at + 1) c) ∙ ap (λ (l : List ℕ). l ++ drop (at + 1) c) front ∙ append_assoc f (g ∷ []) (drop (at + 1) c))
+    where
+      take_less : (m n : ℕ) (l : List ℕ) → m ≤ n → take m (take n l) ≡ take m l
+      take_less zero n l le = refl
+      take_less (suc m) zero l le = absurd (omega arith)
+      take_less (suc m) (suc n) [] le = refl
+      take_less (suc m) (suc n) (x ∷ l) le = ap (λ (k : List ℕ). x ∷ k) (take_less m n l (omega arith))
+
+  -- a byte is written over
+  pub written_byte : (g h : ℕ) (rest : List ℕ) (at : ℕ) → at ≡ length f → written (f ++ g ∷ rest) at (h ∷ []) ≡ f ++ h ∷ rest
+  written_byte g h rest at is =
+      let split : f ++ g ∷ rest ≡ (f ++ g ∷ []) ++ rest = sym (append_assoc f (g ∷ []) rest) in
+      let behind : drop (at + 1) (f ++ g ∷ rest) ≡ rest = ap (λ (l : List ℕ). drop (at + 1) l) split ∙ drop_at (f ++ g ∷ []) rest (at + 1) (omega (arith, is, length-append f (g ∷ []))) in
+      append_assoc (take at (f ++ g ∷ rest)) (h ∷ []) (drop (at + 1) (f ++ g ∷ rest)) ∙ ap (λ (l : List ℕ). l ++ h ∷ drop (at + 1) (f ++ g ∷ rest)) (take_at f (g ∷ rest) at (sym is)) ∙ ap (λ (l : List ℕ). f ++ h ∷ l) behind
+
+  -- a piece is written behind the last byte
+  pub written_end : (g : ℕ) (piece : List ℕ) (at : ℕ) → at ≡ length f → written (f ++ g ∷ []) (at + 1) piece ≡ f ++ g ∷ piece
+  written_end g piece at is =
+      append_assoc (take (at + 1) (f ++ g ∷ [])) piece (drop (at + 1 + length piece) (f ++ g ∷ []))
+      ∙ ap (λ (l : List ℕ). l ++ (piece ++ drop (at + 1 + length piece) (f ++ g ∷ []))) (take_all (at + 1) (f ++ g ∷ []) (omega (arith, is, length-append f (g ∷ []))))
+      ∙ ap (λ (l : List ℕ). (f ++ g ∷ []) ++ (piece ++ l)) (drop_all (at + 1 + length piece) (f ++ g ∷ []) (omega (arith, is, length-append f (g ∷ []))))
+      ∙ ap (λ (l : List ℕ). (f ++ g ∷ []) ++ l) (append-nil piece)
+      ∙ append_assoc f (g ∷ []) piece
+
+-- a list in parts round one of its bytes
+pub parts_at : (bytes : List ℕ) (at d : ℕ) → at < length bytes → bytes ≡ take at bytes ++ get_or bytes at d ∷ drop (at + 1) bytes
+parts_at bytes at d below = sym (take-append-drop at bytes) ∙ ap (λ (l : List ℕ). take at bytes ++ l) (drop_more bytes at d below)
+
+length_front : (bytes : List ℕ) (at : ℕ) → at ≤ length bytes → at ≡ length (take at bytes)
+length_front bytes at below = omega (arith, length-take at bytes, below)
+
+-- a byte that is written as it was
+pub written_same : (bytes : List ℕ) (at d x : ℕ) → at < length bytes → get_or bytes at d ≡ x → written bytes at (x ∷ []) ≡ bytes
+written_same bytes at d x below is =
+    append_assoc (take at bytes) (x ∷ []) (drop (at + 1) bytes) ∙ ap (λ (y : ℕ). take at bytes ++ y ∷ drop (at + 1) bytes) (sym is) ∙ sym (parts_at bytes at d below)
+
+-- the last byte is written
+pub written_last : (bytes : List ℕ) (at x : ℕ) → length bytes ≤ at + 1 → written bytes at (x ∷ []) ≡ take at bytes ++ x ∷ []
+written_last bytes at x short = append_assoc (take at bytes) (x ∷ []) (drop (at + 1) bytes) ∙ ap (λ (l : List ℕ). take at bytes ++ x ∷ l) (drop_all (at + 1) bytes short)
+
+-- what is cut off behind a written byte
+pub cut_behind : (bytes : List ℕ) (at x : ℕ) → at < length bytes → take (at + 1) (written bytes at (x ∷ [])) ≡ take at bytes ++ x ∷ []
+cut_behind bytes at x below =
+    take_at (take at bytes ++ x ∷ []) (drop (at + 1) bytes) (at + 1) (omega (arith, length_front bytes at (omega (arith, below)), length-append (take at bytes) (x ∷ [])))

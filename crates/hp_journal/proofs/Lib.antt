@@ -1,0 +1,6 @@
+mod Bytes
+mod Growing
+mod Newborn
+mod Reading
+mod Told
+mod WorkedBody

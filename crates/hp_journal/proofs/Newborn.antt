@@ -1,0 +1,199 @@
+-- What a crash leaves while a file becomes a journal.
+use Rattle.std.proofs.Common.{◌≡◌, ◌≢◌, ◌⊎◌, inl, inr, ℕ, zero, suc, ◌+◌, ◌-◌, ◌≤◌, Bool, true, false, List, [], ◌∷◌, ◌++◌, length, get_or, take, drop, refl, sym, ◌∙◌, ap, subst, arith, append_assoc, length-append, if◌then◌else◌, ◌==◌, Option, None, Some, IfSome}
+use Rattle.std.proofs.lemmas.Bool.{cases_eq}
+use Rattle.std.proofs.lemmas.Bool.Decides.{nat_tests}
+use Rattle.std.proofs.lemmas.List.{append-nil, length-take, length-drop, drop_all, drop-take}
+use Rattle.std.specs.Int.{w16, w64, to_be_bytes}
+use Rattle.std.specs.Option.{option_map}
+use Rattle.hp_outside.specs.Disks.{Store, Torn, Cut, Stays, Lawful, written}
+use Rattle.hp_outside.specs.Since.{Quiet, LeavesOnly}
+use Rattle.hp_outside.proofs.Moments.{stays_on}
+use Rattle.hp_journal.specs.Head.{IsUnborn, is_unborn}
+use Rattle.hp_journal.specs.Layout.{Title, title_bytes, new_title, shared_title, magic, head_length, records, body_of, front, journal}
+use Rattle.hp_journal.specs.Mine.{Unborn, Grown, Mine, short, zero_byte, half_born, shut, half_open, unborn, born}
+use Rattle.hp_journal.proofs.Bytes.{torn_byte, written_byte}
+use Rattle.hp_journal.proofs.Told.{begins, puts, cuts, mapped}
+
+title_length : (t : Title) → length t.digest ≡ 32 → length (title_bytes t) ≤ 52
+unfolding title_bytes
+title_length t d =
+    let a = magic ++ to_be_bytes w16 t.version in
+    let s = to_be_bytes w64 t.seed in
+    let b = if t.version == 2 then to_be_bytes w16 t.batch else [] in
+    omega (arith, d, length-append (a ++ t.digest ++ s) b, length-append (a ++ t.digest) s, length-append a t.digest, ten, eight t.seed, batch_length (t.version == 2))
+  where
+    ten : length (magic ++ to_be_bytes w16 t.version) ≡ 10
+    ten = refl
+
+    eight : (n : ℕ) → length (to_be_bytes w64 n) ≡ 8
+    eight n = refl
+
+    batch_length : (two : Bool) → length (if two then to_be_bytes w16 t.batch else []) ≤ 2
+    batch_length true = omega (arith, two_bytes t.batch)
+      where
+        two_bytes : (n : ℕ) → length (to_be_bytes w16 n) ≡ 2
+        two_bytes n = refl
+    batch_length false = omega arith
+
+-- two bytes or more, the first of them 1, are not unborn
+no_unborn : (x : List ℕ) → 1 ≤ length x → is_unborn (take 54 (1 ∷ x)) (length (1 ∷ x)) ≡ false
+unfolding is_unborn
+no_unborn x some = grind (arith, nat_tests)
+
+-- a journal is not unborn
+not_grown : (t : Title) (payloads : List (List ℕ)) (bytes : List ℕ) → IsUnborn bytes → Grown t payloads 0 bytes → ⊥
+not_grown t payloads bytes is (shut le rest same) = two (sym (subst IsUnborn same is) ∙ no_unborn (title_bytes t ++ records [] ++ 0 ∷ rest) (omega (arith, length-append (title_bytes t ++ records []) (0 ∷ rest))))
+  where
+    two : true ≡ false → ⊥
+    two e = cc
+not_grown t payloads bytes is (half_open below gate g0 g1 same) =
+    let behind = body_of (get_or payloads 0 []) in
+    two (sym (subst IsUnborn same is) ∙ no_unborn (title_bytes t ++ records [] ++ gate ∷ behind) (omega (arith, length-append (title_bytes t ++ records []) (gate ∷ behind))))
+  where
+    two : true ≡ false → ⊥
+    two e = cc
+
+module _ (t : Title) (payloads : List (List ℕ)) (long : length t.digest ≡ 32) where
+  pub still_unborn : (bytes : List ℕ) → IsUnborn bytes → Mine t payloads 0 bytes → Unborn t bytes
+  still_unborn bytes is (unborn e u) = u
+  still_unborn bytes is (born g) = absurd (not_grown t payloads bytes is g)
+
+  pub unborn_short : (bytes : List ℕ) → Unborn t bytes → length bytes ≤ 54
+  unborn_short bytes (short le) = omega (arith, le)
+  unborn_short bytes (zero_byte e le) = le
+  unborn_short bytes (half_born g g0 g1 same) = omega (arith, ap length same, length-append (title_bytes t) (0 ∷ []), title_length t long)
+
+  -- any birth byte before the whole head
+  pub any_birth : (g : ℕ) → Mine t payloads 0 (g ∷ title_bytes t ++ 0 ∷ [])
+  unfolding records
+  any_birth g = elim (cases_eq g 0) [
+    | inl is_zero ↦ unborn refl (zero_byte is_zero (omega (arith, length-append (title_bytes t) (0 ∷ []), title_length t long)))
+    | inr not_zero ↦ elim (cases_eq g 1) [
+      | inl is_one ↦ born (shut (omega arith) [] (ap (λ (h : ℕ). h ∷ title_bytes t ++ 0 ∷ []) is_one ∙ ap (λ (l : List ℕ). 1 ∷ l ++ 0 ∷ []) (sym (append-nil (title_bytes t)))))
+      | inr not_one ↦ unborn refl (half_born g not_zero not_one refl)
+    ]
+  ]
+
+  -- the birth byte is torn where it was not 0, or where there is at most one byte
+  pub mark_torn : (bytes : List ℕ) → Unborn t bytes → (length bytes ≤ 1) ⊎ (get_or bytes 0 1 ≢ 0) → (c : List ℕ) → Torn 0 1 bytes c → Mine t payloads 0 c
+  mark_torn bytes u (inl le) c torn = unborn refl (short (omega (arith, torn.no_longer, le)))
+  mark_torn bytes (short le) (inr set) c torn = unborn refl (short (omega (arith, torn.no_longer, le)))
+  mark_torn [] (zero_byte e le) (inr set) c torn = unborn refl (short (omega (arith, torn.no_longer)))
+  mark_torn (b ∷ bytes) (zero_byte e le) (inr set) c torn = absurd (set e)
+  mark_torn bytes (half_born g g0 g1 same) (inr set) c torn =
+      let from = torn_byte [] g (title_bytes t ++ 0 ∷ []) c 0 refl (subst (λ b. Torn 0 1 b c) same torn) in
+      subst (Mine t payloads 0) (sym from.1) (any_birth from.0)
+
+  -- bytes that begin with 0
+  pub begins_with_0 : (c : List ℕ) → take 1 c ≡ 0 ∷ [] → length c ≤ 54 → Mine t payloads 0 c
+  begins_with_0 [] e le = absurd (omega (arith, ap length e))
+  begins_with_0 (b ∷ c) e le = unborn refl (zero_byte (ap (λ (l : List ℕ). get_or l 0 0) e) le)
+
+  -- behind the birth byte of 0 the rest is cut off
+  pub tail_cut : (bytes : List ℕ) (most : ℕ) → Unborn t bytes → 1 ≤ most → (c : List ℕ) → Cut most (0 ∷ drop 1 bytes) c → Mine t payloads 0 c
+  tail_cut bytes most u some c cut = begins_with_0 c (one c cut.front (omega (arith, cut.no_shorter, some))) (omega (arith, ap length cut.front, length-take (length c) (0 ∷ drop 1 bytes), length-drop 1 bytes, unborn_short bytes u))
+    where
+      one : (c : List ℕ) → take (length c) (0 ∷ drop 1 bytes) ≡ c → 1 ≤ length c → take 1 c ≡ 0 ∷ []
+      one [] e le = absurd (omega arith)
+      one (b ∷ c) e le = ap (λ (l : List ℕ). take 1 l) (sym e)
+
+  -- the head is torn behind the birth byte of 0
+  pub head_torn : (bytes c : List ℕ) (n : ℕ) → take 1 bytes ≡ 0 ∷ [] → length bytes ≤ 54 → 1 + n ≤ 54 → Torn 1 n bytes c → Mine t payloads 0 c
+  head_torn bytes c n front le small torn = begins_with_0 c (torn.before ∙ front) (omega (arith, torn.no_longer, le, small))
+
+  -- the birth byte is torn before the whole head
+  pub birth_torn : (c : List ℕ) → Torn 0 1 (0 ∷ title_bytes t ++ 0 ∷ []) c → Mine t payloads 0 c
+  birth_torn c torn =
+      let from = torn_byte [] 0 (title_bytes t ++ 0 ∷ []) c 0 refl torn in
+      subst (Mine t payloads 0) (sym from.1) (any_birth from.0)
+
+  module _ (old new : Store) (bytes : List ℕ) (lawful : Lawful old) (quiet : Quiet old) (is : old.reads ≡ Some bytes) (mine : Mine t payloads 0 bytes) where
+    pub mark_read : (mid : Store) → Stays old mid → LeavesOnly old mid (Mine t payloads 0)
+    mark_read mid same = stays_on old old mid (Mine t payloads 0) (begins old (Mine t payloads 0) bytes lawful is quiet mine) same
+
+    pub mark_put : (mid : Store) → Stays old mid → IsUnborn bytes → (length bytes ≤ 1) ⊎ (get_or bytes 0 1 ≢ 0) → IfSome mid.reads (λ b. LeavesOnly mid new (Torn 0 1 b)) → LeavesOnly old new (Mine t payloads 0)
+    mark_put mid same not_born why moment = puts old (Mine t payloads 0) mid new bytes 0 1 (mark_read mid same) (same.reads ∙ is) moment (mark_torn bytes (still_unborn bytes not_born mine) why)
+
+    pub tail_off : (mid : Store) (most : ℕ) → 1 ≤ most → IsUnborn bytes → LeavesOnly old mid (Mine t payloads 0) → mid.reads ≡ option_map (λ b. 0 ∷ drop 1 b) old.reads → IfSome mid.reads (λ b. LeavesOnly mid new (Cut most b)) → LeavesOnly old new (Mine t payloads 0)
+    tail_off mid most some not_born run maps moment = cuts old (Mine t payloads 0) mid new (0 ∷ drop 1 bytes) most run (mapped old.reads mid.reads (λ b. 0 ∷ drop 1 b) bytes is maps) moment (tail_cut bytes most (still_unborn bytes not_born mine) some)
+
+    pub head_put : (mid : Store) (most n : ℕ) → 1 ≤ most → most ≤ 54 → 1 + n ≤ 54 → LeavesOnly old mid (Mine t payloads 0) → mid.reads ≡ option_map (λ b. take most (0 ∷ drop 1 b)) old.reads → IfSome mid.reads (λ b. LeavesOnly mid new (Torn 1 n b)) → LeavesOnly old new (Mine t payloads 0)
+    head_put mid most n some few small run maps moment =
+        let cleared = take most (0 ∷ drop 1 bytes) in
+        puts old (Mine t payloads 0) mid new cleared 1 n run (mapped old.reads mid.reads (λ b. take most (0 ∷ drop 1 b)) bytes is maps) moment (λ c. head_torn cleared c n (first most some) (omega (arith, length-take most (0 ∷ drop 1 bytes), few)) small)
+      where
+        first : (m : ℕ) → 1 ≤ m → take 1 (take m (0 ∷ drop 1 bytes)) ≡ 0 ∷ []
+        first zero le = absurd (omega arith)
+        first (suc m) le = refl
+
+    pub birth_put : (mid : Store) → LeavesOnly old mid (Mine t payloads 0) → mid.reads ≡ Some (0 ∷ title_bytes t ++ 0 ∷ []) → IfSome mid.reads (λ b. LeavesOnly mid new (Torn 0 1 b)) → LeavesOnly old new (Mine t payloads 0)
+    birth_put mid run reads moment = puts old (Mine t payloads 0) mid new (0 ∷ title_bytes t ++ 0 ∷ []) 0 1 run reads moment birth_torn
+
+-- a head behind the birth byte of 0 of a short file
+pub headed : (bytes head : List ℕ) (most : ℕ) → 1 ≤ most → 1 + length head ≡ most → written (take most (0 ∷ drop 1 bytes)) 1 head ≡ 0 ∷ head
+headed bytes head zero some is = absurd (omega arith)
+headed bytes head (suc m) some is =
+    append_assoc (0 ∷ []) head (drop (1 + length head) (0 ∷ take m (drop 1 bytes)))
+    ∙ ap (λ (l : List ℕ). 0 ∷ head ++ l) (drop_all (1 + length head) (0 ∷ take m (drop 1 bytes)) (omega (arith, length-take m (drop 1 bytes), is)))
+    ∙ ap (λ (l : List ℕ). 0 ∷ l) (append-nil head)
+
+-- the head of each version
+pub title_one : (digest : List ℕ) (seed : ℕ) → (0 ∷ shared_title 1 digest seed) ++ 0 ∷ [] ≡ 0 ∷ title_bytes (new_title digest seed None) ++ 0 ∷ []
+unfolding title_bytes
+title_one digest seed = ap (λ (l : List ℕ). 0 ∷ l ++ 0 ∷ []) (sym (append-nil (shared_title 1 digest seed)))
+
+pub title_two : (digest : List ℕ) (seed paths : ℕ) → ((0 ∷ shared_title 2 digest seed) ++ to_be_bytes w16 paths) ++ 0 ∷ [] ≡ 0 ∷ title_bytes (new_title digest seed (Some paths)) ++ 0 ∷ []
+unfolding title_bytes
+title_two digest seed paths = refl
+
+pub title_digest : (digest : List ℕ) (seed : ℕ) (batch : Option ℕ) → length digest ≡ 32 → length (new_title digest seed batch).digest ≡ 32
+title_digest digest seed None is = is
+title_digest digest seed (Some b) is = is
+
+pub head_size : (digest : List ℕ) (seed : ℕ) (batch : Option ℕ) → (52 ≤ head_length (new_title digest seed batch).version) × (head_length (new_title digest seed batch).version ≤ 54)
+head_size digest seed None = (omega arith, omega arith)
+head_size digest seed (Some b) = (omega arith, omega arith)
+
+-- the bytes behind the first of the front of a list
+pub behind_first : (head x : List ℕ) (count : ℕ) → 1 ≤ count → take count head ≡ 0 ∷ x → take (count - 1) (drop 1 head) ≡ x
+behind_first head x count some is = sym (drop-take 1 (count - 1) head) ∙ ap (λ (n : ℕ). drop 1 (take n head)) (whole count some) ∙ ap (λ (l : List ℕ). drop 1 l) is
+  where
+    whole : (n : ℕ) → 1 ≤ n → 1 + (n - 1) ≡ n
+    whole n le = omega (arith, le)
+
+-- the head is written behind the birth byte of 0, and then the birth byte is 1
+pub headed_bytes : (t : Title) (bytes : List ℕ) (most : ℕ) → 1 ≤ most → 1 + length (title_bytes t ++ 0 ∷ []) ≡ most → written (take most (0 ∷ drop 1 bytes)) 1 (title_bytes t ++ 0 ∷ []) ≡ 0 ∷ title_bytes t ++ 0 ∷ []
+headed_bytes t bytes most some is = headed bytes (title_bytes t ++ 0 ∷ []) most some is
+
+pub born_bytes : (t : Title) (bytes : List ℕ) (most : ℕ) → 1 ≤ most → 1 + length (title_bytes t ++ 0 ∷ []) ≡ most → written (written (take most (0 ∷ drop 1 bytes)) 1 (title_bytes t ++ 0 ∷ [])) 0 (1 ∷ []) ≡ journal t [] 0 []
+unfolding records
+born_bytes t bytes most some is =
+    ap (λ (b : List ℕ). written b 0 (1 ∷ [])) (headed_bytes t bytes most some is)
+    ∙ written_byte [] 0 1 (title_bytes t ++ 0 ∷ []) 0 refl
+    ∙ ap (λ (l : List ℕ). 1 ∷ l ++ 0 ∷ []) (sym (append-nil (title_bytes t)))
+
+-- three calls that map what is told
+pub map_thrice : (r0 r1 r2 r3 : Option (List ℕ)) (f g h k : List ℕ → List ℕ) → r1 ≡ option_map f r0 → r2 ≡ option_map g r1 → r3 ≡ option_map h r2 → ((b : List ℕ) → h (g (f b)) ≡ k b) → r3 ≡ option_map k r0
+map_thrice r0 r1 r2 r3 f g h k e1 e2 e3 same = e3 ∙ ap (option_map h) (e2 ∙ ap (option_map g) e1) ∙ chain r0
+  where
+    chain : (r : Option (List ℕ)) → option_map h (option_map g (option_map f r)) ≡ option_map k r
+    chain None = refl
+    chain (Some b) = ap Some (same b)
+
+shared_length : (version seed : ℕ) (digest : List ℕ) → length digest ≡ 32 → length (shared_title version digest seed) ≡ 50
+shared_length version seed digest is = omega (arith, is, length-append (magic ++ to_be_bytes w16 version ++ digest) (to_be_bytes w64 seed), length-append (magic ++ to_be_bytes w16 version) digest, ten version, eight seed)
+  where
+    ten : (n : ℕ) → length (magic ++ to_be_bytes w16 n) ≡ 10
+    ten n = refl
+
+    eight : (n : ℕ) → length (to_be_bytes w64 n) ≡ 8
+    eight n = refl
+
+-- the length of a head
+pub head_exact : (digest : List ℕ) (seed : ℕ) (batch : Option ℕ) → length digest ≡ 32 → 1 + length (title_bytes (new_title digest seed batch) ++ 0 ∷ []) ≡ head_length (new_title digest seed batch).version
+unfolding title_bytes
+head_exact digest seed None is = omega (arith, length-append (shared_title 1 digest seed ++ []) (0 ∷ []), length-append (shared_title 1 digest seed) [], shared_length 1 seed digest is)
+head_exact digest seed (Some b) is = omega (arith, length-append (shared_title 2 digest seed ++ to_be_bytes w16 b) (0 ∷ []), length-append (shared_title 2 digest seed) (to_be_bytes w16 b), shared_length 2 seed digest is, two b)
+  where
+    two : (n : ℕ) → length (to_be_bytes w16 n) ≡ 2
+    two n = refl

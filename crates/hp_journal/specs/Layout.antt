@@ -1,0 +1,52 @@
+-- The bytes of a journal.
+use Rattle.std.specs.Prelude.{◌≡◌, ◌≤◌, ◌^◌, ℕ, List, [], ◌∷◌, ◌++◌, length, if◌then◌else◌, ◌==◌, Option, Some, None}
+use Rattle.std.specs.Int.{w16, w32, w64, to_be_bytes}
+
+-- HYDPLAN1
+abbrev pub magic : List ℕ
+magic = 72 ∷ 89 ∷ 68 ∷ 80 ∷ 76 ∷ 65 ∷ 78 ∷ 49 ∷ []
+
+-- what a journal says of itself: its version, the SHA-256 of its problem, its seed, and how many paths an iteration has
+pub record Title : Type 0 where
+  pub version : ℕ
+  pub digest : List ℕ
+  pub seed : ℕ
+  pub batch : ℕ
+
+-- what each version has behind the birth byte
+abbrev pub shared_title : ℕ → List ℕ → ℕ → List ℕ
+shared_title version digest seed = magic ++ to_be_bytes w16 version ++ digest ++ to_be_bytes w64 seed
+
+-- the bytes between the birth byte and the first gate
+unfoldable pub title_bytes : Title → List ℕ
+title_bytes t = shared_title t.version t.digest t.seed ++ (if t.version == 2 then to_be_bytes w16 t.batch else [])
+
+-- how many bytes the head has, its birth byte and the first gate among them
+abbrev pub head_length : ℕ → ℕ
+head_length version = if version == 2 then 54 else 52
+
+-- records of these payloads: an open gate, the payload's length, the payload
+unfoldable pub records : List (List ℕ) → List ℕ
+records [] = []
+records (p ∷ ps) = 1 ∷ to_be_bytes w32 (length p) ++ p ++ records ps
+
+-- what stands behind a gate that is opened: the payload's length, the payload, and the next gate, shut
+unfoldable pub body_of : List ℕ → List ℕ
+body_of p = to_be_bytes w32 (length p) ++ p ++ 0 ∷ []
+
+-- what stands before the gate that follows these records
+abbrev pub front : Title → List (List ℕ) → List ℕ
+front t ps = 1 ∷ title_bytes t ++ records ps
+
+-- a journal of these records, a gate, and the rest behind it
+abbrev pub journal : Title → List (List ℕ) → ℕ → List ℕ → List ℕ
+journal t ps gate rest = front t ps ++ gate ∷ rest
+
+-- the bytes are such a body, of at most 2^26 bytes of payload
+abbrev pub IsBody : List ℕ → Type 0
+IsBody bytes = (p : List ℕ) × (length p ≤ 2 ^ 26) × (bytes ≡ body_of p)
+
+-- the title of a new journal: version 2 where an iteration has a batch of paths, else version 1
+abbrev pub new_title : List ℕ → ℕ → Option ℕ → Title
+new_title digest seed None = record { version = 1; digest = digest; seed = seed; batch = 1 }
+new_title digest seed (Some batch) = record { version = 2; digest = digest; seed = seed; batch = batch }

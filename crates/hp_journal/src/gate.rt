@@ -1,0 +1,169 @@
+// The gates of a journal and the records behind the open ones.
+ghost use Rattle.std.specs.Prelude.{◌≡◌, ◌⊎◌, ◌≤◌, ◌<◌, ◌+◌, ◌^◌, ℕ, length, take, drop, get_or, IfOk, IfErr, IfSome, OnOk, MatchResult, Ok, Err, ⊤};
+ghost use Rattle.hp_outside.specs.Causes.{HasCause};
+ghost use Rattle.hp_outside.specs.Disks.{Stays};
+ghost use Rattle.hp_journal.specs.Causes.{DiskCause};
+ghost use Rattle.hp_journal.specs.Gates.{gate_of, payload_of};
+ghost use Rattle.hp_journal.specs.declared.gate.GateFault.TheVariants as gates;
+ghost use Rattle.hp_journal.specs.declared.gate.PayloadFault.TheVariants as payloads;
+
+use hp_outside::{Disk, Failed};
+use thiserror::Error;
+
+/// The most bytes of a record's payload.
+pub const MOST_PAYLOAD: u32 = 1 << 26;
+
+/// A gate: what stands behind it counts where it is open.
+#[derive(Clone, Copy, Debug, PartialEq, Eq)]
+pub enum Gate {
+    /// Any byte but 1, with the number of bytes behind it.
+    Shut { rest: u64 },
+    /// The byte 1.
+    Ajar,
+}
+
+/// Why no gate could be read.
+#[derive(Clone, Copy, Debug, Drop, Error, PartialEq, Eq)]
+pub enum GateFault {
+    #[error("the journal ends before its gate at {place}")]
+    Short { place: u64 },
+    #[error("the journal's device failed")]
+    DiskFault,
+}
+
+impl From<Failed> for GateFault {
+    ghost use Rattle.hp_journal.specs.declared.gate.GateFault.TheVariants.{DiskFault};
+
+    ghost from_gives = { λ _ e. e ≡ DiskFault };
+
+    fn from(_: Failed) -> Self {
+        GateFault::DiskFault
+    }
+}
+
+/// Why no payload could be read.
+#[derive(Clone, Copy, Debug, Drop, Error, PartialEq, Eq)]
+pub enum PayloadFault {
+    #[error("the journal ends inside the part at {place}")]
+    Short { place: u64 },
+    #[error("a payload of {length} bytes")]
+    BadLength { length: u32 },
+    #[error("the journal's device failed")]
+    DiskFault,
+    #[error("memory")]
+    Memory,
+}
+
+impl From<Failed> for PayloadFault {
+    ghost use Rattle.hp_journal.specs.declared.gate.PayloadFault.TheVariants.{DiskFault};
+
+    ghost from_gives = { λ _ e. e ≡ DiskFault };
+
+    fn from(_: Failed) -> Self {
+        PayloadFault::DiskFault
+    }
+}
+
+/// The gate at a place. `Short` with the place where the file ends before it; `DiskFault` only where the
+/// disk's count of faults rose. It takes no memory.
+pub fn read_gate<D: Disk>(disk: &mut D, at: u64) -> Result<Gate, GateFault>
+    requires { at ≤ 2 ^ 40 }
+    ensures value { IfSome (D.store disk.old).reads (λ bytes.
+        (result ≡ gate_of bytes at) ⊎ (result ≡ Err gates.DiskFault)) }
+    ensures stays { Stays (D.store disk.old) (D.store disk.new) }
+    ensures cause { DiskCause (D.faults disk.old) (D.faults disk.new) (result ≡ Err gates.DiskFault) }
+{
+    let (byte, len) = byte_at(disk, at)?;
+    if len <= at {
+        return Err(GateFault::Short { place: at });
+    }
+    if byte == 1 {
+        return Ok(Gate::Ajar);
+    }
+    Ok(Gate::Shut {
+        rest: len - (at + 1),
+    })
+}
+
+// The byte at a place, 1 where the disk ends before it, and the length.
+pub(crate) fn byte_at<D: Disk>(disk: &mut D, at: u64) -> Result<(u8, u64), Failed>
+    requires { at ≤ 2 ^ 40 }
+    ensures byte { IfOk result (λ p. IfSome (D.store disk.old).reads (λ bytes. p.0 ≡ get_or bytes at 1)) }
+    ensures length { IfOk result (λ p. IfSome (D.store disk.old).reads (λ bytes. p.1 ≡ length bytes)) }
+    ensures stays { Stays (D.store disk.old) (D.store disk.new) }
+    ensures cause { HasCause (D.faults disk.old) (D.faults disk.new) result }
+{
+    let len = disk.len()?;
+    if len <= at {
+        return Ok((1, len));
+    }
+    let mut byte = [0; 1];
+    disk.read_at(at, &mut byte)?;
+    Ok((byte[0], len))
+}
+
+/// The payload of the record whose open gate stands at a place, read into a buffer in the place of what was there;
+/// answers the place of the next gate. Each refusal is the first in this order: `Short` with the place of
+/// the length, `BadLength` above 2^26, `Short` with the place of the payload; then `Memory` where the
+/// buffer cannot grow. `DiskFault` comes only where the disk's count of faults rose. After a refusal
+/// nothing is promised of the buffer.
+pub fn payload<D: Disk>(disk: &mut D, at: u64, into: &mut Vec<u8>) -> Result<u64, PayloadFault>
+    requires { at ≤ 2 ^ 40 }
+    ensures value { IfSome (D.store disk.old).reads (λ bytes. MatchResult result
+        (λ _. payload_of bytes at ≡ Ok into.new.items)
+        (λ fault. (payload_of bytes at ≡ Err fault) ⊎ (fault ≡ payloads.DiskFault) ⊎ (fault ≡ payloads.Memory))) }
+
+    // Over any disk.
+    ensures next { IfOk result (λ next. next ≡ at + 5 + length into.new.items) }
+    ensures few { IfOk result (λ _. length into.new.items ≤ 2 ^ 26) }
+    ensures stays { Stays (D.store disk.old) (D.store disk.new) }
+    ensures cause { DiskCause (D.faults disk.old) (D.faults disk.new) (result ≡ Err payloads.DiskFault) }
+{
+    let len = disk.len()?;
+    if len < at + 5 {
+        return Err(PayloadFault::Short { place: at + 1 });
+    }
+    let mut word = [0; 4];
+    disk.read_at(at + 1, &mut word)?;
+    let length = u32::from_be_bytes(word);
+    if length > MOST_PAYLOAD {
+        return Err(PayloadFault::BadLength { length });
+    }
+    let next = at + 5 + u64::from(length);
+    if len < next {
+        return Err(PayloadFault::Short { place: at + 5 });
+    }
+    read_into(disk, at + 5, into, length as usize)?;
+    Ok(next)
+}
+
+// Reads so many bytes from a place on into a buffer, in the place of what was there.
+fn read_into<D: Disk>(
+    disk: &mut D,
+    at: u64,
+    into: &mut Vec<u8>,
+    count: usize,
+) -> Result<(), PayloadFault>
+    requires range { at + count ≤ D.readable disk.old }
+    requires near { at + count ≤ 2 ^ 62 }
+    ensures bytes { OnOk result (IfSome (D.store disk.old).reads (λ bytes. into.new.items ≡ take count (drop at bytes))) }
+    ensures count { OnOk result (length into.new.items ≡ count) }
+    ensures fault { IfErr result (λ fault. (fault ≡ payloads.DiskFault) ⊎ (fault ≡ payloads.Memory)) }
+    ensures stays { Stays (D.store disk.old) (D.store disk.new) }
+    ensures cause { DiskCause (D.faults disk.old) (D.faults disk.new) (result ≡ Err payloads.DiskFault) }
+{
+    make_room(into, count)?;
+    disk.read_at(at, into.as_mut_slice())?;
+    Ok(())
+}
+
+// Gives the buffer this length.
+fn make_room(into: &mut Vec<u8>, count: usize) -> Result<(), PayloadFault>
+    ensures { MatchResult result (λ _. length into.new.items ≡ count) (λ fault. fault ≡ payloads.Memory) }
+{
+    into.clear();
+    let Ok(()) = into.resize(count, 0) else {
+        return Err(PayloadFault::Memory);
+    };
+    Ok(())
+}
