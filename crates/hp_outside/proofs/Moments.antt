@@ -1,5 +1,5 @@
 -- How a run of calls of a disk goes on.
-use Rattle.std.proofs.Common.{◌≡◌, ◌⊎◌, inl, inr, ⊎_elim, ℕ, ◌≤◌, List, refl, sym, subst, arith}
+use Rattle.std.proofs.Common.{inl, inr, ⊎_elim, ℕ, List, arith}
 use Rattle.hp_outside.specs.Disks.{Store, Elapses, Stays, Lawful}
 use Rattle.hp_outside.specs.Since.{LeavesOnly}
 
