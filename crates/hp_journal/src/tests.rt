@@ -259,7 +259,7 @@ fn assert_born(
 
 #[test]
 fn is_born_after_any_crash(rt: HostRuntime) -> Result<(), Fail> {
-    let unborn: [(&[u8], u64); 2] = [(b"", 7), (&[0; 54], 8)];
+    let unborn: [(&[u8], u64); 3] = [(b"", 7), (b"X", 8), (&[0; 54], 8)];
     for (bytes, most) in unborn {
         for calls in 0..=most {
             for how in CRASHES {
