@@ -1,0 +1,11 @@
+pub mod Each
+pub mod Numbers
+pub mod Rows
+pub mod Stages
+pub mod Worked
+pub mod Walks
+pub mod Inside
+pub mod Starts
+pub mod Searches
+pub mod Turning
+pub mod Singles

@@ -1,0 +1,39 @@
+-- What a turn in place comes to.
+use Rattle.std.specs.Prelude.{◌≡◌, ◌<◌, Bool, true, false, ⊤}
+use Rattle.hp_simplex.specs.declared.dictionary.Kept.{Kept}
+use Rattle.hp_simplex.specs.declared.dictionary.Leaving.{Leaving}
+use Rattle.hp_simplex.specs.declared.dictionary.Entering.{Entering}
+use Rattle.hp_simplex.specs.declared.dual_simplex.Step.{Step}
+use Rattle.hp_simplex.specs.declared.dual_simplex.Step.TheVariants.{Goes, Found, Ray, Stuck}
+use Rattle.hp_simplex.specs.declared.dual_simplex.Choice.{Choice}
+use Rattle.hp_simplex.specs.declared.dual_simplex.Choice.TheVariants as choices
+use Rattle.hp_simplex.specs.Pivot.{pivot_of}
+use Rattle.hp_simplex.specs.Dictionary.{Dictionary}
+use Rattle.hp_simplex.specs.Whole.{dictionary_of}
+use Rattle.hp_simplex.specs.Solve as solve
+
+-- true where the variables changed places, false where a result is absent
+abbrev pub Exchanges : Bool → Dictionary → Leaving → Entering → Dictionary → Type 0
+Exchanges true d l e new = solve.by_pivot d l e (pivot_of l.row e.column d.grid) ≡ solve.goes new
+Exchanges false d l e new = solve.by_pivot d l e (pivot_of l.row e.column d.grid) ≡ solve.stuck
+
+-- the step says what the turn comes to, and leaves the next dictionary, or the same one
+abbrev pub Takes : Step → solve.Turn → Kept → Kept → Type 0
+Takes Goes t old new = t ≡ solve.goes (dictionary_of new)
+Takes Found t old new = (t ≡ solve.found) × (new ≡ old)
+Takes (Ray l) t old new = (t ≡ solve.ray l) × (new ≡ old) × (l.row < new.table.rows)
+Takes Stuck t old new = t ≡ solve.stuck
+
+-- what a turn comes to, but for its pivot
+abbrev pub Chooses : Choice → solve.Turn → Dictionary → Type 0
+Chooses choices.Found t d = t ≡ solve.found
+Chooses (choices.Ray l) t d = t ≡ solve.ray l
+Chooses (choices.Exchange l e) t d = t ≡ solve.by_pivot d l e (pivot_of l.row e.column d.grid)
+Chooses choices.Stuck t d = t ≡ solve.stuck
+
+-- the row and the column are there
+abbrev pub AreInside : Choice → Kept → Type 0
+AreInside choices.Found k = ⊤
+AreInside (choices.Ray l) k = l.row < k.table.rows
+AreInside (choices.Exchange l e) k = (l.row < k.table.rows) × (e.column < k.table.columns)
+AreInside choices.Stuck k = ⊤

@@ -1,0 +1,68 @@
+// Values of variables by their bounds and rows.
+ghost use Rattle.std.specs.Prelude.{◌≡◌, length};
+ghost use Rattle.hp_simplex.specs.Numbers.{zero_fx};
+ghost use Rattle.hp_simplex.specs.Dictionary.{low_of, high_of, value_at, sum_step, sum_from, row_value};
+
+use crate::dictionary::Place;
+use crate::fixed::Fx;
+use crate::stage_lp::StageLp;
+
+// The lower bound of a variable.
+#[tactic(auto, unfolding(crate::specs::Dictionary::low_of))]
+pub fn low_of(lp: &StageLp, variable: usize) -> Option<Fx>
+    ensures { result ≡ low_of lp.now variable }
+{
+    let columns = lp.columns.len();
+    if variable < columns {
+        Some(lp.columns.as_slice().get(variable)?.low)
+    } else {
+        lp.rows.as_slice().get(variable - columns)?.low
+    }
+}
+
+// The upper bound of a variable.
+#[tactic(auto, unfolding(crate::specs::Dictionary::high_of))]
+pub fn high_of(lp: &StageLp, variable: usize) -> Option<Fx>
+    ensures { result ≡ high_of lp.now variable }
+{
+    let columns = lp.columns.len();
+    if variable < columns {
+        Some(lp.columns.as_slice().get(variable)?.high)
+    } else {
+        lp.rows.as_slice().get(variable - columns)?.high
+    }
+}
+
+// The value of a nonbasic variable.
+#[tactic(auto, unfolding(crate::specs::Dictionary::value_at))]
+pub fn value_at(lp: &StageLp, place: Place) -> Option<Fx>
+    ensures { result ≡ value_at lp.now place }
+{
+    if place.high {
+        high_of(lp, place.variable)
+    } else {
+        low_of(lp, place.variable)
+    }
+}
+
+// A sum with one term more.
+#[tactic(auto, unfolding(crate::specs::Dictionary::sum_step))]
+fn sum_step(lp: &StageLp, sum: Fx, factor: Fx, place: Place) -> Option<Fx>
+    ensures { result ≡ sum_step lp.now sum factor place }
+{
+    let value = value_at(lp, place)?;
+    sum.add(factor.mul(value)?)
+}
+
+// The value of a basic variable.
+#[tactic(auto, unfolding(crate::specs::Dictionary::row_value))]
+pub fn row_value(lp: &StageLp, places: &[Place], row: &[Fx]) -> Option<Fx>
+    requires { length row.now ≡ length places.now }
+    ensures { result ≡ row_value lp.now places.now row.now }
+{
+    let mut sum = Fx(0);
+    for j in 0..row.len() {
+        sum = sum_step(lp, sum, row[j], places[j])?;
+    }
+    Some(sum)
+}
