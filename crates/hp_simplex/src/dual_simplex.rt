@@ -153,6 +153,7 @@ impl Solver for DualSimplex {
     {
         let columns = lp.columns.len();
         let rows = lp.rows.len();
+        // More variables than 32 bits can number find no memory.
         let most = u32::MAX as usize;
         if columns > most || rows > most - columns {
             return Err(Memory);
