@@ -4,6 +4,8 @@ ghost use Rattle.hp_simplex.specs.Pivot.{negated};
 ghost use Rattle.hp_simplex.specs.Entering.{is_negative};
 ghost use Rattle.hp_simplex.specs.Numbers.{held, quotient, plus, minus, times, over};
 
+use hp_num::floor_div;
+
 // The scale: what stands for 1.
 pub(crate) const ONE: i128 = 1 << 32;
 
@@ -37,7 +39,7 @@ fn floor_quotient(a: i128, b: i128) -> Option<i128>
     ensures { result ≡ quotient a b }
 {
     if b > 0 {
-        Some(a.div_euclid(b))
+        Some(floor_div(a, b))
     } else if a > 0 && b < 0 {
         Some((a - 1).div_euclid(b) - 1)
     } else {
@@ -68,7 +70,7 @@ impl Fx {
     pub fn mul(self, other: Fx) -> Option<Fx>
         ensures { result ≡ times self other }
     {
-        Some(Fx(whole_product(self.0, other.0)?.div_euclid(ONE)))
+        Some(Fx(floor_div(whole_product(self.0, other.0)?, ONE)))
     }
 
     /// The quotient, rounded down; none exactly where the divisor is 0, or where 128 bits do not
