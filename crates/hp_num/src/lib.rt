@@ -1,6 +1,7 @@
-//! Names, lists and exact arithmetic.
+//! Names, lists, numbers in bytes and exact arithmetic.
 #![tactic(auto)]
 
+pub mod big_endian;
 pub mod list;
 pub mod memory;
 pub mod name;

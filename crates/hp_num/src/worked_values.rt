@@ -62,3 +62,11 @@ fn divides_and_adds(rt: HostRuntime) {
     }
     assert_eq!(rt; add_product(5, -3, 4), -7);
 }
+
+#[test]
+fn reads_numbers(rt: HostRuntime) {
+    let bytes = [0, 1, 2, 3, 4, 5, 6, 7, 8];
+    assert_eq!(rt; big_endian::u16_at(&bytes, 1), 0x0102);
+    assert_eq!(rt; big_endian::u32_at(&bytes, 2), 0x02030405);
+    assert_eq!(rt; big_endian::u64_at(&bytes, 1), 0x0102030405060708);
+}
