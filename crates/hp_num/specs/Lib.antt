@@ -1,3 +1,4 @@
 pub mod Sums
 pub mod Product
 pub mod Steps
+pub mod Lending

@@ -1,5 +1,7 @@
 // A list that contracts see as a list.
 ghost use Rattle.std.specs.Prelude.{◌≡◌, ◌==◌, ◌<◌, ◌∷◌, ◌++◌, [], length, slice_index_or, slice_set, if◌then◌else◌, is_ok};
+ghost use Rattle.std.specs.Borrow.{sem};
+ghost use Rattle.hp_num.specs.Lending.{LendsItems};
 
 use crate::Memory;
 use std::alloc::Global;
@@ -51,6 +53,14 @@ impl<T> List<T> {
         self.items.as_slice()
     }
 
+    /// The values as a slice that may be changed, in the same order.
+    pub fn as_mut_slice(&mut self) -> &mut [T]
+        ensures* writes_back { sem 𝓛 (LendsItems T.row self.entry result) }
+        ensures value { result.now ≡ self.old }
+    {
+        self.items.as_mut_slice()
+    }
+
     /// The number of values.
     pub fn len(&self) -> usize
         ensures { result ≡ length self.now }
@@ -76,6 +86,13 @@ impl<T: Drop> List<T> {
             Ok(()) => Ok(()),
             Err(_) => Err(Memory),
         }
+    }
+
+    /// Drops all values. The memory that they took stays with the list.
+    pub fn clear(&mut self)
+        ensures { self.new ≡ [] }
+    {
+        self.items.clear();
     }
 
     /// Puts an item in the place of the one at a number, which is dropped.

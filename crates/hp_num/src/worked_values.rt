@@ -16,6 +16,13 @@ fn holds_lists_and_names(rt: HostRuntime) -> Result<(), Fail> {
         assert_eq!(rt; items.as_slice(), [8, 9].as_slice());
     }
     assert_eq!(rt; outer.len(), 1);
+    let mut numbers = List::from_vec(vec![in rt.alloc(); 1, 2, 3]?);
+    for number in numbers.as_mut_slice() {
+        *number = 5;
+    }
+    assert_eq!(rt; numbers.as_slice(), [5, 5, 5].as_slice());
+    numbers.clear();
+    assert!(rt; numbers.is_empty());
     let name = Name::new(rt.alloc(), "Itaipú")?;
     assert_eq!(rt; name.as_str(), "Itaipú");
     Ok(())
