@@ -1,11 +1,14 @@
--- What stands under the cost of a tree is positive.
-use Rattle.std.proofs.Common.{ℕ, ◌<◌, ℤ, List, [], ◌∷◌, All, arith, mul-pos}
+-- What stands under the cost of a tree and of a policy is positive.
+use Rattle.std.proofs.Common.{◌≡◌, ℕ, ◌<◌, ℤ, true, List, [], ◌∷◌, length, sum, All, arith, mul-pos}
 use Rattle.hp_num.proofs.Sums.{All_head, All_tail}
-use Rattle.hp_theory.specs.Cost.{cost, cost_sum, costs_of}
+use Rattle.hp_problem.specs.Sealed.{Sealed, is_sealed}
+use Rattle.hp_theory.specs.Cost.{cost, cost_sum, costs_of, policy_cost}
 use Rattle.hp_theory.specs.Fraction.{weighted}
 use Rattle.hp_theory.specs.Premises.{Known}
 use Rattle.hp_theory.specs.Problem.{Realization, Link, Node, Problem, node_at, link_weights, successor_weight}
-use Rattle.hp_theory.specs.Tree.{next_state, Tree, Forest, no_branch, branch, no_tree, tree}
+use Rattle.hp_theory.specs.Tree.{next_state, times_all, Tree, Forest, no_branch, branch, no_tree, tree}
+use Rattle.hp_theory.specs.View.{problem_of}
+use Rattle.hp_theory.proofs.SealedPremises.{known-sealed, root_shaped-sealed, root-sealed}
 
 mutual
   tree_under : (p : Problem) (count units : ℕ) (n : Node) (rs : List Realization) (xi : List ℤ) (t : Tree) → 0 < units → Known p count → 0 < successor_weight n → All (λ (l : Link). l.node < count) n.links → 0 < (cost_sum p units n rs xi t).under
@@ -25,3 +28,9 @@ mutual
 
 pub positive_under : (p : Problem) (count m units : ℕ) (xi : List ℤ) (t : Tree) → Known p count → m < count → 0 < units → 0 < (cost p units m xi t).under
 positive_under p count m units xi t k b z = mul-pos (tree_under p count units (node_at p m) (node_at p m).realizations xi t z k (k.successors m b) (k.links m b)) (k.realizations m b)
+
+policy_under : (p : Problem) (count units : ℕ) (f : Forest) → Known p count → 0 < sum (link_weights p.root) → All (λ (l : Link). l.node < count) p.root → 0 < units → 0 < (policy_cost p units f).under
+policy_under p count units f k some there z = mul-pos (forest_under p count units (link_weights p.root) p.root (times_all units p.initial) f z k there) some
+
+pub positive_policy : (p : Sealed) (units : ℕ) (f : Forest) → is_sealed p ≡ true → 0 < units → 0 < (policy_cost (problem_of p) units f).under
+positive_policy p units f e z = policy_under (problem_of p) (length p.raw.nodes) units f (known-sealed p e) (root_shaped-sealed p e).some (root-sealed p e) z

@@ -1,12 +1,13 @@
 // The laws over the definitions. Each is the contract of a function with an empty body.
-ghost use Rattle.std.specs.Prelude.{◌≡◌, ℕ, ◌*◌, ◌-◌, ◌^◌, ◌<◌, ℤ, pos, ◌+ℤ◌, ◌*ℤ◌, ◌≤ℤ◌, List, [], length, All, sum};
+ghost use Rattle.std.specs.Prelude.{◌≡◌, true, ℕ, ◌*◌, ◌-◌, ◌^◌, ◌<◌, ℤ, pos, ◌+ℤ◌, ◌*ℤ◌, ◌≤ℤ◌, List, [], length, All, sum};
 ghost use Rattle.hp_num.specs.Sums.{sum_to, entry, table, floor_over};
+ghost use Rattle.hp_problem.specs.Sealed.{Sealed, is_sealed};
 ghost use Rattle.hp_theory.specs.declared.cut.Cut.{Cut};
 ghost use Rattle.hp_theory.specs.declared.cut.Certificate.{Certificate};
 ghost use Rattle.hp_theory.specs.Fraction.{Fraction, ◌≤ᶠ◌, plus, over, weighted};
 ghost use Rattle.hp_theory.specs.Problem.{S, Node, Problem, node_at, link_weights, realization_weight, successor_weight, with_weights};
-ghost use Rattle.hp_theory.specs.Tree.{Tree, Decides, next_state};
-ghost use Rattle.hp_theory.specs.Cost.{stage, cost};
+ghost use Rattle.hp_theory.specs.Tree.{Tree, Forest, Decides, next_state};
+ghost use Rattle.hp_theory.specs.Cost.{stage, cost, policy_cost};
 ghost use Rattle.hp_theory.specs.Pools.{pool, push, Holds, Sound};
 ghost use Rattle.hp_theory.specs.Certificates.{RightAt, Right, AboveCuts};
 ghost use Rattle.hp_theory.specs.CutOf.{alpha_at, beta_at, cut_of};
@@ -15,6 +16,7 @@ ghost use Rattle.hp_theory.specs.Fit.{CutFits};
 ghost use Rattle.hp_theory.specs.Bound.{value, bound, Under};
 ghost use Rattle.hp_theory.specs.Base.{base, base_list};
 ghost use Rattle.hp_theory.specs.Leaf.{least_cost, cost_size};
+ghost use Rattle.hp_theory.specs.View.{problem_of};
 ghost use Rattle.hp_theory.specs.Premises.{Shaped, RootShaped, HaveCuts, InOrder, Known, Narrow};
 
 /// A list of certificates that is right over sound pools gives a cut that holds.
@@ -100,8 +102,11 @@ pub fn leaf_base()
         → Holds p m (cut_of pools (node_at p m) (base_list (node_at p m))) }
 {}
 
-/// What stands under the cost of a tree is positive, so costs are compared as fractions.
+/// What stands under the cost of a tree is positive wherever the nodes have weights and lead to nodes, and so is what
+/// stands under the cost of a policy of a sealed problem: costs are compared as fractions.
 pub fn positive_denominators()
-    ensures { (p : Problem) (count m units : ℕ) (xi : List ℤ) (t : Tree)
+    ensures trees { (p : Problem) (count m units : ℕ) (xi : List ℤ) (t : Tree)
         → Known p count → m < count → 0 < units → 0 < (cost p units m xi t).under }
+    ensures policies { (p : Sealed) (units : ℕ) (f : Forest)
+        → is_sealed p ≡ true → 0 < units → 0 < (policy_cost (problem_of p) units f).under }
 {}

@@ -2,4 +2,4 @@ use Rattle.hp_theory.proofs.Denominators as lemmas
 use Rattle.hp_theory.proofs.laws.positive_denominators.Goals as goal
 
 pub returns : goal.returns
-returns c = lemmas.positive_under
+returns c = record { trees = lemmas.positive_under; policies = lemmas.positive_policy }
