@@ -11,7 +11,7 @@ use Rattle.hp_theory.specs.Tree.{InBox}
 use Rattle.hp_theory.specs.Size.{magnitude, magnitudes, reach}
 use Rattle.hp_theory.specs.Fit.{CutFits, cut_size}
 use Rattle.hp_theory.specs.Premises.{StartsIn}
-use Rattle.hp_cut.specs.Reaches.{Reaches, height_size}
+use Rattle.hp_cut.specs.Reaches.{Reaches, value_size}
 
 dot_below : (bs xs : List ℤ) (r : ℕ → ℤ) → length bs ≡ length xs → ((k : ℕ) → k < length xs → magnitude (entry xs k) ≤ℤ r k) → dot (magnitudes bs) (magnitudes xs) ≤ℤ sum_to (length bs) (λ k. magnitude (entry bs k) *ℤ r k)
 dot_below [] xs r e h = le_refl (pos 0)
@@ -31,7 +31,7 @@ reaches n x c b f =
     let same : sum_to (length c.beta) (λ k. magnitude (entry c.beta k) *ℤ reach n.low n.high k) ≡ sum_to (length n.low) (λ k. magnitude (entry c.beta k) *ℤ reach n.low n.high k) = ap (λ (k : ℕ). sum_to k (λ k. magnitude (entry c.beta k) *ℤ reach n.low n.high k)) f.slopes in
     record {
       slopes = count;
-      small = le_trans (height_size c x) (cut_size n c) (pos (2 ^ 104))
+      small = le_trans (value_size c x) (cut_size n c) (pos (2 ^ 104))
           (le_add (magnitude c.alpha) (magnitude c.alpha) (dot (magnitudes c.beta) (magnitudes x)) (sum_to (length n.low) (λ k. magnitude (entry c.beta k) *ℤ reach n.low n.high k)) (le_refl (magnitude c.alpha))
           (subst (λ (z : ℤ). dot (magnitudes c.beta) (magnitudes x) ≤ℤ z) same below)) f.small;
     }

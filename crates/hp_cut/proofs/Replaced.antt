@@ -1,6 +1,6 @@
 -- Lists seen through a function of their elements, where one element was replaced.
-use Rattle.std.proofs.Common.{◌≡◌, ℕ, ◌<◌, Bool, true, false, if◌then◌else◌, List, [], length, get_or, map, set, ap, sym, subst, ◌∙◌}
-use Rattle.std.proofs.lemmas.List.{map-set, get_or-map, get_or-set_same, length-map}
+use Rattle.std.proofs.Common.{◌≡◌, ◌≢◌, ℕ, ◌<◌, Bool, true, false, if◌then◌else◌, List, [], length, get_or, map, set, ap, sym, subst, ◌∙◌}
+use Rattle.std.proofs.lemmas.List.{map-set, get_or-map, get_or-set_same, get_or-set_other, length-map}
 use Rattle.std.proofs.Math.Seq.{map-set_same}
 
 module _ {A : Type 0} where
@@ -29,3 +29,11 @@ module _ {A : Type 0} where
   -- the place is there
   pub within : {B : Type 0} (f : A → B) (xs : List A) (i : ℕ) (bs : List B) → map f xs ≡ bs → i < length bs → i < length xs
   within f xs i bs v h = subst (λ n. i < n) (sym (ap length v) ∙ length-map xs f) h
+
+  -- what stood at the place i before
+  pub stood : (f : A → ℕ) (xs : List A) (i : ℕ) (x : A) → x ≡ get_or xs i x → i < length xs → get_or (map f xs) i 0 ≡ f x
+  stood f xs i x e h = get_or-map f xs i x 0 h ∙ ap f (sym e)
+
+  -- what stands at another place k
+  pub elsewhere : (f : A → ℕ) (xs : List A) (i k : ℕ) (y : A) → k ≢ i → get_or (map f (set xs i y)) k 0 ≡ get_or (map f xs) k 0
+  elsewhere f xs i k y h = ap (λ b. get_or b k 0) (map-set f xs i y) ∙ get_or-set_other (map f xs) i k (f y) 0 h

@@ -5,9 +5,9 @@ use Rattle.hp_theory.specs.declared.cut.Cut.{Cut}
 use Rattle.hp_theory.specs.Size.{magnitude, magnitudes}
 
 -- |alpha| + sum of |beta_k| * |x_k|
-abbrev pub height_size : Cut → List ℤ → ℤ
-height_size c x = magnitude c.alpha +ℤ dot (magnitudes c.beta) (magnitudes x)
+abbrev pub value_size : Cut → List ℤ → ℤ
+value_size c x = magnitude c.alpha +ℤ dot (magnitudes c.beta) (magnitudes x)
 
 pub record Reaches (x : List ℤ) (c : Cut) : Type 0 where
   pub slopes : length c.beta ≡ length x
-  pub small : height_size c x ≤ℤ pos (2 ^ 104)
+  pub small : value_size c x ≤ℤ pos (2 ^ 104)

@@ -1,8 +1,8 @@
 //! Cuts, pools of them (one list of cuts per node), and the entries of training that cuts are made from.
 #![tactic(auto)]
 
+mod cut_value;
 pub mod entry;
-mod height;
 pub mod pools;
 
 pub use entry::{Entry, EntryStep};

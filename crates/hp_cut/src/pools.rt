@@ -1,6 +1,6 @@
 // Pools of cuts.
 ghost use Rattle.std.specs.Int.{w128};
-ghost use Rattle.std.specs.Prelude.{◌≡◌, ◌<◌, ◌≤◌, ◌^◌, ◌*◌, ℤ, pos, ◌+ℤ◌, ◌*ℤ◌, ◌≤ℤ◌, [], ◌∷◌, ◌++◌, vec_len, vec_capacity, length, sum, true, replicate, get_or, set, take, if◌then◌else◌, is_ok, IfOk, OnOk, IsOk};
+ghost use Rattle.std.specs.Prelude.{◌≡◌, ◌≢◌, ◌+◌, ◌-◌, ◌<◌, ◌≤◌, ◌^◌, ◌*◌, ℕ, ℤ, pos, ◌+ℤ◌, ◌*ℤ◌, ◌≤ℤ◌, [], ◌∷◌, ◌++◌, vec_len, vec_capacity, length, sum, true, replicate, get_or, set, take, if◌then◌else◌, is_ok, IfOk, OnOk, IsOk};
 ghost use Rattle.hp_num.specs.Sums.{total};
 ghost use Rattle.hp_problem.specs.Sealed.{is_sealed};
 ghost use Rattle.hp_theory.specs.Problem.{node_at, link_weights};
@@ -11,7 +11,7 @@ ghost use Rattle.hp_theory.specs.Pools.{pool, no_cut, push, Sound};
 ghost use Rattle.hp_theory.specs.Bound.{value, weighted_value, bound, Under};
 ghost use Rattle.hp_theory.specs.View.{problem_of, links_of};
 
-use crate::height::greatest;
+use crate::cut_value::greatest;
 use hp_num::{Memory, add_product, floor_div};
 use hp_problem::Problem;
 use hp_theory::Cut;
@@ -49,31 +49,49 @@ impl Pools {
     }
 
     /// Makes room for one more cut of a node. [`Memory`] where memory was refused. The cuts stay in
-    /// either case.
+    /// either case, and no node loses room.
     pub fn reserve(&mut self, node: u32) -> Result<(), Memory>
         requires { node < length self.old.lists }
         ensures cuts { self.new.lists ≡ self.old.lists }
         ensures room { OnOk result (1 ≤ get_or self.new.spare node 0) }
+        ensures grown { get_or self.old.spare node 0 ≤ get_or self.new.spare node 0 }
+        ensures others { (k : ℕ) → k ≢ node → get_or self.new.spare k 0 ≡ get_or self.old.spare k 0 }
     {
-        self.lists[node as usize].reserve(1)?;
+        self.reserve_many(node, 1)
+    }
+
+    /// Makes room for so many more cuts of a node. [`Memory`] where memory was refused. The cuts
+    /// stay in either case, and no node loses room.
+    pub fn reserve_many(&mut self, node: u32, count: u32) -> Result<(), Memory>
+        requires { node < length self.old.lists }
+        ensures cuts { self.new.lists ≡ self.old.lists }
+        ensures room { OnOk result (count ≤ get_or self.new.spare node 0) }
+        ensures grown { get_or self.old.spare node 0 ≤ get_or self.new.spare node 0 }
+        ensures others { (k : ℕ) → k ≢ node → get_or self.new.spare k 0 ≡ get_or self.old.spare k 0 }
+    {
+        self.lists[node as usize].reserve(count as usize)?;
         Ok(())
     }
 
     /// Appends a cut to a node's list. [`Memory`] comes only where there was no room, and then the
-    /// cut is dropped and the lists are as before.
+    /// cut is dropped and the lists are as before. A cut takes the room of one at most.
     pub fn push(&mut self, node: u32, cut: Cut) -> Result<(), Memory>
         requires known { node < length self.old.lists }
         requires few { length (pool self.old.lists node) < 2 ^ 24 }
         ensures cuts { self.new.lists ≡ (if is_ok result then push self.old.lists node cut else self.old.lists) }
         ensures room { 1 ≤ get_or self.old.spare node 0 → IsOk result }
+        ensures taken { get_or self.old.spare node 0 ≤ get_or self.new.spare node 0 + 1 }
+        ensures others { (k : ℕ) → k ≢ node → get_or self.new.spare k 0 ≡ get_or self.old.spare k 0 }
     {
         append(&mut self.lists[node as usize], cut)
     }
 
-    /// Keeps the first cuts of a node, as many as the count says.
+    /// Keeps the first cuts of a node, as many as the count says. The room of those that go is free.
     pub fn truncate(&mut self, node: u32, count: u32)
         requires { node < length self.old.lists }
-        ensures { self.new.lists ≡ set self.old.lists node (take count (pool self.old.lists node)) }
+        ensures cuts { self.new.lists ≡ set self.old.lists node (take count (pool self.old.lists node)) }
+        ensures freed { get_or self.old.spare node 0 + (length (pool self.old.lists node) - count) ≡ get_or self.new.spare node 0 }
+        ensures others { (k : ℕ) → k ≢ node → get_or self.new.spare k 0 ≡ get_or self.old.spare k 0 }
     {
         self.lists[node as usize].truncate(count as usize);
     }
@@ -156,6 +174,7 @@ impl Pools {
 fn append(cuts: &mut Vec<Cut>, cut: Cut) -> Result<(), Memory>
     ensures cuts { cuts.new.items ≡ (if is_ok result then cuts.old.items ++ cut ∷ [] else cuts.old.items) }
     ensures room { vec_len cuts.old < vec_capacity cuts.old → IsOk result }
+    ensures taken { vec_capacity cuts.old - vec_len cuts.old ≤ vec_capacity cuts.new - vec_len cuts.new + 1 }
 {
     match cuts.push(cut) {
         Ok(()) => Ok(()),

@@ -1,10 +1,10 @@
 -- The order of a sealed problem has each node once, after its successors.
-use Rattle.std.proofs.Common.{◌≡◌, ℕ, ◌<◌, true, false, List, [], ◌∷◌, length, All, Contains, Option, Some, None, refl, sym, subst, arith}
-use Rattle.std.specs.Prelude.{is_none}
+use Rattle.std.proofs.Common.{◌≡◌, ℕ, ◌<◌, true, List, [], ◌∷◌, length, All, Contains, None, sym, subst, arith}
 use Rattle.std.specs.Cmp.Lexicographic.{same_text}
 use Rattle.std.proofs.lemmas.Bool.Decides.{nat_tests}
 use Rattle.std.proofs.lemmas.List.{length-map}
 use Rattle.std.proofs.lemmas.List.Elements.{All-weaker}
+use Rattle.hp_num.proofs.Tests.{is_none-true}
 use Rattle.hp_paths.specs.Paths.{links_at, first_in_cycle}
 use Rattle.hp_paths.specs.Ranks.{ranks, by_rank}
 use Rattle.hp_paths.proofs.Placing.{After, after, placed}
@@ -15,13 +15,6 @@ use Rattle.hp_theory.specs.Problem.{Link, Problem, node_at}
 use Rattle.hp_theory.specs.View.{problem_of}
 use Rattle.hp_theory.specs.Premises.{Shaped, InOrder}
 use Rattle.hp_theory.proofs.SealedPremises.{shaped-sealed, leads-sealed}
-
-is_none-true : {A : Type 0} (o : Option A) → is_none o ≡ true → o ≡ None
-is_none-true None e = refl
-is_none-true (Some x) e = absurd (no e)
-  where
-    no : false ≡ true → ⊥
-    no h = cc
 
 pub no_cycle-sealed : (p : Sealed) → is_sealed p ≡ true → first_in_cycle (graph_of p.raw) ≡ None
 unfolding graph_fits

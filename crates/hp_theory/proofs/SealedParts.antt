@@ -1,7 +1,7 @@
 -- The parts of each node of a sealed problem, and what its limits say of them.
-use Rattle.std.proofs.Common.{◌≡◌, ℕ, ◌+◌, ◌<◌, ◌≤◌, ◌^◌, nat_abs, ℤ, pos, true, ◌==◌, List, [], ◌∷◌, length, get_or, sum, Option, Some, slice_get, nat_lt, option_and_then, sym, ap, ◌∙◌, subst, arith}
+use Rattle.std.proofs.Common.{◌≡◌, ℕ, ◌+◌, ◌<◌, ◌≤◌, ◌^◌, nat_abs, ℤ, pos, true, ◌==◌, List, [], length, get_or, sum, Option, Some, slice_get, nat_lt, option_and_then, sym, ap, ◌∙◌, subst, arith}
 use Rattle.std.specs.List.{list_all}
-use Rattle.std.proofs.lemmas.Option.{slice_get-get_or, get_or_from_slice_get}
+use Rattle.std.proofs.lemmas.Option.{get_or_from_slice_get}
 use Rattle.std.proofs.lemmas.Grind.{common_steps}
 use Rattle.std.proofs.lemmas.Bool.Decides.{nat_tests}
 use Rattle.hp_problem.specs.declared.raw.Node as nodes
@@ -9,7 +9,7 @@ use Rattle.hp_problem.specs.declared.raw.Subproblem.{Subproblem}
 use Rattle.hp_problem.specs.Limits.{are_numbers, are_small, is_small, are_weights, node_fits, values_fit, realizations_fit, links_fit, subproblem_fits}
 use Rattle.hp_problem.specs.Sealed.{Sealed, is_sealed, boxes_fit, holds_box, initial_values, leaves_inside, subproblem_of}
 use Rattle.hp_problem.proofs.SealedFacts.{raw-is_sealed, boxes-is_sealed, known_subproblem, box_counts, nodes_fit, subproblems_fit}
-use Rattle.hp_num.proofs.Tests.{and_second, all_at, all_get}
+use Rattle.hp_num.proofs.Tests.{and_second, all_at, all_get, some_of}
 use Rattle.hp_num.specs.Sums.{entry}
 use Rattle.hp_theory.specs.Problem.{node_at}
 use Rattle.hp_theory.specs.View.{node_of, problem_of}
@@ -71,10 +71,6 @@ parts_fit p m n s low high e fn fs fl fh =
       highs = all_get (are_numbers (length p.raw.states)) p.hi m high boxes.highs fh;
       leaves = all_get (leaves_inside p.raw p.lo p.hi) p.raw.nodes m n boxes.leaves fn;
     }
-
-some_of : {A : Type 0} (xs : List A) (i : ℕ) → i < length xs → (x : A) × (slice_get xs i ≡ Some x)
-some_of [] i h = absurd (omega arith)
-some_of (x ∷ xs) i h = (get_or (x ∷ xs) i x, slice_get-get_or (x ∷ xs) i x h)
 
 -- each node has its parts
 pub parts : (p : Sealed) (m : ℕ) → is_sealed p ≡ true → m < length p.raw.nodes → Parts p m

@@ -11,14 +11,14 @@ use Rattle.hp_theory.specs.Cost.{policy_cost}
 use Rattle.hp_theory.specs.Pools.{pool}
 
 -- alpha + beta·x
-abbrev pub height : Cut → List ℤ → ℤ
-height c x = c.alpha +ℤ dot c.beta x
+abbrev pub value_of_cut : Cut → List ℤ → ℤ
+value_of_cut c x = c.alpha +ℤ dot c.beta x
 
--- the greatest height of the cuts, and 0 where there is none
+-- the greatest value of the cuts, and 0 where there is none
 abbrev pub greatest : List Cut → List ℤ → ℤ
 greatest [] x = pos 0
-greatest (c ∷ []) x = height c x
-greatest (c ∷ (d ∷ cs)) x = int_max (height c x) (greatest (d ∷ cs) x)
+greatest (c ∷ []) x = value_of_cut c x
+greatest (c ∷ (d ∷ cs)) x = int_max (value_of_cut c x) (greatest (d ∷ cs) x)
 
 -- Value: the greatest alpha + beta·x over the cuts of the node m
 abbrev pub value : List (List Cut) → ℕ → List ℤ → ℤ

@@ -1,6 +1,9 @@
 // Cuts and the certificates that they are made from.
 use hp_num::List;
 
+/// S, the scale of cuts and multipliers: 2^24.
+pub const SCALE: u32 = 1 << 24;
+
 /// A linear function of a node's incoming state: at the state x it stands for (alpha + beta·x) / 2^24.
 #[derive(Drop)]
 pub struct Cut {

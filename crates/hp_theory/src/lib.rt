@@ -5,4 +5,4 @@ pub mod cut;
 pub mod laws;
 pub mod worked;
 
-pub use cut::{Certificate, Cut};
+pub use cut::{Certificate, Cut, SCALE};

@@ -1,7 +1,7 @@
 use Rattle.std.proofs.Common.{◌≡◌, ◌^◌, ◌<◌, pos, ◌≤ℤ◌, drop, length}
 use Rattle.hp_theory.specs.Size.{magnitude}
 use Rattle.hp_theory.specs.Bound.{greatest}
-use Rattle.hp_cut.proofs.height.greatest.Given as goal
+use Rattle.hp_cut.proofs.cut_value.greatest.Given as goal
 
 abbrev pub invariant-loop-i : goal.invariant-loop-i
 invariant-loop-i l = record {

@@ -3,7 +3,7 @@ ghost use Rattle.std.specs.Prelude.{◌≡◌, ◌^◌, ◌<◌, ℤ, pos, ◌+�
 ghost use Rattle.std.specs.Int.{int_max};
 ghost use Rattle.hp_num.specs.Sums.{dot};
 ghost use Rattle.hp_theory.specs.Size.{magnitude, magnitudes};
-ghost use Rattle.hp_theory.specs.Bound.{height, greatest};
+ghost use Rattle.hp_theory.specs.Bound.{value_of_cut, greatest};
 ghost use Rattle.hp_cut.specs.Reaches.{Reaches};
 
 use hp_num::add_product;
@@ -29,16 +29,16 @@ fn add(a: i128, b: i128) -> i128
     a + b
 }
 
-/// alpha + beta·x, at scale 2^24.
-pub(crate) fn height(cut: &Cut, state: &[i64]) -> i128
+/// The value of a cut at a state: alpha + beta·x, at scale 2^24.
+pub(crate) fn value_of_cut(cut: &Cut, state: &[i64]) -> i128
     requires { Reaches state.now cut.now }
-    ensures value { result ≡ height cut.now state.now }
+    ensures value { result ≡ value_of_cut cut.now state.now }
     ensures small { magnitude result ≤ℤ pos (2 ^ 104) }
 {
     add(cut.alpha, slopes_at(cut.beta.as_slice(), state))
 }
 
-/// The greatest height of some cuts, at scale 2^24.
+/// The greatest value of some cuts at a state, at scale 2^24.
 pub(crate) fn greatest(cuts: &[Cut], state: &[i64]) -> i128
     requires some { 0 < length cuts.now }
     requires reach { All (Reaches state.now) cuts.now }
@@ -46,10 +46,10 @@ pub(crate) fn greatest(cuts: &[Cut], state: &[i64]) -> i128
     ensures small { magnitude result ≤ℤ pos (2 ^ 104) }
 {
     let mut i = cuts.len() - 1;
-    let mut best = height(&cuts[i], state);
+    let mut best = value_of_cut(&cuts[i], state);
     while i > 0 {
         i -= 1;
-        best = greater(height(&cuts[i], state), best);
+        best = greater(value_of_cut(&cuts[i], state), best);
     }
     best
 }

@@ -3,7 +3,7 @@ use mir.Syntax.{w128}
 use Rattle.std.proofs.lemmas.Int.{to_z-of_z}
 use lib.IntN.{+ℤ_idr}
 use Rattle.hp_cut.proofs.Products.{step, Step, dot_end}
-use Rattle.hp_cut.proofs.height.slopes_at.Goals as goal
+use Rattle.hp_cut.proofs.cut_value.slopes_at.Goals as goal
 
 pub add_product-sum-requires-clause-product : goal.add_product-sum-requires-clause-product
 add_product-sum-requires-clause-product c =

@@ -4,7 +4,7 @@ use Rattle.std.proofs.lemmas.Int.{ints, to_z-of_z}
 use Rattle.hp_num.specs.Sums.{dot}
 use Rattle.hp_theory.specs.Size.{magnitude, magnitudes}
 use Rattle.hp_theory.proofs.SizeToFit.{size_dot}
-use Rattle.hp_cut.proofs.height.height.Goals as goal
+use Rattle.hp_cut.proofs.cut_value.value_of_cut.Goals as goal
 
 small_sum : (a d s : ℤ) → magnitude d ≤ℤ s → (magnitude a +ℤ s) ≤ℤ pos (2 ^ 104) → (magnitude a +ℤ magnitude d) ≤ℤ pos (2 ^ 104)
 small_sum a d s h k = omega (arith, ints)

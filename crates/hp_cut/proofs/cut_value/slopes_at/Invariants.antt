@@ -1,7 +1,7 @@
 use Rattle.std.proofs.Common.{◌≡◌, ◌+ℤ◌, ◌≤ℤ◌, drop}
 use Rattle.hp_num.specs.Sums.{dot}
 use Rattle.hp_theory.specs.Size.{magnitude, magnitudes}
-use Rattle.hp_cut.proofs.height.slopes_at.Given as goal
+use Rattle.hp_cut.proofs.cut_value.slopes_at.Given as goal
 
 abbrev pub invariant-loop-i : goal.invariant-loop-i
 invariant-loop-i l = record {
