@@ -5,7 +5,7 @@ ghost use Rattle.hp_outside.specs.Causes.{HasCause, faults_after};
 
 use crate::Failed;
 use crate::disk::Disk;
-use crate::memory::next;
+use crate::faults::counted;
 use hp_num::Name;
 use std::fs::{OpenFile, OpenOptions};
 use std::io;
@@ -50,7 +50,7 @@ impl<'a, R: Files> FileDisk<'a, R> {
 }
 
 // The open file, opened now where it was not yet.
-fn opened<'f, R: Files>(
+fn file_of<'f, R: Files>(
     rt: &R,
     name: &Name,
     write: bool,
@@ -58,19 +58,37 @@ fn opened<'f, R: Files>(
 ) -> io::Result<&'f mut R::File> {
     match file {
         Some(file) => Ok(file),
-        None => {
-            let mut how = OpenOptions::new();
-            how.read(true).write(write).create(write);
-            Ok(file.insert(how.open(rt, name.as_str())?))
-        }
+        None => Ok(file.insert(opened(rt, name.as_str(), write)?)),
     }
+}
+
+// The file of this name, made where it is missing and is to be written. The folder is synced then, so
+// that the file is found in it after a crash.
+fn opened<R: Files>(rt: &R, name: &str, write: bool) -> io::Result<R::File> {
+    let mut how = OpenOptions::new();
+    how.read(true).write(write).create(write);
+    let file = how.open(rt, name)?;
+    if write {
+        sync_folder(rt, name)?;
+    }
+    Ok(file)
+}
+
+// Makes last which files stand in the folder of this one.
+fn sync_folder<R: Files>(rt: &R, name: &str) -> io::Result<()> {
+    let folder = match name.rsplit_once('/') {
+        None => ".",
+        Some(("", _)) => "/",
+        Some((folder, _)) => folder,
+    };
+    OpenOptions::new().read(true).open(rt, folder)?.sync_all()
 }
 
 impl<'a, R: Files> FileDisk<'a, R> {
     fn measured(&mut self) -> io::Result<u64>
         ensures { self.new ≡ self.old }
     {
-        let file = opened(self.rt, &self.name, self.write, &mut self.file)?;
+        let file = file_of(self.rt, &self.name, self.write, &mut self.file)?;
         Ok(file.metadata()?.len())
     }
 
@@ -78,7 +96,7 @@ impl<'a, R: Files> FileDisk<'a, R> {
     fn fetched(&mut self, at: u64, into: &mut [u8]) -> io::Result<()>
         ensures { self.new ≡ self.old }
     {
-        let file = opened(self.rt, &self.name, self.write, &mut self.file)?;
+        let file = file_of(self.rt, &self.name, self.write, &mut self.file)?;
         file.seek(SeekFrom::Start(at))?;
         file.read_exact(into)
     }
@@ -86,7 +104,7 @@ impl<'a, R: Files> FileDisk<'a, R> {
     fn put(&mut self, at: u64, piece: &[u8]) -> io::Result<()>
         ensures { self.new ≡ self.old }
     {
-        let file = opened(self.rt, &self.name, self.write, &mut self.file)?;
+        let file = file_of(self.rt, &self.name, self.write, &mut self.file)?;
         file.seek(SeekFrom::Start(at))?;
         file.write_all(piece)
     }
@@ -94,29 +112,13 @@ impl<'a, R: Files> FileDisk<'a, R> {
     fn resized(&mut self, len: u64) -> io::Result<()>
         ensures { self.new ≡ self.old }
     {
-        opened(self.rt, &self.name, self.write, &mut self.file)?.set_len(len)
+        file_of(self.rt, &self.name, self.write, &mut self.file)?.set_len(len)
     }
 
     fn synced(&mut self) -> io::Result<()>
         ensures { self.new ≡ self.old }
     {
-        opened(self.rt, &self.name, self.write, &mut self.file)?.sync_all()
-    }
-
-    // What a call answers: a refused call of the file is counted.
-    fn counted<T>(&mut self, outcome: io::Result<T>) -> Result<T, Failed>
-        ensures same { is_ok result ≡ is_ok outcome }
-        ensures cause { HasCause self.old.faults self.new.faults result }
-        ensures counted { self.new
-            ≡ record self.old { faults = faults_after self.old.faults result } }
-    {
-        match outcome {
-            Ok(value) => Ok(value),
-            Err(_) => {
-                self.faults = next(self.faults);
-                Err(Failed)
-            }
-        }
+        file_of(self.rt, &self.name, self.write, &mut self.file)?.sync_all()
     }
 }
 
@@ -136,7 +138,7 @@ impl<'a, R: Files> Disk for FileDisk<'a, R> {
             ≡ record self.old { faults = faults_after self.old.faults result } }
     {
         let outcome = self.measured();
-        self.counted(outcome)
+        counted(&mut self.faults, outcome)
     }
 
     fn read_at(&mut self, at: u64, into: &mut [u8]) -> Result<(), Failed>
@@ -145,7 +147,7 @@ impl<'a, R: Files> Disk for FileDisk<'a, R> {
             ≡ record self.old { faults = faults_after self.old.faults result } }
     {
         let outcome = self.fetched(at, into);
-        self.counted(outcome)
+        counted(&mut self.faults, outcome)
     }
 
     fn write_at(&mut self, at: u64, piece: &[u8]) -> Result<(), Failed>
@@ -154,7 +156,7 @@ impl<'a, R: Files> Disk for FileDisk<'a, R> {
             ≡ record self.old { faults = faults_after self.old.faults result } }
     {
         let outcome = self.put(at, piece);
-        self.counted(outcome)
+        counted(&mut self.faults, outcome)
     }
 
     fn cut(&mut self, len: u64) -> Result<(), Failed>
@@ -163,7 +165,7 @@ impl<'a, R: Files> Disk for FileDisk<'a, R> {
             ≡ record self.old { faults = faults_after self.old.faults result } }
     {
         let outcome = self.resized(len);
-        self.counted(outcome)
+        counted(&mut self.faults, outcome)
     }
 
     fn sync(&mut self) -> Result<(), Failed>
@@ -172,7 +174,7 @@ impl<'a, R: Files> Disk for FileDisk<'a, R> {
             ≡ record self.old { faults = faults_after self.old.faults result } }
     {
         let outcome = self.synced();
-        self.counted(outcome)
+        counted(&mut self.faults, outcome)
     }
 }
 

@@ -4,19 +4,22 @@
 
 pub mod disk;
 pub mod faultless;
+mod faults;
 pub mod file_disk;
 pub mod memory;
 pub mod memory_disk;
 pub mod sink;
 pub mod source;
+pub mod stream;
 mod worked;
 
 pub use disk::Disk;
 pub use faultless::{FaultlessDisk, FaultlessSink, FaultlessSource};
 pub use file_disk::FileDisk;
 pub use memory_disk::{Crash, MemDisk};
-pub use sink::{MemSink, Sink, StdSink};
-pub use source::{MemSource, Source, StdSource};
+pub use sink::{MemSink, Sink};
+pub use source::{MemSource, Source};
+pub use stream::{StdSink, StdSource};
 
 /// The call failed, and the object counted the fault.
 #[derive(Clone, Copy, Debug, PartialEq, Eq)]

@@ -1,6 +1,5 @@
 // What the objects in memory share.
 ghost use Rattle.std.specs.Prelude.{◌≡◌, ◌↔◌, ◌≤◌, ◌+◌, length, replicate, vec_len, vec_capacity, IsTrue, Contains};
-ghost use Rattle.hp_outside.specs.Causes.{one_more};
 ghost use Rattle.hp_outside.specs.Disks.{written};
 
 // Whether the call of this number is one of those that fail.
@@ -8,13 +7,6 @@ pub(crate) fn is_listed(fail: &[u64], call: u64) -> bool
     ensures { IsTrue result ↔ Contains fail.now call }
 {
     fail.contains(&call)
-}
-
-// A count one higher, up to the greatest u64.
-pub(crate) fn next(count: u64) -> u64
-    ensures { result ≡ one_more count }
-{
-    count.saturating_add(1)
 }
 
 // Writes the piece over what is there, and past the end.

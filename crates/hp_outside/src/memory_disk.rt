@@ -10,7 +10,8 @@ pub(crate) mod readings;
 
 use crate::Failed;
 use crate::disk::Disk;
-use crate::memory::{is_listed, next};
+use crate::faults::next;
+use crate::memory::is_listed;
 use history::History;
 use hp_num::Memory;
 use readings::Readings;

@@ -7,7 +7,9 @@ ghost use Rattle.hp_outside.specs.Causes.{HasCause, Takes, faults_after};
 ghost use Rattle.hp_outside.specs.InMemory.{MemorySink, count_written, WriteFails, after_write, after_failed_write};
 
 use crate::Failed;
-use crate::memory::{is_listed, next};
+use crate::faults::{counted, next};
+use crate::memory::is_listed;
+use crate::stream::StdStream;
 use hp_num::Memory;
 use std::alloc::Global;
 use std::io;
@@ -31,31 +33,7 @@ pub trait Sink {
         ensures cause { HasCause (faults self.old) (faults self.new) result };
 }
 
-/// A sink over a writer of std. As a sink it tells nothing of its bytes.
-#[derive(Drop)]
-pub struct StdSink<W> {
-    output: W,
-    faults: u64,
-}
-
-impl<W> Model for StdSink<W> {
-    ghost use Rattle.hp_outside.specs.Counted.{Counted};
-
-    ghost Value = { Counted W };
-
-    ghost view = { λ s. record { inner = s.output; faults = s.faults } };
-}
-
-impl<W: Write> StdSink<W> {
-    /// A sink over this writer that has not failed.
-    pub fn new(output: W) -> StdSink<W>
-        ensures { result ≡ record { inner = output; faults = 0 } }
-    {
-        StdSink { output, faults: 0 }
-    }
-}
-
-impl<W: Write> Sink for StdSink<W> {
+impl<W: Write> Sink for StdStream<W> {
     ghost taken = { λ s. None };
 
     ghost faults = { λ s. s.faults };
@@ -73,13 +51,8 @@ impl<W: Write> Sink for StdSink<W> {
         ensures written { IfOk result (λ n.
             Appends (W.contents self.old.inner) (W.contents self.new.inner) (take n piece.now)) }
     {
-        match write_and_flush(&mut self.output, piece) {
-            Ok(count) => Ok(count),
-            Err(_) => {
-                self.faults = next(self.faults);
-                Err(Failed)
-            }
-        }
+        let outcome = write_and_flush(&mut self.inner, piece);
+        counted(&mut self.faults, outcome)
     }
 }
 

@@ -7,7 +7,9 @@ ghost use Rattle.hp_outside.specs.Causes.{HasCause, faults_after};
 ghost use Rattle.hp_outside.specs.InMemory.{MemorySource, count_read, ReadFails, after_read, after_failed_read};
 
 use crate::Failed;
-use crate::memory::{is_listed, next};
+use crate::faults::{counted, next};
+use crate::memory::is_listed;
+use crate::stream::StdStream;
 use std::io;
 use std::io::{ErrorKind, Read};
 use std::marker::Model;
@@ -31,31 +33,7 @@ pub trait Source {
         ensures cause { HasCause (faults self.old) (faults self.new) result };
 }
 
-/// A source over a reader of std. As a source it tells nothing of its bytes.
-#[derive(Drop)]
-pub struct StdSource<R> {
-    input: R,
-    faults: u64,
-}
-
-impl<R> Model for StdSource<R> {
-    ghost use Rattle.hp_outside.specs.Counted.{Counted};
-
-    ghost Value = { Counted R };
-
-    ghost view = { λ s. record { inner = s.input; faults = s.faults } };
-}
-
-impl<R: Read> StdSource<R> {
-    /// A source over this reader that has not failed.
-    pub fn new(input: R) -> StdSource<R>
-        ensures { result ≡ record { inner = input; faults = 0 } }
-    {
-        StdSource { input, faults: 0 }
-    }
-}
-
-impl<R: Read> Source for StdSource<R> {
+impl<R: Read> Source for StdStream<R> {
     ghost left = { λ s. None };
 
     ghost faults = { λ s. s.faults };
@@ -69,13 +47,8 @@ impl<R: Read> Source for StdSource<R> {
         ensures cause { HasCause self.old.faults self.new.faults result }
         ensures counted { self.new.faults ≡ faults_after self.old.faults result }
     {
-        match read_once(&mut self.input, buf) {
-            Ok(count) => Ok(count),
-            Err(_) => {
-                self.faults = next(self.faults);
-                Err(Failed)
-            }
-        }
+        let outcome = read_once(&mut self.inner, buf);
+        counted(&mut self.faults, outcome)
     }
 }
 

@@ -1,4 +1,5 @@
 use super::*;
+use crate::StdSink;
 use std::process::Abort;
 use std::test::Fail;
 
@@ -62,7 +63,7 @@ fn takes(rt: HostRuntime) -> Result<(), Fail> {
 
     let mut whole = StdSink::new(Vec::new(rt.alloc()));
     assert_writes(&rt, &mut whole, &[Ok(4), Ok(4)]);
-    assert_eq!(rt; whole.output.as_slice(), b"abcdabcd".as_slice());
+    assert_eq!(rt; whole.inner.as_slice(), b"abcdabcd".as_slice());
     assert_eq!(rt; whole.faults, 0);
 
     let mut scripted = StdSink::new(Script {

@@ -1,4 +1,5 @@
 use super::*;
+use crate::StdSource;
 use std::process::Abort;
 use std::test::Fail;
 
