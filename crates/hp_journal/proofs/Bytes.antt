@@ -3,14 +3,37 @@ use Rattle.std.proofs.Common.{◌≡◌, ℕ, zero, suc, ◌+◌, ◌≤◌, ◌
 use Rattle.std.proofs.lemmas.List.{take_at, drop_at, drop_more, take_all, drop_all, append-nil, length-take}
 use Rattle.hp_outside.specs.Disks.{Torn, Cut, written}
 
+-- a shorter front, and a piece of a front
+take_less : (m n : ℕ) (l : List ℕ) → m ≤ n → take m (take n l) ≡ take m l
+take_less zero n l le = refl
+take_less (suc m) zero l le = absurd (omega arith)
+take_less (suc m) (suc n) [] le = refl
+take_less (suc m) (suc n) (x ∷ l) le = ap (λ (k : List ℕ). x ∷ k) (take_less m n l (omega arith))
+
+pub piece_of_front : (n at m : ℕ) (l : List ℕ) → at + n ≤ m → take n (drop at (take m l)) ≡ take n (drop at l)
+piece_of_front n zero m l le = take_less n m l (omega (arith, le))
+piece_of_front n (suc at) zero l le = absurd (omega (arith, le))
+piece_of_front n (suc at) (suc m) [] le = refl
+piece_of_front n (suc at) (suc m) (x ∷ l) le = piece_of_front n at m l (omega (arith, le))
+
+-- the byte behind a front, and what stands behind that
+pub byte_behind : (f : List ℕ) (g : ℕ) (rest : List ℕ) (at d : ℕ) → at ≡ length f → get_or (f ++ g ∷ rest) at d ≡ g
+byte_behind [] g rest zero d is = refl
+byte_behind [] g rest (suc at) d is = absurd (omega (arith, is))
+byte_behind (x ∷ f) g rest zero d is = absurd (omega (arith, is))
+byte_behind (x ∷ f) g rest (suc at) d is = byte_behind f g rest at d (omega (arith, is))
+
+pub rest_behind : (f : List ℕ) (g : ℕ) (rest : List ℕ) (at : ℕ) → at ≡ length f → drop (at + 1) (f ++ g ∷ rest) ≡ rest
+rest_behind f g rest at is =
+    ap (λ (l : List ℕ). drop (at + 1) l) (sym (append_assoc f (g ∷ []) rest)) ∙ drop_at (f ++ g ∷ []) rest (at + 1) (omega (arith, is, length-append f (g ∷ [])))
+
 module _ (f : List ℕ) where
   -- a torn byte
   pub torn_byte : (g : ℕ) (rest c : List ℕ) (at : ℕ) → at ≡ length f → Torn at 1 (f ++ g ∷ rest) c → (h : ℕ) × (c ≡ f ++ h ∷ rest)
   torn_byte g rest c at is torn =
       let long : length f < length c = omega (arith, torn.no_shorter, length-append f (g ∷ rest)) in
       let front : take at c ≡ f = torn.before ∙ take_at f (g ∷ rest) at (sym is) in
-      let split : f ++ g ∷ rest ≡ (f ++ g ∷ []) ++ rest = sym (append_assoc f (g ∷ []) rest) in
-      let behind : drop (at + 1) (f ++ g ∷ rest) ≡ rest = ap (λ (l : List ℕ). drop (at + 1) l) split ∙ drop_at (f ++ g ∷ []) rest (at + 1) (omega (arith, is, length-append f (g ∷ []))) in
+      let behind = rest_behind f g rest at is in
       let h = get_or c at 0 in
       let back : drop at c ≡ h ∷ rest = drop_more c at 0 (omega (arith, long, is)) ∙ ap (λ (l : List ℕ). h ∷ l) (torn.after ∙ behind) in
       (h, sym (take-append-drop at c) ∙ ap (λ (l : List ℕ). l ++ drop at c) front ∙ ap (λ (l : List ℕ). f ++ l) back)
@@ -29,18 +52,11 @@ module _ (f : List ℕ) where
       let n = length c in
       let front : take (at + 1) c ≡ f ++ g ∷ [] = ap (λ (l : List ℕ). take (at + 1) l) (sym cut.front) ∙ take_less (at + 1) n (f ++ g ∷ rest) long ∙ ap (λ (l : List ℕ). take (at + 1) l) split ∙ take_at (f ++ g ∷ []) rest (at + 1) (omega (arith, is, length-append f (g ∷ []))) in
       (drop (at + 1) c, sym (take-append-drop (at + 1) c) ∙ ap (λ (l : List ℕ). l ++ drop (at + 1) c) front ∙ append_assoc f (g ∷ []) (drop (at + 1) c))
-    where
-      take_less : (m n : ℕ) (l : List ℕ) → m ≤ n → take m (take n l) ≡ take m l
-      take_less zero n l le = refl
-      take_less (suc m) zero l le = absurd (omega arith)
-      take_less (suc m) (suc n) [] le = refl
-      take_less (suc m) (suc n) (x ∷ l) le = ap (λ (k : List ℕ). x ∷ k) (take_less m n l (omega arith))
 
   -- a byte is written over
   pub written_byte : (g h : ℕ) (rest : List ℕ) (at : ℕ) → at ≡ length f → written (f ++ g ∷ rest) at (h ∷ []) ≡ f ++ h ∷ rest
   written_byte g h rest at is =
-      let split : f ++ g ∷ rest ≡ (f ++ g ∷ []) ++ rest = sym (append_assoc f (g ∷ []) rest) in
-      let behind : drop (at + 1) (f ++ g ∷ rest) ≡ rest = ap (λ (l : List ℕ). drop (at + 1) l) split ∙ drop_at (f ++ g ∷ []) rest (at + 1) (omega (arith, is, length-append f (g ∷ []))) in
+      let behind = rest_behind f g rest at is in
       append_assoc (take at (f ++ g ∷ rest)) (h ∷ []) (drop (at + 1) (f ++ g ∷ rest)) ∙ ap (λ (l : List ℕ). l ++ h ∷ drop (at + 1) (f ++ g ∷ rest)) (take_at f (g ∷ rest) at (sym is)) ∙ ap (λ (l : List ℕ). f ++ h ∷ l) behind
 
   -- a piece is written behind the last byte
@@ -53,8 +69,8 @@ module _ (f : List ℕ) where
       ∙ append_assoc f (g ∷ []) piece
 
 -- a list in parts round one of its bytes
-pub parts_at : (bytes : List ℕ) (at d : ℕ) → at < length bytes → bytes ≡ take at bytes ++ get_or bytes at d ∷ drop (at + 1) bytes
-parts_at bytes at d below = sym (take-append-drop at bytes) ∙ ap (λ (l : List ℕ). take at bytes ++ l) (drop_more bytes at d below)
+pub parts_at : {X : Type 0} (bytes : List X) (at : ℕ) (d : X) → at < length bytes → bytes ≡ take at bytes ++ get_or bytes at d ∷ drop (at + 1) bytes
+parts_at {X} bytes at d below = sym (take-append-drop at bytes) ∙ ap (λ (l : List X). take at bytes ++ l) (drop_more bytes at d below)
 
 length_front : (bytes : List ℕ) (at : ℕ) → at ≤ length bytes → at ≡ length (take at bytes)
 length_front bytes at below = omega (arith, length-take at bytes, below)

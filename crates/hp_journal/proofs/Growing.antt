@@ -1,16 +1,16 @@
 -- What a crash leaves while a journal's end is repaired and while it grows.
-use Rattle.std.proofs.Common.{◌≡◌, ◌≢◌, inl, inr, ℕ, zero, suc, ◌+◌, ◌≤◌, ◌<◌, List, [], ◌∷◌, ◌++◌, length, get_or, take, refl, sym, ◌∙◌, ap, subst, arith, append_assoc, length-append, Some, IfSome}
+use Rattle.std.proofs.Common.{◌≡◌, ◌≢◌, inl, inr, ℕ, suc, ◌+◌, ◌≤◌, ◌<◌, List, [], ◌∷◌, ◌++◌, length, get_or, take, refl, sym, ◌∙◌, ap, subst, arith, append_assoc, length-append, Some, IfSome}
 use Rattle.std.proofs.lemmas.Bool.{cases_eq}
 use Rattle.std.proofs.lemmas.List.{append-nil, length-take}
 use Rattle.std.proofs.Math.Seq.{take-suc}
 use Rattle.std.specs.Int.{w32, to_be_bytes}
 use Rattle.hp_outside.specs.Disks.{Store, Torn, Cut, Stays, Lawful, written}
-use Rattle.hp_outside.proofs.Moments.{stays_on}
+use Rattle.hp_outside.proofs.RunsOfCalls.{stays_on}
 use Rattle.hp_outside.specs.Since.{Quiet, LeavesOnly}
 use Rattle.hp_journal.specs.Layout.{Title, title_bytes, records, body_of, front, journal}
 use Rattle.hp_journal.specs.Mine.{Grown, GrownFrom, shut, half_open}
 use Rattle.hp_journal.specs.Layout.{IsBody}
-use Rattle.hp_journal.proofs.Bytes.{torn_byte, torn_end, cut_rest, written_byte, written_end}
+use Rattle.hp_journal.proofs.Bytes.{byte_behind, torn_byte, torn_end, cut_rest, written_byte, written_end}
 use Rattle.hp_journal.proofs.Told.{begins, puts, cuts, mapped}
 use Rattle.std.specs.Option.{option_map}
 use Rattle.std.specs.Prelude.{◌^◌}
@@ -48,13 +48,7 @@ module _ (t : Title) (payloads : List (List ℕ)) where
 
   -- a torn gate that was not 0
   pub gate_torn : (j at : ℕ) (bytes : List ℕ) → at ≡ length (front t (take j payloads)) → Grown t payloads j bytes → get_or bytes at 1 ≢ 0 → (c : List ℕ) → Torn at 1 bytes c → GrownFrom t payloads j c
-  gate_torn j at bytes is (shut le rest same) not_zero c torn = absurd (not_zero (ap (λ (b : List ℕ). get_or b at 1) same ∙ at_gate (front t (take j payloads)) 0 rest at is))
-    where
-      at_gate : (f : List ℕ) (g : ℕ) (rest : List ℕ) (at : ℕ) → at ≡ length f → get_or (f ++ g ∷ rest) at 1 ≡ g
-      at_gate [] g rest zero is = refl
-      at_gate [] g rest (suc at) is = absurd (omega (arith, is))
-      at_gate (x ∷ f) g rest zero is = absurd (omega (arith, is))
-      at_gate (x ∷ f) g rest (suc at) is = at_gate f g rest at (omega (arith, is))
+  gate_torn j at bytes is (shut le rest same) not_zero c torn = absurd (not_zero (ap (λ (b : List ℕ). get_or b at 1) same ∙ byte_behind (front t (take j payloads)) 0 rest at 1 is))
   gate_torn j at bytes is (half_open below gate g0 g1 same) not_zero c torn =
       let from = torn_byte (front t (take j payloads)) gate (body_of (get_or payloads j [])) c at is (subst (λ b. Torn at 1 b c) same torn) in
       subst (GrownFrom t payloads j) (sym from.1) (any_gate j from.0 below)

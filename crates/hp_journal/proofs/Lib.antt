@@ -1,5 +1,7 @@
 mod Bytes
+mod GatesRead
 mod Growing
+mod HeadsRead
 mod Newborn
 mod Reading
 mod Told

@@ -7,7 +7,7 @@ use Rattle.std.specs.Int.{w16, w64, to_be_bytes}
 use Rattle.std.specs.Option.{option_map}
 use Rattle.hp_outside.specs.Disks.{Store, Torn, Cut, Stays, Lawful, written}
 use Rattle.hp_outside.specs.Since.{Quiet, LeavesOnly}
-use Rattle.hp_outside.proofs.Moments.{stays_on}
+use Rattle.hp_outside.proofs.RunsOfCalls.{stays_on}
 use Rattle.hp_journal.specs.Head.{IsUnborn, is_unborn}
 use Rattle.hp_journal.specs.Layout.{Title, title_bytes, new_title, shared_title, magic, head_length, records, body_of, front, journal}
 use Rattle.hp_journal.specs.Mine.{Unborn, Grown, Mine, short, zero_byte, half_born, shut, half_open, unborn, born}
@@ -180,7 +180,7 @@ map_thrice r0 r1 r2 r3 f g h k e1 e2 e3 same = e3 ∙ ap (option_map h) (e2 ∙ 
     chain None = refl
     chain (Some b) = ap Some (same b)
 
-shared_length : (version seed : ℕ) (digest : List ℕ) → length digest ≡ 32 → length (shared_title version digest seed) ≡ 50
+pub shared_length : (version seed : ℕ) (digest : List ℕ) → length digest ≡ 32 → length (shared_title version digest seed) ≡ 50
 shared_length version seed digest is = omega (arith, is, length-append (magic ++ to_be_bytes w16 version ++ digest) (to_be_bytes w64 seed), length-append (magic ++ to_be_bytes w16 version) digest, ten version, eight seed)
   where
     ten : (n : ℕ) → length (magic ++ to_be_bytes w16 n) ≡ 10

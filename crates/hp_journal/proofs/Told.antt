@@ -3,7 +3,7 @@ use Rattle.std.proofs.Common.{◌≡◌, ℕ, List, Option, Some, None, IfSome, 
 use Rattle.std.specs.Option.{option_map}
 use Rattle.hp_outside.specs.Disks.{Store, Torn, Cut, Lawful}
 use Rattle.hp_outside.specs.Since.{Quiet, LeavesOnly}
-use Rattle.hp_outside.proofs.Moments.{started, then_on}
+use Rattle.hp_outside.proofs.RunsOfCalls.{started, then_on}
 
 pub told : {P : List ℕ → Type 0} (r : Option (List ℕ)) → ((bytes : List ℕ) → r ≡ Some bytes → P bytes) → IfSome r P
 told None each = tt

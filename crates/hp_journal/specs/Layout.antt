@@ -1,5 +1,5 @@
 -- The bytes of a journal.
-use Rattle.std.specs.Prelude.{◌≡◌, ◌≤◌, ◌^◌, ℕ, List, [], ◌∷◌, ◌++◌, length, if◌then◌else◌, ◌==◌, Option, Some, None}
+use Rattle.std.specs.Prelude.{◌≡◌, ◌⊎◌, ◌≤◌, ◌<◌, ◌^◌, ℕ, List, [], ◌∷◌, ◌++◌, length, if◌then◌else◌, ◌==◌, Option, Some, None}
 use Rattle.std.specs.Int.{w16, w32, w64, to_be_bytes}
 
 -- HYDPLAN1
@@ -12,6 +12,12 @@ pub record Title : Type 0 where
   pub digest : List ℕ
   pub seed : ℕ
   pub batch : ℕ
+
+-- a title that a journal may have: a head has the room for its parts
+pub record IsTitle (t : Title) : Type 0 where
+  pub digest : length t.digest ≡ 32
+  pub seed : t.seed < 2 ^ 64
+  pub version : ((t.version ≡ 1) × (t.batch ≡ 1)) ⊎ ((t.version ≡ 2) × (1 ≤ t.batch) × (t.batch ≤ 64))
 
 -- what each version has behind the birth byte
 abbrev pub shared_title : ℕ → List ℕ → ℕ → List ℕ

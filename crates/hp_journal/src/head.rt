@@ -7,7 +7,7 @@ ghost use Rattle.hp_journal.specs.Causes.{DiskCause};
 ghost use Rattle.hp_journal.specs.declared.head.HeadFault.TheVariants.{DiskFault};
 ghost use Rattle.hp_journal.specs.Versions.{IsKnown};
 
-use crate::numbers::{u16_at, u64_at};
+use hp_num::big_endian::{u16_at, u64_at};
 use hp_outside::{Disk, Failed};
 use thiserror::Error;
 

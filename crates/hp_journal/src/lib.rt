@@ -6,7 +6,7 @@ pub mod birth;
 pub mod gate;
 pub mod growth;
 pub mod head;
-mod numbers;
+pub mod laws;
 pub mod writing;
 
 pub use birth::give_birth;

@@ -1,7 +1,8 @@
 pub mod Changes
 pub mod Histories
 pub mod MemoryDisks
-pub mod Moments
+mod ReadRest
+pub mod RunsOfCalls
 pub mod Steps
 pub mod Torn
 pub mod Untold

@@ -1,7 +1,9 @@
 -- What a disk that tells nothing owes.
-use Rattle.std.proofs.Common.{ℕ, List, length, refl, arith, inl}
+use Rattle.std.proofs.Common.{◌≡◌, ℕ, ◌^◌, ◌≤◌, List, length, false, Option, None, Result, IfOk, OnOk, MatchResult, refl, arith, rules, inl}
 use Rattle.std.proofs.lemmas.List.{take_all}
-use Rattle.hp_outside.specs.Disks.{Torn, Cut, Stays, Elapses, untold}
+use Rattle.std.specs.Prelude.{⊤}
+use Rattle.hp_outside.specs.Causes.{HasCause}
+use Rattle.hp_outside.specs.Disks.{Torn, Cut, Stays, Elapses, Follows, untold}
 
 -- a write, or a cut, that did nothing
 pub torn_nothing : (at n : ℕ) (c : List ℕ) → Torn at n c c
@@ -15,3 +17,76 @@ stays_untold = record { reads = refl; images = λ c. (λ now. now, λ now. now);
 
 pub elapses_untold : Elapses untold untold
 elapses_untold = record { later = omega arith; nothing_else = λ t c le left. inl left; keeps = λ t c le left. left }
+
+abbrev nothing_told : Option (List ℕ)
+nothing_told = None
+
+-- what each call owes where it may read to any place, the clauses on bytes being true of none
+module _ {E : Type 0} (before now : ℕ) where
+  pub tells_length : (r : Result ℕ E) → IfOk r (λ n. n ≤ 2 ^ 64) → HasCause before now r → record {
+    value : IfOk r (λ n. ⊤);
+    readable : MatchResult r (λ n. n ≤ 2 ^ 64) (λ e. 2 ^ 64 ≤ 2 ^ 64);
+    stays : Stays untold untold;
+    cause : HasCause before now r;
+  }
+  tells_length r few cause = record { value = search rules; readable = search (rules, arith); stays = stays_untold; cause = cause }
+
+  module _ {T : Type 0} (r : Result T E) (cause : HasCause before now r) where
+    pub tells_read : record {
+      value : OnOk r ⊤;
+      readable : 2 ^ 64 ≤ 2 ^ 64;
+      stays : Stays untold untold;
+      cause : HasCause before now r;
+    }
+    tells_read = record { value = search rules; readable = omega arith; stays = stays_untold; cause = cause }
+
+    pub tells_write : (at n : ℕ) → record {
+      written : OnOk r (nothing_told ≡ nothing_told);
+      tells : false ≡ false;
+      readable : 2 ^ 64 ≤ 2 ^ 64;
+      crash : Follows (Torn at n) untold untold;
+      time : Elapses untold untold;
+      cause : HasCause before now r;
+    }
+    tells_write at n = record {
+      written = search rules;
+      tells = refl;
+      readable = omega arith;
+      crash = λ left now. (left, now, torn_nothing at n left);
+      time = elapses_untold;
+      cause = cause;
+    }
+
+    pub tells_cut : (n len : ℕ) → len ≤ 2 ^ 64 → record {
+      cut : OnOk r (nothing_told ≡ nothing_told);
+      tells : false ≡ false;
+      readable : len ≤ 2 ^ 64;
+      crash : Follows (Cut n) untold untold;
+      time : Elapses untold untold;
+      cause : HasCause before now r;
+    }
+    tells_cut n len few = record {
+      cut = search rules;
+      tells = refl;
+      readable = few;
+      crash = λ left now. (left, now, cut_nothing n left);
+      time = elapses_untold;
+      cause = cause;
+    }
+
+    pub tells_sync : record {
+      durable : OnOk r ⊤;
+      reads : nothing_told ≡ nothing_told;
+      readable : 2 ^ 64 ≤ 2 ^ 64;
+      crash : (c : List ℕ) → ⊤ → ⊤;
+      time : Elapses untold untold;
+      cause : HasCause before now r;
+    }
+    tells_sync = record {
+      durable = search rules;
+      reads = refl;
+      readable = omega arith;
+      crash = λ left now. now;
+      time = elapses_untold;
+      cause = cause;
+    }

