@@ -1,5 +1,4 @@
 pub mod Each
-pub mod Numbers
 pub mod Rows
 pub mod Stages
 pub mod Worked
@@ -8,4 +7,3 @@ pub mod Inside
 pub mod Starts
 pub mod Searches
 pub mod Turning
-pub mod Singles

@@ -3,7 +3,7 @@ use Rattle.std.proofs.Common.{◌≡◌, ℕ, zero, suc, ◌+◌, ◌-◌, ◌*�
 use Rattle.std.specs.Option.{option_map, option_and_then}
 use Rattle.std.proofs.lemmas.List.{append_assoc, take-append-drop, drop-drop, take_at, drop_at, length-drop, length-take-le}
 use Rattle.std.proofs.lemmas.Bool.Decides.{nat_tests}
-use Rattle.hp_simplex.specs.declared.fixed.Fx.{Fx}
+use Rattle.hp_solver.specs.declared.fixed.Fx.{Fx}
 use Rattle.hp_simplex.specs.declared.table.Table.{Table}
 use Rattle.hp_simplex.specs.Each.{each_from}
 use Rattle.hp_simplex.proofs.Each.{behind, each_step, each_absent, each_done, each_length, map_none, map_some}

@@ -3,12 +3,12 @@ use Rattle.std.proofs.Common.{◌≡◌, ℕ, zero, suc, ◌+◌, ◌<◌, ◌==
 use Rattle.std.specs.Option.{option_map, option_and_then}
 use Rattle.std.proofs.lemmas.List.{drop_more, append_assoc}
 use Rattle.std.proofs.lemmas.Bool.Decides.{nat_tests}
-use Rattle.hp_simplex.specs.declared.fixed.Fx.{Fx}
-use Rattle.hp_simplex.specs.declared.stage_lp.LpRow.{LpRow}
-use Rattle.hp_simplex.specs.declared.stage_lp.StageLp.{StageLp}
-use Rattle.hp_simplex.specs.declared.dictionary.Place.{Place}
+use Rattle.hp_solver.specs.declared.fixed.Fx.{Fx}
+use Rattle.hp_solver.specs.declared.stage_lp.LpRow.{LpRow}
+use Rattle.hp_solver.specs.declared.stage_lp.StageLp.{StageLp}
+use Rattle.hp_simplex.specs.declared.dictionary.Nonbasic.{Nonbasic}
 use Rattle.hp_simplex.specs.Each.{each_from}
-use Rattle.hp_simplex.specs.declared.dictionary.Kept.{Kept}
+use Rattle.hp_simplex.specs.declared.dictionary.Tableau.{Tableau}
 use Rattle.hp_simplex.specs.Pivot.{negated, grid_of}
 use Rattle.hp_simplex.specs.Whole.{dictionary_of}
 use Rattle.hp_simplex.specs.Dictionary.{Dictionary, row_value}
@@ -21,17 +21,17 @@ same_true x y h = grind (arith, nat_tests)
 same_false : (x y : ℕ) → (x ≡ y → ⊥) → (x == y) ≡ false
 same_false x y h = grind (arith, nat_tests)
 
-pub cost_next : {whole : Fx} (v j : ℕ) (ps : List Place) (ds : List Fx) (p : Place) (d : Fx) → j < length ps → length ps ≡ length ds → ((get_or ps j p).variable ≡ v → ⊥) → whole ≡ cost_at v (drop j ps) (drop j ds) → whole ≡ cost_at v (drop (j + 1) ps) (drop (j + 1) ds)
+pub cost_next : {whole : Fx} (v j : ℕ) (ps : List Nonbasic) (ds : List Fx) (p : Nonbasic) (d : Fx) → j < length ps → length ps ≡ length ds → ((get_or ps j p).variable ≡ v → ⊥) → whole ≡ cost_at v (drop j ps) (drop j ds) → whole ≡ cost_at v (drop (j + 1) ps) (drop (j + 1) ds)
 cost_next v j ps ds p d h l e w =
     w ∙ ap₂ (cost_at v) (drop_more ps j p h) (drop_more ds j d (omega (arith, h, l)))
     ∙ ap (λ (b : Bool). cond b (get_or ds j d) (cost_at v (drop (j + 1) ps) (drop (j + 1) ds))) (same_false (get_or ps j p).variable v e)
 
-pub factor_next : {whole : Option Fx} (above : Bool) (v j : ℕ) (ps : List Place) (ts : List Fx) (p : Place) (t : Fx) → j < length ps → length ps ≡ length ts → ((get_or ps j p).variable ≡ v → ⊥) → whole ≡ factor_at above v (drop j ps) (drop j ts) → whole ≡ factor_at above v (drop (j + 1) ps) (drop (j + 1) ts)
+pub factor_next : {whole : Option Fx} (above : Bool) (v j : ℕ) (ps : List Nonbasic) (ts : List Fx) (p : Nonbasic) (t : Fx) → j < length ps → length ps ≡ length ts → ((get_or ps j p).variable ≡ v → ⊥) → whole ≡ factor_at above v (drop j ps) (drop j ts) → whole ≡ factor_at above v (drop (j + 1) ps) (drop (j + 1) ts)
 factor_next above v j ps ts p t h l e w =
     w ∙ ap₂ (factor_at above v) (drop_more ps j p h) (drop_more ts j t (omega (arith, h, l)))
     ∙ ap (λ (b : Bool). cond b (cond above (Some (get_or ts j t)) (negated (get_or ts j t))) (factor_at above v (drop (j + 1) ps) (drop (j + 1) ts))) (same_false (get_or ps j p).variable v e)
 
-module _ {whole : Option Fx} (lp : StageLp) (ps : List Place) (v i : ℕ) (basic : List ℕ) (rows : List (List Fx)) (h : i < length basic) (k : i < length rows) (w : whole ≡ basic_value lp ps v (drop i basic) (drop i rows)) where
+module _ {whole : Option Fx} (lp : StageLp) (ps : List Nonbasic) (v i : ℕ) (basic : List ℕ) (rows : List (List Fx)) (h : i < length basic) (k : i < length rows) (w : whole ≡ basic_value lp ps v (drop i basic) (drop i rows)) where
   pub basic_split : whole ≡ cond (get_or basic i 0 == v) (row_value lp ps (get_or rows i [])) (basic_value lp ps v (drop (i + 1) basic) (drop (i + 1) rows))
   basic_split = w ∙ ap₂ (basic_value lp ps v) (drop_more basic i 0 h) (drop_more rows i [] k)
 
@@ -41,18 +41,18 @@ module _ {whole : Option Fx} (lp : StageLp) (ps : List Place) (v i : ℕ) (basic
   pub basic_next : (get_or basic i 0 ≡ v → ⊥) → whole ≡ basic_value lp ps v (drop (i + 1) basic) (drop (i + 1) rows)
   basic_next e = basic_split ∙ ap (λ (b : Bool). cond b (row_value lp ps (get_or rows i [])) (basic_value lp ps v (drop (i + 1) basic) (drop (i + 1) rows))) (same_false (get_or basic i 0) v e)
 
-duals_drop : (d : Dictionary) (v i : ℕ) (rows : List LpRow) → i < length rows → duals_from d v (drop i rows) ≡ cost_at v d.places d.grid.costs ∷ duals_from d (suc v) (drop (suc i) rows)
+duals_drop : (d : Dictionary) (v i : ℕ) (rows : List LpRow) → i < length rows → duals_from d v (drop i rows) ≡ cost_at v d.nonbasic d.grid.costs ∷ duals_from d (suc v) (drop (suc i) rows)
 duals_drop d v i [] h = absurd (omega arith)
 duals_drop d v zero (r ∷ rows) h = refl
 duals_drop d v (suc i) (r ∷ rows) h = duals_drop d v i rows (omega arith)
 
-pub duals_step : {whole : List Fx} (d : Dictionary) (first i : ℕ) (rows : List LpRow) (found : List Fx) → i < length rows → whole ≡ found ++ duals_from d (first + i) (drop i rows) → whole ≡ (found ++ cost_at (first + i) d.places d.grid.costs ∷ []) ++ duals_from d (first + (i + 1)) (drop (i + 1) rows)
+pub duals_step : {whole : List Fx} (d : Dictionary) (first i : ℕ) (rows : List LpRow) (found : List Fx) → i < length rows → whole ≡ found ++ duals_from d (first + i) (drop i rows) → whole ≡ (found ++ cost_at (first + i) d.nonbasic d.grid.costs ∷ []) ++ duals_from d (first + (i + 1)) (drop (i + 1) rows)
 duals_step d first i rows found h w =
     let next : suc (first + i) ≡ first + (i + 1) = omega arith in
-    w ∙ ap (λ (xs : List Fx). found ++ xs) (duals_drop d (first + i) i rows h ∙ ap₂ (λ (v k : ℕ). cost_at (first + i) d.places d.grid.costs ∷ duals_from d v (drop k rows)) next (sym (add-one i)))
-    ∙ sym (append_assoc found (cost_at (first + i) d.places d.grid.costs ∷ []) (duals_from d (first + (i + 1)) (drop (i + 1) rows)))
+    w ∙ ap (λ (xs : List Fx). found ++ xs) (duals_drop d (first + i) i rows h ∙ ap₂ (λ (v k : ℕ). cost_at (first + i) d.nonbasic d.grid.costs ∷ duals_from d v (drop k rows)) next (sym (add-one i)))
+    ∙ sym (append_assoc found (cost_at (first + i) d.nonbasic d.grid.costs ∷ []) (duals_from d (first + (i + 1)) (drop (i + 1) rows)))
 
-pub duals_kept : {whole : List Fx} (d : Kept) (first i : ℕ) (rows : List LpRow) (found new : List Fx) (y : Fx) → i < length rows → whole ≡ found ++ duals_from (dictionary_of d) (first + i) (drop i rows) → y ≡ cost_at (first + i) d.places d.table.costs.items → new ≡ found ++ y ∷ [] → whole ≡ new ++ duals_from (dictionary_of d) (first + (i + 1)) (drop (i + 1) rows)
+pub duals_kept : {whole : List Fx} (d : Tableau) (first i : ℕ) (rows : List LpRow) (found new : List Fx) (y : Fx) → i < length rows → whole ≡ found ++ duals_from (dictionary_of d) (first + i) (drop i rows) → y ≡ cost_at (first + i) d.nonbasic d.table.costs.items → new ≡ found ++ y ∷ [] → whole ≡ new ++ duals_from (dictionary_of d) (first + (i + 1)) (drop (i + 1) rows)
 unfolding dictionary_of grid_of
 duals_kept d first i rows found new y h w e n =
     duals_step (dictionary_of d) first i rows found h w

@@ -2,7 +2,7 @@
 use Rattle.std.proofs.Common.{◌≡◌, ℕ, ◌+◌, ◌-◌, ◌*◌, ◌<◌, ◌≤◌, List, ◌∷◌, ◌++◌, length, take, drop, Option, Some, None, Bool, true, false, arith, refl, ap, sym, ◌∙◌, subst}
 use Rattle.std.specs.Option.{option_map, option_and_then}
 use Rattle.std.proofs.lemmas.List.{take-append-drop, length-drop, length-take-le}
-use Rattle.hp_simplex.specs.declared.fixed.Fx.{Fx}
+use Rattle.hp_solver.specs.declared.fixed.Fx.{Fx}
 use Rattle.hp_simplex.specs.Each.{each_from}
 use Rattle.hp_simplex.specs.Pivot.{Grid, grid, rows_of, Pivots, turned_row, moved_row, others, new_row, pivot_of}
 use Rattle.hp_simplex.proofs.Rows.{row_is, rows_split, rows_count, table_rows, inside_is}

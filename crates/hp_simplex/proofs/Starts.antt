@@ -1,14 +1,14 @@
 -- The first dictionary, by its parts.
 use Rattle.std.proofs.Common.{◌≡◌, ℕ, zero, suc, ◌+◌, ◌-◌, ◌*◌, ◌<◌, Bool, true, false, cond, ◌==◌, List, [], ◌∷◌, ◌++◌, length, map, drop, flat_map, arith, refl, ap, ap₂, add-one, sym, ◌∙◌}
 use Rattle.std.proofs.lemmas.List.{append_assoc, length-append}
-use Rattle.hp_simplex.specs.declared.fixed.Fx.{Fx}
-use Rattle.hp_simplex.specs.declared.stage_lp.Column.{Column}
-use Rattle.hp_simplex.specs.declared.stage_lp.LpRow.{LpRow}
-use Rattle.hp_simplex.specs.Numbers.{zero_fx}
-use Rattle.hp_simplex.specs.declared.stage_lp.StageLp.{StageLp}
-use Rattle.hp_simplex.specs.declared.dictionary.Place.{Place}
-use Rattle.hp_simplex.specs.declared.dictionary.Kept.{Kept}
-use Rattle.hp_simplex.specs.Dictionary.{Dictionary, dense, slacks_from, places_from, start_of}
+use Rattle.hp_solver.specs.declared.fixed.Fx.{Fx}
+use Rattle.hp_solver.specs.declared.stage_lp.Column.{Column}
+use Rattle.hp_solver.specs.declared.stage_lp.LpRow.{LpRow}
+use Rattle.hp_solver.specs.Numbers.{zero_fx}
+use Rattle.hp_solver.specs.declared.stage_lp.StageLp.{StageLp}
+use Rattle.hp_simplex.specs.declared.dictionary.Nonbasic.{Nonbasic}
+use Rattle.hp_simplex.specs.declared.dictionary.Tableau.{Tableau}
+use Rattle.hp_simplex.specs.Dictionary.{Dictionary, dense, slacks_from, nonbasic_from, start_of}
 use Rattle.hp_simplex.specs.Whole.{dictionary_of}
 use Rattle.hp_simplex.specs.Pivot.{rows_of, grid_of}
 use Rattle.hp_simplex.proofs.Rows.{front_row}
@@ -28,9 +28,9 @@ pub slacks_length : (v : ℕ) (rows : List LpRow) → length (slacks_from v rows
 slacks_length v [] = refl
 slacks_length v (r ∷ rows) = ap suc (slacks_length (suc v) rows)
 
-pub places_length : (j : ℕ) (cs : List Column) → length (places_from j cs) ≡ length cs
-places_length j [] = refl
-places_length j (c ∷ cs) = ap suc (places_length (suc j) cs)
+pub nonbasic_length : (j : ℕ) (cs : List Column) → length (nonbasic_from j cs) ≡ length cs
+nonbasic_length j [] = refl
+nonbasic_length j (c ∷ cs) = ap suc (nonbasic_length (suc j) cs)
 
 chosen_length : (b : Bool) (xs ys : List Fx) (n : ℕ) → length xs ≡ n → length ys ≡ n → length (cond b xs ys) ≡ n
 chosen_length true xs ys n h k = h
@@ -63,16 +63,16 @@ dense_step j n at next x front whole ts h step w =
 
 -- the first dictionary, by the columns and rows
 abbrev first : List Column → List LpRow → Dictionary
-first cs rs = record { basic = slacks_from (length cs) rs; places = places_from 0 cs; grid = record { rows = map (factors (length cs)) rs; costs = map (λ (c : Column). c.cost) cs } }
+first cs rs = record { basic = slacks_from (length cs) rs; nonbasic = nonbasic_from 0 cs; grid = record { rows = map (factors (length cs)) rs; costs = map (λ (c : Column). c.cost) cs } }
 
-parts_same : {b c : List ℕ} {p q : List Place} {r s : List (List Fx)} {x y : List Fx} → b ≡ c → p ≡ q → r ≡ s → x ≡ y → ◌≡◌ {A = Dictionary} (record { basic = b; places = p; grid = record { rows = r; costs = x } }) (record { basic = c; places = q; grid = record { rows = s; costs = y } })
+parts_same : {b c : List ℕ} {p q : List Nonbasic} {r s : List (List Fx)} {x y : List Fx} → b ≡ c → p ≡ q → r ≡ s → x ≡ y → ◌≡◌ {A = Dictionary} (record { basic = b; nonbasic = p; grid = record { rows = r; costs = x } }) (record { basic = c; nonbasic = q; grid = record { rows = s; costs = y } })
 parts_same {b} {c} {p} {q} {r} {s} {x} {y} e f g h =
-    ap₂ (λ (b : List ℕ) (p : List Place). record { basic = b; places = p; grid = record { rows = r; costs = x } }) e f
-    ∙ ap₂ (λ (r : List (List Fx)) (x : List Fx). record { basic = c; places = q; grid = record { rows = r; costs = x } }) g h
+    ap₂ (λ (b : List ℕ) (p : List Nonbasic). record { basic = b; nonbasic = p; grid = record { rows = r; costs = x } }) e f
+    ∙ ap₂ (λ (r : List (List Fx)) (x : List Fx). record { basic = c; nonbasic = q; grid = record { rows = r; costs = x } }) g h
 
 -- a dictionary with the parts of the first one is the first one
-pub made_start : (lp : StageLp) (cs : List Column) (rs : List LpRow) (d : Kept) → cs ≡ lp.columns → rs ≡ lp.rows → d.basic ≡ slacks_from (length cs) rs → d.places ≡ places_from 0 cs → d.table.rows ≡ length rs → d.table.columns ≡ length cs → d.table.cells.items ≡ flat_map (factors (length cs)) rs → d.table.costs.items ≡ map (λ (c : Column). c.cost) cs → dictionary_of d ≡ start_of lp
+pub made_start : (lp : StageLp) (cs : List Column) (rs : List LpRow) (d : Tableau) → cs ≡ lp.columns → rs ≡ lp.rows → d.basic ≡ slacks_from (length cs) rs → d.nonbasic ≡ nonbasic_from 0 cs → d.table.rows ≡ length rs → d.table.columns ≡ length cs → d.table.cells.items ≡ flat_map (factors (length cs)) rs → d.table.costs.items ≡ map (λ (c : Column). c.cost) cs → dictionary_of d ≡ start_of lp
 unfolding dictionary_of grid_of start_of
-made_start lp cs rs d a b basic places m n cells costs =
-    parts_same basic places (ap₂ (λ (i : ℕ) (j : ℕ). rows_of i j d.table.cells.items) m n ∙ ap (rows_of (length rs) (length cs)) cells ∙ flat_rows (length cs) rs) costs
+made_start lp cs rs d a b basic nonbasic m n cells costs =
+    parts_same basic nonbasic (ap₂ (λ (i : ℕ) (j : ℕ). rows_of i j d.table.cells.items) m n ∙ ap (rows_of (length rs) (length cs)) cells ∙ flat_rows (length cs) rs) costs
     ∙ ap₂ first a b

@@ -1,11 +1,11 @@
 -- The nonbasic variable that enters: the one of least ratio, and of least number among equals.
 use Rattle.std.specs.Prelude.{ℕ, suc, ◌^◌, pos, nat_abs, Bool, true, false, not, ◌&&◌, ◌||◌, List, [], ◌∷◌, Option, Some, None, int_lt, nat_lt, nat_le, if◌then◌else◌}
 use Rattle.std.specs.Option.{option_map, option_and_then}
-use Rattle.hp_simplex.specs.declared.fixed.Fx.{Fx}
-use Rattle.hp_simplex.specs.declared.stage_lp.StageLp.{StageLp}
-use Rattle.hp_simplex.specs.declared.dictionary.Place.{Place}
+use Rattle.hp_solver.specs.declared.fixed.Fx.{Fx}
+use Rattle.hp_solver.specs.declared.stage_lp.StageLp.{StageLp}
+use Rattle.hp_simplex.specs.declared.dictionary.Nonbasic.{Nonbasic}
 use Rattle.hp_simplex.specs.declared.dictionary.Entering.{Entering}
-use Rattle.hp_simplex.specs.Numbers.{zero_fx, over}
+use Rattle.hp_solver.specs.Numbers.{zero_fx, over}
 use Rattle.hp_simplex.specs.Pivot.{negated}
 use Rattle.hp_simplex.specs.Dictionary.{low_of, high_of}
 
@@ -35,7 +35,7 @@ is_towards false true t = is_negative t
 is_towards false false t = is_positive t
 
 -- a factor of at least 2^-12, of the right sign, of a variable that can move
-unfoldable pub is_eligible : StageLp → Bool → Fx → Place → Bool
+unfoldable pub is_eligible : StageLp → Bool → Fx → Nonbasic → Bool
 is_eligible lp above t p = not (is_fixed lp p.variable) && nat_le (2 ^ 20) (nat_abs t.0) && is_towards above p.high t
 
 -- |x|
@@ -47,10 +47,10 @@ unfoldable pub at_least_zero : Fx → Fx
 at_least_zero x = if is_negative x then zero_fx else x
 
 -- how far the reduced cost is from the sign that it would lose
-unfoldable pub slack_of : Place → Fx → Option Fx
+unfoldable pub slack_of : Nonbasic → Fx → Option Fx
 slack_of p d = option_map at_least_zero (if p.high then negated d else Some d)
 
-unfoldable pub ratio_of : Fx → Place → Fx → Option Fx
+unfoldable pub ratio_of : Fx → Nonbasic → Fx → Option Fx
 ratio_of t p d = option_and_then (λ up. option_and_then (over up) (magnitude t)) (slack_of p d)
 
 abbrev pub is_better : ℕ → Fx → Option Entering → Bool
@@ -61,11 +61,11 @@ is_better v r (Some e) = int_lt r.0 e.ratio.0 || (not (int_lt e.ratio.0 r.0) && 
 abbrev pub chosen : Option Entering → ℕ → ℕ → Fx → Option Entering
 chosen best j v r = if is_better v r best then Some (record { column = j; variable = v; ratio = r }) else best
 
-unfoldable pub entering_step : StageLp → Bool → Option Entering → ℕ → Fx → Place → Fx → Option (Option Entering)
+unfoldable pub entering_step : StageLp → Bool → Option Entering → ℕ → Fx → Nonbasic → Fx → Option (Option Entering)
 entering_step lp above best j t p d = if is_eligible lp above t p then option_map (chosen best j p.variable) (ratio_of t p d) else Some best
 
 -- the best so far and the columns from column j on; none where a result is absent
-abbrev pub entering_from : StageLp → Bool → Option Entering → ℕ → List Fx → List Place → List Fx → Option (Option Entering)
+abbrev pub entering_from : StageLp → Bool → Option Entering → ℕ → List Fx → List Nonbasic → List Fx → Option (Option Entering)
 entering_from lp above best j [] ps ds = Some best
 entering_from lp above best j (t ∷ ts) [] ds = Some best
 entering_from lp above best j (t ∷ ts) (p ∷ ps) [] = Some best

@@ -1,11 +1,11 @@
 -- The basic variable that leaves: of those that violate a bound, the one of least number (Bland, 1977).
 use Rattle.std.specs.Prelude.{ℕ, suc, ◌^◌, pos, Bool, true, false, List, [], ◌∷◌, Option, Some, None, int_lt, nat_lt, if◌then◌else◌}
 use Rattle.std.specs.Option.{option_map, option_and_then}
-use Rattle.hp_simplex.specs.declared.fixed.Fx.{Fx}
-use Rattle.hp_simplex.specs.declared.stage_lp.StageLp.{StageLp}
-use Rattle.hp_simplex.specs.declared.dictionary.Place.{Place}
+use Rattle.hp_solver.specs.declared.fixed.Fx.{Fx}
+use Rattle.hp_solver.specs.declared.stage_lp.StageLp.{StageLp}
+use Rattle.hp_simplex.specs.declared.dictionary.Nonbasic.{Nonbasic}
 use Rattle.hp_simplex.specs.declared.dictionary.Leaving.{Leaving}
-use Rattle.hp_simplex.specs.Numbers.{number, plus, minus}
+use Rattle.hp_solver.specs.Numbers.{number, plus, minus}
 use Rattle.hp_simplex.specs.Dictionary.{low_of, high_of, row_value}
 
 -- 2^-16
@@ -35,11 +35,11 @@ abbrev pub chosen : Option Leaving → ℕ → ℕ → Option Bool → Option Le
 chosen best i v None = best
 chosen best i v (Some above) = if is_less v best then Some (record { row = i; variable = v; above = above }) else best
 
-unfoldable pub leaving_step : StageLp → List Place → Option Leaving → ℕ → ℕ → List Fx → Option (Option Leaving)
+unfoldable pub leaving_step : StageLp → List Nonbasic → Option Leaving → ℕ → ℕ → List Fx → Option (Option Leaving)
 leaving_step lp ps best i v row = option_and_then (λ x. option_map (chosen best i v) (violated lp v x)) (row_value lp ps row)
 
 -- the best so far and the rows from row i on; none where a result is absent
-abbrev pub leaving_from : StageLp → List Place → Option Leaving → ℕ → List ℕ → List (List Fx) → Option (Option Leaving)
+abbrev pub leaving_from : StageLp → List Nonbasic → Option Leaving → ℕ → List ℕ → List (List Fx) → Option (Option Leaving)
 leaving_from lp ps best i [] rows = Some best
 leaving_from lp ps best i (v ∷ vs) [] = Some best
 leaving_from lp ps best i (v ∷ vs) (row ∷ rows) = option_and_then (λ next. leaving_from lp ps next (suc i) vs rows) (leaving_step lp ps best i v row)

@@ -3,9 +3,7 @@ pub mod Dictionary
 pub mod Each
 pub mod Entering
 pub mod Leaving
-pub mod Numbers
 pub mod Pivot
-pub mod Proper
 pub mod Solve
 pub mod Steps
 pub mod Whole

@@ -1,9 +1,9 @@
 -- A pivot of the dual simplex method: the table and the reduced costs after two variables change places (Lemke, 1954).
 use Rattle.std.specs.Prelude.{◌≡◌, ℕ, zero, suc, Bool, true, false, List, [], ◌∷◌, ◌++◌, get_or, take, drop, Option, Some, None, ◌==◌, if◌then◌else◌}
 use Rattle.std.specs.Option.{option_map, option_and_then}
-use Rattle.hp_simplex.specs.declared.fixed.Fx.{Fx}
+use Rattle.hp_solver.specs.declared.fixed.Fx.{Fx}
 use Rattle.hp_simplex.specs.declared.table.Table.{Table}
-use Rattle.hp_simplex.specs.Numbers.{zero_fx, one, plus, minus, times, over}
+use Rattle.hp_solver.specs.Numbers.{zero_fx, one, plus, minus, times, over}
 use Rattle.hp_simplex.specs.Each.{each_from}
 
 -- rows of a table, and the row of reduced costs

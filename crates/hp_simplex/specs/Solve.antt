@@ -1,7 +1,7 @@
 -- The boxed dual simplex method in fixed point.
 use Rattle.std.specs.Prelude.{ℕ, zero, suc, ◌+◌, ◌*◌, length, slice_set, Option, Some, None}
-use Rattle.hp_simplex.specs.declared.stage_lp.StageLp.{StageLp}
-use Rattle.hp_simplex.specs.declared.stage_lp.Answer.{Answer}
+use Rattle.hp_solver.specs.declared.stage_lp.StageLp.{StageLp}
+use Rattle.hp_solver.specs.declared.stage_lp.Answer.{Answer}
 use Rattle.hp_simplex.specs.declared.dictionary.Leaving.{Leaving}
 use Rattle.hp_simplex.specs.declared.dictionary.Entering.{Entering}
 use Rattle.hp_simplex.specs.Pivot.{Grid, pivot_of, row_at}
@@ -22,7 +22,7 @@ unfoldable pub exchanged : Dictionary → Leaving → Entering → Grid → Dict
 exchanged d l e g =
     record {
       basic = slice_set d.basic l.row e.variable;
-      places = slice_set d.places e.column (record { variable = l.variable; high = l.above });
+      nonbasic = slice_set d.nonbasic e.column (record { variable = l.variable; high = l.above });
       grid = g;
     }
 
@@ -37,7 +37,7 @@ by_entering d l (Some (Some e)) = by_pivot d l e (pivot_of l.row e.column d.grid
 
 -- a violated variable is brought back to its bound, where an eligible one can take its place
 abbrev pub brought_back : StageLp → Dictionary → Leaving → Turn
-brought_back lp d l = by_entering d l (entering_from lp l.above None 0 (row_at d.grid.rows l.row) d.places d.grid.costs)
+brought_back lp d l = by_entering d l (entering_from lp l.above None 0 (row_at d.grid.rows l.row) d.nonbasic d.grid.costs)
 
 abbrev pub by_leaving : StageLp → Dictionary → Option (Option Leaving) → Turn
 by_leaving lp d None = stuck
@@ -45,7 +45,7 @@ by_leaving lp d (Some None) = found
 by_leaving lp d (Some (Some l)) = brought_back lp d l
 
 unfoldable pub turn_of : StageLp → Dictionary → Turn
-turn_of lp d = by_leaving lp d (leaving_from lp d.places None 0 d.basic d.grid.rows)
+turn_of lp d = by_leaving lp d (leaving_from lp d.nonbasic None 0 d.basic d.grid.rows)
 
 -- the answer after a turn, by what follows the next dictionary
 abbrev pub by_turn : StageLp → Dictionary → (Dictionary → Answer) → Turn → Answer

@@ -1,6 +1,6 @@
 -- What a turn in place comes to.
 use Rattle.std.specs.Prelude.{◌≡◌, ◌<◌, Bool, true, false, ⊤}
-use Rattle.hp_simplex.specs.declared.dictionary.Kept.{Kept}
+use Rattle.hp_simplex.specs.declared.dictionary.Tableau.{Tableau}
 use Rattle.hp_simplex.specs.declared.dictionary.Leaving.{Leaving}
 use Rattle.hp_simplex.specs.declared.dictionary.Entering.{Entering}
 use Rattle.hp_simplex.specs.declared.dual_simplex.Step.{Step}
@@ -18,7 +18,7 @@ Exchanges true d l e new = solve.by_pivot d l e (pivot_of l.row e.column d.grid)
 Exchanges false d l e new = solve.by_pivot d l e (pivot_of l.row e.column d.grid) ≡ solve.stuck
 
 -- the step says what the turn comes to, and leaves the next dictionary, or the same one
-abbrev pub Takes : Step → solve.Turn → Kept → Kept → Type 0
+abbrev pub Takes : Step → solve.Turn → Tableau → Tableau → Type 0
 Takes Goes t old new = t ≡ solve.goes (dictionary_of new)
 Takes Found t old new = (t ≡ solve.found) × (new ≡ old)
 Takes (Ray l) t old new = (t ≡ solve.ray l) × (new ≡ old) × (l.row < new.table.rows)
@@ -32,7 +32,7 @@ Chooses (choices.Exchange l e) t d = t ≡ solve.by_pivot d l e (pivot_of l.row 
 Chooses choices.Stuck t d = t ≡ solve.stuck
 
 -- the row and the column are there
-abbrev pub AreInside : Choice → Kept → Type 0
+abbrev pub AreInside : Choice → Tableau → Type 0
 AreInside choices.Found k = ⊤
 AreInside (choices.Ray l) k = l.row < k.table.rows
 AreInside (choices.Exchange l e) k = (l.row < k.table.rows) × (e.column < k.table.columns)

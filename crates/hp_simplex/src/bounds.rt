@@ -1,11 +1,10 @@
 // Values of variables by their bounds and rows.
 ghost use Rattle.std.specs.Prelude.{◌≡◌, length};
-ghost use Rattle.hp_simplex.specs.Numbers.{zero_fx};
+ghost use Rattle.hp_solver.specs.Numbers.{zero_fx};
 ghost use Rattle.hp_simplex.specs.Dictionary.{low_of, high_of, value_at, sum_step, sum_from, row_value};
 
-use crate::dictionary::Place;
-use crate::fixed::Fx;
-use crate::stage_lp::StageLp;
+use crate::dictionary::Nonbasic;
+use hp_solver::{Fx, StageLp};
 
 // The lower bound of a variable.
 #[tactic(auto, unfolding(crate::specs::Dictionary::low_of))]
@@ -35,7 +34,7 @@ pub fn high_of(lp: &StageLp, variable: usize) -> Option<Fx>
 
 // The value of a nonbasic variable.
 #[tactic(auto, unfolding(crate::specs::Dictionary::value_at))]
-pub fn value_at(lp: &StageLp, place: Place) -> Option<Fx>
+pub fn value_at(lp: &StageLp, place: Nonbasic) -> Option<Fx>
     ensures { result ≡ value_at lp.now place }
 {
     if place.high {
@@ -47,7 +46,7 @@ pub fn value_at(lp: &StageLp, place: Place) -> Option<Fx>
 
 // A sum with one term more.
 #[tactic(auto, unfolding(crate::specs::Dictionary::sum_step))]
-fn sum_step(lp: &StageLp, sum: Fx, factor: Fx, place: Place) -> Option<Fx>
+fn sum_step(lp: &StageLp, sum: Fx, factor: Fx, place: Nonbasic) -> Option<Fx>
     ensures { result ≡ sum_step lp.now sum factor place }
 {
     let value = value_at(lp, place)?;
@@ -56,13 +55,13 @@ fn sum_step(lp: &StageLp, sum: Fx, factor: Fx, place: Place) -> Option<Fx>
 
 // The value of a basic variable.
 #[tactic(auto, unfolding(crate::specs::Dictionary::row_value))]
-pub fn row_value(lp: &StageLp, places: &[Place], row: &[Fx]) -> Option<Fx>
-    requires { length row.now ≡ length places.now }
-    ensures { result ≡ row_value lp.now places.now row.now }
+pub fn row_value(lp: &StageLp, nonbasic: &[Nonbasic], row: &[Fx]) -> Option<Fx>
+    requires { length row.now ≡ length nonbasic.now }
+    ensures { result ≡ row_value lp.now nonbasic.now row.now }
 {
     let mut sum = Fx(0);
     for j in 0..row.len() {
-        sum = sum_step(lp, sum, row[j], places[j])?;
+        sum = sum_step(lp, sum, row[j], nonbasic[j])?;
     }
     Some(sum)
 }

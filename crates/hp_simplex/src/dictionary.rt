@@ -1,11 +1,11 @@
 // The dictionary of a turn: how the basic variables depend on the nonbasic ones.
-use crate::fixed::Fx;
 use crate::table::Table;
 use hp_num::List;
+use hp_solver::Fx;
 
 /// A nonbasic variable, at one of its bounds.
 #[derive(Clone, Copy)]
-pub struct Place {
+pub struct Nonbasic {
     /// The variable's number.
     pub variable: usize,
     /// Whether it stands at its upper bound, and else at its lower one.
@@ -36,11 +36,11 @@ pub struct Entering {
 
 /// The basic variables, one per row, and the nonbasic ones, one per column, with their table.
 #[derive(Drop)]
-pub struct Kept {
+pub struct Tableau {
     /// The numbers of the basic variables.
     pub basic: List<usize>,
     /// The nonbasic variables.
-    pub places: List<Place>,
+    pub nonbasic: List<Nonbasic>,
     /// The table.
     pub table: Table,
 }

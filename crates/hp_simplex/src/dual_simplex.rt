@@ -1,24 +1,25 @@
 // The boxed dual simplex method, on a table that is pivoted in place.
-ghost use Rattle.std.specs.Prelude.{◌≡◌, ◌+◌, ◌*◌, ◌^◌, ◌<◌, ℕ, length, IfOk};
-ghost use Rattle.hp_simplex.specs.declared.stage_lp.StageLp.{StageLp};
-ghost use Rattle.hp_simplex.specs.declared.stage_lp.Answer.{Answer};
-ghost use Rattle.hp_simplex.specs.Proper.{IsProper};
+ghost use Rattle.std.specs.Prelude.{◌≡◌, ◌+◌, ◌*◌, ◌^◌, ◌<◌, ℕ, length, IfOk, OnOk, ⊤};
+ghost use Rattle.hp_solver.specs.declared.stage_lp.StageLp.{StageLp};
+ghost use Rattle.hp_solver.specs.declared.stage_lp.Answer.{Answer};
+ghost use Rattle.hp_solver.specs.Proper.{IsProper, IsReference, Extends, IsLike};
 ghost use Rattle.hp_simplex.specs.Whole.{IsWhole, dictionary_of};
 ghost use Rattle.hp_simplex.specs.Solve.{exchanged, brought_back, turn_of, turns, solve_of};
 ghost use Rattle.hp_simplex.specs.Steps.{Takes, Exchanges, Chooses, AreInside};
 
 use crate::answers::{found, ray, stuck};
-use crate::dictionary::{Entering, Kept, Leaving, Place};
+use crate::dictionary::{Entering, Leaving, Nonbasic, Tableau};
 use crate::entering::entering;
 use crate::leaving::leaving;
-use crate::solver::Solver;
-use crate::stage_lp::{Answer, StageLp};
-use crate::start::start;
-use hp_num::Memory;
+use crate::start::write_start;
+use crate::table::Table;
+use hp_num::{List, Memory};
+use hp_solver::{Answer, Solver, StageLp};
 use std::alloc::Global;
+use std::marker::Model;
 
 /// The boxed dual simplex method (Lemke, 1954; Wagner, 1958) in fixed point, with one table that
-/// is pivoted in place.
+/// is pivoted in place. A chain keeps the memory of its tableau; each answer depends on its program alone.
 pub struct DualSimplex;
 
 // What a turn came to.
@@ -46,25 +47,28 @@ pub(crate) enum Choice {
 }
 
 // Two variables change places; false where a result is absent.
-fn exchange(kept: &mut Kept, leaving: Leaving, entering: Entering) -> bool
-    requires whole { IsWhole kept.old }
-    requires row { leaving.row < kept.old.table.rows }
-    requires column { entering.column < kept.old.table.columns }
-    ensures rows { kept.new.table.rows ≡ kept.old.table.rows }
-    ensures whole { IsWhole kept.new }
-    ensures exchanged { Exchanges result (dictionary_of kept.old) leaving entering (dictionary_of kept.new) }
+fn exchange(tableau: &mut Tableau, leaving: Leaving, entering: Entering) -> bool
+    requires whole { IsWhole tableau.old }
+    requires row { leaving.row < tableau.old.table.rows }
+    requires column { entering.column < tableau.old.table.columns }
+    ensures rows { tableau.new.table.rows ≡ tableau.old.table.rows }
+    ensures whole { IsWhole tableau.new }
+    ensures exchanged { Exchanges result (dictionary_of tableau.old) leaving entering (dictionary_of tableau.new) }
 {
-    let rows = kept.table.rows;
-    let columns = kept.table.columns;
+    let rows = tableau.table.rows;
+    let columns = tableau.table.columns;
     prove!(leaving.row < rows as usize);
     prove!(entering.column < columns as usize);
-    if !kept.table.pivot(leaving.row as u32, entering.column as u32) {
+    if !tableau
+        .table
+        .pivot(leaving.row as u32, entering.column as u32)
+    {
         return false;
     }
-    kept.basic.set(leaving.row, entering.variable);
-    kept.places.set(
+    tableau.basic.set(leaving.row, entering.variable);
+    tableau.nonbasic.set(
         entering.column,
-        Place {
+        Nonbasic {
             variable: leaving.variable,
             high: leaving.above,
         },
@@ -74,16 +78,16 @@ fn exchange(kept: &mut Kept, leaving: Leaving, entering: Entering) -> bool
 
 // The variable that brings a violated one back, if one is eligible.
 #[tactic(auto, unfolding(crate::specs::Whole::dictionary_of))]
-fn bring_back(lp: &StageLp, kept: &Kept, leaving: Leaving) -> Choice
-    requires whole { IsWhole kept.now }
-    requires row { leaving.row < kept.now.table.rows }
-    ensures choice { Chooses result (brought_back lp.now (dictionary_of kept.now) leaving) (dictionary_of kept.now) }
-    ensures inside { AreInside result kept.now }
+fn bring_back(lp: &StageLp, tableau: &Tableau, leaving: Leaving) -> Choice
+    requires whole { IsWhole tableau.now }
+    requires row { leaving.row < tableau.now.table.rows }
+    ensures choice { Chooses result (brought_back lp.now (dictionary_of tableau.now) leaving) (dictionary_of tableau.now) }
+    ensures inside { AreInside result tableau.now }
 {
-    let places = kept.places.as_slice();
-    let row = kept.table.row(leaving.row);
-    let costs = kept.table.costs.as_slice();
-    match entering(lp, leaving.above, row, places, costs) {
+    let nonbasic = tableau.nonbasic.as_slice();
+    let row = tableau.table.row(leaving.row);
+    let costs = tableau.table.costs.as_slice();
+    match entering(lp, leaving.above, row, nonbasic, costs) {
         None => Choice::Stuck,
         Some(None) => Choice::Ray(leaving),
         Some(Some(entering)) => Choice::Exchange(leaving, entering),
@@ -92,32 +96,32 @@ fn bring_back(lp: &StageLp, kept: &Kept, leaving: Leaving) -> Choice
 
 // The variables that a turn exchanges, or what it comes to without an exchange.
 #[tactic(auto, unfolding(crate::specs::Solve::turn_of, crate::specs::Whole::dictionary_of))]
-fn choose(lp: &StageLp, kept: &Kept) -> Choice
-    requires whole { IsWhole kept.now }
-    ensures choice { Chooses result (turn_of lp.now (dictionary_of kept.now)) (dictionary_of kept.now) }
-    ensures inside { AreInside result kept.now }
+fn choose(lp: &StageLp, tableau: &Tableau) -> Choice
+    requires whole { IsWhole tableau.now }
+    ensures choice { Chooses result (turn_of lp.now (dictionary_of tableau.now)) (dictionary_of tableau.now) }
+    ensures inside { AreInside result tableau.now }
 {
-    let places = kept.places.as_slice();
-    match leaving(lp, kept.basic.as_slice(), places, &kept.table) {
+    let nonbasic = tableau.nonbasic.as_slice();
+    match leaving(lp, tableau.basic.as_slice(), nonbasic, &tableau.table) {
         None => Choice::Stuck,
         Some(None) => Choice::Found,
-        Some(Some(leaving)) => bring_back(lp, kept, leaving),
+        Some(Some(leaving)) => bring_back(lp, tableau, leaving),
     }
 }
 
 // One turn.
-fn turn(lp: &StageLp, kept: &mut Kept) -> Step
-    requires whole { IsWhole kept.old }
-    ensures rows { kept.new.table.rows ≡ kept.old.table.rows }
-    ensures whole { IsWhole kept.new }
-    ensures turn { Takes result (turn_of lp.now (dictionary_of kept.old)) kept.old kept.new }
+fn turn(lp: &StageLp, tableau: &mut Tableau) -> Step
+    requires whole { IsWhole tableau.old }
+    ensures rows { tableau.new.table.rows ≡ tableau.old.table.rows }
+    ensures whole { IsWhole tableau.new }
+    ensures turn { Takes result (turn_of lp.now (dictionary_of tableau.old)) tableau.old tableau.new }
 {
-    match choose(lp, kept) {
+    match choose(lp, tableau) {
         Choice::Stuck => Step::Stuck,
         Choice::Found => Step::Found,
         Choice::Ray(leaving) => Step::Ray(leaving),
         Choice::Exchange(leaving, entering) => {
-            if exchange(kept, leaving, entering) {
+            if exchange(tableau, leaving, entering) {
                 Step::Goes
             } else {
                 Step::Stuck
@@ -127,38 +131,98 @@ fn turn(lp: &StageLp, kept: &mut Kept) -> Step
 }
 
 // The answer of at most so many turns.
-fn run(alloc: Global, lp: &StageLp, mut kept: Kept, limit: u64) -> Result<Answer, Memory>
-    requires whole { IsWhole kept }
+fn run(alloc: Global, lp: &StageLp, tableau: &mut Tableau, limit: u64) -> Result<Answer, Memory>
+    requires whole { IsWhole tableau.old }
     requires few { length lp.now.columns + length lp.now.rows < 2 ^ 32 }
-    ensures { IfOk result (λ answer. answer ≡ turns limit lp.now (dictionary_of kept)) }
+    ensures { IfOk result (λ answer. answer ≡ turns limit lp.now (dictionary_of tableau.old)) }
 {
     for _turn in 0..limit {
-        match turn(lp, &mut kept) {
+        match turn(lp, tableau) {
             Step::Goes => {}
-            Step::Found => return found(alloc, lp, &kept),
-            Step::Ray(leaving) => return ray(alloc, lp, &kept, leaving),
+            Step::Found => return found(alloc, lp, tableau),
+            Step::Ray(leaving) => return ray(alloc, lp, tableau, leaving),
             Step::Stuck => return stuck(alloc, lp),
         }
     }
     stuck(alloc, lp)
 }
 
-impl Solver for DualSimplex {
-    ghost answer = { λ _ lp. solve_of lp };
+// The answer to a program, with a tableau whose content counts for nothing.
+#[tactic(auto, unfolding(crate::specs::Solve::solve_of))]
+fn solve_in(alloc: Global, tableau: &mut Tableau, lp: &StageLp) -> Result<Answer, Memory>
+    ensures { IfOk result (λ answer. answer ≡ solve_of lp.now) }
+{
+    let columns = lp.columns.len();
+    let rows = lp.rows.len();
+    // More variables than 32 bits can number find no memory.
+    let most = u32::MAX as usize;
+    if columns > most || rows > most - columns {
+        return Err(Memory);
+    }
+    write_start(tableau, lp)?;
+    run(
+        alloc,
+        lp,
+        tableau,
+        100 * (columns as u64 + rows as u64) + 100,
+    )
+}
 
-    #[tactic(auto, unfolding(crate::specs::Solve::solve_of))]
-    fn solve(&self, alloc: Global, lp: &StageLp) -> Result<Answer, Memory>
-        requires { IsProper lp.now }
-        ensures { IfOk result (λ found. found ≡ solve_of lp.now) }
-    {
-        let columns = lp.columns.len();
-        let rows = lp.rows.len();
-        // More variables than 32 bits can number find no memory.
-        let most = u32::MAX as usize;
-        if columns > most || rows > most - columns {
-            return Err(Memory);
+/// Room for the tableau of one program after another. No answer depends on what it holds.
+#[derive(Drop)]
+pub struct Room {
+    tableau: Tableau,
+}
+
+impl Model for Room {
+    ghost use Rattle.std.specs.Prelude.{⊤};
+
+    ghost Value = { ⊤ };
+
+    ghost view = { λ _. tt };
+}
+
+impl Room {
+    fn new(alloc: Global) -> Room {
+        Room {
+            tableau: Tableau {
+                basic: List::new(alloc),
+                nonbasic: List::new(alloc),
+                table: Table {
+                    rows: 0,
+                    columns: 0,
+                    cells: Vec::new(alloc),
+                    costs: Vec::new(alloc),
+                },
+            },
         }
-        let kept = start(alloc, lp)?;
-        run(alloc, lp, kept, 100 * (columns as u64 + rows as u64) + 100)
+    }
+}
+
+impl Solver for DualSimplex {
+    type Start = ();
+
+    type Chain = Room;
+
+    ghost started = { λ _ _. tt };
+
+    ghost begun = { λ _ _ _. tt };
+
+    ghost next = { λ _ _ lp. (solve_of lp, tt) };
+
+    ghost suits = { λ _ _ _. ⊤ };
+
+    ghost fits = { λ _ _ _. ⊤ };
+
+    fn start(&self, _alloc: Global, _lp: &StageLp) -> Result<(), Memory> {
+        Ok(())
+    }
+
+    fn begin(&self, alloc: Global, _start: &(), _lp: &StageLp) -> Result<Room, Memory> {
+        Ok(Room::new(alloc))
+    }
+
+    fn solve(&self, alloc: Global, chain: &mut Room, lp: &StageLp) -> Result<Answer, Memory> {
+        solve_in(alloc, &mut chain.tableau, lp)
     }
 }

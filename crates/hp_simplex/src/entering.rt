@@ -3,9 +3,9 @@ ghost use Rattle.std.specs.Prelude.{◌≡◌, ◌<◌, length, IfSome, None};
 ghost use Rattle.hp_simplex.specs.Entering.{is_same, are_equal, is_fixed, is_towards, is_eligible, magnitude, at_least_zero, slack_of, ratio_of, is_better, chosen, entering_step, entering_from};
 
 use crate::bounds::{high_of, low_of};
-use crate::dictionary::{Entering, Place};
-use crate::fixed::Fx;
-use crate::stage_lp::StageLp;
+use crate::dictionary::{Entering, Nonbasic};
+use crate::numbers::{is_negative, negated};
+use hp_solver::{Fx, StageLp};
 
 // 2^-12.
 const LEAST_FACTOR: u128 = 1 << 20;
@@ -43,7 +43,7 @@ fn is_towards(above: bool, high: bool, factor: Fx) -> bool
 
 // Whether the variable at a place may enter.
 #[tactic(auto, unfolding(crate::specs::Entering::is_eligible))]
-fn is_eligible(lp: &StageLp, above: bool, factor: Fx, place: Place) -> bool
+fn is_eligible(lp: &StageLp, above: bool, factor: Fx, place: Nonbasic) -> bool
     ensures { result ≡ is_eligible lp.now above factor place }
 {
     !is_fixed(lp, place.variable)
@@ -56,11 +56,7 @@ fn is_eligible(lp: &StageLp, above: bool, factor: Fx, place: Place) -> bool
 fn magnitude(x: Fx) -> Option<Fx>
     ensures { result ≡ magnitude x }
 {
-    if x.is_negative() {
-        x.negated()
-    } else {
-        Some(x)
-    }
+    if is_negative(x) { negated(x) } else { Some(x) }
 }
 
 // The greater of 0 and a number.
@@ -68,16 +64,16 @@ fn magnitude(x: Fx) -> Option<Fx>
 fn at_least_zero(x: Fx) -> Fx
     ensures { result ≡ at_least_zero x }
 {
-    if x.is_negative() { Fx(0) } else { x }
+    if is_negative(x) { Fx(0) } else { x }
 }
 
 // How far a reduced cost is from the sign that it would lose.
 #[tactic(auto, unfolding(crate::specs::Entering::slack_of))]
-fn slack_of(place: Place, cost: Fx) -> Option<Fx>
+fn slack_of(place: Nonbasic, cost: Fx) -> Option<Fx>
     ensures { result ≡ slack_of place cost }
 {
     let signed = if place.high {
-        cost.negated()
+        negated(cost)
     } else {
         Some(cost)
     };
@@ -86,7 +82,7 @@ fn slack_of(place: Place, cost: Fx) -> Option<Fx>
 
 // How far the reduced cost lets the variable go.
 #[tactic(auto, unfolding(crate::specs::Entering::ratio_of))]
-fn ratio_of(factor: Fx, place: Place, cost: Fx) -> Option<Fx>
+fn ratio_of(factor: Fx, place: Nonbasic, cost: Fx) -> Option<Fx>
     ensures { result ≡ ratio_of factor place cost }
 {
     let slack = slack_of(place, cost)?;
@@ -129,7 +125,7 @@ fn entering_step(
     best: Option<Entering>,
     column: usize,
     factor: Fx,
-    place: Place,
+    place: Nonbasic,
     cost: Fx,
 ) -> Option<Option<Entering>>
     ensures { result ≡ entering_step lp.now above best column factor place cost }
@@ -147,17 +143,17 @@ pub fn entering(
     lp: &StageLp,
     above: bool,
     row: &[Fx],
-    places: &[Place],
+    nonbasic: &[Nonbasic],
     costs: &[Fx],
 ) -> Option<Option<Entering>>
-    requires places { length row.now ≡ length places.now }
-    requires costs { length costs.now ≡ length places.now }
-    ensures entering { result ≡ entering_from lp.now above None 0 row.now places.now costs.now }
+    requires nonbasic { length row.now ≡ length nonbasic.now }
+    requires costs { length costs.now ≡ length nonbasic.now }
+    ensures entering { result ≡ entering_from lp.now above None 0 row.now nonbasic.now costs.now }
     ensures inside { IfSome result (λ found. IfSome found (λ e. e.column < length row.now)) }
 {
     let mut best = None;
     for j in 0..row.len() {
-        best = entering_step(lp, above, best, j, row[j], places[j], costs[j])?;
+        best = entering_step(lp, above, best, j, row[j], nonbasic[j], costs[j])?;
     }
     Some(best)
 }

@@ -4,10 +4,9 @@ ghost use Rattle.hp_simplex.specs.Pivot.{grid_of};
 ghost use Rattle.hp_simplex.specs.Leaving.{is_below, is_above, violated, is_less, chosen, leaving_step, leaving_from};
 
 use crate::bounds::{high_of, low_of, row_value};
-use crate::dictionary::{Leaving, Place};
-use crate::fixed::Fx;
-use crate::stage_lp::StageLp;
+use crate::dictionary::{Leaving, Nonbasic};
 use crate::table::Table;
+use hp_solver::{Fx, StageLp};
 
 // 2^-16.
 const TOLERANCE: Fx = Fx(1 << 16);
@@ -90,16 +89,16 @@ fn chosen(best: Option<Leaving>, row: usize, variable: usize, side: Option<bool>
 #[tactic(auto, unfolding(crate::specs::Leaving::leaving_step))]
 fn leaving_step(
     lp: &StageLp,
-    places: &[Place],
+    nonbasic: &[Nonbasic],
     best: Option<Leaving>,
     number: usize,
     variable: usize,
     row: &[Fx],
 ) -> Option<Option<Leaving>>
-    requires { length row.now ≡ length places.now }
-    ensures { result ≡ leaving_step lp.now places.now best number variable row.now }
+    requires { length row.now ≡ length nonbasic.now }
+    ensures { result ≡ leaving_step lp.now nonbasic.now best number variable row.now }
 {
-    let x = row_value(lp, places, row)?;
+    let x = row_value(lp, nonbasic, row)?;
     let side = violated(lp, variable, x)?;
     Some(chosen(best, number, variable, side))
 }
@@ -109,18 +108,18 @@ fn leaving_step(
 pub fn leaving(
     lp: &StageLp,
     basic: &[usize],
-    places: &[Place],
+    nonbasic: &[Nonbasic],
     table: &Table,
 ) -> Option<Option<Leaving>>
     requires basic { length basic.now ≡ table.now.rows }
-    requires places { length places.now ≡ table.now.columns }
+    requires nonbasic { length nonbasic.now ≡ table.now.columns }
     requires cells { length table.now.cells.items ≡ table.now.rows * table.now.columns }
-    ensures leaving { result ≡ leaving_from lp.now places.now None 0 basic.now (grid_of table.now).rows }
+    ensures leaving { result ≡ leaving_from lp.now nonbasic.now None 0 basic.now (grid_of table.now).rows }
     ensures inside { IfSome result (λ found. IfSome found (λ l. l.row < table.now.rows)) }
 {
     let mut best = None;
     for i in 0..basic.len() {
-        best = leaving_step(lp, places, best, i, basic[i], table.row(i))?;
+        best = leaving_step(lp, nonbasic, best, i, basic[i], table.row(i))?;
     }
     Some(best)
 }

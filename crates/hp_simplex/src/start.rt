@@ -1,54 +1,52 @@
 // The first dictionary: the slacks are basic.
-ghost use Rattle.std.specs.Prelude.{◌≡◌, ◌+◌, ◌^◌, ◌<◌, ◌≤◌, ◌∷◌, ◌++◌, ℕ, suc, length, drop, map, IfOk, OnOk};
+ghost use Rattle.std.specs.Prelude.{◌≡◌, ◌+◌, ◌^◌, ◌<◌, ◌≤◌, ◌∷◌, ◌++◌, ℕ, suc, length, drop, map, OnOk};
 ghost use Rattle.std.specs.List.{flat_map};
-ghost use Rattle.hp_simplex.specs.Numbers.{zero_fx};
-ghost use Rattle.hp_simplex.specs.Dictionary.{dense, slacks_from, places_from, start_of};
+ghost use Rattle.hp_solver.specs.Numbers.{zero_fx};
+ghost use Rattle.hp_simplex.specs.Dictionary.{dense, slacks_from, nonbasic_from, start_of};
 ghost use Rattle.hp_simplex.specs.Whole.{IsWhole, dictionary_of};
-ghost use Rattle.hp_simplex.specs.declared.stage_lp.Column.{Column};
-ghost use Rattle.hp_simplex.specs.declared.stage_lp.LpRow.{LpRow};
+ghost use Rattle.hp_solver.specs.declared.stage_lp.Column.{Column};
+ghost use Rattle.hp_solver.specs.declared.stage_lp.LpRow.{LpRow};
 
-use crate::dictionary::{Kept, Place};
-use crate::fixed::Fx;
-use crate::stage_lp::{Column, LpRow, StageLp};
-use crate::table::Table;
+use crate::dictionary::{Nonbasic, Tableau};
+use crate::numbers::is_negative;
 use hp_num::{List, Memory};
-use std::alloc::Global;
+use hp_solver::{Column, Fx, LpRow, StageLp};
 
-// The numbers of the slacks, from the first on.
-fn slacks(alloc: Global, first: usize, rows: &[LpRow]) -> Result<List<usize>, Memory>
+// Writes the numbers of the slacks, from the first on.
+fn write_slacks(found: &mut List<usize>, first: usize, rows: &[LpRow]) -> Result<(), Memory>
     requires { first + length rows.now < 2 ^ 32 }
-    ensures { IfOk result (λ found. found ≡ slacks_from first rows.now) }
+    ensures { OnOk result (found.new ≡ slacks_from first rows.now) }
 {
-    let mut found = List::new(alloc);
+    found.clear();
     for i in 0..rows.len() {
         found.push(first + i)?;
     }
-    Ok(found)
+    Ok(())
 }
 
-// Each column at one of its bounds.
-fn places(alloc: Global, columns: &[Column]) -> Result<List<Place>, Memory>
-    ensures { IfOk result (λ found. found ≡ places_from 0 columns.now) }
+// Writes each column at one of its bounds.
+fn write_nonbasic(found: &mut List<Nonbasic>, columns: &[Column]) -> Result<(), Memory>
+    ensures { OnOk result (found.new ≡ nonbasic_from 0 columns.now) }
 {
-    let mut found = List::new(alloc);
+    found.clear();
     for j in 0..columns.len() {
-        found.push(Place {
+        found.push(Nonbasic {
             variable: j,
-            high: columns[j].cost.is_negative(),
+            high: is_negative(columns[j].cost),
         })?;
     }
-    Ok(found)
+    Ok(())
 }
 
-// The costs of the columns.
-fn costs(alloc: Global, columns: &[Column]) -> Result<Vec<Fx>, Memory>
-    ensures { IfOk result (λ found. found.items ≡ map (λ (c : Column). c.cost) columns.now) }
+// Writes the costs of the columns.
+fn write_costs(found: &mut Vec<Fx>, columns: &[Column]) -> Result<(), Memory>
+    ensures { OnOk result (found.new.items ≡ map (λ (c : Column). c.cost) columns.now) }
 {
-    let mut found = Vec::new(alloc);
+    found.clear();
     for column in columns {
         found.push(column.cost)?;
     }
-    Ok(found)
+    Ok(())
 }
 
 // The factor of a column, and the number of the next term.
@@ -83,36 +81,32 @@ fn push_row(cells: &mut Vec<Fx>, columns: usize, terms: &[(u32, Fx)]) -> Result<
     Ok(())
 }
 
-// The cells of all rows, one row after the other.
-fn cells(alloc: Global, columns: usize, rows: &[LpRow]) -> Result<Vec<Fx>, Memory>
-    ensures { IfOk result (λ found. found.items
+// Writes the cells of all rows, one row after the other.
+fn write_cells(found: &mut Vec<Fx>, columns: usize, rows: &[LpRow]) -> Result<(), Memory>
+    ensures { OnOk result (found.new.items
         ≡ flat_map (λ (r : LpRow). dense 0 columns r.terms) rows.now) }
 {
-    let mut found = Vec::new(alloc);
+    found.clear();
     for row in rows {
-        push_row(&mut found, columns, row.terms.as_slice())?;
+        push_row(found, columns, row.terms.as_slice())?;
     }
-    Ok(found)
+    Ok(())
 }
 
-// The first dictionary of a linear program.
+// Writes the first dictionary of a linear program over another one, in the memory that is there.
 #[tactic(auto, unfolding(crate::specs::Dictionary::start_of, crate::specs::Whole::dictionary_of))]
-pub fn start(alloc: Global, lp: &StageLp) -> Result<Kept, Memory>
+pub fn write_start(tableau: &mut Tableau, lp: &StageLp) -> Result<(), Memory>
     requires { length lp.now.columns + length lp.now.rows < 2 ^ 32 }
-    ensures whole { IfOk result (λ kept. IsWhole kept) }
-    ensures start { IfOk result (λ kept. dictionary_of kept ≡ start_of lp.now) }
+    ensures whole { OnOk result (IsWhole tableau.new) }
+    ensures start { OnOk result (dictionary_of tableau.new ≡ start_of lp.now) }
 {
     let columns = lp.columns.as_slice();
     let rows = lp.rows.as_slice();
-    let table = Table {
-        rows: rows.len() as u32,
-        columns: columns.len() as u32,
-        cells: cells(alloc, columns.len(), rows)?,
-        costs: costs(alloc, columns)?,
-    };
-    Ok(Kept {
-        basic: slacks(alloc, columns.len(), rows)?,
-        places: places(alloc, columns)?,
-        table,
-    })
+    write_slacks(&mut tableau.basic, columns.len(), rows)?;
+    write_nonbasic(&mut tableau.nonbasic, columns)?;
+    tableau.table.rows = rows.len() as u32;
+    tableau.table.columns = columns.len() as u32;
+    write_cells(&mut tableau.table.cells, columns.len(), rows)?;
+    write_costs(&mut tableau.table.costs, columns)?;
+    Ok(())
 }

@@ -4,7 +4,9 @@ ghost use Rattle.std.specs.Option.{option_map};
 ghost use Rattle.hp_simplex.specs.Each.{each_from};
 ghost use Rattle.hp_simplex.specs.Pivot.{Pivots, at, turned, moved, turned_row, moved_row, put, rows_of, others, pivot_of, grid, grid_of, row_at};
 
-use crate::fixed::{Fx, ONE};
+use crate::numbers::negated;
+use hp_solver::Fx;
+use hp_solver::fixed::ONE;
 
 /// How the basic variables and the reduced costs depend on the nonbasic ones: one row per basic
 /// variable, one column per nonbasic one. All numbers are in fixed point.
@@ -28,7 +30,7 @@ fn turned(column: usize, pivot: Fx, j: usize, x: Fx) -> Option<Fx>
     if j == column {
         Fx(ONE).div(pivot)
     } else {
-        x.div(pivot)?.negated()
+        negated(x.div(pivot)?)
     }
 }
 

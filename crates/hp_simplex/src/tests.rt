@@ -1,15 +1,15 @@
 ghost use Rattle.std.specs.Prelude.{◌≤ℤ◌, IfSome, IfOk};
-ghost use Rattle.hp_simplex.specs.Proper.{IsProper};
+ghost use Rattle.hp_solver.specs.Proper.{IsProper, IsReference, IsLike};
 
 use super::*;
 use hp_num::{List, Memory};
+use hp_solver::fixed::ONE;
+use hp_solver::{Answer, Column, Fx, Kind, LpRow, Solver, StageLp};
 use std::alloc::Global;
 use std::test::Fail;
 
-const ONE: i128 = 1 << 32;
-
-// A program of one column and one row, whose only term is the factor.
-#[tactic(auto, using(crate::proofs::Singles::proper_one))]
+// A program of one decision and one own row, whose only term is the factor.
+#[tactic(auto, using(hp_solver::proofs::Singles::proper_one, hp_solver::proofs::Singles::reference_one))]
 fn single(
     alloc: Global,
     column: Column,
@@ -19,7 +19,8 @@ fn single(
 ) -> Result<StageLp, Memory>
     requires column { column.low.0 ≤ℤ column.high.0 }
     requires row { IfSome low (λ l. IfSome high (λ h. l.0 ≤ℤ h.0)) }
-    ensures { IfOk result (λ lp. IsProper lp) }
+    ensures proper { IfOk result (λ lp. IsProper lp) }
+    ensures reference { IfOk result (λ lp. IsReference lp) }
 {
     let mut terms = List::new(alloc);
     terms.push((0u32, factor))?;
@@ -27,31 +28,23 @@ fn single(
     columns.push(column)?;
     let mut rows = List::new(alloc);
     rows.push(LpRow { low, high, terms })?;
-    Ok(StageLp { columns, rows })
+    Ok(StageLp {
+        columns,
+        rows,
+        decisions: 1,
+        own: 1,
+    })
 }
 
-// A column from 0 to 1 at cost 1, three of which are to be 1.
-fn thirds(alloc: Global) -> Result<StageLp, Memory>
-    ensures { IfOk result (λ lp. IsProper lp) }
+// The second answer of a chain that is asked twice.
+fn second(alloc: Global, lp: &StageLp) -> Result<Answer, Memory>
+    requires proper { IsProper lp.now }
+    requires reference { IsReference lp.now }
 {
-    let column = Column {
-        low: Fx(0),
-        high: Fx(ONE),
-        cost: Fx(ONE),
-    };
-    single(alloc, column, Some(Fx(ONE)), Some(Fx(ONE)), Fx(3 * ONE))
-}
-
-#[test]
-fn rounds_down(rt: HostRuntime) {
-    assert_eq!(rt; Fx(-1).mul(Fx(1)), Some(Fx(-1)));
-    assert_eq!(rt; Fx(3 * ONE).mul(Fx(ONE / 2)), Some(Fx(3 * ONE / 2)));
-    assert_eq!(rt; Fx(1 << 100).mul(Fx(1 << 27)), None);
-    assert_eq!(rt; Fx(1).div(Fx(0)), None);
-    assert_eq!(rt; Fx(1).div(Fx(-3)), Some(Fx(-1431655766)));
-    assert_eq!(rt; Fx(1 << 95).div(Fx(1)), None);
-    assert_eq!(rt; Fx(i128::MAX).add(Fx(1)), None);
-    assert_eq!(rt; Fx(2).sub(Fx(5)), Some(Fx(-3)));
+    DualSimplex.start(alloc, lp)?;
+    let mut chain = DualSimplex.begin(alloc, &(), lp)?;
+    DualSimplex.solve(alloc, &mut chain, lp)?;
+    DualSimplex.solve(alloc, &mut chain, lp)
 }
 
 #[test]
@@ -74,10 +67,22 @@ fn pivots_in_place(rt: HostRuntime) -> Result<(), Fail> {
     Ok(())
 }
 
+// A column from 0 to 1 at cost 1, three of which are to be 1.
 #[test]
 fn solves_thirds(rt: HostRuntime) -> Result<(), Fail> {
-    let lp = thirds(rt.alloc())?;
-    let answer = DualSimplex.solve(rt.alloc(), &lp)?;
+    let column = Column {
+        low: Fx(0),
+        high: Fx(ONE),
+        cost: Fx(ONE),
+    };
+    let lp = single(
+        rt.alloc(),
+        column,
+        Some(Fx(ONE)),
+        Some(Fx(ONE)),
+        Fx(3 * ONE),
+    )?;
+    let answer = second(rt.alloc(), &lp)?;
     assert_eq!(rt; answer.kind, Kind::Found);
     assert_eq!(rt; answer.point.as_slice(), [Fx(1431655765)].as_slice());
     assert_eq!(rt; answer.duals.as_slice(), [Fx(1431655765)].as_slice());
@@ -93,43 +98,10 @@ fn is_stuck_on_a_product(rt: HostRuntime) -> Result<(), Fail> {
         cost: Fx(0),
     };
     let lp = single(rt.alloc(), column, Some(Fx(0)), None, large)?;
-    let answer = DualSimplex.solve(rt.alloc(), &lp)?;
+    let answer = second(rt.alloc(), &lp)?;
     assert_eq!(rt; answer.kind, Kind::Stuck);
     assert_eq!(rt; answer.point.as_slice(), [large].as_slice());
     assert_eq!(rt; answer.duals.as_slice(), [Fx(0)].as_slice());
-    Ok(())
-}
-
-#[test]
-fn stands_in(rt: HostRuntime) -> Result<(), Fail> {
-    let lp = thirds(rt.alloc())?;
-    let zero = Zero.solve(rt.alloc(), &lp)?;
-    assert_eq!(rt; zero.kind, Kind::Found);
-    assert_eq!(rt; zero.point.as_slice(), [Fx(0)].as_slice());
-    assert_eq!(rt; zero.duals.as_slice(), [Fx(0)].as_slice());
-    let mut duals = List::new(rt.alloc());
-    duals.push(Fx(7))?;
-    let liar = Liar::new(Answer {
-        kind: Kind::Ray,
-        point: List::new(rt.alloc()),
-        duals,
-    });
-    let claim = liar.solve(rt.alloc(), &lp)?;
-    assert_eq!(rt; claim.kind, Kind::Ray);
-    assert!(rt; claim.point.is_empty());
-    assert_eq!(rt; claim.duals.as_slice(), [Fx(7)].as_slice());
-    Ok(())
-}
-
-#[test]
-fn one_thread_does_not_meet(rt: HostRuntime) -> Result<(), Fail> {
-    let lp = thirds(rt.alloc())?;
-    let meeting = Meeting::new(1, 10);
-    for _call in 0..4 {
-        let answer = meeting.solve(rt.alloc(), &lp)?;
-        assert_eq!(rt; answer.kind, Kind::Found);
-        assert!(rt; !meeting.met());
-    }
     Ok(())
 }
 
@@ -139,14 +111,6 @@ fn is_shared<T: Send + Sync>(_value: &T) -> bool {
 }
 
 #[test]
-fn threads_share_solvers(rt: HostRuntime) {
+fn threads_share_the_solver(rt: HostRuntime) {
     assert!(rt; is_shared(&DualSimplex));
-    assert!(rt; is_shared(&Zero));
-    assert!(rt; is_shared(&Meeting::new(0, 0)));
-    let liar = Liar::new(Answer {
-        kind: Kind::Ray,
-        point: List::new(rt.alloc()),
-        duals: List::new(rt.alloc()),
-    });
-    assert!(rt; is_shared(&liar));
 }

@@ -3,4 +3,4 @@ use Rattle.hp_simplex.specs.Answers.{bound_value}
 use Rattle.hp_simplex.proofs.answers.bound_value.Given as goal
 
 abbrev pub invariant-loop-place : goal.invariant-loop-place
-invariant-loop-place l = bound_value l.lp l.variable l.places ≡ bound_value l.lp l.variable (drop l.place-index l.places)
+invariant-loop-place l = bound_value l.lp l.variable l.nonbasic ≡ bound_value l.lp l.variable (drop l.place-index l.nonbasic)

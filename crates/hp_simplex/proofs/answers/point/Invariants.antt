@@ -6,4 +6,4 @@ use Rattle.hp_simplex.proofs.Each.{behind}
 use Rattle.hp_simplex.proofs.answers.point.Given as goal
 
 abbrev pub invariant-loop-j : goal.invariant-loop-j
-invariant-loop-j l = each_from (point_at l.lp (dictionary_of l.kept)) 0 l.columns ≡ behind l.found (each_from (point_at l.lp (dictionary_of l.kept)) l.j (drop l.j l.columns))
+invariant-loop-j l = each_from (point_at l.lp (dictionary_of l.tableau)) 0 l.columns ≡ behind l.found (each_from (point_at l.lp (dictionary_of l.tableau)) l.j (drop l.j l.columns))

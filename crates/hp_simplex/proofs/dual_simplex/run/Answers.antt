@@ -6,5 +6,5 @@ use Rattle.hp_simplex.proofs.dual_simplex.run.Goals as goal
 pub loop-turn-preserved : goal.loop-turn-preserved
 loop-turn-preserved c = record {
   whole = c.turn.ensures.whole;
-  left = c.loop-turn.invariant.left ∙ turn_on c.args.limit c.loop-turn._turn c.args.lp.now (dictionary_of c.loop-turn.kept) (dictionary_of c.turn.new.kept) c.loop-turn-test.true c.in-Goes.ensures.turn;
+  left = c.loop-turn.invariant.left ∙ turn_on c.args.limit c.loop-turn._turn c.args.lp.now (dictionary_of c.loop-turn.tableau) (dictionary_of c.turn.new.tableau) c.loop-turn-test.true c.in-Goes.ensures.turn;
 }

@@ -1,5 +1,5 @@
 use Rattle.std.proofs.Common.{◌+◌, ◌-◌, ◌++◌, List, drop, ap, sym, ◌∙◌}
-use Rattle.hp_simplex.specs.declared.fixed.Fx.{Fx}
+use Rattle.hp_solver.specs.declared.fixed.Fx.{Fx}
 use Rattle.hp_simplex.specs.Dictionary.{dense}
 use Rattle.hp_simplex.proofs.Starts.{dense_step}
 use Rattle.hp_simplex.proofs.start.push_row.Goals as goal

@@ -1,5 +1,5 @@
 use Rattle.std.proofs.Common.{◌≡◌, ◌+◌, ◌-◌, ◌*◌, ℕ, List, take, drop, arith, ap₂, sym, ◌∙◌}
-use Rattle.hp_simplex.specs.declared.fixed.Fx.{Fx}
+use Rattle.hp_solver.specs.declared.fixed.Fx.{Fx}
 use Rattle.hp_simplex.proofs.Rows.{table_row}
 use Rattle.hp_simplex.proofs.table.Table.row.Goals as goal
 

@@ -1,0 +1,4 @@
+pub mod Numbers
+pub mod Proper
+pub mod Answers
+pub mod Chains

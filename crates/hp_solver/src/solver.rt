@@ -1,0 +1,62 @@
+// What solves linear programs, one after another.
+ghost use Rattle.std.specs.Prelude.{◌≡◌, IfOk, OnOk};
+ghost use Rattle.hp_solver.specs.declared.stage_lp.StageLp.{StageLp};
+ghost use Rattle.hp_solver.specs.declared.stage_lp.Answer.{Answer};
+ghost use Rattle.hp_solver.specs.Proper.{IsProper, IsReference, Extends, IsLike};
+
+use crate::stage_lp::{Answer, StageLp};
+use hp_num::Memory;
+use std::alloc::Global;
+
+/// A solver, known by three functions: what it makes ready for a node, what a chain of solves holds before its first
+/// program, and the answer to a program with what the chain holds after it. The answers need not be right.
+pub trait Solver: Sync {
+    /// What is made ready for a node, before any solve.
+    type Start: Drop + Send + Sync;
+
+    /// What a chain of solves holds.
+    type Chain: Drop + Send;
+
+    /// What is made ready by a program.
+    ghost started: { Self → StageLp → Self.Start };
+
+    /// What a chain that begins with a program holds before it.
+    ghost begun: { Self → Self.Start → StageLp → Self.Chain };
+
+    /// The answer to a program, and what the chain holds after it.
+    ghost next: { Self → Self.Chain → StageLp → Answer × Self.Chain };
+
+    /// Whether a chain may begin with a program.
+    ghost suits: { Self → Self.Start → StageLp → Type 0 };
+
+    /// Whether a chain may take a program.
+    ghost fits: { Self → Self.Chain → StageLp → Type 0 };
+
+    /// Makes ready for a node by its program without cuts. A chain may begin with each program that has the same
+    /// decisions, as many columns, and the same own rows but for their sides. [`Memory`] where memory was refused.
+    fn start(&self, alloc: Global, lp: &StageLp) -> Result<Self::Start, Memory>
+        requires proper { IsProper lp.now }
+        requires reference { IsReference lp.now }
+        ensures made { IfOk result (λ made. made ≡ started self.now lp.now) }
+        ensures suits { IfOk result (λ made. (other : StageLp) → Extends lp.now other
+            → suits self.now made other) };
+
+    /// Begins a chain with its first program. It may take each program that differs from it in the sides of own rows
+    /// alone. [`Memory`] where memory was refused.
+    fn begin(&self, alloc: Global, start: &Self::Start, lp: &StageLp) -> Result<Self::Chain, Memory>
+        requires proper { IsProper lp.now }
+        requires suits { suits self.now start.now lp.now }
+        ensures made { IfOk result (λ made. made ≡ begun self.now start.now lp.now) }
+        ensures fits { IfOk result (λ made. (other : StageLp) → IsLike lp.now other
+            → fits self.now made other) };
+
+    /// The answer to the next program of a chain. [`Memory`] where memory was refused: the chain holds nothing that
+    /// is promised then.
+    fn solve(&self, alloc: Global, chain: &mut Self::Chain, lp: &StageLp) -> Result<Answer, Memory>
+        requires proper { IsProper lp.now }
+        requires fits { fits self.now chain.old lp.now }
+        ensures answer { IfOk result (λ found. found ≡ (next self.now chain.old lp.now).0) }
+        ensures chain { OnOk result (chain.new ≡ (next self.now chain.old lp.now).1) }
+        ensures fits { OnOk result ((other : StageLp) → IsLike lp.now other
+            → fits self.now chain.new other) };
+}

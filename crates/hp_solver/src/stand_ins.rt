@@ -1,0 +1,208 @@
+// Solvers that solve nothing, for tests.
+ghost use Rattle.std.specs.Prelude.{◌≡◌, IfOk, OnOk, take, ⊤};
+ghost use Rattle.hp_solver.specs.declared.stage_lp.StageLp.{StageLp};
+ghost use Rattle.hp_solver.specs.declared.stage_lp.Answer.{Answer};
+ghost use Rattle.hp_solver.specs.Proper.{IsProper, IsReference, Extends, IsLike};
+ghost use Rattle.hp_solver.specs.Answers.{zero_of};
+
+use crate::fixed::Fx;
+use crate::solver::Solver;
+use crate::stage_lp::{Answer, Kind, StageLp};
+use hp_num::{List, Memory};
+use std::alloc::Global;
+use std::sync::atomic::{AtomicBool, AtomicU64, Ordering};
+
+// Each column at its lower bound, each dual 0.
+#[tactic(auto, unfolding(crate::specs::Answers::zero_of))]
+fn all_zero(alloc: Global, lp: &StageLp) -> Result<Answer, Memory>
+    ensures { IfOk result (λ found. found ≡ zero_of lp.now) }
+{
+    Ok(Answer {
+        kind: Kind::Found,
+        point: lp.lows(alloc)?,
+        duals: lp.zeros(alloc)?,
+    })
+}
+
+/// Claims that each column is found at its lower bound and each dual is 0.
+pub struct Zero;
+
+impl Solver for Zero {
+    type Start = ();
+
+    type Chain = ();
+
+    ghost started = { λ _ _. tt };
+
+    ghost begun = { λ _ _ _. tt };
+
+    ghost next = { λ _ _ lp. (zero_of lp, tt) };
+
+    ghost suits = { λ _ _ _. ⊤ };
+
+    ghost fits = { λ _ _ _. ⊤ };
+
+    fn start(&self, _alloc: Global, _lp: &StageLp) -> Result<(), Memory> {
+        Ok(())
+    }
+
+    fn begin(&self, _alloc: Global, _start: &(), _lp: &StageLp) -> Result<(), Memory> {
+        Ok(())
+    }
+
+    fn solve(&self, alloc: Global, _chain: &mut (), lp: &StageLp) -> Result<Answer, Memory> {
+        all_zero(alloc, lp)
+    }
+}
+
+/// Gives the same answer to each program, whatever its lengths.
+#[derive(Drop)]
+pub struct Liar {
+    answer: Answer,
+}
+
+impl Liar {
+    /// A solver with this answer.
+    pub fn new(answer: Answer) -> Liar
+        ensures { result.answer ≡ answer }
+    {
+        Liar { answer }
+    }
+}
+
+// The same numbers in a list of their own.
+fn copied(alloc: Global, numbers: &[Fx]) -> Result<List<Fx>, Memory>
+    ensures { IfOk result (λ found. found ≡ numbers.now) }
+{
+    let mut found = List::new(alloc);
+    for number in numbers {
+        found.push(*number)?;
+    }
+    Ok(found)
+}
+
+impl Solver for Liar {
+    type Start = ();
+
+    type Chain = ();
+
+    ghost started = { λ _ _. tt };
+
+    ghost begun = { λ _ _ _. tt };
+
+    ghost next = { λ liar _ _. (liar.answer, tt) };
+
+    ghost suits = { λ _ _ _. ⊤ };
+
+    ghost fits = { λ _ _ _. ⊤ };
+
+    fn start(&self, _alloc: Global, _lp: &StageLp) -> Result<(), Memory> {
+        Ok(())
+    }
+
+    fn begin(&self, _alloc: Global, _start: &(), _lp: &StageLp) -> Result<(), Memory> {
+        Ok(())
+    }
+
+    fn solve(&self, alloc: Global, _chain: &mut (), _lp: &StageLp) -> Result<Answer, Memory> {
+        Ok(Answer {
+            kind: self.answer.kind,
+            point: copied(alloc, self.answer.point.as_slice())?,
+            duals: copied(alloc, self.answer.duals.as_slice())?,
+        })
+    }
+}
+
+/// Answers as [`Zero`], and shows whether two calls ran beside each other.
+///
+/// The first calls of `solve`, as many as it is made with, answer at once. The next two each set a
+/// flag, and then look at the other's flag, at most so many times.
+#[derive(Drop)]
+pub struct Meeting {
+    after: u64,
+    limit: u64,
+    calls: AtomicU64,
+    first: AtomicBool,
+    second: AtomicBool,
+    first_saw: AtomicBool,
+    second_saw: AtomicBool,
+}
+
+// Sets a flag, and looks at the other one at most so many times: whether it was seen.
+fn meet(mine: &AtomicBool, other: &AtomicBool, limit: u64) -> bool {
+    mine.store(true, Ordering::SeqCst);
+    for _look in 0..limit {
+        if other.load(Ordering::SeqCst) {
+            return true;
+        }
+    }
+    false
+}
+
+impl Meeting {
+    /// A solver whose calls, but for the first `after`, meet; each looks at most `limit` times.
+    pub fn new(after: u64, limit: u64) -> Meeting {
+        Meeting {
+            after,
+            limit,
+            calls: AtomicU64::new(0),
+            first: AtomicBool::new(false),
+            second: AtomicBool::new(false),
+            first_saw: AtomicBool::new(false),
+            second_saw: AtomicBool::new(false),
+        }
+    }
+
+    /// Whether both calls saw the other.
+    pub fn met(&self) -> bool {
+        self.first_saw.load(Ordering::SeqCst) && self.second_saw.load(Ordering::SeqCst)
+    }
+
+    // What a call does beside its answer.
+    fn visit(&self) {
+        let call = self.calls.fetch_add(1, Ordering::SeqCst);
+        if call < self.after {
+            return;
+        }
+        match call - self.after {
+            0 => {
+                let saw = meet(&self.first, &self.second, self.limit);
+                self.first_saw.store(saw, Ordering::SeqCst);
+            }
+            1 => {
+                let saw = meet(&self.second, &self.first, self.limit);
+                self.second_saw.store(saw, Ordering::SeqCst);
+            }
+            _ => {}
+        }
+    }
+}
+
+impl Solver for Meeting {
+    type Start = ();
+
+    type Chain = ();
+
+    ghost started = { λ _ _. tt };
+
+    ghost begun = { λ _ _ _. tt };
+
+    ghost next = { λ _ _ lp. (zero_of lp, tt) };
+
+    ghost suits = { λ _ _ _. ⊤ };
+
+    ghost fits = { λ _ _ _. ⊤ };
+
+    fn start(&self, _alloc: Global, _lp: &StageLp) -> Result<(), Memory> {
+        Ok(())
+    }
+
+    fn begin(&self, _alloc: Global, _start: &(), _lp: &StageLp) -> Result<(), Memory> {
+        Ok(())
+    }
+
+    fn solve(&self, alloc: Global, _chain: &mut (), lp: &StageLp) -> Result<Answer, Memory> {
+        self.visit();
+        all_zero(alloc, lp)
+    }
+}
