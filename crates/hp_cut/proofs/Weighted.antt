@@ -6,9 +6,9 @@ use Rattle.std.proofs.lemmas.Bool.Decides.{nat_tests}
 use Rattle.hp_num.specs.Sums.{total}
 use Rattle.hp_num.proofs.Tests.{and_first, all_at}
 use Rattle.hp_problem.specs.declared.raw.Raw.{Raw}
-use Rattle.hp_problem.specs.Limits.{root_fits, raw_fits, state_fits, subproblem_fits, node_fits}
+use Rattle.hp_problem.specs.Limits.{root_fits}
 use Rattle.hp_problem.specs.Sealed.{Sealed, is_sealed, initial_values}
-use Rattle.hp_problem.proofs.SealedFacts.{raw-is_sealed, root-raw_fits}
+use Rattle.hp_problem.proofs.SealedFacts.{raw-is_sealed, root-raw_fits, few_nodes}
 use Rattle.hp_theory.specs.declared.cut.Cut.{Cut}
 use Rattle.hp_theory.specs.Problem.{Link, node_at, link_weights}
 use Rattle.hp_theory.specs.Tree.{InBox}
@@ -37,9 +37,6 @@ root_facts raw e = grind (arith, nat_tests)
 root_known : (raw : Raw) → root_fits raw ≡ true → list_all (λ m. nat_lt m (length raw.nodes)) raw.root ≡ true
 root_known raw e = grind (arith, nat_tests)
 
-nodes_few : (raw : Raw) → raw_fits raw ≡ true → length raw.nodes ≤ 1000
-nodes_few raw e = let t : nat_le (length raw.states) 50 && nat_le (length raw.nodes) 1000 ≡ true = and_first _ (nat_le (length raw.subs) 1000) (and_first _ (list_all state_fits raw.states) (and_first _ (list_all (subproblem_fits (length raw.states)) raw.subs) (and_first _ (list_all (node_fits raw) raw.nodes) (and_first _ (root_fits raw) e)))) in grind (arith, nat_tests)
-
 pub record Root (p : Sealed) : Type 0 where
   pub lengths : length p.raw.root_weights ≡ length p.raw.root
   pub weight : sum p.raw.root_weights ≤ 65535
@@ -49,7 +46,7 @@ pub record Root (p : Sealed) : Type 0 where
 pub root : (p : Sealed) → is_sealed p ≡ true → Root p
 root p e =
     let f = root_facts p.raw (root-raw_fits p.raw (raw-is_sealed p e)) in
-    let n = nodes_few p.raw (raw-is_sealed p e) in
+    let n = few_nodes p.raw (raw-is_sealed p e) in
     record { lengths = f.0; weight = f.1; some = f.2; few = omega (arith, f.3) }
 
 below : (m n : ℕ) → nat_lt m n ≡ true → m < n

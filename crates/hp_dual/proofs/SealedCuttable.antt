@@ -12,7 +12,7 @@ use Rattle.hp_problem.specs.declared.raw.Row.{Row}
 use Rattle.hp_problem.specs.declared.raw.Subproblem.{Subproblem}
 use Rattle.hp_problem.specs.Limits.{are_numbers, terms_fit, row_fits, realizations_fit, subproblem_fits}
 use Rattle.hp_problem.specs.Sealed.{Sealed, is_sealed}
-use Rattle.hp_problem.proofs.SealedFacts.{raw-is_sealed}
+use Rattle.hp_problem.proofs.SealedFacts.{raw-is_sealed, few_nodes}
 use Rattle.hp_theory.specs.declared.cut.Cut.{Cut}
 use Rattle.hp_theory.specs.declared.cut.Certificate.{Certificate}
 use Rattle.hp_theory.specs.Problem.{Realization, Link, Node, node_at, with_weights, realization_weight}
@@ -29,7 +29,7 @@ use Rattle.hp_dual.proofs.Accepted.{right-fault_of, size-fault_of}
 use Rattle.hp_dual.proofs.Divisor.{divisor_some}
 use Rattle.hp_dual.proofs.GivenNode.{length-realizations, realizations-given}
 use Rattle.hp_dual.proofs.InSize.{slope_in, constant_in, reduced_in}
-use Rattle.hp_dual.proofs.SealedWithin.{few_nodes, sized-sealed}
+use Rattle.hp_dual.proofs.SealedWithin.{sized-sealed}
 use Rattle.hp_dual.proofs.SizeParts.{terms_inside}
 use Rattle.hp_dual.proofs.Viewed.{reduced-node_of}
 use Rattle.hp_dual.proofs.Weighted.{reweighted_at, weight-reweighted, some_weight}

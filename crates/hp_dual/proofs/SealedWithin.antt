@@ -6,9 +6,9 @@ use Rattle.std.proofs.lemmas.Option.{slice_get-get_or}
 use Rattle.hp_problem.specs.declared.raw.Raw.{Raw}
 use Rattle.hp_problem.specs.declared.raw.Node.{Node}
 use Rattle.hp_problem.specs.declared.raw.Subproblem.{Subproblem}
-use Rattle.hp_problem.specs.Limits.{state_fits, node_fits, subproblem_fits, root_fits, raw_fits}
+use Rattle.hp_problem.specs.Limits.{subproblem_fits}
 use Rattle.hp_problem.specs.Sealed.{Sealed, is_sealed, subproblem_of}
-use Rattle.hp_problem.proofs.SealedFacts.{raw-is_sealed}
+use Rattle.hp_problem.proofs.SealedFacts.{raw-is_sealed, few_nodes}
 use Rattle.hp_num.proofs.Tests.{and_first, and_second, all_at}
 use Rattle.hp_theory.proofs.SealedParts.{PartsFit, parts_given, weighty, linked, links_known, numbers_counted}
 use Rattle.hp_theory.specs.declared.cut.Cut.{Cut}
@@ -18,9 +18,6 @@ use Rattle.hp_theory.specs.View.{node_of, links_of}
 use Rattle.hp_theory.proofs.SealedPremises.{shaped-sealed}
 use Rattle.hp_dual.specs.Sized.{Sized}
 use Rattle.hp_dual.specs.Within.{Within}
-
-pub few_nodes : (raw : Raw) → raw_fits raw ≡ true → length raw.nodes ≤ 1000
-few_nodes raw e = let t : nat_le (length raw.nodes) 1000 ≡ true = and_second (nat_le (length raw.states) 50) _ (and_first _ (nat_le (length raw.subs) 1000) (and_first _ (list_all state_fits raw.states) (and_first _ (list_all (subproblem_fits (length raw.states)) raw.subs) (and_first _ (list_all (node_fits raw) raw.nodes) (and_first _ (root_fits raw) e))))) in grind (arith, nat_tests)
 
 few_rows : (s : Subproblem) (states : ℕ) → subproblem_fits states s ≡ true → length s.rows ≤ 200
 few_rows s states e = grind (arith, nat_tests)

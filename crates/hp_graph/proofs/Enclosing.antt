@@ -5,7 +5,7 @@ use Rattle.std.specs.List.{list_any, find, cons_option}
 use Rattle.std.proofs.lemmas.Int.{ints}
 use Rattle.std.proofs.lemmas.List.FromFn.{get_or-map-range_with_len}
 use Rattle.hp_num.specs.Sums.{entry}
-use Rattle.hp_num.proofs.Tests.{and_first, and_second}
+use Rattle.hp_num.proofs.Tests.{and_first, and_second, both}
 use Rattle.hp_paths.specs.Paths.{numbers, links_at}
 use Rattle.hp_paths.specs.Ranks.{predecessors}
 use Rattle.hp_paths.proofs.Falling.{numbered}
@@ -16,7 +16,7 @@ use Rattle.hp_graph.specs.declared.side.Side.{Side}
 use Rattle.hp_graph.specs.declared.side.Side.TheVariants.{Low, High}
 use Rattle.hp_graph.specs.Hull.{ends, end_at, start_at, incoming, outermost, hull, given, encloses, has_gap, first_gap, gap_in, side_of}
 use Rattle.hp_graph.proofs.Outside.{Outside, outside-is_outside, further, outermost_of}
-use Rattle.hp_graph.proofs.Listed.{both, none_found}
+use Rattle.hp_graph.proofs.Listed.{none_found}
 
 hull_at : (side : Side) (raw : Raw) (n s : ℕ) → s < length raw.states → entry (hull side raw n) s ≡ outermost side (incoming side raw n s)
 unfolding hull

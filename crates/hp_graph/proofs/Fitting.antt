@@ -8,18 +8,17 @@ use lib.Pointwise.{pointwise}
 use Rattle.std.specs.Bool.{nat_eq}
 use Rattle.std.specs.Prelude.{is_none}
 use Rattle.std.proofs.lemmas.Slice.Eq.{bytes_eq-Decides}
-use Rattle.hp_graph.proofs.Listed.{both, all_members, any_member, place_of}
+use Rattle.hp_graph.proofs.Listed.{any_member, place_of}
 use Rattle.hp_graph.proofs.Enclosing.{at_most_each, holds_incoming, end_comes_in, start_comes_in}
 use Rattle.hp_graph.proofs.Small.{sides_numbers}
-use Rattle.hp_problem.proofs.SealedFacts.{known_graph, known_root}
+use Rattle.hp_problem.proofs.SealedFacts.{known_graph, known_root, few_nodes, few_states}
 use Rattle.hp_paths.proofs.Paths.{leads_to}
 use Rattle.hp_paths.specs.Paths.{links_at}
-use Rattle.hp_num.proofs.Tests.{all_at}
+use Rattle.hp_num.proofs.Tests.{all_at, all_members, both}
 use Rattle.std.specs.Option.{option_map}
 use Rattle.std.proofs.lemmas.Option.{unwrap_or-slice_get, get_or_from_slice_get, slice_get-map, slice_get-get_or}
 use Rattle.std.proofs.lemmas.List.{length-map}
 use Rattle.std.proofs.lemmas.Bool.Decides.{nat_tests}
-use Rattle.std.proofs.lemmas.Grind.{common_steps}
 use Rattle.hp_paths.specs.Paths.{numbers, first_in_cycle, first_unreached}
 use Rattle.hp_paths.specs.Ranks.{ranks, by_rank, longest_from}
 use Rattle.hp_problem.specs.declared.raw.Raw.{Raw}
@@ -38,7 +37,7 @@ unfolding arranged
 arranged_is raw order longest lo hi o b = ap (with_order raw) o ∙ ap (with_boxes raw (order, longest)) b
 
 pub few : (raw : Raw) → raw_fits raw ≡ true → (length raw.nodes ≤ 1000) × (length raw.states ≤ 50)
-few raw e = grind (arith, nat_tests, common_steps)
+few raw e = (few_nodes raw e, few_states raw e)
 
 ok_is : {A : Type 0} (a b : A) → ◌≡◌ {A = Result A Refusal} (Ok a) (Ok b) → a ≡ b
 ok_is a b e = cc

@@ -1,16 +1,8 @@
 -- Tests over lists, entry by entry.
-use Rattle.std.proofs.Common.{◌≡◌, ◌∙◌, ℕ, zero, suc, Bool, true, false, ◌&&◌, ◌||◌, List, [], ◌∷◌, map, get_or, Contains, Some, None, cond, slice_get, refl, ap, subst, arith}
+use Rattle.std.proofs.Common.{◌≡◌, ◌∙◌, ℕ, zero, suc, Bool, true, false, ◌||◌, List, [], ◌∷◌, map, get_or, Contains, Some, None, cond, slice_get, refl, ap, subst, arith}
 use Rattle.std.specs.List.{list_all, list_any, find}
 use Rattle.std.proofs.lemmas.Option.{slice_get-get_or}
-use Rattle.hp_num.proofs.Tests.{and_first, and_second}
-
-pub both : (a b : Bool) → a ≡ true → b ≡ true → (a && b) ≡ true
-both a b p q = ap (λ x. x && b) p ∙ q
-
--- a test that each member passes
-pub all_members : {A : Type 0} (test : A → Bool) (xs : List A) → ((x : A) → Contains xs x → test x ≡ true) → list_all test xs ≡ true
-all_members test [] h = refl
-all_members test (x ∷ xs) h = both (test x) (list_all test xs) (h x (0, omega arith, refl)) (all_members test xs (λ y c. h y (suc c.0, omega (arith, c.1), c.2)))
+use Rattle.hp_num.proofs.Tests.{and_first, and_second, both}
 
 -- a member is found at its place
 pub place_of : {A : Type 0} (xs : List A) (x : A) (c : Contains xs x) → slice_get xs c.0 ≡ Some x

@@ -51,7 +51,7 @@ fn ranked(alloc: Global, graph: &[List<u32>]) -> Result<List<u32>, ArrangeFault>
 }
 
 // The nodes by rank, and the number of nodes on the longest path from the root.
-#[tactic(auto, unfolding(crate::specs::Arranged::ordered), using(hp_problem::proofs::SealedFacts::known_graph, hp_problem::proofs::SealedFacts::known_root))]
+#[tactic(auto, unfolding(crate::specs::Arranged::ordered), using(hp_problem::proofs::SealedFacts::known_graph, hp_problem::proofs::SealedFacts::known_root, hp_problem::proofs::SealedFacts::few_in_graph))]
 fn ordered(alloc: Global, raw: &Raw, graph: &[List<u32>]) -> Result<(List<u32>, u32), ArrangeFault>
     requires fits { raw_fits raw.now ≡ true }
     requires graph { graph.now ≡ graph_of raw.now }
@@ -67,7 +67,7 @@ fn ordered(alloc: Global, raw: &Raw, graph: &[List<u32>]) -> Result<(List<u32>, 
 }
 
 // The sides of the boxes, low and high.
-#[tactic(auto, unfolding(crate::specs::Arranged::boxed), using(hp_problem::proofs::SealedFacts::known_graph, crate::proofs::Fitting::few))]
+#[tactic(auto, unfolding(crate::specs::Arranged::boxed), using(hp_problem::proofs::SealedFacts::known_graph, hp_problem::proofs::SealedFacts::few_in_graph, crate::proofs::Fitting::few))]
 fn boxed(
     alloc: Global,
     raw: &Raw,

@@ -1,16 +1,21 @@
 -- Bounds on what a problem's formulas are made of.
-use Rattle.std.proofs.Common.{◌≡◌, ℕ, suc, zero, ◌+◌, ◌≤◌, List, [], ◌∷◌, true, length, map, sum, get_or, Some, slice_get, arith}
+use Rattle.std.proofs.Common.{◌≡◌, ℕ, suc, zero, ◌+◌, ◌≤◌, List, [], ◌∷◌, true, false, length, map, sum, get_or, Option, Some, None, slice_get, nat_lt, refl, arith}
 use Rattle.std.proofs.lemmas.Bool.Decides.{nat_tests}
 use Rattle.std.proofs.lemmas.Grind.{common_steps}
 use Rattle.std.proofs.lemmas.List.{length-map}
-use Rattle.hp_num.proofs.Tests.{all_get}
+use Rattle.hp_num.proofs.Tests.{and_first, and_second, all_get}
 use Rattle.hp_paths.specs.Paths.{links_at, numbers}
 use Rattle.hp_paths.specs.Ranks.{greatest, longest_from, longest_within, rank, ranks}
 use Rattle.hp_problem.specs.declared.raw.Raw.{Raw}
 use Rattle.hp_problem.specs.declared.raw.Node.{Node}
-use Rattle.hp_problem.specs.Limits.{raw_fits, node_fits}
-use Rattle.hp_problem.specs.Sealed.{Sealed, is_sealed, graph_fits, graph_of}
-use Rattle.hp_problem.proofs.SealedFacts.{raw-is_sealed, graph-is_sealed, nodes_fit}
+use Rattle.hp_problem.specs.declared.raw.Subproblem.{Subproblem}
+use Rattle.hp_problem.specs.Distinct.{rises}
+use Rattle.hp_problem.specs.Formulas.{row_count, decision_count}
+use Rattle.hp_problem.specs.Limits.{raw_fits, node_fits, values_fit, realizations_fit, subproblem_fits, is_name, links_fit, successors_fit}
+use Rattle.hp_problem.specs.Parts.{graph_of, own_subproblem}
+use Rattle.hp_problem.specs.Sealed.{Sealed, is_sealed, graph_fits}
+use Rattle.hp_problem.proofs.SubproblemFacts.{counts-subproblem_fits, few-counts_fit}
+use Rattle.hp_problem.proofs.SealedFacts.{raw-is_sealed, graph-is_sealed, nodes_fit, subproblems_fit, few_nodes}
 
 greatest_at_most : {A : Type 0} (f : A → ℕ) (bound : ℕ) → ((x : A) → f x ≤ bound) → (xs : List A) → greatest (map f xs) ≤ bound
 greatest_at_most f bound each [] = omega arith
@@ -42,11 +47,10 @@ pub longest_at_most : (p : Sealed) → is_sealed p ≡ true → p.longest ≤ 10
 unfolding graph_fits
 longest_at_most p e =
     let graph : graph_fits p.raw p.order p.longest ≡ true = graph-is_sealed p e in
-    let raw : raw_fits p.raw ≡ true = raw-is_sealed p e in
     let is : p.longest ≡ longest_from (ranks (graph_of p.raw)) p.raw.root = grind (arith, nat_tests, common_steps, graph) in
     let most = longest_from_at_most (graph_of p.raw) p.raw.root in
     let count : length (graph_of p.raw) ≡ length p.raw.nodes = simp length-map in
-    let nodes : length p.raw.nodes ≤ 1000 = grind (arith, nat_tests, common_steps, raw) in
+    let nodes : length p.raw.nodes ≤ 1000 = few_nodes p.raw (raw-is_sealed p e) in
     omega arith
 
 node_fits_at : (raw : Raw) (m : ℕ) (n : Node) → raw_fits raw ≡ true → slice_get raw.nodes m ≡ Some n → node_fits raw n ≡ true
@@ -57,3 +61,34 @@ pub successors_at_most : (p : Sealed) (m : ℕ) (n : Node) → is_sealed p ≡ t
 successors_at_most p m n e is =
     let fits : node_fits p.raw n ≡ true = node_fits_at p.raw m n (raw-is_sealed p e) is in
     grind (arith, nat_tests, common_steps, fits)
+
+few_parts : (raw : Raw) (k : ℕ) (o : Option Subproblem) → raw_fits raw ≡ true → slice_get raw.subs k ≡ o → (row_count o ≤ 200) × (decision_count o ≤ 200)
+few_parts raw k None e is = (omega arith, omega arith)
+few_parts raw k (Some s) e is = few-counts_fit (length raw.states) s (counts-subproblem_fits (length raw.states) s (all_get (subproblem_fits (length raw.states)) raw.subs k s (subproblems_fit raw e) is))
+
+-- at most 200 rows
+pub few_rows : (raw : Raw) (n : Node) → raw_fits raw ≡ true → row_count (own_subproblem raw n) ≤ 200
+few_rows raw n e = (few_parts raw n.sub (slice_get raw.subs n.sub) e refl).0
+
+-- at most 200 decisions
+pub few_decisions : (raw : Raw) (n : Node) → raw_fits raw ≡ true → decision_count (own_subproblem raw n) ≤ 200
+few_decisions raw n e = (few_parts raw n.sub (slice_get raw.subs n.sub) e refl).1
+
+-- at most as many successors as there are nodes
+pub few_links : (raw : Raw) (n : Node) → raw_fits raw ≡ true → node_fits raw n ≡ true → length n.links ≤ 1000
+few_links raw n e fits =
+    let links : successors_fit (length raw.nodes) n ≡ true = and_second (rises nat_lt n.links) (successors_fit (length raw.nodes) n) (and_second _ (links_fit (length raw.nodes) n) fits) in
+    let few = few_nodes raw e in
+    let most : length n.links ≤ length raw.nodes = grind (arith, nat_tests, links) in
+    omega (arith, few, most)
+
+few-values_fit : (o : Option Subproblem) (n : Node) → values_fit o n ≡ true → length n.weights ≤ 100
+few-values_fit None n e = absurd (no e)
+  where
+    no : false ≡ true → ⊥
+    no h = cc
+few-values_fit (Some s) n e = let fits : realizations_fit (length s.randoms) n ≡ true = e in grind (arith, nat_tests, common_steps, fits)
+
+-- at most 100 realizations
+pub few_realizations : (raw : Raw) (n : Node) → node_fits raw n ≡ true → length n.weights ≤ 100
+few_realizations raw n fits = few-values_fit (own_subproblem raw n) n (and_second (is_name n.name) (values_fit (own_subproblem raw n) n) (and_first _ (links_fit (length raw.nodes) n) fits))

@@ -2,3 +2,4 @@ pub mod SealedFacts
 pub mod BoxFacts
 pub mod Ranked
 pub mod Bounds
+pub mod SubproblemFacts

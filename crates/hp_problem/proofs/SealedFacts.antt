@@ -1,16 +1,18 @@
 -- What holds of each problem, fact by fact.
-use Rattle.std.proofs.Common.{◌≡◌, ℕ, ◌<◌, Bool, true, false, ◌&&◌, List, [], ◌∷◌, length, map, get_or, Option, Some, None, slice_get, subst, arith}
+use Rattle.std.proofs.Common.{◌≡◌, ℕ, ◌<◌, true, false, ◌&&◌, length, get_or, nat_le, nat_lt, ◌≤◌, Option, Some, None, slice_get, subst, sym, arith}
 use Rattle.std.specs.List.{list_all}
+use Rattle.std.proofs.lemmas.Bool.{leb-true}
 use Rattle.std.proofs.lemmas.Bool.Decides.{nat_tests}
 use Rattle.std.proofs.lemmas.Grind.{common_steps}
 use Rattle.std.proofs.lemmas.List.{length-map}
 use Rattle.std.proofs.lemmas.Option.{slice_get_within, get_or_from_slice_get}
-use Rattle.hp_num.proofs.Tests.{and_first, and_second, all_at}
+use Rattle.hp_num.proofs.Tests.{and_first, and_second, all_at, all_map}
 use Rattle.hp_paths.specs.Paths.{are_known, is_graph}
 use Rattle.hp_problem.specs.declared.raw.Raw.{Raw}
 use Rattle.hp_problem.specs.declared.raw.Node.{Node}
 use Rattle.hp_problem.specs.declared.raw.Subproblem.{Subproblem}
-use Rattle.hp_problem.specs.Limits.{raw_fits, subproblem_fits, root_fits, node_fits, values_fit, is_name, links_fit}
+use Rattle.hp_problem.specs.Limits.{raw_fits, state_fits, subproblem_fits, root_fits, node_fits, values_fit, is_name, links_fit, successors_fit, names_rise, scenarios_fit}
+use Rattle.hp_problem.specs.Distinct.{rises}
 use Rattle.hp_problem.specs.Sealed.{Sealed, is_sealed, graph_fits, boxes_fit, graph_of}
 
 pub raw-is_sealed : (p : Sealed) → is_sealed p ≡ true → raw_fits p.raw ≡ true
@@ -33,13 +35,38 @@ box_counts p e =
     (grind (arith, nat_tests, common_steps, b), grind (arith, nat_tests, common_steps, b))
 
 pub nodes_fit : (raw : Raw) → raw_fits raw ≡ true → list_all (node_fits raw) raw.nodes ≡ true
+unfolding raw_fits
 nodes_fit raw e = and_second _ (list_all (node_fits raw) raw.nodes) (and_first _ (root_fits raw) e)
 
 pub subproblems_fit : (raw : Raw) → raw_fits raw ≡ true → list_all (subproblem_fits (length raw.states)) raw.subs ≡ true
+unfolding raw_fits
 subproblems_fit raw e = and_second _ (list_all (subproblem_fits (length raw.states)) raw.subs) (and_first _ (list_all (node_fits raw) raw.nodes) (and_first _ (root_fits raw) e))
 
 pub root-raw_fits : (raw : Raw) → raw_fits raw ≡ true → root_fits raw ≡ true
+unfolding raw_fits
 root-raw_fits raw e = and_second _ (root_fits raw) e
+
+pub states_fit : (raw : Raw) → raw_fits raw ≡ true → list_all state_fits raw.states ≡ true
+unfolding raw_fits
+states_fit raw e = and_second _ (list_all state_fits raw.states) (and_first _ (list_all (subproblem_fits (length raw.states)) raw.subs) (and_first _ (list_all (node_fits raw) raw.nodes) (and_first _ (root_fits raw) e)))
+
+-- at most 1000 nodes
+pub few_nodes : (raw : Raw) → raw_fits raw ≡ true → length raw.nodes ≤ 1000
+unfolding raw_fits
+few_nodes raw e =
+    let few : nat_le (length raw.nodes) 1000 ≡ true = and_second _ (nat_le (length raw.nodes) 1000) (and_first _ (nat_le (length raw.subs) 1000) (and_first _ (list_all state_fits raw.states) (and_first _ (list_all (subproblem_fits (length raw.states)) raw.subs) (and_first _ (list_all (node_fits raw) raw.nodes) (and_first _ (root_fits raw) e))))) in
+    leb-true (length raw.nodes) 1000 few
+
+-- at most 50 states
+pub few_states : (raw : Raw) → raw_fits raw ≡ true → length raw.states ≤ 50
+unfolding raw_fits
+few_states raw e =
+    let few : nat_le (length raw.states) 50 ≡ true = and_second _ (nat_le (length raw.states) 50) (and_first _ (nat_le (length raw.nodes) 1000) (and_first _ (nat_le (length raw.subs) 1000) (and_first _ (list_all state_fits raw.states) (and_first _ (list_all (subproblem_fits (length raw.states)) raw.subs) (and_first _ (list_all (node_fits raw) raw.nodes) (and_first _ (root_fits raw) e)))))) in
+    leb-true (length raw.states) 50 few
+
+pub stored_scenarios_fit : (raw : Raw) → raw_fits raw ≡ true → scenarios_fit raw ≡ true
+unfolding raw_fits
+stored_scenarios_fit raw e = and_second (names_rise raw) (scenarios_fit raw) (and_first _ (nat_le (length raw.states) 50) (and_first _ (nat_le (length raw.nodes) 1000) (and_first _ (nat_le (length raw.subs) 1000) (and_first _ (list_all state_fits raw.states) (and_first _ (list_all (subproblem_fits (length raw.states)) raw.subs) (and_first _ (list_all (node_fits raw) raw.nodes) (and_first _ (root_fits raw) e)))))))
 
 some_values : (s : Option Subproblem) (n : Node) → values_fit s n ≡ true → (t : Subproblem) × (s ≡ Some t)
 some_values None n e = absurd (no e)
@@ -57,17 +84,10 @@ known_subproblem p m n e is =
     let s = some_values (slice_get p.raw.subs n.sub) n values in
     slice_get_within p.raw.subs n.sub s.0 s.1
 
-and_both : (a b : Bool) → a ≡ true → b ≡ true → (a && b) ≡ true
-and_both true b e f = f
-and_both false b e f = e
-
--- a test that follows for what is made of each
-pub all_map : {A B : Type 0} (f : A → B) (p : A → Bool) (q : B → Bool) → ((x : A) → p x ≡ true → q (f x) ≡ true) → (xs : List A) → list_all p xs ≡ true → list_all q (map f xs) ≡ true
-all_map f p q follows [] e = e
-all_map f p q follows (x ∷ xs) e = and_both (q (f x)) (list_all q (map f xs)) (follows x (and_first (p x) (list_all p xs) e)) (all_map f p q follows xs (and_second (p x) (list_all p xs) e))
-
 known_links : (raw : Raw) (n : Node) → node_fits raw n ≡ true → are_known (length raw.nodes) n.links ≡ true
-known_links raw n e = grind (arith, nat_tests, common_steps, e)
+known_links raw n e =
+    let links : successors_fit (length raw.nodes) n ≡ true = and_second (rises nat_lt n.links) (successors_fit (length raw.nodes) n) (and_second _ (links_fit (length raw.nodes) n) e) in
+    grind (arith, nat_tests, common_steps, links)
 
 -- each successor is a node
 pub known_graph : (raw : Raw) → raw_fits raw ≡ true → is_graph (graph_of raw) ≡ true
@@ -79,3 +99,6 @@ known_root raw e =
     let r : root_fits raw ≡ true = root-raw_fits raw e in
     let known : are_known (length raw.nodes) raw.root ≡ true = grind (arith, nat_tests, common_steps, r) in
     rw length-map known
+
+pub few_in_graph : (raw : Raw) → raw_fits raw ≡ true → length (graph_of raw) ≤ 1000
+few_in_graph raw e = subst (λ n. n ≤ 1000) (sym (length-map raw.nodes (λ (n : Node). n.links))) (few_nodes raw e)

@@ -1,11 +1,12 @@
 -- The weights of a node, and the formulas that bound what training and simulating take.
-use Rattle.std.specs.Prelude.{ℕ, ◌+◌, ◌*◌, ◌^◌, List, [], ◌∷◌, length, map, Option, Some, None, slice_get, sum, if◌then◌else◌, nat_lt}
+use Rattle.std.specs.Prelude.{ℕ, ◌+◌, ◌*◌, ◌^◌, List, [], ◌∷◌, length, map, Option, Some, None, sum, if◌then◌else◌, nat_lt}
 use Rattle.std.specs.List.{sum_by}
 use Rattle.hp_paths.specs.Ranks.{greatest}
 use Rattle.hp_problem.specs.declared.raw.Node.{Node}
 use Rattle.hp_problem.specs.declared.raw.Subproblem.{Subproblem}
 use Rattle.hp_problem.specs.declared.raw.Raw.{Raw}
 use Rattle.hp_problem.specs.declared.formulas.TooMuch.{TooMuch}
+use Rattle.hp_problem.specs.Parts.{own_subproblem}
 use Rattle.hp_problem.specs.Sealed.{Sealed}
 
 -- the sum of the weights, and 1 without any
@@ -27,9 +28,6 @@ abbrev pub decision_count : Option Subproblem → ℕ
 decision_count None = 0
 decision_count (Some s) = length s.decisions
 
-abbrev pub subproblem_at : Raw → Node → Option Subproblem
-subproblem_at raw n = slice_get raw.subs n.sub
-
 -- formula 1: the numbers of all cuts of one path, with `cuts` cuts at each node
 abbrev pub cut_numbers : Sealed → ℕ → ℕ
 cut_numbers p cuts = cuts * p.longest * (length p.raw.states + 1)
@@ -37,11 +35,11 @@ cut_numbers p cuts = cuts * p.longest * (length p.raw.states + 1)
 -- formula 2: the numbers of a node's dictionary
 abbrev pub dictionary : Raw → ℕ → Node → ℕ
 dictionary raw cuts n =
-    (row_count (subproblem_at raw n) + (cuts + 1) * length n.links) * (decision_count (subproblem_at raw n) + length n.links)
+    (row_count (own_subproblem raw n) + (cuts + 1) * length n.links) * (decision_count (own_subproblem raw n) + length n.links)
 
 -- formula 3: the bytes of a node's step in a record
 abbrev pub step_bytes : Raw → ℕ → Node → ℕ
-step_bytes raw cuts n = 2 + length n.weights * (8 * row_count (subproblem_at raw n) + length n.links * (4 + 12 * (cuts + 1)))
+step_bytes raw cuts n = 2 + length n.weights * (8 * row_count (own_subproblem raw n) + length n.links * (4 + 12 * (cuts + 1)))
 
 abbrev pub record_bytes : Raw → ℕ → ℕ → ℕ
 record_bytes raw cuts batch = batch * (10 + sum_by (step_bytes raw cuts) raw.nodes)

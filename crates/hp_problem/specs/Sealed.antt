@@ -14,6 +14,7 @@ use Rattle.hp_problem.specs.declared.raw.Raw.{Raw}
 use Rattle.hp_problem.specs.declared.sealed.SealFault.{SealFault}
 use Rattle.hp_problem.specs.declared.sealed.SealFault.TheVariants.{NotRaw, Memory}
 use Rattle.hp_problem.specs.Limits.{are_numbers, raw_fits}
+pub use Rattle.hp_problem.specs.Parts.{graph_of}
 
 pub record Sealed : Type 0 where
   pub raw : Raw
@@ -24,10 +25,6 @@ pub record Sealed : Type 0 where
   -- the box of the incoming state: a list per node, with an entry per state
   pub lo : List (List ℤ)
   pub hi : List (List ℤ)
-
--- the successors of each node
-abbrev pub graph_of : Raw → List (List ℕ)
-graph_of raw = map (λ (n : Node). n.links) raw.nodes
 
 abbrev pub is_order : List ℕ → List ℕ → Bool
 is_order order rs = pointwise nat_eq order (by_rank rs)

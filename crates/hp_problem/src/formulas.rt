@@ -3,7 +3,8 @@ ghost use Rattle.std.specs.Prelude.{◌≡◌, ◌≤◌, ◌<◌, ◌+◌, ◌*
 ghost use Rattle.std.specs.List.{list_all, sum_by};
 ghost use Rattle.hp_paths.specs.Ranks.{greatest};
 ghost use Rattle.hp_problem.specs.Limits.{node_fits, raw_fits, subproblem_fits};
-ghost use Rattle.hp_problem.specs.Formulas.{above, decision_count, dictionary, first_dictionary, or_then, record_bytes, row_count, step_bytes, step_numbers, subproblem_at, successor_total, too_much, too_wide, total_weight};
+ghost use Rattle.hp_problem.specs.Parts.{own_subproblem};
+ghost use Rattle.hp_problem.specs.Formulas.{above, decision_count, dictionary, first_dictionary, or_then, record_bytes, row_count, step_bytes, step_numbers, successor_total, too_much, too_wide, total_weight};
 
 use crate::raw::{Node, Raw, Subproblem};
 use crate::sealed::{Problem, item_at};
@@ -57,25 +58,26 @@ fn above(which: u8, limit: u64, value: u64) -> Option<TooMuch>
     }
 }
 
-fn row_count(raw: &Raw, node: &Node) -> u64
-    requires { raw_fits raw.now ≡ true }
-    ensures value { result ≡ row_count (subproblem_at raw.now node.now) }
-    ensures small { result ≤ 200 }
-{
-    match raw.subs.as_slice().get(node.sub as usize) {
-        Some(subproblem) => subproblem.rows.len() as u64,
-        None => 0,
-    }
+// The sizes of a node's subproblem.
+#[derive(Clone, Copy)]
+struct Sizes {
+    rows: u64,
+    decisions: u64,
 }
 
-fn decision_count(raw: &Raw, node: &Node) -> u64
-    requires { raw_fits raw.now ≡ true }
-    ensures value { result ≡ decision_count (subproblem_at raw.now node.now) }
-    ensures small { result ≤ 200 }
+fn sizes_of(raw: &Raw, node: &Node) -> Sizes
+    ensures rows { result.rows ≡ row_count (own_subproblem raw.now node.now) }
+    ensures decisions { result.decisions ≡ decision_count (own_subproblem raw.now node.now) }
 {
     match raw.subs.as_slice().get(node.sub as usize) {
-        Some(subproblem) => subproblem.decisions.len() as u64,
-        None => 0,
+        Some(subproblem) => Sizes {
+            rows: subproblem.rows.len() as u64,
+            decisions: subproblem.decisions.len() as u64,
+        },
+        None => Sizes {
+            rows: 0,
+            decisions: 0,
+        },
     }
 }
 
@@ -111,6 +113,7 @@ fn certificate_bytes(rows: u64, successors: u64, cuts: u64) -> u64
     8 * rows + successors * (4 + 12 * (cuts + 1))
 }
 
+#[tactic(auto, using(crate::proofs::Bounds::few_links, crate::proofs::Bounds::few_rows, crate::proofs::Bounds::few_decisions))]
 fn dictionary(raw: &Raw, cuts: u64, node: &Node) -> u64
     requires raw { raw_fits raw.now ≡ true }
     requires node { node_fits raw.now node.now ≡ true }
@@ -118,14 +121,11 @@ fn dictionary(raw: &Raw, cuts: u64, node: &Node) -> u64
     ensures { result ≡ dictionary raw.now cuts node.now }
 {
     let successors = node.links.len() as u64;
-    dictionary_numbers(
-        row_count(raw, node),
-        decision_count(raw, node),
-        successors,
-        cuts,
-    )
+    let sizes = sizes_of(raw, node);
+    dictionary_numbers(sizes.rows, sizes.decisions, successors, cuts)
 }
 
+#[tactic(auto, using(crate::proofs::Bounds::few_links, crate::proofs::Bounds::few_rows, crate::proofs::Bounds::few_realizations))]
 fn step_bytes(raw: &Raw, cuts: u64, node: &Node) -> u64
     requires raw { raw_fits raw.now ≡ true }
     requires node { node_fits raw.now node.now ≡ true }
@@ -135,7 +135,7 @@ fn step_bytes(raw: &Raw, cuts: u64, node: &Node) -> u64
 {
     let successors = node.links.len() as u64;
     let realizations = node.weights.len() as u64;
-    2 + realizations * certificate_bytes(row_count(raw, node), successors, cuts)
+    2 + realizations * certificate_bytes(sizes_of(raw, node).rows, successors, cuts)
 }
 
 // The first node whose dictionary is too large.
@@ -169,6 +169,7 @@ fn bytes_of_steps(raw: &Raw, cuts: u64, nodes: &[Node]) -> u64
     bytes
 }
 
+#[tactic(auto, using(crate::proofs::SealedFacts::nodes_fit, crate::proofs::SealedFacts::few_nodes))]
 fn record_bytes(raw: &Raw, cuts: u64, batch: u64) -> u64
     requires raw { raw_fits raw.now ≡ true }
     requires cuts { cuts ≤ 128064 }
@@ -213,6 +214,7 @@ fn trace_numbers(count: u32, longest: u64, numbers: u64) -> u64
 }
 
 // The first of formulas 1 to 3 that passes its limit.
+#[tactic(auto, using(crate::proofs::SealedFacts::nodes_fit, crate::proofs::SealedFacts::few_states))]
 fn first_above(raw: &Raw, longest: u64, iterations: u64, batch: u64) -> Option<TooMuch>
     requires raw { raw_fits raw.now ≡ true }
     requires longest { longest ≤ 1001 }
@@ -236,6 +238,7 @@ fn first_above(raw: &Raw, longest: u64, iterations: u64, batch: u64) -> Option<T
 }
 
 // Formula 4, where it passes its limit.
+#[tactic(auto, using(crate::proofs::SealedFacts::subproblems_fit, crate::proofs::SealedFacts::few_states))]
 fn traces_above(raw: &Raw, longest: u64, count: u32) -> Option<TooMuch>
     requires raw { raw_fits raw.now ≡ true }
     requires longest { longest ≤ 1001 }

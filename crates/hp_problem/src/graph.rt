@@ -86,7 +86,7 @@ fn links_fit(
 
 /// Whether no node reaches itself, the root reaches each node, and the order and the length of the longest path
 /// from the root are those of the nodes' ranks.
-#[tactic(auto, unfolding(crate::specs::Sealed::graph_fits))]
+#[tactic(auto, unfolding(crate::specs::Sealed::graph_fits), using(crate::proofs::SealedFacts::known_root))]
 pub(crate) fn graph_fits(
     alloc: Global,
     raw: &Raw,

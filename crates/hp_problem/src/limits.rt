@@ -1,40 +1,78 @@
 // The limits that the parts of a problem keep.
-ghost use Rattle.std.specs.Prelude.{◌≡◌, ℕ, ◌+◌, ◌≤◌, ◌^◌, ◌<◌, nat_lt, nat_le, length, sum, slice_get};
-ghost use Rattle.std.specs.List.{list_all};
-ghost use Rattle.hp_problem.specs.Limits.{is_small, are_small, is_name, are_numbers, is_bound, sides_fit, state_fits, decision_fits, term_fits, terms_fit, row_fits, are_weights, counts_fit, costs_fit, subproblem_fits, realizations_fit, links_fit, values_fit, node_fits, root_fits, raw_fits};
+ghost use Rattle.std.specs.Prelude.{◌≡◌, ◌&&◌, ℕ, ◌+◌, ◌≤◌, ◌^◌, ◌<◌, nat_lt, nat_le, length, sum, slice_get};
+ghost use Rattle.std.specs.List.{list_all, zip};
+ghost use Rattle.hp_problem.specs.Limits.{is_small, are_small, is_name, are_numbers, is_bound, sides_fit, state_fits, decision_fits, term_fits, terms_fit, row_fits, are_weights, counts_fit, costs_fit, subproblem_fits, realizations_fit, links_fit, values_fit, node_fits, root_fits, root_successors_fit, successors_fit, raw_fits, bounds_fit, names_fit, names_rise, outs_differ, scenarios_fit};
 
+use crate::distinct::{names_fit, names_rise, numbers_rise, outs_differ};
 use crate::raw::{Decision, Node, Raw, Row, State, Subproblem};
+use crate::scenarios::scenarios_fit;
 use hp_num::{List, Name};
 
-const GREATEST: u64 = 1 << 40;
+/// The most bytes of a problem file.
+pub const PROBLEM_BYTES: usize = 1 << 24;
+
+/// The greatest absolute value of a number in a problem.
+pub const GREATEST_NUMBER: u64 = 1 << 40;
 
 /// The most bytes of a name.
 pub const NAME_BYTES: usize = 128;
 
+/// The most nodes of a problem.
+pub const MOST_NODES: usize = 1000;
+
+/// The most subproblems of a problem.
+pub const MOST_SUBPROBLEMS: usize = 1000;
+
+/// The most stored scenarios of a problem.
+pub const MOST_SCENARIOS: usize = 1000;
+
+/// The most realizations of a node.
+pub const MOST_REALIZATIONS: usize = 100;
+
+/// The greatest total of a node's realization weights, of its successors' weights and its stop weight, and of the
+/// weights of the root's successors.
+pub const GREATEST_TOTAL_WEIGHT: u64 = 65535;
+
+/// The most decisions of a subproblem.
+pub const MOST_DECISIONS: usize = 200;
+
+/// The most rows of a subproblem.
+pub const MOST_ROWS: usize = 200;
+
 /// The most states of a problem.
 pub const MOST_STATES: usize = 50;
 
-const MOST_NODES: usize = 1000;
+/// The most random variables of a subproblem.
+pub const MOST_RANDOMS: usize = 50;
 
-const MOST_SUBPROBLEMS: usize = 1000;
+/// The most iterations of training, and so the most records of a journal.
+pub const MOST_ITERATIONS: u32 = 2000;
 
-const MOST_DECISIONS: usize = 200;
+/// The most paths of an iteration of training; there is at least 1.
+pub const MOST_PATHS: u16 = 64;
 
-const MOST_ROWS: usize = 200;
+/// The most simulated scenarios.
+pub const MOST_SIMULATIONS: u32 = 1000;
 
-const MOST_RANDOMS: usize = 50;
+/// The most stages of a generated problem.
+pub const MOST_GENERATED_STAGES: u32 = 500;
 
-const MOST_REALIZATIONS: usize = 100;
+/// The most reservoirs of a generated problem.
+pub const MOST_GENERATED_RESERVOIRS: u32 = 10;
 
-const MOST_WEIGHT: u64 = 65535;
+/// The most lists of alternative weights of a node.
+pub const MOST_ALTERNATIVES: usize = 10;
+
+/// The most bytes of a record's payload in a journal.
+pub const PAYLOAD_BYTES: u64 = 1 << 26;
 
 pub(crate) fn is_small(number: i64) -> bool
     ensures { result ≡ is_small number }
 {
-    number.unsigned_abs() <= GREATEST
+    number.unsigned_abs() <= GREATEST_NUMBER
 }
 
-fn is_name(name: &Name) -> bool
+pub(crate) fn is_name(name: &Name) -> bool
     ensures { result ≡ is_name name.now }
 {
     name.as_str().len() <= NAME_BYTES
@@ -46,7 +84,7 @@ fn are_small(numbers: &[i64]) -> bool
     numbers.iter().all(|number| is_small(*number))
 }
 
-fn are_numbers(numbers: &List<i64>, count: usize) -> bool
+pub(crate) fn are_numbers(numbers: &List<i64>, count: usize) -> bool
     ensures { result ≡ are_numbers count numbers.now }
 {
     numbers.len() == count && are_small(numbers.as_slice())
@@ -140,6 +178,21 @@ fn are_bounds(sides: &[Option<i64>]) -> bool
     sides.iter().all(|side| is_bound(side))
 }
 
+fn all_sides_fit(lows: &[Option<i64>], highs: &[Option<i64>]) -> bool
+    ensures { result ≡ list_all (λ b. sides_fit b.0 b.1) (zip lows.now highs.now) }
+{
+    lows.iter()
+        .zip(highs)
+        .all(|(low, high)| sides_fit(*low, *high))
+}
+
+#[tactic(auto, unfolding(crate::specs::Limits::bounds_fit))]
+fn bounds_fit(subproblem: &Subproblem) -> bool
+    ensures { result ≡ bounds_fit subproblem.now }
+{
+    all_sides_fit(subproblem.low.as_slice(), subproblem.high.as_slice())
+}
+
 fn counts_fit(subproblem: &Subproblem, states: usize) -> bool
     ensures { result ≡ counts_fit states subproblem.now }
 {
@@ -159,10 +212,18 @@ fn costs_fit(subproblem: &Subproblem, states: usize) -> bool
         && are_numbers(&subproblem.random_costs, subproblem.randoms.len())
 }
 
+// Whether names and outgoing states differ, and the bounds of the incoming states do not pass each other.
+fn variables_fit(subproblem: &Subproblem) -> bool
+    ensures { result ≡ (names_fit subproblem.now && bounds_fit subproblem.now && outs_differ subproblem.now) }
+{
+    names_fit(subproblem) && bounds_fit(subproblem) && outs_differ(subproblem)
+}
+
 fn subproblem_fits(subproblem: &Subproblem, states: usize) -> bool
     ensures { result ≡ subproblem_fits states subproblem.now }
 {
-    counts_fit(subproblem, states)
+    variables_fit(subproblem)
+        && counts_fit(subproblem, states)
         && costs_fit(subproblem, states)
         && decisions_fit(subproblem.decisions.as_slice())
         && are_below(subproblem.outs.as_slice(), subproblem.decisions.len())
@@ -191,7 +252,7 @@ fn realizations_fit(node: &Node, randoms: usize) -> bool
         && node.weights.len() <= MOST_REALIZATIONS
         && node.values.len() == node.weights.len()
         && are_weights(node.weights.as_slice())
-        && sum(node.weights.as_slice()) <= MOST_WEIGHT
+        && sum(node.weights.as_slice()) <= GREATEST_TOTAL_WEIGHT
         && all_numbers(node.values.as_slice(), randoms)
 }
 
@@ -201,9 +262,9 @@ pub(crate) fn all_numbers(lists: &[List<i64>], count: usize) -> bool
     lists.iter().all(|numbers| are_numbers(numbers, count))
 }
 
-fn links_fit(node: &Node, nodes: usize) -> bool
+fn successors_fit(node: &Node, nodes: usize) -> bool
     requires { nodes ≤ 1000 }
-    ensures { result ≡ links_fit nodes node.now }
+    ensures { result ≡ successors_fit nodes node.now }
 {
     node.links.len() <= nodes
         && node.link_weights.len() == node.links.len()
@@ -212,10 +273,17 @@ fn links_fit(node: &Node, nodes: usize) -> bool
         && total_fits(sum(node.link_weights.as_slice()), node.stop)
 }
 
+fn links_fit(node: &Node, nodes: usize) -> bool
+    requires { nodes ≤ 1000 }
+    ensures { result ≡ links_fit nodes node.now }
+{
+    numbers_rise(node.links.as_slice()) && successors_fit(node, nodes)
+}
+
 fn total_fits(weight: u64, stop: u32) -> bool
     ensures { result ≡ nat_le (weight + stop) 65535 }
 {
-    weight <= MOST_WEIGHT && weight + stop as u64 <= MOST_WEIGHT
+    weight <= GREATEST_TOTAL_WEIGHT && weight + stop as u64 <= GREATEST_TOTAL_WEIGHT
 }
 
 fn values_fit(node: &Node, subproblems: &[Subproblem]) -> bool
@@ -255,34 +323,54 @@ fn states_fit(states: &[State]) -> bool
     states.iter().all(|state| state_fits(state))
 }
 
-fn root_fits(raw: &Raw) -> bool
+fn root_successors_fit(raw: &Raw) -> bool
     requires { length raw.now.nodes ≤ 1000 }
-    ensures { result ≡ root_fits raw.now }
+    ensures { result ≡ root_successors_fit raw.now }
 {
     0 < raw.root.len()
         && raw.root.len() <= raw.nodes.len()
         && raw.root_weights.len() == raw.root.len()
         && are_below(raw.root.as_slice(), raw.nodes.len())
         && are_weights(raw.root_weights.as_slice())
-        && sum(raw.root_weights.as_slice()) <= MOST_WEIGHT
+        && sum(raw.root_weights.as_slice()) <= GREATEST_TOTAL_WEIGHT
 }
 
-/// Whether all parts but the stored scenarios keep the limits.
+fn root_fits(raw: &Raw) -> bool
+    requires { length raw.now.nodes ≤ 1000 }
+    ensures { result ≡ root_fits raw.now }
+{
+    numbers_rise(raw.root.as_slice()) && root_successors_fit(raw)
+}
+
+/// Whether all parts keep the limits.
 ///
 /// There are at most 50 states, 1000 nodes with 1 to 100 realizations each, and 1000 subproblems with at most 200
-/// decisions, 200 rows and 50 random variables each. Names have at most 128 bytes, and numbers are at most 2^40
-/// either way. The low side of a decision or a row is at most its high side. The numbers of a row's terms rise, and no
-/// factor is 0. Weights are at least 1, and those of one list, with the stop weight beside successors, make at most
-/// 65535. The root leads somewhere. Each list has an entry for each part that it speaks of, and each number of a part
-/// is that of a part that is there.
+/// decisions, 200 rows and 50 random variables each. Names have at most 128 bytes, those of the states and of the nodes
+/// rise in byte order, and no two decisions and random variables of a subproblem have the same. Numbers are at most
+/// 2^40 either way. The low side of a decision, of a row or of an incoming state is at most its high side, and no
+/// decision is the outgoing state of two states. The numbers of a row's terms rise, and no factor is 0. Weights are at
+/// least 1, and those of one list, with the stop weight beside successors, make at most 65535. Successors rise in their
+/// numbers, and the root leads somewhere. There are at most 1000 stored scenarios, and each is a path from the root
+/// with at least one step and the values of each node's random variables. Each list has an entry for each part that it
+/// speaks of, and each number of a part is that of a part that is there.
+#[tactic(auto, unfolding(crate::specs::Limits::raw_fits))]
 pub fn raw_fits(raw: &Raw) -> bool
     ensures { result ≡ raw_fits raw.now }
 {
-    raw.states.len() <= MOST_STATES
-        && raw.nodes.len() <= MOST_NODES
-        && raw.subs.len() <= MOST_SUBPROBLEMS
+    few_parts(raw)
         && states_fit(raw.states.as_slice())
         && subproblems_fit(raw.subs.as_slice(), raw.states.len())
         && nodes_fit(raw.nodes.as_slice(), raw)
         && root_fits(raw)
+}
+
+// Whether names rise, the stored scenarios are paths, and there are not too many states, nodes and subproblems.
+fn few_parts(raw: &Raw) -> bool
+    ensures { result ≡ (names_rise raw.now && scenarios_fit raw.now && nat_le (length raw.now.states) 50 && nat_le (length raw.now.nodes) 1000 && nat_le (length raw.now.subs) 1000) }
+{
+    names_rise(raw)
+        && scenarios_fit(raw)
+        && raw.states.len() <= MOST_STATES
+        && raw.nodes.len() <= MOST_NODES
+        && raw.subs.len() <= MOST_SUBPROBLEMS
 }

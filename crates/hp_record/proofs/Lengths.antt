@@ -13,7 +13,8 @@ use Rattle.hp_paths.specs.Ranks.{rank}
 use Rattle.hp_paths.proofs.Falling.{rank_falls}
 use Rattle.hp_problem.specs.declared.raw.Node.{Node}
 use Rattle.hp_problem.specs.declared.raw.Subproblem.{Subproblem}
-use Rattle.hp_problem.specs.Formulas.{row_count, subproblem_at, step_bytes, record_bytes}
+use Rattle.hp_problem.specs.Formulas.{row_count, step_bytes, record_bytes}
+use Rattle.hp_problem.specs.Parts.{own_subproblem}
 use Rattle.hp_problem.specs.Sealed.{Sealed, is_sealed, graph_of}
 use Rattle.hp_theory.specs.declared.cut.Certificate.{Certificate}
 use Rattle.hp_cut.specs.declared.entry.Entry.{Entry}
@@ -109,13 +110,13 @@ node_bytes p cuts m = at (step_bytes p.raw cuts) p.raw.nodes m
 
 record SizesAre (p : Sealed) (m : ℕ) (n : Node) : Type 0 where
   realizations : (sizes_of p m).realizations ≡ length n.weights
-  rows : (sizes_of p m).rows ≡ row_count (subproblem_at p.raw n)
+  rows : (sizes_of p m).rows ≡ row_count (own_subproblem p.raw n)
   successors : (sizes_of p m).successors ≡ length n.links
 
 sizes_are : (p : Sealed) (m : ℕ) (n : Node) → slice_get p.raw.nodes m ≡ Some n → SizesAre p m n
 sizes_are p m n e = record {
   realizations = ap (λ (o : Option Node). unwrap_or (option_map (λ (x : Node). length x.weights) o) 0) e;
-  rows = ap (λ (o : Option Node). unwrap_or (option_map (λ (s : Subproblem). length s.rows) (option_and_then (λ (x : Node). slice_get p.raw.subs x.sub) o)) 0) e ∙ counted_rows (subproblem_at p.raw n);
+  rows = ap (λ (o : Option Node). unwrap_or (option_map (λ (s : Subproblem). length s.rows) (option_and_then (λ (x : Node). slice_get p.raw.subs x.sub) o)) 0) e ∙ counted_rows (own_subproblem p.raw n);
   successors = ap (λ (o : Option Node). length (unwrap_or (option_map (λ (x : Node). x.links) o) [])) e;
 }
 
@@ -128,7 +129,7 @@ step_length : (p : Sealed) (cuts : ℕ) (s : EntryStep) → s.node < length p.ra
 step_length p cuts s known suits within =
     let n = some_at p.raw.nodes s.node known in
     let z = sizes_are p s.node n.0 n.1 in
-    let r = row_count (subproblem_at p.raw n.0) in
+    let r = row_count (own_subproblem p.raw n.0) in
     let k = length n.0.links in
     let shapes : AllByRecursion (λ (c : Certificate). (length c.rows ≡ r) × (length c.cuts ≡ k)) s.list
     = weaker (Suits (sizes_of p s.node)) (λ c. (length c.rows ≡ r) × (length c.cuts ≡ k)) (λ c f. (f.rows ∙ z.rows, f.cuts ∙ z.successors)) s.list suits.each in

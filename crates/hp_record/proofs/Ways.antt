@@ -13,9 +13,8 @@ use Rattle.hp_paths.specs.Ranks.{greatest, longest_from, rank, ranks}
 use Rattle.hp_paths.proofs.Falling.{rank_falls}
 use Rattle.hp_problem.specs.declared.raw.Node.{Node}
 use Rattle.hp_problem.specs.declared.raw.Raw.{Raw}
-use Rattle.hp_problem.specs.Limits.{raw_fits}
 use Rattle.hp_problem.specs.Sealed.{Sealed, is_sealed, graph_fits, graph_of}
-use Rattle.hp_problem.proofs.SealedFacts.{raw-is_sealed, graph-is_sealed, known_graph}
+use Rattle.hp_problem.proofs.SealedFacts.{raw-is_sealed, graph-is_sealed, known_graph, few_nodes}
 use Rattle.hp_problem.proofs.Bounds.{longest_at_most}
 use Rattle.hp_cut.specs.declared.entry.EntryStep.{EntryStep}
 use Rattle.hp_record.specs.Shape.{links_of, is_among, leads_on, may_stand, is_way_back}
@@ -89,9 +88,6 @@ rising p g before s (t ∷ ts) r way low =
 pub way_length : (p : Sealed) → is_sealed p ≡ true → (ss : List EntryStep) → is_way_back p None ss ≡ true → length ss ≤ p.longest
 way_length p e [] way = omega arith
 way_length p e (s ∷ ss) way = let most : 0 + suc (length ss) ≤ p.longest = rising p (graph p e) None s ss 0 way (omega arith) in omega (arith, most)
-
-few_nodes : (raw : Raw) → raw_fits raw ≡ true → length raw.nodes ≤ 1000
-few_nodes raw e = grind (arith, nat_tests, common_steps, e)
 
 pub is_small : (p : Sealed) → is_sealed p ≡ true → IsSmall p
 is_small p e = record { nodes = omega (arith, few_nodes p.raw (raw-is_sealed p e)); longest = omega (arith, longest_at_most p e) }

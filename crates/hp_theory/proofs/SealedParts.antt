@@ -6,7 +6,8 @@ use Rattle.std.proofs.lemmas.Grind.{common_steps}
 use Rattle.std.proofs.lemmas.Bool.Decides.{nat_tests}
 use Rattle.hp_problem.specs.declared.raw.Node as nodes
 use Rattle.hp_problem.specs.declared.raw.Subproblem.{Subproblem}
-use Rattle.hp_problem.specs.Limits.{are_numbers, are_small, is_small, are_weights, node_fits, values_fit, realizations_fit, links_fit, subproblem_fits}
+use Rattle.hp_problem.specs.Limits.{are_numbers, are_small, is_small, are_weights, node_fits, values_fit, realizations_fit, links_fit, subproblem_fits, counts_fit, costs_fit}
+use Rattle.hp_problem.proofs.SubproblemFacts.{counts-subproblem_fits, costs-subproblem_fits, outs-subproblem_fits}
 use Rattle.hp_problem.specs.Sealed.{Sealed, is_sealed, boxes_fit, holds_box, initial_values, leaves_inside, subproblem_of}
 use Rattle.hp_problem.proofs.SealedFacts.{raw-is_sealed, boxes-is_sealed, known_subproblem, box_counts, nodes_fit, subproblems_fit}
 use Rattle.hp_num.proofs.Tests.{and_second, all_at, all_get, some_of}
@@ -109,10 +110,13 @@ pub links_positive : (n : nodes.Node) (count : ℕ) → links_fit count n ≡ tr
 links_positive n count e = grind (arith, nat_tests)
 
 pub counted : (s : Subproblem) (states : ℕ) → subproblem_fits states s ≡ true → (length s.state_costs ≡ states) × (length s.outs ≡ states)
-counted s states e = grind (arith, nat_tests, common_steps)
+counted s states e =
+    let costs : costs_fit states s ≡ true = costs-subproblem_fits states s e in
+    let counts : counts_fit states s ≡ true = counts-subproblem_fits states s e in
+    (grind (arith, nat_tests, costs), grind (arith, nat_tests, counts))
 
 pub outs_known : (s : Subproblem) (states : ℕ) → subproblem_fits states s ≡ true → list_all (λ o. nat_lt o (length s.decisions)) s.outs ≡ true
-outs_known s states e = grind (arith, nat_tests)
+outs_known s states e = outs-subproblem_fits states s e
 
 pub numbers_counted : (zs : List ℤ) (count : ℕ) → are_numbers count zs ≡ true → length zs ≡ count
 numbers_counted zs count e = grind (arith, nat_tests)

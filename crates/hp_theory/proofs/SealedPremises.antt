@@ -1,5 +1,5 @@
 -- What the laws ask of a problem, from what holds of each sealed one.
-use Rattle.std.proofs.Common.{◌≡◌, ℕ, zero, suc, ◌+◌, ◌*◌, nat_abs, ◌<◌, ◌≤◌, ◌^◌, ℤ, pos, ◌≤ℤ◌, ◌+ℤ◌, true, List, [], ◌∷◌, length, get_or, map, All, Contains, sum, Some, slice_get, nat_lt, nat_le, sym, ap, ◌∙◌, subst, arith}
+use Rattle.std.proofs.Common.{◌≡◌, ℕ, zero, suc, ◌+◌, ◌*◌, nat_abs, ◌<◌, ◌≤◌, ◌^◌, ℤ, pos, ◌≤ℤ◌, ◌+ℤ◌, true, List, [], ◌∷◌, length, get_or, map, All, Contains, sum, Some, slice_get, nat_lt, sym, ap, ◌∙◌, subst, arith}
 use Rattle.std.specs.Prelude.{int_le}
 use Rattle.std.specs.List.{list_all}
 use Rattle.std.specs.Option.{option_map}
@@ -18,9 +18,9 @@ use Rattle.hp_problem.specs.declared.raw.State.{State}
 use Rattle.hp_problem.specs.declared.raw.Raw.{Raw}
 use Rattle.hp_problem.specs.declared.raw.Decision.{Decision}
 use Rattle.hp_problem.specs.declared.raw.Subproblem.{Subproblem}
-use Rattle.hp_problem.specs.Limits.{are_numbers, are_weights, node_fits, subproblem_fits, state_fits, root_fits, raw_fits}
+use Rattle.hp_problem.specs.Limits.{are_numbers, are_weights, root_fits}
 use Rattle.hp_problem.specs.Sealed.{Sealed, is_sealed, graph_of, at_most, holds_box, out_lows, out_highs, lows_from, highs_from, initial_values}
-use Rattle.hp_problem.proofs.SealedFacts.{raw-is_sealed, root-raw_fits, known_graph}
+use Rattle.hp_problem.proofs.SealedFacts.{raw-is_sealed, root-raw_fits, known_graph, few_states}
 use Rattle.hp_theory.specs.Problem.{Link, Node, Problem, node_at, link_weights, weight_of_successors}
 use Rattle.hp_theory.specs.View.{node_of, links_of, problem_of}
 use Rattle.hp_theory.specs.Premises.{Shaped, Nested, StartsIn, RootShaped, HaveCuts, Known, Narrow}
@@ -226,9 +226,6 @@ narrow_box low high count e f few =
     let small : sum_to (length low) (reach low high) ≤ℤ pos (length low * 2 ^ 40) = sum_at_most (length low) (2 ^ 40) (reach low high) (λ k h. reach_small low high k (numbers_small low count k e h) (numbers_small high count k f (omega arith))) in
     let at_most : length low * 2 ^ 40 ≤ 50 * 2 ^ 40 = omega arith in
     omega (arith, ints, small, at_most)
-
-few_states : (raw : Raw) → raw_fits raw ≡ true → length raw.states ≤ 50
-few_states raw e = let t : nat_le (length raw.states) 50 ≡ true = and_first _ (nat_le (length raw.nodes) 1000) (and_first _ (nat_le (length raw.subs) 1000) (and_first _ (list_all state_fits raw.states) (and_first _ (list_all (subproblem_fits (length raw.states)) raw.subs) (and_first _ (list_all (node_fits raw) raw.nodes) (and_first _ (root_fits raw) e))))) in grind (arith, nat_tests)
 
 narrow_parts : (n : nodes.Node) (s : Subproblem) (low high : List ℤ) → (pos 1 +ℤ sum_to (length low) (reach low high)) ≤ℤ pos (2 ^ 46) → Narrow (node_of n s low high)
 unfolding node_of

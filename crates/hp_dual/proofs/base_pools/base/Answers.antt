@@ -1,10 +1,9 @@
 use Rattle.std.proofs.Common.{◌∙◌, sym, ap, subst, length, get_or, ◌+◌, replicate, [], ◌≤◌, List, ℕ, arith, drop}
 use Rattle.std.proofs.lemmas.List.{drop_all}
-use Rattle.hp_problem.proofs.SealedFacts.{raw-is_sealed}
+use Rattle.hp_problem.proofs.SealedFacts.{raw-is_sealed, few_nodes}
 use Rattle.hp_problem.specs.declared.raw.Raw.{Raw}
 use Rattle.hp_theory.specs.declared.cut.Cut.{Cut}
 use Rattle.hp_theory.proofs.Based.{fit-based}
-use Rattle.hp_dual.proofs.SealedWithin.{few_nodes}
 use Rattle.hp_dual.proofs.Standing.{Standing, standing_none, standing_all, standing_at, standing_more}
 use Rattle.hp_dual.proofs.base_pools.base.Goals as goal
 
