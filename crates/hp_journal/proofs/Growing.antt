@@ -8,10 +8,10 @@ use Rattle.hp_outside.specs.Disks.{Store, Torn, Cut, Stays, Lawful, written}
 use Rattle.hp_outside.proofs.RunsOfCalls.{stays_on}
 use Rattle.hp_outside.specs.Since.{Quiet, LeavesOnly}
 use Rattle.hp_journal.specs.Layout.{Title, title_bytes, records, body_of, front, journal}
-use Rattle.hp_journal.specs.Mine.{Grown, GrownFrom, shut, half_open}
+use Rattle.hp_journal.specs.Mine.{Grown, GrownFrom, LeavesGrown, shut, half_open}
 use Rattle.hp_journal.specs.Layout.{IsBody}
 use Rattle.hp_journal.proofs.Bytes.{byte_behind, torn_byte, torn_end, cut_rest, written_byte, written_end}
-use Rattle.hp_journal.proofs.Told.{begins, puts, cuts, mapped}
+use Rattle.hp_journal.proofs.Told.{told, known, begins, puts, cuts, mapped}
 use Rattle.std.specs.Option.{option_map}
 use Rattle.std.specs.Prelude.{◌^◌}
 
@@ -119,3 +119,38 @@ module _ (old new : Store) (bytes : List ℕ) (lawful : Lawful old) (quiet : Qui
   pub rest_off : (mid : Store) (t : Title) (payloads : List (List ℕ)) (j : ℕ) → LeavesOnly old mid (GrownFrom t payloads j) → mid.reads ≡ option_map (λ b. written b at (0 ∷ [])) old.reads → IfSome mid.reads (λ b. LeavesOnly mid new (Cut (at + 1) b)) → at ≡ length (front t (take j payloads)) → Grown t payloads j bytes → LeavesOnly old new (GrownFrom t payloads j)
   rest_off mid t payloads j run maps moment place grows =
       cuts old (GrownFrom t payloads j) mid new (written bytes at (0 ∷ [])) (at + 1) run (mapped old.reads mid.reads (λ b. written b at (0 ∷ [])) bytes is maps) moment (rest_cut t payloads j at bytes place grows)
+
+-- what a repair leaves of a disk, whether it tells its bytes or not
+module _ (old mid new : Store) (lawful : Lawful old) (quiet : Quiet old) (at : ℕ) where
+  pub gate_read_leaves : Stays old mid → LeavesGrown at old mid
+  gate_read_leaves same = told old.reads (λ bytes is t payloads j place grows. gate_read old old bytes lawful quiet is at mid same t payloads j grows)
+
+  pub gate_put_leaves : Stays old mid → (byte : ℕ) → byte ≢ 0 → IfSome old.reads (λ b. byte ≡ get_or b at 1) → IfSome mid.reads (λ b. LeavesOnly mid new (Torn at 1 b)) → LeavesGrown at old new
+  gate_put_leaves same byte set reads moment = told old.reads (λ bytes is t payloads j place grows.
+      let not_zero : get_or bytes at 1 ≢ 0 = λ zero. set (known (λ b. byte ≡ get_or b at 1) old.reads bytes is reads ∙ zero) in
+      gate_put old new bytes lawful quiet is at mid same not_zero moment t payloads j place grows)
+
+  pub rest_off_leaves : LeavesGrown at old mid → mid.reads ≡ option_map (λ b. written b at (0 ∷ [])) old.reads → IfSome mid.reads (λ b. LeavesOnly mid new (Cut (at + 1) b)) → LeavesGrown at old new
+  rest_off_leaves shuts maps moment = told old.reads (λ bytes is t payloads j place grows.
+      let run = known (λ b. (t : Title) (payloads : List (List ℕ)) (j : ℕ) → at ≡ length (front t (take j payloads)) → Grown t payloads j b → LeavesOnly old mid (GrownFrom t payloads j)) old.reads bytes is shuts t payloads j place grows in
+      rest_off old new bytes lawful quiet is at mid t payloads j run maps moment place grows)
+
+-- what an appended record leaves
+abbrev pub LeavesAppended : ℕ → List ℕ → Store → Store → Type 0
+LeavesAppended at body old new = IfSome old.reads (λ bytes. (t : Title) (payloads : List (List ℕ)) (j : ℕ) → j < length payloads → bytes ≡ journal t (take j payloads) 0 [] → body ≡ body_of (get_or payloads j []) → LeavesOnly old new (GrownFrom t payloads j))
+
+module _ (old mid new : Store) (lawful : Lawful old) (quiet : Quiet old) (at : ℕ) (body : List ℕ) (last : IfSome old.reads (λ b. (at < length b) × (b ≡ take at b ++ 0 ∷ []))) (moment : IfSome old.reads (λ b. LeavesOnly old mid (Torn (at + 1) (length body) b))) where
+  place_of : (bytes : List ℕ) → old.reads ≡ Some bytes → (t : Title) (payloads : List (List ℕ)) (j : ℕ) → bytes ≡ journal t (take j payloads) 0 [] → at ≡ length (front t (take j payloads))
+  place_of bytes is t payloads j same =
+      let ends = known (λ b. (at < length b) × (b ≡ take at b ++ 0 ∷ [])) old.reads bytes is last in
+      at_end bytes (front t (take j payloads)) at ends.0 ends.1 same
+
+  pub body_put_leaves : LeavesAppended at body old mid
+  body_put_leaves = told old.reads (λ bytes is t payloads j below same spells.
+      first_put t payloads old mid bytes j at (length body) lawful quiet is below (place_of bytes is t payloads j same) same moment)
+
+  pub gate_opened_leaves : mid.reads ≡ option_map (λ b. written b (at + 1) body) old.reads → IfSome mid.reads (λ b. LeavesOnly mid new (Torn at 1 b)) → LeavesAppended at body old new
+  gate_opened_leaves maps opens = told old.reads (λ bytes is t payloads j below same spells.
+      let place = place_of bytes is t payloads j same in
+      let run = first_put t payloads old mid bytes j at (length body) lawful quiet is below place same moment in
+      second_put t payloads old mid new bytes j at run is below place same (subst (λ (p : List ℕ). mid.reads ≡ option_map (λ b. written b (at + 1) p) old.reads) spells maps) opens)

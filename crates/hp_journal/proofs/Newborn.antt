@@ -10,9 +10,9 @@ use Rattle.hp_outside.specs.Since.{Quiet, LeavesOnly}
 use Rattle.hp_outside.proofs.RunsOfCalls.{stays_on}
 use Rattle.hp_journal.specs.Head.{IsUnborn, is_unborn}
 use Rattle.hp_journal.specs.Layout.{Title, title_bytes, new_title, shared_title, magic, head_length, records, body_of, front, journal}
-use Rattle.hp_journal.specs.Mine.{Unborn, Grown, Mine, short, zero_byte, half_born, shut, half_open, unborn, born}
+use Rattle.hp_journal.specs.Mine.{Unborn, Grown, Mine, LeavesMine, short, zero_byte, half_born, shut, half_open, unborn, born}
 use Rattle.hp_journal.proofs.Bytes.{torn_byte, written_byte}
-use Rattle.hp_journal.proofs.Told.{begins, puts, cuts, mapped}
+use Rattle.hp_journal.proofs.Told.{told, known, begins, puts, cuts, mapped}
 
 title_length : (t : Title) → length t.digest ≡ 32 → length (title_bytes t) ≤ 52
 unfolding title_bytes
@@ -197,3 +197,64 @@ head_exact digest seed (Some b) is = omega (arith, length-append (shared_title 2
   where
     two : (n : ℕ) → length (to_be_bytes w16 n) ≡ 2
     two n = refl
+
+-- what each call leaves of a disk, whether it tells its bytes or not
+module _ (old mid new : Store) (lawful : Lawful old) (quiet : Quiet old) where
+  pub mark_read_leaves : Stays old mid → LeavesMine old mid
+  mark_read_leaves same = told old.reads (λ bytes is t payloads long mine. mark_read t payloads long old old bytes lawful quiet is mine mid same)
+
+  pub mark_put_leaves : Stays old mid → IfSome old.reads IsUnborn → (byte len : ℕ) → IfSome old.reads (λ b. byte ≡ get_or b 0 1) → IfSome old.reads (λ b. len ≡ length b) → (len ≤ 1) ⊎ (byte ≢ 0) → IfSome mid.reads (λ b. LeavesOnly mid new (Torn 0 1 b)) → LeavesMine old new
+  mark_put_leaves same not_born byte len reads ends why moment = told old.reads (λ bytes is t payloads long mine.
+      let first = known (λ b. byte ≡ get_or b 0 1) old.reads bytes is reads in
+      let size = known (λ b. len ≡ length b) old.reads bytes is ends in
+      let reason : (length bytes ≤ 1) ⊎ (get_or bytes 0 1 ≢ 0) = elim why [ inl few ↦ inl (omega (arith, size, few)) | inr set ↦ inr (λ none. set (first ∙ none)) ] in
+      mark_put t payloads long old new bytes lawful quiet is mine mid same (known IsUnborn old.reads bytes is not_born) reason moment)
+
+  pub tail_off_leaves : (most : ℕ) → 1 ≤ most → IfSome old.reads IsUnborn → LeavesMine old mid → mid.reads ≡ option_map (λ b. 0 ∷ drop 1 b) old.reads → IfSome mid.reads (λ b. LeavesOnly mid new (Cut most b)) → LeavesMine old new
+  tail_off_leaves most some not_born unmarked maps moment = told old.reads (λ bytes is t payloads long mine.
+      let run = known (λ b. (t : Title) (payloads : List (List ℕ)) → length t.digest ≡ 32 → Mine t payloads 0 b → LeavesOnly old mid (Mine t payloads 0)) old.reads bytes is unmarked t payloads long mine in
+      tail_off t payloads long old new bytes lawful quiet is mine mid most some (known IsUnborn old.reads bytes is not_born) run maps moment)
+
+-- a new head, once the disk is cleared for it
+abbrev pub LeavesBorn : Title → Store → Store → Type 0
+LeavesBorn t old new = IfSome old.reads (λ bytes. (payloads : List (List ℕ)) → Mine t payloads 0 bytes → LeavesOnly old new (Mine t payloads 0))
+
+module _ (digest : List ℕ) (seed : ℕ) (batch : Option ℕ) (long : length digest ≡ 32) (old cleared : Store) (clears : LeavesMine old cleared) where
+  pub clear_leaves : LeavesBorn (new_title digest seed batch) old cleared
+  clear_leaves = told old.reads (λ bytes is payloads mine.
+      known (λ b. (t : Title) (payloads : List (List ℕ)) → length t.digest ≡ 32 → Mine t payloads 0 b → LeavesOnly old cleared (Mine t payloads 0)) old.reads bytes is clears (new_title digest seed batch) payloads (title_digest digest seed batch long) mine)
+
+  module _ (lawful : Lawful old) (quiet : Quiet old) (head : List ℕ) (count : ℕ) (size : count ≡ head_length (new_title digest seed batch).version) (holds : take count head ≡ 0 ∷ title_bytes (new_title digest seed batch) ++ 0 ∷ []) (maps : cleared.reads ≡ option_map (λ b. take count (0 ∷ drop 1 b)) old.reads) (headed born : Store) where
+    some : 1 ≤ count
+    some = omega (arith, size, (head_size digest seed batch).0)
+
+    few : count ≤ 54
+    few = omega (arith, size, (head_size digest seed batch).1)
+
+    piece : take (count - 1) (drop 1 head) ≡ title_bytes (new_title digest seed batch) ++ 0 ∷ []
+    piece = behind_first head (title_bytes (new_title digest seed batch) ++ 0 ∷ []) count some holds
+
+    exact : 1 + length (title_bytes (new_title digest seed batch) ++ 0 ∷ []) ≡ count
+    exact = head_exact digest seed batch long ∙ sym size
+
+    pub head_put_leaves : IfSome cleared.reads (λ b. LeavesOnly cleared headed (Torn 1 (length (take (count - 1) (drop 1 head))) b)) → LeavesBorn (new_title digest seed batch) old headed
+    head_put_leaves moment = told old.reads (λ bytes is payloads mine.
+        let t = new_title digest seed batch in
+        let run = known (λ b. (payloads : List (List ℕ)) → Mine t payloads 0 b → LeavesOnly old cleared (Mine t payloads 0)) old.reads bytes is clear_leaves payloads mine in
+        let torn = subst (λ (p : List ℕ). IfSome cleared.reads (λ b. LeavesOnly cleared headed (Torn 1 (length p) b))) piece moment in
+        head_put t payloads (title_digest digest seed batch long) old headed bytes lawful quiet is mine cleared count (length (title_bytes t ++ 0 ∷ [])) some few (omega (arith, exact, few)) run maps torn)
+
+    head_reads : headed.reads ≡ option_map (λ b. written b 1 (take (count - 1) (drop 1 head))) cleared.reads → headed.reads ≡ option_map (λ b. written b 1 (title_bytes (new_title digest seed batch) ++ 0 ∷ [])) cleared.reads
+    head_reads put = subst (λ (p : List ℕ). headed.reads ≡ option_map (λ b. written b 1 p) cleared.reads) piece put
+
+    pub birth_put_leaves : IfSome cleared.reads (λ b. LeavesOnly cleared headed (Torn 1 (length (take (count - 1) (drop 1 head))) b)) → headed.reads ≡ option_map (λ b. written b 1 (take (count - 1) (drop 1 head))) cleared.reads → IfSome headed.reads (λ b. LeavesOnly headed born (Torn 0 1 b)) → LeavesBorn (new_title digest seed batch) old born
+    birth_put_leaves moment put births = told old.reads (λ bytes is payloads mine.
+        let t = new_title digest seed batch in
+        let run = known (λ b. (payloads : List (List ℕ)) → Mine t payloads 0 b → LeavesOnly old headed (Mine t payloads 0)) old.reads bytes is (head_put_leaves moment) payloads mine in
+        let reads = mapped cleared.reads headed.reads (λ b. written b 1 (title_bytes t ++ 0 ∷ [])) (take count (0 ∷ drop 1 bytes)) (mapped old.reads cleared.reads (λ b. take count (0 ∷ drop 1 b)) bytes is maps) (head_reads put) ∙ ap Some (headed_bytes t bytes count some exact) in
+        birth_put t payloads (title_digest digest seed batch long) old born bytes lawful quiet is mine headed run reads births)
+
+    pub birth_reads : headed.reads ≡ option_map (λ b. written b 1 (take (count - 1) (drop 1 head))) cleared.reads → born.reads ≡ option_map (λ b. written b 0 (1 ∷ [])) headed.reads → born.reads ≡ option_map (λ b. journal (new_title digest seed batch) [] 0 []) old.reads
+    birth_reads put birth =
+        let t = new_title digest seed batch in
+        map_thrice old.reads cleared.reads headed.reads born.reads (λ b. take count (0 ∷ drop 1 b)) (λ b. written b 1 (title_bytes t ++ 0 ∷ [])) (λ b. written b 0 (1 ∷ [])) (λ b. journal t [] 0 []) maps (head_reads put) birth (λ b. born_bytes t b count some exact)

@@ -1,5 +1,5 @@
 -- How a gate and the record behind it are read.
-use Rattle.std.specs.Prelude.{ℕ, ◌+◌, ◌-◌, ◌^◌, ◌==◌, nat_le, nat_lt, List, length, take, drop, get_or, Result, Ok, Err, if◌then◌else◌}
+use Rattle.std.specs.Prelude.{◌≢◌, ◌<◌, ℕ, ◌+◌, ◌-◌, ◌^◌, ◌==◌, nat_le, nat_lt, List, length, take, drop, get_or, Result, Ok, Err, if◌then◌else◌}
 use Rattle.std.specs.Int.{w32, from_be_bytes}
 use Rattle.hp_journal.specs.declared.gate.Gate.{Gate}
 use Rattle.hp_journal.specs.declared.gate.Gate.TheVariants.{Shut, Ajar}
@@ -14,6 +14,10 @@ gate_of bytes at =
     if nat_le (length bytes) at then Err (gates.Short at)
     else if get_or bytes at 1 == 1 then Ok Ajar
     else Ok (Shut (length bytes - (at + 1)))
+
+-- a gate that is not open stands at this place
+abbrev pub IsShutAt : ℕ → List ℕ → Type 0
+IsShutAt at bytes = (at < length bytes) × (get_or bytes at 1 ≢ 1)
 
 -- the payload's length that the record says whose gate stands at this place
 abbrev pub length_at : List ℕ → ℕ → ℕ

@@ -4,8 +4,8 @@ ghost use Rattle.std.specs.Option.{option_map};
 ghost use Rattle.hp_outside.specs.Causes.{HasCause};
 ghost use Rattle.hp_outside.specs.Since.{Quiet, LeavesOnly};
 ghost use Rattle.hp_journal.specs.Head.{IsUnborn};
-ghost use Rattle.hp_journal.specs.Layout.{Title, title_bytes, head_length, journal, new_title, shared_title};
-ghost use Rattle.hp_journal.specs.Mine.{Mine};
+ghost use Rattle.hp_journal.specs.Layout.{title_bytes, head_length, journal, new_title, shared_title};
+ghost use Rattle.hp_journal.specs.Mine.{Mine, LeavesMine};
 
 use crate::gate::byte_at;
 use crate::head::MAGIC;
@@ -47,9 +47,7 @@ fn clear<D: Disk>(disk: &mut D, most: usize) -> Result<(), Failed>
     requires some { (1 ≤ most) × (most ≤ 54) }
     requires unborn { IfSome (D.store disk.old).reads IsUnborn }
     requires quiet { Quiet (D.store disk.old) }
-    ensures any_moment { IfSome (D.store disk.old).reads (λ bytes.
-        (t : Title) (payloads : List (List ℕ)) → length t.digest ≡ 32 → Mine t payloads 0 bytes
-        → LeavesOnly (D.store disk.old) (D.store disk.new) (Mine t payloads 0)) }
+    ensures any_moment { LeavesMine (D.store disk.old) (D.store disk.new) }
     ensures reads { OnOk result ((D.store disk.new).reads
         ≡ option_map (λ bytes. take most (0 ∷ drop 1 bytes)) (D.store disk.old).reads) }
     ensures quiet { OnOk result (Quiet (D.store disk.new)) }
@@ -67,9 +65,7 @@ fn clear<D: Disk>(disk: &mut D, most: usize) -> Result<(), Failed>
 fn unmark<D: Disk>(disk: &mut D) -> Result<u64, Failed>
     requires unborn { IfSome (D.store disk.old).reads IsUnborn }
     requires quiet { Quiet (D.store disk.old) }
-    ensures any_moment { IfSome (D.store disk.old).reads (λ bytes.
-        (t : Title) (payloads : List (List ℕ)) → length t.digest ≡ 32 → Mine t payloads 0 bytes
-        → LeavesOnly (D.store disk.old) (D.store disk.new) (Mine t payloads 0)) }
+    ensures any_moment { LeavesMine (D.store disk.old) (D.store disk.new) }
     ensures reads { OnOk result ((D.store disk.new).reads
         ≡ option_map (λ bytes. 0 ∷ drop 1 bytes) (D.store disk.old).reads) }
     ensures length { IfOk result (λ len. IfSome (D.store disk.old).reads (λ bytes. len ≡ length bytes)) }

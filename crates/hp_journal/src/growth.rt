@@ -1,11 +1,12 @@
 // How a journal's end is repaired, and how it grows by a record.
-ghost use Rattle.std.specs.Prelude.{◌≡◌, ◌≢◌, ◌≤◌, ◌<◌, ◌+◌, ◌^◌, ◌++◌, ℕ, List, [], ◌∷◌, length, take, get_or, is_some, IfOk, IfSome, OnOk};
+ghost use Rattle.std.specs.Prelude.{◌≡◌, ◌≤◌, ◌<◌, ◌+◌, ◌^◌, ◌++◌, ℕ, List, [], ◌∷◌, length, take, get_or, is_some, IfOk, IfSome, OnOk};
 ghost use Rattle.std.specs.Option.{option_map};
 ghost use Rattle.hp_outside.specs.Causes.{HasCause};
 ghost use Rattle.hp_outside.specs.Disks.{written};
 ghost use Rattle.hp_outside.specs.Since.{Quiet, LeavesOnly};
-ghost use Rattle.hp_journal.specs.Layout.{Title, front, body_of, journal, IsBody};
-ghost use Rattle.hp_journal.specs.Mine.{Grown, GrownFrom};
+ghost use Rattle.hp_journal.specs.Gates.{IsShutAt};
+ghost use Rattle.hp_journal.specs.Layout.{Title, body_of, journal, IsBody};
+ghost use Rattle.hp_journal.specs.Mine.{GrownFrom, LeavesGrown};
 
 use crate::gate::byte_at;
 use crate::writing::{cut_to, put};
@@ -15,14 +16,11 @@ use hp_outside::{Disk, Failed};
 /// behind it is cut off. `Failed` comes only where the disk's count of faults rose. It takes no memory.
 pub fn recover<D: Disk>(disk: &mut D, at: u64) -> Result<(), Failed>
     requires near { at ≤ 2 ^ 40 }
-    requires shut { IfSome (D.store disk.old).reads (λ bytes. (at < length bytes) × (get_or bytes at 1 ≢ 1)) }
+    requires shut { IfSome (D.store disk.old).reads (IsShutAt at) }
     requires quiet { Quiet (D.store disk.old) }
 
     // A crash at any moment leaves a journal of the same records, or with the one whose gate was half open.
-    ensures any_moment { IfSome (D.store disk.old).reads (λ bytes.
-        (t : Title) (payloads : List (List ℕ)) (j : ℕ)
-        → at ≡ length (front t (take j payloads)) → Grown t payloads j bytes
-        → LeavesOnly (D.store disk.old) (D.store disk.new) (GrownFrom t payloads j)) }
+    ensures any_moment { LeavesGrown at (D.store disk.old) (D.store disk.new) }
     ensures reads { OnOk result ((D.store disk.new).reads
         ≡ option_map (λ bytes. take at bytes ++ 0 ∷ []) (D.store disk.old).reads) }
     ensures quiet { OnOk result (Quiet (D.store disk.new)) }
@@ -39,12 +37,9 @@ pub fn recover<D: Disk>(disk: &mut D, at: u64) -> Result<(), Failed>
 // Makes the byte of the gate 0 where it is not, and answers the length that the disk had.
 fn shut_gate<D: Disk>(disk: &mut D, at: u64) -> Result<u64, Failed>
     requires near { at ≤ 2 ^ 40 }
-    requires shut { IfSome (D.store disk.old).reads (λ bytes. (at < length bytes) × (get_or bytes at 1 ≢ 1)) }
+    requires shut { IfSome (D.store disk.old).reads (IsShutAt at) }
     requires quiet { Quiet (D.store disk.old) }
-    ensures any_moment { IfSome (D.store disk.old).reads (λ bytes.
-        (t : Title) (payloads : List (List ℕ)) (j : ℕ)
-        → at ≡ length (front t (take j payloads)) → Grown t payloads j bytes
-        → LeavesOnly (D.store disk.old) (D.store disk.new) (GrownFrom t payloads j)) }
+    ensures any_moment { LeavesGrown at (D.store disk.old) (D.store disk.new) }
     ensures reads { OnOk result ((D.store disk.new).reads
         ≡ option_map (λ bytes. written bytes at (0 ∷ [])) (D.store disk.old).reads) }
     ensures length { IfOk result (λ len. IfSome (D.store disk.old).reads (λ bytes. len ≡ length bytes)) }
