@@ -11,6 +11,7 @@ use Rattle.std.proofs.lemmas.Slice.Eq.{bytes_eq-Decides}
 use Rattle.hp_graph.proofs.Listed.{any_member, place_of}
 use Rattle.hp_graph.proofs.Enclosing.{at_most_each, holds_incoming, end_comes_in, start_comes_in}
 use Rattle.hp_graph.proofs.Small.{sides_numbers}
+use Rattle.hp_graph.proofs.Given.{bounds_stand-sides}
 use Rattle.hp_problem.proofs.SealedFacts.{known_graph, known_root, few_nodes, few_states}
 use Rattle.hp_paths.proofs.Paths.{leads_to}
 use Rattle.hp_paths.specs.Paths.{links_at}
@@ -25,7 +26,7 @@ use Rattle.hp_problem.specs.declared.raw.Raw.{Raw}
 use Rattle.hp_problem.specs.declared.raw.Node.{Node}
 use Rattle.hp_problem.specs.declared.refusal.Refusal.{Refusal}
 use Rattle.hp_problem.specs.Limits.{are_numbers, raw_fits}
-use Rattle.hp_problem.specs.Sealed.{Sealed, is_sealed, graph_of, graph_fits, boxes_fit, holds_box, lows_from, highs_from, leaves_inside, initial_values, at_most}
+use Rattle.hp_problem.specs.Sealed.{Sealed, is_sealed, graph_of, graph_fits, boxes_fit, holds_box, lows_from, highs_from, leaves_inside, initial_values, at_most, bounds_stand}
 use Rattle.hp_graph.specs.declared.side.Side.{Side}
 use Rattle.hp_graph.specs.declared.side.Side.TheVariants.{Low, High}
 use Rattle.hp_graph.specs.Hull.{ends, end_at, incoming, given, hull, first_gap, side_of, sides}
@@ -147,8 +148,9 @@ boxes_fit-sides raw f none =
     (both _ (list_all (leaves_inside raw (sides Low raw) (sides High raw)) raw.nodes)
     (both _ (list_all (are_numbers (length raw.states)) (sides High raw))
     (both _ (list_all (are_numbers (length raw.states)) (sides Low raw))
-    (both (length (sides Low raw) == length raw.nodes) (length (sides High raw) == length raw.nodes)
-    (same_number (length (sides Low raw)) (length raw.nodes) (length-map-range_with_len (side_of Low raw) 0 (length raw.nodes)))
+    (both _ (length (sides High raw) == length raw.nodes)
+    (both (bounds_stand raw (sides Low raw) (sides High raw)) (length (sides Low raw) == length raw.nodes) (bounds_stand-sides raw)
+    (same_number (length (sides Low raw)) (length raw.nodes) (length-map-range_with_len (side_of Low raw) 0 (length raw.nodes))))
     (same_number (length (sides High raw)) (length raw.nodes) (length-map-range_with_len (side_of High raw) 0 (length raw.nodes))))
     (sides_numbers Low raw f)) (sides_numbers High raw f))
     (all_members (leaves_inside raw (sides Low raw) (sides High raw)) raw.nodes (λ n c. all_members (holds_box (sides Low raw) (sides High raw) (lows_from raw n) (highs_from raw n)) n.links (λ m d. link_inside raw c.0 m n none (place_of raw.nodes n c) d (link_known raw c.0 m n f (place_of raw.nodes n c) d)))))

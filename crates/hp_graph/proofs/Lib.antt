@@ -4,3 +4,4 @@ pub mod Listed
 pub mod Outside
 pub mod Small
 pub mod Tables
+pub mod Given

@@ -13,7 +13,7 @@ use Rattle.hp_paths.specs.declared.depth_first.Mark.TheVariants.{Unseen}
 use Rattle.hp_paths.proofs.RankTable.{map_same, ranks_below}
 use Rattle.hp_paths.proofs.Reached.{Reaches-reached}
 
-greatest_over : (f : ℕ → ℕ) (ks : List ℕ) (k : ℕ) → Contains ks k → f k ≤ greatest (map f ks)
+pub greatest_over : (f : ℕ → ℕ) (ks : List ℕ) (k : ℕ) → Contains ks k → f k ≤ greatest (map f ks)
 greatest_over f [] k c = absurd (omega (arith, c.1))
 greatest_over f (i ∷ ks) k (zero, l, e) = omega (arith, ap f e)
 greatest_over f (i ∷ ks) k (suc n, l, e) = omega (arith, greatest_over f ks k (n, omega arith, e))

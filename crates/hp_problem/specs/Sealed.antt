@@ -1,6 +1,7 @@
 -- A problem as contracts see it: its parts, and what was found out about its graph.
-use Rattle.std.specs.Prelude.{◌≡◌, ℕ, ℤ, Bool, true, false, ◌&&◌, ◌==◌, List, [], ◌∷◌, length, map, Option, Result, Ok, Err, int_le, get_or, slice_get, option_and_then, is_none}
-use Rattle.std.specs.List.{list_all}
+use Rattle.std.specs.Prelude.{◌≡◌, ℕ, ℤ, Bool, true, false, ◌&&◌, ◌==◌, List, [], ◌∷◌, length, map, Option, Some, None, Result, Ok, Err, int_le, get_or, slice_get, option_and_then, is_none}
+use Rattle.std.specs.List.{list_all, zip}
+use Rattle.std.specs.Ordering.{int_eq}
 use lib.Pointwise.{pointwise}
 use Rattle.std.specs.Bool.{nat_eq}
 use Rattle.hp_num.specs.Sums.{entry}
@@ -14,6 +15,7 @@ use Rattle.hp_problem.specs.declared.raw.Raw.{Raw}
 use Rattle.hp_problem.specs.declared.sealed.SealFault.{SealFault}
 use Rattle.hp_problem.specs.declared.sealed.SealFault.TheVariants.{NotRaw, Memory}
 use Rattle.hp_problem.specs.Limits.{are_numbers, raw_fits}
+use Rattle.hp_problem.specs.Parts.{own_subproblem}
 pub use Rattle.hp_problem.specs.Parts.{graph_of}
 
 pub record Sealed : Type 0 where
@@ -68,10 +70,34 @@ holds_box lo hi lows highs m = at_most (get_or lo m []) lows && at_most highs (g
 abbrev pub leaves_inside : Raw → List (List ℤ) → List (List ℤ) → Node → Bool
 leaves_inside raw lo hi n = list_all (holds_box lo hi (lows_from raw n) (highs_from raw n)) n.links
 
--- one box per node with one small entry per state; what leaves a node lies in the boxes of its successors, and the initial values lie in those of the root's
+-- a bound, where one is given, is the side
+abbrev pub is_given : Option ℤ → ℤ → Bool
+is_given None side = true
+is_given (Some bound) side = int_eq bound side
+
+-- each bound that is given is the side beside it
+abbrev pub are_given : List (Option ℤ) → List ℤ → Bool
+are_given bounds sides = list_all (λ (p : Option ℤ × ℤ). is_given p.0 p.1) (zip bounds sides)
+
+-- the bounds that are given for the incoming states of a subproblem
+abbrev pub given_lows : Option Subproblem → List (Option ℤ)
+given_lows None = []
+given_lows (Some s) = s.low
+
+abbrev pub given_highs : Option Subproblem → List (Option ℤ)
+given_highs None = []
+given_highs (Some s) = s.high
+
+-- the given bounds are sides of the boxes
+unfoldable pub bounds_stand : Raw → List (List ℤ) → List (List ℤ) → Bool
+bounds_stand raw lo hi =
+    list_all (λ (p : Node × List ℤ). are_given (given_lows (own_subproblem raw p.0)) p.1) (zip raw.nodes lo)
+    && list_all (λ (p : Node × List ℤ). are_given (given_highs (own_subproblem raw p.0)) p.1) (zip raw.nodes hi)
+
+-- one box per node with one small entry per state, with the given bounds as its sides; what leaves a node lies in the boxes of its successors, and the initial values lie in those of the root's
 unfoldable pub boxes_fit : Raw → List (List ℤ) → List (List ℤ) → Bool
 boxes_fit raw lo hi =
-    (length lo == length raw.nodes) && (length hi == length raw.nodes)
+    bounds_stand raw lo hi && (length lo == length raw.nodes) && (length hi == length raw.nodes)
     && list_all (are_numbers (length raw.states)) lo && list_all (are_numbers (length raw.states)) hi
     && list_all (leaves_inside raw lo hi) raw.nodes && list_all (holds_box lo hi (initial_values raw) (initial_values raw)) raw.root
 

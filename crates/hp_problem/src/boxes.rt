@@ -3,7 +3,8 @@ ghost use Rattle.std.specs.Prelude.{◌≡◌, ◌&&◌, ◌==◌, ◌<◌, [], 
 ghost use Rattle.std.specs.List.{list_all, zip};
 ghost use Rattle.hp_num.specs.Sums.{entry};
 ghost use Rattle.hp_problem.specs.Limits.{are_numbers};
-ghost use Rattle.hp_problem.specs.Sealed.{at_most, boxes_fit, holds_box, initial_values, leaves_inside, out_highs, out_lows};
+ghost use Rattle.hp_problem.specs.Sealed.{are_given, at_most, bounds_stand, boxes_fit, given_highs, given_lows, holds_box, initial_values, is_given, leaves_inside, out_highs, out_lows};
+ghost use Rattle.hp_problem.specs.Parts.{own_subproblem};
 
 use crate::limits::all_numbers;
 use crate::raw::{Decision, Node, Raw, Subproblem};
@@ -148,6 +149,62 @@ fn all_leave_inside(
         .all(|node| leaves_inside(node, lo, hi, lows, highs))
 }
 
+fn is_given(bound: Option<i64>, side: i64) -> bool
+    ensures { result ≡ is_given bound side }
+{
+    match bound {
+        Some(bound) => bound == side,
+        None => true,
+    }
+}
+
+fn are_given(bounds: &[Option<i64>], sides: &[i64]) -> bool
+    ensures { result ≡ are_given bounds.now sides.now }
+{
+    bounds
+        .iter()
+        .zip(sides)
+        .all(|(bound, side)| is_given(*bound, *side))
+}
+
+fn given_lows<'a>(raw: &'a Raw, node: &Node) -> &'a [Option<i64>]
+    ensures { result.now ≡ given_lows (own_subproblem raw.now node.now) }
+{
+    match raw.subs.as_slice().get(node.sub as usize) {
+        Some(subproblem) => subproblem.low.as_slice(),
+        None => &[],
+    }
+}
+
+fn given_highs<'a>(raw: &'a Raw, node: &Node) -> &'a [Option<i64>]
+    ensures { result.now ≡ given_highs (own_subproblem raw.now node.now) }
+{
+    match raw.subs.as_slice().get(node.sub as usize) {
+        Some(subproblem) => subproblem.high.as_slice(),
+        None => &[],
+    }
+}
+
+fn lows_stand(nodes: &[Node], lo: &[List<i64>], raw: &Raw) -> bool
+    ensures { result ≡ list_all (λ p. are_given (given_lows (own_subproblem raw.now p.0)) p.1) (zip nodes.now lo.now) }
+{
+    nodes.iter().zip(lo).all(|(node, sides)| are_given(given_lows(raw, node), sides.as_slice()))
+}
+
+fn highs_stand(nodes: &[Node], hi: &[List<i64>], raw: &Raw) -> bool
+    ensures { result ≡ list_all (λ p. are_given (given_highs (own_subproblem raw.now p.0)) p.1) (zip nodes.now hi.now) }
+{
+    nodes.iter().zip(hi).all(|(node, sides)| are_given(given_highs(raw, node), sides.as_slice()))
+}
+
+// Whether the bounds that are given for incoming states are the sides of the boxes.
+#[tactic(auto, unfolding(crate::specs::Sealed::bounds_stand))]
+fn bounds_stand(raw: &Raw, lo: &[List<i64>], hi: &[List<i64>]) -> bool
+    ensures { result ≡ bounds_stand raw.now lo.now hi.now }
+{
+    lows_stand(raw.nodes.as_slice(), lo, raw) && highs_stand(raw.nodes.as_slice(), hi, raw)
+}
+
 fn are_boxes(sides: &[List<i64>], nodes: usize, states: usize) -> bool
     ensures { result ≡ ((length sides.now == nodes) && list_all (are_numbers states) sides.now) }
 {
@@ -173,8 +230,8 @@ fn all_outs_inside(
     ))
 }
 
-/// Whether there is one box per node with one small entry per state, what leaves a node lies in the boxes of its
-/// successors, and the initial values lie in those of the root's.
+/// Whether there is one box per node with one small entry per state, the given bounds of incoming states are its sides,
+/// what leaves a node lies in the boxes of its successors, and the initial values lie in those of the root's.
 #[tactic(auto, unfolding(crate::specs::Sealed::boxes_fit))]
 pub(crate) fn boxes_fit(
     alloc: Global,
@@ -188,6 +245,9 @@ pub(crate) fn boxes_fit(
 {
     let nodes = raw.nodes.len();
     let states = raw.states.len();
+    if !bounds_stand(raw, lo, hi) {
+        return Ok(false);
+    }
     if !are_boxes(lo, nodes, states) || !are_boxes(hi, nodes, states) {
         return Ok(false);
     }
