@@ -10,17 +10,14 @@ ghost use Rattle.hp_theory.specs.View.{problem_of};
 ghost use Rattle.hp_dual.specs.declared.base_pools.BaseFault.TheVariants as faults;
 ghost use Rattle.hp_dual.specs.Bases.{certificate_of, realization_of, InRange, GivesCut, AddsCut, Bases};
 
-use crate::checker::accept;
+use crate::acceptance::checker::accept;
+use crate::cut_making::make::make_into;
 use crate::fault::CertFault;
-use crate::make::make_into;
 use hp_cut::{Cut, Pools};
 use hp_num::{List, Memory};
 use hp_problem::{Node, Problem, Row, Subproblem};
-use hp_theory::Certificate;
+use hp_theory::{Certificate, SCALE};
 use std::alloc::Global;
-
-/// The scale of multipliers.
-const SCALE: u64 = 1 << 24;
 
 /// Why there are no base cuts.
 #[derive(Clone, Copy, Debug, PartialEq, Eq)]
@@ -56,7 +53,7 @@ fn first_cut(alloc: Global, weight: u32) -> Result<List<(u32, u64)>, Memory>
     ensures { IfOk result (λ pairs. pairs ≡ (0, S * weight) ∷ []) }
 {
     let mut pairs = List::new(alloc);
-    pairs.push((0, SCALE * u64::from(weight)))?;
+    pairs.push((0, u64::from(SCALE) * u64::from(weight)))?;
     Ok(pairs)
 }
 

@@ -1,21 +1,16 @@
 //! Cuts from certificates, in exact 128-bit arithmetic.
 #![tactic(auto)]
 
+pub mod acceptance;
 pub mod base_pools;
-mod certificate_size;
-pub mod checker;
-mod constants;
-mod divided;
+pub mod cut_making;
 pub mod fault;
-pub mod make;
-mod reduced;
+mod node_at;
+mod row_side;
 mod scales;
-mod slopes;
-mod sums;
-mod walk;
-mod wrapping;
+mod size;
 
+pub use acceptance::checker::{accept, accept_with};
 pub use base_pools::{BaseFault, base};
-pub use checker::{accept, accept_with};
+pub use cut_making::make::{make_into, make_with};
 pub use fault::CertFault;
-pub use make::{make_into, make_with};

@@ -5,8 +5,8 @@ ghost use Rattle.hp_theory.specs.View.{links_of};
 
 use hp_problem::Node;
 
-/// The scale of cuts, S.
-pub(crate) const SCALE: i128 = 1 << 24;
+/// The scale of cuts and multipliers, S.
+pub(crate) const SCALE: i128 = hp_theory::SCALE as i128;
 
 /// The total of the weights.
 fn total(weights: &[u32]) -> u64

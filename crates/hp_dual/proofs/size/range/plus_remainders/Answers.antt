@@ -1,0 +1,22 @@
+use Rattle.std.proofs.Common.{ℕ, ◌≡◌, ◌≤◌, ◌^◌, ◌+◌, ◌*◌, nat_abs, pos, get_or, SFits, w64, rules, ap, ap₂, ◌∙◌, subst, length}
+use Rattle.std.proofs.lemmas.Int.{to_z-of_z}
+use Rattle.hp_num.specs.Sums.{entry}
+use Rattle.hp_theory.specs.CutOf.{remainder}
+use Rattle.hp_dual.specs.Sized.{unboxed}
+use Rattle.hp_dual.proofs.Amounts.{counts_more, counts_past}
+use Rattle.hp_dual.proofs.size.range.plus_remainders.Goals as goal
+
+pub returns-in_err-sum : goal.returns-in_err-sum
+returns-in_err-sum c =
+    let f : ℕ → ℕ = λ k. nat_abs (remainder (unboxed c.args.here.now.weights.now c.args.here.now.node.now c.args.here.now.subproblem.now) c.args.list.now k) * nat_abs (entry c.args.here.now.low.now k) in
+    let fits : SFits w64 (get_or c.args.here.now.low.now c.loop-k.k (pos 0)) = search rules in
+    let is : c.remainder-remainder.result * c.absolute.result ≡ f c.loop-k.k = ap₂ ◌*◌ c.remainder-remainder.ensures (c.absolute.ensures ∙ ap nat_abs (to_z-of_z w64 _ fits)) in
+    rw c.from_residual.ensures
+    (counts_past f c.loop-k.k c.args.size.total c.loop-k.sum.total c.loop-k.invariant (length c.args.here.now.low.now) c.loop-k-test.true (subst (λ (z : ℕ). 2 ^ 127 ≤ c.loop-k.sum.total + z) is c.in_err-sum.ensures))
+
+pub loop-k-preserved : goal.loop-k-preserved
+loop-k-preserved c =
+    let f : ℕ → ℕ = λ k. nat_abs (remainder (unboxed c.args.here.now.weights.now c.args.here.now.node.now c.args.here.now.subproblem.now) c.args.list.now k) * nat_abs (entry c.args.here.now.low.now k) in
+    let fits : SFits w64 (get_or c.args.here.now.low.now c.loop-k.k (pos 0)) = search rules in
+    let is : c.remainder-remainder.result * c.absolute.result ≡ f c.loop-k.k = ap₂ ◌*◌ c.remainder-remainder.ensures (c.absolute.ensures ∙ ap nat_abs (to_z-of_z w64 _ fits)) in
+    counts_more f c.loop-k.k c.args.size.total c.loop-k.sum.total c.loop-k.invariant c.in_ok-sum.sum.total (c.in_ok-sum.ensures ∙ ap (λ (z : ℕ). c.loop-k.sum.total + z) is)

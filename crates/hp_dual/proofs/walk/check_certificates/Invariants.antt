@@ -1,6 +1,0 @@
-use Rattle.std.proofs.Common.{◌≡◌, drop}
-use Rattle.hp_dual.specs.Acceptance.{certificates_fault}
-use Rattle.hp_dual.proofs.walk.check_certificates.Given as goal
-
-abbrev pub invariant-loop-r : goal.invariant-loop-r
-invariant-loop-r g l = certificates_fault l.pools.lists g.n l.r (drop l.r l.list) ≡ certificates_fault l.pools.lists g.n 0 l.list

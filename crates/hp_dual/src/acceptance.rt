@@ -1,0 +1,3 @@
+//! Whether a list of certificates is accepted at a node: shapes, signs, places, sums, then the size.
+pub mod checker;
+mod walk;

@@ -1,0 +1,114 @@
+// The checker: whether a list of certificates is accepted at a node.
+ghost use Rattle.std.specs.Prelude.{◌≡◌, ◌<◌, ◌≤◌, ◌-◌, ◌^◌, pos, ◌≤ℤ◌, List, None, length, All, sum};
+ghost use Rattle.hp_theory.specs.Problem as problems;
+ghost use Rattle.hp_theory.specs.Problem.{node_at, with_weights};
+ghost use Rattle.hp_theory.specs.View.{node_of, problem_of};
+ghost use Rattle.hp_theory.specs.declared.cut.Cut.{Cut};
+ghost use Rattle.hp_theory.specs.declared.cut.Certificate.{Certificate};
+ghost use Rattle.hp_theory.specs.Pools.{pool};
+ghost use Rattle.hp_theory.specs.Certificates.{Right};
+ghost use Rattle.hp_theory.specs.CutOf.{divisor};
+ghost use Rattle.hp_theory.specs.Size.{size_of};
+ghost use Rattle.hp_theory.specs.Base.{base_list};
+ghost use Rattle.hp_theory.specs.Fit.{FitFor};
+ghost use Rattle.hp_dual.specs.Sized.{Sized};
+ghost use Rattle.hp_dual.specs.Acceptance.{range_fault, fault_of, Accepts};
+
+use super::walk::{check_certificates, check_count};
+use crate::fault::CertFault;
+use crate::node_at::NodeAt;
+use crate::size::range_with;
+use hp_cut::Pools;
+use hp_problem::Problem;
+use hp_theory::Certificate;
+
+/// The size stays in range.
+fn check_range(here: &NodeAt, list: &[Certificate]) -> Result<(), CertFault>
+    requires sized { Sized here.now.pools.now.lists here.now.node.now here.now.subproblem.now here.now.low.now here.now.weights.now }
+    requires list { length list.now ≡ length here.now.weights.now }
+    ensures { Accepts result (range_fault here.now.pools.now.lists (with_weights here.now.weights.now (node_of here.now.node.now here.now.subproblem.now here.now.low.now here.now.high.now)) list.now) }
+{
+    match range_with(here, list) {
+        None => Ok(()),
+        Some(r) => Err(CertFault::Range {
+            realization: r as u32,
+        }),
+    }
+}
+
+/// The first fault over the parts of a node.
+fn check(here: &NodeAt, list: &[Certificate]) -> Result<(), CertFault>
+    ghost n: { problems.Node }
+    requires is { n ≡ with_weights here.now.weights.now (node_of here.now.node.now here.now.subproblem.now here.now.low.now here.now.high.now) }
+    requires sized { Sized here.now.pools.now.lists here.now.node.now here.now.subproblem.now here.now.low.now here.now.weights.now }
+    ensures { Accepts result (fault_of here.now.pools.now.lists n list.now) }
+{
+    check_count(
+        here.weights.len(),
+        here.subproblem.rows.len(),
+        here.node.links.len(),
+        list,
+    )?;
+    check_certificates(here, list)?;
+    check_range(here, list)
+}
+
+/// Whether a list of certificates is accepted at a node, with its realizations' own weights: Ok, or the first fault.
+///
+/// The list has one certificate per realization. No memory is taken.
+pub fn accept(
+    problem: &Problem,
+    pools: &Pools,
+    node: u32,
+    list: &[Certificate],
+) -> Result<(), CertFault>
+    requires known { node < length problem.now.raw.nodes }
+    requires fit { FitFor (problem_of problem.now) (length problem.now.raw.nodes) pools.now.lists node }
+    ensures { Accepts result (fault_of pools.now.lists (node_at (problem_of problem.now) node) list.now) }
+{
+    let own = &problem.raw().nodes.as_slice()[node as usize];
+    accept_with(problem, pools, node, own.weights.as_slice(), list)
+}
+
+/// The same with given weights in place of the realizations' own: one weight per realization, each at least 1, of at
+/// most 65,535 together.
+pub fn accept_with(
+    problem: &Problem,
+    pools: &Pools,
+    node: u32,
+    weights: &[u32],
+    list: &[Certificate],
+) -> Result<(), CertFault>
+    requires known { node < length problem.now.raw.nodes }
+    requires fit { FitFor (problem_of problem.now) (length problem.now.raw.nodes) pools.now.lists node }
+    requires count { length weights.now ≡ length (node_at (problem_of problem.now) node).realizations }
+    requires positive { All (λ w. 1 ≤ w) weights.now }
+    requires total { sum weights.now ≤ 65535 }
+    ensures { Accepts result (fault_of pools.now.lists (with_weights weights.now (node_at (problem_of problem.now) node)) list.now) }
+{
+    let own = &problem.raw().nodes.as_slice()[node as usize];
+    let here = NodeAt {
+        node: own,
+        subproblem: problem.sub(node),
+        low: problem.lo(node),
+        high: problem.hi(node),
+        weights,
+        pools,
+    };
+    check(&here, list)
+}
+
+/// What acceptance means: an accepted list is right and its size is in range, and such a list is accepted. The base
+/// certificates of a node whose successors have cuts are accepted, unless their size passes its range.
+pub fn acceptance()
+    ensures right { (pools : List (List Cut)) (n : problems.Node) (list : List Certificate)
+        → fault_of pools n list ≡ None → Right pools n list }
+    ensures size { (pools : List (List Cut)) (n : problems.Node) (list : List Certificate)
+        → fault_of pools n list ≡ None → size_of pools n list ≤ℤ pos (2 ^ 127 - 1) }
+    ensures accepted { (pools : List (List Cut)) (n : problems.Node) (list : List Certificate)
+        → 0 < divisor n → Right pools n list → size_of pools n list ≤ℤ pos (2 ^ 127 - 1)
+        → fault_of pools n list ≡ None }
+    ensures base { (pools : List (List Cut)) (n : problems.Node)
+        → All (λ (l : problems.Link). (0 < l.weight) × (0 < length (pool pools l.node))) n.links
+        → fault_of pools n (base_list n) ≡ range_fault pools n (base_list n) }
+{}

@@ -1,0 +1,8 @@
+// The size of a list of certificates: the sum of absolute values, before any cancellation, that acceptance bounds.
+mod cuts;
+mod range;
+mod rows;
+mod stages;
+mod terms;
+
+pub(crate) use range::range_with;

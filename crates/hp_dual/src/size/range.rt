@@ -1,0 +1,94 @@
+// The size of a list of certificates, and where it passes its range.
+ghost use Rattle.std.specs.Prelude.{◌≡◌, ◌-◌, ◌^◌, ◌<◌, ℕ, ℤ, pos, ◌-ℤ◌, ◌*ℤ◌, ◌≤ℤ◌, List, length, nat_abs, zip, MatchResult};
+ghost use Rattle.std.specs.List.{sum_by};
+ghost use Rattle.hp_num.specs.Sums.{floor_over};
+ghost use Rattle.hp_theory.specs.declared.cut.Cut.{Cut};
+ghost use Rattle.hp_theory.specs.Problem.{with_weights};
+ghost use Rattle.hp_theory.specs.View.{node_of};
+ghost use Rattle.hp_theory.specs.CutOf.{remainder};
+ghost use Rattle.hp_theory.specs.Range.{range_of};
+ghost use Rattle.hp_dual.specs.Parts.{slope_size};
+ghost use Rattle.hp_dual.specs.Sized.{Sized, Passes, unboxed, remainders_amount};
+ghost use Rattle.hp_dual.specs.SizeByTerms.{Adds, weighted_amount};
+
+use super::stages::realization_size;
+use super::terms::{absolute, plus_scaled};
+use crate::cut_making::slope_sum;
+use crate::node_at::NodeAt;
+use crate::scales::divisor;
+use hp_num::Size;
+use hp_theory::Certificate;
+
+/// The sizes of all realizations by their weights, or the first that brings the sum above 2^127 - 1.
+fn realizations_size(here: &NodeAt, list: &[Certificate]) -> Result<Size, usize>
+    requires sized { Sized here.now.pools.now.lists here.now.node.now here.now.subproblem.now here.now.low.now here.now.weights.now }
+    requires list { length list.now ≡ length here.now.weights.now }
+    ensures { MatchResult result
+        (λ size. size.total ≡ sum_by (weighted_amount here.now.node.now here.now.subproblem.now here.now.low.now here.now.high.now here.now.pools.now.lists) (zip here.now.weights.now (zip here.now.node.now.values list.now)))
+        (Passes (weighted_amount here.now.node.now here.now.subproblem.now here.now.low.now here.now.high.now here.now.pools.now.lists) (zip here.now.weights.now (zip here.now.node.now.values list.now))) }
+{
+    let values = here.node.values.as_slice();
+    let mut size = Size::zero();
+    for r in 0..here.weights.len() {
+        let inner = realization_size(here, values[r].as_slice(), &list[r]);
+        let Some(sum) = plus_scaled(size, u128::from(here.weights[r]), inner) else {
+            return Err(r);
+        };
+        size = sum;
+    }
+    Ok(size)
+}
+
+/// What is left of a number beside a multiple of a positive divisor.
+fn rest(a: i128, d: i128) -> u128
+    requires { pos 1 ≤ℤ d }
+    ensures { result ≡ nat_abs (a -ℤ pos (nat_abs d) *ℤ floor_over a (nat_abs d)) }
+{
+    a.rem_euclid(d).unsigned_abs()
+}
+
+/// r_k: the remainder of a slope.
+fn remainder(here: &NodeAt, list: &[Certificate], state: usize) -> u128
+    requires sized { (low : List ℤ) × (pools : List (List Cut)) × Sized pools here.now.node.now here.now.subproblem.now low here.now.weights.now }
+    requires list { length list.now ≡ length here.now.weights.now }
+    requires state { state < length here.now.subproblem.now.state_costs }
+    requires size { slope_size (unboxed here.now.weights.now here.now.node.now here.now.subproblem.now) list.now state ≤ℤ pos (2 ^ 127 - 1) }
+    ensures { result ≡ nat_abs (remainder (unboxed here.now.weights.now here.now.node.now here.now.subproblem.now) list.now state) }
+{
+    rest(
+        slope_sum(here, list, state),
+        divisor(here.node, here.weights),
+    )
+}
+
+/// The remainders of the slopes at the lower ends of the box.
+fn plus_remainders(size: Size, here: &NodeAt, list: &[Certificate]) -> Option<Size>
+    requires sized { (pools : List (List Cut)) × Sized pools here.now.node.now here.now.subproblem.now here.now.low.now here.now.weights.now }
+    requires list { length list.now ≡ length here.now.weights.now }
+    requires size { (k : ℕ) → k < length here.now.low.now → slope_size (unboxed here.now.weights.now here.now.node.now here.now.subproblem.now) list.now k ≤ℤ pos (2 ^ 127 - 1) }
+    ensures { Adds size.total result (remainders_amount here.now.weights.now here.now.node.now here.now.subproblem.now here.now.low.now list.now) }
+{
+    let mut sum = size;
+    for k in 0..here.low.len() {
+        let remainder = remainder(here, list, k);
+        sum = sum.plus_product(remainder, absolute(here.low[k]))?;
+    }
+    Some(sum)
+}
+
+/// The realization at which the size of a list of certificates with given weights passes 2^127 - 1: the least such that
+/// the terms of the realizations up to it do, or their number where only the remainders of the slopes bring it there.
+/// None where the size stays in range.
+pub(crate) fn range_with(here: &NodeAt, list: &[Certificate]) -> Option<usize>
+    requires sized { Sized here.now.pools.now.lists here.now.node.now here.now.subproblem.now here.now.low.now here.now.weights.now }
+    requires list { length list.now ≡ length here.now.weights.now }
+    ensures { result ≡ range_of here.now.pools.now.lists (with_weights here.now.weights.now (node_of here.now.node.now here.now.subproblem.now here.now.low.now here.now.high.now)) list.now }
+{
+    match realizations_size(here, list) {
+        Err(realization) => Some(realization),
+        Ok(size) => match plus_remainders(size, here, list) {
+            Some(_) => None,
+            None => Some(list.len()),
+        },
+    }
+}
