@@ -1,7 +1,8 @@
 -- What an Ok says of tests, of walks and of limits.
-use Rattle.std.proofs.Common.{◌≡◌, ◌+◌, ◌^◌, ℕ, suc, ℤ, pos, List, [], ◌∷◌, ◌++◌, length, Bool, true, false, if◌then◌else◌, Option, Some, None, Result, Ok, Err, nat_lt, int_lt, unsigned_abs, refl, subst, arith}
+use Rattle.std.proofs.Common.{◌≡◌, ◌+◌, ◌^◌, ℕ, suc, ℤ, pos, List, [], ◌∷◌, ◌++◌, length, Bool, true, false, if◌then◌else◌, Option, Some, None, Result, Ok, Err, nat_lt, int_lt, unsigned_abs, refl, sym, ap, subst, ◌∙◌, arith}
 use Rattle.std.specs.List.{AllByRecursion, list_all}
 use Rattle.std.proofs.lemmas.Bool.{le-leb, lt-ltb}
+use Rattle.std.proofs.lemmas.List.{append-nil, append_assoc}
 use Rattle.std.proofs.lemmas.List.Folds.{list_all-append}
 use Rattle.std.proofs.lemmas.Int.{ints}
 use Rattle.serde_json.specs.Data.{Data, Items, no_items, item, Members, no_members, member}
@@ -95,19 +96,25 @@ module _ {A : Type 0} (P : ℕ → A → Type 0) where
       let first = step-Ok _ _ whole is in
       walk_items-Ok step keep ds first.0 whole (suc i) n (omega arith) first.2 (keep found first.0 i d first.1 p)
 
-  pub walk_list-Ok : {B : Type 0} (Q : B → Type 0) (step : A → ℕ → B → Result A Refusal) → ((found next : A) (i : ℕ) (x : B) → Q x → step found i x ≡ Ok next → P i found → P (suc i) next)
-      → (xs : List B) (found whole : A) (i n : ℕ) → i + length xs ≡ n → AllByRecursion Q xs → walk_list step found i xs ≡ Ok whole → P i found → P n whole
+-- what holds of each entry with its number, where the first entry's number is i
+abbrev pub EachFrom : {B : Type 0} → (ℕ → B → Type 0) → ℕ → List B → Type 0
+EachFrom Q i [] = Unit {0}
+EachFrom Q i (x ∷ xs) = Q i x × EachFrom Q (suc i) xs
+
+pub EachFrom-any : {B : Type 0} (i : ℕ) (xs : List B) → EachFrom (λ i x. Unit {0}) i xs
+EachFrom-any i [] = tt
+EachFrom-any i (x ∷ xs) = (tt, EachFrom-any (suc i) xs)
+
+module _ {A B : Type 0} (P : ℕ → A → Type 0) (Q : ℕ → B → Type 0) where
+  pub walk_list-Ok : (step : A → ℕ → B → Result A Refusal) → ((found next : A) (i : ℕ) (x : B) → Q i x → step found i x ≡ Ok next → P i found → P (suc i) next)
+      → (xs : List B) (found whole : A) (i n : ℕ) → i + length xs ≡ n → EachFrom Q i xs → walk_list step found i xs ≡ Ok whole → P i found → P n whole
   unfolding walk_list
-  walk_list-Ok Q step keep [] found whole i n count all is p =
+  walk_list-Ok step keep [] found whole i n count all is p =
       let same : i ≡ n = omega arith in
       subst (λ x. P n x) (Ok-is found whole is) (subst (λ j. P j found) same p)
-  walk_list-Ok Q step keep (x ∷ xs) found whole i n count all is p =
+  walk_list-Ok step keep (x ∷ xs) found whole i n count all is p =
       let first = step-Ok _ _ whole is in
-      walk_list-Ok Q step keep xs first.0 whole (suc i) n (omega arith) all.1 first.2 (keep found first.0 i x all.0 first.1 p)
-
-pub All-any : {B : Type 0} (xs : List B) → AllByRecursion (λ x. Unit {0}) xs
-All-any [] = tt
-All-any (x ∷ xs) = (tt, All-any xs)
+      walk_list-Ok step keep xs first.0 whole (suc i) n (omega arith) all.1 first.2 (keep found first.0 i x all.0 first.1 p)
 
 -- each member
 abbrev pub AllMembers : (List ℕ → Data → Type 0) → Members → Type 0
@@ -137,3 +144,13 @@ walk_members-keys Q step says no_members found whole i is = tt
 walk_members-keys Q step says (member k d ms) found whole i is =
     let first = step-Ok _ _ whole is in
     (says found first.0 i k d first.1, walk_members-keys Q step says ms first.0 whole (suc i) first.2)
+
+-- what stands for the members, one after another, where each step adds what stands for its key
+pub walk_members-adds : {A : Type 0} (names : A → List (List ℕ)) (step : A → ℕ → List ℕ → Data → Result A Refusal)
+    → ((found next : A) (i : ℕ) (k : List ℕ) (d : Data) → step found i k d ≡ Ok next → names next ≡ names found ++ k ∷ [])
+    → (ms : Members) (found whole : A) (i : ℕ) → walk_members step found i ms ≡ Ok whole → names whole ≡ names found ++ keys_of ms
+unfolding walk_members
+walk_members-adds names step adds no_members found whole i is = ap names (sym (Ok-is found whole is)) ∙ sym (append-nil (names found))
+walk_members-adds names step adds (member k d ms) found whole i is =
+    let first = step-Ok _ _ whole is in
+    walk_members-adds names step adds ms first.0 whole (suc i) first.2 ∙ ap (λ (ns : List (List ℕ)). ns ++ keys_of ms) (adds found first.0 i k d first.1) ∙ append_assoc (names found) (k ∷ []) (keys_of ms)

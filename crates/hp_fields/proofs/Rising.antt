@@ -2,6 +2,7 @@
 use Rattle.std.proofs.Common.{◌≡◌, ◌≤◌, ◌<◌, ◌+◌, ℕ, suc, ◌||◌, List, [], ◌∷◌, length, Bool, true, false, cond, not, Option, Some, None, option_map, option_and_then, IfSome, Ok, Ordering, Less, Equal, Greater, nat_cmp, is_eq, bytes_eq, position, nat_lt, refl, sym, ap, subst, ◌∙◌, arith}
 use Rattle.std.specs.Cmp.Lexicographic.{slice_cmp}
 use Rattle.std.specs.List.{AllByRecursion, IsDistinct, list_any, position_or_len}
+use Rattle.std.specs.List.Sorted.{IsStrictlySortedBy}
 use Rattle.std.specs.Ordering.{match_ordering, ordering_reverse}
 use Rattle.std.specs.Set.{is_member}
 use Rattle.std.specs.Str.{is_utf8}
@@ -21,6 +22,7 @@ use Rattle.hp_problem.specs.declared.refusal.Place.{Place}
 use Rattle.hp_fields.specs.Fields.{keys_of, json_at, json_or, whole, present_at, object_at}
 use Rattle.hp_fields.specs.Limits.{members_at}
 use Rattle.hp_fields.proofs.Accepted.{Ok-is, test-Ok, AllMembers}
+use Rattle.hp_fields.proofs.Distinct.{Sorted}
 
 -- each key is above k
 abbrev AllAbove : List ℕ → Members → Type 0
@@ -202,3 +204,10 @@ among P (k ∷ ks) q all e = by (bytes_eq q k) refl e (among P ks q all.1)
 -- rising keys that are all known are at most as many as the names
 pub few_keys : (names : List (List ℕ)) (ms : Members) → RisingMembers ms → AllByRecursion (λ k. is_member bytes_eq names k ≡ true) (keys_of ms) → length (keys_of ms) ≤ length names
 few_keys names ms m known = length-le_from_is_member nat_list_eq_equiv (keys_of ms) names (distinct ms m) (λ q e. among (λ k. is_member bytes_eq names k ≡ true) (keys_of ms) q known e)
+
+-- ---- the keys in byte order
+
+pub keys-sorted : (ms : Members) → RisingMembers ms → Sorted (keys_of ms)
+unfolding IsStrictlySortedBy
+keys-sorted no_members m = tt
+keys-sorted (member k d ms) m = (m.0, keys-sorted ms m.2)

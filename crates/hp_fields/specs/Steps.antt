@@ -1,23 +1,20 @@
 -- Steps that may refuse, and what code gives of them.
 use Rattle.std.specs.Prelude.{◌≡◌, ℕ, suc, List, [], ◌∷◌, Result, Ok, Err}
 use Rattle.serde_json.specs.Data.{Data, Items, no_items, item, Members, no_members, member}
+pub use Rattle.hp_num.specs.Steps.{◌>>=◌}
+use Rattle.hp_num.specs.Steps.{GivesOr}
 use Rattle.hp_problem.specs.declared.refusal.Refusal.{Refusal}
 use Rattle.hp_fields.specs.declared.refusal.ReadRefusal.{ReadRefusal}
 use Rattle.hp_fields.specs.declared.refusal.ReadRefusal.TheVariants as refusals
 
-infixl 10 ◌>>=◌
-abbrev pub ◌>>=◌ : {A B : Type 0} → Result A Refusal → (A → Result B Refusal) → Result B Refusal
-(Ok x) >>= f = f x
-(Err e) >>= f = Err e
-
--- What a function returned, seen by view, is what reading gives, unless memory ran out.
+-- What a function's error means: what was refused, or that memory ran out.
 abbrev pub Fails : {Y : Type 0} → ReadRefusal → Result Y Refusal → Type 0
 Fails (refusals.Refused r) read = read ≡ Err r
 Fails refusals.Memory read = Unit {0}
 
+-- What a function returned, seen by view, is what reading gives, unless memory ran out.
 abbrev pub Gives : {X Y : Type 0} → (X → Y) → Result X ReadRefusal → Result Y Refusal → Type 0
-Gives view (Ok x) read = read ≡ Ok (view x)
-Gives view (Err e) read = Fails e read
+Gives view result read = GivesOr Fails view result read
 
 -- the members one after another, with their numbers; what was found so far is handed on
 unfoldable pub walk_members : {A : Type 0} → (A → ℕ → List ℕ → Data → Result A Refusal) → A → ℕ → Members → Result A Refusal
@@ -42,5 +39,4 @@ walk_list step found i (x ∷ xs) = do
 
 -- The same of a function that takes no memory.
 abbrev pub Shows : {X Y : Type 0} → (X → Y) → Result X Refusal → Result Y Refusal → Type 0
-Shows view (Ok x) read = read ≡ Ok (view x)
-Shows view (Err e) read = read ≡ Err e
+Shows view result read = GivesOr (λ e steps. steps ≡ Err e) view result read

@@ -8,13 +8,10 @@ ghost use Rattle.hp_fields.specs.Fields.{whole_at, weight_at, key_at, string_at,
 
 use crate::refusal::ReadRefusal;
 use hp_num::Name;
+use hp_problem::limits::{GREATEST_NUMBER, NAME_BYTES};
 use hp_problem::{Place, Refusal, RefusalKind};
 use serde_json::{Map, Value};
 use std::alloc::Global;
-
-const GREATEST: u64 = 1 << 40;
-
-const NAME_BYTES: usize = 128;
 
 /// A whole number of at most 2^40 in absolute value: Shape where the value is no number,
 /// NotWhole where it is given as neither an i64 nor a u64, TooLarge past the limit.
@@ -27,7 +24,7 @@ pub fn whole(value: &Value, place: Place) -> Result<i64, Refusal>
     };
     match number.as_i64() {
         Some(whole) => {
-            if whole.unsigned_abs() <= GREATEST {
+            if whole.unsigned_abs() <= GREATEST_NUMBER {
                 Ok(whole)
             } else {
                 Err(RefusalKind::TooLarge.at(place))

@@ -7,14 +7,9 @@ ghost use Rattle.hp_fields.specs.Limits.{name_at, limited_at, known_at, members_
 
 use crate::field::{array, object, string};
 use hp_num::Memory;
+use hp_problem::limits::{GREATEST_NUMBER, NAME_BYTES, PROBLEM_BYTES};
 use hp_problem::{Place, Refusal, RefusalKind};
 use serde_json::{Map, Value};
-
-const NAME_BYTES: usize = 128;
-
-const GREATEST: u128 = 1 << 40;
-
-const MOST_ITEMS: usize = 1 << 24;
 
 /// A text of at most 128 bytes, else TooLarge.
 #[tactic(auto, unfolding(crate::specs::Fields::key_at))]
@@ -41,7 +36,7 @@ pub fn name(value: &Value, place: Place) -> Result<&str, Refusal>
 pub fn limited(number: i128, place: Place) -> Result<i64, Refusal>
     ensures { result ≡ limited_at place number }
 {
-    if number.unsigned_abs() > GREATEST {
+    if number.unsigned_abs() > GREATEST_NUMBER as u128 {
         return Err(RefusalKind::TooLarge.at(place));
     }
     Ok(number as i64)
@@ -92,7 +87,7 @@ pub fn few(count: usize) -> Result<(), Memory>
     ensures ok { OnOk result (count ≤ 2 ^ 24) }
     ensures memory { OnErr result (2 ^ 24 < count) }
 {
-    if count > MOST_ITEMS {
+    if count > PROBLEM_BYTES {
         return Err(Memory);
     }
     Ok(())

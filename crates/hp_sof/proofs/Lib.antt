@@ -1,4 +1,5 @@
-pub mod LinksFit
+pub mod SuccessorsFit
 pub mod RootFits
 pub mod NodesFit
+pub mod ScenariosFit
 pub mod ReadFits

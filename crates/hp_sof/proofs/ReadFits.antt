@@ -4,7 +4,8 @@ use Rattle.std.specs.List.{list_all}
 use Rattle.serde_json.specs.Data.{Data, Items, Members}
 use Rattle.serde_json.specs.Events.{items_len, members_len}
 use Rattle.hp_num.proofs.Tests.{and_first, and_second}
-use Rattle.hp_problem.specs.Limits.{subproblem_fits, raw_fits}
+use Rattle.hp_problem.specs.Limits.{state_fits, subproblem_fits, names_rise, node_fits, root_fits, scenario_fits, scenarios_fit, raw_fits}
+use Rattle.hp_problem.specs.declared.raw.Moment.{Moment}
 use Rattle.hp_problem.specs.declared.raw.Raw.{Raw}
 use Rattle.hp_problem.specs.declared.raw.State.{State}
 use Rattle.hp_problem.specs.declared.raw.Subproblem.{Subproblem}
@@ -12,10 +13,10 @@ use Rattle.hp_fields.specs.Fields.{whole, keys_of, json_at, present_at, object_a
 use Rattle.hp_fields.specs.Limits.{items_at}
 use Rattle.hp_fields.proofs.Accepted.{then-Ok, Ok-is, test-Ok, list_all-push, AllMembers-any, walk_members-Ok}
 use Rattle.hp_fields.proofs.InOrder.{length-keys_of}
-use Rattle.hp_fields.proofs.Rising.{Rising, RisingMembers, json_at-rising, get-rising, present_at-rising, object_at-rising}
+use Rattle.hp_fields.proofs.Rising.{Rising, RisingMembers, json_at-rising, get-rising, present_at-rising, object_at-rising, keys-sorted}
 use Rattle.hp_subproblem.specs.Subproblem.{subproblem_at}
 use Rattle.hp_subproblem.proofs.Fits.{subproblem_at-fits}
-use Rattle.hp_sof.specs.declared.subproblems.Directory.{Directory}
+use Rattle.hp_sof.specs.declared.subproblems.SubproblemTable.{SubproblemTable}
 use Rattle.hp_sof.specs.Nodes.{nodes_at}
 use Rattle.hp_sof.specs.Read.{graph_at, raw_of}
 use Rattle.hp_sof.specs.Root.{root_at}
@@ -23,9 +24,10 @@ use Rattle.hp_sof.specs.Scenarios.{scenarios_at}
 use Rattle.hp_sof.specs.Subproblems.{another_at, listed_at, subproblems_at}
 use Rattle.hp_sof.specs.Tables.{Tables, table_at, sizes_at, tables_at}
 use Rattle.hp_sof.specs.Version.{version_at}
-use Rattle.hp_sof.proofs.LinksFit.{one_more}
-use Rattle.hp_sof.proofs.RootFits.{StartFits, root_at-fits}
-use Rattle.hp_sof.proofs.NodesFit.{node_among, nodes_at-fit}
+use Rattle.hp_sof.proofs.SuccessorsFit.{one_more}
+use Rattle.hp_sof.proofs.RootFits.{RootFits, root_at-fits}
+use Rattle.hp_sof.proofs.NodesFit.{node_among, nodes_at-fit, nodes_at-rise}
+use Rattle.hp_sof.proofs.ScenariosFit.{scenarios_at-fit}
 
 -- ---- subproblems
 
@@ -44,17 +46,17 @@ another_at-fits states found next p k d e so_far =
     }))
 
 -- a subproblem for each name
-record DirectoryFits (states count : ℕ) (d : Directory) : Type 0 where
+record SubproblemTableFits (states count : ℕ) (d : SubproblemTable) : Type 0 where
   paired : length d.names ≡ length d.subs
   subs : SubproblemsFit states count d.subs
 
-subproblems_at-fit : (states : List State) (ms : Members) (directory : Directory) → subproblems_at states ms ≡ Ok directory → DirectoryFits (length states) (members_len ms) directory
+subproblems_at-fit : (states : List State) (ms : Members) (subproblems : SubproblemTable) → subproblems_at states ms ≡ Ok subproblems → SubproblemTableFits (length states) (members_len ms) subproblems
 unfolding subproblems_at listed_at
-subproblems_at-fit states ms directory e =
-    then-Ok (listed_at _ _) _ directory e (λ subs is e.
+subproblems_at-fit states ms subproblems e =
+    then-Ok (listed_at _ _) _ subproblems e (λ subs is e.
     let s = walk_members-Ok (SubproblemsFit (length states)) (λ k d. Unit {0}) (another_at states) (λ found next p k d any e so_far. another_at-fits states found next p k d e so_far)
     ms [] subs 0 (members_len ms) (omega arith) (AllMembers-any ms) is (record { many = refl; fit = refl }) in
-    subst (DirectoryFits (length states) (members_len ms)) (Ok-is _ directory e) (record { paired = length-keys_of ms ∙ sym s.many; subs = s }))
+    subst (SubproblemTableFits (length states) (members_len ms)) (Ok-is _ subproblems e) (record { paired = length-keys_of ms ∙ sym s.many; subs = s }))
 
 -- ---- tables
 
@@ -63,19 +65,22 @@ record TablesFit (t : Tables) : Type 0 where
   nodes : RisingMembers t.nodes
   few_nodes : nat_le (members_len t.nodes) 1000 ≡ true
   few_subproblems : nat_le (members_len t.subproblems) 1000 ≡ true
+  few_scenarios : nat_le (items_len t.scenarios) 1000 ≡ true
 
 table_at-rising : (k : List ℕ) (d : Data) (ms : Members) → Rising d → table_at k d ≡ Ok ms → RisingMembers ms
 unfolding table_at
 table_at-rising k d ms rising e = then-Ok (present_at _ _) _ ms e (λ inner is e. object_at-rising whole inner ms (present_at-rising whole _ inner (get-rising k d rising) is) e)
 
-sizes_at-few : (nodes subproblems : Members) (scenarios : Items) (x : Unit {0}) → sizes_at nodes subproblems scenarios ≡ Ok x → (nat_le (members_len nodes) 1000 ≡ true) × (nat_le (members_len subproblems) 1000 ≡ true)
+sizes_at-few : (nodes subproblems : Members) (scenarios : Items) (x : Unit {0}) → sizes_at nodes subproblems scenarios ≡ Ok x
+    → (nat_le (members_len nodes) 1000 ≡ true) × (nat_le (members_len subproblems) 1000 ≡ true) × (nat_le (items_len scenarios) 1000 ≡ true)
 unfolding sizes_at
 sizes_at-few nodes subproblems scenarios x e =
     let a = nat_le (members_len nodes) 1000 in
     let b = nat_le (members_len subproblems) 1000 in
     let c = nat_le (items_len scenarios) 1000 in
     let all = (test-Ok (a && (b && c)) _ _ whole x e).0 in
-    (and_first a (b && c) all, and_first b c (and_second a (b && c) all))
+    let rest = and_second a (b && c) all in
+    (and_first a (b && c) all, and_first b c rest, and_second b c rest)
 
 tables_at-fit : (d : Data) (t : Tables) → Rising d → tables_at d ≡ Ok t → TablesFit t
 unfolding tables_at
@@ -88,28 +93,52 @@ tables_at-fit d t rising e =
     then-Ok (items_at _ _) _ t e (λ scenarios is e.
     then-Ok (sizes_at _ _ _) _ t e (λ sizes is_sizes e.
     let few = sizes_at-few nodes subproblems scenarios sizes is_sizes in
-    subst TablesFit (Ok-is _ t e) (record { root = table_at-rising _ d root rising is_root; nodes = table_at-rising _ d nodes rising is_nodes; few_nodes = few.0; few_subproblems = few.1 }))))))))
+    subst TablesFit (Ok-is _ t e) (record { root = table_at-rising _ d root rising is_root; nodes = table_at-rising _ d nodes rising is_nodes; few_nodes = few.0; few_subproblems = few.1; few_scenarios = few.2 }))))))))
 
 -- ---- the whole
 
-graph_at-fits : (t : Tables) (raw : Raw) → TablesFit t → graph_at (keys_of t.nodes) t ≡ Ok raw → raw_fits raw ≡ true
-unfolding graph_at
+-- the parts of a problem whose scenarios were not read yet, where so many names stand for the nodes
+record GraphFits (names : List (List ℕ)) (raw : Raw) : Type 0 where
+  as_many : length names ≡ length raw.nodes
+  rise : names_rise raw ≡ true
+  few_states : nat_le (length raw.states) 50 ≡ true
+  few_nodes : nat_le (length raw.nodes) 1000 ≡ true
+  few_subs : nat_le (length raw.subs) 1000 ≡ true
+  states : list_all state_fits raw.states ≡ true
+  subs : list_all (subproblem_fits (length raw.states)) raw.subs ≡ true
+  nodes : list_all (node_fits raw) raw.nodes ≡ true
+  root : root_fits raw ≡ true
+
+graph_at-fits : (t : Tables) (raw : Raw) → TablesFit t → graph_at (keys_of t.nodes) t ≡ Ok raw → GraphFits (keys_of t.nodes) raw
+unfolding graph_at names_rise
 graph_at-fits t raw h e =
     then-Ok (root_at _ _) _ raw e (λ start is_start e.
-    then-Ok (subproblems_at _ _) _ raw e (λ directory is_directory e.
+    then-Ok (subproblems_at _ _) _ raw e (λ subproblems is_subproblems e.
     then-Ok (nodes_at _ _ _) _ raw e (λ nodes is_nodes e.
     let names = keys_of t.nodes in
     let count = length-keys_of t.nodes in
-    let s = root_at-fits names t.root start h.root is_start in
-    let p = subproblems_at-fit start.states t.subproblems directory is_directory in
-    let n = nodes_at-fit names directory t.nodes nodes p.paired h.nodes is_nodes in
+    let sorted = keys-sorted t.nodes h.nodes in
+    let s = root_at-fits names t.root start sorted h.root is_start in
+    let p = subproblems_at-fit start.states t.subproblems subproblems is_subproblems in
+    let n = nodes_at-fit names subproblems t.nodes nodes p.paired sorted h.nodes is_nodes in
     let as_many : length names ≡ length nodes = count ∙ sym n.many in
-    let few_nodes : nat_le (length nodes) 1000 ≡ true = rw n.many h.few_nodes in
-    let few_subs : nat_le (length directory.subs) 1000 ≡ true = rw p.subs.many h.few_subproblems in
-    let fit : list_all (node_among directory.subs (length nodes)) nodes ≡ true = subst (λ c. list_all (node_among directory.subs c) nodes ≡ true) as_many n.fit in
-    let r : StartFits (length nodes) start = subst (λ c. StartFits c start) as_many s in
-    subst (λ raw. raw_fits raw ≡ true) (Ok-is _ raw e)
-    (rw (r.few_states, few_nodes, few_subs, r.states, p.subs.fit, fit, r.some, r.few, r.paired, r.known, r.weighty, r.total) refl))))
+    let r : RootFits (length nodes) start = subst (λ c. RootFits c start) as_many s in
+    subst (GraphFits names) (Ok-is _ raw e) (record {
+      as_many = as_many;
+      rise = rw (r.states_rise, nodes_at-rise names subproblems t.nodes nodes h.nodes is_nodes) refl;
+      few_states = r.few_states;
+      few_nodes = rw n.many h.few_nodes;
+      few_subs = rw p.subs.many h.few_subproblems;
+      states = r.states;
+      subs = p.subs.fit;
+      nodes = subst (λ c. list_all (node_among subproblems.subs c) nodes ≡ true) as_many n.fit;
+      root = rw (r.rising, r.some, r.few, r.paired, r.known, r.weighty, r.total) refl;
+    }))))
+
+whole-fits : (names : List (List ℕ)) (raw : Raw) (scenarios : List (List Moment)) → GraphFits names raw → nat_le (length scenarios) 1000 ≡ true → list_all (scenario_fits (record raw { scenarios = scenarios })) scenarios ≡ true
+    → raw_fits (record raw { scenarios = scenarios }) ≡ true
+unfolding names_rise scenarios_fit raw_fits
+whole-fits names raw scenarios g few fit = rw (g.rise, few, fit, g.few_states, g.few_nodes, g.few_subs, g.states, g.subs, g.nodes, g.root) refl
 
 -- what the reader accepts keeps the limits
 pub raw_fits-read : (bytes : List ℕ) (raw : Raw) → raw_of bytes ≡ Ok raw → raw_fits raw ≡ true
@@ -118,6 +147,8 @@ raw_fits-read bytes raw e =
     then-Ok (json_at _) _ raw e (λ d is_d e.
     then-Ok (tables_at _) _ raw e (λ t is_t e.
     then-Ok (graph_at _ _) _ raw e (λ graph is_graph e.
-    then-Ok (scenarios_at _ _ _) _ raw e (λ scenarios is e.
-    let rising = json_at-rising bytes d is_d in
-    subst (λ raw. raw_fits raw ≡ true) (Ok-is _ raw e) (graph_at-fits t graph (tables_at-fit d t rising is_t) is_graph)))))
+    then-Ok (scenarios_at _ _ _) _ raw e (λ scenarios is_scenarios e.
+    let tables = tables_at-fit d t (json_at-rising bytes d is_d) is_t in
+    let g = graph_at-fits t graph tables is_graph in
+    let s = scenarios_at-fit (keys_of t.nodes) graph t.scenarios scenarios g.as_many g.nodes tables.few_scenarios is_scenarios in
+    subst (λ raw. raw_fits raw ≡ true) (Ok-is _ raw e) (whole-fits (keys_of t.nodes) graph scenarios g s.0 s.1)))))

@@ -1,22 +1,25 @@
 -- The root that was read keeps its limits.
-use Rattle.std.proofs.Common.{◌≡◌, ◌==◌, ℕ, suc, ℤ, List, [], length, sum, true, false, nat_le, nat_lt, codes, Ok, refl, sym, subst, ◌∙◌, arith}
+use Rattle.std.proofs.Common.{◌≡◌, ◌==◌, ℕ, suc, ℤ, List, [], ◌∷◌, ◌++◌, length, map, sum, true, false, nat_le, nat_lt, codes, Ok, refl, sym, ap, subst, ◌∙◌, arith}
 use Rattle.std.specs.List.{list_all}
 use Rattle.std.proofs.lemmas.Bool.{and_from, le-leb, eq-eqb}
+use Rattle.std.proofs.lemmas.List.{map-append}
 use Rattle.serde_json.specs.Data.{Data, null, boolean, number, string, array, object, Members}
 use Rattle.serde_json.specs.Events.{members_len}
 use Rattle.hp_problem.specs.Limits.{is_small, is_name, state_fits, are_weights}
 use Rattle.hp_problem.specs.declared.raw.State.{State}
 use Rattle.hp_problem.specs.declared.refusal.Part.TheVariants as parts
 use Rattle.hp_problem.specs.declared.refusal.Place.{Place}
-use Rattle.hp_fields.specs.Fields.{key_at, present_at, object_at}
+use Rattle.hp_problem.specs.Distinct.{rises, is_before}
+use Rattle.hp_fields.specs.Fields.{key_at, present_at, object_at, keys_of}
 use Rattle.hp_fields.specs.Limits.{members_at}
-use Rattle.hp_fields.proofs.Accepted.{then-Ok, Ok-is, test-Ok, unless-Ok, list_all-push, whole_at-small, key_at-name, AllMembers-any, walk_members-Ok}
-use Rattle.hp_fields.proofs.Rising.{RisingMembers, get-rising, present_at-rising, object_at-rising}
-use Rattle.hp_sof.specs.declared.root.Start.{Start}
+use Rattle.hp_fields.proofs.Accepted.{then-Ok, Ok-is, test-Ok, unless-Ok, list_all-push, whole_at-small, key_at-name, AllMembers-any, walk_members-Ok, walk_members-adds}
+use Rattle.hp_fields.proofs.Distinct.{Sorted, rises-map, rises-sorted}
+use Rattle.hp_fields.proofs.Rising.{RisingMembers, get-rising, present_at-rising, object_at-rising, members_at-rising, keys-sorted}
+use Rattle.hp_sof.specs.declared.root.Root.{Root}
 use Rattle.hp_sof.specs.Root.{root, initial_at, state_at, states_at, counts_at, root_at}
 use Rattle.hp_sof.specs.Successors.{successors_at}
 use Rattle.hp_sof.specs.Weights.{weights_at}
-use Rattle.hp_sof.proofs.LinksFit.{positive, one_more, weights_at-Ok, successors_at-fit, successors_at-few}
+use Rattle.hp_sof.proofs.SuccessorsFit.{positive, one_more, weights_at-Ok, successors_at-fit, successors_at-few, successors_at-rise}
 
 initial_at-small : (p : Place) (d : Data) (z : ℤ) → initial_at p d ≡ Ok z → is_small z ≡ true
 unfolding initial_at
@@ -50,14 +53,31 @@ states_at-fit ms states e =
     walk_members-Ok StatesFit (λ k d. Unit {0}) state_at (λ found next i k d any e so_far. state_at-fits found next i k d e so_far)
     ms [] states 0 (members_len ms) (omega arith) (AllMembers-any ms) e (record { many = refl; fit = refl })
 
+state_at-adds : (found next : List State) (i : ℕ) (k : List ℕ) (d : Data) → state_at found i k d ≡ Ok next → map (λ (s : State). s.name) next ≡ map (λ (s : State). s.name) found ++ k ∷ []
+unfolding state_at
+state_at-adds found next i k d e =
+    then-Ok (key_at _ _) _ next e (λ name is_name_of e.
+    then-Ok (initial_at _ _) _ next e (λ initial is e.
+    let same = (key_at-name _ k name is_name_of).0 in
+    ap (λ (ss : List State). map (λ (s : State). s.name) ss) (sym (Ok-is _ next e)) ∙ map-append (λ (s : State). s.name) found _ ∙ ap (λ n. map (λ (s : State). s.name) found ++ n ∷ []) (sym same)))
+
+-- the states stand in the order of their names
+states_at-rise : (ms : Members) (states : List State) → RisingMembers ms → states_at ms ≡ Ok states → rises (λ (a b : State). is_before a.name b.name) states ≡ true
+unfolding states_at
+states_at-rise ms states rising e =
+    let named : map (λ (s : State). s.name) states ≡ keys_of ms = walk_members-adds (λ (ss : List State). map (λ (s : State). s.name) ss) state_at (λ found next i k d e. state_at-adds found next i k d e) ms [] states 0 e in
+    sym (rises-map (λ (s : State). s.name) is_before states) ∙ ap (rises is_before) named ∙ rises-sorted (keys_of ms) (keys-sorted ms rising)
+
 counts_at-Ok : (p : Place) (states successors : ℕ) (x : Unit {0}) → counts_at p states successors ≡ Ok x → ((successors == 0) ≡ false) × (nat_le states 50 ≡ true)
 unfolding counts_at
 counts_at-Ok p states successors x e = let parts = unless-Ok (successors == 0) _ _ p x e in (parts.0, (test-Ok (nat_le states 50) _ _ p x parts.1).0)
 
 -- the root of a problem with so many nodes
-pub record StartFits (nodes : ℕ) (start : Start) : Type 0 where
+pub record RootFits (nodes : ℕ) (start : Root) : Type 0 where
   pub few_states : nat_le (length start.states) 50 ≡ true
   pub states : list_all state_fits start.states ≡ true
+  pub states_rise : rises (λ (a b : State). is_before a.name b.name) start.states ≡ true
+  pub rising : rises nat_lt start.nodes ≡ true
   pub some : nat_lt 0 (length start.nodes) ≡ true
   pub few : nat_le (length start.nodes) nodes ≡ true
   pub paired : (length start.weights == length start.nodes) ≡ true
@@ -65,10 +85,10 @@ pub record StartFits (nodes : ℕ) (start : Start) : Type 0 where
   pub weighty : are_weights start.weights ≡ true
   pub total : nat_le (sum start.weights) 65535 ≡ true
 
-pub root_at-fits : (names : List (List ℕ)) (ms : Members) (start : Start) → RisingMembers ms → root_at names ms ≡ Ok start → StartFits (length names) start
+pub root_at-fits : (names : List (List ℕ)) (ms : Members) (start : Root) → Sorted names → RisingMembers ms → root_at names ms ≡ Ok start → RootFits (length names) start
 unfolding root_at
-root_at-fits names ms start rising e =
-    then-Ok (members_at _ _) _ start e (λ states is e.
+root_at-fits names ms start sorted rising e =
+    then-Ok (members_at _ _) _ start e (λ states is_states e.
     then-Ok (present_at _ _) _ start e (λ inner is_inner e.
     then-Ok (object_at _ _) _ start e (λ successors is_successors e.
     then-Ok (counts_at _ _ _) _ start e (λ counted is_counted e.
@@ -81,9 +101,11 @@ root_at-fits names ms start rising e =
     let l = successors_at-fit parts.Root 2 names successors links is_links in
     let few = successors_at-few parts.Root 2 names successors links in_order is_links in
     let w = weights_at-Ok root 0 links.weights weights is_weights in
-    subst (StartFits (length names)) (Ok-is _ start e) (record {
+    subst (RootFits (length names)) (Ok-is _ start e) (record {
       few_states = rw s.many counts.1;
       states = s.fit;
+      states_rise = states_at-rise states found (members_at-rising root _ states (get-rising (codes "state_variables") (object ms) rising) is_states) is_found;
+      rising = successors_at-rise parts.Root 2 names successors links sorted in_order is_links;
       some = rw l.many (positive (members_len successors) counts.0);
       few = rw l.many (le-leb (members_len successors) (length names) few);
       paired = rw (← w.0) (eq-eqb _ _ (l.paired ∙ sym l.many));

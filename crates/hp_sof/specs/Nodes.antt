@@ -15,8 +15,8 @@ use Rattle.hp_sof.specs.Realizations.{at_node, realizations_at}
 use Rattle.hp_sof.specs.Successors.{successors_at}
 use Rattle.hp_sof.specs.Values.{randoms_of}
 use Rattle.hp_sof.specs.Weights.{weights_at}
-use Rattle.hp_sof.specs.declared.nodes.Ways.{Ways}
-use Rattle.hp_sof.specs.declared.subproblems.Directory.{Directory}
+use Rattle.hp_sof.specs.declared.nodes.Transitions.{Transitions}
+use Rattle.hp_sof.specs.declared.subproblems.SubproblemTable.{SubproblemTable}
 
 -- the weight with which the horizon ends at a node, 0 where it is absent
 unfoldable pub stop_at : Place → Option Data → Result ℕ Refusal
@@ -26,26 +26,26 @@ stop_at p (Some d) = do
   if int_lt stop (pos 0) then refuse kinds.Weight p else Ok (unsigned_abs stop)
 
 -- where a path may go on from node n, or end; names are those of all nodes
-unfoldable pub branches_at : List (List ℕ) → ℕ → Members → Option Data → Result Ways Refusal
-branches_at names n successors ending = do
+unfoldable pub transitions_at : List (List ℕ) → ℕ → Members → Option Data → Result Transitions Refusal
+transitions_at names n successors ending = do
   links ← successors_at parts.Successor n names successors
   stop ← stop_at (at_node n) ending
   weights ← weights_at (at_node n) stop links.weights
   Ok (record { nodes = links.nodes; weights = weights; stop = stop })
 
-unfoldable pub node_at : List (List ℕ) → Directory → List Node → ℕ → List ℕ → Data → Result (List Node) Refusal
-node_at names directory found n k d = do
+unfoldable pub node_at : List (List ℕ) → SubproblemTable → List Node → ℕ → List ℕ → Data → Result (List Node) Refusal
+node_at names subproblems found n k d = do
   name ← key_at (at_node n) k
   all ← object_at (at_node n) d
   inner ← present_at (at_node n) (get (codes "subproblem") d)
   sub_name ← string_at (at_node n) inner
-  realizations ← items_at (at_node n) (get (codes "realizations") d)
+  items ← items_at (at_node n) (get (codes "realizations") d)
   successors ← members_at (at_node n) (get (codes "successors") d)
-  sub ← known_at (at_node n) (position (bytes_eq sub_name) directory.names)
-  chances ← realizations_at n (randoms_of directory.subs sub) realizations
-  weights ← weights_at (at_node n) 0 chances.weights
-  branches ← branches_at names n successors (get (codes "stop") d)
-  Ok (found ++ record { name = name; sub = sub; weights = weights; values = chances.values; links = branches.nodes; link_weights = branches.weights; stop = branches.stop } ∷ [])
+  sub ← known_at (at_node n) (position (bytes_eq sub_name) subproblems.names)
+  realizations ← realizations_at n (randoms_of subproblems.subs sub) items
+  weights ← weights_at (at_node n) 0 realizations.weights
+  transitions ← transitions_at names n successors (get (codes "stop") d)
+  Ok (found ++ record { name = name; sub = sub; weights = weights; values = realizations.values; links = transitions.nodes; link_weights = transitions.weights; stop = transitions.stop } ∷ [])
 
-unfoldable pub nodes_at : List (List ℕ) → Directory → Members → Result (List Node) Refusal
-nodes_at names directory ms = walk_members (node_at names directory) [] 0 ms
+unfoldable pub nodes_at : List (List ℕ) → SubproblemTable → Members → Result (List Node) Refusal
+nodes_at names subproblems ms = walk_members (node_at names subproblems) [] 0 ms

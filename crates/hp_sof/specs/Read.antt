@@ -14,9 +14,9 @@ use Rattle.hp_sof.specs.Tables.{Tables, tables_at}
 unfoldable pub graph_at : List (List ℕ) → Tables → Result Raw Refusal
 graph_at names tables = do
   start ← root_at names tables.root
-  directory ← subproblems_at start.states tables.subproblems
-  nodes ← nodes_at names directory tables.nodes
-  Ok (record { states = start.states; root = start.nodes; root_weights = start.weights; nodes = nodes; subs = directory.subs; scenarios = [] })
+  subproblems ← subproblems_at start.states tables.subproblems
+  nodes ← nodes_at names subproblems tables.nodes
+  Ok (record { states = start.states; root = start.nodes; root_weights = start.weights; nodes = nodes; subs = subproblems.subs; scenarios = [] })
 
 unfoldable pub raw_of : List ℕ → Result Raw Refusal
 raw_of bytes = do

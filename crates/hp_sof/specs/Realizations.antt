@@ -11,10 +11,10 @@ use Rattle.hp_fields.specs.Steps.{◌>>=◌, walk_items}
 use Rattle.hp_fields.specs.Fields.{place, refuse, weight_at, present_at, object_at}
 use Rattle.hp_fields.specs.Limits.{members_at}
 use Rattle.hp_sof.specs.Values.{values_at}
-use Rattle.hp_sof.specs.declared.realizations.Chances.{Chances}
+use Rattle.hp_sof.specs.declared.realizations.Realizations.{Realizations}
 
-abbrev pub no_chances : Chances
-no_chances = record { weights = []; values = [] }
+abbrev pub no_realizations : Realizations
+no_realizations = record { weights = []; values = [] }
 
 abbrev pub at_node : ℕ → Place
 at_node n = place parts.Node n 0 0
@@ -23,7 +23,7 @@ abbrev pub at_realization : ℕ → ℕ → Place
 at_realization n r = place parts.Realization n r 0
 
 -- a realization with its weight and its values
-unfoldable pub realization_at : ℕ → List (List ℕ) → Chances → ℕ → Data → Result Chances Refusal
+unfoldable pub realization_at : ℕ → List (List ℕ) → Realizations → ℕ → Data → Result Realizations Refusal
 realization_at n randoms found r d = do
   all ← object_at (at_realization n r) d
   support ← members_at (at_realization n r) (get (codes "support") d)
@@ -33,12 +33,12 @@ realization_at n randoms found r d = do
   Ok (record { weights = found.weights ++ unsigned_abs weight ∷ []; values = found.values ++ values ∷ [] })
 
 -- the one realization without random values
-unfoldable pub certain_at : Place → List (List ℕ) → Result Chances Refusal
+unfoldable pub certain_at : Place → List (List ℕ) → Result Realizations Refusal
 certain_at p randoms = if length randoms == 0 then Ok (record { weights = 1 ∷ []; values = [] ∷ [] }) else refuse kinds.Shape p
 
-abbrev pub listed_at : ℕ → List (List ℕ) → Items → Result Chances Refusal
-listed_at n randoms ds = walk_items (realization_at n randoms) no_chances 0 ds
+abbrev pub listed_at : ℕ → List (List ℕ) → Items → Result Realizations Refusal
+listed_at n randoms ds = walk_items (realization_at n randoms) no_realizations 0 ds
 
 -- at most 100; an empty list is one realization of weight 1
-unfoldable pub realizations_at : ℕ → List (List ℕ) → Items → Result Chances Refusal
+unfoldable pub realizations_at : ℕ → List (List ℕ) → Items → Result Realizations Refusal
 realizations_at n randoms ds = if nat_le (items_len ds) 100 then (if items_len ds == 0 then certain_at (at_node n) randoms else listed_at n randoms ds) else refuse kinds.TooLarge (at_node n)

@@ -13,7 +13,7 @@ use Rattle.hp_fields.specs.Fields.{place, refuse, whole_at, key_at, present_at, 
 use Rattle.hp_fields.specs.Limits.{members_at}
 use Rattle.hp_sof.specs.Successors.{successors_at}
 use Rattle.hp_sof.specs.Weights.{weights_at}
-use Rattle.hp_sof.specs.declared.root.Start.{Start}
+use Rattle.hp_sof.specs.declared.root.Root.{Root}
 
 abbrev pub root : Place
 root = place parts.Root 0 0 0
@@ -45,7 +45,7 @@ states_at ms = walk_members state_at [] 0 ms
 unfoldable pub counts_at : Place → ℕ → ℕ → Result ⊤ Refusal
 counts_at p states successors = if successors == 0 then refuse kinds.Shape p else (if nat_le states 50 then Ok tt else refuse kinds.TooLarge p)
 
-unfoldable pub root_at : List (List ℕ) → Members → Result Start Refusal
+unfoldable pub root_at : List (List ℕ) → Members → Result Root Refusal
 root_at names ms = do
   states ← members_at root (get_member (codes "state_variables") ms)
   inner ← present_at root (get_member (codes "successors") ms)

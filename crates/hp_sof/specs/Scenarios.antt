@@ -5,8 +5,8 @@ use Rattle.std.specs.List.{list_any}
 use Rattle.serde_json.specs.Data.{Data, null, boolean, number, string, array, object, Items}
 use Rattle.serde_json.specs.Events.{items_len}
 use Rattle.serde_json.specs.Find.{get}
+use Rattle.hp_problem.specs.Parts.{successors_at, subproblem_at}
 use Rattle.hp_problem.specs.declared.raw.Moment.{Moment}
-use Rattle.hp_problem.specs.declared.raw.Node.{Node}
 use Rattle.hp_problem.specs.declared.raw.Raw.{Raw}
 use Rattle.hp_problem.specs.declared.refusal.Refusal.{Refusal}
 use Rattle.hp_problem.specs.declared.refusal.RefusalKind.TheVariants as kinds
@@ -15,25 +15,16 @@ use Rattle.hp_problem.specs.declared.refusal.Place.{Place}
 use Rattle.hp_fields.specs.Steps.{◌>>=◌, walk_items}
 use Rattle.hp_fields.specs.Fields.{place, refuse, string_at, array_at, present_at, object_at}
 use Rattle.hp_fields.specs.Limits.{known_at, members_at}
-use Rattle.hp_sof.specs.Values.{randoms_of, values_at}
-
-abbrev pub links_in : Option Node → List ℕ
-links_in None = []
-links_in (Some node) = node.links
+use Rattle.hp_sof.specs.Values.{randoms_in, values_at}
 
 -- where a path that ends with this step may go on
-abbrev pub ways_from : Raw → Option Moment → List ℕ
-ways_from raw None = raw.root
-ways_from raw (Some last) = links_in (slice_get raw.nodes last.node)
-
--- the random variables of a node
-abbrev pub randoms_in : Raw → Option Node → List (List ℕ)
-randoms_in raw None = []
-randoms_in raw (Some node) = randoms_of raw.subs node.sub
+abbrev pub successors_after : Raw → Option Moment → List ℕ
+successors_after raw None = raw.root
+successors_after raw (Some last) = successors_at raw last.node
 
 -- the path may go on to the node
 unfoldable pub follows_at : Place → Raw → List Moment → ℕ → Result ⊤ Refusal
-follows_at p raw path node = if list_any (λ way. way == node) (ways_from raw (slice_get path (length path - 1))) then Ok tt else refuse kinds.Scenario p
+follows_at p raw path node = if list_any (λ successor. successor == node) (successors_after raw (slice_get path (length path - 1))) then Ok tt else refuse kinds.Scenario p
 
 abbrev pub at_scenario : ℕ → Place
 at_scenario k = place parts.Scenario k 0 0
@@ -41,19 +32,19 @@ at_scenario k = place parts.Scenario k 0 0
 abbrev pub at_step : ℕ → ℕ → Place
 at_step k t = place parts.Step k t 0
 
-unfoldable pub moment_at : List (List ℕ) → Raw → ℕ → List Moment → ℕ → Data → Result (List Moment) Refusal
-moment_at names raw k path t d = do
+unfoldable pub step_at : List (List ℕ) → Raw → ℕ → List Moment → ℕ → Data → Result (List Moment) Refusal
+step_at names raw k path t d = do
   all ← object_at (at_step k t) d
   inner ← present_at (at_step k t) (get (codes "node") d)
   name ← string_at (at_step k t) inner
   support ← members_at (at_step k t) (get (codes "support") d)
   node ← known_at (at_step k t) (position (bytes_eq name) names)
   follows ← follows_at (at_step k t) raw path node
-  values ← values_at parts.Step k t (randoms_in raw (slice_get raw.nodes node)) support
+  values ← values_at parts.Step k t (randoms_in (subproblem_at raw node)) support
   Ok (path ++ record { node = node; values = values } ∷ [])
 
-unfoldable pub moments_at : List (List ℕ) → Raw → ℕ → Items → Result (List Moment) Refusal
-moments_at names raw k ds = walk_items (moment_at names raw k) [] 0 ds
+unfoldable pub path_at : List (List ℕ) → Raw → ℕ → Items → Result (List Moment) Refusal
+path_at names raw k ds = walk_items (step_at names raw k) [] 0 ds
 
 -- an array of steps, or an object whose `scenario` is one
 unfoldable pub steps_at : Place → Data → Result Items Refusal
@@ -74,7 +65,7 @@ unfoldable pub scenario_at : List (List ℕ) → Raw → List (List Moment) → 
 scenario_at names raw found k d = do
   all ← steps_at (at_scenario k) d
   steps ← some_at (at_scenario k) all
-  path ← moments_at names raw k steps
+  path ← path_at names raw k steps
   Ok (found ++ path ∷ [])
 
 unfoldable pub scenarios_at : List (List ℕ) → Raw → Items → Result (List (List Moment)) Refusal

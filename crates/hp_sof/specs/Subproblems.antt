@@ -7,7 +7,7 @@ use Rattle.hp_problem.specs.declared.refusal.Refusal.{Refusal}
 use Rattle.hp_fields.specs.Steps.{◌>>=◌, walk_members}
 use Rattle.hp_fields.specs.Fields.{keys_of}
 use Rattle.hp_subproblem.specs.Subproblem.{subproblem_at}
-use Rattle.hp_sof.specs.declared.subproblems.Directory.{Directory}
+use Rattle.hp_sof.specs.declared.subproblems.SubproblemTable.{SubproblemTable}
 
 -- one more subproblem
 unfoldable pub another_at : List State → List Subproblem → ℕ → List ℕ → Data → Result (List Subproblem) Refusal
@@ -18,7 +18,7 @@ another_at states found p k d = do
 unfoldable pub listed_at : List State → Members → Result (List Subproblem) Refusal
 listed_at states ms = walk_members (another_at states) [] 0 ms
 
-unfoldable pub subproblems_at : List State → Members → Result Directory Refusal
+unfoldable pub subproblems_at : List State → Members → Result SubproblemTable Refusal
 subproblems_at states ms = do
   subs ← listed_at states ms
   Ok (record { names = keys_of ms; subs = subs })

@@ -8,18 +8,18 @@ use Rattle.hp_problem.specs.declared.refusal.Place.{Place}
 use Rattle.hp_fields.specs.Steps.{◌>>=◌, walk_members}
 use Rattle.hp_fields.specs.Fields.{place, weight_at}
 use Rattle.hp_fields.specs.Limits.{known_at}
-use Rattle.hp_sof.specs.declared.successors.Links.{Links}
+use Rattle.hp_sof.specs.declared.successors.Successors.{Successors}
 
-abbrev pub no_links : Links
-no_links = record { nodes = []; weights = [] }
+abbrev pub no_successors : Successors
+no_successors = record { nodes = []; weights = [] }
 
 -- a successor at a place: its weight, then its node
-unfoldable pub successor_at : Place → List (List ℕ) → Links → List ℕ → Data → Result Links Refusal
+unfoldable pub successor_at : Place → List (List ℕ) → Successors → List ℕ → Data → Result Successors Refusal
 successor_at p names found k d = do
   weight ← weight_at p d
   node ← known_at p (position (bytes_eq k) names)
   Ok (record { nodes = found.nodes ++ node ∷ []; weights = found.weights ++ unsigned_abs weight ∷ [] })
 
 -- each successor i at the part's place a, i, 0
-unfoldable pub successors_at : Part → ℕ → List (List ℕ) → Members → Result Links Refusal
-successors_at part a names ms = walk_members (λ found i k d. successor_at (place part a i 0) names found k d) no_links 0 ms
+unfoldable pub successors_at : Part → ℕ → List (List ℕ) → Members → Result Successors Refusal
+successors_at part a names ms = walk_members (λ found i k d. successor_at (place part a i 0) names found k d) no_successors 0 ms

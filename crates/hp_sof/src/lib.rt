@@ -1,4 +1,4 @@
-//! Reads a problem from JSON.
+//! Reads a problem from JSON in a profile of StochOptFormat, the file format of stochastic programs on a policy graph.
 #![tactic(auto)]
 
 mod nodes;

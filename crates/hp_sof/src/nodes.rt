@@ -2,11 +2,11 @@
 ghost use Rattle.std.specs.Prelude.{◌≡◌, ◌≤◌, ◌^◌, length, option_map};
 ghost use Rattle.serde_json.specs.View.{view, members_view};
 ghost use Rattle.hp_fields.specs.Steps.{Gives};
-ghost use Rattle.hp_sof.specs.Nodes.{stop_at, branches_at, node_at, nodes_at};
+ghost use Rattle.hp_sof.specs.Nodes.{stop_at, transitions_at, node_at, nodes_at};
 
-use crate::realizations::realizations;
-use crate::subproblems::Directory;
-use crate::successors::{known, successors};
+use crate::realizations::read_realizations;
+use crate::subproblems::SubproblemTable;
+use crate::successors::{known, read_successors};
 use crate::values::randoms;
 use crate::weights::weights;
 use hp_fields::{
@@ -19,7 +19,7 @@ use std::alloc::Global;
 
 // Where a path may go on from a node, or end.
 #[derive(Drop)]
-struct Ways {
+struct Transitions {
     nodes: List<u32>,
     weights: List<u32>,
     stop: u32,
@@ -41,24 +41,24 @@ fn stop(value: Option<&Value>, place: Place) -> Result<u64, Refusal>
     Ok(stop.unsigned_abs())
 }
 
-#[tactic(auto, unfolding(crate::specs::Nodes::branches_at))]
-fn branches(
+#[tactic(auto, unfolding(crate::specs::Nodes::transitions_at))]
+fn read_transitions(
     alloc: Global,
     names: &Names,
     n: u32,
     members: &Map<String, Value>,
     ending: Option<&Value>,
-) -> Result<Ways, ReadRefusal>
+) -> Result<Transitions, ReadRefusal>
     requires { length names.now ≤ 2 ^ 32 }
-    ensures { Gives (λ b. b) result (branches_at names.now n (members_view members.now.entries)
+    ensures { Gives (λ b. b) result (transitions_at names.now n (members_view members.now.entries)
         (option_map (λ v. view v.now) ending.entry)) }
 {
     let place = Place::new(Part::Node, n, 0, 0);
-    let links = successors(alloc, names, Part::Successor, n, members)?;
+    let successors = read_successors(alloc, names, Part::Successor, n, members)?;
     let stop = stop(ending, place)?;
-    let weights = weights(alloc, stop, links.weights.as_slice(), place)?;
-    Ok(Ways {
-        nodes: links.nodes,
+    let weights = weights(alloc, stop, successors.weights.as_slice(), place)?;
+    Ok(Transitions {
+        nodes: successors.nodes,
         weights,
         stop: stop as u32,
     })
@@ -68,16 +68,16 @@ fn branches(
 fn node(
     alloc: Global,
     names: &Names,
-    directory: &Directory,
+    subproblems: &SubproblemTable,
     found: &mut List<Node>,
     n: u32,
     name: &str,
     value: &Value,
 ) -> Result<(), ReadRefusal>
     requires few_nodes { length names.now ≤ 2 ^ 32 }
-    requires few_subproblems { length directory.now.names ≤ 2 ^ 32 }
+    requires few_subproblems { length subproblems.now.names ≤ 2 ^ 32 }
     ensures { Gives (λ _. found.new) result
-        (node_at names.now directory.now found.old n name.now (view value.now)) }
+        (node_at names.now subproblems.now found.old n name.now (view value.now)) }
 {
     let place = Place::new(Part::Node, n, 0, 0);
     let none = Map::new(alloc);
@@ -86,19 +86,19 @@ fn node(
     let sub_name = string(present(value.get("subproblem"), place)?, place)?;
     let all_realizations = items(value.get("realizations"), place)?;
     let all_successors = members(value.get("successors"), &none, place)?;
-    let sub = known(&directory.names, sub_name, place)?;
-    let randoms = randoms(directory.subs.as_slice(), sub);
-    let chances = realizations(alloc, randoms, n, all_realizations)?;
-    let weights = weights(alloc, 0, chances.weights.as_slice(), place)?;
-    let branches = branches(alloc, names, n, all_successors, value.get("stop"))?;
+    let sub = known(&subproblems.names, sub_name, place)?;
+    let randoms = randoms(subproblems.subs.as_slice(), sub);
+    let realizations = read_realizations(alloc, randoms, n, all_realizations)?;
+    let weights = weights(alloc, 0, realizations.weights.as_slice(), place)?;
+    let transitions = read_transitions(alloc, names, n, all_successors, value.get("stop"))?;
     found.push(Node {
         name,
         sub,
         weights,
-        values: chances.values,
-        links: branches.nodes,
-        link_weights: branches.weights,
-        stop: branches.stop,
+        values: realizations.values,
+        links: transitions.nodes,
+        link_weights: transitions.weights,
+        stop: transitions.stop,
     })?;
     Ok(())
 }
@@ -108,19 +108,27 @@ fn node(
 pub(crate) fn nodes(
     alloc: Global,
     names: &Names,
-    directory: &Directory,
+    subproblems: &SubproblemTable,
     table: &Map<String, Value>,
 ) -> Result<List<Node>, ReadRefusal>
     requires few_nodes { length names.now ≤ 2 ^ 32 }
-    requires few_subproblems { length directory.now.names ≤ 2 ^ 32 }
+    requires few_subproblems { length subproblems.now.names ≤ 2 ^ 32 }
     ensures { Gives (λ l. l) result
-        (nodes_at names.now directory.now (members_view table.now.entries)) }
+        (nodes_at names.now subproblems.now (members_view table.now.entries)) }
 {
     few(count(table))?;
     let mut found = List::new(alloc);
     let mut n = 0u32;
     for (name, value) in table.iter() {
-        node(alloc, names, directory, &mut found, n, name.as_str(), value)?;
+        node(
+            alloc,
+            names,
+            subproblems,
+            &mut found,
+            n,
+            name.as_str(),
+            value,
+        )?;
         n += 1;
     }
     Ok(found)

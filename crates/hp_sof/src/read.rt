@@ -8,7 +8,7 @@ ghost use Rattle.hp_sof.specs.Read.{graph_at, raw_of};
 ghost use Rattle.hp_sof.specs.Shown.{shown};
 
 use crate::nodes::nodes;
-use crate::root::root;
+use crate::root::read_root;
 use crate::scenarios::scenarios;
 use crate::subproblems::subproblems;
 use crate::tables::{Tables, tables_of};
@@ -24,15 +24,15 @@ fn graph(alloc: Global, names: &Names, tables: &Tables) -> Result<Raw, ReadRefus
     requires few_subproblems { members_len (members_view tables.now.subproblems.now.entries) ≤ 2 ^ 32 }
     ensures { Gives (λ r. r) result (graph_at names.now (shown tables.now)) }
 {
-    let start = root(alloc, names, tables.root)?;
-    let directory = subproblems(alloc, start.states.as_slice(), tables.subproblems)?;
-    let nodes = nodes(alloc, names, &directory, tables.nodes)?;
+    let start = read_root(alloc, names, tables.root)?;
+    let subproblems = subproblems(alloc, start.states.as_slice(), tables.subproblems)?;
+    let nodes = nodes(alloc, names, &subproblems, tables.nodes)?;
     Ok(Raw {
         states: start.states,
         root: start.nodes,
         root_weights: start.weights,
         nodes,
-        subs: directory.subs,
+        subs: subproblems.subs,
         scenarios: List::new(alloc),
     })
 }

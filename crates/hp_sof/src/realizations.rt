@@ -7,15 +7,14 @@ ghost use Rattle.hp_sof.specs.Realizations.{realization_at, certain_at, listed_a
 use crate::values::values;
 use hp_fields::{ReadRefusal, members, object, present, weight};
 use hp_num::{List, Name};
+use hp_problem::limits::MOST_REALIZATIONS;
 use hp_problem::{Part, Place, RefusalKind};
 use serde_json::{Map, Value};
 use std::alloc::Global;
 
-const MOST_REALIZATIONS: usize = 100;
-
 /// Realizations in the order of the file.
 #[derive(Drop)]
-pub(crate) struct Chances {
+pub(crate) struct Realizations {
     /// One weight per realization, each at least 1.
     pub(crate) weights: List<u64>,
     /// One list per realization, with one value per random variable.
@@ -26,7 +25,7 @@ pub(crate) struct Chances {
 fn realization(
     alloc: Global,
     randoms: &[Name],
-    found: &mut Chances,
+    found: &mut Realizations,
     n: u32,
     r: u32,
     value: &Value,
@@ -46,7 +45,7 @@ fn realization(
 }
 
 #[tactic(auto, unfolding(crate::specs::Realizations::certain_at))]
-fn certain(alloc: Global, randoms: &[Name], place: Place) -> Result<Chances, ReadRefusal>
+fn certain(alloc: Global, randoms: &[Name], place: Place) -> Result<Realizations, ReadRefusal>
     ensures { Gives (λ c. c) result (certain_at place randoms.now) }
 {
     if !randoms.is_empty() {
@@ -56,14 +55,19 @@ fn certain(alloc: Global, randoms: &[Name], place: Place) -> Result<Chances, Rea
     let mut values = List::new(alloc);
     weights.push(1u64)?;
     values.push(List::new(alloc))?;
-    Ok(Chances { weights, values })
+    Ok(Realizations { weights, values })
 }
 
-fn listed(alloc: Global, randoms: &[Name], n: u32, items: &[Value]) -> Result<Chances, ReadRefusal>
+fn listed(
+    alloc: Global,
+    randoms: &[Name],
+    n: u32,
+    items: &[Value],
+) -> Result<Realizations, ReadRefusal>
     requires { length items.now ≤ 100 }
     ensures { Gives (λ c. c) result (listed_at n randoms.now (items_view items.now)) }
 {
-    let mut found = Chances {
+    let mut found = Realizations {
         weights: List::new(alloc),
         values: List::new(alloc),
     };
@@ -76,12 +80,12 @@ fn listed(alloc: Global, randoms: &[Name], n: u32, items: &[Value]) -> Result<Ch
 /// The realizations of node n, at most 100. An empty list is one realization of weight 1 without
 /// random values, and is refused where the subproblem has random variables.
 #[tactic(auto, unfolding(crate::specs::Realizations::realizations_at), using(hp_fields::proofs::InOrder::counts))]
-pub(crate) fn realizations(
+pub(crate) fn read_realizations(
     alloc: Global,
     randoms: &[Name],
     n: u32,
     items: &[Value],
-) -> Result<Chances, ReadRefusal>
+) -> Result<Realizations, ReadRefusal>
     ensures { Gives (λ c. c) result (realizations_at n randoms.now (items_view items.now)) }
 {
     let place = Place::new(Part::Node, n, 0, 0);

@@ -5,19 +5,18 @@ ghost use Rattle.serde_json.specs.View.{view, members_view};
 ghost use Rattle.hp_fields.specs.Steps.{Gives};
 ghost use Rattle.hp_sof.specs.Root.{initial_at, state_at, states_at, counts_at, root_at};
 
-use crate::successors::successors;
+use crate::successors::read_successors;
 use crate::weights::weights;
 use hp_fields::{Names, ReadRefusal, count, key, member, members, object, present, whole};
 use hp_num::List;
+use hp_problem::limits::MOST_STATES;
 use hp_problem::{Part, Place, Refusal, RefusalKind, State};
 use serde_json::{Map, Value};
 use std::alloc::Global;
 
-const MOST_STATES: usize = 50;
-
 /// What a problem begins with.
 #[derive(Drop)]
-pub(crate) struct Start {
+pub(crate) struct Root {
     pub(crate) states: List<State>,
     /// The numbers of the nodes that may come first.
     pub(crate) nodes: List<u32>,
@@ -84,11 +83,11 @@ fn counts(states: usize, successors: usize, place: Place) -> Result<(), Refusal>
 
 /// The root: its states, then its successors, which are known nodes.
 #[tactic(auto, unfolding(crate::specs::Root::root_at))]
-pub(crate) fn root(
+pub(crate) fn read_root(
     alloc: Global,
     names: &Names,
     table: &Map<String, Value>,
-) -> Result<Start, ReadRefusal>
+) -> Result<Root, ReadRefusal>
     requires { length names.now ≤ 2 ^ 32 }
     ensures { Gives (λ s. s) result (root_at names.now (members_view table.now.entries)) }
 {
@@ -98,11 +97,11 @@ pub(crate) fn root(
     let all_successors = object(present(member(table, "successors"), place)?, place)?;
     counts(count(all_states), count(all_successors), place)?;
     let states = states(alloc, all_states)?;
-    let links = successors(alloc, names, Part::Root, 2, all_successors)?;
-    let weights = weights(alloc, 0, links.weights.as_slice(), place)?;
-    Ok(Start {
+    let successors = read_successors(alloc, names, Part::Root, 2, all_successors)?;
+    let weights = weights(alloc, 0, successors.weights.as_slice(), place)?;
+    Ok(Root {
         states,
-        nodes: links.nodes,
+        nodes: successors.nodes,
         weights,
     })
 }

@@ -2,7 +2,9 @@
 ghost use Rattle.std.specs.Prelude.{◌≡◌, ◌≤◌, ◌-◌, ◌^◌, length, option_map, slice_get};
 ghost use Rattle.serde_json.specs.View.{view, items_view};
 ghost use Rattle.hp_fields.specs.Steps.{Gives, Shows};
-ghost use Rattle.hp_sof.specs.Scenarios.{ways_from, randoms_in, follows_at, moment_at, moments_at, steps_at, some_at, scenario_at, scenarios_at};
+ghost use Rattle.hp_problem.specs.Parts.{subproblem_at};
+ghost use Rattle.hp_sof.specs.Values.{randoms_in};
+ghost use Rattle.hp_sof.specs.Scenarios.{successors_after, follows_at, step_at, path_at, steps_at, some_at, scenario_at, scenarios_at};
 
 use crate::successors::known;
 use crate::values::{randoms, values};
@@ -13,8 +15,8 @@ use serde_json::{Map, Value};
 use std::alloc::Global;
 
 // The nodes that a path may go on to: the root's successors at first, then those of its last node.
-fn ways<'r>(raw: &'r Raw, path: &[Moment]) -> &'r [u32]
-    ensures { result.now ≡ ways_from raw.now (slice_get path.now (length path.now - 1)) }
+fn successors_after<'r>(raw: &'r Raw, path: &[Moment]) -> &'r [u32]
+    ensures { result.now ≡ successors_after raw.now (slice_get path.now (length path.now - 1)) }
 {
     match path.last() {
         Some(last) => match raw.nodes.as_slice().get(last.node as usize) {
@@ -29,7 +31,7 @@ fn ways<'r>(raw: &'r Raw, path: &[Moment]) -> &'r [u32]
 fn follows(raw: &Raw, path: &[Moment], node: u32, place: Place) -> Result<(), Refusal>
     ensures { result ≡ follows_at place raw.now path.now node }
 {
-    if ways(raw, path).contains(&node) {
+    if successors_after(raw, path).contains(&node) {
         Ok(())
     } else {
         Err(RefusalKind::Scenario.at(place))
@@ -37,7 +39,7 @@ fn follows(raw: &Raw, path: &[Moment], node: u32, place: Place) -> Result<(), Re
 }
 
 fn node_randoms(raw: &Raw, node: u32) -> &[Name]
-    ensures { result.now ≡ randoms_in raw.now (slice_get raw.now.nodes node) }
+    ensures { result.now ≡ randoms_in (subproblem_at raw.now node) }
 {
     match raw.nodes.as_slice().get(node as usize) {
         Some(node) => randoms(raw.subs.as_slice(), node.sub),
@@ -45,8 +47,8 @@ fn node_randoms(raw: &Raw, node: u32) -> &[Name]
     }
 }
 
-#[tactic(auto, unfolding(crate::specs::Scenarios::moment_at))]
-fn moment(
+#[tactic(auto, unfolding(crate::specs::Scenarios::step_at))]
+fn read_step(
     alloc: Global,
     names: &Names,
     raw: &Raw,
@@ -57,7 +59,7 @@ fn moment(
 ) -> Result<(), ReadRefusal>
     requires { length names.now ≤ 2 ^ 32 }
     ensures { Gives (λ _. path.new) result
-        (moment_at names.now raw.now k path.old t (view value.now)) }
+        (step_at names.now raw.now k path.old t (view value.now)) }
 {
     let place = Place::new(Part::Step, k, t, 0);
     let none = Map::new(alloc);
@@ -71,7 +73,7 @@ fn moment(
     Ok(())
 }
 
-fn moments(
+fn read_path(
     alloc: Global,
     names: &Names,
     raw: &Raw,
@@ -79,12 +81,12 @@ fn moments(
     items: &[Value],
 ) -> Result<List<Moment>, ReadRefusal>
     requires { length names.now ≤ 2 ^ 32 }
-    ensures { Gives (λ l. l) result (moments_at names.now raw.now k (items_view items.now)) }
+    ensures { Gives (λ l. l) result (path_at names.now raw.now k (items_view items.now)) }
 {
     few(items.len())?;
     let mut path = List::new(alloc);
     for (t, value) in items.iter().enumerate() {
-        moment(alloc, names, raw, &mut path, k, t as u32, value)?;
+        read_step(alloc, names, raw, &mut path, k, t as u32, value)?;
     }
     Ok(path)
 }
@@ -126,7 +128,7 @@ fn scenario(
 {
     let place = Place::new(Part::Scenario, k, 0, 0);
     let steps = some(steps(value, place)?, place)?;
-    let path = moments(alloc, names, raw, k, steps)?;
+    let path = read_path(alloc, names, raw, k, steps)?;
     found.push(path)?;
     Ok(())
 }

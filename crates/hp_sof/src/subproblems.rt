@@ -14,7 +14,7 @@ use std::alloc::Global;
 
 /// Subproblems with the names by which they are known, in the byte order of the names.
 #[derive(Drop)]
-pub(crate) struct Directory {
+pub(crate) struct SubproblemTable {
     pub(crate) names: Names,
     pub(crate) subs: List<Subproblem>,
 }
@@ -60,12 +60,12 @@ pub(crate) fn subproblems(
     alloc: Global,
     states: &[State],
     table: &Map<String, Value>,
-) -> Result<Directory, ReadRefusal>
+) -> Result<SubproblemTable, ReadRefusal>
     ensures value { Gives (λ d. d) result
         (subproblems_at states.now (members_view table.now.entries)) }
     ensures few { IfOk result (λ d. length d.names ≡ members_len (members_view table.now.entries)) }
 {
     let subs = listed(alloc, states, table)?;
     let names = keys(alloc, table)?;
-    Ok(Directory { names, subs })
+    Ok(SubproblemTable { names, subs })
 }

@@ -14,7 +14,7 @@ use std::alloc::Global;
 
 /// Successors in the byte order of their names.
 #[derive(Drop)]
-pub(crate) struct Links {
+pub(crate) struct Successors {
     pub(crate) nodes: List<u32>,
     /// One weight per successor, each at least 1.
     pub(crate) weights: List<u64>,
@@ -35,7 +35,7 @@ pub(crate) fn known(names: &Names, name: &str, place: Place) -> Result<u32, Refu
 #[tactic(auto, unfolding(crate::specs::Successors::successor_at))]
 fn successor(
     names: &Names,
-    found: &mut Links,
+    found: &mut Successors,
     place: Place,
     name: &str,
     value: &Value,
@@ -53,19 +53,19 @@ fn successor(
 
 /// The successors that an object's members name: each a weight, then the key of a known node. The
 /// place of successor i has the part and the numbers `a`, i and 0.
-pub(crate) fn successors(
+pub(crate) fn read_successors(
     alloc: Global,
     names: &Names,
     part: Part,
     a: u32,
     members: &Map<String, Value>,
-) -> Result<Links, ReadRefusal>
+) -> Result<Successors, ReadRefusal>
     requires { length names.now ≤ 2 ^ 32 }
     ensures { Gives (λ s. s) result
         (successors_at part a names.now (members_view members.now.entries)) }
 {
     few(count(members))?;
-    let mut found = Links {
+    let mut found = Successors {
         nodes: List::new(alloc),
         weights: List::new(alloc),
     };

@@ -8,10 +8,9 @@ ghost use Rattle.hp_sof.specs.Shown.{shown};
 
 use crate::version::version;
 use hp_fields::{count, items, object, present};
+use hp_problem::limits::{MOST_NODES, MOST_SCENARIOS, MOST_SUBPROBLEMS};
 use hp_problem::{Place, Refusal, RefusalKind};
 use serde_json::{Map, Value};
-
-const MOST_ENTRIES: usize = 1_000;
 
 /// What a problem file holds.
 #[derive(Clone, Copy)]
@@ -41,9 +40,9 @@ fn sizes(
     ensures few_subproblems { OnOk result
         (members_len (members_view subproblems.now.entries) ≤ 1000) }
 {
-    if count(nodes) > MOST_ENTRIES
-        || count(subproblems) > MOST_ENTRIES
-        || scenarios.len() > MOST_ENTRIES
+    if count(nodes) > MOST_NODES
+        || count(subproblems) > MOST_SUBPROBLEMS
+        || scenarios.len() > MOST_SCENARIOS
     {
         return Err(RefusalKind::TooLarge.at(Place::WHOLE));
     }

@@ -5,10 +5,9 @@ ghost use Rattle.hp_sof.specs.Weights.{weights_at};
 
 use hp_fields::ReadRefusal;
 use hp_num::List;
+use hp_problem::limits::GREATEST_TOTAL_WEIGHT;
 use hp_problem::{Place, RefusalKind};
 use std::alloc::Global;
-
-const GREATEST_TOTAL: u64 = 65_535;
 
 /// The weights, where they and `more` add up to at most 65,535, else Weight.
 #[tactic(auto, unfolding(crate::specs::Weights::weights_at))]
@@ -22,7 +21,7 @@ pub(crate) fn weights(
     ensures small { OnOk result (more + sum all.now ≤ 65535) }
 {
     let too_much = ReadRefusal::Refused(RefusalKind::Weight.at(place));
-    let Some(mut left) = GREATEST_TOTAL.checked_sub(more) else {
+    let Some(mut left) = GREATEST_TOTAL_WEIGHT.checked_sub(more) else {
         return Err(too_much);
     };
     let mut found = List::new(alloc);

@@ -1,15 +1,16 @@
 -- The decisions that were read keep their limits, and there is one for each variable that is a decision.
-use Rattle.std.proofs.Common.{◌≡◌, ◌+◌, ℕ, zero, suc, ℤ, List, [], ◌∷◌, ◌++◌, length, map, drop, Bool, true, false, slice_get, Option, Some, None, Ok, int_le, if◌then◌else◌, refl, sym, ap, ap₂, subst, ◌∙◌, arith}
-use Rattle.std.specs.List.{list_all, AllByRecursion}
-use Rattle.std.proofs.lemmas.Bool.{and_from}
-use Rattle.std.proofs.lemmas.List.{length_push, drop_all}
-use Rattle.std.proofs.lemmas.Option.{same_Some}
+use Rattle.std.proofs.Common.{◌≡◌, ◌<◌, ◌+◌, ◌==◌, ℕ, zero, suc, ℤ, List, [], ◌∷◌, ◌++◌, length, map, drop, Bool, true, false, slice_get, Option, Some, None, Ok, int_le, if◌then◌else◌, refl, sym, ap, ap₂, subst, ◌∙◌, arith}
+use Rattle.std.specs.List.{list_all, zip, AllByRecursion}
+use Rattle.std.proofs.lemmas.Bool.{and_from, eqb-true, eqb-false}
+use Rattle.std.proofs.lemmas.List.{map-append, append-nil, append_assoc, drop_all}
+use Rattle.std.proofs.lemmas.Option.{same_Some, slice_get_within}
 use Rattle.hp_num.specs.Sums.{entry}
 use Rattle.hp_num.proofs.Tests.{and_first, and_second}
-use Rattle.hp_problem.specs.Limits.{is_small, are_small, is_name, is_bound, decision_fits}
+use Rattle.hp_problem.specs.Limits.{is_small, are_small, is_name, is_bound, sides_fit, decision_fits}
 use Rattle.hp_problem.specs.declared.raw.Decision.{Decision}
 use Rattle.hp_problem.specs.declared.refusal.Place.{Place}
-use Rattle.hp_fields.proofs.Accepted.{then-Ok, Ok-is, unless-Ok, list_all-push, walk_list-Ok}
+use Rattle.hp_fields.proofs.Accepted.{then-Ok, Ok-is, unless-Ok, list_all-push, EachFrom, walk_list-Ok}
+use Rattle.hp_fields.proofs.Distinct.{name_of}
 use Rattle.hp_subproblem.specs.declared.role.Role.{Role}
 use Rattle.hp_subproblem.specs.declared.role.Role.TheVariants.{Free, Incoming, Outgoing, Random}
 use Rattle.hp_subproblem.specs.declared.variables.Variables.{Variables}
@@ -17,7 +18,7 @@ use Rattle.hp_subproblem.specs.declared.sides.Sides.{Sides}
 use Rattle.hp_subproblem.specs.Sides.{is_crossed, ordered_at}
 use Rattle.hp_subproblem.specs.Decisions.{is_decision, decisions_from}
 use Rattle.hp_subproblem.specs.Boxes.{bound_at, decision_at, incoming_at, box_at, sides_of, variable_at, boxes_at, lows_of, highs_of}
-use Rattle.hp_subproblem.proofs.SidesFit.{AreBounds, le_from_uncrossed}
+use Rattle.hp_subproblem.proofs.SidesFit.{AreBounds, both_fit, le_from_uncrossed}
 use Rattle.hp_subproblem.proofs.RowsFit.{entry-small}
 
 -- ---- one decision
@@ -27,9 +28,10 @@ unfolding bound_at
 bound_at-Ok at None z e = cc
 bound_at-Ok at (Some y) z e = ap Some (Ok-is y z e)
 
--- one decision more, which keeps its limits
-record OneMore (found next : List Decision) : Type 0 where
+-- one decision more of that name, which keeps its limits
+record OneMore (name : List ℕ) (found next : List Decision) : Type 0 where
   decision : Decision
+  named : decision.name ≡ name
   added : found ++ decision ∷ [] ≡ next
   fits : decision_fits decision ≡ true
 
@@ -40,7 +42,7 @@ ordered_at-le at sides ordered low high is_low is_high e =
     le_from_uncrossed low high (sym (ap₂ is_crossed is_low is_high) ∙ parts.0)
 
 decision_at-more : (at : Place) (found next : List Decision) (name : List ℕ) (sides : Sides) (cost : ℤ) → is_name name ≡ true → AreBounds sides → is_small cost ≡ true
-    → decision_at at found name sides cost ≡ Ok next → OneMore found next
+    → decision_at at found name sides cost ≡ Ok next → OneMore name found next
 unfolding decision_at
 decision_at-more at found next name sides cost named bounds small e =
     then-Ok (bound_at _ _) _ next e (λ low is_low e.
@@ -52,6 +54,7 @@ decision_at-more at found next name sides cost named bounds small e =
     let small_high : is_small high ≡ true = subst (λ o. is_bound o ≡ true) h bounds.high in
     record {
       decision = record { name = name; low = low; high = high; cost = cost };
+      named = refl;
       added = Ok-is _ next e;
       fits = rw (named, small_low, small_high, ordered_at-le at sides ordered low high l h is, small) refl;
     })))
@@ -74,77 +77,132 @@ none_later [] i e = refl
 none_later (y ∷ ys) zero e = cc
 none_later (y ∷ ys) (suc i) e = none_later ys i e
 
--- how many decisions are left from variable i on
-left : List Role → ℕ → ℕ
-left roles i = length (decisions_from i (drop i roles))
+-- the decisions that are left from variable i on
+left : List Role → ℕ → List ℕ
+left roles i = decisions_from i (drop i roles)
 
-counted : (i : ℕ) (r : Role) (rs : List Role) → length (decisions_from i (r ∷ rs)) ≡ (if is_decision r then suc (length (decisions_from (suc i) rs)) else length (decisions_from (suc i) rs))
-counted i r rs = let next : i + 1 ≡ suc i = omega arith in rw next (by (is_decision r) (decisions_from (suc i) rs))
-  where
-    by : (b : Bool) (more : List ℕ) → length (if b then i ∷ more else more) ≡ (if b then suc (length more) else length more)
-    by true more = refl
-    by false more = refl
-
-left_some : (roles : List Role) (i : ℕ) (r : Role) → slice_get roles i ≡ Some r → left roles i ≡ (if is_decision r then suc (left roles (suc i)) else left roles (suc i))
+left_some : (roles : List Role) (i : ℕ) (r : Role) → slice_get roles i ≡ Some r → left roles i ≡ (if is_decision r then i ∷ left roles (suc i) else left roles (suc i))
 unfolding left
-left_some roles i r e = ap (λ rs. length (decisions_from i rs)) (drop_some roles i r e) ∙ counted i r (drop (suc i) roles)
+left_some roles i r e = let next : i + 1 ≡ suc i = omega arith in ap (λ rs. decisions_from i rs) (drop_some roles i r e) ∙ ap (λ n. if is_decision r then i ∷ decisions_from n (drop (suc i) roles) else decisions_from n (drop (suc i) roles)) next
 
-left_none : (roles : List Role) (i : ℕ) → slice_get roles i ≡ None → left roles i ≡ 0
+left_none : (roles : List Role) (i : ℕ) → slice_get roles i ≡ None → left roles i ≡ []
 unfolding left
-left_none roles i e = ap (λ rs. length (decisions_from i rs)) (drop_none roles i e)
+left_none roles i e = ap (λ rs. decisions_from i rs) (drop_none roles i e)
 
-left_all : (roles : List Role) → left roles 0 ≡ length (decisions_from 0 roles)
+left_all : (roles : List Role) → left roles 0 ≡ decisions_from 0 roles
 unfolding left
 left_all roles = refl
 
-left_at_end : (roles : List Role) (n : ℕ) → length roles ≡ n → left roles n ≡ 0
+left_at_end : (roles : List Role) (n : ℕ) → length roles ≡ n → left roles n ≡ []
 unfolding left
-left_at_end roles n e = ap (λ rs. length (decisions_from n rs)) (drop_all n roles (omega arith))
+left_at_end roles n e = ap (λ rs. decisions_from n rs) (drop_all n roles (omega arith))
 
--- so far each decision before variable i has its box
-record Boxed (roles : List Role) (i : ℕ) (found : List Decision) : Type 0 where
-  count : length found + left roles i ≡ left roles 0
+abbrev names_in : List Decision → List (List ℕ)
+names_in decisions = map (λ (d : Decision). d.name) decisions
+
+-- the given bounds of the variable v do not pass each other, where it is an incoming state
+abbrev InOrder : List Role → List Sides → ℕ → Type 0
+InOrder roles bounds v = slice_get roles v ≡ Some Incoming → is_crossed (sides_of bounds v).low (sides_of bounds v).high ≡ false
+
+-- so far each decision before variable i has its box, and the bounds of each incoming state are in order
+record Boxed (names : List (List ℕ)) (roles : List Role) (bounds : List Sides) (i : ℕ) (found : List Decision) : Type 0 where
+  named : names_in found ++ map (name_of names) (left roles i) ≡ map (name_of names) (left roles 0)
   fit : list_all decision_fits found ≡ true
+  in_order : (v : ℕ) → v < i → InOrder roles bounds v
 
-grown : (roles : List Role) (i : ℕ) (found next : List Decision) → OneMore found next → left roles i ≡ suc (left roles (suc i)) → Boxed roles i found → Boxed roles (suc i) next
-grown roles i found next more is b =
-    subst (Boxed roles (suc i)) more.added (record { count = omega (arith, length_push found more.decision, is, b.count); fit = list_all-push decision_fits found more.decision b.fit more.fits })
+-- one variable more whose bounds are in order
+one_more : (roles : List Role) (bounds : List Sides) (i : ℕ) → ((v : ℕ) → v < i → InOrder roles bounds v) → InOrder roles bounds i → (v : ℕ) → v < suc i → InOrder roles bounds v
+one_more roles bounds i before here v lt = by (v == i) refl
+  where
+    by : (b : Bool) → (v == i) ≡ b → InOrder roles bounds v
+    by true is = subst (InOrder roles bounds) (sym (eqb-true v i is)) here
+    by false is = before v (omega (arith, lt, eqb-false v i is))
 
-same : (roles : List Role) (i : ℕ) (found next : List Decision) → found ≡ next → left roles i ≡ left roles (suc i) → Boxed roles i found → Boxed roles (suc i) next
-same roles i found next e is b = subst (Boxed roles (suc i)) e (record { count = omega (arith, is, b.count); fit = b.fit })
+-- a variable of another role
+other_role : (roles : List Role) (bounds : List Sides) (i : ℕ) (o : Option Role) → slice_get roles i ≡ o → (o ≡ Some Incoming → ⊥) → InOrder roles bounds i
+other_role roles bounds i o is no_state h = absurd (no_state (sym is ∙ h))
 
-box_at-boxed : (roles : List Role) (at : Place) (found next : List Decision) (o : Option Role) (i : ℕ) (name : List ℕ) (sides : Sides) (cost : ℤ) → slice_get roles i ≡ o → is_name name ≡ true → AreBounds sides → is_small cost ≡ true
-    → box_at at found o name sides cost ≡ Ok next → Boxed roles i found → Boxed roles (suc i) next
+grown : (names : List (List ℕ)) (roles : List Role) (bounds : List Sides) (i : ℕ) (name : List ℕ) (found next : List Decision) → name ≡ name_of names i → OneMore name found next → left roles i ≡ i ∷ left roles (suc i) → InOrder roles bounds i
+    → Boxed names roles bounds i found → Boxed names roles bounds (suc i) next
+grown names roles bounds i name found next is_name more is here b =
+    let rest = map (name_of names) (left roles (suc i)) in
+    let front : names_in (found ++ more.decision ∷ []) ≡ names_in found ++ name_of names i ∷ [] = map-append (λ (d : Decision). d.name) found (more.decision ∷ []) ∙ ap (λ n. names_in found ++ n ∷ []) (more.named ∙ is_name) in
+    subst (Boxed names roles bounds (suc i)) more.added (record {
+      named = ap (λ ns. ns ++ rest) front ∙ append_assoc (names_in found) (name_of names i ∷ []) rest ∙ ap (λ vs. names_in found ++ map (name_of names) vs) (sym is) ∙ b.named;
+      fit = list_all-push decision_fits found more.decision b.fit more.fits;
+      in_order = one_more roles bounds i b.in_order here;
+    })
+
+same : (names : List (List ℕ)) (roles : List Role) (bounds : List Sides) (i : ℕ) (found next : List Decision) → found ≡ next → left roles i ≡ left roles (suc i) → InOrder roles bounds i → Boxed names roles bounds i found → Boxed names roles bounds (suc i) next
+same names roles bounds i found next e is here b = subst (Boxed names roles bounds (suc i)) e (record {
+  named = ap (λ vs. names_in found ++ map (name_of names) vs) (sym is) ∙ b.named;
+  fit = b.fit;
+  in_order = one_more roles bounds i b.in_order here;
+})
+
+ordered_at-uncrossed : (at : Place) (sides ordered : Sides) → ordered_at at sides ≡ Ok ordered → is_crossed sides.low sides.high ≡ false
+unfolding ordered_at
+ordered_at-uncrossed at sides ordered e = (unless-Ok (is_crossed sides.low sides.high) _ _ at ordered e).0
+
+box_at-boxed : (names : List (List ℕ)) (roles : List Role) (bounds : List Sides) (at : Place) (found next : List Decision) (o : Option Role) (i : ℕ) (name : List ℕ) (cost : ℤ) → slice_get roles i ≡ o → name ≡ name_of names i → is_name name ≡ true
+    → AreBounds (sides_of bounds i) → is_small cost ≡ true → box_at at found o name (sides_of bounds i) cost ≡ Ok next → Boxed names roles bounds i found → Boxed names roles bounds (suc i) next
 unfolding box_at incoming_at
-box_at-boxed roles at found next None i name sides cost is named bounds small e b = same roles i found next (Ok-is _ next e) (left_none roles i is ∙ sym (left_none roles (suc i) (none_later roles i is))) b
-box_at-boxed roles at found next (Some Free) i name sides cost is named bounds small e b = grown roles i found next (decision_at-more at found next name sides cost named bounds small e) (left_some roles i Free is) b
-box_at-boxed roles at found next (Some Incoming) i name sides cost is named bounds small e b = then-Ok (ordered_at _ _) _ next e (λ ordered is_ordered e. same roles i found next (Ok-is _ next e) (left_some roles i Incoming is) b)
-box_at-boxed roles at found next (Some Outgoing) i name sides cost is named bounds small e b = grown roles i found next (decision_at-more at found next name sides cost named bounds small e) (left_some roles i Outgoing is) b
-box_at-boxed roles at found next (Some Random) i name sides cost is named bounds small e b = same roles i found next (Ok-is _ next e) (left_some roles i Random is) b
+box_at-boxed names roles bounds at found next None i name cost is is_at named fit small e b =
+    same names roles bounds i found next (Ok-is _ next e) (left_none roles i is ∙ sym (left_none roles (suc i) (none_later roles i is))) (other_role roles bounds i None is (λ h. cc)) b
+box_at-boxed names roles bounds at found next (Some Free) i name cost is is_at named fit small e b =
+    grown names roles bounds i name found next is_at (decision_at-more at found next name (sides_of bounds i) cost named fit small e) (left_some roles i Free is) (other_role roles bounds i (Some Free) is (λ h. cc)) b
+box_at-boxed names roles bounds at found next (Some Incoming) i name cost is is_at named fit small e b =
+    then-Ok (ordered_at _ _) _ next e (λ ordered is_ordered e.
+    same names roles bounds i found next (Ok-is _ next e) (left_some roles i Incoming is) (λ h. ordered_at-uncrossed at (sides_of bounds i) ordered is_ordered) b)
+box_at-boxed names roles bounds at found next (Some Outgoing) i name cost is is_at named fit small e b =
+    grown names roles bounds i name found next is_at (decision_at-more at found next name (sides_of bounds i) cost named fit small e) (left_some roles i Outgoing is) (other_role roles bounds i (Some Outgoing) is (λ h. cc)) b
+box_at-boxed names roles bounds at found next (Some Random) i name cost is is_at named fit small e b =
+    same names roles bounds i found next (Ok-is _ next e) (left_some roles i Random is) (other_role roles bounds i (Some Random) is (λ h. cc)) b
 
 sides_of-bounds : (bounds : List Sides) (v : ℕ) → AllByRecursion AreBounds bounds → AreBounds (sides_of bounds v)
 sides_of-bounds [] v all = record { low = refl; high = refl }
 sides_of-bounds (b ∷ bs) zero all = all.0
 sides_of-bounds (b ∷ bs) (suc v) all = sides_of-bounds bs v all.1
 
-each_passes : {A : Type 0} (test : A → Bool) (xs : List A) → list_all test xs ≡ true → AllByRecursion (λ x. test x ≡ true) xs
-each_passes test [] e = tt
-each_passes test (x ∷ xs) e = (and_first (test x) (list_all test xs) e, each_passes test xs (and_second (test x) (list_all test xs) e))
+-- a name of at most 128 bytes that is the one with the number i
+abbrev NameAt : List (List ℕ) → ℕ → List ℕ → Type 0
+NameAt names i name = (name ≡ name_of names i) × (is_name name ≡ true)
 
-variable_at-boxed : (vars : Variables) (p : ℕ) (bounds : List Sides) (costs : List ℤ) (found next : List Decision) (i : ℕ) (name : List ℕ) → AllByRecursion AreBounds bounds → are_small costs ≡ true → is_name name ≡ true
-    → variable_at vars p bounds costs found i name ≡ Ok next → Boxed vars.uses.roles i found → Boxed vars.uses.roles (suc i) next
+each_name : (names : List (List ℕ)) (i : ℕ) (rest : List (List ℕ)) → ((j : ℕ) → name_of rest j ≡ name_of names (i + j)) → list_all is_name rest ≡ true → EachFrom (NameAt names) i rest
+unfolding name_of
+each_name names i [] there all = tt
+each_name names i (x ∷ xs) there all =
+    let here : i + 0 ≡ i = omega arith in (
+      (there 0 ∙ ap (name_of names) here, and_first (is_name x) (list_all is_name xs) all),
+      each_name names (suc i) xs (λ j. let next : i + suc j ≡ suc i + j = omega arith in there (suc j) ∙ ap (name_of names) next) (and_second (is_name x) (list_all is_name xs) all),
+    )
+
+variable_at-boxed : (vars : Variables) (p : ℕ) (bounds : List Sides) (costs : List ℤ) (found next : List Decision) (i : ℕ) (name : List ℕ) → AllByRecursion AreBounds bounds → are_small costs ≡ true → NameAt vars.names i name
+    → variable_at vars p bounds costs found i name ≡ Ok next → Boxed vars.names vars.uses.roles bounds i found → Boxed vars.names vars.uses.roles bounds (suc i) next
 unfolding variable_at
 variable_at-boxed vars p bounds costs found next i name all small named e b =
-    box_at-boxed vars.uses.roles _ found next (slice_get vars.uses.roles i) i name (sides_of bounds i) (entry costs i) refl named (sides_of-bounds bounds i all) (entry-small costs i small) e b
+    box_at-boxed vars.names vars.uses.roles bounds _ found next (slice_get vars.uses.roles i) i name (entry costs i) refl named.0 named.1 (sides_of-bounds bounds i all) (entry-small costs i small) e b
+
+-- the decisions with their boxes: each keeps its limits and has the name of its variable; and the bounds of the incoming states are in order
+pub record BoxesFit (vars : Variables) (bounds : List Sides) (decisions : List Decision) : Type 0 where
+  pub named : map (λ (d : Decision). d.name) decisions ≡ map (name_of vars.names) (decisions_from 0 vars.uses.roles)
+  pub fit : list_all decision_fits decisions ≡ true
+  pub in_order : (v : ℕ) → slice_get vars.uses.roles v ≡ Some Incoming → is_crossed (sides_of bounds v).low (sides_of bounds v).high ≡ false
 
 pub boxes_at-fit : (vars : Variables) (p : ℕ) (bounds : List Sides) (costs : List ℤ) (decisions : List Decision) → list_all is_name vars.names ≡ true → length vars.uses.roles ≡ length vars.names → AllByRecursion AreBounds bounds
-    → are_small costs ≡ true → boxes_at vars p bounds costs ≡ Ok decisions → (length decisions ≡ length (decisions_from 0 vars.uses.roles)) × (list_all decision_fits decisions ≡ true)
+    → are_small costs ≡ true → boxes_at vars p bounds costs ≡ Ok decisions → BoxesFit vars bounds decisions
 unfolding boxes_at
 boxes_at-fit vars p bounds costs decisions named long all small e =
+    let names = vars.names in
     let roles = vars.uses.roles in
-    let b = walk_list-Ok (Boxed roles) (λ name. is_name name ≡ true) (variable_at vars p bounds costs) (λ found next i name named e b. variable_at-boxed vars p bounds costs found next i name all small named e b)
-    vars.names [] decisions 0 (length vars.names) (omega arith) (each_passes is_name vars.names named) e (record { count = omega arith; fit = refl }) in
-    (omega (arith, b.count, left_at_end roles (length vars.names) long, left_all roles), b.fit)
+    let b = walk_list-Ok (Boxed names roles bounds) (NameAt names) (variable_at vars p bounds costs) (λ found next i name named e b. variable_at-boxed vars p bounds costs found next i name all small named e b)
+    names [] decisions 0 (length names) (omega arith) (each_name names 0 names (λ j. let same : j ≡ 0 + j = omega arith in ap (name_of names) same) named) e (record { named = refl; fit = refl; in_order = λ v lt. absurd (omega arith) }) in
+    let none : map (name_of names) (left roles (length names)) ≡ [] = ap (map (name_of names)) (left_at_end roles (length names) long) in
+    record {
+      named = sym (append-nil (names_in decisions)) ∙ ap (λ ns. names_in decisions ++ ns) (sym none) ∙ b.named ∙ ap (map (name_of names)) (left_all roles);
+      fit = b.fit;
+      in_order = λ v has. b.in_order v (omega (arith, slice_get_within roles v Incoming has, long)) has;
+    }
 
 -- ---- the given bounds of some variables
 
@@ -157,3 +215,19 @@ pub highs_of-bounds : (bounds : List Sides) (vs : List ℕ) → AllByRecursion A
 unfolding highs_of
 highs_of-bounds bounds [] all = refl
 highs_of-bounds bounds (v ∷ vs) all = and_from (is_bound (sides_of bounds v).high) (list_all is_bound (map (λ v. (sides_of bounds v).high) vs)) (sides_of-bounds bounds v all).high (highs_of-bounds bounds vs all)
+
+-- the sides of a box that is not crossed
+box_sides : (low high : Option ℤ) → is_bound low ≡ true → is_bound high ≡ true → is_crossed low high ≡ false → sides_fit low high ≡ true
+box_sides None high l h e = h
+box_sides (Some x) None l h e = l
+box_sides (Some x) (Some y) l h e = both_fit x y l h (le_from_uncrossed x y e)
+
+-- the given bounds of incoming states do not pass each other
+pub bounds-fit : (roles : List Role) (bounds : List Sides) (vs : List ℕ) → AllByRecursion AreBounds bounds → ((v : ℕ) → slice_get roles v ≡ Some Incoming → is_crossed (sides_of bounds v).low (sides_of bounds v).high ≡ false)
+    → AllByRecursion (λ v. slice_get roles v ≡ Some Incoming) vs → list_all (λ (b : Option ℤ × Option ℤ). sides_fit b.0 b.1) (zip (lows_of bounds vs) (highs_of bounds vs)) ≡ true
+unfolding lows_of highs_of
+bounds-fit roles bounds [] all ordered has = refl
+bounds-fit roles bounds (v ∷ vs) all ordered has =
+    let sides = sides_of-bounds bounds v all in
+    and_from (sides_fit (sides_of bounds v).low (sides_of bounds v).high) (list_all (λ (b : Option ℤ × Option ℤ). sides_fit b.0 b.1) (zip (lows_of bounds vs) (highs_of bounds vs)))
+    (box_sides (sides_of bounds v).low (sides_of bounds v).high sides.low sides.high (ordered v has.0)) (bounds-fit roles bounds vs all ordered has.1)

@@ -8,11 +8,11 @@ use Rattle.hp_fields.specs.Fields.{place, key_at}
 use Rattle.hp_subproblem.specs.declared.variables.Variables.{Variables}
 use Rattle.hp_subproblem.specs.declared.function.Function.{Function}
 use Rattle.hp_subproblem.specs.Objective.{objective_at}
-use Rattle.hp_subproblem.specs.Parts.{Pieces, pieces_at}
+use Rattle.hp_subproblem.specs.StageParts.{StageParts, stage_parts_at}
 use Rattle.hp_subproblem.specs.Subproblem.{variables_at, filled_at, subproblem_at}
 
-pub subproblem_at-filled : (states : List State) (p : ℕ) (k name : List ℕ) (d : Data) (pieces : Pieces) (vars : Variables) (costs : Function) (at : Place) → at ≡ place parts.Subproblem p 0 0 → key_at at k ≡ Ok name
-    → pieces_at at d ≡ Ok pieces → variables_at states p pieces ≡ Ok vars → objective_at vars.names p pieces.objective ≡ Ok costs
-    → subproblem_at states p k d ≡ filled_at vars p costs pieces.constraints
+pub subproblem_at-filled : (states : List State) (p : ℕ) (k name : List ℕ) (d : Data) (stage : StageParts) (vars : Variables) (costs : Function) (at : Place) → at ≡ place parts.Subproblem p 0 0 → key_at at k ≡ Ok name
+    → stage_parts_at at d ≡ Ok stage → variables_at states p stage ≡ Ok vars → objective_at vars.names p stage.objective ≡ Ok costs
+    → subproblem_at states p k d ≡ filled_at vars p costs stage.constraints
 unfolding subproblem_at
-subproblem_at-filled states p k name d pieces vars costs at is one two three four = rw (← is, one, two, three, four)
+subproblem_at-filled states p k name d stage vars costs at is one two three four = rw (← is, one, two, three, four)

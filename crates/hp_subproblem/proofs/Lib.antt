@@ -7,4 +7,5 @@ pub mod SidesFit
 pub mod RowsFit
 pub mod UsesFit
 pub mod BoxesFit
+pub mod NamesDiffer
 pub mod Fits

@@ -32,7 +32,7 @@ pub le_from_uncrossed : (a b : ℤ) → int_lt b a ≡ false → int_le a b ≡ 
 le_from_uncrossed a b e = le_from a b (omega (arith, ints))
 
 -- both sides
-both_fit : (low high : ℤ) → is_small low ≡ true → is_small high ≡ true → int_le low high ≡ true → sides_fit (Some low) (Some high) ≡ true
+pub both_fit : (low high : ℤ) → is_small low ≡ true → is_small high ≡ true → int_le low high ≡ true → sides_fit (Some low) (Some high) ≡ true
 both_fit low high l h le = and_from (is_small low && is_small high) (int_le low high) (and_from (is_small low) (is_small high) l h) le
 
 side_at-small : (at : Place) (key : List ℕ) (d : Data) (z : ℤ) → side_at at key d ≡ Ok z → is_small z ≡ true

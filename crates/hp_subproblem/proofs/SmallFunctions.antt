@@ -8,7 +8,7 @@ use Rattle.hp_problem.specs.Limits.{is_small, are_small}
 use Rattle.hp_problem.specs.declared.refusal.Place.{Place}
 use Rattle.hp_fields.specs.Fields.{present_at, string_at, array_at}
 use Rattle.hp_fields.specs.Limits.{known_at, limited_at}
-use Rattle.hp_fields.proofs.Accepted.{then-Ok, Ok-is, test-Ok, either-Ok, All-any, list_all-push, whole_at-small, limited_at-small, walk_list-Ok}
+use Rattle.hp_fields.proofs.Accepted.{then-Ok, Ok-is, test-Ok, either-Ok, EachFrom-any, list_all-push, whole_at-small, limited_at-small, walk_list-Ok}
 use Rattle.hp_subproblem.specs.declared.function.Site.{Site}
 use Rattle.hp_subproblem.specs.declared.function.Site.TheVariants.{Objective}
 use Rattle.hp_subproblem.specs.declared.function.Function.{Function}
@@ -46,7 +46,7 @@ variable_function_at-small names at d f e =
 coefficients_at-small : (at : Place) (sums found : List ℤ) → coefficients_at at sums ≡ Ok found → are_small found ≡ true
 unfolding coefficients_at coefficient_at
 coefficients_at-small at sums found e =
-    walk_list-Ok (λ i xs. are_small xs ≡ true) (λ x. Unit {0}) (λ xs i sum. coefficient_at at xs sum) each sums [] found 0 (length sums) (omega arith) (All-any sums) e refl
+    walk_list-Ok (λ i xs. are_small xs ≡ true) (λ i x. Unit {0}) (λ xs i sum. coefficient_at at xs sum) each sums [] found 0 (length sums) (omega arith) (EachFrom-any 0 sums) e refl
   where
     each : (xs next : List ℤ) (i : ℕ) (sum : ℤ) → Unit {0} → coefficient_at at xs sum ≡ Ok next → are_small xs ≡ true → are_small next ≡ true
     each xs next i sum any step small =

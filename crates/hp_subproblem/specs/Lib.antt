@@ -9,6 +9,6 @@ pub mod Sides
 pub mod Rows
 pub mod Constraint
 pub mod Boxes
-pub mod Parts
+pub mod StageParts
 pub mod Shown
 pub mod Subproblem

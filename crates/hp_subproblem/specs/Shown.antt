@@ -1,9 +1,9 @@
--- What the pieces of a subproblem stand for.
+-- What the parts of a stage stand for.
 use Rattle.serde_json.specs.View.{view, members_view, items_view}
-use Rattle.hp_subproblem.specs.declared.pieces.Pieces.{Pieces}
-use Rattle.hp_subproblem.specs.Parts as parts
+use Rattle.hp_subproblem.specs.declared.stage_parts.StageParts.{StageParts}
+use Rattle.hp_subproblem.specs.StageParts as parts
 
-abbrev pub shown : Pieces → parts.Pieces
+abbrev pub shown : StageParts → parts.StageParts
 shown v = record {
   states = members_view v.states.now.entries;
   randoms = items_view v.randoms.now;

@@ -21,14 +21,14 @@ use Rattle.hp_subproblem.specs.Objective.{objective_at}
 use Rattle.hp_subproblem.specs.Rows.{picked}
 use Rattle.hp_subproblem.specs.Constraint.{constraints_at}
 use Rattle.hp_subproblem.specs.Boxes.{boxes_at, lows_of, highs_of}
-use Rattle.hp_subproblem.specs.Parts.{Pieces, pieces_at}
+use Rattle.hp_subproblem.specs.StageParts.{StageParts, stage_parts_at}
 
 -- the variables, what the states and the random variables use, and the decisions
-unfoldable pub variables_at : List State → ℕ → Pieces → Result Variables Refusal
-variables_at states p pieces = do
-  names ← names_at p pieces.variables
-  with_states ← states_at states names p (unused (length names)) pieces.states
-  uses ← randoms_at names p with_states pieces.randoms
+unfoldable pub variables_at : List State → ℕ → StageParts → Result Variables Refusal
+variables_at states p stage = do
+  names ← names_at p stage.variables
+  with_states ← states_at states names p (unused (length names)) stage.states
+  uses ← randoms_at names p with_states stage.randoms
   decisions ← decisions_at p uses.roles
   Ok (record { names = names; uses = uses; decisions = decisions })
 
@@ -44,8 +44,8 @@ outs_of decisions outgoing = map (number_of decisions) outgoing
 unfoldable pub few_rows_at : ℕ → Constraints → Result Constraints Refusal
 few_rows_at p found = if nat_le (length found.rows) 200 then Ok found else refuse kinds.TooLarge (place parts.Subproblem p 0 0)
 
-unfoldable pub whole_of : Variables → Function → Constraints → List Decision → Subproblem
-whole_of vars costs found decisions = record {
+unfoldable pub subproblem_of : Variables → Function → Constraints → List Decision → Subproblem
+subproblem_of vars costs found decisions = record {
   decisions = decisions;
   outs = outs_of vars.decisions vars.uses.outgoing;
   randoms = vars.uses.names;
@@ -63,12 +63,12 @@ filled_at vars p costs ds = do
   all ← constraints_at vars p ds
   found ← few_rows_at p all
   decisions ← boxes_at vars p found.bounds costs.coefficients
-  Ok (whole_of vars costs found decisions)
+  Ok (subproblem_of vars costs found decisions)
 
 unfoldable pub subproblem_at : List State → ℕ → List ℕ → Data → Result Subproblem Refusal
 subproblem_at states p k d = do
   name ← key_at (place parts.Subproblem p 0 0) k
-  pieces ← pieces_at (place parts.Subproblem p 0 0) d
-  vars ← variables_at states p pieces
-  costs ← objective_at vars.names p pieces.objective
-  filled_at vars p costs pieces.constraints
+  stage ← stage_parts_at (place parts.Subproblem p 0 0) d
+  vars ← variables_at states p stage
+  costs ← objective_at vars.names p stage.objective
+  filled_at vars p costs stage.constraints

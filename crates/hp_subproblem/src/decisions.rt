@@ -6,10 +6,9 @@ ghost use Rattle.hp_subproblem.specs.Decisions.{is_decision, decisions_from, dec
 use crate::role::Role;
 use hp_fields::ReadRefusal;
 use hp_num::{List, Memory};
+use hp_problem::limits::MOST_DECISIONS;
 use hp_problem::{Part, Place, RefusalKind};
 use std::alloc::Global;
-
-const MOST_DECISIONS: usize = 200;
 
 impl Role {
     fn is_decision(self) -> bool

@@ -6,16 +6,16 @@ mod constraint;
 mod decisions;
 mod function;
 mod objective;
-mod pieces;
 mod randoms;
 mod role;
 mod rows;
 mod sides;
+mod stage_parts;
+mod stage_problem;
 mod states;
 mod variables;
-mod whole;
 
-pub use whole::subproblem;
+pub use stage_problem::subproblem;
 
 #[cfg(test)]
 mod tests;

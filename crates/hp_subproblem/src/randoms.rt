@@ -7,11 +7,10 @@ ghost use Rattle.hp_subproblem.specs.Randoms.{random_at, each_random_at, randoms
 use crate::role::{Role, Uses, take};
 use hp_fields::{Names, ReadRefusal, known, string};
 use hp_num::Name;
+use hp_problem::limits::MOST_RANDOMS;
 use hp_problem::{Part, Place, RefusalKind};
 use serde_json::Value;
 use std::alloc::Global;
-
-const MOST_RANDOMS: usize = 50;
 
 #[tactic(auto, unfolding(crate::specs::Randoms::random_at))]
 fn random(

@@ -10,5 +10,5 @@ invariant-loop-name l = record {
   can : (goal.iterator-loop-name).can_next l.name-iterator;
   finite : (goal.iterator-loop-name).is_finite l.name-iterator;
   counted : l.n + members_len (members_view l.name-iterator) ≡ members_len (members_view l.table.entries);
-  walked : walk_members (node_at l.names l.directory) l.found l.n (members_view l.name-iterator) ≡ nodes_at l.names l.directory (members_view l.table.entries);
+  walked : walk_members (node_at l.names l.subproblems) l.found l.n (members_view l.name-iterator) ≡ nodes_at l.names l.subproblems (members_view l.table.entries);
 }

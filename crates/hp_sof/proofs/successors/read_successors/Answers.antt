@@ -10,10 +10,10 @@ use Rattle.hp_fields.specs.Fields.{place}
 use Rattle.hp_fields.specs.Steps.{Fails}
 use Rattle.hp_fields.proofs.Walks.{members-go, members-fail, members-done}
 use Rattle.hp_sof.specs.Successors.{successor_at, successors_at}
-use Rattle.hp_sof.specs.declared.successors.Links.{Links}
-use Rattle.hp_sof.proofs.successors.successors.Goals as goal
+use Rattle.hp_sof.specs.declared.successors.Successors.{Successors}
+use Rattle.hp_sof.proofs.successors.read_successors.Goals as goal
 
-abbrev step : Part → ℕ → List (List ℕ) → Links → ℕ → List ℕ → Data → Result Links Refusal
+abbrev step : Part → ℕ → List (List ℕ) → Successors → ℕ → List ℕ → Data → Result Successors Refusal
 step part a names found i k d = successor_at (place part a i 0) names found k d
 
 pub loop-name-init : goal.loop-name-init

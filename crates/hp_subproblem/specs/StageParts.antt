@@ -1,4 +1,4 @@
--- The parts of a subproblem.
+-- The parts of a stage.
 use Rattle.std.specs.Prelude.{ℕ, List, Result, Ok, codes}
 use Rattle.serde_json.specs.Data.{Data, Items, Members}
 use Rattle.serde_json.specs.Find.{get}
@@ -8,7 +8,7 @@ use Rattle.hp_fields.specs.Steps.{◌>>=◌}
 use Rattle.hp_fields.specs.Fields.{present_at, object_at, array_at}
 use Rattle.hp_fields.specs.Limits.{members_at, items_at}
 
-pub record Pieces : Type 0 where
+pub record StageParts : Type 0 where
   pub states : Members
   pub randoms : Items
   pub variables : Items
@@ -28,8 +28,8 @@ object_under at key d = do
   members ← object_at at inner
   Ok inner
 
-unfoldable pub pieces_at : Place → Data → Result Pieces Refusal
-pieces_at at d = do
+unfoldable pub stage_parts_at : Place → Data → Result StageParts Refusal
+stage_parts_at at d = do
   states ← members_at at (get (codes "state_variables") d)
   randoms ← items_at at (get (codes "random_variables") d)
   inner ← object_under at (codes "subproblem") d

@@ -4,7 +4,7 @@ use Rattle.serde_json.specs.View.{members_view}
 use Rattle.hp_fields.specs.Fields.{place}
 use Rattle.hp_fields.specs.Steps.{walk_members}
 use Rattle.hp_sof.specs.Successors.{successor_at, successors_at}
-use Rattle.hp_sof.proofs.successors.successors.Given as goal
+use Rattle.hp_sof.proofs.successors.read_successors.Given as goal
 
 abbrev pub invariant-loop-name : goal.invariant-loop-name
 invariant-loop-name l = record {

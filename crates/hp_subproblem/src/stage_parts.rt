@@ -1,8 +1,8 @@
-// The pieces of a subproblem.
+// The parts of a stage.
 ghost use Rattle.std.specs.Prelude.{◌≡◌, []};
 ghost use Rattle.serde_json.specs.View.{view, members_view, items_view};
 ghost use Rattle.hp_fields.specs.Steps.{Shows};
-ghost use Rattle.hp_subproblem.specs.Parts.{array_under, object_under, pieces_at};
+ghost use Rattle.hp_subproblem.specs.StageParts.{array_under, object_under, stage_parts_at};
 ghost use Rattle.hp_subproblem.specs.Shown.{shown};
 
 use hp_fields::{array, items, members, object, present};
@@ -11,7 +11,7 @@ use serde_json::{Map, Value};
 
 /// What a subproblem's object holds.
 #[derive(Clone, Copy)]
-pub(crate) struct Pieces<'v> {
+pub(crate) struct StageParts<'v> {
     pub(crate) states: &'v Map<String, Value>,
     pub(crate) randoms: &'v [Value],
     pub(crate) variables: &'v [Value],
@@ -20,14 +20,14 @@ pub(crate) struct Pieces<'v> {
     pub(crate) constraints: &'v [Value],
 }
 
-#[tactic(auto, unfolding(crate::specs::Parts::array_under))]
+#[tactic(auto, unfolding(crate::specs::StageParts::array_under))]
 fn array_of<'v>(value: &'v Value, key: &str, place: Place) -> Result<&'v [Value], Refusal>
     ensures { Shows (λ items. items_view items.now) result (array_under place key.now (view value.now)) }
 {
     array(present(value.get(key), place)?, place)
 }
 
-#[tactic(auto, unfolding(crate::specs::Parts::object_under))]
+#[tactic(auto, unfolding(crate::specs::StageParts::object_under))]
 fn object_of<'v>(value: &'v Value, key: &str, place: Place) -> Result<&'v Value, Refusal>
     ensures { Shows (λ v. view v.now) result (object_under place key.now (view value.now)) }
 {
@@ -36,16 +36,16 @@ fn object_of<'v>(value: &'v Value, key: &str, place: Place) -> Result<&'v Value,
     Ok(inner)
 }
 
-/// The pieces of a subproblem: Shape where one is absent or of the wrong type.
+/// The parts of a stage: Shape where one is absent or of the wrong type.
 /// Absent states are those of `none`, which has none, and absent random variables are none.
-#[tactic(auto, unfolding(crate::specs::Parts::pieces_at))]
-pub(crate) fn read_pieces<'v>(
+#[tactic(auto, unfolding(crate::specs::StageParts::stage_parts_at))]
+pub(crate) fn read_stage_parts<'v>(
     value: &'v Value,
     none: &'v Map<String, Value>,
     place: Place,
-) -> Result<Pieces<'v>, Refusal>
+) -> Result<StageParts<'v>, Refusal>
     requires { none.now.entries ≡ [] }
-    ensures { Shows shown result (pieces_at place (view value.now)) }
+    ensures { Shows shown result (stage_parts_at place (view value.now)) }
 {
     let states = members(value.get("state_variables"), none, place)?;
     let randoms = items(value.get("random_variables"), place)?;
@@ -53,7 +53,7 @@ pub(crate) fn read_pieces<'v>(
     let variables = array_of(inner, "variables", place)?;
     let objective = object_of(inner, "objective", place)?;
     let constraints = array_of(inner, "constraints", place)?;
-    Ok(Pieces {
+    Ok(StageParts {
         states,
         randoms,
         variables,

@@ -1,42 +1,41 @@
-// One subproblem as a whole.
+// One stage problem, of its parts.
 ghost use Rattle.std.specs.Prelude.{◌≡◌, ◌==◌, ◌<◌, ◌≤◌, length, position, IfOk, IfSome};
 ghost use Rattle.serde_json.specs.View.{view, items_view};
 ghost use Rattle.hp_fields.specs.Steps.{Gives, Shows};
 ghost use Rattle.hp_subproblem.specs.Shown.{shown};
-ghost use Rattle.hp_subproblem.specs.Subproblem.{variables_at, number_of, outs_of, few_rows_at, whole_of, filled_at, subproblem_at};
+ghost use Rattle.hp_subproblem.specs.Subproblem.{variables_at, number_of, outs_of, few_rows_at, subproblem_of, filled_at, subproblem_at};
 
 use crate::boxes::{boxes, highs, lows};
 use crate::constraint::{Constraints, read_constraints};
 use crate::decisions::decisions;
 use crate::function::Function;
 use crate::objective::objective;
-use crate::pieces::{Pieces, read_pieces};
 use crate::randoms::randoms;
 use crate::role::Uses;
 use crate::rows::picked;
+use crate::stage_parts::{StageParts, read_stage_parts};
 use crate::states::states;
 use crate::variables::{Variables, variable_names};
 use hp_fields::{ReadRefusal, few, short};
 use hp_num::{List, Memory};
+use hp_problem::limits::MOST_ROWS;
 use hp_problem::{Decision, Part, Place, Refusal, RefusalKind, State, Subproblem};
 use serde_json::{Map, Value};
 use std::alloc::Global;
-
-const MOST_ROWS: usize = 200;
 
 #[tactic(auto, unfolding(crate::specs::Subproblem::variables_at))]
 fn read_variables(
     alloc: Global,
     all: &[State],
     p: u32,
-    pieces: &Pieces<'_>,
+    stage: &StageParts<'_>,
 ) -> Result<Variables, ReadRefusal>
-    ensures { Gives (λ v. v) result (variables_at all.now p (shown pieces.now)) }
+    ensures { Gives (λ v. v) result (variables_at all.now p (shown stage.now)) }
 {
-    let names = variable_names(alloc, p, pieces.variables)?;
+    let names = variable_names(alloc, p, stage.variables)?;
     let mut uses = Uses::none(alloc, names.len())?;
-    states(all, &names, p, &mut uses, pieces.states)?;
-    randoms(alloc, &names, p, &mut uses, pieces.randoms)?;
+    states(all, &names, p, &mut uses, stage.states)?;
+    randoms(alloc, &names, p, &mut uses, stage.randoms)?;
     let decisions = decisions(alloc, p, uses.roles.as_slice())?;
     Ok(Variables {
         names,
@@ -83,15 +82,15 @@ fn few_rows(found: Constraints, p: u32) -> Result<Constraints, Refusal>
     Ok(found)
 }
 
-#[tactic(auto, unfolding(crate::specs::Subproblem::whole_of))]
-fn whole(
+#[tactic(auto, unfolding(crate::specs::Subproblem::subproblem_of))]
+fn assembled(
     alloc: Global,
     variables: Variables,
     costs: &Function,
     found: Constraints,
     decisions: List<Decision>,
 ) -> Result<Subproblem, Memory>
-    ensures { IfOk result (λ s. s ≡ whole_of variables costs.now found decisions) }
+    ensures { IfOk result (λ s. s ≡ subproblem_of variables costs.now found decisions) }
 {
     let coefficients = costs.coefficients.as_slice();
     let Variables {
@@ -127,7 +126,7 @@ fn filled(
     let found = few_rows(all, p)?;
     let bounds = found.bounds.as_slice();
     let decisions = boxes(alloc, &variables, p, bounds, costs.coefficients.as_slice())?;
-    Ok(whole(alloc, variables, costs, found, decisions)?)
+    Ok(assembled(alloc, variables, costs, found, decisions)?)
 }
 
 /// Subproblem p of a problem file, of this name: its decisions, rows and costs, or the first refusal.
@@ -146,8 +145,8 @@ pub fn subproblem(
     let place = Place::new(Part::Subproblem, p, 0, 0);
     short(name, place)?;
     let none = Map::new(alloc);
-    let pieces = read_pieces(value, &none, place)?;
-    let variables = read_variables(alloc, states, p, &pieces)?;
-    let costs = objective(alloc, &variables.names, p, pieces.objective)?;
-    filled(alloc, variables, p, &costs, pieces.constraints)
+    let stage = read_stage_parts(value, &none, place)?;
+    let variables = read_variables(alloc, states, p, &stage)?;
+    let costs = objective(alloc, &variables.names, p, stage.objective)?;
+    filled(alloc, variables, p, &costs, stage.constraints)
 }

@@ -1,8 +1,0 @@
-use Rattle.std.proofs.Common.{◌≡◌, drop}
-use Rattle.serde_json.specs.View.{items_view}
-use Rattle.hp_fields.specs.Steps.{walk_items}
-use Rattle.hp_sof.specs.Scenarios.{moment_at, moments_at}
-use Rattle.hp_sof.proofs.scenarios.moments.Given as goal
-
-abbrev pub invariant-loop-t : goal.invariant-loop-t
-invariant-loop-t l = walk_items (moment_at l.names l.raw l.k) l.path l.t (items_view (drop l.t l.items)) ≡ moments_at l.names l.raw l.k (items_view l.items)
