@@ -19,5 +19,4 @@ pub mod Weighted
 pub mod Viewed
 pub mod InSize
 pub mod Divisor
-pub mod SealedNode
 pub mod SealedCuttable

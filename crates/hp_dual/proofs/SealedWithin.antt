@@ -38,10 +38,14 @@ within-sealed p m n s low high e fit =
     below : (k : ℕ) → nat_lt k (length p.raw.nodes) ≡ true → k < length p.raw.nodes
     below k h = grind (arith, nat_tests)
 
--- the parts that a problem gives out, the node out of its list
+-- the node that a problem gives out of its list
+pub node_read : (p : Sealed) (raw : Raw) (ns : List Node) (m : ℕ) (n : Node) → raw ≡ p.raw → ns ≡ raw.nodes → m < length p.raw.nodes → n ≡ get_or ns m n → slice_get p.raw.nodes m ≡ Some n
+node_read p raw ns m n is list h at = slice_get-get_or p.raw.nodes m n h ∙ ap Some (sym (at ∙ ap (λ (ks : List Node). get_or ks m n) (list ∙ ap (λ (r : Raw). r.nodes) is)))
+
+-- the parts that a problem gives out
 pub parts_read : (p : Sealed) (raw : Raw) (ns : List Node) (m : ℕ) (n : Node) (s : Subproblem) (low high : List ℤ) → is_sealed p ≡ true → raw ≡ p.raw → ns ≡ raw.nodes → m < length p.raw.nodes → n ≡ get_or ns m n
     → subproblem_of p m ≡ Some s → slice_get p.lo m ≡ Some low → slice_get p.hi m ≡ Some high → PartsFit p m n s low high
-parts_read p raw ns m n s low high e is list h at = parts_given p m n s low high e (slice_get-get_or p.raw.nodes m n h ∙ ap Some (sym (at ∙ ap (λ (ks : List Node). get_or ks m n) (list ∙ ap (λ (r : Raw). r.nodes) is))))
+parts_read p raw ns m n s low high e is list h at = parts_given p m n s low high e (node_read p raw ns m n is list h at)
 
 scale : (n : Node) (s : Subproblem) (low high : List ℤ) → 0 < successor_weight (node_of n s low high) → 0 < weight_of_successors n.stop (links_of n.links n.link_weights)
 unfolding node_of

@@ -16,7 +16,7 @@ ghost use Rattle.hp_dual.specs.Acceptance.{range_fault, fault_of, Accepts};
 
 use super::walk::{check_certificates, check_count};
 use crate::fault::CertFault;
-use crate::node_at::NodeAt;
+use crate::node_at::{NodeAt, own_weights};
 use crate::size::range_with;
 use hp_cut::Pools;
 use hp_problem::Problem;
@@ -66,8 +66,7 @@ pub fn accept(
     requires fit { FitFor (problem_of problem.now) (length problem.now.raw.nodes) pools.now.lists node }
     ensures { Accepts result (fault_of pools.now.lists (node_at (problem_of problem.now) node) list.now) }
 {
-    let own = &problem.raw().nodes.as_slice()[node as usize];
-    accept_with(problem, pools, node, own.weights.as_slice(), list)
+    accept_with(problem, pools, node, own_weights(problem, node), list)
 }
 
 /// The same with given weights in place of the realizations' own: one weight per realization, each at least 1, of at
@@ -86,15 +85,7 @@ pub fn accept_with(
     requires total { sum weights.now ≤ 65535 }
     ensures { Accepts result (fault_of pools.now.lists (with_weights weights.now (node_at (problem_of problem.now) node)) list.now) }
 {
-    let own = &problem.raw().nodes.as_slice()[node as usize];
-    let here = NodeAt {
-        node: own,
-        subproblem: problem.sub(node),
-        low: problem.lo(node),
-        high: problem.hi(node),
-        weights,
-        pools,
-    };
+    let here = NodeAt::of(problem, pools, node, weights);
     check(&here, list)
 }
 

@@ -8,7 +8,7 @@ ghost use Rattle.hp_theory.specs.CutOf.{cut_of};
 ghost use Rattle.hp_dual.specs.Acceptance.{fault_of};
 
 use super::divided::write_cut;
-use crate::node_at::NodeAt;
+use crate::node_at::{NodeAt, own_weights};
 use hp_cut::{Cut, Pools};
 use hp_problem::Problem;
 use hp_theory::Certificate;
@@ -24,8 +24,7 @@ pub fn make_into(problem: &Problem, pools: &Pools, node: u32, list: &[Certificat
     ensures fits { CutFits (node_at (problem_of problem.now) node) cut.new }
     ensures holds { Sound (problem_of problem.now) pools.now.lists → Holds (problem_of problem.now) node cut.new }
 {
-    let own = &problem.raw().nodes.as_slice()[node as usize];
-    make_with(problem, pools, node, own.weights.as_slice(), list, cut);
+    make_with(problem, pools, node, own_weights(problem, node), list, cut);
 }
 
 /// The same with given weights in place of the realizations' own: one weight per realization, each at least 1, of at
@@ -48,14 +47,6 @@ pub fn make_with(
     ensures value { cut.new ≡ cut_of pools.now.lists (with_weights weights.now (node_at (problem_of problem.now) node)) list.now }
     ensures fits { CutFits (node_at (problem_of problem.now) node) cut.new }
 {
-    let own = &problem.raw().nodes.as_slice()[node as usize];
-    let here = NodeAt {
-        node: own,
-        subproblem: problem.sub(node),
-        low: problem.lo(node),
-        high: problem.hi(node),
-        weights,
-        pools,
-    };
+    let here = NodeAt::of(problem, pools, node, weights);
     write_cut(&here, list, cut);
 }

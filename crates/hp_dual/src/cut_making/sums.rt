@@ -12,10 +12,8 @@ use super::reduced_costs::add_reduced_costs;
 use super::wrapping::{wrapping_add, wrapping_add_product};
 use crate::node_at::NodeAt;
 use crate::scales::{SCALE, scale};
+use hp_problem::MOST_DECISIONS;
 use hp_theory::Certificate;
-
-/// The most decisions of a subproblem.
-const DECISIONS: usize = 200;
 
 /// The sum of the least products of the reduced costs over the decisions' boxes, modulo 2^128.
 fn least_sum(scale: i128, here: &NodeAt, certificate: &Certificate) -> i128
@@ -25,7 +23,7 @@ fn least_sum(scale: i128, here: &NodeAt, certificate: &Certificate) -> i128
     requires small { ReducedFit scale here.now.pools.now.lists here.now.node.now here.now.subproblem.now certificate.now }
     ensures { Congruent result (least_at scale here.now.pools.now.lists here.now.node.now here.now.subproblem.now certificate.now) }
 {
-    let mut reduced: [i128; DECISIONS] = [0; DECISIONS];
+    let mut reduced: [i128; MOST_DECISIONS] = [0; MOST_DECISIONS];
     add_reduced_costs(&mut reduced, scale, here, certificate);
     boxes_least(&reduced, here.subproblem.decisions.as_slice())
 }

@@ -7,35 +7,17 @@ use Rattle.hp_theory.proofs.Duality.{weak_duality}
 use Rattle.hp_theory.proofs.SealedPremises.{shaped-sealed}
 use Rattle.hp_dual.specs.Acceptance.{fault_of}
 use Rattle.hp_dual.proofs.Accepted.{right-fault_of}
-use Rattle.hp_dual.proofs.OwnWeights.{own_weights-sealed}
 use Rattle.hp_dual.proofs.cut_making.make.make_into.Goals as goal
 
-pub make_with-requires-clause-count : goal.make_with-requires-clause-count
-make_with-requires-clause-count c =
-    (own_weights-sealed c.args.problem.now c.raw.result.now c.as_slice.result.now c.as_slice-2.result.now c.args.node c.index-as_slice-node.result c.raw.ensures.sealed c.raw.ensures.value c.as_slice.ensures c.requires.known c.index-as_slice-node.is c.as_slice-2.ensures).count
-
-pub make_with-requires-clause-positive : goal.make_with-requires-clause-positive
-make_with-requires-clause-positive c =
-    (own_weights-sealed c.args.problem.now c.raw.result.now c.as_slice.result.now c.as_slice-2.result.now c.args.node c.index-as_slice-node.result c.raw.ensures.sealed c.raw.ensures.value c.as_slice.ensures c.requires.known c.index-as_slice-node.is c.as_slice-2.ensures).positive
-
-pub make_with-requires-clause-total : goal.make_with-requires-clause-total
-make_with-requires-clause-total c =
-    (own_weights-sealed c.args.problem.now c.raw.result.now c.as_slice.result.now c.as_slice-2.result.now c.args.node c.index-as_slice-node.result c.raw.ensures.sealed c.raw.ensures.value c.as_slice.ensures c.requires.known c.index-as_slice-node.is c.as_slice-2.ensures).total
-
 pub make_with-requires-clause-accepted : goal.make_with-requires-clause-accepted
-make_with-requires-clause-accepted c =
-    let o = own_weights-sealed c.args.problem.now c.raw.result.now c.as_slice.result.now c.as_slice-2.result.now c.args.node c.index-as_slice-node.result c.raw.ensures.sealed c.raw.ensures.value c.as_slice.ensures c.requires.known c.index-as_slice-node.is c.as_slice-2.ensures in
-    ap (λ (k : Node). fault_of c.args.pools.now.lists k c.args.list.now) o.own ∙ c.requires.accepted
+make_with-requires-clause-accepted c = ap (λ (k : Node). fault_of c.args.pools.now.lists k c.args.list.now) c.own_weights.ensures.own ∙ c.requires.accepted
 
 pub returns-clause-value : goal.returns-clause-value
-returns-clause-value c =
-    let o = own_weights-sealed c.args.problem.now c.raw.result.now c.as_slice.result.now c.as_slice-2.result.now c.args.node c.index-as_slice-node.result c.raw.ensures.sealed c.raw.ensures.value c.as_slice.ensures c.requires.known c.index-as_slice-node.is c.as_slice-2.ensures in
-    c.make_with.ensures.value ∙ ap (λ (k : Node). cut_of c.args.pools.now.lists k c.args.list.now) o.own
+returns-clause-value c = c.make_with.ensures.value ∙ ap (λ (k : Node). cut_of c.args.pools.now.lists k c.args.list.now) c.own_weights.ensures.own
 
 pub returns-clause-holds : goal.returns-clause-holds
 returns-clause-holds c = λ sound.
     let p = c.args.problem.now in
-    let o = own_weights-sealed p c.raw.result.now c.as_slice.result.now c.as_slice-2.result.now c.args.node c.index-as_slice-node.result c.raw.ensures.sealed c.raw.ensures.value c.as_slice.ensures c.requires.known c.index-as_slice-node.is c.as_slice-2.ensures in
-    let value = c.make_with.ensures.value ∙ ap (λ (k : Node). cut_of c.args.pools.now.lists k c.args.list.now) o.own in
+    let value = c.make_with.ensures.value ∙ ap (λ (k : Node). cut_of c.args.pools.now.lists k c.args.list.now) c.own_weights.ensures.own in
     subst (Holds (problem_of p) c.args.node) (sym value)
-    (weak_duality (problem_of p) c.args.pools.now.lists c.args.node c.args.list.now (shaped-sealed p c.args.node c.raw.ensures.sealed c.requires.known) sound (right-fault_of c.args.pools.now.lists (node_at (problem_of p) c.args.node) c.args.list.now c.requires.accepted))
+    (weak_duality (problem_of p) c.args.pools.now.lists c.args.node c.args.list.now (shaped-sealed p c.args.node c.own_weights.ensures.sealed c.requires.known) sound (right-fault_of c.args.pools.now.lists (node_at (problem_of p) c.args.node) c.args.list.now c.requires.accepted))
