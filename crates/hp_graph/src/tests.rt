@@ -32,7 +32,7 @@ fn stage(alloc: Global) -> Result<Subproblem, Memory> {
 }
 
 // A node that leads to these nodes.
-fn node(alloc: Global, leads_to: &[u32]) -> Result<Node, Memory> {
+fn node(alloc: Global, name: &str, leads_to: &[u32]) -> Result<Node, Memory> {
     let mut links = List::new(alloc);
     let mut link_weights = List::new(alloc);
     for link in leads_to {
@@ -40,7 +40,7 @@ fn node(alloc: Global, leads_to: &[u32]) -> Result<Node, Memory> {
         link_weights.push(1)?;
     }
     Ok(Node {
-        name: Name::new(alloc, "node")?,
+        name: Name::new(alloc, name)?,
         sub: 0,
         weights: one(alloc, 1)?,
         values: one(alloc, List::new(alloc))?,
@@ -56,8 +56,8 @@ fn raw(alloc: Global, initial: i64, first: &[u32], second: &[u32]) -> Result<Raw
         name: Name::new(alloc, "volume")?,
         initial,
     };
-    let mut nodes = one(alloc, node(alloc, first)?)?;
-    nodes.push(node(alloc, second)?)?;
+    let mut nodes = one(alloc, node(alloc, "first", first)?)?;
+    nodes.push(node(alloc, "second", second)?)?;
     Ok(Raw {
         states: one(alloc, volume)?,
         root: one(alloc, 0)?,

@@ -6,14 +6,13 @@ ghost use Rattle.hp_problem.specs.Limits.{node_fits, raw_fits, subproblem_fits};
 ghost use Rattle.hp_problem.specs.Parts.{own_subproblem};
 ghost use Rattle.hp_problem.specs.Formulas.{above, decision_count, dictionary, first_dictionary, or_then, record_bytes, row_count, step_bytes, step_numbers, successor_total, too_much, too_wide, total_weight};
 
+use crate::limits::PAYLOAD_BYTES;
 use crate::raw::{Node, Raw, Subproblem};
 use crate::sealed::{Problem, item_at};
 
 const MOST_CUT_NUMBERS: u64 = 1 << 24;
 
 const MOST_DICTIONARY_NUMBERS: u64 = 1 << 22;
-
-const MOST_RECORD_BYTES: u64 = 1 << 26;
 
 const MOST_TRACE_NUMBERS: u64 = 1 << 22;
 
@@ -234,7 +233,7 @@ fn first_above(raw: &Raw, longest: u64, iterations: u64, batch: u64) -> Option<T
     if at_a_node.is_some() {
         return at_a_node;
     }
-    above(3, MOST_RECORD_BYTES, record_bytes(raw, cuts, batch))
+    above(3, PAYLOAD_BYTES, record_bytes(raw, cuts, batch))
 }
 
 // Formula 4, where it passes its limit.

@@ -13,7 +13,7 @@ pub struct State {
 /// A decision with its box and its cost for each unit.
 #[derive(Drop)]
 pub struct Decision {
-    /// At most 128 bytes in a sealed problem.
+    /// At most 128 bytes in a sealed problem, and no other decision or random variable of the subproblem has it.
     pub name: Name,
     /// The least value.
     pub low: i64,
@@ -45,9 +45,9 @@ pub struct Row {
 pub struct Subproblem {
     /// In the order of the file.
     pub decisions: List<Decision>,
-    /// One decision per state: the one that is the outgoing state.
+    /// One decision per state, each another one: the one that is the outgoing state.
     pub outs: List<u32>,
-    /// The names of the random variables, in the order of the file.
+    /// The names of the random variables, in the order of the file, of at most 128 bytes each in a sealed problem.
     pub randoms: List<Name>,
     /// In the order of the file.
     pub rows: List<Row>,
@@ -59,7 +59,7 @@ pub struct Subproblem {
     pub random_costs: List<i64>,
     /// The given lower bounds, one entry per incoming state.
     pub low: List<Option<i64>>,
-    /// The given upper bounds, one entry per incoming state.
+    /// The given upper bounds, one entry per incoming state, none below the lower bound beside it.
     pub high: List<Option<i64>>,
 }
 
@@ -74,7 +74,7 @@ pub struct Node {
     pub weights: List<u32>,
     /// One list per realization, with one value per random variable.
     pub values: List<List<i64>>,
-    /// The successors' numbers, one entry per successor.
+    /// The successors' numbers, which rise.
     pub links: List<u32>,
     /// One weight per successor, each at least 1.
     pub link_weights: List<u32>,
@@ -96,7 +96,7 @@ pub struct Moment {
 pub struct Raw {
     /// In the byte order of their names.
     pub states: List<State>,
-    /// The numbers of the root's successors.
+    /// The numbers of the root's successors, which rise.
     pub root: List<u32>,
     /// One weight per successor of the root, each at least 1.
     pub root_weights: List<u32>,
@@ -104,6 +104,6 @@ pub struct Raw {
     pub nodes: List<Node>,
     /// In the byte order of their names.
     pub subs: List<Subproblem>,
-    /// The stored scenarios, one list of steps per scenario.
+    /// The stored scenarios, one list of steps per scenario: a path from the root along successors.
     pub scenarios: List<List<Moment>>,
 }

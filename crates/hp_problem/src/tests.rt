@@ -28,24 +28,36 @@ fn many<T: Copy + Drop>(alloc: Global, item: T, count: u32) -> Result<List<T>, M
     Ok(found)
 }
 
-fn decision(alloc: Global) -> Result<Decision, Memory> {
+// A name of its own for each number below 9000; they rise in byte order.
+fn numbered(alloc: Global, number: u32) -> Result<Name, Memory> {
+    let text = format!(in alloc; "{}", number.wrapping_add(1000))?;
+    Name::new(alloc, text.as_str())
+}
+
+fn decision(alloc: Global, number: u32) -> Result<Decision, Memory> {
     Ok(Decision {
-        name: Name::new(alloc, "release")?,
+        name: numbered(alloc, number)?,
         low: 0,
         high: 10,
         cost: 3,
     })
 }
 
-fn state(alloc: Global, initial: i64) -> Result<State, Memory> {
+fn state(alloc: Global, number: u32, initial: i64) -> Result<State, Memory> {
     Ok(State {
-        name: Name::new(alloc, "volume")?,
+        name: numbered(alloc, number)?,
         initial,
     })
 }
 
 // A node of the only subproblem, with realizations of these weights, that leads to these nodes.
-fn node(alloc: Global, weights: &[u32], links: &[u32], stop: u32) -> Result<Node, Memory> {
+fn node(
+    alloc: Global,
+    number: u32,
+    weights: &[u32],
+    links: &[u32],
+    stop: u32,
+) -> Result<Node, Memory> {
     let mut values = List::new(alloc);
     for _ in weights {
         values.push(List::new(alloc))?;
@@ -55,7 +67,7 @@ fn node(alloc: Global, weights: &[u32], links: &[u32], stop: u32) -> Result<Node
         link_weights.push(2)?;
     }
     Ok(Node {
-        name: Name::new(alloc, "only")?,
+        name: numbered(alloc, number)?,
         sub: 0,
         weights: copied(alloc, weights)?,
         values,
@@ -68,7 +80,7 @@ fn node(alloc: Global, weights: &[u32], links: &[u32], stop: u32) -> Result<Node
 // A stage with one decision, which is the outgoing value of the only state.
 fn stage(alloc: Global) -> Result<Subproblem, Memory> {
     Ok(Subproblem {
-        decisions: one(alloc, decision(alloc)?)?,
+        decisions: one(alloc, decision(alloc, 0)?)?,
         outs: one(alloc, 0)?,
         randoms: List::new(alloc),
         rows: List::new(alloc),
@@ -83,7 +95,7 @@ fn stage(alloc: Global) -> Result<Subproblem, Memory> {
 // A problem with one state and these nodes, of which the root leads to one.
 fn raw(alloc: Global, initial: i64, root: u32, nodes: List<Node>) -> Result<Raw, Memory> {
     Ok(Raw {
-        states: one(alloc, state(alloc, initial)?)?,
+        states: one(alloc, state(alloc, 0, initial)?)?,
         root: one(alloc, root)?,
         root_weights: one(alloc, 1)?,
         nodes,
@@ -93,7 +105,7 @@ fn raw(alloc: Global, initial: i64, root: u32, nodes: List<Node>) -> Result<Raw,
 }
 
 fn lone(alloc: Global, weight: u32, initial: i64) -> Result<Problem, SealFault> {
-    let leaf = node(alloc, &[weight], &[], 7)?;
+    let leaf = node(alloc, 0, &[weight], &[], 7)?;
     let raw = raw(alloc, initial, 0, one(alloc, leaf)?)?;
     let lo = one(alloc, one(alloc, 0)?)?;
     let hi = one(alloc, one(alloc, 10)?)?;
@@ -122,7 +134,7 @@ fn shows_its_parts(rt: HostRuntime) -> Result<(), Fail> {
     assert_eq!(rt; problem.longest(), 1);
     assert_eq!(rt; problem.initial(), [4].as_slice());
     if 0 < problem.raw().nodes.len() {
-        assert_eq!(rt; problem.node(0).name.as_str(), "only");
+        assert_eq!(rt; problem.node(0).name.as_str(), "1000");
         assert_eq!(rt; problem.sub(0).decisions.len(), 1);
         assert_eq!(rt; problem.lo(0), [0].as_slice());
         assert_eq!(rt; problem.hi(0), [10].as_slice());

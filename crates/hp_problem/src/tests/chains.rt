@@ -38,8 +38,8 @@ const TALL: Chain = Chain {
 
 fn subproblem(alloc: Global, chain: &Chain) -> Result<Subproblem, Memory> {
     let mut decisions = List::new(alloc);
-    for _ in 0..chain.decisions {
-        decisions.push(decision(alloc)?)?;
+    for number in 0..chain.decisions {
+        decisions.push(decision(alloc, number)?)?;
     }
     let mut rows = List::new(alloc);
     for _ in 0..chain.rows {
@@ -72,9 +72,9 @@ fn nodes(alloc: Global, chain: &Chain) -> Result<List<Node>, Memory> {
     let weights = many(alloc, 1, chain.realizations)?;
     let mut found = List::new(alloc);
     for next in 1..chain.nodes {
-        found.push(node(alloc, weights.as_slice(), &[next], 0)?)?;
+        found.push(node(alloc, next, weights.as_slice(), &[next], 0)?)?;
     }
-    found.push(node(alloc, weights.as_slice(), &[], 0)?)?;
+    found.push(node(alloc, chain.nodes, weights.as_slice(), &[], 0)?)?;
     Ok(found)
 }
 
@@ -88,8 +88,8 @@ fn sides(alloc: Global, chain: &Chain, side: i64) -> Result<List<List<i64>>, Mem
 
 fn seal(alloc: Global, chain: &Chain) -> Result<Problem, SealFault> {
     let mut states = List::new(alloc);
-    for _ in 0..chain.states {
-        states.push(state(alloc, 4)?)?;
+    for number in 0..chain.states {
+        states.push(state(alloc, number, 4)?)?;
     }
     let mut order = List::new(alloc);
     for node in (0..chain.nodes).rev() {

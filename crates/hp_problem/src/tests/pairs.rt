@@ -33,8 +33,8 @@ fn sides(alloc: Global, values: &[i64]) -> Result<List<List<i64>>, Memory> {
 
 fn seal(alloc: Global, pair: &Pair) -> Result<Problem, SealFault> {
     let back: &[u32] = if pair.back { &[0] } else { &[] };
-    let mut nodes = one(alloc, node(alloc, &[1], &[1], 3)?)?;
-    nodes.push(node(alloc, &[1], back, 0)?)?;
+    let mut nodes = one(alloc, node(alloc, 0, &[1], &[1], 3)?)?;
+    nodes.push(node(alloc, 1, &[1], back, 0)?)?;
     let raw = raw(alloc, 4, pair.root, nodes)?;
     let order = copied(alloc, &pair.order)?;
     let lo = sides(alloc, pair.lo.get(..pair.boxes).unwrap_or(&[]))?;
@@ -43,9 +43,9 @@ fn seal(alloc: Global, pair: &Pair) -> Result<Problem, SealFault> {
 }
 
 fn fork(alloc: Global, order: &[u32]) -> Result<Problem, SealFault> {
-    let mut nodes = one(alloc, node(alloc, &[1], &[1, 2], 0)?)?;
-    nodes.push(node(alloc, &[1], &[], 0)?)?;
-    nodes.push(node(alloc, &[1], &[], 0)?)?;
+    let mut nodes = one(alloc, node(alloc, 0, &[1], &[1, 2], 0)?)?;
+    nodes.push(node(alloc, 1, &[1], &[], 0)?)?;
+    nodes.push(node(alloc, 2, &[1], &[], 0)?)?;
     let raw = raw(alloc, 4, 0, nodes)?;
     let lo = sides(alloc, &[4, 0, 0])?;
     let hi = sides(alloc, &[4, 10, 10])?;
