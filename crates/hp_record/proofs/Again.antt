@@ -15,7 +15,7 @@ use Rattle.hp_cut.specs.declared.entry.Entry.{Entry}
 use Rattle.hp_cut.specs.declared.entry.EntryStep.{EntryStep}
 use Rattle.hp_record.specs.declared.sizes.Sizes.{Sizes}
 use Rattle.hp_record.specs.Spelling.{row_text, pair_text, pairs_text, certificate_text, step_text, entry_text, spell}
-use Rattle.hp_record.specs.Shape.{sizes_of, may_stand, is_way_back, Suits, StepSuits, Writable, PairFits, PairsFit, CertificateFits, StepFits, EntryFits, IsBatch}
+use Rattle.hp_record.specs.Shape.{sizes_of, may_stand, is_path_backwards, Suits, StepSuits, Writable, PairFits, PairsFit, CertificateFits, StepFits, EntryFits, IsBatch}
 use Rattle.hp_record.specs.Reading.{many, row_at, pair_at, pairs_at, certificate_at, node_at, step_at, steps_at, iteration_at, count_at, entry_at, entries_at}
 use Rattle.hp_record.proofs.Taken.{is_node}
 use Rattle.hp_record.proofs.Fields.{wide16, wide32, wide64, number_again}
@@ -80,13 +80,13 @@ step_again p before last s rest small stands suits fits =
     let list = many_of (certificate_at z) certificate_text (λ c. Suits z c × CertificateFits c) (certificate_again z) z.realizations s.list rest suits.count (all_both (Suits z) CertificateFits s.list suits.each fits) in
     ap (step_at p before last) regrouped ∙ rw (node_again p before last s.node (flat_map certificate_text s.list ++ rest) small stands, list) refl
 
-steps_again : (p : Sealed) → length p.raw.nodes ≤ 2 ^ 16 → (before : Option ℕ) (ss : List EntryStep) (rest : List ℕ) → is_way_back p before ss ≡ true → AllByRecursion (StepSuits p) ss → AllByRecursion StepFits ss
+steps_again : (p : Sealed) → length p.raw.nodes ≤ 2 ^ 16 → (before : Option ℕ) (ss : List EntryStep) (rest : List ℕ) → is_path_backwards p before ss ≡ true → AllByRecursion (StepSuits p) ss → AllByRecursion StepFits ss
     → steps_at p before (length ss) (flat_map step_text ss ++ rest) ≡ Ok (ss, rest)
 unfolding steps_at
-steps_again p few before [] rest way suits fits = refl
-steps_again p few before (s ∷ ss) rest way suits fits =
-    let stands : may_stand p before (length ss == 0) s.node ≡ true = and_first (may_stand p before (length ss == 0) s.node) (is_way_back p (Some s.node) ss) way in
-    let later : is_way_back p (Some s.node) ss ≡ true = and_second (may_stand p before (length ss == 0) s.node) (is_way_back p (Some s.node) ss) way in
+steps_again p few before [] rest path suits fits = refl
+steps_again p few before (s ∷ ss) rest path suits fits =
+    let stands : may_stand p before (length ss == 0) s.node ≡ true = and_first (may_stand p before (length ss == 0) s.node) (is_path_backwards p (Some s.node) ss) path in
+    let later : is_path_backwards p (Some s.node) ss ≡ true = and_second (may_stand p before (length ss == 0) s.node) (is_path_backwards p (Some s.node) ss) path in
     let known : s.node < length p.raw.nodes = is_node p before (length ss == 0) s.node stands in
     let regrouped : flat_map step_text (s ∷ ss) ++ rest ≡ step_text s ++ (flat_map step_text ss ++ rest) = ap (λ (t : List ℕ). t ++ rest) (flat_map-cons step_text s ss) ∙ append_assoc (step_text s) (flat_map step_text ss) rest in
     ap (steps_at p before (suc (length ss))) regrouped

@@ -20,9 +20,10 @@ use Rattle.hp_theory.specs.declared.cut.Certificate.{Certificate}
 use Rattle.hp_cut.specs.declared.entry.Entry.{Entry}
 use Rattle.hp_cut.specs.declared.entry.EntryStep.{EntryStep}
 use Rattle.hp_record.specs.Spelling.{row_text, pair_text, pairs_text, certificate_text, step_text, entry_text, spell}
-use Rattle.hp_record.specs.Shape.{sizes_of, may_stand, is_way_back, Suits, StepSuits, Writable, PairsWithin, StepWithin}
+use Rattle.hp_record.specs.Shape.{sizes_of, may_stand, is_path_backwards, Suits, StepSuits, Writable, PairsWithin, StepWithin}
 use Rattle.hp_record.proofs.Taken.{is_node}
-use Rattle.hp_record.proofs.Ways.{Graph, graph, led}
+use Rattle.hp_record.proofs.LongestPath.{Graph, graph, led}
+use Rattle.hp_record.proofs.NodeParts.{weights_are, successors_are}
 
 -- ---- sums over 0, .., n - 1
 
@@ -115,9 +116,9 @@ record SizesAre (p : Sealed) (m : ℕ) (n : Node) : Type 0 where
 
 sizes_are : (p : Sealed) (m : ℕ) (n : Node) → slice_get p.raw.nodes m ≡ Some n → SizesAre p m n
 sizes_are p m n e = record {
-  realizations = ap (λ (o : Option Node). unwrap_or (option_map (λ (x : Node). length x.weights) o) 0) e;
+  realizations = ap (λ (ws : List ℕ). length ws) (weights_are p.raw m n e);
   rows = ap (λ (o : Option Node). unwrap_or (option_map (λ (s : Subproblem). length s.rows) (option_and_then (λ (x : Node). slice_get p.raw.subs x.sub) o)) 0) e ∙ counted_rows (own_subproblem p.raw n);
-  successors = ap (λ (o : Option Node). length (unwrap_or (option_map (λ (x : Node). x.links) o) [])) e;
+  successors = ap (λ (ks : List ℕ). length ks) (successors_are p.raw m n e);
 }
 
 joined : (n : ℕ) (r k : ℕ) (cs : List Certificate) → AllByRecursion (λ c. (length c.rows ≡ r) × (length c.cuts ≡ k)) cs → AllByRecursion (λ c. AllByRecursion (λ qs. length qs ≤ n) c.cuts) cs
@@ -166,17 +167,17 @@ room_for p cuts m r known low =
     (λ k. falls (rank (graph_of p.raw) k) (q + 1) r (node_bytes p cuts k) (omega (arith, low))) known
     (omega (arith, none_above q (q + 1) (node_bytes p cuts m) (omega arith), all_above q r (node_bytes p cuts m) low))
 
-steps_length : (p : Sealed) → Graph p → (cuts : ℕ) (before : Option ℕ) (s : EntryStep) (ss : List EntryStep) (r : ℕ) → is_way_back p before (s ∷ ss) ≡ true → AllByRecursion (StepSuits p) (s ∷ ss) → AllByRecursion (StepWithin (cuts + 1)) (s ∷ ss)
+steps_length : (p : Sealed) → Graph p → (cuts : ℕ) (before : Option ℕ) (s : EntryStep) (ss : List EntryStep) (r : ℕ) → is_path_backwards p before (s ∷ ss) ≡ true → AllByRecursion (StepSuits p) (s ∷ ss) → AllByRecursion (StepWithin (cuts + 1)) (s ∷ ss)
     → r ≤ rank (graph_of p.raw) s.node → length (flat_map step_text (s ∷ ss)) ≤ whole p cuts r
-steps_length p g cuts before s [] r way suits within low =
-    let stands : may_stand p before true s.node ≡ true = and_first (may_stand p before true s.node) true way in
+steps_length p g cuts before s [] r path suits within low =
+    let stands : may_stand p before true s.node ≡ true = and_first (may_stand p before true s.node) true path in
     let known : s.node < length p.raw.nodes = is_node p before true s.node stands in
     let e : length (flat_map step_text (s ∷ [])) ≡ length (step_text s) + 0 = ap length (flat_map-cons step_text s []) ∙ length-append (step_text s) (flat_map step_text []) in
     omega (arith, e, step_length p cuts s known suits.0 within.0, room_for p cuts s.node r known low)
-steps_length p g cuts before s (t ∷ ts) r way suits within low =
-    let first : may_stand p before (length (t ∷ ts) == 0) s.node ≡ true = and_first (may_stand p before (length (t ∷ ts) == 0) s.node) (is_way_back p (Some s.node) (t ∷ ts)) way in
-    let later : is_way_back p (Some s.node) (t ∷ ts) ≡ true = and_second (may_stand p before (length (t ∷ ts) == 0) s.node) (is_way_back p (Some s.node) (t ∷ ts)) way in
-    let stands : may_stand p (Some s.node) (length ts == 0) t.node ≡ true = and_first (may_stand p (Some s.node) (length ts == 0) t.node) (is_way_back p (Some t.node) ts) later in
+steps_length p g cuts before s (t ∷ ts) r path suits within low =
+    let first : may_stand p before (length (t ∷ ts) == 0) s.node ≡ true = and_first (may_stand p before (length (t ∷ ts) == 0) s.node) (is_path_backwards p (Some s.node) (t ∷ ts)) path in
+    let later : is_path_backwards p (Some s.node) (t ∷ ts) ≡ true = and_second (may_stand p before (length (t ∷ ts) == 0) s.node) (is_path_backwards p (Some s.node) (t ∷ ts)) path in
+    let stands : may_stand p (Some s.node) (length ts == 0) t.node ≡ true = and_first (may_stand p (Some s.node) (length ts == 0) t.node) (is_path_backwards p (Some t.node) ts) later in
     let known : s.node < length p.raw.nodes = is_node p before (length (t ∷ ts) == 0) s.node first in
     let less = rank_falls (graph_of p.raw) t.node s.node g.known g.acyclic (led p s.node (length ts == 0) t.node stands) in
     let others = steps_length p g cuts (Some s.node) t ts (rank (graph_of p.raw) s.node + 1) later suits.1 within.1 (omega (arith, less)) in
@@ -195,7 +196,7 @@ entry_length p g cuts e fits within =
     let is : length (entry_text e) ≡ 10 + length steps = omega (arith, length-append iteration (unsettled ++ count ++ steps), length-append unsettled (count ++ steps), length-append count steps) in
     omega (arith, is, of_steps e.steps fits.path fits.steps within, every p cuts)
   where
-    of_steps : (ss : List EntryStep) → is_way_back p None ss ≡ true → AllByRecursion (StepSuits p) ss → AllByRecursion (StepWithin (cuts + 1)) ss → length (flat_map step_text ss) ≤ whole p cuts 0
+    of_steps : (ss : List EntryStep) → is_path_backwards p None ss ≡ true → AllByRecursion (StepSuits p) ss → AllByRecursion (StepWithin (cuts + 1)) ss → length (flat_map step_text ss) ≤ whole p cuts 0
     of_steps [] h a b = omega arith
     of_steps (s ∷ ss) h a b = steps_length p g cuts None s ss 0 h a b (omega arith)
 

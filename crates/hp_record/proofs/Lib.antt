@@ -1,9 +1,10 @@
-pub mod Fields
-pub mod Loop
-pub mod Taken
 pub mod Again
-pub mod Ways
-pub mod Room
-pub mod Whole
+pub mod Fields
 pub mod Lengths
-pub mod WayBack
+pub mod LongestPath
+pub mod Loop
+pub mod NodeParts
+pub mod PathsBackwards
+pub mod Room
+pub mod Taken
+pub mod Whole

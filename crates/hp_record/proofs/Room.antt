@@ -11,10 +11,10 @@ use Rattle.hp_theory.specs.declared.cut.Certificate.{Certificate}
 use Rattle.hp_cut.specs.declared.entry.Entry.{Entry}
 use Rattle.hp_cut.specs.declared.entry.EntryStep.{EntryStep}
 use Rattle.hp_record.specs.Spelling.{row_text, pair_text, pairs_text, certificate_text, step_text, entry_text, spell}
-use Rattle.hp_record.specs.Shape.{may_stand, is_way_back, Writable, CountsFit, NodeFits, StepsFit}
+use Rattle.hp_record.specs.Shape.{may_stand, is_path_backwards, Writable, CountsFit, NodeFits, StepsFit}
 use Rattle.hp_record.proofs.Taken.{is_node}
 use Rattle.hp_record.proofs.Again.{IsSmall}
-use Rattle.hp_record.proofs.Ways.{way_length, is_small}
+use Rattle.hp_record.proofs.LongestPath.{path_length, is_small}
 
 pub all_weaker : {A : Type 0} (P Q : A → Type 0) → ((x : A) → P x → Q x) → (xs : List A) → AllByRecursion P xs → AllByRecursion Q xs
 all_weaker P Q f [] h = tt
@@ -50,12 +50,12 @@ step_room s small h =
       counts = All-from_recursion CountsFit s.list (all_weaker (λ (c : Certificate). length (certificate_text c) ≤ 2 ^ 26) CountsFit certificate_room s.list (parts certificate_text (2 ^ 26) s.list list));
     }
 
-steps_room : (p : Sealed) → IsSmall p → (before : Option ℕ) (ss : List EntryStep) → is_way_back p before ss ≡ true → length (flat_map step_text ss) ≤ 2 ^ 26 → AllByRecursion NodeFits ss
-steps_room p small before [] way h = tt
-steps_room p small before (s ∷ ss) way h =
+steps_room : (p : Sealed) → IsSmall p → (before : Option ℕ) (ss : List EntryStep) → is_path_backwards p before ss ≡ true → length (flat_map step_text ss) ≤ 2 ^ 26 → AllByRecursion NodeFits ss
+steps_room p small before [] path h = tt
+steps_room p small before (s ∷ ss) path h =
     let e : length (flat_map step_text (s ∷ ss)) ≡ length (step_text s) + length (flat_map step_text ss) = ap length (flat_map-cons step_text s ss) ∙ length-append (step_text s) (flat_map step_text ss) in
-    let stands : may_stand p before (length ss == 0) s.node ≡ true = and_first (may_stand p before (length ss == 0) s.node) (is_way_back p (Some s.node) ss) way in
-    let later : is_way_back p (Some s.node) ss ≡ true = and_second (may_stand p before (length ss == 0) s.node) (is_way_back p (Some s.node) ss) way in
+    let stands : may_stand p before (length ss == 0) s.node ≡ true = and_first (may_stand p before (length ss == 0) s.node) (is_path_backwards p (Some s.node) ss) path in
+    let later : is_path_backwards p (Some s.node) ss ≡ true = and_second (may_stand p before (length ss == 0) s.node) (is_path_backwards p (Some s.node) ss) path in
     let known : s.node < length p.raw.nodes = is_node p before (length ss == 0) s.node stands in
     let few : length p.raw.nodes ≤ 2 ^ 16 = small.nodes in
     (step_room s (omega (arith, known, few)) (omega (arith, e, h)), steps_room p small (Some s.node) ss later (omega (arith, e, h)))
@@ -69,7 +69,7 @@ entry_room p sealed e fits h =
     let small : length steps ≤ 2 ^ 26 = omega (arith, h, length-append iteration (unsettled ++ count ++ steps), length-append unsettled (count ++ steps), length-append count steps) in
     let limit : p.longest < 2 ^ 16 = (is_small p sealed).longest in
     record {
-      count = omega (arith, limit, way_length p sealed e.steps fits.path);
+      count = omega (arith, limit, path_length p sealed e.steps fits.path);
       each = All-from_recursion NodeFits e.steps (steps_room p (is_small p sealed) None e.steps fits.path small);
     }
 

@@ -1,5 +1,5 @@
 -- What is read is spelled so.
-use Rattle.std.proofs.Common.{◌≡◌, ℕ, zero, suc, ◌^◌, ◌<◌, ◌≤◌, ◌==◌, ℤ, Bool, true, false, ◌&&◌, ◌||◌, not, cond, List, [], ◌∷◌, ◌++◌, length, Option, Some, None, Result, Ok, Err, refl, sym, ap, subst, ◌∙◌, arith}
+use Rattle.std.proofs.Common.{◌≡◌, ℕ, zero, suc, ◌^◌, ◌<◌, ◌≤◌, ◌==◌, ℤ, Bool, true, ◌&&◌, ◌||◌, not, cond, List, [], ◌∷◌, ◌++◌, length, Option, Some, None, Result, Ok, Err, refl, sym, ap, subst, ◌∙◌, arith}
 use Rattle.std.specs.Prelude.{FitsSigned, nat_lt, nat_le}
 use Rattle.std.specs.List.{flat_map, AllByRecursion}
 use Rattle.std.specs.Int.{w16, w32, w64, to_be_bytes, cast_signed}
@@ -8,7 +8,7 @@ use Rattle.std.proofs.lemmas.Bool.Decides.{nat_tests}
 use Rattle.std.proofs.lemmas.Int.{of_z-to_z}
 use Rattle.std.proofs.lemmas.List.{append-nil, nil_from_length}
 use Rattle.std.proofs.lemmas.List.Concat.{flat_map-cons}
-use Rattle.hp_num.proofs.Tests.{and_first}
+use Rattle.hp_num.proofs.Tests.{and_first, both}
 use borrow.Author.Gap.{read_sfits}
 use Rattle.hp_problem.specs.Sealed.{Sealed}
 use Rattle.hp_theory.specs.declared.cut.Certificate.{Certificate}
@@ -16,7 +16,7 @@ use Rattle.hp_cut.specs.declared.entry.Entry.{Entry}
 use Rattle.hp_cut.specs.declared.entry.EntryStep.{EntryStep}
 use Rattle.hp_record.specs.declared.sizes.Sizes.{Sizes}
 use Rattle.hp_record.specs.Spelling.{row_text, pair_text, pairs_text, certificate_text, step_text, entry_text, spell}
-use Rattle.hp_record.specs.Shape.{sizes_of, leads_on, is_among, may_stand, is_way_back, Suits, StepSuits, Writable, PairFits, PairsFit, CertificateFits, StepFits, EntryFits, IsBatch}
+use Rattle.hp_record.specs.Shape.{sizes_of, leads_on, is_among, may_stand, is_path_backwards, Suits, StepSuits, Writable, PairFits, PairsFit, CertificateFits, StepFits, EntryFits, IsBatch}
 use Rattle.hp_record.specs.Reading.{◌>>=◌, number_at, many, row_at, pair_at, pairs_at, certificate_at, node_at, step_at, steps_at, iteration_at, count_at, entry_at, entries_at}
 use Rattle.hp_record.proofs.Fields.{IsBytes, bind_ok, ok_is, passed_ok, Takes, Takes-nothing, Takes-then, wide16, wide32, wide64, number_takes}
 
@@ -32,9 +32,9 @@ many_take {A} field text P each (suc n) bytes x fits e =
     let b = bind_ok (many field n a.0.1) (λ others. Ok (a.0.0 ∷ others.0, others.1)) x a.2 in
     let first = each bytes a.0 fits a.1 in
     let second = many_take field text P each n a.0.1 b.0 first.0.rest_fits b.1 in
-    let both = Takes-then bytes (text a.0.0) a.0.1 (flat_map text b.0.0) b.0.1 first.0 second.0 in
+    let taken = Takes-then bytes (text a.0.0) a.0.1 (flat_map text b.0.0) b.0.1 first.0 second.0 in
     let made : List A × List ℕ = (a.0.0 ∷ b.0.0, b.0.1) in
-    subst (λ (y : List A × List ℕ). Takes bytes (flat_map text y.0) y.1 × (length y.0 ≡ suc n) × AllByRecursion P y.0) (ok_is made x b.2) (rw flat_map-cons both, ap suc second.1, (first.1, second.2))
+    subst (λ (y : List A × List ℕ). Takes bytes (flat_map text y.0) y.1 × (length y.0 ≡ suc n) × AllByRecursion P y.0) (ok_is made x b.2) (rw flat_map-cons taken, ap suc second.1, (first.1, second.2))
 
 row_takes : (bytes : List ℕ) (x : ℤ × List ℕ) → IsBytes bytes → row_at bytes ≡ Ok x → Takes bytes (row_text x.0) x.1 × FitsSigned w64 x.0
 unfolding row_at
@@ -61,8 +61,8 @@ pairs_take bytes x fits e =
     let a = bind_ok (number_at w32 bytes) (λ count. many pair_at count.0 count.1) x e in
     let s = number_takes w32 (2 ^ 32) wide32 bytes a.0.0 a.0.1 fits a.1 in
     let t = many_take pair_at pair_text PairFits pair_takes a.0.0 a.0.1 x s.0.rest_fits a.2 in
-    let both = Takes-then bytes (to_be_bytes w32 a.0.0) a.0.1 (flat_map pair_text x.0) x.1 s.0 t.0 in
-    (subst (λ (k : ℕ). Takes bytes (to_be_bytes w32 k ++ flat_map pair_text x.0) x.1) (sym t.1) both, (omega (arith, s.1, t.1), t.2))
+    let taken = Takes-then bytes (to_be_bytes w32 a.0.0) a.0.1 (flat_map pair_text x.0) x.1 s.0 t.0 in
+    (subst (λ (k : ℕ). Takes bytes (to_be_bytes w32 k ++ flat_map pair_text x.0) x.1) (sym t.1) taken, (omega (arith, s.1, t.1), t.2))
 
 certificate_takes : (z : Sizes) (bytes : List ℕ) (x : Certificate × List ℕ) → IsBytes bytes → certificate_at z bytes ≡ Ok x → Takes bytes (certificate_text x.0) x.1 × (Suits z x.0 × CertificateFits x.0)
 unfolding certificate_at
@@ -114,26 +114,22 @@ step_takes p before last bytes x fits e =
     subst (λ (y : EntryStep × List ℕ). Takes bytes (step_text y.0) y.1 × (may_stand p before last y.0.node ≡ true) × StepSuits p y.0 × StepFits y.0) (ok_is made x b.2)
     (Takes-then bytes (to_be_bytes w16 a.0.0) a.0.1 (flat_map certificate_text b.0.0) b.0.1 s.0 t.0, s.1, record { count = t.1; each = each.0 }, each.1)
 
-pub both_true : (a b : Bool) → a ≡ true → b ≡ true → (a && b) ≡ true
-both_true true b e f = f
-both_true false b e f = e
-
 steps_take : (p : Sealed) (before : Option ℕ) (n : ℕ) (bytes : List ℕ) (x : List EntryStep × List ℕ) → IsBytes bytes → steps_at p before n bytes ≡ Ok x
-    → Takes bytes (flat_map step_text x.0) x.1 × (length x.0 ≡ n) × (is_way_back p before x.0 ≡ true) × AllByRecursion (StepSuits p) x.0 × AllByRecursion StepFits x.0
+    → Takes bytes (flat_map step_text x.0) x.1 × (length x.0 ≡ n) × (is_path_backwards p before x.0 ≡ true) × AllByRecursion (StepSuits p) x.0 × AllByRecursion StepFits x.0
 unfolding steps_at
 steps_take p before zero bytes x fits e =
-    subst (λ (y : List EntryStep × List ℕ). Takes bytes (flat_map step_text y.0) y.1 × (length y.0 ≡ 0) × (is_way_back p before y.0 ≡ true) × AllByRecursion (StepSuits p) y.0 × AllByRecursion StepFits y.0) (ok_is ([], bytes) x e) (Takes-nothing bytes fits, refl, refl, tt, tt)
+    subst (λ (y : List EntryStep × List ℕ). Takes bytes (flat_map step_text y.0) y.1 × (length y.0 ≡ 0) × (is_path_backwards p before y.0 ≡ true) × AllByRecursion (StepSuits p) y.0 × AllByRecursion StepFits y.0) (ok_is ([], bytes) x e) (Takes-nothing bytes fits, refl, refl, tt, tt)
 steps_take p before (suc n) bytes x fits e =
     let a = bind_ok (step_at p before (n == 0) bytes) (λ first. steps_at p (Some first.0.node) n first.1 >>= λ others. Ok (first.0 ∷ others.0, others.1)) x e in
     let b = bind_ok (steps_at p (Some a.0.0.node) n a.0.1) (λ others. Ok (a.0.0 ∷ others.0, others.1)) x a.2 in
     let first = step_takes p before (n == 0) bytes a.0 fits a.1 in
     let second = steps_take p (Some a.0.0.node) n a.0.1 b.0 first.0.rest_fits b.1 in
-    let both = Takes-then bytes (step_text a.0.0) a.0.1 (flat_map step_text b.0.0) b.0.1 first.0 second.0 in
+    let taken = Takes-then bytes (step_text a.0.0) a.0.1 (flat_map step_text b.0.0) b.0.1 first.0 second.0 in
     let stands : may_stand p before (length b.0.0 == 0) a.0.0.node ≡ true = subst (λ (k : ℕ). may_stand p before (k == 0) a.0.0.node ≡ true) (sym second.1) first.1 in
-    let way : is_way_back p before (a.0.0 ∷ b.0.0) ≡ true = both_true (may_stand p before (length b.0.0 == 0) a.0.0.node) (is_way_back p (Some a.0.0.node) b.0.0) stands second.2 in
+    let path : is_path_backwards p before (a.0.0 ∷ b.0.0) ≡ true = both (may_stand p before (length b.0.0 == 0) a.0.0.node) (is_path_backwards p (Some a.0.0.node) b.0.0) stands second.2 in
     let made : List EntryStep × List ℕ = (a.0.0 ∷ b.0.0, b.0.1) in
-    subst (λ (y : List EntryStep × List ℕ). Takes bytes (flat_map step_text y.0) y.1 × (length y.0 ≡ suc n) × (is_way_back p before y.0 ≡ true) × AllByRecursion (StepSuits p) y.0 × AllByRecursion StepFits y.0) (ok_is made x b.2)
-    (rw flat_map-cons both, ap suc second.1, way, (first.2, second.3), (first.3, second.4))
+    subst (λ (y : List EntryStep × List ℕ). Takes bytes (flat_map step_text y.0) y.1 × (length y.0 ≡ suc n) × (is_path_backwards p before y.0 ≡ true) × AllByRecursion (StepSuits p) y.0 × AllByRecursion StepFits y.0) (ok_is made x b.2)
+    (rw flat_map-cons taken, ap suc second.1, path, (first.2, second.3), (first.3, second.4))
 
 iteration_takes : (wanted : ℕ) (bytes : List ℕ) (x : ℕ × List ℕ) → IsBytes bytes → iteration_at wanted bytes ≡ Ok x → Takes bytes (to_be_bytes w32 x.0) x.1 × (x.0 < 2 ^ 32) × (x.0 ≡ wanted)
 unfolding iteration_at

@@ -10,7 +10,7 @@ use Rattle.hp_record.specs.Reading.{entries_at, placed, read_batch, Answers, IsN
 use Rattle.hp_record.proofs.Fields.{IsBytes}
 use Rattle.hp_record.proofs.Taken.{entries_take}
 use Rattle.hp_record.proofs.Again.{entries_again}
-use Rattle.hp_record.proofs.Ways.{way_length, is_small}
+use Rattle.hp_record.proofs.LongestPath.{path_length, is_small}
 use Rattle.std.specs.Prelude.{IfOk}
 
 unplaced : {A : Type 0} (n : ℕ) (r : Result A ℕ) (x : A) → placed n r ≡ Ok x → r ≡ Ok x
@@ -23,7 +23,7 @@ batch_spelled p iteration count bytes es fits e = entries_take p iteration count
 
 pub batch_again : (p : Sealed) (iteration count : ℕ) (es : List Entry) → is_sealed p ≡ true → IsBatch p iteration count es → read_batch p iteration count (spell es) ≡ Ok es
 unfolding read_batch
-batch_again p iteration count es sealed batch = ap (placed (length (spell es))) (entries_again p (is_small p sealed) (λ e w. way_length p sealed e.steps w.path) iteration count es batch)
+batch_again p iteration count es sealed batch = ap (placed (length (spell es))) (entries_again p (is_small p sealed) (λ e w. path_length p sealed e.steps w.path) iteration count es batch)
 
 -- ---- of what a function answers
 

@@ -1,6 +1,8 @@
 -- Reading entries from left to right. A fault is told by the number of bytes from it to the end.
 use Rattle.std.specs.Prelude.{◌≡◌, ◌≢◌, ℕ, zero, suc, ◌-◌, ◌==◌, ◌&&◌, ℤ, Bool, List, [], ◌∷◌, length, take, drop, Option, Some, None, Result, Ok, Err, nat_lt, nat_le, if◌then◌else◌}
 use Rattle.std.specs.Int.{Width, w16, w32, w64, byte_len, from_be_bytes, cast_signed}
+pub use Rattle.hp_num.specs.Steps.{◌>>=◌}
+use Rattle.hp_num.specs.Steps.{GivesOr}
 use Rattle.hp_problem.specs.Sealed.{Sealed}
 use Rattle.hp_theory.specs.declared.cut.Certificate.{Certificate}
 use Rattle.hp_cut.specs.declared.entry.Entry.{Entry}
@@ -13,19 +15,13 @@ use Rattle.hp_record.specs.declared.fault.EntryFault.TheVariants as faults
 use Rattle.hp_record.specs.Shape.{sizes_of, may_stand, IsBatch}
 use Rattle.hp_record.specs.Spelling.{spell}
 
-infixl 10 ◌>>=◌
-abbrev pub ◌>>=◌ : {A B : Type 0} → Result A ℕ → (A → Result B ℕ) → Result B ℕ
-(Ok x) >>= f = f x
-(Err n) >>= f = Err n
-
 -- What a function returned, seen by view, is what reading gives, unless memory ran out.
 abbrev pub Fails : {Y : Type 0} → ReadFault → Result Y ℕ → Type 0
 Fails (reads.Bad left) read = read ≡ Err left
 Fails reads.Memory read = Unit {0}
 
 abbrev pub Gives : {X Y : Type 0} → (X → Y) → Result X ReadFault → Result Y ℕ → Type 0
-Gives view (Ok x) read = read ≡ Ok (view x)
-Gives view (Err e) read = Fails e read
+Gives view result read = GivesOr Fails view result read
 
 -- A field is a value and the bytes after it.
 abbrev pub number_at : Width → List ℕ → Result (ℕ × List ℕ) ℕ
@@ -116,10 +112,12 @@ unfoldable pub read_batch : Sealed → ℕ → ℕ → List ℕ → Result (List
 read_batch p wanted count payload = placed (length payload) (entries_at p wanted count payload)
 
 -- the answer is what reading gives, unless memory was refused
+abbrev pub FailsAt : {Y : Type 0} → EntryFault → Result Y ℕ → Type 0
+FailsAt (faults.Bad place) read = read ≡ Err place
+FailsAt faults.Memory read = Unit {0}
+
 abbrev pub Answers : {X Y : Type 0} → (X → Y) → Result X EntryFault → Result Y ℕ → Type 0
-Answers view (Ok x) read = read ≡ Ok (view x)
-Answers view (Err (faults.Bad place)) read = read ≡ Err place
-Answers view (Err faults.Memory) read = Unit {0}
+Answers view result read = GivesOr FailsAt view result read
 
 -- The payload is the text of no such batch.
 abbrev pub IsNoText : Sealed → ℕ → ℕ → List ℕ → Type 0

@@ -1,25 +1,21 @@
 -- Which entries a problem can have.
-use Rattle.std.specs.Prelude.{◌≡◌, ◌==◌, ℕ, ◌<◌, ◌≤◌, ◌^◌, Bool, true, ◌&&◌, ◌||◌, not, List, [], ◌∷◌, length, Option, Some, None, option_map, unwrap_or, slice_get, nat_lt, nat_eq, FitsSigned, All}
+use Rattle.std.specs.Prelude.{◌≡◌, ◌==◌, ℕ, ◌<◌, ◌≤◌, ◌^◌, Bool, true, ◌&&◌, ◌||◌, not, List, [], ◌∷◌, length, Option, Some, None, option_map, unwrap_or, nat_lt, nat_eq, FitsSigned, All}
 use Rattle.std.specs.List.{list_any, AllByRecursion}
 use Rattle.std.specs.Int.{w64}
-use Rattle.hp_problem.specs.declared.raw.Node.{Node}
 use Rattle.hp_problem.specs.declared.raw.Subproblem.{Subproblem}
+use Rattle.hp_problem.specs.Parts.{successors_at, weights_at}
 use Rattle.hp_problem.specs.Sealed.{Sealed, subproblem_of}
 use Rattle.hp_theory.specs.declared.cut.Certificate.{Certificate}
 use Rattle.hp_cut.specs.declared.entry.Entry.{Entry}
 use Rattle.hp_cut.specs.declared.entry.EntryStep.{EntryStep}
 use Rattle.hp_record.specs.declared.sizes.Sizes.{Sizes}
 
--- the successors of a node
-abbrev pub links_of : Sealed → ℕ → List ℕ
-links_of p m = unwrap_or (option_map (λ (n : Node). n.links) (slice_get p.raw.nodes m)) []
-
 -- a node's realizations, its subproblem's rows, and its successors
 abbrev pub sizes_of : Sealed → ℕ → Sizes
 sizes_of p m = record {
-  realizations = unwrap_or (option_map (λ (n : Node). length n.weights) (slice_get p.raw.nodes m)) 0;
+  realizations = length (weights_at p.raw m);
   rows = unwrap_or (option_map (λ (s : Subproblem). length s.rows) (subproblem_of p m)) 0;
-  successors = length (links_of p m);
+  successors = length (successors_at p.raw m);
 }
 
 -- the node m is among these
@@ -29,16 +25,16 @@ is_among ms m = list_any (λ k. nat_eq k m) ms
 -- the node leads to the one of the step before, where there is such a step
 abbrev pub leads_on : Sealed → ℕ → Option ℕ → Bool
 leads_on p m None = true
-leads_on p m (Some k) = is_among (links_of p m) k
+leads_on p m (Some k) = is_among (successors_at p.raw m) k
 
 -- The node of a step: a node of the problem that leads to the one of the step before, and in the last step a successor of the root.
 abbrev pub may_stand : Sealed → Option ℕ → Bool → ℕ → Bool
 may_stand p before last m = nat_lt m (length p.raw.nodes) && leads_on p m before && (not last || is_among p.raw.root m)
 
 -- Read backwards these steps are a path from the root to a node that leads to the one before them.
-abbrev pub is_way_back : Sealed → Option ℕ → List EntryStep → Bool
-is_way_back p before [] = true
-is_way_back p before (s ∷ ss) = may_stand p before (length ss == 0) s.node && is_way_back p (Some s.node) ss
+abbrev pub is_path_backwards : Sealed → Option ℕ → List EntryStep → Bool
+is_path_backwards p before [] = true
+is_path_backwards p before (s ∷ ss) = may_stand p before (length ss == 0) s.node && is_path_backwards p (Some s.node) ss
 
 -- one multiplier per row, and one list of pairs per successor
 pub record Suits (z : Sizes) (c : Certificate) : Type 0 where
@@ -53,7 +49,7 @@ pub record StepSuits (p : Sealed) (s : EntryStep) : Type 0 where
 -- At least one step; read backwards the nodes are a path from the root; and each step has its node's sizes.
 pub record Writable (p : Sealed) (e : Entry) : Type 0 where
   pub some_step : 0 < length e.steps
-  pub path : is_way_back p None e.steps ≡ true
+  pub path : is_path_backwards p None e.steps ≡ true
   pub steps : AllByRecursion (StepSuits p) e.steps
 
 -- The numbers are those that their types have.

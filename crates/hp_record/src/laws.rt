@@ -6,7 +6,7 @@ ghost use Rattle.hp_problem.specs.Sealed.{Sealed, is_sealed};
 ghost use Rattle.hp_cut.specs.declared.entry.Entry.{Entry};
 ghost use Rattle.hp_cut.specs.declared.entry.EntryStep.{EntryStep};
 ghost use Rattle.hp_record.specs.Spelling.{spell};
-ghost use Rattle.hp_record.specs.Shape.{IsBatch, PairsWithin, Writable, is_way_back};
+ghost use Rattle.hp_record.specs.Shape.{IsBatch, PairsWithin, Writable, is_path_backwards};
 ghost use Rattle.hp_record.specs.Backwards.{IsPathFromRoot, nodes_back};
 ghost use Rattle.hp_record.specs.Reading.{read_batch};
 
@@ -30,10 +30,10 @@ pub fn bytes_of_a_payload()
         → length (spell list) ≤ record_bytes p.raw cuts batch }
 {}
 
-/// Steps are a way back exactly where their nodes, read backwards, are a path from the root.
+/// Steps can stand in an entry exactly where their nodes, read backwards, are a path from the root.
 pub fn paths_read_backwards()
-    ensures way { (p : Sealed) (steps : List EntryStep) → is_sealed p ≡ true
-        → IsPathFromRoot p (nodes_back steps) → is_way_back p None steps ≡ true }
+    ensures backwards { (p : Sealed) (steps : List EntryStep) → is_sealed p ≡ true
+        → IsPathFromRoot p (nodes_back steps) → is_path_backwards p None steps ≡ true }
     ensures path { (p : Sealed) (steps : List EntryStep) → 0 < length steps
-        → is_way_back p None steps ≡ true → IsPathFromRoot p (nodes_back steps) }
+        → is_path_backwards p None steps ≡ true → IsPathFromRoot p (nodes_back steps) }
 {}

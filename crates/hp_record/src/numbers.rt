@@ -3,6 +3,7 @@ ghost use Rattle.std.specs.Int.{w16, w32, w64};
 ghost use Rattle.hp_record.specs.Reading.{Gives, number_at, row_at, pair_at};
 
 use crate::fault::ReadFault;
+use hp_num::big_endian;
 
 pub(crate) fn u16_at(bytes: &[u8]) -> Result<(u16, &[u8]), ReadFault>
     ensures { Gives (λ x. (x.0, x.1.now)) result (number_at w16 bytes.now) }
@@ -11,7 +12,7 @@ pub(crate) fn u16_at(bytes: &[u8]) -> Result<(u16, &[u8]), ReadFault>
         return Err(ReadFault::Bad { left: bytes.len() });
     }
     let (front, rest) = bytes.split_at(2);
-    Ok((u16::from_be_bytes([front[0], front[1]]), rest))
+    Ok((big_endian::u16_at(front, 0), rest))
 }
 
 pub(crate) fn u32_at(bytes: &[u8]) -> Result<(u32, &[u8]), ReadFault>
@@ -21,8 +22,7 @@ pub(crate) fn u32_at(bytes: &[u8]) -> Result<(u32, &[u8]), ReadFault>
         return Err(ReadFault::Bad { left: bytes.len() });
     }
     let (front, rest) = bytes.split_at(4);
-    let number = u32::from_be_bytes([front[0], front[1], front[2], front[3]]);
-    Ok((number, rest))
+    Ok((big_endian::u32_at(front, 0), rest))
 }
 
 fn u64_at(bytes: &[u8]) -> Result<(u64, &[u8]), ReadFault>
@@ -32,10 +32,7 @@ fn u64_at(bytes: &[u8]) -> Result<(u64, &[u8]), ReadFault>
         return Err(ReadFault::Bad { left: bytes.len() });
     }
     let (front, rest) = bytes.split_at(8);
-    let number = u64::from_be_bytes([
-        front[0], front[1], front[2], front[3], front[4], front[5], front[6], front[7],
-    ]);
-    Ok((number, rest))
+    Ok((big_endian::u64_at(front, 0), rest))
 }
 
 // A row's multiplier.

@@ -16,6 +16,7 @@ pub(crate) struct Sizes {
     pub(crate) successors: usize,
 }
 
+#[tactic(auto, using(crate::proofs::NodeParts::weights_are, crate::proofs::NodeParts::successors_are))]
 pub(crate) fn sizes_of(problem: &Problem, node: u32) -> Sizes
     requires { node < length problem.now.raw.nodes }
     ensures { result ≡ sizes_of problem.now node }

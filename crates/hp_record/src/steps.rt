@@ -1,6 +1,6 @@
 // The steps of an entry, read from the front of bytes, with the bytes behind them.
 ghost use Rattle.std.specs.Prelude.{◌≡◌, ◌<◌, length, Some, None};
-ghost use Rattle.hp_record.specs.Shape.{is_among, leads_on, links_of, may_stand, sizes_of};
+ghost use Rattle.hp_record.specs.Shape.{is_among, leads_on, may_stand, sizes_of};
 ghost use Rattle.hp_record.specs.Reading.{Gives, node_at, step_at, steps_at};
 
 use crate::certificates::certificates;
@@ -13,6 +13,7 @@ use hp_problem::Problem;
 use std::alloc::Global;
 
 // Whether the node leads to the one of the step before.
+#[tactic(auto, using(crate::proofs::NodeParts::successors_are))]
 fn leads_on(problem: &Problem, node: u32, before: Option<u32>) -> bool
     requires { node < length problem.now.raw.nodes }
     ensures { result ≡ leads_on problem.now node before }

@@ -1,8 +1,9 @@
 -- The steps of a path by their places.
 use Rattle.std.proofs.Common.{ℕ, zero, suc, ◌<◌, List, [], ◌∷◌, length, get_or, Contains, arith}
 use Rattle.hp_problem.specs.declared.raw.Raw.{Raw}
+use Rattle.hp_problem.specs.Parts.{successors_at}
 use Rattle.hp_sampler.specs.declared.steps.Step.{Step}
-use Rattle.hp_sampler.specs.Drawn.{FollowsArcs, StartsAtRoot, successors_at}
+use Rattle.hp_sampler.specs.Drawn.{FollowsArcs, StartsAtRoot}
 
 -- the first step is at a successor of the root
 pub starts_with : (raw : Raw) (steps : List Step) (s : Step) → StartsAtRoot raw steps → Contains raw.root (get_or steps 0 s).node

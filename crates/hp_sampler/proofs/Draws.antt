@@ -1,5 +1,5 @@
 -- What the limits of a sealed problem say of the weights that a path picks among.
-use Rattle.std.proofs.Common.{◌≡◌, ℕ, suc, ◌+◌, ◌<◌, ◌≤◌, true, false, List, [], ◌∷◌, ◌++◌, length, map, get_or, sum, Option, Some, None, IfSome, slice_get, nat_lt, refl, sym, ap, subst, ◌∙◌, arith}
+use Rattle.std.proofs.Common.{◌≡◌, ℕ, suc, ◌+◌, ◌-◌, ◌*◌, ◌<◌, ◌≤◌, true, false, List, [], ◌∷◌, ◌++◌, length, map, get_or, sum, Option, Some, None, IfSome, slice_get, nat_lt, refl, sym, ap, subst, ◌∙◌, arith}
 use Rattle.std.specs.List.{list_all}
 use Rattle.std.proofs.lemmas.Bool.{ltb-true}
 use Rattle.std.proofs.lemmas.Bool.Decides.{nat_tests}
@@ -11,12 +11,13 @@ use Rattle.hp_problem.specs.declared.raw.Node.{Node}
 use Rattle.hp_problem.specs.declared.raw.Raw.{Raw}
 use Rattle.hp_problem.specs.declared.raw.Subproblem.{Subproblem}
 use Rattle.hp_problem.specs.Limits.{are_weights, links_fit, node_fits, root_fits, values_fit}
+use Rattle.hp_problem.specs.Parts.{successors_at, weights_at}
 use Rattle.hp_problem.specs.Sealed.{Sealed, is_sealed}
 use Rattle.hp_problem.proofs.SealedFacts.{raw-is_sealed, nodes_fit, root-raw_fits}
 use Rattle.hp_sampler.specs.Picked.{picked}
 use Rattle.rand_chacha.specs.ChaCha.{ChaCha}
 use Rattle.hp_sampler.specs.declared.steps.Step.{Step}
-use Rattle.hp_sampler.specs.Drawn.{choices, first_node, next_node, path, path_from, step_at, steps_of, stream_of, successors_at, weights_at, word_in}
+use Rattle.hp_sampler.specs.Drawn.{choices, first_node, next_node, path, path_from, step_at, steps_of, stream_of, word_in}
 
 -- what is made of the node m
 pub made_at : {A : Type 0} (f : Node → A) (nodes : List Node) (m : ℕ) (n : Node) (d : A) → slice_get nodes m ≡ Some n → get_or (map f nodes) m d ≡ f n
@@ -107,6 +108,14 @@ pub word_in-moved : (g : ChaCha) (at place : ℕ) → word_in (record g { word_p
 unfolding word_in
 word_in-moved g at place = refl
 
+-- the word that a generator gives at its place
+pub at_place : (g w : ChaCha) (at : ℕ) → w ≡ record g { word_pos = at } → word_in w w.word_pos ≡ word_in g at
+at_place g w at e = ap (λ (v : ChaCha). word_in v v.word_pos) e ∙ word_in-moved g at at
+
+-- a generator after one more word
+pub later : (g w v : ChaCha) (at : ℕ) → w ≡ record g { word_pos = at } → v ≡ record w { word_pos = w.word_pos + 1 } → v ≡ record g { word_pos = at + 1 }
+later g w v at e f = f ∙ ap (λ (u : ChaCha). record u { word_pos = u.word_pos + 1 }) e
+
 -- one more step
 pub steps_more : (raw : Raw) (word : ℕ → ℕ) (left n place m k : ℕ) (found whole : List Step) → left ≡ suc n → next_node raw m (word (place + 1)) ≡ Some k → found ++ path_from raw word left place m ≡ whole
     → (found ++ step_at raw m (word place) ∷ []) ++ path_from raw word n (place + 2) k ≡ whole
@@ -122,13 +131,46 @@ steps_done raw word left n place m found whole e next is =
     ap (λ (o : Option ℕ). found ++ step_at raw m (word place) ∷ steps_of (λ j. path_from raw word n (place + 2) j) o) (sym next)
     ∙ ap (λ (j : ℕ). found ++ path_from raw word j place m) (sym e) ∙ is
 
--- the word that a generator gives at its place
-pub at_place : (g w : ChaCha) (at : ℕ) → w ≡ record g { word_pos = at } → word_in w w.word_pos ≡ word_in g at
-at_place g w at e = ap (λ (v : ChaCha). word_in v v.word_pos) e ∙ word_in-moved g at at
+-- a step of the loop: two words from the place 2 i + 1 on
+module _ (p : Sealed) (g w v u : ChaCha) (i m first : ℕ) (step : Step) (o : Option ℕ) (found : List Step) where
+  -- what is known of it
+  pub record Stepped : Type 0 where
+    pub inside : i < p.longest
+    pub words : w ≡ record g { word_pos = 2 * i + 1 }
+    pub so_far : found ++ path_from p.raw (word_in g) (p.longest - i) (2 * i + 1) m ≡ path_from p.raw (word_in g) p.longest 1 first
+    pub step_is : step ≡ step_at p.raw m (word_in w w.word_pos)
+    pub step_words : v ≡ record w { word_pos = w.word_pos + 1 }
+    pub next_is : o ≡ next_node p.raw m (word_in v v.word_pos)
 
--- a generator after one more word
-pub later : (g w v : ChaCha) (at : ℕ) → w ≡ record g { word_pos = at } → v ≡ record w { word_pos = w.word_pos + 1 } → v ≡ record g { word_pos = at + 1 }
-later g w v at e f = f ∙ ap (λ (u : ChaCha). record u { word_pos = u.word_pos + 1 }) e
+  module _ (s : Stepped) where
+    left : p.longest - i ≡ suc (p.longest - (i + 1))
+    left = omega (arith, s.inside)
+
+    there : step ≡ step_at p.raw m (word_in g (2 * i + 1))
+    there = s.step_is ∙ ap (step_at p.raw m) (at_place g w (2 * i + 1) s.words)
+
+    moved : v ≡ record g { word_pos = 2 * i + 1 + 1 }
+    moved = later g w v (2 * i + 1) s.words s.step_words
+
+    next : next_node p.raw m (word_in g (2 * i + 1 + 1)) ≡ o
+    next = ap (next_node p.raw m) (sym (at_place g v (2 * i + 1 + 1) moved)) ∙ sym s.next_is
+
+    pub stepped_done : o ≡ None → found ++ step ∷ [] ≡ path_from p.raw (word_in g) p.longest 1 first
+    stepped_done none =
+        ap (λ (t : Step). found ++ t ∷ []) there
+        ∙ steps_done p.raw (word_in g) (p.longest - i) (p.longest - (i + 1)) (2 * i + 1) m found (path_from p.raw (word_in g) p.longest 1 first) left (next ∙ none) s.so_far
+
+    pub stepped_on : (k : ℕ) → o ≡ Some k → (found ++ step ∷ []) ++ path_from p.raw (word_in g) (p.longest - (i + 1)) (2 * (i + 1) + 1) k ≡ path_from p.raw (word_in g) p.longest 1 first
+    stepped_on k some =
+        let place : 2 * i + 1 + 2 ≡ 2 * (i + 1) + 1 = omega arith in
+        ap (λ (j : ℕ). (found ++ step ∷ []) ++ path_from p.raw (word_in g) (p.longest - (i + 1)) j k) (sym place)
+        ∙ ap (λ (t : Step). (found ++ t ∷ []) ++ path_from p.raw (word_in g) (p.longest - (i + 1)) (2 * i + 1 + 2) k) there
+        ∙ steps_more p.raw (word_in g) (p.longest - i) (p.longest - (i + 1)) (2 * i + 1) m k found (path_from p.raw (word_in g) p.longest 1 first) left (next ∙ some) s.so_far
+
+    pub stepped_words : u ≡ record v { word_pos = v.word_pos + 1 } → u ≡ record g { word_pos = 2 * (i + 1) + 1 }
+    stepped_words after =
+        let place : 2 * i + 1 + 1 + 1 ≡ 2 * (i + 1) + 1 = omega arith in
+        later g v u (2 * i + 1 + 1) moved after ∙ ap (λ (k : ℕ). record g { word_pos = k }) place
 
 pub starts_at : (seed stream : ℕ) → (stream_of seed stream).word_pos ≡ 0
 unfolding stream_of

@@ -1,27 +1,29 @@
 -- A drawn path starts at a successor of the root, follows the arcs, and ends where it may, within the longest path.
-use Rattle.std.proofs.Common.{◌≡◌, ℕ, zero, suc, ◌+◌, ◌<◌, ◌≤◌, ◌^◌, ◌⊎◌, inl, inr, true, false, List, [], ◌∷◌, ◌++◌, length, map, get_or, Option, Some, None, All, Contains, slice_get, nat_lt, is_none, refl, sym, ap, subst, ◌∙◌, arith}
+use Rattle.std.proofs.Common.{◌≡◌, ℕ, zero, suc, ◌+◌, ◌<◌, ◌≤◌, ◌^◌, ◌⊎◌, inl, inr, true, List, [], ◌∷◌, ◌++◌, length, get_or, Option, Some, None, All, Contains, slice_get, nat_lt, refl, sym, subst, ◌∙◌, arith}
 use Rattle.std.proofs.lemmas.List.Elements.{All-nil, All-cons}
 use Rattle.std.proofs.Math.Nat.{mod-lt}
 use Rattle.std.proofs.lemmas.Bool.{cases_lt}
 use Rattle.std.proofs.lemmas.Bool.Decides.{nat_tests}
 use Rattle.std.proofs.lemmas.Grind.{common_steps}
 use Rattle.std.proofs.lemmas.List.{length-append, length-map}
-use Rattle.std.proofs.lemmas.List.FromFn.{get_or-map-range_with_len}
-use Rattle.std.proofs.lemmas.Option.{slice_get-get_or, slice_get_within, get_or_from_slice_get}
+use Rattle.std.proofs.lemmas.Option.{slice_get_within, get_or_from_slice_get}
 use Rattle.rand_chacha.specs.ChaCha.{ChaCha}
 use Rattle.rand_chacha.specs.Block.{block_word}
-use Rattle.hp_num.proofs.Tests.{and_first, and_second}
+use Rattle.hp_num.proofs.Tests.{and_first, and_second, is_none-true, some_of}
 use Rattle.hp_paths.specs.Paths.{first_in_cycle}
-use Rattle.hp_paths.specs.Ranks.{greatest, longest_from, rank, ranks}
+use Rattle.hp_paths.specs.Ranks.{longest_from, rank, ranks}
+use Rattle.hp_paths.proofs.AllRanked.{greatest_over}
 use Rattle.hp_paths.proofs.Falling.{rank_falls}
+use Rattle.hp_paths.proofs.Placing.{rank_at}
 use Rattle.hp_paths.proofs.Paths.{leads_to}
 use Rattle.hp_problem.specs.declared.raw.Node.{Node}
 use Rattle.hp_problem.specs.Limits.{are_weights}
-use Rattle.hp_problem.specs.Sealed.{Sealed, is_sealed, graph_fits, graph_of}
+use Rattle.hp_problem.specs.Parts.{successors_at, weights_at, graph_of}
+use Rattle.hp_problem.specs.Sealed.{Sealed, is_sealed, graph_fits}
 use Rattle.hp_problem.proofs.SealedFacts.{raw-is_sealed, graph-is_sealed, known_graph}
 use Rattle.hp_sampler.specs.declared.steps.Step.{Step}
 use Rattle.hp_sampler.specs.Picked.{picked, stop_weight}
-use Rattle.hp_sampler.specs.Drawn.{choices, choices_at, EndsRight, first_node, Follows, FollowsArcs, IsInRange, last_node, MayEnd, next_node, path, path_from, StartsAtRoot, step_at, steps_of, stream_of, successors_at, weights_at, word_in}
+use Rattle.hp_sampler.specs.Drawn.{choices, choices_at, EndsRight, first_node, Follows, FollowsArcs, IsInRange, last_node, MayEnd, next_node, path, path_from, StartsAtRoot, step_at, steps_of, stream_of, word_in}
 use Rattle.hp_sampler.proofs.Picking.{picked_in_range}
 use Rattle.hp_sampler.proofs.Draws.{Linked, made_at, next_is, node_linked, node_weighty, root_counted, root_inside, root_weighty}
 
@@ -33,18 +35,6 @@ word_small g place = mod-lt _ (omega arith)
 -- what stands at a place of a list is in it
 contained : (ks : List ℕ) (i k : ℕ) → slice_get ks i ≡ Some k → Contains ks k
 contained ks i k is = (i, slice_get_within ks i k is, get_or_from_slice_get ks i k k is)
-
-is_none-true : {A : Type 0} (o : Option A) → is_none o ≡ true → o ≡ None
-is_none-true None e = refl
-is_none-true (Some x) e = absurd (no e)
-  where
-    no : false ≡ true → ⊥
-    no h = cc
-
-greatest_over : (f : ℕ → ℕ) (ks : List ℕ) (k : ℕ) → Contains ks k → f k ≤ greatest (map f ks)
-greatest_over f [] k c = absurd (omega (arith, c.1))
-greatest_over f (i ∷ ks) k (zero, l, e) = omega (arith, ap f e)
-greatest_over f (i ∷ ks) k (suc n, l, e) = omega (arith, greatest_over f ks k (n, omega arith, e))
 
 -- weights and a stop weight behind them
 weights_stop : (ws : List ℕ) (stop : ℕ) → are_weights ws ≡ true → are_weights (ws ++ stop_weight stop) ≡ true
@@ -61,10 +51,6 @@ stops links ws zero word count e small some past =
     let inside : picked (ws ++ []) word < length (ws ++ []) = picked_in_range (ws ++ []) word small (omega (arith, count, length-append ws (stop_weight zero))) (weights_stop ws zero e) in
     absurd (omega (arith, inside, count, past, length-append ws (stop_weight zero)))
 stops links ws (suc n) word count e small some past = omega arith
-
-some_of : {A : Type 0} (xs : List A) (i : ℕ) → i < length xs → (x : A) × (slice_get xs i ≡ Some x)
-some_of [] i h = absurd (omega arith)
-some_of (x ∷ xs) i h = (get_or (x ∷ xs) i x, slice_get-get_or (x ∷ xs) i x h)
 
 -- an empty list, or one whose places are below its length
 some_or_none : {A : Type 0} (xs : List A) → (xs ≡ []) ⊎ (0 < length xs)
@@ -100,7 +86,7 @@ module _ (p : Sealed) (e : is_sealed p ≡ true) where
   starts_low : (m : ℕ) → m < length p.raw.nodes → Contains p.raw.root m → rank graph m < p.longest
   starts_low m h c =
       let most : suc (get_or (ranks graph) m 0) ≤ longest_from (ranks graph) p.raw.root = greatest_over (λ k. suc (get_or (ranks graph) k 0)) p.raw.root m c in
-      let at : get_or (ranks graph) m 0 ≡ rank graph m = get_or-map-range_with_len (rank graph) 0 (length graph) m m 0 (omega (arith, h, length-map p.raw.nodes (λ (n : Node). n.links))) (omega arith) in
+      let at : get_or (ranks graph) m 0 ≡ rank graph m = rank_at graph m (omega (arith, h, length-map p.raw.nodes (λ (n : Node). n.links))) in
       omega (arith, most, at, longest_is)
 
   -- where a word picks no successor, the path may end

@@ -2,10 +2,10 @@
 use Rattle.std.specs.Prelude.{◌≡◌, ℕ, zero, suc, ◌+◌, ◌<◌, ◌⊎◌, List, [], ◌∷◌, ◌++◌, length, map, replicate, get_or, slice_get, Option, Some, None, All, Contains}
 use Rattle.std.specs.Int.{w64, to_le_bytes}
 use Rattle.rand_chacha.specs.ChaCha.{ChaCha, word_at, key_of}
-use Rattle.hp_paths.specs.Paths.{links_at}
 use Rattle.hp_problem.specs.declared.raw.Node.{Node}
 use Rattle.hp_problem.specs.declared.raw.Raw.{Raw}
-use Rattle.hp_problem.specs.Sealed.{Sealed, graph_of}
+use Rattle.hp_problem.specs.Parts.{successors_at, weights_at}
+use Rattle.hp_problem.specs.Sealed.{Sealed}
 use Rattle.hp_sampler.specs.declared.steps.Step.{Step}
 use Rattle.hp_sampler.specs.Picked.{picked, stop_weight}
 
@@ -21,10 +21,6 @@ stream_of seed stream = record { key = key_of (key_bytes seed); stream = stream;
 unfoldable pub word_in : ChaCha → ℕ → ℕ
 word_in g place = word_at 10 g.key g.stream place
 
--- the weights of the realizations of the node m
-abbrev pub weights_at : Raw → ℕ → List ℕ
-weights_at raw m = get_or (map (λ (n : Node). n.weights) raw.nodes) m []
-
 -- the weights of the node's successors, and then its stop weight where it is at least 1
 abbrev pub choices : Node → List ℕ
 choices n = n.link_weights ++ stop_weight n.stop
@@ -35,10 +31,6 @@ choices_at raw m = get_or (map choices raw.nodes) m []
 -- the stop weight of the node m
 abbrev pub stop_at : Raw → ℕ → ℕ
 stop_at raw m = get_or (map (λ (n : Node). n.stop) raw.nodes) m 0
-
--- the successors of the node m
-abbrev pub successors_at : Raw → ℕ → List ℕ
-successors_at raw m = links_at (graph_of raw) m
 
 -- the node where a path begins
 abbrev pub first_node : Raw → ℕ → Option ℕ

@@ -1,9 +1,10 @@
 // The paths that seeds draw.
 ghost use Rattle.std.specs.Prelude.{◌≡◌, ◌+◌, ◌*◌, ◌^◌, ◌<◌, ◌≤◌, Some, true, length, sum, slice_get, All, IfOk, IfSome};
 ghost use Rattle.hp_problem.specs.Limits.{are_weights};
+ghost use Rattle.hp_problem.specs.Parts.{weights_at};
 ghost use Rattle.hp_problem.specs.Sealed.{is_sealed};
 ghost use Rattle.hp_sampler.specs.Picked.{picked};
-ghost use Rattle.hp_sampler.specs.Drawn.{choices, choices_at, EndsRight, first_node, FollowsArcs, IsInRange, IsPath, next_node, path, path_from, StartsAtRoot, step_at, steps_of, weights_at, word_in};
+ghost use Rattle.hp_sampler.specs.Drawn.{choices, choices_at, EndsRight, first_node, FollowsArcs, IsInRange, IsPath, next_node, path, path_from, StartsAtRoot, step_at, steps_of, word_in};
 
 use crate::picks::{pick, pick_or_stop};
 use crate::steps::Step;

@@ -1,5 +1,5 @@
-use Rattle.hp_record.proofs.WayBack.{way_from_path, path_from_way}
+use Rattle.hp_record.proofs.PathsBackwards.{backwards_from_path, path_from_backwards}
 use Rattle.hp_record.proofs.laws.paths_read_backwards.Goals as goal
 
 pub returns : goal.returns
-returns c = record { way = way_from_path; path = path_from_way }
+returns c = record { backwards = backwards_from_path; path = path_from_backwards }

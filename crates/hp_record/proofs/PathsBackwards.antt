@@ -1,20 +1,20 @@
--- Steps are a way back exactly where their nodes, read backwards, are a path from the root.
+-- The steps of an entry go the path backwards exactly where their nodes, read backwards, are a path from the root.
 use Rattle.std.proofs.Common.{◌≡◌, ℕ, suc, ◌<◌, ◌==◌, Bool, true, false, ◌&&◌, ◌||◌, not, List, [], ◌∷◌, ◌++◌, length, get_or, Contains, Option, Some, None, refl, sym, subst, append_assoc, arith}
 use Rattle.std.specs.Prelude.{nat_lt, nat_eq}
 use Rattle.std.proofs.Math.Logic.{⊎_elim}
 use Rattle.std.proofs.lemmas.Bool.Decides.{nat_tests}
 use Rattle.std.proofs.lemmas.List.{length-map}
-use Rattle.hp_num.proofs.Tests.{and_first, and_second, all_at}
+use Rattle.hp_num.proofs.Tests.{and_first, and_second, all_at, both}
 use Rattle.hp_paths.specs.Paths.{links_at}
 use Rattle.hp_paths.proofs.Paths.{leads_to, one_of}
 use Rattle.hp_problem.specs.declared.raw.Node.{Node}
+use Rattle.hp_problem.specs.Parts.{successors_at}
 use Rattle.hp_problem.specs.Sealed.{Sealed, is_sealed, graph_of}
 use Rattle.hp_problem.proofs.SealedFacts.{raw-is_sealed, known_root}
 use Rattle.hp_cut.specs.declared.entry.EntryStep.{EntryStep}
-use Rattle.hp_record.specs.Shape.{links_of, is_among, leads_on, may_stand, is_way_back}
+use Rattle.hp_record.specs.Shape.{is_among, leads_on, may_stand, is_path_backwards}
 use Rattle.hp_record.specs.Backwards.{GoesOn, IsPathFromRoot, nodes_back}
-use Rattle.hp_record.proofs.Taken.{both_true}
-use Rattle.hp_record.proofs.Ways.{graph, led, in_root, links_same}
+use Rattle.hp_record.proofs.LongestPath.{graph, led, in_root}
 
 -- ---- the last two nodes of a path
 
@@ -58,11 +58,11 @@ below m n h = grind (arith, nat_tests)
 
 stands : (p : Sealed) (before : Option ℕ) (last : Bool) (m : ℕ) → m < length p.raw.nodes → leads_on p m before ≡ true → (not last || is_among p.raw.root m) ≡ true → may_stand p before last m ≡ true
 stands p before last m known leads ends =
-    both_true (nat_lt m (length p.raw.nodes) && leads_on p m before) (not last || is_among p.raw.root m)
-    (both_true (nat_lt m (length p.raw.nodes)) (leads_on p m before) (below m (length p.raw.nodes) known) leads) ends
+    both (nat_lt m (length p.raw.nodes) && leads_on p m before) (not last || is_among p.raw.root m)
+    (both (nat_lt m (length p.raw.nodes)) (leads_on p m before) (below m (length p.raw.nodes) known) leads) ends
 
 leads : (p : Sealed) (m k : ℕ) → Contains (links_at (graph_of p.raw) m) k → leads_on p m (Some k) ≡ true
-leads p m k c = found (links_of p m) k (subst (λ (ks : List ℕ). Contains ks k) (sym (links_same p m)) c)
+leads p m k c = found (successors_at p.raw m) k c
 
 not_last : (k : ℕ) (b : Bool) → (not (suc k == 0) || b) ≡ true
 not_last k b = let other : (suc k == 0) ≡ false = grind (arith, nat_tests) in rw other refl
@@ -82,28 +82,28 @@ link_known p sealed t s c = omega (arith, leads_to (graph_of p.raw) t s (graph p
 
 -- ---- both directions
 
-way : (p : Sealed) → is_sealed p ≡ true → (before : Option ℕ) (s : EntryStep) (ss : List EntryStep) → leads_on p s.node before ≡ true → IsPathFromRoot p (nodes_back (s ∷ ss)) → is_way_back p before (s ∷ ss) ≡ true
-way p sealed before s [] leads_there path =
-    both_true (may_stand p before true s.node) true (stands p before true s.node (root_known p sealed s.node path.0) leads_there (found p.raw.root s.node path.0)) refl
-way p sealed before s (t ∷ ts) leads_there path =
+backwards : (p : Sealed) → is_sealed p ≡ true → (before : Option ℕ) (s : EntryStep) (ss : List EntryStep) → leads_on p s.node before ≡ true → IsPathFromRoot p (nodes_back (s ∷ ss)) → is_path_backwards p before (s ∷ ss) ≡ true
+backwards p sealed before s [] leads_there path =
+    both (may_stand p before true s.node) true (stands p before true s.node (root_known p sealed s.node path.0) leads_there (found p.raw.root s.node path.0)) refl
+backwards p sealed before s (t ∷ ts) leads_there path =
     let parts = path_split p (nodes_back ts) t.node s.node (subst (IsPathFromRoot p) (regrouped ts t.node s.node) path) in
-    both_true (may_stand p before (length (t ∷ ts) == 0) s.node) (is_way_back p (Some s.node) (t ∷ ts))
+    both (may_stand p before (length (t ∷ ts) == 0) s.node) (is_path_backwards p (Some s.node) (t ∷ ts))
     (stands p before (length (t ∷ ts) == 0) s.node (link_known p sealed t.node s.node parts.1) leads_there (not_last (length ts) (is_among p.raw.root s.node)))
-    (way p sealed (Some s.node) t ts (leads p t.node s.node parts.1) parts.0)
+    (backwards p sealed (Some s.node) t ts (leads p t.node s.node parts.1) parts.0)
 
-path_of : (p : Sealed) (before : Option ℕ) (s : EntryStep) (ss : List EntryStep) → is_way_back p before (s ∷ ss) ≡ true → IsPathFromRoot p (nodes_back (s ∷ ss))
+path_of : (p : Sealed) (before : Option ℕ) (s : EntryStep) (ss : List EntryStep) → is_path_backwards p before (s ∷ ss) ≡ true → IsPathFromRoot p (nodes_back (s ∷ ss))
 path_of p before s [] h = (in_root p before s.node (and_first (may_stand p before true s.node) true h), tt)
 path_of p before s (t ∷ ts) h =
-    let later : is_way_back p (Some s.node) (t ∷ ts) ≡ true = and_second (may_stand p before (length (t ∷ ts) == 0) s.node) (is_way_back p (Some s.node) (t ∷ ts)) h in
-    let first : may_stand p (Some s.node) (length ts == 0) t.node ≡ true = and_first (may_stand p (Some s.node) (length ts == 0) t.node) (is_way_back p (Some t.node) ts) later in
+    let later : is_path_backwards p (Some s.node) (t ∷ ts) ≡ true = and_second (may_stand p before (length (t ∷ ts) == 0) s.node) (is_path_backwards p (Some s.node) (t ∷ ts)) h in
+    let first : may_stand p (Some s.node) (length ts == 0) t.node ≡ true = and_first (may_stand p (Some s.node) (length ts == 0) t.node) (is_path_backwards p (Some t.node) ts) later in
     subst (IsPathFromRoot p) (sym (regrouped ts t.node s.node)) (path_join p (nodes_back ts) t.node s.node (path_of p (Some s.node) t ts later) (led p s.node (length ts == 0) t.node first))
 
--- Steps whose nodes are a path from the root, read backwards, are a way back.
-pub way_from_path : (p : Sealed) (ss : List EntryStep) → is_sealed p ≡ true → IsPathFromRoot p (nodes_back ss) → is_way_back p None ss ≡ true
-way_from_path p [] sealed path = refl
-way_from_path p (s ∷ ss) sealed path = way p sealed None s ss refl path
+-- Steps whose nodes are a path from the root, read backwards, can stand in an entry.
+pub backwards_from_path : (p : Sealed) (ss : List EntryStep) → is_sealed p ≡ true → IsPathFromRoot p (nodes_back ss) → is_path_backwards p None ss ≡ true
+backwards_from_path p [] sealed path = refl
+backwards_from_path p (s ∷ ss) sealed path = backwards p sealed None s ss refl path
 
 -- And the other way round.
-pub path_from_way : (p : Sealed) (ss : List EntryStep) → 0 < length ss → is_way_back p None ss ≡ true → IsPathFromRoot p (nodes_back ss)
-path_from_way p [] some h = absurd (omega (arith, some))
-path_from_way p (s ∷ ss) some h = path_of p None s ss h
+pub path_from_backwards : (p : Sealed) (ss : List EntryStep) → 0 < length ss → is_path_backwards p None ss ≡ true → IsPathFromRoot p (nodes_back ss)
+path_from_backwards p [] some h = absurd (omega (arith, some))
+path_from_backwards p (s ∷ ss) some h = path_of p None s ss h
