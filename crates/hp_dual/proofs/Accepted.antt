@@ -142,6 +142,14 @@ right-walk pools n list e h =
     record { count = s.0; each = right-certificates_fault pools n 0 list s.1 h }
 
 -- an accepted list is right, and its size is in range
+-- a size without a fault is in range
+pub none-option_map : (o : Option ℕ) → option_map Range o ≡ None → o ≡ None
+none-option_map None h = refl
+none-option_map (Some r) h = absurd (no h)
+  where
+    no : (let o : Option CertFault = Some (Range r) in o ≡ None) → ⊥
+    no h = cc
+
 module _ (pools : List (List Cut)) (n : Node) (list : List Certificate) (e : fault_of pools n list ≡ None) where
   none-shape : (shape_fault n list ≡ None) × (or_then (certificates_fault pools n 0 list) (range_fault pools n list) ≡ None)
   unfolding fault_of
@@ -155,13 +163,6 @@ module _ (pools : List (List Cut)) (n : Node) (list : List Certificate) (e : fau
 
   pub size-fault_of : size_of pools n list ≤ℤ pos (2 ^ 127 - 1)
   size-fault_of = within-range_of pools n list (none-option_map (range_of pools n list) none-rest.1)
-    where
-      none-option_map : (o : Option ℕ) → option_map Range o ≡ None → o ≡ None
-      none-option_map None h = refl
-      none-option_map (Some r) h = absurd (no h)
-        where
-          no : (let o : Option CertFault = Some (Range r) in o ≡ None) → ⊥
-          no h = cc
 
 -- the first fault, walk by walk
 module _ (pools : List (List Cut)) (n : Node) (list : List Certificate) where

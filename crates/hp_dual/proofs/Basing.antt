@@ -25,17 +25,11 @@ use Rattle.hp_theory.proofs.SealedParts.{PartsFit, Parts, parts}
 use Rattle.hp_theory.proofs.SealedPremises.{leads-sealed}
 use Rattle.hp_theory.proofs.SoundBase.{base_right}
 use Rattle.hp_dual.specs.Within.{Within}
+use Rattle.hp_dual.proofs.Accepted.{none-option_map}
 use Rattle.hp_dual.proofs.Faultless.{right-range_fault}
 use Rattle.hp_dual.proofs.SealedWithin.{within-sealed, parts_read}
 
 -- a right list's fault is where its size passes the range
-none-option_map : (o : Option ℕ) → option_map Range o ≡ None → o ≡ None
-none-option_map None h = refl
-none-option_map (Some r) h = absurd (no h)
-  where
-    no : (let o : Option CertFault = Some (Range r) in o ≡ None) → ⊥
-    no h = cc
-
 some-option_map : (o : Option ℕ) (f : CertFault) → option_map Range o ≡ Some f → o ≡ Some (realization_of f)
 some-option_map None f h = absurd (no h)
   where

@@ -20,3 +20,4 @@ pub mod Viewed
 pub mod InSize
 pub mod Divisor
 pub mod SealedCuttable
+pub mod Beside

@@ -1,6 +1,5 @@
 -- The parts of a node of a sealed problem are within what the walk needs.
-use Rattle.std.proofs.Common.{◌≡◌, ℕ, ◌<◌, ◌≤◌, ℤ, true, List, length, get_or, All, sum, slice_get, Some, nat_lt, nat_le, sym, ap, ◌∙◌, subst, arith}
-use Rattle.std.specs.List.{list_all}
+use Rattle.std.proofs.Common.{◌≡◌, ℕ, ◌<◌, ◌≤◌, ℤ, true, List, length, get_or, All, sum, slice_get, Some, nat_lt, sym, ap, ◌∙◌, subst, arith}
 use Rattle.std.proofs.lemmas.Bool.Decides.{nat_tests}
 use Rattle.std.proofs.lemmas.Option.{slice_get-get_or}
 use Rattle.hp_problem.specs.declared.raw.Raw.{Raw}
@@ -9,7 +8,7 @@ use Rattle.hp_problem.specs.declared.raw.Subproblem.{Subproblem}
 use Rattle.hp_problem.specs.Limits.{subproblem_fits}
 use Rattle.hp_problem.specs.Sealed.{Sealed, is_sealed, subproblem_of}
 use Rattle.hp_problem.proofs.SealedFacts.{raw-is_sealed, few_nodes}
-use Rattle.hp_num.proofs.Tests.{and_first, and_second, all_at}
+use Rattle.hp_num.proofs.Tests.{all_at}
 use Rattle.hp_theory.proofs.SealedParts.{PartsFit, parts_given, weighty, linked, links_known, numbers_counted}
 use Rattle.hp_theory.specs.declared.cut.Cut.{Cut}
 use Rattle.hp_theory.specs.Problem as problems

@@ -1,4 +1,4 @@
-use Rattle.std.proofs.Common.{length, refl, sym, ap, ◌∙◌}
+use Rattle.std.proofs.Common.{length, refl, ap, ◌∙◌}
 use Rattle.hp_theory.specs.Problem.{Node}
 use Rattle.hp_theory.proofs.SealedParts.{parts_given}
 use Rattle.hp_dual.proofs.GivenNode.{length-realizations}

@@ -1,11 +1,12 @@
-use Rattle.std.proofs.Common.{◌≡◌, ℕ, ◌<◌, ℤ, pos, ◌-ℤ◌, ◌*ℤ◌, SFits, w64, List, length, zip, get_or, take, rules, arith, ap, sym, subst, ◌∙◌, take_all, All}
+use Rattle.std.proofs.Common.{ℕ, ◌<◌, ℤ, pos, ◌-ℤ◌, ◌*ℤ◌, SFits, w64, List, length, zip, get_or, take, rules, arith, ap, sym, subst, ◌∙◌, take_all, All}
 use mir.Syntax.{w128}
 use Rattle.std.specs.Int.{int_wrap}
 use Rattle.std.proofs.lemmas.Int.{to_z-of_z}
-use Rattle.std.proofs.lemmas.Slice.Zip.{get_or-zip, length-zip}
+use Rattle.std.proofs.lemmas.Slice.Zip.{length-zip}
 use Rattle.hp_num.specs.Sums.{total, coefficient}
 use Rattle.hp_problem.specs.declared.raw.Row.{Row}
 use Rattle.hp_theory.specs.Problem.{S}
+use Rattle.hp_dual.proofs.Beside.{row_at}
 use Rattle.hp_dual.proofs.Tables.{tabled_as, more_less}
 use Rattle.hp_dual.proofs.cut_making.reduced_costs.add_rows.Goals as goal
 
@@ -19,22 +20,18 @@ add_row-requires c =
 
 pub loop-i-preserved : goal.loop-i-preserved
 loop-i-preserved c =
-    let i : ℕ = c.loop-i.i in
-    let rows : List Row = c.args.rows.now in
-    let ys : List ℤ = c.args.multipliers.now in
     let row : Row = c.index-rows-i.result in
-    let y : ℤ = get_or ys i (pos 0) in
+    let y : ℤ = get_or c.args.multipliers.now c.loop-i.i (pos 0) in
     let fits : SFits w64 y = search rules in
-    let h : i < length rows = omega (arith, c.min-i-end.ensures) in
-    let k : i < length ys = omega (arith, c.min-i-end.ensures) in
-    let at : get_or (zip rows ys) i (row, pos 0) ≡ (row, y) = get_or-zip rows ys i (row, pos 0) h k ∙ ap (λ (r : Row). (r, y)) (sym c.index-rows-i.is) in
+    let all : List (Row × ℤ) = zip c.args.rows.now c.args.multipliers.now in
+    let at = row_at c.args.rows.now c.args.multipliers.now c.loop-i.i row (omega (arith, c.min-i-end.ensures)) (omega (arith, c.min-i-end.ensures)) c.index-rows-i.is in
     record {
       count = omega (arith, c.add_row.ensures.count, c.loop-i.invariant.count);
       value = λ f t. tabled_as _ _ c.add_row.new.sums
           (λ j. let part : Row × ℤ → ℤ = λ (q : Row × ℤ). q.1 *ℤ coefficient q.0.decisions j in
           ap (int_wrap w128)
-          (ap (λ (z : ℤ). f j -ℤ pos S *ℤ total part (take i (zip rows ys)) -ℤ pos S *ℤ (z *ℤ coefficient row.decisions j)) (to_z-of_z w64 y fits)
-          ∙ more_less part (zip rows ys) i (row, pos 0) (f j) (pos S) (y *ℤ coefficient row.decisions j) (omega (arith, length-zip rows ys)) (sym (ap part at))))
+          (ap (λ (z : ℤ). f j -ℤ pos S *ℤ total part (take c.loop-i.i all) -ℤ pos S *ℤ (z *ℤ coefficient row.decisions j)) (to_z-of_z w64 y fits)
+          ∙ more_less part all c.loop-i.i (row, pos 0) (f j) (pos S) (y *ℤ coefficient row.decisions j) (omega (arith, length-zip c.args.rows.now c.args.multipliers.now, c.min-i-end.ensures)) (sym (ap part at))))
           (c.add_row.ensures.value _ (c.loop-i.invariant.value f t));
     }
 
