@@ -1,10 +1,11 @@
 -- The weighted values of the root's successors, summed in range.
-use Rattle.std.proofs.Common.{◌≡◌, ℕ, ◌+◌, ◌<◌, ◌≤◌, ◌^◌, ◌*◌, ℤ, pos, ◌+ℤ◌, ◌*ℤ◌, ◌≤ℤ◌, ◌<ℤ◌, true, ◌&&◌, List, length, get_or, drop, sum, nat_lt, nat_le, sym, ap, ◌∙◌, subst, arith}
+use Rattle.std.proofs.Common.{◌≡◌, ℕ, ◌+◌, ◌<◌, ◌≤◌, ◌^◌, ◌*◌, ℤ, pos, ◌+ℤ◌, ◌*ℤ◌, ◌≤ℤ◌, ◌<ℤ◌, true, List, length, get_or, drop, SFits, to_z, of_z, sum, nat_lt, sym, ap, ◌∙◌, subst, arith}
 use Rattle.std.specs.List.{list_all}
-use Rattle.std.proofs.lemmas.Int.{ints}
+use mir.Syntax.{w128}
+use Rattle.std.proofs.lemmas.Int.{ints, to_z-of_z}
 use Rattle.std.proofs.lemmas.Bool.Decides.{nat_tests}
 use Rattle.hp_num.specs.Sums.{total}
-use Rattle.hp_num.proofs.Tests.{and_first, all_at}
+use Rattle.hp_num.proofs.Tests.{all_at}
 use Rattle.hp_problem.specs.declared.raw.Raw.{Raw}
 use Rattle.hp_problem.specs.Limits.{root_fits}
 use Rattle.hp_problem.specs.Sealed.{Sealed, is_sealed, initial_values}
@@ -95,6 +96,17 @@ next p pools i s v e h is small value room =
     let bound : magnitude (pos (get_or p.raw.root_weights i 0) *ℤ v) ≤ℤ most (get_or (links_of p.raw.root p.raw.root_weights) i no_link) = subst (λ (l : Link). magnitude (pos (get_or p.raw.root_weights i 0) *ℤ v) ≤ℤ most l) (sym same) (size_times (pos (get_or p.raw.root_weights i 0)) v (pos (get_or p.raw.root_weights i 0)) (pos (2 ^ 104)) (le_refl (pos (get_or p.raw.root_weights i 0))) small) in
     subst (λ (z : ℤ). Added (total (part pools x) ls) s z (total (part pools x) (drop (i + 1) ls)) (total most (drop (i + 1) ls)) (total most ls)) term
     (total_step (part pools x) most ls i no_link s here (subst (λ (z : ℤ). magnitude z ≤ℤ most (get_or ls i no_link)) (sym term) bound) most_some value room (most_fits p e))
+
+-- the same of what is read on the way
+pub next_read : (p : Sealed) (pools : List (List Cut)) (raw : Raw) (ms ws : List ℕ) (x : List ℤ) (i : ℕ) (s w v : ℤ) → is_sealed p ≡ true → raw ≡ p.raw → ms ≡ raw.root → ws ≡ raw.root_weights → x ≡ initial_values p.raw → i < length ms
+    → SFits w128 w → SFits w128 v → w ≡ pos (get_or ws i 0) → v ≡ value pools (get_or ms i 0) x → magnitude v ≤ℤ pos (2 ^ 104)
+    → total (part pools (initial_values p.raw)) (links_of p.raw.root p.raw.root_weights) ≡ s +ℤ total (part pools (initial_values p.raw)) (drop i (links_of p.raw.root p.raw.root_weights))
+    → (magnitude s +ℤ total most (drop i (links_of p.raw.root p.raw.root_weights))) ≤ℤ total most (links_of p.raw.root p.raw.root_weights)
+    → Added (total (part pools (initial_values p.raw)) (links_of p.raw.root p.raw.root_weights)) s (to_z w128 (of_z w128 w) *ℤ to_z w128 (of_z w128 v)) (total (part pools (initial_values p.raw)) (drop (i + 1) (links_of p.raw.root p.raw.root_weights))) (total most (drop (i + 1) (links_of p.raw.root p.raw.root_weights))) (total most (links_of p.raw.root p.raw.root_weights))
+next_read p pools raw ms ws x i s w v e is list weights start h fw fv we ve small value room =
+    let nodes : ms ≡ p.raw.root = list ∙ ap (λ (r : Raw). r.root) is in
+    let weight : to_z w128 (of_z w128 w) ≡ pos (get_or p.raw.root_weights i 0) = to_z-of_z w128 w fw ∙ we ∙ ap (λ (ks : List ℕ). pos (get_or ks i 0)) (weights ∙ ap (λ (r : Raw). r.root_weights) is) in
+    rw (weight, to_z-of_z w128 v fv) (next p pools i s v e (rw nodes at h) (rw (nodes, start) at ve) small value room)
 
 -- the root's weights, as the definitions see them
 pub root_weights : (p : Sealed) → is_sealed p ≡ true → sum (link_weights (problem_of p).root) ≡ sum p.raw.root_weights

@@ -1,16 +1,15 @@
-use Rattle.std.proofs.Common.{◌≡◌, ℕ, ℤ, pos, ◌+ℤ◌, ◌*ℤ◌, ◌<◌, ◌≤◌, drop, List, length, get_or, to_z, of_z, arith, ap, sym, subst, ◌∙◌}
+use Rattle.std.proofs.Common.{◌≡◌, ℕ, ℤ, pos, ◌+ℤ◌, ◌<◌, ◌≤◌, drop, List, length, to_z, arith, ap, sym, subst, ◌∙◌}
 use mir.Syntax.{w128}
 use Rattle.std.proofs.lemmas.Int.{to_z-of_z}
 use Rattle.hp_problem.specs.declared.raw.Raw.{Raw}
 use Rattle.hp_problem.specs.Sealed.{initial_values}
-use Rattle.hp_theory.specs.Bound.{value}
 use Rattle.std.proofs.lemmas.List.{drop_all}
 use lib.IntN.{+ℤ_idr}
 use Rattle.hp_num.specs.Sums.{total}
 use Rattle.hp_theory.specs.Problem.{Link}
 use Rattle.hp_theory.specs.View.{problem_of, links_of}
 use Rattle.hp_theory.proofs.Views.{root-problem_of, initial-problem_of, length-links_of}
-use Rattle.hp_cut.proofs.Weighted.{part, known, starts, root, next}
+use Rattle.hp_cut.proofs.Weighted.{part, known, starts, root, next_read}
 use Rattle.hp_cut.proofs.pools.Pools.weighted.Goals as goal
 
 pub value_at-value-requires-clause-known : goal.value_at-value-requires-clause-known
@@ -30,39 +29,18 @@ bounds-weights-i c =
     let inside : c.loop-i.i < length c.args.problem.now.raw.root = rw nodes at c.loop-i-test.true in
     rw weights (subst (λ (n : ℕ). c.loop-i.i < n) (sym (root c.args.problem.now c.raw-raw.ensures.sealed).lengths) inside)
 
-pub add_product-sum-requires-clause-product : goal.add_product-sum-requires-clause-product
-add_product-sum-requires-clause-product c =
-    let nodes : c.as_slice-nodes.result.now ≡ c.args.problem.now.raw.root = c.as_slice-nodes.ensures ∙ ap (λ (r : Raw). r.root) c.raw-raw.ensures.value in
-    let weights : c.as_slice-weights.result.now ≡ c.args.problem.now.raw.root_weights = c.as_slice-weights.ensures ∙ ap (λ (r : Raw). r.root_weights) c.raw-raw.ensures.value in
-    let inside : c.loop-i.i < length c.args.problem.now.raw.root = rw nodes at c.loop-i-test.true in
-    let is : c.value_at-value.result ≡ value c.args.self.now.lists (get_or c.args.problem.now.raw.root c.loop-i.i 0) (initial_values c.args.problem.now.raw) = rw (nodes, c.initial-state.ensures) at c.value_at-value.ensures.value in
-    let w : to_z w128 (of_z w128 c.from.result) ≡ pos (get_or c.args.problem.now.raw.root_weights c.loop-i.i 0) = to_z-of_z w128 c.from.result (record { sfits = c.from.type_inv }) ∙ c.from.ensures ∙ ap (λ (ws : List ℕ). pos (get_or ws c.loop-i.i 0)) weights in
-    let v : to_z w128 (of_z w128 c.value_at-value.result) ≡ c.value_at-value.result = to_z-of_z w128 c.value_at-value.result (record { sfits = c.value_at-value.type_inv }) in
-    let a = next c.args.problem.now c.args.self.now.lists c.loop-i.i (to_z w128 c.loop-i.sum-bits) c.value_at-value.result c.raw-raw.ensures.sealed inside is c.value_at-value.ensures.small c.loop-i.invariant.value c.loop-i.invariant.room in
-    rw (w, v) a.fits
-
-pub add_product-sum-requires-clause-whole : goal.add_product-sum-requires-clause-whole
-add_product-sum-requires-clause-whole c =
-    let nodes : c.as_slice-nodes.result.now ≡ c.args.problem.now.raw.root = c.as_slice-nodes.ensures ∙ ap (λ (r : Raw). r.root) c.raw-raw.ensures.value in
-    let weights : c.as_slice-weights.result.now ≡ c.args.problem.now.raw.root_weights = c.as_slice-weights.ensures ∙ ap (λ (r : Raw). r.root_weights) c.raw-raw.ensures.value in
-    let inside : c.loop-i.i < length c.args.problem.now.raw.root = rw nodes at c.loop-i-test.true in
-    let is : c.value_at-value.result ≡ value c.args.self.now.lists (get_or c.args.problem.now.raw.root c.loop-i.i 0) (initial_values c.args.problem.now.raw) = rw (nodes, c.initial-state.ensures) at c.value_at-value.ensures.value in
-    let w : to_z w128 (of_z w128 c.from.result) ≡ pos (get_or c.args.problem.now.raw.root_weights c.loop-i.i 0) = to_z-of_z w128 c.from.result (record { sfits = c.from.type_inv }) ∙ c.from.ensures ∙ ap (λ (ws : List ℕ). pos (get_or ws c.loop-i.i 0)) weights in
-    let v : to_z w128 (of_z w128 c.value_at-value.result) ≡ c.value_at-value.result = to_z-of_z w128 c.value_at-value.result (record { sfits = c.value_at-value.type_inv }) in
-    let a = next c.args.problem.now c.args.self.now.lists c.loop-i.i (to_z w128 c.loop-i.sum-bits) c.value_at-value.result c.raw-raw.ensures.sealed inside is c.value_at-value.ensures.small c.loop-i.invariant.value c.loop-i.invariant.room in
-    rw (w, v) a.whole
+pub add_product-sum-requires : goal.add_product-sum-requires
+add_product-sum-requires c =
+    let more = next_read c.args.problem.now c.args.self.now.lists c.raw-raw.result.now c.as_slice-nodes.result.now c.as_slice-weights.result.now c.initial-state.result.now c.loop-i.i (to_z w128 c.loop-i.sum-bits) c.from.result c.value_at-value.result
+    c.raw-raw.ensures.sealed c.raw-raw.ensures.value c.as_slice-nodes.ensures c.as_slice-weights.ensures c.initial-state.ensures c.loop-i-test.true (record { sfits = c.from.type_inv }) (record { sfits = c.value_at-value.type_inv }) c.from.ensures c.value_at-value.ensures.value c.value_at-value.ensures.small c.loop-i.invariant.value c.loop-i.invariant.room in
+    record { product = more.fits; whole = more.whole }
 
 pub loop-i-preserved : goal.loop-i-preserved
 loop-i-preserved c =
-    let nodes : c.as_slice-nodes.result.now ≡ c.args.problem.now.raw.root = c.as_slice-nodes.ensures ∙ ap (λ (r : Raw). r.root) c.raw-raw.ensures.value in
-    let weights : c.as_slice-weights.result.now ≡ c.args.problem.now.raw.root_weights = c.as_slice-weights.ensures ∙ ap (λ (r : Raw). r.root_weights) c.raw-raw.ensures.value in
-    let inside : c.loop-i.i < length c.args.problem.now.raw.root = rw nodes at c.loop-i-test.true in
-    let is : c.value_at-value.result ≡ value c.args.self.now.lists (get_or c.args.problem.now.raw.root c.loop-i.i 0) (initial_values c.args.problem.now.raw) = rw (nodes, c.initial-state.ensures) at c.value_at-value.ensures.value in
-    let w : to_z w128 (of_z w128 c.from.result) ≡ pos (get_or c.args.problem.now.raw.root_weights c.loop-i.i 0) = to_z-of_z w128 c.from.result (record { sfits = c.from.type_inv }) ∙ c.from.ensures ∙ ap (λ (ws : List ℕ). pos (get_or ws c.loop-i.i 0)) weights in
-    let v : to_z w128 (of_z w128 c.value_at-value.result) ≡ c.value_at-value.result = to_z-of_z w128 c.value_at-value.result (record { sfits = c.value_at-value.type_inv }) in
-    let a = next c.args.problem.now c.args.self.now.lists c.loop-i.i (to_z w128 c.loop-i.sum-bits) c.value_at-value.result c.raw-raw.ensures.sealed inside is c.value_at-value.ensures.small c.loop-i.invariant.value c.loop-i.invariant.room in
-    let sum : to_z w128 (of_z w128 c.add_product-sum.result) ≡ to_z w128 c.loop-i.sum-bits +ℤ pos (get_or c.args.problem.now.raw.root_weights c.loop-i.i 0) *ℤ c.value_at-value.result = to_z-of_z w128 c.add_product-sum.result (record { sfits = c.add_product-sum.type_inv }) ∙ rw (w, v) at c.add_product-sum.ensures in
-    rw sum (record { value = a.value; room = a.room })
+    let more = next_read c.args.problem.now c.args.self.now.lists c.raw-raw.result.now c.as_slice-nodes.result.now c.as_slice-weights.result.now c.initial-state.result.now c.loop-i.i (to_z w128 c.loop-i.sum-bits) c.from.result c.value_at-value.result
+    c.raw-raw.ensures.sealed c.raw-raw.ensures.value c.as_slice-nodes.ensures c.as_slice-weights.ensures c.initial-state.ensures c.loop-i-test.true (record { sfits = c.from.type_inv }) (record { sfits = c.value_at-value.type_inv }) c.from.ensures c.value_at-value.ensures.value c.value_at-value.ensures.small c.loop-i.invariant.value c.loop-i.invariant.room in
+    let sum = to_z-of_z w128 c.add_product-sum.result (record { sfits = c.add_product-sum.type_inv }) ∙ c.add_product-sum.ensures in
+    rw sum (record { value = more.value; room = more.room })
 
 pub returns : goal.returns
 returns c =
