@@ -41,44 +41,44 @@ fn is_order(alloc: Global, order: &[u32], ranks: &[u32]) -> Result<bool, Memory>
     Ok(order == by_rank.as_slice())
 }
 
-// Whether the root reaches each node, and the order and the length of the longest path from it are those of the ranks.
+// An order of a graph's nodes, and a length of the longest path from some starts.
+#[derive(Drop)]
+struct Ranking<'a> {
+    starts: &'a [u32],
+    order: &'a [u32],
+    longest: u32,
+}
+
+// Whether the starts reach each node, and the order and the length of the longest path from them are those of the ranks.
 fn ranked_fits(
     alloc: Global,
     graph: &[List<u32>],
     ranks: &[u32],
-    root: &[u32],
-    order: &[u32],
-    longest: u32,
+    ranking: &Ranking,
 ) -> Result<bool, Memory>
     requires known { is_graph graph.now ≡ true }
-    requires starts { are_known (length graph.now) root.now ≡ true }
+    requires starts { are_known (length graph.now) ranking.now.starts.now ≡ true }
     requires count { length graph.now ≤ 1000 }
     requires ranked { length ranks.now ≤ 1000 }
     requires below { are_known (length ranks.now) ranks.now ≡ true }
-    ensures { IfOk result (λ b. b ≡ (is_none (first_unreached graph.now root.now) && is_order order.now ranks.now && (longest == longest_from ranks.now root.now))) }
+    ensures { IfOk result (λ b. b ≡ (is_none (first_unreached graph.now ranking.now.starts.now) && is_order ranking.now.order.now ranks.now && (ranking.now.longest == longest_from ranks.now ranking.now.starts.now))) }
 {
-    let unreached = first_unreached(alloc, graph, root)?;
-    if unreached.is_some() || longest != longest_from(ranks, root) {
+    let unreached = first_unreached(alloc, graph, ranking.starts)?;
+    if unreached.is_some() || ranking.longest != longest_from(ranks, ranking.starts) {
         return Ok(false);
     }
-    is_order(alloc, order, ranks)
+    is_order(alloc, ranking.order, ranks)
 }
 
 // The same, and whether no node reaches itself.
-fn links_fit(
-    alloc: Global,
-    graph: &[List<u32>],
-    root: &[u32],
-    order: &[u32],
-    longest: u32,
-) -> Result<bool, Memory>
+fn links_fit(alloc: Global, graph: &[List<u32>], ranking: &Ranking) -> Result<bool, Memory>
     requires known { is_graph graph.now ≡ true }
-    requires starts { are_known (length graph.now) root.now ≡ true }
+    requires starts { are_known (length graph.now) ranking.now.starts.now ≡ true }
     requires count { length graph.now ≤ 1000 }
-    ensures { IfOk result (λ b. b ≡ (is_none (first_in_cycle graph.now) && is_none (first_unreached graph.now root.now) && is_order order.now (ranks graph.now) && (longest == longest_from (ranks graph.now) root.now))) }
+    ensures { IfOk result (λ b. b ≡ (is_none (first_in_cycle graph.now) && is_none (first_unreached graph.now ranking.now.starts.now) && is_order ranking.now.order.now (ranks graph.now) && (ranking.now.longest == longest_from (ranks graph.now) ranking.now.starts.now))) }
 {
     match ranks(alloc, graph) {
-        Ok(ranks) => ranked_fits(alloc, graph, ranks.as_slice(), root, order, longest),
+        Ok(ranks) => ranked_fits(alloc, graph, ranks.as_slice(), ranking),
         Err(RankFault::Cycle { .. }) => Ok(false),
         Err(RankFault::Memory) => Err(Memory),
     }
@@ -97,5 +97,10 @@ pub(crate) fn graph_fits(
     ensures { IfOk result (λ b. b ≡ graph_fits raw.now order.now longest) }
 {
     let graph = successors(alloc, raw.nodes.as_slice())?;
-    links_fit(alloc, graph.as_slice(), raw.root.as_slice(), order, longest)
+    let ranking = Ranking {
+        starts: raw.root.as_slice(),
+        order,
+        longest,
+    };
+    links_fit(alloc, graph.as_slice(), &ranking)
 }
