@@ -1,4 +1,4 @@
--- The place at which a size passes its range is at most the number of certificates.
+-- The realization at which a size passes its range is at most the number of certificates.
 use Rattle.std.proofs.Common.{◌≡◌, if◌then◌else◌, ℕ, suc, ◌+◌, ◌-◌, ◌<◌, ◌≤◌, ◌^◌, ℤ, pos, ◌+ℤ◌, Bool, true, false, List, [], ◌∷◌, length, map, zip, Option, Some, None, arith}
 use Rattle.std.specs.Prelude.{int_le}
 use Rattle.std.proofs.lemmas.List.{length-map, length-append}

@@ -31,7 +31,7 @@ pub total_ext_all : {A : Type 0} (P : A → Type 0) (f g : A → ℤ) (xs : List
 total_ext_all P f g [] h k = refl
 total_ext_all P f g (x ∷ xs) h k = ap₂ ◌+ℤ◌ (k x (All_head P x xs h)) (total_ext_all P f g xs (All_tail P x xs h) k)
 
--- what stands at a place, where the terms' numbers rise
+-- the factor of a variable, where the terms' variables rise
 term_rises : (count least : ℕ) (t : Term) (ts : List Term) → terms_fit count least (t ∷ ts) ≡ true → (least ≤ t.0) × (t.0 < count)
 term_rises count least t ts e = grind (arith, nat_tests)
 
@@ -60,7 +60,7 @@ size_same_place x zero (suc j) = ap magnitude (*ℤ-zero x) ∙ sym (*ℤ-zero (
 size_same_place x (suc i) zero = ap magnitude (*ℤ-zero x) ∙ sym (*ℤ-zero (magnitude x))
 size_same_place x (suc i) (suc j) = size_same_place x i j
 
--- the absolute value of what stands at a place is the sum of the absolute values there
+-- the absolute value of a variable's factor is the sum of the absolute values of its terms
 pub size_coefficient-rising : (count least : ℕ) (ts : List Term) (j : ℕ) → terms_fit count least ts ≡ true → magnitude (coefficient ts j) ≡ coefficient_size ts j
 size_coefficient-rising count least [] j e = refl
 size_coefficient-rising count least (t ∷ ts) j e =
@@ -77,14 +77,14 @@ size_coefficient-rising count least (t ∷ ts) j e =
     ∙ sym (ap (λ (k : ℤ). magnitude t.1 *ℤ same_place t.0 j +ℤ k) (nothing_below magnitude count (t.0 + 1) ts j tail (omega arith)) ∙ +ℤ_idr (magnitude t.1 *ℤ same_place t.0 j)))
     (cases_lt t.0 j)
 
--- a sum over places of what stands there is a sum over the terms
-pub at_places : (n : ℕ) (x : ℕ → ℤ) (ts : List Term) → All (λ (t : Term). t.0 < n) ts → sum_to n (λ j. x j *ℤ coefficient_size ts j) ≡ total (λ (t : Term). magnitude t.1 *ℤ x t.0) ts
-at_places n x [] h = sum_zero n (λ j. x j *ℤ pos 0) (λ k p. *ℤ-zero (x k))
-at_places n x (t ∷ ts) h =
+-- a sum over the variables is a sum over the terms
+pub at_variables : (n : ℕ) (x : ℕ → ℤ) (ts : List Term) → All (λ (t : Term). t.0 < n) ts → sum_to n (λ j. x j *ℤ coefficient_size ts j) ≡ total (λ (t : Term). magnitude t.1 *ℤ x t.0) ts
+at_variables n x [] h = sum_zero n (λ j. x j *ℤ pos 0) (λ k p. *ℤ-zero (x k))
+at_variables n x (t ∷ ts) h =
     sum_ext n (λ j. x j *ℤ (magnitude t.1 *ℤ same_place t.0 j +ℤ coefficient_size ts j)) (λ j. magnitude t.1 *ℤ (same_place t.0 j *ℤ x j) +ℤ x j *ℤ coefficient_size ts j)
     (λ j p. ring (x j ∷ magnitude t.1 ∷ same_place t.0 j ∷ coefficient_size ts j ∷ []) (var 0 ⊗ (var 1 ⊗ var 2 ⊕ var 3)) (var 1 ⊗ (var 2 ⊗ var 0) ⊕ var 0 ⊗ var 3) tt)
     ∙ sum_add n (λ j. magnitude t.1 *ℤ (same_place t.0 j *ℤ x j)) (λ j. x j *ℤ coefficient_size ts j)
-    ∙ ap₂ ◌+ℤ◌ (sum_times n (magnitude t.1) (λ j. same_place t.0 j *ℤ x j) ∙ ap (λ (k : ℤ). magnitude t.1 *ℤ k) (sum_same n t.0 x (All_head (λ (u : Term). u.0 < n) t ts h))) (at_places n x ts (All_tail (λ (u : Term). u.0 < n) t ts h))
+    ∙ ap₂ ◌+ℤ◌ (sum_times n (magnitude t.1) (λ j. same_place t.0 j *ℤ x j) ∙ ap (λ (k : ℤ). magnitude t.1 *ℤ k) (sum_same n t.0 x (All_head (λ (u : Term). u.0 < n) t ts h))) (at_variables n x ts (All_tail (λ (u : Term). u.0 < n) t ts h))
 
 pub terms_inside : (count least : ℕ) (ts : List Term) → terms_fit count least ts ≡ true → All (λ (t : Term). t.0 < count) ts
 terms_inside count least [] e = λ k d h. absurd (omega arith)
@@ -93,11 +93,11 @@ terms_inside count least (t ∷ ts) e = All-cons (λ (u : Term). u.0 < count) t 
 pub terms_of : (f : ℕ → ℕ) (ts : List Term) → total (λ (t : Term). magnitude t.1 *ℤ pos (f t.0)) ts ≡ pos (terms_by f ts)
 terms_of f ts = sym (pos-sum_by (term_by f) ts)
 
--- the terms of a row, by places and one after another
+-- the terms of a row, by variables and one after another
 pub row_terms : (n : ℕ) (f : ℕ → ℕ) (ts : List Term) → terms_fit n 0 ts ≡ true → sum_to n (λ j. pos (f j) *ℤ magnitude (coefficient ts j)) ≡ pos (terms_by f ts)
 row_terms n f ts e =
     sum_ext n (λ j. pos (f j) *ℤ magnitude (coefficient ts j)) (λ j. pos (f j) *ℤ coefficient_size ts j) (λ j p. ap (λ (k : ℤ). pos (f j) *ℤ k) (size_coefficient-rising n 0 ts j e))
-    ∙ at_places n (λ j. pos (f j)) ts (terms_inside n 0 ts e) ∙ terms_of f ts
+    ∙ at_variables n (λ j. pos (f j)) ts (terms_inside n 0 ts e) ∙ terms_of f ts
 
 -- the slopes of a cut
 placed-zip : (ps : List ℕ) (xs : List ℤ) → placed ps xs ≡ zip ps xs
@@ -111,7 +111,7 @@ outs_inside n (p ∷ ps) [] e = λ k d h. absurd (omega arith)
 outs_inside n (p ∷ ps) (x ∷ xs) e = All-cons (λ (u : Term). u.0 < n) (p, x) (placed ps xs) (grind (arith, nat_tests)) (outs_inside n ps xs (grind (arith, nat_tests)))
 
 pub cut_terms : (n : ℕ) (f : ℕ → ℕ) (ps : List ℕ) (xs : List ℤ) → list_all (λ o. nat_lt o n) ps ≡ true → sum_to n (λ j. pos (f j) *ℤ coefficient_size (placed ps xs) j) ≡ pos (terms_by f (zip ps xs))
-cut_terms n f ps xs e = at_places n (λ j. pos (f j)) (placed ps xs) (outs_inside n ps xs e) ∙ terms_of f (placed ps xs) ∙ ap (λ (k : List Term). pos (terms_by f k)) (placed-zip ps xs)
+cut_terms n f ps xs e = at_variables n (λ j. pos (f j)) (placed ps xs) (outs_inside n ps xs e) ∙ terms_of f (placed ps xs) ∙ ap (λ (k : List Term). pos (terms_by f k)) (placed-zip ps xs)
 
 -- the ends of the decisions' boxes
 pub reach-decisions : (ds : List Decision) (j : ℕ) → reach (map (λ (d : Decision). d.low) ds) (map (λ (d : Decision). d.high) ds) j ≡ pos (over_decisions ds j)

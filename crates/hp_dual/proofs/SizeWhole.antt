@@ -27,7 +27,7 @@ use Rattle.hp_theory.proofs.SealedParts.{counted}
 use Rattle.hp_dual.specs.SizeByTerms.{over_decisions, over_box, over_values, terms_by, numbers_by, scaled_row, rows_amount, decision_amount, pair_amount, link_amount, links_amount, link_weight, certificate_amount}
 use Rattle.hp_dual.proofs.SizeParts.{pos-sum_by, total_ext_all, row_terms, cut_terms, terms_of, reach-decisions, decision_costs, numbers_at, random_costs, found_cut}
 
--- a sum over places of sums over a list
+-- a sum over variables of sums over a list
 exchange : {A : Type 0} (n : ℕ) (x : ℕ → ℤ) (g : A → ℕ → ℤ) (qs : List A) → sum_to n (λ j. x j *ℤ total (λ q. g q j) qs) ≡ total (λ q. sum_to n (λ j. x j *ℤ g q j)) qs
 exchange n x g [] = sum_zero n (λ j. x j *ℤ pos 0) (λ k p. *ℤ-zero (x k))
 exchange n x g (q ∷ qs) =
@@ -40,7 +40,7 @@ exchange_scaled n x m f qs =
     ∙ total_ext (λ q. sum_to n (λ j. x j *ℤ (m q *ℤ f q j))) (λ q. m q *ℤ sum_to n (λ j. x j *ℤ f q j)) qs
     (λ q. sum_ext n (λ j. x j *ℤ (m q *ℤ f q j)) (λ j. m q *ℤ (x j *ℤ f q j)) (λ j p. ring (x j ∷ m q ∷ f q j ∷ []) (var 0 ⊗ (var 1 ⊗ var 2)) (var 1 ⊗ (var 0 ⊗ var 2)) tt) ∙ sum_times n (m q) (λ j. x j *ℤ f q j))
 
--- the terms of a row stand at known places, each once
+-- the variables of a row's terms are known, each once
 abbrev pub Placed : ℕ → ℕ → Row → Type 0
 Placed decisions states row = (terms_fit decisions 0 row.decisions ≡ true) × (terms_fit states 0 row.states ≡ true)
 

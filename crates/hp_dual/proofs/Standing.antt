@@ -29,8 +29,8 @@ pub standing_all : (p : Sealed) (pools : List (List Cut)) → Standing p [] pool
 standing_all p pools s = sym s.rest
 
 module _ (p : Sealed) (m : ℕ) (ms : List ℕ) (pools : List (List Cut)) (s : Standing p (m ∷ ms) pools) where
-  abbrev place : Option ℕ
-  place = range_of pools (node_at (problem_of p) m) (base_list (node_at (problem_of p) m))
+  abbrev passed : Option ℕ
+  passed = range_of pools (node_at (problem_of p) m) (base_list (node_at (problem_of p) m))
 
   pub standing_known : m < length p.raw.nodes
   standing_known = s.filled.order.0
@@ -42,7 +42,7 @@ module _ (p : Sealed) (m : ℕ) (ms : List ℕ) (pools : List (List Cut)) (s : S
   standing_few = omega (arith, s.filled.none m s.filled.fresh.0)
 
   -- one cut more
-  pub standing_more : is_sealed p ≡ true → place ≡ None → Standing p ms (push pools m (base_cut (problem_of p) pools m))
+  pub standing_more : is_sealed p ≡ true → passed ≡ None → Standing p ms (push pools m (base_cut (problem_of p) pools m))
   standing_more e none = record {
     done = m ∷ s.done;
     filled = filled_more (problem_of p) (length p.raw.nodes) s.done m ms pools s.filled (narrow-sealed p m e standing_known) (within-range_of pools (node_at (problem_of p) m) (base_list (node_at (problem_of p) m)) none);
@@ -50,7 +50,7 @@ module _ (p : Sealed) (m : ℕ) (ms : List ℕ) (pools : List (List Cut)) (s : S
   }
 
   -- no cut
-  pub standing_past : (r : ℕ) → place ≡ Some r → based p ≡ Err (m, r)
+  pub standing_past : (r : ℕ) → passed ≡ Some r → based p ≡ Err (m, r)
   standing_past r some = sym s.rest ∙ ap (λ (o : Option ℕ). unless o m (base_from (problem_of p) ms (push pools m (base_cut (problem_of p) pools m)))) some
 
 -- the node that comes next

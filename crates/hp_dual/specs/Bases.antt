@@ -28,11 +28,11 @@ realization_of (faults.Cutless r i e) = r
 realization_of (faults.Sum r i) = r
 realization_of (faults.Range r) = r
 
--- a size in range, or the place at which it passes the range
+-- a size in range, or the realization at which it passes the range
 abbrev pub InRange : ℕ → Option ℕ → Result (Unit {0}) BaseFault → Type 0
-InRange m place (Ok u) = place ≡ None
-InRange m place (Err (Range k r)) = (k ≡ m) × (place ≡ Some r)
-InRange m place (Err Memory) = ⊥
+InRange m realization (Ok u) = realization ≡ None
+InRange m realization (Err (Range k r)) = (k ≡ m) × (realization ≡ Some r)
+InRange m realization (Err Memory) = ⊥
 
 -- the base cut of the node m, or the realization at which its size passes the range; want of memory is free
 abbrev pub GivesCut : ℕ → List (List Cut) → Node → Result Cut BaseFault → Type 0

@@ -49,7 +49,7 @@ term_by f t = nat_abs t.1 * f t.0
 abbrev pub terms_by : (ℕ → ℕ) → List Term → ℕ
 terms_by f ts = sum_by (term_by f) ts
 
--- the sum of |number| times what f has at its place
+-- the sum of |number| times what f has at its index
 abbrev pub numbers_by : (ℕ → ℕ) → List ℤ → ℕ
 numbers_by f zs = count_by (length zs) (λ k. nat_abs (entry zs k) * f k)
 

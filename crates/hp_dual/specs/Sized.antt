@@ -28,7 +28,7 @@ pub record Sized (pools : List (List Cut)) (n : Node) (s : Subproblem) (low : Li
   pub known : All (λ m. m < length pools) n.links
   pub subproblem : subproblem_fits (length low) s ≡ true
 
--- r is the least place such that the sum of f up to it exceeds 2^127 - 1
+-- r is the least index such that the sum of f up to it exceeds 2^127 - 1
 pub record Passes {A : Type 0} (f : A → ℕ) (xs : List A) (r : ℕ) : Type 0 where
   pub within : r < length xs
   pub before : sum_by f (take r xs) < 2 ^ 127

@@ -80,10 +80,10 @@ in_next units n m u h b = record {
   count = length-map n.outs (entry u) ∙ h.count;
   above = λ k p. let q : k < length n.outs = omega (arith, h.count) in
       subst (λ (z : ℤ). (pos units *ℤ entry m.low k) ≤ℤ z) (sym (get_or-map (entry u) n.outs k 0 (pos 0) q))
-      (le_trans (pos units *ℤ entry m.low k) (pos units *ℤ entry n.decision_low (get_or n.outs k 0)) (entry u (get_or n.outs k 0)) (le_scale units (entry m.low k) (entry n.decision_low (get_or n.outs k 0)) (h.lows k p)) (b.above (get_or n.outs k 0) (h.places k p)));
+      (le_trans (pos units *ℤ entry m.low k) (pos units *ℤ entry n.decision_low (get_or n.outs k 0)) (entry u (get_or n.outs k 0)) (le_scale units (entry m.low k) (entry n.decision_low (get_or n.outs k 0)) (h.lows k p)) (b.above (get_or n.outs k 0) (h.outs k p)));
   below = λ k p. let q : k < length n.outs = omega (arith, h.count) in
       subst (λ (z : ℤ). z ≤ℤ (pos units *ℤ entry m.high k)) (sym (get_or-map (entry u) n.outs k 0 (pos 0) q))
-      (le_trans (entry u (get_or n.outs k 0)) (pos units *ℤ entry n.decision_high (get_or n.outs k 0)) (pos units *ℤ entry m.high k) (b.below (get_or n.outs k 0) (h.places k p)) (le_scale units (entry n.decision_high (get_or n.outs k 0)) (entry m.high k) (h.highs k p)));
+      (le_trans (entry u (get_or n.outs k 0)) (pos units *ℤ entry n.decision_high (get_or n.outs k 0)) (pos units *ℤ entry m.high k) (b.below (get_or n.outs k 0) (h.outs k p)) (le_scale units (entry n.decision_high (get_or n.outs k 0)) (entry m.high k) (h.highs k p)));
 }
 
 costs_above : (p : Problem) (pools : List (List Cut)) (units : ℕ) (x : List ℤ) (ls : List Link) (f : Forest) → 0 < units → Sound p pools → All (λ (l : Link). InBox units (node_at p l.node).low (node_at p l.node).high x) ls

@@ -174,7 +174,7 @@ within-range_of pools n list e =
     subst (λ (k : ℤ). k ≤ℤ pos (2 ^ 127 - 1)) (+ℤ_idl (total (λ z. z) (size_parts pools n list)) ∙ total-parts pools n list)
     (within-range_from (size_parts pools n list) (pos 0) 0 (omega (arith, ints)) e)
 
--- the place at which a size passes its range
+-- the realization at which a size passes its range
 pub some-range_of : (pools : List (List Cut)) (n : Node) (list : List Certificate) (r : ℕ) → 0 < divisor n → RangeAt pools n list r → range_of pools n list ≡ Some r
 some-range_of pools n list r z h =
     some-range_from (size_parts pools n list) (pos 0) 0 r (some_parts pools n list z) h.within

@@ -65,7 +65,7 @@ nested : (n k : nodes.Node) (s t : Subproblem) (low high low' high' : List ℤ) 
 unfolding node_of
 nested n k s t low high low' high' lows highs known above below = record {
   count = lows;
-  places = λ i h. subst (λ (c : ℕ). get_or s.outs i 0 < c) (sym (length-map s.decisions (λ (d : Decision). d.low))) (lt-nat_lt (get_or s.outs i 0) (length s.decisions) (all_at (λ o. nat_lt o (length s.decisions)) s.outs i 0 known (omega arith)));
+  outs = λ i h. subst (λ (c : ℕ). get_or s.outs i 0 < c) (sym (length-map s.decisions (λ (d : Decision). d.low))) (lt-nat_lt (get_or s.outs i 0) (length s.decisions) (all_at (λ o. nat_lt o (length s.decisions)) s.outs i 0 known (omega arith)));
   lows = λ i h. subst (λ (z : ℤ). entry low' i ≤ℤ z) (at (λ (d : Decision). d.low) i h) (at_most_at low' (out_lows s) i above h (inside (λ (d : Decision). d.low) i h));
   highs = λ i h. subst (λ (z : ℤ). z ≤ℤ entry high' i) (at (λ (d : Decision). d.high) i h) (at_most_at (out_highs s) high' i below (inside (λ (d : Decision). d.high) i h) (omega arith));
 }

@@ -9,7 +9,7 @@ use Rattle.hp_theory.specs.Size.{reach}
 -- what leaves n lies in m's box
 pub record Nested (n m : Node) : Type 0 where
   pub count : length n.outs ≡ length m.low
-  pub places : (k : ℕ) → k < length m.low → get_or n.outs k 0 < length n.decision_low
+  pub outs : (k : ℕ) → k < length m.low → get_or n.outs k 0 < length n.decision_low
   pub lows : (k : ℕ) → k < length m.low → entry m.low k ≤ℤ entry n.decision_low (get_or n.outs k 0)
   pub highs : (k : ℕ) → k < length m.low → entry n.decision_high (get_or n.outs k 0) ≤ℤ entry m.high k
 

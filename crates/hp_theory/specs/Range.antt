@@ -1,4 +1,4 @@
--- Where the size of a list of certificates passes its range, and the base cuts or the first such place.
+-- Where the size of a list of certificates passes its range, and the base cuts or the first node where that happens.
 use Rattle.std.specs.Prelude.{ℕ, suc, ◌-◌, ◌^◌, ℤ, pos, ◌+ℤ◌, List, [], ◌∷◌, length, replicate, Option, Some, None, Result, Ok, Err, int_le, if◌then◌else◌}
 use Rattle.hp_problem.specs.Sealed.{Sealed}
 use Rattle.hp_theory.specs.declared.cut.Cut.{Cut}

@@ -18,7 +18,7 @@ magnitudes xs = map magnitude xs
 abbrev pub terms_size : List Term → (ℕ → ℤ) → ℤ
 terms_size ts x = total (λ t. magnitude t.1 *ℤ magnitude (x t.0)) ts
 
--- the sum of the absolute values of what stands at place j
+-- the sum of the absolute values of the factors of the variable j
 abbrev pub coefficient_size : List Term → ℕ → ℤ
 coefficient_size ts j = total (λ t. magnitude t.1 *ℤ same_place t.0 j) ts
 

@@ -92,7 +92,7 @@ fn add_costs(sums: &mut [i128], scale: i128, decisions: &[Decision])
 
 /// Adds the multipliers of the pairs times their cuts' slopes, modulo 2^128.
 fn add_pairs(sums: &mut [i128], outs: &[u32], pool: &[Cut], pairs: &[(u32, u64)])
-    requires places { All (λ o. o < length sums.old) outs.now }
+    requires outs { All (λ o. o < length sums.old) outs.now }
     requires there { All (λ (s : ℕ × ℕ). s.0 < length pool.now) pairs.now }
     ensures count { length sums.new ≡ length sums.old }
     ensures value { (f : ℕ → ℤ) → Tabled f sums.old
@@ -116,7 +116,7 @@ fn add_links(
     pools: &Pools,
     cuts: &[List<(u32, u64)>],
 )
-    requires places { All (λ o. o < length sums.old) outs.now }
+    requires outs { All (λ o. o < length sums.old) outs.now }
     requires known { All (λ m. m < length pools.now.lists) links.now }
     requires there { All (λ (q : ℕ × List (ℕ × ℕ)). All (λ (s : ℕ × ℕ). s.0 < length (pool pools.now.lists q.0)) q.1) (zip links.now cuts.now) }
     ensures count { length sums.new ≡ length sums.old }
@@ -142,7 +142,7 @@ pub(crate) fn add_reduced_costs(
 )
     requires decisions { length here.now.subproblem.now.decisions ≤ length sums.old }
     requires rows { All (λ (row : Row). All (λ (t : ℕ × ℤ). t.0 < length sums.old) row.decisions) here.now.subproblem.now.rows }
-    requires places { All (λ o. o < length sums.old) here.now.subproblem.now.outs }
+    requires outs { All (λ o. o < length sums.old) here.now.subproblem.now.outs }
     requires known { All (λ m. m < length here.now.pools.now.lists) here.now.node.now.links }
     requires there { All (λ (q : ℕ × List (ℕ × ℕ)). All (λ (s : ℕ × ℕ). s.0 < length (pool here.now.pools.now.lists q.0)) q.1) (zip here.now.node.now.links certificate.now.cuts) }
     ensures count { length sums.new ≡ length sums.old }
