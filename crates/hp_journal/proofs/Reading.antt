@@ -1,5 +1,5 @@
 -- What the parts of a journal say once they are read.
-use Rattle.std.proofs.Common.{◌≡◌, ◌≢◌, ℕ, ◌+◌, ◌-◌, ◌^◌, ◌≤◌, ◌<◌, List, length, get_or, take, drop, min, ◌∙◌, ap, arith, Ok, Err}
+use Rattle.std.proofs.Common.{◌≡◌, ◌≢◌, ◌⊎◌, inl, Option, Some, IfSome, ℕ, ◌+◌, ◌-◌, ◌^◌, ◌≤◌, ◌<◌, List, length, get_or, take, drop, min, ◌∙◌, ap, arith, Ok, Err}
 use Rattle.std.proofs.lemmas.Bool.Decides.{nat_tests}
 use Rattle.std.proofs.lemmas.List.{take_min}
 use Rattle.hp_journal.specs.declared.gate.Gate.TheVariants.{Shut, Ajar}
@@ -7,6 +7,8 @@ use Rattle.hp_journal.specs.declared.gate.GateFault.TheVariants as gates
 use Rattle.hp_journal.specs.declared.gate.PayloadFault.TheVariants as payloads
 use Rattle.hp_journal.specs.Gates.{gate_of, payload_of, length_at}
 use Rattle.hp_journal.specs.Head.{head_at, head_of}
+use Rattle.std.specs.Int.{w32, from_be_bytes}
+use Rattle.hp_journal.proofs.Told.{told, known}
 
 module _ (bytes : List ℕ) (at : ℕ) where
   pub gate_short : (len : ℕ) → len ≡ length bytes → len ≤ at → Err (gates.Short at) ≡ gate_of bytes at
@@ -45,3 +47,37 @@ head_read bytes front len is holds =
   where
     min_comm : (a b : ℕ) → min a b ≡ min b a
     min_comm a b = omega arith
+
+-- what is read over a disk, whether it tells its bytes or not; X is the other cause of an answer
+module _ (reads : Option (List ℕ)) (at len : ℕ) (size : IfSome reads (λ b. len ≡ length b)) where
+  size_of : (b : List ℕ) → reads ≡ Some b → len ≡ length b
+  size_of b is = known (λ b. len ≡ length b) reads b is size
+
+  pub told_gate_short : (X : Type 0) → len ≤ at → IfSome reads (λ b. (Err (gates.Short at) ≡ gate_of b at) ⊎ X)
+  told_gate_short X le = told reads (λ b is. inl (gate_short b at len (size_of b is) le))
+
+  module _ (byte : ℕ) (read : IfSome reads (λ b. byte ≡ get_or b at 1)) (below : at < len) where
+    byte_of : (b : List ℕ) → reads ≡ Some b → byte ≡ get_or b at 1
+    byte_of b is = known (λ b. byte ≡ get_or b at 1) reads b is read
+
+    pub told_gate_ajar : (X : Type 0) → byte ≡ 1 → IfSome reads (λ b. (Ok Ajar ≡ gate_of b at) ⊎ X)
+    told_gate_ajar X one = told reads (λ b is. inl (gate_ajar b at len byte (size_of b is) (byte_of b is) below one))
+
+    pub told_gate_shut : (X : Type 0) → byte ≢ 1 → IfSome reads (λ b. (Ok (Shut (len - (at + 1))) ≡ gate_of b at) ⊎ X)
+    told_gate_shut X other = told reads (λ b is. inl (gate_shut b at len byte (size_of b is) (byte_of b is) below other))
+
+  pub told_headless : (X : Type 0) → len < at + 5 → IfSome reads (λ b. (payload_of b at ≡ Err (payloads.Short (at + 1))) ⊎ X)
+  told_headless X le = told reads (λ b is. inl (payload_headless b at len (size_of b is) le))
+
+  module _ (mid : Option (List ℕ)) (same : mid ≡ reads) (word : List ℕ) (n : ℕ) (read : IfSome mid (λ b. word ≡ take 4 (drop (at + 1) b))) (number : n ≡ from_be_bytes w32 word) (long : at + 5 ≤ len) where
+    says : (b : List ℕ) → reads ≡ Some b → n ≡ length_at b at
+    says b is = number ∙ ap (from_be_bytes w32) (known (λ b. word ≡ take 4 (drop (at + 1) b)) mid b (same ∙ is) read)
+
+    pub told_long : (X : Type 0) → 2 ^ 26 < n → IfSome reads (λ b. (payload_of b at ≡ Err (payloads.BadLength n)) ⊎ X)
+    told_long X over = told reads (λ b is. inl (payload_long b at len n (size_of b is) long (says b is) over))
+
+    pub told_short : (X : Type 0) → n ≤ 2 ^ 26 → len < at + 5 + n → IfSome reads (λ b. (payload_of b at ≡ Err (payloads.Short (at + 5))) ⊎ X)
+    told_short X few cut = told reads (λ b is. inl (payload_short b at len n (size_of b is) long (says b is) few cut))
+
+    pub told_whole : n ≤ 2 ^ 26 → at + 5 + n ≤ len → (last : Option (List ℕ)) → last ≡ reads → (found : List ℕ) → IfSome last (λ b. found ≡ take n (drop (at + 5) b)) → IfSome reads (λ b. payload_of b at ≡ Ok found)
+    told_whole few fits last still found holds = told reads (λ b is. payload_whole b at len n found (size_of b is) long (says b is) few fits (known (λ b. found ≡ take n (drop (at + 5) b)) last b (still ∙ is) holds))

@@ -133,44 +133,35 @@ steps_done raw word left n place m found whole e next is =
 
 -- a step of the loop: two words from the place 2 i + 1 on
 module _ (p : Sealed) (g w v u : ChaCha) (i m first : ℕ) (step : Step) (o : Option ℕ) (found : List Step) where
-  -- what is known of it
-  pub record Stepped : Type 0 where
-    pub inside : i < p.longest
-    pub words : w ≡ record g { word_pos = 2 * i + 1 }
-    pub so_far : found ++ path_from p.raw (word_in g) (p.longest - i) (2 * i + 1) m ≡ path_from p.raw (word_in g) p.longest 1 first
-    pub step_is : step ≡ step_at p.raw m (word_in w w.word_pos)
-    pub step_words : v ≡ record w { word_pos = w.word_pos + 1 }
-    pub next_is : o ≡ next_node p.raw m (word_in v v.word_pos)
-
-  module _ (s : Stepped) where
+  module _ (inside : i < p.longest) (words : w ≡ record g { word_pos = 2 * i + 1 }) (so_far : found ++ path_from p.raw (word_in g) (p.longest - i) (2 * i + 1) m ≡ path_from p.raw (word_in g) p.longest 1 first)
+      (step_is : step ≡ step_at p.raw m (word_in w w.word_pos)) (step_words : v ≡ record w { word_pos = w.word_pos + 1 }) (next_from : o ≡ next_node p.raw m (word_in v v.word_pos)) where
     left : p.longest - i ≡ suc (p.longest - (i + 1))
-    left = omega (arith, s.inside)
+    left = omega (arith, inside)
 
     there : step ≡ step_at p.raw m (word_in g (2 * i + 1))
-    there = s.step_is ∙ ap (step_at p.raw m) (at_place g w (2 * i + 1) s.words)
+    there = step_is ∙ ap (step_at p.raw m) (at_place g w (2 * i + 1) words)
 
     moved : v ≡ record g { word_pos = 2 * i + 1 + 1 }
-    moved = later g w v (2 * i + 1) s.words s.step_words
+    moved = later g w v (2 * i + 1) words step_words
 
     next : next_node p.raw m (word_in g (2 * i + 1 + 1)) ≡ o
-    next = ap (next_node p.raw m) (sym (at_place g v (2 * i + 1 + 1) moved)) ∙ sym s.next_is
+    next = ap (next_node p.raw m) (sym (at_place g v (2 * i + 1 + 1) moved)) ∙ sym next_from
 
-    pub stepped_done : o ≡ None → found ++ step ∷ [] ≡ path_from p.raw (word_in g) p.longest 1 first
-    stepped_done none =
+    pub path_ends : o ≡ None → found ++ step ∷ [] ≡ path_from p.raw (word_in g) p.longest 1 first
+    path_ends none =
         ap (λ (t : Step). found ++ t ∷ []) there
-        ∙ steps_done p.raw (word_in g) (p.longest - i) (p.longest - (i + 1)) (2 * i + 1) m found (path_from p.raw (word_in g) p.longest 1 first) left (next ∙ none) s.so_far
+        ∙ steps_done p.raw (word_in g) (p.longest - i) (p.longest - (i + 1)) (2 * i + 1) m found (path_from p.raw (word_in g) p.longest 1 first) left (next ∙ none) so_far
 
-    pub stepped_on : (k : ℕ) → o ≡ Some k → (found ++ step ∷ []) ++ path_from p.raw (word_in g) (p.longest - (i + 1)) (2 * (i + 1) + 1) k ≡ path_from p.raw (word_in g) p.longest 1 first
-    stepped_on k some =
+    -- the path goes on at k, with the words behind these two
+    pub path_goes_on : (k : ℕ) → o ≡ Some k → u ≡ record v { word_pos = v.word_pos + 1 } → (u ≡ record g { word_pos = 2 * (i + 1) + 1 }) × ((found ++ step ∷ []) ++ path_from p.raw (word_in g) (p.longest - (i + 1)) (2 * (i + 1) + 1) k ≡ path_from p.raw (word_in g) p.longest 1 first)
+    path_goes_on k some after =
         let place : 2 * i + 1 + 2 ≡ 2 * (i + 1) + 1 = omega arith in
-        ap (λ (j : ℕ). (found ++ step ∷ []) ++ path_from p.raw (word_in g) (p.longest - (i + 1)) j k) (sym place)
-        ∙ ap (λ (t : Step). (found ++ t ∷ []) ++ path_from p.raw (word_in g) (p.longest - (i + 1)) (2 * i + 1 + 2) k) there
-        ∙ steps_more p.raw (word_in g) (p.longest - i) (p.longest - (i + 1)) (2 * i + 1) m k found (path_from p.raw (word_in g) p.longest 1 first) left (next ∙ some) s.so_far
-
-    pub stepped_words : u ≡ record v { word_pos = v.word_pos + 1 } → u ≡ record g { word_pos = 2 * (i + 1) + 1 }
-    stepped_words after =
-        let place : 2 * i + 1 + 1 + 1 ≡ 2 * (i + 1) + 1 = omega arith in
-        later g v u (2 * i + 1 + 1) moved after ∙ ap (λ (k : ℕ). record g { word_pos = k }) place
+        let behind : 2 * i + 1 + 1 + 1 ≡ 2 * (i + 1) + 1 = omega arith in (
+          later g v u (2 * i + 1 + 1) moved after ∙ ap (λ (j : ℕ). record g { word_pos = j }) behind,
+          ap (λ (j : ℕ). (found ++ step ∷ []) ++ path_from p.raw (word_in g) (p.longest - (i + 1)) j k) (sym place)
+              ∙ ap (λ (t : Step). (found ++ t ∷ []) ++ path_from p.raw (word_in g) (p.longest - (i + 1)) (2 * i + 1 + 2) k) there
+              ∙ steps_more p.raw (word_in g) (p.longest - i) (p.longest - (i + 1)) (2 * i + 1) m k found (path_from p.raw (word_in g) p.longest 1 first) left (next ∙ some) so_far,
+        )
 
 pub starts_at : (seed stream : ℕ) → (stream_of seed stream).word_pos ≡ 0
 unfolding stream_of
