@@ -1,10 +1,10 @@
 -- A subproblem that was read keeps its limits.
-use Rattle.std.proofs.Common.{◌≡◌, ◌==◌, ℕ, List, [], ◌∷◌, length, map, Bool, true, not, nat_le, nat_lt, bytes_eq, Ok, refl, sym, ap, ap₂, subst, ◌∙◌}
+use Rattle.std.proofs.Common.{◌≡◌, ◌==◌, ℕ, List, length, map, Bool, true, not, nat_le, nat_lt, bytes_eq, Ok, refl, sym, ap, ap₂, subst, ◌∙◌}
 use Rattle.std.specs.List.{list_all, list_any, AllByRecursion, IsDistinct}
 use Rattle.std.proofs.lemmas.Bool.{eq-eqb}
 use Rattle.std.proofs.lemmas.List.{length-map}
 use Rattle.serde_json.specs.Data.{Data, Items}
-use Rattle.hp_problem.specs.Limits.{names_fit, bounds_fit, outs_differ, is_name, counts_fit, costs_fit, decision_fits, row_fits, subproblem_fits}
+use Rattle.hp_problem.specs.Limits.{names_fit, bounds_fit, outs_differ, is_name, counts_fit, costs_fit, row_fits, subproblem_fits}
 use Rattle.hp_problem.specs.Distinct.{are_distinct}
 use Rattle.hp_problem.specs.declared.raw.State.{State}
 use Rattle.hp_problem.specs.declared.raw.Decision.{Decision}

@@ -1,12 +1,12 @@
 -- No two decisions and random variables of a subproblem have the same name.
-use Rattle.std.proofs.Common.{◌≡◌, ◌<◌, ◌≤◌, ◌+◌, ◌==◌, ℕ, zero, suc, List, [], ◌∷◌, length, map, Bool, true, false, not, slice_get, Some, if◌then◌else◌, bytes_eq, refl, sym, ap, subst, ◌∙◌, arith}
+use Rattle.std.proofs.Common.{◌≡◌, ◌<◌, ◌≤◌, ◌+◌, ◌==◌, ℕ, zero, suc, List, [], ◌∷◌, length, map, Bool, true, false, not, if◌then◌else◌, bytes_eq, refl, sym, subst, arith}
 use Rattle.std.specs.List.{AllByRecursion, IsDistinct, list_all, list_any}
 use Rattle.std.proofs.lemmas.Bool.{and_from, ne_eqb}
 use Rattle.std.proofs.lemmas.Option.{same_Some, slice_get_within}
 use Rattle.hp_num.proofs.Tests.{all_at}
 use Rattle.hp_problem.specs.Limits.{is_name}
 use Rattle.hp_subproblem.specs.declared.role.Role.{Role}
-use Rattle.hp_subproblem.specs.declared.role.Role.TheVariants.{Free, Incoming, Outgoing, Random}
+use Rattle.hp_subproblem.specs.declared.role.Role.TheVariants.{Random}
 use Rattle.hp_subproblem.specs.Decisions.{is_decision, decisions_from}
 use Rattle.hp_fields.proofs.Distinct.{each-weaker, each-map, none-of, distinct-image, name_of, names-apart}
 use Rattle.hp_subproblem.proofs.UsesFit.{HasRole}

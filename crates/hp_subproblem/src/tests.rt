@@ -53,7 +53,7 @@ const MIXED: &str =
 const NOTHING: &str =
     r#"{"subproblem":{"variables":[],"objective":{"sense":"feasibility"},"constraints":[]}}"#;
 
-// The parts of a stage that is read.
+// The parts of a subproblem that is read.
 const GOOD: &str = r#"{
 "states":{"x":{"in":"x_in","out":"x_out"},"y":{"in":"y_in","out":"y_out"}},
 "randoms":["w"],
@@ -64,7 +64,7 @@ const GOOD: &str = r#"{
 {"function":{"type":"Variable","name":"x_out"},"set":{"type":"Interval","lower":0,"upper":10}},
 {"function":{"type":"Variable","name":"y_out"},"set":{"type":"Interval","lower":0,"upper":10}}]}"#;
 
-// Some stage that are replaced in a good subproblem, and what is then refused first.
+// Some parts that are replaced in a good subproblem, and what is then refused first.
 const REFUSED: &str = r#"[
 {"want":"Shape Subproblem 7 0 0","states":null},
 {"want":"Shape Subproblem 7 0 0","randoms":{}},
@@ -200,7 +200,7 @@ fn reads_each_field(rt: HostRuntime) -> Result<(), Fail> {
     Ok(())
 }
 
-// The text of a subproblem: the stage of the row, and good ones where the row has none.
+// The text of a subproblem: the parts of the row, and good ones where the row has none.
 fn text_of(alloc: Global, row: &Value) -> Result<String, Fail> {
     let good = Value::from_str(alloc, GOOD)?;
     let mut text = String::new(alloc);
