@@ -22,6 +22,7 @@ fn holds_lists_of_cuts(rt: HostRuntime) -> Result<(), Fail> {
     let mut pools = Pools::new(rt.alloc(), 2)?;
     assert_eq!(rt; pools.nodes(), 2);
     pools.reserve(1)?;
+    pools.reserve_many(1, 2)?;
     pools.push(1, flat(rt.alloc(), -3)?)?;
     pools.push(1, flat(rt.alloc(), 5)?)?;
     assert_eq!(rt; alpha(&pools, 0, 0), None);
