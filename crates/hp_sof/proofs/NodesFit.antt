@@ -1,5 +1,5 @@
 -- The nodes that were read keep their limits.
-use Rattle.std.proofs.Common.{◌≡◌, ◌<◌, ◌+◌, ◌==◌, ◌&&◌, ℕ, zero, suc, ℤ, List, [], ◌∷◌, ◌++◌, length, map, sum, Bool, true, false, if◌then◌else◌, nat_le, nat_lt, codes, slice_get, Option, Some, position, Ok, unsigned_abs, bytes_eq, refl, sym, ap, subst, ◌∙◌, arith}
+use Rattle.std.proofs.Common.{◌≡◌, ◌+◌, ◌==◌, ◌&&◌, ℕ, suc, ℤ, List, [], ◌∷◌, ◌++◌, length, map, sum, Bool, true, false, if◌then◌else◌, nat_le, nat_lt, codes, slice_get, Option, Some, position, Ok, unsigned_abs, bytes_eq, refl, sym, ap, subst, ◌∙◌, arith}
 use Rattle.std.specs.List.{list_all}
 use Rattle.std.proofs.lemmas.Bool.{and_from, le-leb, eq-eqb, eqb-true}
 use Rattle.std.proofs.lemmas.List.{map-append}

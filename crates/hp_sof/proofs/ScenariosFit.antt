@@ -1,9 +1,9 @@
 -- The stored scenarios that were read are paths through the graph with values of their random variables.
-use Rattle.std.proofs.Common.{◌≡◌, ◌≤◌, ◌<◌, ◌+◌, ◌-◌, ◌==◌, ◌&&◌, ℕ, zero, suc, ℤ, List, [], ◌∷◌, ◌++◌, length, Bool, true, false, nat_le, nat_lt, slice_get, Option, Some, None, option_and_then, position, Ok, bytes_eq, refl, sym, ap, subst, ◌∙◌, arith}
+use Rattle.std.proofs.Common.{◌≡◌, ◌<◌, ◌-◌, ◌==◌, ◌&&◌, ℕ, suc, ℤ, List, [], ◌∷◌, ◌++◌, length, true, false, nat_le, nat_lt, slice_get, Option, Some, None, option_and_then, position, Ok, bytes_eq, refl, sym, ap, subst, ◌∙◌, arith}
 use Rattle.std.specs.List.{list_all, list_any}
-use Rattle.std.proofs.lemmas.Bool.{and_from, le-leb}
+use Rattle.std.proofs.lemmas.Bool.{and_from}
 use Rattle.std.proofs.lemmas.List.{length_push}
-use Rattle.serde_json.specs.Data.{Data, null, boolean, number, string, array, object, Items}
+use Rattle.serde_json.specs.Data.{Data, Items}
 use Rattle.serde_json.specs.Events.{items_len}
 use Rattle.hp_num.proofs.Tests.{and_first, and_second, all_get, some_of}
 use Rattle.hp_problem.specs.Limits.{is_name, are_numbers, values_fit, links_fit, node_fits, are_values, step_fits, steps_fit, scenario_fits}
