@@ -30,7 +30,7 @@ fn add(a: i128, b: i128) -> i128
 }
 
 /// The value of a cut at a state: alpha + beta·x, at scale 2^24.
-pub(crate) fn value_of_cut(cut: &Cut, state: &[i64]) -> i128
+pub fn value_of_cut(cut: &Cut, state: &[i64]) -> i128
     requires { Reaches state.now cut.now }
     ensures value { result ≡ value_of_cut cut.now state.now }
     ensures small { magnitude result ≤ℤ pos (2 ^ 104) }

@@ -5,6 +5,7 @@ mod cut_value;
 pub mod entry;
 pub mod pools;
 
+pub use cut_value::value_of_cut;
 pub use entry::{Entry, EntryStep};
 pub use hp_theory::{Certificate, Cut};
 pub use pools::Pools;

@@ -1,1 +1,2 @@
 pub mod NumberedLines
+pub mod SoundLines

@@ -19,6 +19,8 @@ use Rattle.hp_theory.proofs.BoundBelow.{sound_bound}
 use Rattle.hp_theory.proofs.SealedPremises.{root_shaped-sealed, have_cuts-root}
 use Rattle.hp_theory.proofs.Based.{sound-based, fit-based}
 use Rattle.hp_report.specs.Report.{base_text}
+use Rattle.hp_report.specs.SoundLines.{SoundLines}
+use Rattle.hp_report.proofs.SoundLines.{sound_lines}
 use Rattle.hp_run.specs.Outcome.{report_based, report_of, report_at, SoundText}
 use Rattle.hp_run.specs.Causes.{Ends, Explains, status_of, expected, Completes, Sounds}
 use Rattle.hp_run.specs.declared.status.Status.{Status}
@@ -46,13 +48,15 @@ sound_based bytes text p (Ok pools) e is h =
     let sealed = problem_sealed bytes p e in
     let fit = fit-based p pools sealed is in
     let sound = sound-based p pools sealed is in
+    let under = sound_bound (problem_of p) pools (root_shaped-sealed p sealed) (have_cuts-root p pools sealed fit.some) sound in
     record {
       problem = p;
       pools = pools;
       read = e;
       is = sym (same_ok (base_text p pools) text h);
       cuts = sound;
-      bound = sound_bound (problem_of p) pools (root_shaped-sealed p sealed) (have_cuts-root p pools sealed fit.some) sound;
+      bound = under;
+      lines = subst (SoundLines (problem_of p)) (same_ok (base_text p pools) text h) (sound_lines p pools sound under);
     }
 
 sound_found : (bytes text : List ℕ) (found : Result Sealed Refusal) → problem_at bytes ≡ found → (found >>= report_of) ≡ Ok text → SoundText bytes text

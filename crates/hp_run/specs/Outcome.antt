@@ -13,6 +13,7 @@ use Rattle.hp_theory.specs.Bound.{bound, Under}
 use Rattle.hp_theory.specs.Range.{based}
 use Rattle.hp_theory.specs.View.{problem_of}
 use Rattle.hp_report.specs.Report.{base_text}
+use Rattle.hp_report.specs.SoundLines.{SoundLines}
 
 -- the report of the base cuts, or the realization at which their size passes its range
 abbrev pub report_based : Sealed → Result (List (List Cut)) (ℕ × ℕ) → Result (List ℕ) Refusal
@@ -28,7 +29,8 @@ report_at bytes = do
   problem ← problem_at bytes
   report_of problem
 
--- the text is a report of the problem that the bytes give: each cut in it holds at its node, and its bound is under the cost of each policy
+-- The text is a report of the problem that the bytes give, and each line of it is sound: a line of a cut is of one that holds at its node,
+-- and the number in a line of a bound is under the cost of each policy. So are the cuts and the bound of the pools that it is the report of.
 pub record SoundText (bytes text : List ℕ) : Type 0 where
   pub problem : Sealed
   pub pools : List (List Cut)
@@ -36,3 +38,4 @@ pub record SoundText (bytes text : List ℕ) : Type 0 where
   pub is : text ≡ base_text problem pools
   pub cuts : Sound (problem_of problem) pools
   pub bound : Under (problem_of problem) (bound (problem_of problem) pools)
+  pub lines : SoundLines (problem_of problem) text
