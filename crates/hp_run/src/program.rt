@@ -1,0 +1,117 @@
+// The program over the objects that stand for the world outside.
+ghost use Rattle.std.specs.Prelude.{◌≡◌};
+ghost use Rattle.std.specs.Process.{exit_status};
+ghost use Rattle.hp_run.specs.Causes.{Explains};
+ghost use Rattle.hp_run.specs.Status.{number_of};
+ghost use Rattle.hp_run.specs.Words.{is_base};
+
+use crate::status::{Status, number, status_line};
+use crate::top::run;
+use hp_num::{Memory, Name};
+use hp_outside::{Disk, FileDisk, Sink, Source, StdSink, StdSource};
+use std::alloc::Global;
+use std::env::{self, Env};
+use std::io::{self, Read, Write};
+use std::process::ExitCode;
+use std::rt::Files;
+use std::thread::Threads;
+
+const MEMORY_LINE: &[u8] = b"hydroplan: memory\n";
+
+/// Writes the line of a status, where it has one; where the line itself finds no memory, the line of `Memory`. Gives the
+/// status's number as the exit status.
+fn ended<E: Write>(alloc: Global, status: &Status, errors: &mut E) -> ExitCode
+    ensures { exit_status result ≡ number_of status.now }
+{
+    let _ = match status_line(alloc, status) {
+        Ok(line) => errors.write_all(line.as_slice()),
+        Err(_) => errors.write_all(MEMORY_LINE),
+    };
+    ExitCode::from(number(status))
+}
+
+/// Does what the words say, as `run`, and writes the line of a status other than Done to `errors`. The exit status is the
+/// number of a status that explains what became of the source and the sink.
+pub fn execute<R: Threads, I: Source, D: Disk, O: Sink, E: Write>(
+    rt: &R,
+    alloc: Global,
+    words: &[String],
+    problem: &mut I,
+    journal: &mut D,
+    out: &mut O,
+    errors: &mut E,
+) -> ExitCode
+    ensures { (status : Status) × (exit_status result ≡ number_of status) × Explains (is_base words.now) (record {
+      left = I.left problem.old;
+      left_now = I.left problem.new;
+      reads = I.faults problem.old;
+      reads_now = I.faults problem.new;
+      taken = O.taken out.old;
+      taken_now = O.taken out.new;
+      writes = O.faults out.old;
+      writes_now = O.faults out.new;
+    }) status }
+{
+    let status = run(rt, alloc, words, problem, journal, out);
+    ended(alloc, &status, errors)
+}
+
+/// The words after the program's name, or the status where they cannot be had.
+fn words_given<R: Env + AllocGlobal>(rt: &R) -> Result<Vec<String>, Status> {
+    let all = env::args(rt).map_err(|error| match error.kind() {
+        io::ErrorKind::OutOfMemory => Status::Memory,
+        _ => Status::Usage,
+    })?;
+    let mut words = Vec::new(rt.alloc());
+    for word in all.skip(1) {
+        if words.push(word).is_err() {
+            return Err(Status::Memory);
+        }
+    }
+    Ok(words)
+}
+
+/// The second word, or nothing where there are fewer.
+fn journal_name(alloc: Global, words: &[String]) -> Result<Name, Memory> {
+    match words.get(1) {
+        Some(word) => Name::new(alloc, word.as_str()),
+        None => Name::new(alloc, ""),
+    }
+}
+
+/// Whether the words ask for a journal that is written.
+fn writes_journal(words: &[String]) -> bool {
+    match words.first() {
+        Some(word) => word.as_str() == "train",
+        None => false,
+    }
+}
+
+/// The program: the words of the command line, over these streams and the file that the second word names.
+pub fn start<R, I, O, E>(rt: &R, input: I, output: O, errors: &mut E) -> ExitCode
+where
+    R: Env + Files + Threads + AllocGlobal,
+    I: Read + Drop,
+    O: Write + Drop,
+    E: Write,
+{
+    let words = match words_given(rt) {
+        Ok(words) => words,
+        Err(status) => return ended(rt.alloc(), &status, errors),
+    };
+    let Ok(name) = journal_name(rt.alloc(), words.as_slice()) else {
+        return ended(rt.alloc(), &Status::Memory, errors);
+    };
+    let mut problem = StdSource::new(input);
+    let mut journal = FileDisk::at(rt, name, writes_journal(words.as_slice()));
+    let mut out = StdSink::new(output);
+    execute(
+        rt,
+        rt.alloc(),
+        words.as_slice(),
+        &mut problem,
+        &mut journal,
+        &mut out,
+        errors,
+    )
+}
