@@ -7,6 +7,3 @@ pub mod hull;
 pub mod side;
 
 pub use graph::{ArrangeFault, arrange};
-
-#[cfg(test)]
-mod tests;
