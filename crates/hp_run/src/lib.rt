@@ -11,10 +11,3 @@ mod writing;
 pub use program::{execute, start};
 pub use status::{Status, number, status_line};
 pub use top::run;
-
-#[cfg(test)]
-mod tests;
-#[cfg(test)]
-mod worked_certificates;
-#[cfg(test)]
-mod worked_problems;

@@ -18,6 +18,3 @@ pub use hp_fields::{ReadRefusal, weight as read_weight};
 pub use hp_problem::{Part, Place, Refusal, RefusalKind};
 pub use problem::read_problem;
 pub use read::read_raw;
-
-#[cfg(test)]
-mod tests;

@@ -16,6 +16,3 @@ mod states;
 mod variables;
 
 pub use stage_problem::subproblem;
-
-#[cfg(test)]
-mod tests;

@@ -1,0 +1,110 @@
+// What the program writes of a problem.
+use crate::fault::RowFault;
+use hp_outside::{FaultlessDisk, MemSink, MemSource};
+use hp_run::{run, status_line};
+use std::alloc::Global;
+use std::thread::Threads;
+
+const ROOM: usize = 1 << 20;
+
+/// How a source and a sink behave: how many bytes a call takes at most, and the calls that fail.
+#[derive(Clone, Copy)]
+pub struct Devices<'a> {
+    pub most_read: usize,
+    pub most_written: usize,
+    pub failing_reads: &'a [u64],
+    pub failing_writes: &'a [u64],
+}
+
+/// Devices that take all at once and never fail.
+pub const FAULTLESS: Devices<'static> = Devices {
+    most_read: usize::MAX,
+    most_written: usize::MAX,
+    failing_reads: &[],
+    failing_writes: &[],
+};
+
+/// The words that stand in a text.
+fn words(alloc: Global, text: &str) -> Result<Vec<String>, RowFault> {
+    let mut words = Vec::new(alloc);
+    for word in text.split_whitespace() {
+        words.push(String::from_str(alloc, word)?)?;
+    }
+    Ok(words)
+}
+
+fn source(alloc: Global, devices: Devices<'_>, problem: &str) -> Result<MemSource, RowFault> {
+    let failing = devices.failing_reads.to_vec(alloc)?;
+    let mut source = MemSource::new(problem.as_bytes().to_vec(alloc)?, failing);
+    source.chunk(devices.most_read.max(1));
+    Ok(source)
+}
+
+fn sink(alloc: Global, devices: Devices<'_>) -> Result<MemSink, RowFault> {
+    let failing = devices.failing_writes.to_vec(alloc)?;
+    let mut sink = MemSink::new(alloc, failing, ROOM)?;
+    sink.chunk(devices.most_written.max(1));
+    Ok(sink)
+}
+
+/// The line of the status, then what was written, of a run of a command line.
+pub fn report<R: Threads>(
+    rt: &R,
+    alloc: Global,
+    devices: Devices<'_>,
+    command: &str,
+    problem: &str,
+) -> Result<String, RowFault> {
+    let words = words(alloc, command)?;
+    let mut source = source(alloc, devices, problem)?;
+    let mut sink = sink(alloc, devices)?;
+    let mut journal = FaultlessDisk::new(alloc, &[], 0)?;
+    let status = run(
+        rt,
+        alloc,
+        words.as_slice(),
+        &mut source,
+        &mut journal,
+        &mut sink,
+    );
+    let mut bytes = status_line(alloc, &status)?;
+    bytes.extend_from_slice(sink.bytes())?;
+    let text = str::from_utf8(bytes.as_slice()).map_err(|_| RowFault::Form)?;
+    Ok(String::from_str(alloc, text)?)
+}
+
+/// The last line of the report of a problem's base cuts, which is the status's line where the status has one.
+pub fn last_line<R: Threads>(rt: &R, alloc: Global, problem: &str) -> Result<String, RowFault> {
+    let report = report(rt, alloc, FAULTLESS, "base", problem)?;
+    let line = report.as_str().lines().last().unwrap_or("");
+    Ok(String::from_str(alloc, line)?)
+}
+
+/// The numbers `MOST READ WRITE`: what a read takes at most, and the numbers of a read and a write that fail.
+fn three(text: &str) -> Option<(usize, u64, u64)> {
+    let (most, rest) = text.split_once(" ")?;
+    let (read, write) = rest.split_once(" ")?;
+    Some((
+        most.parse::<usize>().ok()?,
+        read.parse::<u64>().ok()?,
+        write.parse::<u64>().ok()?,
+    ))
+}
+
+/// The report of a problem's base cuts over devices of which a read and a write fail, in quotation marks.
+pub fn interrupted<R: Threads>(
+    rt: &R,
+    alloc: Global,
+    problem: &str,
+    numbers: &str,
+) -> Result<String, RowFault> {
+    let (most_read, read, write) = three(numbers).ok_or(RowFault::Form)?;
+    let devices = Devices {
+        most_read,
+        most_written: 10,
+        failing_reads: &[read],
+        failing_writes: &[write],
+    };
+    let report = report(rt, alloc, devices, "base", problem)?;
+    Ok(format!(in alloc; "{:?}", report.as_str())?)
+}
