@@ -58,12 +58,35 @@ fn certificates(alloc: Global, value: &Value) -> Result<Vec<Certificate>, RowFau
     Ok(found)
 }
 
-/// Two weights, of at most 1,000 each.
+/// Two weights.
 fn weights(value: &Value) -> Option<(u32, u32)> {
     let weights = value.get("weights")?.as_array()?;
     let first = u32::try_from(weights.first()?.as_u64()?).ok()?;
     let second = u32::try_from(weights.get(1)?.as_u64()?).ok()?;
-    Some((first.clamp(1, 1000), second.clamp(1, 1000)))
+    Some((first, second))
+}
+
+/// The nearest weight from 1 to 1,000.
+fn bounded(weight: u32) -> u32
+    ensures low { 1 ≤ result }
+    ensures high { result ≤ 1000 }
+{
+    weight.clamp(1, 1000)
+}
+
+/// Whether the list is accepted at the first node with these two weights, each from 1 to 1,000; then its cut is written.
+fn is_made_with_two(
+    problem: &Problem,
+    pools: &Pools,
+    first: u32,
+    second: u32,
+    list: &[Certificate],
+    cut: &mut Cut,
+) -> bool
+    requires fit { Fit (problem_of problem.now) (length problem.now.raw.nodes) pools.now.lists }
+{
+    let weights = [bounded(first), bounded(second)];
+    is_made_with(problem, pools, &weights, list, cut)
 }
 
 /// The first fault of a list at a node.
@@ -155,7 +178,7 @@ fn cut_of(
     let pools = base(alloc, problem)?;
     let mut cut = blank(alloc, problem)?;
     let is_made = match weights {
-        Some((first, second)) => { is_made_with(problem, &pools, &[first, second], list, &mut cut) }
+        Some((first, second)) => is_made_with_two(problem, &pools, first, second, list, &mut cut),
         None => is_made(problem, &pools, list, &mut cut),
     };
     cut_text(alloc, is_made, &cut)
