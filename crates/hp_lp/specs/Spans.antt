@@ -1,0 +1,14 @@
+-- Cuts whose values over what leaves a stage stay small.
+use Rattle.std.specs.Prelude.{◌≡◌, ℕ, ◌<◌, ◌≤◌, ◌^◌, ℤ, nat_abs, length}
+use Rattle.hp_num.specs.Sums.{entry}
+use Rattle.hp_problem.specs.declared.raw.Subproblem.{Subproblem}
+use Rattle.hp_theory.specs.declared.cut.Cut.{Cut}
+use Rattle.hp_lp.specs.Stage.{at_low, at_high}
+
+-- one slope per state, and no number nor product with an end of the box above 2^104
+pub record Spans (s : Subproblem) (c : Cut) : Type 0 where
+  pub slopes : length c.beta ≡ length s.outs
+  pub alpha : nat_abs c.alpha ≤ 2 ^ 104
+  pub each : (k : ℕ) → k < length s.outs → nat_abs (entry c.beta k) ≤ 2 ^ 104
+  pub lows : (k : ℕ) → k < length s.outs → nat_abs (at_low s c k) ≤ 2 ^ 104
+  pub highs : (k : ℕ) → k < length s.outs → nat_abs (at_high s c k) ≤ 2 ^ 104

@@ -1,0 +1,5 @@
+//! Stage problems: the linear programs that training solves at a node.
+#![tactic(auto)]
+
+mod columns;
+mod scales;

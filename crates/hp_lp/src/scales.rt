@@ -1,0 +1,31 @@
+// Numbers of a problem and of cuts at the scale of linear programs.
+ghost use Rattle.std.specs.Prelude.{◌≡◌, ◌≤◌, ◌^◌, pos, ◌*ℤ◌, nat_abs};
+ghost use Rattle.hp_lp.specs.Stage.{whole, scaled};
+
+use hp_solver::Fx;
+use hp_solver::fixed::ONE;
+
+/// What stands for 1 at the scale of cuts and states, at the scale of linear programs.
+pub(crate) const CUT_SCALE: i128 = 256;
+
+/// A whole number.
+pub(crate) fn whole(value: i64) -> Fx
+    ensures { result ≡ whole value }
+{
+    Fx(ONE * i128::from(value))
+}
+
+/// A cost that counts as often as a weight says.
+pub(crate) fn weighted(weight: u32, cost: i64) -> Fx
+    ensures { result ≡ whole (pos weight *ℤ cost) }
+{
+    Fx(ONE * (i128::from(weight) * i128::from(cost)))
+}
+
+/// A number at the scale of cuts.
+pub(crate) fn scaled(value: i128) -> Fx
+    requires { nat_abs value ≤ 2 ^ 118 }
+    ensures { result ≡ scaled value }
+{
+    Fx(CUT_SCALE * value)
+}
