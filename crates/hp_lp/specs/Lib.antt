@@ -1,2 +1,3 @@
 pub mod Stage
 pub mod Spans
+pub mod Given

@@ -8,7 +8,7 @@ ghost use Rattle.hp_theory.specs.Pools.{pool, no_cut};
 ghost use Rattle.hp_lp.specs.Stage.{decision_column, least_value, greatest_value, most_from, future_column, future_columns, at_low, at_high};
 ghost use Rattle.hp_lp.specs.Spans.{Spans};
 
-use crate::scales::{scaled, weighted, whole};
+use crate::scales::{scaled, sum, weighted, whole};
 use hp_cut::{Cut, Pools};
 use hp_num::{List, Memory};
 use hp_problem::{Decision, Subproblem};
@@ -75,14 +75,6 @@ fn greater(a: i128, b: i128) -> i128
     ensures in_range { nat_abs result ≤ 2 ^ 110 }
 {
     a.max(b)
-}
-
-fn sum(a: i128, b: i128) -> i128
-    requires a_small { nat_abs a ≤ 2 ^ 112 }
-    requires b_small { nat_abs b ≤ 2 ^ 104 }
-    ensures value { result ≡ a +ℤ b }
-{
-    a + b
 }
 
 /// The least product of a slope and what leaves the stage as the state.

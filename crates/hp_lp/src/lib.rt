@@ -2,4 +2,5 @@
 #![tactic(auto)]
 
 mod columns;
+mod own_rows;
 mod scales;

@@ -1,5 +1,5 @@
 // Numbers of a problem and of cuts at the scale of linear programs.
-ghost use Rattle.std.specs.Prelude.{◌≡◌, ◌≤◌, ◌^◌, pos, ◌*ℤ◌, nat_abs};
+ghost use Rattle.std.specs.Prelude.{◌≡◌, ◌≤◌, ◌^◌, pos, ◌+ℤ◌, ◌*ℤ◌, nat_abs};
 ghost use Rattle.hp_lp.specs.Stage.{whole, scaled};
 
 use hp_solver::Fx;
@@ -28,4 +28,13 @@ pub(crate) fn scaled(value: i128) -> Fx
     ensures { result ≡ scaled value }
 {
     Fx(CUT_SCALE * value)
+}
+
+/// The sum, of which both parts are small.
+pub(crate) fn sum(a: i128, b: i128) -> i128
+    requires a_small { nat_abs a ≤ 2 ^ 112 }
+    requires b_small { nat_abs b ≤ 2 ^ 104 }
+    ensures value { result ≡ a +ℤ b }
+{
+    a + b
 }

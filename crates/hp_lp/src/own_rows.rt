@@ -1,0 +1,200 @@
+// The node's own rows of a stage problem, whose sides go with the values and the state.
+ghost use Rattle.std.specs.Prelude.{◌≡◌, ◌≤◌, ◌^◌, ◌*◌, ◌++◌, ℕ, ℤ, pos, ◌*ℤ◌, ◌-ℤ◌, List, true, length, map, nat_abs, All, IfOk};
+ghost use Rattle.std.specs.Option.{option_map};
+ghost use Rattle.hp_num.specs.Sums.{at_terms, entry};
+ghost use Rattle.hp_problem.specs.Limits.{terms_fit};
+ghost use Rattle.hp_solver.specs.declared.stage_lp.LpRow.{LpRow};
+ghost use Rattle.hp_solver.specs.Numbers.{number};
+ghost use Rattle.hp_lp.specs.Stage.{whole, side_at, own_row};
+ghost use Rattle.hp_lp.specs.Given.{AreGiven, IsOver};
+
+use crate::scales::{CUT_SCALE, sum, whole};
+use hp_num::{List, Memory};
+use hp_problem::Row;
+use hp_solver::fixed::ONE;
+use hp_solver::{Fx, LpRow};
+use std::alloc::Global;
+
+// The product of a factor and a number of a state.
+fn state_product(factor: i64, number: i128) -> i128
+    requires factor { nat_abs factor ≤ 2 ^ 40 }
+    requires number { nat_abs number ≤ 2 ^ 64 }
+    ensures value { result ≡ factor *ℤ number }
+    ensures small { nat_abs result ≤ 2 ^ 104 }
+{
+    i128::from(factor) * number
+}
+
+// The product of a factor and a value.
+fn value_product(factor: i64, value: i64) -> i128
+    requires factor { nat_abs factor ≤ 2 ^ 40 }
+    requires value { nat_abs value ≤ 2 ^ 40 }
+    ensures value { result ≡ factor *ℤ value }
+    ensures small { nat_abs result ≤ 2 ^ 80 }
+{
+    i128::from(factor) * i128::from(value)
+}
+
+/// The sum of terms at a state, at scale 2^24.
+fn at_state(terms: &[(u32, i64)], state: &[i128]) -> i128
+    requires fit { terms_fit (length state.now) 0 terms.now ≡ true }
+    requires few { length state.now ≤ 50 }
+    requires small { All (λ z. nat_abs z ≤ 2 ^ 64) state.now }
+    ensures value { result ≡ at_terms terms.now (entry state.now) }
+    ensures small { nat_abs result ≤ 2 ^ 110 }
+{
+    let mut total: i128 = 0;
+    for (variable, factor) in terms {
+        total = sum(total, state_product(*factor, state[*variable as usize]));
+    }
+    total
+}
+
+/// The sum of terms at the values.
+fn at_values(terms: &[(u32, i64)], values: &[i64]) -> i128
+    requires fit { terms_fit (length values.now) 0 terms.now ≡ true }
+    requires few { length values.now ≤ 50 }
+    requires small { All (λ z. nat_abs z ≤ 2 ^ 40) values.now }
+    ensures value { result ≡ at_terms terms.now (entry values.now) }
+    ensures small { nat_abs result ≤ 2 ^ 86 }
+{
+    let mut total: i128 = 0;
+    for (variable, factor) in terms {
+        total = sum(total, value_product(*factor, values[*variable as usize]));
+    }
+    total
+}
+
+// A whole number at the scale of linear programs.
+fn raised(value: i128) -> i128
+    requires { nat_abs value ≤ 2 ^ 86 }
+    ensures value { result ≡ pos (2 ^ 32) *ℤ value }
+    ensures small { nat_abs result ≤ 2 ^ 118 }
+{
+    ONE * value
+}
+
+// A number at the scale of states, at the scale of linear programs.
+fn state_raised(value: i128) -> i128
+    requires { nat_abs value ≤ 2 ^ 110 }
+    ensures value { result ≡ pos 256 *ℤ value }
+    ensures small { nat_abs result ≤ 2 ^ 118 }
+{
+    CUT_SCALE * value
+}
+
+fn less(a: i128, b: i128) -> i128
+    requires a_small { nat_abs a ≤ 2 ^ 119 }
+    requires b_small { nat_abs b ≤ 2 ^ 118 }
+    ensures value { result ≡ a -ℤ b }
+    ensures small { nat_abs a ≤ 2 ^ 118 → nat_abs result ≤ 2 ^ 119 }
+{
+    a - b
+}
+
+// What a side is when the parts of the state and of the random variables stand on the other side.
+fn side_less(side: i64, of_state: i128, of_values: i128) -> Fx
+    requires state { nat_abs of_state ≤ 2 ^ 110 }
+    requires values { nat_abs of_values ≤ 2 ^ 86 }
+    ensures { result ≡ number (pos (2 ^ 32) *ℤ side -ℤ pos 256 *ℤ of_state -ℤ pos (2 ^ 32) *ℤ of_values) }
+{
+    let less_state = less(raised(i128::from(side)), state_raised(of_state));
+    Fx(less(less_state, raised(of_values)))
+}
+
+fn bound_less(bound: Option<i64>, of_state: i128, of_values: i128) -> Option<Fx>
+    requires state { nat_abs of_state ≤ 2 ^ 110 }
+    requires values { nat_abs of_values ≤ 2 ^ 86 }
+    ensures { result ≡ option_map (λ side. number (pos (2 ^ 32) *ℤ side -ℤ pos 256 *ℤ of_state -ℤ pos (2 ^ 32) *ℤ of_values)) bound }
+{
+    match bound {
+        Some(side) => Some(side_less(side, of_state, of_values)),
+        None => None,
+    }
+}
+
+// The sides of a row.
+#[derive(Clone, Copy)]
+struct Sides {
+    low: Option<Fx>,
+    high: Option<Fx>,
+}
+
+/// The sides of a row at the values and the state.
+fn sides_at(row: &Row, values: &[i64], state: &[i128]) -> Sides
+    requires given { AreGiven values.now state.now }
+    requires over { IsOver (length state.now) (length values.now) row.now }
+    ensures low { result.low ≡ option_map (side_at values.now state.now row.now) row.now.low }
+    ensures high { result.high ≡ option_map (side_at values.now state.now row.now) row.now.high }
+{
+    let of_state = at_state(row.states.as_slice(), state);
+    let of_values = at_values(row.randoms.as_slice(), values);
+    Sides {
+        low: bound_less(row.low, of_state, of_values),
+        high: bound_less(row.high, of_state, of_values),
+    }
+}
+
+// The terms of a row, over the decisions' columns.
+fn own_terms(alloc: Global, terms: &[(u32, i64)]) -> Result<List<(u32, Fx)>, Memory>
+    ensures { IfOk result (λ found. found ≡ map (λ (t : ℕ × ℤ). (t.0, whole t.1)) terms.now) }
+{
+    let mut found = List::new(alloc);
+    for (variable, factor) in terms {
+        found.push((*variable, whole(*factor)))?;
+    }
+    Ok(found)
+}
+
+fn own_row(alloc: Global, row: &Row, values: &[i64], state: &[i128]) -> Result<LpRow, Memory>
+    requires given { AreGiven values.now state.now }
+    requires over { IsOver (length state.now) (length values.now) row.now }
+    ensures { IfOk result (λ found. found ≡ own_row values.now state.now row.now) }
+{
+    let terms = own_terms(alloc, row.decisions.as_slice())?;
+    let Sides { low, high } = sides_at(row, values, state);
+    Ok(LpRow { low, high, terms })
+}
+
+/// The rows at the values and the state.
+pub(crate) fn own_rows(
+    alloc: Global,
+    rows: &[Row],
+    values: &[i64],
+    state: &[i128],
+) -> Result<List<LpRow>, Memory>
+    requires given { AreGiven values.now state.now }
+    requires over { All (IsOver (length state.now) (length values.now)) rows.now }
+    ensures { IfOk result (λ found. found ≡ map (own_row values.now state.now) rows.now) }
+{
+    let mut found = List::new(alloc);
+    for row in rows {
+        found.push(own_row(alloc, row, values, state)?)?;
+    }
+    Ok(found)
+}
+
+// Gives a row the sides of the values and the state.
+fn restate_row(row: &Row, values: &[i64], state: &[i128], found: &mut LpRow)
+    requires given { AreGiven values.now state.now }
+    requires over { IsOver (length state.now) (length values.now) row.now }
+    ensures { found.new ≡ record { low = option_map (side_at values.now state.now row.now) row.now.low; high = option_map (side_at values.now state.now row.now) row.now.high; terms = found.old.terms } }
+{
+    let Sides { low, high } = sides_at(row, values, state);
+    found.low = low;
+    found.high = high;
+}
+
+/// Gives the first rows the sides of the values and the state; the others stay.
+pub(crate) fn restate_rows(rows: &[Row], values: &[i64], state: &[i128], found: &mut [LpRow])
+    requires given { AreGiven values.now state.now }
+    requires over { All (IsOver (length state.now) (length values.now)) rows.now }
+    requires count { length rows.now ≤ length found.old }
+    ensures count { length found.new ≡ length found.old }
+    ensures value { (before now : List ℤ) → (cuts : List LpRow) → found.old ≡ map (own_row before now) rows.now ++ cuts
+        → found.new ≡ map (own_row values.now state.now) rows.now ++ cuts }
+{
+    for i in 0..rows.len() {
+        restate_row(&rows[i], values, state, &mut found[i]);
+    }
+}
