@@ -1,3 +1,4 @@
 pub mod Worked
 pub mod Growing
 pub mod Terms
+pub mod Seams

@@ -1,3 +1,4 @@
 pub mod Stage
 pub mod Spans
 pub mod Given
+pub mod Outs

@@ -3,6 +3,7 @@ use Rattle.std.specs.Prelude.{◌≡◌, ℕ, ◌<◌, ◌≤◌, ◌^◌, ℤ, 
 use Rattle.hp_num.specs.Sums.{entry}
 use Rattle.hp_problem.specs.declared.raw.Subproblem.{Subproblem}
 use Rattle.hp_theory.specs.declared.cut.Cut.{Cut}
+use Rattle.hp_lp.specs.declared.cut_rows.Out.{Out}
 use Rattle.hp_lp.specs.Stage.{at_low, at_high}
 
 -- one slope per state, and no number nor product with an end of the box above 2^104
@@ -12,3 +13,8 @@ pub record Spans (s : Subproblem) (c : Cut) : Type 0 where
   pub each : (k : ℕ) → k < length s.outs → nat_abs (entry c.beta k) ≤ 2 ^ 104
   pub lows : (k : ℕ) → k < length s.outs → nat_abs (at_low s c k) ≤ 2 ^ 104
   pub highs : (k : ℕ) → k < length s.outs → nat_abs (at_high s c k) ≤ 2 ^ 104
+
+-- the cut has a slope for the state, of at most 2^104
+pub record IsWithin (c : Cut) (o : Out) : Type 0 where
+  pub there : o.state < length c.beta
+  pub small : nat_abs (entry c.beta o.state) ≤ 2 ^ 104

@@ -2,5 +2,6 @@
 #![tactic(auto)]
 
 mod columns;
+mod cut_rows;
 mod own_rows;
 mod scales;
