@@ -2,3 +2,4 @@ pub mod Worked
 pub mod Growing
 pub mod Terms
 pub mod Seams
+pub mod OutSlopes

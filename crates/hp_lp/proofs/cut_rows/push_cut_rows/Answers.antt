@@ -1,0 +1,25 @@
+use Rattle.std.proofs.Common.{◌≡◌, ◌++◌, ◌∙◌, ℕ, List, length, All, OnOk, sym, subst, ap, ap₂}
+use Rattle.std.proofs.lemmas.List.Elements.{All-weaker}
+use Rattle.hp_theory.specs.declared.cut.Cut.{Cut}
+use Rattle.hp_theory.specs.Pools.{pool}
+use Rattle.hp_solver.specs.declared.stage_lp.LpRow.{LpRow}
+use Rattle.hp_lp.specs.declared.cut_rows.Out.{Out}
+use Rattle.hp_lp.specs.Outs.{rows_over}
+use Rattle.hp_lp.specs.Spans.{Spans, IsWithin}
+use Rattle.hp_lp.proofs.OutSlopes.{rows-cut_rows, within-spans}
+use Rattle.hp_lp.proofs.cut_rows.push_cut_rows.Goals as goal
+
+pub push_rows_over-requires-clause-within : goal.push_rows_over-requires-clause-within
+push_rows_over-requires-clause-within c =
+    let pools : List (List Cut) = c.args.pools.now.lists in
+    let outs = c.as_slice.ensures ∙ c.in_ok-outs.ensures in
+    subst (λ (os : List Out). All (λ m. All (λ (x : Cut). All (IsWithin x) os) (pool pools m)) c.args.links.now) (sym outs)
+    (λ i d h k e l. within-spans c.args.subproblem.now _ (c.requires.spans i d h k e l))
+
+pub returns : goal.returns
+returns c =
+    let pools : List (List Cut) = c.args.pools.now.lists in
+    let outs = c.as_slice.ensures ∙ c.in_ok-outs.ensures in
+    subst (λ (rs : List LpRow). OnOk c.push_rows_over.result (c.push_rows_over.new.rows ≡ c.args.rows.now ++ rs))
+    (ap₂ (λ (os : List Out) (k : ℕ). rows_over os pools k c.args.links.now) outs c.len-column.ensures ∙ rows-cut_rows c.args.subproblem.now pools (length c.args.subproblem.now.decisions) c.args.links.now c.requires.differ)
+    c.push_rows_over.ensures
