@@ -3,3 +3,4 @@ pub mod Growing
 pub mod Terms
 pub mod Seams
 pub mod OutSlopes
+pub mod ProperStages

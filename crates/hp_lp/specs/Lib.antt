@@ -2,3 +2,4 @@ pub mod Stage
 pub mod Spans
 pub mod Given
 pub mod Outs
+pub mod Nodes

@@ -1,0 +1,44 @@
+-- The stage problems of a sealed problem's nodes.
+use Rattle.std.specs.Prelude.{ℕ, ◌^◌, ℤ, pos, ◌+ℤ◌, ◌*ℤ◌, List, [], ◌++◌, length, map, zip, get_or, Option, slice_get, option_and_then}
+use Rattle.std.specs.Option.{option_map}
+use Rattle.hp_problem.specs.declared.raw.Node.{Node}
+use Rattle.hp_problem.specs.declared.raw.Subproblem.{Subproblem}
+use Rattle.hp_problem.specs.Formulas.{successor_total}
+use Rattle.hp_problem.specs.Sealed.{Sealed}
+use Rattle.hp_theory.specs.declared.cut.Cut.{Cut}
+use Rattle.hp_solver.specs.declared.stage_lp.Column.{Column}
+use Rattle.hp_solver.specs.declared.stage_lp.StageLp.{StageLp}
+use Rattle.hp_solver.specs.Numbers.{zero_fx}
+use Rattle.hp_lp.specs.Stage.{decision_column, own_row, stage_of}
+
+-- what is made of the node m and its subproblem
+abbrev pub at_node : Sealed → ℕ → (Node → Subproblem → StageLp) → Option StageLp
+at_node p m f = option_and_then (λ (n : Node). option_map (f n) (slice_get p.raw.subs n.sub)) (slice_get p.raw.nodes m)
+
+-- the stage problem of the node m over these pools, at these values and this state
+unfoldable pub stage_in : Sealed → List (List Cut) → ℕ → List ℤ → List ℤ → Option StageLp
+stage_in p pools m values state = at_node p m (λ n s. stage_of pools n s values state)
+
+-- a column that stands at 0 and costs nothing
+abbrev pub idle_column : Column
+idle_column = record { low = zero_fx; high = zero_fx; cost = zero_fx }
+
+-- a quarter of the way from the lower end of each box to the upper one, at the scale of states
+abbrev pub quarter : ℤ × ℤ → ℤ
+quarter b = pos (2 ^ 22) *ℤ (pos 3 *ℤ b.0 +ℤ b.1)
+
+abbrev pub quarters : List ℤ → List ℤ → List ℤ
+quarters low high = map quarter (zip low high)
+
+-- Reference: the stage problem without cuts, at the first realization's values and a state inside the box; the successors' columns stand idle
+unfoldable pub reference_of : Node → Subproblem → List ℤ → List ℤ → StageLp
+reference_of n s low high = record {
+  columns = map (decision_column (successor_total n.stop n.link_weights)) s.decisions ++ map (λ (m : ℕ). idle_column) n.links;
+  rows = map (own_row (get_or n.values 0 []) (quarters low high)) s.rows;
+  decisions = length s.decisions;
+  own = length s.rows;
+}
+
+-- the reference program of the node m
+unfoldable pub reference_in : Sealed → ℕ → Option StageLp
+reference_in p m = at_node p m (λ n s. reference_of n s (get_or p.lo m []) (get_or p.hi m []))
