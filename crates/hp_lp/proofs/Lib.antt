@@ -4,3 +4,4 @@ pub mod Terms
 pub mod Seams
 pub mod OutSlopes
 pub mod ProperStages
+pub mod SealedStages

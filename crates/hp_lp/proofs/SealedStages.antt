@@ -1,0 +1,147 @@
+-- The parts of a sealed problem's node are within what its stage problems need.
+use Rattle.std.proofs.Common.{◌≡◌, ℕ, zero, suc, ◌+◌, ◌*◌, ◌<◌, ◌≤◌, ◌^◌, max, ℤ, pos, ◌+ℤ◌, ◌*ℤ◌, ◌≤ℤ◌, true, nat_abs, nat_lt, List, [], ◌∷◌, length, map, get_or, All, Option, Some, slice_get, option_and_then, sym, ap, subst, ◌∙◌, mul-le-mul, arith}
+use Rattle.std.specs.List.{list_all}
+use Rattle.std.proofs.lemmas.Bool.Decides.{nat_tests}
+use Rattle.std.proofs.lemmas.Grind.{common_steps}
+use Rattle.std.proofs.lemmas.Int.{ints}
+use Rattle.std.proofs.lemmas.List.{get_or-map, get_or_default, length-map}
+use Rattle.hp_num.specs.Sums.{sum_to, entry}
+use Rattle.hp_num.proofs.Order.{le_refl, le_trans, le_add, le_scale}
+use Rattle.hp_num.proofs.Fronts.{sum_some}
+use Rattle.hp_num.proofs.Tests.{and_first, and_second, all_at, some_of}
+use Rattle.hp_problem.specs.declared.raw.Decision.{Decision}
+use Rattle.hp_problem.specs.declared.raw.Row.{Row}
+use Rattle.hp_problem.specs.declared.raw.Node as nodes
+use Rattle.hp_problem.specs.declared.raw.Subproblem.{Subproblem}
+use Rattle.hp_problem.specs.Limits.{are_numbers, are_values, decision_fits, row_fits, counts_fit, outs_differ, subproblem_fits, names_fit, bounds_fit, costs_fit, terms_fit}
+use Rattle.hp_problem.specs.Sealed.{Sealed, is_sealed, subproblem_of, out_lows, out_highs}
+use Rattle.hp_problem.proofs.SealedFacts.{raw-is_sealed, few_states, few_nodes, box_counts}
+use Rattle.hp_problem.proofs.SubproblemFacts.{rows-subproblem_fits, decisions-subproblem_fits, counts-subproblem_fits}
+use Rattle.hp_theory.specs.declared.cut.Cut.{Cut}
+use Rattle.hp_theory.specs.Problem.{S, Link, Node, node_at}
+use Rattle.hp_theory.specs.View.{node_of, links_of, problem_of}
+use Rattle.hp_theory.specs.Tree.{InBox}
+use Rattle.hp_theory.specs.Size.{magnitude, reach}
+use Rattle.hp_theory.specs.Pools.{pool}
+use Rattle.hp_theory.specs.Fit.{CutFits, Fit, cut_size}
+use Rattle.hp_theory.specs.Premises.{Nested}
+use Rattle.hp_theory.proofs.SizeToFit.{size_mul}
+use Rattle.hp_theory.proofs.Views.{link_at, length-links_of, low-node_of, high-node_of, outs-node_of, links-node_of, decision_low-node_of, decision_high-node_of}
+use Rattle.hp_theory.proofs.SealedParts.{PartsFit, parts_given, linked, links_known, counted, outs_known, numbers_counted, numbers_small}
+use Rattle.hp_theory.proofs.SealedPremises.{shaped-sealed}
+use Rattle.hp_lp.specs.Stage.{at_low, at_high}
+use Rattle.hp_lp.specs.Spans.{Spans}
+use Rattle.hp_lp.specs.Given.{AreGiven, IsOver, AreWithin}
+
+-- the node and the subproblem that a problem gives out, with the box of the incoming state
+pub record Boxed (p : Sealed) (m : ℕ) (n : nodes.Node) (s : Subproblem) : Type 0 where
+  pub low : List ℤ
+  pub high : List ℤ
+  pub fit : PartsFit p m n s low high
+
+pub boxed : (p : Sealed) (m : ℕ) (n : nodes.Node) (s : Subproblem) → is_sealed p ≡ true → m < length p.raw.nodes → slice_get p.raw.nodes m ≡ Some n → subproblem_of p m ≡ Some s → Boxed p m n s
+boxed p m n s e h fn fs =
+    let counts = box_counts p e in
+    let l = some_of p.lo m (omega (arith, counts.0)) in
+    let u = some_of p.hi m (omega (arith, counts.1)) in
+    record { low = l.0; high = u.0; fit = parts_given p m n s l.0 u.0 e fn fs l.1 u.1 }
+
+-- a summand is at most the sum where none is negative
+term_at_most : (n k : ℕ) (f : ℕ → ℤ) → ((j : ℕ) → pos 0 ≤ℤ f j) → k < n → f k ≤ℤ sum_to n f
+term_at_most zero k f some h = absurd (omega arith)
+term_at_most (suc n) zero f some h = let rest = sum_some n (λ j. f (suc j)) (λ j. some (suc j)) in omega (arith, ints, rest)
+term_at_most (suc n) (suc k) f some h = let rest = term_at_most n k (λ j. f (suc j)) (λ j. some (suc j)) (omega arith) in let first = some 0 in omega (arith, ints, rest, first)
+
+no_less : (a b : ℕ) → pos 0 ≤ℤ (pos a *ℤ pos b)
+no_less a b = omega (arith, ints)
+
+-- the parts of a small sum
+alpha_small : (a s t : ℤ) → pos 0 ≤ℤ s → (magnitude a +ℤ s) ≤ℤ t → magnitude a ≤ℤ t
+alpha_small a s t h k = omega (arith, ints, h, k)
+
+rest_small : (a x s t : ℤ) → x ≤ℤ s → (magnitude a +ℤ s) ≤ℤ t → x ≤ℤ t
+rest_small a x s t h k = omega (arith, ints, h, k)
+
+-- a slope, and its product with a number of the box
+slope_small : (b : ℤ) (r : ℕ) → (magnitude b *ℤ pos (max 1 r)) ≤ℤ pos (2 ^ 104) → nat_abs b ≤ 2 ^ 104
+slope_small b r h = omega (arith, ints, h, mul-le-mul (le (nat_abs b)) (one r))
+  where
+    le : (x : ℕ) → x ≤ x
+    le x = omega arith
+
+    one : (r : ℕ) → 1 ≤ max 1 r
+    one r = omega arith
+
+product_small : (b x : ℤ) (r : ℕ) → nat_abs x ≤ r → (magnitude b *ℤ pos r) ≤ℤ pos (2 ^ 104) → nat_abs (b *ℤ x) ≤ 2 ^ 104
+product_small b x r h k = let is : magnitude (b *ℤ x) ≡ magnitude b *ℤ magnitude x = size_mul b x in
+    let more : (magnitude b *ℤ magnitude x) ≤ℤ (magnitude b *ℤ pos r) = le_scale (nat_abs b) (magnitude x) (pos r) (omega (arith, ints)) in
+    omega (arith, ints, is, more, k)
+
+in_reach : (l x h : ℤ) → l ≤ℤ x → x ≤ℤ h → nat_abs x ≤ max 1 (max (nat_abs l) (nat_abs h))
+in_reach l x h p q = omega (arith, ints)
+
+ordered : (d : Decision) → decision_fits d ≡ true → d.low ≤ℤ d.high
+ordered d e = grind (arith, ints, nat_tests, common_steps, e)
+
+-- a cut that fits a successor's box spans what leaves the node
+module _ (n : nodes.Node) (s : Subproblem) (low high : List ℤ) (k : Node) (nested : Nested (node_of n s low high) k) (known : list_all (λ o. nat_lt o (length s.decisions)) s.outs ≡ true) (decisions : list_all decision_fits s.decisions ≡ true) where
+  out_low : (i : ℕ) → i < length s.outs → entry (out_lows s) i ≡ entry (map (λ (d : Decision). d.low) s.decisions) (get_or s.outs i 0)
+  out_low i h = get_or-map (λ o. entry (map (λ (d : Decision). d.low) s.decisions) o) s.outs i 0 (pos 0) h
+
+  out_high : (i : ℕ) → i < length s.outs → entry (out_highs s) i ≡ entry (map (λ (d : Decision). d.high) s.decisions) (get_or s.outs i 0)
+  out_high i h = get_or-map (λ o. entry (map (λ (d : Decision). d.high) s.decisions) o) s.outs i 0 (pos 0) h
+
+  count : length s.outs ≡ length k.low
+  unfolding node_of
+  count = nested.count
+
+  low_above : (i : ℕ) → i < length k.low → entry k.low i ≤ℤ entry (map (λ (d : Decision). d.low) s.decisions) (get_or s.outs i 0)
+  unfolding node_of
+  low_above i h = nested.lows i h
+
+  high_below : (i : ℕ) → i < length k.low → entry (map (λ (d : Decision). d.high) s.decisions) (get_or s.outs i 0) ≤ℤ entry k.high i
+  unfolding node_of
+  high_below i h = nested.highs i h
+
+  crossing : (o : ℕ) → o < length s.decisions → entry (map (λ (d : Decision). d.low) s.decisions) o ≤ℤ entry (map (λ (d : Decision). d.high) s.decisions) o
+  crossing o h =
+      let d = (some_of s.decisions o h).0 in
+      let at : Decision = get_or s.decisions o d in
+      let l = get_or-map (λ (d : Decision). d.low) s.decisions o d (pos 0) h in
+      let u = get_or-map (λ (d : Decision). d.high) s.decisions o d (pos 0) h in
+      let between = ordered at (all_at decision_fits s.decisions o d decisions h) in
+      omega (arith, ints, l, u, between)
+
+  known_out : (i : ℕ) → i < length s.outs → get_or s.outs i 0 < length s.decisions
+  known_out i h = below (get_or s.outs i 0) (length s.decisions) (all_at (λ o. nat_lt o (length s.decisions)) s.outs i 0 known h)
+    where
+      below : (a b : ℕ) → nat_lt a b ≡ true → a < b
+      below a b e = grind (arith, nat_tests)
+
+  low_reach : (i : ℕ) → i < length s.outs → nat_abs (entry (out_lows s) i) ≤ max 1 (max (nat_abs (entry k.low i)) (nat_abs (entry k.high i)))
+  low_reach i h =
+      let inside : i < length k.low = omega (arith, count) in
+      let o : ℕ = get_or s.outs i 0 in
+      subst (λ (z : ℤ). nat_abs z ≤ max 1 (max (nat_abs (entry k.low i)) (nat_abs (entry k.high i)))) (sym (out_low i h))
+      (in_reach (entry k.low i) (entry (map (λ (d : Decision). d.low) s.decisions) o) (entry k.high i) (low_above i inside) (le_trans _ (entry (map (λ (d : Decision). d.high) s.decisions) o) _ (crossing o (known_out i h)) (high_below i inside)))
+
+  high_reach : (i : ℕ) → i < length s.outs → nat_abs (entry (out_highs s) i) ≤ max 1 (max (nat_abs (entry k.low i)) (nat_abs (entry k.high i)))
+  high_reach i h =
+      let inside : i < length k.low = omega (arith, count) in
+      let o : ℕ = get_or s.outs i 0 in
+      subst (λ (z : ℤ). nat_abs z ≤ max 1 (max (nat_abs (entry k.low i)) (nat_abs (entry k.high i)))) (sym (out_high i h))
+      (in_reach (entry k.low i) (entry (map (λ (d : Decision). d.high) s.decisions) o) (entry k.high i) (le_trans _ (entry (map (λ (d : Decision). d.low) s.decisions) o) _ (low_above i inside) (crossing o (known_out i h))) (high_below i inside))
+
+  spans-fits : (c : Cut) → CutFits k c → Spans s c
+  spans-fits c f =
+      let part : ℕ → ℤ = λ j. magnitude (entry c.beta j) *ℤ reach k.low k.high j in
+      let some : (j : ℕ) → pos 0 ≤ℤ part j = λ j. no_less (nat_abs (entry c.beta j)) (max 1 (max (nat_abs (entry k.low j)) (nat_abs (entry k.high j)))) in
+      let each : (i : ℕ) → i < length s.outs → part i ≤ℤ pos (2 ^ 104) = λ i h. rest_small c.alpha (part i) (sum_to (length k.low) part) (pos (2 ^ 104)) (term_at_most (length k.low) i part some (omega (arith, count))) f.small in
+      let alpha : magnitude c.alpha ≤ℤ pos (2 ^ 104) = alpha_small c.alpha (sum_to (length k.low) part) (pos (2 ^ 104)) (sum_some (length k.low) part some) f.small in
+      record {
+        slopes = f.slopes ∙ sym count;
+        alpha = omega (arith, ints, alpha);
+        each = λ i h. slope_small (entry c.beta i) (max (nat_abs (entry k.low i)) (nat_abs (entry k.high i))) (each i h);
+        lows = λ i h. product_small (entry c.beta i) (entry (out_lows s) i) (max 1 (max (nat_abs (entry k.low i)) (nat_abs (entry k.high i)))) (low_reach i h) (each i h);
+        highs = λ i h. product_small (entry c.beta i) (entry (out_highs s) i) (max 1 (max (nat_abs (entry k.low i)) (nat_abs (entry k.high i)))) (high_reach i h) (each i h);
+      }
