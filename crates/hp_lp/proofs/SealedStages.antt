@@ -145,3 +145,118 @@ module _ (n : nodes.Node) (s : Subproblem) (low high : List ℤ) (k : Node) (nes
         lows = λ i h. product_small (entry c.beta i) (entry (out_lows s) i) (max 1 (max (nat_abs (entry k.low i)) (nat_abs (entry k.high i)))) (low_reach i h) (each i h);
         highs = λ i h. product_small (entry c.beta i) (entry (out_highs s) i) (max 1 (max (nat_abs (entry k.low i)) (nat_abs (entry k.high i)))) (high_reach i h) (each i h);
       }
+
+-- the limits of a subproblem
+few : (states : ℕ) (s : Subproblem) → subproblem_fits states s ≡ true → (length s.decisions ≤ 200) × (length s.rows ≤ 200) × (length s.randoms ≤ 50) × (length s.outs ≡ states)
+few states s e =
+    let counts : counts_fit states s ≡ true = counts-subproblem_fits states s e in
+    (grind (arith, nat_tests, common_steps, counts), grind (arith, nat_tests, common_steps, counts), grind (arith, nat_tests, common_steps, counts), grind (arith, nat_tests, common_steps, counts))
+
+differ : (states : ℕ) (s : Subproblem) → subproblem_fits states s ≡ true → outs_differ s ≡ true
+differ states s e = grind (arith, common_steps, e)
+
+module _ (p : Sealed) (e : is_sealed p ≡ true) (m : ℕ) (h : m < length p.raw.nodes) (n : nodes.Node) (s : Subproblem) (low high : List ℤ) (fit : PartsFit p m n s low high) where
+  -- a successor's box holds what leaves the node
+  nested_at : (i : ℕ) → i < length n.links → Nested (node_of n s low high) (node_at (problem_of p) (get_or n.links i 0))
+  nested_at i k =
+      let l = linked n (length p.raw.nodes) fit.links in
+      let no_link : Link = record { node = 0; weight = 0 } in
+      let links : (node_at (problem_of p) m).links ≡ links_of n.links n.link_weights = ap (λ (x : Node). x.links) fit.is ∙ links-node_of n s low high in
+      let inside : i < length (node_at (problem_of p) m).links = subst (λ (ls : List Link). i < length ls) (sym links) (omega (arith, length-links_of n.links n.link_weights l.1)) in
+      let at : get_or (node_at (problem_of p) m).links i no_link ≡ record { node = get_or n.links i 0; weight = get_or n.link_weights i 0 } = ap (λ (ls : List Link). get_or ls i no_link) links ∙ link_at n.links n.link_weights i no_link l.1 k in
+      subst (λ (x : Node). Nested x (node_at (problem_of p) (get_or n.links i 0))) fit.is
+      (subst (λ (x : Link). Nested (node_at (problem_of p) m) (node_at (problem_of p) x.node)) at ((shaped-sealed p m e h).nested i no_link inside))
+
+  link_there : (i : ℕ) → i < length n.links → get_or n.links i 0 < length p.raw.nodes
+  link_there i k = below (get_or n.links i 0) (all_at (λ m. nat_lt m (length p.raw.nodes)) n.links i 0 (links_known n (length p.raw.nodes) fit.links) k)
+    where
+      below : (a : ℕ) → nat_lt a (length p.raw.nodes) ≡ true → a < length p.raw.nodes
+      below a b = grind (arith, nat_tests)
+
+  each_link : (P : ℕ → Type 0) → ((i : ℕ) → i < length n.links → P (get_or n.links i 0)) → All P n.links
+  each_link P f = λ i d k. subst P (get_or_default n.links i 0 d k) (f i k)
+
+  -- the parts and the pools are within what a stage problem needs
+  pub within-sealed : (pools : List (List Cut)) → Fit (problem_of p) (length p.raw.nodes) pools → AreWithin pools n s
+  within-sealed pools f =
+      let l = linked n (length p.raw.nodes) fit.links in
+      let c = few (length p.raw.states) s fit.subproblem in
+      let decisions = decisions-subproblem_fits (length p.raw.states) s fit.subproblem in
+      let known = outs_known s (length p.raw.states) fit.subproblem in
+      record {
+        decisions = c.0;
+        rows = c.1;
+        outs = omega (arith, c.3, few_states p.raw (raw-is_sealed p e));
+        known_outs = known;
+        differ = differ (length p.raw.states) s fit.subproblem;
+        weights = l.1;
+        links = omega (arith, l.0, few_nodes p.raw (raw-is_sealed p e));
+        there = each_link (λ k. k < length pools) (λ i k. subst (λ (c : ℕ). get_or n.links i 0 < c) (sym f.lists) (link_there i k));
+        some = each_link (λ k. 0 < length (pool pools k)) (λ i k. f.some (get_or n.links i 0) (link_there i k));
+        spans = each_link (λ k. All (Spans s) (pool pools k)) (λ i k. λ j d o. spans-fits n s low high (node_at (problem_of p) (get_or n.links i 0)) (nested_at i k) known decisions (get_or (pool pools (get_or n.links i 0)) j d) (f.cuts (get_or n.links i 0) (link_there i k) j d o));
+      }
+
+  -- so are values and a state
+  state_small : (x l u : ℤ) → (pos S *ℤ l) ≤ℤ x → x ≤ℤ (pos S *ℤ u) → nat_abs l ≤ 2 ^ 40 → nat_abs u ≤ 2 ^ 40 → nat_abs x ≤ 2 ^ 64
+  unfolding S
+  state_small x l u a b c d = omega (arith, ints, a, b, c, d)
+
+  inside : (state : List ℤ) → InBox S (node_at (problem_of p) m).low (node_at (problem_of p) m).high state → InBox S low high state
+  inside state b =
+      let lows : (node_at (problem_of p) m).low ≡ low = ap (λ (x : Node). x.low) fit.is ∙ low-node_of n s low high in
+      let highs : (node_at (problem_of p) m).high ≡ high = ap (λ (x : Node). x.high) fit.is ∙ high-node_of n s low high in
+      subst (λ (us : List ℤ). InBox S low us state) highs (subst (λ (ls : List ℤ). InBox S ls (node_at (problem_of p) m).high state) lows b)
+
+  values_of : (values : List ℤ) → are_values (subproblem_of p m) values ≡ true → subproblem_of p m ≡ Some s → are_numbers (length s.randoms) values ≡ true
+  values_of values v fs = subst (λ (o : Option Subproblem). are_values o values ≡ true) fs v
+
+  pub given-sealed : (values state : List ℤ) → are_numbers (length s.randoms) values ≡ true → InBox S low high state → AreGiven values state
+  given-sealed values state v b =
+      let c = few (length p.raw.states) s fit.subproblem in
+      let states = few_states p.raw (raw-is_sealed p e) in
+      let lows = numbers_counted low (length p.raw.states) fit.lows in
+      let highs = numbers_counted high (length p.raw.states) fit.highs in
+      record {
+        few_values = omega (arith, numbers_counted values (length s.randoms) v, c.2);
+        few_states = omega (arith, b.count, lows, states);
+        small_values = λ k d o. subst (λ (z : ℤ). nat_abs z ≤ 2 ^ 40) (get_or_default values k (pos 0) d o) (numbers_small values (length s.randoms) k v o);
+        small_state = λ k d o.
+            let at : k < length low = omega (arith, b.count) in
+            subst (λ (z : ℤ). nat_abs z ≤ 2 ^ 64) (get_or_default state k (pos 0) d o) (state_small (entry state k) (entry low k) (entry high k) (b.above k at) (b.below k at) (numbers_small low (length p.raw.states) k fit.lows at) (numbers_small high (length p.raw.states) k fit.highs (omega (arith, lows, highs))));
+      }
+
+  pub over-sealed : (values state : List ℤ) → length values ≡ length s.randoms → length state ≡ length p.raw.states → All (IsOver (length state) (length values)) s.rows
+  over-sealed values state v x = λ k d o.
+      let row : Row = get_or s.rows k d in
+      let fits : row_fits (length p.raw.states) s row ≡ true = all_at (row_fits (length p.raw.states) s) s.rows k d (rows-subproblem_fits (length p.raw.states) s fit.subproblem) o in
+      record {
+        over_states = subst (λ (c : ℕ). terms_fit c 0 row.states ≡ true) (sym x) (grind (arith, common_steps, fits));
+        over_randoms = subst (λ (c : ℕ). terms_fit c 0 row.randoms ≡ true) (sym v) (grind (arith, common_steps, fits));
+      }
+
+-- what a stage problem of a node needs, at values and a state
+pub record Ready (pools : List (List Cut)) (n : nodes.Node) (s : Subproblem) (values state : List ℤ) : Type 0 where
+  pub within : AreWithin pools n s
+  pub given : AreGiven values state
+  pub over : All (IsOver (length state) (length values)) s.rows
+
+pub record Restatable (s : Subproblem) (values state : List ℤ) : Type 0 where
+  pub given : AreGiven values state
+  pub over : All (IsOver (length state) (length values)) s.rows
+
+pub restatable-sealed : (p : Sealed) (m : ℕ) (n : nodes.Node) (s : Subproblem) (values state : List ℤ) → is_sealed p ≡ true → m < length p.raw.nodes → slice_get p.raw.nodes m ≡ Some n → subproblem_of p m ≡ Some s
+    → are_values (subproblem_of p m) values ≡ true → InBox S (node_at (problem_of p) m).low (node_at (problem_of p) m).high state → Restatable s values state
+restatable-sealed p m n s values state e h fn fs v x =
+    let b = boxed p m n s e h fn fs in
+    let numbers = values_of p e m h n s b.low b.high b.fit values v fs in
+    let box = inside p e m h n s b.low b.high b.fit state x in
+    record {
+      given = given-sealed p e m h n s b.low b.high b.fit values state numbers box;
+      over = over-sealed p e m h n s b.low b.high b.fit values state (numbers_counted values (length s.randoms) numbers) (box.count ∙ numbers_counted b.low (length p.raw.states) b.fit.lows);
+    }
+
+pub ready-sealed : (p : Sealed) (m : ℕ) (n : nodes.Node) (s : Subproblem) (pools : List (List Cut)) → is_sealed p ≡ true → m < length p.raw.nodes → slice_get p.raw.nodes m ≡ Some n → subproblem_of p m ≡ Some s
+    → Fit (problem_of p) (length p.raw.nodes) pools → AreWithin pools n s
+ready-sealed p m n s pools e h fn fs f =
+    let b = boxed p m n s e h fn fs in
+    within-sealed p e m h n s b.low b.high b.fit pools f

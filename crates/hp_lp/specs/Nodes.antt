@@ -1,5 +1,5 @@
 -- The stage problems of a sealed problem's nodes.
-use Rattle.std.specs.Prelude.{ℕ, ◌^◌, ℤ, pos, ◌+ℤ◌, ◌*ℤ◌, List, [], ◌++◌, length, map, zip, get_or, Option, slice_get, option_and_then}
+use Rattle.std.specs.Prelude.{◌≡◌, ℕ, ◌^◌, ℤ, pos, ◌+ℤ◌, ◌*ℤ◌, List, [], ◌++◌, length, map, zip, get_or, Option, Some, slice_get, option_and_then}
 use Rattle.std.specs.Option.{option_map}
 use Rattle.hp_problem.specs.declared.raw.Node.{Node}
 use Rattle.hp_problem.specs.declared.raw.Subproblem.{Subproblem}
@@ -18,6 +18,13 @@ at_node p m f = option_and_then (λ (n : Node). option_map (f n) (slice_get p.ra
 -- the stage problem of the node m over these pools, at these values and this state
 unfoldable pub stage_in : Sealed → List (List Cut) → ℕ → List ℤ → List ℤ → Option StageLp
 stage_in p pools m values state = at_node p m (λ n s. stage_of pools n s values state)
+
+-- a stage problem of the node m, over some pools at some values and state
+pub record IsStageAt (p : Sealed) (m : ℕ) (lp : StageLp) : Type 0 where
+  pub pools : List (List Cut)
+  pub values : List ℤ
+  pub state : List ℤ
+  pub is : stage_in p pools m values state ≡ Some lp
 
 -- a column that stands at 0 and costs nothing
 abbrev pub idle_column : Column

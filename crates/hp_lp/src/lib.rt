@@ -5,3 +5,6 @@ mod columns;
 mod cut_rows;
 mod own_rows;
 mod scales;
+pub mod stages;
+
+pub use stages::{restate, stage};

@@ -1,0 +1,152 @@
+// The stage problem of a node.
+ghost use Rattle.std.specs.Prelude.{◌≡◌, ◌<◌, ◌++◌, ℤ, true, List, [], length, map, zip, get_or, Some, slice_get, All, IfOk, OnOk};
+ghost use Rattle.hp_problem.specs.Formulas.{successor_total};
+ghost use Rattle.hp_problem.specs.Limits.{are_values};
+ghost use Rattle.hp_problem.specs.Sealed.{is_sealed, subproblem_of};
+ghost use Rattle.hp_theory.specs.Fit.{Fit};
+ghost use Rattle.hp_theory.specs.Problem.{S, node_at};
+ghost use Rattle.hp_theory.specs.Tree.{InBox};
+ghost use Rattle.hp_theory.specs.View.{problem_of};
+ghost use Rattle.hp_theory.specs.declared.cut.Cut.{Cut};
+ghost use Rattle.hp_solver.specs.Proper.{IsProper, IsLike};
+ghost use Rattle.hp_lp.specs.Stage.{decision_column, future_columns, own_row, cut_rows, stage_of};
+ghost use Rattle.hp_lp.specs.Nodes.{stage_in, IsStageAt};
+ghost use Rattle.hp_lp.specs.Given.{AreGiven, IsOver, AreWithin};
+
+use crate::columns::{decision_columns, push_future_columns};
+use crate::cut_rows::push_cut_rows;
+use crate::own_rows::{own_rows, restate_rows};
+use hp_cut::Pools;
+use hp_num::{List, Memory};
+use hp_problem::{Node, Problem, Subproblem};
+use hp_solver::{Column, LpRow, StageLp};
+use std::alloc::Global;
+
+/// A node with its subproblem.
+#[derive(Clone, Copy)]
+pub(crate) struct StageNode<'a> {
+    pub(crate) node: &'a Node,
+    pub(crate) subproblem: &'a Subproblem,
+    /// The stop weight and the successors' weights together.
+    pub(crate) weight: u32,
+}
+
+impl<'a> StageNode<'a> {
+    /// The node with a number.
+    pub(crate) fn of(problem: &'a Problem, node: u32) -> StageNode<'a>
+        requires { node < length problem.now.raw.nodes }
+        ensures sealed { is_sealed problem.now ≡ true }
+        ensures the_node { slice_get problem.now.raw.nodes node ≡ Some result.node.now }
+        ensures the_subproblem { subproblem_of problem.now node ≡ Some result.subproblem.now }
+        ensures weight { result.weight ≡ successor_total result.node.now.stop result.node.now.link_weights }
+    {
+        StageNode {
+            node: &problem.raw().nodes.as_slice()[node as usize],
+            subproblem: problem.sub(node),
+            weight: problem.q(node),
+        }
+    }
+}
+
+// The decisions' columns, and then the successors'.
+fn columns(alloc: Global, stage: &StageNode, pools: &Pools) -> Result<List<Column>, Memory>
+    requires { AreWithin pools.now.lists stage.now.node.now stage.now.subproblem.now }
+    ensures { IfOk result (λ found. found ≡ map (decision_column stage.now.weight) stage.now.subproblem.now.decisions
+        ++ future_columns stage.now.subproblem.now pools.now.lists stage.now.node.now.links stage.now.node.now.link_weights) }
+{
+    let mut found = decision_columns(alloc, stage.weight, stage.subproblem.decisions.as_slice())?;
+    push_future_columns(
+        &mut found,
+        stage.subproblem,
+        pools,
+        stage.node.links.as_slice(),
+        stage.node.link_weights.as_slice(),
+    )?;
+    Ok(found)
+}
+
+// The node's own rows, and then the successors' cuts.
+fn rows(
+    alloc: Global,
+    stage: &StageNode,
+    pools: &Pools,
+    values: &[i64],
+    state: &[i128],
+) -> Result<List<LpRow>, Memory>
+    requires within { AreWithin pools.now.lists stage.now.node.now stage.now.subproblem.now }
+    requires given { AreGiven values.now state.now }
+    requires over { All (IsOver (length state.now) (length values.now)) stage.now.subproblem.now.rows }
+    ensures { IfOk result (λ found. found ≡ map (own_row values.now state.now) stage.now.subproblem.now.rows
+        ++ cut_rows stage.now.subproblem.now pools.now.lists (length stage.now.subproblem.now.decisions) stage.now.node.now.links) }
+{
+    let mut found = own_rows(alloc, stage.subproblem.rows.as_slice(), values, state)?;
+    push_cut_rows(
+        alloc,
+        &mut found,
+        stage.subproblem,
+        pools,
+        stage.node.links.as_slice(),
+    )?;
+    Ok(found)
+}
+
+// The stage problem of the node.
+#[tactic(auto, unfolding(crate::specs::Stage::stage_of))]
+fn stage_of(
+    alloc: Global,
+    stage: &StageNode,
+    pools: &Pools,
+    values: &[i64],
+    state: &[i128],
+) -> Result<StageLp, Memory>
+    requires weight { stage.now.weight ≡ successor_total stage.now.node.now.stop stage.now.node.now.link_weights }
+    requires within { AreWithin pools.now.lists stage.now.node.now stage.now.subproblem.now }
+    requires given { AreGiven values.now state.now }
+    requires over { All (IsOver (length state.now) (length values.now)) stage.now.subproblem.now.rows }
+    ensures { IfOk result (λ lp. lp ≡ stage_of pools.now.lists stage.now.node.now stage.now.subproblem.now values.now state.now) }
+{
+    Ok(StageLp {
+        columns: columns(alloc, stage, pools)?,
+        rows: rows(alloc, stage, pools, values, state)?,
+        decisions: stage.subproblem.decisions.len() as u32,
+        own: stage.subproblem.rows.len() as u32,
+    })
+}
+
+/// The stage problem of a node (Pereira and Pinto 1991): the cheapest decisions at these values and this state, with the
+/// cost of the future at each successor at least what its cuts say. [`Memory`] where memory was refused.
+///
+/// There is one value per random variable of the node's subproblem, each at most 2^40 in absolute value, and the state,
+/// at scale 2^24, lies in the node's box.
+pub fn stage(
+    alloc: Global,
+    problem: &Problem,
+    pools: &Pools,
+    node: u32,
+    values: &[i64],
+    state: &[i128],
+) -> Result<StageLp, Memory>
+    requires known { node < length problem.now.raw.nodes }
+    requires fit { Fit (problem_of problem.now) (length problem.now.raw.nodes) pools.now.lists }
+    requires values { are_values (subproblem_of problem.now node) values.now ≡ true }
+    requires state { InBox S (node_at (problem_of problem.now) node).low (node_at (problem_of problem.now) node).high state.now }
+    ensures value { IfOk result (λ lp. stage_in problem.now pools.now.lists node values.now state.now ≡ Some lp) }
+    ensures proper { IfOk result IsProper }
+{
+    stage_of(alloc, &StageNode::of(problem, node), pools, values, state)
+}
+
+/// Gives a stage problem of a node the sides of other values and another state: it is then the stage problem of these,
+/// over the same pools. What is asked of values and state is as in [`stage`]. No memory is taken.
+pub fn restate(problem: &Problem, node: u32, values: &[i64], state: &[i128], lp: &mut StageLp)
+    requires known { node < length problem.now.raw.nodes }
+    requires values { are_values (subproblem_of problem.now node) values.now ≡ true }
+    requires state { InBox S (node_at (problem_of problem.now) node).low (node_at (problem_of problem.now) node).high state.now }
+    requires stage { IsStageAt problem.now node lp.old }
+    ensures value { (pools : List (List Cut)) → (before now : List ℤ) → stage_in problem.now pools node before now ≡ Some lp.old
+        → stage_in problem.now pools node values.now state.now ≡ Some lp.new }
+    ensures like { IsLike lp.old lp.new }
+{
+    let rows = problem.sub(node).rows.as_slice();
+    restate_rows(rows, values, state, lp.rows.as_mut_slice());
+}
