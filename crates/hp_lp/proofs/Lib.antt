@@ -5,3 +5,4 @@ pub mod Seams
 pub mod OutSlopes
 pub mod ProperStages
 pub mod SealedStages
+pub mod Alike

@@ -147,6 +147,11 @@ pub fn restate(problem: &Problem, node: u32, values: &[i64], state: &[i128], lp:
         → stage_in problem.now pools node values.now state.now ≡ Some lp.new }
     ensures like { IsLike lp.old lp.new }
 {
-    let rows = problem.sub(node).rows.as_slice();
-    restate_rows(rows, values, state, lp.rows.as_mut_slice());
+    let stage = StageNode::of(problem, node);
+    restate_rows(
+        stage.subproblem.rows.as_slice(),
+        values,
+        state,
+        lp.rows.as_mut_slice(),
+    );
 }

@@ -1,0 +1,172 @@
+-- What the stage problems of one node share.
+use Rattle.std.proofs.Common.{◌≡◌, ℕ, ◌+◌, ◌<◌, ◌≤◌, ℤ, pos, ◌≤ℤ◌, true, List, [], ◌∷◌, ◌++◌, length, map, zip, take, drop, get_or, All, Option, Some, None, Result, Ok, Err, IfOk, slice_get, option_and_then, refl, ap, ap₂, sym, subst, ◌∙◌, append-nil, arith}
+use Rattle.std.specs.Prelude.{unwrap_or}
+use Rattle.std.specs.List.{list_all}
+use Rattle.std.specs.Option.{option_map}
+use Rattle.std.proofs.lemmas.List.{length-map, length-append}
+use Rattle.std.proofs.lemmas.List.Elements.{All-append, All-map}
+use Rattle.std.proofs.lemmas.Slice.Zip.{length-zip}
+use Rattle.hp_num.proofs.Order.{le_refl}
+use Rattle.hp_problem.specs.declared.raw.Row.{Row}
+use Rattle.hp_problem.specs.declared.raw.Node.{Node}
+use Rattle.hp_problem.specs.declared.raw.Subproblem.{Subproblem}
+use Rattle.hp_problem.specs.Formulas.{successor_total}
+use Rattle.hp_problem.specs.Limits.{decision_fits, row_fits}
+use Rattle.hp_problem.specs.Sealed.{Sealed, is_sealed, subproblem_of}
+use Rattle.hp_problem.proofs.SubproblemFacts.{rows-subproblem_fits, decisions-subproblem_fits}
+use Rattle.hp_theory.specs.declared.cut.Cut.{Cut}
+use Rattle.hp_theory.specs.Pools.{pool}
+use Rattle.hp_theory.proofs.SealedParts.{linked}
+use Rattle.hp_solver.specs.declared.fixed.Fx.{Fx}
+use Rattle.hp_solver.specs.declared.stage_lp.Column.{Column}
+use Rattle.hp_solver.specs.declared.stage_lp.LpRow.{LpRow}
+use Rattle.hp_solver.specs.declared.stage_lp.StageLp.{StageLp}
+use Rattle.hp_solver.specs.Proper.{IsProper, IsIdle, IsReference, Extends, IsLike, terms_of}
+use Rattle.hp_lp.specs.Stage.{decision_column, future_column, future_columns, own_row, cut_rows, stage_of}
+use Rattle.hp_lp.specs.Nodes.{stage_in, idle_column, quarters, reference_of, reference_in}
+use Rattle.hp_lp.proofs.ProperStages.{HasBox, HasSides, HasTerms, box-decisions, sides-own, terms-own, proper-stage_of}
+use Rattle.hp_lp.proofs.SealedStages.{Boxed, boxed}
+
+-- what follows for what is there
+pub if_ok : {A E : Type 0} (r : Result A E) (P Q : A → Type 0) → ((x : A) → P x → Q x) → IfOk r P → IfOk r Q
+if_ok (Ok x) P Q f h = f x h
+if_ok (Err e) P Q f h = h
+
+some_same : (x y : StageLp) → Some x ≡ Some y → x ≡ y
+some_same x y e = ap (λ (o : Option StageLp). unwrap_or o x) e
+
+-- the fronts and the ends of lists
+front : {A B : Type 0} (f : A → B) (xs : List A) (rest : List B) → take (length xs) (map f xs ++ rest) ≡ map f xs
+front f [] rest = refl
+front f (x ∷ xs) rest = ap (λ ys. f x ∷ ys) (front f xs rest)
+
+whole_front : {A B : Type 0} (f : A → B) (xs : List A) → take (length xs) (map f xs) ≡ map f xs
+whole_front f [] = refl
+whole_front f (x ∷ xs) = ap (λ ys. f x ∷ ys) (whole_front f xs)
+
+end : {A B : Type 0} (f : A → B) (xs : List A) (rest : List B) → drop (length xs) (map f xs ++ rest) ≡ rest
+end f [] rest = refl
+end f (x ∷ xs) rest = end f xs rest
+
+same_terms : (v x w y : List ℤ) (rows : List Row) (rest : List LpRow) → terms_of (map (own_row v x) rows ++ rest) ≡ terms_of (map (own_row w y) rows ++ rest)
+same_terms v x w y [] rest = refl
+same_terms v x w y (row ∷ rows) rest = ap (λ (ts : List (List (ℕ × Fx))). (own_row w y row).terms ∷ ts) (same_terms v x w y rows rest)
+
+own_terms : (v x w y : List ℤ) (rows : List Row) → terms_of (map (own_row v x) rows) ≡ terms_of (map (own_row w y) rows)
+own_terms v x w y [] = refl
+own_terms v x w y (row ∷ rows) = ap (λ (ts : List (List (ℕ × Fx))). (own_row w y row).terms ∷ ts) (own_terms v x w y rows)
+
+-- two stage problems of a node over the same pools
+pub like-stage_of : (pools : List (List Cut)) (n : Node) (s : Subproblem) (v x w y : List ℤ) → IsProper (stage_of pools n s w y) → IsLike (stage_of pools n s v x) (stage_of pools n s w y)
+unfolding stage_of
+like-stage_of pools n s v x w y proper =
+    let cuts : List LpRow = cut_rows s pools (length s.decisions) n.links in
+    record {
+      columns = refl;
+      decisions = refl;
+      own = refl;
+      terms = same_terms v x w y s.rows cuts;
+      cuts = end (own_row v x) s.rows cuts ∙ sym (end (own_row w y) s.rows cuts);
+      proper = proper;
+    }
+
+-- a stage problem and the reference of its node
+pub extends-stage_of : (pools : List (List Cut)) (n : Node) (s : Subproblem) (low high v x : List ℤ) → length n.link_weights ≡ length n.links → IsProper (stage_of pools n s v x) → Extends (reference_of n s low high) (stage_of pools n s v x)
+unfolding stage_of reference_of
+extends-stage_of pools n s low high v x e proper =
+    let q : ℕ = successor_total n.stop n.link_weights in
+    let cuts : List LpRow = cut_rows s pools (length s.decisions) n.links in
+    let idle : List Column = map (λ (m : ℕ). idle_column) n.links in
+    let future : List Column = future_columns s pools n.links n.link_weights in
+    record {
+      decisions = refl;
+      own = refl;
+      count = omega (arith, length-append (map (decision_column q) s.decisions) future, length-append (map (decision_column q) s.decisions) idle, length-map n.links (λ (m : ℕ). idle_column), length-map (zip n.links n.link_weights) (λ (r : ℕ × ℕ). future_column s r.1 (pool pools r.0)), length-zip n.links n.link_weights, e);
+      columns = front (decision_column q) s.decisions future ∙ sym (front (decision_column q) s.decisions idle);
+      terms =
+          ap terms_of (front (own_row v x) s.rows cuts) ∙ own_terms v x (get_or n.values 0 []) (quarters low high) s.rows
+          ∙ ap terms_of (sym (whole_front (own_row (get_or n.values 0 []) (quarters low high)) s.rows));
+      proper = proper;
+    }
+
+-- the reference program
+pub reference-reference_of : (n : Node) (s : Subproblem) (low high : List ℤ) → IsReference (reference_of n s low high)
+unfolding reference_of
+reference-reference_of n s low high =
+    let q : ℕ = successor_total n.stop n.link_weights in
+    let idle : List Column = map (λ (m : ℕ). idle_column) n.links in
+    record {
+      own = sym (length-map s.rows (own_row (get_or n.values 0 []) (quarters low high)));
+      idle = subst (λ (cs : List Column). All IsIdle cs) (sym (end (decision_column q) s.decisions idle)) (All-map IsIdle (λ (m : ℕ). idle_column) n.links (λ k d h. record { low = refl; high = refl; cost = refl }));
+    }
+
+proper-reference_of : (states : ℕ) (n : Node) (s : Subproblem) (low high : List ℤ) → list_all decision_fits s.decisions ≡ true → list_all (row_fits states s) s.rows ≡ true → IsProper (reference_of n s low high)
+unfolding reference_of
+proper-reference_of states n s low high decisions rows =
+    let q : ℕ = successor_total n.stop n.link_weights in
+    let v : List ℤ = get_or n.values 0 [] in
+    let x : List ℤ = quarters low high in
+    let idle : List Column = map (λ (m : ℕ). idle_column) n.links in
+    let columns : ℕ = length (map (decision_column q) s.decisions ++ idle) in
+    let count : columns ≡ length s.decisions + length idle = length-append (map (decision_column q) s.decisions) idle ∙ ap (λ (k : ℕ). k + length idle) (length-map s.decisions (decision_column q)) in
+    record {
+      boxes = All-append HasBox (map (decision_column q) s.decisions) idle (box-decisions q s.decisions decisions) (All-map HasBox (λ (m : ℕ). idle_column) n.links (λ k d h. le_refl (pos 0)));
+      sides = sides-own states s v x s.rows rows;
+      terms = terms-own states columns s v x s.rows (omega (arith, count)) rows;
+      decisions = omega (arith, count);
+      own = omega (arith, length-map s.rows (own_row v x));
+    }
+
+-- of a sealed problem
+module _ (p : Sealed) (e : is_sealed p ≡ true) (m : ℕ) (h : m < length p.raw.nodes) (n : Node) (s : Subproblem) (fn : slice_get p.raw.nodes m ≡ Some n) (fs : subproblem_of p m ≡ Some s) where
+  subproblem_there : slice_get p.raw.subs n.sub ≡ Some s
+  subproblem_there = ap (λ (o : Option Node). option_and_then (λ (k : Node). slice_get p.raw.subs k.sub) o) (sym fn) ∙ fs
+
+  pub stage_in-is : (pools : List (List Cut)) (v x : List ℤ) → stage_in p pools m v x ≡ Some (stage_of pools n s v x)
+  unfolding stage_in
+  stage_in-is pools v x =
+      ap (λ (o : Option Node). option_and_then (λ (k : Node). option_map (λ (t : Subproblem). stage_of pools k t v x) (slice_get p.raw.subs k.sub)) o) fn
+      ∙ ap (λ (o : Option Subproblem). option_map (λ (t : Subproblem). stage_of pools n t v x) o) subproblem_there
+
+  pub stage_is : (pools : List (List Cut)) (v x : List ℤ) (lp : StageLp) → stage_in p pools m v x ≡ Some lp → lp ≡ stage_of pools n s v x
+  stage_is pools v x lp is = some_same lp (stage_of pools n s v x) (sym is ∙ stage_in-is pools v x)
+
+  pub proper-stage : (pools : List (List Cut)) (v x : List ℤ) → IsProper (stage_of pools n s v x)
+  proper-stage pools v x =
+      let b = boxed p m n s e h fn fs in
+      proper-stage_of (length p.raw.states) n s (decisions-subproblem_fits (length p.raw.states) s b.fit.subproblem) (rows-subproblem_fits (length p.raw.states) s b.fit.subproblem) pools v x (linked n (length p.raw.nodes) b.fit.links).1
+
+  pub proper-reference : (low high : List ℤ) → IsProper (reference_of n s low high)
+  proper-reference low high =
+      let b = boxed p m n s e h fn fs in
+      proper-reference_of (length p.raw.states) n s low high (decisions-subproblem_fits (length p.raw.states) s b.fit.subproblem) (rows-subproblem_fits (length p.raw.states) s b.fit.subproblem)
+
+  pub reference_in-is : reference_in p m ≡ Some (reference_of n s (get_or p.lo m []) (get_or p.hi m []))
+  unfolding reference_in
+  reference_in-is =
+      ap (λ (o : Option Node). option_and_then (λ (k : Node). option_map (λ (t : Subproblem). reference_of k t (get_or p.lo m []) (get_or p.hi m [])) (slice_get p.raw.subs k.sub)) o) fn
+      ∙ ap (λ (o : Option Subproblem). option_map (λ (t : Subproblem). reference_of n t (get_or p.lo m []) (get_or p.hi m [])) o) subproblem_there
+
+  pub reference_is : (lp : StageLp) → reference_in p m ≡ Some lp → lp ≡ reference_of n s (get_or p.lo m []) (get_or p.hi m [])
+  reference_is lp is = some_same lp (reference_of n s (get_or p.lo m []) (get_or p.hi m [])) (sym is ∙ reference_in-is)
+
+  pub like-stages : (pools : List (List Cut)) (v x w y : List ℤ) (lp other : StageLp) → stage_in p pools m v x ≡ Some lp → stage_in p pools m w y ≡ Some other → IsLike lp other
+  like-stages pools v x w y lp other f g =
+      subst (λ (a : StageLp). IsLike a other) (sym (stage_is pools v x lp f)) (subst (λ (b : StageLp). IsLike (stage_of pools n s v x) b) (sym (stage_is pools w y other g)) (like-stage_of pools n s v x w y (proper-stage pools w y)))
+
+  pub extends-stage : (pools : List (List Cut)) (v x : List ℤ) (lp r : StageLp) → reference_in p m ≡ Some r → stage_in p pools m v x ≡ Some lp → Extends r lp
+  extends-stage pools v x lp r f g =
+      let b = boxed p m n s e h fn fs in
+      subst (λ (a : StageLp). Extends a lp) (sym (reference_is r f))
+      (subst (λ (c : StageLp). Extends (reference_of n s (get_or p.lo m []) (get_or p.hi m [])) c) (sym (stage_is pools v x lp g))
+      (extends-stage_of pools n s (get_or p.lo m []) (get_or p.hi m []) v x (linked n (length p.raw.nodes) b.fit.links).1 (proper-stage pools v x)))
+
+-- a stage problem with the sides of other values and another state
+pub restated : (pools : List (List Cut)) (n : Node) (s : Subproblem) (v x w y : List ℤ) (old : StageLp) (rows : List LpRow) → old ≡ stage_of pools n s v x → rows ≡ map (own_row w y) s.rows ++ cut_rows s pools (length s.decisions) n.links
+    → record { columns = old.columns; rows = rows; decisions = old.decisions; own = old.own } ≡ stage_of pools n s w y
+unfolding stage_of
+restated pools n s v x w y old rows e f = ap₂ (λ (lp : StageLp) (rs : List LpRow). record { columns = lp.columns; rows = rs; decisions = lp.decisions; own = lp.own }) e f
+
+pub rows-stage_of : (pools : List (List Cut)) (n : Node) (s : Subproblem) (v x : List ℤ) (old : StageLp) → old ≡ stage_of pools n s v x → old.rows ≡ map (own_row v x) s.rows ++ cut_rows s pools (length s.decisions) n.links
+unfolding stage_of
+rows-stage_of pools n s v x old e = ap (λ (lp : StageLp). lp.rows) e
