@@ -16,7 +16,7 @@ use Rattle.hp_problem.specs.Sealed.{Sealed, is_sealed, subproblem_of}
 use Rattle.hp_problem.proofs.SubproblemFacts.{rows-subproblem_fits, decisions-subproblem_fits}
 use Rattle.hp_theory.specs.declared.cut.Cut.{Cut}
 use Rattle.hp_theory.specs.Pools.{pool}
-use Rattle.hp_theory.proofs.SealedParts.{linked}
+use Rattle.hp_theory.proofs.SealedParts.{parts, linked}
 use Rattle.hp_solver.specs.declared.fixed.Fx.{Fx}
 use Rattle.hp_solver.specs.declared.stage_lp.Column.{Column}
 use Rattle.hp_solver.specs.declared.stage_lp.LpRow.{LpRow}
@@ -170,3 +170,26 @@ restated pools n s v x w y old rows e f = ap₂ (λ (lp : StageLp) (rs : List Lp
 pub rows-stage_of : (pools : List (List Cut)) (n : Node) (s : Subproblem) (v x : List ℤ) (old : StageLp) → old ≡ stage_of pools n s v x → old.rows ≡ map (own_row v x) s.rows ++ cut_rows s pools (length s.decisions) n.links
 unfolding stage_of
 rows-stage_of pools n s v x old e = ap (λ (lp : StageLp). lp.rows) e
+
+-- the same of a node by its number
+record Stands (p : Sealed) (m : ℕ) : Type 0 where
+  pub node : Node
+  pub subproblem : Subproblem
+  pub the_node : slice_get p.raw.nodes m ≡ Some node
+  pub the_subproblem : subproblem_of p m ≡ Some subproblem
+
+stands : (p : Sealed) (m : ℕ) → is_sealed p ≡ true → m < length p.raw.nodes → Stands p m
+stands p m e h =
+    let q = parts p m e h in
+    record { node = q.node; subproblem = q.subproblem; the_node = q.fit.the_node; the_subproblem = ap (λ (o : Option Node). option_and_then (λ (k : Node). slice_get p.raw.subs k.sub) o) q.fit.the_node ∙ q.fit.the_subproblem }
+
+pub proper_sealed : (p : Sealed) → is_sealed p ≡ true → (m : ℕ) → m < length p.raw.nodes → (pools : List (List Cut)) (values state : List ℤ) (lp : StageLp) → stage_in p pools m values state ≡ Some lp → IsProper lp
+proper_sealed p e m h pools v x lp is =
+    let t = stands p m e h in
+    subst IsProper (sym (stage_is p e m h t.node t.subproblem t.the_node t.the_subproblem pools v x lp is)) (proper-stage p e m h t.node t.subproblem t.the_node t.the_subproblem pools v x)
+
+pub like_sealed : (p : Sealed) → is_sealed p ≡ true → (m : ℕ) → m < length p.raw.nodes → (pools : List (List Cut)) (values state others next : List ℤ) (lp other : StageLp) → stage_in p pools m values state ≡ Some lp → stage_in p pools m others next ≡ Some other → IsLike lp other
+like_sealed p e m h pools v x w y lp other f g = let t = stands p m e h in like-stages p e m h t.node t.subproblem t.the_node t.the_subproblem pools v x w y lp other f g
+
+pub extends_sealed : (p : Sealed) → is_sealed p ≡ true → (m : ℕ) → m < length p.raw.nodes → (pools : List (List Cut)) (values state : List ℤ) (lp program : StageLp) → reference_in p m ≡ Some program → stage_in p pools m values state ≡ Some lp → Extends program lp
+extends_sealed p e m h pools v x lp program f g = let t = stands p m e h in extends-stage p e m h t.node t.subproblem t.the_node t.the_subproblem pools v x lp program f g

@@ -6,3 +6,4 @@ pub mod OutSlopes
 pub mod ProperStages
 pub mod SealedStages
 pub mod Alike
+pub mod EachReady

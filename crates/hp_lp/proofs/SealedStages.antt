@@ -1,5 +1,5 @@
 -- The parts of a sealed problem's node are within what its stage problems need.
-use Rattle.std.proofs.Common.{◌≡◌, ℕ, zero, suc, ◌+◌, ◌*◌, ◌<◌, ◌≤◌, ◌^◌, max, ℤ, pos, ◌+ℤ◌, ◌*ℤ◌, ◌≤ℤ◌, true, nat_abs, nat_lt, List, [], ◌∷◌, length, map, get_or, All, Option, Some, slice_get, option_and_then, sym, ap, subst, ◌∙◌, mul-le-mul, arith}
+use Rattle.std.proofs.Common.{◌≡◌, ℕ, zero, suc, ◌+◌, ◌*◌, ◌<◌, ◌≤◌, ◌^◌, max, ℤ, pos, ◌+ℤ◌, ◌*ℤ◌, ◌≤ℤ◌, true, nat_abs, nat_lt, List, [], ◌∷◌, length, map, zip, get_or, All, Option, Some, slice_get, option_and_then, sym, ap, subst, ◌∙◌, mul-le-mul, arith}
 use Rattle.std.specs.List.{list_all}
 use Rattle.std.proofs.lemmas.Bool.Decides.{nat_tests}
 use Rattle.std.proofs.lemmas.Grind.{common_steps}
@@ -13,7 +13,7 @@ use Rattle.hp_problem.specs.declared.raw.Decision.{Decision}
 use Rattle.hp_problem.specs.declared.raw.Row.{Row}
 use Rattle.hp_problem.specs.declared.raw.Node as nodes
 use Rattle.hp_problem.specs.declared.raw.Subproblem.{Subproblem}
-use Rattle.hp_problem.specs.Limits.{are_numbers, are_values, decision_fits, row_fits, counts_fit, outs_differ, subproblem_fits, names_fit, bounds_fit, costs_fit, terms_fit}
+use Rattle.hp_problem.specs.Limits.{realizations_fit, are_numbers, are_values, decision_fits, row_fits, counts_fit, outs_differ, subproblem_fits, names_fit, bounds_fit, costs_fit, terms_fit}
 use Rattle.hp_problem.specs.Sealed.{Sealed, is_sealed, subproblem_of, out_lows, out_highs}
 use Rattle.hp_problem.proofs.SealedFacts.{raw-is_sealed, few_states, few_nodes, box_counts}
 use Rattle.hp_problem.proofs.SubproblemFacts.{rows-subproblem_fits, decisions-subproblem_fits, counts-subproblem_fits}
@@ -27,10 +27,13 @@ use Rattle.hp_theory.specs.Fit.{CutFits, Fit, cut_size}
 use Rattle.hp_theory.specs.Premises.{Nested}
 use Rattle.hp_theory.proofs.SizeToFit.{size_mul}
 use Rattle.hp_theory.proofs.Views.{link_at, length-links_of, low-node_of, high-node_of, outs-node_of, links-node_of, decision_low-node_of, decision_high-node_of}
-use Rattle.hp_theory.proofs.SealedParts.{PartsFit, parts_given, linked, links_known, counted, outs_known, numbers_counted, numbers_small}
+use Rattle.hp_theory.proofs.SealedParts.{PartsFit, weighty, parts_given, linked, links_known, counted, outs_known, numbers_counted, numbers_small}
 use Rattle.hp_theory.proofs.SealedPremises.{shaped-sealed}
 use Rattle.hp_lp.specs.Stage.{at_low, at_high}
 use Rattle.hp_lp.specs.Spans.{Spans}
+use Rattle.hp_lp.specs.Nodes.{quarter, quarters}
+use Rattle.std.proofs.lemmas.List.Elements.{All-map}
+use Rattle.std.proofs.lemmas.Slice.Zip.{get_or-zip, length-zip}
 use Rattle.hp_lp.specs.Given.{AreGiven, IsOver, AreWithin}
 
 -- the node and the subproblem that a problem gives out, with the box of the incoming state
@@ -260,3 +263,48 @@ pub ready-sealed : (p : Sealed) (m : ℕ) (n : nodes.Node) (s : Subproblem) (poo
 ready-sealed p m n s pools e h fn fs f =
     let b = boxed p m n s e h fn fs in
     within-sealed p e m h n s b.low b.high b.fit pools f
+
+-- what the reference program of a node needs
+pub record Referable (n : nodes.Node) (s : Subproblem) (low high : List ℤ) : Type 0 where
+  pub some : 0 < length n.values
+  pub decisions : length s.decisions ≤ 200
+  pub rows : length s.rows ≤ 200
+  pub given : AreGiven (get_or n.values 0 []) (quarters low high)
+  pub over : All (IsOver (length (quarters low high)) (length (get_or n.values 0 []))) s.rows
+
+quarter_small : (l u : ℤ) → nat_abs l ≤ 2 ^ 40 → nat_abs u ≤ 2 ^ 40 → nat_abs (quarter (l, u)) ≤ 2 ^ 64
+quarter_small l u a b = omega (arith, ints, a, b)
+
+pub referable-sealed : (p : Sealed) (m : ℕ) (n : nodes.Node) (s : Subproblem) (low high : List ℤ) → is_sealed p ≡ true → m < length p.raw.nodes → slice_get p.raw.nodes m ≡ Some n → subproblem_of p m ≡ Some s → slice_get p.lo m ≡ Some low → slice_get p.hi m ≡ Some high → Referable n s low high
+referable-sealed p m n s low high e h fn fs fl fh =
+    let fit = parts_given p m n s low high e fn fs fl fh in
+    let w = weighty n (length s.randoms) fit.realizations in
+    let c = few (length p.raw.states) s fit.subproblem in
+    let some : 0 < length n.values = omega (arith, w.0, w.3) in
+    let all : list_all (are_numbers (length s.randoms)) n.values ≡ true = values_fit n (length s.randoms) fit.realizations in
+    let numbers : are_numbers (length s.randoms) (get_or n.values 0 []) ≡ true = all_at (are_numbers (length s.randoms)) n.values 0 [] all some in
+    let lows = numbers_counted low (length p.raw.states) fit.lows in
+    let highs = numbers_counted high (length p.raw.states) fit.highs in
+    let count : length (quarters low high) ≡ length p.raw.states = omega (arith, length-map (zip low high) quarter, length-zip low high, lows, highs) in
+    let values = numbers_counted (get_or n.values 0 []) (length s.randoms) numbers in
+    record {
+      some = some;
+      decisions = c.0;
+      rows = c.1;
+      given = record {
+        few_values = omega (arith, values, c.2);
+        few_states = omega (arith, count, few_states p.raw (raw-is_sealed p e));
+        small_values = λ k d o. subst (λ (z : ℤ). nat_abs z ≤ 2 ^ 40) (get_or_default (get_or n.values 0 []) k (pos 0) d o) (numbers_small (get_or n.values 0 []) (length s.randoms) k numbers o);
+        small_state = All-map (λ (z : ℤ). nat_abs z ≤ 2 ^ 64) quarter (zip low high)
+            (λ k d o.
+              let in_low : k < length low = omega (arith, length-zip low high, o) in
+              let in_high : k < length high = omega (arith, length-zip low high, o) in
+              subst (λ (b : ℤ × ℤ). nat_abs (quarter b) ≤ 2 ^ 64) (get_or_default (zip low high) k (pos 0, pos 0) d o)
+              (subst (λ (b : ℤ × ℤ). nat_abs (quarter b) ≤ 2 ^ 64) (sym (get_or-zip low high k (pos 0, pos 0) in_low in_high))
+              (quarter_small (entry low k) (entry high k) (numbers_small low (length p.raw.states) k fit.lows in_low) (numbers_small high (length p.raw.states) k fit.highs in_high))));
+      };
+      over = over-sealed p e m h n s low high fit (get_or n.values 0 []) (quarters low high) values count;
+    }
+  where
+    values_fit : (n : nodes.Node) (randoms : ℕ) → realizations_fit randoms n ≡ true → list_all (are_numbers randoms) n.values ≡ true
+    values_fit n randoms e = grind (arith, nat_tests, common_steps)

@@ -3,3 +3,4 @@ pub mod Spans
 pub mod Given
 pub mod Outs
 pub mod Nodes
+pub mod Ready

@@ -3,8 +3,13 @@
 
 mod columns;
 mod cut_rows;
+pub mod laws;
 mod own_rows;
+pub mod references;
 mod scales;
 pub mod stages;
+pub mod starts;
 
+pub use references::reference;
 pub use stages::{restate, stage};
+pub use starts::Starts;

@@ -1,0 +1,98 @@
+// The reference programs of the nodes: their stage problems without cuts.
+ghost use Rattle.std.specs.Prelude.{◌≡◌, ◌<◌, ◌≤◌, ◌++◌, ℕ, ℤ, List, [], length, map, get_or, Some, All, IfOk, OnOk};
+ghost use Rattle.hp_problem.specs.Formulas.{successor_total};
+ghost use Rattle.hp_solver.specs.Proper.{IsProper, IsReference};
+ghost use Rattle.hp_lp.specs.Nodes.{idle_column, quarter, quarters, reference_of, reference_in};
+ghost use Rattle.hp_lp.specs.Given.{AreGiven, IsOver};
+
+use crate::columns::decision_columns;
+use crate::own_rows::own_rows;
+use crate::stages::StageNode;
+use hp_num::{List, Memory};
+use hp_problem::Problem;
+use hp_solver::{Column, Fx, StageLp};
+use std::alloc::Global;
+
+/// A quarter of the scale of states.
+const QUARTER: i128 = 1 << 22;
+
+fn quarter(low: i64, high: i64) -> i128
+    ensures { result ≡ quarter (low, high) }
+{
+    QUARTER * (3 * i128::from(low) + i128::from(high))
+}
+
+// The state a quarter of the way from the lower ends of the boxes to the upper ones, at scale 2^24.
+fn quarters(alloc: Global, low: &[i64], high: &[i64]) -> Result<List<i128>, Memory>
+    ensures { IfOk result (λ found. found ≡ quarters low.now high.now) }
+{
+    let mut found = List::new(alloc);
+    for k in 0..low.len().min(high.len()) {
+        found.push(quarter(low[k], high[k]))?;
+    }
+    Ok(found)
+}
+
+// Appends a column that stands at 0 and costs nothing for each successor.
+fn push_idle_columns(columns: &mut List<Column>, links: &[u32]) -> Result<(), Memory>
+    ensures { OnOk result (columns.new ≡ columns.old ++ map (λ (m : ℕ). idle_column) links.now) }
+{
+    for _ in links {
+        columns.push(Column {
+            low: Fx(0),
+            high: Fx(0),
+            cost: Fx(0),
+        })?;
+    }
+    Ok(())
+}
+
+// The values of the first realization.
+fn first_values<'a>(stage: &StageNode<'a>) -> &'a [i64]
+    requires { 0 < length stage.now.node.now.values }
+    ensures { result.now ≡ get_or stage.now.node.now.values 0 [] }
+{
+    stage.node.values.as_slice()[0].as_slice()
+}
+
+// The stage problem of the node without cuts, at these values and this state.
+#[tactic(auto, unfolding(crate::specs::Nodes::reference_of))]
+fn reference_at(
+    alloc: Global,
+    stage: &StageNode,
+    values: &[i64],
+    state: &[i128],
+) -> Result<StageLp, Memory>
+    requires weight { stage.now.weight ≡ successor_total stage.now.node.now.stop stage.now.node.now.link_weights }
+    requires decisions { length stage.now.subproblem.now.decisions ≤ 200 }
+    requires rows { length stage.now.subproblem.now.rows ≤ 200 }
+    requires given { AreGiven values.now state.now }
+    requires over { All (IsOver (length state.now) (length values.now)) stage.now.subproblem.now.rows }
+    requires first { values.now ≡ get_or stage.now.node.now.values 0 [] }
+    ensures { IfOk result (λ lp. (low high : List ℤ) → state.now ≡ quarters low high
+        → lp ≡ reference_of stage.now.node.now stage.now.subproblem.now low high) }
+{
+    let mut columns =
+        decision_columns(alloc, stage.weight, stage.subproblem.decisions.as_slice())?;
+    push_idle_columns(&mut columns, stage.node.links.as_slice())?;
+    Ok(StageLp {
+        columns,
+        rows: own_rows(alloc, stage.subproblem.rows.as_slice(), values, state)?,
+        decisions: stage.subproblem.decisions.len() as u32,
+        own: stage.subproblem.rows.len() as u32,
+    })
+}
+
+/// The reference program of a node, by which a solver makes ready for it: its stage problem without cuts, at the values
+/// of its first realization and the state a quarter of the way up its box. The columns of the successors stand at 0 and
+/// cost nothing. [`Memory`] where memory was refused.
+pub fn reference(alloc: Global, problem: &Problem, node: u32) -> Result<StageLp, Memory>
+    requires { node < length problem.now.raw.nodes }
+    ensures value { IfOk result (λ lp. reference_in problem.now node ≡ Some lp) }
+    ensures proper { IfOk result IsProper }
+    ensures reference { IfOk result IsReference }
+{
+    let stage = StageNode::of(problem, node);
+    let state = quarters(alloc, problem.lo(node), problem.hi(node))?;
+    reference_at(alloc, &stage, first_values(&stage), state.as_slice())
+}

@@ -1,0 +1,52 @@
+// What a solver makes ready for the nodes of a problem.
+ghost use Rattle.std.specs.Prelude.{◌≡◌, ◌<◌, length, IfOk, Some, slice_get};
+ghost use Rattle.hp_lp.specs.Ready.{AreReady};
+
+use crate::references::reference;
+use hp_num::{List, Memory};
+use hp_problem::Problem;
+use hp_solver::Solver;
+use std::alloc::Global;
+
+/// What a solver makes ready for each node of a problem, before any solve.
+#[derive(Drop)]
+pub struct Starts<V: Solver> {
+    items: List<V::Start>,
+}
+
+impl<V: Solver> Starts<V> {
+    /// What the solver makes ready by each node's reference program. A chain may begin from there with each stage problem
+    /// of the node. [`Memory`] where memory was refused.
+    pub fn new(alloc: Global, problem: &Problem, solver: &V) -> Result<Starts<V>, Memory>
+        ensures { IfOk result (λ made. AreReady (V.started solver.now) (V.suits solver.now) problem.now made.items) }
+    {
+        Ok(Starts {
+            items: started(alloc, problem, solver)?,
+        })
+    }
+
+    /// What is ready for a node.
+    pub fn at(&self, node: u32) -> &V::Start
+        requires { node < length self.now.items }
+        ensures { slice_get self.now.items node ≡ Some result.now }
+    {
+        &self.items.as_slice()[node as usize]
+    }
+}
+
+// What the solver makes ready for each node.
+fn started<V: Solver>(
+    alloc: Global,
+    problem: &Problem,
+    solver: &V,
+) -> Result<List<V::Start>, Memory>
+    ensures { IfOk result (λ made. AreReady (V.started solver.now) (V.suits solver.now) problem.now made) }
+{
+    let nodes = problem.raw().nodes.len() as u32;
+    let mut made = List::new(alloc);
+    for node in 0..nodes {
+        let program = reference(alloc, problem, node)?;
+        made.push(solver.start(alloc, &program)?)?;
+    }
+    Ok(made)
+}
