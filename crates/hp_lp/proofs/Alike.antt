@@ -1,5 +1,5 @@
 -- What the stage problems of one node share.
-use Rattle.std.proofs.Common.{◌≡◌, ℕ, ◌+◌, ◌<◌, ◌≤◌, ℤ, pos, ◌≤ℤ◌, true, List, [], ◌∷◌, ◌++◌, length, map, zip, take, drop, get_or, All, Option, Some, None, Result, Ok, Err, IfOk, slice_get, option_and_then, refl, ap, ap₂, sym, subst, ◌∙◌, append-nil, arith}
+use Rattle.std.proofs.Common.{◌≡◌, ℕ, ◌+◌, ◌<◌, ℤ, pos, true, List, [], ◌∷◌, ◌++◌, length, map, zip, take, drop, get_or, All, Option, Some, Result, Ok, Err, IfOk, slice_get, option_and_then, refl, ap, ap₂, sym, subst, ◌∙◌, arith}
 use Rattle.std.specs.Prelude.{unwrap_or}
 use Rattle.std.specs.List.{list_all}
 use Rattle.std.specs.Option.{option_map}
@@ -24,8 +24,8 @@ use Rattle.hp_solver.specs.declared.stage_lp.StageLp.{StageLp}
 use Rattle.hp_solver.specs.Proper.{IsProper, IsIdle, IsReference, Extends, IsLike, terms_of}
 use Rattle.hp_lp.specs.Stage.{decision_column, future_column, future_columns, own_row, cut_rows, stage_of}
 use Rattle.hp_lp.specs.Nodes.{stage_in, idle_column, quarters, reference_of, reference_in}
-use Rattle.hp_lp.proofs.ProperStages.{HasBox, HasSides, HasTerms, box-decisions, sides-own, terms-own, proper-stage_of}
-use Rattle.hp_lp.proofs.SealedStages.{Boxed, boxed}
+use Rattle.hp_lp.proofs.ProperStages.{HasBox, box-decisions, sides-own, terms-own, proper-stage_of}
+use Rattle.hp_lp.proofs.SealedStages.{boxed}
 
 -- what follows for what is there
 pub if_ok : {A E : Type 0} (r : Result A E) (P Q : A → Type 0) → ((x : A) → P x → Q x) → IfOk r P → IfOk r Q

@@ -1,5 +1,5 @@
 -- Sums and lists that grow by one.
-use Rattle.std.proofs.Common.{◌≡◌, ℕ, suc, ◌+◌, ◌*◌, ◌<◌, ◌≤◌, ◌^◌, ℤ, ◌+ℤ◌, nat_abs, List, [], ◌∷◌, ◌++◌, length, map, take, get_or, zip, add-one, arith, ap, sym, ◌∙◌}
+use Rattle.std.proofs.Common.{◌≡◌, ℕ, ◌+◌, ◌*◌, ◌<◌, ◌≤◌, ◌^◌, ℤ, ◌+ℤ◌, nat_abs, List, [], ◌∷◌, ◌++◌, length, map, take, get_or, add-one, arith, ap, sym, ◌∙◌}
 use Rattle.std.proofs.lemmas.Int.{ints}
 use Rattle.std.proofs.lemmas.List.{take_more, map-append, append_assoc}
 use lib.IntN.{+ℤ_assoc}

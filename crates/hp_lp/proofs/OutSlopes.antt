@@ -1,5 +1,5 @@
 -- The slopes of a cut at the decisions that leave as states, read by state.
-use Rattle.std.proofs.Common.{◌≡◌, ◌≢◌, ℕ, zero, suc, ◌+◌, ◌-◌, ◌<◌, ◌≤◌, ℤ, pos, ◌+ℤ◌, ◌*ℤ◌, Bool, true, false, ◌||◌, ◌==◌, if◌then◌else◌, List, [], ◌∷◌, ◌++◌, length, map, get_or, All, Option, Some, None, refl, ap, ap₂, sym, subst, ◌∙◌, append-nil, arith}
+use Rattle.std.proofs.Common.{◌≡◌, ◌≢◌, ℕ, zero, suc, ◌+◌, ◌-◌, ◌<◌, ◌≤◌, ℤ, pos, ◌+ℤ◌, ◌*ℤ◌, Bool, true, false, ◌==◌, if◌then◌else◌, List, [], ◌∷◌, ◌++◌, length, map, All, Option, Some, None, refl, ap, ap₂, sym, subst, ◌∙◌, append-nil, arith}
 use Rattle.std.specs.List.{flat_map, range_with_len, list_any}
 use Rattle.std.specs.Prelude.{unwrap_or}
 use Rattle.std.proofs.lemmas.Bool.Decides.{nat_tests}
@@ -7,7 +7,7 @@ use Rattle.std.proofs.lemmas.Grind.{common_steps, flat_map-append}
 use Rattle.std.proofs.lemmas.List.Elements.{All-append, All-cons, All-nil}
 use Rattle.std.proofs.lemmas.Int.{ints}
 use Rattle.hp_num.specs.Sums.{same_place, coefficient, placed, entry}
-use Rattle.hp_num.proofs.Tests.{and_first, and_second}
+use Rattle.hp_num.proofs.Tests.{and_second}
 use Rattle.hp_problem.specs.Distinct.{are_distinct}
 use Rattle.hp_problem.specs.declared.raw.Subproblem.{Subproblem}
 use Rattle.hp_problem.specs.Limits.{outs_differ}
@@ -16,7 +16,7 @@ use Rattle.hp_theory.specs.Pools.{pool}
 use Rattle.hp_solver.specs.declared.fixed.Fx.{Fx}
 use Rattle.hp_solver.specs.declared.stage_lp.LpRow.{LpRow}
 use Rattle.hp_lp.specs.declared.cut_rows.Out.{Out}
-use Rattle.hp_lp.specs.Stage.{whole, scaled, term_of, slope_terms, cut_row, cut_rows}
+use Rattle.hp_lp.specs.Stage.{whole, scaled, term_of, cut_row, cut_rows}
 use Rattle.hp_lp.specs.Outs.{state_from, outs_at, outs_in_order, slope_of, row_over, rows_over}
 use Rattle.hp_lp.specs.Spans.{Spans, IsWithin}
 

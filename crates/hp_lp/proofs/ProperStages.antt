@@ -1,5 +1,5 @@
 -- Stage problems are proper.
-use Rattle.std.proofs.Common.{◌≡◌, ℕ, zero, suc, ◌+◌, ◌<◌, ◌≤◌, ◌^◌, ℤ, pos, ◌+ℤ◌, ◌-ℤ◌, ◌*ℤ◌, ◌≤ℤ◌, neg_ℤ, Bool, true, false, ◌==◌, if◌then◌else◌, nat_abs, int_le, List, [], ◌∷◌, ◌++◌, length, map, zip, get_or, All, Option, Some, None, IfSome, add-one, refl, ap, sym, subst, ◌∙◌, arith}
+use Rattle.std.proofs.Common.{◌≡◌, ℕ, zero, suc, ◌+◌, ◌<◌, ◌≤◌, ◌^◌, ℤ, pos, ◌-ℤ◌, ◌≤ℤ◌, neg_ℤ, Bool, true, false, ◌==◌, if◌then◌else◌, nat_abs, List, [], ◌∷◌, ◌++◌, length, map, zip, get_or, All, Option, Some, None, IfSome, refl, ap, sym, subst, arith}
 use Rattle.std.specs.Int.{int_min, int_max}
 use Rattle.std.specs.List.{flat_map, range_with_len, list_all}
 use Rattle.std.specs.Option.{option_map}
@@ -24,9 +24,8 @@ use Rattle.hp_theory.specs.Pools.{pool, no_cut}
 use Rattle.hp_solver.specs.declared.fixed.Fx.{Fx}
 use Rattle.hp_solver.specs.declared.stage_lp.Column.{Column}
 use Rattle.hp_solver.specs.declared.stage_lp.LpRow.{LpRow}
-use Rattle.hp_solver.specs.declared.stage_lp.StageLp.{StageLp}
 use Rattle.hp_solver.specs.Proper.{AreRising, IsProper}
-use Rattle.hp_lp.specs.Stage.{whole, scaled, decision_column, at_low, at_high, least_value, greatest_value, most_from, future_column, future_columns, side_at, own_row, term_of, slope_terms, cut_row, cut_rows, stage_of}
+use Rattle.hp_lp.specs.Stage.{whole, scaled, decision_column, at_low, at_high, least_value, greatest_value, most_from, future_column, future_columns, side_at, own_row, term_of, cut_row, cut_rows, stage_of}
 use Rattle.hp_lp.proofs.Terms.{term_facts}
 
 -- boxes

@@ -1,19 +1,19 @@
 -- The parts of a sealed problem's node are within what its stage problems need.
-use Rattle.std.proofs.Common.{◌≡◌, ℕ, zero, suc, ◌+◌, ◌*◌, ◌<◌, ◌≤◌, ◌^◌, max, ℤ, pos, ◌+ℤ◌, ◌*ℤ◌, ◌≤ℤ◌, true, nat_abs, nat_lt, List, [], ◌∷◌, length, map, zip, get_or, All, Option, Some, slice_get, option_and_then, sym, ap, subst, ◌∙◌, mul-le-mul, arith}
+use Rattle.std.proofs.Common.{◌≡◌, ℕ, zero, suc, ◌<◌, ◌≤◌, ◌^◌, max, ℤ, pos, ◌+ℤ◌, ◌*ℤ◌, ◌≤ℤ◌, true, nat_abs, nat_lt, List, [], length, map, zip, get_or, All, Option, Some, slice_get, sym, ap, subst, ◌∙◌, mul-le-mul, arith}
 use Rattle.std.specs.List.{list_all}
 use Rattle.std.proofs.lemmas.Bool.Decides.{nat_tests}
 use Rattle.std.proofs.lemmas.Grind.{common_steps}
 use Rattle.std.proofs.lemmas.Int.{ints}
 use Rattle.std.proofs.lemmas.List.{get_or-map, get_or_default, length-map}
 use Rattle.hp_num.specs.Sums.{sum_to, entry}
-use Rattle.hp_num.proofs.Order.{le_refl, le_trans, le_add, le_scale}
+use Rattle.hp_num.proofs.Order.{le_trans, le_scale}
 use Rattle.hp_num.proofs.Fronts.{sum_some}
-use Rattle.hp_num.proofs.Tests.{and_first, and_second, all_at, some_of}
+use Rattle.hp_num.proofs.Tests.{all_at, some_of}
 use Rattle.hp_problem.specs.declared.raw.Decision.{Decision}
 use Rattle.hp_problem.specs.declared.raw.Row.{Row}
 use Rattle.hp_problem.specs.declared.raw.Node as nodes
 use Rattle.hp_problem.specs.declared.raw.Subproblem.{Subproblem}
-use Rattle.hp_problem.specs.Limits.{realizations_fit, are_numbers, are_values, decision_fits, row_fits, counts_fit, outs_differ, subproblem_fits, names_fit, bounds_fit, costs_fit, terms_fit}
+use Rattle.hp_problem.specs.Limits.{realizations_fit, are_numbers, are_values, decision_fits, row_fits, counts_fit, outs_differ, subproblem_fits, terms_fit}
 use Rattle.hp_problem.specs.Sealed.{Sealed, is_sealed, subproblem_of, out_lows, out_highs}
 use Rattle.hp_problem.proofs.SealedFacts.{raw-is_sealed, few_states, few_nodes, box_counts}
 use Rattle.hp_problem.proofs.SubproblemFacts.{rows-subproblem_fits, decisions-subproblem_fits, counts-subproblem_fits}
@@ -23,13 +23,12 @@ use Rattle.hp_theory.specs.View.{node_of, links_of, problem_of}
 use Rattle.hp_theory.specs.Tree.{InBox}
 use Rattle.hp_theory.specs.Size.{magnitude, reach}
 use Rattle.hp_theory.specs.Pools.{pool}
-use Rattle.hp_theory.specs.Fit.{CutFits, Fit, cut_size}
+use Rattle.hp_theory.specs.Fit.{CutFits, Fit}
 use Rattle.hp_theory.specs.Premises.{Nested}
 use Rattle.hp_theory.proofs.SizeToFit.{size_mul}
-use Rattle.hp_theory.proofs.Views.{link_at, length-links_of, low-node_of, high-node_of, outs-node_of, links-node_of, decision_low-node_of, decision_high-node_of}
-use Rattle.hp_theory.proofs.SealedParts.{PartsFit, weighty, parts_given, linked, links_known, counted, outs_known, numbers_counted, numbers_small}
+use Rattle.hp_theory.proofs.Views.{link_at, length-links_of, low-node_of, high-node_of, links-node_of}
+use Rattle.hp_theory.proofs.SealedParts.{PartsFit, weighty, parts_given, linked, links_known, outs_known, numbers_counted, numbers_small}
 use Rattle.hp_theory.proofs.SealedPremises.{shaped-sealed}
-use Rattle.hp_lp.specs.Stage.{at_low, at_high}
 use Rattle.hp_lp.specs.Spans.{Spans}
 use Rattle.hp_lp.specs.Nodes.{quarter, quarters}
 use Rattle.std.proofs.lemmas.List.Elements.{All-map}
@@ -297,11 +296,11 @@ referable-sealed p m n s low high e h fn fs fl fh =
         small_values = λ k d o. subst (λ (z : ℤ). nat_abs z ≤ 2 ^ 40) (get_or_default (get_or n.values 0 []) k (pos 0) d o) (numbers_small (get_or n.values 0 []) (length s.randoms) k numbers o);
         small_state = All-map (λ (z : ℤ). nat_abs z ≤ 2 ^ 64) quarter (zip low high)
             (λ k d o.
-              let in_low : k < length low = omega (arith, length-zip low high, o) in
-              let in_high : k < length high = omega (arith, length-zip low high, o) in
-              subst (λ (b : ℤ × ℤ). nat_abs (quarter b) ≤ 2 ^ 64) (get_or_default (zip low high) k (pos 0, pos 0) d o)
-              (subst (λ (b : ℤ × ℤ). nat_abs (quarter b) ≤ 2 ^ 64) (sym (get_or-zip low high k (pos 0, pos 0) in_low in_high))
-              (quarter_small (entry low k) (entry high k) (numbers_small low (length p.raw.states) k fit.lows in_low) (numbers_small high (length p.raw.states) k fit.highs in_high))));
+            let in_low : k < length low = omega (arith, length-zip low high, o) in
+            let in_high : k < length high = omega (arith, length-zip low high, o) in
+            subst (λ (b : ℤ × ℤ). nat_abs (quarter b) ≤ 2 ^ 64) (get_or_default (zip low high) k (pos 0, pos 0) d o)
+            (subst (λ (b : ℤ × ℤ). nat_abs (quarter b) ≤ 2 ^ 64) (sym (get_or-zip low high k (pos 0, pos 0) in_low in_high))
+            (quarter_small (entry low k) (entry high k) (numbers_small low (length p.raw.states) k fit.lows in_low) (numbers_small high (length p.raw.states) k fit.highs in_high))));
       };
       over = over-sealed p e m h n s low high fit (get_or n.values 0 []) (quarters low high) values count;
     }

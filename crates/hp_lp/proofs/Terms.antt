@@ -1,7 +1,6 @@
 -- Terms within the limits of a sealed problem.
-use Rattle.std.proofs.Common.{◌≡◌, ℕ, zero, suc, ◌+◌, ◌-◌, ◌<◌, ◌≤◌, ◌^◌, ℤ, true, List, [], ◌∷◌, length, get_or, nat_abs, arith}
+use Rattle.std.proofs.Common.{◌≡◌, ℕ, zero, suc, ◌+◌, ◌-◌, ◌<◌, ◌≤◌, ◌^◌, true, List, [], ◌∷◌, length, get_or, nat_abs, arith}
 use Rattle.std.proofs.lemmas.Bool.Decides.{nat_tests}
-use Rattle.std.proofs.lemmas.Grind.{common_steps}
 use Rattle.hp_num.proofs.Tests.{and_first, and_second}
 use Rattle.hp_num.specs.Sums.{Term}
 use Rattle.hp_problem.specs.Limits.{term_fits, terms_fit}

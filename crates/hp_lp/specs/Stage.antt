@@ -1,6 +1,6 @@
 -- The stage problem of a node at a state: its decisions and rows, a column for the future cost at each successor, and the successors' cuts.
 -- Source: Pereira and Pinto 1991. All numbers are at scale F = 2^32, which is 256 times the scale of cuts and states.
-use Rattle.std.specs.Prelude.{ℕ, suc, ◌*◌, ◌^◌, ℤ, pos, ◌+ℤ◌, ◌-ℤ◌, ◌*ℤ◌, neg_ℤ, List, [], ◌∷◌, ◌++◌, length, map, zip, get_or, Option, Some, None, ◌==◌, int_lt, nat_abs, if◌then◌else◌}
+use Rattle.std.specs.Prelude.{ℕ, suc, ◌^◌, ℤ, pos, ◌+ℤ◌, ◌-ℤ◌, ◌*ℤ◌, neg_ℤ, List, [], ◌∷◌, ◌++◌, length, map, zip, get_or, Some, None, ◌==◌, nat_abs, if◌then◌else◌}
 use Rattle.std.specs.Int.{int_min, int_max}
 use Rattle.std.specs.Option.{option_map}
 use Rattle.std.specs.List.{flat_map, range_with_len}

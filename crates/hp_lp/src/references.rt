@@ -72,8 +72,7 @@ fn reference_at(
     ensures { IfOk result (λ lp. (low high : List ℤ) → state.now ≡ quarters low high
         → lp ≡ reference_of stage.now.node.now stage.now.subproblem.now low high) }
 {
-    let mut columns =
-        decision_columns(alloc, stage.weight, stage.subproblem.decisions.as_slice())?;
+    let mut columns = decision_columns(alloc, stage.weight, stage.subproblem.decisions.as_slice())?;
     push_idle_columns(&mut columns, stage.node.links.as_slice())?;
     Ok(StageLp {
         columns,

@@ -1,4 +1,4 @@
-use Rattle.std.proofs.Common.{◌≡◌, ◌≤◌, ◌^◌, ℤ, nat_abs, to_z, of_z, sym, subst, ◌∙◌}
+use Rattle.std.proofs.Common.{◌≤◌, ◌^◌, ℤ, nat_abs, sym, subst, ◌∙◌}
 use mir.Syntax.{w128}
 use Rattle.std.specs.Int.{int_min}
 use Rattle.std.proofs.lemmas.Int.{to_z-of_z}

@@ -1,11 +1,10 @@
-use Rattle.std.proofs.Common.{◌≡◌, ◌++◌, ◌∙◌, ℕ, List, length, All, OnOk, sym, subst, ap, ap₂}
-use Rattle.std.proofs.lemmas.List.Elements.{All-weaker}
+use Rattle.std.proofs.Common.{◌≡◌, ◌++◌, ◌∙◌, ℕ, List, length, All, OnOk, sym, subst, ap₂}
 use Rattle.hp_theory.specs.declared.cut.Cut.{Cut}
 use Rattle.hp_theory.specs.Pools.{pool}
 use Rattle.hp_solver.specs.declared.stage_lp.LpRow.{LpRow}
 use Rattle.hp_lp.specs.declared.cut_rows.Out.{Out}
 use Rattle.hp_lp.specs.Outs.{rows_over}
-use Rattle.hp_lp.specs.Spans.{Spans, IsWithin}
+use Rattle.hp_lp.specs.Spans.{IsWithin}
 use Rattle.hp_lp.proofs.OutSlopes.{rows-cut_rows, within-spans}
 use Rattle.hp_lp.proofs.cut_rows.push_cut_rows.Goals as goal
 

@@ -1,9 +1,9 @@
-use Rattle.std.proofs.Common.{◌≡◌, ◌<◌, ◌≤◌, ◌^◌, ◌*ℤ◌, ◌∙◌, ℕ, ℤ, pos, List, length, get_or, nat_abs, SFits, w64, to_z, of_z, rules, sym, subst, ap, ap₂, arith, take_all}
+use Rattle.std.proofs.Common.{◌≤◌, ◌^◌, ◌*ℤ◌, ◌∙◌, ℤ, pos, length, get_or, nat_abs, SFits, w64, rules, sym, subst, ap₂, arith}
 use mir.Syntax.{w128}
 use Rattle.std.proofs.lemmas.Int.{to_z-of_z}
-use Rattle.hp_num.specs.Sums.{Term, at_terms, entry}
+use Rattle.hp_num.specs.Sums.{Term, entry}
 use Rattle.hp_lp.proofs.Growing.{totalled}
-use Rattle.hp_lp.proofs.Terms.{TermFits, term_at, terms_few}
+use Rattle.hp_lp.proofs.Terms.{term_at, terms_few}
 use Rattle.hp_lp.proofs.own_rows.at_values.Goals as goal
 
 pub bounds-values-variable : goal.bounds-values-variable

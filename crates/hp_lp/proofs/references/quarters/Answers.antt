@@ -1,4 +1,4 @@
-use Rattle.std.proofs.Common.{◌≡◌, ◌<◌, ◌∙◌, ℕ, ℤ, pos, List, [], length, map, zip, get_or, SFits, w64, rules, ap, ap₂, sym, arith, take_all}
+use Rattle.std.proofs.Common.{◌<◌, ◌∙◌, ℕ, ℤ, pos, List, [], length, map, zip, get_or, SFits, w64, rules, ap, ap₂, sym, arith, take_all}
 use mir.Syntax.{w128}
 use Rattle.std.proofs.lemmas.Int.{to_z-of_z}
 use Rattle.std.proofs.lemmas.Slice.Zip.{get_or-zip, length-zip}

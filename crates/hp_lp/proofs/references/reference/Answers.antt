@@ -1,11 +1,11 @@
-use Rattle.std.proofs.Common.{◌≡◌, ◌∙◌, ◌<◌, ℕ, ℤ, List, [], Some, length, get_or, All, ap, ap₂, sym, subst}
+use Rattle.std.proofs.Common.{◌≡◌, ◌∙◌, ℤ, List, [], Some, length, All, ap, ap₂, sym, subst}
 use Rattle.std.proofs.lemmas.Option.{get_or_from_slice_get}
 use Rattle.hp_solver.specs.declared.stage_lp.StageLp.{StageLp}
 use Rattle.hp_solver.specs.Proper.{IsProper, IsReference}
 use Rattle.hp_lp.specs.Nodes.{quarters, reference_of, reference_in}
 use Rattle.hp_lp.specs.Given.{AreGiven, IsOver}
 use Rattle.hp_lp.proofs.Alike.{if_ok, reference_in-is, proper-reference, reference-reference_of}
-use Rattle.hp_lp.proofs.SealedStages.{Referable, referable-sealed}
+use Rattle.hp_lp.proofs.SealedStages.{referable-sealed}
 use Rattle.hp_lp.proofs.references.reference.Goals as goal
 
 pub first_values-requires : goal.first_values-requires

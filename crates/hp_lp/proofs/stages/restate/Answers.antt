@@ -1,15 +1,11 @@
-use Rattle.std.proofs.Common.{◌≡◌, ◌≤◌, ◌++◌, ◌∙◌, ℕ, List, Some, length, map, take, drop, All, ap, sym, subst, arith}
+use Rattle.std.proofs.Common.{◌++◌, ◌∙◌, List, Some, length, map, All, ap, sym, subst, arith}
 use Rattle.std.proofs.lemmas.List.{length-map, length-append}
 use Rattle.hp_problem.specs.declared.raw.Row.{Row}
-use Rattle.hp_theory.specs.declared.cut.Cut.{Cut}
 use Rattle.hp_solver.specs.declared.stage_lp.LpRow.{LpRow}
-use Rattle.hp_solver.specs.declared.stage_lp.StageLp.{StageLp}
-use Rattle.hp_solver.specs.Proper.{IsLike}
-use Rattle.hp_lp.specs.Stage.{own_row, cut_rows, stage_of}
+use Rattle.hp_lp.specs.Stage.{own_row, cut_rows}
 use Rattle.hp_lp.specs.Given.{IsOver}
-use Rattle.hp_lp.specs.Nodes.{stage_in}
 use Rattle.hp_lp.proofs.Alike.{stage_in-is, stage_is, like-stages, restated, rows-stage_of}
-use Rattle.hp_lp.proofs.SealedStages.{Restatable, restatable-sealed}
+use Rattle.hp_lp.proofs.SealedStages.{restatable-sealed}
 use Rattle.hp_lp.proofs.Seams.{written}
 use Rattle.hp_lp.proofs.stages.restate.Goals as goal
 

@@ -1,4 +1,4 @@
-use Rattle.std.proofs.Common.{◌≡◌, ◌≤◌, ◌++◌, ◌∷◌, [], ◌∙◌, ℕ, List, length, slice_get, Some, ap, sym, subst, arith}
+use Rattle.std.proofs.Common.{◌≤◌, ◌∷◌, [], ◌∙◌, ℕ, List, length, slice_get, ap, sym, subst, arith}
 use Rattle.std.proofs.lemmas.List.{length-append}
 use Rattle.hp_problem.specs.declared.raw.Raw.{Raw}
 use Rattle.hp_problem.proofs.SealedFacts.{raw-is_sealed, few_nodes}
