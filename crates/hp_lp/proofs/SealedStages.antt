@@ -236,12 +236,7 @@ module _ (p : Sealed) (e : is_sealed p ≡ true) (m : ℕ) (h : m < length p.raw
         over_randoms = subst (λ (c : ℕ). terms_fit c 0 row.randoms ≡ true) (sym v) (grind (arith, common_steps, fits));
       }
 
--- what a stage problem of a node needs, at values and a state
-pub record Ready (pools : List (List Cut)) (n : nodes.Node) (s : Subproblem) (values state : List ℤ) : Type 0 where
-  pub within : AreWithin pools n s
-  pub given : AreGiven values state
-  pub over : All (IsOver (length state) (length values)) s.rows
-
+-- what the own rows of a node need, at values and a state
 pub record Restatable (s : Subproblem) (values state : List ℤ) : Type 0 where
   pub given : AreGiven values state
   pub over : All (IsOver (length state) (length values)) s.rows
@@ -257,6 +252,7 @@ restatable-sealed p m n s values state e h fn fs v x =
       over = over-sealed p e m h n s b.low b.high b.fit values state (numbers_counted values (length s.randoms) numbers) (box.count ∙ numbers_counted b.low (length p.raw.states) b.fit.lows);
     }
 
+-- what the columns and the cuts need
 pub ready-sealed : (p : Sealed) (m : ℕ) (n : nodes.Node) (s : Subproblem) (pools : List (List Cut)) → is_sealed p ≡ true → m < length p.raw.nodes → slice_get p.raw.nodes m ≡ Some n → subproblem_of p m ≡ Some s
     → Fit (problem_of p) (length p.raw.nodes) pools → AreWithin pools n s
 ready-sealed p m n s pools e h fn fs f =
