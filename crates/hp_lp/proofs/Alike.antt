@@ -12,7 +12,7 @@ use Rattle.hp_problem.specs.declared.raw.Node.{Node}
 use Rattle.hp_problem.specs.declared.raw.Subproblem.{Subproblem}
 use Rattle.hp_problem.specs.Formulas.{successor_total}
 use Rattle.hp_problem.specs.Limits.{decision_fits, row_fits}
-use Rattle.hp_problem.specs.Sealed.{Sealed, is_sealed, subproblem_of}
+use Rattle.hp_problem.specs.Sealed.{Sealed, is_sealed}
 use Rattle.hp_problem.proofs.SubproblemFacts.{rows-subproblem_fits, decisions-subproblem_fits}
 use Rattle.hp_theory.specs.declared.cut.Cut.{Cut}
 use Rattle.hp_theory.specs.Pools.{pool}
@@ -23,7 +23,7 @@ use Rattle.hp_solver.specs.declared.stage_lp.LpRow.{LpRow}
 use Rattle.hp_solver.specs.declared.stage_lp.StageLp.{StageLp}
 use Rattle.hp_solver.specs.Proper.{IsProper, IsIdle, IsReference, Extends, IsLike, terms_of}
 use Rattle.hp_lp.specs.Stage.{decision_column, future_column, future_columns, own_row, cut_rows, stage_of}
-use Rattle.hp_lp.specs.Nodes.{stage_in, idle_column, quarters, reference_of, reference_in}
+use Rattle.hp_lp.specs.Nodes.{Stands, stage_in, idle_column, quarters, reference_of, reference_in}
 use Rattle.hp_lp.proofs.ProperStages.{HasBox, box-decisions, sides-own, terms-own, proper-stage_of}
 use Rattle.hp_lp.proofs.SealedStages.{boxed}
 
@@ -118,34 +118,34 @@ proper-reference_of states n s low high decisions rows =
     }
 
 -- of a sealed problem
-module _ (p : Sealed) (e : is_sealed p ≡ true) (m : ℕ) (h : m < length p.raw.nodes) (n : Node) (s : Subproblem) (fn : slice_get p.raw.nodes m ≡ Some n) (fs : subproblem_of p m ≡ Some s) where
+module _ {p : Sealed} {m : ℕ} {n : Node} {s : Subproblem} (t : Stands p m n s) where
   subproblem_there : slice_get p.raw.subs n.sub ≡ Some s
-  subproblem_there = ap (λ (o : Option Node). option_and_then (λ (k : Node). slice_get p.raw.subs k.sub) o) (sym fn) ∙ fs
+  subproblem_there = ap (λ (o : Option Node). option_and_then (λ (k : Node). slice_get p.raw.subs k.sub) o) (sym t.the_node) ∙ t.the_subproblem
 
   pub stage_in-is : (pools : List (List Cut)) (v x : List ℤ) → stage_in p pools m v x ≡ Some (stage_of pools n s v x)
   unfolding stage_in
   stage_in-is pools v x =
-      ap (λ (o : Option Node). option_and_then (λ (k : Node). option_map (λ (t : Subproblem). stage_of pools k t v x) (slice_get p.raw.subs k.sub)) o) fn
-      ∙ ap (λ (o : Option Subproblem). option_map (λ (t : Subproblem). stage_of pools n t v x) o) subproblem_there
+      ap (λ (o : Option Node). option_and_then (λ (k : Node). option_map (λ (u : Subproblem). stage_of pools k u v x) (slice_get p.raw.subs k.sub)) o) t.the_node
+      ∙ ap (λ (o : Option Subproblem). option_map (λ (u : Subproblem). stage_of pools n u v x) o) subproblem_there
 
   pub stage_is : (pools : List (List Cut)) (v x : List ℤ) (lp : StageLp) → stage_in p pools m v x ≡ Some lp → lp ≡ stage_of pools n s v x
   stage_is pools v x lp is = some_same lp (stage_of pools n s v x) (sym is ∙ stage_in-is pools v x)
 
   pub proper-stage : (pools : List (List Cut)) (v x : List ℤ) → IsProper (stage_of pools n s v x)
   proper-stage pools v x =
-      let b = boxed p m n s e h fn fs in
+      let b = boxed t in
       proper-stage_of (length p.raw.states) n s (decisions-subproblem_fits (length p.raw.states) s b.fit.subproblem) (rows-subproblem_fits (length p.raw.states) s b.fit.subproblem) pools v x (linked n (length p.raw.nodes) b.fit.links).1
 
   pub proper-reference : (low high : List ℤ) → IsProper (reference_of n s low high)
   proper-reference low high =
-      let b = boxed p m n s e h fn fs in
+      let b = boxed t in
       proper-reference_of (length p.raw.states) n s low high (decisions-subproblem_fits (length p.raw.states) s b.fit.subproblem) (rows-subproblem_fits (length p.raw.states) s b.fit.subproblem)
 
   pub reference_in-is : reference_in p m ≡ Some (reference_of n s (get_or p.lo m []) (get_or p.hi m []))
   unfolding reference_in
   reference_in-is =
-      ap (λ (o : Option Node). option_and_then (λ (k : Node). option_map (λ (t : Subproblem). reference_of k t (get_or p.lo m []) (get_or p.hi m [])) (slice_get p.raw.subs k.sub)) o) fn
-      ∙ ap (λ (o : Option Subproblem). option_map (λ (t : Subproblem). reference_of n t (get_or p.lo m []) (get_or p.hi m [])) o) subproblem_there
+      ap (λ (o : Option Node). option_and_then (λ (k : Node). option_map (λ (u : Subproblem). reference_of k u (get_or p.lo m []) (get_or p.hi m [])) (slice_get p.raw.subs k.sub)) o) t.the_node
+      ∙ ap (λ (o : Option Subproblem). option_map (λ (u : Subproblem). reference_of n u (get_or p.lo m []) (get_or p.hi m [])) o) subproblem_there
 
   pub reference_is : (lp : StageLp) → reference_in p m ≡ Some lp → lp ≡ reference_of n s (get_or p.lo m []) (get_or p.hi m [])
   reference_is lp is = some_same lp (reference_of n s (get_or p.lo m []) (get_or p.hi m [])) (sym is ∙ reference_in-is)
@@ -156,7 +156,7 @@ module _ (p : Sealed) (e : is_sealed p ≡ true) (m : ℕ) (h : m < length p.raw
 
   pub extends-stage : (pools : List (List Cut)) (v x : List ℤ) (lp r : StageLp) → reference_in p m ≡ Some r → stage_in p pools m v x ≡ Some lp → Extends r lp
   extends-stage pools v x lp r f g =
-      let b = boxed p m n s e h fn fs in
+      let b = boxed t in
       subst (λ (a : StageLp). Extends a lp) (sym (reference_is r f))
       (subst (λ (c : StageLp). Extends (reference_of n s (get_or p.lo m []) (get_or p.hi m [])) c) (sym (stage_is pools v x lp g))
       (extends-stage_of pools n s (get_or p.lo m []) (get_or p.hi m []) v x (linked n (length p.raw.nodes) b.fit.links).1 (proper-stage pools v x)))
@@ -172,24 +172,27 @@ unfolding stage_of
 rows-stage_of pools n s v x old e = ap (λ (lp : StageLp). lp.rows) e
 
 -- the same of a node by its number
-record Stands (p : Sealed) (m : ℕ) : Type 0 where
+record There (p : Sealed) (m : ℕ) : Type 0 where
   pub node : Node
   pub subproblem : Subproblem
-  pub the_node : slice_get p.raw.nodes m ≡ Some node
-  pub the_subproblem : subproblem_of p m ≡ Some subproblem
+  pub stands : Stands p m node subproblem
 
-stands : (p : Sealed) (m : ℕ) → is_sealed p ≡ true → m < length p.raw.nodes → Stands p m
-stands p m e h =
+there : (p : Sealed) (m : ℕ) → is_sealed p ≡ true → m < length p.raw.nodes → There p m
+there p m e h =
     let q = parts p m e h in
-    record { node = q.node; subproblem = q.subproblem; the_node = q.fit.the_node; the_subproblem = ap (λ (o : Option Node). option_and_then (λ (k : Node). slice_get p.raw.subs k.sub) o) q.fit.the_node ∙ q.fit.the_subproblem }
+    record {
+      node = q.node;
+      subproblem = q.subproblem;
+      stands = record { sealed = e; known = h; the_node = q.fit.the_node; the_subproblem = ap (λ (o : Option Node). option_and_then (λ (k : Node). slice_get p.raw.subs k.sub) o) q.fit.the_node ∙ q.fit.the_subproblem };
+    }
 
 pub proper_sealed : (p : Sealed) → is_sealed p ≡ true → (m : ℕ) → m < length p.raw.nodes → (pools : List (List Cut)) (values state : List ℤ) (lp : StageLp) → stage_in p pools m values state ≡ Some lp → IsProper lp
 proper_sealed p e m h pools v x lp is =
-    let t = stands p m e h in
-    subst IsProper (sym (stage_is p e m h t.node t.subproblem t.the_node t.the_subproblem pools v x lp is)) (proper-stage p e m h t.node t.subproblem t.the_node t.the_subproblem pools v x)
+    let t = (there p m e h).stands in
+    subst IsProper (sym (stage_is t pools v x lp is)) (proper-stage t pools v x)
 
 pub like_sealed : (p : Sealed) → is_sealed p ≡ true → (m : ℕ) → m < length p.raw.nodes → (pools : List (List Cut)) (values state others next : List ℤ) (lp other : StageLp) → stage_in p pools m values state ≡ Some lp → stage_in p pools m others next ≡ Some other → IsLike lp other
-like_sealed p e m h pools v x w y lp other f g = let t = stands p m e h in like-stages p e m h t.node t.subproblem t.the_node t.the_subproblem pools v x w y lp other f g
+like_sealed p e m h pools v x w y lp other f g = like-stages (there p m e h).stands pools v x w y lp other f g
 
 pub extends_sealed : (p : Sealed) → is_sealed p ≡ true → (m : ℕ) → m < length p.raw.nodes → (pools : List (List Cut)) (values state : List ℤ) (lp program : StageLp) → reference_in p m ≡ Some program → stage_in p pools m values state ≡ Some lp → Extends program lp
-extends_sealed p e m h pools v x lp program f g = let t = stands p m e h in extends-stage p e m h t.node t.subproblem t.the_node t.the_subproblem pools v x lp program f g
+extends_sealed p e m h pools v x lp program f g = extends-stage (there p m e h).stands pools v x lp program f g

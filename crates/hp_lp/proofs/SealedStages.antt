@@ -30,23 +30,23 @@ use Rattle.hp_theory.proofs.Views.{link_at, length-links_of, low-node_of, high-n
 use Rattle.hp_theory.proofs.SealedParts.{PartsFit, weighty, parts_given, linked, links_known, outs_known, numbers_counted, numbers_small}
 use Rattle.hp_theory.proofs.SealedPremises.{shaped-sealed}
 use Rattle.hp_lp.specs.Spans.{Spans}
-use Rattle.hp_lp.specs.Nodes.{quarter, quarters}
+use Rattle.hp_lp.specs.Nodes.{Stands, quarter, quarters}
 use Rattle.std.proofs.lemmas.List.Elements.{All-map}
 use Rattle.std.proofs.lemmas.Slice.Zip.{get_or-zip, length-zip}
-use Rattle.hp_lp.specs.Given.{AreGiven, IsOver, AreWithin}
+use Rattle.hp_lp.specs.Given.{AreGiven, IsOver, AreOf, AreWithin, HasReference}
 
--- the node and the subproblem that a problem gives out, with the box of the incoming state
+-- the box of a node's incoming state
 pub record Boxed (p : Sealed) (m : ℕ) (n : nodes.Node) (s : Subproblem) : Type 0 where
   pub low : List ℤ
   pub high : List ℤ
   pub fit : PartsFit p m n s low high
 
-pub boxed : (p : Sealed) (m : ℕ) (n : nodes.Node) (s : Subproblem) → is_sealed p ≡ true → m < length p.raw.nodes → slice_get p.raw.nodes m ≡ Some n → subproblem_of p m ≡ Some s → Boxed p m n s
-boxed p m n s e h fn fs =
-    let counts = box_counts p e in
-    let l = some_of p.lo m (omega (arith, counts.0)) in
-    let u = some_of p.hi m (omega (arith, counts.1)) in
-    record { low = l.0; high = u.0; fit = parts_given p m n s l.0 u.0 e fn fs l.1 u.1 }
+pub boxed : {p : Sealed} {m : ℕ} {n : nodes.Node} {s : Subproblem} → Stands p m n s → Boxed p m n s
+boxed {p} {m} {n} {s} t =
+    let counts = box_counts p t.sealed in
+    let l = some_of p.lo m (omega (arith, counts.0, t.known)) in
+    let u = some_of p.hi m (omega (arith, counts.1, t.known)) in
+    record { low = l.0; high = u.0; fit = parts_given p m n s l.0 u.0 t.sealed t.the_node t.the_subproblem l.1 u.1 }
 
 -- a summand is at most the sum where none is negative
 term_at_most : (n k : ℕ) (f : ℕ → ℤ) → ((j : ℕ) → pos 0 ≤ℤ f j) → k < n → f k ≤ℤ sum_to n f
@@ -237,42 +237,28 @@ module _ (p : Sealed) (e : is_sealed p ≡ true) (m : ℕ) (h : m < length p.raw
       }
 
 -- what the own rows of a node need, at values and a state
-pub record Restatable (s : Subproblem) (values state : List ℤ) : Type 0 where
-  pub given : AreGiven values state
-  pub over : All (IsOver (length state) (length values)) s.rows
-
-pub restatable-sealed : (p : Sealed) (m : ℕ) (n : nodes.Node) (s : Subproblem) (values state : List ℤ) → is_sealed p ≡ true → m < length p.raw.nodes → slice_get p.raw.nodes m ≡ Some n → subproblem_of p m ≡ Some s
-    → are_values (subproblem_of p m) values ≡ true → InBox S (node_at (problem_of p) m).low (node_at (problem_of p) m).high state → Restatable s values state
-restatable-sealed p m n s values state e h fn fs v x =
-    let b = boxed p m n s e h fn fs in
-    let numbers = values_of p e m h n s b.low b.high b.fit values v fs in
-    let box = inside p e m h n s b.low b.high b.fit state x in
+pub of-sealed : {p : Sealed} {m : ℕ} {n : nodes.Node} {s : Subproblem} (values state : List ℤ) → Stands p m n s → are_values (subproblem_of p m) values ≡ true → InBox S (node_at (problem_of p) m).low (node_at (problem_of p) m).high state → AreOf s values state
+of-sealed {p} {m} {n} {s} values state t v x =
+    let b = boxed t in
+    let numbers = values_of p t.sealed m t.known n s b.low b.high b.fit values v t.the_subproblem in
+    let box = inside p t.sealed m t.known n s b.low b.high b.fit state x in
     record {
-      given = given-sealed p e m h n s b.low b.high b.fit values state numbers box;
-      over = over-sealed p e m h n s b.low b.high b.fit values state (numbers_counted values (length s.randoms) numbers) (box.count ∙ numbers_counted b.low (length p.raw.states) b.fit.lows);
+      given = given-sealed p t.sealed m t.known n s b.low b.high b.fit values state numbers box;
+      over = over-sealed p t.sealed m t.known n s b.low b.high b.fit values state (numbers_counted values (length s.randoms) numbers) (box.count ∙ numbers_counted b.low (length p.raw.states) b.fit.lows);
     }
 
--- what the columns and the cuts need
-pub ready-sealed : (p : Sealed) (m : ℕ) (n : nodes.Node) (s : Subproblem) (pools : List (List Cut)) → is_sealed p ≡ true → m < length p.raw.nodes → slice_get p.raw.nodes m ≡ Some n → subproblem_of p m ≡ Some s
-    → Fit (problem_of p) (length p.raw.nodes) pools → AreWithin pools n s
-ready-sealed p m n s pools e h fn fs f =
-    let b = boxed p m n s e h fn fs in
-    within-sealed p e m h n s b.low b.high b.fit pools f
+-- what its columns and the cuts need
+pub within-fit : {p : Sealed} {m : ℕ} {n : nodes.Node} {s : Subproblem} (pools : List (List Cut)) → Stands p m n s → Fit (problem_of p) (length p.raw.nodes) pools → AreWithin pools n s
+within-fit {p} {m} {n} {s} pools t f = let b = boxed t in within-sealed p t.sealed m t.known n s b.low b.high b.fit pools f
 
--- what the reference program of a node needs
-pub record Referable (n : nodes.Node) (s : Subproblem) (low high : List ℤ) : Type 0 where
-  pub some : 0 < length n.values
-  pub decisions : length s.decisions ≤ 200
-  pub rows : length s.rows ≤ 200
-  pub given : AreGiven (get_or n.values 0 []) (quarters low high)
-  pub over : All (IsOver (length (quarters low high)) (length (get_or n.values 0 []))) s.rows
-
+-- what its reference program needs
 quarter_small : (l u : ℤ) → nat_abs l ≤ 2 ^ 40 → nat_abs u ≤ 2 ^ 40 → nat_abs (quarter (l, u)) ≤ 2 ^ 64
 quarter_small l u a b = omega (arith, ints, a, b)
 
-pub referable-sealed : (p : Sealed) (m : ℕ) (n : nodes.Node) (s : Subproblem) (low high : List ℤ) → is_sealed p ≡ true → m < length p.raw.nodes → slice_get p.raw.nodes m ≡ Some n → subproblem_of p m ≡ Some s → slice_get p.lo m ≡ Some low → slice_get p.hi m ≡ Some high → Referable n s low high
-referable-sealed p m n s low high e h fn fs fl fh =
-    let fit = parts_given p m n s low high e fn fs fl fh in
+pub reference-sealed : {p : Sealed} {m : ℕ} {n : nodes.Node} {s : Subproblem} (low high : List ℤ) → Stands p m n s → slice_get p.lo m ≡ Some low → slice_get p.hi m ≡ Some high → HasReference n s low high
+reference-sealed {p} {m} {n} {s} low high t fl fh =
+    let e = t.sealed in
+    let fit = parts_given p m n s low high e t.the_node t.the_subproblem fl fh in
     let w = weighty n (length s.randoms) fit.realizations in
     let c = few (length p.raw.states) s fit.subproblem in
     let some : 0 < length n.values = omega (arith, w.0, w.3) in
@@ -287,18 +273,20 @@ referable-sealed p m n s low high e h fn fs fl fh =
       decisions = c.0;
       rows = c.1;
       given = record {
-        few_values = omega (arith, values, c.2);
-        few_states = omega (arith, count, few_states p.raw (raw-is_sealed p e));
-        small_values = λ k d o. subst (λ (z : ℤ). nat_abs z ≤ 2 ^ 40) (get_or_default (get_or n.values 0 []) k (pos 0) d o) (numbers_small (get_or n.values 0 []) (length s.randoms) k numbers o);
-        small_state = All-map (λ (z : ℤ). nat_abs z ≤ 2 ^ 64) quarter (zip low high)
-            (λ k d o.
-            let in_low : k < length low = omega (arith, length-zip low high, o) in
-            let in_high : k < length high = omega (arith, length-zip low high, o) in
-            subst (λ (b : ℤ × ℤ). nat_abs (quarter b) ≤ 2 ^ 64) (get_or_default (zip low high) k (pos 0, pos 0) d o)
-            (subst (λ (b : ℤ × ℤ). nat_abs (quarter b) ≤ 2 ^ 64) (sym (get_or-zip low high k (pos 0, pos 0) in_low in_high))
-            (quarter_small (entry low k) (entry high k) (numbers_small low (length p.raw.states) k fit.lows in_low) (numbers_small high (length p.raw.states) k fit.highs in_high))));
+        given = record {
+          few_values = omega (arith, values, c.2);
+          few_states = omega (arith, count, few_states p.raw (raw-is_sealed p e));
+          small_values = λ k d o. subst (λ (z : ℤ). nat_abs z ≤ 2 ^ 40) (get_or_default (get_or n.values 0 []) k (pos 0) d o) (numbers_small (get_or n.values 0 []) (length s.randoms) k numbers o);
+          small_state = All-map (λ (z : ℤ). nat_abs z ≤ 2 ^ 64) quarter (zip low high)
+              (λ k d o.
+              let in_low : k < length low = omega (arith, length-zip low high, o) in
+              let in_high : k < length high = omega (arith, length-zip low high, o) in
+              subst (λ (b : ℤ × ℤ). nat_abs (quarter b) ≤ 2 ^ 64) (get_or_default (zip low high) k (pos 0, pos 0) d o)
+              (subst (λ (b : ℤ × ℤ). nat_abs (quarter b) ≤ 2 ^ 64) (sym (get_or-zip low high k (pos 0, pos 0) in_low in_high))
+              (quarter_small (entry low k) (entry high k) (numbers_small low (length p.raw.states) k fit.lows in_low) (numbers_small high (length p.raw.states) k fit.highs in_high))));
+        };
+        over = over-sealed p e m t.known n s low high fit (get_or n.values 0 []) (quarters low high) values count;
       };
-      over = over-sealed p e m h n s low high fit (get_or n.values 0 []) (quarters low high) values count;
     }
   where
     values_fit : (n : nodes.Node) (randoms : ℕ) → realizations_fit randoms n ≡ true → list_all (are_numbers randoms) n.values ≡ true

@@ -6,6 +6,7 @@ use Rattle.hp_solver.specs.declared.fixed.Fx.{Fx}
 use Rattle.hp_solver.specs.Numbers.{number, zero_fx}
 use Rattle.hp_theory.specs.declared.cut.Cut.{Cut}
 use Rattle.hp_lp.specs.Stage.{stage_of}
+use Rattle.hp_lp.specs.Nodes.{reference_of}
 
 abbrev reservoir : Subproblem
 reservoir =
@@ -52,3 +53,13 @@ before_stage : stage_of ((two_cuts.0 ∷ two_cuts.1 ∷ []) ∷ []) before reser
 }
 unfolding stage_of
 before_stage = refl
+
+-- the reference program of the node before that successor: at 2.5 in the reservoir, with an inflow of 1
+before_reference : reference_of before reservoir (pos 0 ∷ []) (pos 10 ∷ []) ≡ record {
+  columns = record { low = zero_fx; high = units 10; cost = zero_fx } ∷ record { low = zero_fx; high = units 8; cost = zero_fx } ∷ record { low = zero_fx; high = units 20; cost = units 20 } ∷ record { low = zero_fx; high = zero_fx; cost = zero_fx } ∷ [];
+  rows = record { low = Some (number (pos (7 * 2 ^ 31))); high = Some (number (pos (7 * 2 ^ 31))); terms = (0, units 1) ∷ (1, units 1) ∷ [] } ∷ record { low = Some (units 9); high = Some (units 9); terms = (1, units 1) ∷ (2, units 1) ∷ [] } ∷ [];
+  decisions = 3;
+  own = 2;
+}
+unfolding reference_of
+before_reference = refl

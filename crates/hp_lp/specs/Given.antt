@@ -1,5 +1,5 @@
 -- Values and states that are given for a stage, and rows that go with them.
-use Rattle.std.specs.Prelude.{◌≡◌, ℕ, ◌<◌, ◌≤◌, ◌^◌, ℤ, true, nat_lt, nat_abs, List, length, All}
+use Rattle.std.specs.Prelude.{◌≡◌, ℕ, ◌<◌, ◌≤◌, ◌^◌, ℤ, true, nat_lt, nat_abs, List, [], length, get_or, All}
 use Rattle.std.specs.List.{list_all}
 use Rattle.hp_problem.specs.declared.raw.Row.{Row}
 use Rattle.hp_problem.specs.declared.raw.Node.{Node}
@@ -7,6 +7,7 @@ use Rattle.hp_problem.specs.declared.raw.Subproblem.{Subproblem}
 use Rattle.hp_problem.specs.Limits.{terms_fit, outs_differ}
 use Rattle.hp_theory.specs.declared.cut.Cut.{Cut}
 use Rattle.hp_theory.specs.Pools.{pool}
+use Rattle.hp_lp.specs.Nodes.{quarters}
 use Rattle.hp_lp.specs.Spans.{Spans}
 
 -- few values of at most 2^40 and few states of at most 2^64
@@ -21,6 +22,11 @@ pub record IsOver (states randoms : ℕ) (row : Row) : Type 0 where
   pub over_states : terms_fit states 0 row.states ≡ true
   pub over_randoms : terms_fit randoms 0 row.randoms ≡ true
 
+-- values and a state for the rows of this subproblem
+pub record AreOf (s : Subproblem) (values state : List ℤ) : Type 0 where
+  pub given : AreGiven values state
+  pub over : All (IsOver (length state) (length values)) s.rows
+
 -- the parts of a node within limits, and the cuts of its successors
 pub record AreWithin (pools : List (List Cut)) (n : Node) (s : Subproblem) : Type 0 where
   pub decisions : length s.decisions ≤ 200
@@ -33,3 +39,10 @@ pub record AreWithin (pools : List (List Cut)) (n : Node) (s : Subproblem) : Typ
   pub there : All (λ m. m < length pools) n.links
   pub some : All (λ m. 0 < length (pool pools m)) n.links
   pub spans : All (λ m. All (Spans s) (pool pools m)) n.links
+
+-- what the reference program of a node in this box is made of, within limits
+pub record HasReference (n : Node) (s : Subproblem) (low high : List ℤ) : Type 0 where
+  pub some : 0 < length n.values
+  pub decisions : length s.decisions ≤ 200
+  pub rows : length s.rows ≤ 200
+  pub given : AreOf s (get_or n.values 0 []) (quarters low high)

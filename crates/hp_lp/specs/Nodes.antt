@@ -1,15 +1,22 @@
 -- The stage problems of a sealed problem's nodes.
-use Rattle.std.specs.Prelude.{◌≡◌, ℕ, ◌^◌, ℤ, pos, ◌+ℤ◌, ◌*ℤ◌, List, [], ◌++◌, length, map, zip, get_or, Option, Some, slice_get, option_and_then}
+use Rattle.std.specs.Prelude.{◌≡◌, ℕ, ◌<◌, ◌^◌, true, ℤ, pos, ◌+ℤ◌, ◌*ℤ◌, List, [], ◌++◌, length, map, zip, get_or, Option, Some, slice_get, option_and_then}
 use Rattle.std.specs.Option.{option_map}
 use Rattle.hp_problem.specs.declared.raw.Node.{Node}
 use Rattle.hp_problem.specs.declared.raw.Subproblem.{Subproblem}
 use Rattle.hp_problem.specs.Formulas.{successor_total}
-use Rattle.hp_problem.specs.Sealed.{Sealed}
+use Rattle.hp_problem.specs.Sealed.{Sealed, is_sealed, subproblem_of}
 use Rattle.hp_theory.specs.declared.cut.Cut.{Cut}
 use Rattle.hp_solver.specs.declared.stage_lp.Column.{Column}
 use Rattle.hp_solver.specs.declared.stage_lp.StageLp.{StageLp}
 use Rattle.hp_solver.specs.Numbers.{zero_fx}
 use Rattle.hp_lp.specs.Stage.{decision_column, own_row, stage_of}
+
+-- a sealed problem has this node and this subproblem at the number m
+pub record Stands (p : Sealed) (m : ℕ) (n : Node) (s : Subproblem) : Type 0 where
+  pub sealed : is_sealed p ≡ true
+  pub known : m < length p.raw.nodes
+  pub the_node : slice_get p.raw.nodes m ≡ Some n
+  pub the_subproblem : subproblem_of p m ≡ Some s
 
 -- what is made of the node m and its subproblem
 abbrev pub at_node : Sealed → ℕ → (Node → Subproblem → StageLp) → Option StageLp

@@ -2,15 +2,16 @@
 ghost use Rattle.std.specs.Prelude.{◌≡◌, ◌<◌, ◌≤◌, ◌++◌, ℕ, ℤ, List, [], length, map, get_or, Some, All, IfOk, OnOk};
 ghost use Rattle.hp_problem.specs.Formulas.{successor_total};
 ghost use Rattle.hp_solver.specs.Proper.{IsProper, IsReference};
+ghost use Rattle.hp_lp.specs.Stage.{own_row};
 ghost use Rattle.hp_lp.specs.Nodes.{idle_column, quarter, quarters, reference_of, reference_in};
-ghost use Rattle.hp_lp.specs.Given.{AreGiven, IsOver};
+ghost use Rattle.hp_lp.specs.Given.{HasReference};
 
 use crate::columns::decision_columns;
 use crate::own_rows::own_rows;
 use crate::stages::StageNode;
 use hp_num::{List, Memory};
 use hp_problem::Problem;
-use hp_solver::{Column, Fx, StageLp};
+use hp_solver::{Column, Fx, LpRow, StageLp};
 use std::alloc::Global;
 
 /// A quarter of the scale of states.
@@ -55,28 +56,42 @@ fn first_values<'a>(stage: &StageNode<'a>) -> &'a [i64]
     stage.node.values.as_slice()[0].as_slice()
 }
 
-// The stage problem of the node without cuts, at these values and this state.
-#[tactic(auto, unfolding(crate::specs::Nodes::reference_of))]
-fn reference_at(
+// The node's own rows at the values of its first realization, a quarter of the way up the box.
+fn reference_rows(
     alloc: Global,
     stage: &StageNode,
-    values: &[i64],
-    state: &[i128],
+    low: &[i64],
+    high: &[i64],
+) -> Result<List<LpRow>, Memory>
+    requires { HasReference stage.now.node.now stage.now.subproblem.now low.now high.now }
+    ensures { IfOk result (λ found. found ≡ map (own_row (get_or stage.now.node.now.values 0 []) (quarters low.now high.now)) stage.now.subproblem.now.rows) }
+{
+    let state = quarters(alloc, low, high)?;
+    own_rows(
+        alloc,
+        stage.subproblem.rows.as_slice(),
+        first_values(stage),
+        state.as_slice(),
+    )
+}
+
+// The reference program of the node in a box.
+#[tactic(auto, unfolding(crate::specs::Nodes::reference_of))]
+fn reference_of(
+    alloc: Global,
+    stage: &StageNode,
+    low: &[i64],
+    high: &[i64],
 ) -> Result<StageLp, Memory>
     requires weight { stage.now.weight ≡ successor_total stage.now.node.now.stop stage.now.node.now.link_weights }
-    requires decisions { length stage.now.subproblem.now.decisions ≤ 200 }
-    requires rows { length stage.now.subproblem.now.rows ≤ 200 }
-    requires given { AreGiven values.now state.now }
-    requires over { All (IsOver (length state.now) (length values.now)) stage.now.subproblem.now.rows }
-    requires first { values.now ≡ get_or stage.now.node.now.values 0 [] }
-    ensures { IfOk result (λ lp. (low high : List ℤ) → state.now ≡ quarters low high
-        → lp ≡ reference_of stage.now.node.now stage.now.subproblem.now low high) }
+    requires parts { HasReference stage.now.node.now stage.now.subproblem.now low.now high.now }
+    ensures { IfOk result (λ lp. lp ≡ reference_of stage.now.node.now stage.now.subproblem.now low.now high.now) }
 {
     let mut columns = decision_columns(alloc, stage.weight, stage.subproblem.decisions.as_slice())?;
     push_idle_columns(&mut columns, stage.node.links.as_slice())?;
     Ok(StageLp {
         columns,
-        rows: own_rows(alloc, stage.subproblem.rows.as_slice(), values, state)?,
+        rows: reference_rows(alloc, stage, low, high)?,
         decisions: stage.subproblem.decisions.len() as u32,
         own: stage.subproblem.rows.len() as u32,
     })
@@ -92,6 +107,5 @@ pub fn reference(alloc: Global, problem: &Problem, node: u32) -> Result<StageLp,
     ensures reference { IfOk result IsReference }
 {
     let stage = StageNode::of(problem, node);
-    let state = quarters(alloc, problem.lo(node), problem.hi(node))?;
-    reference_at(alloc, &stage, first_values(&stage), state.as_slice())
+    reference_of(alloc, &stage, problem.lo(node), problem.hi(node))
 }

@@ -10,8 +10,8 @@ ghost use Rattle.hp_theory.specs.View.{problem_of};
 ghost use Rattle.hp_theory.specs.declared.cut.Cut.{Cut};
 ghost use Rattle.hp_solver.specs.Proper.{IsProper, IsLike};
 ghost use Rattle.hp_lp.specs.Stage.{decision_column, future_columns, own_row, cut_rows, stage_of};
-ghost use Rattle.hp_lp.specs.Nodes.{stage_in, IsStageAt};
-ghost use Rattle.hp_lp.specs.Given.{AreGiven, IsOver, AreWithin};
+ghost use Rattle.hp_lp.specs.Nodes.{Stands, stage_in, IsStageAt};
+ghost use Rattle.hp_lp.specs.Given.{AreOf, AreWithin};
 
 use crate::columns::{decision_columns, push_future_columns};
 use crate::cut_rows::push_cut_rows;
@@ -35,9 +35,7 @@ impl<'a> StageNode<'a> {
     /// The node with a number.
     pub(crate) fn of(problem: &'a Problem, node: u32) -> StageNode<'a>
         requires { node < length problem.now.raw.nodes }
-        ensures sealed { is_sealed problem.now ≡ true }
-        ensures the_node { slice_get problem.now.raw.nodes node ≡ Some result.node.now }
-        ensures the_subproblem { subproblem_of problem.now node ≡ Some result.subproblem.now }
+        ensures stands { Stands problem.now node result.node.now result.subproblem.now }
         ensures weight { result.weight ≡ successor_total result.node.now.stop result.node.now.link_weights }
     {
         StageNode {
@@ -74,8 +72,7 @@ fn rows(
     state: &[i128],
 ) -> Result<List<LpRow>, Memory>
     requires within { AreWithin pools.now.lists stage.now.node.now stage.now.subproblem.now }
-    requires given { AreGiven values.now state.now }
-    requires over { All (IsOver (length state.now) (length values.now)) stage.now.subproblem.now.rows }
+    requires given { AreOf stage.now.subproblem.now values.now state.now }
     ensures { IfOk result (λ found. found ≡ map (own_row values.now state.now) stage.now.subproblem.now.rows
         ++ cut_rows stage.now.subproblem.now pools.now.lists (length stage.now.subproblem.now.decisions) stage.now.node.now.links) }
 {
@@ -101,8 +98,7 @@ fn stage_of(
 ) -> Result<StageLp, Memory>
     requires weight { stage.now.weight ≡ successor_total stage.now.node.now.stop stage.now.node.now.link_weights }
     requires within { AreWithin pools.now.lists stage.now.node.now stage.now.subproblem.now }
-    requires given { AreGiven values.now state.now }
-    requires over { All (IsOver (length state.now) (length values.now)) stage.now.subproblem.now.rows }
+    requires given { AreOf stage.now.subproblem.now values.now state.now }
     ensures { IfOk result (λ lp. lp ≡ stage_of pools.now.lists stage.now.node.now stage.now.subproblem.now values.now state.now) }
 {
     Ok(StageLp {

@@ -5,28 +5,23 @@ use Rattle.hp_solver.specs.Proper.{IsProper}
 use Rattle.hp_lp.specs.Stage.{stage_of}
 use Rattle.hp_lp.specs.Nodes.{stage_in}
 use Rattle.hp_lp.proofs.Alike.{if_ok, stage_in-is, proper-stage}
-use Rattle.hp_lp.proofs.SealedStages.{ready-sealed, restatable-sealed}
+use Rattle.hp_lp.proofs.SealedStages.{of-sealed, within-fit}
 use Rattle.hp_lp.proofs.stages.stage.Goals as goal
 
 pub stage_of-requires-clause-within : goal.stage_of-requires-clause-within
-stage_of-requires-clause-within c = ready-sealed c.args.problem.now c.args.node c.of.result.node.now c.of.result.subproblem.now c.args.pools.now.lists c.of.ensures.sealed c.requires.known c.of.ensures.the_node c.of.ensures.the_subproblem c.requires.fit
+stage_of-requires-clause-within c = within-fit c.args.pools.now.lists c.of.ensures.stands c.requires.fit
 
 pub stage_of-requires-clause-given : goal.stage_of-requires-clause-given
-stage_of-requires-clause-given c = (restatable-sealed c.args.problem.now c.args.node c.of.result.node.now c.of.result.subproblem.now c.args.values.now c.args.state.now c.of.ensures.sealed c.requires.known c.of.ensures.the_node c.of.ensures.the_subproblem c.requires.values c.requires.state).given
-
-pub stage_of-requires-clause-over : goal.stage_of-requires-clause-over
-stage_of-requires-clause-over c = (restatable-sealed c.args.problem.now c.args.node c.of.result.node.now c.of.result.subproblem.now c.args.values.now c.args.state.now c.of.ensures.sealed c.requires.known c.of.ensures.the_node c.of.ensures.the_subproblem c.requires.values c.requires.state).over
+stage_of-requires-clause-given c = of-sealed c.args.values.now c.args.state.now c.of.ensures.stands c.requires.values c.requires.state
 
 pub returns-clause-value : goal.returns-clause-value
 returns-clause-value c =
-    let s = c.of.result.subproblem.now in
     let pools : List (List Cut) = c.args.pools.now.lists in
-    if_ok c.stage_of.result (λ (lp : StageLp). lp ≡ stage_of pools c.of.result.node.now s c.args.values.now c.args.state.now) (λ (lp : StageLp). stage_in c.args.problem.now pools c.args.node c.args.values.now c.args.state.now ≡ Some lp)
-    (λ lp is. stage_in-is c.args.problem.now c.of.ensures.sealed c.args.node c.requires.known c.of.result.node.now s c.of.ensures.the_node c.of.ensures.the_subproblem pools c.args.values.now c.args.state.now ∙ ap Some (sym is)) c.stage_of.ensures
+    if_ok c.stage_of.result (λ (lp : StageLp). lp ≡ stage_of pools c.of.result.node.now c.of.result.subproblem.now c.args.values.now c.args.state.now) (λ (lp : StageLp). stage_in c.args.problem.now pools c.args.node c.args.values.now c.args.state.now ≡ Some lp)
+    (λ lp is. stage_in-is c.of.ensures.stands pools c.args.values.now c.args.state.now ∙ ap Some (sym is)) c.stage_of.ensures
 
 pub returns-clause-proper : goal.returns-clause-proper
 returns-clause-proper c =
-    let s = c.of.result.subproblem.now in
     let pools : List (List Cut) = c.args.pools.now.lists in
-    if_ok c.stage_of.result (λ (lp : StageLp). lp ≡ stage_of pools c.of.result.node.now s c.args.values.now c.args.state.now) IsProper
-    (λ lp is. subst IsProper (sym is) (proper-stage c.args.problem.now c.of.ensures.sealed c.args.node c.requires.known c.of.result.node.now s c.of.ensures.the_node c.of.ensures.the_subproblem pools c.args.values.now c.args.state.now)) c.stage_of.ensures
+    if_ok c.stage_of.result (λ (lp : StageLp). lp ≡ stage_of pools c.of.result.node.now c.of.result.subproblem.now c.args.values.now c.args.state.now) IsProper
+    (λ lp is. subst IsProper (sym is) (proper-stage c.of.ensures.stands pools c.args.values.now c.args.state.now)) c.stage_of.ensures
