@@ -32,7 +32,7 @@ pub if_ok : {A E : Type 0} (r : Result A E) (P Q : A → Type 0) → ((x : A) �
 if_ok (Ok x) P Q f h = f x h
 if_ok (Err e) P Q f h = h
 
-some_same : (x y : StageLp) → Some x ≡ Some y → x ≡ y
+pub some_same : (x y : StageLp) → Some x ≡ Some y → x ≡ y
 some_same x y e = ap (λ (o : Option StageLp). unwrap_or o x) e
 
 -- the fronts and the ends of lists

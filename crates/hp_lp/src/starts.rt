@@ -1,11 +1,14 @@
 // What a solver makes ready for the nodes of a problem.
 ghost use Rattle.std.specs.Prelude.{◌≡◌, ◌<◌, length, IfOk, Some, slice_get};
+ghost use Rattle.hp_solver.specs.declared.stage_lp.StageLp.{StageLp};
+ghost use Rattle.hp_solver.specs.Proper.{IsLike};
+ghost use Rattle.hp_lp.specs.Nodes.{IsStageAt, reference_in};
 ghost use Rattle.hp_lp.specs.Ready.{AreReady};
 
 use crate::references::reference;
 use hp_num::{List, Memory};
 use hp_problem::Problem;
-use hp_solver::Solver;
+use hp_solver::{Solver, StageLp};
 use std::alloc::Global;
 
 /// What a solver makes ready for each node of a problem, before any solve.
@@ -31,6 +34,29 @@ impl<V: Solver> Starts<V> {
         ensures { slice_get self.now.items node ≡ Some result.now }
     {
         &self.items.as_slice()[node as usize]
+    }
+
+    /// Begins a chain of a node with one of its stage problems, by what is ready for the node. The chain may take this
+    /// stage problem and each that [`restate`](crate::restate) makes of it. [`Memory`] where memory was refused.
+    ///
+    /// What is ready was made for this problem and this solver.
+    pub fn begin(
+        &self,
+        alloc: Global,
+        problem: &Problem,
+        solver: &V,
+        node: u32,
+        lp: &StageLp,
+    ) -> Result<V::Chain, Memory>
+        requires known { node < length problem.now.raw.nodes }
+        requires ready { AreReady (V.started solver.now) (V.suits solver.now) problem.now self.now.items }
+        requires stage { IsStageAt problem.now node lp.now }
+        ensures made { (program : StageLp) → reference_in problem.now node ≡ Some program
+            → IfOk result (λ chain. chain ≡ V.begun solver.now (V.started solver.now program) lp.now) }
+        ensures fits { IfOk result (λ chain. (other : StageLp) → IsLike lp.now other → V.fits solver.now chain other) }
+    {
+        let _ = problem.raw();
+        solver.begin(alloc, self.at(node), lp)
     }
 }
 
