@@ -13,3 +13,6 @@ pub mod starts;
 pub use references::reference;
 pub use stages::{restate, stage};
 pub use starts::Starts;
+
+#[cfg(test)]
+mod tests;
