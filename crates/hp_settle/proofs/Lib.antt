@@ -1,0 +1,11 @@
+pub mod Beside
+pub mod Fractions
+pub mod InRange
+pub mod JudgedDead
+pub mod Refuted
+pub mod SettledNode
+pub mod SettledPairs
+pub mod SettledRight
+pub mod SettledSteps
+pub mod Viewed
+pub mod WorkedRefutation

@@ -1,0 +1,85 @@
+-- What settling needs of a node of a sealed problem, and what it makes there.
+use Rattle.std.proofs.Common.{◌≡◌, ◌∙◌, ℕ, ◌<◌, ℤ, true, List, length, get_or, map, drop, refl, All, Result, Ok, Err, IfOk, slice_get, Some, nat_lt, sym, ap, ap₂, subst, arith}
+use Rattle.std.proofs.lemmas.Bool.Decides.{nat_tests}
+use Rattle.std.proofs.lemmas.Option.{slice_get-get_or}
+use Rattle.hp_num.proofs.Tests.{all_at}
+use Rattle.hp_problem.specs.declared.raw.Raw.{Raw}
+use Rattle.hp_problem.specs.declared.raw.Node as nodes
+use Rattle.hp_problem.specs.declared.raw.Subproblem.{Subproblem}
+use Rattle.hp_problem.specs.Sealed.{Sealed, is_sealed, subproblem_of}
+use Rattle.hp_theory.specs.declared.cut.Cut.{Cut}
+use Rattle.hp_theory.specs.declared.cut.Certificate.{Certificate}
+use Rattle.hp_theory.specs.Problem.{Node, node_at}
+use Rattle.hp_theory.specs.Pools.{pool}
+use Rattle.hp_theory.specs.Fit.{Fit}
+use Rattle.hp_theory.specs.View.{node_of, links_of, problem_of}
+use Rattle.hp_theory.specs.Certificates.{RightAt}
+use Rattle.hp_theory.proofs.SealedParts.{PartsFit, Parts, parts, parts_given, linked, links_known}
+use Rattle.hp_theory.proofs.SealedPremises.{leads-sealed, links-sealed}
+use Rattle.hp_solver.specs.declared.fixed.Fx.{Fx}
+use Rattle.hp_solver.specs.declared.stage_lp.Answer.{Answer}
+use Rattle.hp_dual.specs.Acceptance.{fault_of, range_fault}
+use Rattle.hp_settle.specs.Settling.{settled_rows, settled_links, settled_duals, used_duals, settled_of}
+use Rattle.hp_settle.proofs.SettledRight.{HasCuts, settled_used, settled_right, settled_fault}
+
+-- what follows for a value that is there
+pub if_ok : {A E : Type 0} (P Q : A → Type 0) (r : Result A E) → ((x : A) → P x → Q x) → IfOk r P → IfOk r Q
+if_ok P Q (Ok x) f h = f x h
+if_ok P Q (Err e) f h = h
+
+-- each successor has a weight and a cut
+pub have_cuts : (p : Sealed) (m : ℕ) (pools : List (List Cut)) → is_sealed p ≡ true → m < length p.raw.nodes → Fit (problem_of p) (length p.raw.nodes) pools → All (HasCuts pools) (node_at (problem_of p) m).links
+have_cuts p m pools e h fit = λ i d l. ((leads-sealed p m e h i d l).0, fit.some (get_or (node_at (problem_of p) m).links i d).node (links-sealed p m e h i d l))
+
+pub only_range-sealed : (p : Sealed) (m : ℕ) (pools : List (List Cut)) (answers : List Answer) → is_sealed p ≡ true → m < length p.raw.nodes → Fit (problem_of p) (length p.raw.nodes) pools
+    → length answers ≡ length (node_at (problem_of p) m).realizations → fault_of pools (node_at (problem_of p) m) (map (settled_of pools (node_at (problem_of p) m)) answers) ≡ range_fault pools (node_at (problem_of p) m) (map (settled_of pools (node_at (problem_of p) m)) answers)
+only_range-sealed p m pools answers e h fit = settled_fault pools (node_at (problem_of p) m) answers (have_cuts p m pools e h fit)
+
+-- what is made of a node's parts
+made_of : (pools : List (List Cut)) (n : nodes.Node) (s : Subproblem) (low high : List ℤ) (duals : List Fx)
+    → record { rows = settled_rows 0 s.rows duals; cuts = settled_links pools (links_of n.links n.link_weights) (drop (length s.rows) duals) } ≡ settled_duals pools (node_of n s low high) duals
+unfolding node_of
+made_of pools n s low high duals = refl
+
+module _ (p : Sealed) (raw : Raw) (ns : List nodes.Node) (m : ℕ) (n : nodes.Node) (s : Subproblem) (pools : List (List Cut)) (e : is_sealed p ≡ true) (is : raw ≡ p.raw) (all : ns ≡ raw.nodes) (h : m < length p.raw.nodes) (at : n ≡ get_or ns m n)
+    (sub : subproblem_of p m ≡ Some s) (fit : Fit (problem_of p) (length p.raw.nodes) pools) where
+  the_node : slice_get p.raw.nodes m ≡ Some n
+  the_node = slice_get-get_or p.raw.nodes m n h ∙ ap Some (sym (at ∙ ap (λ (ks : List nodes.Node). get_or ks m n) (all ∙ ap (λ (r : Raw). r.nodes) is)))
+
+  abbrev the_low : List ℤ
+  the_low = (parts p m e h).low
+
+  abbrev the_high : List ℤ
+  the_high = (parts p m e h).high
+
+  given : PartsFit p m n s the_low the_high
+  given = let q : Parts p m = parts p m e h in parts_given p m n s q.low q.high e the_node sub q.fit.the_low q.fit.the_high
+
+  pub weights_there : length n.link_weights ≡ length n.links
+  weights_there = (linked n (length p.raw.nodes) given.links).1
+
+  below : (k : ℕ) → nat_lt k (length p.raw.nodes) ≡ true → k < length p.raw.nodes
+  below k h = grind (arith, nat_tests)
+
+  known : (i d : ℕ) → i < length n.links → get_or n.links i d < length p.raw.nodes
+  known i d l = below (get_or n.links i d) (all_at (λ m. nat_lt m (length p.raw.nodes)) n.links i d (links_known n (length p.raw.nodes) given.links) l)
+
+  pub nodes_there : All (λ m. m < length pools) n.links
+  nodes_there = λ i d l. omega (arith, known i d l, fit.lists)
+
+  pub cuts_there : All (λ m. 0 < length (pool pools m)) n.links
+  cuts_there = λ i d l. fit.some (get_or n.links i d) (known i d l)
+
+  here : All (HasCuts pools) (node_at (problem_of p) m).links
+  here = have_cuts p m pools e h fit
+
+  module _ (answer : Answer) (used : List Fx) (c : Certificate) (duals : used ≡ used_duals answer.kind answer.duals)
+      (made : c ≡ record { rows = settled_rows 0 s.rows used; cuts = settled_links pools (links_of n.links n.link_weights) (drop (length s.rows) used) }) where
+    pub is_settled : c ≡ settled_of pools (node_at (problem_of p) m) answer
+    is_settled =
+        made ∙ made_of pools n s the_low the_high used
+        ∙ ap₂ (λ (x : Node) (ds : List Fx). settled_duals pools x ds) (sym given.is) duals
+        ∙ settled_used pools (node_at (problem_of p) m) answer here
+
+    pub is_right : RightAt pools (node_at (problem_of p) m) c
+    is_right = subst (RightAt pools (node_at (problem_of p) m)) (sym is_settled) (settled_right pools (node_at (problem_of p) m) answer here)

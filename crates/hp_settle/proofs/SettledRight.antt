@@ -1,0 +1,125 @@
+-- A settled certificate is right, whatever the answer.
+use Rattle.std.proofs.Common.{◌≡◌, ◌∙◌, ℕ, zero, suc, ◌*◌, ◌<◌, Bool, true, false, ℤ, pos, negsuc, List, [], ◌∷◌, length, map, zip, drop, if◌then◌else◌, mul-pos, All, IsSome, Option, Some, None, refl, ap, ap₂, subst, arith}
+use Rattle.std.specs.Prelude.{is_some}
+use Rattle.std.proofs.lemmas.List.{length-map}
+use Rattle.std.proofs.lemmas.List.Elements.{All-nil, All-cons, All-head, All-tail}
+use Rattle.std.proofs.Math.Seq.{drop-nil}
+use Rattle.hp_problem.specs.declared.raw.Row.{Row}
+use Rattle.hp_theory.specs.declared.cut.Cut.{Cut}
+use Rattle.hp_theory.specs.Problem.{S, Link, Node}
+use Rattle.hp_theory.specs.Pools.{pool}
+use Rattle.hp_theory.specs.Certificates.{SignRight, PairsRight, RightAt, Right}
+use Rattle.hp_theory.specs.Base.{base_certificate}
+use Rattle.hp_solver.specs.declared.fixed.Fx.{Fx}
+use Rattle.hp_solver.specs.declared.stage_lp.Answer.{Answer}
+use Rattle.hp_solver.specs.declared.stage_lp.Kind.{Kind}
+use Rattle.hp_solver.specs.declared.stage_lp.Kind.TheVariants.{Found, Ray, Stuck}
+use Rattle.hp_dual.specs.Acceptance.{fault_of, range_fault}
+use Rattle.hp_dual.proofs.Faultless.{right-range_fault}
+use Rattle.hp_settle.specs.Settling.{dual_at, clamped, rescaled, signed, settled_row, settled_rows, settled_pairs, settled_links, settled_duals, used_duals, settled_by, settled_of}
+use Rattle.hp_settle.proofs.SettledPairs.{pairs_right, no_duals-pairs}
+
+-- rows
+some : (o : Option ℤ) → is_some o ≡ true → IsSome o
+some None e = cc
+some (Some x) e = refl
+
+signed_right : (row : Row) (y : ℤ) → SignRight row (signed row y)
+signed_right row (pos zero) = tt
+signed_right row (pos (suc y)) = by (is_some row.low) (some row.low)
+  where
+    by : (b : Bool) → (b ≡ true → IsSome row.low) → SignRight row (if b then pos (suc y) else pos 0)
+    by true h = h refl
+    by false h = tt
+signed_right row (negsuc y) = by (is_some row.high) (some row.high)
+  where
+    by : (b : Bool) → (b ≡ true → IsSome row.high) → SignRight row (if b then negsuc y else pos 0)
+    by true h = h refl
+    by false h = tt
+
+abbrev pub RightSign : Row × ℤ → Type 0
+RightSign q = SignRight q.0 q.1
+
+pub length-settled_rows : (i : ℕ) (rows : List Row) (duals : List Fx) → length (settled_rows i rows duals) ≡ length rows
+length-settled_rows i [] duals = refl
+length-settled_rows i (row ∷ rows) duals = ap suc (length-settled_rows (suc i) rows duals)
+
+pub signs : (i : ℕ) (rows : List Row) (duals : List Fx) → All RightSign (zip rows (settled_rows i rows duals))
+signs i [] duals = All-nil RightSign
+signs i (row ∷ rows) duals = All-cons RightSign (row, settled_row row (dual_at duals i)) (zip rows (settled_rows (suc i) rows duals)) (signed_right row (clamped (rescaled (dual_at duals i)))) (signs (suc i) rows duals)
+
+-- successors
+abbrev pub HasCuts : List (List Cut) → Link → Type 0
+HasCuts pools l = (0 < l.weight) × (0 < length (pool pools l.node))
+
+length-settled_links : (pools : List (List Cut)) (ls : List Link) (duals : List Fx) → length (settled_links pools ls duals) ≡ length ls
+length-settled_links pools [] duals = refl
+length-settled_links pools (l ∷ ls) duals = ap suc (length-settled_links pools ls (drop (length (pool pools l.node)) duals))
+
+links_right : (pools : List (List Cut)) (ls : List Link) (duals : List Fx) → All (HasCuts pools) ls → All (PairsRight pools) (zip ls (settled_links pools ls duals))
+links_right pools [] duals h = All-nil (PairsRight pools)
+links_right pools (l ∷ ls) duals h =
+    let rest = drop (length (pool pools l.node)) duals in
+    All-cons (PairsRight pools) (l, settled_pairs (S * l.weight) (length (pool pools l.node)) duals) (zip ls (settled_links pools ls rest)) (pairs_right pools l duals (All-head (HasCuts pools) l ls h).1) (links_right pools ls rest (All-tail (HasCuts pools) l ls h))
+
+-- any duals
+pub duals_right : (pools : List (List Cut)) (n : Node) (duals : List Fx) → All (HasCuts pools) n.links → RightAt pools n (settled_duals pools n duals)
+duals_right pools n duals h = record {
+  rows = length-settled_rows 0 n.rows duals;
+  links = length-settled_links pools n.links (drop (length n.rows) duals);
+  signs = signs 0 n.rows duals;
+  pairs = links_right pools n.links (drop (length n.rows) duals) h;
+}
+
+-- no duals give the base certificate
+no_rows : (i : ℕ) (rows : List Row) → settled_rows i rows [] ≡ map (λ (row : Row). pos 0) rows
+no_rows i [] = refl
+no_rows i (row ∷ rows) = ap (λ (ys : List ℤ). pos 0 ∷ ys) (no_rows (suc i) rows)
+
+no_links : (pools : List (List Cut)) (ls : List Link) → All (HasCuts pools) ls → (0 < S) → settled_links pools ls [] ≡ map (λ (l : Link). (0, S * l.weight) ∷ []) ls
+no_links pools [] h s = refl
+no_links pools (l ∷ ls) h s =
+    let q : HasCuts pools l = All-head (HasCuts pools) l ls h in
+    let none : ◌≡◌ {A = List Fx} (drop (length (pool pools l.node)) []) [] = drop-nil (length (pool pools l.node)) in
+    rw (none, no_duals-pairs (S * l.weight) (length (pool pools l.node)) (mul-pos s q.0) q.1)
+    (ap (λ (cuts : List (List (ℕ × ℕ))). ((0, S * l.weight) ∷ []) ∷ cuts) (no_links pools ls (All-tail (HasCuts pools) l ls h) s))
+
+some_scale : 0 < S
+unfolding S
+some_scale = omega arith
+
+pub no_duals-base : (pools : List (List Cut)) (n : Node) → All (HasCuts pools) n.links → settled_duals pools n [] ≡ base_certificate n
+no_duals-base pools n h =
+    let none : ◌≡◌ {A = List Fx} (drop (length n.rows) []) [] = drop-nil (length n.rows) in
+    rw none
+    (ap₂ (λ (rows : List ℤ) (cuts : List (List (ℕ × ℕ))). record { rows = rows; cuts = cuts }) (no_rows 0 n.rows) (no_links pools n.links h some_scale))
+
+-- any answer
+by_right : (kind : Kind) (pools : List (List Cut)) (n : Node) (duals : List Fx) → All (HasCuts pools) n.links → RightAt pools n (settled_by kind pools n duals)
+by_right Found pools n duals h = duals_right pools n duals h
+by_right Ray pools n duals h = subst (RightAt pools n) (no_duals-base pools n h) (duals_right pools n [] h)
+by_right Stuck pools n duals h = subst (RightAt pools n) (no_duals-base pools n h) (duals_right pools n [] h)
+
+by_used : (kind : Kind) (pools : List (List Cut)) (n : Node) (duals : List Fx) → All (HasCuts pools) n.links → settled_duals pools n (used_duals kind duals) ≡ settled_by kind pools n duals
+by_used Found pools n duals h = refl
+by_used Ray pools n duals h = no_duals-base pools n h
+by_used Stuck pools n duals h = no_duals-base pools n h
+
+pub settled_used : (pools : List (List Cut)) (n : Node) (answer : Answer) → All (HasCuts pools) n.links → settled_duals pools n (used_duals answer.kind answer.duals) ≡ settled_of pools n answer
+unfolding settled_of
+settled_used pools n answer h = by_used answer.kind pools n answer.duals h
+
+pub settled_right : (pools : List (List Cut)) (n : Node) (answer : Answer) → All (HasCuts pools) n.links → RightAt pools n (settled_of pools n answer)
+unfolding settled_of
+settled_right pools n answer h = by_right answer.kind pools n answer.duals h
+
+all_right : (pools : List (List Cut)) (n : Node) (answers : List Answer) → All (HasCuts pools) n.links → All (RightAt pools n) (map (settled_of pools n) answers)
+all_right pools n [] h = All-nil (RightAt pools n)
+all_right pools n (a ∷ answers) h = All-cons (RightAt pools n) (settled_of pools n a) (map (settled_of pools n) answers) (settled_right pools n a h) (all_right pools n answers h)
+
+pub settled_list_right : (pools : List (List Cut)) (n : Node) (answers : List Answer) → All (HasCuts pools) n.links → length answers ≡ length n.realizations → Right pools n (map (settled_of pools n) answers)
+settled_list_right pools n answers h e = record { count = length-map answers (settled_of pools n) ∙ e; each = all_right pools n answers h }
+
+-- the only fault of settled certificates
+pub settled_fault : (pools : List (List Cut)) (n : Node) (answers : List Answer) → All (HasCuts pools) n.links → length answers ≡ length n.realizations → fault_of pools n (map (settled_of pools n) answers) ≡ range_fault pools n (map (settled_of pools n) answers)
+settled_fault pools n answers h e = right-range_fault pools n (map (settled_of pools n) answers) (settled_list_right pools n answers h e)

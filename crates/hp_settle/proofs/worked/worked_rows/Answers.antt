@@ -1,0 +1,5 @@
+use Rattle.hp_settle.proofs.WorkedRefutation as lemmas
+use Rattle.hp_settle.proofs.worked.worked_rows.Goals as goal
+
+pub returns : goal.returns
+returns c = record { value = lemmas.refuting_value; refuted = lemmas.refuted_load; not_refuted = lemmas.met_load }

@@ -1,0 +1,5 @@
+pub mod Examples
+pub mod Judging
+pub mod Refutation
+pub mod Settling
+pub mod SizedSums

@@ -1,0 +1,116 @@
+-- Certificates from the duals of a solver's answer, which need not be right.
+-- A solver's numbers stand over 2^32, multipliers over 2^24.
+use Rattle.std.specs.Prelude.{ℕ, zero, suc, ◌+◌, ◌-◌, ◌*◌, ◌/◌, ◌^◌, min, ℤ, pos, negsuc, List, [], ◌∷◌, length, get_or, drop, set, nat_lt, if◌then◌else◌}
+use Rattle.std.specs.Int.{int_min, int_max}
+use Rattle.hp_num.specs.Sums.{floor_over}
+use Rattle.hp_problem.specs.declared.raw.Row.{Row}
+use Rattle.hp_theory.specs.declared.cut.Cut.{Cut}
+use Rattle.hp_theory.specs.declared.cut.Certificate.{Certificate}
+use Rattle.hp_theory.specs.Problem.{S, Link, Node}
+use Rattle.hp_theory.specs.Pools.{pool}
+use Rattle.hp_theory.specs.Base.{base_certificate}
+use Rattle.hp_solver.specs.declared.fixed.Fx.{Fx}
+use Rattle.hp_solver.specs.declared.stage_lp.Answer.{Answer}
+use Rattle.hp_solver.specs.declared.stage_lp.Kind.{Kind}
+use Rattle.hp_solver.specs.declared.stage_lp.Kind.TheVariants.{Found, Ray, Stuck}
+use Rattle.hp_solver.specs.Numbers.{zero_fx}
+use Rattle.hp_dual.specs.Acceptance.{is_sign}
+
+-- the dual of row i, 0 where it is missing
+abbrev pub dual_at : List Fx → ℕ → ℤ
+dual_at duals i = (get_or duals i zero_fx).0
+
+-- from the scale 2^32 to the scale 2^24, rounded down
+abbrev pub rescaled : ℤ → ℤ
+rescaled z = floor_over z (2 ^ 32 / 2 ^ 24)
+
+-- the nearest number of 64 bits
+abbrev pub clamped : ℤ → ℤ
+clamped z = int_max (negsuc (2 ^ 63 - 1)) (int_min (pos (2 ^ 63 - 1)) z)
+
+-- 0 where it is positive without a lower side or negative without an upper
+abbrev pub signed : Row → ℤ → ℤ
+signed row y = if is_sign row y then y else pos 0
+
+abbrev pub settled_row : Row → ℤ → ℤ
+settled_row row dual = signed row (clamped (rescaled dual))
+
+-- the multipliers of rows, the first of which has the number i
+abbrev pub settled_rows : ℕ → List Row → List Fx → List ℤ
+settled_rows i [] duals = []
+settled_rows i (row ∷ rows) duals = settled_row row (dual_at duals i) ∷ settled_rows (suc i) rows duals
+
+abbrev pub positive_part : ℤ → ℕ
+positive_part (pos n) = n
+positive_part (negsuc n) = 0
+
+-- what the dual of a cut gives as its multiplier
+abbrev pub cut_multiplier : ℤ → ℕ
+cut_multiplier dual = positive_part (rescaled dual)
+
+-- the same of count cuts, the first of which has the place k
+abbrev pub cut_multipliers : List Fx → ℕ → ℕ → List ℕ
+cut_multipliers duals k zero = []
+cut_multipliers duals k (suc count) = cut_multiplier (dual_at duals k) ∷ cut_multipliers duals (suc k) count
+
+-- in order each keeps at most what is left
+abbrev pub capped : ℕ → List ℕ → List ℕ
+capped left [] = []
+capped left (v ∷ vs) = min v left ∷ capped (left - v) vs
+
+-- what is left when all have kept theirs
+abbrev pub missing : ℕ → List ℕ → ℕ
+missing left [] = left
+missing left (v ∷ vs) = missing (left - v) vs
+
+-- the least place of the greatest: that of vs, from the place k on, where it is above `most`, which stands at `best`
+abbrev pub greatest_from : ℕ → ℕ → ℕ → List ℕ → ℕ
+greatest_from best most k [] = best
+greatest_from best most k (v ∷ vs) = if nat_lt most v then greatest_from k v (suc k) vs else greatest_from best most (suc k) vs
+
+abbrev pub place_of_greatest : List ℕ → ℕ
+place_of_greatest vs = greatest_from 0 0 0 vs
+
+-- with so much more at a place
+abbrev pub raised : List ℕ → ℕ → ℕ → List ℕ
+raised vs k more = set vs k (get_or vs k 0 + more)
+
+-- the target shared out: each keeps at most what is left, and what is missing then goes to the greatest; where
+-- something is missing, each has kept all
+abbrev pub shared : ℕ → List ℕ → List ℕ
+shared target vs = raised (capped target vs) (place_of_greatest (capped target vs)) (missing target vs)
+
+-- the places, from k on, whose multiplier is not 0
+abbrev pub pairs_from : ℕ → List ℕ → List (ℕ × ℕ)
+pairs_from k [] = []
+pairs_from k (zero ∷ vs) = pairs_from (suc k) vs
+pairs_from k (suc v ∷ vs) = (k, suc v) ∷ pairs_from (suc k) vs
+
+-- the pairs of a successor with so many cuts, whose duals come first
+abbrev pub settled_pairs : ℕ → ℕ → List Fx → List (ℕ × ℕ)
+settled_pairs target count duals = pairs_from 0 (shared target (cut_multipliers duals 0 count))
+
+-- the pairs of the successors, the duals of whose cuts follow one another
+abbrev pub settled_links : List (List Cut) → List Link → List Fx → List (List (ℕ × ℕ))
+settled_links pools [] duals = []
+settled_links pools (l ∷ ls) duals = settled_pairs (S * l.weight) (length (pool pools l.node)) duals ∷ settled_links pools ls (drop (length (pool pools l.node)) duals)
+
+-- duals of a node's rows, then of its successors' cuts
+abbrev pub settled_duals : List (List Cut) → Node → List Fx → Certificate
+settled_duals pools n duals = record { rows = settled_rows 0 n.rows duals; cuts = settled_links pools n.links (drop (length n.rows) duals) }
+
+-- the duals that are made use of: those of a claimed solution
+abbrev pub used_duals : Kind → List Fx → List Fx
+used_duals Found duals = duals
+used_duals Ray duals = []
+used_duals Stuck duals = []
+
+-- only an answer that claims a solution is settled by its duals
+abbrev pub settled_by : Kind → List (List Cut) → Node → List Fx → Certificate
+settled_by Found pools n duals = settled_duals pools n duals
+settled_by Ray pools n duals = base_certificate n
+settled_by Stuck pools n duals = base_certificate n
+
+-- Settle: the certificate of an answer at a node
+unfoldable pub settled_of : List (List Cut) → Node → Answer → Certificate
+settled_of pools n answer = settled_by answer.kind pools n answer.duals

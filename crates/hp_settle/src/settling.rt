@@ -1,0 +1,294 @@
+// Certificates from the duals of a solver's answer, which need not be right.
+ghost use Rattle.std.specs.Prelude.{◌≡◌, ◌+◌, ◌*◌, ◌<◌, ◌≤◌, ◌^◌, [], ◌∷◌, ◌++◌, length, get_or, min, drop, All, IfOk, OnOk};
+ghost use Rattle.hp_theory.specs.Problem.{S, node_at};
+ghost use Rattle.hp_theory.specs.Pools.{pool};
+ghost use Rattle.hp_theory.specs.Fit.{Fit};
+ghost use Rattle.hp_theory.specs.View.{links_of, problem_of};
+ghost use Rattle.hp_theory.specs.Certificates.{RightAt};
+ghost use Rattle.hp_dual.specs.Acceptance.{is_sign};
+ghost use Rattle.hp_settle.specs.Settling.{dual_at, rescaled, clamped, settled_row, settled_rows, cut_multiplier, cut_multipliers, capped, missing, place_of_greatest, raised, shared, pairs_from, settled_pairs, settled_links, used_duals, settled_of};
+
+use hp_cut::Pools;
+use hp_num::{List, Memory, floor_div};
+use hp_problem::{Node, Problem, Row, Subproblem};
+use hp_solver::fixed::ONE;
+use hp_solver::{Answer, Fx, Kind};
+use hp_theory::{Certificate, SCALE};
+use std::alloc::Global;
+
+/// How often the scale of multipliers goes into that of duals.
+const FINER: i128 = ONE / SCALE as i128;
+
+/// The dual of a row, 0 where it is missing.
+fn dual_at(duals: &[Fx], i: usize) -> i128
+    ensures { result ≡ dual_at duals.now i }
+{
+    match duals.get(i) {
+        Some(dual) => dual.0,
+        None => 0,
+    }
+}
+
+/// A dual at the scale of multipliers, rounded down.
+fn rescaled(dual: i128) -> i128
+    ensures { result ≡ rescaled dual }
+{
+    floor_div(dual, FINER)
+}
+
+/// The nearest number of 64 bits.
+fn clamped(number: i128) -> i64
+    ensures { result ≡ clamped number }
+{
+    number.clamp(i128::from(i64::MIN), i128::from(i64::MAX)) as i64
+}
+
+/// Whether the row has the side that a multiplier stands on.
+fn has_side(row: &Row, multiplier: i64) -> bool
+    ensures { result ≡ is_sign row.now multiplier }
+{
+    if multiplier > 0 {
+        row.low.is_some()
+    } else {
+        multiplier == 0 || row.high.is_some()
+    }
+}
+
+/// The multiplier of a row: its dual at the scale of multipliers, clamped, and 0 without the side that it stands on.
+fn settled_row(row: &Row, dual: i128) -> i64
+    ensures { result ≡ settled_row row.now dual }
+{
+    let multiplier = clamped(rescaled(dual));
+    if has_side(row, multiplier) {
+        multiplier
+    } else {
+        0
+    }
+}
+
+/// The multipliers of rows. [`Memory`] where memory was refused.
+pub(crate) fn settled_rows(alloc: Global, rows: &[Row], duals: &[Fx]) -> Result<List<i64>, Memory>
+    ensures { IfOk result (λ found. found ≡ settled_rows 0 rows.now duals.now) }
+{
+    let mut found = List::new(alloc);
+    for (i, row) in rows.iter().enumerate() {
+        found.push(settled_row(row, dual_at(duals, i)))?;
+    }
+    Ok(found)
+}
+
+/// The multiplier that the dual of a cut gives.
+fn cut_multiplier(dual: i128) -> u128
+    ensures { result ≡ cut_multiplier dual }
+{
+    u128::try_from(rescaled(dual)).unwrap_or(0)
+}
+
+/// A multiplier, or what is left where that is less.
+fn share(multiplier: u128, left: u64) -> u64
+    ensures { result ≡ min multiplier left }
+{
+    multiplier.min(u128::from(left)) as u64
+}
+
+/// The multipliers of a successor's cuts within its target, and what is missing to it.
+#[derive(Drop)]
+struct Shares {
+    multipliers: List<u64>,
+    missing: u64,
+}
+
+/// In order each cut keeps at most what the target leaves.
+fn within_target(alloc: Global, target: u64, count: usize, duals: &[Fx]) -> Result<Shares, Memory>
+    ensures multipliers { IfOk result (λ found. found.multipliers ≡ capped target (cut_multipliers duals.now 0 count)) }
+    ensures missing { IfOk result (λ found. found.missing ≡ missing target (cut_multipliers duals.now 0 count)) }
+{
+    let mut multipliers = List::new(alloc);
+    let mut missing = target;
+    for k in 0..count {
+        let multiplier = share(cut_multiplier(dual_at(duals, k)), missing);
+        multipliers.push(multiplier)?;
+        missing -= multiplier;
+    }
+    Ok(Shares {
+        multipliers,
+        missing,
+    })
+}
+
+/// The least place of the greatest.
+fn place_of_greatest(multipliers: &[u64]) -> usize
+    ensures { result ≡ place_of_greatest multipliers.now }
+{
+    let mut best = 0;
+    let mut most = 0;
+    for (k, multiplier) in multipliers.iter().enumerate() {
+        if *multiplier > most {
+            best = k;
+            most = *multiplier;
+        }
+    }
+    best
+}
+
+/// Adds so much at a place.
+fn raise(multipliers: &mut List<u64>, place: usize, more: u64)
+    requires there { place < length multipliers.old }
+    requires room { get_or multipliers.old place 0 + more < 2 ^ 64 }
+    ensures { multipliers.new ≡ raised multipliers.old place more }
+{
+    let multiplier = multipliers.as_slice()[place];
+    multipliers.set(place, multiplier + more);
+}
+
+/// The target shared out among some cuts: in order each keeps at most what is left, and what is missing then goes to
+/// the greatest.
+fn shared(alloc: Global, target: u64, count: usize, duals: &[Fx]) -> Result<List<u64>, Memory>
+    requires { 0 < count }
+    ensures { IfOk result (λ found. found ≡ shared target (cut_multipliers duals.now 0 count)) }
+{
+    let Shares {
+        mut multipliers,
+        missing,
+    } = within_target(alloc, target, count, duals)?;
+    let place = place_of_greatest(multipliers.as_slice());
+    raise(&mut multipliers, place, missing);
+    Ok(multipliers)
+}
+
+/// Puts a pair behind the others, unless its multiplier is 0.
+fn push_pair(pairs: &mut List<(u32, u64)>, place: u32, multiplier: u64) -> Result<(), Memory>
+    ensures { OnOk result (pairs.new ≡ pairs.old ++ pairs_from place (multiplier ∷ [])) }
+{
+    if multiplier != 0 {
+        pairs.push((place, multiplier))?;
+    }
+    Ok(())
+}
+
+/// The places whose multiplier is not 0.
+fn positive_pairs(alloc: Global, multipliers: &[u64]) -> Result<List<(u32, u64)>, Memory>
+    requires { length multipliers.now ≤ 2 ^ 24 }
+    ensures { IfOk result (λ found. found ≡ pairs_from 0 multipliers.now) }
+{
+    let mut found = List::new(alloc);
+    for (k, multiplier) in multipliers.iter().enumerate() {
+        push_pair(&mut found, k as u32, *multiplier)?;
+    }
+    Ok(found)
+}
+
+/// The pairs of a successor with so many cuts, whose duals come first.
+fn settled_pairs(
+    alloc: Global,
+    target: u64,
+    count: u32,
+    duals: &[Fx],
+) -> Result<List<(u32, u64)>, Memory>
+    requires some { 0 < count }
+    requires few { count ≤ 2 ^ 24 }
+    ensures { IfOk result (λ found. found ≡ settled_pairs target count duals.now) }
+{
+    let multipliers = shared(alloc, target, count as usize, duals)?;
+    positive_pairs(alloc, multipliers.as_slice())
+}
+
+/// All of a successor's weight.
+#[tactic(auto, unfolding(hp_theory::specs::Problem::S))]
+fn target(weight: u32) -> u64
+    ensures { result ≡ S * weight }
+{
+    u64::from(SCALE) * u64::from(weight)
+}
+
+/// The duals behind so many.
+fn behind(duals: &[Fx], count: usize) -> &[Fx]
+    ensures { result.now ≡ drop count duals.now }
+{
+    if count < duals.len() {
+        &duals[count..]
+    } else {
+        &[]
+    }
+}
+
+/// The pairs of successors, the duals of whose cuts follow one another.
+fn settled_links(
+    alloc: Global,
+    pools: &Pools,
+    links: &[u32],
+    weights: &[u32],
+    duals: &[Fx],
+) -> Result<List<List<(u32, u64)>>, Memory>
+    requires weights { length weights.now ≡ length links.now }
+    requires known { All (λ m. m < length pools.now.lists) links.now }
+    requires some { All (λ m. 0 < length (pool pools.now.lists m)) links.now }
+    ensures { IfOk result (λ found. found ≡ settled_links pools.now.lists (links_of links.now weights.now) duals.now) }
+{
+    let mut found = List::new(alloc);
+    let mut rest = duals;
+    for i in 0..links.len() {
+        let count = pools.count(links[i]);
+        found.push(settled_pairs(alloc, target(weights[i]), count, rest)?)?;
+        rest = behind(rest, count as usize);
+    }
+    Ok(found)
+}
+
+/// The duals that are made use of: those of a claimed solution.
+fn used_duals(answer: &Answer) -> &[Fx]
+    ensures { result.now ≡ used_duals answer.now.kind answer.now.duals }
+{
+    match answer.kind {
+        Kind::Found => answer.duals.as_slice(),
+        Kind::Ray | Kind::Stuck => &[],
+    }
+}
+
+/// The certificate of duals of a node's rows, then of its successors' cuts.
+fn settled_duals(
+    alloc: Global,
+    pools: &Pools,
+    node: &Node,
+    subproblem: &Subproblem,
+    duals: &[Fx],
+) -> Result<Certificate, Memory>
+    requires weights { length node.now.link_weights ≡ length node.now.links }
+    requires known { All (λ m. m < length pools.now.lists) node.now.links }
+    requires some { All (λ m. 0 < length (pool pools.now.lists m)) node.now.links }
+    ensures { IfOk result (λ c. c ≡ record {
+      rows = settled_rows 0 subproblem.now.rows duals.now;
+      cuts = settled_links pools.now.lists (links_of node.now.links node.now.link_weights) (drop (length subproblem.now.rows) duals.now);
+    }) }
+{
+    let rows = settled_rows(alloc, subproblem.rows.as_slice(), duals)?;
+    let links = node.links.as_slice();
+    let weights = node.link_weights.as_slice();
+    let rest = behind(duals, subproblem.rows.len());
+    let cuts = settled_links(alloc, pools, links, weights, rest)?;
+    Ok(Certificate { rows, cuts })
+}
+
+/// The certificate of an answer at a node over its successors' cuts; [`Memory`] where memory was refused.
+///
+/// A multiplier is a dual at scale 2^24, rounded down. That of a row is clamped to 64 bits, and 0 where the row lacks
+/// the side that it stands on. Each cut of a successor keeps, in order, at most what is left of 2^24 times the
+/// successor's weight; what is missing then goes to the greatest, the first of equals, and cuts with 0 are left out. A
+/// missing dual counts as 0, and those beyond the rows are ignored. An answer that claims no solution gives the base
+/// certificate. The certificate is right for any answer, of any lengths and numbers.
+pub fn settle(
+    alloc: Global,
+    problem: &Problem,
+    pools: &Pools,
+    node: u32,
+    answer: &Answer,
+) -> Result<Certificate, Memory>
+    requires known { node < length problem.now.raw.nodes }
+    requires fit { Fit (problem_of problem.now) (length problem.now.raw.nodes) pools.now.lists }
+    ensures value { IfOk result (λ c. c ≡ settled_of pools.now.lists (node_at (problem_of problem.now) node) answer.now) }
+    ensures right { IfOk result (RightAt pools.now.lists (node_at (problem_of problem.now) node)) }
+{
+    let raw = problem.raw();
+    let own = &raw.nodes.as_slice()[node as usize];
+    settled_duals(alloc, pools, own, problem.sub(node), used_duals(answer))
+}

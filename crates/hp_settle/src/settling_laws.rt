@@ -1,0 +1,57 @@
+// What settled certificates are, whatever the answers, and settled duals that were worked out by hand.
+ghost use Rattle.std.specs.Prelude.{◌≡◌, ◌-◌, ◌^◌, ◌<◌, pos, negsuc, ℕ, true, List, [], ◌∷◌, length, map, All};
+ghost use Rattle.hp_solver.specs.Numbers.{number};
+ghost use Rattle.hp_solver.specs.declared.stage_lp.Answer.{Answer};
+ghost use Rattle.hp_theory.specs.Problem.{Link, Node, node_at};
+ghost use Rattle.hp_theory.specs.View.{problem_of};
+ghost use Rattle.hp_theory.specs.Fit.{Fit};
+ghost use Rattle.hp_problem.specs.Sealed.{Sealed, is_sealed};
+ghost use Rattle.hp_theory.specs.declared.cut.Cut.{Cut};
+ghost use Rattle.hp_theory.specs.Pools.{pool};
+ghost use Rattle.hp_theory.specs.Certificates.{Right};
+ghost use Rattle.hp_theory.specs.Examples.{reservoir, reservoir_certificate, negative_box};
+ghost use Rattle.hp_dual.specs.Acceptance.{fault_of, range_fault};
+ghost use Rattle.hp_settle.specs.Settling.{capped, missing, settled_rows, settled_pairs, settled_duals, settled_of};
+
+/// A list of settled certificates, one per realization, is right, and can only be refused for its size. This is so for
+/// answers of any lengths and numbers, at a node whose successors have weights and cuts, as those of a problem have over
+/// pools that fit.
+pub fn settled_lists()
+    ensures right { (pools : List (List Cut)) (n : Node) (answers : List Answer)
+        → All (λ (l : Link). (0 < l.weight) × (0 < length (pool pools l.node))) n.links
+        → length answers ≡ length n.realizations → Right pools n (map (settled_of pools n) answers) }
+    ensures only_range { (pools : List (List Cut)) (n : Node) (answers : List Answer)
+        → All (λ (l : Link). (0 < l.weight) × (0 < length (pool pools l.node))) n.links
+        → length answers ≡ length n.realizations
+        → fault_of pools n (map (settled_of pools n) answers) ≡ range_fault pools n (map (settled_of pools n) answers) }
+    ensures of_a_problem { (p : Sealed) (m : ℕ) (pools : List (List Cut)) (answers : List Answer)
+        → is_sealed p ≡ true → m < length p.raw.nodes → Fit (problem_of p) (length p.raw.nodes) pools
+        → length answers ≡ length (node_at (problem_of p) m).realizations
+        → fault_of pools (node_at (problem_of p) m) (map (settled_of pools (node_at (problem_of p) m)) answers)
+        ≡ range_fault pools (node_at (problem_of p) m) (map (settled_of pools (node_at (problem_of p) m)) answers) }
+{}
+
+/// What goes to the greatest of a successor's multipliers goes to the greatest of those that the duals give: where
+/// something is missing, each has kept all.
+pub fn settled_shares()
+    ensures { (target : ℕ) (vs : List ℕ) → 0 < missing target vs → capped target vs ≡ vs }
+{}
+
+/// Duals -5 and 5; rounded down before they are clamped; without an upper side; 10 shared out among cuts, where some
+/// is missing, where there is too much, and without duals.
+pub fn worked_settling()
+    ensures reservoir { settled_duals [] (reservoir 2)
+        (map number (negsuc 21474836479 ∷ pos 21474836480 ∷ [])) ≡ reservoir_certificate }
+    ensures rounded { settled_rows 0 (reservoir 2).rows
+        (map number (negsuc 0 ∷ pos 255 ∷ [])) ≡ negsuc 0 ∷ pos 0 ∷ [] }
+    ensures clamped { settled_rows 0 (reservoir 2).rows
+        (map number (negsuc (2 ^ 127 - 1) ∷ pos (2 ^ 127 - 1) ∷ []))
+        ≡ negsuc (2 ^ 63 - 1) ∷ pos (2 ^ 63 - 1) ∷ [] }
+    ensures wrong_sign { settled_rows 0 negative_box.rows (map number (negsuc 511 ∷ [])) ≡ pos 0 ∷ [] }
+    ensures some_missing { settled_pairs 10 4
+        (map number (pos 256 ∷ pos 768 ∷ pos 768 ∷ negsuc 0 ∷ []))
+        ≡ (0, 1) ∷ (1, 6) ∷ (2, 3) ∷ [] }
+    ensures too_much { settled_pairs 10 3 (map number (pos 1024 ∷ pos 2048 ∷ pos 512 ∷ []))
+        ≡ (0, 4) ∷ (1, 6) ∷ [] }
+    ensures no_duals { settled_pairs 10 3 [] ≡ (0, 10) ∷ [] }
+{}
