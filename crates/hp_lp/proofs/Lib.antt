@@ -7,3 +7,4 @@ pub mod ProperStages
 pub mod SealedStages
 pub mod Alike
 pub mod EachReady
+pub mod Answering

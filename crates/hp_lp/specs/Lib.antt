@@ -4,3 +4,4 @@ pub mod Given
 pub mod Outs
 pub mod Nodes
 pub mod Ready
+pub mod Chained

@@ -1,6 +1,7 @@
 //! Stage problems: the linear programs that training solves at a node.
 #![tactic(auto)]
 
+pub mod answers;
 mod columns;
 mod cut_rows;
 pub mod laws;
@@ -10,6 +11,7 @@ mod scales;
 pub mod stages;
 pub mod starts;
 
+pub use answers::answered;
 pub use references::reference;
 pub use stages::{restate, stage};
 pub use starts::Starts;
