@@ -1,5 +1,5 @@
 -- The report of sound pools is sound line by line.
-use Rattle.std.proofs.Common.{◌≡◌, ℕ, zero, suc, ◌+◌, ◌/◌, ◌%◌, ℤ, pos, negsuc, Bool, true, false, ◌&&◌, cond, List, [], ◌∷◌, ◌++◌, codes, All, ◌≢◌, ◌==◌, get_or, nat_lt, if◌then◌else◌, refl, sym, ap, subst, ◌∙◌, append_assoc, arith}
+use Rattle.std.proofs.Common.{◌≡◌, ℕ, zero, suc, ◌+◌, ◌/◌, ◌%◌, ℤ, pos, negsuc, Bool, true, false, ◌&&◌, cond, List, [], ◌∷◌, ◌++◌, codes, All, ◌≢◌, ◌==◌, get_or, nat_lt, if◌then◌else◌, refl, sym, ap, subst, ◌∙◌, append_assoc, length, arith}
 use Rattle.std.proofs.lemmas.Bool.Decides.{nat_tests}
 use Rattle.std.proofs.lemmas.Grind.{common_steps}
 use Rattle.std.proofs.lemmas.List.{append-nil}
@@ -19,7 +19,7 @@ use Rattle.hp_theory.specs.Pools.{pool, Holds, Sound}
 use Rattle.hp_theory.specs.Bound.{bound, Under}
 use Rattle.hp_theory.specs.View.{problem_of}
 use Rattle.hp_report.specs.Lines.{numbered}
-use Rattle.hp_report.specs.Report.{number_text, state_line, node_line, title, head_text, word, cut_words, cut_line, node_cuts, cut_lines, bound_line, base_text}
+use Rattle.hp_report.specs.Report.{number_text, state_line, node_line, title, head_text, word, cut_words, cut_line, node_cuts, cut_lines, bound_line, base_text, iteration_line, iteration_after, iteration_lines, total_line, iterations_text, rest_line, check_text}
 use Rattle.hp_report.specs.SoundLines.{before_lines, lines_of, first_word, SoundLine, SoundLines}
 
 -- no byte of it is a newline or another control character
@@ -185,10 +185,59 @@ module _ (p : Problem) where
         iteration = λ e. absurd (no 98 105 (first_word line) refl (omega arith) (codes "iteration") refl e);
       })
 
+  good_iteration : (k : ℕ) (b : ℤ) → Under p b → Good (iteration_line k b)
+  good_iteration k b h =
+      let front : List ℕ = codes "iteration" ++ word (pos k) in
+      let line : List ℕ = front ++ codes " bound" ++ word b in
+      good_line line
+      (printable-append (front ++ codes " bound") (word b) (printable-append front (codes " bound") (printable-append (codes "iteration") (word (pos k)) refl (word_printable (pos k))) refl) (word_printable b))
+      (record {
+        cut = λ e. absurd (no 105 99 (first_word line) refl (omega arith) (codes "cut") refl e);
+        bound = λ e. absurd (no 105 98 (first_word line) refl (omega arith) (codes "bound") refl e);
+        iteration = λ e. record { iteration = k; bound = b; is = refl; under = h };
+      })
+
+  good_iterations : (i : ℕ) (bounds : List ℤ) → All (Under p) bounds → Good (numbered iteration_after i bounds)
+  good_iterations i [] h = λ rest r. r
+  good_iterations i (b ∷ bs) h =
+      good_append (iteration_line (suc i) b) (numbered iteration_after (suc i) bs)
+      (good_iteration (suc i) b (h 0 b (omega arith))) (good_iterations (suc i) bs (All-tail (Under p) b bs h))
+
+  good_total : (count unsettled : ℕ) → Good (total_line count unsettled)
+  good_total count unsettled =
+      let front : List ℕ = codes "total iterations" ++ word (pos count) ++ codes " unsettled" in
+      good_line (front ++ word (pos unsettled))
+      (printable-append front (word (pos unsettled)) (printable-append (codes "total iterations" ++ word (pos count)) (codes " unsettled") (printable-append (codes "total iterations") (word (pos count)) refl (word_printable (pos count))) refl) (word_printable (pos unsettled)))
+      (plain_line (front ++ word (pos unsettled)) 116 refl (omega arith) (omega arith) (omega arith))
+
+  good_rest : (n : ℕ) → Good (rest_line n)
+  good_rest n =
+      good_line (codes "rest" ++ word (pos n)) (printable-append (codes "rest") (word (pos n)) refl (word_printable (pos n)))
+      (plain_line (codes "rest" ++ word (pos n)) 114 refl (omega arith) (omega arith) (omega arith))
+
+  good_pools : (pools : List (List Cut)) → Sound p pools → Good (cut_lines pools)
+  good_pools pools s = good_lists 0 pools (λ k. subst (λ (i : ℕ). All (Holds p i) (pool pools k)) (omega arith) (s k))
+
+  good_texts : (bounds : List ℤ) (unsettled : ℕ) → All (Under p) bounds → Good (iterations_text bounds unsettled)
+  unfolding iterations_text
+  good_texts bounds unsettled h = good_append (iteration_lines bounds) (total_line (length bounds) unsettled) (good_iterations 0 bounds h) (good_total (length bounds) unsettled)
+
 -- the report of sound pools is sound line by line
 pub sound_lines : (p : Sealed) (pools : List (List Cut)) → Sound (problem_of p) pools → Under (problem_of p) (bound (problem_of p) pools) → SoundLines (problem_of p) (base_text p pools)
 unfolding base_text
 sound_lines p pools s u =
     let q : Problem = problem_of p in
-    let good = good_append q (head_text p.raw ++ cut_lines pools) (bound_line (bound q pools)) (good_append q (head_text p.raw) (cut_lines pools) (good_head q p.raw) (good_lists q 0 pools (λ k. subst (λ (i : ℕ). All (Holds q i) (pool pools k)) (omega arith) (s k)))) (good_bound q (bound q pools) u) in
+    let good = good_append q (head_text p.raw ++ cut_lines pools) (bound_line (bound q pools)) (good_append q (head_text p.raw) (cut_lines pools) (good_head q p.raw) (good_pools q pools s)) (good_bound q (bound q pools) u) in
     subst (SoundLines q) (append-nil (head_text p.raw ++ cut_lines pools ++ bound_line (bound q pools))) (good [] (All-nil (SoundLine q)))
+
+-- and so is that of a journal, where its pools are sound and each of its bounds is under the cost of each policy
+pub sound_check : (p : Sealed) (pools : List (List Cut)) (bounds : List ℤ) (unsettled rest : ℕ) → Sound (problem_of p) pools → All (Under (problem_of p)) bounds → Under (problem_of p) (bound (problem_of p) pools)
+    → SoundLines (problem_of p) (check_text p pools bounds unsettled rest)
+unfolding check_text
+sound_check p pools bounds unsettled rest s us u =
+    let q : Problem = problem_of p in
+    let cuts : List ℕ = head_text p.raw ++ cut_lines pools in
+    let iterations : List ℕ = cuts ++ iterations_text bounds unsettled in
+    let last : List ℕ = iterations ++ bound_line (bound q pools) in
+    let good = good_append q last (rest_line rest) (good_append q iterations (bound_line (bound q pools)) (good_append q cuts (iterations_text bounds unsettled) (good_append q (head_text p.raw) (cut_lines pools) (good_head q p.raw) (good_pools q pools s)) (good_texts q bounds unsettled us)) (good_bound q (bound q pools) u)) (good_rest q rest) in
+    subst (SoundLines q) (append-nil (last ++ rest_line rest)) (good [] (All-nil (SoundLine q)))

@@ -1,5 +1,5 @@
 -- The texts of reports. Each line ends with one newline, and words are separated by one space.
-use Rattle.std.specs.Prelude.{ℕ, ℤ, pos, List, ◌++◌, codes}
+use Rattle.std.specs.Prelude.{ℕ, suc, ℤ, pos, List, ◌++◌, length, codes}
 use Rattle.std.specs.Fmt.{signed_decimal}
 use Rattle.std.specs.List.{flat_map}
 use Rattle.hp_problem.specs.declared.raw.State.{State}
@@ -49,6 +49,33 @@ cut_lines lists = numbered node_cuts 0 lists
 abbrev pub bound_line : ℤ → List ℕ
 bound_line b = codes "bound" ++ word b ++ codes "\n"
 
+-- the bound after the iteration with this number
+abbrev pub iteration_line : ℕ → ℤ → List ℕ
+iteration_line k b = codes "iteration" ++ word (pos k) ++ codes " bound" ++ word b ++ codes "\n"
+
+-- the same of the iteration that comes after so many others; iterations count from 1 on
+abbrev pub iteration_after : ℕ → ℤ → List ℕ
+iteration_after i b = iteration_line (suc i) b
+
+abbrev pub iteration_lines : List ℤ → List ℕ
+iteration_lines bounds = numbered iteration_after 0 bounds
+
+-- how many iterations there are, and how many of their solves gave an answer that was of no use
+abbrev pub total_line : ℕ → ℕ → List ℕ
+total_line count unsettled = codes "total iterations" ++ word (pos count) ++ codes " unsettled" ++ word (pos unsettled) ++ codes "\n"
+
+-- the bytes behind the journal's last gate
+abbrev pub rest_line : ℕ → List ℕ
+rest_line n = codes "rest" ++ word (pos n) ++ codes "\n"
+
+-- the bound after each iteration, and their total
+unfoldable pub iterations_text : List ℤ → ℕ → List ℕ
+iterations_text bounds unsettled = iteration_lines bounds ++ total_line (length bounds) unsettled
+
 -- the report of the base cuts
 unfoldable pub base_text : Sealed → List (List Cut) → List ℕ
 base_text p pools = head_text p.raw ++ cut_lines pools ++ bound_line (bound (problem_of p) pools)
+
+-- the report of a journal that was checked: its cuts over the base cuts, its bounds, and what is left behind its last gate
+unfoldable pub check_text : Sealed → List (List Cut) → List ℤ → ℕ → ℕ → List ℕ
+check_text p pools bounds unsettled rest = head_text p.raw ++ cut_lines pools ++ iterations_text bounds unsettled ++ bound_line (bound (problem_of p) pools) ++ rest_line rest

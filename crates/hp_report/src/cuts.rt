@@ -8,14 +8,16 @@ use hp_cut::{Cut, Pools};
 use hp_num::Memory;
 use hp_text::{push_bytes, push_whole};
 
-fn push_word(out: &mut Vec<u8>, number: i128) -> Result<(), Memory>
+/// Appends a space and the number.
+pub(crate) fn push_word(out: &mut Vec<u8>, number: i128) -> Result<(), Memory>
     ensures { OnOk result (out.new.items ≡ out.old.items ++ word number) }
 {
     push_bytes(out, b" ")?;
     push_whole(out, number)
 }
 
-fn push_words(out: &mut Vec<u8>, numbers: &[i128]) -> Result<(), Memory>
+/// Appends a space and the number.
+pub(crate) fn push_words(out: &mut Vec<u8>, numbers: &[i128]) -> Result<(), Memory>
     ensures { OnOk result (out.new.items ≡ out.old.items ++ flat_map word numbers.now) }
 {
     for number in numbers {

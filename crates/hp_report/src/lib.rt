@@ -4,5 +4,6 @@
 mod base;
 mod cuts;
 mod head;
+mod iterations;
 
 pub use base::base_report;
