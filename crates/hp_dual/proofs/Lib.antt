@@ -21,3 +21,5 @@ pub mod InSize
 pub mod Divisor
 pub mod SealedCuttable
 pub mod Beside
+pub mod Slopes
+mod Realizations

@@ -31,6 +31,7 @@ use Rattle.hp_dual.proofs.GivenNode.{length-realizations, realizations-given}
 use Rattle.hp_dual.proofs.InSize.{slope_in, constant_in, reduced_in}
 use Rattle.hp_dual.proofs.SealedWithin.{sized-sealed}
 use Rattle.hp_dual.proofs.SizeParts.{terms_inside}
+use Rattle.hp_dual.proofs.Slopes.{rows_fit}
 use Rattle.hp_dual.proofs.Viewed.{reduced-node_of}
 use Rattle.hp_dual.proofs.Weighted.{reweighted_at, weight-reweighted, some_weight}
 
@@ -40,9 +41,6 @@ values_counted n randoms e = grind (arith, nat_tests)
 
 few_decisions : (s : Subproblem) (states : ℕ) → subproblem_fits states s ≡ true → length s.decisions ≤ 200
 few_decisions s states e = grind (arith, nat_tests)
-
-rows_fit : (s : Subproblem) (states : ℕ) → subproblem_fits states s ≡ true → list_all (row_fits states s) s.rows ≡ true
-rows_fit s states e = grind (arith, nat_tests)
 
 row_decisions : (s : Subproblem) (states : ℕ) (row : Row) → row_fits states s row ≡ true → terms_fit (length s.decisions) 0 row.decisions ≡ true
 row_decisions s states row e = grind (arith, nat_tests)

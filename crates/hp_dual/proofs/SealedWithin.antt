@@ -7,7 +7,7 @@ use Rattle.hp_problem.specs.declared.raw.Node.{Node}
 use Rattle.hp_problem.specs.declared.raw.Subproblem.{Subproblem}
 use Rattle.hp_problem.specs.Limits.{subproblem_fits}
 use Rattle.hp_problem.specs.Sealed.{Sealed, is_sealed, subproblem_of}
-use Rattle.hp_problem.proofs.SealedFacts.{raw-is_sealed, few_nodes}
+use Rattle.hp_problem.proofs.SealedFacts.{raw-is_sealed, few_nodes, few_states}
 use Rattle.hp_num.proofs.Tests.{all_at}
 use Rattle.hp_theory.proofs.SealedParts.{PartsFit, parts_given, weighty, linked, links_known, numbers_counted}
 use Rattle.hp_theory.specs.declared.cut.Cut.{Cut}
@@ -69,6 +69,7 @@ sized-sealed p m n s low high ws pools e h fit lists count positive total =
       stop = l.2;
       scale = scale n s low high (subst (λ (x : problems.Node). 0 < successor_weight x) fit.is (shaped-sealed p m e h).successors);
       known = subst (λ (c : ℕ). All (λ m. m < c) n.links) (sym lists) k.known;
+      states = subst (λ (c : ℕ). c ≤ 50) (sym (numbers_counted low (length p.raw.states) fit.lows)) (few_states p.raw (raw-is_sealed p e));
       subproblem = subst (λ (c : ℕ). subproblem_fits c s ≡ true) (sym (numbers_counted low (length p.raw.states) fit.lows)) fit.subproblem;
     }
 

@@ -1,5 +1,5 @@
 -- A table that is kept modulo 2^128: one product more at an index.
-use Rattle.std.proofs.Common.{◌≡◌, ℕ, zero, suc, ◌+◌, ◌<◌, ℤ, pos, ◌+ℤ◌, ◌-ℤ◌, ◌*ℤ◌, List, [], ◌∷◌, length, take, get_or, set, zip, arith, refl, ap, sym, subst, ◌∙◌}
+use Rattle.std.proofs.Common.{◌≡◌, ℕ, zero, suc, ◌+◌, ◌<◌, ℤ, pos, ◌+ℤ◌, ◌-ℤ◌, ◌*ℤ◌, List, [], ◌∷◌, length, take, get_or, set, zip, replicate, add-one, arith, refl, ap, sym, subst, ◌∙◌}
 use Rattle.std.proofs.Math.Logic.{⊎_elim}
 use Rattle.std.proofs.lemmas.Bool.{cases_eq}
 use Rattle.std.proofs.lemmas.List.{length-set, get_or-set_same, get_or-set_other}
@@ -63,3 +63,19 @@ pub placed_zip : (ps : List ℕ) (xs : List ℤ) → placed ps xs ≡ zip ps xs
 placed_zip [] xs = refl
 placed_zip (p ∷ ps) [] = refl
 placed_zip (p ∷ ps) (x ∷ xs) = ap (λ (ts : List Term). (p, x) ∷ ts) (placed_zip ps xs)
+
+-- a number more, times a factor
+pub number_more : (xs : List ℤ) (i j : ℕ) (b k c : ℤ) → i < length xs → c ≡ entry xs i → b +ℤ k *ℤ entry (take i xs) j +ℤ k *ℤ (c *ℤ same_place i j) ≡ b +ℤ k *ℤ entry (take (i + 1) xs) j
+number_more xs i j b k c h e =
+    ap (λ (z : ℤ). b +ℤ k *ℤ entry (take i xs) j +ℤ k *ℤ (z *ℤ same_place i j)) e
+    ∙ ring (b ∷ k ∷ entry (take i xs) j ∷ entry xs i ∷ same_place i j ∷ []) (var 0 ⊕ var 1 ⊗ var 2 ⊕ var 1 ⊗ (var 3 ⊗ var 4)) (var 0 ⊕ var 1 ⊗ (var 2 ⊕ var 3 ⊗ var 4)) tt
+    ∙ ap (λ (z : ℤ). b +ℤ k *ℤ z) (sym (entry_more xs i j h)) ∙ ap (λ (n : ℕ). b +ℤ k *ℤ entry (take n xs) j) (sym (add-one i))
+
+-- a table of zeros
+zero_entries : (n j : ℕ) → entry (replicate n (pos 0)) j ≡ pos 0
+zero_entries zero j = refl
+zero_entries (suc n) zero = refl
+zero_entries (suc n) (suc j) = zero_entries n j
+
+pub zeros : (n : ℕ) → Tabled (λ j. pos 0) (replicate n (pos 0))
+zeros n = λ j h. ap (int_wrap w128) (zero_entries n j)

@@ -1,5 +1,5 @@
 -- The base cuts as they are made: the certificates, one node more, and the answer.
-use Rattle.std.specs.Prelude.{◌≡◌, ℕ, ◌*◌, pos, List, [], ◌∷◌, map, Option, Some, None, Result, Ok, Err}
+use Rattle.std.specs.Prelude.{◌≡◌, ℕ, ◌*◌, pos, List, [], ◌∷◌, map, Some, None, Result, Ok, Err}
 use Rattle.hp_problem.specs.declared.raw.Row.{Row}
 use Rattle.hp_problem.specs.declared.raw.Node as nodes
 use Rattle.hp_problem.specs.declared.raw.Subproblem.{Subproblem}
@@ -11,28 +11,12 @@ use Rattle.hp_theory.specs.CutOf.{cut_of}
 use Rattle.hp_theory.specs.Range.{range_of}
 use Rattle.hp_theory.specs.Base.{base_list}
 use Rattle.hp_cut.specs.Pooled.{Pooled}
-use Rattle.hp_dual.specs.declared.fault.CertFault.{CertFault}
-use Rattle.hp_dual.specs.declared.fault.CertFault.TheVariants as faults
 use Rattle.hp_dual.specs.declared.base_pools.BaseFault.{BaseFault}
 use Rattle.hp_dual.specs.declared.base_pools.BaseFault.TheVariants.{Range, Memory}
 
 -- all rows 0, and for each successor its first cut with all of its weight
 abbrev pub certificate_of : nodes.Node → Subproblem → Certificate
 certificate_of n s = record { rows = map (λ (row : Row). pos 0) s.rows; cuts = map (λ (w : ℕ). (0, S * w) ∷ []) n.link_weights }
-
--- the realization of a fault
-abbrev pub realization_of : CertFault → ℕ
-realization_of (faults.Shape r) = r
-realization_of (faults.Sign r i) = r
-realization_of (faults.Cutless r i e) = r
-realization_of (faults.Sum r i) = r
-realization_of (faults.Range r) = r
-
--- a size in range, or the realization at which it passes the range
-abbrev pub InRange : ℕ → Option ℕ → Result (Unit {0}) BaseFault → Type 0
-InRange m realization (Ok u) = realization ≡ None
-InRange m realization (Err (Range k r)) = (k ≡ m) × (realization ≡ Some r)
-InRange m realization (Err Memory) = ⊥
 
 -- the base cut of the node m, or the realization at which its size passes the range; want of memory is free
 abbrev pub GivesCut : ℕ → List (List Cut) → Node → Result Cut BaseFault → Type 0

@@ -60,6 +60,10 @@ pub record Limited (n : nodes.Node) (s : Subproblem) : Type 0 where
   pub few : length n.links ≤ 2 ^ 16
   pub stop : sum n.link_weights + n.stop ≤ 65535
 
+-- one certificate at all realizations with these weights
+abbrev pub repeated : Certificate → List ℕ → List Certificate
+repeated c ws = map (λ (w : ℕ). c) ws
+
 -- the pairs of a certificate are in the pools of the successors with these numbers
 abbrev pub PairsThere : List (List Cut) → List ℕ → List (List (ℕ × ℕ)) → Type 0
 PairsThere pools links cuts = All (λ (q : ℕ × List (ℕ × ℕ)). All (λ (s : ℕ × ℕ). s.0 < length (pool pools q.0)) q.1) (zip links cuts)

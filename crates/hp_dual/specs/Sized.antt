@@ -13,7 +13,7 @@ use Rattle.hp_theory.specs.View.{node_of}
 use Rattle.hp_dual.specs.SizeByTerms.{count_by, link_weight}
 
 -- a value list and a weight per realization, a weight per successor, each successor among the pools, a total weight of
--- both kinds that is neither 0 nor large, and a subproblem that fits the states
+-- both kinds that is neither 0 nor large, few states, and a subproblem that fits them
 pub record Sized (pools : List (List Cut)) (n : Node) (s : Subproblem) (low : List ℤ) (weights : List ℕ) : Type 0 where
   pub values : length n.values ≡ length n.weights
   pub count : length weights ≡ length n.weights
@@ -26,6 +26,7 @@ pub record Sized (pools : List (List Cut)) (n : Node) (s : Subproblem) (low : Li
   pub stop : sum n.link_weights + n.stop ≤ 65535
   pub scale : 0 < link_weight n
   pub known : All (λ m. m < length pools) n.links
+  pub states : length low ≤ 50
   pub subproblem : subproblem_fits (length low) s ≡ true
 
 -- r is the least index such that the sum of f up to it exceeds 2^127 - 1

@@ -2,17 +2,16 @@
 ghost use Rattle.std.specs.Prelude.{◌≡◌, ℕ, ◌<◌, ◌*◌, ◌^◌, pos, IfOk, length, [], ◌∷◌, map, All};
 ghost use Rattle.hp_problem.specs.declared.raw.Row.{Row};
 ghost use Rattle.hp_theory.specs.Problem.{S, Link, node_at};
-ghost use Rattle.hp_theory.specs.Range.{range_of, based};
-ghost use Rattle.hp_theory.specs.Certificates.{Right};
+ghost use Rattle.hp_theory.specs.Range.{based};
 ghost use Rattle.hp_theory.specs.Fit.{Fit, FitFor};
 ghost use Rattle.hp_theory.specs.Pools.{Sound, pool};
 ghost use Rattle.hp_theory.specs.View.{problem_of};
 ghost use Rattle.hp_dual.specs.declared.base_pools.BaseFault.TheVariants as faults;
-ghost use Rattle.hp_dual.specs.Bases.{certificate_of, realization_of, InRange, GivesCut, AddsCut, Bases};
+ghost use Rattle.hp_dual.specs.Bases.{certificate_of, GivesCut, AddsCut, Bases};
 
-use crate::acceptance::checker::accept;
-use crate::cut_making::make::make_into;
-use crate::fault::CertFault;
+use crate::cut_making::write_repeated_cut;
+use crate::node_at::{NodeAt, own_weights};
+use crate::size::repeated_range;
 use hp_cut::{Cut, Pools};
 use hp_num::{List, Memory};
 use hp_problem::{Node, Problem, Row, Subproblem};
@@ -77,17 +76,6 @@ fn base_certificate(alloc: Global, node: &Node, sub: &Subproblem) -> Result<Cert
     Ok(Certificate { rows, cuts })
 }
 
-/// The base certificate once per realization.
-fn base_list(alloc: Global, node: &Node, sub: &Subproblem) -> Result<List<Certificate>, Memory>
-    ensures { IfOk result (λ list. list ≡ map (λ (w : ℕ). certificate_of node.now sub.now) node.now.weights) }
-{
-    let mut list = List::new(alloc);
-    for _ in node.weights.as_slice() {
-        list.push(base_certificate(alloc, node, sub)?)?;
-    }
-    Ok(list)
-}
-
 /// A cut of so many slopes, all 0.
 fn no_slopes(alloc: Global, states: usize) -> Result<Cut, Memory>
     ensures { IfOk result (λ cut. length cut.beta ≡ states) }
@@ -99,52 +87,22 @@ fn no_slopes(alloc: Global, states: usize) -> Result<Cut, Memory>
     Ok(Cut { alpha: 0, beta })
 }
 
-/// The base cut of a node over the cuts of its successors.
+/// The base cut of a node over the cuts of its successors. All realizations have the same certificate, whose pairs are
+/// read once.
 fn base_cut(alloc: Global, problem: &Problem, pools: &Pools, node: u32) -> Result<Cut, BaseFault>
     requires known { node < length problem.now.raw.nodes }
     requires fit { FitFor (problem_of problem.now) (length problem.now.raw.nodes) pools.now.lists node }
     ensures { GivesCut node pools.now.lists (node_at (problem_of problem.now) node) result }
 {
-    let raw = problem.raw();
-    let own = &raw.nodes.as_slice()[node as usize];
-    let list = base_list(alloc, own, problem.sub(node))?;
-    check_base(problem, pools, node, list.as_slice())?;
-    let mut cut = no_slopes(alloc, raw.states.len())?;
-    make_into(problem, pools, node, list.as_slice(), &mut cut);
+    let here = NodeAt::of(problem, pools, node, own_weights(problem, node));
+    let certificate = base_certificate(alloc, here.node, here.subproblem)?;
+    if let Some(r) = repeated_range(&here, &certificate) {
+        let realization = r as u32;
+        return Err(BaseFault::Range { node, realization });
+    }
+    let mut cut = no_slopes(alloc, here.low.len())?;
+    write_repeated_cut(&here, &certificate, &mut cut);
     Ok(cut)
-}
-
-fn realization(fault: CertFault) -> u32
-    ensures { result ≡ realization_of fault }
-{
-    match fault {
-        CertFault::Shape { realization } => realization,
-        CertFault::Sign { realization, .. } => realization,
-        CertFault::Cutless { realization, .. } => realization,
-        CertFault::Sum { realization, .. } => realization,
-        CertFault::Range { realization } => realization,
-    }
-}
-
-/// The base certificates of a node are accepted, unless their size passes the range.
-fn check_base(
-    problem: &Problem,
-    pools: &Pools,
-    node: u32,
-    list: &[Certificate],
-) -> Result<(), BaseFault>
-    requires known { node < length problem.now.raw.nodes }
-    requires fit { FitFor (problem_of problem.now) (length problem.now.raw.nodes) pools.now.lists node }
-    requires right { Right pools.now.lists (node_at (problem_of problem.now) node) list.now }
-    ensures { InRange node (range_of pools.now.lists (node_at (problem_of problem.now) node) list.now) result }
-{
-    match accept(problem, pools, node, list) {
-        Ok(()) => Ok(()),
-        Err(fault) => Err(BaseFault::Range {
-            node,
-            realization: realization(fault),
-        }),
-    }
 }
 
 /// Appends the base cut of a node.

@@ -5,12 +5,15 @@ pub mod acceptance;
 pub mod base_pools;
 pub mod cut_making;
 pub mod fault;
+pub mod magnitudes;
 mod node_at;
-mod row_side;
 mod scales;
+pub mod sides;
 mod size;
 
 pub use acceptance::checker::{accept, accept_with};
 pub use base_pools::{BaseFault, base};
 pub use cut_making::make::{make_into, make_with};
 pub use fault::CertFault;
+pub use magnitudes::{absolute, reach};
+pub use sides::{is_sign, row_side};

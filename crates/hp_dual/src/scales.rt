@@ -9,7 +9,7 @@ use hp_problem::Node;
 pub(crate) const SCALE: i128 = hp_theory::SCALE as i128;
 
 /// The total of the weights.
-fn total(weights: &[u32]) -> u64
+pub(crate) fn total(weights: &[u32]) -> u64
     requires { length weights.now ≤ 2 ^ 16 }
     ensures { result ≡ sum weights.now }
 {

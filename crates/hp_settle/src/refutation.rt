@@ -16,6 +16,7 @@ ghost use Rattle.hp_settle.specs.SizedSums.{Sums};
 
 use crate::sized_sum::SizedSum;
 use crate::terms::{Place, RowPart, State, Values, rows_sum, terms_sum};
+use hp_dual::{is_sign, row_side};
 use hp_problem::{Decision, Problem, Row, Subproblem};
 use hp_theory::SCALE;
 
@@ -25,17 +26,6 @@ fn scale() -> i128
     ensures { result ≡ pos S }
 {
     i128::from(SCALE)
-}
-
-/// No positive multiplier without a lower side, and no negative one without an upper.
-fn is_sign(row: &Row, multiplier: i64) -> bool
-    ensures { result ≡ is_sign row.now multiplier }
-{
-    if multiplier > 0 {
-        row.low.is_some()
-    } else {
-        multiplier == 0 || row.high.is_some()
-    }
 }
 
 /// Each multiplier has the sign that its row allows.
@@ -49,19 +39,6 @@ fn are_signs(rows: &[Row], multipliers: &[i64]) -> bool
         }
     }
     true
-}
-
-/// The side of a row that a multiplier stands on, 0 where there is none.
-fn row_side(row: &Row, multiplier: i64) -> i64
-    ensures { result ≡ side row.now multiplier }
-{
-    if multiplier > 0 {
-        row.low.unwrap_or(0)
-    } else if multiplier < 0 {
-        row.high.unwrap_or(0)
-    } else {
-        0
-    }
 }
 
 /// A row's side less its random terms.

@@ -5,10 +5,10 @@ ghost use Rattle.hp_theory.specs.Pools.{pool};
 ghost use Rattle.hp_theory.specs.Fit.{Fit};
 ghost use Rattle.hp_theory.specs.View.{links_of, problem_of};
 ghost use Rattle.hp_theory.specs.Certificates.{RightAt};
-ghost use Rattle.hp_dual.specs.Acceptance.{is_sign};
 ghost use Rattle.hp_settle.specs.Settling.{dual_at, rescaled, clamped, settled_row, settled_rows, cut_multiplier, cut_multipliers, capped, missing, place_of_greatest, raised, shared, pairs_from, settled_pairs, settled_links, used_duals, settled_of};
 
 use hp_cut::Pools;
+use hp_dual::is_sign;
 use hp_num::{List, Memory, floor_div};
 use hp_problem::{Node, Problem, Row, Subproblem};
 use hp_solver::fixed::ONE;
@@ -43,23 +43,12 @@ fn clamped(number: i128) -> i64
     number.clamp(i128::from(i64::MIN), i128::from(i64::MAX)) as i64
 }
 
-/// Whether the row has the side that a multiplier stands on.
-fn has_side(row: &Row, multiplier: i64) -> bool
-    ensures { result ≡ is_sign row.now multiplier }
-{
-    if multiplier > 0 {
-        row.low.is_some()
-    } else {
-        multiplier == 0 || row.high.is_some()
-    }
-}
-
 /// The multiplier of a row: its dual at the scale of multipliers, clamped, and 0 without the side that it stands on.
 fn settled_row(row: &Row, dual: i128) -> i64
     ensures { result ≡ settled_row row.now dual }
 {
     let multiplier = clamped(rescaled(dual));
-    if has_side(row, multiplier) {
+    if is_sign(row, multiplier) {
         multiplier
     } else {
         0

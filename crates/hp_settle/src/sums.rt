@@ -5,6 +5,7 @@ ghost use Rattle.hp_dual.specs.SizeByTerms.{span};
 ghost use Rattle.hp_settle.specs.SizedSums.{Sums};
 
 use crate::sized_sum::SizedSum;
+use hp_dual::reach;
 use hp_num::add_product;
 
 /// The lesser of two products.
@@ -21,19 +22,6 @@ fn negative(x: i128) -> i128
     ensures { result ≡ neg_ℤ x }
 {
     -x
-}
-
-fn absolute(x: i64) -> u128
-    ensures { result ≡ nat_abs x }
-{
-    u128::from(x.unsigned_abs())
-}
-
-/// The greatest of 1 and the absolute values of a box's sides.
-fn reach(low: i64, high: i64) -> u128
-    ensures { result ≡ span low high }
-{
-    absolute(low).max(absolute(high)).max(1)
 }
 
 impl SizedSum {

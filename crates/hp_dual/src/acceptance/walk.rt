@@ -6,10 +6,11 @@ ghost use Rattle.hp_theory.specs.View.{links_of};
 ghost use Rattle.hp_theory.specs.Certificates.{multipliers};
 ghost use Rattle.hp_theory.specs.Pools.{pool};
 ghost use Rattle.hp_dual.specs.Within.{Within};
-ghost use Rattle.hp_dual.specs.Acceptance.{Accepts, or_then, is_shaped, first_unshaped, shape_fault, is_sign, sign_fault, is_pair, pair_fault, sum_fault, links_fault, certificates_fault};
+ghost use Rattle.hp_dual.specs.Acceptance.{Accepts, or_then, is_shaped, first_unshaped, shape_fault, sign_fault, is_pair, pair_fault, sum_fault, links_fault, certificates_fault};
 
 use crate::fault::CertFault;
 use crate::node_at::NodeAt;
+use crate::sides::is_sign;
 use hp_cut::Pools;
 use hp_num::List;
 use hp_problem::Row;
@@ -59,17 +60,6 @@ pub(crate) fn check_count(
         });
     }
     check_shapes(rows, links, list)
-}
-
-/// No positive multiplier without a lower side, no negative one without an upper.
-fn is_sign(row: &Row, multiplier: i64) -> bool
-    ensures { result ≡ is_sign row.now multiplier }
-{
-    if multiplier > 0 {
-        row.low.is_some()
-    } else {
-        multiplier == 0 || row.high.is_some()
-    }
 }
 
 fn check_signs(r: u32, rows: &[Row], multipliers: &[i64]) -> Result<(), CertFault>

@@ -12,7 +12,7 @@ ghost use Rattle.hp_dual.specs.Parts.{over_pool, over_links};
 ghost use Rattle.hp_dual.specs.Tabled.{Tabled};
 
 use super::wrapping::{wrapping_add, wrapping_add_product, wrapping_product};
-use crate::row_side::row_side;
+use crate::sides::row_side;
 use hp_cut::{Cut, Pools};
 use hp_num::List;
 use hp_problem::{Decision, Row};

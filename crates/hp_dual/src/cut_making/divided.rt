@@ -1,16 +1,16 @@
 // The cut of a list of certificates over the parts of a node: the sums over their divisor, rounded down.
-ghost use Rattle.std.specs.Prelude.{◌≡◌, ◌-◌, ◌^◌, ◌<◌, ◌≤◌, ℕ, ℤ, pos, ◌+ℤ◌, ◌-ℤ◌, ◌*ℤ◌, ◌≤ℤ◌, List, length, nat_abs, slice_set, All};
+ghost use Rattle.std.specs.Prelude.{◌≡◌, ◌-◌, ◌^◌, ◌<◌, ◌≤◌, ℕ, ℤ, pos, ◌+ℤ◌, ◌-ℤ◌, ◌*ℤ◌, ◌≤ℤ◌, List, length, nat_abs, slice_set};
 ghost use Rattle.hp_num.specs.Sums.{sum_to, entry, floor_over, table};
 ghost use Rattle.hp_theory.specs.declared.cut.Certificate.{Certificate};
 ghost use Rattle.hp_theory.specs.Problem.{with_weights};
 ghost use Rattle.hp_theory.specs.View.{node_of};
-ghost use Rattle.hp_theory.specs.CutOf.{scale, alpha_sum, divisor, slope, remainder, cut_of};
-ghost use Rattle.hp_theory.specs.Size.{magnitude};
+ghost use Rattle.hp_theory.specs.CutOf.{alpha_sum, beta_sum, divisor, slope, remainder, cut_of};
 ghost use Rattle.hp_dual.specs.Congruent.{Congruent};
-ghost use Rattle.hp_dual.specs.Parts.{Limited, Cuttable, slope_size};
-ghost use Rattle.hp_dual.specs.Sized.{unboxed};
+ghost use Rattle.hp_dual.specs.Parts.{Cuttable, slope_size};
+ghost use Rattle.hp_dual.specs.Sized.{Sized, unboxed};
+ghost use Rattle.hp_dual.specs.Tabled.{Tabled};
 
-use super::slopes::slope_sum;
+use super::slopes::slope_sums;
 use super::sums::constant_sum;
 use super::wrapping::{wrapping_add, wrapping_add_product};
 use crate::node_at::NodeAt;
@@ -27,54 +27,51 @@ fn left_over(sum: i128, under: i128) -> i128
     sum.rem_euclid(under)
 }
 
-/// Writes beta_k. The answer is r_k, what the division leaves.
-fn write_slope(
-    here: &NodeAt,
-    list: &[Certificate],
-    under: i128,
-    slopes: &mut List<i128>,
-    state: usize,
-) -> i128
-    requires limits { Limited here.now.node.now here.now.subproblem.now }
-    requires count { length here.now.weights.now ≡ length here.now.node.now.weights }
-    requires list { length list.now ≡ length here.now.node.now.weights }
-    requires under { under ≡ pos (divisor (unboxed here.now.weights.now here.now.node.now here.now.subproblem.now)) }
+/// Writes beta_k of B_k. The answer is r_k, what the division leaves.
+fn write_slope(sum: i128, under: i128, slopes: &mut List<i128>, state: usize) -> i128
     requires some { pos 1 ≤ℤ under }
-    requires state { state < length here.now.subproblem.now.state_costs }
     requires there { state < length slopes.old }
-    requires size { slope_size (unboxed here.now.weights.now here.now.node.now here.now.subproblem.now) list.now state
-        ≤ℤ pos (2 ^ 127 - 1) }
-    ensures slope { slopes.new
-        ≡ slice_set slopes.old state (slope (unboxed here.now.weights.now here.now.node.now here.now.subproblem.now) list.now state) }
-    ensures rest { result ≡ remainder (unboxed here.now.weights.now here.now.node.now here.now.subproblem.now) list.now state }
+    ensures slope { slopes.new ≡ slice_set slopes.old state (floor_over sum (nat_abs under)) }
+    ensures rest { result ≡ sum -ℤ under *ℤ floor_over sum (nat_abs under) }
 {
-    let sum = slope_sum(here, list, state);
     slopes.set(state, floor_div(sum, under));
     left_over(sum, under)
 }
 
-/// Writes beta. The answer is the sum of r_k times the lower end of the state's box, modulo 2^128.
-fn write_slopes(here: &NodeAt, list: &[Certificate], under: i128, slopes: &mut List<i128>) -> i128
-    requires limits { Limited here.now.node.now here.now.subproblem.now }
-    requires count { length here.now.weights.now ≡ length here.now.node.now.weights }
-    requires list { length list.now ≡ length here.now.node.now.weights }
+/// Writes beta from B modulo 2^128. The answer is the sum of r_k times the lower end of the state's box, modulo 2^128.
+fn write_slopes(here: &NodeAt, sums: &[i128], under: i128, slopes: &mut List<i128>) -> i128
     requires under { under ≡ pos (divisor (unboxed here.now.weights.now here.now.node.now here.now.subproblem.now)) }
     requires some { pos 1 ≤ℤ under }
-    requires states { length here.now.low.now ≡ length here.now.subproblem.now.state_costs }
+    requires states { length here.now.low.now ≤ length sums.now }
     requires there { length slopes.old ≡ length here.now.low.now }
-    requires size { (k : ℕ) → k < length here.now.low.now
-        → slope_size (unboxed here.now.weights.now here.now.node.now here.now.subproblem.now) list.now k ≤ℤ pos (2 ^ 127 - 1) }
-    ensures slopes { slopes.new
-        ≡ table (length here.now.low.now) (slope (unboxed here.now.weights.now here.now.node.now here.now.subproblem.now) list.now) }
-    ensures rest { Congruent result (sum_to (length here.now.low.now)
-        (λ k. remainder (unboxed here.now.weights.now here.now.node.now here.now.subproblem.now) list.now k *ℤ entry here.now.low.now k)) }
+    ensures slopes { (list : List Certificate) → Tabled (beta_sum (unboxed here.now.weights.now here.now.node.now here.now.subproblem.now) list) sums.now
+        → ((k : ℕ) → k < length here.now.low.now → slope_size (unboxed here.now.weights.now here.now.node.now here.now.subproblem.now) list k ≤ℤ pos (2 ^ 127 - 1))
+        → slopes.new ≡ table (length here.now.low.now) (slope (unboxed here.now.weights.now here.now.node.now here.now.subproblem.now) list) }
+    ensures rest { (list : List Certificate) → Tabled (beta_sum (unboxed here.now.weights.now here.now.node.now here.now.subproblem.now) list) sums.now
+        → ((k : ℕ) → k < length here.now.low.now → slope_size (unboxed here.now.weights.now here.now.node.now here.now.subproblem.now) list k ≤ℤ pos (2 ^ 127 - 1))
+        → Congruent result (sum_to (length here.now.low.now) (λ k. remainder (unboxed here.now.weights.now here.now.node.now here.now.subproblem.now) list k *ℤ entry here.now.low.now k)) }
 {
     let mut sum: i128 = 0;
     for k in 0..here.low.len() {
-        let rest = write_slope(here, list, under, slopes, k);
+        let rest = write_slope(sums[k], under, slopes, k);
         sum = wrapping_add_product(sum, rest, i128::from(here.low[k]));
     }
     sum
+}
+
+/// Writes the cut of a list of certificates from A and B, modulo 2^128, where its sums are in range.
+pub(super) fn write_cut_of(here: &NodeAt, constant: i128, sums: &[i128], cut: &mut Cut)
+    requires sized { Sized here.now.pools.now.lists here.now.node.now here.now.subproblem.now here.now.low.now here.now.weights.now }
+    requires slopes { length cut.old.beta ≡ length here.now.low.now }
+    requires table { length sums.now ≡ 50 }
+    ensures { (list : List Certificate) (high : List ℤ) → Cuttable here.now.pools.now.lists here.now.node.now here.now.subproblem.now here.now.low.now here.now.weights.now list
+        → Tabled (beta_sum (unboxed here.now.weights.now here.now.node.now here.now.subproblem.now) list) sums.now → Congruent constant (alpha_sum here.now.pools.now.lists (unboxed here.now.weights.now here.now.node.now here.now.subproblem.now) list)
+        → cut.new ≡ cut_of here.now.pools.now.lists (with_weights here.now.weights.now (node_of here.now.node.now here.now.subproblem.now here.now.low.now high)) list }
+{
+    let under = divisor(here.node, here.weights);
+    let rest = write_slopes(here, sums, under, &mut cut.beta);
+    let sum = wrapping_add(constant, rest);
+    cut.alpha = floor_div(sum, under);
 }
 
 /// Writes the cut of a list of certificates, where its sums are in range.
@@ -84,8 +81,7 @@ pub(crate) fn write_cut(here: &NodeAt, list: &[Certificate], cut: &mut Cut)
     ensures { (high : List ℤ)
         → cut.new ≡ cut_of here.now.pools.now.lists (with_weights here.now.weights.now (node_of here.now.node.now here.now.subproblem.now here.now.low.now high)) list.now }
 {
-    let under = divisor(here.node, here.weights);
-    let rest = write_slopes(here, list, under, &mut cut.beta);
-    let sum = wrapping_add(constant_sum(here, list), rest);
-    cut.alpha = floor_div(sum, under);
+    let slopes = slope_sums(here, list);
+    let constant = constant_sum(here, list);
+    write_cut_of(here, constant, &slopes, cut);
 }

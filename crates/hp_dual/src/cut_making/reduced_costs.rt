@@ -17,7 +17,7 @@ use hp_problem::{Decision, Row};
 use hp_theory::Certificate;
 
 /// Adds a product to a decision's sum, modulo 2^128.
-fn add_at(sums: &mut [i128], decision: usize, x: i128, y: i128)
+pub(super) fn add_at(sums: &mut [i128], decision: usize, x: i128, y: i128)
     requires { decision < length sums.old }
     ensures count { length sums.new ≡ length sums.old }
     ensures value { (f : ℕ → ℤ) → Tabled f sums.old
@@ -27,7 +27,7 @@ fn add_at(sums: &mut [i128], decision: usize, x: i128, y: i128)
 }
 
 /// Adds a multiple of the terms, each to its decision's sum, modulo 2^128.
-fn add_terms(sums: &mut [i128], multiplier: i128, terms: &[(u32, i64)])
+pub(super) fn add_terms(sums: &mut [i128], multiplier: i128, terms: &[(u32, i64)])
     requires { All (λ t. t.0 < length sums.old) terms.now }
     ensures count { length sums.new ≡ length sums.old }
     ensures value { (f : ℕ → ℤ) → Tabled f sums.old

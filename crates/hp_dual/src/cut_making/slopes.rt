@@ -1,98 +1,127 @@
-// The sums of a list of certificates that make the slopes of its cut.
-ghost use Rattle.std.specs.Prelude.{◌≡◌, ◌+◌, ◌-◌, ◌^◌, ◌<◌, ◌≤◌, ℤ, pos, ◌+ℤ◌, ◌-ℤ◌, ◌*ℤ◌, ◌≤ℤ◌, List, [], length, sum, zip};
-ghost use Rattle.hp_num.specs.Sums.{total, entry, coefficient, same_place};
+// The sums of a list of certificates that make the slopes of its cut, in a table with one entry per state.
+ghost use Rattle.std.specs.Prelude.{◌≡◌, ◌≤◌, ◌<◌, ℕ, ℤ, pos, ◌+ℤ◌, ◌-ℤ◌, ◌*ℤ◌, length, zip, All};
+ghost use Rattle.hp_num.specs.Sums.{total, entry, coefficient};
 ghost use Rattle.hp_problem.specs.declared.raw.Row.{Row};
-ghost use Rattle.hp_theory.specs.Problem.{S, with_weights};
-ghost use Rattle.hp_theory.specs.View.{node_of};
+ghost use Rattle.hp_theory.specs.Problem.{S};
 ghost use Rattle.hp_theory.specs.CutOf.{beta_sum};
-ghost use Rattle.hp_dual.specs.Congruent.{Congruent};
-ghost use Rattle.hp_dual.specs.Parts.{slope_size};
+ghost use Rattle.hp_dual.specs.Parts.{repeated};
+ghost use Rattle.hp_dual.specs.Sized.{Sized, unboxed};
+ghost use Rattle.hp_dual.specs.Tabled.{Tabled};
 
-use super::wrapping::wrapping_add_product;
+use super::reduced_costs::{add_at, add_terms};
+use super::wrapping::wrapping_product;
 use crate::node_at::NodeAt;
-use crate::scales::{SCALE, scale};
-use hp_problem::{Row, Subproblem};
+use crate::scales::{SCALE, scale, total};
+use hp_problem::{MOST_STATES, Row, Subproblem};
 use hp_theory::Certificate;
 
-/// The sum with a term's factor more where its variable is the state, modulo 2^128.
-fn plus_factor(sum: i128, variable: u32, factor: i64, state: usize) -> i128
-    ensures { Congruent result (sum +ℤ factor *ℤ same_place variable state) }
+/// Adds numbers at a factor, each to the sum at its index, modulo 2^128.
+fn add_numbers(sums: &mut [i128], factor: i128, numbers: &[i64])
+    requires { length numbers.now ≤ length sums.old }
+    ensures count { length sums.new ≡ length sums.old }
+    ensures value { (f : ℕ → ℤ) → Tabled f sums.old
+        → Tabled (λ k. f k +ℤ factor *ℤ entry numbers.now k) sums.new }
 {
-    if variable as usize != state {
-        return sum;
+    for k in 0..numbers.len() {
+        add_at(sums, k, factor, i128::from(numbers[k]));
     }
-    wrapping_add_product(sum, i128::from(factor), 1)
 }
 
-/// The factor of a state in the terms, modulo 2^128.
-fn coefficient(terms: &[(u32, i64)], state: usize) -> i128
-    ensures { Congruent result (coefficient terms.now state) }
+/// Takes a factor times a multiplier times its row's terms of the states away, modulo 2^128.
+fn take_row(sums: &mut [i128], factor: i128, row: &Row, multiplier: i64)
+    requires { All (λ t. t.0 < length sums.old) row.now.states }
+    ensures count { length sums.new ≡ length sums.old }
+    ensures value { (f : ℕ → ℤ) → Tabled f sums.old
+        → Tabled (λ k. f k -ℤ factor *ℤ (multiplier *ℤ coefficient row.now.states k)) sums.new }
 {
-    let mut sum: i128 = 0;
-    for (variable, factor) in terms {
-        sum = plus_factor(sum, *variable, *factor, state);
+    if multiplier != 0 {
+        let product = wrapping_product(factor, i128::from(multiplier));
+        add_terms(sums, wrapping_product(-1, product), row.states.as_slice());
     }
-    sum
 }
 
-/// The sum with a multiplier times its row's factor of a state, modulo 2^128.
-fn plus_row(sum: i128, row: &Row, multiplier: i64, state: usize) -> i128
-    ensures { Congruent result (sum +ℤ multiplier *ℤ coefficient row.now.states state) }
+/// Takes a factor times the multipliers times their rows' terms of the states away, modulo 2^128.
+fn take_rows(sums: &mut [i128], factor: i128, rows: &[Row], multipliers: &[i64])
+    requires { All (λ (row : Row). All (λ (t : ℕ × ℤ). t.0 < length sums.old) row.states) rows.now }
+    ensures count { length sums.new ≡ length sums.old }
+    ensures value { (f : ℕ → ℤ) → Tabled f sums.old
+        → Tabled (λ k. f k -ℤ factor *ℤ total (λ (q : Row × ℤ). q.1 *ℤ coefficient q.0.states k) (zip rows.now multipliers.now)) sums.new }
 {
-    if multiplier == 0 {
-        return sum;
-    }
-    wrapping_add_product(
-        sum,
-        i128::from(multiplier),
-        coefficient(row.states.as_slice(), state),
-    )
-}
-
-/// The sum of the multipliers times their rows' factors of a state, modulo 2^128.
-fn rows_slope(rows: &[Row], multipliers: &[i64], state: usize) -> i128
-    ensures { Congruent result (total (λ (q : Row × ℤ). q.1 *ℤ coefficient q.0.states state) (zip rows.now multipliers.now)) }
-{
-    let mut sum: i128 = 0;
     for i in 0..rows.len().min(multipliers.len()) {
-        sum = plus_row(sum, &rows[i], multipliers[i], state);
+        take_row(sums, factor, &rows[i], multipliers[i]);
     }
-    sum
 }
 
-/// B_rk, modulo 2^128.
-fn certificate_slope(scale: i128, sub: &Subproblem, certificate: &Certificate, state: usize) -> i128
-    requires { state < length sub.now.state_costs }
-    ensures { Congruent result (scale *ℤ entry sub.now.state_costs state
-        -ℤ pos S *ℤ total (λ (q : Row × ℤ). q.1 *ℤ coefficient q.0.states state) (zip sub.now.rows certificate.now.rows)) }
+/// Adds a weight times B_rk for each state, modulo 2^128.
+fn add_certificate(
+    sums: &mut [i128],
+    weight: i128,
+    scale: i128,
+    sub: &Subproblem,
+    certificate: &Certificate,
+)
+    requires states { length sub.now.state_costs ≤ length sums.old }
+    requires rows { All (λ (row : Row). All (λ (t : ℕ × ℤ). t.0 < length sums.old) row.states) sub.now.rows }
+    ensures count { length sums.new ≡ length sums.old }
+    ensures value { (f : ℕ → ℤ) → Tabled f sums.old
+        → Tabled (λ k. f k +ℤ weight *ℤ (scale *ℤ entry sub.now.state_costs k
+        -ℤ pos S *ℤ total (λ (q : Row × ℤ). q.1 *ℤ coefficient q.0.states k) (zip sub.now.rows certificate.now.rows))) sums.new }
 {
-    let rows = rows_slope(sub.rows.as_slice(), certificate.rows.as_slice(), state);
-    let cost = i128::from(sub.state_costs.as_slice()[state]);
-    wrapping_add_product(wrapping_add_product(0, scale, cost), -SCALE, rows)
+    add_numbers(
+        sums,
+        wrapping_product(weight, scale),
+        sub.state_costs.as_slice(),
+    );
+    take_rows(
+        sums,
+        wrapping_product(weight, SCALE),
+        sub.rows.as_slice(),
+        certificate.rows.as_slice(),
+    );
 }
 
-/// B_k: the sum over the realizations of the weight times B_rk.
-pub(crate) fn slope_sum(here: &NodeAt, list: &[Certificate], state: usize) -> i128
-    requires values { length here.now.node.now.values ≡ length here.now.node.now.weights }
-    requires count { length here.now.weights.now ≡ length here.now.node.now.weights }
-    requires list { length list.now ≡ length here.now.node.now.weights }
-    requires links { length here.now.node.now.link_weights ≡ length here.now.node.now.links }
-    requires few { length here.now.node.now.links ≤ 2 ^ 16 }
-    requires stop { sum here.now.node.now.link_weights + here.now.node.now.stop ≤ 65535 }
-    requires state { state < length here.now.subproblem.now.state_costs }
-    requires size { let n = with_weights here.now.weights.now (node_of here.now.node.now here.now.subproblem.now [] []) in
-        slope_size n list.now state ≤ℤ pos (2 ^ 127 - 1) }
-    ensures { (low high : List ℤ)
-        → result ≡ beta_sum (with_weights here.now.weights.now (node_of here.now.node.now here.now.subproblem.now low high)) list.now state }
+/// Adds B_k for each state, the sum over the realizations of the weight times B_rk, modulo 2^128.
+fn add_certificates(sums: &mut [i128], here: &NodeAt, list: &[Certificate])
+    requires sized { Sized here.now.pools.now.lists here.now.node.now here.now.subproblem.now here.now.low.now here.now.weights.now }
+    requires list { length list.now ≡ length here.now.weights.now }
+    requires table { 50 ≤ length sums.old }
+    ensures count { length sums.new ≡ length sums.old }
+    ensures value { Tabled (λ k. pos 0) sums.old
+        → Tabled (beta_sum (unboxed here.now.weights.now here.now.node.now here.now.subproblem.now) list.now) sums.new }
 {
     let scale = scale(here.node);
-    let mut sum: i128 = 0;
     for r in 0..here.weights.len() {
-        sum = wrapping_add_product(
-            sum,
-            i128::from(here.weights[r]),
-            certificate_slope(scale, here.subproblem, &list[r], state),
-        );
+        let weight = i128::from(here.weights[r]);
+        add_certificate(sums, weight, scale, here.subproblem, &list[r]);
     }
-    sum
+}
+
+/// B_k for each state, modulo 2^128.
+pub(crate) fn slope_sums(here: &NodeAt, list: &[Certificate]) -> [i128; MOST_STATES]
+    requires sized { Sized here.now.pools.now.lists here.now.node.now here.now.subproblem.now here.now.low.now here.now.weights.now }
+    requires list { length list.now ≡ length here.now.weights.now }
+    ensures count { length result ≡ 50 }
+    ensures value { Tabled (beta_sum (unboxed here.now.weights.now here.now.node.now here.now.subproblem.now) list.now) result }
+{
+    let mut sums: [i128; MOST_STATES] = [0; MOST_STATES];
+    add_certificates(&mut sums, here, list);
+    sums
+}
+
+/// The same where all realizations have one certificate.
+pub(crate) fn repeated_slope_sums(here: &NodeAt, certificate: &Certificate) -> [i128; MOST_STATES]
+    requires sized { Sized here.now.pools.now.lists here.now.node.now here.now.subproblem.now here.now.low.now here.now.weights.now }
+    ensures count { length result ≡ 50 }
+    ensures value { Tabled (beta_sum (unboxed here.now.weights.now here.now.node.now here.now.subproblem.now) (repeated certificate.now here.now.weights.now)) result }
+{
+    let mut sums: [i128; MOST_STATES] = [0; MOST_STATES];
+    let weight = i128::from(total(here.weights));
+    add_certificate(
+        &mut sums,
+        weight,
+        scale(here.node),
+        here.subproblem,
+        certificate,
+    );
+    sums
 }

@@ -2,18 +2,20 @@
 ghost use Rattle.std.specs.Prelude.{◌≡◌, ◌-◌, ◌^◌, ◌<◌, ℕ, ℤ, pos, ◌-ℤ◌, ◌*ℤ◌, ◌≤ℤ◌, List, length, nat_abs, zip, MatchResult};
 ghost use Rattle.std.specs.List.{sum_by};
 ghost use Rattle.hp_num.specs.Sums.{floor_over};
-ghost use Rattle.hp_theory.specs.declared.cut.Cut.{Cut};
+ghost use Rattle.hp_theory.specs.declared.cut.Certificate.{Certificate};
 ghost use Rattle.hp_theory.specs.Problem.{with_weights};
 ghost use Rattle.hp_theory.specs.View.{node_of};
-ghost use Rattle.hp_theory.specs.CutOf.{remainder};
+ghost use Rattle.hp_theory.specs.CutOf.{beta_sum};
 ghost use Rattle.hp_theory.specs.Range.{range_of};
 ghost use Rattle.hp_dual.specs.Parts.{slope_size};
 ghost use Rattle.hp_dual.specs.Sized.{Sized, Passes, unboxed, remainders_amount};
 ghost use Rattle.hp_dual.specs.SizeByTerms.{Adds, weighted_amount};
+ghost use Rattle.hp_dual.specs.Tabled.{Tabled};
 
 use super::stages::realization_size;
-use super::terms::{absolute, plus_scaled};
-use crate::cut_making::slope_sum;
+use super::terms::plus_scaled;
+use crate::cut_making::slope_sums;
+use crate::magnitudes::absolute;
 use crate::node_at::NodeAt;
 use crate::scales::divisor;
 use hp_num::Size;
@@ -47,33 +49,36 @@ fn rest(a: i128, d: i128) -> u128
     a.rem_euclid(d).unsigned_abs()
 }
 
-/// r_k: the remainder of a slope.
-fn remainder(here: &NodeAt, list: &[Certificate], state: usize) -> u128
-    requires sized { (low : List ℤ) × (pools : List (List Cut)) × Sized pools here.now.node.now here.now.subproblem.now low here.now.weights.now }
-    requires list { length list.now ≡ length here.now.weights.now }
-    requires state { state < length here.now.subproblem.now.state_costs }
-    requires size { slope_size (unboxed here.now.weights.now here.now.node.now here.now.subproblem.now) list.now state ≤ℤ pos (2 ^ 127 - 1) }
-    ensures { result ≡ nat_abs (remainder (unboxed here.now.weights.now here.now.node.now here.now.subproblem.now) list.now state) }
+/// The remainders of the slopes at the lower ends of the box, from B modulo 2^128.
+fn plus_remainders(size: Size, here: &NodeAt, sums: &[i128]) -> Option<Size>
+    requires sized { Sized here.now.pools.now.lists here.now.node.now here.now.subproblem.now here.now.low.now here.now.weights.now }
+    requires table { length sums.now ≡ 50 }
+    ensures { (list : List Certificate) → Tabled (beta_sum (unboxed here.now.weights.now here.now.node.now here.now.subproblem.now) list) sums.now
+        → ((k : ℕ) → k < length here.now.low.now → slope_size (unboxed here.now.weights.now here.now.node.now here.now.subproblem.now) list k ≤ℤ pos (2 ^ 127 - 1))
+        → Adds size.total result (remainders_amount here.now.weights.now here.now.node.now here.now.subproblem.now here.now.low.now list) }
 {
-    rest(
-        slope_sum(here, list, state),
-        divisor(here.node, here.weights),
-    )
-}
-
-/// The remainders of the slopes at the lower ends of the box.
-fn plus_remainders(size: Size, here: &NodeAt, list: &[Certificate]) -> Option<Size>
-    requires sized { (pools : List (List Cut)) × Sized pools here.now.node.now here.now.subproblem.now here.now.low.now here.now.weights.now }
-    requires list { length list.now ≡ length here.now.weights.now }
-    requires size { (k : ℕ) → k < length here.now.low.now → slope_size (unboxed here.now.weights.now here.now.node.now here.now.subproblem.now) list.now k ≤ℤ pos (2 ^ 127 - 1) }
-    ensures { Adds size.total result (remainders_amount here.now.weights.now here.now.node.now here.now.subproblem.now here.now.low.now list.now) }
-{
+    let under = divisor(here.node, here.weights);
     let mut sum = size;
     for k in 0..here.low.len() {
-        let remainder = remainder(here, list, k);
+        let remainder = rest(sums[k], under);
         sum = sum.plus_product(remainder, absolute(here.low[k]))?;
     }
     Some(sum)
+}
+
+/// Where the sizes of the realizations are in range: their number where the remainders of the slopes bring the sum above
+/// 2^127 - 1, and else none. B is given modulo 2^128.
+pub(super) fn remainders_range(size: Size, here: &NodeAt, sums: &[i128]) -> Option<usize>
+    requires sized { Sized here.now.pools.now.lists here.now.node.now here.now.subproblem.now here.now.low.now here.now.weights.now }
+    requires table { length sums.now ≡ 50 }
+    ensures { (list : List Certificate) → length list ≡ length here.now.weights.now → Tabled (beta_sum (unboxed here.now.weights.now here.now.node.now here.now.subproblem.now) list) sums.now
+        → size.total ≡ sum_by (weighted_amount here.now.node.now here.now.subproblem.now here.now.low.now here.now.high.now here.now.pools.now.lists) (zip here.now.weights.now (zip here.now.node.now.values list))
+        → result ≡ range_of here.now.pools.now.lists (with_weights here.now.weights.now (node_of here.now.node.now here.now.subproblem.now here.now.low.now here.now.high.now)) list }
+{
+    match plus_remainders(size, here, sums) {
+        Some(_) => None,
+        None => Some(here.weights.len()),
+    }
 }
 
 /// The realization at which the size of a list of certificates with given weights passes 2^127 - 1: the least such that
@@ -86,9 +91,6 @@ pub(crate) fn range_with(here: &NodeAt, list: &[Certificate]) -> Option<usize>
 {
     match realizations_size(here, list) {
         Err(realization) => Some(realization),
-        Ok(size) => match plus_remainders(size, here, list) {
-            Some(_) => None,
-            None => Some(list.len()),
-        },
+        Ok(size) => remainders_range(size, here, &slope_sums(here, list)),
     }
 }

@@ -1,8 +1,9 @@
 // The size of the rows of a certificate.
 ghost use Rattle.hp_dual.specs.SizeByTerms.{Adds, row_amount, scaled_row, rows_amount};
 
-use super::terms::{StageMultiples, absolute, plus_scaled, plus_terms};
-use crate::row_side::row_side;
+use super::terms::{StageMultiples, plus_scaled, plus_terms};
+use crate::magnitudes::absolute;
+use crate::sides::row_side;
 use hp_num::Size;
 use hp_problem::Row;
 

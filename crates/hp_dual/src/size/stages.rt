@@ -2,13 +2,12 @@
 ghost use Rattle.std.specs.Prelude.{◌≡◌, ◌+◌, ◌*◌, ◌^◌, ◌≤◌, ◌<◌, length, sum, All};
 ghost use Rattle.std.specs.List.{sum_by};
 ghost use Rattle.hp_theory.specs.Problem.{S};
-ghost use Rattle.hp_dual.specs.SizeByTerms.{Adds, decision_amount, costs_amount, link_weight, stage_amount, certificate_amount};
+ghost use Rattle.hp_dual.specs.SizeByTerms.{Adds, decision_amount, costs_amount, link_weight, links_amount, stage_amount, certificate_amount};
 
 use super::cuts::links_size;
 use super::rows::rows_size;
-use super::terms::{
-    DecisionBoxes, StageMultiples, StateBox, Values, absolute, plus_numbers, plus_scaled, reach,
-};
+use super::terms::{DecisionBoxes, StageMultiples, StateBox, Values, plus_numbers, plus_scaled};
+use crate::magnitudes::{absolute, reach};
 use crate::node_at::NodeAt;
 use crate::scales::successor_weight;
 use hp_num::Size;
@@ -80,6 +79,39 @@ fn stage_size(here: &NodeAt, values: &[i64], multipliers: &[i64]) -> Option<Size
     plus_scaled(rows, unit(here.node), costs_size(here.subproblem, &by))
 }
 
+/// The pairs of a certificate.
+pub(super) fn pairs_size(here: &NodeAt, certificate: &Certificate) -> Option<Size>
+    requires known { All (λ m. m < length here.now.pools.now.lists) here.now.node.now.links }
+    ensures { Adds 0 result (links_amount here.now.subproblem.now.decisions here.now.subproblem.now.outs here.now.pools.now.lists here.now.node.now.links certificate.now.cuts) }
+{
+    links_size(
+        here.node.links.as_slice(),
+        certificate.cuts.as_slice(),
+        here.pools,
+        here.subproblem.outs.as_slice(),
+        here.subproblem.decisions.as_slice(),
+    )
+}
+
+/// All of a realization over its pairs, without its weight.
+pub(super) fn realization_over(
+    pairs: Option<Size>,
+    here: &NodeAt,
+    values: &[i64],
+    certificate: &Certificate,
+) -> Option<Size>
+    requires links { length here.now.node.now.link_weights ≡ length here.now.node.now.links }
+    requires few { length here.now.node.now.links ≤ 2 ^ 16 }
+    requires stop { sum here.now.node.now.link_weights + here.now.node.now.stop ≤ 65535 }
+    requires scale { 0 < link_weight here.now.node.now }
+    requires pairs { Adds 0 pairs (links_amount here.now.subproblem.now.decisions here.now.subproblem.now.outs here.now.pools.now.lists here.now.node.now.links certificate.now.cuts) }
+    ensures { Adds 0 result (certificate_amount here.now.node.now here.now.subproblem.now here.now.low.now here.now.high.now here.now.pools.now.lists (values.now, certificate.now)) }
+{
+    let pairs = pairs?;
+    let stage = stage_size(here, values, certificate.rows.as_slice());
+    plus_scaled(pairs, scale(), stage)
+}
+
 /// All of a realization, without its weight.
 pub(super) fn realization_size(
     here: &NodeAt,
@@ -93,13 +125,5 @@ pub(super) fn realization_size(
     requires known { All (λ m. m < length here.now.pools.now.lists) here.now.node.now.links }
     ensures { Adds 0 result (certificate_amount here.now.node.now here.now.subproblem.now here.now.low.now here.now.high.now here.now.pools.now.lists (values.now, certificate.now)) }
 {
-    let pairs = links_size(
-        here.node.links.as_slice(),
-        certificate.cuts.as_slice(),
-        here.pools,
-        here.subproblem.outs.as_slice(),
-        here.subproblem.decisions.as_slice(),
-    )?;
-    let stage = stage_size(here, values, certificate.rows.as_slice());
-    plus_scaled(pairs, scale(), stage)
+    realization_over(pairs_size(here, certificate), here, values, certificate)
 }

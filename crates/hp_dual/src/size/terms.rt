@@ -1,23 +1,11 @@
 // Terms and numbers times what bounds them, added to a size.
-ghost use Rattle.std.specs.Prelude.{◌≡◌, ◌*◌, ◌≤◌, ℕ, nat_abs, Option};
+ghost use Rattle.std.specs.Prelude.{◌≡◌, ◌*◌, ◌≤◌, ℕ, Option};
 ghost use Rattle.hp_num.specs.Sums.{entry};
-ghost use Rattle.hp_dual.specs.SizeByTerms.{Adds, span, over_decisions, over_box, over_values, term_by, terms_by, numbers_by};
+ghost use Rattle.hp_dual.specs.SizeByTerms.{Adds, over_decisions, over_box, over_values, term_by, terms_by, numbers_by};
 
+use crate::magnitudes::{absolute, reach};
 use hp_num::Size;
 use hp_problem::Decision;
-
-pub(super) fn absolute(x: i64) -> u128
-    ensures { result ≡ nat_abs x }
-{
-    u128::from(x.unsigned_abs())
-}
-
-/// The greatest of 1 and the absolute values of a box's sides.
-pub(super) fn reach(low: i64, high: i64) -> u128
-    ensures { result ≡ span low high }
-{
-    absolute(low).max(absolute(high)).max(1)
-}
 
 /// The number at an index, 0 past the end.
 fn number_at(numbers: &[i64], index: usize) -> i64

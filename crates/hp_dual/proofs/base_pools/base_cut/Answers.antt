@@ -1,33 +1,70 @@
-use Rattle.std.proofs.Common.{◌∙◌, sym, ap}
-use Rattle.std.proofs.lemmas.Result.{err_from_is_err_and}
-use Rattle.hp_theory.specs.Problem.{node_at}
-use Rattle.hp_theory.specs.View.{problem_of}
-use Rattle.hp_theory.specs.CutOf.{cut_of}
-use Rattle.hp_theory.specs.Range.{range_of}
-use Rattle.hp_dual.proofs.Basing.{is-base_list, right-base_list, fault-right, gives_fault}
+use Rattle.std.proofs.Common.{ℕ, ap, refl, sym, arith, ◌∙◌}
+use Rattle.std.proofs.lemmas.List.{length-map}
+use Rattle.hp_cut.specs.Pooled.{Pooled}
+use Rattle.hp_theory.specs.Problem.{Node, node_at, with_weights}
+use Rattle.hp_theory.specs.View.{node_of, problem_of}
+use Rattle.hp_theory.proofs.SealedParts.{parts_given}
+use Rattle.hp_dual.specs.Parts.{repeated}
+use Rattle.hp_dual.specs.Sized.{Sized}
+use Rattle.hp_dual.proofs.Basing.{sized_same, range_same, cut_same, cuttable_same}
+use Rattle.hp_dual.proofs.OwnWeights.{OwnWeights}
+use Rattle.hp_dual.proofs.Passing.{few-range_of}
 use Rattle.hp_dual.proofs.base_pools.base_cut.Goals as goal
 
-pub check_base-requires-clause-right : goal.check_base-requires-clause-right
-check_base-requires-clause-right c =
-    right-base_list c.args.problem.now c.raw-raw.result.now c.as_slice.result.now c.args.node c.index-as_slice-node.result c.sub.result.now c.as_slice-2.result.now c.raw-raw.ensures.sealed c.raw-raw.ensures.value c.as_slice.ensures c.requires.known c.index-as_slice-node.is c.sub.ensures (c.as_slice-2.ensures ∙ c.in_ok-list.ensures)
-    c.args.pools.now.lists c.requires.fit.some
+pub repeated_range-requires : goal.repeated_range-requires
+repeated_range-requires c =
+    let p = c.args.problem.now in
+    let h = c.of-here.result in
+    let o = c.of-here.ensures in
+    let w = c.own_weights.ensures in
+    let k : Node = node_at (problem_of p) c.args.node in
+    let fit = parts_given p c.args.node h.node.now h.subproblem.now h.low.now h.high.now o.sealed o.the_node o.the_subproblem o.the_low o.the_high in
+    let own : OwnWeights c.own_weights.result.now k = record { count = w.count; positive = w.positive; total = w.total; own = w.own } in
+    record { sized = sized_same p c.args.node h.node.now h.subproblem.now h.low.now h.high.now c.own_weights.result.now c.args.pools.now.lists o.sealed c.requires.known fit own c.requires.fit h.pools.now.lists h.weights.now c.in_ok-certificate.certificate (ap (λ (x : Pooled). x.lists) o.pools) o.weights c.in_ok-certificate.ensures }
 
-pub returns-in_err-check_base : goal.returns-in_err-check_base
-returns-in_err-check_base c =
-    let p = err_from_is_err_and c.from_residual-in_err-check_base.result c.from_residual-in_err-check_base.ensures.1 in
-    let is = is-base_list c.args.problem.now c.raw-raw.result.now c.as_slice.result.now c.args.node c.index-as_slice-node.result c.sub.result.now c.as_slice-2.result.now c.raw-raw.ensures.sealed c.raw-raw.ensures.value c.as_slice.ensures c.requires.known c.index-as_slice-node.is c.sub.ensures (c.as_slice-2.ensures ∙ c.in_ok-list.ensures) in
-    rw (p.1, p.2) (gives_fault c.args.node c.args.pools.now.lists (node_at (problem_of c.args.problem.now) c.args.node) c.as_slice-2.result.now c.in_err-check_base.field-0.0 is c.in_err-check_base.ensures)
+pub overflow_cast-realization : goal.overflow_cast-realization
+overflow_cast-realization c =
+    let p = c.args.problem.now in
+    let h = c.of-here.result in
+    let o = c.of-here.ensures in
+    let w = c.own_weights.ensures in
+    let k : Node = node_at (problem_of p) c.args.node in
+    let fit = parts_given p c.args.node h.node.now h.subproblem.now h.low.now h.high.now o.sealed o.the_node o.the_subproblem o.the_low o.the_high in
+    let own : OwnWeights c.own_weights.result.now k = record { count = w.count; positive = w.positive; total = w.total; own = w.own } in
+    let z : Sized h.pools.now.lists h.node.now h.subproblem.now h.low.now h.weights.now = sized_same p c.args.node h.node.now h.subproblem.now h.low.now h.high.now c.own_weights.result.now c.args.pools.now.lists o.sealed c.requires.known fit own c.requires.fit h.pools.now.lists h.weights.now c.in_ok-certificate.certificate (ap (λ (x : Pooled). x.lists) o.pools) o.weights c.in_ok-certificate.ensures in
+    let small = few-range_of h.pools.now.lists (with_weights h.weights.now (node_of h.node.now h.subproblem.now h.low.now h.high.now)) (repeated c.in_ok-certificate.certificate h.weights.now) c.in-Some.r (sym c.in-Some.ensures) in
+    let count = length-map h.weights.now (λ (w : ℕ). c.in_ok-certificate.certificate) in
+    grind (arith, small, count, z.count, z.realizations)
 
-pub make_into-requires-clause-accepted : goal.make_into-requires-clause-accepted
-make_into-requires-clause-accepted c =
-    let n = node_at (problem_of c.args.problem.now) c.args.node in
-    let right = right-base_list c.args.problem.now c.raw-raw.result.now c.as_slice.result.now c.args.node c.index-as_slice-node.result c.sub.result.now c.as_slice-3.result.now c.raw-raw.ensures.sealed c.raw-raw.ensures.value c.as_slice.ensures c.requires.known c.index-as_slice-node.is c.sub.ensures (c.as_slice-3.ensures ∙ c.in_ok-list.ensures) c.args.pools.now.lists c.requires.fit.some in
-    fault-right c.args.pools.now.lists n c.as_slice-3.result.now right (ap (range_of c.args.pools.now.lists n) (c.as_slice-3.ensures ∙ sym c.as_slice-2.ensures) ∙ c.in_ok-check_base.ensures)
+pub returns-in-Some : goal.returns-in-Some
+returns-in-Some c =
+    let p = c.args.problem.now in
+    let h = c.of-here.result in
+    let o = c.of-here.ensures in
+    let w = c.own_weights.ensures in
+    let k : Node = node_at (problem_of p) c.args.node in
+    let fit = parts_given p c.args.node h.node.now h.subproblem.now h.low.now h.high.now o.sealed o.the_node o.the_subproblem o.the_low o.the_high in
+    let own : OwnWeights c.own_weights.result.now k = record { count = w.count; positive = w.positive; total = w.total; own = w.own } in
+    (refl, sym (range_same p c.args.node h.node.now h.subproblem.now h.low.now h.high.now c.own_weights.result.now c.args.pools.now.lists o.sealed c.requires.known fit own c.requires.fit h.pools.now.lists h.weights.now c.in_ok-certificate.certificate (ap (λ (x : Pooled). x.lists) o.pools) o.weights c.in_ok-certificate.ensures) ∙ sym c.in-Some.ensures)
+
+pub write_repeated_cut-requires-clause-made : goal.write_repeated_cut-requires-clause-made
+write_repeated_cut-requires-clause-made c =
+    let p = c.args.problem.now in
+    let h = c.of-here.result in
+    let o = c.of-here.ensures in
+    let w = c.own_weights.ensures in
+    let k : Node = node_at (problem_of p) c.args.node in
+    let fit = parts_given p c.args.node h.node.now h.subproblem.now h.low.now h.high.now o.sealed o.the_node o.the_subproblem o.the_low o.the_high in
+    let own : OwnWeights c.own_weights.result.now k = record { count = w.count; positive = w.positive; total = w.total; own = w.own } in
+    cuttable_same p c.args.node h.node.now h.subproblem.now h.low.now h.high.now c.own_weights.result.now c.args.pools.now.lists o.sealed c.requires.known fit own c.requires.fit h.pools.now.lists h.weights.now c.in_ok-certificate.certificate (ap (λ (x : Pooled). x.lists) o.pools) o.weights c.in_ok-certificate.ensures (sym c.in_default.ensures)
 
 pub returns : goal.returns
 returns c =
-    let n = node_at (problem_of c.args.problem.now) c.args.node in
-    let is = is-base_list c.args.problem.now c.raw-raw.result.now c.as_slice.result.now c.args.node c.index-as_slice-node.result c.sub.result.now c.in_ok-list.list c.raw-raw.ensures.sealed c.raw-raw.ensures.value c.as_slice.ensures c.requires.known c.index-as_slice-node.is c.sub.ensures c.in_ok-list.ensures in (
-      ap (range_of c.args.pools.now.lists n) (sym is ∙ sym c.as_slice-2.ensures) ∙ c.in_ok-check_base.ensures,
-      c.make_into.ensures.value ∙ ap (cut_of c.args.pools.now.lists n) (c.as_slice-3.ensures ∙ is),
-    )
+    let p = c.args.problem.now in
+    let h = c.of-here.result in
+    let o = c.of-here.ensures in
+    let w = c.own_weights.ensures in
+    let k : Node = node_at (problem_of p) c.args.node in
+    let fit = parts_given p c.args.node h.node.now h.subproblem.now h.low.now h.high.now o.sealed o.the_node o.the_subproblem o.the_low o.the_high in
+    let own : OwnWeights c.own_weights.result.now k = record { count = w.count; positive = w.positive; total = w.total; own = w.own } in
+    (sym (range_same p c.args.node h.node.now h.subproblem.now h.low.now h.high.now c.own_weights.result.now c.args.pools.now.lists o.sealed c.requires.known fit own c.requires.fit h.pools.now.lists h.weights.now c.in_ok-certificate.certificate (ap (λ (x : Pooled). x.lists) o.pools) o.weights c.in_ok-certificate.ensures) ∙ sym c.in_default.ensures, c.write_repeated_cut.ensures h.high.now ∙ cut_same p c.args.node h.node.now h.subproblem.now h.low.now h.high.now c.own_weights.result.now c.args.pools.now.lists o.sealed c.requires.known fit own c.requires.fit h.pools.now.lists h.weights.now c.in_ok-certificate.certificate (ap (λ (x : Pooled). x.lists) o.pools) o.weights c.in_ok-certificate.ensures)

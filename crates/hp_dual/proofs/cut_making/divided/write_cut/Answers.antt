@@ -1,49 +1,7 @@
-use Rattle.std.proofs.Common.{◌≡◌, ℕ, ◌<◌, ℤ, pos, ◌+ℤ◌, ◌*ℤ◌, ◌≤ℤ◌, List, [], SFits, length, nat_abs, to_z, of_z, arith, ap, ap₂, ◌∙◌}
-use mir.Syntax.{w128}
-use Rattle.std.proofs.lemmas.Int.{ints, to_z-of_z}
-use Rattle.hp_num.specs.Sums.{sum_to, entry, floor_over}
-use Rattle.hp_theory.specs.Problem.{Node}
-use Rattle.hp_theory.specs.View.{node_of}
-use Rattle.hp_theory.specs.CutOf.{alpha_sum, divisor, remainder}
-use Rattle.hp_dual.specs.Congruent.{Congruent}
-use Rattle.hp_dual.specs.Sized.{Sized, unboxed}
-use Rattle.hp_dual.proofs.Congruence.{exact, in_range, same_add, same_read}
-use Rattle.hp_dual.proofs.Divisor.{divisor-unboxed, divisor_some}
+use Rattle.std.proofs.Common.{[], ◌∙◌}
+use Rattle.hp_dual.proofs.Congruence.{same_read}
 use Rattle.hp_dual.proofs.cut_making.divided.write_cut.Goals as goal
 
-pub write_slopes-rest-requires-clause-under : goal.write_slopes-rest-requires-clause-under
-write_slopes-rest-requires-clause-under c =
-    to_z-of_z w128 c.divisor-under.result (record { sfits = c.divisor-under.type_inv }) ∙ c.divisor-under.ensures ∙ ap pos (divisor-unboxed c.args.here.now.weights.now c.args.here.now.node.now c.args.here.now.subproblem.now c.requires.made.sized.count c.requires.made.sized.values)
-
-at_least_one : (z : ℤ) (k : ℕ) → z ≡ pos k → 0 < k → pos 1 ≤ℤ z
-at_least_one z k e h = omega (arith, ints)
-
-pub write_slopes-rest-requires-clause-some : goal.write_slopes-rest-requires-clause-some
-write_slopes-rest-requires-clause-some c =
-    let z : Sized c.args.here.now.pools.now.lists c.args.here.now.node.now c.args.here.now.subproblem.now c.args.here.now.low.now c.args.here.now.weights.now = c.requires.made.sized in
-    at_least_one (to_z w128 (of_z w128 c.divisor-under.result)) (divisor (unboxed c.args.here.now.weights.now c.args.here.now.node.now c.args.here.now.subproblem.now))
-    (to_z-of_z w128 c.divisor-under.result (record { sfits = c.divisor-under.type_inv }) ∙ c.divisor-under.ensures ∙ ap pos (divisor-unboxed c.args.here.now.weights.now c.args.here.now.node.now c.args.here.now.subproblem.now z.count z.values))
-    (divisor_some c.args.here.now.pools.now.lists c.args.here.now.node.now c.args.here.now.subproblem.now c.args.here.now.low.now c.args.here.now.weights.now z)
-
-pub floor_div-cut-requires : goal.floor_div-cut-requires
-floor_div-cut-requires c =
-    let z : Sized c.args.here.now.pools.now.lists c.args.here.now.node.now c.args.here.now.subproblem.now c.args.here.now.low.now c.args.here.now.weights.now = c.requires.made.sized in
-    at_least_one (to_z w128 (of_z w128 c.divisor-under.result)) (divisor (unboxed c.args.here.now.weights.now c.args.here.now.node.now c.args.here.now.subproblem.now))
-    (to_z-of_z w128 c.divisor-under.result (record { sfits = c.divisor-under.type_inv }) ∙ c.divisor-under.ensures ∙ ap pos (divisor-unboxed c.args.here.now.weights.now c.args.here.now.node.now c.args.here.now.subproblem.now z.count z.values))
-    (divisor_some c.args.here.now.pools.now.lists c.args.here.now.node.now c.args.here.now.subproblem.now c.args.here.now.low.now c.args.here.now.weights.now z)
-
 pub returns : goal.returns
-unfolding node_of
 returns c = λ high.
-    let n : Node = unboxed c.args.here.now.weights.now c.args.here.now.node.now c.args.here.now.subproblem.now in
-    let a : ℤ = alpha_sum c.args.here.now.pools.now.lists n c.args.list.now in
-    let b : ℤ = sum_to (length c.args.here.now.low.now) (λ k. remainder n c.args.list.now k *ℤ entry c.args.here.now.low.now k) in
-    let under : to_z w128 (of_z w128 c.divisor-under.result) ≡ pos (divisor n) =
-    to_z-of_z w128 c.divisor-under.result (record { sfits = c.divisor-under.type_inv }) ∙ c.divisor-under.ensures ∙ ap pos (divisor-unboxed c.args.here.now.weights.now c.args.here.now.node.now c.args.here.now.subproblem.now c.requires.made.sized.count c.requires.made.sized.values) in
-    let fits : SFits w128 c.wrapping_add-sum.result = record { sfits = c.wrapping_add-sum.type_inv } in
-    let constant : Congruent (to_z w128 (of_z w128 c.constant_sum.result)) a = same_read c.constant_sum.result (record { sfits = c.constant_sum.type_inv }) ∙ c.constant_sum.ensures [] [] in
-    let rest : Congruent (to_z w128 (of_z w128 c.write_slopes-rest.result)) b = same_read c.write_slopes-rest.result (record { sfits = c.write_slopes-rest.type_inv }) ∙ c.write_slopes-rest.ensures.rest in
-    let sum : c.wrapping_add-sum.result ≡ a +ℤ b = exact c.wrapping_add-sum.result (a +ℤ b) fits (in_range (a +ℤ b) c.requires.made.constant) (c.wrapping_add-sum.ensures ∙ same_add _ _ a b constant rest) in
-    ap₂ (λ (x : ℤ) (ys : List ℤ). record { alpha = x; beta = ys })
-    (to_z-of_z w128 c.floor_div-cut.result (record { sfits = c.floor_div-cut.type_inv }) ∙ c.floor_div-cut.ensures ∙ ap₂ (λ (x y : ℤ). floor_over x (nat_abs y)) (to_z-of_z w128 c.wrapping_add-sum.result fits ∙ sum) under)
-    c.write_slopes-rest.ensures.slopes
+    c.write_cut_of.ensures c.args.list.now high c.requires.made c.slope_sums-slopes.ensures.value (same_read c.constant_sum-constant.result (record { sfits = c.constant_sum-constant.type_inv }) ∙ c.constant_sum-constant.ensures [] [])

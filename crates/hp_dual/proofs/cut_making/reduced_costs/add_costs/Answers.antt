@@ -1,19 +1,12 @@
-use Rattle.std.proofs.Common.{◌≡◌, ℕ, ◌+◌, ◌<◌, ◌≤◌, ℤ, pos, ◌+ℤ◌, ◌*ℤ◌, [], ◌∷◌, SFits, w64, List, length, map, get_or, take, to_z, of_z, rules, arith, ap, ap₂, sym, subst, ◌∙◌, take_all, add-one}
+use Rattle.std.proofs.Common.{◌≡◌, ℕ, ◌<◌, ◌≤◌, ℤ, pos, ◌+ℤ◌, ◌*ℤ◌, SFits, w64, List, map, get_or, to_z, of_z, rules, arith, ap, ap₂, sym, subst, ◌∙◌, take_all}
 use mir.Syntax.{w128}
 use Rattle.std.specs.Int.{int_wrap}
 use Rattle.std.proofs.lemmas.Int.{to_z-of_z}
 use Rattle.std.proofs.lemmas.List.{length-map, get_or-map}
-use Rattle.hp_num.specs.Sums.{entry, same_place}
-use Rattle.hp_num.proofs.Ring.{ring, var, ◌⊕◌, ◌⊗◌}
+use Rattle.hp_num.specs.Sums.{entry}
 use Rattle.hp_problem.specs.declared.raw.Decision.{Decision}
-use Rattle.hp_dual.proofs.Tables.{tabled_as, entry_more}
+use Rattle.hp_dual.proofs.Tables.{tabled_as, number_more}
 use Rattle.hp_dual.proofs.cut_making.reduced_costs.add_costs.Goals as goal
-
-cost_more : (xs : List ℤ) (i j : ℕ) (b k c : ℤ) → i < length xs → c ≡ entry xs i → b +ℤ k *ℤ entry (take i xs) j +ℤ k *ℤ (c *ℤ same_place i j) ≡ b +ℤ k *ℤ entry (take (i + 1) xs) j
-cost_more xs i j b k c h e =
-    ap (λ (z : ℤ). b +ℤ k *ℤ entry (take i xs) j +ℤ k *ℤ (z *ℤ same_place i j)) e
-    ∙ ring (b ∷ k ∷ entry (take i xs) j ∷ entry xs i ∷ same_place i j ∷ []) (var 0 ⊕ var 1 ⊗ var 2 ⊕ var 1 ⊗ (var 3 ⊗ var 4)) (var 0 ⊕ var 1 ⊗ (var 2 ⊕ var 3 ⊗ var 4)) tt
-    ∙ ap (λ (z : ℤ). b +ℤ k *ℤ z) (sym (entry_more xs i j h)) ∙ ap (λ (n : ℕ). b +ℤ k *ℤ entry (take n xs) j) (sym (add-one i))
 
 pub loop-j-preserved : goal.loop-j-preserved
 loop-j-preserved c =
@@ -29,7 +22,7 @@ loop-j-preserved c =
     record {
       count = omega (arith, c.add_at.ensures.count, c.loop-j.invariant.count);
       value = λ f t. tabled_as _ _ c.add_at.new.sums
-          (λ j. ap (int_wrap w128) (cost_more xs i j (f j) k (to_z w128 (of_z w128 c.from.result)) (subst (λ (n : ℕ). i < n) (sym (length-map ds (λ (e : Decision). e.cost))) c.loop-j-test.true) (cost ∙ here)))
+          (λ j. ap (int_wrap w128) (number_more xs i j (f j) k (to_z w128 (of_z w128 c.from.result)) (subst (λ (n : ℕ). i < n) (sym (length-map ds (λ (e : Decision). e.cost))) c.loop-j-test.true) (cost ∙ here)))
           (c.add_at.ensures.value _ (c.loop-j.invariant.value f t));
     }
 

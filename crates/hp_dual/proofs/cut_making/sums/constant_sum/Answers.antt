@@ -13,15 +13,18 @@ use Rattle.hp_dual.proofs.Viewed.{alpha-node_of}
 use Rattle.hp_dual.proofs.Weighted.{weighted_inside, weighted_all, weighted_at}
 use Rattle.hp_dual.proofs.cut_making.sums.constant_sum.Goals as goal
 
-pub certificate_constant-constant-requires-clause-small : goal.certificate_constant-constant-requires-clause-small
+pub fixed_constant-fixed-requires-clause-small : goal.fixed_constant-fixed-requires-clause-small
 unfolding node_of
-certificate_constant-constant-requires-clause-small c =
+fixed_constant-fixed-requires-clause-small c =
     let r : ℕ = c.loop-r.r in
     let certificate : Certificate = c.index-list-r.result in
     let h : r < length c.args.list.now = omega (arith, c.requires.list, c.requires.count, c.loop-r-test.true) in
     let factor : to_z w128 (of_z w128 c.scale-scale.result) ≡ scale (node_of c.args.here.now.node.now c.args.here.now.subproblem.now [] []) = to_z-of_z w128 c.scale-scale.result (record { sfits = c.scale-scale.type_inv }) ∙ c.scale-scale.ensures in
     subst (λ (k : ℤ). ReducedFit k c.args.here.now.pools.now.lists c.args.here.now.node.now c.args.here.now.subproblem.now certificate) (sym factor)
     (subst (ReducedFit (scale (node_of c.args.here.now.node.now c.args.here.now.subproblem.now [] [])) c.args.here.now.pools.now.lists c.args.here.now.node.now c.args.here.now.subproblem.now) (sym c.index-list-r.is) (c.requires.small r certificate h))
+
+pub constant_over-constant-requires-clause-fixed : goal.constant_over-constant-requires-clause-fixed
+constant_over-constant-requires-clause-fixed c = same_read c.fixed_constant-fixed.result (record { sfits = c.fixed_constant-fixed.type_inv }) ∙ c.fixed_constant-fixed.ensures
 
 pub loop-r-preserved : goal.loop-r-preserved
 unfolding node_of
@@ -40,8 +43,8 @@ loop-r-preserved c =
     let weight : Congruent (to_z w128 (of_z w128 c.from.result)) (pos w) = same_read c.from.result (record { sfits = c.from.type_inv }) ∙ ap (int_wrap w128) c.from.ensures in
     let factor : to_z w128 (of_z w128 c.scale-scale.result) ≡ scale m = to_z-of_z w128 c.scale-scale.result (record { sfits = c.scale-scale.type_inv }) ∙ c.scale-scale.ensures in
     let values : c.as_slice-values.result.now ≡ v = c.as_slice-values.ensures ∙ c.index-as_slice-r.is ∙ ap (λ (xs : List (List ℤ)). get_or xs r own) c.as_slice.ensures in
-    let constant : Congruent (to_z w128 (of_z w128 c.certificate_constant-constant.result)) (alpha_at lists n v certificate) =
-    same_read c.certificate_constant-constant.result (record { sfits = c.certificate_constant-constant.type_inv }) ∙ c.certificate_constant-constant.ensures
+    let constant : Congruent (to_z w128 (of_z w128 c.constant_over-constant.result)) (alpha_at lists n v certificate) =
+    same_read c.constant_over-constant.result (record { sfits = c.constant_over-constant.type_inv }) ∙ c.constant_over-constant.ensures
     ∙ ap₂ (λ (k : ℤ) (xs : List ℤ). int_wrap w128 (constant_at k lists c.args.here.now.node.now c.args.here.now.subproblem.now xs certificate)) factor values
     ∙ ap (int_wrap w128) (sym (alpha-node_of c.args.here.now.node.now c.args.here.now.subproblem.now [] [] lists certificate c.requires.limits.links v)) in
     let here : get_or (zip n.realizations c.args.list.now) r d ≡ (record { weight = w; values = v }, certificate) =

@@ -1,4 +1,4 @@
-use Rattle.std.proofs.Common.{◌≡◌, ℕ, zero, suc, ◌-◌, ◌^◌, ◌<◌, ℤ, pos, ◌+ℤ◌, ◌-ℤ◌, ◌*ℤ◌, ◌≤ℤ◌, List, length, map, zip, replicate, refl, ap, subst, ◌∙◌}
+use Rattle.std.proofs.Common.{ℕ, ◌-◌, ◌^◌, ◌<◌, ℤ, pos, ◌+ℤ◌, ◌-ℤ◌, ◌*ℤ◌, ◌≤ℤ◌, List, length, map, zip, ap, subst, ◌∙◌}
 use mir.Syntax.{w128}
 use Rattle.std.specs.Int.{int_wrap, int_min}
 use Rattle.std.proofs.lemmas.Int.{to_z-of_z}
@@ -13,16 +13,8 @@ use Rattle.hp_dual.specs.Congruent.{Congruent}
 use Rattle.hp_dual.specs.Tabled.{Tabled}
 use Rattle.hp_dual.specs.Parts.{over_links, reduced_at}
 use Rattle.hp_dual.proofs.Congruence.{same_read}
-use Rattle.hp_dual.proofs.Tables.{tabled_as}
+use Rattle.hp_dual.proofs.Tables.{tabled_as, zeros}
 use Rattle.hp_dual.proofs.cut_making.sums.least_sum.Goals as goal
-
-zero_entries : (n j : ℕ) → entry (replicate n (pos 0)) j ≡ pos 0
-zero_entries zero j = refl
-zero_entries (suc n) zero = refl
-zero_entries (suc n) (suc j) = zero_entries n j
-
-zeros : Tabled (λ j. pos 0) (replicate 200 (pos 0))
-zeros = λ j h. ap (int_wrap w128) (zero_entries 200 j)
 
 pub returns : goal.returns
 returns c =
@@ -34,7 +26,7 @@ returns c =
     let table : Tabled d c.add_reduced_costs.new.sums =
     tabled_as _ d c.add_reduced_costs.new.sums
     (λ j. ap (λ (z : ℤ). int_wrap w128 (pos 0 +ℤ z *ℤ entry costs j -ℤ pos S *ℤ rows j +ℤ links j)) (to_z-of_z w128 k c.ranges.scale) ∙ ap (λ (z : ℤ). int_wrap w128 (z -ℤ pos S *ℤ rows j +ℤ links j)) (+ℤ_idl (k *ℤ entry costs j)))
-    (c.add_reduced_costs.ensures.value (λ j. pos 0) zeros) in
+    (c.add_reduced_costs.ensures.value (λ j. pos 0) (zeros 200)) in
     same_read c.boxes_least.result (record { sfits = c.boxes_least.type_inv })
     ∙ subst (λ (ds : List Decision). ((j : ℕ) → j < length ds → (reach (map (λ (e : Decision). e.low) ds) (map (λ (e : Decision). e.high) ds) j *ℤ magnitude (d j)) ≤ℤ pos (2 ^ 127 - 1))
     → Congruent c.boxes_least.result (sum_to (length ds) (λ j. int_min (d j *ℤ entry (map (λ (e : Decision). e.low) ds) j) (d j *ℤ entry (map (λ (e : Decision). e.high) ds) j))))

@@ -1,0 +1,49 @@
+// Where the size of a certificate that all realizations of a node have passes the range.
+ghost use Rattle.std.specs.Prelude.{◌≡◌, zip, MatchResult};
+ghost use Rattle.std.specs.List.{sum_by};
+ghost use Rattle.hp_theory.specs.Problem.{with_weights};
+ghost use Rattle.hp_theory.specs.View.{node_of};
+ghost use Rattle.hp_theory.specs.Range.{range_of};
+ghost use Rattle.hp_dual.specs.Parts.{repeated};
+ghost use Rattle.hp_dual.specs.Sized.{Sized, Passes};
+ghost use Rattle.hp_dual.specs.SizeByTerms.{weighted_amount};
+
+use super::range::remainders_range;
+use super::stages::{pairs_size, realization_over};
+use super::terms::plus_scaled;
+use crate::cut_making::repeated_slope_sums;
+use crate::node_at::NodeAt;
+use hp_num::Size;
+use hp_theory::Certificate;
+
+/// The sizes of all realizations by their weights, or the first that brings the sum above 2^127 - 1.
+fn realizations_size(here: &NodeAt, certificate: &Certificate) -> Result<Size, usize>
+    requires sized { Sized here.now.pools.now.lists here.now.node.now here.now.subproblem.now here.now.low.now here.now.weights.now }
+    ensures { MatchResult result
+        (λ size. size.total ≡ sum_by (weighted_amount here.now.node.now here.now.subproblem.now here.now.low.now here.now.high.now here.now.pools.now.lists) (zip here.now.weights.now (zip here.now.node.now.values (repeated certificate.now here.now.weights.now))))
+        (Passes (weighted_amount here.now.node.now here.now.subproblem.now here.now.low.now here.now.high.now here.now.pools.now.lists) (zip here.now.weights.now (zip here.now.node.now.values (repeated certificate.now here.now.weights.now)))) }
+{
+    let values = here.node.values.as_slice();
+    let pairs = pairs_size(here, certificate);
+    let mut size = Size::zero();
+    for r in 0..here.weights.len() {
+        let inner = realization_over(pairs, here, values[r].as_slice(), certificate);
+        match plus_scaled(size, u128::from(here.weights[r]), inner) {
+            Some(sum) => size = sum,
+            None => return Err(r),
+        }
+    }
+    Ok(size)
+}
+
+/// The realization at which the size of a certificate that all realizations have passes 2^127 - 1, as of a list. Its
+/// pairs are read once.
+pub(crate) fn repeated_range(here: &NodeAt, certificate: &Certificate) -> Option<usize>
+    requires sized { Sized here.now.pools.now.lists here.now.node.now here.now.subproblem.now here.now.low.now here.now.weights.now }
+    ensures { result ≡ range_of here.now.pools.now.lists (with_weights here.now.weights.now (node_of here.now.node.now here.now.subproblem.now here.now.low.now here.now.high.now)) (repeated certificate.now here.now.weights.now) }
+{
+    match realizations_size(here, certificate) {
+        Err(realization) => Some(realization),
+        Ok(size) => remainders_range(size, here, &repeated_slope_sums(here, certificate)),
+    }
+}
