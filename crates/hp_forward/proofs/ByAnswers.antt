@@ -21,7 +21,7 @@ use Rattle.hp_forward.specs.declared.deciding.Decided.{Decided}
 use Rattle.hp_forward.specs.declared.deciding.StageFault.{StageFault}
 use Rattle.hp_forward.specs.declared.deciding.StageFault.TheVariants.{NoStage, Memory}
 use Rattle.hp_forward.specs.Deciding.{decided_of, decide_by, decision_at, is_unsettled}
-use Rattle.hp_forward.specs.Given.{Gives, IsStateAt, OnNoStage, Refutes}
+use Rattle.hp_forward.specs.Given.{Fails, Gives, IsStateAt, OnNoStage, Refutes}
 use Rattle.hp_forward.proofs.Boxes.{boxes-sealed, decisions_inside, nested-sealed, next_inside}
 use Rattle.hp_forward.proofs.Decisions.{lows, highs, number_of}
 
@@ -70,6 +70,11 @@ pub on_no_stage : {A : Type 0} (r : Result A StageFault) (defined : Result A Dea
 on_no_stage (Ok x) defined P f g = tt
 on_no_stage (Err (NoStage d)) defined P f g = f d g
 on_no_stage (Err Memory) defined P f g = tt
+
+-- a refusal of one step is that of the whole
+pub fails_on : {A B : Type 0} (fault : StageFault) (step : Result A Dead) (whole : Result B Dead) → ((d : Dead) → step ≡ Err d → whole ≡ Err d) → Fails fault step → Fails fault whole
+fails_on (NoStage d) step whole f h = f d h
+fails_on Memory step whole f h = tt
 
 module _ (p : Sealed) (e : is_sealed p ≡ true) (run m : ℕ) (h : m < length p.raw.nodes) (values state : List ℤ) (answer : Answer) where
   inside_of : (known : Judged) → InBox S (node_at (problem_of p) m).decision_low (node_at (problem_of p) m).decision_high (decided_of (node_at (problem_of p) m) answer known).decisions

@@ -1,3 +1,6 @@
 pub mod Decisions
 pub mod Boxes
 pub mod ByAnswers
+pub mod Arcs
+pub mod Walks
+pub mod EachOf

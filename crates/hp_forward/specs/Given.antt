@@ -5,19 +5,30 @@ use Rattle.hp_problem.specs.Sealed.{Sealed}
 use Rattle.hp_theory.specs.Problem.{S, Node, node_at}
 use Rattle.hp_theory.specs.Tree.{InBox}
 use Rattle.hp_theory.specs.View.{problem_of}
+use Rattle.hp_solver.specs.declared.stage_lp.StageLp.{StageLp}
+use Rattle.hp_solver.specs.declared.stage_lp.Answer.{Answer}
+use Rattle.hp_lp.specs.Chained.{Solving}
 use Rattle.hp_settle.specs.declared.judging.Dead.{Dead}
 use Rattle.hp_settle.specs.Refutation.{NoDecision}
 use Rattle.hp_forward.specs.declared.deciding.StageFault.{StageFault}
 use Rattle.hp_forward.specs.declared.deciding.StageFault.TheVariants.{NoStage, Memory}
+
+-- a solver, by its three functions
+abbrev pub solving : {Start Chain : Type 0} → (StageLp → Start) → (Start → StageLp → Chain) → (Chain → StageLp → Answer × Chain) → Solving Start Chain
+solving started begun next = record { started = started; begun = begun; next = next }
 
 -- the refutation that was defined; want of memory is free
 abbrev pub Fails : {A : Type 0} → StageFault → Result A Dead → Type 0
 Fails (NoStage dead) defined = defined ≡ Err dead
 Fails Memory defined = Unit {0}
 
+-- what there is to see of an answer is what was defined, or the refutation is
+abbrev pub GivesSeen : {A B : Type 0} → (A → B) → Result A StageFault → Result B Dead → Type 0
+GivesSeen view result defined = GivesOr Fails view result defined
+
 -- the answer that was defined, or the refutation
 abbrev pub Gives : {A : Type 0} → Result A StageFault → Result A Dead → Type 0
-Gives result defined = GivesOr Fails (λ x. x) result defined
+Gives result defined = GivesSeen (λ x. x) result defined
 
 -- what holds of a refutation
 abbrev pub OnNoStage : {A : Type 0} → Result A StageFault → (Dead → Type 0) → Type 0

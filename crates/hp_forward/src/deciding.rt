@@ -15,7 +15,7 @@ ghost use Rattle.hp_lp.specs.Stage.{whole};
 ghost use Rattle.hp_lp.specs.Chained.{answered};
 ghost use Rattle.hp_lp.specs.Ready.{AreReady};
 ghost use Rattle.hp_forward.specs.Deciding.{boxed, decide_by, decide_of, decided_of, decision_at, is_unsettled, rescaled};
-ghost use Rattle.hp_forward.specs.Given.{Gives, IsStateAt, OnNoStage, Refutes};
+ghost use Rattle.hp_forward.specs.Given.{Gives, IsStateAt, OnNoStage, Refutes, solving};
 ghost use Rattle.hp_forward.specs.declared.deciding.StageFault.TheVariants as faults;
 
 use hp_cut::Pools;
@@ -73,7 +73,7 @@ fn value_at(point: &[Fx], at: usize, low: i64) -> i128
 
 /// A number at the scale of decisions.
 #[tactic(auto, unfolding(hp_theory::specs::Problem::S))]
-fn scaled(number: i64) -> i128
+pub(crate) fn scaled(number: i64) -> i128
     ensures { result ≡ pos S *ℤ number }
 {
     i128::from(SCALE) * i128::from(number)
@@ -230,7 +230,7 @@ pub fn decide<V: Solver>(
     requires values { are_values (subproblem_of problem.now node) values.now ≡ true }
     requires state { IsStateAt problem.now node state.now }
     requires ready { AreReady (V.started solver.now) (V.suits solver.now) problem.now starts.now.items }
-    ensures value { Gives result (decide_of (record { started = V.started solver.now; begun = V.begun solver.now; next = V.next solver.now }) problem.now pools.now.lists run node values.now state.now) }
+    ensures value { Gives result (decide_of (solving (V.started solver.now) (V.begun solver.now) (V.next solver.now)) problem.now pools.now.lists run node values.now state.now) }
     ensures inside { let n = node_at (problem_of problem.now) node in
         IfOk result (λ d. InBox S n.decision_low n.decision_high d.decisions) }
     ensures next { IfOk result (λ d. (m : ℕ) → Contains (successors_at problem.now.raw node) m
