@@ -1,0 +1,5 @@
+use Rattle.hp_load.proofs.Loops.{EntriesLeft}
+use Rattle.hp_load.proofs.cuts.add_entries.Given as goal
+
+abbrev pub invariant-loop-entry : goal.invariant-loop-entry
+invariant-loop-entry l = EntriesLeft l.problem l.initial.pools.lists l.entries l.entry-index l.pools.lists

@@ -1,0 +1,5 @@
+use Rattle.hp_load.proofs.Loops.{StepsLeft}
+use Rattle.hp_load.proofs.cuts.add_steps.Given as goal
+
+abbrev pub invariant-loop-step : goal.invariant-loop-step
+invariant-loop-step l = StepsLeft l.problem l.iteration l.initial.pools.lists l.steps l.step-index l.pools.lists

@@ -1,0 +1,5 @@
+pub mod Refusals
+pub mod Cuts
+pub mod Records
+pub mod Load
+pub mod Accepted

@@ -1,0 +1,98 @@
+-- Load: what a journal's bytes give.
+use Rattle.std.specs.Prelude.{◌≡◌, ℕ, ◌-◌, ℤ, Bool, true, false, List, [], ◌==◌, Option, Some, None, Result, Ok, Err, if◌then◌else◌}
+use Rattle.std.specs.Str.{bytes_eq}
+pub use Rattle.hp_num.specs.Steps.{◌>>=◌}
+use Rattle.hp_problem.specs.Sealed.{Sealed}
+use Rattle.hp_theory.specs.declared.cut.Cut.{Cut}
+use Rattle.hp_cut.specs.declared.entry.Entry.{Entry}
+use Rattle.hp_journal.specs.declared.head.Head.{Head}
+use Rattle.hp_journal.specs.declared.head.Head.TheVariants.{Unborn, Born}
+use Rattle.hp_journal.specs.Head.{head_of}
+use Rattle.hp_journal.specs.Layout.{Title, new_title, head_length}
+use Rattle.hp_load.specs.declared.refusal.JournalRefusal.TheVariants.{OtherProblem, OtherSeed, OtherBatch}
+use Rattle.hp_load.specs.declared.refusal.LoadFault.{LoadFault}
+use Rattle.hp_load.specs.declared.refusal.LoadFault.TheVariants.{Refused}
+use Rattle.hp_load.specs.declared.loaded.Loaded.{Loaded}
+use Rattle.hp_load.specs.Refusals.{of_head, with_fault, Fails}
+use Rattle.hp_load.specs.Records.{Found, fresh, Ended, IsKept, records_at}
+
+-- what loading gives
+pub record Outcome : Type 0 where
+  pub pools : List (List Cut)
+  pub bounds : List ℤ
+  pub unsettled : ℕ
+  pub born : Bool
+  pub end : ℕ
+  pub rest : ℕ
+  pub version : ℕ
+  pub batch : ℕ
+
+abbrev pub same_problem : List ℕ → List ℕ → Result (Unit {0}) LoadFault
+same_problem asked kept = if bytes_eq kept asked then Ok tt else Err (Refused (OtherProblem kept asked))
+
+-- where a seed is asked
+abbrev pub same_seed : Option ℕ → ℕ → Result (Unit {0}) LoadFault
+same_seed None kept = Ok tt
+same_seed (Some asked) kept = if kept == asked then Ok tt else Err (Refused (OtherSeed kept asked))
+
+-- where a batch is asked
+abbrev pub same_batch : Option ℕ → ℕ → Result (Unit {0}) LoadFault
+same_batch None kept = Ok tt
+same_batch (Some asked) kept = if kept == asked then Ok tt else Err (Refused (OtherBatch kept asked))
+
+-- the title is the asked one, as far as it is asked
+unfoldable pub title_asked : List ℕ → Option ℕ → Option ℕ → List ℕ → ℕ → ℕ → Result (Unit {0}) LoadFault
+title_asked digest seed batch kept own paths = do
+  problem ← same_problem digest kept
+  seed' ← same_seed seed own
+  same_batch batch paths
+
+-- a journal that is not born: its version and batch are those that it would be born with
+abbrev pub unborn : List (List Cut) → Option ℕ → Outcome
+unborn base batch =
+    let t : Title = new_title [] 0 batch in
+    record { pools = base; bounds = []; unsettled = 0; born = false; end = 0; rest = 0; version = t.version; batch = t.batch }
+
+abbrev pub born : ℕ → ℕ → Ended → Outcome
+born version batch e = record { pools = e.found.pools; bounds = e.found.bounds; unsettled = e.found.unsettled; born = true; end = e.end; rest = e.rest; version = version; batch = batch }
+
+-- the place of the first gate: the head's last byte
+abbrev pub first_gate : ℕ → ℕ
+first_gate version = head_length version - 1
+
+-- what a born journal of this version and batch gives over the base cuts
+unfoldable pub load_records : Sealed → List (List Cut) → List ℕ → ℕ → ℕ → Result (Outcome × List (List Entry)) LoadFault
+load_records p base bytes version batch = do
+  ended ← records_at p batch bytes 2000 (first_gate version) (fresh base) []
+  Ok (born version batch ended, ended.lists)
+
+-- what a journal with this head gives
+unfoldable pub load_from : Sealed → List (List Cut) → List ℕ → Option ℕ → Option ℕ → List ℕ → Head → Result (Outcome × List (List Entry)) LoadFault
+load_from p base digest seed batch bytes (Unborn length) = Ok (unborn base batch, [])
+load_from p base digest seed batch bytes (Born version kept own paths) = do
+  title ← title_asked digest seed batch kept own paths
+  load_records p base bytes version paths
+
+-- Load: the outcome, with the entries of each record, over the base cuts; or the first refusal. A digest, and perhaps a seed and a
+-- batch, are asked.
+unfoldable pub load_of : Sealed → List (List Cut) → List ℕ → Option ℕ → Option ℕ → List ℕ → Result (Outcome × List (List Entry)) LoadFault
+load_of p base digest seed batch bytes = do
+  head ← with_fault of_head (head_of bytes)
+  load_from p base digest seed batch bytes head
+
+-- without the entries
+abbrev pub outcome_of : Result (Outcome × List (List Entry)) LoadFault → Result Outcome LoadFault
+outcome_of (Ok x) = Ok x.0
+outcome_of (Err e) = Err e
+
+-- what was loaded, as an outcome
+abbrev pub seen : Loaded → Outcome
+seen l = record { pools = l.pools.lists; bounds = l.bounds; unsettled = l.unsettled; born = l.born; end = l.end; rest = l.rest; version = l.version; batch = l.batch }
+
+abbrev pub found_in : Loaded → Found
+found_in l = record { pools = l.pools.lists; bounds = l.bounds; unsettled = l.unsettled }
+
+-- what code answers, with the entries as far as they are kept
+abbrev pub LoadsAs : Option (List (List Entry)) → Result Loaded LoadFault → Result (Outcome × List (List Entry)) LoadFault → Type 0
+LoadsAs kept (Ok l) load = (lists : List (List Entry)) × IsKept kept lists × (load ≡ Ok (seen l, lists))
+LoadsAs kept (Err e) load = Fails e load

@@ -1,0 +1,58 @@
+-- What the faults of a journal's parts are for the journal, and what code answers of a definition.
+use Rattle.std.specs.Prelude.{◌≡◌, ℕ, List, Option, Some, None, Result, Ok, Err}
+use Rattle.hp_num.specs.Steps.{GivesOr}
+use Rattle.hp_dual.specs.declared.fault.CertFault.{CertFault}
+use Rattle.hp_problem.specs.declared.formulas.TooMuch.{TooMuch}
+use Rattle.hp_journal.specs.declared.head.HeadFault.{HeadFault}
+use Rattle.hp_journal.specs.declared.head.HeadFault.TheVariants as heads
+use Rattle.hp_journal.specs.declared.gate.GateFault.{GateFault}
+use Rattle.hp_journal.specs.declared.gate.GateFault.TheVariants as gates
+use Rattle.hp_journal.specs.declared.gate.PayloadFault.{PayloadFault}
+use Rattle.hp_journal.specs.declared.gate.PayloadFault.TheVariants as payloads
+use Rattle.hp_record.specs.declared.fault.EntryFault.{EntryFault}
+use Rattle.hp_record.specs.declared.fault.EntryFault.TheVariants as entries
+use Rattle.hp_load.specs.declared.refusal.JournalRefusal.TheVariants.{NotAJournal, OtherVersion, Short, BadLength, BadRecord, BadBatch}
+use Rattle.hp_load.specs.declared.refusal.LoadFault.{LoadFault}
+use Rattle.hp_load.specs.declared.refusal.LoadFault.TheVariants as faults
+
+abbrev pub of_head : HeadFault → LoadFault
+of_head heads.NotAJournal = faults.Refused NotAJournal
+of_head (heads.OtherVersion version) = faults.Refused (OtherVersion version)
+of_head (heads.Short place) = faults.Refused (Short place)
+of_head heads.DiskFault = faults.DiskFault
+of_head (heads.BadBatch batch) = faults.Refused (BadBatch batch)
+
+abbrev pub of_gate : GateFault → LoadFault
+of_gate (gates.Short place) = faults.Refused (Short place)
+of_gate gates.DiskFault = faults.DiskFault
+
+-- of the record of an iteration
+abbrev pub of_payload : ℕ → PayloadFault → LoadFault
+of_payload k (payloads.Short place) = faults.Refused (Short place)
+of_payload k (payloads.BadLength length) = faults.Refused (BadLength k length)
+of_payload k payloads.DiskFault = faults.DiskFault
+of_payload k payloads.Memory = faults.Memory
+
+abbrev pub of_entries : ℕ → EntryFault → LoadFault
+of_entries k (entries.Bad place) = faults.Refused (BadRecord k place)
+of_entries k entries.Memory = faults.Memory
+
+-- a part of the journal, with its fault as the journal's
+abbrev pub with_fault : {A E : Type 0} → (E → LoadFault) → Result A E → Result A LoadFault
+with_fault of (Ok x) = Ok x
+with_fault of (Err e) = Err (of e)
+
+-- a formula that passes its limit
+abbrev pub within : Option TooMuch → Result (Unit {0}) LoadFault
+within None = Ok tt
+within (Some t) = Err (faults.TooMuch t)
+
+-- What code answers where the definition gives this: the same, unless the disk failed or memory was refused.
+abbrev pub Fails : {Y : Type 0} → LoadFault → Result Y LoadFault → Type 0
+Fails (faults.Refused r) load = load ≡ Err (faults.Refused r)
+Fails (faults.TooMuch t) load = load ≡ Err (faults.TooMuch t)
+Fails faults.DiskFault load = Unit {0}
+Fails faults.Memory load = Unit {0}
+
+abbrev pub Gives : {X Y : Type 0} → (X → Y) → Result X LoadFault → Result Y LoadFault → Type 0
+Gives view result load = GivesOr Fails view result load

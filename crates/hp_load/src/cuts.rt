@@ -1,0 +1,107 @@
+// The cuts of the steps of entries.
+ghost use Rattle.std.specs.Prelude.{◌≡◌, ◌≢◌, ◌<◌, ◌≤◌, ◌+◌, ◌^◌, ℕ, IfOk, IfErr, length, All};
+ghost use Rattle.std.specs.List.{AllByRecursion};
+ghost use Rattle.hp_theory.specs.Fit.{Fit};
+ghost use Rattle.hp_theory.specs.Pools.{pool};
+ghost use Rattle.hp_theory.specs.View.{problem_of};
+ghost use Rattle.hp_cut.specs.declared.entry.EntryStep.{EntryStep};
+ghost use Rattle.hp_record.specs.Shape.{Writable};
+ghost use Rattle.hp_load.specs.declared.refusal.LoadFault.TheVariants as faults;
+ghost use Rattle.hp_load.specs.Refusals.{Gives};
+ghost use Rattle.hp_load.specs.Cuts.{step_added, steps_added, entries_added};
+
+use crate::refusal::{JournalRefusal, LoadFault};
+use hp_cut::{Cut, Entry, EntryStep, Pools};
+use hp_dual::{accept, make_into};
+use hp_num::{List, Memory};
+use hp_problem::Problem;
+use std::alloc::Global;
+
+// A cut of so many slopes, all 0.
+fn no_slopes(alloc: Global, states: usize) -> Result<Cut, Memory>
+    ensures { IfOk result (λ cut. length cut.beta ≡ states) }
+{
+    let mut beta = List::new(alloc);
+    for _ in 0..states {
+        beta.push(0)?;
+    }
+    Ok(Cut { alpha: 0, beta })
+}
+
+// Appends the cut of a step, where its certificates are accepted over the cuts so far.
+#[tactic(auto, unfolding(crate::specs::Cuts::step_added))]
+fn add_cut(
+    alloc: Global,
+    problem: &Problem,
+    pools: &mut Pools,
+    iteration: u32,
+    step: &EntryStep,
+) -> Result<(), LoadFault>
+    requires known { step.now.node < length problem.now.raw.nodes }
+    requires fit { Fit (problem_of problem.now) (length problem.now.raw.nodes) pools.old.lists }
+    requires few { length (pool pools.old.lists step.now.node) < 2 ^ 24 }
+    ensures value { Gives (λ _. pools.new.lists) result (step_added problem.now iteration pools.old.lists step.now) }
+    ensures own { IfErr result (λ fault. fault ≢ faults.DiskFault) }
+{
+    let states = problem.raw().states.len();
+    let list = step.list.as_slice();
+    if let Err(fault) = accept(problem, pools, step.node, list) {
+        return Err(LoadFault::Refused(JournalRefusal::BadCertificate {
+            iteration,
+            node: step.node,
+            fault,
+        }));
+    }
+    let mut cut = no_slopes(alloc, states)?;
+    pools.reserve(step.node)?;
+    make_into(problem, pools, step.node, list, &mut cut);
+    pools.push(step.node, cut)?;
+    Ok(())
+}
+
+// Appends the cuts of steps, one after the other.
+fn add_steps(
+    alloc: Global,
+    problem: &Problem,
+    pools: &mut Pools,
+    iteration: u32,
+    steps: &[EntryStep],
+) -> Result<(), LoadFault>
+    requires known { All (λ (s : EntryStep). s.node < length problem.now.raw.nodes) steps.now }
+    requires fit { Fit (problem_of problem.now) (length problem.now.raw.nodes) pools.old.lists }
+    requires few { (m : ℕ) → length (pool pools.old.lists m) + length steps.now ≤ 2 ^ 24 }
+    ensures value { Gives (λ _. pools.new.lists) result (steps_added problem.now iteration pools.old.lists steps.now) }
+    ensures own { IfErr result (λ fault. fault ≢ faults.DiskFault) }
+{
+    let _ = problem.raw();
+    for step in steps {
+        add_cut(alloc, problem, pools, iteration, step)?;
+    }
+    Ok(())
+}
+
+/// Appends the cuts of entries, one after the other, each over the cuts of those before it.
+pub(crate) fn add_entries(
+    alloc: Global,
+    problem: &Problem,
+    pools: &mut Pools,
+    entries: &[Entry],
+) -> Result<(), LoadFault>
+    requires writable { AllByRecursion (Writable problem.now) entries.now }
+    requires fit { Fit (problem_of problem.now) (length problem.now.raw.nodes) pools.old.lists }
+    requires few { (m : ℕ) → length (pool pools.old.lists m) + length entries.now ≤ 2 ^ 23 }
+    ensures value { Gives (λ _. pools.new.lists) result (entries_added problem.now pools.old.lists entries.now) }
+    ensures own { IfErr result (λ fault. fault ≢ faults.DiskFault) }
+{
+    let _ = problem.raw();
+    for entry in entries {
+        add_steps(
+            alloc,
+            problem,
+            pools,
+            entry.iteration,
+            entry.steps.as_slice(),
+        )?;
+    }
+    Ok(())
+}

@@ -1,0 +1,14 @@
+//! What a journal gives: the cuts of its records, each checked by its certificates, and the bounds.
+#![tactic(auto)]
+
+mod cuts;
+mod keeping;
+mod loaded;
+mod loading;
+mod records;
+mod refusal;
+mod title;
+
+pub use loaded::Loaded;
+pub use loading::{load, load_keep};
+pub use refusal::{JournalRefusal, LoadFault};

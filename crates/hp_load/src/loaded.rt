@@ -1,0 +1,24 @@
+// What a journal gives.
+use hp_cut::Pools;
+use hp_num::List;
+
+/// What a journal gives: the cuts of its records, the bounds, and where it ends.
+#[derive(Drop)]
+pub struct Loaded {
+    /// The base cuts, and the cuts of all records.
+    pub pools: Pools,
+    /// The bound after each record, at scale 2^24.
+    pub bounds: List<i128>,
+    /// How many solves the records state that gave an answer that was of no use.
+    pub unsettled: u64,
+    /// Whether the file is a journal already.
+    pub born: bool,
+    /// The place of the shut gate behind the last record, 0 where the journal is not born.
+    pub end: u64,
+    /// The number of bytes behind that gate, 0 where the journal is not born.
+    pub rest: u64,
+    /// 1, or 2 of a journal that states its batch; of one that is not born the version that it is born with.
+    pub version: u16,
+    /// The number of paths of an iteration, 1 to 64.
+    pub batch: u16,
+}

@@ -1,0 +1,195 @@
+// A journal, loaded from a disk.
+ghost use Rattle.std.specs.Prelude.{◌≡◌, ◌⊎◌, ◌≤◌, ◌+◌, ◌*◌, ◌^◌, ℕ, List, [], length, IfOk, IfSome, Ok, Err, None};
+ghost use Rattle.hp_outside.specs.Disks.{Stays};
+ghost use Rattle.hp_theory.specs.Range.{based};
+ghost use Rattle.hp_cut.specs.declared.entry.Entry.{Entry};
+ghost use Rattle.hp_journal.specs.Causes.{DiskCause};
+ghost use Rattle.hp_load.specs.declared.refusal.LoadFault.TheVariants as faults;
+ghost use Rattle.hp_load.specs.Refusals.{Gives};
+ghost use Rattle.hp_load.specs.Records.{IsKept};
+ghost use Rattle.hp_load.specs.Load.{LoadsAs, found_in, load_records, load_of, outcome_of, seen, unborn};
+ghost use Rattle.hp_load.specs.Accepted.{Accepted, IsSafe};
+ghost use Rattle.hp_journal.specs.declared.head.Head.TheVariants.{Unborn, Born};
+
+use crate::keeping::{Dropping, Keeper};
+use crate::loaded::Loaded;
+use crate::records::{Gathered, read_records};
+use crate::refusal::LoadFault;
+use crate::title::check_title;
+use hp_cut::{Entry, Pools};
+use hp_journal::{Head, read_head};
+use hp_num::List;
+use hp_outside::Disk;
+use hp_problem::Problem;
+use std::alloc::Global;
+
+// What is loaded of a journal that is not born.
+fn load_unborn(alloc: Global, problem: &Problem, base: Pools, batch: Option<u16>) -> Loaded
+    requires base { based problem.now ≡ Ok base.lists }
+    requires batch { IfSome batch (λ b. (1 ≤ b) × (b ≤ 64)) }
+    ensures value { seen result ≡ unborn base.lists batch }
+    ensures accepted { Accepted problem.now base.lists [] (found_in result) }
+    ensures safe { IsSafe problem.now result }
+{
+    problem.raw();
+    let (version, batch) = match batch {
+        Some(batch) => (2, batch),
+        None => (1, 1),
+    };
+    Loaded {
+        pools: base,
+        bounds: List::new(alloc),
+        unsettled: 0,
+        born: false,
+        end: 0,
+        rest: 0,
+        version,
+        batch,
+    }
+}
+
+// What is loaded of a journal that is born, with its version and batch.
+fn load_born<D: Disk, K: Keeper>(
+    alloc: Global,
+    problem: &Problem,
+    base: Pools,
+    disk: &mut D,
+    version: u16,
+    batch: u16,
+    keep: &mut K,
+) -> Result<Loaded, LoadFault>
+    requires base { based problem.now ≡ Ok base.lists }
+    requires version { ((version ≡ 1) × (batch ≡ 1)) ⊎ ((version ≡ 2) × (1 ≤ batch) × (batch ≤ 64)) }
+    requires empty { IsKept (K.kept keep.old) [] }
+    ensures value { IfSome (D.store disk.old).reads (λ bytes.
+        LoadsAs (K.kept keep.new) result (load_records problem.now base.lists bytes version batch)) }
+    ensures accepted { IfOk result (λ l. (lists : List (List Entry)) × IsKept (K.kept keep.new) lists × Accepted problem.now base.lists lists (found_in l)) }
+    ensures safe { IfOk result (IsSafe problem.now) }
+    ensures stays { Stays (D.store disk.old) (D.store disk.new) }
+    ensures cause { DiskCause (D.faults disk.old) (D.faults disk.new) (result ≡ Err faults.DiskFault) }
+{
+    let first = if version == 2 { 53 } else { 51 };
+    let mut found = Gathered {
+        pools: base,
+        bounds: List::new(alloc),
+        unsettled: 0,
+    };
+    let end = read_records(alloc, problem, disk, batch, first, &mut found, keep)?;
+    let Gathered {
+        pools,
+        bounds,
+        unsettled,
+    } = found;
+    Ok(Loaded {
+        pools,
+        bounds,
+        unsettled,
+        born: true,
+        end: end.end,
+        rest: end.rest,
+        version,
+        batch,
+    })
+}
+
+// What is loaded, with the entries of each record handed to a keeper.
+fn load_with<D: Disk, K: Keeper>(
+    alloc: Global,
+    problem: &Problem,
+    base: Pools,
+    disk: &mut D,
+    digest: &[u8; 32],
+    seed: Option<u64>,
+    batch: Option<u16>,
+    keep: &mut K,
+) -> Result<Loaded, LoadFault>
+    requires base { based problem.now ≡ Ok base.lists }
+    requires batch { IfSome batch (λ b. (1 ≤ b) × (b ≤ 64)) }
+    requires empty { IsKept (K.kept keep.old) [] }
+    ensures value { IfSome (D.store disk.old).reads (λ bytes.
+        LoadsAs (K.kept keep.new) result (load_of problem.now base.lists digest.now seed batch bytes)) }
+    ensures accepted { IfOk result (λ l. (lists : List (List Entry)) × IsKept (K.kept keep.new) lists × Accepted problem.now base.lists lists (found_in l)) }
+    ensures safe { IfOk result (IsSafe problem.now) }
+    ensures stays { Stays (D.store disk.old) (D.store disk.new) }
+    ensures cause { DiskCause (D.faults disk.old) (D.faults disk.new) (result ≡ Err faults.DiskFault) }
+{
+    match read_head(disk)? {
+        Head::Unborn { .. } => Ok(load_unborn(alloc, problem, base, batch)),
+        Head::Born {
+            version,
+            digest: kept,
+            seed: own,
+            batch: paths,
+        } => {
+            check_title(digest, seed, batch, &kept, own, paths)?;
+            load_born(alloc, problem, base, disk, version, paths, keep)
+        }
+    }
+}
+
+/// What a journal gives over the base cuts of a problem: each step of each record is checked by its certificates over
+/// the cuts so far, and its cut appended. A digest of the problem's bytes is asked, and perhaps a seed and a batch (1 to
+/// 64), which a journal that is not born takes for its own.
+///
+/// The refusals come in this order: those of the head; `OtherProblem`; `OtherSeed`; `OtherBatch`; then of each record
+/// `Short` with the place of its gate, `TooMany` at an open gate behind 2,000 records, `TooMuch` by the formulas with as
+/// many iterations as its number, `Short` with the place of its length, `BadLength`, `Short` with the place of its
+/// payload, `BadRecord`, and `BadCertificate` at the first step that is not accepted. `DiskFault` comes only where the
+/// disk's count of faults rose. `base` is dropped after a refusal.
+///
+/// The disk is only read, and not behind the shut gate. One buffer serves all payloads.
+pub fn load<D: Disk>(
+    alloc: Global,
+    problem: &Problem,
+    base: Pools,
+    disk: &mut D,
+    digest: &[u8; 32],
+    seed: Option<u64>,
+    batch: Option<u16>,
+) -> Result<Loaded, LoadFault>
+    requires base { based problem.now ≡ Ok base.lists }
+    requires batch { IfSome batch (λ b. (1 ≤ b) × (b ≤ 64)) }
+    ensures value { IfSome (D.store disk.old).reads (λ bytes.
+        Gives seen result (outcome_of (load_of problem.now base.lists digest.now seed batch bytes))) }
+
+    // Over any disk.
+    ensures safe { IfOk result (IsSafe problem.now) }
+    ensures stays { Stays (D.store disk.old) (D.store disk.new) }
+    ensures cause { DiskCause (D.faults disk.old) (D.faults disk.new) (result ≡ Err faults.DiskFault) }
+{
+    load_with(
+        alloc,
+        problem,
+        base,
+        disk,
+        digest,
+        seed,
+        batch,
+        &mut Dropping,
+    )
+}
+
+/// The same without an asked seed and batch, where the entries of each record are kept, in order. Over any disk these are
+/// accepted one after the other over the base cuts, and give what was loaded. After a refusal nothing is promised of
+/// `keep`, which is empty at first.
+pub fn load_keep<D: Disk>(
+    alloc: Global,
+    problem: &Problem,
+    base: Pools,
+    disk: &mut D,
+    digest: &[u8; 32],
+    keep: &mut List<List<Entry>>,
+) -> Result<Loaded, LoadFault>
+    requires base { based problem.now ≡ Ok base.lists }
+    requires empty { keep.old ≡ [] }
+    ensures value { IfSome (D.store disk.old).reads (λ bytes.
+        Gives (λ l. (seen l, keep.new)) result (load_of problem.now base.lists digest.now None None bytes)) }
+
+    // Over any disk.
+    ensures accepted { IfOk result (λ l. Accepted problem.now base.lists keep.new (found_in l)) }
+    ensures safe { IfOk result (IsSafe problem.now) }
+    ensures stays { Stays (D.store disk.old) (D.store disk.new) }
+    ensures cause { DiskCause (D.faults disk.old) (D.faults disk.new) (result ≡ Err faults.DiskFault) }
+{
+    load_with(alloc, problem, base, disk, digest, None, None, keep)
+}

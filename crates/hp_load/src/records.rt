@@ -1,0 +1,252 @@
+// The records of a journal.
+ghost use Rattle.std.specs.Prelude.{◌≡◌, ◌⊎◌, ◌≤◌, ◌<◌, ◌+◌, ◌*◌, ◌^◌, ℕ, suc, List, [], length, IfOk, IfErr, IfSome, OnOk, Ok, Err, ◌≢◌};
+ghost use Rattle.std.specs.List.{AllByRecursion, sum_by};
+ghost use Rattle.hp_outside.specs.Disks.{Stays};
+ghost use Rattle.hp_problem.specs.Formulas.{too_much};
+ghost use Rattle.hp_theory.specs.Fit.{Fit};
+ghost use Rattle.hp_theory.specs.Pools.{pool};
+ghost use Rattle.hp_theory.specs.Range.{based};
+ghost use Rattle.hp_theory.specs.View.{problem_of};
+ghost use Rattle.hp_cut.specs.declared.entry.Entry.{Entry};
+ghost use Rattle.hp_record.specs.Shape.{IsBatch, Writable};
+ghost use Rattle.hp_record.specs.Reading.{read_batch};
+ghost use Rattle.hp_record.specs.declared.fault.EntryFault.TheVariants as bads;
+ghost use Rattle.hp_journal.specs.Causes.{DiskCause};
+ghost use Rattle.hp_journal.specs.Gates.{payload_of};
+ghost use Rattle.hp_load.specs.declared.refusal.LoadFault.TheVariants as faults;
+ghost use Rattle.hp_load.specs.Refusals.{Gives, of_payload, of_entries, with_fault, within};
+ghost use Rattle.hp_load.specs.Records.{Found, fresh, found_of, IsKept, EndsAs, record_added, entries_at, record_at, rest_at, records_at};
+ghost use Rattle.hp_load.specs.Accepted.{IsSound, Accepted};
+
+use crate::cuts::add_entries;
+use crate::keeping::Keeper;
+use crate::refusal::{JournalRefusal, LoadFault, of_entries, of_payload};
+use hp_cut::{Entry, Pools};
+use hp_journal::{Gate, payload, read_gate};
+use hp_num::List;
+use hp_outside::Disk;
+use hp_problem::{MOST_ITERATIONS, Problem};
+use hp_record::{EntryFault, decode_batch};
+use std::alloc::Global;
+
+/// What records have given.
+#[derive(Drop)]
+pub(crate) struct Gathered {
+    /// The base cuts, and the cuts of the records.
+    pub(crate) pools: Pools,
+    /// The bound after each record.
+    pub(crate) bounds: List<i128>,
+    /// The sum of the unsettled solves that the entries state.
+    pub(crate) unsettled: u64,
+}
+
+/// Where the records end.
+#[derive(Clone, Copy)]
+pub(crate) struct End {
+    /// The place of the shut gate.
+    pub(crate) end: u64,
+    /// The number of bytes behind it.
+    pub(crate) rest: u64,
+}
+
+// The formulas with as many iterations as the record's number.
+fn check_formulas(problem: &Problem, iteration: u32, batch: u16) -> Result<(), LoadFault>
+    requires iteration { iteration ≤ 2001 }
+    requires some { 1 ≤ batch }
+    requires batch { batch ≤ 64 }
+    ensures value { result ≡ within (too_much problem.now iteration batch) }
+    ensures own { IfErr result (λ fault. fault ≢ faults.DiskFault) }
+{
+    match problem.too_much(iteration, batch) {
+        None => Ok(()),
+        Some(formula) => Err(LoadFault::TooMuch(formula)),
+    }
+}
+
+// The payload behind the open gate at a place, in the place of what the buffer had; answers the place of the next gate.
+fn read_payload<D: Disk>(
+    disk: &mut D,
+    iteration: u32,
+    at: u64,
+    into: &mut Vec<u8>,
+) -> Result<u64, LoadFault>
+    requires { at ≤ 2 ^ 40 }
+    ensures value { IfSome (D.store disk.old).reads (λ bytes.
+        Gives (λ _. into.new.items) result (with_fault (of_payload iteration) (payload_of bytes at))) }
+    ensures next { IfOk result (λ next. next ≡ at + 5 + length into.new.items) }
+    ensures few { IfOk result (λ _. length into.new.items ≤ 2 ^ 26) }
+    ensures stays { Stays (D.store disk.old) (D.store disk.new) }
+    ensures cause { DiskCause (D.faults disk.old) (D.faults disk.new) (result ≡ Err faults.DiskFault) }
+{
+    match payload(disk, at, into) {
+        Ok(next) => Ok(next),
+        Err(fault) => Err(of_payload(iteration, fault)),
+    }
+}
+
+// The entries of an iteration that a payload spells.
+fn decode(
+    alloc: Global,
+    problem: &Problem,
+    iteration: u32,
+    batch: u16,
+    payload: &[u8],
+) -> Result<List<Entry>, LoadFault>
+    requires { length payload.now ≤ 2 ^ 26 }
+    ensures value { Gives (λ x. x) result
+        (with_fault (λ place. of_entries iteration (bads.Bad place)) (read_batch problem.now iteration batch payload.now)) }
+    ensures batch { IfOk result (λ list. IsBatch problem.now iteration batch list) }
+    ensures own { IfErr result (λ fault. fault ≢ faults.DiskFault) }
+{
+    match decode_batch(alloc, problem, iteration, batch, payload) {
+        Ok(entries) => Ok(entries),
+        Err(fault) => Err(of_entries(iteration, fault)),
+    }
+}
+
+// The entries of the record whose open gate stands at a place, and the place of the next gate.
+fn entries_behind<D: Disk>(
+    alloc: Global,
+    problem: &Problem,
+    disk: &mut D,
+    batch: u16,
+    iteration: u32,
+    at: u64,
+    buffer: &mut Vec<u8>,
+) -> Result<(List<Entry>, u64), LoadFault>
+    requires near { at ≤ 2 ^ 40 }
+    requires iteration { iteration ≤ 2001 }
+    requires some { 1 ≤ batch }
+    requires batch { batch ≤ 64 }
+    ensures value { IfSome (D.store disk.old).reads (λ bytes.
+        Gives (λ x. x) result (entries_at problem.now batch bytes iteration at)) }
+    ensures batch { IfOk result (λ x. IsBatch problem.now iteration batch x.0) }
+    ensures next { IfOk result (λ x. x.1 ≤ at + 5 + 2 ^ 26) }
+    ensures stays { Stays (D.store disk.old) (D.store disk.new) }
+    ensures cause { DiskCause (D.faults disk.old) (D.faults disk.new) (result ≡ Err faults.DiskFault) }
+{
+    check_formulas(problem, iteration, batch)?;
+    let next = read_payload(disk, iteration, at, buffer)?;
+    let entries = decode(alloc, problem, iteration, batch, buffer.as_slice())?;
+    Ok((entries, next))
+}
+
+// The sum of the unsettled solves that the entries state.
+fn unsettled(entries: &[Entry]) -> u64
+    requires { length entries.now ≤ 64 }
+    ensures value { result ≡ sum_by (λ (e : Entry). e.unsettled) entries.now }
+    ensures small { result ≤ 2 ^ 38 }
+{
+    let mut sum: u64 = 0;
+    for entry in entries {
+        sum += u64::from(entry.unsettled);
+    }
+    sum
+}
+
+// Adds the cuts of a record's entries, and then the bound.
+#[tactic(auto, unfolding(crate::specs::Records::record_added))]
+fn add_record(
+    alloc: Global,
+    problem: &Problem,
+    entries: &[Entry],
+    found: &mut Gathered,
+) -> Result<(), LoadFault>
+    requires writable { AllByRecursion (Writable problem.now) entries.now }
+    requires few { length entries.now ≤ 64 }
+    requires fit { Fit (problem_of problem.now) (length problem.now.raw.nodes) found.old.pools.lists }
+    requires cuts { (m : ℕ) → length (pool found.old.pools.lists m) ≤ 2 ^ 22 }
+    requires unsettled { found.old.unsettled ≤ 2 ^ 50 }
+    ensures value { Gives (λ _. found_of found.new) result (record_added problem.now (found_of found.old) entries.now) }
+    ensures own { IfErr result (λ fault. fault ≢ faults.DiskFault) }
+{
+    let _ = problem.raw();
+    add_entries(alloc, problem, &mut found.pools, entries)?;
+    found.unsettled += unsettled(entries);
+    found.bounds.push(found.pools.bound(problem))?;
+    Ok(())
+}
+
+// Reads the record whose open gate stands at a place, and adds it; answers its entries and the place of the next gate.
+fn read_record<D: Disk>(
+    alloc: Global,
+    problem: &Problem,
+    disk: &mut D,
+    batch: u16,
+    at: u64,
+    buffer: &mut Vec<u8>,
+    found: &mut Gathered,
+) -> Result<(List<Entry>, u64), LoadFault>
+    requires near { at ≤ 2 ^ 40 }
+    requires some { 1 ≤ batch }
+    requires batch { batch ≤ 64 }
+    requires count { length found.old.bounds < 2000 }
+    requires fit { Fit (problem_of problem.now) (length problem.now.raw.nodes) found.old.pools.lists }
+    requires cuts { (m : ℕ) → length (pool found.old.pools.lists m) ≤ 2 ^ 22 }
+    requires unsettled { found.old.unsettled ≤ 2 ^ 50 }
+    ensures value { IfSome (D.store disk.old).reads (λ bytes.
+        Gives (λ x. (x.0, x.1, found_of found.new)) result (record_at problem.now batch bytes at (found_of found.old))) }
+    ensures batch { IfOk result (λ x. IsBatch problem.now (suc (length found.old.bounds)) batch x.0) }
+    ensures added { IfOk result (λ x. record_added problem.now (found_of found.old) x.0 ≡ Ok (found_of found.new)) }
+    ensures next { IfOk result (λ x. x.1 ≤ at + 5 + 2 ^ 26) }
+    ensures stays { Stays (D.store disk.old) (D.store disk.new) }
+    ensures cause { DiskCause (D.faults disk.old) (D.faults disk.new) (result ≡ Err faults.DiskFault) }
+{
+    let iteration = found.bounds.len() as u32 + 1;
+    let (entries, next) = entries_behind(alloc, problem, disk, batch, iteration, at, buffer)?;
+    add_record(alloc, problem, entries.as_slice(), found)?;
+    Ok((entries, next))
+}
+
+// The number of bytes behind the gate at a place where it is shut, none where it is open.
+fn rest_at<D: Disk>(disk: &mut D, at: u64) -> Result<Option<u64>, LoadFault>
+    requires { at ≤ 2 ^ 40 }
+    ensures value { IfSome (D.store disk.old).reads (λ bytes. Gives (λ rest. rest) result (rest_at bytes at)) }
+    ensures stays { Stays (D.store disk.old) (D.store disk.new) }
+    ensures cause { DiskCause (D.faults disk.old) (D.faults disk.new) (result ≡ Err faults.DiskFault) }
+{
+    match read_gate(disk, at)? {
+        Gate::Shut { rest } => Ok(Some(rest)),
+        Gate::Ajar => Ok(None),
+    }
+}
+
+/// Reads the records from the gate at a place on and adds them to what is found, which is the base cuts at first.
+pub(crate) fn read_records<D: Disk, K: Keeper>(
+    alloc: Global,
+    problem: &Problem,
+    disk: &mut D,
+    batch: u16,
+    first: u64,
+    found: &mut Gathered,
+    keep: &mut K,
+) -> Result<End, LoadFault>
+    requires near { first ≤ 54 }
+    requires some { 1 ≤ batch }
+    requires batch { batch ≤ 64 }
+    requires base { based problem.now ≡ Ok found.old.pools.lists }
+    requires fresh { found_of found.old ≡ fresh found.old.pools.lists }
+    requires empty { IsKept (K.kept keep.old) [] }
+    ensures value { IfSome (D.store disk.old).reads (λ bytes.
+        EndsAs (K.kept keep.new) (found_of found.new) result (records_at problem.now batch bytes 2000 first (found_of found.old) [])) }
+    ensures accepted { IfOk result (λ e. (lists : List (List Entry)) × IsKept (K.kept keep.new) lists × Accepted problem.now found.old.pools.lists lists (found_of found.new)) }
+    ensures sound { IfOk result (λ e. (i : ℕ) × (i ≤ 2000) × IsSound problem.now batch i (found_of found.new)) }
+    ensures end { IfOk result (λ e. e.end ≤ 2 ^ 38) }
+    ensures stays { Stays (D.store disk.old) (D.store disk.new) }
+    ensures cause { DiskCause (D.faults disk.old) (D.faults disk.new) (result ≡ Err faults.DiskFault) }
+{
+    let mut buffer = Vec::new(alloc);
+    let mut at = first;
+    for _ in 0..MOST_ITERATIONS {
+        if let Some(rest) = rest_at(disk, at)? {
+            return Ok(End { end: at, rest });
+        }
+        let (entries, next) = read_record(alloc, problem, disk, batch, at, &mut buffer, found)?;
+        keep.keep(entries)?;
+        at = next;
+    }
+    match rest_at(disk, at)? {
+        Some(rest) => Ok(End { end: at, rest }),
+        None => Err(LoadFault::Refused(JournalRefusal::TooMany)),
+    }
+}

@@ -1,0 +1,8 @@
+//! The commands of the program, read from its words.
+#![tactic(auto)]
+
+mod command;
+mod forms;
+
+pub use command::Command;
+pub use forms::read_words;
