@@ -6,3 +6,4 @@ mod Recorded
 mod Reaching
 mod Loops
 mod Told
+mod Outcomes

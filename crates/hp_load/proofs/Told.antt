@@ -1,7 +1,8 @@
 -- What is read over a disk, whether it tells its bytes or not.
-use Rattle.std.proofs.Common.{◌≡◌, ℕ, suc, ◌+◌, List, length, Option, Some, None, IfSome, Result, Ok, Err, ◌⊎◌, refl, sym, ap, subst, ◌∙◌}
+use Rattle.std.proofs.Common.{◌≡◌, ℕ, suc, ◌+◌, List, length, Option, Some, None, IfSome, Result, Ok, Err, ◌⊎◌, refl, sym, ap, subst, ◌∙◌, rules}
 use Rattle.std.proofs.Math.Logic.{⊎_elim}
 use Rattle.hp_num.specs.Steps.{◌>>=◌}
+use Rattle.hp_outside.specs.Disks.{Store, Stays}
 use Rattle.hp_problem.specs.Sealed.{Sealed}
 use Rattle.hp_problem.specs.Formulas.{too_much}
 use Rattle.hp_cut.specs.declared.entry.Entry.{Entry}
@@ -28,15 +29,33 @@ known P r bytes is has = subst (λ o. IfSome o P) is has
 pub same_bytes : (P : List ℕ → Type 0) (r s : Option (List ℕ)) → s ≡ r → IfSome s P → IfSome r P
 same_bytes P r s same has = subst (λ o. IfSome o P) same has
 
+-- a disk that is only read
+pub stays_same : (s : Store) → Stays s s
+stays_same s = record { reads = refl; images = λ c. search rules; moment = refl; since = λ t c. search rules }
+
+pub stays_on : (a b c : Store) → Stays a b → Stays b c → Stays a c
+stays_on a b c first then = record {
+  reads = then.reads ∙ first.reads;
+  images = λ x. (λ i. (first.images x).0 ((then.images x).0 i), λ i. (then.images x).1 ((first.images x).1 i));
+  moment = then.moment ∙ first.moment;
+  since = λ t x. (λ i. (first.since t x).0 ((then.since t x).0 i), λ i. (then.since t x).1 ((first.since t x).1 i));
+}
+
 -- the gate
-gate_bad : (bytes : List ℕ) (at : ℕ) (f : GateFault) → (Err f ≡ gate_of bytes at) ⊎ (f ≡ gates.DiskFault) → Fails (of_gate f) (rest_at bytes at)
+abbrev pub a_gate : Gate → Result Gate GateFault
+a_gate gate = Ok gate
+
+abbrev pub no_gate : GateFault → Result Gate GateFault
+no_gate f = Err f
+
+pub gate_bad : (bytes : List ℕ) (at : ℕ) (f : GateFault) → (no_gate f ≡ gate_of bytes at) ⊎ (no_gate f ≡ no_gate gates.DiskFault) → Fails (of_gate f) (rest_at bytes at)
 unfolding rest_at
-gate_bad bytes at (gates.Short place) is = ⊎_elim (λ e. ap (λ g. with_fault of_gate g >>= λ x. Ok (rest_behind x)) (sym e)) (λ e. absurd cc) is
+gate_bad bytes at (gates.Short place) is = ⊎_elim (λ e. ap (λ (g : Result Gate GateFault). with_fault of_gate g >>= λ x. Ok (rest_behind x)) (sym e)) (λ e. absurd cc) is
 gate_bad bytes at gates.DiskFault is = tt
 
-pub rest_read : (bytes : List ℕ) (at : ℕ) (gate : Gate) → gate_of bytes at ≡ Ok gate → rest_at bytes at ≡ Ok (rest_behind gate)
+pub gate_good : (bytes : List ℕ) (at : ℕ) (gate : Gate) (rest : Option ℕ) → (a_gate gate ≡ gate_of bytes at) ⊎ (a_gate gate ≡ no_gate gates.DiskFault) → rest_behind gate ≡ rest → rest_at bytes at ≡ Ok rest
 unfolding rest_at
-rest_read bytes at gate e = ap (λ (g : Result Gate GateFault). with_fault of_gate g >>= λ x. Ok (rest_behind x)) e
+gate_good bytes at gate rest is same = ⊎_elim (λ e. ap (λ (g : Result Gate GateFault). with_fault of_gate g >>= λ x. Ok (rest_behind x)) (sym e) ∙ ap (λ (r : Option ℕ). Ok r) same) (λ e. absurd cc) is
 
 -- the entries
 module _ (p : Sealed) (batch k at : ℕ) (bytes : List ℕ) where

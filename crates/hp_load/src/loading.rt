@@ -7,9 +7,9 @@ ghost use Rattle.hp_journal.specs.Causes.{DiskCause};
 ghost use Rattle.hp_load.specs.declared.refusal.LoadFault.TheVariants as faults;
 ghost use Rattle.hp_load.specs.Refusals.{Gives};
 ghost use Rattle.hp_load.specs.Records.{IsKept};
-ghost use Rattle.hp_load.specs.Load.{LoadsAs, found_in, load_records, load_of, outcome_of, seen, unborn};
+ghost use Rattle.hp_load.specs.Load.{LoadsAs, first_gate, found_in, load_records, load_of, outcome_of, seen, unborn};
 ghost use Rattle.hp_load.specs.Accepted.{Accepted, IsSafe};
-ghost use Rattle.hp_journal.specs.declared.head.Head.TheVariants.{Unborn, Born};
+ghost use Rattle.hp_journal.specs.Layout.{new_title};
 
 use crate::keeping::{Dropping, Keeper};
 use crate::loaded::Loaded;
@@ -23,6 +23,27 @@ use hp_outside::Disk;
 use hp_problem::Problem;
 use std::alloc::Global;
 
+// The version and the batch that a journal is born with.
+fn new_title(batch: Option<u16>) -> (u16, u16)
+    requires { IfSome batch (λ b. (1 ≤ b) × (b ≤ 64)) }
+    ensures version { result.0 ≡ (new_title [] 0 batch).version }
+    ensures batch { result.1 ≡ (new_title [] 0 batch).batch }
+    ensures known { ((result.0 ≡ 1) × (result.1 ≡ 1)) ⊎ ((result.0 ≡ 2) × (1 ≤ result.1) × (result.1 ≤ 64)) }
+{
+    match batch {
+        Some(batch) => (2, batch),
+        None => (1, 1),
+    }
+}
+
+// The place of the first gate.
+fn first_gate(version: u16) -> u64
+    ensures value { result ≡ first_gate version }
+    ensures near { result ≤ 54 }
+{
+    if version == 2 { 53 } else { 51 }
+}
+
 // What is loaded of a journal that is not born.
 fn load_unborn(alloc: Global, problem: &Problem, base: Pools, batch: Option<u16>) -> Loaded
     requires base { based problem.now ≡ Ok base.lists }
@@ -31,11 +52,8 @@ fn load_unborn(alloc: Global, problem: &Problem, base: Pools, batch: Option<u16>
     ensures accepted { Accepted problem.now base.lists [] (found_in result) }
     ensures safe { IsSafe problem.now result }
 {
-    problem.raw();
-    let (version, batch) = match batch {
-        Some(batch) => (2, batch),
-        None => (1, 1),
-    };
+    let _ = problem.raw();
+    let (version, batch) = new_title(batch);
     Loaded {
         pools: base,
         bounds: List::new(alloc),
@@ -68,7 +86,7 @@ fn load_born<D: Disk, K: Keeper>(
     ensures stays { Stays (D.store disk.old) (D.store disk.new) }
     ensures cause { DiskCause (D.faults disk.old) (D.faults disk.new) (result ≡ Err faults.DiskFault) }
 {
-    let first = if version == 2 { 53 } else { 51 };
+    let first = first_gate(version);
     let mut found = Gathered {
         pools: base,
         bounds: List::new(alloc),

@@ -228,13 +228,14 @@ pub(crate) fn read_records<D: Disk, K: Keeper>(
     requires fresh { found_of found.old ≡ fresh found.old.pools.lists }
     requires empty { IsKept (K.kept keep.old) [] }
     ensures value { IfSome (D.store disk.old).reads (λ bytes.
-        EndsAs (K.kept keep.new) (found_of found.new) result (records_at problem.now batch bytes 2000 first (found_of found.old) [])) }
+        EndsAs (K.kept keep.new) (found_of found.new) result (records_at problem.now batch bytes 2000 first (fresh found.old.pools.lists) [])) }
     ensures accepted { IfOk result (λ e. (lists : List (List Entry)) × IsKept (K.kept keep.new) lists × Accepted problem.now found.old.pools.lists lists (found_of found.new)) }
     ensures sound { IfOk result (λ e. (i : ℕ) × (i ≤ 2000) × IsSound problem.now batch i (found_of found.new)) }
     ensures end { IfOk result (λ e. e.end ≤ 2 ^ 38) }
     ensures stays { Stays (D.store disk.old) (D.store disk.new) }
     ensures cause { DiskCause (D.faults disk.old) (D.faults disk.new) (result ≡ Err faults.DiskFault) }
 {
+    let _ = problem.raw();
     let mut buffer = Vec::new(alloc);
     let mut at = first;
     for _ in 0..MOST_ITERATIONS {
