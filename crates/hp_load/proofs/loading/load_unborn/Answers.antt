@@ -1,10 +1,20 @@
-use Rattle.std.proofs.Common.{arith}
+use Rattle.std.proofs.Common.{ℤ, List, [], false, sym, subst, arith}
+use Rattle.hp_load.specs.declared.loaded.Loaded.{Loaded}
+use Rattle.hp_load.specs.Accepted.{Accepted, IsSound}
 use Rattle.hp_load.proofs.Reaching.{sound_none, accepted_none}
 use Rattle.hp_load.proofs.Outcomes.{safe_from}
 use Rattle.hp_load.proofs.loading.load_unborn.Goals as goal
 
 pub returns-clause-accepted : goal.returns-clause-accepted
-returns-clause-accepted c = accepted_none c.args.problem.now c.args.base.lists
+returns-clause-accepted c =
+    let p = c.args.problem.now in
+    let base = c.args.base.lists in
+    subst (λ (bounds : List ℤ). Accepted p base [] (record { pools = base; bounds = bounds; unsettled = 0 })) (sym c.new.ensures) (accepted_none p base)
 
 pub returns-clause-safe : goal.returns-clause-safe
-returns-clause-safe c = safe_from c.args.problem.now _ 0 (omega arith) (sound_none c.args.problem.now c.args.base.lists _ c.raw.ensures.sealed c.requires.base) c.new_title.ensures.known (omega arith)
+returns-clause-safe c =
+    let p = c.args.problem.now in
+    let base = c.args.base.lists in
+    let batch = c.new_title-version.result.1 in
+    let l : Loaded = record { pools = c.args.base; bounds = c.new.result; unsettled = 0; born = false; end = 0; rest = 0; version = c.new_title-version.result.0; batch = batch } in
+    safe_from p l 0 (omega arith) (subst (λ (bounds : List ℤ). IsSound p batch 0 (record { pools = base; bounds = bounds; unsettled = 0 })) (sym c.new.ensures) (sound_none p base batch c.raw.ensures.sealed c.requires.base)) c.new_title-version.ensures.known (omega arith)

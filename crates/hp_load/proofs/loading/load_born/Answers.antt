@@ -1,0 +1,31 @@
+use Rattle.std.proofs.Common.{[], Ok, true, refl}
+use Rattle.std.proofs.lemmas.Result.{err_from_is_err_and}
+use Rattle.hp_load.specs.declared.loaded.Loaded.{Loaded}
+use Rattle.hp_load.specs.Refusals.{Fails}
+use Rattle.hp_load.specs.Records.{EndsAs, fresh, found_of, records_at}
+use Rattle.hp_load.proofs.Told.{told, known}
+use Rattle.hp_load.proofs.Outcomes.{born_fails, born_loads}
+use Rattle.hp_load.proofs.loading.load_born.Goals as goal
+
+pub returns-in_err-end-clause-value : goal.returns-in_err-end-clause-value
+returns-in_err-end-clause-value g c =
+    let e = err_from_is_err_and c.from_residual.result c.from_residual.ensures.1 in
+    let f = c.in_err-end.field-0.0 in
+    let p = c.args.problem.now in
+    let base = c.args.base.lists in
+    let first = c.first_gate-first.result in
+    let r = (g.D.Disk.store c.args.disk.now).reads in
+    rw (e.1, e.2) (told r (λ b is. born_fails p base b c.args.version c.args.batch first c.first_gate-first.ensures.value f (known (λ b. Fails f (records_at p c.args.batch b 2000 first (fresh base) [])) r b is c.in_err-end.ensures.value)))
+
+pub returns-clause-value : goal.returns-clause-value
+returns-clause-value g c =
+    let p = c.args.problem.now in
+    let base = c.args.base.lists in
+    let first = c.first_gate-first.result in
+    let kept = g.K.Keeper.kept c.read_records.new.keep in
+    let found = c.read_records.new.found in
+    let end = c.in_ok-end.end in
+    let l : Loaded = record { pools = found.pools; bounds = found.bounds; unsettled = found.unsettled; born = true; end = end.end; rest = end.rest; version = c.args.version; batch = c.args.batch } in
+    let r = (g.D.Disk.store c.args.disk.now).reads in
+    told r (λ b is. born_loads p base b c.args.version c.args.batch first c.first_gate-first.ensures.value kept end l refl
+    (known (λ b. EndsAs kept (found_of found) (Ok end) (records_at p c.args.batch b 2000 first (fresh base) [])) r b is c.in_ok-end.ensures.value))
