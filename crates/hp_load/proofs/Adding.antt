@@ -1,19 +1,16 @@
 -- What adding the cuts of steps and entries keeps.
-use Rattle.std.proofs.Common.{◌≡◌, ℕ, suc, ◌+◌, ◌*◌, ◌-◌, ◌≤◌, ◌<◌, ◌^◌, true, List, [], ◌∷◌, ◌++◌, length, drop, All, Option, Some, None, Result, Ok, Err, refl, sym, ap, subst, ◌∙◌, arith}
+use Rattle.std.proofs.Common.{◌≡◌, ℕ, ◌+◌, ◌≤◌, ◌<◌, true, List, [], ◌∷◌, length, Option, Some, None, Ok, refl, ap, subst, arith}
 use Rattle.std.specs.List.{AllByRecursion}
-use Rattle.hp_num.specs.Steps.{◌>>=◌}
 use Rattle.hp_problem.specs.Sealed.{Sealed, is_sealed}
 use Rattle.hp_theory.specs.declared.cut.Cut.{Cut}
-use Rattle.hp_theory.specs.Problem.{node_at}
 use Rattle.hp_theory.specs.Pools.{pool, push, Sound}
 use Rattle.hp_theory.specs.Fit.{Fit}
 use Rattle.hp_theory.specs.View.{problem_of}
 use Rattle.hp_cut.specs.declared.entry.Entry.{Entry}
 use Rattle.hp_cut.specs.declared.entry.EntryStep.{EntryStep}
 use Rattle.hp_record.specs.Shape.{Writable}
-use Rattle.hp_record.proofs.LongestPath.{graph, path_length}
+use Rattle.hp_record.proofs.LongestPath.{graph}
 use Rattle.hp_dual.specs.declared.fault.CertFault.{CertFault}
-use Rattle.hp_load.specs.declared.refusal.LoadFault.{LoadFault}
 use Rattle.hp_load.specs.Cuts.{cut_of_step, fault_of_step, unless_fault, step_added, steps_added, entries_added}
 use Rattle.hp_load.proofs.Binding.{bind_ok, same_ok}
 use Rattle.hp_load.proofs.Once.{here, times, once, known_steps}

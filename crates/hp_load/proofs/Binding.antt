@@ -1,5 +1,5 @@
 -- Steps that may refuse, and what is answered of them.
-use Rattle.std.proofs.Common.{◌≡◌, Result, Ok, Err, List, refl, sym, ◌∙◌, subst, ap}
+use Rattle.std.proofs.Common.{◌≡◌, Result, Ok, Err, refl, sym, subst, ap}
 use Rattle.hp_num.specs.Steps.{◌>>=◌}
 use Rattle.hp_load.specs.declared.refusal.LoadFault.{LoadFault}
 use Rattle.hp_load.specs.declared.refusal.LoadFault.TheVariants as faults

@@ -1,19 +1,18 @@
 -- What one cut more keeps: it holds and fits, and its node has one cut more.
-use Rattle.std.proofs.Common.{◌≡◌, ℕ, ◌+◌, ◌≤◌, ◌<◌, ◌==◌, true, List, [], ◌∷◌, ◌++◌, length, All, Option, Some, None, Result, Ok, Err, refl, sym, ap, subst, ◌∙◌, length-append, arith}
+use Rattle.std.proofs.Common.{◌≡◌, ℕ, ◌+◌, ◌≤◌, ◌<◌, true, List, [], ◌∷◌, ◌++◌, length, All, None, sym, ap, subst, ◌∙◌, length-append, arith}
 use Rattle.std.proofs.lemmas.List.{length-set}
 use Rattle.std.proofs.lemmas.List.Elements.{All-push}
 use Rattle.hp_problem.specs.Sealed.{Sealed, is_sealed}
 use Rattle.hp_theory.specs.declared.cut.Cut.{Cut}
 use Rattle.hp_theory.specs.Problem.{Problem, node_at}
 use Rattle.hp_theory.specs.Pools.{pool, push, Holds, Sound}
-use Rattle.hp_theory.specs.Fit.{CutFits, Fit, FitFor}
+use Rattle.hp_theory.specs.Fit.{CutFits, Fit}
 use Rattle.hp_theory.specs.View.{problem_of}
 use Rattle.hp_theory.proofs.Appending.{push_at, push_sound, kept_some}
 use Rattle.hp_theory.proofs.Duality.{weak_duality}
 use Rattle.hp_theory.proofs.SizeToFit.{size_to_fit}
 use Rattle.hp_theory.proofs.SealedPremises.{shaped-sealed, narrow-sealed}
 use Rattle.hp_cut.specs.declared.entry.EntryStep.{EntryStep}
-use Rattle.hp_dual.specs.declared.fault.CertFault.{CertFault}
 use Rattle.hp_dual.proofs.Accepted.{right-fault_of, size-fault_of}
 use Rattle.hp_load.proofs.Once.{here, here_same}
 use Rattle.hp_load.specs.Cuts.{cut_of_step, fault_of_step}

@@ -1,5 +1,5 @@
 -- What is loaded: the definition from the head on, and what holds of each outcome.
-use Rattle.std.proofs.Common.{◌≡◌, ◌⊎◌, ℕ, ◌+◌, ◌*◌, ◌≤◌, ◌^◌, List, [], length, Option, Some, None, Result, Ok, Err, refl, sym, ap, subst, ◌∙◌, arith}
+use Rattle.std.proofs.Common.{◌≡◌, ◌⊎◌, ℕ, ◌+◌, ◌*◌, ◌≤◌, ◌^◌, List, [], length, Option, Some, Result, Ok, Err, refl, sym, ap, subst, ◌∙◌, arith}
 use Rattle.std.proofs.Math.Logic.{⊎_elim}
 use Rattle.hp_num.specs.Steps.{◌>>=◌}
 use Rattle.hp_problem.specs.Sealed.{Sealed}
@@ -16,10 +16,10 @@ use Rattle.hp_load.specs.declared.records.End.{End}
 use Rattle.hp_load.specs.declared.refusal.LoadFault.{LoadFault}
 use Rattle.hp_load.specs.declared.refusal.LoadFault.TheVariants as faults
 use Rattle.hp_load.specs.Refusals.{of_head, with_fault, Fails, Gives}
-use Rattle.hp_load.specs.Records.{Found, fresh, Ended, IsKept, EndsAs, records_at}
+use Rattle.hp_load.specs.Records.{fresh, Ended, EndsAs, records_at}
 use Rattle.hp_load.specs.Load.{Outcome, LoadsAs, born, unborn, first_gate, found_in, load_from, load_of, load_records, outcome_of, seen, title_asked}
 use Rattle.hp_load.specs.Accepted.{IsSafe, IsSound}
-use Rattle.hp_load.proofs.Binding.{bind_on, fails_on, fails_as}
+use Rattle.hp_load.proofs.Binding.{bind_on, fails_on}
 
 pub safe_from : (p : Sealed) (l : Loaded) (i : ℕ) → i ≤ 2000 → IsSound p l.batch i (found_in l) → ((l.version ≡ 1) × (l.batch ≡ 1)) ⊎ ((l.version ≡ 2) × (1 ≤ l.batch) × (l.batch ≤ 64)) → l.end ≤ 2 ^ 38 → IsSafe p l
 safe_from p l i most s version near = record {

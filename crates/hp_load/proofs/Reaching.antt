@@ -1,5 +1,5 @@
 -- The records of a journal one after the other, as the loop reads them.
-use Rattle.std.proofs.Common.{◌≡◌, ℕ, zero, suc, ◌+◌, ◌*◌, ◌-◌, ◌≤◌, ◌<◌, ◌^◌, Bool, true, false, nat_lt, List, [], ◌∷◌, ◌++◌, length, All, Option, Some, None, IfSome, Result, Ok, Err, refl, sym, ap, subst, ◌∙◌, length-append, arith}
+use Rattle.std.proofs.Common.{◌≡◌, ℕ, zero, suc, ◌+◌, ◌*◌, ◌-◌, ◌≤◌, ◌<◌, ◌^◌, Bool, true, false, nat_lt, List, [], ◌∷◌, ◌++◌, length, Option, Some, None, IfSome, Result, Ok, Err, refl, sym, ap, subst, ◌∙◌, length-append, arith}
 use Rattle.std.specs.Option.{option_map}
 use Rattle.std.proofs.lemmas.Bool.Decides.{nat_tests}
 use Rattle.std.proofs.lemmas.List.Elements.{All-nil}
@@ -17,7 +17,6 @@ use Rattle.hp_load.proofs.Told.{told, known}
 use Rattle.hp_load.specs.declared.refusal.LoadFault.{LoadFault}
 use Rattle.hp_load.specs.declared.refusal.LoadFault.TheVariants as faults
 use Rattle.hp_load.specs.declared.refusal.JournalRefusal.TheVariants.{TooMany}
-use Rattle.hp_load.specs.declared.records.End.{End}
 use Rattle.hp_load.specs.Refusals.{Fails}
 use Rattle.hp_load.specs.Records.{Found, fresh, Ended, IsKept, EndsAs, or_more, record_added, lists_added, record_at, rest_at, records_at}
 use Rattle.hp_load.specs.Accepted.{Accepted, IsSound}

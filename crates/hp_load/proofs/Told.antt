@@ -13,8 +13,7 @@ use Rattle.hp_journal.specs.declared.gate.GateFault.{GateFault}
 use Rattle.hp_journal.specs.declared.gate.GateFault.TheVariants as gates
 use Rattle.hp_journal.specs.Gates.{gate_of, payload_of}
 use Rattle.hp_load.specs.declared.refusal.LoadFault.{LoadFault}
-use Rattle.hp_load.specs.declared.refusal.LoadFault.TheVariants as faults
-use Rattle.hp_load.specs.Refusals.{of_gate, of_payload, of_entries, with_fault, within, Fails, Gives}
+use Rattle.hp_load.specs.Refusals.{of_gate, of_payload, of_entries, with_fault, within, Fails}
 use Rattle.hp_load.specs.Records.{Found, rest_behind, rest_at, entries_at, record_added, record_at}
 use Rattle.hp_load.proofs.Binding.{bind_on, fails_on, fails_as}
 

@@ -1,5 +1,5 @@
 -- Lists of entries that are accepted over base cuts, and what holds of everything that is loaded.
-use Rattle.std.specs.Prelude.{◌≡◌, ◌⊎◌, ◌≤◌, ◌+◌, ◌*◌, ◌^◌, ℕ, List, length, All, Result, Ok}
+use Rattle.std.specs.Prelude.{◌≡◌, ◌⊎◌, ◌≤◌, ◌+◌, ◌*◌, ◌^◌, ℕ, List, length, All, Ok}
 use Rattle.std.specs.List.{AllByRecursion}
 use Rattle.hp_problem.specs.Sealed.{Sealed}
 use Rattle.hp_theory.specs.declared.cut.Cut.{Cut}
@@ -10,7 +10,7 @@ use Rattle.hp_theory.specs.View.{problem_of}
 use Rattle.hp_cut.specs.declared.entry.Entry.{Entry}
 use Rattle.hp_record.specs.Backwards.{IsPathFromRoot, nodes_back}
 use Rattle.hp_load.specs.declared.loaded.Loaded.{Loaded}
-use Rattle.hp_load.specs.Records.{Found, fresh, IsKept, lists_added}
+use Rattle.hp_load.specs.Records.{Found, fresh, lists_added}
 
 -- at most 64 entries, and the nodes of each, read backwards, are a path from the root
 pub record IsRecord (p : Sealed) (entries : List Entry) : Type 0 where

@@ -1,7 +1,6 @@
 -- What the faults of a journal's parts are for the journal, and what code answers of a definition.
-use Rattle.std.specs.Prelude.{◌≡◌, ℕ, List, Option, Some, None, Result, Ok, Err}
+use Rattle.std.specs.Prelude.{◌≡◌, ℕ, Option, Some, None, Result, Ok, Err}
 use Rattle.hp_num.specs.Steps.{GivesOr}
-use Rattle.hp_dual.specs.declared.fault.CertFault.{CertFault}
 use Rattle.hp_problem.specs.declared.formulas.TooMuch.{TooMuch}
 use Rattle.hp_journal.specs.declared.head.HeadFault.{HeadFault}
 use Rattle.hp_journal.specs.declared.head.HeadFault.TheVariants as heads

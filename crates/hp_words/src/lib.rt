@@ -3,6 +3,10 @@
 
 mod command;
 mod forms;
+pub mod worked;
 
 pub use command::Command;
 pub use forms::read_words;
+
+#[cfg(test)]
+mod tests;

@@ -1,8 +1,6 @@
-use Rattle.std.proofs.Common.{◌≡◌, ◌≤◌, ◌<◌, ◌+◌, ◌-◌, length, All, arith, subst, sym, ◌∙◌, ap, List, get_or, None}
+use Rattle.std.proofs.Common.{length, All, arith, subst, sym, ◌∙◌, ap, List, None}
 use Rattle.std.proofs.lemmas.Result.{err_from_is_err_and}
-use Rattle.hp_theory.specs.Pools.{pool}
 use Rattle.hp_cut.specs.declared.entry.EntryStep.{EntryStep}
-use Rattle.hp_cut.specs.declared.entry.Entry.{Entry}
 use Rattle.hp_record.specs.Shape.{Writable}
 use Rattle.hp_record.proofs.LongestPath.{path_length, is_small}
 use Rattle.hp_load.specs.Refusals.{Fails}

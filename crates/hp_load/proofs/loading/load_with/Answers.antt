@@ -1,11 +1,11 @@
-use Rattle.std.proofs.Common.{◌≡◌, ◌⊎◌, Ok, [], IfSome, sym, ap, subst, ◌∙◌}
+use Rattle.std.proofs.Common.{◌≡◌, ◌⊎◌, Ok, [], sym, ap, subst, ◌∙◌}
 use Rattle.std.proofs.lemmas.Result.{err_from_is_err_and}
 use Rattle.hp_journal.specs.declared.head.Head.{Head}
 use Rattle.hp_journal.specs.declared.head.HeadFault.TheVariants as heads
 use Rattle.hp_journal.specs.Head.{head_of}
 use Rattle.hp_load.specs.Refusals.{Fails}
-use Rattle.hp_load.specs.Load.{LoadsAs, load_from, load_of, load_records, title_asked, Outcome, unborn}
-use Rattle.hp_load.proofs.Binding.{fails_as, fails_from}
+use Rattle.hp_load.specs.Load.{LoadsAs, load_from, load_records, title_asked, Outcome}
+use Rattle.hp_load.proofs.Binding.{fails_from}
 use Rattle.hp_load.proofs.Told.{told, known}
 use Rattle.hp_load.proofs.Outcomes.{a_head, no_head, head_bad, head_good, unborn_from, title_bad, title_good}
 use Rattle.hp_load.proofs.loading.load_with.Goals as goal

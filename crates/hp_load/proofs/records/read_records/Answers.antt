@@ -1,6 +1,5 @@
-use Rattle.std.proofs.Common.{◌≡◌, ◌+◌, ℕ, List, Option, Some, None, Ok, IfSome, sym, ◌∙◌, ap, subst, arith, rules}
+use Rattle.std.proofs.Common.{◌≡◌, ℕ, Option, None, Ok, IfSome, sym, ◌∙◌, subst, arith, rules}
 use Rattle.std.proofs.lemmas.Result.{err_from_is_err_and}
-use Rattle.hp_load.specs.declared.refusal.LoadFault.{LoadFault}
 use Rattle.hp_load.specs.Refusals.{Fails}
 use Rattle.hp_load.specs.Records.{Found, found_of, rest_at, record_at}
 use Rattle.hp_load.proofs.Told.{same_bytes, stays_same, stays_on}
@@ -57,8 +56,8 @@ loop-preserved g c =
     let next = c.in_ok-entries.next in
     let more = found_of c.read_record.new.found in (
       reached_more p c.args.found.now.pools.lists c.args.batch c.args.first r (g.K.Keeper.kept l.keep) l.counter l.at (found_of l.found) l.invariant.0 ajar c.loop-test.true c.raw.ensures.sealed c.requires.batch next es more (g.K.Keeper.kept c.keep.new.self)
-      (same_bytes (λ b. record_at p c.args.batch b l.at (found_of l.found) ≡ Ok (es, next, more)) r (g.D.Disk.store c.rest_at.new.disk).reads (c.rest_at.ensures.stays.reads ∙ l.invariant.1.reads) c.in_ok-entries.ensures.value)
-      c.in_ok-entries.ensures.batch c.in_ok-entries.ensures.added c.in_ok-entries.ensures.next c.in_ok-keep.ensures,
+          (same_bytes (λ b. record_at p c.args.batch b l.at (found_of l.found) ≡ Ok (es, next, more)) r (g.D.Disk.store c.rest_at.new.disk).reads (c.rest_at.ensures.stays.reads ∙ l.invariant.1.reads) c.in_ok-entries.ensures.value)
+          c.in_ok-entries.ensures.batch c.in_ok-entries.ensures.added c.in_ok-entries.ensures.next c.in_ok-keep.ensures,
       stays_on (g.D.Disk.store c.args.disk.now) (g.D.Disk.store l.disk) (g.D.Disk.store c.read_record.new.disk) l.invariant.1 (stays_on (g.D.Disk.store l.disk) (g.D.Disk.store c.rest_at.new.disk) (g.D.Disk.store c.read_record.new.disk) c.rest_at.ensures.stays c.read_record.ensures.stays),
       omega (arith, l.invariant.2, c.rest_at.ensures.cause.later, c.read_record.ensures.cause.later),
     )

@@ -1,6 +1,5 @@
-use Rattle.std.proofs.Common.{◌≡◌, ◌⊎◌, Some, None, sym, ap}
+use Rattle.std.proofs.Common.{◌≡◌, ◌⊎◌, Some, None, ap}
 use Rattle.std.proofs.lemmas.Result.{err_from_is_err_and}
-use Rattle.hp_journal.specs.declared.gate.Gate.{Gate}
 use Rattle.hp_journal.specs.declared.gate.GateFault.TheVariants as gates
 use Rattle.hp_journal.specs.Gates.{gate_of}
 use Rattle.hp_load.specs.Records.{rest_behind}
