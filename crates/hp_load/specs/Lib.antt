@@ -3,3 +3,4 @@ pub mod Cuts
 pub mod Records
 pub mod Load
 pub mod Accepted
+pub mod Examples

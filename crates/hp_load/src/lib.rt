@@ -8,6 +8,7 @@ mod loading;
 mod records;
 mod refusal;
 mod title;
+pub mod worked;
 
 pub use loaded::Loaded;
 pub use loading::{load, load_keep};
