@@ -1,19 +1,17 @@
 -- Paths of a problem's graph: how long they are, where they begin, and what stands at a step.
-use Rattle.std.proofs.Common.{◌≡◌, ◌∙◌, ℕ, suc, ◌<◌, ◌≤◌, ℤ, pos, ◌*ℤ◌, ◌≤ℤ◌, List, [], ◌∷◌, length, map, get_or, slice_get, Some, true, All, Contains, sym, ap, subst, arith}
+use Rattle.std.proofs.Common.{◌≡◌, ◌∙◌, ℕ, ◌<◌, ◌≤◌, ℤ, pos, ◌*ℤ◌, ◌≤ℤ◌, List, [], ◌∷◌, length, get_or, slice_get, Some, true, Contains, sym, ap, subst, arith}
 use Rattle.std.proofs.lemmas.Bool.Decides.{nat_tests}
-use Rattle.std.proofs.lemmas.Grind.{common_steps}
 use Rattle.std.proofs.lemmas.List.{get_or-map, get_or_default, length-map}
 use Rattle.std.specs.List.{list_all}
 use Rattle.hp_num.specs.Sums.{entry}
 use Rattle.hp_num.proofs.Order.{le_scale}
 use Rattle.hp_num.proofs.Sums.{All_head}
-use Rattle.hp_num.proofs.Tests.{all_at, and_second}
+use Rattle.hp_num.proofs.Tests.{all_at}
 use Rattle.hp_paths.specs.Ranks.{rank}
 use Rattle.hp_paths.proofs.Falling.{rank_below, rank_falls}
 use Rattle.hp_problem.specs.declared.raw.Node as nodes
-use Rattle.hp_problem.specs.declared.raw.Subproblem.{Subproblem}
 use Rattle.hp_problem.specs.Limits.{are_numbers, are_values, realizations_fit}
-use Rattle.hp_problem.specs.Parts.{graph_of, weights_at}
+use Rattle.hp_problem.specs.Parts.{graph_of}
 use Rattle.hp_problem.specs.Sealed.{Sealed, is_sealed, subproblem_of}
 use Rattle.hp_problem.proofs.SealedFacts.{raw-is_sealed, known_graph, few_nodes}
 use Rattle.hp_sampler.specs.declared.steps.Step.{Step}
@@ -22,7 +20,7 @@ use Rattle.hp_sampler.proofs.Draws.{made_at}
 use Rattle.hp_theory.specs.Problem.{S, Link, Node, node_at}
 use Rattle.hp_theory.specs.Premises.{StartsIn}
 use Rattle.hp_theory.specs.Tree.{InBox, times_all}
-use Rattle.hp_theory.specs.View.{links_of, problem_of}
+use Rattle.hp_theory.specs.View.{problem_of}
 use Rattle.hp_theory.proofs.SealedOrder.{no_cycle-sealed}
 use Rattle.hp_theory.proofs.SealedParts.{Parts, parts, weighty}
 use Rattle.hp_theory.proofs.SealedPremises.{root_shaped-sealed}

@@ -1,11 +1,11 @@
 -- The boxes of a node's decisions, and what leaves the node for its successors.
-use Rattle.std.proofs.Common.{◌≡◌, ◌∙◌, ℕ, ◌<◌, ◌≤◌, ◌^◌, ℤ, pos, ◌*ℤ◌, ◌≤ℤ◌, List, [], length, map, get_or, slice_index_or, nat_abs, true, Some, slice_get, Contains, sym, ap, subst, arith}
+use Rattle.std.proofs.Common.{◌≡◌, ◌∙◌, ℕ, ◌<◌, ◌≤◌, ◌^◌, ℤ, pos, ◌*ℤ◌, ◌≤ℤ◌, List, [], length, get_or, nat_abs, true, Contains, sym, ap, subst, arith}
 use Rattle.std.specs.Int.{int_min, int_max}
 use Rattle.std.proofs.lemmas.Bool.Decides.{nat_tests}
 use Rattle.std.proofs.lemmas.Grind.{common_steps}
 use Rattle.std.proofs.lemmas.Int.{ints, clamps}
 use Rattle.std.proofs.lemmas.List.{get_or-map, get_or_default, length-map}
-use Rattle.hp_num.specs.Sums.{entry, table}
+use Rattle.hp_num.specs.Sums.{entry}
 use Rattle.hp_num.proofs.Order.{le_trans, le_scale}
 use Rattle.hp_num.proofs.Tests.{all_at, some_of}
 use Rattle.hp_problem.specs.declared.raw.Decision.{Decision}
@@ -24,9 +24,8 @@ use Rattle.hp_theory.specs.View.{node_of, links_of, problem_of}
 use Rattle.hp_theory.proofs.SealedParts.{Parts, parts, linked}
 use Rattle.hp_theory.proofs.SealedPremises.{shaped-sealed}
 use Rattle.hp_theory.proofs.Views.{link_at, length-links_of, links-node_of}
-use Rattle.hp_forward.specs.Deciding.{boxed, decision_at, decisions_at}
-use Rattle.hp_forward.specs.Given.{IsStateAt}
-use Rattle.hp_forward.proofs.Decisions.{lows, highs, length-table, entry-table}
+use Rattle.hp_forward.specs.Deciding.{decision_at, decisions_at}
+use Rattle.hp_forward.proofs.Decisions.{length-table, entry-table}
 
 -- the box of the decision j of a node: its ends are in order and small
 pub record HasBox (n : Node) (j : ℕ) : Type 0 where

@@ -6,7 +6,6 @@ use Rattle.hp_problem.specs.declared.raw.Node as nodes
 use Rattle.hp_problem.specs.declared.raw.Subproblem.{Subproblem}
 use Rattle.hp_problem.specs.Parts.{successors_at}
 use Rattle.hp_problem.specs.Sealed.{Sealed, is_sealed, subproblem_of}
-use Rattle.hp_theory.specs.declared.cut.Cut.{Cut}
 use Rattle.hp_theory.specs.Problem.{S, Node, node_at}
 use Rattle.hp_theory.specs.Tree.{InBox}
 use Rattle.hp_theory.specs.View.{node_of, problem_of}
@@ -20,10 +19,10 @@ use Rattle.hp_settle.proofs.JudgedDead.{judged_dead}
 use Rattle.hp_forward.specs.declared.deciding.Decided.{Decided}
 use Rattle.hp_forward.specs.declared.deciding.StageFault.{StageFault}
 use Rattle.hp_forward.specs.declared.deciding.StageFault.TheVariants.{NoStage, Memory}
-use Rattle.hp_forward.specs.Deciding.{decided_of, decide_by, decision_at, is_unsettled}
+use Rattle.hp_forward.specs.Deciding.{decided_of, decide_by, is_unsettled}
 use Rattle.hp_forward.specs.Given.{Fails, Gives, IsStateAt, OnNoStage, Refutes}
 use Rattle.hp_forward.proofs.Boxes.{boxes-sealed, decisions_inside, nested-sealed, next_inside}
-use Rattle.hp_forward.proofs.Decisions.{lows, highs, number_of}
+use Rattle.hp_forward.proofs.Decisions.{lows, number_of}
 
 -- what is decided at a subproblem
 abbrev pub decided_at : Subproblem → Answer → Bool → Decided
@@ -35,13 +34,24 @@ decided-node_of : (n : nodes.Node) (s : Subproblem) (low high : List ℤ) (answe
 unfolding node_of
 decided-node_of n s low high answer known = refl
 
+-- a node is seen with its subproblem
+pub record Viewed (p : Sealed) (m : ℕ) (s : Subproblem) : Type 0 where
+  pub node : nodes.Node
+  pub low : List ℤ
+  pub high : List ℤ
+  pub is : node_at (problem_of p) m ≡ node_of node s low high
+
+pub viewed : (p : Sealed) (m : ℕ) (s : Subproblem) → m < length p.raw.nodes → subproblem_of p m ≡ Some s → Viewed p m s
+viewed p m s h is =
+    let n = some_of p.raw.nodes m h in
+    let own : slice_get p.raw.subs n.0.sub ≡ Some s = subst (λ (o : Option nodes.Node). option_and_then (λ (k : nodes.Node). slice_get p.raw.subs k.sub) o ≡ Some s) n.1 is in
+    record { node = n.0; low = get_or p.lo m []; high = get_or p.hi m []; is = node_at-problem_of p m n.0 s n.1 own }
+
 -- of the subproblem of a node it is the node's
 pub decided_is : (p : Sealed) (m : ℕ) (s : Subproblem) (answer : Answer) (known : Judged) (u : Bool) (d : Decided) → m < length p.raw.nodes → subproblem_of p m ≡ Some s → u ≡ is_unsettled known → d ≡ decided_at s answer u → d ≡ decided_of (node_at (problem_of p) m) answer known
 decided_is p m s answer known u d h is eu ed =
-    let n = some_of p.raw.nodes m h in
-    let own : slice_get p.raw.subs n.0.sub ≡ Some s = subst (λ (o : Option nodes.Node). option_and_then (λ (k : nodes.Node). slice_get p.raw.subs k.sub) o ≡ Some s) n.1 is in
-    ed ∙ ap (decided_at s answer) eu ∙ decided-node_of n.0 s (get_or p.lo m []) (get_or p.hi m []) answer known
-    ∙ ap (λ (k : Node). decided_of k answer known) (sym (node_at-problem_of p m n.0 s n.1 own))
+    let view = viewed p m s h is in
+    ed ∙ ap (decided_at s answer) eu ∙ decided-node_of view.node s view.low view.high answer known ∙ ap (λ (k : Node). decided_of k answer known) (sym view.is)
 
 abbrev ok : Decided → Result Decided Dead
 ok d = Ok d

@@ -4,3 +4,5 @@ pub mod ByAnswers
 pub mod Arcs
 pub mod Walks
 pub mod EachOf
+pub mod Products
+pub mod GivenNumbers

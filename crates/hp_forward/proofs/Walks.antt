@@ -1,8 +1,7 @@
 -- What holds of walks, from what holds of each step.
-use Rattle.std.proofs.Common.{◌≡◌, ◌∙◌, ℕ, zero, suc, ◌+◌, ◌<◌, ◌≤◌, ℤ, Bool, true, false, List, [], ◌∷◌, ◌++◌, length, get_or, drop, drop_of_length-le, zip, All, Contains, Result, Ok, Err, refl, sym, ap, subst, arith}
+use Rattle.std.proofs.Common.{◌≡◌, ◌∙◌, ℕ, suc, ◌+◌, ◌<◌, ◌≤◌, ℤ, Bool, true, false, List, [], ◌∷◌, ◌++◌, length, get_or, drop, drop_of_length-le, zip, All, Contains, Result, Ok, Err, refl, sym, ap, subst, arith}
 use Rattle.std.proofs.lemmas.List.{append_assoc, append-nil, drop_more}
 use Rattle.std.proofs.lemmas.List.Elements.{All-nil, All-cons}
-use Rattle.hp_num.specs.Steps.{◌>>=◌}
 use Rattle.hp_num.proofs.Sums.{All_head, All_tail}
 use Rattle.hp_problem.specs.Parts.{successors_at}
 use Rattle.hp_problem.specs.Sealed.{Sealed, is_sealed}
@@ -178,11 +177,9 @@ module _ {Start Chain : Type 0} (v : Solving Start Chain) (p : Sealed) (pools : 
 
   -- the same of several
   pub walks_are : (paths : List (List Step)) (walks : List Walk) → All (IsPath p) paths → walks_of v p pools run paths ≡ Ok walks → AreWalks p paths walks
-  unfolding walks_of
   walks_are paths walks h is =
       let each = each_holds (walk_of v p pools run) (IsPath p) (IsWalk p) (λ path walk i e. walk_is path walk i e) paths walks h is in
       record { count = each.count; each = each.each }
 
   pub walks_die : (paths : List (List Step)) (dead : Dead) → All (IsPath p) paths → walks_of v p pools run paths ≡ Err dead → Refutes p dead
-  unfolding walks_of
   walks_die paths dead h is = each_refuses (walk_of v p pools run) (IsPath p) (Refutes p) (λ path d i e. walk_dies path d i e) paths dead h is

@@ -1,5 +1,5 @@
 -- Walks along paths: the state that comes into each step, by what was decided before it.
-use Rattle.std.specs.Prelude.{◌≡◌, ℕ, ◌+◌, ◌≤◌, ℤ, Bool, true, false, List, [], ◌∷◌, ◌++◌, length, map, zip, get_or, All, Result, Ok, Err}
+use Rattle.std.specs.Prelude.{◌≡◌, ℕ, ◌+◌, ◌≤◌, ℤ, Bool, true, false, List, [], ◌∷◌, ◌++◌, length, map, zip, get_or, All, Result, Ok}
 use Rattle.hp_num.specs.Steps.{◌>>=◌}
 use Rattle.hp_problem.specs.declared.raw.Node.{Node}
 use Rattle.hp_problem.specs.declared.raw.Raw.{Raw}

@@ -1,5 +1,5 @@
 // What is decided at a node.
-ghost use Rattle.std.specs.Prelude.{◌≡◌, ◌<◌, ◌^◌, ◌/◌, ℕ, ℤ, pos, ◌*ℤ◌, true, length, get_or, map, Contains, Some, IfOk};
+ghost use Rattle.std.specs.Prelude.{◌≡◌, ◌<◌, ◌≤◌, ◌^◌, ◌/◌, ℕ, ℤ, pos, ◌*ℤ◌, true, length, get_or, map, nat_abs, Contains, Some, IfOk};
 ghost use Rattle.hp_num.specs.Sums.{entry, floor_over, table};
 ghost use Rattle.hp_problem.specs.declared.raw.Decision.{Decision};
 ghost use Rattle.hp_problem.specs.Limits.{are_values};
@@ -74,7 +74,8 @@ fn value_at(point: &[Fx], at: usize, low: i64) -> i128
 /// A number at the scale of decisions.
 #[tactic(auto, unfolding(hp_theory::specs::Problem::S))]
 pub(crate) fn scaled(number: i64) -> i128
-    ensures { result ≡ pos S *ℤ number }
+    ensures value { result ≡ pos S *ℤ number }
+    ensures small { nat_abs result ≤ 2 ^ 87 }
 {
     i128::from(SCALE) * i128::from(number)
 }

@@ -22,7 +22,6 @@ use std::alloc::Global;
 use std::thread::{Threads, join};
 
 /// The walks along paths, one after another.
-#[tactic(auto, unfolding(crate::specs::Walking::walks_of))]
 fn states_each<V: Solver>(
     alloc: Global,
     problem: &Problem,

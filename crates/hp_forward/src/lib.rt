@@ -1,11 +1,16 @@
 //! What is decided along paths through a problem's graph, and what it costs.
 #![tactic(auto)]
 
+mod amounts;
+pub mod costing;
 pub mod deciding;
 pub mod halves;
+pub mod traces;
 pub mod walking;
 
+pub use costing::{residual, stage_cost};
 pub use deciding::{Decided, StageFault, decide};
 pub use halves::states_all;
 pub use hp_sampler::Walk;
+pub use traces::{Trace, TraceStep};
 pub use walking::states;

@@ -1,4 +1,4 @@
-use Rattle.std.proofs.Common.{◌≡◌, ◌∙◌, ℕ, Contains, Result, ap, subst}
+use Rattle.std.proofs.Common.{ℕ, Contains, Result, subst}
 use Rattle.hp_problem.specs.Parts.{successors_at}
 use Rattle.hp_theory.specs.Problem.{S, node_at}
 use Rattle.hp_theory.specs.Tree.{InBox}

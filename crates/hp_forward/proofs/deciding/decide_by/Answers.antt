@@ -1,4 +1,4 @@
-use Rattle.std.proofs.Common.{◌≡◌, ◌∙◌, Ok, refl, ap, sym}
+use Rattle.std.proofs.Common.{◌∙◌, Ok, refl, ap, sym}
 use Rattle.hp_settle.specs.declared.judging.Judged.TheVariants as judged
 use Rattle.hp_forward.specs.Deciding.{decide_by}
 use Rattle.hp_forward.proofs.ByAnswers.{decided_is}

@@ -1,17 +1,15 @@
-use Rattle.std.proofs.Common.{◌≡◌, ◌∙◌, ◌/◌, List, Result, length, ap₂, subst}
+use Rattle.std.proofs.Common.{◌∙◌, ◌/◌, List, Result, length, ap₂, subst}
 use Rattle.hp_settle.specs.declared.judging.Dead.{Dead}
 use Rattle.hp_sampler.specs.declared.steps.Step.{Step}
 use Rattle.hp_sampler.specs.declared.steps.Walk.{Walk}
-use Rattle.hp_sampler.specs.Drawn.{IsPath}
 use Rattle.hp_forward.specs.Given.{Gives, Refutes, solving}
-use Rattle.hp_forward.specs.Walking.{AreWalks, IsWalk, in_turn, walk_of, walks_of}
+use Rattle.hp_forward.specs.Walking.{AreWalks, in_turn, walk_of, walks_of}
 use Rattle.hp_forward.proofs.ByAnswers.{if_given, on_no_stage}
 use Rattle.hp_forward.proofs.EachOf.{each-halves}
 use Rattle.hp_forward.proofs.Walks.{walks_are, walks_die}
 use Rattle.hp_forward.proofs.halves.states_all.Goals as goal
 
 pub returns-clause-value : goal.returns-clause-value
-unfolding walks_of
 returns-clause-value g c =
     let v = solving (g.V.Solver.started c.args.solver.now) (g.V.Solver.begun c.args.solver.now) (g.V.Solver.next c.args.solver.now) in
     let walk : List Step → Result Walk Dead = walk_of v c.args.problem.now c.args.pools.now.lists c.args.run in

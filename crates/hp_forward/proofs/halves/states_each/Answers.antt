@@ -1,16 +1,15 @@
-use Rattle.std.proofs.Common.{◌≡◌, ◌∙◌, List, Result, ap, sym}
+use Rattle.std.proofs.Common.{◌∙◌, List, Result, ap, sym}
 use Rattle.std.proofs.lemmas.Result.{err_from_is_err_and}
 use Rattle.hp_settle.specs.declared.judging.Dead.{Dead}
 use Rattle.hp_sampler.specs.declared.steps.Step.{Step}
 use Rattle.hp_sampler.specs.declared.steps.Walk.{Walk}
 use Rattle.hp_forward.specs.Given.{solving}
-use Rattle.hp_forward.specs.Walking.{each_of, walk_of, walks_of}
+use Rattle.hp_forward.specs.Walking.{each_of, walk_of}
 use Rattle.hp_forward.proofs.ByAnswers.{fails_on}
 use Rattle.hp_forward.proofs.EachOf.{each_more, each_stops}
 use Rattle.hp_forward.proofs.halves.states_each.Goals as goal
 
 pub returns-in_err-states : goal.returns-in_err-states
-unfolding walks_of
 returns-in_err-states g c =
     let walk : List Step → Result Walk Dead = walk_of (solving (g.V.Solver.started c.args.solver.now) (g.V.Solver.begun c.args.solver.now) (g.V.Solver.next c.args.solver.now)) c.args.problem.now c.args.pools.now.lists c.args.run in
     let p = err_from_is_err_and c.from_residual.result c.from_residual.ensures.1 in

@@ -1,10 +1,6 @@
-use Rattle.std.proofs.Common.{◌≡◌, ◌∙◌, ◌+◌, ◌≤◌, ℤ, List, Result, Ok, IfOk, length, get_or, drop, ap, ap₂, sym, subst, arith}
-use Rattle.hp_theory.specs.Problem.{S}
-use Rattle.hp_theory.specs.Tree.{times_all}
-use Rattle.hp_theory.specs.View.{problem_of}
+use Rattle.std.proofs.Common.{◌+◌, ℤ, List, Result, get_or, drop, ap₂, sym, subst, arith}
 use Rattle.hp_settle.specs.declared.judging.Dead.{Dead}
 use Rattle.hp_sampler.specs.declared.steps.Step.{Step}
-use Rattle.hp_sampler.specs.declared.steps.Walk.{Walk}
 use Rattle.hp_forward.specs.declared.deciding.Decided.{Decided}
 use Rattle.hp_forward.specs.Given.{solving}
 use Rattle.hp_forward.specs.Walking.{IsWalk, decide_step, walk_of, walk_on}

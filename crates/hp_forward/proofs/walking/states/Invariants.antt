@@ -2,7 +2,6 @@ use Rattle.std.proofs.Common.{◌≡◌, ◌≤◌, drop}
 use Rattle.hp_theory.specs.Problem.{S}
 use Rattle.hp_theory.specs.Tree.{times_all}
 use Rattle.hp_theory.specs.View.{problem_of}
-use Rattle.hp_lp.specs.Chained.{Solving}
 use Rattle.hp_forward.specs.Walking.{decide_step, no_walk, walk_on}
 use Rattle.hp_forward.proofs.Walks.{ComesTo}
 use Rattle.hp_forward.specs.Given.{solving}

@@ -1,0 +1,31 @@
+-- What decisions leave open of a row, and what a stage costs, both at scale S.
+use Rattle.std.specs.Prelude.{ℤ, pos, ◌-ℤ◌, ◌*ℤ◌, List, map, Option, Some, None}
+use Rattle.std.specs.Int.{int_max}
+use Rattle.hp_problem.specs.declared.raw.Row.{Row}
+use Rattle.hp_theory.specs.Problem.{S, Node}
+use Rattle.hp_theory.specs.Tree.{left_side}
+use Rattle.hp_theory.specs.Cost.{stage}
+
+-- how far the left side lies below the lower side of a row, where there is one
+abbrev pub below : Option ℤ → ℤ → ℤ
+below None left = pos 0
+below (Some low) left = pos S *ℤ low -ℤ left
+
+-- and how far above the upper side
+abbrev pub above : Option ℤ → ℤ → ℤ
+above None left = pos 0
+above (Some high) left = left -ℤ pos S *ℤ high
+
+-- Residual: by how much the decisions u at the state x and the values omega miss a row, and 0 where they meet it
+unfoldable pub residual_of : Row → List ℤ → List ℤ → List ℤ → ℤ
+residual_of row u x values =
+    let left : ℤ = left_side S values x u row in
+    int_max (int_max (below row.low left) (above row.high left)) (pos 0)
+
+-- one for each row of a node
+abbrev pub residuals_of : Node → List ℤ → List ℤ → List ℤ → List ℤ
+residuals_of n u x values = map (λ (row : Row). residual_of row u x values) n.rows
+
+-- StageCost: S*constant + S*(f·omega) + c·u + e·x
+unfoldable pub stage_cost_of : Node → List ℤ → List ℤ → List ℤ → ℤ
+stage_cost_of n u x values = (stage S n values x u).up

@@ -1,0 +1,31 @@
+// What is decided along a path, with what it leaves open and costs.
+use hp_num::List;
+use hp_solver::Kind;
+
+/// One step of a trace.
+#[derive(Drop)]
+pub struct TraceStep {
+    /// The node's number.
+    pub node: u32,
+    /// What the answer to the stage problem is.
+    pub kind: Kind,
+    /// The incoming state, one number per state, at scale 2^24.
+    pub state: List<i128>,
+    /// One value per random variable.
+    pub values: List<i64>,
+    /// One number per decision, at scale 2^24.
+    pub decisions: List<i128>,
+    /// By how much the decisions miss each row, at scale 2^24.
+    pub residuals: List<i128>,
+    /// What the stage costs, at scale 2^24.
+    pub cost: i128,
+}
+
+/// What is decided along a path.
+#[derive(Drop)]
+pub struct Trace {
+    /// The steps, in order.
+    pub steps: List<TraceStep>,
+    /// The sum of the stages' costs, at scale 2^24.
+    pub cost: i128,
+}
