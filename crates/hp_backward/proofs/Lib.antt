@@ -1,3 +1,6 @@
 mod Begun
 mod NodeValues
 mod Certificates
+mod Cuts
+mod StepsBack
+mod PathNodes

@@ -100,7 +100,11 @@ pub(crate) fn certified<R: Threads, V: Solver>(
             ensures value { GivesOr Stops (λ found. found) result
                 (in_chain (solving (V.started solver.entry.now) (V.begun solver.entry.now) (V.next solver.entry.now)) problem.entry.now pools.entry.now.lists iteration node state.entry.now left.entry.now) }
             ensures few { IfOk result (λ found. found.unsettled ≤ length left.entry.now) }
-        { certify_each(alloc, problem, pools, solver, starts, iteration, node, state, left) },
+        {
+            certify_each(
+                alloc, problem, pools, solver, starts, iteration, node, state, left,
+            )
+        },
         || -> Result<Certified, SweepFault>
             requires visit { CanVisit (V.started solver.now) (V.suits solver.now) problem.now starts.now.items pools.now.lists node state.now }
             requires values { All (λ own. are_values (subproblem_of problem.now node) own ≡ true) right.now }
@@ -108,7 +112,11 @@ pub(crate) fn certified<R: Threads, V: Solver>(
             ensures value { GivesOr Stops (λ found. found) result
                 (in_chain (solving (V.started solver.entry.now) (V.begun solver.entry.now) (V.next solver.entry.now)) problem.entry.now pools.entry.now.lists iteration node state.entry.now right.entry.now) }
             ensures few { IfOk result (λ found. found.unsettled ≤ length right.entry.now) }
-        { certify_each(alloc, problem, pools, solver, starts, iteration, node, state, right) },
+        {
+            certify_each(
+                alloc, problem, pools, solver, starts, iteration, node, state, right,
+            )
+        },
     );
     both(first, second)
 }

@@ -1,15 +1,16 @@
 // One step back along a path: the cut of a node.
-ghost use Rattle.std.specs.Prelude.{◌≡◌, ◌+◌, ◌<◌, ◌≤◌, ◌^◌, length, IfOk, OnOk, OnErr};
+ghost use Rattle.std.specs.Prelude.{◌≡◌, ◌≢◌, ℕ, ◌+◌, ◌<◌, ◌≤◌, ◌^◌, length, All, IfOk, OnOk, OnErr};
 ghost use Rattle.hp_num.specs.Steps.{GivesOr};
-ghost use Rattle.hp_theory.specs.Fit.{CutFits, Fit};
+ghost use Rattle.hp_theory.specs.Fit.{CutFits, Fit, FitFor};
 ghost use Rattle.hp_theory.specs.Pools.{pool, Holds, Sound};
 ghost use Rattle.hp_theory.specs.Problem.{node_at};
 ghost use Rattle.hp_theory.specs.CutOf.{cut_of};
 ghost use Rattle.hp_theory.specs.Range.{range_of};
 ghost use Rattle.hp_theory.specs.View.{problem_of};
+ghost use Rattle.hp_cut.specs.declared.entry.EntryStep.{EntryStep};
 ghost use Rattle.hp_dual.specs.Acceptance.{fault_of, range_fault};
 ghost use Rattle.hp_backward.specs.Given.{CanVisit, solving};
-ghost use Rattle.hp_backward.specs.Sweeping.{made_at, seen, step_back, within_range, Stops};
+ghost use Rattle.hp_backward.specs.Sweeping.{made_at, seen, step_back, taken_back, within_range, Stops};
 
 use crate::certified::{Certified, Visit};
 use crate::fault::SweepFault;
@@ -28,7 +29,7 @@ use std::thread::Threads;
 /// Settled certificates are accepted, unless their size passes the range.
 fn check_range<V: Solver>(here: &Visit<V>, list: &[Certificate]) -> Result<(), SweepFault>
     requires known { here.now.node < length here.now.problem.now.raw.nodes }
-    requires fit { Fit (problem_of here.now.problem.now) (length here.now.problem.now.raw.nodes) here.now.pools.now.lists }
+    requires fit { FitFor (problem_of here.now.problem.now) (length here.now.problem.now.raw.nodes) here.now.pools.now.lists here.now.node }
     requires settled { fault_of here.now.pools.now.lists (node_at (problem_of here.now.problem.now) here.now.node) list.now
         ≡ range_fault here.now.pools.now.lists (node_at (problem_of here.now.problem.now) here.now.node) list.now }
     ensures { GivesOr Stops (λ u. u) result (within_range here.now.iteration here.now.node (range_of here.now.pools.now.lists (node_at (problem_of here.now.problem.now) here.now.node) list.now) tt) }
@@ -61,7 +62,7 @@ fn cut_of<V: Solver>(
     list: &[Certificate],
 ) -> Result<Cut, SweepFault>
     requires known { here.now.node < length here.now.problem.now.raw.nodes }
-    requires fit { Fit (problem_of here.now.problem.now) (length here.now.problem.now.raw.nodes) here.now.pools.now.lists }
+    requires fit { FitFor (problem_of here.now.problem.now) (length here.now.problem.now.raw.nodes) here.now.pools.now.lists here.now.node }
     requires settled { fault_of here.now.pools.now.lists (node_at (problem_of here.now.problem.now) here.now.node) list.now
         ≡ range_fault here.now.pools.now.lists (node_at (problem_of here.now.problem.now) here.now.node) list.now }
     ensures value { let n = node_at (problem_of here.now.problem.now) here.now.node in
@@ -89,6 +90,7 @@ fn made_at<R: Threads, V: Solver>(
     ensures fits { IfOk result (λ made. CutFits (node_at (problem_of here.now.problem.now) here.now.node) made.1) }
     ensures holds { IfOk result (λ made. Sound (problem_of here.now.problem.now) here.now.pools.now.lists → Holds (problem_of here.now.problem.now) here.now.node made.1) }
 {
+    let _ = here.problem.raw();
     let found = certified(
         rt,
         alloc,
@@ -132,6 +134,9 @@ pub(crate) fn step_back<R: Threads, V: Solver>(
         (step_back (solving (V.started training.now.solver.now) (V.begun training.now.solver.now) (V.next training.now.solver.now)) training.now.problem.now entry.old.iteration (seen pools.old.lists entry.old) (step, state.now)) }
     ensures kept { OnErr result (pools.new.lists ≡ pools.old.lists) }
     ensures steps { OnErr result (entry.new.steps ≡ entry.old.steps) }
+    ensures taken { OnOk result (taken_back pools.new.lists entry.new.steps ≡ taken_back pools.old.lists entry.old.steps) }
+    ensures others { OnOk result ((k : ℕ) → k ≢ step.node → pool pools.new.lists k ≡ pool pools.old.lists k) }
+    ensures known { OnOk result (All (λ (s : EntryStep). s.node < length training.now.problem.now.raw.nodes) entry.old.steps → All (λ (s : EntryStep). s.node < length training.now.problem.now.raw.nodes) entry.new.steps) }
     ensures added { OnOk result (entry.new.unsettled ≤ entry.old.unsettled + 100) }
     ensures iteration { entry.new.iteration ≡ entry.old.iteration }
     ensures fit { OnOk result (Fit (problem_of training.now.problem.now) (length training.now.problem.now.raw.nodes) pools.new.lists) }

@@ -10,4 +10,4 @@ use Rattle.hp_backward.proofs.halves.certified.Goals as goal
 
 pub returns-clause-value : goal.returns-clause-value
 returns-clause-value g c = subst (λ (r : Result Certified SweepFault). GivesOr Stops (λ found. found) c.both.result r) (sym (in_halves (solving (g.V.Solver.started c.args.solver.now) (g.V.Solver.begun c.args.solver.now) (g.V.Solver.next c.args.solver.now)) c.args.problem.now c.args.pools.now.lists c.args.iteration c.args.node c.args.state.now))
-  (c.both.ensures.value _ _ (search rules) (search rules))
+    (c.both.ensures.value _ _ (search rules) (search rules))

@@ -1,0 +1,84 @@
+-- The cut of settled certificates, and pools with it.
+use Rattle.std.proofs.Common.{◌≡◌, ℕ, zero, suc, Ok, ◌+◌, ◌-◌, ◌/◌, ◌<◌, ◌^◌, ℤ, pos, true, List, [], ◌∷◌, ◌++◌, length, map, take, drop, set, get_or, All, Option, Some, None, refl, ap, sym, subst, ◌∙◌, arith}
+use Rattle.std.proofs.Common.{length-append}
+use Rattle.std.specs.Option.{option_map}
+use Rattle.std.proofs.Math.Seq.{take-append_seam}
+use Rattle.std.proofs.lemmas.List.{length-set, take-append-drop}
+use Rattle.std.proofs.lemmas.List.Elements.{All-push}
+use Rattle.hp_problem.specs.Sealed.{Sealed, is_sealed}
+use Rattle.hp_theory.specs.declared.cut.Cut.{Cut}
+use Rattle.hp_theory.specs.declared.cut.Certificate.{Certificate}
+use Rattle.hp_theory.specs.Problem.{Node, Problem, node_at}
+use Rattle.hp_theory.specs.View.{problem_of}
+use Rattle.hp_theory.specs.Fit.{CutFits, Fit}
+use Rattle.hp_theory.specs.Pools.{pool, push}
+use Rattle.hp_theory.proofs.Appending.{push_at, kept_some}
+use Rattle.hp_solver.specs.declared.stage_lp.Answer.{Answer}
+use Rattle.hp_dual.specs.declared.fault.CertFault.{CertFault}
+use Rattle.hp_dual.specs.declared.fault.CertFault.TheVariants as faults
+use Rattle.hp_dual.specs.Acceptance.{fault_of, range_fault}
+use Rattle.hp_settle.specs.Settling.{settled_of}
+use Rattle.hp_settle.proofs.SettledNode.{only_range-sealed}
+use Rattle.hp_lp.specs.Chained.{Solving}
+use Rattle.hp_backward.specs.declared.certified.Certified.{Certified}
+use Rattle.hp_backward.specs.Certifying.{values_at, first_half, second_half, answers_to, answers_at, nothing, certified}
+use Rattle.hp_backward.specs.Sweeping.{popped}
+use Rattle.hp_backward.proofs.Certificates.{counted-answers_to, listed}
+use Rattle.hp_backward.proofs.NodeValues.{values_here}
+
+-- with a cut that fits
+pub fit_push : (p : Problem) (count : ℕ) (pools : List (List Cut)) (m : ℕ) (c : Cut) → Fit p count pools → CutFits (node_at p m) c → Fit p count (push pools m c)
+fit_push p count pools m c f fits = record {
+  lists = length-set pools m (pool pools m ++ c ∷ []) ∙ f.lists;
+  some = λ k h. kept_some pools m k c (f.some k h);
+  cuts = λ k h. push_at pools m k c (All (CutFits (node_at p k))) (f.cuts k h) (λ e. subst (λ (j : ℕ). All (CutFits (node_at p j)) (pool pools m ++ c ∷ [])) (sym e) (All-push (CutFits (node_at p m)) (pool pools m) c (f.cuts m (subst (λ (j : ℕ). j < count) e h)) fits));
+}
+
+-- and with the last cut taken back
+last_off : (cs : List Cut) (c : Cut) → take (length (cs ++ c ∷ []) - 1) (cs ++ c ∷ []) ≡ cs
+last_off cs c =
+    let count : length (cs ++ c ∷ []) - 1 ≡ length cs = omega (arith, length-append cs (c ∷ [])) in
+    ap (λ (k : ℕ). take k (cs ++ c ∷ [])) count ∙ take-append_seam cs (c ∷ [])
+
+pub popped-push : (pools : List (List Cut)) (m : ℕ) (c : Cut) → popped (push pools m c) m ≡ pools
+popped-push [] m c = refl
+popped-push (cs ∷ rest) zero c = ap (λ (ds : List Cut). ds ∷ rest) (last_off cs c)
+popped-push (cs ∷ rest) (suc m) c = ap (λ (more : List (List Cut)). cs ∷ more) (popped-push rest m c)
+
+-- as many answers as realizations
+counted_answers_at : {Start Chain : Type 0} (v : Solving Start Chain) (p : Sealed) (pools : List (List Cut)) (m : ℕ) (state : List ℤ) → length (answers_at v p pools m state) ≡ length (values_at p.raw m)
+counted_answers_at v p pools m state =
+    let vs : List (List ℤ) = values_at p.raw m in
+    let xs : List Answer = answers_to v p pools m state (first_half vs) in
+    let ys : List Answer = answers_to v p pools m state (second_half vs) in
+    let whole : length (first_half vs) + length (second_half vs) ≡ length vs = sym (length-append (first_half vs) (second_half vs)) ∙ ap (λ (all : List (List ℤ)). length all) (take-append-drop (length vs / 2) vs) in
+    omega (arith, length-append xs ys, counted-answers_to v p pools m state (first_half vs), counted-answers_to v p pools m state (second_half vs), whole)
+
+-- settled certificates can only be refused for their size
+pub settled_list : {Start Chain : Type 0} (v : Solving Start Chain) (p : Sealed) (pools : List (List Cut)) (k m : ℕ) (state : List ℤ) (found : Certified) → is_sealed p ≡ true → m < length p.raw.nodes → Fit (problem_of p) (length p.raw.nodes) pools
+    → certified v p pools k m state ≡ Ok found → fault_of pools (node_at (problem_of p) m) found.list ≡ range_fault pools (node_at (problem_of p) m) found.list
+unfolding certified
+settled_list v p pools k m state found e h fit is =
+    let n : Node = node_at (problem_of p) m in
+    let xs : List Answer = answers_at v p pools m state in
+    let count : length xs ≡ length (values_at p.raw m) = counted_answers_at v p pools m state in
+    let list : found.list ≡ map (settled_of pools n) xs = listed pools n k m state nothing (values_at p.raw m) xs found count is in
+    subst (λ (l : List Certificate). fault_of pools n l ≡ range_fault pools n l) (sym list) (only_range-sealed p m pools xs e h fit (count ∙ (values_here p m e h).count))
+
+-- what a fault of the size says of the size
+pub none_past : (o : Option ℕ) → option_map faults.Range o ≡ None → o ≡ None
+none_past None e = refl
+none_past (Some r) e = absurd (some_none (faults.Range r) e)
+  where
+    some_none : (f : CertFault) → Some f ≡ None → ⊥
+    some_none f e = cc
+
+pub some_past : (o : Option ℕ) (r : ℕ) → option_map faults.Range o ≡ Some (faults.Range r) → o ≡ Some r
+some_past None r e = absurd (none_some (faults.Range r) e)
+  where
+    none_some : (f : CertFault) → None ≡ Some f → ⊥
+    none_some f e = cc
+some_past (Some q) r e = ap Some (same q r e)
+  where
+    same : (q r : ℕ) → Some (faults.Range q) ≡ Some (faults.Range r) → q ≡ r
+    same q r e = cc
