@@ -6,3 +6,5 @@ pub mod Walks
 pub mod EachOf
 pub mod Products
 pub mod GivenNumbers
+pub mod MetRows
+pub mod WorkedCosts

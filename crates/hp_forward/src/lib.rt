@@ -5,8 +5,10 @@ mod amounts;
 pub mod costing;
 pub mod deciding;
 pub mod halves;
+pub mod laws;
 pub mod traces;
 pub mod walking;
+pub mod worked;
 
 pub use costing::{residual, stage_cost};
 pub use deciding::{Decided, StageFault, decide};
