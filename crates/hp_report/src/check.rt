@@ -1,0 +1,32 @@
+// The report of a journal.
+ghost use Rattle.std.specs.Prelude.{◌≡◌, IfOk, length};
+ghost use Rattle.hp_load.specs.Accepted.{IsSafe};
+ghost use Rattle.hp_report.specs.Report.{check_text};
+ghost use Rattle.hp_report.specs.SoundLines.{SoundLines};
+ghost use Rattle.hp_theory.specs.Fit.{Fit};
+ghost use Rattle.hp_theory.specs.View.{problem_of};
+
+use crate::cuts::{push_bound, push_cuts};
+use crate::head::push_head;
+use crate::iterations::{push_iterations, push_rest};
+use hp_load::Loaded;
+use hp_num::Memory;
+use hp_problem::Problem;
+use std::alloc::Global;
+
+/// The report of a journal: the head, a line for each cut, one for the bound after each iteration, their total, the line
+/// of the bound, and that of the bytes behind the last gate. It is sound line by line, whatever disk was loaded.
+#[tactic(auto, unfolding(crate::specs::Report::check_text))]
+pub fn check_report(alloc: Global, problem: &Problem, loaded: &Loaded) -> Result<Vec<u8>, Memory>
+    requires { Fit (problem_of problem.now) (length problem.now.raw.nodes) loaded.now.pools.lists }
+    ensures text { IfOk result (λ v. v.items ≡ check_text problem.now loaded.now.pools.lists loaded.now.bounds loaded.now.unsettled loaded.now.rest) }
+    ensures sound { IsSafe problem.now loaded.now → IfOk result (λ v. SoundLines (problem_of problem.now) v.items) }
+{
+    let mut out = Vec::new(alloc);
+    push_head(&mut out, problem.raw())?;
+    push_cuts(&mut out, &loaded.pools)?;
+    push_iterations(&mut out, loaded.bounds.as_slice(), loaded.unsettled)?;
+    push_bound(&mut out, loaded.pools.bound(problem))?;
+    push_rest(&mut out, loaded.rest)?;
+    Ok(out)
+}
