@@ -4,9 +4,9 @@ use Rattle.std.specs.Prelude.{unwrap_or}
 use Rattle.hp_problem.specs.Sealed.{Sealed}
 use Rattle.hp_theory.specs.declared.cut.Cut.{Cut}
 use Rattle.hp_solver.specs.declared.stage_lp.StageLp.{StageLp}
-use Rattle.hp_solver.specs.Chains.{answers, chained}
+use Rattle.hp_solver.specs.Chains.{answers}
 use Rattle.hp_lp.specs.Nodes.{stage_in, reference_in}
-use Rattle.hp_lp.specs.Chained.{Solving, program_of, stage_at, begun_at, chain_answers}
+use Rattle.hp_lp.specs.Chained.{Solving, program_of, stage_at, chain_answers}
 use Rattle.hp_backward.specs.Certifying.{answers_to}
 
 no_first : (own : List ℤ) → None ≡ Some own → ⊥

@@ -1,6 +1,6 @@
 -- Realizations and their answers, one after another: in parts, and what is known of the result.
-use Rattle.std.proofs.Common.{◌≡◌, ℕ, suc, ◌+◌, ◌/◌, ◌<◌, ℤ, List, [], ◌∷◌, ◌++◌, length, map, take, drop, get_or, Result, Ok, Err, refl, ap, ap₂, sym, subst, ◌∙◌, append_assoc, arith}
-use Rattle.std.proofs.lemmas.List.{drop_more, append-nil, take-append-drop, length-map}
+use Rattle.std.proofs.Common.{◌≡◌, ℕ, suc, ◌+◌, ◌/◌, ℤ, List, [], ◌∷◌, ◌++◌, length, map, Result, Ok, Err, refl, ap, ap₂, sym, subst, ◌∙◌, append_assoc, arith}
+use Rattle.std.proofs.lemmas.List.{append-nil, take-append-drop, length-map}
 use Rattle.hp_num.specs.Steps.{◌>>=◌}
 use Rattle.hp_theory.specs.declared.cut.Cut.{Cut}
 use Rattle.hp_theory.specs.declared.cut.Certificate.{Certificate}
@@ -9,7 +9,7 @@ use Rattle.hp_theory.specs.View.{problem_of}
 use Rattle.hp_problem.specs.Sealed.{Sealed}
 use Rattle.hp_solver.specs.declared.stage_lp.StageLp.{StageLp}
 use Rattle.hp_solver.specs.declared.stage_lp.Answer.{Answer}
-use Rattle.hp_solver.specs.Chains.{answers, chained}
+use Rattle.hp_solver.specs.Chains.{answers}
 use Rattle.hp_settle.specs.declared.judging.Judged.{Judged}
 use Rattle.hp_settle.specs.declared.judging.Judged.TheVariants as judged
 use Rattle.hp_settle.specs.declared.judging.Dead.{Dead}

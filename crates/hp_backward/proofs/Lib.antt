@@ -4,3 +4,4 @@ mod Certificates
 mod Cuts
 mod StepsBack
 mod PathNodes
+mod Grown

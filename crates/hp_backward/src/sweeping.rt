@@ -1,5 +1,5 @@
 // Cuts along a path, from its last node to its first.
-ghost use Rattle.std.specs.Prelude.{◌≡◌, ◌+◌, ◌<◌, ◌≤◌, ◌^◌, ℤ, [], List, length, zip, All, IfOk, IfErr, OnOk, OnErr};
+ghost use Rattle.std.specs.Prelude.{◌≡◌, ◌≢◌, ℕ, ◌+◌, ◌<◌, ◌≤◌, ◌^◌, ℤ, [], List, length, zip, All, IfOk, IfErr, OnOk, OnErr};
 ghost use Rattle.hp_num.specs.Steps.{GivesOr};
 ghost use Rattle.hp_theory.specs.Fit.{Fit};
 ghost use Rattle.hp_theory.specs.Pools.{pool, Sound};
@@ -110,6 +110,8 @@ pub fn sweep<R: Threads, V: Solver>(
         (swept (solving (V.started solver.now) (V.begun solver.now) (V.next solver.now)) problem.now pools.old.lists iteration path.now walk.now.states walk.now.unsettled) }
     ensures iteration { IfOk result (λ entry. entry.iteration ≡ iteration) }
     ensures kept { OnErr result (pools.new.lists ≡ pools.old.lists) }
+    ensures grown { (m : ℕ) → length (pool pools.new.lists m) ≤ length (pool pools.old.lists m) + 1 }
+    ensures others { (m : ℕ) → All (λ (s : Step). s.node ≢ m) path.now → pool pools.new.lists m ≡ pool pools.old.lists m }
     ensures dead { IfErr result (IsDead problem.now) }
     ensures fit { Fit (problem_of problem.now) (length problem.now.raw.nodes) pools.new.lists }
     ensures sound { Sound (problem_of problem.now) pools.old.lists → Sound (problem_of problem.now) pools.new.lists }

@@ -1,4 +1,4 @@
-use Rattle.std.proofs.Common.{◌≡◌, ◌∙◌, List, Some, ap, sym, subst}
+use Rattle.std.proofs.Common.{◌∙◌, List, Some, ap, sym, subst}
 use Rattle.hp_num.specs.Steps.{GivesOr}
 use Rattle.hp_theory.specs.Problem.{node_at}
 use Rattle.hp_theory.specs.View.{problem_of}

@@ -1,10 +1,9 @@
-use Rattle.std.proofs.Common.{◌≡◌, Result, sym, subst, rules}
+use Rattle.std.proofs.Common.{Result, sym, subst, rules}
 use Rattle.hp_num.specs.Steps.{GivesOr}
 use Rattle.hp_backward.specs.declared.certified.Certified.{Certified}
 use Rattle.hp_backward.specs.declared.fault.SweepFault.{SweepFault}
 use Rattle.hp_backward.specs.Sweeping.{Stops}
 use Rattle.hp_backward.specs.Given.{solving}
-use Rattle.hp_backward.specs.Certifying.{in_chain, first_half, second_half, values_at}
 use Rattle.hp_backward.proofs.Certificates.{in_halves}
 use Rattle.hp_backward.proofs.halves.certified.Goals as goal
 

@@ -1,15 +1,14 @@
-use Rattle.std.proofs.Common.{◌≡◌, ◌∙◌, ◌+◌, ◌*◌, ◌-◌, ◌<◌, ◌≤◌, ◌^◌, ℕ, ℤ, [], List, length, take, drop, zip, get_or, All, Ok, Err, refl, ap, ap₂, sym, subst, drop_of_length-le, arith}
+use Rattle.std.proofs.Common.{◌≡◌, ◌∙◌, ◌+◌, ◌-◌, ◌<◌, ◌^◌, ℕ, ℤ, [], List, length, drop, zip, get_or, All, Ok, Err, refl, ap, sym, subst, drop_of_length-le, arith}
 use Rattle.std.proofs.Math.Seq.{take-length}
 use Rattle.std.proofs.lemmas.List.{get_or-take, get_or_default, length-take-le}
 use Rattle.std.proofs.lemmas.List.Elements.{All-nil}
 use Rattle.std.proofs.lemmas.Result.{err_from_is_err_and}
 use Rattle.std.proofs.lemmas.Slice.Zip.{length-zip}
-use Rattle.hp_theory.specs.declared.cut.Cut.{Cut}
 use Rattle.hp_theory.specs.Pools.{pool}
 use Rattle.hp_cut.specs.declared.entry.EntryStep.{EntryStep}
 use Rattle.hp_sampler.specs.declared.steps.Step.{Step}
 use Rattle.hp_backward.specs.Given.{solving, IsInside}
-use Rattle.hp_backward.specs.Sweeping.{Swept, backwards, seen, step_back, taken_back}
+use Rattle.hp_backward.specs.Sweeping.{backwards, seen, step_back, taken_back}
 use Rattle.hp_backward.proofs.PathNodes.{few_before}
 use Rattle.hp_backward.proofs.StepsBack.{get_or-zip, visit_at, step_more, step_stops, stops_through}
 use Rattle.hp_backward.proofs.sweeping.go_back.Goals as goal

@@ -1,7 +1,8 @@
-use Rattle.std.proofs.Common.{◌≡◌, ◌∙◌, Result, sym, subst}
+use Rattle.std.proofs.Common.{◌∙◌, Result, sym, subst}
 use Rattle.hp_backward.specs.declared.fault.SweepFault.{SweepFault}
 use Rattle.hp_backward.specs.Given.{solving}
-use Rattle.hp_backward.specs.Sweeping.{Swept, Stops}
+use Rattle.hp_backward.specs.Sweeping.{Swept, Stops, seen}
+use Rattle.hp_backward.proofs.Grown.{grown-swept, others-swept}
 use Rattle.hp_backward.proofs.PathNodes.{distinct-path, short-path}
 use Rattle.hp_backward.proofs.StepsBack.{dead_swept, swept-by}
 use Rattle.hp_backward.proofs.sweeping.sweep.Goals as goal
@@ -27,3 +28,13 @@ pub returns-in-Err-clause-dead : goal.returns-in-Err-clause-dead
 returns-in-Err-clause-dead g c =
     dead_swept (solving (g.V.Solver.started c.args.solver.now) (g.V.Solver.begun c.args.solver.now) (g.V.Solver.next c.args.solver.now)) c.args.problem.now c.args.iteration c.args.pools.now.lists c.args.path.now c.args.walk.now.states c.args.walk.now.unsettled c.in-Err.fault
     (returns-in-Err-clause-value g c)
+
+pub returns-in-Ok-clause-grown : goal.returns-in-Ok-clause-grown
+returns-in-Ok-clause-grown g c = λ m.
+    grown-swept (solving (g.V.Solver.started c.args.solver.now) (g.V.Solver.begun c.args.solver.now) (g.V.Solver.next c.args.solver.now)) c.args.problem.now c.args.iteration c.args.pools.now.lists c.args.path.now c.args.walk.now.states c.args.walk.now.unsettled (seen c.go_back.new.pools.lists c.go_back.new.entry) m
+    (distinct-path c.args.problem.now c.raw.ensures.sealed c.args.path.now c.requires.path.follows) (returns-in-Ok-clause-value g c)
+
+pub returns-in-Ok-clause-others : goal.returns-in-Ok-clause-others
+returns-in-Ok-clause-others g c = λ m none.
+    others-swept (solving (g.V.Solver.started c.args.solver.now) (g.V.Solver.begun c.args.solver.now) (g.V.Solver.next c.args.solver.now)) c.args.problem.now c.args.iteration c.args.pools.now.lists c.args.path.now c.args.walk.now.states c.args.walk.now.unsettled (seen c.go_back.new.pools.lists c.go_back.new.entry) m
+    (returns-in-Ok-clause-value g c) none

@@ -1,9 +1,9 @@
-use Rattle.std.proofs.Common.{◌≡◌, ◌∙◌, ◌-◌, ℕ, List, length, take, set, get_or, ap, sym, arith}
+use Rattle.std.proofs.Common.{◌∙◌, ◌-◌, ℕ, List, length, take, set, get_or, ap, sym, arith}
 use Rattle.std.proofs.lemmas.List.{length-set}
 use Rattle.hp_theory.specs.declared.cut.Cut.{Cut}
 use Rattle.hp_theory.specs.Pools.{pool}
 use Rattle.hp_cut.specs.declared.entry.EntryStep.{EntryStep}
-use Rattle.hp_backward.specs.Sweeping.{popped, taken_back}
+use Rattle.hp_backward.specs.Sweeping.{taken_back}
 use Rattle.hp_backward.proofs.StepsBack.{taken_less}
 use Rattle.hp_backward.proofs.sweeping.take_back.Goals as goal
 
