@@ -1,0 +1,55 @@
+use Rattle.std.proofs.Common.{◌+◌, List, length, zip, get_or, sym, ap, ◌∙◌, arith}
+use Rattle.std.proofs.lemmas.Result.{err_from_is_err_and}
+use Rattle.std.proofs.lemmas.Slice.Zip.{length-zip}
+use Rattle.hp_sampler.specs.declared.steps.Step.{Step}
+use Rattle.hp_backward.specs.Given.{solving}
+use Rattle.hp_train.specs.Stepping.{seen, with_path, with_walks}
+use Rattle.hp_train.proofs.Forwards.{pair_at, walk_at, forwards-goes, forwards-done, forwards-stops, walks_from}
+use Rattle.hp_train.proofs.Growing.{extends_then, extends_wider}
+use Rattle.hp_train.proofs.stepping.sweep_all.Goals as goal
+
+pub sweep_path-requires-clause-walk : goal.sweep_path-requires-clause-walk
+sweep_path-requires-clause-walk g c κs within =
+    let path = c.as_slice.ensures ∙ c.index-paths-i.is ∙ ap (λ (x : List Step). get_or c.args.paths.now c.loop-i.i x) (sym c.as_slice.ensures) in
+    walk_at c.args.iteration.now.problem.now c.args.paths.now c.args.walks.now c.loop-i.i c.as_slice.result.now c.index-walks-i.result c.requires.walks c.loop-i-test.true path c.index-walks-i.is
+
+pub returns-in_err-sweep_path-clause-value : goal.returns-in_err-sweep_path-clause-value
+returns-in_err-sweep_path-clause-value g c =
+    let l = c.loop-i in
+    let p = c.args.iteration.now.problem.now in
+    let v = solving (g.V.Solver.started c.args.iteration.now.solver.now) (g.V.Solver.begun c.args.iteration.now.solver.now) (g.V.Solver.next c.args.iteration.now.solver.now) in
+    let step = with_path v p c.args.iteration.now.number in
+    let path = c.as_slice.ensures ∙ c.index-paths-i.is ∙ ap (λ (x : List Step). get_or c.args.paths.now c.loop-i.i x) (sym c.as_slice.ensures) in
+    let at = pair_at c.args.paths.now c.args.walks.now l.i c.as_slice.result.now c.index-walks-i.result c.loop-i-test.true (omega (arith, c.loop-i-test.true, c.requires.walks.count)) path c.index-walks-i.is in
+    let e = err_from_is_err_and c.from_residual.result c.from_residual.ensures.1 in
+    let whole = walks_from v p c.args.pools.now.lists c.args.iteration.now.number c.args.paths.now c.args.walks.now c.args.entries.now c.requires.none in
+    rw (e.1, e.2)
+    (forwards-stops step (zip c.args.paths.now c.args.walks.now) l.i (seen l.pools.lists l.entries) (with_walks v p c.args.pools.now.lists c.args.iteration.now.number c.args.paths.now c.args.walks.now) (c.as_slice.result.now, c.index-walks-i.result) c.in_err-sweep_path.field-0.0
+    (l.invariant.value ∙ whole) at.0 at.1 c.in_err-sweep_path.ensures.value)
+
+pub returns-in_err-sweep_path-clause-extends : goal.returns-in_err-sweep_path-clause-extends
+returns-in_err-sweep_path-clause-extends g c =
+    extends_wider (c.loop-i.i + 1) (length c.args.paths.now) c.args.pools.now.lists c.sweep_path.new.pools.lists (omega (arith, c.loop-i-test.true))
+    (extends_then c.loop-i.i 1 c.args.pools.now.lists c.loop-i.pools.lists c.sweep_path.new.pools.lists c.loop-i.invariant.extends c.sweep_path.ensures.extends)
+
+pub loop-i-preserved : goal.loop-i-preserved
+loop-i-preserved g c =
+    let l = c.loop-i in
+    let p = c.args.iteration.now.problem.now in
+    let v = solving (g.V.Solver.started c.args.iteration.now.solver.now) (g.V.Solver.begun c.args.iteration.now.solver.now) (g.V.Solver.next c.args.iteration.now.solver.now) in
+    let step = with_path v p c.args.iteration.now.number in
+    let path = c.as_slice.ensures ∙ c.index-paths-i.is ∙ ap (λ (x : List Step). get_or c.args.paths.now c.loop-i.i x) (sym c.as_slice.ensures) in
+    let at = pair_at c.args.paths.now c.args.walks.now l.i c.as_slice.result.now c.index-walks-i.result c.loop-i-test.true (omega (arith, c.loop-i-test.true, c.requires.walks.count)) path c.index-walks-i.is in
+    record {
+      value = forwards-goes step (zip c.args.paths.now c.args.walks.now) l.i (seen l.pools.lists l.entries) _ l.invariant.value (c.as_slice.result.now, c.index-walks-i.result) (seen c.sweep_path.new.pools.lists c.sweep_path.new.entries) at.0 at.1 c.in_ok-sweep_path.ensures.value;
+      extends = extends_then l.i 1 c.args.pools.now.lists l.pools.lists c.sweep_path.new.pools.lists l.invariant.extends c.sweep_path.ensures.extends;
+      fit = c.sweep_path.ensures.fit;
+      sound = λ s. c.sweep_path.ensures.sound (l.invariant.sound s);
+    }
+
+pub returns-clause-value : goal.returns-clause-value
+returns-clause-value g c =
+    let p = c.args.iteration.now.problem.now in
+    let v = solving (g.V.Solver.started c.args.iteration.now.solver.now) (g.V.Solver.begun c.args.iteration.now.solver.now) (g.V.Solver.next c.args.iteration.now.solver.now) in
+    sym (walks_from v p c.args.pools.now.lists c.args.iteration.now.number c.args.paths.now c.args.walks.now c.args.entries.now c.requires.none)
+    ∙ forwards-done (with_path v p c.args.iteration.now.number) (zip c.args.paths.now c.args.walks.now) c.loop-i.i (seen c.loop-i.pools.lists c.loop-i.entries) _ c.loop-i.invariant.value (omega (arith, length-zip c.args.paths.now c.args.walks.now, c.loop-i-test.false))
