@@ -1,86 +1,60 @@
 -- A report is a sound text, and each status is the expected one where no device fails.
-use Rattle.std.proofs.Common.{◌≡◌, inl, inr, ℕ, ◌<◌, ◌≤◌, ◌^◌, if◌then◌else◌, Bool, true, false, List, length, Option, Some, None, IfSome, Result, Ok, Err, nat_le, refl, sym, ap, ◌∙◌, subst, length-append, arith}
+use Rattle.std.proofs.Common.{◌≡◌, inl, inr, ℕ, ◌<◌, ◌≤◌, ◌^◌, if◌then◌else◌, true, false, List, length, Option, Some, None, IfSome, IfOk, Result, Ok, Err, nat_le, refl, sym, ap, ◌∙◌, subst, length-append, arith}
 use Rattle.std.specs.Io.KnownBytes.{Consumes}
 use Rattle.std.proofs.lemmas.Bool.Decides.{nat_tests}
-use Rattle.hp_problem.specs.declared.raw.Raw.{Raw}
-use Rattle.hp_problem.specs.declared.refusal.Refusal.{Refusal}
-use Rattle.hp_problem.specs.Sealed.{Sealed, is_sealed}
-use Rattle.hp_graph.specs.Arranged.{arranged}
-use Rattle.hp_graph.proofs.Fitting.{arranged_sealed}
-use Rattle.hp_problem.specs.Limits.{raw_fits}
-use Rattle.hp_sof.proofs.ReadFits.{raw_fits-read}
-use Rattle.hp_fields.specs.Steps.{◌>>=◌}
-use Rattle.hp_sof.specs.Read.{raw_of}
+use Rattle.hp_problem.specs.Sealed.{Sealed}
 use Rattle.hp_sof.specs.Problem.{problem_at}
 use Rattle.hp_theory.specs.declared.cut.Cut.{Cut}
-use Rattle.hp_theory.specs.Range.{based}
 use Rattle.hp_theory.specs.View.{problem_of}
-use Rattle.hp_theory.proofs.BoundBelow.{sound_bound}
-use Rattle.hp_theory.proofs.SealedPremises.{root_shaped-sealed, have_cuts-root}
-use Rattle.hp_theory.proofs.Based.{sound-based, fit-based}
-use Rattle.hp_report.specs.Report.{base_text}
 use Rattle.hp_report.specs.SoundLines.{SoundLines}
-use Rattle.hp_report.proofs.SoundLines.{sound_lines}
-use Rattle.hp_run.specs.Outcome.{report_based, report_of, report_at, SoundText}
-use Rattle.hp_run.specs.Causes.{Ends, Explains, status_of, expected, Completes, Sounds}
+use Rattle.hp_report.proofs.SoundLines.{sound_lines, sound_check}
+use Rattle.hp_fields.specs.Steps.{◌>>=◌}
+use Rattle.hp_problem.specs.declared.refusal.Refusal.{Refusal}
+use Rattle.hp_run.specs.Outcome.{WithBase, based_at, or_refused, report_by, report_at, IsSoundReport, SoundText, Reads}
+use Rattle.hp_run.specs.Causes.{Ends, Explains, status_of, expected, AreRead, Completes, Sounds}
+use Rattle.hp_run.specs.declared.task.Task.{Task}
+use Rattle.hp_run.specs.declared.task.Task.TheVariants.{Base, Check}
 use Rattle.hp_run.specs.declared.status.Status.{Status}
-use Rattle.hp_run.specs.declared.status.Status.TheVariants.{Done, Usage, ReadFault, TooLong, ProblemRefused, WriteFault, Memory}
+use Rattle.hp_run.specs.declared.status.Status.TheVariants.{Done, Usage, ReadFault, TooLong, ProblemRefused, JournalRefused, TooMuch, DiskFault, WriteFault, Memory}
 
-not_both : {A E : Type 0} (x : E) (y : A) → Err x ≡ Ok y → ⊥
-not_both x y h = cc
+lines_of_report : (task : Task) (p : Sealed) (pools : List (List Cut)) (text : List ℕ) → IsSoundReport task p pools text → SoundLines (problem_of p) text
+lines_of_report Base p pools text r = subst (SoundLines (problem_of p)) (sym r.is) (sound_lines p pools r.cuts r.bound)
+lines_of_report Check p pools text r =
+    subst (SoundLines (problem_of p)) (sym r.is.3) (sound_check p pools r.is.0 r.is.1 r.is.2 r.cuts r.is.4 r.bound)
 
-same_ok : {A : Type 0} (x y : A) → (let l : Result A Refusal = Ok x in l ≡ Ok y) → x ≡ y
-same_ok x y h = cc
+-- a report of the problem that the bytes give is sound
+pub sound_text : (task : Task) (bytes : List ℕ) (p : Sealed) (pools : List (List Cut)) (text : List ℕ) → problem_at bytes ≡ Ok p → IsSoundReport task p pools text → SoundText task bytes text
+sound_text task bytes p pools text read r = record {
+  problem = p;
+  pools = pools;
+  read = read;
+  is = r.is;
+  cuts = r.cuts;
+  bound = r.bound;
+  lines = lines_of_report task p pools text r;
+}
 
--- what is read is sealed
-read_sealed : (raw : Result Raw Refusal) (p : Sealed) → ((r : Raw) → raw ≡ Ok r → raw_fits r ≡ true) → (raw >>= arranged) ≡ Ok p → is_sealed p ≡ true
-read_sealed (Err e) p f h = absurd (not_both e p h)
-read_sealed (Ok raw) p f h = arranged_sealed raw p (f raw refl) h
-
-problem_sealed : (bytes : List ℕ) (p : Sealed) → problem_at bytes ≡ Ok p → is_sealed p ≡ true
-unfolding problem_at
-problem_sealed bytes p h = read_sealed (raw_of bytes) p (raw_fits-read bytes) h
-
--- a report is sound
-sound_based : (bytes text : List ℕ) (p : Sealed) (b : Result (List (List Cut)) (ℕ × ℕ)) → problem_at bytes ≡ Ok p → based p ≡ b → report_based p b ≡ Ok text → SoundText bytes text
-sound_based bytes text p (Err at) e is h = absurd (not_both _ text h)
-sound_based bytes text p (Ok pools) e is h =
-    let sealed = problem_sealed bytes p e in
-    let fit = fit-based p pools sealed is in
-    let sound = sound-based p pools sealed is in
-    let under = sound_bound (problem_of p) pools (root_shaped-sealed p sealed) (have_cuts-root p pools sealed fit.some) sound in
-    record {
-      problem = p;
-      pools = pools;
-      read = e;
-      is = sym (same_ok (base_text p pools) text h);
-      cuts = sound;
-      bound = under;
-      lines = subst (SoundLines (problem_of p)) (same_ok (base_text p pools) text h) (sound_lines p pools sound under);
-    }
-
-sound_found : (bytes text : List ℕ) (found : Result Sealed Refusal) → problem_at bytes ≡ found → (found >>= report_of) ≡ Ok text → SoundText bytes text
-unfolding report_of
-sound_found bytes text (Err e) is h = absurd (not_both e text h)
-sound_found bytes text (Ok p) is h = sound_based bytes text p (based p) is refl h
-
-pub sound_report : (bytes text : List ℕ) → report_at bytes ≡ Ok text → SoundText bytes text
-unfolding report_at
-sound_report bytes text h = sound_found bytes text (problem_at bytes) refl h
+-- the report of the problem that the bytes give, where there is one
+pub sound_texts : {X E : Type 0} (view : X → List ℕ) (task : Task) (bytes : List ℕ) (p : Sealed) (r : Result X E) → problem_at bytes ≡ Ok p → IfOk r (λ v. (cuts : List (List Cut)) × IsSoundReport task p cuts (view v)) → IfOk r (λ v. SoundText task bytes (view v))
+sound_texts view task bytes p (Ok v) read h = sound_text task bytes p h.0 (view v) read h.1
+sound_texts view task bytes p (Err e) read h = tt
 
 if_some : (o : Option (List ℕ)) (P Q : List ℕ → Type 0) → ((bytes : List ℕ) → P bytes → Q bytes) → IfSome o P → IfSome o Q
 if_some None P Q f h = tt
 if_some (Some bytes) P Q f h = f bytes h
 
 -- what was written is sound
-pub sounds : (base : Bool) (e : Ends) (status : Status) → Explains base e status → Sounds e status
-sounds base e Done h = if_some e.left _ _ (λ bytes w. (w.0, sound_report bytes w.0 w.2, w.3)) h.2
-sounds base e WriteFault h = if_some e.left _ _ (λ bytes w. (w.0, sound_report bytes w.0 w.2, w.3)) h.3
-sounds base e Usage h = tt
-sounds base e ReadFault h = tt
-sounds base e TooLong h = tt
-sounds base e (ProblemRefused r) h = tt
-sounds base e Memory h = tt
+pub sounds : (asked : Option Task) (e : Ends) (status : Status) → Explains asked e status → Sounds e status
+sounds asked e Done h = if_some e.left _ _ (λ bytes w. (h.0, w.1.0, w.1.2, w.1.3)) h.2.1
+sounds asked e WriteFault h = if_some e.left _ _ (λ bytes w. (h.0, w.1.0, w.1.2, w.1.3)) h.3.1
+sounds asked e Usage h = tt
+sounds asked e ReadFault h = tt
+sounds asked e TooLong h = tt
+sounds asked e (ProblemRefused r) h = tt
+sounds asked e (JournalRefused r) h = tt
+sounds asked e (TooMuch t) h = tt
+sounds asked e DiskFault h = tt
+sounds asked e Memory h = tt
 
 at_bytes : (o : Option (List ℕ)) (P : List ℕ → Type 0) (bytes : List ℕ) → o ≡ Some bytes → IfSome o P → P bytes
 at_bytes o P bytes is h = subst (λ (k : Option (List ℕ)). IfSome k P) is h
@@ -91,39 +65,45 @@ few bytes s h = let t : nat_le (length bytes) (2 ^ 24) ≡ true = grind (arith, 
 many : (bytes : List ℕ) (s : Status) → 2 ^ 24 < length bytes → (if nat_le (length bytes) (2 ^ 24) then s else TooLong) ≡ TooLong
 many bytes s h = let t : nat_le (length bytes) (2 ^ 24) ≡ false = grind (arith, nat_tests) in rw t refl
 
-outcome_is : (base : Bool) (bytes : List ℕ) (r : Result (List ℕ) Refusal) → base ≡ true → length bytes ≤ 2 ^ 24 → report_at bytes ≡ r → status_of r ≡ expected base bytes
-outcome_is false bytes r b h e = absurd (no b)
-  where
-    no : false ≡ true → ⊥
-    no h = cc
-outcome_is true bytes r b h e = ap status_of (sym e) ∙ sym (few bytes (status_of (report_at bytes)) h)
+-- the expected status of what is asked for, by what comes of it
+outcome_is : (asked : Option Task) (task : Task) (bytes kept : List ℕ) (r : Result (List ℕ) Status) → asked ≡ Some task → length bytes ≤ 2 ^ 24 → report_at task bytes kept ≡ r → status_of r ≡ expected asked bytes kept
+outcome_is asked task bytes kept r is h e =
+    ap status_of (sym e) ∙ sym (few bytes (status_of (report_at task bytes kept)) h) ∙ ap (λ (o : Option Task). expected o bytes kept) (sym is)
 
-long_is : (base : Bool) (bytes : List ℕ) → base ≡ true → 2 ^ 24 < length bytes → TooLong ≡ expected base bytes
-long_is false bytes b h = absurd (no b)
-  where
-    no : false ≡ true → ⊥
-    no h = cc
-long_is true bytes b h = sym (many bytes (status_of (report_at bytes)) h)
+long_is : (asked : Option Task) (task : Task) (bytes kept : List ℕ) → asked ≡ Some task → 2 ^ 24 < length bytes → TooLong ≡ expected asked bytes kept
+long_is asked task bytes kept is h = sym (many bytes (status_of (report_at task bytes kept)) h) ∙ ap (λ (o : Option Task). expected o bytes kept) (sym is)
 
-usage_is : (base : Bool) (bytes : List ℕ) → base ≡ false → Usage ≡ expected base bytes
-usage_is false bytes b = refl
-usage_is true bytes b = absurd (no b)
-  where
-    no : true ≡ false → ⊥
-    no h = cc
+read_by : (asked : Option Task) (task : Task) (told : Option (List ℕ)) (kept : List ℕ) → asked ≡ Some task → AreRead asked told kept → Reads task told kept
+read_by asked task told kept is r = subst (λ (o : Option Task). AreRead o told kept) is r
 
 front_length : (now : Option (List ℕ)) (bytes piece : List ℕ) → Consumes (Some bytes) now piece → length piece ≤ length bytes
 front_length None bytes piece h = absurd h
 front_length (Some rest) bytes piece h = omega (arith, ap length h, length-append piece rest)
 
+-- a refused problem is refused whatever the journal holds
+refused_is : (task : Task) (bytes kept : List ℕ) (r : Refusal) → based_at bytes ≡ Err r → report_at task bytes kept ≡ Err (ProblemRefused r)
+unfolding report_at
+refused_is task bytes kept r h = ap (λ (b : Result WithBase Refusal). or_refused b >>= report_by task bytes kept) h
+
 -- each status is the expected one, where no count rose and memory was there
-pub completes : (base : Bool) (e : Ends) (status : Status) → Explains base e status → Completes base e status
-completes base e Done h = λ bytes is nr nw. let w = at_bytes e.left _ bytes is h.2 in inl (outcome_is base bytes (Ok w.0) h.0 w.1 w.2)
-completes base e Usage h = λ bytes is nr nw. inl (usage_is base bytes h.0)
-completes base e ReadFault h = λ bytes is nr nw. absurd (nr h.1)
-completes base e TooLong h = λ bytes is nr nw.
-    let f = front_length e.left_now bytes h.1.0 (subst (λ (o : Option (List ℕ)). Consumes o e.left_now h.1.0) is h.1.2) in
-    inl (long_is base bytes h.0 (omega (arith, h.1.1)))
-completes base e (ProblemRefused r) h = λ bytes is nr nw. let w = at_bytes e.left _ bytes is h.1.1 in inl (outcome_is base bytes (Err r) h.0 w.0 w.1)
-completes base e WriteFault h = λ bytes is nr nw. absurd (nw h.1)
-completes base e Memory h = λ bytes is nr nw. inr refl
+pub completes : (asked : Option Task) (e : Ends) (status : Status) → Explains asked e status → Completes asked e status
+completes asked e Done h bytes kept is r nr nd nw =
+    let w = at_bytes e.left _ bytes is h.2.1 in
+    inl (outcome_is asked h.0 bytes kept (Ok w.1.0) h.1 w.0 (w.1.1 kept (read_by asked h.0 e.kept kept h.1 r)))
+completes asked e Usage h bytes kept is r nr nd nw = inl (ap (λ (o : Option Task). expected o bytes kept) (sym h.0))
+completes asked e ReadFault h bytes kept is r nr nd nw = absurd (nr h.2)
+completes asked e TooLong h bytes kept is r nr nd nw =
+    let f = front_length e.left_now bytes h.2.0 (subst (λ (o : Option (List ℕ)). Consumes o e.left_now h.2.0) is h.2.2) in
+    inl (long_is asked h.0 bytes kept h.1 (omega (arith, h.2.1)))
+completes asked e (ProblemRefused x) h bytes kept is r nr nd nw =
+    let w = at_bytes e.left _ bytes is h.2.1 in
+    inl (outcome_is asked h.0 bytes kept (Err (ProblemRefused x)) h.1 w.0 (refused_is h.0 bytes kept x w.1))
+completes asked e (JournalRefused x) h bytes kept is r nr nd nw =
+    let w = at_bytes e.left _ bytes is h.1.1 in
+    inl (outcome_is asked Check bytes kept (Err (JournalRefused x)) h.0 w.0 (w.1 kept (read_by asked Check e.kept kept h.0 r)))
+completes asked e (TooMuch x) h bytes kept is r nr nd nw =
+    let w = at_bytes e.left _ bytes is h.1.1 in
+    inl (outcome_is asked Check bytes kept (Err (TooMuch x)) h.0 w.0 (w.1 kept (read_by asked Check e.kept kept h.0 r)))
+completes asked e DiskFault h bytes kept is r nr nd nw = absurd (nd h.1)
+completes asked e WriteFault h bytes kept is r nr nd nw = absurd (nw h.2)
+completes asked e Memory h bytes kept is r nr nd nw = inr refl

@@ -1,3 +1,5 @@
+pub mod RefusalLines
+pub mod JournalLines
 pub mod Status
 pub mod Words
 pub mod Outcome

@@ -1,5 +1,6 @@
--- What the bytes of a problem give, and when a text is sound.
-use Rattle.std.specs.Prelude.{◌≡◌, ℕ, List, Result, Ok, Err}
+-- What the bytes of a problem and of a journal give, and when a text is sound.
+use Rattle.std.specs.Prelude.{◌≡◌, ℕ, ℤ, List, All, Option, Some, None, Result, Ok, Err, ⊤}
+use Rattle.sha2.specs.Sha256.{sha256}
 use Rattle.hp_problem.specs.declared.refusal.Refusal.{Refusal}
 use Rattle.hp_problem.specs.declared.refusal.RefusalKind.TheVariants as kinds
 use Rattle.hp_problem.specs.declared.refusal.Part.TheVariants as parts
@@ -12,30 +13,102 @@ use Rattle.hp_theory.specs.Pools.{Sound}
 use Rattle.hp_theory.specs.Bound.{bound, Under}
 use Rattle.hp_theory.specs.Range.{based}
 use Rattle.hp_theory.specs.View.{problem_of}
-use Rattle.hp_report.specs.Report.{base_text}
+use Rattle.hp_load.specs.declared.refusal.LoadFault.{LoadFault}
+use Rattle.hp_load.specs.declared.refusal.LoadFault.TheVariants as faults
+use Rattle.hp_load.specs.Load.{Outcome, load_of, outcome_of}
+use Rattle.hp_report.specs.Report.{base_text, check_text}
 use Rattle.hp_report.specs.SoundLines.{SoundLines}
+use Rattle.hp_run.specs.declared.status.Status.{Status}
+use Rattle.hp_run.specs.declared.status.Status.TheVariants.{ProblemRefused, JournalRefused, TooMuch, DiskFault, Memory}
+use Rattle.hp_run.specs.declared.task.Task.{Task}
+use Rattle.hp_run.specs.declared.task.Task.TheVariants.{Base, Check}
 
--- the report of the base cuts, or the realization at which their size passes its range
-abbrev pub report_based : Sealed → Result (List (List Cut)) (ℕ × ℕ) → Result (List ℕ) Refusal
-report_based p (Ok pools) = Ok (base_text p pools)
-report_based p (Err at) = refuse kinds.Range (place parts.Realization at.0 at.1 0)
+-- a problem with its base cuts
+pub record WithBase : Type 0 where
+  pub problem : Sealed
+  pub pools : List (List Cut)
 
-unfoldable pub report_of : Sealed → Result (List ℕ) Refusal
-report_of p = report_based p (based p)
+-- with the base cuts, or the realization at which their size passes its range
+abbrev pub with_base : Sealed → Result (List (List Cut)) (ℕ × ℕ) → Result WithBase Refusal
+with_base p (Ok pools) = Ok (record { problem = p; pools = pools })
+with_base p (Err at) = refuse kinds.Range (place parts.Realization at.0 at.1 0)
 
--- the report that the bytes of a problem give, or their first refusal
-unfoldable pub report_at : List ℕ → Result (List ℕ) Refusal
-report_at bytes = do
+unfoldable pub based_of : Sealed → Result WithBase Refusal
+based_of p = with_base p (based p)
+
+-- the problem that bytes give, with its base cuts, or their first refusal
+unfoldable pub based_at : List ℕ → Result WithBase Refusal
+based_at bytes = do
   problem ← problem_at bytes
-  report_of problem
+  based_of problem
+
+abbrev pub or_refused : Result WithBase Refusal → Result WithBase Status
+or_refused (Ok b) = Ok b
+or_refused (Err r) = Err (ProblemRefused r)
+
+-- how a run ends where a journal is not loaded
+abbrev pub status_of_fault : LoadFault → Status
+status_of_fault (faults.Refused r) = JournalRefused r
+status_of_fault (faults.TooMuch t) = TooMuch t
+status_of_fault faults.DiskFault = DiskFault
+status_of_fault faults.Memory = Memory
+
+-- the report of what a journal gives
+abbrev pub check_of : Sealed → Result Outcome LoadFault → Result (List ℕ) Status
+check_of p (Ok o) = Ok (check_text p o.pools o.bounds o.unsettled o.rest)
+check_of p (Err f) = Err (status_of_fault f)
+
+-- what the journal `kept` gives over the base cuts of the problem of these bytes, whose SHA-256 it has to state
+unfoldable pub checked : List ℕ → WithBase → List ℕ → Result (List ℕ) Status
+checked bytes b kept = check_of b.problem (outcome_of (load_of b.problem b.pools (sha256 bytes) None None kept))
+
+-- the report of a task
+abbrev pub report_by : Task → List ℕ → List ℕ → WithBase → Result (List ℕ) Status
+report_by Base bytes kept b = Ok (base_text b.problem b.pools)
+report_by Check bytes kept b = checked bytes b kept
+
+-- the report of a task over the bytes of a problem and of a journal, or how the run ends without one
+unfoldable pub report_at : Task → List ℕ → List ℕ → Result (List ℕ) Status
+report_at task bytes kept = do
+  b ← or_refused (based_at bytes)
+  report_by task bytes kept b
+
+-- the journal's bytes, where the task reads them
+abbrev pub Reads : Task → Option (List ℕ) → List ℕ → Type 0
+Reads Base told kept = ⊤
+Reads Check told kept = told ≡ Some kept
+
+-- this comes of a task, by the bytes of the problem and those of the journal as far as it tells them
+abbrev pub Reports : Task → Option (List ℕ) → List ℕ → Result (List ℕ) Status → Type 0
+Reports task told bytes outcome = (kept : List ℕ) → Reads task told kept → report_at task bytes kept ≡ outcome
+
+-- the text is the report of these pools
+abbrev pub IsReport : Task → Sealed → List (List Cut) → List ℕ → Type 0
+IsReport Base p pools text = text ≡ base_text p pools
+IsReport Check p pools text = (bounds : List ℤ) × (unsettled : ℕ) × (rest : ℕ) × (text ≡ check_text p pools bounds unsettled rest) × All (Under (problem_of p)) bounds
+
+-- what code answers of a journal that is checked: want of memory and a fault of the disk are free
+abbrev pub Checks : {X : Type 0} → (X → List ℕ) → Result X LoadFault → Result (List ℕ) Status → Type 0
+Checks view (Ok text) outcome = outcome ≡ Ok (view text)
+Checks view (Err (faults.Refused r)) outcome = outcome ≡ Err (JournalRefused r)
+Checks view (Err (faults.TooMuch t)) outcome = outcome ≡ Err (TooMuch t)
+Checks view (Err faults.DiskFault) outcome = ⊤
+Checks view (Err faults.Memory) outcome = ⊤
+
+-- the text is the report of pools whose cuts hold, and whose bound is under the cost of each policy
+pub record IsSoundReport (task : Task) (p : Sealed) (pools : List (List Cut)) (text : List ℕ) : Type 0 where
+  pub is : IsReport task p pools text
+  pub cuts : Sound (problem_of p) pools
+  pub bound : Under (problem_of p) (bound (problem_of p) pools)
 
 -- The text is a report of the problem that the bytes give, and each line of it is sound: a line of a cut is of one that holds at its node,
--- and the number in a line of a bound is under the cost of each policy. So are the cuts and the bound of the pools that it is the report of.
-pub record SoundText (bytes text : List ℕ) : Type 0 where
+-- and the number in a line of a bound or of an iteration is under the cost of each policy. So are the cuts and the bound of the pools that
+-- it is the report of.
+pub record SoundText (task : Task) (bytes text : List ℕ) : Type 0 where
   pub problem : Sealed
   pub pools : List (List Cut)
   pub read : problem_at bytes ≡ Ok problem
-  pub is : text ≡ base_text problem pools
+  pub is : IsReport task problem pools text
   pub cuts : Sound (problem_of problem) pools
   pub bound : Under (problem_of problem) (bound (problem_of problem) pools)
   pub lines : SoundLines (problem_of problem) text

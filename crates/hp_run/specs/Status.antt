@@ -1,14 +1,9 @@
 -- The numbers and the lines of statuses.
-use Rattle.std.specs.Prelude.{ℕ, pos, List, [], ◌++◌, codes}
-use Rattle.std.specs.Fmt.{signed_decimal}
-use Rattle.hp_problem.specs.declared.refusal.RefusalKind.{RefusalKind}
-use Rattle.hp_problem.specs.declared.refusal.RefusalKind.TheVariants as kinds
-use Rattle.hp_problem.specs.declared.refusal.Part.{Part}
-use Rattle.hp_problem.specs.declared.refusal.Part.TheVariants as parts
-use Rattle.hp_problem.specs.declared.refusal.Place.{Place}
-use Rattle.hp_problem.specs.declared.refusal.Refusal.{Refusal}
+use Rattle.std.specs.Prelude.{ℕ, List, [], ◌++◌, codes}
+use Rattle.hp_run.specs.RefusalLines.{refusal_text}
+use Rattle.hp_run.specs.JournalLines.{journal_refusal_text, too_much_text}
 use Rattle.hp_run.specs.declared.status.Status.{Status}
-use Rattle.hp_run.specs.declared.status.Status.TheVariants.{Done, Usage, ReadFault, TooLong, ProblemRefused, WriteFault, Memory}
+use Rattle.hp_run.specs.declared.status.Status.TheVariants.{Done, Usage, ReadFault, TooLong, ProblemRefused, JournalRefused, TooMuch, DiskFault, WriteFault, Memory}
 
 abbrev pub number_of : Status → ℕ
 number_of Done = 0
@@ -16,67 +11,21 @@ number_of Usage = 2
 number_of ReadFault = 3
 number_of TooLong = 4
 number_of (ProblemRefused r) = 5
+number_of (JournalRefused r) = 6
+number_of (TooMuch t) = 7
+number_of DiskFault = 10
 number_of WriteFault = 11
 number_of Memory = 12
 
-unfoldable pub kind_text : RefusalKind → List ℕ
-kind_text kinds.NotJson = codes "NotJson"
-kind_text kinds.Version = codes "Version"
-kind_text kinds.Shape = codes "Shape"
-kind_text kinds.NotWhole = codes "NotWhole"
-kind_text kinds.Unsupported = codes "Unsupported"
-kind_text kinds.Duplicate = codes "Duplicate"
-kind_text kinds.UnknownName = codes "UnknownName"
-kind_text kinds.Weight = codes "Weight"
-kind_text kinds.Unbounded = codes "Unbounded"
-kind_text kinds.EmptyBox = codes "EmptyBox"
-kind_text kinds.States = codes "States"
-kind_text kinds.Scenario = codes "Scenario"
-kind_text kinds.TooLarge = codes "TooLarge"
-kind_text kinds.Cycle = codes "Cycle"
-kind_text kinds.Unreachable = codes "Unreachable"
-kind_text kinds.BoxGap = codes "BoxGap"
-kind_text kinds.Range = codes "Range"
-
-unfoldable pub part_text : Part → List ℕ
-part_text parts.Whole = codes "whole"
-part_text parts.Root = codes "root"
-part_text parts.Subproblem = codes "subproblem"
-part_text parts.Variable = codes "variable"
-part_text parts.State = codes "state"
-part_text parts.Random = codes "random"
-part_text parts.Objective = codes "objective"
-part_text parts.Constraint = codes "constraint"
-part_text parts.Node = codes "node"
-part_text parts.Realization = codes "realization"
-part_text parts.Support = codes "support"
-part_text parts.Successor = codes "successor"
-part_text parts.Scenario = codes "scenario"
-part_text parts.Step = codes "step"
-part_text parts.Alternative = codes "alternative"
-
-abbrev pub word : ℕ → List ℕ
-word n = codes " " ++ signed_decimal (pos n)
-
--- a place: its part and its three numbers
-unfoldable pub place_text : Place → List ℕ
-place_text p = part_text p.part ++ word p.a ++ word p.b ++ word p.c
-
-unfoldable pub refused : List ℕ
-refused = codes "problem refused: "
-
-unfoldable pub refused_text : RefusalKind → List ℕ
-refused_text kind = refused ++ kind_text kind ++ codes " at "
-
-unfoldable pub refusal_text : Refusal → List ℕ
-refusal_text r = refused_text r.kind ++ place_text r.place
-
 unfoldable pub status_text : Status → List ℕ
 status_text Done = []
-status_text Usage = codes "usage: base"
+status_text Usage = codes "usage: base, check JOURNAL"
 status_text ReadFault = codes "problem could not be read"
 status_text TooLong = codes "problem is longer than 16777216 bytes"
 status_text (ProblemRefused r) = refusal_text r
+status_text (JournalRefused r) = journal_refusal_text r
+status_text (TooMuch t) = too_much_text t
+status_text DiskFault = codes "journal device failed"
 status_text WriteFault = codes "output failed"
 status_text Memory = codes "memory"
 
@@ -91,5 +40,8 @@ status_line_text Usage = name ++ status_text Usage ++ codes "\n"
 status_line_text ReadFault = name ++ status_text ReadFault ++ codes "\n"
 status_line_text TooLong = name ++ status_text TooLong ++ codes "\n"
 status_line_text (ProblemRefused r) = name ++ status_text (ProblemRefused r) ++ codes "\n"
+status_line_text (JournalRefused r) = name ++ status_text (JournalRefused r) ++ codes "\n"
+status_line_text (TooMuch t) = name ++ status_text (TooMuch t) ++ codes "\n"
+status_line_text DiskFault = name ++ status_text DiskFault ++ codes "\n"
 status_line_text WriteFault = name ++ status_text WriteFault ++ codes "\n"
 status_line_text Memory = name ++ status_text Memory ++ codes "\n"

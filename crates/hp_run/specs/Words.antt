@@ -1,10 +1,24 @@
--- The words of the command line.
-use Rattle.std.specs.Prelude.{Bool, false, List, [], ◌∷◌, String, string_bytes, codes}
+-- What the words of the command line ask for.
+use Rattle.std.specs.Prelude.{List, String, Option, Some, None, option_and_then}
 use Rattle.std.specs.declared.alloc.Global.{Global}
-use Rattle.std.specs.Str.{bytes_eq}
+use Rattle.hp_words.specs.declared.command.Command.{Command}
+use Rattle.hp_words.specs.declared.command.Command.TheVariants as commands
+use Rattle.hp_words.specs.Commands.{command_of, texts}
+use Rattle.hp_run.specs.declared.task.Task.{Task}
+use Rattle.hp_run.specs.declared.task.Task.TheVariants.{Base, Check}
 
--- the one command: `base`, without further words
-abbrev pub is_base : List (String Global) → Bool
-is_base [] = false
-is_base (w ∷ []) = bytes_eq (string_bytes w) (codes "base")
-is_base (w ∷ (v ∷ ws)) = false
+-- of the commands those that the program does
+abbrev pub task_of : Command → Option Task
+task_of commands.Base = Some Base
+task_of (commands.Train seed count batch) = None
+task_of commands.Check = Some Check
+task_of (commands.Simulate seed count) = None
+task_of commands.Validate = None
+task_of (commands.Gen seed stages reservoirs) = None
+task_of commands.Evaluate = None
+task_of commands.Hydro = None
+task_of commands.Robust = None
+
+-- what the words ask for; none where they are no command that the program does
+unfoldable pub asked : List (String Global) → Option Task
+asked words = option_and_then task_of (command_of (texts words))

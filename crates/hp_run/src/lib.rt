@@ -1,13 +1,17 @@
 //! What the program does with its words, a problem and a sink.
 #![tactic(auto)]
 
+mod journal_lines;
 mod outcome;
 mod program;
 mod reading;
+mod refusal_lines;
 mod status;
+mod task;
 mod top;
 mod writing;
 
 pub use program::{execute, start};
 pub use status::{Status, number, status_line};
+pub use task::Task;
 pub use top::run;

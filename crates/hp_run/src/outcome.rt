@@ -1,21 +1,45 @@
-// The report of a problem's bytes.
-ghost use Rattle.std.specs.Prelude.{◌≡◌};
-ghost use Rattle.hp_theory.specs.Range.{based};
+// The reports of the tasks.
+ghost use Rattle.std.specs.Prelude.{◌≡◌, ◌≤◌, List, ℕ, IfOk, IfErr, IfSome, Ok, Err, length};
 ghost use Rattle.hp_fields.specs.Steps.{Gives};
-ghost use Rattle.hp_run.specs.Outcome.{report_based, report_of, report_at};
+ghost use Rattle.hp_journal.specs.Causes.{DiskCause};
+ghost use Rattle.hp_load.specs.declared.refusal.LoadFault.TheVariants as faults;
+ghost use Rattle.hp_outside.specs.Disks.{Stays};
+ghost use Rattle.hp_report.specs.Report.{base_text};
+ghost use Rattle.hp_sof.specs.Problem.{problem_at};
+ghost use Rattle.hp_theory.specs.Fit.{Fit};
+ghost use Rattle.hp_theory.specs.Pools.{Sound};
+ghost use Rattle.hp_theory.specs.Range.{based};
+ghost use Rattle.hp_theory.specs.View.{problem_of};
+ghost use Rattle.hp_theory.specs.declared.cut.Cut.{Cut};
+ghost use Rattle.hp_run.specs.Causes.{Lacks};
+ghost use Rattle.hp_run.specs.Outcome.{based_at, based_of, checked, Checks, IsSoundReport, Reports, SoundText, status_of_fault};
+ghost use Rattle.hp_run.specs.declared.status.Status.TheVariants as statuses;
+ghost use Rattle.hp_run.specs.declared.task.Task.TheVariants as tasks;
 
+use crate::status::Status;
+use crate::task::Task;
+use hp_cut::Pools;
 use hp_dual::{BaseFault, base};
+use hp_load::{LoadFault, load};
+use hp_num::Memory;
+use hp_outside::Disk;
 use hp_problem::{Part, Place, Problem, RefusalKind};
-use hp_report::base_report;
+use hp_report::{base_report, check_report};
 use hp_sof::{ReadRefusal, read_problem};
+use sha2::{Digest, Sha256};
 use std::alloc::Global;
 
-#[tactic(auto, unfolding(crate::specs::Outcome::report_of))]
-fn report_of_problem(alloc: Global, problem: &Problem) -> Result<Vec<u8>, ReadRefusal>
-    ensures { Gives (λ v. v.items) result (report_of problem.now) }
+/// A problem with its base cuts.
+#[tactic(auto, unfolding(crate::specs::Outcome::based_of))]
+fn based_of(alloc: Global, problem: Problem) -> Result<(Problem, Pools), ReadRefusal>
+    ensures value { Gives (λ b. record { problem = b.0; pools = b.1.lists }) result (based_of problem) }
+    ensures same { IfOk result (λ b. b.0 ≡ problem) }
+    ensures base { IfOk result (λ b. based b.0 ≡ Ok b.1.lists) }
+    ensures fit { IfOk result (λ b. Fit (problem_of b.0) (length b.0.raw.nodes) b.1.lists) }
+    ensures sound { IfOk result (λ b. Sound (problem_of b.0) b.1.lists) }
 {
-    match base(alloc, problem) {
-        Ok(pools) => Ok(base_report(alloc, problem, &pools)?),
+    match base(alloc, &problem) {
+        Ok(pools) => Ok((problem, pools)),
         Err(BaseFault::Range { node, realization }) => Err(ReadRefusal::Refused(
             RefusalKind::Range.at(Place::new(Part::Realization, node, realization, 0)),
         )),
@@ -23,11 +47,133 @@ fn report_of_problem(alloc: Global, problem: &Problem) -> Result<Vec<u8>, ReadRe
     }
 }
 
-/// The report that the bytes of a problem give, or the first refusal.
-#[tactic(auto, unfolding(crate::specs::Outcome::report_at))]
-pub(crate) fn report_of(alloc: Global, bytes: &[u8]) -> Result<Vec<u8>, ReadRefusal>
-    ensures { Gives (λ v. v.items) result (report_at bytes.now) }
+/// The problem that bytes give, with its base cuts, or their first refusal.
+#[tactic(auto, unfolding(crate::specs::Outcome::based_at))]
+fn based_at(alloc: Global, bytes: &[u8]) -> Result<(Problem, Pools), ReadRefusal>
+    ensures value { Gives (λ b. record { problem = b.0; pools = b.1.lists }) result (based_at bytes.now) }
+    ensures read { IfOk result (λ b. problem_at bytes.now ≡ Ok b.0) }
+    ensures base { IfOk result (λ b. based b.0 ≡ Ok b.1.lists) }
+    ensures fit { IfOk result (λ b. Fit (problem_of b.0) (length b.0.raw.nodes) b.1.lists) }
+    ensures sound { IfOk result (λ b. Sound (problem_of b.0) b.1.lists) }
 {
     let problem = read_problem(alloc, bytes)?;
-    report_of_problem(alloc, &problem)
+    based_of(alloc, problem)
+}
+
+/// The report of what a journal gives over the base cuts of the problem of these bytes.
+#[tactic(auto, unfolding(crate::specs::Outcome::checked))]
+fn check<D: Disk>(
+    alloc: Global,
+    bytes: &[u8],
+    problem: &Problem,
+    pools: Pools,
+    journal: &mut D,
+) -> Result<Vec<u8>, LoadFault>
+    requires base { based problem.now ≡ Ok pools.lists }
+    ensures value { IfSome (D.store journal.old).reads (λ kept. Checks (λ v. v.items) result (checked bytes.now (record { problem = problem.now; pools = pools.lists }) kept)) }
+    ensures sound { IfOk result (λ v. (cuts : List (List Cut)) × IsSoundReport tasks.Check problem.now cuts v.items) }
+    ensures stays { Stays (D.store journal.old) (D.store journal.new) }
+    ensures cause { DiskCause (D.faults journal.old) (D.faults journal.new) (result ≡ Err faults.DiskFault) }
+{
+    let _ = problem.raw();
+    let digest = Sha256::digest(bytes);
+    let loaded = load(alloc, problem, pools, journal, &digest, None, None)?;
+    let text = check_report(alloc, problem, &loaded)?;
+    Ok(text)
+}
+
+fn status_of_fault(fault: LoadFault) -> Status
+    ensures { result ≡ status_of_fault fault }
+{
+    match fault {
+        LoadFault::Refused(refusal) => Status::JournalRefused(refusal),
+        LoadFault::TooMuch(formula) => Status::TooMuch(formula),
+        LoadFault::DiskFault => Status::DiskFault,
+        LoadFault::Memory => Status::Memory,
+    }
+}
+
+/// The report of `check` over the base cuts of the problem of these bytes.
+fn report_check<D: Disk>(
+    alloc: Global,
+    bytes: &[u8],
+    problem: &Problem,
+    pools: Pools,
+    journal: &mut D,
+) -> Result<Vec<u8>, Status>
+    requires read { based_at bytes.now ≡ Ok (record { problem = problem.now; pools = pools.lists }) }
+    requires base { based problem.now ≡ Ok pools.lists }
+    ensures report { IfOk result (λ v. Reports tasks.Check (D.store journal.old).reads bytes.now (Ok v.items)) }
+    ensures sound { IfOk result (λ v. (cuts : List (List Cut)) × IsSoundReport tasks.Check problem.now cuts v.items) }
+    ensures lacks { IfErr result (λ s. Lacks tasks.Check (D.store journal.old).reads (D.faults journal.old) (D.faults journal.new) bytes.now s) }
+    ensures stays { Stays (D.store journal.old) (D.store journal.new) }
+    ensures later { D.faults journal.old ≤ D.faults journal.new }
+{
+    match check(alloc, bytes, problem, pools, journal) {
+        Ok(text) => Ok(text),
+        Err(fault) => Err(status_of_fault(fault)),
+    }
+}
+
+/// The report of base cuts.
+fn report_base(alloc: Global, problem: &Problem, pools: Pools) -> Result<Vec<u8>, Status>
+    requires fit { Fit (problem_of problem.now) (length problem.now.raw.nodes) pools.lists }
+    requires sound { Sound (problem_of problem.now) pools.lists }
+    ensures text { IfOk result (λ v. v.items ≡ base_text problem.now pools.lists) }
+    ensures sound { IfOk result (λ v. IsSoundReport tasks.Base problem.now pools.lists v.items) }
+    ensures memory { IfErr result (λ s. s ≡ statuses.Memory) }
+{
+    let _ = problem.raw();
+    match base_report(alloc, problem, &pools) {
+        Ok(text) => Ok(text),
+        Err(Memory) => Err(Status::Memory),
+    }
+}
+
+/// The report of a task over the base cuts of the problem of these bytes.
+fn report_by<D: Disk>(
+    alloc: Global,
+    task: Task,
+    bytes: &[u8],
+    problem: &Problem,
+    pools: Pools,
+    journal: &mut D,
+) -> Result<Vec<u8>, Status>
+    requires read { based_at bytes.now ≡ Ok (record { problem = problem.now; pools = pools.lists }) }
+    requires base { based problem.now ≡ Ok pools.lists }
+    requires fit { Fit (problem_of problem.now) (length problem.now.raw.nodes) pools.lists }
+    requires sound { Sound (problem_of problem.now) pools.lists }
+    ensures report { IfOk result (λ v. Reports task (D.store journal.old).reads bytes.now (Ok v.items)) }
+    ensures sound { IfOk result (λ v. (cuts : List (List Cut)) × IsSoundReport task problem.now cuts v.items) }
+    ensures lacks { IfErr result (λ s. Lacks task (D.store journal.old).reads (D.faults journal.old) (D.faults journal.new) bytes.now s) }
+    ensures stays { Stays (D.store journal.old) (D.store journal.new) }
+    ensures untouched { task ≡ tasks.Base → journal.new ≡ journal.old }
+    ensures later { D.faults journal.old ≤ D.faults journal.new }
+{
+    match task {
+        Task::Base => report_base(alloc, problem, pools),
+        Task::Check => report_check(alloc, bytes, problem, pools, journal),
+    }
+}
+
+/// The report of a task over the bytes of a problem and a journal, or how the run ends without one.
+pub(crate) fn report_of<D: Disk>(
+    alloc: Global,
+    task: Task,
+    bytes: &[u8],
+    journal: &mut D,
+) -> Result<Vec<u8>, Status>
+    ensures report { IfOk result (λ v. Reports task (D.store journal.old).reads bytes.now (Ok v.items)) }
+    ensures sound { IfOk result (λ v. SoundText task bytes.now v.items) }
+    ensures lacks { IfErr result (λ s. Lacks task (D.store journal.old).reads (D.faults journal.old) (D.faults journal.new) bytes.now s) }
+    ensures stays { Stays (D.store journal.old) (D.store journal.new) }
+    ensures untouched { task ≡ tasks.Base → journal.new ≡ journal.old }
+    ensures later { D.faults journal.old ≤ D.faults journal.new }
+{
+    let (problem, pools) = match based_at(alloc, bytes) {
+        Ok(based) => based,
+        Err(ReadRefusal::Refused(refusal)) => return Err(Status::ProblemRefused(refusal)),
+        Err(ReadRefusal::Memory) => return Err(Status::Memory),
+    };
+    report_by(alloc, task, bytes, &problem, pools, journal)
 }

@@ -3,7 +3,7 @@ ghost use Rattle.std.specs.Prelude.{◌≡◌};
 ghost use Rattle.std.specs.Process.{exit_status};
 ghost use Rattle.hp_run.specs.Causes.{Explains};
 ghost use Rattle.hp_run.specs.Status.{number_of};
-ghost use Rattle.hp_run.specs.Words.{is_base};
+ghost use Rattle.hp_run.specs.Words.{asked};
 
 use crate::status::{Status, number, status_line};
 use crate::top::run;
@@ -31,7 +31,7 @@ fn ended<E: Write>(alloc: Global, status: &Status, errors: &mut E) -> ExitCode
 }
 
 /// Does what the words say, as `run`, and writes the line of a status other than Done to `errors`. The exit status is the
-/// number of a status that explains what became of the source and the sink.
+/// number of a status that explains what became of the source, the disk and the sink.
 pub fn execute<R: Threads, I: Source, D: Disk, O: Sink, E: Write>(
     rt: &R,
     alloc: Global,
@@ -41,11 +41,14 @@ pub fn execute<R: Threads, I: Source, D: Disk, O: Sink, E: Write>(
     out: &mut O,
     errors: &mut E,
 ) -> ExitCode
-    ensures { (status : Status) × (exit_status result ≡ number_of status) × Explains (is_base words.now) (record {
+    ensures { (status : Status) × (exit_status result ≡ number_of status) × Explains (asked words.now) (record {
       left = I.left problem.old;
       left_now = I.left problem.new;
       reads = I.faults problem.old;
       reads_now = I.faults problem.new;
+      kept = (D.store journal.old).reads;
+      disk = D.faults journal.old;
+      disk_now = D.faults journal.new;
       taken = O.taken out.old;
       taken_now = O.taken out.new;
       writes = O.faults out.old;

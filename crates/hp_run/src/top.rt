@@ -1,56 +1,55 @@
 // The top call.
-ghost use Rattle.std.specs.Prelude.{◌≡◌, true};
+ghost use Rattle.std.specs.Prelude.{◌≡◌, ◌≢◌, true, Some};
+ghost use Rattle.hp_outside.specs.Disks.{Stays};
 ghost use Rattle.hp_run.specs.Causes.{Explains, Completes, Sounds, writes_nothing};
-ghost use Rattle.hp_run.specs.Words.{is_base};
+ghost use Rattle.hp_run.specs.Words.{asked};
+ghost use Rattle.hp_run.specs.declared.task.Task.TheVariants.{Check};
 
 use crate::outcome::report_of;
 use crate::reading::{GatherFault, gather};
 use crate::status::Status;
+use crate::task::asked;
 use crate::writing::put;
 use hp_outside::{Disk, Sink, Source};
-use hp_sof::ReadRefusal;
 use std::alloc::Global;
 use std::thread::Threads;
 
-fn is_base(words: &[String]) -> bool
-    ensures { result ≡ is_base words.now }
-{
-    match words {
-        [word] => word.as_str() == "base",
-        _ => false,
-    }
-}
-
-/// Does what the words say: `base` reads the problem to its end and writes the report of its base
-/// cuts. Other words are Usage.
+/// Does what the words say, over the problem that the source holds to its end. `base` writes the report of its base cuts.
+/// `check` reads the journal over them, checks each certificate of its records, and writes the report of what it gives.
+/// Other words are Usage.
 ///
-/// `cause` says what each status tells of the words, the source and the sink; `complete` which status
-/// comes where no device fails; `sound` that each cut and the bound in what was written hold for every
-/// decision tree and every policy, in any fraction of a unit; `unwritten`, `unread` and `journal` what
-/// is left as it was.
+/// `cause` says what each status tells of the words, the source, the disk and the sink; `complete` which status comes where
+/// no device fails; `sound` that each cut and each bound in what was written hold for every decision tree and every policy,
+/// in any fraction of a unit, over any disk; `unwritten`, `unread`, `journal` and `journal_unread` what is left as it was.
 pub fn run<R: Threads, I: Source, D: Disk, O: Sink>(
     _rt: &R,
     alloc: Global,
     words: &[String],
     problem: &mut I,
-    _journal: &mut D,
+    journal: &mut D,
     out: &mut O,
 ) -> Status
-    ensures cause { Explains (is_base words.now) (record {
+    ensures cause { Explains (asked words.now) (record {
       left = I.left problem.old;
       left_now = I.left problem.new;
       reads = I.faults problem.old;
       reads_now = I.faults problem.new;
+      kept = (D.store journal.old).reads;
+      disk = D.faults journal.old;
+      disk_now = D.faults journal.new;
       taken = O.taken out.old;
       taken_now = O.taken out.new;
       writes = O.faults out.old;
       writes_now = O.faults out.new;
     }) result }
-    ensures complete { Completes (is_base words.now) (record {
+    ensures complete { Completes (asked words.now) (record {
       left = I.left problem.old;
       left_now = I.left problem.new;
       reads = I.faults problem.old;
       reads_now = I.faults problem.new;
+      kept = (D.store journal.old).reads;
+      disk = D.faults journal.old;
+      disk_now = D.faults journal.new;
       taken = O.taken out.old;
       taken_now = O.taken out.new;
       writes = O.faults out.old;
@@ -61,6 +60,9 @@ pub fn run<R: Threads, I: Source, D: Disk, O: Sink>(
       left_now = I.left problem.new;
       reads = I.faults problem.old;
       reads_now = I.faults problem.new;
+      kept = (D.store journal.old).reads;
+      disk = D.faults journal.old;
+      disk_now = D.faults journal.new;
       taken = O.taken out.old;
       taken_now = O.taken out.new;
       writes = O.faults out.old;
@@ -68,17 +70,27 @@ pub fn run<R: Threads, I: Source, D: Disk, O: Sink>(
     }) result }
     ensures unwritten { writes_nothing result ≡ true → out.new ≡ out.old }
     ensures unread { result ≡ Status.Usage → problem.new ≡ problem.old }
-    ensures journal { _journal.new ≡ _journal.old }
+    ensures journal { Stays (D.store journal.old) (D.store journal.new) }
+    ensures journal_unread { asked words.now ≢ Some Check → journal.new ≡ journal.old }
 {
-    act(alloc, words, problem, out)
+    act(alloc, words, problem, journal, out)
 }
 
-fn act<I: Source, O: Sink>(alloc: Global, words: &[String], problem: &mut I, out: &mut O) -> Status
-    ensures cause { Explains (is_base words.now) (record {
+fn act<I: Source, D: Disk, O: Sink>(
+    alloc: Global,
+    words: &[String],
+    problem: &mut I,
+    journal: &mut D,
+    out: &mut O,
+) -> Status
+    ensures cause { Explains (asked words.now) (record {
       left = I.left problem.old;
       left_now = I.left problem.new;
       reads = I.faults problem.old;
       reads_now = I.faults problem.new;
+      kept = (D.store journal.old).reads;
+      disk = D.faults journal.old;
+      disk_now = D.faults journal.new;
       taken = O.taken out.old;
       taken_now = O.taken out.new;
       writes = O.faults out.old;
@@ -86,20 +98,21 @@ fn act<I: Source, O: Sink>(alloc: Global, words: &[String], problem: &mut I, out
     }) result }
     ensures unwritten { writes_nothing result ≡ true → out.new ≡ out.old }
     ensures unread { result ≡ Status.Usage → problem.new ≡ problem.old }
+    ensures journal { Stays (D.store journal.old) (D.store journal.new) }
+    ensures journal_unread { asked words.now ≢ Some Check → journal.new ≡ journal.old }
 {
-    if !is_base(words) {
+    let Some(task) = asked(words) else {
         return Status::Usage;
-    }
+    };
     let bytes = match gather(alloc, problem) {
         Ok(bytes) => bytes,
         Err(GatherFault::ReadFault) => return Status::ReadFault,
         Err(GatherFault::TooLong) => return Status::TooLong,
         Err(GatherFault::Memory) => return Status::Memory,
     };
-    let text = match report_of(alloc, bytes.as_slice()) {
+    let text = match report_of(alloc, task, bytes.as_slice(), journal) {
         Ok(text) => text,
-        Err(ReadRefusal::Refused(refusal)) => return Status::ProblemRefused(refusal),
-        Err(ReadRefusal::Memory) => return Status::Memory,
+        Err(status) => return status,
     };
     match put(out, text.as_slice()) {
         Ok(()) => Status::Done,

@@ -1,0 +1,58 @@
+-- What the report of a task is, and that it is sound.
+use Rattle.std.proofs.Common.{◌≡◌, ℕ, true, List, length, Option, IfSome, IfOk, Result, Ok, Err, refl, sym, ap, ◌∙◌, subst}
+use Rattle.hp_problem.specs.declared.refusal.Refusal.{Refusal}
+use Rattle.hp_problem.specs.Sealed.{Sealed, is_sealed}
+use Rattle.hp_fields.specs.Steps.{◌>>=◌}
+use Rattle.hp_outside.specs.Causes.{Rose}
+use Rattle.hp_theory.specs.declared.cut.Cut.{Cut}
+use Rattle.hp_theory.specs.Pools.{Sound}
+use Rattle.hp_theory.specs.Fit.{Fit}
+use Rattle.hp_theory.specs.Bound.{bound, Under}
+use Rattle.hp_theory.specs.View.{problem_of}
+use Rattle.hp_theory.proofs.BoundBelow.{sound_bound}
+use Rattle.hp_theory.proofs.SealedPremises.{root_shaped-sealed, have_cuts-root}
+use Rattle.hp_load.specs.declared.loaded.Loaded.{Loaded}
+use Rattle.hp_load.specs.declared.refusal.LoadFault.{LoadFault}
+use Rattle.hp_load.specs.declared.refusal.LoadFault.TheVariants as faults
+use Rattle.hp_load.specs.Accepted.{IsSafe}
+use Rattle.hp_report.specs.Report.{base_text, check_text}
+use Rattle.hp_run.specs.Causes.{Lacks}
+use Rattle.hp_run.specs.Outcome.{WithBase, based_at, or_refused, checked, report_by, report_at, Checks, IsSoundReport, Reports, status_of_fault}
+use Rattle.hp_run.specs.declared.status.Status.{Status}
+use Rattle.hp_run.specs.declared.task.Task.{Task}
+use Rattle.hp_run.specs.declared.task.Task.TheVariants.{Base, Check}
+
+-- the bound of sound cuts is under the cost of each policy
+bound_under : (p : Sealed) (pools : List (List Cut)) → is_sealed p ≡ true → Fit (problem_of p) (length p.raw.nodes) pools → Sound (problem_of p) pools → Under (problem_of p) (bound (problem_of p) pools)
+bound_under p pools e fit sound = sound_bound (problem_of p) pools (root_shaped-sealed p e) (have_cuts-root p pools e fit.some) sound
+
+pub base_is_sound : (p : Sealed) (pools : List (List Cut)) (text : List ℕ) → is_sealed p ≡ true → Fit (problem_of p) (length p.raw.nodes) pools → Sound (problem_of p) pools → text ≡ base_text p pools → IsSoundReport Base p pools text
+base_is_sound p pools text e fit sound is = record { is = is; cuts = sound; bound = bound_under p pools e fit sound }
+
+pub check_is_sound : (p : Sealed) (l : Loaded) (text : List ℕ) → is_sealed p ≡ true → IsSafe p l → text ≡ check_text p l.pools.lists l.bounds l.unsettled l.rest → IsSoundReport Check p l.pools.lists text
+check_is_sound p l text e safe is = record { is = (l.bounds, l.unsettled, l.rest, is, safe.under); cuts = safe.sound; bound = bound_under p l.pools.lists e safe.fit safe.sound }
+
+-- the report of a task over a problem with its base cuts
+report_is : (task : Task) (bytes kept : List ℕ) (b : WithBase) → based_at bytes ≡ Ok b → report_at task bytes kept ≡ report_by task bytes kept b
+unfolding report_at
+report_is task bytes kept b is = ap (λ (r : Result WithBase Refusal). or_refused r >>= report_by task bytes kept) is
+
+module _ {X : Type 0} (view : X → List ℕ) (r : Result X Status) where
+  -- the report of base cuts
+  pub base_reports : (task : Task) (told : Option (List ℕ)) (bytes : List ℕ) (b : WithBase) → task ≡ Base → based_at bytes ≡ Ok b → IfOk r (λ v. view v ≡ base_text b.problem b.pools) → IfOk r (λ v. Reports task told bytes (Ok (view v)))
+  base_reports task told bytes b t is h = subst (λ (k : Task). IfOk r (λ v. Reports k told bytes (Ok (view v)))) (sym t) (each r h)
+    where
+      each : (s : Result X Status) → IfOk s (λ v. view v ≡ base_text b.problem b.pools) → IfOk s (λ v. Reports Base told bytes (Ok (view v)))
+      each (Ok v) e = λ kept reads. report_is Base bytes kept b is ∙ ap (λ (x : List ℕ). Ok x) (sym e)
+      each (Err s) e = tt
+
+pub check_reports : (told : Option (List ℕ)) (bytes : List ℕ) (outcome : Result (List ℕ) Status) (b : WithBase) → based_at bytes ≡ Ok b → IfSome told (λ kept. checked bytes b kept ≡ outcome) → Reports Check told bytes outcome
+check_reports told bytes outcome b is has = λ kept reads. report_is Check bytes kept b is ∙ subst (λ (o : Option (List ℕ)). IfSome o (λ kept. checked bytes b kept ≡ outcome)) reads has
+
+-- how the check of a journal ends without a report
+pub check_lacks : {X : Type 0} (view : X → List ℕ) (told : Option (List ℕ)) (disk disk_now : ℕ) (bytes : List ℕ) (b : WithBase) (f : LoadFault) → based_at bytes ≡ Ok b → ((let l : Result X LoadFault = Err f in l ≡ Err faults.DiskFault) → Rose disk disk_now)
+    → IfSome told (λ kept. Checks view (Err f) (checked bytes b kept)) → Lacks Check told disk disk_now bytes (status_of_fault f)
+check_lacks view told disk disk_now bytes b (faults.Refused r) is rose has = (refl, check_reports told bytes _ b is has)
+check_lacks view told disk disk_now bytes b (faults.TooMuch t) is rose has = (refl, check_reports told bytes _ b is has)
+check_lacks view told disk disk_now bytes b faults.DiskFault is rose has = (refl, rose refl)
+check_lacks view told disk disk_now bytes b faults.Memory is rose has = tt

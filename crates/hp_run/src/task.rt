@@ -1,0 +1,32 @@
+// What the program is asked to do.
+ghost use Rattle.std.specs.Prelude.{◌≡◌};
+ghost use Rattle.hp_run.specs.Words.{asked, task_of};
+
+use hp_words::{Command, read_words};
+
+/// What the program does.
+#[derive(Clone, Copy, Debug, PartialEq, Eq)]
+pub enum Task {
+    /// The report of the base cuts of a problem.
+    Base,
+    /// The report of what a journal gives.
+    Check,
+}
+
+fn task_of(command: Command) -> Option<Task>
+    ensures { result ≡ task_of command }
+{
+    match command {
+        Command::Base => Some(Task::Base),
+        Command::Check => Some(Task::Check),
+        _ => None,
+    }
+}
+
+/// What the words ask for, where they are a command that the program does.
+#[tactic(auto, unfolding(crate::specs::Words::asked))]
+pub(crate) fn asked(words: &[String]) -> Option<Task>
+    ensures { result ≡ asked words.now }
+{
+    task_of(read_words(words)?)
+}
