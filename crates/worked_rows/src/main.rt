@@ -7,6 +7,7 @@ mod certificates;
 mod edits;
 mod fault;
 mod formulas;
+mod journals;
 mod parts;
 mod reports;
 mod rows;

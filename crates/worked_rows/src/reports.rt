@@ -1,6 +1,6 @@
 // What the program writes of a problem.
 use crate::fault::RowFault;
-use hp_outside::{FaultlessDisk, MemSink, MemSource};
+use hp_outside::{Disk, FaultlessDisk, MemSink, MemSource};
 use hp_run::{run, status_line};
 use std::alloc::Global;
 use std::thread::Threads;
@@ -47,7 +47,26 @@ fn sink(alloc: Global, devices: Devices<'_>) -> Result<MemSink, RowFault> {
     Ok(sink)
 }
 
-/// The line of the status, then what was written, of a run of a command line.
+/// The line of the status, then what was written, of a run of a command line over a journal.
+pub fn report_over<R: Threads, D: Disk>(
+    rt: &R,
+    alloc: Global,
+    devices: Devices<'_>,
+    command: &str,
+    problem: &str,
+    journal: &mut D,
+) -> Result<String, RowFault> {
+    let words = words(alloc, command)?;
+    let mut source = source(alloc, devices, problem)?;
+    let mut sink = sink(alloc, devices)?;
+    let status = run(rt, alloc, words.as_slice(), &mut source, journal, &mut sink);
+    let mut bytes = status_line(alloc, &status)?;
+    bytes.extend_from_slice(sink.bytes())?;
+    let text = str::from_utf8(bytes.as_slice()).map_err(|_| RowFault::Form)?;
+    Ok(String::from_str(alloc, text)?)
+}
+
+/// The same over an empty journal.
 pub fn report<R: Threads>(
     rt: &R,
     alloc: Global,
@@ -55,22 +74,8 @@ pub fn report<R: Threads>(
     command: &str,
     problem: &str,
 ) -> Result<String, RowFault> {
-    let words = words(alloc, command)?;
-    let mut source = source(alloc, devices, problem)?;
-    let mut sink = sink(alloc, devices)?;
     let mut journal = FaultlessDisk::new(alloc, &[], 0)?;
-    let status = run(
-        rt,
-        alloc,
-        words.as_slice(),
-        &mut source,
-        &mut journal,
-        &mut sink,
-    );
-    let mut bytes = status_line(alloc, &status)?;
-    bytes.extend_from_slice(sink.bytes())?;
-    let text = str::from_utf8(bytes.as_slice()).map_err(|_| RowFault::Form)?;
-    Ok(String::from_str(alloc, text)?)
+    report_over(rt, alloc, devices, command, problem, &mut journal)
 }
 
 /// The last line of the report of a problem's base cuts, which is the status's line where the status has one.

@@ -45,6 +45,8 @@ fn question(kind: &str) -> Option<Question> {
         "faults" => Some(Question::Faults),
         "certificates" => Some(Question::Certificates),
         "formulas" => Some(Question::Formulas),
+        "journals" => Some(Question::Journals),
+        "checks" => Some(Question::Checks),
         _ => None,
     }
 }

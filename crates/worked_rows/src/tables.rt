@@ -3,6 +3,7 @@ use crate::certificates::cut_or_fault;
 use crate::edits::edited;
 use crate::fault::RowFault;
 use crate::formulas::exceeded;
+use crate::journals::{last_line_of_check, whole_check};
 use crate::reports::{interrupted, last_line};
 use std::alloc::{AllocError, Global};
 use std::fmt::Write;
@@ -19,6 +20,10 @@ pub enum Question {
     Certificates,
     /// Which formula is exceeded.
     Formulas,
+    /// The last line of the check of a journal.
+    Journals,
+    /// All that the check of a journal writes.
+    Checks,
 }
 
 fn edited_report<R: Threads>(
@@ -43,6 +48,8 @@ fn answer<R: Threads>(
         Question::Faults => interrupted(rt, alloc, problem, line),
         Question::Certificates => cut_or_fault(alloc, problem, line),
         Question::Formulas => exceeded(alloc, problem, line),
+        Question::Journals => last_line_of_check(rt, alloc, problem, line),
+        Question::Checks => whole_check(rt, alloc, problem, line),
     }
 }
 
