@@ -1,7 +1,7 @@
-mod Begun
-mod NodeValues
-mod Certificates
-mod Cuts
-mod StepsBack
-mod PathNodes
-mod Grown
+pub mod Begun
+pub mod NodeValues
+pub mod Certificates
+pub mod Cuts
+pub mod StepsBack
+pub mod PathNodes
+pub mod Grown

@@ -10,8 +10,6 @@ use Rattle.hp_solver.specs.declared.stage_lp.StageLp.{StageLp}
 use Rattle.hp_lp.specs.Ready.{AreReady}
 use Rattle.hp_sampler.specs.declared.steps.Step.{Step}
 use Rattle.hp_lp.specs.Nodes.{stage_in}
-use Rattle.hp_lp.specs.Chained.{Solving}
-use Rattle.hp_solver.specs.declared.stage_lp.Answer.{Answer}
 
 -- a node of the problem, a state in its box, pools that fit, and what the solver made ready
 pub record CanVisit {Start : Type 0} (started : StageLp → Start) (suits : Start → StageLp → Type 0) (p : Sealed) (starts : List Start) (pools : List (List Cut)) (m : ℕ) (state : List ℤ) : Type 0 where
@@ -25,10 +23,6 @@ pub record IsStageOver (p : Sealed) (pools : List (List Cut)) (m : ℕ) (lp : St
   pub values : List ℤ
   pub state : List ℤ
   pub is : stage_in p pools m values state ≡ Some lp
-
--- a solver as its three functions
-abbrev pub solving : {Start Chain : Type 0} → (StageLp → Start) → (Start → StageLp → Chain) → (Chain → StageLp → Answer × Chain) → Solving Start Chain
-solving started begun next = record { started = started; begun = begun; next = next }
 
 -- the state lies in the box of the step's node
 abbrev pub IsInside : Sealed → Step × List ℤ → Type 0

@@ -8,10 +8,10 @@ ghost use Rattle.hp_theory.specs.View.{problem_of};
 ghost use Rattle.hp_solver.specs.declared.stage_lp.StageLp.{StageLp};
 ghost use Rattle.hp_solver.specs.Proper.{IsLike};
 ghost use Rattle.hp_solver.specs.Chains.{answers};
-ghost use Rattle.hp_lp.specs.Chained.{stage_at};
+ghost use Rattle.hp_lp.specs.Chained.{stage_at, solving};
 ghost use Rattle.hp_backward.specs.Certifying.{certify, certify_all, in_chain, nothing};
 ghost use Rattle.hp_backward.specs.Sweeping.{Stops};
-ghost use Rattle.hp_backward.specs.Given.{CanVisit, IsStageOver, solving};
+ghost use Rattle.hp_backward.specs.Given.{CanVisit, IsStageOver};
 
 use crate::certified::{Certified, Visit};
 use crate::fault::SweepFault;

@@ -7,7 +7,8 @@ ghost use Rattle.hp_problem.specs.Limits.{are_values};
 ghost use Rattle.hp_problem.specs.Sealed.{subproblem_of};
 ghost use Rattle.hp_backward.specs.Certifying.{both, certified, first_half, in_chain, in_order, second_half, values_at};
 ghost use Rattle.hp_backward.specs.Sweeping.{Stops};
-ghost use Rattle.hp_backward.specs.Given.{CanVisit, solving};
+ghost use Rattle.hp_backward.specs.Given.{CanVisit};
+ghost use Rattle.hp_lp.specs.Chained.{solving};
 
 use crate::certified::Certified;
 use crate::chains::certify_each;

@@ -9,7 +9,8 @@ ghost use Rattle.hp_theory.specs.Range.{range_of};
 ghost use Rattle.hp_theory.specs.View.{problem_of};
 ghost use Rattle.hp_cut.specs.declared.entry.EntryStep.{EntryStep};
 ghost use Rattle.hp_dual.specs.Acceptance.{fault_of, range_fault};
-ghost use Rattle.hp_backward.specs.Given.{CanVisit, solving};
+ghost use Rattle.hp_backward.specs.Given.{CanVisit};
+ghost use Rattle.hp_lp.specs.Chained.{solving};
 ghost use Rattle.hp_backward.specs.Sweeping.{made_at, seen, step_back, taken_back, within_range, Stops};
 
 use crate::certified::{Certified, Visit};

@@ -10,7 +10,8 @@ ghost use Rattle.hp_cut.specs.declared.entry.EntryStep.{EntryStep};
 ghost use Rattle.hp_lp.specs.Ready.{AreReady};
 ghost use Rattle.hp_sampler.specs.declared.steps.Step.{Step};
 ghost use Rattle.hp_sampler.specs.Drawn.{IsInRange, IsPath};
-ghost use Rattle.hp_backward.specs.Given.{solving, AreDistinct, IsInside};
+ghost use Rattle.hp_backward.specs.Given.{AreDistinct, IsInside};
+ghost use Rattle.hp_lp.specs.Chained.{solving};
 ghost use Rattle.hp_backward.specs.Sweeping.{backwards, seen, step_back, swept, taken_back, IsDead, Stops};
 
 use crate::fault::SweepFault;

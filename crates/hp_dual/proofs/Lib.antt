@@ -1,12 +1,12 @@
 pub mod Accepted
-mod Walking
-mod GivenNode
-mod Passing
-mod SealedWithin
+pub mod Walking
+pub mod GivenNode
+pub mod Passing
+pub mod SealedWithin
 pub mod OwnWeights
 pub mod Faultless
-mod Basing
-mod Standing
+pub mod Basing
+pub mod Standing
 pub mod Fitting
 pub mod Amounts
 pub mod Congruence
@@ -22,4 +22,4 @@ pub mod Divisor
 pub mod SealedCuttable
 pub mod Beside
 pub mod Slopes
-mod Realizations
+pub mod Realizations

@@ -5,17 +5,10 @@ use Rattle.hp_problem.specs.Sealed.{Sealed}
 use Rattle.hp_theory.specs.Problem.{S, node_at}
 use Rattle.hp_theory.specs.Tree.{InBox}
 use Rattle.hp_theory.specs.View.{problem_of}
-use Rattle.hp_solver.specs.declared.stage_lp.StageLp.{StageLp}
-use Rattle.hp_solver.specs.declared.stage_lp.Answer.{Answer}
-use Rattle.hp_lp.specs.Chained.{Solving}
 use Rattle.hp_settle.specs.declared.judging.Dead.{Dead}
 use Rattle.hp_settle.specs.Refutation.{NoDecision}
 use Rattle.hp_forward.specs.declared.deciding.StageFault.{StageFault}
 use Rattle.hp_forward.specs.declared.deciding.StageFault.TheVariants.{NoStage, Memory}
-
--- a solver, by its three functions
-abbrev pub solving : {Start Chain : Type 0} → (StageLp → Start) → (Start → StageLp → Chain) → (Chain → StageLp → Answer × Chain) → Solving Start Chain
-solving started begun next = record { started = started; begun = begun; next = next }
 
 -- the refutation that was defined; want of memory is free
 abbrev pub Fails : {A : Type 0} → StageFault → Result A Dead → Type 0

@@ -12,10 +12,10 @@ ghost use Rattle.hp_theory.specs.View.{problem_of};
 ghost use Rattle.hp_settle.specs.declared.judging.Judged.{Judged};
 ghost use Rattle.hp_settle.specs.Judging.{judge_of};
 ghost use Rattle.hp_lp.specs.Stage.{whole};
-ghost use Rattle.hp_lp.specs.Chained.{answered};
+ghost use Rattle.hp_lp.specs.Chained.{answered, solving};
 ghost use Rattle.hp_lp.specs.Ready.{AreReady};
 ghost use Rattle.hp_forward.specs.Deciding.{boxed, decide_by, decide_of, decided_of, decision_at, is_unsettled, rescaled};
-ghost use Rattle.hp_forward.specs.Given.{Gives, IsStateAt, OnNoStage, Refutes, solving};
+ghost use Rattle.hp_forward.specs.Given.{Gives, IsStateAt, OnNoStage, Refutes};
 ghost use Rattle.hp_forward.specs.declared.deciding.StageFault.TheVariants as faults;
 
 use hp_cut::Pools;

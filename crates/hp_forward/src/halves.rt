@@ -7,7 +7,8 @@ ghost use Rattle.hp_lp.specs.Ready.{AreReady};
 ghost use Rattle.hp_sampler.specs.declared.steps.Step.{Step};
 ghost use Rattle.hp_sampler.specs.declared.steps.Walk.{Walk};
 ghost use Rattle.hp_sampler.specs.Drawn.{IsPath};
-ghost use Rattle.hp_forward.specs.Given.{Gives, OnNoStage, Refutes, solving};
+ghost use Rattle.hp_forward.specs.Given.{Gives, OnNoStage, Refutes};
+ghost use Rattle.hp_lp.specs.Chained.{solving};
 ghost use Rattle.hp_forward.specs.Walking.{AreWalks, in_turn, walk_of, walks_of};
 
 use crate::deciding::StageFault;

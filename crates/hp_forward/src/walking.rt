@@ -12,7 +12,8 @@ ghost use Rattle.hp_sampler.specs.declared.steps.Walk.{Walk};
 ghost use Rattle.hp_sampler.specs.Drawn.{IsInRange, IsPath};
 ghost use Rattle.hp_forward.specs.declared.deciding.Decided.{Decided};
 ghost use Rattle.hp_forward.specs.Deciding.{decide_of};
-ghost use Rattle.hp_forward.specs.Given.{Gives, GivesSeen, IsStateAt, OnNoStage, Refutes, solving};
+ghost use Rattle.hp_forward.specs.Given.{Gives, GivesSeen, IsStateAt, OnNoStage, Refutes};
+ghost use Rattle.hp_lp.specs.Chained.{solving};
 ghost use Rattle.hp_forward.specs.Walking.{AreInside, decide_step, step_on, values_of, walk_of};
 
 use crate::deciding::{StageFault, decide, scaled};

@@ -1,8 +1,8 @@
-mod Bytes
-mod GatesRead
-mod Growing
-mod HeadsRead
-mod Newborn
-mod Reading
-mod Told
-mod WorkedBody
+pub mod Bytes
+pub mod GatesRead
+pub mod Growing
+pub mod HeadsRead
+pub mod Newborn
+pub mod Reading
+pub mod Told
+pub mod WorkedBody

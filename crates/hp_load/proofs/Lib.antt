@@ -1,9 +1,9 @@
-mod Binding
-mod Once
-mod CutsKept
-mod Adding
-mod Recorded
-mod Reaching
-mod Loops
-mod Told
-mod Outcomes
+pub mod Binding
+pub mod Once
+pub mod CutsKept
+pub mod Adding
+pub mod Recorded
+pub mod Reaching
+pub mod Loops
+pub mod Told
+pub mod Outcomes

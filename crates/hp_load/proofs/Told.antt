@@ -3,6 +3,7 @@ use Rattle.std.proofs.Common.{◌≡◌, ℕ, suc, ◌+◌, List, length, Option
 use Rattle.std.proofs.Math.Logic.{⊎_elim}
 use Rattle.hp_num.specs.Steps.{◌>>=◌}
 use Rattle.hp_outside.specs.Disks.{Store, Stays}
+pub use Rattle.hp_journal.proofs.Told.{told, known}
 use Rattle.hp_problem.specs.Sealed.{Sealed}
 use Rattle.hp_problem.specs.Formulas.{too_much}
 use Rattle.hp_cut.specs.declared.entry.Entry.{Entry}
@@ -16,13 +17,6 @@ use Rattle.hp_load.specs.declared.refusal.LoadFault.{LoadFault}
 use Rattle.hp_load.specs.Refusals.{of_gate, of_payload, of_entries, with_fault, within, Fails}
 use Rattle.hp_load.specs.Records.{Found, rest_behind, rest_at, entries_at, record_added, record_at}
 use Rattle.hp_load.proofs.Binding.{bind_on, fails_on, fails_as}
-
-pub told : {P : List ℕ → Type 0} (r : Option (List ℕ)) → ((bytes : List ℕ) → r ≡ Some bytes → P bytes) → IfSome r P
-told None each = tt
-told (Some bytes) each = each bytes refl
-
-pub known : (P : List ℕ → Type 0) (r : Option (List ℕ)) (bytes : List ℕ) → r ≡ Some bytes → IfSome r P → P bytes
-known P r bytes is has = subst (λ o. IfSome o P) is has
 
 -- what is told of the same bytes
 pub same_bytes : (P : List ℕ → Type 0) (r s : Option (List ℕ)) → s ≡ r → IfSome s P → IfSome r P

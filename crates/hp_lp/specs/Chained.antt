@@ -13,6 +13,10 @@ pub record Solving (Start Chain : Type 0) : Type 0 where
   pub begun : Start → StageLp → Chain
   pub next : Chain → StageLp → Answer × Chain
 
+-- a solver, by its three functions
+abbrev pub solving : {Start Chain : Type 0} → (StageLp → Start) → (Start → StageLp → Chain) → (Chain → StageLp → Answer × Chain) → Solving Start Chain
+solving started begun next = record { started = started; begun = begun; next = next }
+
 -- what is solved at a number that is no node
 abbrev pub no_program : StageLp
 no_program = record { columns = []; rows = []; decisions = 0; own = 0 }

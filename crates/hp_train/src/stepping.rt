@@ -7,7 +7,7 @@ ghost use Rattle.hp_theory.specs.View.{problem_of};
 ghost use Rattle.hp_lp.specs.Ready.{AreReady};
 ghost use Rattle.hp_sampler.specs.Drawn.{IsPath};
 ghost use Rattle.hp_forward.specs.Walking.{AreWalks, IsWalk, walks_of};
-ghost use Rattle.hp_backward.specs.Given.{solving};
+ghost use Rattle.hp_lp.specs.Chained.{solving};
 ghost use Rattle.hp_backward.specs.Sweeping.{IsDead, Stops};
 ghost use Rattle.hp_train.specs.Drawing.{first_stream, paths_from};
 ghost use Rattle.hp_train.specs.Growing.{Extends};

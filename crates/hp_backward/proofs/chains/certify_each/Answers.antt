@@ -6,7 +6,7 @@ use Rattle.hp_solver.specs.declared.stage_lp.Answer.{Answer}
 use Rattle.hp_lp.proofs.Answering.{ready_program}
 use Rattle.hp_backward.specs.Certifying.{certify, certify_all, nothing}
 use Rattle.hp_backward.specs.Sweeping.{Stops}
-use Rattle.hp_backward.specs.Given.{solving}
+use Rattle.hp_lp.specs.Chained.{solving}
 use Rattle.hp_backward.proofs.Begun.{begins}
 use Rattle.hp_backward.proofs.chains.certify_each.Goals as goal
 

@@ -3,7 +3,7 @@ use Rattle.hp_num.specs.Steps.{GivesOr}
 use Rattle.hp_backward.specs.declared.certified.Certified.{Certified}
 use Rattle.hp_backward.specs.declared.fault.SweepFault.{SweepFault}
 use Rattle.hp_backward.specs.Sweeping.{Stops}
-use Rattle.hp_backward.specs.Given.{solving}
+use Rattle.hp_lp.specs.Chained.{solving}
 use Rattle.hp_backward.proofs.Certificates.{in_halves}
 use Rattle.hp_backward.proofs.halves.certified.Goals as goal
 

@@ -4,7 +4,7 @@ use Rattle.hp_theory.specs.Problem.{node_at}
 use Rattle.hp_theory.specs.View.{problem_of}
 use Rattle.hp_dual.specs.Acceptance.{fault_of, range_fault}
 use Rattle.hp_dual.proofs.Fitting.{fit_for-fit}
-use Rattle.hp_backward.specs.Given.{solving}
+use Rattle.hp_lp.specs.Chained.{solving}
 use Rattle.hp_backward.proofs.Cuts.{settled_list}
 use Rattle.hp_backward.proofs.steps_back.made_at.Goals as goal
 

@@ -7,7 +7,8 @@ use Rattle.std.proofs.lemmas.Slice.Zip.{length-zip}
 use Rattle.hp_theory.specs.Pools.{pool}
 use Rattle.hp_cut.specs.declared.entry.EntryStep.{EntryStep}
 use Rattle.hp_sampler.specs.declared.steps.Step.{Step}
-use Rattle.hp_backward.specs.Given.{solving, IsInside}
+use Rattle.hp_backward.specs.Given.{IsInside}
+use Rattle.hp_lp.specs.Chained.{solving}
 use Rattle.hp_backward.specs.Sweeping.{backwards, seen, step_back, taken_back}
 use Rattle.hp_backward.proofs.PathNodes.{few_before}
 use Rattle.hp_backward.proofs.StepsBack.{get_or-zip, visit_at, step_more, step_stops, stops_through}

@@ -4,7 +4,7 @@ use Rattle.hp_theory.specs.Pools.{pool, Sound}
 use Rattle.hp_theory.specs.View.{problem_of}
 use Rattle.hp_cut.specs.declared.entry.EntryStep.{EntryStep}
 use Rattle.hp_sampler.specs.declared.steps.Step.{Step}
-use Rattle.hp_backward.specs.Given.{solving}
+use Rattle.hp_lp.specs.Chained.{solving}
 use Rattle.hp_backward.specs.Sweeping.{backwards, seen, step_back, taken_back}
 use Rattle.hp_backward.proofs.sweeping.go_back.Given as goal
 

@@ -1,6 +1,6 @@
 use Rattle.std.proofs.Common.{◌∙◌, Result, sym, subst}
 use Rattle.hp_backward.specs.declared.fault.SweepFault.{SweepFault}
-use Rattle.hp_backward.specs.Given.{solving}
+use Rattle.hp_lp.specs.Chained.{solving}
 use Rattle.hp_backward.specs.Sweeping.{Swept, Stops, seen}
 use Rattle.hp_backward.proofs.Grown.{grown-swept, others-swept}
 use Rattle.hp_backward.proofs.PathNodes.{distinct-path, short-path}

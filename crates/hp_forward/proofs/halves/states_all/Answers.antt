@@ -2,7 +2,8 @@ use Rattle.std.proofs.Common.{◌∙◌, ◌/◌, List, Result, length, ap₂, s
 use Rattle.hp_settle.specs.declared.judging.Dead.{Dead}
 use Rattle.hp_sampler.specs.declared.steps.Step.{Step}
 use Rattle.hp_sampler.specs.declared.steps.Walk.{Walk}
-use Rattle.hp_forward.specs.Given.{Gives, Refutes, solving}
+use Rattle.hp_forward.specs.Given.{Gives, Refutes}
+use Rattle.hp_lp.specs.Chained.{solving}
 use Rattle.hp_forward.specs.Walking.{AreWalks, in_turn, walk_of, walks_of}
 use Rattle.hp_forward.proofs.ByAnswers.{if_given, on_no_stage}
 use Rattle.hp_forward.proofs.EachOf.{each-halves}

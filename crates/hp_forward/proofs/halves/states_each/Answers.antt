@@ -3,7 +3,7 @@ use Rattle.std.proofs.lemmas.Result.{err_from_is_err_and}
 use Rattle.hp_settle.specs.declared.judging.Dead.{Dead}
 use Rattle.hp_sampler.specs.declared.steps.Step.{Step}
 use Rattle.hp_sampler.specs.declared.steps.Walk.{Walk}
-use Rattle.hp_forward.specs.Given.{solving}
+use Rattle.hp_lp.specs.Chained.{solving}
 use Rattle.hp_forward.specs.Walking.{each_of, walk_of}
 use Rattle.hp_forward.proofs.ByAnswers.{fails_on}
 use Rattle.hp_forward.proofs.EachOf.{each_more, each_stops}

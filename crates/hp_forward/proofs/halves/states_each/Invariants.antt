@@ -1,5 +1,5 @@
 use Rattle.std.proofs.Common.{◌≡◌, Ok, take}
-use Rattle.hp_forward.specs.Given.{solving}
+use Rattle.hp_lp.specs.Chained.{solving}
 use Rattle.hp_forward.specs.Walking.{each_of, walk_of}
 use Rattle.hp_forward.proofs.halves.states_each.Given as goal
 

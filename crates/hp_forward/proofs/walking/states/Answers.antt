@@ -2,7 +2,7 @@ use Rattle.std.proofs.Common.{◌+◌, ℤ, List, Result, get_or, drop, ap₂, s
 use Rattle.hp_settle.specs.declared.judging.Dead.{Dead}
 use Rattle.hp_sampler.specs.declared.steps.Step.{Step}
 use Rattle.hp_forward.specs.declared.deciding.Decided.{Decided}
-use Rattle.hp_forward.specs.Given.{solving}
+use Rattle.hp_lp.specs.Chained.{solving}
 use Rattle.hp_forward.specs.Walking.{IsWalk, decide_step, walk_of, walk_on}
 use Rattle.hp_forward.proofs.Arcs.{path_short}
 use Rattle.hp_forward.proofs.Walks.{ComesTo, comes_first, comes_here, comes_next, ends, goes_on, one_more, walk_is}

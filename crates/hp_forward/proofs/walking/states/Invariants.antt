@@ -4,7 +4,7 @@ use Rattle.hp_theory.specs.Tree.{times_all}
 use Rattle.hp_theory.specs.View.{problem_of}
 use Rattle.hp_forward.specs.Walking.{decide_step, no_walk, walk_on}
 use Rattle.hp_forward.proofs.Walks.{ComesTo}
-use Rattle.hp_forward.specs.Given.{solving}
+use Rattle.hp_lp.specs.Chained.{solving}
 use Rattle.hp_forward.proofs.walking.states.Given as goal
 
 abbrev pub invariant-loop-step : goal.invariant-loop-step

@@ -5,7 +5,7 @@ use Rattle.hp_theory.specs.declared.cut.Cut.{Cut}
 use Rattle.hp_theory.specs.Fit.{Fit}
 use Rattle.hp_theory.specs.View.{problem_of}
 use Rattle.hp_backward.specs.declared.fault.SweepFault.{SweepFault}
-use Rattle.hp_backward.specs.Given.{solving}
+use Rattle.hp_lp.specs.Chained.{solving}
 use Rattle.hp_backward.specs.Sweeping.{Stops}
 use Rattle.hp_train.specs.Growing.{Extends}
 use Rattle.hp_train.specs.Stepping.{Stepped}

@@ -2,7 +2,7 @@ use Rattle.std.proofs.Common.{◌+◌, List, length, zip, get_or, sym, ap, ◌�
 use Rattle.std.proofs.lemmas.Result.{err_from_is_err_and}
 use Rattle.std.proofs.lemmas.Slice.Zip.{length-zip}
 use Rattle.hp_sampler.specs.declared.steps.Step.{Step}
-use Rattle.hp_backward.specs.Given.{solving}
+use Rattle.hp_lp.specs.Chained.{solving}
 use Rattle.hp_train.specs.Stepping.{seen, with_path, with_walks}
 use Rattle.hp_train.proofs.Forwards.{pair_at, walk_at, forwards-goes, forwards-done, forwards-stops, walks_from}
 use Rattle.hp_train.proofs.Growing.{extends_then, extends_wider}

@@ -2,7 +2,7 @@ use Rattle.std.proofs.Common.{◌≡◌, length, drop, zip}
 use Rattle.hp_theory.specs.Fit.{Fit}
 use Rattle.hp_theory.specs.Pools.{Sound}
 use Rattle.hp_theory.specs.View.{problem_of}
-use Rattle.hp_backward.specs.Given.{solving}
+use Rattle.hp_lp.specs.Chained.{solving}
 use Rattle.hp_train.specs.Growing.{Extends}
 use Rattle.hp_train.specs.Stepping.{forwards, seen, with_path}
 use Rattle.hp_train.proofs.stepping.sweep_all.Given as goal

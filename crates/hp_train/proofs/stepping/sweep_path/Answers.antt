@@ -1,6 +1,6 @@
 use Rattle.std.proofs.Common.{refl, sym, ◌∙◌, arith}
 use Rattle.hp_forward.proofs.Arcs.{path_short}
-use Rattle.hp_backward.specs.Given.{solving}
+use Rattle.hp_lp.specs.Chained.{solving}
 use Rattle.hp_train.proofs.Growing.{extends_swept}
 use Rattle.hp_train.proofs.stepping.sweep_path.Goals as goal
 
