@@ -11,5 +11,6 @@ mod title;
 pub mod worked;
 
 pub use loaded::Loaded;
-pub use loading::{load, load_keep};
+pub use loading::{first_gate, load, load_keep};
+pub use records::unsettled;
 pub use refusal::{JournalRefusal, LoadFault};

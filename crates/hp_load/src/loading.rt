@@ -36,8 +36,8 @@ fn new_title(batch: Option<u16>) -> (u16, u16)
     }
 }
 
-// The place of the first gate.
-fn first_gate(version: u16) -> u64
+/// The place of the first gate of a journal of version 1 or 2.
+pub fn first_gate(version: u16) -> u64
     ensures value { result ≡ first_gate version }
     ensures near { result ≤ 54 }
 {

@@ -131,8 +131,8 @@ fn entries_behind<D: Disk>(
     Ok((entries, next))
 }
 
-// The sum of the unsettled solves that the entries state.
-fn unsettled(entries: &[Entry]) -> u64
+/// How many unsettled solves the entries of an iteration, at most 64, state together.
+pub fn unsettled(entries: &[Entry]) -> u64
     requires { length entries.now ≤ 64 }
     ensures value { result ≡ sum_by (λ (e : Entry). e.unsettled) entries.now }
     ensures small { result ≤ 2 ^ 38 }
