@@ -19,7 +19,7 @@ use Rattle.hp_theory.specs.Pools.{pool, Holds, Sound}
 use Rattle.hp_theory.specs.Bound.{bound, Under}
 use Rattle.hp_theory.specs.View.{problem_of}
 use Rattle.hp_report.specs.Lines.{numbered}
-use Rattle.hp_report.specs.Report.{number_text, state_line, node_line, title, head_text, word, cut_words, cut_line, node_cuts, cut_lines, bound_line, base_text, iteration_line, iteration_after, iteration_lines, total_line, iterations_text, rest_line, check_text}
+use Rattle.hp_report.specs.Report.{number_text, state_line, node_line, title, head_text, word, cut_words, cut_line, node_cuts, cut_lines, bound_line, base_text, iteration_line, iteration_after, iteration_lines, total_line, iterations_text, rest_line, check_text, train_text}
 use Rattle.hp_report.specs.SoundLines.{before_lines, lines_of, first_word, SoundLine, SoundLines}
 
 -- no byte of it is a newline or another control character
@@ -241,3 +241,12 @@ sound_check p pools bounds unsettled rest s us u =
     let last : List ℕ = iterations ++ bound_line (bound q pools) in
     let good = good_append q last (rest_line rest) (good_append q iterations (bound_line (bound q pools)) (good_append q cuts (iterations_text bounds unsettled) (good_append q (head_text p.raw) (cut_lines pools) (good_head q p.raw) (good_pools q pools s)) (good_texts q bounds unsettled us)) (good_bound q (bound q pools) u)) (good_rest q rest) in
     subst (SoundLines q) (append-nil (last ++ rest_line rest)) (good [] (All-nil (SoundLine q)))
+
+-- and that of training
+pub sound_training : (p : Sealed) (pools : List (List Cut)) (bounds : List ℤ) (unsettled : ℕ) → All (Under (problem_of p)) bounds → Under (problem_of p) (bound (problem_of p) pools) → SoundLines (problem_of p) (train_text p pools bounds unsettled)
+unfolding train_text
+sound_training p pools bounds unsettled us u =
+    let q : Problem = problem_of p in
+    let iterations : List ℕ = head_text p.raw ++ iterations_text bounds unsettled in
+    let good = good_append q iterations (bound_line (bound q pools)) (good_append q (head_text p.raw) (iterations_text bounds unsettled) (good_head q p.raw) (good_texts q bounds unsettled us)) (good_bound q (bound q pools) u) in
+    subst (SoundLines q) (append-nil (iterations ++ bound_line (bound q pools))) (good [] (All-nil (SoundLine q)))

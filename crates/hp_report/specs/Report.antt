@@ -79,3 +79,7 @@ base_text p pools = head_text p.raw ++ cut_lines pools ++ bound_line (bound (pro
 -- the report of a journal that was checked: its cuts over the base cuts, its bounds, and what is left behind its last gate
 unfoldable pub check_text : Sealed → List (List Cut) → List ℤ → ℕ → ℕ → List ℕ
 check_text p pools bounds unsettled rest = head_text p.raw ++ cut_lines pools ++ iterations_text bounds unsettled ++ bound_line (bound (problem_of p) pools) ++ rest_line rest
+
+-- the report of training: the bound after each iteration, and the bound of the cuts
+unfoldable pub train_text : Sealed → List (List Cut) → List ℤ → ℕ → List ℕ
+train_text p pools bounds unsettled = head_text p.raw ++ iterations_text bounds unsettled ++ bound_line (bound (problem_of p) pools)

@@ -6,6 +6,8 @@ mod check;
 mod cuts;
 mod head;
 mod iterations;
+mod train;
 
 pub use base::base_report;
 pub use check::check_report;
+pub use train::train_report;

@@ -1,5 +1,6 @@
 pub mod Continuing
 pub mod Drawing
 pub mod Growing
+pub mod Iterating
 pub mod Stepping
 pub mod Training

@@ -1,22 +1,25 @@
 -- What training leaves of what was loaded, and of the journal.
-use Rattle.std.specs.Prelude.{◌≡◌, ◌⊎◌, ℕ, ◌+◌, ◌-◌, ◌*◌, ◌≤◌, ◌<◌, ◌^◌, max, true, List, [], ◌∷◌, ◌++◌, length, map, take, Bool, if◌then◌else◌, Option, Some, None, IfSome, Result, Ok, Err, All}
+use Rattle.std.specs.Prelude.{◌≡◌, ◌⊎◌, ℕ, ◌+◌, ◌-◌, ◌*◌, ◌≤◌, ◌^◌, max, true, false, List, [], ◌∷◌, ◌++◌, length, map, take, drop, if◌then◌else◌, Option, Some, None, Result, Ok, Err}
 use Rattle.std.specs.List.{sum_by}
 use Rattle.hp_problem.specs.Sealed.{Sealed}
 use Rattle.hp_problem.specs.Formulas.{too_much}
 use Rattle.hp_theory.specs.Fit.{Fit}
 use Rattle.hp_theory.specs.Pools.{pool}
+use Rattle.hp_theory.specs.Problem.{node_at}
 use Rattle.hp_theory.specs.View.{problem_of}
+use Rattle.hp_settle.specs.Refutation.{NoDecision}
 use Rattle.hp_cut.specs.declared.entry.Entry.{Entry}
 use Rattle.hp_record.specs.Spelling.{spell}
 use Rattle.hp_journal.specs.Layout.{Title, front, records}
-use Rattle.hp_journal.specs.Mine.{Mine}
+use Rattle.hp_journal.specs.Mine.{Unborn, Grown, Mine}
 use Rattle.hp_load.specs.declared.loaded.Loaded.{Loaded}
 use Rattle.hp_load.specs.Load.{Outcome, first_gate}
 use Rattle.hp_backward.specs.declared.fault.SweepFault.{SweepFault}
 use Rattle.hp_backward.specs.declared.fault.SweepFault.TheVariants as sweeps
 use Rattle.hp_train.specs.declared.fault.TrainFault.{TrainFault}
 use Rattle.hp_train.specs.declared.fault.TrainFault.TheVariants.{NoStage, Range, DiskFault, Memory}
-use Rattle.hp_train.specs.Continuing.{Continued}
+use Rattle.hp_lp.specs.Chained.{Solving}
+use Rattle.hp_train.specs.Continuing.{Continued, continued}
 
 -- what training asks of what was loaded, with so many iterations to come to in all
 pub record CanTrain (p : Sealed) (count : ℕ) (l : Loaded) : Type 0 where
@@ -46,6 +49,14 @@ unsettled_in lists = sum_by (sum_by (λ (e : Entry). e.unsettled)) lists
 abbrev pub last_gate : Loaded → ℕ
 last_gate l = if l.born then l.end else first_gate l.version
 
+-- the iterations behind those that were loaded, up to so many in all
+abbrev pub iterations : {Start Chain : Type 0} → Solving Start Chain → Sealed → ℕ → ℕ → Loaded → Continued
+iterations v p seed count l = continued v p l.pools.lists seed l.batch (length l.bounds) (count - length l.bounds)
+
+-- what was loaded, once the journal is born and ends with a gate of 0
+abbrev pub opened : Loaded → Outcome
+opened l = record { pools = l.pools.lists; bounds = l.bounds; unsettled = l.unsettled; born = true; end = last_gate l; rest = 0; version = l.version; batch = l.batch }
+
 -- what was loaded, with what iterations behind it gave
 abbrev pub trained : Loaded → Continued → Outcome
 trained l c = record {
@@ -67,24 +78,39 @@ loaded_front digest seed l bytes = if l.born then take l.end bytes else front (t
 abbrev pub grown_journal : List ℕ → ℕ → Loaded → List ℕ → List (List Entry) → List ℕ
 grown_journal digest seed l bytes lists = loaded_front digest seed l bytes ++ records (payloads lists) ++ 0 ∷ []
 
--- the bytes stand for the first j of these lists, or for more
-abbrev pub MineFrom : Title → List (List Entry) → ℕ → List ℕ → Type 0
-MineFrom t lists j bytes = (k : ℕ) × (j ≤ k) × Mine t (payloads lists) k bytes
+-- what was loaded stands in the bytes: a journal of the first j of these payloads up to its last gate, or one that is
+-- not born yet
+pub data StandsIn (t : Title) (l : Loaded) (ps : List (List ℕ)) (j : ℕ) (bytes : List ℕ) : Type 0 where
+  unborn : l.born ≡ false → j ≡ 0 → Unborn t bytes → StandsIn t l ps j bytes
+  born : l.born ≡ true → l.end ≡ length (front t (take j ps)) → Grown t ps j bytes → StandsIn t l ps j bytes
 
--- where training stopped
-abbrev pub StopsAt : TrainFault → Option SweepFault → Type 0
-StopsAt (NoStage dead) stop = stop ≡ Some (sweeps.NoStage dead)
-StopsAt (Range k m r) stop = stop ≡ Some (sweeps.Range k m r)
-StopsAt DiskFault stop = Unit {0}
-StopsAt Memory stop = Unit {0}
+-- the bytes stand for the first j of these payloads, or for more
+abbrev pub MineFrom : Title → List (List ℕ) → ℕ → List ℕ → Type 0
+MineFrom t ps j bytes = (k : ℕ) × (j ≤ k) × Mine t ps k bytes
 
--- after the last iteration, or where the definition stops, all iterations stand in the journal
-abbrev pub IsWhole : TrainFault → Type 0 → Type 0
-IsWhole (NoStage dead) P = P
-IsWhole (Range k m r) P = P
-IsWhole DiskFault P = Unit {0}
-IsWhole Memory P = Unit {0}
+-- from the number j on these payloads are those of the lists
+abbrev pub GoOnWith : ℕ → List (List ℕ) → List (List Entry) → Type 0
+GoOnWith j ps lists = (j ≤ length ps) × (drop j ps ≡ payloads lists)
 
+-- the fault at which the iterations stop, if they do; a fault of the disk and want of memory are free
+abbrev pub StopsAs : {A : Type 0} → Result A TrainFault → Option SweepFault → Type 0
+StopsAs (Ok x) stop = stop ≡ None
+StopsAs (Err (NoStage dead)) stop = stop ≡ Some (sweeps.NoStage dead)
+StopsAs (Err (Range k m r)) stop = stop ≡ Some (sweeps.Range k m r)
+StopsAs (Err DiskFault) stop = Unit {0}
+StopsAs (Err Memory) stop = Unit {0}
+
+-- what holds once all iterations are done that the definition has
 abbrev pub WhenWhole : {A : Type 0} → Result A TrainFault → Type 0 → Type 0
 WhenWhole (Ok x) P = P
-WhenWhole (Err fault) P = IsWhole fault P
+WhenWhole (Err (NoStage dead)) P = P
+WhenWhole (Err (Range k m r)) P = P
+WhenWhole (Err DiskFault) P = Unit {0}
+WhenWhole (Err Memory) P = Unit {0}
+
+-- where a node is dead, no decisions exist there
+abbrev pub IsDead : Sealed → TrainFault → Type 0
+IsDead p (NoStage dead) = NoDecision (node_at (problem_of p) dead.node) dead.values dead.state
+IsDead p (Range k m r) = Unit {0}
+IsDead p DiskFault = Unit {0}
+IsDead p Memory = Unit {0}

@@ -1,8 +1,13 @@
-//! Training: iterations of a batch of paths, forward and backward.
+//! Training: iterations of a batch of paths, forward and backward, with a record of each in the journal.
 #![tactic(auto)]
 
 mod counts;
 mod drawing;
+mod fault;
+mod opening;
 pub mod stepping;
+pub mod training;
 
+pub use fault::TrainFault;
 pub use stepping::batch_once;
+pub use training::train;

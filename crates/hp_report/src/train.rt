@@ -1,0 +1,32 @@
+// The report of training.
+ghost use Rattle.std.specs.Prelude.{◌≡◌, All, IfOk, length};
+ghost use Rattle.hp_report.specs.Report.{train_text};
+ghost use Rattle.hp_report.specs.SoundLines.{SoundLines};
+ghost use Rattle.hp_theory.specs.Bound.{Under};
+ghost use Rattle.hp_theory.specs.Fit.{Fit};
+ghost use Rattle.hp_theory.specs.Pools.{Sound};
+ghost use Rattle.hp_theory.specs.View.{problem_of};
+
+use crate::cuts::push_bound;
+use crate::head::push_head;
+use crate::iterations::push_iterations;
+use hp_load::Loaded;
+use hp_num::Memory;
+use hp_problem::Problem;
+use std::alloc::Global;
+
+/// The report of training: the head, a line for the bound after each iteration, their total, and the line of the bound.
+/// It is sound line by line where the cuts and the bounds are.
+#[tactic(auto, unfolding(crate::specs::Report::train_text))]
+pub fn train_report(alloc: Global, problem: &Problem, loaded: &Loaded) -> Result<Vec<u8>, Memory>
+    requires { Fit (problem_of problem.now) (length problem.now.raw.nodes) loaded.now.pools.lists }
+    ensures text { IfOk result (λ v. v.items ≡ train_text problem.now loaded.now.pools.lists loaded.now.bounds loaded.now.unsettled) }
+    ensures sound { Sound (problem_of problem.now) loaded.now.pools.lists → All (Under (problem_of problem.now)) loaded.now.bounds
+        → IfOk result (λ v. SoundLines (problem_of problem.now) v.items) }
+{
+    let mut out = Vec::new(alloc);
+    push_head(&mut out, problem.raw())?;
+    push_iterations(&mut out, loaded.bounds.as_slice(), loaded.unsettled)?;
+    push_bound(&mut out, loaded.pools.bound(problem))?;
+    Ok(out)
+}

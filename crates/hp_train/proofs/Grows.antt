@@ -1,0 +1,217 @@
+-- What iterations leave of what was loaded, and of the journal's disk.
+use Rattle.std.proofs.Common.{◌≡◌, ℕ, zero, suc, ◌+◌, ◌*◌, ℤ, ◌≤◌, ◌<◌, ◌^◌, List, [], ◌∷◌, ◌++◌, length, take, drop, get_or, map, Bool, true, false, Option, Some, None, IfSome, Result, Ok, Err, All, refl, sym, ap, subst, ◌∙◌, append_assoc, length-append, arith}
+use Rattle.std.specs.Option.{option_map}
+use Rattle.std.specs.List.{sum_by}
+use Rattle.std.proofs.lemmas.List.{append-nil, length-map}
+use Rattle.std.proofs.lemmas.List.Sums.{sum_by-append, sum_by-cons}
+use Rattle.hp_num.specs.Steps.{◌>>=◌}
+use Rattle.hp_outside.specs.Disks.{Store, Lawful}
+use Rattle.hp_outside.specs.Since.{Quiet, LeavesOnly}
+use Rattle.hp_outside.proofs.RunsOfCalls.{then_on}
+use Rattle.hp_problem.specs.Sealed.{Sealed}
+use Rattle.hp_theory.specs.declared.cut.Cut.{Cut}
+use Rattle.hp_theory.specs.Fit.{Fit}
+use Rattle.hp_theory.specs.Bound.{bound, Under}
+use Rattle.hp_theory.specs.Pools.{pool, Sound}
+use Rattle.hp_theory.specs.View.{problem_of}
+use Rattle.hp_cut.specs.declared.entry.Entry.{Entry}
+use Rattle.hp_record.specs.Spelling.{spell}
+use Rattle.hp_journal.specs.Layout.{Title, body_of, front, journal, records}
+use Rattle.hp_journal.specs.Mine.{Grown, GrownFrom, shut}
+use Rattle.hp_journal.proofs.Told.{told, known, mapped, map_as, map_same, begins}
+use Rattle.hp_load.specs.declared.loaded.Loaded.{Loaded}
+use Rattle.hp_load.specs.Load.{Outcome, seen}
+use Rattle.hp_lp.specs.Chained.{Solving}
+use Rattle.hp_backward.specs.declared.fault.SweepFault.{SweepFault}
+use Rattle.hp_train.specs.Stepping.{Stepped, step_of}
+use Rattle.hp_train.specs.Continuing.{Continued, before_any, with_step, continued}
+use Rattle.hp_train.specs.Iterating.{EndsShut, behind, iterated, with_stepped}
+use Rattle.hp_train.specs.Training.{GoOnWith, payloads, trained, unsettled_in}
+use Rattle.hp_train.proofs.Continuing.{goes_on, next_list, stays}
+use Rattle.hp_train.proofs.Growing.{from_parts}
+use Rattle.hp_train.proofs.Placed.{Parted, parted, behind_none, behind_ends, behind_more, behind_journal, records_longer, payloads-append, last_byte}
+
+-- ---- the disk
+
+-- the records of these lists stand behind a gate, and a crash at any moment left a journal that grows to the last ones
+pub record HasRecorded (old new : Store) (at : ℕ) (lists final : List (List Entry)) : Type 0 where
+  pub reads : new.reads ≡ option_map (behind at lists) old.reads
+  pub quiet : Quiet new
+  pub moment : IfSome old.reads (λ bytes. (t : Title) (ps : List (List ℕ)) (j : ℕ) → bytes ≡ journal t (take j ps) 0 [] → GoOnWith j ps final → LeavesOnly old new (GrownFrom t ps j))
+
+-- at the start
+pub recorded_none : (s : Store) (at : ℕ) (final : List (List Entry)) → Lawful s → Quiet s → IfSome s.reads (EndsShut at) → HasRecorded s s at [] final
+recorded_none s at final lawful quiet ends = record {
+  reads = sym (map_same s.reads (behind at []) (told s.reads (λ bytes is. behind_none at bytes (known (EndsShut at) s.reads bytes is ends))));
+  quiet = quiet;
+  moment = told s.reads (λ bytes is t ps j same goes. begins s (GrownFrom t ps j) bytes lawful is quiet (j, omega arith, shut goes.0 [] same));
+}
+
+-- the place of the gate behind the records, and what stands there
+pub recorded_ends : (old new : Store) (at : ℕ) (lists final : List (List Entry)) → HasRecorded old new at lists final → IfSome old.reads (EndsShut at) → IfSome new.reads (EndsShut (at + length (records (payloads lists))))
+recorded_ends old new at lists final has ends =
+    subst (λ (r : Option (List ℕ)). IfSome r (EndsShut (at + length (records (payloads lists))))) (sym has.reads) (each old.reads ends)
+  where
+    each : (r : Option (List ℕ)) → IfSome r (EndsShut at) → IfSome (option_map (behind at lists) r) (EndsShut (at + length (records (payloads lists))))
+    each None e = tt
+    each (Some bytes) e = behind_ends at bytes lists e
+
+-- what an appended record leaves, at any moment
+abbrev pub LeavesAppended : List ℕ → Store → Store → Type 0
+LeavesAppended body old new = IfSome old.reads (λ bytes. (t : Title) (ps : List (List ℕ)) (j : ℕ) → j < length ps → bytes ≡ journal t (take j ps) 0 [] → body ≡ body_of (get_or ps j []) → LeavesOnly old new (GrownFrom t ps j))
+
+module _ (old mid new : Store) (at : ℕ) (lists : List (List Entry)) (es : List Entry) (rest : List (List Entry)) (body : List ℕ) (has : HasRecorded old mid at lists (lists ++ es ∷ rest)) (ends : IfSome old.reads (EndsShut at)) (is : body ≡ body_of (spell es)) where
+  -- while a record is appended
+  pub moment_more : LeavesAppended body mid new → IfSome old.reads (λ bytes. (t : Title) (ps : List (List ℕ)) (j : ℕ) → bytes ≡ journal t (take j ps) 0 [] → GoOnWith j ps (lists ++ es ∷ rest) → LeavesOnly old new (GrownFrom t ps j))
+  moment_more leaves = told old.reads (λ bytes reads t ps j same goes.
+      let e = known (EndsShut at) old.reads bytes reads ends in
+      let k : ℕ = j + length (payloads lists) in
+      let parts = parted [] j ps (payloads lists) (spell es) (payloads rest) goes.0 (goes.1 ∙ payloads-append lists (es ∷ rest)) in
+      let so_far = known (λ b. (t : Title) (ps : List (List ℕ)) (j : ℕ) → b ≡ journal t (take j ps) 0 [] → GoOnWith j ps (lists ++ es ∷ rest) → LeavesOnly old mid (GrownFrom t ps j)) old.reads bytes reads has.moment t ps j same goes in
+      let now : mid.reads ≡ Some (behind at lists bytes) = mapped old.reads mid.reads (behind at lists) bytes reads has.reads in
+      let run = known (λ b. (t : Title) (ps : List (List ℕ)) (j : ℕ) → j < length ps → b ≡ journal t (take j ps) 0 [] → body ≡ body_of (get_or ps j []) → LeavesOnly mid new (GrownFrom t ps j)) mid.reads (behind at lists bytes) now leaves t ps k parts.below (behind_journal t ps j at bytes lists e same parts.front) (is ∙ ap body_of (sym parts.here)) in
+      then_on old mid new (GrownFrom t ps j) (GrownFrom t ps k) so_far run (λ c grown. (grown.0, omega (arith, grown.1), grown.2)))
+
+  -- once it is appended
+  pub recorded_more : LeavesAppended body mid new → Quiet new → new.reads ≡ option_map (λ bytes. take (at + length (records (payloads lists))) bytes ++ 1 ∷ body) mid.reads → HasRecorded old new at (lists ++ es ∷ []) (lists ++ es ∷ rest)
+  recorded_more leaves quiet reads = record {
+    reads = reads ∙ ap (option_map (λ bytes. take (at + length (records (payloads lists))) bytes ++ 1 ∷ body)) has.reads ∙ each old.reads ends;
+    quiet = quiet;
+    moment = moment_more leaves;
+  }
+    where
+      each : (r : Option (List ℕ)) → IfSome r (EndsShut at) → option_map (λ bytes. take (at + length (records (payloads lists))) bytes ++ 1 ∷ body) (option_map (behind at lists) r) ≡ option_map (behind at (lists ++ es ∷ [])) r
+      each None e = refl
+      each (Some bytes) e = ap (λ (b : List ℕ). Some b) (behind_more at bytes lists es body e is)
+
+-- ---- what was loaded
+
+ok_err : {A E : Type 0} (x : A) (f : E) → (let l : Result A E = Ok x in l ≡ Err f) → ⊥
+ok_err x f h = cc
+
+same_err : {A E : Type 0} (e f : E) → (let l : Result A E = Err e in l ≡ Err f) → e ≡ f
+same_err e f h = cc
+
+module _ {Start Chain : Type 0} (v : Solving Start Chain) (p : Sealed) (seed : ℕ) where
+  abbrev pub after : Loaded → ℕ → Continued
+  after old n = continued v p old.pools.lists seed old.batch (length old.bounds) n
+
+  -- n iterations were done
+  pub record HasIterated (n : ℕ) (old new : Loaded) : Type 0 where
+    pub value : seen new ≡ trained old (after old n)
+    pub running : (after old n).stop ≡ None
+    pub fit : Fit (problem_of p) (length p.raw.nodes) new.pools.lists
+    pub cuts : (m : ℕ) → length (pool new.pools.lists m) ≤ 1 + (length old.bounds + n) * old.batch
+    pub sound : Sound (problem_of p) old.pools.lists → Sound (problem_of p) new.pools.lists
+    pub under : Sound (problem_of p) old.pools.lists → All (Under (problem_of p)) old.bounds → All (Under (problem_of p)) new.bounds
+    pub unsettled : new.unsettled ≤ old.unsettled + n * 2 ^ 38
+    pub end : new.end ≤ old.end + n * (2 ^ 26 + 5)
+
+  record_is : (l : Loaded) → l.born ≡ true → l.rest ≡ 0 → seen l ≡ trained l (before_any l.pools.lists)
+  unfolding records
+  record_is l born rest = rw (born, rest, append-nil l.bounds) refl
+
+  pub iterated_none : (l : Loaded) → l.born ≡ true → l.rest ≡ 0 → Fit (problem_of p) (length p.raw.nodes) l.pools.lists → ((m : ℕ) → length (pool l.pools.lists m) ≤ 1 + length l.bounds * l.batch) → HasIterated 0 l l
+  unfolding continued
+  iterated_none l born rest fit cuts = record {
+    value = record_is l born rest;
+    running = refl;
+    fit = fit;
+    cuts = λ m. omega (arith, cuts m);
+    sound = λ s. s;
+    under = λ s u. u;
+    unsettled = omega arith;
+    end = omega arith;
+  }
+
+  -- an outcome with another end
+  abbrev pub moved : Outcome → ℕ → Outcome
+  moved o end = record { pools = o.pools; bounds = o.bounds; unsettled = o.unsettled; born = o.born; end = end; rest = o.rest; version = o.version; batch = o.batch }
+
+  unsettled_more : (lists : List (List Entry)) (es : List Entry) → unsettled_in (lists ++ es ∷ []) ≡ unsettled_in lists + sum_by (λ (e : Entry). e.unsettled) es
+  unsettled_more lists es = let one = sum_by-append (sum_by (λ (e : Entry). e.unsettled)) lists (es ∷ []) in let nil = sum_by-cons (sum_by (λ (e : Entry). e.unsettled)) es [] in omega (arith, one, nil)
+
+  fields : (pools : List (List Cut)) (bounds bounds' : List ℤ) (u u' : ℕ) (born born' : Bool) (end end' rest rest' version version' batch batch' : ℕ) → bounds ≡ bounds' → u ≡ u' → born ≡ born' → end ≡ end' → rest ≡ rest' → version ≡ version' → batch ≡ batch'
+    → (let o : Outcome = record { pools = pools; bounds = bounds; unsettled = u; born = born; end = end; rest = rest; version = version; batch = batch } in o) ≡ record { pools = pools; bounds = bounds'; unsettled = u'; born = born'; end = end'; rest = rest'; version = version'; batch = batch' }
+  fields pools bounds bounds' u u' born born' end end' rest rest' version version' batch batch' a b c d e f g = rw (a, b, c, d, e, f, g) refl
+
+  value_more : (old mid : Loaded) (c : Continued) (s : Stepped) (body : List ℕ) → seen mid ≡ trained old c → body ≡ body_of (spell s.entries) → moved (with_stepped p mid s) (mid.end + length body) ≡ trained old (with_step p c (Ok s))
+  value_more old mid c s body is spells =
+      fields s.pools _ _ _ _ _ _ _ _ _ _ _ _ _ _
+      (ap (λ (o : Outcome). o.bounds ++ bound (problem_of p) s.pools ∷ []) is ∙ append_assoc old.bounds c.bounds (bound (problem_of p) s.pools ∷ []))
+      (ap (λ (o : Outcome). o.unsettled + sum_by (λ (e : Entry). e.unsettled) s.entries) is ∙ omega (arith, unsettled_more c.lists s.entries))
+      (ap (λ (o : Outcome). o.born) is)
+      (ap (λ (o : Outcome). o.end + length body) is ∙ omega (arith, records_longer c.lists s.entries, ap length spells))
+      (ap (λ (o : Outcome). o.rest) is)
+      (ap (λ (o : Outcome). o.version) is)
+      (ap (λ (o : Outcome). o.batch) is)
+
+  -- what an iteration gave, by its parts
+  pub record WasStepped (n : ℕ) (old mid : Loaded) (body : List ℕ) (o : Outcome) : Type 0 where
+    pub s : Stepped
+    pub step : step_of v p (after old n).pools seed old.batch (suc (length old.bounds + n)) ≡ Ok s
+    pub outcome : o ≡ with_stepped p mid s
+    pub body : body ≡ body_of (spell s.entries)
+
+  same_pair : {A B E : Type 0} (a a' : A) (b b' : B) → (let l : Result (A × B) E = Ok (a, b) in l ≡ Ok (a', b')) → (a ≡ a') × (b ≡ b')
+  same_pair a a' b b' h = (cc, cc)
+
+  pub was_stepped : (n k : ℕ) (old mid : Loaded) (body : List ℕ) (o : Outcome) → HasIterated n old mid → k ≡ suc (length old.bounds + n) → iterated v p mid seed k ≡ Ok (o, body) → WasStepped n old mid body o
+  unfolding iterated
+  was_stepped n k old mid body o has number is =
+      let parts = from_parts (step_of v p mid.pools.lists seed mid.batch k) (λ s. Ok (with_stepped p mid s, body_of (spell s.entries))) (o, body) is in
+      let same = same_pair (with_stepped p mid parts.0) o (body_of (spell parts.0.entries)) body parts.2 in
+      let pools : mid.pools.lists ≡ (after old n).pools = ap (λ (x : Outcome). x.pools) has.value in
+      let batch : mid.batch ≡ old.batch = ap (λ (x : Outcome). x.batch) has.value in
+      record {
+        s = parts.0;
+        step = rw (sym pools, sym batch, sym number) parts.1;
+        outcome = sym same.0;
+        body = sym same.1;
+      }
+
+  only_stops : {A B E : Type 0} (r : Result A E) (g : A → B) (f : E) → (r >>= λ x. Ok (g x)) ≡ Err f → r ≡ Err f
+  only_stops (Ok x) g f h = absurd (ok_err (g x) f h)
+  only_stops (Err e) g f h = ap Err (same_err e f h)
+
+  -- an iteration stopped
+  pub was_stopped : (n k : ℕ) (old mid : Loaded) (f : SweepFault) → HasIterated n old mid → k ≡ suc (length old.bounds + n) → iterated v p mid seed k ≡ Err f → after old (suc n) ≡ with_step p (after old n) (Err f)
+  unfolding iterated
+  was_stopped n k old mid f has number is =
+      let pools : mid.pools.lists ≡ (after old n).pools = ap (λ (x : Outcome). x.pools) has.value in
+      let batch : mid.batch ≡ old.batch = ap (λ (x : Outcome). x.batch) has.value in
+      let step : step_of v p mid.pools.lists seed mid.batch k ≡ Err f = only_stops (step_of v p mid.pools.lists seed mid.batch k) (λ s. (with_stepped p mid s, body_of (spell s.entries))) f is in
+      goes_on v p old.pools.lists seed old.batch (length old.bounds) n (Err f) has.running (rw (sym pools, sym batch, sym number) step)
+
+  -- the last iterations stop where one does
+  pub all_stopped : (n left : ℕ) (old : Loaded) (f : SweepFault) → suc n ≤ left → after old (suc n) ≡ with_step p (after old n) (Err f) → after old left ≡ with_step p (after old n) (Err f)
+  all_stopped n left old f below is = stays v p old.pools.lists seed old.batch (length old.bounds) left (suc n) f below (ap (λ (c : Continued). c.stop) is) ∙ is
+
+  -- the entries of the next iteration stand behind those before it
+  pub list_more : (n left : ℕ) (old mid : Loaded) (body : List ℕ) (o : Outcome) → suc n ≤ left → HasIterated n old mid → (w : WasStepped n old mid body o) → (rest : List (List Entry)) × ((after old left).lists ≡ (after old n).lists ++ w.s.entries ∷ rest)
+  list_more n left old mid body o below has w = next_list v p old.pools.lists seed old.batch (length old.bounds) left n w.s below has.running w.step
+
+  -- one iteration more was done
+  pub iterated_more : (n : ℕ) (old mid mid' new : Loaded) (body : List ℕ) → HasIterated n old mid → WasStepped n old mid body (seen mid') → seen new ≡ moved (seen mid') (mid.end + length body)
+      → length body ≤ 2 ^ 26 + 5
+      → Fit (problem_of p) (length p.raw.nodes) mid'.pools.lists
+      → ((m : ℕ) → length (pool mid'.pools.lists m) ≤ 1 + suc (length old.bounds + n) * mid.batch)
+      → (Sound (problem_of p) mid.pools.lists → Sound (problem_of p) mid'.pools.lists)
+      → (Sound (problem_of p) mid.pools.lists → All (Under (problem_of p)) mid.bounds → All (Under (problem_of p)) mid'.bounds)
+      → mid'.unsettled ≤ mid.unsettled + 2 ^ 38
+      → HasIterated (suc n) old new
+  iterated_more n old mid mid' new body has w is short fit cuts sound under unsettled =
+      let pools : new.pools.lists ≡ mid'.pools.lists = ap (λ (x : Outcome). x.pools) is in
+      let bounds : new.bounds ≡ mid'.bounds = ap (λ (x : Outcome). x.bounds) is in
+      let batch : mid.batch ≡ old.batch = ap (λ (x : Outcome). x.batch) has.value in
+      let more = goes_on v p old.pools.lists seed old.batch (length old.bounds) n (Ok w.s) has.running w.step in
+      record {
+        value = is ∙ ap (λ (o : Outcome). moved o (mid.end + length body)) w.outcome ∙ value_more old mid (after old n) w.s body has.value w.body ∙ ap (λ (c : Continued). trained old c) (sym more);
+        running = ap (λ (c : Continued). c.stop) more;
+        fit = subst (λ (x : List (List Cut)). Fit (problem_of p) (length p.raw.nodes) x) (sym pools) fit;
+        cuts = λ m. subst (λ (b : ℕ). length (pool new.pools.lists m) ≤ 1 + (length old.bounds + suc n) * b) batch (subst (λ (x : List (List Cut)). length (pool x m) ≤ 1 + (length old.bounds + suc n) * mid.batch) (sym pools) (subst (λ (k : ℕ). length (pool mid'.pools.lists m) ≤ 1 + k * mid.batch) (omega arith) (cuts m)));
+        sound = λ s. subst (λ (x : List (List Cut)). Sound (problem_of p) x) (sym pools) (sound (has.sound s));
+        under = λ s u. subst (λ (x : List ℤ). All (Under (problem_of p)) x) (sym bounds) (under (has.sound s) (has.under s u));
+        unsettled = omega (arith, ap (λ (x : Outcome). x.unsettled) is, unsettled, has.unsettled);
+        end = omega (arith, ap (λ (x : Outcome). x.end) is, short, has.end);
+      }

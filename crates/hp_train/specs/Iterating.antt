@@ -1,0 +1,51 @@
+-- One iteration on a journal, and what it leaves of what was loaded.
+use Rattle.std.specs.Prelude.{◌≡◌, ◌<◌, ℕ, List, [], ◌∷◌, ◌++◌, length, take, Result, Ok, Err}
+use Rattle.std.specs.List.{sum_by}
+use Rattle.hp_num.specs.Steps.{◌>>=◌}
+use Rattle.hp_problem.specs.Sealed.{Sealed}
+use Rattle.hp_theory.specs.Bound.{bound}
+use Rattle.hp_theory.specs.View.{problem_of}
+use Rattle.hp_cut.specs.declared.entry.Entry.{Entry}
+use Rattle.hp_record.specs.Spelling.{spell}
+use Rattle.hp_journal.specs.Layout.{body_of, records}
+use Rattle.hp_load.specs.declared.loaded.Loaded.{Loaded}
+use Rattle.hp_load.specs.Load.{Outcome}
+use Rattle.hp_lp.specs.Chained.{Solving}
+use Rattle.hp_backward.specs.declared.fault.SweepFault.{SweepFault}
+use Rattle.hp_backward.specs.declared.fault.SweepFault.TheVariants as sweeps
+use Rattle.hp_train.specs.declared.fault.TrainFault.{TrainFault}
+use Rattle.hp_train.specs.declared.fault.TrainFault.TheVariants.{NoStage, Range, DiskFault, Memory}
+use Rattle.hp_train.specs.Stepping.{Stepped, step_of}
+use Rattle.hp_train.specs.Training.{payloads}
+
+-- what was loaded, with what an iteration gave, but for the journal's end
+abbrev pub with_stepped : Sealed → Loaded → Stepped → Outcome
+with_stepped p l s = record {
+  pools = s.pools;
+  bounds = l.bounds ++ bound (problem_of p) s.pools ∷ [];
+  unsettled = l.unsettled + sum_by (λ (e : Entry). e.unsettled) s.entries;
+  born = l.born;
+  end = l.end;
+  rest = l.rest;
+  version = l.version;
+  batch = l.batch;
+}
+
+-- with iteration k, and what stands behind the gate of its record
+unfoldable pub iterated : {Start Chain : Type 0} → Solving Start Chain → Sealed → Loaded → ℕ → ℕ → Result (Outcome × List ℕ) SweepFault
+iterated v p l seed k = step_of v p l.pools.lists seed l.batch k >>= λ s. Ok (with_stepped p l s, body_of (spell s.entries))
+
+-- the fault at which iterations stop; a fault of the disk and want of memory are free
+abbrev pub Stops : {A : Type 0} → TrainFault → Result A SweepFault → Type 0
+Stops (NoStage dead) iterations = iterations ≡ Err (sweeps.NoStage dead)
+Stops (Range k m r) iterations = iterations ≡ Err (sweeps.Range k m r)
+Stops DiskFault iterations = Unit {0}
+Stops Memory iterations = Unit {0}
+
+-- the records of these lists behind the gate at a place, and a gate of 0 behind them
+abbrev pub behind : ℕ → List (List Entry) → List ℕ → List ℕ
+behind at lists bytes = take at bytes ++ records (payloads lists) ++ 0 ∷ []
+
+-- a gate of 0 is the last byte
+abbrev pub EndsShut : ℕ → List ℕ → Type 0
+EndsShut at bytes = (at < length bytes) × (bytes ≡ take at bytes ++ 0 ∷ [])

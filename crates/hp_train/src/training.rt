@@ -1,0 +1,264 @@
+// Training: iterations one after another, with a record of each in the journal.
+ghost use Rattle.std.specs.Prelude.{◌≡◌, ◌⊎◌, ◌≤◌, ◌<◌, ◌+◌, ◌-◌, ◌*◌, ◌^◌, ◌++◌, ◌∷◌, [], ℕ, List, true, false, length, take, get_or, max, is_some, option_map, All, IfOk, IfErr, IfSome, OnOk, OnErr, None, Err};
+ghost use Rattle.std.specs.List.{AllByRecursion, sum_by};
+ghost use Rattle.hp_num.specs.Steps.{GivesOr};
+ghost use Rattle.hp_outside.specs.Since.{Quiet, LeavesOnly};
+ghost use Rattle.hp_problem.specs.Formulas.{record_bytes};
+ghost use Rattle.hp_theory.specs.Fit.{Fit};
+ghost use Rattle.hp_theory.specs.Pools.{pool, Sound};
+ghost use Rattle.hp_theory.specs.Bound.{Under};
+ghost use Rattle.hp_theory.specs.View.{problem_of};
+ghost use Rattle.hp_cut.specs.declared.entry.Entry.{Entry};
+ghost use Rattle.hp_record.specs.Shape.{Writable};
+ghost use Rattle.hp_record.specs.Spelling.{spell};
+ghost use Rattle.hp_journal.specs.Causes.{DiskCause};
+ghost use Rattle.hp_journal.specs.Gates.{IsShutAt};
+ghost use Rattle.hp_journal.specs.Head.{IsUnborn};
+ghost use Rattle.hp_journal.specs.Layout.{Title, body_of, journal};
+ghost use Rattle.hp_journal.specs.Mine.{GrownFrom, Mine};
+ghost use Rattle.hp_load.specs.Load.{first_gate, seen};
+ghost use Rattle.hp_lp.specs.Chained.{solving};
+ghost use Rattle.hp_lp.specs.Ready.{AreReady};
+ghost use Rattle.hp_train.specs.Continuing.{continued};
+ghost use Rattle.hp_train.specs.Iterating.{Stops, behind, iterated};
+ghost use Rattle.hp_train.specs.Stepping.{seen as stepped, step_of};
+ghost use Rattle.hp_train.specs.Training.{CanTrain, MineFrom, StopsAt, WhenWhole, grown_journal, loaded_front, payloads, title_of, trained};
+ghost use Rattle.hp_train.specs.declared.fault.TrainFault.TheVariants.{DiskFault};
+
+use crate::fault::TrainFault;
+use crate::opening::open_end;
+use crate::stepping::batch_once;
+use hp_backward::SweepFault;
+use hp_cut::{Entry, Pools};
+use hp_journal::append;
+use hp_load::{Loaded, unsettled};
+use hp_lp::Starts;
+use hp_num::{List, Memory};
+use hp_outside::Disk;
+use hp_problem::Problem;
+use hp_record::encode_batch;
+use hp_solver::Solver;
+use std::alloc::Global;
+use std::thread::Threads;
+
+/// What training goes by: the problem, the solver with what it made ready, and the seed of the paths.
+#[derive(Drop)]
+struct Course<'a, V: Solver> {
+    problem: &'a Problem,
+    solver: &'a V,
+    starts: &'a Starts<V>,
+    seed: u64,
+}
+
+/// What stands behind the gate of a record: the payload's length, the payload, and a shut gate.
+fn body_of(alloc: Global, problem: &Problem, entries: &[Entry]) -> Result<Vec<u8>, Memory>
+    requires shape { AllByRecursion (Writable problem.now) entries.now }
+    requires short { length (spell entries.now) ≤ 2 ^ 26 }
+    ensures { IfOk result (λ body. body.items ≡ body_of (spell entries.now)) }
+{
+    let payload = encode_batch(alloc, problem, entries)?;
+    let mut body = Vec::with_capacity(alloc, payload.len() + 5)?;
+    body.extend_from_slice(&(payload.len() as u32).to_be_bytes())?;
+    body.extend_from_slice(payload.as_slice())?;
+    body.push(0)?;
+    Ok(body)
+}
+
+/// An iteration over the pools.
+fn stepped<R: Threads + Sync, V: Solver>(
+    rt: &R,
+    alloc: Global,
+    course: &Course<V>,
+    pools: &mut Pools,
+    batch: u16,
+    number: u32,
+) -> Result<List<Entry>, TrainFault>
+    requires fit { Fit (problem_of course.now.problem.now) (length course.now.problem.now.raw.nodes) pools.old.lists }
+    requires few { (m : ℕ) → length (pool pools.old.lists m) ≤ 2 ^ 23 }
+    requires ready { AreReady (V.started course.now.solver.now) (V.suits course.now.solver.now) course.now.problem.now course.now.starts.now.items }
+    requires first { 1 ≤ number }
+    requires last { number ≤ 2000 }
+    requires paths { 1 ≤ batch }
+    requires most { batch ≤ 64 }
+    ensures value { GivesOr Stops (stepped pools.new.lists) result
+        (step_of (solving (V.started course.now.solver.now) (V.begun course.now.solver.now) (V.next course.now.solver.now)) course.now.problem.now pools.old.lists course.now.seed batch number) }
+    ensures extends { Extends batch pools.old.lists pools.new.lists }
+    ensures own { IfErr result (λ fault. fault ≢ DiskFault) }
+    ensures dead { IfErr result (IsDead course.now.problem.now) }
+    ensures fit { Fit (problem_of course.now.problem.now) (length course.now.problem.now.raw.nodes) pools.new.lists }
+    ensures sound { Sound (problem_of course.now.problem.now) pools.old.lists → Sound (problem_of course.now.problem.now) pools.new.lists }
+{
+    match batch_once(
+        rt,
+        alloc,
+        course.problem,
+        course.solver,
+        course.starts,
+        pools,
+        course.seed,
+        batch,
+        number,
+    ) {
+        Ok(entries) => Ok(entries),
+        Err(SweepFault::NoStage(dead)) => Err(TrainFault::NoStage(dead)),
+        Err(SweepFault::Range {
+            iteration,
+            node,
+            realization,
+        }) => Err(TrainFault::Range {
+            iteration,
+            node,
+            realization,
+        }),
+        Err(SweepFault::Memory) => Err(TrainFault::Memory),
+    }
+}
+
+/// An iteration over what was loaded: adds its cuts, its bound and what it counts, and answers what stands behind the gate
+/// of its record.
+#[tactic(auto, unfolding(crate::specs::Iterating::iterated))]
+fn iterate<R: Threads + Sync, V: Solver>(
+    rt: &R,
+    alloc: Global,
+    course: &Course<V>,
+    loaded: &mut Loaded,
+    number: u32,
+) -> Result<Vec<u8>, TrainFault>
+    requires fit { Fit (problem_of course.now.problem.now) (length course.now.problem.now.raw.nodes) loaded.old.pools.lists }
+    requires ready { AreReady (V.started course.now.solver.now) (V.suits course.now.solver.now) course.now.problem.now course.now.starts.now.items }
+    requires first { 1 ≤ number }
+    requires last { number ≤ 2000 }
+    requires paths { 1 ≤ loaded.old.batch }
+    requires most { loaded.old.batch ≤ 64 }
+    requires cuts { (m : ℕ) → length (pool loaded.old.pools.lists m) ≤ 1 + (number - 1) * loaded.old.batch }
+    requires room { record_bytes course.now.problem.now.raw (number * loaded.old.batch) loaded.old.batch ≤ 2 ^ 26 }
+    requires unsettled { loaded.old.unsettled ≤ 2 ^ 60 }
+    ensures value { GivesOr Stops (λ body. (seen loaded.new, body.items)) result
+        (iterated (solving (V.started course.now.solver.now) (V.begun course.now.solver.now) (V.next course.now.solver.now)) course.now.problem.now loaded.old course.now.seed number) }
+    ensures body { IfOk result (λ body. IsBody body.items) }
+    ensures cuts { (m : ℕ) → length (pool loaded.new.pools.lists m) ≤ 1 + number * loaded.old.batch }
+    ensures own { IfErr result (λ fault. fault ≢ DiskFault) }
+    ensures dead { IfErr result (IsDead course.now.problem.now) }
+    ensures fit { Fit (problem_of course.now.problem.now) (length course.now.problem.now.raw.nodes) loaded.new.pools.lists }
+    ensures sound { Sound (problem_of course.now.problem.now) loaded.old.pools.lists → Sound (problem_of course.now.problem.now) loaded.new.pools.lists }
+    ensures unsettled { IfOk result (λ _. loaded.new.unsettled ≤ loaded.old.unsettled + 2 ^ 38) }
+{
+    let _ = course.problem.raw();
+    let batch = loaded.batch;
+    let entries = stepped(rt, alloc, course, &mut loaded.pools, batch, number)?;
+    let body = body_of(alloc, course.problem, entries.as_slice())?;
+    loaded.bounds.push(loaded.pools.bound(course.problem))?;
+    loaded.unsettled += unsettled(entries.as_slice());
+    Ok(body)
+}
+
+/// So many iterations over what was loaded, each with its record behind the shut gate at the journal's end.
+fn iterate_all<R: Threads + Sync, D: Disk, V: Solver>(
+    rt: &R,
+    alloc: Global,
+    course: &Course<V>,
+    disk: &mut D,
+    loaded: &mut Loaded,
+    left: u32,
+) -> Result<(), TrainFault>
+    requires fit { Fit (problem_of course.now.problem.now) (length course.now.problem.now.raw.nodes) loaded.old.pools.lists }
+    requires ready { AreReady (V.started course.now.solver.now) (V.suits course.now.solver.now) course.now.problem.now course.now.starts.now.items }
+    requires last { length loaded.old.bounds + left ≤ 2000 }
+    requires paths { 1 ≤ loaded.old.batch }
+    requires most { loaded.old.batch ≤ 64 }
+    requires cuts { (m : ℕ) → length (pool loaded.old.pools.lists m) ≤ 1 + length loaded.old.bounds * loaded.old.batch }
+    requires room { record_bytes course.now.problem.now.raw ((length loaded.old.bounds + left) * loaded.old.batch) loaded.old.batch ≤ 2 ^ 26 }
+    requires unsettled { loaded.old.unsettled ≤ 2 ^ 50 }
+    requires open { loaded.old.born ≡ true }
+    requires whole { loaded.old.rest ≡ 0 }
+    requires near { loaded.old.end ≤ 2 ^ 38 }
+    requires end { IfSome (D.store disk.old).reads (EndsShut loaded.old.end) }
+    requires quiet { Quiet (D.store disk.old) }
+    ensures stop { StopsAs result (continued (solving (V.started course.now.solver.now) (V.begun course.now.solver.now) (V.next course.now.solver.now)) course.now.problem.now loaded.old.pools.lists course.now.seed loaded.old.batch (length loaded.old.bounds) left).stop }
+    ensures value { OnOk result (seen loaded.new ≡ trained loaded.old (continued (solving (V.started course.now.solver.now) (V.begun course.now.solver.now) (V.next course.now.solver.now)) course.now.problem.now loaded.old.pools.lists course.now.seed loaded.old.batch (length loaded.old.bounds) left)) }
+    ensures reads { WhenWhole result ((D.store disk.new).reads
+        ≡ option_map (behind loaded.old.end (continued (solving (V.started course.now.solver.now) (V.begun course.now.solver.now) (V.next course.now.solver.now)) course.now.problem.now loaded.old.pools.lists course.now.seed loaded.old.batch (length loaded.old.bounds) left).lists) (D.store disk.old).reads) }
+    ensures quiet { WhenWhole result (Quiet (D.store disk.new)) }
+    ensures any_moment { IfSome (D.store disk.old).reads (λ bytes. (t : Title) (ps : List (List ℕ)) (j : ℕ)
+        → bytes ≡ journal t (take j ps) 0 []
+        → GoOnWith j ps (continued (solving (V.started course.now.solver.now) (V.begun course.now.solver.now) (V.next course.now.solver.now)) course.now.problem.now loaded.old.pools.lists course.now.seed loaded.old.batch (length loaded.old.bounds) left).lists
+        → LeavesOnly (D.store disk.old) (D.store disk.new) (GrownFrom t ps j)) }
+    ensures tells { is_some (D.store disk.new).reads ≡ is_some (D.store disk.old).reads }
+    ensures cause { DiskCause (D.faults disk.old) (D.faults disk.new) (result ≡ Err DiskFault) }
+    ensures dead { IfErr result (IsDead course.now.problem.now) }
+    ensures fit { OnOk result (Fit (problem_of course.now.problem.now) (length course.now.problem.now.raw.nodes) loaded.new.pools.lists) }
+    ensures sound { Sound (problem_of course.now.problem.now) loaded.old.pools.lists → OnOk result (Sound (problem_of course.now.problem.now) loaded.new.pools.lists) }
+    ensures under { Sound (problem_of course.now.problem.now) loaded.old.pools.lists → All (Under (problem_of course.now.problem.now)) loaded.old.bounds → OnOk result (All (Under (problem_of course.now.problem.now)) loaded.new.bounds) }
+{
+    let _ = course.problem.raw();
+    let before = loaded.bounds.len() as u32;
+    for done in 0..left {
+        let body = iterate(rt, alloc, course, loaded, before + done + 1)?;
+        loaded.end = append(disk, loaded.end, body.as_slice())?;
+    }
+    Ok(())
+}
+
+/// Trains up to an iteration (Pereira and Pinto 1991): iterations go on behind those that were loaded, with their seed and
+/// batch, until there are `count`, and after each its record stands in the journal. Where the journal is not born yet,
+/// it is made first, and else its end is repaired. No iteration is done where `count` are there.
+///
+/// What was loaded is what the journal gives with this digest of the problem's bytes and this seed, and nothing is pending
+/// on the disk. What is ready was made for this problem and this solver. After Ok it has the cuts, the bounds and the count
+/// of all iterations, and the journal ends at its gate of 0.
+///
+/// [`TrainFault::NoStage`] and [`TrainFault::Range`] come exactly where an iteration stops so; the records of those before it
+/// stand in the journal. [`TrainFault::DiskFault`] comes only where the disk's count of faults rose;
+/// [`TrainFault::Memory`] where memory was refused. A crash at any moment leaves a journal of the records that were loaded
+/// and of the first of those that training adds. After a fault nothing is promised of what was loaded.
+pub fn train<R: Threads + Sync, D: Disk, V: Solver>(
+    rt: &R,
+    alloc: Global,
+    problem: &Problem,
+    solver: &V,
+    starts: &Starts<V>,
+    disk: &mut D,
+    digest: &[u8; 32],
+    seed: u64,
+    count: u32,
+    loaded: &mut Loaded,
+) -> Result<(), TrainFault>
+    requires can { CanTrain problem.now count loaded.old }
+    requires ready { AreReady (V.started solver.now) (V.suits solver.now) problem.now starts.now.items }
+    requires unborn { loaded.old.born ≡ false → IfSome (D.store disk.old).reads IsUnborn }
+    requires shut { loaded.old.born ≡ true → IfSome (D.store disk.old).reads (IsShutAt loaded.old.end) }
+    requires quiet { Quiet (D.store disk.old) }
+
+    // It stops exactly where the iterations do.
+    ensures stop { StopsAs result (iterations (solving (V.started solver.now) (V.begun solver.now) (V.next solver.now)) problem.now seed count loaded.old).stop }
+    ensures value { OnOk result (seen loaded.new ≡ trained loaded.old (iterations (solving (V.started solver.now) (V.begun solver.now) (V.next solver.now)) problem.now seed count loaded.old)) }
+
+    // The journal has the records that were loaded, and one for each iteration.
+    ensures reads { WhenWhole result ((D.store disk.new).reads
+        ≡ option_map (λ bytes. grown_journal digest.now seed loaded.old bytes (iterations (solving (V.started solver.now) (V.begun solver.now) (V.next solver.now)) problem.now seed count loaded.old).lists) (D.store disk.old).reads) }
+    ensures quiet { WhenWhole result (Quiet (D.store disk.new)) }
+
+    // A crash at any moment leaves the records that were loaded, and the first of those that are added.
+    ensures any_moment { IfSome (D.store disk.old).reads (λ bytes. (ps : List (List ℕ)) (j : ℕ)
+        → StandsIn (title_of digest.now seed loaded.old) loaded.old ps j bytes
+        → GoOnWith j ps (iterations (solving (V.started solver.now) (V.begun solver.now) (V.next solver.now)) problem.now seed count loaded.old).lists
+        → LeavesOnly (D.store disk.old) (D.store disk.new) (MineFrom (title_of digest.now seed loaded.old) ps j)) }
+    ensures tells { is_some (D.store disk.new).reads ≡ is_some (D.store disk.old).reads }
+    ensures cause { DiskCause (D.faults disk.old) (D.faults disk.new) (result ≡ Err DiskFault) }
+
+    // For every solver and over any disk.
+    ensures dead { IfErr result (IsDead problem.now) }
+    ensures fit { OnOk result (Fit (problem_of problem.now) (length problem.now.raw.nodes) loaded.new.pools.lists) }
+    ensures sound { Sound (problem_of problem.now) loaded.old.pools.lists → OnOk result (Sound (problem_of problem.now) loaded.new.pools.lists) }
+    ensures under { Sound (problem_of problem.now) loaded.old.pools.lists → All (Under (problem_of problem.now)) loaded.old.bounds → OnOk result (All (Under (problem_of problem.now)) loaded.new.bounds) }
+{
+    open_end(disk, digest, seed, loaded)?;
+    let course = Course {
+        problem,
+        solver,
+        starts,
+        seed,
+    };
+    let left = count.saturating_sub(loaded.bounds.len() as u32);
+    iterate_all(rt, alloc, &course, disk, loaded, left)
+}
