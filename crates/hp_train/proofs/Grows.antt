@@ -98,7 +98,7 @@ module _ {Start Chain : Type 0} (v : Solving Start Chain) (p : Sealed) (seed : �
 
   -- n iterations were done
   pub record HasIterated (n : ℕ) (old new : Loaded) : Type 0 where
-    pub value : seen new ≡ trained old (after old n)
+    pub value : seen new ≡ trained (seen old) (after old n)
     pub running : (after old n).stop ≡ None
     pub fit : Fit (problem_of p) (length p.raw.nodes) new.pools.lists
     pub cuts : (m : ℕ) → length (pool new.pools.lists m) ≤ 1 + (length old.bounds + n) * old.batch
@@ -107,7 +107,7 @@ module _ {Start Chain : Type 0} (v : Solving Start Chain) (p : Sealed) (seed : �
     pub unsettled : new.unsettled ≤ old.unsettled + n * 2 ^ 38
     pub end : new.end ≤ old.end + n * (2 ^ 26 + 5)
 
-  record_is : (l : Loaded) → l.born ≡ true → l.rest ≡ 0 → seen l ≡ trained l (before_any l.pools.lists)
+  record_is : (l : Loaded) → l.born ≡ true → l.rest ≡ 0 → seen l ≡ trained (seen l) (before_any l.pools.lists)
   unfolding records
   record_is l born rest = rw (born, rest, append-nil l.bounds) refl
 
@@ -135,7 +135,7 @@ module _ {Start Chain : Type 0} (v : Solving Start Chain) (p : Sealed) (seed : �
     → (let o : Outcome = record { pools = pools; bounds = bounds; unsettled = u; born = born; end = end; rest = rest; version = version; batch = batch } in o) ≡ record { pools = pools; bounds = bounds'; unsettled = u'; born = born'; end = end'; rest = rest'; version = version'; batch = batch' }
   fields pools bounds bounds' u u' born born' end end' rest rest' version version' batch batch' a b c d e f g = rw (a, b, c, d, e, f, g) refl
 
-  value_more : (old mid : Loaded) (c : Continued) (s : Stepped) (body : List ℕ) → seen mid ≡ trained old c → body ≡ body_of (spell s.entries) → moved (with_stepped p mid s) (mid.end + length body) ≡ trained old (with_step p c (Ok s))
+  value_more : (old mid : Loaded) (c : Continued) (s : Stepped) (body : List ℕ) → seen mid ≡ trained (seen old) c → body ≡ body_of (spell s.entries) → moved (with_stepped p mid s) (mid.end + length body) ≡ trained (seen old) (with_step p c (Ok s))
   value_more old mid c s body is spells =
       fields s.pools _ _ _ _ _ _ _ _ _ _ _ _ _ _
       (ap (λ (o : Outcome). o.bounds ++ bound (problem_of p) s.pools ∷ []) is ∙ append_assoc old.bounds c.bounds (bound (problem_of p) s.pools ∷ []))
@@ -206,7 +206,7 @@ module _ {Start Chain : Type 0} (v : Solving Start Chain) (p : Sealed) (seed : �
       let batch : mid.batch ≡ old.batch = ap (λ (x : Outcome). x.batch) has.value in
       let more = goes_on v p old.pools.lists seed old.batch (length old.bounds) n (Ok w.s) has.running w.step in
       record {
-        value = is ∙ ap (λ (o : Outcome). moved o (mid.end + length body)) w.outcome ∙ value_more old mid (after old n) w.s body has.value w.body ∙ ap (λ (c : Continued). trained old c) (sym more);
+        value = is ∙ ap (λ (o : Outcome). moved o (mid.end + length body)) w.outcome ∙ value_more old mid (after old n) w.s body has.value w.body ∙ ap (λ (c : Continued). trained (seen old) c) (sym more);
         running = ap (λ (c : Continued). c.stop) more;
         fit = subst (λ (x : List (List Cut)). Fit (problem_of p) (length p.raw.nodes) x) (sym pools) fit;
         cuts = λ m. subst (λ (b : ℕ). length (pool new.pools.lists m) ≤ 1 + (length old.bounds + suc n) * b) batch (subst (λ (x : List (List Cut)). length (pool x m) ≤ 1 + (length old.bounds + suc n) * mid.batch) (sym pools) (subst (λ (k : ℕ). length (pool mid'.pools.lists m) ≤ 1 + k * mid.batch) (omega arith) (cuts m)));

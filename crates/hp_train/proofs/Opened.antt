@@ -13,8 +13,7 @@ use Rattle.hp_journal.specs.Mine.{Unborn, Grown, GrownFrom, Mine, LeavesGrown}
 use Rattle.hp_journal.proofs.HeadsRead.{first_gate as head_gate}
 use Rattle.hp_journal.proofs.Told.{told, known, mapped, map_as}
 use Rattle.hp_cut.specs.declared.entry.Entry.{Entry}
-use Rattle.hp_load.specs.declared.loaded.Loaded.{Loaded}
-use Rattle.hp_load.specs.Load.{first_gate}
+use Rattle.hp_load.specs.Load.{Outcome, first_gate}
 use Rattle.hp_train.specs.Iterating.{EndsShut, behind}
 use Rattle.hp_train.specs.Training.{GoOnWith, MineFrom, StandsIn, unborn, born, grown_journal, last_gate, loaded_front, payloads, title_of}
 
@@ -33,7 +32,7 @@ not_both b t f = cc
 grown_mine : (t : Title) (ps : List (List ℕ)) (j : ℕ) (old new : Store) → LeavesOnly old new (GrownFrom t ps j) → LeavesOnly old new (MineFrom t ps j)
 grown_mine t ps j old new run = wider old new (GrownFrom t ps j) (MineFrom t ps j) run (λ c g. (g.0, g.1, mine.born g.2))
 
-module _ (t : Title) (l : Loaded) (old new : Store) where
+module _ (t : Title) (l : Outcome) (old new : Store) where
   -- a birth
   new_leaves : (ps : List (List ℕ)) (j : ℕ) (bytes : List ℕ) → l.born ≡ false → ((qs : List (List ℕ)) → Mine t qs 0 bytes → LeavesOnly old new (Mine t qs 0)) → StandsIn t l ps j bytes → LeavesOnly old new (MineFrom t ps j)
   new_leaves ps j bytes is leaves (unborn not_born none file) = wider old new (Mine t ps 0) (MineFrom t ps j) (leaves ps (mine.unborn refl file)) (λ c m. (0, omega (arith, none), m))
@@ -50,7 +49,7 @@ module _ (t : Title) (l : Loaded) (old new : Store) where
   pub repaired_leaves : l.born ≡ true → LeavesGrown l.end old new → IfSome old.reads (λ bytes. (ps : List (List ℕ)) (j : ℕ) → StandsIn t l ps j bytes → LeavesOnly old new (MineFrom t ps j))
   repaired_leaves is leaves = told old.reads (λ bytes reads ps j stands. old_leaves ps j bytes is (known (λ b. (s : Title) (qs : List (List ℕ)) (k : ℕ) → l.end ≡ length (front s (take k qs)) → Grown s qs k b → LeavesOnly old new (GrownFrom s qs k)) old.reads bytes reads leaves) stands)
 
-module _ (digest : List ℕ) (seed : ℕ) (l : Loaded) where
+module _ (digest : List ℕ) (seed : ℕ) (l : Outcome) where
   -- what stands before the gate
   pub new_front : (bytes : List ℕ) → l.born ≡ false → loaded_front digest seed l bytes ≡ front (title_of digest seed l) []
   new_front bytes is = ap (λ (b : Bool). if b then take l.end bytes else front (title_of digest seed l) []) is

@@ -12,7 +12,6 @@ use Rattle.hp_cut.specs.declared.entry.Entry.{Entry}
 use Rattle.hp_record.specs.Spelling.{spell}
 use Rattle.hp_journal.specs.Layout.{Title, front, records}
 use Rattle.hp_journal.specs.Mine.{Unborn, Grown, Mine}
-use Rattle.hp_load.specs.declared.loaded.Loaded.{Loaded}
 use Rattle.hp_load.specs.Load.{Outcome, first_gate}
 use Rattle.hp_backward.specs.declared.fault.SweepFault.{SweepFault}
 use Rattle.hp_backward.specs.declared.fault.SweepFault.TheVariants as sweeps
@@ -22,20 +21,20 @@ use Rattle.hp_lp.specs.Chained.{Solving}
 use Rattle.hp_train.specs.Continuing.{Continued, continued}
 
 -- what training asks of what was loaded, with so many iterations to come to in all
-pub record CanTrain (p : Sealed) (count : ℕ) (l : Loaded) : Type 0 where
-  pub fit : Fit (problem_of p) (length p.raw.nodes) l.pools.lists
+pub record CanTrain (p : Sealed) (count : ℕ) (o : Outcome) : Type 0 where
+  pub fit : Fit (problem_of p) (length p.raw.nodes) o.pools
   pub iterations : count ≤ 2000
-  pub few : length l.bounds ≤ 2000
+  pub few : length o.bounds ≤ 2000
   -- the base cut, and at most one for each path
-  pub cuts : (m : ℕ) → length (pool l.pools.lists m) ≤ 1 + length l.bounds * l.batch
-  pub version : ((l.version ≡ 1) × (l.batch ≡ 1)) ⊎ ((l.version ≡ 2) × (1 ≤ l.batch) × (l.batch ≤ 64))
-  pub end : l.end ≤ 2 ^ 38
-  pub unsettled : l.unsettled ≤ 2 ^ 50
-  pub room : too_much p (max count (length l.bounds)) l.batch ≡ None
+  pub cuts : (m : ℕ) → length (pool o.pools m) ≤ 1 + length o.bounds * o.batch
+  pub version : ((o.version ≡ 1) × (o.batch ≡ 1)) ⊎ ((o.version ≡ 2) × (1 ≤ o.batch) × (o.batch ≤ 64))
+  pub end : o.end ≤ 2 ^ 38
+  pub unsettled : o.unsettled ≤ 2 ^ 50
+  pub room : too_much p (max count (length o.bounds)) o.batch ≡ None
 
 -- the title of the journal
-abbrev pub title_of : List ℕ → ℕ → Loaded → Title
-title_of digest seed l = record { version = l.version; digest = digest; seed = seed; batch = l.batch }
+abbrev pub title_of : List ℕ → ℕ → Outcome → Title
+title_of digest seed o = record { version = o.version; digest = digest; seed = seed; batch = o.batch }
 
 -- the payload of each iteration
 abbrev pub payloads : List (List Entry) → List (List ℕ)
@@ -46,43 +45,43 @@ abbrev pub unsettled_in : List (List Entry) → ℕ
 unsettled_in lists = sum_by (sum_by (λ (e : Entry). e.unsettled)) lists
 
 -- the place of the last gate that was loaded, or of the first one of a journal that is not born yet
-abbrev pub last_gate : Loaded → ℕ
-last_gate l = if l.born then l.end else first_gate l.version
+abbrev pub last_gate : Outcome → ℕ
+last_gate o = if o.born then o.end else first_gate o.version
 
 -- the iterations behind those that were loaded, up to so many in all
-abbrev pub iterations : {Start Chain : Type 0} → Solving Start Chain → Sealed → ℕ → ℕ → Loaded → Continued
-iterations v p seed count l = continued v p l.pools.lists seed l.batch (length l.bounds) (count - length l.bounds)
+abbrev pub iterations : {Start Chain : Type 0} → Solving Start Chain → Sealed → ℕ → ℕ → Outcome → Continued
+iterations v p seed count o = continued v p o.pools seed o.batch (length o.bounds) (count - length o.bounds)
 
 -- what was loaded, once the journal is born and ends with a gate of 0
-abbrev pub opened : Loaded → Outcome
-opened l = record { pools = l.pools.lists; bounds = l.bounds; unsettled = l.unsettled; born = true; end = last_gate l; rest = 0; version = l.version; batch = l.batch }
+abbrev pub opened : Outcome → Outcome
+opened o = record { pools = o.pools; bounds = o.bounds; unsettled = o.unsettled; born = true; end = last_gate o; rest = 0; version = o.version; batch = o.batch }
 
 -- what was loaded, with what iterations behind it gave
-abbrev pub trained : Loaded → Continued → Outcome
-trained l c = record {
+abbrev pub trained : Outcome → Continued → Outcome
+trained o c = record {
   pools = c.pools;
-  bounds = l.bounds ++ c.bounds;
-  unsettled = l.unsettled + unsettled_in c.lists;
+  bounds = o.bounds ++ c.bounds;
+  unsettled = o.unsettled + unsettled_in c.lists;
   born = true;
-  end = last_gate l + length (records (payloads c.lists));
+  end = last_gate o + length (records (payloads c.lists));
   rest = 0;
-  version = l.version;
-  batch = l.batch;
+  version = o.version;
+  batch = o.batch;
 }
 
 -- what stands before the last gate that was loaded, as it was read
-abbrev pub loaded_front : List ℕ → ℕ → Loaded → List ℕ → List ℕ
-loaded_front digest seed l bytes = if l.born then take l.end bytes else front (title_of digest seed l) []
+abbrev pub loaded_front : List ℕ → ℕ → Outcome → List ℕ → List ℕ
+loaded_front digest seed o bytes = if o.born then take o.end bytes else front (title_of digest seed o) []
 
 -- the journal with the records of these lists behind those that were loaded, a gate of 0 and no rest
-abbrev pub grown_journal : List ℕ → ℕ → Loaded → List ℕ → List (List Entry) → List ℕ
-grown_journal digest seed l bytes lists = loaded_front digest seed l bytes ++ records (payloads lists) ++ 0 ∷ []
+abbrev pub grown_journal : List ℕ → ℕ → Outcome → List ℕ → List (List Entry) → List ℕ
+grown_journal digest seed o bytes lists = loaded_front digest seed o bytes ++ records (payloads lists) ++ 0 ∷ []
 
 -- what was loaded stands in the bytes: a journal of the first j of these payloads up to its last gate, or one that is
 -- not born yet
-pub data StandsIn (t : Title) (l : Loaded) (ps : List (List ℕ)) (j : ℕ) (bytes : List ℕ) : Type 0 where
-  unborn : l.born ≡ false → j ≡ 0 → Unborn t bytes → StandsIn t l ps j bytes
-  born : l.born ≡ true → l.end ≡ length (front t (take j ps)) → Grown t ps j bytes → StandsIn t l ps j bytes
+pub data StandsIn (t : Title) (o : Outcome) (ps : List (List ℕ)) (j : ℕ) (bytes : List ℕ) : Type 0 where
+  unborn : o.born ≡ false → j ≡ 0 → Unborn t bytes → StandsIn t o ps j bytes
+  born : o.born ≡ true → o.end ≡ length (front t (take j ps)) → Grown t ps j bytes → StandsIn t o ps j bytes
 
 -- the bytes stand for the first j of these payloads, or for more
 abbrev pub MineFrom : Title → List (List ℕ) → ℕ → List ℕ → Type 0

@@ -15,7 +15,7 @@ use hp_outside::{Disk, Failed};
 /// The batch with which the journal is born: none for version 1.
 fn batch_of(loaded: &Loaded) -> Option<u16>
     requires { ((loaded.now.version ≡ 1) × (loaded.now.batch ≡ 1)) ⊎ ((loaded.now.version ≡ 2) × (1 ≤ loaded.now.batch) × (loaded.now.batch ≤ 64)) }
-    ensures title { (digest : List ℕ) (seed : ℕ) → new_title digest seed result ≡ title_of digest seed loaded.now }
+    ensures title { (digest : List ℕ) (seed : ℕ) → new_title digest seed result ≡ title_of digest seed (seen loaded.now) }
     ensures batch { IfSome result (λ b. (1 ≤ b) × (b ≤ 64)) }
 {
     if loaded.version == 2 {
@@ -36,13 +36,13 @@ fn open_new<D: Disk>(
     requires born { loaded.old.born ≡ false }
     requires unborn { IfSome (D.store disk.old).reads IsUnborn }
     requires quiet { Quiet (D.store disk.old) }
-    ensures value { OnOk result (seen loaded.new ≡ opened loaded.old) }
+    ensures value { OnOk result (seen loaded.new ≡ opened (seen loaded.old)) }
     ensures reads { OnOk result ((D.store disk.new).reads
-        ≡ option_map (λ bytes. loaded_front digest.now seed loaded.old bytes ++ 0 ∷ []) (D.store disk.old).reads) }
+        ≡ option_map (λ bytes. loaded_front digest.now seed (seen loaded.old) bytes ++ 0 ∷ []) (D.store disk.old).reads) }
     ensures quiet { OnOk result (Quiet (D.store disk.new)) }
     ensures any_moment { IfSome (D.store disk.old).reads (λ bytes. (ps : List (List ℕ)) (j : ℕ)
-        → StandsIn (title_of digest.now seed loaded.old) loaded.old ps j bytes
-        → LeavesOnly (D.store disk.old) (D.store disk.new) (MineFrom (title_of digest.now seed loaded.old) ps j)) }
+        → StandsIn (title_of digest.now seed (seen loaded.old)) (seen loaded.old) ps j bytes
+        → LeavesOnly (D.store disk.old) (D.store disk.new) (MineFrom (title_of digest.now seed (seen loaded.old)) ps j)) }
     ensures tells { is_some (D.store disk.new).reads ≡ is_some (D.store disk.old).reads }
     ensures cause { HasCause (D.faults disk.old) (D.faults disk.new) result }
 {
@@ -64,13 +64,13 @@ fn open_old<D: Disk>(
     requires near { loaded.old.end ≤ 2 ^ 38 }
     requires shut { IfSome (D.store disk.old).reads (IsShutAt loaded.old.end) }
     requires quiet { Quiet (D.store disk.old) }
-    ensures value { OnOk result (seen loaded.new ≡ opened loaded.old) }
+    ensures value { OnOk result (seen loaded.new ≡ opened (seen loaded.old)) }
     ensures reads { OnOk result ((D.store disk.new).reads
-        ≡ option_map (λ bytes. loaded_front digest.now seed loaded.old bytes ++ 0 ∷ []) (D.store disk.old).reads) }
+        ≡ option_map (λ bytes. loaded_front digest.now seed (seen loaded.old) bytes ++ 0 ∷ []) (D.store disk.old).reads) }
     ensures quiet { OnOk result (Quiet (D.store disk.new)) }
     ensures any_moment { IfSome (D.store disk.old).reads (λ bytes. (ps : List (List ℕ)) (j : ℕ)
-        → StandsIn (title_of digest.now seed loaded.old) loaded.old ps j bytes
-        → LeavesOnly (D.store disk.old) (D.store disk.new) (MineFrom (title_of digest.now seed loaded.old) ps j)) }
+        → StandsIn (title_of digest.now seed (seen loaded.old)) (seen loaded.old) ps j bytes
+        → LeavesOnly (D.store disk.old) (D.store disk.new) (MineFrom (title_of digest.now seed (seen loaded.old)) ps j)) }
     ensures tells { is_some (D.store disk.new).reads ≡ is_some (D.store disk.old).reads }
     ensures cause { HasCause (D.faults disk.old) (D.faults disk.new) result }
 {
@@ -91,13 +91,13 @@ pub(crate) fn open_end<D: Disk>(
     requires unborn { loaded.old.born ≡ false → IfSome (D.store disk.old).reads IsUnborn }
     requires shut { loaded.old.born ≡ true → IfSome (D.store disk.old).reads (IsShutAt loaded.old.end) }
     requires quiet { Quiet (D.store disk.old) }
-    ensures value { OnOk result (seen loaded.new ≡ opened loaded.old) }
+    ensures value { OnOk result (seen loaded.new ≡ opened (seen loaded.old)) }
     ensures reads { OnOk result ((D.store disk.new).reads
-        ≡ option_map (λ bytes. loaded_front digest.now seed loaded.old bytes ++ 0 ∷ []) (D.store disk.old).reads) }
+        ≡ option_map (λ bytes. loaded_front digest.now seed (seen loaded.old) bytes ++ 0 ∷ []) (D.store disk.old).reads) }
     ensures quiet { OnOk result (Quiet (D.store disk.new)) }
     ensures any_moment { IfSome (D.store disk.old).reads (λ bytes. (ps : List (List ℕ)) (j : ℕ)
-        → StandsIn (title_of digest.now seed loaded.old) loaded.old ps j bytes
-        → LeavesOnly (D.store disk.old) (D.store disk.new) (MineFrom (title_of digest.now seed loaded.old) ps j)) }
+        → StandsIn (title_of digest.now seed (seen loaded.old)) (seen loaded.old) ps j bytes
+        → LeavesOnly (D.store disk.old) (D.store disk.new) (MineFrom (title_of digest.now seed (seen loaded.old)) ps j)) }
     ensures tells { is_some (D.store disk.new).reads ≡ is_some (D.store disk.old).reads }
     ensures cause { HasCause (D.faults disk.old) (D.faults disk.new) result }
 {

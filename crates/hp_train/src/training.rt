@@ -175,7 +175,7 @@ fn iterate_all<R: Threads + Sync, D: Disk, V: Solver>(
     requires end { IfSome (D.store disk.old).reads (EndsShut loaded.old.end) }
     requires quiet { Quiet (D.store disk.old) }
     ensures stop { StopsAs result (continued (solving (V.started course.now.solver.now) (V.begun course.now.solver.now) (V.next course.now.solver.now)) course.now.problem.now loaded.old.pools.lists course.now.seed loaded.old.batch (length loaded.old.bounds) left).stop }
-    ensures value { OnOk result (seen loaded.new ≡ trained loaded.old (continued (solving (V.started course.now.solver.now) (V.begun course.now.solver.now) (V.next course.now.solver.now)) course.now.problem.now loaded.old.pools.lists course.now.seed loaded.old.batch (length loaded.old.bounds) left)) }
+    ensures value { OnOk result (seen loaded.new ≡ trained (seen loaded.old) (continued (solving (V.started course.now.solver.now) (V.begun course.now.solver.now) (V.next course.now.solver.now)) course.now.problem.now loaded.old.pools.lists course.now.seed loaded.old.batch (length loaded.old.bounds) left)) }
     ensures reads { WhenWhole result ((D.store disk.new).reads
         ≡ option_map (behind loaded.old.end (continued (solving (V.started course.now.solver.now) (V.begun course.now.solver.now) (V.next course.now.solver.now)) course.now.problem.now loaded.old.pools.lists course.now.seed loaded.old.batch (length loaded.old.bounds) left).lists) (D.store disk.old).reads) }
     ensures quiet { WhenWhole result (Quiet (D.store disk.new)) }
@@ -223,26 +223,26 @@ pub fn train<R: Threads + Sync, D: Disk, V: Solver>(
     count: u32,
     loaded: &mut Loaded,
 ) -> Result<(), TrainFault>
-    requires can { CanTrain problem.now count loaded.old }
+    requires can { CanTrain problem.now count (seen loaded.old) }
     requires ready { AreReady (V.started solver.now) (V.suits solver.now) problem.now starts.now.items }
     requires unborn { loaded.old.born ≡ false → IfSome (D.store disk.old).reads IsUnborn }
     requires shut { loaded.old.born ≡ true → IfSome (D.store disk.old).reads (IsShutAt loaded.old.end) }
     requires quiet { Quiet (D.store disk.old) }
 
     // It stops exactly where the iterations do.
-    ensures stop { StopsAs result (iterations (solving (V.started solver.now) (V.begun solver.now) (V.next solver.now)) problem.now seed count loaded.old).stop }
-    ensures value { OnOk result (seen loaded.new ≡ trained loaded.old (iterations (solving (V.started solver.now) (V.begun solver.now) (V.next solver.now)) problem.now seed count loaded.old)) }
+    ensures stop { StopsAs result (iterations (solving (V.started solver.now) (V.begun solver.now) (V.next solver.now)) problem.now seed count (seen loaded.old)).stop }
+    ensures value { OnOk result (seen loaded.new ≡ trained (seen loaded.old) (iterations (solving (V.started solver.now) (V.begun solver.now) (V.next solver.now)) problem.now seed count (seen loaded.old))) }
 
     // The journal has the records that were loaded, and one for each iteration.
     ensures reads { WhenWhole result ((D.store disk.new).reads
-        ≡ option_map (λ bytes. grown_journal digest.now seed loaded.old bytes (iterations (solving (V.started solver.now) (V.begun solver.now) (V.next solver.now)) problem.now seed count loaded.old).lists) (D.store disk.old).reads) }
+        ≡ option_map (λ bytes. grown_journal digest.now seed (seen loaded.old) bytes (iterations (solving (V.started solver.now) (V.begun solver.now) (V.next solver.now)) problem.now seed count (seen loaded.old)).lists) (D.store disk.old).reads) }
     ensures quiet { WhenWhole result (Quiet (D.store disk.new)) }
 
     // A crash at any moment leaves the records that were loaded, and the first of those that are added.
     ensures any_moment { IfSome (D.store disk.old).reads (λ bytes. (ps : List (List ℕ)) (j : ℕ)
-        → StandsIn (title_of digest.now seed loaded.old) loaded.old ps j bytes
-        → GoOnWith j ps (iterations (solving (V.started solver.now) (V.begun solver.now) (V.next solver.now)) problem.now seed count loaded.old).lists
-        → LeavesOnly (D.store disk.old) (D.store disk.new) (MineFrom (title_of digest.now seed loaded.old) ps j)) }
+        → StandsIn (title_of digest.now seed (seen loaded.old)) (seen loaded.old) ps j bytes
+        → GoOnWith j ps (iterations (solving (V.started solver.now) (V.begun solver.now) (V.next solver.now)) problem.now seed count (seen loaded.old)).lists
+        → LeavesOnly (D.store disk.old) (D.store disk.new) (MineFrom (title_of digest.now seed (seen loaded.old)) ps j)) }
     ensures tells { is_some (D.store disk.new).reads ≡ is_some (D.store disk.old).reads }
     ensures cause { DiskCause (D.faults disk.old) (D.faults disk.new) (result ≡ Err DiskFault) }
 
