@@ -1,6 +1,6 @@
 // The forms of the command line.
 ghost use Rattle.std.specs.Prelude.{◌≡◌, ◌≤◌, ◌<◌, ◌^◌, IfSome, Some, None, map, string_bytes, codes};
-ghost use Rattle.hp_words.specs.Commands.{number_within, alone, on_journal, train_by, train_in_batches, train, simulate_by, simulate, gen_by, gen, command_by, command_of, texts};
+ghost use Rattle.hp_words.specs.Commands.{number_within, alone, on_journal, train_by, train_in_batches, train, simulate_by, simulate, gen_by, gen, command_by, command_of, texts, IsWithin};
 
 use crate::command::Command;
 use hp_problem::{
@@ -138,7 +138,8 @@ fn command_by(word: &str, words: &[String]) -> Option<Command>
 /// with a JOURNAL that is not empty and numbers in decimal digits within their limits. It takes no memory.
 #[tactic(auto, unfolding(crate::specs::Commands::command_of))]
 pub fn read_words(words: &[String]) -> Option<Command>
-    ensures { result ≡ command_of (texts words.now) }
+    ensures value { result ≡ command_of (texts words.now) }
+    ensures within { IfSome result IsWithin }
 {
     let (word, rest) = words.split_first()?;
     command_by(word.as_str(), rest)
