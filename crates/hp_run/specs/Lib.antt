@@ -4,3 +4,4 @@ pub mod Status
 pub mod Words
 pub mod Outcome
 pub mod Causes
+pub mod TrainingLines

@@ -2,8 +2,9 @@
 use Rattle.std.specs.Prelude.{ℕ, List, [], ◌++◌, codes}
 use Rattle.hp_run.specs.RefusalLines.{refusal_text}
 use Rattle.hp_run.specs.JournalLines.{journal_refusal_text, too_much_text}
+use Rattle.hp_run.specs.TrainingLines.{no_stage_text, range_text}
 use Rattle.hp_run.specs.declared.status.Status.{Status}
-use Rattle.hp_run.specs.declared.status.Status.TheVariants.{Done, Usage, ReadFault, TooLong, ProblemRefused, JournalRefused, TooMuch, DiskFault, WriteFault, Memory}
+use Rattle.hp_run.specs.declared.status.Status.TheVariants.{Done, Usage, ReadFault, TooLong, ProblemRefused, JournalRefused, TooMuch, Range, NoStage, DiskFault, WriteFault, Memory}
 
 abbrev pub number_of : Status → ℕ
 number_of Done = 0
@@ -13,18 +14,22 @@ number_of TooLong = 4
 number_of (ProblemRefused r) = 5
 number_of (JournalRefused r) = 6
 number_of (TooMuch t) = 7
+number_of (Range k m r) = 8
+number_of (NoStage dead) = 9
 number_of DiskFault = 10
 number_of WriteFault = 11
 number_of Memory = 12
 
 unfoldable pub status_text : Status → List ℕ
 status_text Done = []
-status_text Usage = codes "usage: base, check JOURNAL"
+status_text Usage = codes "usage: base, train JOURNAL SEED COUNT [BATCH], check JOURNAL"
 status_text ReadFault = codes "problem could not be read"
 status_text TooLong = codes "problem is longer than 16777216 bytes"
 status_text (ProblemRefused r) = refusal_text r
 status_text (JournalRefused r) = journal_refusal_text r
 status_text (TooMuch t) = too_much_text t
+status_text (Range k m r) = range_text k m r
+status_text (NoStage dead) = no_stage_text dead
 status_text DiskFault = codes "journal device failed"
 status_text WriteFault = codes "output failed"
 status_text Memory = codes "memory"
@@ -42,6 +47,8 @@ status_line_text TooLong = name ++ status_text TooLong ++ codes "\n"
 status_line_text (ProblemRefused r) = name ++ status_text (ProblemRefused r) ++ codes "\n"
 status_line_text (JournalRefused r) = name ++ status_text (JournalRefused r) ++ codes "\n"
 status_line_text (TooMuch t) = name ++ status_text (TooMuch t) ++ codes "\n"
+status_line_text (Range k m r) = name ++ status_text (Range k m r) ++ codes "\n"
+status_line_text (NoStage dead) = name ++ status_text (NoStage dead) ++ codes "\n"
 status_line_text DiskFault = name ++ status_text DiskFault ++ codes "\n"
 status_line_text WriteFault = name ++ status_text WriteFault ++ codes "\n"
 status_line_text Memory = name ++ status_text Memory ++ codes "\n"

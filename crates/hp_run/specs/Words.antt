@@ -5,12 +5,12 @@ use Rattle.hp_words.specs.declared.command.Command.{Command}
 use Rattle.hp_words.specs.declared.command.Command.TheVariants as commands
 use Rattle.hp_words.specs.Commands.{command_of, texts}
 use Rattle.hp_run.specs.declared.task.Task.{Task}
-use Rattle.hp_run.specs.declared.task.Task.TheVariants.{Base, Check}
+use Rattle.hp_run.specs.declared.task.Task.TheVariants.{Base, Train, Check}
 
 -- of the commands those that the program does
 abbrev pub task_of : Command → Option Task
 task_of commands.Base = Some Base
-task_of (commands.Train seed count batch) = None
+task_of (commands.Train seed count batch) = Some (Train seed count batch)
 task_of commands.Check = Some Check
 task_of (commands.Simulate seed count) = None
 task_of commands.Validate = None

@@ -9,6 +9,8 @@ mod refusal_lines;
 mod status;
 mod task;
 mod top;
+mod training;
+mod training_lines;
 mod writing;
 
 pub use program::{execute, start};

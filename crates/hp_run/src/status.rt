@@ -4,14 +4,16 @@ ghost use Rattle.hp_run.specs.Status.{number_of, name, status_text, status_line_
 
 use crate::journal_lines::{push_journal_refusal, push_too_much};
 use crate::refusal_lines::push_refusal;
+use crate::training_lines::{push_no_stage, push_range};
 use hp_load::JournalRefusal;
 use hp_num::Memory;
 use hp_problem::{Refusal, TooMuch};
+use hp_settle::Dead;
 use hp_text::push_bytes;
 use std::alloc::Global;
 
 /// How a run ended.
-#[derive(Clone, Copy, Debug, PartialEq, Eq)]
+#[derive(Drop)]
 pub enum Status {
     /// The report was written whole.
     Done,
@@ -27,7 +29,15 @@ pub enum Status {
     JournalRefused(JournalRefusal),
     /// A formula that bounds what a run takes passes its limit.
     TooMuch(TooMuch),
-    /// The journal could not be read; only where the disk's count of faults rose.
+    /// Training met certificates of a node whose size passes 2^127 - 1 at a realization.
+    Range {
+        iteration: u32,
+        node: u32,
+        realization: u32,
+    },
+    /// Training met a node that is shown to have no decisions.
+    NoStage(Dead),
+    /// The journal could not be read or written; only where the disk's count of faults rose.
     DiskFault,
     /// The report could not be written whole; only where the sink's count of faults rose.
     WriteFault,
@@ -47,6 +57,8 @@ pub fn number(status: &Status) -> u8
         Status::ProblemRefused(_) => 5,
         Status::JournalRefused(_) => 6,
         Status::TooMuch(_) => 7,
+        Status::Range { .. } => 8,
+        Status::NoStage(_) => 9,
         Status::DiskFault => 10,
         Status::WriteFault => 11,
         Status::Memory => 12,
@@ -59,12 +71,18 @@ fn push_status(alloc: Global, out: &mut Vec<u8>, status: &Status) -> Result<(), 
 {
     match status {
         Status::Done => Ok(()),
-        Status::Usage => push_bytes(out, b"usage: base, check JOURNAL"),
+        Status::Usage => push_bytes(out, b"usage: base, train JOURNAL SEED COUNT [BATCH], check JOURNAL"),
         Status::ReadFault => push_bytes(out, b"problem could not be read"),
         Status::TooLong => push_bytes(out, b"problem is longer than 16777216 bytes"),
         Status::ProblemRefused(refusal) => push_refusal(out, *refusal),
         Status::JournalRefused(refusal) => push_journal_refusal(alloc, out, refusal),
         Status::TooMuch(formula) => push_too_much(out, *formula),
+        Status::Range {
+            iteration,
+            node,
+            realization,
+        } => push_range(out, *iteration, *node, *realization),
+        Status::NoStage(dead) => push_no_stage(out, dead),
         Status::DiskFault => push_bytes(out, b"journal device failed"),
         Status::WriteFault => push_bytes(out, b"output failed"),
         Status::Memory => push_bytes(out, b"memory"),
@@ -84,7 +102,7 @@ pub fn status_line(alloc: Global, status: &Status) -> Result<Vec<u8>, Memory>
     ensures { IfOk result (λ v. v.items ≡ status_line_text status.now) }
 {
     let mut out = Vec::new(alloc);
-    if *status == Status::Done {
+    if matches!(status, Status::Done) {
         return Ok(out);
     }
     push_name(&mut out)?;

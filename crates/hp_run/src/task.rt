@@ -9,6 +9,13 @@ use hp_words::{Command, read_words};
 pub enum Task {
     /// The report of the base cuts of a problem.
     Base,
+    /// Training on a journal with a seed up to so many iterations, with so many paths in each where that is given, and
+    /// its report.
+    Train {
+        seed: u64,
+        count: u32,
+        batch: Option<u16>,
+    },
     /// The report of what a journal gives.
     Check,
 }
@@ -18,6 +25,7 @@ fn task_of(command: Command) -> Option<Task>
 {
     match command {
         Command::Base => Some(Task::Base),
+        Command::Train { seed, count, batch } => Some(Task::Train { seed, count, batch }),
         Command::Check => Some(Task::Check),
         _ => None,
     }

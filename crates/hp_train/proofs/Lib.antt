@@ -5,3 +5,5 @@ pub mod Forwards
 pub mod Placed
 pub mod Grows
 pub mod Opened
+pub mod Bodies
+pub mod Written

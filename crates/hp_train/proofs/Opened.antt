@@ -72,8 +72,8 @@ module _ (digest : List ℕ) (seed : ℕ) (l : Outcome) where
   -- its length
   pub front_length : (bytes : List ℕ) → IsTitle (title_of digest seed l) → (l.born ≡ true → IsShutAt l.end bytes) → length (loaded_front digest seed l bytes) ≡ last_gate l
   front_length bytes title shut = elim (true_or_false l.born) [
-    | inl yes ↦ ap length (old_front bytes yes) ∙ omega (arith, length-take l.end bytes, (shut yes).0) ∙ ap (λ (b : Bool). if b then l.end else first_gate l.version) (sym yes)
-    | inr no ↦ ap length (new_front bytes no) ∙ omega (arith, head_gate (title_of digest seed l) title) ∙ ap (λ (b : Bool). if b then l.end else first_gate l.version) (sym no)
+    | inl is_born ↦ ap length (old_front bytes is_born) ∙ omega (arith, length-take l.end bytes, (shut is_born).0) ∙ ap (λ (b : Bool). if b then l.end else first_gate l.version) (sym is_born)
+    | inr is_not ↦ ap length (new_front bytes is_not) ∙ omega (arith, head_gate (title_of digest seed l) title) ∙ ap (λ (b : Bool). if b then l.end else first_gate l.version) (sym is_not)
   ]
 
   -- the gate of 0 behind it is the last byte

@@ -1,4 +1,5 @@
 // Why training ends before its last iteration.
+ghost use Rattle.std.specs.Prelude.{◌≡◌};
 use hp_backward::SweepFault;
 use hp_num::Memory;
 use hp_outside::Failed;

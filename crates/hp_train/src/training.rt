@@ -1,5 +1,5 @@
 // Training: iterations one after another, with a record of each in the journal.
-ghost use Rattle.std.specs.Prelude.{◌≡◌, ◌⊎◌, ◌≤◌, ◌<◌, ◌+◌, ◌-◌, ◌*◌, ◌^◌, ◌++◌, ◌∷◌, [], ℕ, List, true, false, length, take, get_or, max, is_some, option_map, All, IfOk, IfErr, IfSome, OnOk, OnErr, None, Err};
+ghost use Rattle.std.specs.Prelude.{◌≡◌, ◌≢◌, ◌≤◌, ◌+◌, ◌-◌, ◌*◌, ◌^◌, ◌++◌, ◌∷◌, [], ℕ, List, true, false, length, take, is_some, option_map, All, IfOk, IfErr, IfSome, OnOk, Err};
 ghost use Rattle.std.specs.List.{AllByRecursion, sum_by};
 ghost use Rattle.hp_num.specs.Steps.{GivesOr};
 ghost use Rattle.hp_outside.specs.Since.{Quiet, LeavesOnly};
@@ -14,15 +14,16 @@ ghost use Rattle.hp_record.specs.Spelling.{spell};
 ghost use Rattle.hp_journal.specs.Causes.{DiskCause};
 ghost use Rattle.hp_journal.specs.Gates.{IsShutAt};
 ghost use Rattle.hp_journal.specs.Head.{IsUnborn};
-ghost use Rattle.hp_journal.specs.Layout.{Title, body_of, journal};
+ghost use Rattle.hp_journal.specs.Layout.{IsBody, Title, body_of, journal};
 ghost use Rattle.hp_journal.specs.Mine.{GrownFrom, Mine};
 ghost use Rattle.hp_load.specs.Load.{first_gate, seen};
 ghost use Rattle.hp_lp.specs.Chained.{solving};
 ghost use Rattle.hp_lp.specs.Ready.{AreReady};
 ghost use Rattle.hp_train.specs.Continuing.{continued};
-ghost use Rattle.hp_train.specs.Iterating.{Stops, behind, iterated};
+ghost use Rattle.hp_train.specs.Growing.{Extends};
+ghost use Rattle.hp_train.specs.Iterating.{EndsShut, Stops, behind, iterated};
 ghost use Rattle.hp_train.specs.Stepping.{seen as stepped, step_of};
-ghost use Rattle.hp_train.specs.Training.{CanTrain, MineFrom, StopsAt, WhenWhole, grown_journal, loaded_front, payloads, title_of, trained};
+ghost use Rattle.hp_train.specs.Training.{CanTrain, GoOnWith, IsDead, MineFrom, StandsIn, StopsAs, WhenWhole, grown_journal, iterations, title_of, trained};
 ghost use Rattle.hp_train.specs.declared.fault.TrainFault.TheVariants.{DiskFault};
 
 use crate::fault::TrainFault;
@@ -141,6 +142,7 @@ fn iterate<R: Threads + Sync, V: Solver>(
     ensures dead { IfErr result (IsDead course.now.problem.now) }
     ensures fit { Fit (problem_of course.now.problem.now) (length course.now.problem.now.raw.nodes) loaded.new.pools.lists }
     ensures sound { Sound (problem_of course.now.problem.now) loaded.old.pools.lists → Sound (problem_of course.now.problem.now) loaded.new.pools.lists }
+    ensures under { Sound (problem_of course.now.problem.now) loaded.old.pools.lists → All (Under (problem_of course.now.problem.now)) loaded.old.bounds → OnOk result (All (Under (problem_of course.now.problem.now)) loaded.new.bounds) }
     ensures unsettled { IfOk result (λ _. loaded.new.unsettled ≤ loaded.old.unsettled + 2 ^ 38) }
 {
     let _ = course.problem.raw();
