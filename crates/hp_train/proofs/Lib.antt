@@ -5,3 +5,8 @@ pub mod Forwards
 pub mod Placed
 pub mod Grows
 pub mod Opened
+pub mod SettledText
+pub mod NodeText
+pub mod SweptText
+pub mod Written
+pub mod Formulas
