@@ -1,21 +1,20 @@
 -- What an iteration gives can be written.
-use Rattle.std.proofs.Common.{◌≡◌, ℕ, zero, suc, ◌+◌, ◌*◌, ◌-◌, ◌≤◌, ◌^◌, true, List, [], ◌∷◌, ◌++◌, length, Ok, refl, sym, ap, subst, ◌∙◌, mul-le-mul, arith}
+use Rattle.std.proofs.Common.{◌≡◌, ℕ, zero, suc, ◌+◌, ◌*◌, ◌-◌, ◌≤◌, ◌^◌, true, List, [], ◌∷◌, ◌++◌, length, Ok, refl, sym, ap, subst, ◌∙◌, None, arith}
 use Rattle.std.specs.Int.{w32, to_be_bytes}
 use Rattle.std.specs.List.{AllByRecursion}
-use Rattle.hp_problem.specs.Formulas.{record_bytes}
+use Rattle.hp_problem.specs.Formulas.{too_much}
 use Rattle.hp_problem.specs.Sealed.{Sealed, is_sealed}
 use Rattle.hp_theory.specs.declared.cut.Cut.{Cut}
 use Rattle.hp_theory.specs.Fit.{Fit}
 use Rattle.hp_theory.specs.Pools.{pool}
 use Rattle.hp_theory.specs.View.{problem_of}
 use Rattle.hp_cut.specs.declared.entry.Entry.{Entry}
-use Rattle.hp_record.specs.Shape.{PairsWithin, Writable}
+use Rattle.hp_record.specs.Shape.{Writable}
 use Rattle.hp_record.specs.Spelling.{spell}
-use Rattle.hp_record.proofs.Lengths.{text_length}
 use Rattle.hp_journal.specs.Layout.{body_of}
 use Rattle.hp_lp.specs.Chained.{Solving}
 use Rattle.hp_train.specs.Stepping.{Stepped, step_of}
-use Rattle.hp_train.proofs.Written.{IsIteration, is_iteration}
+use Rattle.hp_train.proofs.Formulas.{is_recorded}
 
 -- the entries of an iteration can be written in a record
 pub record IsWritten (p : Sealed) (es : List Entry) : Type 0 where
@@ -24,19 +23,13 @@ pub record IsWritten (p : Sealed) (es : List Entry) : Type 0 where
   pub few : length es ≤ 64
 
 pub is_written : {Start Chain : Type 0} (v : Solving Start Chain) (p : Sealed) (pools : List (List Cut)) (seed batch k : ℕ) (s : Stepped) → is_sealed p ≡ true → Fit (problem_of p) (length p.raw.nodes) pools
-    → 1 ≤ batch → batch ≤ 64 → 1 ≤ k → k ≤ 2000 → ((m : ℕ) → length (pool pools m) ≤ 1 + (k - 1) * batch) → record_bytes p.raw (k * batch) batch ≤ 2 ^ 26
+    → batch ≤ 64 → 1 ≤ k → k ≤ 2000 → ((m : ℕ) → length (pool pools m) ≤ 1 + (k - 1) * batch) → too_much p k batch ≡ None
     → step_of v p pools seed batch k ≡ Ok s → IsWritten p s.entries
-is_written v p pools seed batch zero s sealed fit some most first last cuts room step = absurd (omega (arith, first))
-is_written v p pools seed batch (suc k) s sealed fit some most first last cuts room step =
+is_written v p pools seed batch zero s sealed fit most first last cuts room step = absurd (omega (arith, first))
+is_written v p pools seed batch (suc k) s sealed fit most first last cuts room step =
     let few : (m : ℕ) → length (pool pools m) ≤ 1 + k * batch = λ m. subst (λ i. length (pool pools m) ≤ 1 + i * batch) (omega arith) (cuts m) in
-    let few_iterations : k ≤ 2000 = omega (arith, last) in
-    let bound : k * batch ≤ 2000 * 64 = mul-le-mul few_iterations most in
-    let i = is_iteration v p sealed pools seed batch (suc k) (1 + k * batch) (suc k * batch + 1) s fit few (omega arith) (omega (arith, bound, most)) (omega (arith, last)) step in
-    record {
-      shape = i.written.each;
-      short = omega (arith, room, text_length p (suc k * batch) batch s.entries sealed (omega (arith, i.written.counted)) i.written.each i.pairs);
-      few = omega (arith, i.written.counted, most);
-    }
+    let r = is_recorded v p sealed pools seed batch k (suc k) s fit few (omega arith) last most room step in
+    record { shape = r.iteration.written.each; short = r.short; few = omega (arith, r.iteration.written.counted, most) }
 
 -- the bytes of a body, one part after another
 pub body_parts : (payload : List ℕ) (n : ℕ) → n ≡ length payload → ([] ++ to_be_bytes w32 n ++ payload) ++ 0 ∷ [] ≡ body_of payload

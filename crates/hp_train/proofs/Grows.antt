@@ -28,7 +28,6 @@ use Rattle.hp_train.specs.Continuing.{Continued, before_any, with_step, continue
 use Rattle.hp_train.specs.Iterating.{EndsShut, behind, iterated, with_stepped}
 use Rattle.hp_train.specs.Training.{GoOnWith, payloads, trained, unsettled_in}
 use Rattle.hp_train.proofs.Continuing.{goes_on, next_list, stays}
-use Rattle.hp_train.proofs.Growing.{from_parts}
 use Rattle.hp_train.proofs.Placed.{Parted, parted, behind_none, behind_ends, behind_more, behind_journal, records_longer, payloads-append, last_byte}
 
 -- ---- the disk
@@ -89,6 +88,14 @@ module _ (old mid new : Store) (at : ℕ) (lists : List (List Entry)) (es : List
 ok_err : {A E : Type 0} (x : A) (f : E) → (let l : Result A E = Ok x in l ≡ Err f) → ⊥
 ok_err x f h = cc
 
+same_ok : {A E : Type 0} (x y : A) → (let l : Result A E = Ok x in l ≡ Ok y) → x ≡ y
+same_ok x y h = cc
+
+-- both parts of a step that did not refuse
+from_parts : {A B E : Type 0} (part : Result A E) (f : A → Result B E) (y : B) → (part >>= f) ≡ Ok y → (x : A) × (part ≡ Ok x) × (f x ≡ Ok y)
+from_parts (Err e) f y h = absurd (ok_err y e (sym h))
+from_parts (Ok x) f y h = (x, refl, h)
+
 same_err : {A E : Type 0} (e f : E) → (let l : Result A E = Err e in l ≡ Err f) → e ≡ f
 same_err e f h = cc
 
@@ -109,7 +116,10 @@ module _ {Start Chain : Type 0} (v : Solving Start Chain) (p : Sealed) (seed : �
 
   record_is : (l : Loaded) → l.born ≡ true → l.rest ≡ 0 → seen l ≡ trained (seen l) (before_any l.pools.lists)
   unfolding records
-  record_is l born rest = rw (born, rest, append-nil l.bounds) refl
+  record_is l born rest =
+      let u : l.unsettled + 0 ≡ l.unsettled = omega arith in
+      let e : l.end + 0 ≡ l.end = omega arith in
+      rw (born, rest, append-nil l.bounds, u, e) refl
 
   pub iterated_none : (l : Loaded) → l.born ≡ true → l.rest ≡ 0 → Fit (problem_of p) (length p.raw.nodes) l.pools.lists → ((m : ℕ) → length (pool l.pools.lists m) ≤ 1 + length l.bounds * l.batch) → HasIterated 0 l l
   unfolding continued
@@ -151,10 +161,10 @@ module _ {Start Chain : Type 0} (v : Solving Start Chain) (p : Sealed) (seed : �
     pub s : Stepped
     pub step : step_of v p (after old n).pools seed old.batch (suc (length old.bounds + n)) ≡ Ok s
     pub outcome : o ≡ with_stepped p mid s
-    pub body : body ≡ body_of (spell s.entries)
+    pub spells : body ≡ body_of (spell s.entries)
 
   same_pair : {A B E : Type 0} (a a' : A) (b b' : B) → (let l : Result (A × B) E = Ok (a, b) in l ≡ Ok (a', b')) → (a ≡ a') × (b ≡ b')
-  same_pair a a' b b' h = (cc, cc)
+  same_pair a a' b b' h = let e = same_ok (a, b) (a', b') h in (ap (λ x. x.0) e, ap (λ x. x.1) e)
 
   pub was_stepped : (n k : ℕ) (old mid : Loaded) (body : List ℕ) (o : Outcome) → HasIterated n old mid → k ≡ suc (length old.bounds + n) → iterated v p mid seed k ≡ Ok (o, body) → WasStepped n old mid body o
   unfolding iterated
@@ -167,7 +177,7 @@ module _ {Start Chain : Type 0} (v : Solving Start Chain) (p : Sealed) (seed : �
         s = parts.0;
         step = rw (sym pools, sym batch, sym number) parts.1;
         outcome = sym same.0;
-        body = sym same.1;
+        spells = sym same.1;
       }
 
   only_stops : {A B E : Type 0} (r : Result A E) (g : A → B) (f : E) → (r >>= λ x. Ok (g x)) ≡ Err f → r ≡ Err f
@@ -206,7 +216,7 @@ module _ {Start Chain : Type 0} (v : Solving Start Chain) (p : Sealed) (seed : �
       let batch : mid.batch ≡ old.batch = ap (λ (x : Outcome). x.batch) has.value in
       let more = goes_on v p old.pools.lists seed old.batch (length old.bounds) n (Ok w.s) has.running w.step in
       record {
-        value = is ∙ ap (λ (o : Outcome). moved o (mid.end + length body)) w.outcome ∙ value_more old mid (after old n) w.s body has.value w.body ∙ ap (λ (c : Continued). trained (seen old) c) (sym more);
+        value = is ∙ ap (λ (o : Outcome). moved o (mid.end + length body)) w.outcome ∙ value_more old mid (after old n) w.s body has.value w.spells ∙ ap (λ (c : Continued). trained (seen old) c) (sym more);
         running = ap (λ (c : Continued). c.stop) more;
         fit = subst (λ (x : List (List Cut)). Fit (problem_of p) (length p.raw.nodes) x) (sym pools) fit;
         cuts = λ m. subst (λ (b : ℕ). length (pool new.pools.lists m) ≤ 1 + (length old.bounds + suc n) * b) batch (subst (λ (x : List (List Cut)). length (pool x m) ≤ 1 + (length old.bounds + suc n) * mid.batch) (sym pools) (subst (λ (k : ℕ). length (pool mid'.pools.lists m) ≤ 1 + k * mid.batch) (omega arith) (cuts m)));

@@ -7,3 +7,7 @@ pub mod Grows
 pub mod Opened
 pub mod Bodies
 pub mod Written
+pub mod SettledText
+pub mod NodeText
+pub mod SweptText
+pub mod Formulas

@@ -52,14 +52,16 @@ head_parted : {A : Type 0} (rest : A) (xs : List A) (y : A) (zs : List A) → Pa
 head_parted rest [] y zs = record { below = omega arith; front = refl; here = refl }
 head_parted rest (x ∷ xs) y zs =
     let h = head_parted rest xs y zs in
-    record { below = omega (arith, h.below); front = ap (λ l. x ∷ l) h.front; here = h.here }
+    let e : 0 + suc (length xs) ≡ suc (0 + length xs) = omega arith in
+    record { below = omega (arith, h.below); front = rw e (ap (λ l. x ∷ l) h.front); here = rw e h.here }
 
 pub parted : {A : Type 0} (rest : A) (j : ℕ) (ps xs : List A) (y : A) (zs : List A) → j ≤ length ps → drop j ps ≡ xs ++ y ∷ zs → Parted rest j ps xs y
 parted rest zero ps xs y zs le is = subst (λ l. Parted rest 0 l xs y) (sym is) (head_parted rest xs y zs)
 parted rest (suc j) [] xs y zs le is = absurd (omega (arith, le))
 parted rest (suc j) (p ∷ ps) xs y zs le is =
     let h = parted rest j ps xs y zs (omega (arith, le)) is in
-    record { below = omega (arith, h.below); front = ap (λ l. p ∷ l) h.front; here = h.here }
+    let e : suc j + length xs ≡ suc (j + length xs) = omega arith in
+    record { below = omega (arith, h.below); front = rw e (ap (λ l. p ∷ l) h.front); here = rw e h.here }
 
 -- a gate of 0 that is the last byte, and what stands before it
 pub last_byte : (at : ℕ) (bytes f : List ℕ) → EndsShut at bytes → bytes ≡ f ++ 0 ∷ [] → (at ≡ length f) × (take at bytes ≡ f)

@@ -1,9 +1,9 @@
 // Training: iterations one after another, with a record of each in the journal.
-ghost use Rattle.std.specs.Prelude.{◌≡◌, ◌≢◌, ◌≤◌, ◌+◌, ◌-◌, ◌*◌, ◌^◌, ◌++◌, ◌∷◌, [], ℕ, List, true, false, length, take, is_some, option_map, All, IfOk, IfErr, IfSome, OnOk, Err};
+ghost use Rattle.std.specs.Prelude.{◌≡◌, ◌≢◌, ◌≤◌, ◌+◌, ◌-◌, ◌*◌, ◌^◌, ◌++◌, ◌∷◌, [], ℕ, List, true, false, length, take, is_some, option_map, All, IfOk, IfErr, IfSome, OnOk, None, Err};
 ghost use Rattle.std.specs.List.{AllByRecursion, sum_by};
 ghost use Rattle.hp_num.specs.Steps.{GivesOr};
 ghost use Rattle.hp_outside.specs.Since.{Quiet, LeavesOnly};
-ghost use Rattle.hp_problem.specs.Formulas.{record_bytes};
+ghost use Rattle.hp_problem.specs.Formulas.{too_much};
 ghost use Rattle.hp_theory.specs.Fit.{Fit};
 ghost use Rattle.hp_theory.specs.Pools.{pool, Sound};
 ghost use Rattle.hp_theory.specs.Bound.{Under};
@@ -132,7 +132,7 @@ fn iterate<R: Threads + Sync, V: Solver>(
     requires paths { 1 ≤ loaded.old.batch }
     requires most { loaded.old.batch ≤ 64 }
     requires cuts { (m : ℕ) → length (pool loaded.old.pools.lists m) ≤ 1 + (number - 1) * loaded.old.batch }
-    requires room { record_bytes course.now.problem.now.raw (number * loaded.old.batch) loaded.old.batch ≤ 2 ^ 26 }
+    requires room { too_much course.now.problem.now number loaded.old.batch ≡ None }
     requires unsettled { loaded.old.unsettled ≤ 2 ^ 60 }
     ensures value { GivesOr Stops (λ body. (seen loaded.new, body.items)) result
         (iterated (solving (V.started course.now.solver.now) (V.begun course.now.solver.now) (V.next course.now.solver.now)) course.now.problem.now loaded.old course.now.seed number) }
@@ -169,7 +169,7 @@ fn iterate_all<R: Threads + Sync, D: Disk, V: Solver>(
     requires paths { 1 ≤ loaded.old.batch }
     requires most { loaded.old.batch ≤ 64 }
     requires cuts { (m : ℕ) → length (pool loaded.old.pools.lists m) ≤ 1 + length loaded.old.bounds * loaded.old.batch }
-    requires room { record_bytes course.now.problem.now.raw ((length loaded.old.bounds + left) * loaded.old.batch) loaded.old.batch ≤ 2 ^ 26 }
+    requires room { too_much course.now.problem.now (length loaded.old.bounds + left) loaded.old.batch ≡ None }
     requires unsettled { loaded.old.unsettled ≤ 2 ^ 50 }
     requires open { loaded.old.born ≡ true }
     requires whole { loaded.old.rest ≡ 0 }

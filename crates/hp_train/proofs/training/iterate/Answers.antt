@@ -15,28 +15,28 @@ pub body_of-requires-clause-shape : goal.body_of-requires-clause-shape
 body_of-requires-clause-shape g c =
     let p = c.args.course.now.problem.now in
     let v = solving (g.V.Solver.started c.args.course.now.solver.now) (g.V.Solver.begun c.args.course.now.solver.now) (g.V.Solver.next c.args.course.now.solver.now) in
-    let w = is_written v p c.args.loaded.now.pools.lists c.args.course.now.seed c.args.loaded.now.batch c.args.number (seen c.stepped.new.pools.lists c.in_ok-entries.entries) c.raw.ensures.sealed c.requires.fit c.requires.paths c.requires.most c.requires.first c.requires.last c.requires.cuts c.requires.room c.in_ok-entries.ensures.value in
+    let w = is_written v p c.args.loaded.now.pools.lists c.args.course.now.seed c.args.loaded.now.batch c.args.number (seen c.stepped.new.pools.lists c.in_ok-entries.entries) c.raw.ensures.sealed c.requires.fit c.requires.most c.requires.first c.requires.last c.requires.cuts c.requires.room c.in_ok-entries.ensures.value in
     subst (λ (es : List Entry). AllByRecursion (Writable p) es) (sym c.as_slice.ensures) w.shape
 
 pub body_of-requires-clause-short : goal.body_of-requires-clause-short
 body_of-requires-clause-short g c =
     let p = c.args.course.now.problem.now in
     let v = solving (g.V.Solver.started c.args.course.now.solver.now) (g.V.Solver.begun c.args.course.now.solver.now) (g.V.Solver.next c.args.course.now.solver.now) in
-    let w = is_written v p c.args.loaded.now.pools.lists c.args.course.now.seed c.args.loaded.now.batch c.args.number (seen c.stepped.new.pools.lists c.in_ok-entries.entries) c.raw.ensures.sealed c.requires.fit c.requires.paths c.requires.most c.requires.first c.requires.last c.requires.cuts c.requires.room c.in_ok-entries.ensures.value in
+    let w = is_written v p c.args.loaded.now.pools.lists c.args.course.now.seed c.args.loaded.now.batch c.args.number (seen c.stepped.new.pools.lists c.in_ok-entries.entries) c.raw.ensures.sealed c.requires.fit c.requires.most c.requires.first c.requires.last c.requires.cuts c.requires.room c.in_ok-entries.ensures.value in
     omega (arith, w.short, ap (λ (es : List Entry). length (spell es)) c.as_slice.ensures)
 
 pub unsettled-requires : goal.unsettled-requires
 unsettled-requires g c =
     let p = c.args.course.now.problem.now in
     let v = solving (g.V.Solver.started c.args.course.now.solver.now) (g.V.Solver.begun c.args.course.now.solver.now) (g.V.Solver.next c.args.course.now.solver.now) in
-    let w = is_written v p c.args.loaded.now.pools.lists c.args.course.now.seed c.args.loaded.now.batch c.args.number (seen c.stepped.new.pools.lists c.in_ok-entries.entries) c.raw.ensures.sealed c.requires.fit c.requires.paths c.requires.most c.requires.first c.requires.last c.requires.cuts c.requires.room c.in_ok-entries.ensures.value in
+    let w = is_written v p c.args.loaded.now.pools.lists c.args.course.now.seed c.args.loaded.now.batch c.args.number (seen c.stepped.new.pools.lists c.in_ok-entries.entries) c.raw.ensures.sealed c.requires.fit c.requires.most c.requires.first c.requires.last c.requires.cuts c.requires.room c.in_ok-entries.ensures.value in
     omega (arith, w.few, ap (λ (es : List Entry). length es) c.as_slice-2.ensures)
 
 pub returns-clause-body : goal.returns-clause-body
 returns-clause-body g c =
     let p = c.args.course.now.problem.now in
     let v = solving (g.V.Solver.started c.args.course.now.solver.now) (g.V.Solver.begun c.args.course.now.solver.now) (g.V.Solver.next c.args.course.now.solver.now) in
-    let w = is_written v p c.args.loaded.now.pools.lists c.args.course.now.seed c.args.loaded.now.batch c.args.number (seen c.stepped.new.pools.lists c.in_ok-entries.entries) c.raw.ensures.sealed c.requires.fit c.requires.paths c.requires.most c.requires.first c.requires.last c.requires.cuts c.requires.room c.in_ok-entries.ensures.value in
+    let w = is_written v p c.args.loaded.now.pools.lists c.args.course.now.seed c.args.loaded.now.batch c.args.number (seen c.stepped.new.pools.lists c.in_ok-entries.entries) c.raw.ensures.sealed c.requires.fit c.requires.most c.requires.first c.requires.last c.requires.cuts c.requires.room c.in_ok-entries.ensures.value in
     (spell c.as_slice.result.now, omega (arith, w.short, ap (λ (es : List Entry). length (spell es)) c.as_slice.ensures), c.in_ok-body.ensures)
 
 pub returns-clause-under : goal.returns-clause-under

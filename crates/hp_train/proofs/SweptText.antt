@@ -1,0 +1,138 @@
+-- What a sweep leaves can be written, and is accepted when it is read back.
+use Rattle.std.proofs.Common.{◌≡◌, ◌∙◌, ℕ, ◌+◌, ◌*◌, ◌<◌, ◌≤◌, ◌^◌, true, ℤ, List, [], ◌∷◌, ◌++◌, length, map, zip, All, Option, Some, None, Result, Ok, Err, refl, sym, ap, subst, arith}
+use Rattle.std.specs.Option.{option_map}
+use Rattle.std.specs.List.{AllByRecursion}
+use Rattle.std.proofs.lemmas.List.Elements.{All-head, All-tail}
+use Rattle.hp_problem.specs.Sealed.{Sealed, is_sealed}
+use Rattle.hp_theory.specs.declared.cut.Cut.{Cut}
+use Rattle.hp_theory.specs.declared.cut.Certificate.{Certificate}
+use Rattle.hp_theory.specs.Problem.{Node, node_at}
+use Rattle.hp_theory.specs.Fit.{Fit}
+use Rattle.hp_theory.specs.Pools.{pool, push}
+use Rattle.hp_theory.specs.CutOf.{cut_of}
+use Rattle.hp_theory.specs.Range.{range_of}
+use Rattle.hp_theory.specs.View.{problem_of}
+use Rattle.hp_cut.specs.declared.entry.EntryStep.{EntryStep}
+use Rattle.hp_dual.specs.declared.fault.CertFault.{CertFault}
+use Rattle.hp_dual.specs.declared.fault.CertFault.TheVariants as faults
+use Rattle.hp_lp.specs.Chained.{Solving}
+use Rattle.hp_sampler.specs.declared.steps.Step.{Step}
+use Rattle.hp_sampler.specs.Drawn.{IsInRange}
+use Rattle.hp_backward.specs.Certifying.{certified}
+use Rattle.hp_backward.specs.Given.{AreDistinct}
+use Rattle.hp_backward.specs.Sweeping.{Swept, within_range, made_at, with_made, step_back, backwards, swept}
+use Rattle.hp_backward.proofs.Cuts.{settled_list}
+use Rattle.hp_backward.proofs.Grown.{grown-swept}
+use Rattle.hp_record.specs.Backwards.{nodes_back}
+use Rattle.hp_load.specs.Cuts.{cut_of_step, unless_fault, step_added, steps_added}
+use Rattle.hp_load.proofs.Binding.{bind_ok, bind_on}
+use Rattle.hp_load.proofs.Adding.{step_fit}
+use Rattle.hp_train.proofs.NodeText.{Certified, StepText, certified_text, certified_few}
+
+same_ok : {A E : Type 0} (x y : A) → ◌≡◌ {A = Result A E} (Ok x) (Ok y) → x ≡ y
+same_ok x y e = cc
+
+not_ok : {A E : Type 0} (x : E) (y : A) → ◌≡◌ {A = Result A E} (Err x) (Ok y) → ⊥
+not_ok x y e = cc
+
+-- lists to which one is added
+pub each_push : {A : Type 0} (P : A → Type 0) (xs : List A) (x : A) → AllByRecursion P xs → P x → AllByRecursion P (xs ++ x ∷ [])
+each_push P [] x h k = (k, tt)
+each_push P (y ∷ xs) x h k = (h.0, each_push P xs x h.1 k)
+
+nodes_push : (ss : List EntryStep) (s : EntryStep) → nodes_back (ss ++ s ∷ []) ≡ s.node ∷ nodes_back ss
+nodes_push [] s = refl
+nodes_push (t ∷ ss) s = ap (λ (ms : List ℕ). ms ++ t.node ∷ []) (nodes_push ss s)
+
+steps_push : (p : Sealed) (k : ℕ) (pools mid new : List (List Cut)) (ss : List EntryStep) (s : EntryStep) → steps_added p k pools ss ≡ Ok mid → step_added p k mid s ≡ Ok new → steps_added p k pools (ss ++ s ∷ []) ≡ Ok new
+unfolding steps_added
+steps_push p k pools mid new [] s e f =
+    let is : step_added p k pools s ≡ Ok new = ap (λ (q : List (List Cut)). step_added p k q s) (same_ok pools mid e) ∙ f in
+    bind_on (step_added p k pools s) new (λ next. steps_added p k next []) is
+steps_push p k pools mid new (t ∷ ss) s e f =
+    let b = bind_ok (step_added p k pools t) (λ next. steps_added p k next ss) mid e in
+    bind_on (step_added p k pools t) b.0 (λ next. steps_added p k next (ss ++ s ∷ [])) b.1 ∙ steps_push p k b.0 mid new ss s b.2 f
+
+-- the size is in range
+ranged : {A : Type 0} (k m : ℕ) (o : Option ℕ) (x y : A) → within_range k m o x ≡ Ok y → (o ≡ None) × (x ≡ y)
+ranged k m None x y e = (refl, same_ok x y e)
+ranged k m (Some r) x y e = absurd (not_ok _ y e)
+
+-- what a step back adds
+record StepMade (p : Sealed) (k most : ℕ) (before : Swept) (m : ℕ) (after : Swept) : Type 0 where
+  list : List Certificate
+  added : step_added p k before.pools (record { node = m; list = list }) ≡ Ok after.pools
+  steps : after.steps ≡ before.steps ++ record { node = m; list = list } ∷ []
+  text : StepText p most (record { node = m; list = list })
+  few : after.unsettled ≤ before.unsettled + 100
+
+accepted : (p : Sealed) (k : ℕ) (pools : List (List Cut)) (s : EntryStep) (fault : Option CertFault) → fault ≡ None → unless_fault k s.node fault (push pools s.node (cut_of_step p pools s)) ≡ Ok (push pools s.node (cut_of_step p pools s))
+accepted p k pools s fault none = ap (λ (f : Option CertFault). unless_fault k s.node f (push pools s.node (cut_of_step p pools s))) none
+
+module _ {Start Chain : Type 0} (v : Solving Start Chain) (p : Sealed) (sealed : is_sealed p ≡ true) (k : ℕ) where
+  made : (most : ℕ) (before : Swept) (m : ℕ) (state : List ℤ) (found : Certified) → m < length p.raw.nodes → Fit (problem_of p) (length p.raw.nodes) before.pools → most < 2 ^ 32 → ((j : ℕ) → length (pool before.pools j) ≤ most)
+      → certified v p before.pools k m state ≡ Ok found → range_of before.pools (node_at (problem_of p) m) found.list ≡ None → StepMade p k most before m (with_made before m (found, cut_of before.pools (node_at (problem_of p) m) found.list))
+  unfolding step_added
+  made most before m state found known fit small few is inside =
+      let none = settled_list v p before.pools k m state found sealed known fit is ∙ ap (λ (o : Option ℕ). option_map faults.Range o) inside in
+      record {
+        list = found.list;
+        added = accepted p k before.pools (record { node = m; list = found.list }) _ none;
+        steps = refl;
+        text = certified_text v p sealed before.pools k m state known fit most small few found is;
+        few = omega (arith, certified_few v p sealed before.pools k m state known fit most small few found is);
+      }
+
+  step_made : (most : ℕ) (before after : Swept) (visit : Step × List ℤ) → visit.0.node < length p.raw.nodes → Fit (problem_of p) (length p.raw.nodes) before.pools → most < 2 ^ 32 → ((j : ℕ) → length (pool before.pools j) ≤ most)
+      → step_back v p k before visit ≡ Ok after → StepMade p k most before visit.0.node after
+  unfolding step_back made_at
+  step_made most before after visit known fit small few e =
+      let m : ℕ = visit.0.node in
+      let n : Node = node_at (problem_of p) m in
+      let a = bind_ok (made_at v p before.pools k m visit.1) (λ made. Ok (with_made before m made)) after e in
+      let b = bind_ok (certified v p before.pools k m visit.1) (λ found. within_range k m (range_of before.pools n found.list) (found, cut_of before.pools n found.list)) a.0 a.1 in
+      let r = ranged k m (range_of before.pools n b.0.list) (b.0, cut_of before.pools n b.0.list) a.0 b.2 in
+      let whole : with_made before m (b.0, cut_of before.pools n b.0.list) ≡ after = ap (λ made. with_made before m made) r.1 ∙ same_ok (with_made before m a.0) after a.2 in
+      subst (StepMade p k most before m) whole (made most before m visit.1 b.0 known fit small few b.1 r.0)
+
+  -- what stands after some steps of a path, the last ones
+  pub record SweptText (pools : List (List Cut)) (most unsettled : ℕ) (ss : List Step) (after : Swept) : Type 0 where
+    pub fit : Fit (problem_of p) (length p.raw.nodes) after.pools
+    pub added : steps_added p k pools after.steps ≡ Ok after.pools
+    pub nodes : nodes_back after.steps ≡ map (λ (s : Step). s.node) ss
+    pub texts : AllByRecursion (StepText p most) after.steps
+    pub few : after.unsettled ≤ unsettled + length ss * 100
+
+  module _ (pools : List (List Cut)) (most unsettled : ℕ) (fit : Fit (problem_of p) (length p.raw.nodes) pools) (small : most < 2 ^ 32) (few : (j : ℕ) → length (pool pools j) + 1 ≤ most) where
+    begins : SweptText pools most unsettled [] (record { pools = pools; steps = []; unsettled = unsettled })
+    unfolding steps_added
+    begins = record { fit = fit; added = refl; nodes = refl; texts = tt; few = omega arith }
+
+    one_more : (s : Step) (ss : List Step) (before after : Swept) → SweptText pools most unsettled ss before → StepMade p k most before s.node after → s.node < length p.raw.nodes → SweptText pools most unsettled (s ∷ ss) after
+    one_more s ss before after t made known =
+        let this : EntryStep = record { node = s.node; list = made.list } in
+        record {
+          fit = step_fit p sealed k before.pools after.pools this known t.fit made.added;
+          added = subst (λ (steps : List EntryStep). steps_added p k pools steps ≡ Ok after.pools) (sym made.steps) (steps_push p k pools before.pools after.pools before.steps this t.added made.added);
+          nodes = ap nodes_back made.steps ∙ nodes_push before.steps this ∙ ap (λ (ms : List ℕ). s.node ∷ ms) t.nodes;
+          texts = subst (AllByRecursion (StepText p most)) (sym made.steps) (each_push (StepText p most) before.steps this t.texts made.text);
+          few = omega (arith, made.few, t.few);
+        }
+
+    as_swept : (ss : List Step) (xs : List (List ℤ)) (after : Swept) → backwards (step_back v p k) (zip ss xs) (record { pools = pools; steps = []; unsettled = unsettled }) ≡ Ok after → swept v p pools k ss xs unsettled ≡ Ok after
+    unfolding swept
+    as_swept ss xs after e = e
+
+    goes_back : (ss : List Step) (xs : List (List ℤ)) (after : Swept) → length xs ≡ length ss → All (IsInRange p.raw) ss → AreDistinct ss → backwards (step_back v p k) (zip ss xs) (record { pools = pools; steps = []; unsettled = unsettled }) ≡ Ok after → SweptText pools most unsettled ss after
+    goes_back [] xs after e r d is = subst (SweptText pools most unsettled []) (same_ok (record { pools = pools; steps = []; unsettled = unsettled }) after is) begins
+    goes_back (s ∷ ss) [] after e r d is = absurd (omega (arith, e))
+    goes_back (s ∷ ss) (x ∷ xs) after e r d is =
+        let b = bind_ok (backwards (step_back v p k) (zip ss xs) (record { pools = pools; steps = []; unsettled = unsettled })) (λ before. step_back v p k before (s, x)) after is in
+        let t = goes_back ss xs b.0 (omega (arith, e)) (All-tail (IsInRange p.raw) s ss r) d.1 b.1 in
+        let known : s.node < length p.raw.nodes = (All-head (IsInRange p.raw) s ss r).0 in
+        let grown : (j : ℕ) → length (pool b.0.pools j) ≤ most = λ j. omega (arith, few j, grown-swept v p k pools ss xs unsettled b.0 j d.1 (as_swept ss xs b.0 b.1)) in
+        one_more s ss b.0 after t (step_made most b.0 after (s, x) known t.fit small grown b.2) known
+
+    pub swept_text : (path : List Step) (states : List (List ℤ)) (after : Swept) → length states ≡ length path → All (IsInRange p.raw) path → AreDistinct path → swept v p pools k path states unsettled ≡ Ok after → SweptText pools most unsettled path after
+    unfolding swept
+    swept_text path states after e r d is = goes_back path states after e r d is
