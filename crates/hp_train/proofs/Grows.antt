@@ -1,5 +1,5 @@
 -- What iterations leave of what was loaded, and of the journal's disk.
-use Rattle.std.proofs.Common.{◌≡◌, ℕ, zero, suc, ◌+◌, ◌*◌, ℤ, ◌≤◌, ◌<◌, ◌^◌, List, [], ◌∷◌, ◌++◌, length, take, drop, get_or, map, Bool, true, false, Option, Some, None, IfSome, Result, Ok, Err, All, refl, sym, ap, subst, ◌∙◌, append_assoc, length-append, arith}
+use Rattle.std.proofs.Common.{◌≡◌, ℕ, zero, suc, ◌+◌, ◌*◌, ℤ, ◌≤◌, ◌<◌, ◌^◌, List, [], ◌∷◌, ◌++◌, length, take, drop, get_or, map, Bool, true, false, if◌then◌else◌, Option, Some, None, IfSome, Result, Ok, Err, All, refl, sym, ap, subst, ◌∙◌, append_assoc, length-append, arith}
 use Rattle.std.specs.Option.{option_map}
 use Rattle.std.specs.List.{sum_by}
 use Rattle.std.proofs.lemmas.List.{append-nil, length-map}
@@ -20,13 +20,15 @@ use Rattle.hp_journal.specs.Layout.{Title, body_of, front, journal, records}
 use Rattle.hp_journal.specs.Mine.{Grown, GrownFrom, shut}
 use Rattle.hp_journal.proofs.Told.{told, known, mapped, map_as, map_same, begins}
 use Rattle.hp_load.specs.declared.loaded.Loaded.{Loaded}
-use Rattle.hp_load.specs.Load.{Outcome, seen}
+use Rattle.hp_load.specs.Load.{Outcome, first_gate, seen}
 use Rattle.hp_lp.specs.Chained.{Solving}
 use Rattle.hp_backward.specs.declared.fault.SweepFault.{SweepFault}
 use Rattle.hp_train.specs.Stepping.{Stepped, step_of}
 use Rattle.hp_train.specs.Continuing.{Continued, before_any, with_step, continued}
-use Rattle.hp_train.specs.Iterating.{EndsShut, behind, iterated, with_stepped}
-use Rattle.hp_train.specs.Training.{GoOnWith, payloads, trained, unsettled_in}
+use Rattle.hp_train.specs.declared.fault.TrainFault.{TrainFault}
+use Rattle.hp_train.specs.declared.fault.TrainFault.TheVariants as faults
+use Rattle.hp_train.specs.Iterating.{EndsShut, Stops, behind, iterated, with_stepped}
+use Rattle.hp_train.specs.Training.{GoOnWith, StopsAs, WhenWhole, last_gate, payloads, trained, unsettled_in}
 use Rattle.hp_train.proofs.Continuing.{goes_on, next_list, stays}
 use Rattle.hp_train.proofs.Placed.{Parted, parted, behind_none, behind_ends, behind_more, behind_journal, records_longer, payloads-append, last_byte}
 
@@ -225,3 +227,34 @@ module _ {Start Chain : Type 0} (v : Solving Start Chain) (p : Sealed) (seed : �
         unsettled = omega (arith, ap (λ (x : Outcome). x.unsettled) is, unsettled, has.unsettled);
         end = omega (arith, ap (λ (x : Outcome). x.end) is, short, has.end);
       }
+
+-- what was loaded of an open journal ends at its gate
+pub gate_is : (l : Loaded) → l.born ≡ true → last_gate (seen l) ≡ l.end
+gate_is l born = ap (λ (b : Bool). if b then l.end else first_gate l.version) born
+
+-- the same where the last lists are known
+module _ (old mid new : Store) (at : ℕ) (lists final : List (List Entry)) (es : List Entry) (rest : List (List Entry)) (body : List ℕ) (has : HasRecorded old mid at lists final) (ends : IfSome old.reads (EndsShut at)) (goes : final ≡ lists ++ es ∷ rest) (is : body ≡ body_of (spell es)) where
+  pub moment_on : LeavesAppended body mid new → IfSome old.reads (λ bytes. (t : Title) (ps : List (List ℕ)) (j : ℕ) → bytes ≡ journal t (take j ps) 0 [] → GoOnWith j ps final → LeavesOnly old new (GrownFrom t ps j))
+  moment_on leaves =
+      subst (λ (f : List (List Entry)). IfSome old.reads (λ bytes. (t : Title) (ps : List (List ℕ)) (j : ℕ) → bytes ≡ journal t (take j ps) 0 [] → GoOnWith j ps f → LeavesOnly old new (GrownFrom t ps j))) (sym goes)
+      (moment_more old mid new at lists es rest body (subst (λ (f : List (List Entry)). HasRecorded old mid at lists f) goes has) ends is leaves)
+
+  pub recorded_on : LeavesAppended body mid new → Quiet new → (end : ℕ) → end ≡ at + length (records (payloads lists)) → new.reads ≡ option_map (λ bytes. take end bytes ++ 1 ∷ body) mid.reads → (more : List (List Entry)) → more ≡ lists ++ es ∷ [] → HasRecorded old new at more final
+  recorded_on leaves quiet end place reads more grown =
+      subst (λ (m : List (List Entry)). HasRecorded old new at m final) (sym grown)
+      (subst (λ (f : List (List Entry)). HasRecorded old new at (lists ++ es ∷ []) f) (sym goes)
+      (recorded_more old mid new at lists es rest body (subst (λ (f : List (List Entry)). HasRecorded old mid at lists f) goes has) ends is leaves quiet
+      (subst (λ (n : ℕ). new.reads ≡ option_map (λ bytes. take n bytes ++ 1 ∷ body) mid.reads) place reads)))
+
+-- where iterations stop
+pub stops_as : {X : Type 0} (Y : Type 0) (fault : TrainFault) (r : Result X SweepFault) (stop : Option SweepFault) → Stops fault r → ((f : SweepFault) → r ≡ Err f → stop ≡ Some f) → (let y : Result Y TrainFault = Err fault in StopsAs y stop)
+stops_as Y (faults.NoStage dead) r stop h so = so _ h
+stops_as Y (faults.Range k m i) r stop h so = so _ h
+stops_as Y faults.DiskFault r stop h so = tt
+stops_as Y faults.Memory r stop h so = tt
+
+pub when_whole : {X : Type 0} (Y : Type 0) (fault : TrainFault) (r : Result X SweepFault) (P : Type 0) → Stops fault r → ((f : SweepFault) → r ≡ Err f → P) → (let y : Result Y TrainFault = Err fault in WhenWhole y P)
+when_whole Y (faults.NoStage dead) r P h so = so _ h
+when_whole Y (faults.Range k m i) r P h so = so _ h
+when_whole Y faults.DiskFault r P h so = tt
+when_whole Y faults.Memory r P h so = tt
