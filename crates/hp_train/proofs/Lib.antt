@@ -11,3 +11,4 @@ pub mod SettledText
 pub mod NodeText
 pub mod SweptText
 pub mod Formulas
+pub mod Trained

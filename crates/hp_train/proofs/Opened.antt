@@ -29,7 +29,7 @@ not_both : (b : Bool) → b ≡ true → b ≡ false → ⊥
 not_both b t f = cc
 
 -- a journal of more payloads is one of at least so many
-grown_mine : (t : Title) (ps : List (List ℕ)) (j : ℕ) (old new : Store) → LeavesOnly old new (GrownFrom t ps j) → LeavesOnly old new (MineFrom t ps j)
+pub grown_mine : (t : Title) (ps : List (List ℕ)) (j : ℕ) (old new : Store) → LeavesOnly old new (GrownFrom t ps j) → LeavesOnly old new (MineFrom t ps j)
 grown_mine t ps j old new run = wider old new (GrownFrom t ps j) (MineFrom t ps j) run (λ c g. (g.0, g.1, mine.born g.2))
 
 module _ (t : Title) (l : Outcome) (old new : Store) where

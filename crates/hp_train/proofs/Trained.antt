@@ -1,0 +1,77 @@
+-- Training on a journal: its end is made ready, and then iterations follow.
+use Rattle.std.proofs.Common.{◌≡◌, ℕ, ◌+◌, ◌-◌, List, [], ◌∷◌, ◌++◌, length, take, true, Option, Some, None, IfSome, Result, Ok, Err, refl, sym, ap, subst, ◌∙◌}
+use Rattle.std.specs.Option.{option_map}
+use Rattle.hp_outside.specs.Disks.{Store}
+use Rattle.hp_outside.specs.Since.{LeavesOnly}
+use Rattle.hp_outside.proofs.RunsOfCalls.{then_on}
+use Rattle.hp_problem.specs.Sealed.{Sealed}
+use Rattle.hp_cut.specs.declared.entry.Entry.{Entry}
+use Rattle.hp_journal.specs.Gates.{IsShutAt}
+use Rattle.hp_journal.specs.Layout.{Title, IsTitle, front, journal, records}
+use Rattle.hp_journal.specs.Mine.{GrownFrom}
+use Rattle.hp_journal.proofs.Told.{told, known, mapped, map_as}
+use Rattle.hp_load.specs.Load.{Outcome}
+use Rattle.hp_lp.specs.Chained.{Solving}
+use Rattle.hp_train.specs.Continuing.{Continued, continued}
+use Rattle.hp_train.specs.Iterating.{EndsShut, behind}
+use Rattle.hp_train.specs.Training.{GoOnWith, MineFrom, StandsIn, WhenWhole, grown_journal, iterations, last_gate, loaded_front, opened, title_of}
+use Rattle.hp_train.specs.declared.fault.TrainFault.{TrainFault}
+use Rattle.hp_train.specs.declared.fault.TrainFault.TheVariants as faults
+use Rattle.hp_train.proofs.Opened.{behind_front, front_ends, front_length, front_stands, grown_mine}
+
+-- the iterations behind what was loaded, once the end is ready
+pub same_iterations : {Start Chain : Type 0} (v : Solving Start Chain) (p : Sealed) (seed count : ℕ) (o m : Outcome) (left : ℕ) → m ≡ opened o → left ≡ count - length m.bounds → continued v p m.pools seed m.batch (length m.bounds) left ≡ iterations v p seed count o
+same_iterations v p seed count o m left is so = subst (λ (x : Outcome). left ≡ count - length x.bounds → continued v p x.pools seed x.batch (length x.bounds) left ≡ iterations v p seed count o) (sym is) (λ h. ap (λ (n : ℕ). continued v p o.pools seed o.batch (length o.bounds) n) h) so
+
+pub when_also : {A : Type 0} (r : Result A TrainFault) (P Q : Type 0) → WhenWhole r P → (P → Q) → WhenWhole r Q
+when_also (Ok x) P Q h so = so h
+when_also (Err (faults.NoStage dead)) P Q h so = so h
+when_also (Err (faults.Range k m i)) P Q h so = so h
+when_also (Err faults.DiskFault) P Q h so = tt
+when_also (Err faults.Memory) P Q h so = tt
+
+some_map : (r : Option (List ℕ)) (f : List ℕ → List ℕ) (P : List ℕ → Type 0) → IfSome r (λ b. P (f b)) → IfSome (option_map f r) P
+some_map None f P h = tt
+some_map (Some b) f P h = h
+
+map_map : (r : Option (List ℕ)) (f g h : List ℕ → List ℕ) → IfSome r (λ b. g (f b) ≡ h b) → option_map g (option_map f r) ≡ option_map h r
+map_map None f g h is = refl
+map_map (Some b) f g h is = ap (λ (x : List ℕ). Some x) is
+
+module _ (digest : List ℕ) (seed : ℕ) (o : Outcome) (title : IsTitle (title_of digest seed o)) where
+  abbrev ready : List ℕ → List ℕ
+  ready b = loaded_front digest seed o b ++ 0 ∷ []
+
+  long : (r : Option (List ℕ)) → (o.born ≡ true → IfSome r (IsShutAt o.end)) → (bytes : List ℕ) → r ≡ Some bytes → length (loaded_front digest seed o bytes) ≡ last_gate o
+  long r shut bytes is = front_length digest seed o bytes title (λ born. known (IsShutAt o.end) r bytes is (shut born))
+
+  -- the end is ready
+  pub ready_ends : (r now : Option (List ℕ)) (end : ℕ) → (o.born ≡ true → IfSome r (IsShutAt o.end)) → now ≡ option_map ready r → end ≡ last_gate o → IfSome now (EndsShut end)
+  ready_ends r now end shut reads is =
+      subst (λ (x : Option (List ℕ)). IfSome x (EndsShut end)) (sym reads) (subst (λ (n : ℕ). IfSome (option_map ready r) (EndsShut n)) (sym is)
+      (some_map r ready (EndsShut (last_gate o)) (told r (λ bytes there. front_ends digest seed o bytes (long r shut bytes there)))))
+
+  -- the records behind it
+  pub ready_grows : (r now : Option (List ℕ)) (end : ℕ) (lists : List (List Entry)) → (o.born ≡ true → IfSome r (IsShutAt o.end)) → now ≡ option_map ready r → end ≡ last_gate o → option_map (behind end lists) now ≡ option_map (λ b. grown_journal digest seed o b lists) r
+  ready_grows r now end lists shut reads is =
+      ap (λ (x : Option (List ℕ)). option_map (behind end lists) x) reads ∙ ap (λ (n : ℕ). option_map (behind n lists) (option_map ready r)) is
+      ∙ map_map r ready (behind (last_gate o) lists) (λ b. grown_journal digest seed o b lists) (told r (λ bytes there. behind_front digest seed o bytes lists (long r shut bytes there)))
+
+  -- what a crash leaves
+  pub all_moments : (old mid new : Store) (lists : List (List Entry)) → mid.reads ≡ option_map ready old.reads
+      → IfSome old.reads (λ bytes. (ps : List (List ℕ)) (j : ℕ) → StandsIn (title_of digest seed o) o ps j bytes → LeavesOnly old mid (MineFrom (title_of digest seed o) ps j))
+      → IfSome mid.reads (λ bytes. (t : Title) (ps : List (List ℕ)) (j : ℕ) → bytes ≡ journal t (take j ps) 0 [] → GoOnWith j ps lists → LeavesOnly mid new (GrownFrom t ps j))
+      → IfSome old.reads (λ bytes. (ps : List (List ℕ)) (j : ℕ) → StandsIn (title_of digest seed o) o ps j bytes → GoOnWith j ps lists → LeavesOnly old new (MineFrom (title_of digest seed o) ps j))
+  all_moments old mid new lists reads first then = told old.reads (λ bytes there ps j stands goes.
+      let t : Title = title_of digest seed o in
+      let one = known (λ b. (ps : List (List ℕ)) (j : ℕ) → StandsIn t o ps j b → LeavesOnly old mid (MineFrom t ps j)) old.reads bytes there first ps j stands in
+      let now : mid.reads ≡ Some (ready bytes) = mapped old.reads mid.reads ready bytes there reads in
+      let is : ready bytes ≡ journal t (take j ps) 0 [] = ap (λ (f : List ℕ). f ++ 0 ∷ []) (front_stands digest seed o ps j bytes stands) in
+      let two = known (λ b. (t : Title) (ps : List (List ℕ)) (j : ℕ) → b ≡ journal t (take j ps) 0 [] → GoOnWith j ps lists → LeavesOnly mid new (GrownFrom t ps j)) mid.reads (ready bytes) now then t ps j is goes in
+      then_on old mid new (MineFrom t ps j) (MineFrom t ps j) one (grown_mine t ps j mid new two) (λ c x. x))
+
+-- while the end is made ready
+pub first_moments : (digest : List ℕ) (seed : ℕ) (o : Outcome) (old mid : Store) (lists : List (List Entry))
+    → IfSome old.reads (λ bytes. (ps : List (List ℕ)) (j : ℕ) → StandsIn (title_of digest seed o) o ps j bytes → LeavesOnly old mid (MineFrom (title_of digest seed o) ps j))
+    → IfSome old.reads (λ bytes. (ps : List (List ℕ)) (j : ℕ) → StandsIn (title_of digest seed o) o ps j bytes → GoOnWith j ps lists → LeavesOnly old mid (MineFrom (title_of digest seed o) ps j))
+first_moments digest seed o old mid lists first = told old.reads (λ bytes there ps j stands goes. known (λ b. (ps : List (List ℕ)) (j : ℕ) → StandsIn (title_of digest seed o) o ps j b → LeavesOnly old mid (MineFrom (title_of digest seed o) ps j)) old.reads bytes there first ps j stands)
