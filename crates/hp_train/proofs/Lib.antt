@@ -11,3 +11,5 @@ pub mod SettledText
 pub mod NodeText
 pub mod SweptText
 pub mod Formulas
+pub mod Splitting
+pub mod Recorded
