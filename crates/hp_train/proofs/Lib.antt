@@ -13,3 +13,4 @@ pub mod SweptText
 pub mod Formulas
 pub mod Splitting
 pub mod Recorded
+pub mod Reread
