@@ -14,3 +14,4 @@ pub mod Formulas
 pub mod Splitting
 pub mod Recorded
 pub mod Reread
+pub mod Resumed

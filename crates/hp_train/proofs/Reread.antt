@@ -1,7 +1,5 @@
 -- A journal of records that are read is loaded.
-use Rattle.std.proofs.Common.{◌≡◌, ◌≢◌, ◌∙◌, ℕ, zero, suc, ◌+◌, ◌-◌, ◌<◌, ◌≤◌, ◌^◌, Bool, true, false, List, [], ◌∷◌, ◌++◌, length, take, get_or, Option, Some, None, Result, Ok, Err, inl, ◌==◌, if◌then◌else◌, refl, sym, ap, subst, append_assoc, length-append, arith}
-use Rattle.std.specs.Prelude.{◌⊎◌}
-use Rattle.std.specs.Str.{bytes_eq}
+use Rattle.std.proofs.Common.{◌≡◌, ◌≢◌, ◌∙◌, ℕ, zero, suc, ◌+◌, ◌<◌, ◌≤◌, ◌^◌, Bool, true, List, [], ◌∷◌, ◌++◌, length, take, get_or, Option, Some, None, Result, Ok, Err, inl, ◌==◌, if◌then◌else◌, refl, sym, ap, subst, append_assoc, length-append, arith}
 use Rattle.std.proofs.lemmas.Bool.Decides.{nat_tests}
 use Rattle.std.proofs.lemmas.List.{append-nil}
 use Rattle.std.proofs.lemmas.Slice.Eq.{bytes_eq-Decides}
@@ -11,7 +9,6 @@ use Rattle.hp_problem.specs.Formulas.{too_much}
 use Rattle.hp_problem.specs.Sealed.{Sealed, is_sealed}
 use Rattle.hp_theory.specs.declared.cut.Cut.{Cut}
 use Rattle.hp_cut.specs.declared.entry.Entry.{Entry}
-use Rattle.hp_record.specs.declared.fault.EntryFault.TheVariants.{Bad}
 use Rattle.hp_record.specs.Reading.{read_batch}
 use Rattle.hp_record.specs.Spelling.{spell}
 use Rattle.hp_record.proofs.Whole.{batch_again}
@@ -26,12 +23,11 @@ use Rattle.hp_journal.proofs.GatesRead.{open_gate, payload_there, next_gate, las
 use Rattle.hp_journal.proofs.HeadsRead.{head_of_journal, head_of_unborn, first_gate}
 use Rattle.hp_load.specs.declared.refusal.LoadFault.{LoadFault}
 use Rattle.hp_load.specs.declared.refusal.LoadFault.TheVariants.{Refused}
-use Rattle.hp_load.specs.declared.refusal.JournalRefusal.TheVariants.{OtherProblem, OtherSeed, OtherBatch, TooMany}
-use Rattle.hp_load.specs.Refusals.{of_gate, of_payload, of_entries, with_fault, within}
-use Rattle.hp_load.specs.Records.{Found, fresh, Ended, rest_behind, rest_at, or_more, entries_at, record_at, record_added, records_at}
+use Rattle.hp_load.specs.declared.refusal.JournalRefusal.TheVariants.{OtherProblem, OtherSeed, OtherBatch}
+use Rattle.hp_load.specs.Refusals.{of_gate, with_fault}
+use Rattle.hp_load.specs.Records.{Found, fresh, Ended, rest_behind, rest_at, entries_at, record_at, record_added, records_at}
 use Rattle.hp_load.specs.Load.{Outcome, born, unborn, same_problem, same_seed, same_batch, title_asked, load_records, load_from, load_of}
 use Rattle.hp_load.specs.Load as loads
-use Rattle.hp_load.proofs.Binding.{bind_on}
 use Rattle.hp_load.proofs.Outcomes.{head_good, title_good, unborn_from}
 use Rattle.hp_train.specs.Training.{payloads}
 use Rattle.hp_train.proofs.Recorded.{IsRead, AreRead}
