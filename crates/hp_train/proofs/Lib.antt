@@ -12,3 +12,7 @@ pub mod NodeText
 pub mod SweptText
 pub mod Formulas
 pub mod Trained
+pub mod Splitting
+pub mod Recorded
+pub mod Reread
+pub mod Resumed

@@ -4,3 +4,4 @@ pub mod Growing
 pub mod Iterating
 pub mod Stepping
 pub mod Training
+pub mod Resuming

@@ -4,6 +4,7 @@
 mod counts;
 mod drawing;
 mod fault;
+pub mod laws;
 mod opening;
 pub mod stepping;
 pub mod training;

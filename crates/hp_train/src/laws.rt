@@ -1,0 +1,28 @@
+// The laws over the definitions. Each is the contract of a function with an empty body.
+ghost use Rattle.std.specs.Prelude.{◌≡◌, ◌≤◌, ℕ, true, List, Option, None, Ok};
+ghost use Rattle.hp_problem.specs.Formulas.{too_much};
+ghost use Rattle.hp_problem.specs.Sealed.{Sealed, is_sealed};
+ghost use Rattle.hp_theory.specs.Range.{based};
+ghost use Rattle.hp_theory.specs.declared.cut.Cut.{Cut};
+ghost use Rattle.hp_journal.specs.Layout.{IsTitle, new_title};
+ghost use Rattle.hp_journal.specs.Mine.{Mine};
+ghost use Rattle.hp_load.specs.Load.{Outcome};
+ghost use Rattle.hp_lp.specs.Chained.{solving};
+ghost use Rattle.hp_train.specs.Resuming.{Resumes, unstopped};
+ghost use Rattle.hp_train.specs.Training.{payloads};
+
+use hp_solver::Solver;
+
+/// Training that is stopped within any write, and resumed, gives what unstopped training gives, whatever the solver.
+///
+/// Of at most 2,000 iterations from the base cuts, for which the formulas are kept, let bytes stand for the first `j`
+/// lists, or for none of them while the journal is not born. Then they are loaded with these lists, and with the pools
+/// and bounds behind them; and the iterations that go on from there give the other lists, the other bounds, the same
+/// pools and the same stop, so that the journal grows to the same bytes.
+pub fn resume_equals_unstopped<V: Solver>(solver: &V)
+    ensures { (p : Sealed) (base : List (List Cut)) (digest : List ℕ) (seed count : ℕ) (asked : Option ℕ) (j : ℕ) (bytes : List ℕ)
+        → is_sealed p ≡ true → based p ≡ Ok base → IsTitle (new_title digest seed asked)
+        → count ≤ 2000 → too_much p count (new_title digest seed asked).batch ≡ None
+        → Mine (new_title digest seed asked) (payloads (unstopped (solving (V.started solver.now) (V.begun solver.now) (V.next solver.now)) p base (new_title digest seed asked) count).lists) j bytes
+        → (o : Outcome) × Resumes (solving (V.started solver.now) (V.begun solver.now) (V.next solver.now)) p base (new_title digest seed asked) asked count j bytes o }
+{}
