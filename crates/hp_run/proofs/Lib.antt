@@ -1,3 +1,4 @@
 pub mod KnownBytes
 pub mod Reports
 pub mod Checks
+pub mod LoadedEnds

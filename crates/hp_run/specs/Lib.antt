@@ -5,3 +5,6 @@ pub mod Words
 pub mod Outcome
 pub mod Causes
 pub mod TrainingLines
+pub mod Journals
+pub mod Training
+pub mod OwnSolver

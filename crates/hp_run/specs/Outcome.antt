@@ -1,10 +1,12 @@
 -- What the bytes of a problem and of a journal give, and when a text is sound.
-use Rattle.std.specs.Prelude.{◌≡◌, ℕ, ℤ, List, All, Option, Some, None, Result, Ok, Err, ⊤}
+use Rattle.std.specs.Prelude.{◌≡◌, ℕ, ◌+◌, ℤ, List, ◌++◌, length, max, All, Option, Some, None, Result, Ok, Err, ⊤}
 use Rattle.sha2.specs.Sha256.{sha256}
 use Rattle.hp_problem.specs.declared.refusal.Refusal.{Refusal}
 use Rattle.hp_problem.specs.declared.refusal.RefusalKind.TheVariants as kinds
 use Rattle.hp_problem.specs.declared.refusal.Part.TheVariants as parts
 use Rattle.hp_problem.specs.Sealed.{Sealed}
+use Rattle.hp_problem.specs.Formulas.{too_much}
+use Rattle.hp_problem.specs.declared.formulas.TooMuch as formulas
 use Rattle.hp_fields.specs.Steps.{◌>>=◌}
 use Rattle.hp_fields.specs.Fields.{place, refuse}
 use Rattle.hp_sof.specs.Problem.{problem_at}
@@ -16,12 +18,17 @@ use Rattle.hp_theory.specs.View.{problem_of}
 use Rattle.hp_load.specs.declared.refusal.LoadFault.{LoadFault}
 use Rattle.hp_load.specs.declared.refusal.LoadFault.TheVariants as faults
 use Rattle.hp_load.specs.Load.{Outcome, load_of, outcome_of}
-use Rattle.hp_report.specs.Report.{base_text, check_text}
+use Rattle.hp_lp.specs.Chained.{Solving}
+use Rattle.hp_backward.specs.declared.fault.SweepFault.{SweepFault}
+use Rattle.hp_backward.specs.declared.fault.SweepFault.TheVariants as sweeps
+use Rattle.hp_train.specs.Continuing.{Continued}
+use Rattle.hp_train.specs.Training.{iterations, unsettled_in}
+use Rattle.hp_report.specs.Report.{base_text, check_text, train_text}
 use Rattle.hp_report.specs.SoundLines.{SoundLines}
 use Rattle.hp_run.specs.declared.status.Status.{Status}
-use Rattle.hp_run.specs.declared.status.Status.TheVariants.{ProblemRefused, JournalRefused, TooMuch, DiskFault, Memory}
+use Rattle.hp_run.specs.declared.status.Status.TheVariants.{ProblemRefused, JournalRefused, TooMuch, Range, NoStage, DiskFault, Memory}
 use Rattle.hp_run.specs.declared.task.Task.{Task}
-use Rattle.hp_run.specs.declared.task.Task.TheVariants.{Base, Check}
+use Rattle.hp_run.specs.declared.task.Task.TheVariants.{Base, Train, Check}
 
 -- a problem with its base cuts
 pub record WithBase : Type 0 where
@@ -53,6 +60,10 @@ status_of_fault (faults.TooMuch t) = TooMuch t
 status_of_fault faults.DiskFault = DiskFault
 status_of_fault faults.Memory = Memory
 
+abbrev pub or_status : {A : Type 0} → Result A LoadFault → Result A Status
+or_status (Ok x) = Ok x
+or_status (Err f) = Err (status_of_fault f)
+
 -- the report of what a journal gives
 abbrev pub check_of : Sealed → Result Outcome LoadFault → Result (List ℕ) Status
 check_of p (Ok o) = Ok (check_text p o.pools o.bounds o.unsettled o.rest)
@@ -62,29 +73,81 @@ check_of p (Err f) = Err (status_of_fault f)
 unfoldable pub checked : List ℕ → WithBase → List ℕ → Result (List ℕ) Status
 checked bytes b kept = check_of b.problem (outcome_of (load_of b.problem b.pools (sha256 bytes) None None kept))
 
+-- what the journal `kept` gives to training with a seed and perhaps a batch
+unfoldable pub loaded_for : List ℕ → WithBase → ℕ → Option ℕ → List ℕ → Result Outcome Status
+loaded_for bytes b seed batch kept = or_status (outcome_of (load_of b.problem b.pools (sha256 bytes) (Some seed) batch kept))
+
+-- the formulas are kept with as many iterations as are asked for or are there already
+abbrev pub unless_much : {A : Type 0} → Option formulas.TooMuch → A → Result A Status
+unless_much None x = Ok x
+unless_much (Some formula) x = Err (TooMuch formula)
+
+unfoldable pub within_formulas : Sealed → ℕ → Outcome → Result Outcome Status
+within_formulas p count o = unless_much (too_much p (max count (length o.bounds)) o.batch) o
+
+-- what the journal gives over these base cuts, by the digest that it has to state, where the formulas are kept
+unfoldable pub ready_for : Sealed → List (List Cut) → List ℕ → ℕ → ℕ → Option ℕ → List ℕ → Result Outcome Status
+ready_for p base digest seed count batch kept = or_status (outcome_of (load_of p base digest (Some seed) batch kept)) >>= within_formulas p count
+
+-- how a run ends where iterations stop
+abbrev pub status_of_stop : SweepFault → Status
+status_of_stop (sweeps.NoStage dead) = NoStage dead
+status_of_stop (sweeps.Range k m r) = Range k m r
+status_of_stop sweeps.Memory = Memory
+
+-- the report of iterations behind what was loaded, or where they stop
+abbrev pub unless_stopped : Sealed → Outcome → Continued → Option SweepFault → Result (List ℕ) Status
+unless_stopped p o c None = Ok (train_text p c.pools (o.bounds ++ c.bounds) (o.unsettled + unsettled_in c.lists))
+unless_stopped p o c (Some fault) = Err (status_of_stop fault)
+
+abbrev pub report_trained : Sealed → Outcome → Continued → Result (List ℕ) Status
+report_trained p o c = unless_stopped p o c c.stop
+
+-- the report of training on the journal `kept`
+unfoldable pub trained_for : {Start Chain : Type 0} → Solving Start Chain → List ℕ → WithBase → ℕ → ℕ → Option ℕ → List ℕ → Result (List ℕ) Status
+trained_for v bytes b seed count batch kept = do
+  loaded ← loaded_for bytes b seed batch kept
+  o ← within_formulas b.problem count loaded
+  report_trained b.problem o (iterations v b.problem seed count o)
+
 -- the report of a task
-abbrev pub report_by : Task → List ℕ → List ℕ → WithBase → Result (List ℕ) Status
-report_by Base bytes kept b = Ok (base_text b.problem b.pools)
-report_by Check bytes kept b = checked bytes b kept
+abbrev pub report_by : {Start Chain : Type 0} → Solving Start Chain → Task → List ℕ → List ℕ → WithBase → Result (List ℕ) Status
+report_by v Base bytes kept b = Ok (base_text b.problem b.pools)
+report_by v (Train seed count batch) bytes kept b = trained_for v bytes b seed count batch kept
+report_by v Check bytes kept b = checked bytes b kept
 
 -- the report of a task over the bytes of a problem and of a journal, or how the run ends without one
-unfoldable pub report_at : Task → List ℕ → List ℕ → Result (List ℕ) Status
-report_at task bytes kept = do
+unfoldable pub report_at : {Start Chain : Type 0} → Solving Start Chain → Task → List ℕ → List ℕ → Result (List ℕ) Status
+report_at v task bytes kept = do
   b ← or_refused (based_at bytes)
-  report_by task bytes kept b
+  report_by v task bytes kept b
+
+-- the task reads a journal
+abbrev pub ReadsJournal : Task → Type 0
+ReadsJournal Base = ⊥
+ReadsJournal (Train seed count batch) = ⊤
+ReadsJournal Check = ⊤
+
+-- the task trains
+abbrev pub Trains : Task → Type 0
+Trains Base = ⊥
+Trains (Train seed count batch) = ⊤
+Trains Check = ⊥
 
 -- the journal's bytes, where the task reads them
 abbrev pub Reads : Task → Option (List ℕ) → List ℕ → Type 0
 Reads Base told kept = ⊤
+Reads (Train seed count batch) told kept = told ≡ Some kept
 Reads Check told kept = told ≡ Some kept
 
 -- this comes of a task, by the bytes of the problem and those of the journal as far as it tells them
-abbrev pub Reports : Task → Option (List ℕ) → List ℕ → Result (List ℕ) Status → Type 0
-Reports task told bytes outcome = (kept : List ℕ) → Reads task told kept → report_at task bytes kept ≡ outcome
+abbrev pub Reports : {Start Chain : Type 0} → Solving Start Chain → Task → Option (List ℕ) → List ℕ → Result (List ℕ) Status → Type 0
+Reports v task told bytes outcome = (kept : List ℕ) → Reads task told kept → report_at v task bytes kept ≡ outcome
 
 -- the text is the report of these pools
 abbrev pub IsReport : Task → Sealed → List (List Cut) → List ℕ → Type 0
 IsReport Base p pools text = text ≡ base_text p pools
+IsReport (Train seed count batch) p pools text = (bounds : List ℤ) × (unsettled : ℕ) × (text ≡ train_text p pools bounds unsettled) × All (Under (problem_of p)) bounds
 IsReport Check p pools text = (bounds : List ℤ) × (unsettled : ℕ) × (rest : ℕ) × (text ≡ check_text p pools bounds unsettled rest) × All (Under (problem_of p)) bounds
 
 -- what code answers of a journal that is checked: want of memory and a fault of the disk are free

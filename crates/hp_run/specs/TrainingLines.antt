@@ -13,9 +13,12 @@ number z = codes " " ++ signed_decimal z
 unfoldable pub listed : List ℕ → List ℤ → List ℕ
 listed name numbers = name ++ flat_map number numbers
 
+unfoldable pub range_place : ℕ → ℕ → List ℕ
+range_place k m = codes "range: iteration" ++ word k ++ codes " node" ++ word m
+
 -- the iteration, the node and the realization
 unfoldable pub range_text : ℕ → ℕ → ℕ → List ℕ
-range_text k m r = codes "range: iteration" ++ word k ++ codes " node" ++ word m ++ codes " realization" ++ word r
+range_text k m r = range_place k m ++ codes " realization" ++ word r
 
 -- the iteration or the scenario, the node, the random values, the incoming state and the multipliers of the rows
 unfoldable pub no_stage_place : ℕ → ℕ → List ℕ

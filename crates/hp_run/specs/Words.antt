@@ -1,5 +1,5 @@
 -- What the words of the command line ask for.
-use Rattle.std.specs.Prelude.{List, String, Option, Some, None, option_and_then}
+use Rattle.std.specs.Prelude.{◌≤◌, List, String, Option, Some, None, IfSome, option_and_then}
 use Rattle.std.specs.declared.alloc.Global.{Global}
 use Rattle.hp_words.specs.declared.command.Command.{Command}
 use Rattle.hp_words.specs.declared.command.Command.TheVariants as commands
@@ -22,3 +22,9 @@ task_of commands.Robust = None
 -- what the words ask for; none where they are no command that the program does
 unfoldable pub asked : List (String Global) → Option Task
 asked words = option_and_then task_of (command_of (texts words))
+
+-- the numbers of a task are in their ranges
+abbrev pub IsWithin : Task → Type 0
+IsWithin Base = Unit {0}
+IsWithin (Train seed count batch) = (count ≤ 2000) × IfSome batch (λ b. (1 ≤ b) × (b ≤ 64))
+IsWithin Check = Unit {0}

@@ -16,4 +16,4 @@ mod writing;
 pub use program::{execute, start};
 pub use status::{Status, number, status_line};
 pub use task::Task;
-pub use top::run;
+pub use top::{run, run_with};

@@ -11,13 +11,17 @@ ghost use Rattle.hp_theory.specs.Pools.{Sound};
 ghost use Rattle.hp_theory.specs.Range.{based};
 ghost use Rattle.hp_theory.specs.View.{problem_of};
 ghost use Rattle.hp_theory.specs.declared.cut.Cut.{Cut};
+ghost use Rattle.hp_lp.specs.Chained.{solving};
 ghost use Rattle.hp_run.specs.Causes.{Lacks};
-ghost use Rattle.hp_run.specs.Outcome.{based_at, based_of, checked, Checks, IsSoundReport, Reports, SoundText, status_of_fault};
+ghost use Rattle.hp_run.specs.Journals.{KeepsJournal, Leaves, LeavesMine};
+ghost use Rattle.hp_run.specs.Outcome.{based_at, based_of, checked, Checks, IsSoundReport, ReadsJournal, Reports, SoundText, status_of_fault};
+ghost use Rattle.hp_run.specs.Words.{IsWithin};
 ghost use Rattle.hp_run.specs.declared.status.Status.TheVariants as statuses;
 ghost use Rattle.hp_run.specs.declared.task.Task.TheVariants as tasks;
 
 use crate::status::Status;
 use crate::task::Task;
+use crate::training::{Asked, report_train};
 use hp_cut::Pools;
 use hp_dual::{BaseFault, base};
 use hp_load::{LoadFault, load};
@@ -25,9 +29,11 @@ use hp_num::Memory;
 use hp_outside::Disk;
 use hp_problem::{Part, Place, Problem, RefusalKind};
 use hp_report::{base_report, check_report};
+use hp_solver::Solver;
 use hp_sof::{ReadRefusal, read_problem};
 use sha2::{Digest, Sha256};
 use std::alloc::Global;
+use std::thread::Threads;
 
 /// A problem with its base cuts.
 #[tactic(auto, unfolding(crate::specs::Outcome::based_of))]
@@ -82,7 +88,7 @@ fn check<D: Disk>(
     Ok(text)
 }
 
-fn status_of_fault(fault: LoadFault) -> Status
+pub(crate) fn status_of_fault(fault: LoadFault) -> Status
     ensures { result ≡ status_of_fault fault }
 {
     match fault {
@@ -94,24 +100,28 @@ fn status_of_fault(fault: LoadFault) -> Status
 }
 
 /// The report of `check` over the base cuts of the problem of these bytes.
-fn report_check<D: Disk>(
+fn report_check<D: Disk, V: Solver>(
     alloc: Global,
     bytes: &[u8],
     problem: &Problem,
     pools: Pools,
     journal: &mut D,
+    solver: &V,
 ) -> Result<Vec<u8>, Status>
     requires read { based_at bytes.now ≡ Ok (record { problem = problem.now; pools = pools.lists }) }
     requires base { based problem.now ≡ Ok pools.lists }
-    ensures report { IfOk result (λ v. Reports tasks.Check (D.store journal.old).reads bytes.now (Ok v.items)) }
+    ensures report { IfOk result (λ v. Reports (solving (V.started solver.now) (V.begun solver.now) (V.next solver.now)) tasks.Check (D.store journal.old).reads bytes.now (Ok v.items)) }
     ensures sound { IfOk result (λ v. (cuts : List (List Cut)) × IsSoundReport tasks.Check problem.now cuts v.items) }
-    ensures lacks { IfErr result (λ s. Lacks tasks.Check (D.store journal.old).reads (D.faults journal.old) (D.faults journal.new) bytes.now s) }
+    ensures lacks { IfErr result (λ s. Lacks (solving (V.started solver.now) (V.begun solver.now) (V.next solver.now)) tasks.Check (D.store journal.old).reads (D.faults journal.old) (D.faults journal.new) bytes.now s) }
     ensures stays { Stays (D.store journal.old) (D.store journal.new) }
     ensures later { D.faults journal.old ≤ D.faults journal.new }
 {
     match check(alloc, bytes, problem, pools, journal) {
         Ok(text) => Ok(text),
-        Err(fault) => Err(status_of_fault(fault)),
+        Err(fault) => {
+            let _ = solver;
+            Err(status_of_fault(fault))
+        }
     }
 }
 
@@ -131,43 +141,57 @@ fn report_base(alloc: Global, problem: &Problem, pools: Pools) -> Result<Vec<u8>
 }
 
 /// The report of a task over the base cuts of the problem of these bytes.
-fn report_by<D: Disk>(
+fn report_by<R: Threads + Sync, D: Disk, V: Solver>(
+    rt: &R,
     alloc: Global,
     task: Task,
     bytes: &[u8],
     problem: &Problem,
     pools: Pools,
     journal: &mut D,
+    solver: &V,
 ) -> Result<Vec<u8>, Status>
+    requires within { IsWithin task }
     requires read { based_at bytes.now ≡ Ok (record { problem = problem.now; pools = pools.lists }) }
     requires base { based problem.now ≡ Ok pools.lists }
     requires fit { Fit (problem_of problem.now) (length problem.now.raw.nodes) pools.lists }
     requires sound { Sound (problem_of problem.now) pools.lists }
-    ensures report { IfOk result (λ v. Reports task (D.store journal.old).reads bytes.now (Ok v.items)) }
+    ensures report { IfOk result (λ v. Reports (solving (V.started solver.now) (V.begun solver.now) (V.next solver.now)) task (D.store journal.old).reads bytes.now (Ok v.items)) }
     ensures sound { IfOk result (λ v. (cuts : List (List Cut)) × IsSoundReport task problem.now cuts v.items) }
-    ensures lacks { IfErr result (λ s. Lacks task (D.store journal.old).reads (D.faults journal.old) (D.faults journal.new) bytes.now s) }
-    ensures stays { Stays (D.store journal.old) (D.store journal.new) }
-    ensures untouched { task ≡ tasks.Base → journal.new ≡ journal.old }
+    ensures lacks { IfErr result (λ s. Lacks (solving (V.started solver.now) (V.begun solver.now) (V.next solver.now)) task (D.store journal.old).reads (D.faults journal.old) (D.faults journal.new) bytes.now s) }
+    ensures grown { IfSome (D.store journal.old).reads (λ kept. Leaves (solving (V.started solver.now) (V.begun solver.now) (V.next solver.now)) result bytes.now kept (D.store journal.new) task) }
+    ensures any_moment { IfSome (D.store journal.old).reads (λ kept. LeavesMine (solving (V.started solver.now) (V.begun solver.now) (V.next solver.now)) bytes.now kept (D.store journal.old) (D.store journal.new) task) }
+    ensures stays { KeepsJournal task result → Stays (D.store journal.old) (D.store journal.new) }
+    ensures untouched { ¬ (ReadsJournal task) → journal.new ≡ journal.old }
     ensures later { D.faults journal.old ≤ D.faults journal.new }
 {
     match task {
         Task::Base => report_base(alloc, problem, pools),
-        Task::Check => report_check(alloc, bytes, problem, pools, journal),
+        Task::Train { seed, count, batch } => {
+            let asked = Asked { seed, count, batch };
+            report_train(rt, alloc, bytes, problem, pools, journal, solver, asked)
+        }
+        Task::Check => report_check(alloc, bytes, problem, pools, journal, solver),
     }
 }
 
 /// The report of a task over the bytes of a problem and a journal, or how the run ends without one.
-pub(crate) fn report_of<D: Disk>(
+pub(crate) fn report_of<R: Threads + Sync, D: Disk, V: Solver>(
+    rt: &R,
     alloc: Global,
     task: Task,
     bytes: &[u8],
     journal: &mut D,
+    solver: &V,
 ) -> Result<Vec<u8>, Status>
-    ensures report { IfOk result (λ v. Reports task (D.store journal.old).reads bytes.now (Ok v.items)) }
+    requires { IsWithin task }
+    ensures report { IfOk result (λ v. Reports (solving (V.started solver.now) (V.begun solver.now) (V.next solver.now)) task (D.store journal.old).reads bytes.now (Ok v.items)) }
     ensures sound { IfOk result (λ v. SoundText task bytes.now v.items) }
-    ensures lacks { IfErr result (λ s. Lacks task (D.store journal.old).reads (D.faults journal.old) (D.faults journal.new) bytes.now s) }
-    ensures stays { Stays (D.store journal.old) (D.store journal.new) }
-    ensures untouched { task ≡ tasks.Base → journal.new ≡ journal.old }
+    ensures lacks { IfErr result (λ s. Lacks (solving (V.started solver.now) (V.begun solver.now) (V.next solver.now)) task (D.store journal.old).reads (D.faults journal.old) (D.faults journal.new) bytes.now s) }
+    ensures grown { IfSome (D.store journal.old).reads (λ kept. Leaves (solving (V.started solver.now) (V.begun solver.now) (V.next solver.now)) result bytes.now kept (D.store journal.new) task) }
+    ensures any_moment { IfSome (D.store journal.old).reads (λ kept. LeavesMine (solving (V.started solver.now) (V.begun solver.now) (V.next solver.now)) bytes.now kept (D.store journal.old) (D.store journal.new) task) }
+    ensures stays { KeepsJournal task result → Stays (D.store journal.old) (D.store journal.new) }
+    ensures untouched { ¬ (ReadsJournal task) → journal.new ≡ journal.old }
     ensures later { D.faults journal.old ≤ D.faults journal.new }
 {
     let (problem, pools) = match based_at(alloc, bytes) {
@@ -175,5 +199,5 @@ pub(crate) fn report_of<D: Disk>(
         Err(ReadRefusal::Refused(refusal)) => return Err(Status::ProblemRefused(refusal)),
         Err(ReadRefusal::Memory) => return Err(Status::Memory),
     };
-    report_by(alloc, task, bytes, &problem, pools, journal)
+    report_by(rt, alloc, task, bytes, &problem, pools, journal, solver)
 }

@@ -2,6 +2,7 @@
 ghost use Rattle.std.specs.Prelude.{◌≡◌};
 ghost use Rattle.std.specs.Process.{exit_status};
 ghost use Rattle.hp_run.specs.Causes.{Explains};
+ghost use Rattle.hp_run.specs.OwnSolver.{own_solver};
 ghost use Rattle.hp_run.specs.Status.{number_of};
 ghost use Rattle.hp_run.specs.Words.{asked};
 
@@ -32,7 +33,7 @@ fn ended<E: Write>(alloc: Global, status: &Status, errors: &mut E) -> ExitCode
 
 /// Does what the words say, as `run`, and writes the line of a status other than Done to `errors`. The exit status is the
 /// number of a status that explains what became of the source, the disk and the sink.
-pub fn execute<R: Threads, I: Source, D: Disk, O: Sink, E: Write>(
+pub fn execute<R: Threads + Sync, I: Source, D: Disk, O: Sink, E: Write>(
     rt: &R,
     alloc: Global,
     words: &[String],
@@ -41,7 +42,7 @@ pub fn execute<R: Threads, I: Source, D: Disk, O: Sink, E: Write>(
     out: &mut O,
     errors: &mut E,
 ) -> ExitCode
-    ensures { (status : Status) × (exit_status result ≡ number_of status) × Explains (asked words.now) (record {
+    ensures { (status : Status) × (exit_status result ≡ number_of status) × Explains own_solver (asked words.now) (record {
       left = I.left problem.old;
       left_now = I.left problem.new;
       reads = I.faults problem.old;
@@ -93,7 +94,7 @@ fn writes_journal(words: &[String]) -> bool {
 /// The program: the words of the command line, over these streams and the file that the second word names.
 pub fn start<R, I, O, E>(rt: &R, input: I, output: O, errors: &mut E) -> ExitCode
 where
-    R: Env + Files + Threads + AllocGlobal,
+    R: Env + Files + Threads + Sync + AllocGlobal,
     I: Read + Drop,
     O: Write + Drop,
     E: Write,

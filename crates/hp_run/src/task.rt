@@ -1,6 +1,6 @@
 // What the program is asked to do.
-ghost use Rattle.std.specs.Prelude.{◌≡◌};
-ghost use Rattle.hp_run.specs.Words.{asked, task_of};
+ghost use Rattle.std.specs.Prelude.{◌≡◌, IfSome};
+ghost use Rattle.hp_run.specs.Words.{IsWithin, asked, task_of};
 
 use hp_words::{Command, read_words};
 
@@ -34,7 +34,8 @@ fn task_of(command: Command) -> Option<Task>
 /// What the words ask for, where they are a command that the program does.
 #[tactic(auto, unfolding(crate::specs::Words::asked))]
 pub(crate) fn asked(words: &[String]) -> Option<Task>
-    ensures { result ≡ asked words.now }
+    ensures value { result ≡ asked words.now }
+    ensures within { IfSome result IsWithin }
 {
     task_of(read_words(words)?)
 }

@@ -1,7 +1,7 @@
 // The words that say where training stopped.
 ghost use Rattle.std.specs.Prelude.{◌≡◌, ◌++◌, OnOk, codes};
 ghost use Rattle.std.specs.List.{flat_map};
-ghost use Rattle.hp_run.specs.TrainingLines.{listed, no_stage_place, no_stage_text, number, range_text};
+ghost use Rattle.hp_run.specs.TrainingLines.{listed, no_stage_place, no_stage_text, number, range_place, range_text};
 
 use crate::refusal_lines::push_word;
 use hp_num::Memory;
@@ -72,6 +72,16 @@ pub(crate) fn push_no_stage(out: &mut Vec<u8>, dead: &Dead) -> Result<(), Memory
     push_list(out, b" rows", dead.rows.as_slice())
 }
 
+#[tactic(auto, unfolding(crate::specs::TrainingLines::range_place))]
+fn push_range_place(out: &mut Vec<u8>, iteration: u32, node: u32) -> Result<(), Memory>
+    ensures { OnOk result (out.new.items ≡ out.old.items ++ range_place iteration node) }
+{
+    push_bytes(out, b"range: iteration")?;
+    push_word(out, u64::from(iteration))?;
+    push_bytes(out, b" node")?;
+    push_word(out, u64::from(node))
+}
+
 /// Appends at which iteration and node, and at which realization of it, the size of certificates passes its range.
 #[tactic(auto, unfolding(crate::specs::TrainingLines::range_text))]
 pub(crate) fn push_range(
@@ -82,10 +92,7 @@ pub(crate) fn push_range(
 ) -> Result<(), Memory>
     ensures { OnOk result (out.new.items ≡ out.old.items ++ range_text iteration node realization) }
 {
-    push_bytes(out, b"range: iteration")?;
-    push_word(out, u64::from(iteration))?;
-    push_bytes(out, b" node")?;
-    push_word(out, u64::from(node))?;
+    push_range_place(out, iteration, node)?;
     push_bytes(out, b" realization")?;
     push_word(out, u64::from(realization))
 }

@@ -1,0 +1,72 @@
+-- What code that trains on a journal answers.
+use Rattle.std.specs.Prelude.{◌≡◌, ℕ, List, Option, Some, None, Result, Ok, Err, ⊤}
+use Rattle.hp_problem.specs.Sealed.{Sealed}
+use Rattle.hp_theory.specs.Problem.{node_at}
+use Rattle.hp_theory.specs.View.{problem_of}
+use Rattle.hp_settle.specs.Refutation.{NoDecision}
+use Rattle.hp_backward.specs.declared.fault.SweepFault.{SweepFault}
+use Rattle.hp_backward.specs.declared.fault.SweepFault.TheVariants as sweeps
+use Rattle.hp_run.specs.declared.status.Status.{Status}
+use Rattle.hp_run.specs.declared.status.Status.TheVariants.{Done, Usage, ReadFault, TooLong, ProblemRefused, JournalRefused, TooMuch, Range, NoStage, DiskFault, WriteFault, Memory}
+
+-- a refusal of the journal or a formula that was defined; a fault of the disk and want of memory are free, and nothing else comes
+abbrev pub Refuses : {A : Type 0} → Status → Result A Status → Type 0
+Refuses (JournalRefused r) defined = defined ≡ Err (JournalRefused r)
+Refuses (TooMuch t) defined = defined ≡ Err (TooMuch t)
+Refuses DiskFault defined = ⊤
+Refuses Memory defined = ⊤
+Refuses Done defined = ⊥
+Refuses Usage defined = ⊥
+Refuses ReadFault defined = ⊥
+Refuses TooLong defined = ⊥
+Refuses (ProblemRefused r) defined = ⊥
+Refuses (Range k m r) defined = ⊥
+Refuses (NoStage dead) defined = ⊥
+Refuses WriteFault defined = ⊥
+
+-- where iterations stop, as far as a status tells it
+abbrev pub StopsAs : {A : Type 0} → Result A Status → Option SweepFault → Type 0
+StopsAs (Ok x) stop = stop ≡ None
+StopsAs (Err (Range k m r)) stop = stop ≡ Some (sweeps.Range k m r)
+StopsAs (Err (NoStage dead)) stop = stop ≡ Some (sweeps.NoStage dead)
+StopsAs (Err DiskFault) stop = ⊤
+StopsAs (Err Memory) stop = ⊤
+StopsAs (Err Done) stop = ⊥
+StopsAs (Err Usage) stop = ⊥
+StopsAs (Err ReadFault) stop = ⊥
+StopsAs (Err TooLong) stop = ⊥
+StopsAs (Err (ProblemRefused r)) stop = ⊥
+StopsAs (Err (JournalRefused r)) stop = ⊥
+StopsAs (Err (TooMuch t)) stop = ⊥
+StopsAs (Err WriteFault) stop = ⊥
+
+-- what holds once all iterations are done that the definition has
+abbrev pub WhenTrained : {A : Type 0} → Result A Status → Type 0 → Type 0
+WhenTrained (Ok x) P = P
+WhenTrained (Err (Range k m r)) P = P
+WhenTrained (Err (NoStage dead)) P = P
+WhenTrained (Err DiskFault) P = ⊤
+WhenTrained (Err Memory) P = ⊤
+WhenTrained (Err Done) P = ⊤
+WhenTrained (Err Usage) P = ⊤
+WhenTrained (Err ReadFault) P = ⊤
+WhenTrained (Err TooLong) P = ⊤
+WhenTrained (Err (ProblemRefused r)) P = ⊤
+WhenTrained (Err (JournalRefused r)) P = ⊤
+WhenTrained (Err (TooMuch t)) P = ⊤
+WhenTrained (Err WriteFault) P = ⊤
+
+-- where a node is refuted, no decisions exist there
+abbrev pub IsDead : Sealed → Status → Type 0
+IsDead p (NoStage dead) = NoDecision (node_at (problem_of p) dead.node) dead.values dead.state
+IsDead p Done = ⊤
+IsDead p Usage = ⊤
+IsDead p ReadFault = ⊤
+IsDead p TooLong = ⊤
+IsDead p (ProblemRefused r) = ⊤
+IsDead p (JournalRefused r) = ⊤
+IsDead p (TooMuch t) = ⊤
+IsDead p (Range k m r) = ⊤
+IsDead p DiskFault = ⊤
+IsDead p WriteFault = ⊤
+IsDead p Memory = ⊤

@@ -1,0 +1,206 @@
+// Training on a journal, from its bytes to its report.
+ghost use Rattle.std.specs.Prelude.{◌≡◌, ◌≢◌, ◌≤◌, ◌^◌, ◌⊎◌, ℕ, List, true, false, length, max, option_map, All, IfOk, IfErr, IfSome, OnOk, None, Some, Ok, Err};
+ghost use Rattle.sha2.specs.Sha256.{sha256};
+ghost use Rattle.hp_num.specs.Steps.{GivesOr};
+ghost use Rattle.hp_outside.specs.Causes.{Rose};
+ghost use Rattle.hp_outside.specs.Disks.{Stays};
+ghost use Rattle.hp_outside.specs.Since.{Quiet, LeavesOnly};
+ghost use Rattle.hp_problem.specs.Formulas.{too_much};
+ghost use Rattle.hp_theory.specs.Bound.{Under};
+ghost use Rattle.hp_theory.specs.Fit.{Fit};
+ghost use Rattle.hp_theory.specs.Pools.{Sound};
+ghost use Rattle.hp_theory.specs.Range.{based};
+ghost use Rattle.hp_theory.specs.View.{problem_of};
+ghost use Rattle.hp_theory.specs.declared.cut.Cut.{Cut};
+ghost use Rattle.hp_journal.specs.Causes.{DiskCause};
+ghost use Rattle.hp_journal.specs.Gates.{IsShutAt};
+ghost use Rattle.hp_journal.specs.Head.{IsUnborn};
+ghost use Rattle.hp_load.specs.Accepted.{IsSafe};
+ghost use Rattle.hp_load.specs.Load.{Outcome, seen};
+ghost use Rattle.hp_lp.specs.Chained.{solving};
+ghost use Rattle.hp_train.specs.Training.{CanTrain, GoOnWith, MineFrom, StandsIn, grown_journal, iterations, title_of, trained};
+ghost use Rattle.hp_report.specs.Report.{train_text};
+ghost use Rattle.hp_run.specs.Causes.{Lacks};
+ghost use Rattle.hp_run.specs.Journals.{Grows, LeavesMine, is_refusal};
+ghost use Rattle.hp_run.specs.Outcome.{IsSoundReport, Reports, based_at, loaded_for, ready_for};
+ghost use Rattle.hp_run.specs.Training.{IsDead, Refuses, StopsAs, WhenTrained};
+ghost use Rattle.hp_run.specs.declared.status.Status.TheVariants as statuses;
+ghost use Rattle.hp_run.specs.declared.task.Task.TheVariants as tasks;
+
+use crate::outcome::status_of_fault;
+use crate::status::Status;
+use hp_cut::Pools;
+use hp_load::{Loaded, load};
+use hp_lp::Starts;
+use hp_num::Memory;
+use hp_outside::Disk;
+use hp_problem::{Problem, TooMuch};
+use hp_report::train_report;
+use hp_solver::Solver;
+use hp_train::{TrainFault, train};
+use sha2::{Digest, Sha256};
+use std::alloc::Global;
+use std::thread::Threads;
+
+/// What is asked of training: the seed, how many iterations there are to be in all, and perhaps the paths of each.
+#[derive(Clone, Copy, Debug, PartialEq, Eq)]
+pub(crate) struct Asked {
+    pub(crate) seed: u64,
+    pub(crate) count: u32,
+    pub(crate) batch: Option<u16>,
+}
+
+/// The first formula that passes its limit with as many iterations as are asked for or are there already.
+fn too_much(problem: &Problem, count: u32, loaded: &Loaded) -> Option<TooMuch>
+    requires few { length loaded.now.bounds ≤ 2000 }
+    requires count { count ≤ 2000 }
+    requires some { 1 ≤ loaded.now.batch }
+    requires batch { loaded.now.batch ≤ 64 }
+    ensures { result ≡ too_much problem.now (max count (length loaded.now.bounds)) loaded.now.batch }
+{
+    problem.too_much(count.max(loaded.bounds.len() as u32), loaded.batch)
+}
+
+/// The journal, loaded for training, where the formulas are kept.
+#[tactic(auto, unfolding(crate::specs::Outcome::ready_for, crate::specs::Outcome::within_formulas))]
+fn load_for<D: Disk>(
+    alloc: Global,
+    problem: &Problem,
+    pools: Pools,
+    journal: &mut D,
+    digest: &[u8; 32],
+    asked: Asked,
+) -> Result<Loaded, Status>
+    requires base { based problem.now ≡ Ok pools.lists }
+    requires count { asked.count ≤ 2000 }
+    requires batch { IfSome asked.batch (λ b. (1 ≤ b) × (b ≤ 64)) }
+    ensures value { IfSome (D.store journal.old).reads (λ kept. GivesOr Refuses seen result
+        (ready_for problem.now pools.lists digest.now asked.seed asked.count asked.batch kept)) }
+    ensures can { IfOk result (λ l. CanTrain problem.now asked.count (seen l)) }
+    ensures safe { IfOk result (IsSafe problem.now) }
+    ensures stays { Stays (D.store journal.old) (D.store journal.new) }
+    ensures cause { DiskCause (D.faults journal.old) (D.faults journal.new) (result ≡ Err statuses.DiskFault) }
+    ensures refusals { IfErr result (λ s. s ≢ statuses.Memory → s ≢ statuses.DiskFault → is_refusal s ≡ true) }
+{
+    match load(
+        alloc,
+        problem,
+        pools,
+        journal,
+        digest,
+        Some(asked.seed),
+        asked.batch,
+    ) {
+        Ok(loaded) => match too_much(problem, asked.count, &loaded) {
+            None => Ok(loaded),
+            Some(formula) => Err(Status::TooMuch(formula)),
+        },
+        Err(fault) => Err(status_of_fault(fault)),
+    }
+}
+
+/// Trains on what was loaded, once the solver has made ready for each node and what is pending on the disk is synced.
+fn train_on<R: Threads + Sync, D: Disk, V: Solver>(
+    rt: &R,
+    alloc: Global,
+    problem: &Problem,
+    solver: &V,
+    journal: &mut D,
+    digest: &[u8; 32],
+    asked: Asked,
+    loaded: &mut Loaded,
+) -> Result<(), Status>
+    requires can { CanTrain problem.now asked.count (seen loaded.old) }
+    requires unborn { loaded.old.born ≡ false → IfSome (D.store journal.old).reads IsUnborn }
+    requires shut { loaded.old.born ≡ true → IfSome (D.store journal.old).reads (IsShutAt loaded.old.end) }
+    ensures stop { StopsAs result (iterations (solving (V.started solver.now) (V.begun solver.now) (V.next solver.now)) problem.now asked.seed asked.count (seen loaded.old)).stop }
+    ensures value { OnOk result (seen loaded.new ≡ trained (seen loaded.old) (iterations (solving (V.started solver.now) (V.begun solver.now) (V.next solver.now)) problem.now asked.seed asked.count (seen loaded.old))) }
+    ensures reads { WhenTrained result ((D.store journal.new).reads
+        ≡ option_map (λ kept. grown_journal digest.now asked.seed (seen loaded.old) kept (iterations (solving (V.started solver.now) (V.begun solver.now) (V.next solver.now)) problem.now asked.seed asked.count (seen loaded.old)).lists) (D.store journal.old).reads) }
+    ensures quiet { WhenTrained result (Quiet (D.store journal.new)) }
+    ensures any_moment { IfSome (D.store journal.old).reads (λ kept. (ps : List (List ℕ)) (j i : ℕ)
+        → StandsIn (title_of digest.now asked.seed (seen loaded.old)) (seen loaded.old) ps j kept
+        → GoOnWith j ps (iterations (solving (V.started solver.now) (V.begun solver.now) (V.next solver.now)) problem.now asked.seed asked.count (seen loaded.old)).lists
+        → i ≤ j → ((c : List ℕ) → (D.store journal.old).images c → MineFrom (title_of digest.now asked.seed (seen loaded.old)) ps i c)
+        → LeavesOnly (D.store journal.old) (D.store journal.new) (MineFrom (title_of digest.now asked.seed (seen loaded.old)) ps i)) }
+    ensures cause { DiskCause (D.faults journal.old) (D.faults journal.new) (result ≡ Err statuses.DiskFault) }
+    ensures dead { IfErr result (IsDead problem.now) }
+    ensures fit { OnOk result (Fit (problem_of problem.now) (length problem.now.raw.nodes) loaded.new.pools.lists) }
+    ensures sound { Sound (problem_of problem.now) loaded.old.pools.lists → OnOk result (Sound (problem_of problem.now) loaded.new.pools.lists) }
+    ensures under { Sound (problem_of problem.now) loaded.old.pools.lists → All (Under (problem_of problem.now)) loaded.old.bounds → OnOk result (All (Under (problem_of problem.now)) loaded.new.bounds) }
+{
+    let Ok(starts) = Starts::new(alloc, problem, solver) else {
+        return Err(Status::Memory);
+    };
+    let Ok(()) = journal.sync() else {
+        return Err(Status::DiskFault);
+    };
+    match train(
+        rt,
+        alloc,
+        problem,
+        solver,
+        &starts,
+        journal,
+        digest,
+        asked.seed,
+        asked.count,
+        loaded,
+    ) {
+        Ok(()) => Ok(()),
+        Err(TrainFault::NoStage(dead)) => Err(Status::NoStage(dead)),
+        Err(TrainFault::Range {
+            iteration,
+            node,
+            realization,
+        }) => Err(Status::Range {
+            iteration,
+            node,
+            realization,
+        }),
+        Err(TrainFault::DiskFault) => Err(Status::DiskFault),
+        Err(TrainFault::Memory) => Err(Status::Memory),
+    }
+}
+
+/// The report of training on the journal with the problem of these bytes.
+pub(crate) fn report_train<R: Threads + Sync, D: Disk, V: Solver>(
+    rt: &R,
+    alloc: Global,
+    bytes: &[u8],
+    problem: &Problem,
+    pools: Pools,
+    journal: &mut D,
+    solver: &V,
+    asked: Asked,
+) -> Result<Vec<u8>, Status>
+    requires read { based_at bytes.now ≡ Ok (record { problem = problem.now; pools = pools.lists }) }
+    requires base { based problem.now ≡ Ok pools.lists }
+    requires count { asked.count ≤ 2000 }
+    requires batch { IfSome asked.batch (λ b. (1 ≤ b) × (b ≤ 64)) }
+    ensures report { IfOk result (λ v. Reports (solving (V.started solver.now) (V.begun solver.now) (V.next solver.now)) (tasks.Train asked.seed asked.count asked.batch) (D.store journal.old).reads bytes.now (Ok v.items)) }
+    ensures sound { IfOk result (λ v. (cuts : List (List Cut)) × IsSoundReport (tasks.Train asked.seed asked.count asked.batch) problem.now cuts v.items) }
+    ensures lacks { IfErr result (λ s. Lacks (solving (V.started solver.now) (V.begun solver.now) (V.next solver.now)) (tasks.Train asked.seed asked.count asked.batch) (D.store journal.old).reads (D.faults journal.old) (D.faults journal.new) bytes.now s) }
+    ensures grown { IfSome (D.store journal.old).reads (λ kept. (o : Outcome) → loaded_for bytes.now (record { problem = problem.now; pools = pools.lists }) asked.seed asked.batch kept ≡ Ok o
+        → WhenTrained result ((D.store journal.new).reads ≡ Some (grown_journal (sha256 bytes.now) asked.seed o kept (iterations (solving (V.started solver.now) (V.begun solver.now) (V.next solver.now)) problem.now asked.seed asked.count o).lists) × Quiet (D.store journal.new))) }
+    ensures any_moment { IfSome (D.store journal.old).reads (λ kept. LeavesMine (solving (V.started solver.now) (V.begun solver.now) (V.next solver.now)) bytes.now kept (D.store journal.old) (D.store journal.new) (tasks.Train asked.seed asked.count asked.batch)) }
+    ensures stays { IfErr result (λ s. is_refusal s ≡ true → Stays (D.store journal.old) (D.store journal.new)) }
+    ensures later { D.faults journal.old ≤ D.faults journal.new }
+{
+    let digest = Sha256::digest(bytes);
+    let mut loaded = load_for(alloc, problem, pools, journal, &digest, asked)?;
+    train_on(
+        rt,
+        alloc,
+        problem,
+        solver,
+        journal,
+        &digest,
+        asked,
+        &mut loaded,
+    )?;
+    match train_report(alloc, problem, &loaded) {
+        Ok(text) => Ok(text),
+        Err(Memory) => Err(Status::Memory),
+    }
+}
