@@ -2,3 +2,4 @@ pub mod KnownBytes
 pub mod Reports
 pub mod Checks
 pub mod LoadedEnds
+pub mod Synced
