@@ -19,3 +19,4 @@ pub mod Resumed
 pub mod ReadBack
 pub mod HeadBack
 pub mod Stored
+pub mod StoredMine

@@ -47,7 +47,7 @@ front_of : (t : Title) (ps : List (List ℕ)) (gate : ℕ) (rest : List ℕ) →
 front_of t ps gate rest = take-append_seam (front t ps) (gate ∷ rest)
 
 -- the records of more lists behind it
-grown_to : (t : Title) (f : List ℕ) (some more : List (List Entry)) → f ≡ front t (payloads some) → f ++ records (payloads more) ++ 0 ∷ [] ≡ journal t (payloads (some ++ more)) 0 []
+pub grown_to : (t : Title) (f : List ℕ) (some more : List (List Entry)) → f ≡ front t (payloads some) → f ++ records (payloads more) ++ 0 ∷ [] ≡ journal t (payloads (some ++ more)) 0 []
 grown_to t f some more is =
     ap (λ (l : List ℕ). l ++ records (payloads more) ++ 0 ∷ []) is
     ∙ ap (λ (l : List ℕ). l ++ 0 ∷ []) (sym (front-append t (payloads some) (payloads more)))
