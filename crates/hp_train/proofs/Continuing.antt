@@ -1,5 +1,5 @@
 -- Iterations one after another: what one more gives, and what stays once training has stopped.
-use Rattle.std.proofs.Common.{◌≡◌, ◌⊎◌, inl, inr, ⊎_elim, ℕ, zero, suc, ◌+◌, ◌≤◌, ℤ, List, [], ◌∷◌, ◌++◌, length, Option, Some, None, Result, Ok, Err, refl, sym, ap, subst, ◌∙◌, append_assoc, length-append, arith}
+use Rattle.std.proofs.Common.{◌≡◌, inl, inr, ℕ, zero, suc, ◌+◌, ◌≤◌, List, [], ◌∷◌, ◌++◌, length, Option, Some, None, Result, Ok, Err, refl, sym, ap, ◌∙◌, append_assoc, length-append, arith}
 use Rattle.std.proofs.lemmas.List.{append-nil}
 use Rattle.std.proofs.lemmas.Bool.{cases_eq}
 use Rattle.hp_problem.specs.Sealed.{Sealed}
@@ -10,7 +10,7 @@ use Rattle.hp_cut.specs.declared.entry.Entry.{Entry}
 use Rattle.hp_lp.specs.Chained.{Solving}
 use Rattle.hp_backward.specs.declared.fault.SweepFault.{SweepFault}
 use Rattle.hp_train.specs.Stepping.{Stepped, step_of}
-use Rattle.hp_train.specs.Continuing.{Continued, before_any, with_step, with_iteration, continued}
+use Rattle.hp_train.specs.Continuing.{Continued, with_step, with_iteration, continued}
 
 none_some : {A : Type 0} (x : A) → (let o : Option A = None in o ≡ Some x) → ⊥
 none_some x h = cc

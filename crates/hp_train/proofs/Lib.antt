@@ -16,3 +16,7 @@ pub mod Splitting
 pub mod Recorded
 pub mod Reread
 pub mod Resumed
+pub mod ReadBack
+pub mod HeadBack
+pub mod Stored
+pub mod StoredMine

@@ -30,11 +30,8 @@ use Rattle.hp_load.specs.Load.{Outcome, born, unborn, same_problem, same_seed, s
 use Rattle.hp_load.specs.Load as loads
 use Rattle.hp_load.proofs.Outcomes.{head_good, title_good, unborn_from}
 use Rattle.hp_train.specs.Training.{payloads}
+use Rattle.hp_train.proofs.Placed.{payloads-append}
 use Rattle.hp_train.proofs.Recorded.{IsRead, AreRead}
-
-payloads-append : (xs ys : List (List Entry)) → payloads (xs ++ ys) ≡ payloads xs ++ payloads ys
-payloads-append [] ys = refl
-payloads-append (x ∷ xs) ys = ap (λ (l : List (List ℕ)). spell x ∷ l) (payloads-append xs ys)
 
 -- ---- a record between others
 

@@ -1,8 +1,10 @@
 -- Training that was stopped and is resumed leaves what unstopped training does.
 use Rattle.std.proofs.Common.{◌≡◌, ◌≢◌, ◌∙◌, ℕ, ◌+◌, ◌-◌, ◌≤◌, true, ℤ, List, [], ◌∷◌, ◌++◌, length, take, get_or, Option, Some, None, Ok, refl, sym, ap, subst, arith}
+use Rattle.std.specs.List.{sum_by}
 use Rattle.std.proofs.Math.Logic.{⊎_elim}
 use Rattle.std.proofs.Math.Seq.{take-append_seam}
 use Rattle.std.proofs.lemmas.List.{length-map, take-map}
+use Rattle.std.proofs.lemmas.List.Sums.{sum_by-append}
 use Rattle.hp_problem.specs.Formulas.{too_much}
 use Rattle.hp_problem.specs.Sealed.{Sealed, is_sealed}
 use Rattle.hp_theory.specs.declared.cut.Cut.{Cut}
@@ -45,7 +47,7 @@ front_of : (t : Title) (ps : List (List ℕ)) (gate : ℕ) (rest : List ℕ) →
 front_of t ps gate rest = take-append_seam (front t ps) (gate ∷ rest)
 
 -- the records of more lists behind it
-grown_to : (t : Title) (f : List ℕ) (some more : List (List Entry)) → f ≡ front t (payloads some) → f ++ records (payloads more) ++ 0 ∷ [] ≡ journal t (payloads (some ++ more)) 0 []
+pub grown_to : (t : Title) (f : List ℕ) (some more : List (List Entry)) → f ≡ front t (payloads some) → f ++ records (payloads more) ++ 0 ∷ [] ≡ journal t (payloads (some ++ more)) 0 []
 grown_to t f some more is =
     ap (λ (l : List ℕ). l ++ records (payloads more) ++ 0 ∷ []) is
     ∙ ap (λ (l : List ℕ). l ++ 0 ∷ []) (sym (front-append t (payloads some) (payloads more)))
@@ -106,6 +108,7 @@ module _ {Start Chain : Type 0} (v : Solving Start Chain) (p : Sealed) (sealed :
           stands = stands;
           all_lists = ap (λ (ls : List (List Entry)). ls ++ (iterations v p t.seed count o).lists) first ∙ sym (ap (λ (c : Continued). c.lists) same);
           all_bounds = ap (λ (bs : List ℤ). bs ++ (iterations v p t.seed count o).bounds) bounds ∙ sym (ap (λ (c : Continued). c.bounds) same);
+          all_unsettled = ap (λ (n : ℕ). n + unsettled_in (iterations v p t.seed count o).lists) unsettled ∙ sym (sum_by-append (sum_by (λ (e : Entry). e.unsettled)) (after j).lists (iterations v p t.seed count o).lists) ∙ ap unsettled_in (sym (ap (λ (c : Continued). c.lists) same));
           last_pools = sym (ap (λ (c : Continued). c.pools) same);
           stop = sym (ap (λ (c : Continued). c.stop) same);
           all_bytes = grown_to t (loaded_front t.digest t.seed o bytes) (after j).lists (iterations v p t.seed count o).lists ahead ∙ ap (λ (ls : List (List Entry)). journal t (payloads ls) 0 []) (sym (ap (λ (c : Continued). c.lists) same));

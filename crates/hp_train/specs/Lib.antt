@@ -5,3 +5,4 @@ pub mod Iterating
 pub mod Stepping
 pub mod Training
 pub mod Resuming
+pub mod Stored

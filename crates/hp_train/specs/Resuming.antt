@@ -1,5 +1,5 @@
 -- Training that was stopped and is resumed, beside training that is not.
-use Rattle.std.specs.Prelude.{◌≡◌, ℕ, List, [], ◌++◌, take, Option, Some, Ok}
+use Rattle.std.specs.Prelude.{◌≡◌, ℕ, ◌+◌, List, [], ◌++◌, take, Option, Some, Ok}
 use Rattle.hp_problem.specs.Sealed.{Sealed}
 use Rattle.hp_theory.specs.declared.cut.Cut.{Cut}
 use Rattle.hp_journal.specs.Layout.{Title, journal}
@@ -22,9 +22,11 @@ pub record Resumes {Start Chain : Type 0} (v : Solving Start Chain) (p : Sealed)
   pub unsettled : o.unsettled ≡ unsettled_in (take j (unstopped v p base t count).lists)
   pub title : title_of t.digest t.seed o ≡ t
   pub stands : StandsIn t o (payloads (unstopped v p base t count).lists) j bytes
-  -- with the iterations behind them: all lists, all bounds, the last pools, and the stop
+  -- with the iterations behind them: all lists, all bounds, the sum of what is unsettled, the last pools, the stop, and
+  -- the journal's bytes
   pub all_lists : take j (unstopped v p base t count).lists ++ (iterations v p t.seed count o).lists ≡ (unstopped v p base t count).lists
   pub all_bounds : o.bounds ++ (iterations v p t.seed count o).bounds ≡ (unstopped v p base t count).bounds
+  pub all_unsettled : o.unsettled + unsettled_in (iterations v p t.seed count o).lists ≡ unsettled_in (unstopped v p base t count).lists
   pub last_pools : (iterations v p t.seed count o).pools ≡ (unstopped v p base t count).pools
   pub stop : (iterations v p t.seed count o).stop ≡ (unstopped v p base t count).stop
   pub all_bytes : grown_journal t.digest t.seed o bytes (iterations v p t.seed count o).lists ≡ journal t (payloads (unstopped v p base t count).lists) 0 []

@@ -1,15 +1,17 @@
 // The laws over the definitions. Each is the contract of a function with an empty body.
-ghost use Rattle.std.specs.Prelude.{◌≡◌, ◌≤◌, ℕ, true, List, Option, None, Ok};
+ghost use Rattle.std.specs.Prelude.{◌≡◌, ◌<◌, ◌≤◌, ℕ, true, List, [], ◌++◌, length, Option, None, Some, Ok, All};
 ghost use Rattle.hp_problem.specs.Formulas.{too_much};
 ghost use Rattle.hp_problem.specs.Sealed.{Sealed, is_sealed};
 ghost use Rattle.hp_theory.specs.Range.{based};
 ghost use Rattle.hp_theory.specs.declared.cut.Cut.{Cut};
-ghost use Rattle.hp_journal.specs.Layout.{IsTitle, new_title};
+ghost use Rattle.hp_cut.specs.declared.entry.Entry.{Entry};
+ghost use Rattle.hp_journal.specs.Layout.{IsTitle, journal, new_title};
 ghost use Rattle.hp_journal.specs.Mine.{Mine};
-ghost use Rattle.hp_load.specs.Load.{Outcome};
+ghost use Rattle.hp_load.specs.Load.{Outcome, load_of};
 ghost use Rattle.hp_lp.specs.Chained.{solving};
 ghost use Rattle.hp_train.specs.Resuming.{Resumes, unstopped};
-ghost use Rattle.hp_train.specs.Training.{payloads};
+ghost use Rattle.hp_train.specs.Stored.{StandsThere};
+ghost use Rattle.hp_train.specs.Training.{GoOnWith, StandsIn, grown_journal, payloads, title_of};
 
 use hp_solver::Solver;
 
@@ -25,4 +27,23 @@ pub fn resume_equals_unstopped<V: Solver>(solver: &V)
         → count ≤ 2000 → too_much p count (new_title digest seed asked).batch ≡ None
         → Mine (new_title digest seed asked) (payloads (unstopped (solving (V.started solver.now) (V.begun solver.now) (V.next solver.now)) p base (new_title digest seed asked) count).lists) j bytes
         → (o : Outcome) × Resumes (solving (V.started solver.now) (V.begun solver.now) (V.next solver.now)) p base (new_title digest seed asked) asked count j bytes o }
+{}
+
+/// What is loaded stands in the bytes: of a born journal its head, with the asked seed and batch where they are asked,
+/// then the records of the lists, and a shut gate; one that is not born gives no list.
+///
+/// So with more lists behind those that were loaded, training leaves the journal of all of them. And bytes that stand
+/// for some of all these lists stand for those that were loaded, behind which the others go on.
+pub fn loaded_as_stored()
+    ensures stands { (p : Sealed) (base : List (List Cut)) (digest : List ℕ) (seed batch : Option ℕ) (bytes : List ℕ) (o : Outcome) (lists : List (List Entry))
+        → All (λ b. b < 256) bytes → load_of p base digest seed batch bytes ≡ Ok (o, lists)
+        → StandsThere base digest seed batch bytes o lists }
+    ensures grows { (base : List (List Cut)) (digest : List ℕ) (seed : ℕ) (batch : Option ℕ) (bytes : List ℕ) (o : Outcome) (lists more : List (List Entry))
+        → StandsThere base digest (Some seed) batch bytes o lists
+        → grown_journal digest seed o bytes more ≡ journal (title_of digest seed o) (payloads (lists ++ more)) 0 [] }
+    ensures mine { (base : List (List Cut)) (digest : List ℕ) (seed : ℕ) (batch : Option ℕ) (bytes : List ℕ) (o : Outcome) (lists more : List (List Entry)) (j : ℕ)
+        → StandsThere base digest (Some seed) batch bytes o lists
+        → Mine (title_of digest seed o) (payloads (lists ++ more)) j bytes
+        → (j ≡ length lists) × StandsIn (title_of digest seed o) o (payloads (lists ++ more)) j bytes }
+    ensures more { (lists more : List (List Entry)) → GoOnWith (length lists) (payloads (lists ++ more)) more }
 {}

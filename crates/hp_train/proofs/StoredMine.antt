@@ -1,0 +1,183 @@
+-- What is loaded of a journal, with lists behind it: the journal that they grow to, and what bytes that stand for some of
+-- all these lists are.
+use Rattle.std.proofs.Common.{◌≡◌, ◌≢◌, ◌∙◌, ℕ, zero, suc, ◌<◌, ◌≤◌, Bool, true, false, List, [], ◌∷◌, ◌++◌, length, take, drop, get_or, Option, Some, if◌then◌else◌, refl, sym, ap, subst, append_assoc, length-append, arith}
+use Rattle.std.specs.Int.{w32, to_be_bytes}
+use Rattle.std.proofs.lemmas.Bool.Decides.{nat_tests}
+use Rattle.std.proofs.lemmas.List.{drop_at, get_or-take, length-map, length-take}
+use Rattle.hp_theory.specs.declared.cut.Cut.{Cut}
+use Rattle.hp_cut.specs.declared.entry.Entry.{Entry}
+use Rattle.hp_record.specs.Spelling.{spell}
+use Rattle.hp_journal.specs.Head.{IsUnborn, is_unborn}
+use Rattle.hp_journal.specs.Layout.{Title, title_bytes, front, journal, records}
+use Rattle.hp_journal.specs.Mine.{Unborn, short, zero_byte, half_born, Grown, shut, half_open, Mine, unborn, born}
+use Rattle.hp_journal.proofs.Bytes.{byte_behind}
+use Rattle.hp_load.specs.Load.{Outcome}
+use Rattle.hp_train.specs.Stored.{IsStored, StandsThere}
+use Rattle.hp_train.specs.Training.{GoOnWith, StandsIn, grown_journal, loaded_front, payloads, title_of}
+use Rattle.hp_train.specs.Training as training
+use Rattle.hp_train.proofs.Placed.{front-append, payloads-append}
+use Rattle.hp_train.proofs.Resumed.{grown_to}
+
+-- ---- two fronts of a list
+
+-- the first j items are those of ys, or fewer, or more
+data Compares {A : Type 0} (ys xs : List A) : Type 0 where
+  the_same : xs ≡ ys → Compares ys xs
+  fewer_items : (x : A) (rest : List A) → ys ≡ xs ++ x ∷ rest → Compares ys xs
+  more_items : (x : A) (rest : List A) → xs ≡ ys ++ x ∷ rest → Compares ys xs
+
+compares_cons : {A : Type 0} (y : A) (ys xs : List A) → Compares ys xs → Compares (y ∷ ys) (y ∷ xs)
+compares_cons y ys xs (the_same e) = the_same (ap (λ l. y ∷ l) e)
+compares_cons y ys xs (fewer_items x rest e) = fewer_items x rest (ap (λ l. y ∷ l) e)
+compares_cons y ys xs (more_items x rest e) = more_items x rest (ap (λ l. y ∷ l) e)
+
+compared : {A : Type 0} (j : ℕ) (ys zs : List A) → j ≤ length (ys ++ zs) → Compares ys (take j (ys ++ zs))
+compared zero [] zs h = the_same refl
+compared zero (y ∷ ys) zs h = fewer_items y ys refl
+compared (suc j) [] [] h = absurd (omega (arith, h))
+compared (suc j) [] (z ∷ zs) h = more_items z (take j zs) refl
+compared (suc j) (y ∷ ys) zs h = compares_cons y ys (take j (ys ++ zs)) (compared j ys zs (omega (arith, h)))
+
+-- ---- the bytes of more records
+
+-- behind a front that goes on stands an open gate
+goes_on : (t : Title) (xs : List (List ℕ)) (x : List ℕ) (rest : List (List ℕ)) → (l : List ℕ) × (front t (xs ++ x ∷ rest) ≡ front t xs ++ 1 ∷ l)
+unfolding records
+goes_on t xs x rest = (to_be_bytes w32 (length x) ++ x ++ records rest, front-append t xs (x ∷ rest))
+
+first_byte : (t : Title) (ps : List (List ℕ)) (n : ℕ) (bytes : List ℕ) → take n bytes ≡ front t ps → (get_or bytes 0 0 ≡ 1) × (1 ≤ n)
+first_byte t ps zero bytes e = absurd (no_front (title_bytes t ++ records ps) e)
+  where
+    no_front : (l : List ℕ) → [] ≡ 1 ∷ l → ⊥
+    no_front l e = cc
+first_byte t ps (suc n) [] e = absurd (no_front (title_bytes t ++ records ps) e)
+  where
+    no_front : (l : List ℕ) → [] ≡ 1 ∷ l → ⊥
+    no_front l e = cc
+first_byte t ps (suc n) (b ∷ bytes) e = (ap (λ (l : List ℕ). get_or l 0 0) e, omega arith)
+
+-- ---- what is loaded of a born journal
+
+module _ (digest : List ℕ) (seed : ℕ) (asked : Option ℕ) (bytes : List ℕ) (o : Outcome) (lists : List (List Entry)) (is : o.born ≡ true) (s : (own : ℕ) × IsStored digest (Some seed) asked bytes o lists own) where
+  abbrev t : Title
+  t = title_of digest seed o
+
+  stands : take o.end bytes ≡ front t (payloads lists)
+  stands = s.1.stands ∙ ap (λ (n : ℕ). front (title_of digest n o) (payloads lists)) (sym s.1.same_seed)
+
+  place : o.end ≡ length (front t (payloads lists))
+  place = omega (arith, ap (λ (l : List ℕ). length l) stands, length-take o.end bytes, s.1.shut.0)
+
+  ahead : loaded_front digest seed o bytes ≡ front t (payloads lists)
+  ahead = ap (λ (b : Bool). if b then take o.end bytes else front (title_of digest seed o) []) is ∙ stands
+
+  -- bytes in which a gate stands behind a front: not one of fewer records, nor of more
+  gate_there : (f : List ℕ) (gate : ℕ) (rest : List ℕ) → bytes ≡ f ++ gate ∷ rest → length f < o.end → get_or (front t (payloads lists)) (length f) 0 ≡ gate
+  gate_there f gate rest e below =
+      ap (λ (l : List ℕ). get_or l (length f) 0) (sym stands) ∙ get_or-take o.end bytes (length f) 0 below ∙ ap (λ (l : List ℕ). get_or l (length f) 0) e ∙ byte_behind f gate rest (length f) 0 refl
+
+  not_fewer : (xs : List (List ℕ)) (x : List ℕ) (behind : List (List ℕ)) (gate : ℕ) (rest : List ℕ) → payloads lists ≡ xs ++ x ∷ behind → gate ≢ 1 → bytes ≡ journal t xs gate rest → ⊥
+  not_fewer xs x behind gate rest parts other e =
+      let g = goes_on t xs x behind in
+      let whole : front t (payloads lists) ≡ front t xs ++ 1 ∷ g.0 = ap (λ (ps : List (List ℕ)). front t ps) parts ∙ g.1 in
+      let below : length (front t xs) < o.end = omega (arith, place, ap (λ (l : List ℕ). length l) whole, length-append (front t xs) (1 ∷ g.0)) in
+      other (sym (gate_there (front t xs) gate rest e below) ∙ ap (λ (l : List ℕ). get_or l (length (front t xs)) 0) whole ∙ byte_behind (front t xs) 1 g.0 (length (front t xs)) 0 refl)
+
+  not_more : (xs : List (List ℕ)) (x : List ℕ) (behind : List (List ℕ)) (gate : ℕ) (rest : List ℕ) → xs ≡ payloads lists ++ x ∷ behind → bytes ≡ journal t xs gate rest → ⊥
+  not_more xs x behind gate rest parts e =
+      let g = goes_on t (payloads lists) x behind in
+      let whole : bytes ≡ front t (payloads lists) ++ 1 ∷ (g.0 ++ gate ∷ rest) =
+      e ∙ ap (λ (ps : List (List ℕ)). front t ps ++ gate ∷ rest) parts ∙ ap (λ (l : List ℕ). l ++ gate ∷ rest) g.1 ∙ append_assoc (front t (payloads lists)) (1 ∷ g.0) (gate ∷ rest) in
+      s.1.shut.1 (ap (λ (l : List ℕ). get_or l o.end 1) whole ∙ byte_behind (front t (payloads lists)) 1 (g.0 ++ gate ∷ rest) o.end 1 place)
+
+  -- so it is one of just these
+  just_these : (more : List (List Entry)) (j gate : ℕ) (rest : List ℕ) → j ≤ length (payloads (lists ++ more)) → gate ≢ 1 → bytes ≡ journal t (take j (payloads (lists ++ more))) gate rest → take j (payloads (lists ++ more)) ≡ payloads lists
+  just_these more j gate rest le other e =
+      by (subst (λ (ps : List (List ℕ)). Compares (payloads lists) (take j ps)) (sym parts) (compared j (payloads lists) (payloads more) (subst (λ (ps : List (List ℕ)). j ≤ length ps) parts le)))
+    where
+      parts : payloads (lists ++ more) ≡ payloads lists ++ payloads more
+      parts = payloads-append lists more
+
+      by : Compares (payloads lists) (take j (payloads (lists ++ more))) → take j (payloads (lists ++ more)) ≡ payloads lists
+      by (the_same is) = is
+      by (fewer_items x behind is) = absurd (not_fewer (take j (payloads (lists ++ more))) x behind gate rest is other e)
+      by (more_items x behind is) = absurd (not_more (take j (payloads (lists ++ more))) x behind gate rest is e)
+
+  abbrev Stands : List (List Entry) → ℕ → Type 0
+  Stands more j = (j ≡ length lists) × StandsIn t o (payloads (lists ++ more)) j bytes
+
+  stands_grown : (more : List (List Entry)) (j gate : ℕ) (rest : List ℕ) → j ≤ length (payloads (lists ++ more)) → gate ≢ 1 → bytes ≡ journal t (take j (payloads (lists ++ more))) gate rest → Grown t (payloads (lists ++ more)) j bytes → Stands more j
+  stands_grown more j gate rest le other e grown =
+      let these = just_these more j gate rest le other e in (
+        omega (arith, le, ap (λ (ps : List (List ℕ)). length ps) these, length-take j (payloads (lists ++ more)), length-map lists spell),
+        training.born is (place ∙ ap (λ (ps : List (List ℕ)). length (front t ps)) (sym these)) grown,
+      )
+
+  not_zero : (n : ℕ) → n ≡ 0 → n ≢ 1
+  not_zero n z e = omega (arith, z, e)
+
+  first : (get_or bytes 0 0 ≡ 1) × (1 ≤ o.end)
+  first = first_byte t (payloads lists) o.end bytes stands
+
+  not_unborn : Unborn t bytes → ⊥
+  not_unborn (short few) = omega (arith, few, first.1, s.1.shut.0)
+  not_unborn (zero_byte z few) = omega (arith, z, first.0)
+  not_unborn (half_born birth z one e) = one (sym (ap (λ (l : List ℕ). get_or l 0 0) e) ∙ first.0)
+
+  mine_born : (more : List (List Entry)) (j : ℕ) → Mine t (payloads (lists ++ more)) j bytes → Stands more j
+  mine_born more j (unborn none un) = absurd (not_unborn un)
+  mine_born more j (born (shut le rest e)) = stands_grown more j 0 rest le (not_zero 0 refl) e (shut le rest e)
+  mine_born more j (born (half_open below gate z one e)) = stands_grown more j gate _ (omega (arith, below)) one e (half_open below gate z one e)
+
+-- ---- what is loaded of one that is not born
+
+-- two bytes or more, of which the first is 1, are no such journal
+not_new : (l : List ℕ) → 1 ≤ length l → is_unborn (take 54 (1 ∷ l)) (length (1 ∷ l)) ≡ false
+unfolding is_unborn
+not_new l some = grind (arith, nat_tests)
+
+not_grown : (t : Title) (ps : List (List ℕ)) (gate : ℕ) (rest bytes : List ℕ) → IsUnborn bytes → bytes ≡ journal t ps gate rest → ⊥
+not_grown t ps gate rest bytes un e =
+    two (sym (subst IsUnborn e un) ∙ not_new ((title_bytes t ++ records ps) ++ gate ∷ rest) (omega (arith, length-append (title_bytes t ++ records ps) (gate ∷ rest))))
+  where
+    two : true ≡ false → ⊥
+    two e = cc
+
+mine_unborn : (t : Title) (o : Outcome) (ps : List (List ℕ)) (j : ℕ) (bytes : List ℕ) → o.born ≡ false → IsUnborn bytes → Mine t ps j bytes → (j ≡ 0) × StandsIn t o ps j bytes
+mine_unborn t o ps j bytes is un (unborn none u) = (none, training.unborn is none u)
+mine_unborn t o ps j bytes is un (born (shut le rest e)) = absurd (not_grown t (take j ps) 0 rest bytes un e)
+mine_unborn t o ps j bytes is un (born (half_open below gate z one e)) = absurd (not_grown t (take j ps) gate _ bytes un e)
+
+-- ---- both
+
+module _ (base : List (List Cut)) (digest : List ℕ) (seed : ℕ) (asked : Option ℕ) (bytes : List ℕ) (o : Outcome) (lists : List (List Entry)) (s : StandsThere base digest (Some seed) asked bytes o lists) where
+  -- the journal that grows from what was loaded
+  pub grown_stored : (more : List (List Entry)) → grown_journal digest seed o bytes more ≡ journal (title_of digest seed o) (payloads (lists ++ more)) 0 []
+  grown_stored more = by o.born refl
+    where
+      by : (b : Bool) → o.born ≡ b → grown_journal digest seed o bytes more ≡ journal (title_of digest seed o) (payloads (lists ++ more)) 0 []
+      by true is = grown_to (title_of digest seed o) (loaded_front digest seed o bytes) lists more (ahead digest seed asked bytes o lists is (s.born is))
+      by false is =
+          let none : lists ≡ [] = (s.unborn is).none in
+          grown_to (title_of digest seed o) (loaded_front digest seed o bytes) lists more
+          (ap (λ (b : Bool). if b then take o.end bytes else front (title_of digest seed o) []) is ∙ ap (λ (ls : List (List Entry)). front (title_of digest seed o) (payloads ls)) (sym none))
+
+  -- bytes that stand for some of the lists stand for those that were loaded
+  pub mine_stored : (more : List (List Entry)) (j : ℕ) → Mine (title_of digest seed o) (payloads (lists ++ more)) j bytes → (j ≡ length lists) × StandsIn (title_of digest seed o) o (payloads (lists ++ more)) j bytes
+  mine_stored more j mine = by o.born refl
+    where
+      by : (b : Bool) → o.born ≡ b → (j ≡ length lists) × StandsIn (title_of digest seed o) o (payloads (lists ++ more)) j bytes
+      by true is = mine_born digest seed asked bytes o lists is (s.born is) more j mine
+      by false is =
+          let u = s.unborn is in
+          let m = mine_unborn (title_of digest seed o) o (payloads (lists ++ more)) j bytes is u.head mine in
+          (m.0 ∙ ap (λ (ls : List (List Entry)). length ls) (sym u.none), m.1)
+
+-- and the others go on behind them
+pub more_goes_on : (lists more : List (List Entry)) → GoOnWith (length lists) (payloads (lists ++ more)) more
+more_goes_on lists more =
+    let parts : payloads (lists ++ more) ≡ payloads lists ++ payloads more = payloads-append lists more in
+    let count : length (payloads lists) ≡ length lists = length-map lists spell in (
+      omega (arith, ap (λ (ps : List (List ℕ)). length ps) parts, length-append (payloads lists) (payloads more), count),
+      ap (λ (ps : List (List ℕ)). drop (length lists) ps) parts ∙ drop_at (payloads lists) (payloads more) (length lists) count,
+    )
