@@ -16,6 +16,7 @@ use Rattle.hp_load.specs.declared.refusal.LoadFault.{LoadFault}
 use Rattle.hp_load.specs.declared.refusal.LoadFault.TheVariants as faults
 use Rattle.hp_load.specs.Accepted.{IsSafe}
 use Rattle.hp_report.specs.Report.{base_text, check_text}
+use Rattle.hp_lp.specs.Chained.{Solving}
 use Rattle.hp_run.specs.Causes.{Lacks}
 use Rattle.hp_run.specs.Outcome.{WithBase, based_at, or_refused, checked, report_by, report_at, Checks, IsSoundReport, Reports, status_of_fault}
 use Rattle.hp_run.specs.declared.status.Status.{Status}
@@ -33,26 +34,26 @@ pub check_is_sound : (p : Sealed) (l : Loaded) (text : List ℕ) → is_sealed p
 check_is_sound p l text e safe is = record { is = (l.bounds, l.unsettled, l.rest, is, safe.under); cuts = safe.sound; bound = bound_under p l.pools.lists e safe.fit safe.sound }
 
 -- the report of a task over a problem with its base cuts
-report_is : (task : Task) (bytes kept : List ℕ) (b : WithBase) → based_at bytes ≡ Ok b → report_at task bytes kept ≡ report_by task bytes kept b
+report_is : {Start Chain : Type 0} (v : Solving Start Chain) (task : Task) (bytes kept : List ℕ) (b : WithBase) → based_at bytes ≡ Ok b → report_at v task bytes kept ≡ report_by v task bytes kept b
 unfolding report_at
-report_is task bytes kept b is = ap (λ (r : Result WithBase Refusal). or_refused r >>= report_by task bytes kept) is
+report_is v task bytes kept b is = ap (λ (r : Result WithBase Refusal). or_refused r >>= report_by v task bytes kept) is
 
-module _ {X : Type 0} (view : X → List ℕ) (r : Result X Status) where
+module _ {Start Chain X : Type 0} (v : Solving Start Chain) (view : X → List ℕ) (r : Result X Status) where
   -- the report of base cuts
-  pub base_reports : (task : Task) (told : Option (List ℕ)) (bytes : List ℕ) (b : WithBase) → task ≡ Base → based_at bytes ≡ Ok b → IfOk r (λ v. view v ≡ base_text b.problem b.pools) → IfOk r (λ v. Reports task told bytes (Ok (view v)))
-  base_reports task told bytes b t is h = subst (λ (k : Task). IfOk r (λ v. Reports k told bytes (Ok (view v)))) (sym t) (each r h)
+  pub base_reports : (task : Task) (told : Option (List ℕ)) (bytes : List ℕ) (b : WithBase) → task ≡ Base → based_at bytes ≡ Ok b → IfOk r (λ x. view x ≡ base_text b.problem b.pools) → IfOk r (λ x. Reports v task told bytes (Ok (view x)))
+  base_reports task told bytes b t is h = subst (λ (k : Task). IfOk r (λ x. Reports v k told bytes (Ok (view x)))) (sym t) (each r h)
     where
-      each : (s : Result X Status) → IfOk s (λ v. view v ≡ base_text b.problem b.pools) → IfOk s (λ v. Reports Base told bytes (Ok (view v)))
-      each (Ok v) e = λ kept reads. report_is Base bytes kept b is ∙ ap (λ (x : List ℕ). Ok x) (sym e)
+      each : (s : Result X Status) → IfOk s (λ x. view x ≡ base_text b.problem b.pools) → IfOk s (λ x. Reports v Base told bytes (Ok (view x)))
+      each (Ok x) e = λ kept reads. report_is v Base bytes kept b is ∙ ap (λ (x : List ℕ). Ok x) (sym e)
       each (Err s) e = tt
 
-pub check_reports : (told : Option (List ℕ)) (bytes : List ℕ) (outcome : Result (List ℕ) Status) (b : WithBase) → based_at bytes ≡ Ok b → IfSome told (λ kept. checked bytes b kept ≡ outcome) → Reports Check told bytes outcome
-check_reports told bytes outcome b is has = λ kept reads. report_is Check bytes kept b is ∙ subst (λ (o : Option (List ℕ)). IfSome o (λ kept. checked bytes b kept ≡ outcome)) reads has
+pub check_reports : {Start Chain : Type 0} (v : Solving Start Chain) (told : Option (List ℕ)) (bytes : List ℕ) (outcome : Result (List ℕ) Status) (b : WithBase) → based_at bytes ≡ Ok b → IfSome told (λ kept. checked bytes b kept ≡ outcome) → Reports v Check told bytes outcome
+check_reports v told bytes outcome b is has = λ kept reads. report_is v Check bytes kept b is ∙ subst (λ (o : Option (List ℕ)). IfSome o (λ kept. checked bytes b kept ≡ outcome)) reads has
 
 -- how the check of a journal ends without a report
-pub check_lacks : {X : Type 0} (view : X → List ℕ) (told : Option (List ℕ)) (disk disk_now : ℕ) (bytes : List ℕ) (b : WithBase) (f : LoadFault) → based_at bytes ≡ Ok b → ((let l : Result X LoadFault = Err f in l ≡ Err faults.DiskFault) → Rose disk disk_now)
-    → IfSome told (λ kept. Checks view (Err f) (checked bytes b kept)) → Lacks Check told disk disk_now bytes (status_of_fault f)
-check_lacks view told disk disk_now bytes b (faults.Refused r) is rose has = (refl, check_reports told bytes _ b is has)
-check_lacks view told disk disk_now bytes b (faults.TooMuch t) is rose has = (refl, check_reports told bytes _ b is has)
-check_lacks view told disk disk_now bytes b faults.DiskFault is rose has = (refl, rose refl)
-check_lacks view told disk disk_now bytes b faults.Memory is rose has = tt
+pub check_lacks : {Start Chain X : Type 0} (v : Solving Start Chain) (view : X → List ℕ) (told : Option (List ℕ)) (disk disk_now : ℕ) (bytes : List ℕ) (b : WithBase) (f : LoadFault) → based_at bytes ≡ Ok b → ((let l : Result X LoadFault = Err f in l ≡ Err faults.DiskFault) → Rose disk disk_now)
+    → IfSome told (λ kept. Checks view (Err f) (checked bytes b kept)) → Lacks v Check told disk disk_now bytes (status_of_fault f)
+check_lacks v view told disk disk_now bytes b (faults.Refused r) is rose has = (tt, check_reports v told bytes _ b is has)
+check_lacks v view told disk disk_now bytes b (faults.TooMuch t) is rose has = (tt, check_reports v told bytes _ b is has)
+check_lacks v view told disk disk_now bytes b faults.DiskFault is rose has = (tt, rose refl)
+check_lacks v view told disk disk_now bytes b faults.Memory is rose has = tt

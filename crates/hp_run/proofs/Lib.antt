@@ -3,3 +3,4 @@ pub mod Reports
 pub mod Checks
 pub mod LoadedEnds
 pub mod Synced
+pub mod TrainReports

@@ -33,8 +33,8 @@ parts (Ok x) f y h = (x, refl, h)
 
 -- ---- gates
 
-shut_is : (bytes : List ℕ) (at m rest : ℕ) (fault : GateFault) (past open : Bool) → nat_le (length bytes) at ≡ past → (get_or bytes at 1 == 1) ≡ open → (if past then Err fault else if open then Ok Ajar else Ok (Shut rest)) ≡ Ok (Shut m) → IsShutAt at bytes
-shut_is bytes at m rest fault true open p o h = absurd cc
+shut_is : (bytes : List ℕ) (at m rest : ℕ) (fault : GateFault) (past ajar : Bool) → nat_le (length bytes) at ≡ past → (get_or bytes at 1 == 1) ≡ ajar → (if past then Err fault else if ajar then Ok Ajar else Ok (Shut rest)) ≡ Ok (Shut m) → IsShutAt at bytes
+shut_is bytes at m rest fault true ajar p o h = absurd cc
 shut_is bytes at m rest fault false true p o h = absurd cc
 shut_is bytes at m rest fault false false p o h = (grind (arith, nat_tests), grind (arith, nat_tests))
 
@@ -140,15 +140,15 @@ module _ (p : Sealed) (base : List (List Cut)) (digest : List ℕ) (seed batch :
   is_found (Err f) o is h = absurd cc
 
   not_born : (o : Outcome) → Kind o → o.born ≡ false → IsUnborn bytes
-  not_born o (no_journal is file) no = file
-  not_born o (a_journal is shut) no = absurd (true_false o.born is no)
+  not_born o (no_journal is file) none = file
+  not_born o (a_journal is shut) none = absurd (true_false o.born is none)
 
   is_born : (o : Outcome) → Kind o → o.born ≡ true → IsShutAt o.end bytes
   is_born o (no_journal is file) so = absurd (true_false o.born so is)
   is_born o (a_journal is shut) so = shut
 
   pub loaded_unborn : (o : Outcome) → outcome_of (load_of p base digest seed batch bytes) ≡ Ok o → o.born ≡ false → IsUnborn bytes
-  loaded_unborn o h no = not_born o (is_found (load_of p base digest seed batch bytes) o refl h) no
+  loaded_unborn o h none = not_born o (is_found (load_of p base digest seed batch bytes) o refl h) none
 
   pub loaded_shut : (o : Outcome) → outcome_of (load_of p base digest seed batch bytes) ≡ Ok o → o.born ≡ true → IsShutAt o.end bytes
   loaded_shut o h so = is_born o (is_found (load_of p base digest seed batch bytes) o refl h) so

@@ -7,18 +7,21 @@ use Rattle.hp_sof.specs.Problem.{problem_at}
 use Rattle.hp_theory.specs.declared.cut.Cut.{Cut}
 use Rattle.hp_theory.specs.View.{problem_of}
 use Rattle.hp_report.specs.SoundLines.{SoundLines}
-use Rattle.hp_report.proofs.SoundLines.{sound_lines, sound_check}
+use Rattle.hp_report.proofs.SoundLines.{sound_lines, sound_check, sound_training}
 use Rattle.hp_fields.specs.Steps.{◌>>=◌}
 use Rattle.hp_problem.specs.declared.refusal.Refusal.{Refusal}
+use Rattle.hp_lp.specs.Chained.{Solving}
 use Rattle.hp_run.specs.Outcome.{WithBase, based_at, or_refused, report_by, report_at, IsSoundReport, SoundText, Reads}
 use Rattle.hp_run.specs.Causes.{Ends, Explains, status_of, expected, AreRead, Completes, Sounds}
 use Rattle.hp_run.specs.declared.task.Task.{Task}
-use Rattle.hp_run.specs.declared.task.Task.TheVariants.{Base, Check}
+use Rattle.hp_run.specs.declared.task.Task.TheVariants.{Base, Train, Check}
 use Rattle.hp_run.specs.declared.status.Status.{Status}
-use Rattle.hp_run.specs.declared.status.Status.TheVariants.{Done, Usage, ReadFault, TooLong, ProblemRefused, JournalRefused, TooMuch, DiskFault, WriteFault, Memory}
+use Rattle.hp_run.specs.declared.status.Status.TheVariants.{Done, Usage, ReadFault, TooLong, ProblemRefused, JournalRefused, TooMuch, Range, NoStage, DiskFault, WriteFault, Memory}
 
 lines_of_report : (task : Task) (p : Sealed) (pools : List (List Cut)) (text : List ℕ) → IsSoundReport task p pools text → SoundLines (problem_of p) text
 lines_of_report Base p pools text r = subst (SoundLines (problem_of p)) (sym r.is) (sound_lines p pools r.cuts r.bound)
+lines_of_report (Train seed count batch) p pools text r =
+    subst (SoundLines (problem_of p)) (sym r.is.2) (sound_training p pools r.is.0 r.is.1 r.is.3 r.bound)
 lines_of_report Check p pools text r =
     subst (SoundLines (problem_of p)) (sym r.is.3) (sound_check p pools r.is.0 r.is.1 r.is.2 r.cuts r.is.4 r.bound)
 
@@ -44,17 +47,19 @@ if_some None P Q f h = tt
 if_some (Some bytes) P Q f h = f bytes h
 
 -- what was written is sound
-pub sounds : (asked : Option Task) (e : Ends) (status : Status) → Explains asked e status → Sounds e status
-sounds asked e Done h = if_some e.left _ _ (λ bytes w. (h.0, w.1.0, w.1.2, w.1.3)) h.2.1
-sounds asked e WriteFault h = if_some e.left _ _ (λ bytes w. (h.0, w.1.0, w.1.2, w.1.3)) h.3.1
-sounds asked e Usage h = tt
-sounds asked e ReadFault h = tt
-sounds asked e TooLong h = tt
-sounds asked e (ProblemRefused r) h = tt
-sounds asked e (JournalRefused r) h = tt
-sounds asked e (TooMuch t) h = tt
-sounds asked e DiskFault h = tt
-sounds asked e Memory h = tt
+pub sounds : {Start Chain : Type 0} (v : Solving Start Chain) (asked : Option Task) (e : Ends) (status : Status) → Explains v asked e status → Sounds e status
+sounds v asked e Done h = if_some e.left _ _ (λ bytes w. (h.0, w.1.0, w.1.2, w.1.3)) h.2.1
+sounds v asked e WriteFault h = if_some e.left _ _ (λ bytes w. (h.0, w.1.0, w.1.2, w.1.3)) h.3.1
+sounds v asked e Usage h = tt
+sounds v asked e ReadFault h = tt
+sounds v asked e TooLong h = tt
+sounds v asked e (ProblemRefused r) h = tt
+sounds v asked e (JournalRefused r) h = tt
+sounds v asked e (TooMuch t) h = tt
+sounds v asked e (Range k m r) h = tt
+sounds v asked e (NoStage dead) h = tt
+sounds v asked e DiskFault h = tt
+sounds v asked e Memory h = tt
 
 at_bytes : (o : Option (List ℕ)) (P : List ℕ → Type 0) (bytes : List ℕ) → o ≡ Some bytes → IfSome o P → P bytes
 at_bytes o P bytes is h = subst (λ (k : Option (List ℕ)). IfSome k P) is h
@@ -66,12 +71,12 @@ many : (bytes : List ℕ) (s : Status) → 2 ^ 24 < length bytes → (if nat_le 
 many bytes s h = let t : nat_le (length bytes) (2 ^ 24) ≡ false = grind (arith, nat_tests) in rw t refl
 
 -- the expected status of what is asked for, by what comes of it
-outcome_is : (asked : Option Task) (task : Task) (bytes kept : List ℕ) (r : Result (List ℕ) Status) → asked ≡ Some task → length bytes ≤ 2 ^ 24 → report_at task bytes kept ≡ r → status_of r ≡ expected asked bytes kept
-outcome_is asked task bytes kept r is h e =
-    ap status_of (sym e) ∙ sym (few bytes (status_of (report_at task bytes kept)) h) ∙ ap (λ (o : Option Task). expected o bytes kept) (sym is)
+outcome_is : {Start Chain : Type 0} (v : Solving Start Chain) (asked : Option Task) (task : Task) (bytes kept : List ℕ) (r : Result (List ℕ) Status) → asked ≡ Some task → length bytes ≤ 2 ^ 24 → report_at v task bytes kept ≡ r → status_of r ≡ expected v asked bytes kept
+outcome_is v asked task bytes kept r is h e =
+    ap status_of (sym e) ∙ sym (few bytes (status_of (report_at v task bytes kept)) h) ∙ ap (λ (o : Option Task). expected v o bytes kept) (sym is)
 
-long_is : (asked : Option Task) (task : Task) (bytes kept : List ℕ) → asked ≡ Some task → 2 ^ 24 < length bytes → TooLong ≡ expected asked bytes kept
-long_is asked task bytes kept is h = sym (many bytes (status_of (report_at task bytes kept)) h) ∙ ap (λ (o : Option Task). expected o bytes kept) (sym is)
+long_is : {Start Chain : Type 0} (v : Solving Start Chain) (asked : Option Task) (task : Task) (bytes kept : List ℕ) → asked ≡ Some task → 2 ^ 24 < length bytes → TooLong ≡ expected v asked bytes kept
+long_is v asked task bytes kept is h = sym (many bytes (status_of (report_at v task bytes kept)) h) ∙ ap (λ (o : Option Task). expected v o bytes kept) (sym is)
 
 read_by : (asked : Option Task) (task : Task) (told : Option (List ℕ)) (kept : List ℕ) → asked ≡ Some task → AreRead asked told kept → Reads task told kept
 read_by asked task told kept is r = subst (λ (o : Option Task). AreRead o told kept) is r
@@ -81,29 +86,35 @@ front_length None bytes piece h = absurd h
 front_length (Some rest) bytes piece h = omega (arith, ap length h, length-append piece rest)
 
 -- a refused problem is refused whatever the journal holds
-refused_is : (task : Task) (bytes kept : List ℕ) (r : Refusal) → based_at bytes ≡ Err r → report_at task bytes kept ≡ Err (ProblemRefused r)
+refused_is : {Start Chain : Type 0} (v : Solving Start Chain) (task : Task) (bytes kept : List ℕ) (r : Refusal) → based_at bytes ≡ Err r → report_at v task bytes kept ≡ Err (ProblemRefused r)
 unfolding report_at
-refused_is task bytes kept r h = ap (λ (b : Result WithBase Refusal). or_refused b >>= report_by task bytes kept) h
+refused_is v task bytes kept r h = ap (λ (b : Result WithBase Refusal). or_refused b >>= report_by v task bytes kept) h
 
 -- each status is the expected one, where no count rose and memory was there
-pub completes : (asked : Option Task) (e : Ends) (status : Status) → Explains asked e status → Completes asked e status
-completes asked e Done h bytes kept is r nr nd nw =
+pub completes : {Start Chain : Type 0} (v : Solving Start Chain) (asked : Option Task) (e : Ends) (status : Status) → Explains v asked e status → Completes v asked e status
+completes v asked e Done h bytes kept is r nr nd nw =
     let w = at_bytes e.left _ bytes is h.2.1 in
-    inl (outcome_is asked h.0 bytes kept (Ok w.1.0) h.1 w.0 (w.1.1 kept (read_by asked h.0 e.kept kept h.1 r)))
-completes asked e Usage h bytes kept is r nr nd nw = inl (ap (λ (o : Option Task). expected o bytes kept) (sym h.0))
-completes asked e ReadFault h bytes kept is r nr nd nw = absurd (nr h.2)
-completes asked e TooLong h bytes kept is r nr nd nw =
+    inl (outcome_is v asked h.0 bytes kept (Ok w.1.0) h.1 w.0 (w.1.1 kept (read_by asked h.0 e.kept kept h.1 r)))
+completes v asked e Usage h bytes kept is r nr nd nw = inl (ap (λ (o : Option Task). expected v o bytes kept) (sym h.0))
+completes v asked e ReadFault h bytes kept is r nr nd nw = absurd (nr h.2)
+completes v asked e TooLong h bytes kept is r nr nd nw =
     let f = front_length e.left_now bytes h.2.0 (subst (λ (o : Option (List ℕ)). Consumes o e.left_now h.2.0) is h.2.2) in
-    inl (long_is asked h.0 bytes kept h.1 (omega (arith, h.2.1)))
-completes asked e (ProblemRefused x) h bytes kept is r nr nd nw =
+    inl (long_is v asked h.0 bytes kept h.1 (omega (arith, h.2.1)))
+completes v asked e (ProblemRefused x) h bytes kept is r nr nd nw =
     let w = at_bytes e.left _ bytes is h.2.1 in
-    inl (outcome_is asked h.0 bytes kept (Err (ProblemRefused x)) h.1 w.0 (refused_is h.0 bytes kept x w.1))
-completes asked e (JournalRefused x) h bytes kept is r nr nd nw =
-    let w = at_bytes e.left _ bytes is h.1.1 in
-    inl (outcome_is asked Check bytes kept (Err (JournalRefused x)) h.0 w.0 (w.1 kept (read_by asked Check e.kept kept h.0 r)))
-completes asked e (TooMuch x) h bytes kept is r nr nd nw =
-    let w = at_bytes e.left _ bytes is h.1.1 in
-    inl (outcome_is asked Check bytes kept (Err (TooMuch x)) h.0 w.0 (w.1 kept (read_by asked Check e.kept kept h.0 r)))
-completes asked e DiskFault h bytes kept is r nr nd nw = absurd (nd h.1)
-completes asked e WriteFault h bytes kept is r nr nd nw = absurd (nw h.2)
-completes asked e Memory h bytes kept is r nr nd nw = inr refl
+    inl (outcome_is v asked h.0 bytes kept (Err (ProblemRefused x)) h.1 w.0 (refused_is v h.0 bytes kept x w.1))
+completes v asked e (JournalRefused x) h bytes kept is r nr nd nw =
+    let w = at_bytes e.left _ bytes is h.3.1 in
+    inl (outcome_is v asked h.0 bytes kept (Err (JournalRefused x)) h.1 w.0 (w.1 kept (read_by asked h.0 e.kept kept h.1 r)))
+completes v asked e (TooMuch x) h bytes kept is r nr nd nw =
+    let w = at_bytes e.left _ bytes is h.3.1 in
+    inl (outcome_is v asked h.0 bytes kept (Err (TooMuch x)) h.1 w.0 (w.1 kept (read_by asked h.0 e.kept kept h.1 r)))
+completes v asked e (Range k m i) h bytes kept is r nr nd nw =
+    let w = at_bytes e.left _ bytes is h.3.1 in
+    inl (outcome_is v asked h.0 bytes kept (Err (Range k m i)) h.1 w.0 (w.1 kept (read_by asked h.0 e.kept kept h.1 r)))
+completes v asked e (NoStage dead) h bytes kept is r nr nd nw =
+    let w = at_bytes e.left _ bytes is h.3.1 in
+    inl (outcome_is v asked h.0 bytes kept (Err (NoStage dead)) h.1 w.0 (w.1 kept (read_by asked h.0 e.kept kept h.1 r)))
+completes v asked e DiskFault h bytes kept is r nr nd nw = absurd (nd h.3)
+completes v asked e WriteFault h bytes kept is r nr nd nw = absurd (nw h.2)
+completes v asked e Memory h bytes kept is r nr nd nw = inr refl

@@ -1,5 +1,5 @@
 -- The report of training, or why there is none, and what is left of the journal.
-use Rattle.std.proofs.Common.{◌≡◌, ◌≢◌, ℕ, ◌+◌, ◌≤◌, ℤ, Bool, true, false, List, ◌++◌, length, max, Option, Some, None, IfSome, IfOk, IfErr, Result, Ok, Err, All, refl, sym, ap, ◌∙◌, subst}
+use Rattle.std.proofs.Common.{◌≡◌, ◌≢◌, ℕ, ◌+◌, ◌≤◌, ℤ, Bool, true, false, List, [], ◌++◌, length, max, Option, Some, None, IfSome, IfOk, IfErr, Result, Ok, Err, All, arith, refl, sym, ap, ◌∙◌, subst}
 use Rattle.std.specs.Option.{option_map}
 use Rattle.sha2.specs.Sha256.{sha256}
 use Rattle.hp_fields.specs.Steps.{◌>>=◌}
@@ -10,11 +10,18 @@ use Rattle.hp_outside.proofs.RunsOfCalls.{started, stays_on, then_on}
 use Rattle.hp_problem.specs.declared.refusal.Refusal.{Refusal}
 use Rattle.hp_problem.specs.declared.formulas.TooMuch as formulas
 use Rattle.hp_problem.specs.Formulas.{too_much}
-use Rattle.hp_problem.specs.Sealed.{Sealed}
+use Rattle.hp_problem.specs.Sealed.{Sealed, is_sealed}
+use Rattle.hp_theory.specs.Pools.{Sound}
+use Rattle.hp_theory.specs.Fit.{Fit}
+use Rattle.hp_theory.specs.Bound.{Under}
+use Rattle.hp_theory.specs.View.{problem_of}
+use Rattle.hp_theory.proofs.BoundBelow.{sound_bound}
+use Rattle.hp_theory.proofs.SealedPremises.{root_shaped-sealed, have_cuts-root}
 use Rattle.hp_theory.specs.declared.cut.Cut.{Cut}
 use Rattle.hp_cut.specs.declared.entry.Entry.{Entry}
 use Rattle.hp_journal.specs.Layout.{Title}
 use Rattle.hp_journal.proofs.Told.{told, known}
+use Rattle.hp_load.specs.declared.refusal.LoadFault.{LoadFault}
 use Rattle.hp_load.specs.Load.{Outcome, load_of, outcome_of}
 use Rattle.hp_lp.specs.Chained.{Solving}
 use Rattle.hp_backward.specs.declared.fault.SweepFault.{SweepFault}
@@ -24,8 +31,8 @@ use Rattle.hp_train.specs.Continuing.{Continued}
 use Rattle.hp_train.specs.Training.{GoOnWith, MineFrom, StandsIn, grown_journal, iterations, title_of, trained, unsettled_in}
 use Rattle.hp_run.specs.Causes.{Lacks}
 use Rattle.hp_run.specs.Journals.{LeavesMine, is_refusal}
-use Rattle.hp_run.specs.Outcome.{WithBase, Reports, based_at, loaded_for, or_refused, or_status, ready_for, report_at, report_by, report_trained, status_of_stop, trained_for, unless_much, unless_stopped, within_formulas}
-use Rattle.hp_run.specs.Training.{IsDead, Refuses, StopsAs, WhenTrained}
+use Rattle.hp_run.specs.Outcome.{IsSoundReport, WithBase, Reports, based_at, loaded_for, or_refused, or_status, ready_for, report_at, report_by, report_trained, status_of_stop, trained_for, unless_much, unless_stopped, within_formulas}
+use Rattle.hp_run.specs.Training.{ComesOfLoading, IsDead, Refuses, StopsAs, WhenTrained}
 use Rattle.hp_run.specs.declared.status.Status.{Status}
 use Rattle.hp_run.specs.declared.status.Status.TheVariants.{Done, Usage, ReadFault, TooLong, ProblemRefused, JournalRefused, TooMuch, Range, NoStage, DiskFault, WriteFault, Memory}
 use Rattle.hp_run.specs.declared.task.Task.{Task}
@@ -42,6 +49,15 @@ parts (Ok x) f y h = (x, refl, h)
 kept_as : (formula : Option formulas.TooMuch) (x y : Outcome) → unless_much formula x ≡ Ok y → (x ≡ y) × (unless_much formula y ≡ Ok y)
 kept_as None x y h = (same_ok x y h, refl)
 kept_as (Some f) x y h = absurd cc
+
+loaded_ok : (r : Result Outcome LoadFault) (o : Outcome) → or_status r ≡ Ok o → r ≡ Ok o
+loaded_ok (Ok x) o h = ap (λ (y : Outcome). Ok y) (same_ok x o h)
+loaded_ok (Err e) o h = absurd cc
+
+-- what was loaded
+pub outcome_as : (bytes : List ℕ) (b : WithBase) (seed : ℕ) (batch : Option ℕ) (kept : List ℕ) (o : Outcome) → loaded_for bytes b seed batch kept ≡ Ok o → outcome_of (load_of b.problem b.pools (sha256 bytes) (Some seed) batch kept) ≡ Ok o
+unfolding loaded_for
+outcome_as bytes b seed batch kept o h = loaded_ok (outcome_of (load_of b.problem b.pools (sha256 bytes) (Some seed) batch kept)) o h
 
 module _ {Start Chain : Type 0} (v : Solving Start Chain) (bytes : List ℕ) (b : WithBase) (seed count : ℕ) (batch : Option ℕ) (is : based_at bytes ≡ Ok b) where
   abbrev task : Task
@@ -104,20 +120,152 @@ module _ {Start Chain : Type 0} (v : Solving Start Chain) (bytes : List ℕ) (b 
     refused_reports : (s : Status) → IfSome reads (λ kept. ready kept ≡ Err s) → Reports v task reads bytes (Err s)
     refused_reports s has = λ kept e. refused_at kept s (at_kept (λ k. ready k ≡ Err s) kept e has)
 
-    never : (P : Type 0) → IfSome reads (λ kept. ⊥) → reads ≢ None → P
-    never P h some = by reads h some
-      where
-        by : (r : Option (List ℕ)) → IfSome r (λ kept. ⊥) → r ≢ None → P
-        by None h some = absurd (some refl)
-        by (Some kept) h some = absurd h
-
     -- the journal gives nothing to train on
-    pub unloaded_lacks : (disk now : ℕ) (s : Status) → (s ≢ Memory → s ≢ DiskFault → is_refusal s ≡ true) → IfSome reads (λ kept. Refuses s (ready kept)) → (s ≡ DiskFault → Rose disk now) → Refused s → Lacks v task reads disk now bytes s
-      where
-        abbrev Refused : Status → Type 0
-        Refused s = Unit {0}
-    unloaded_lacks disk now (JournalRefused r) own has rose u = (tt, refused_reports (JournalRefused r) has)
-    unloaded_lacks disk now (TooMuch t) own has rose u = (tt, refused_reports (TooMuch t) has)
-    unloaded_lacks disk now DiskFault own has rose u = (tt, rose refl)
-    unloaded_lacks disk now Memory own has rose u = tt
-    unloaded_lacks disk now s own has rose u = ?
+    pub unloaded_lacks : (disk now : ℕ) (s : Status) → ComesOfLoading s → IfSome reads (λ kept. Refuses s (ready kept)) → (s ≡ DiskFault → Rose disk now) → Lacks v task reads disk now bytes s
+    unloaded_lacks disk now Done own has rose = absurd own
+    unloaded_lacks disk now Usage own has rose = absurd own
+    unloaded_lacks disk now ReadFault own has rose = absurd own
+    unloaded_lacks disk now TooLong own has rose = absurd own
+    unloaded_lacks disk now (ProblemRefused r) own has rose = absurd own
+    unloaded_lacks disk now (JournalRefused r) own has rose = (tt, refused_reports (JournalRefused r) has)
+    unloaded_lacks disk now (TooMuch t) own has rose = (tt, refused_reports (TooMuch t) has)
+    unloaded_lacks disk now (Range k m r) own has rose = absurd own
+    unloaded_lacks disk now (NoStage dead) own has rose = absurd own
+    unloaded_lacks disk now DiskFault own has rose = (tt, rose refl)
+    unloaded_lacks disk now WriteFault own has rose = absurd own
+    unloaded_lacks disk now Memory own has rose = tt
+
+    -- iterations stop
+    pub stopped_lacks : (A : Type 0) (disk now : ℕ) (o : Outcome) (s : Status) → IfSome reads (λ kept. ready kept ≡ Ok o) → (let r : Result A Status = Err s in StopsAs r (iterations v b.problem seed count o).stop) → (s ≡ DiskFault → Rose disk now) → IsDead b.problem s → Lacks v task reads disk now bytes s
+    stopped_lacks A disk now o Done has stops rose dead = absurd stops
+    stopped_lacks A disk now o Usage has stops rose dead = absurd stops
+    stopped_lacks A disk now o ReadFault has stops rose dead = absurd stops
+    stopped_lacks A disk now o TooLong has stops rose dead = absurd stops
+    stopped_lacks A disk now o (ProblemRefused r) has stops rose dead = absurd stops
+    stopped_lacks A disk now o (JournalRefused r) has stops rose dead = absurd stops
+    stopped_lacks A disk now o (TooMuch t) has stops rose dead = absurd stops
+    stopped_lacks A disk now o (Range k m r) has stops rose dead = (tt, stopped_reports o (sweeps.Range k m r) has stops)
+    stopped_lacks A disk now o (NoStage dead) has stops rose refuted = (tt, stopped_reports o (sweeps.NoStage dead) has stops, (b, is, refuted))
+    stopped_lacks A disk now o DiskFault has stops rose dead = (tt, rose refl)
+    stopped_lacks A disk now o WriteFault has stops rose dead = absurd stops
+    stopped_lacks A disk now o Memory has stops rose dead = tt
+
+-- nothing was trained
+pub when_unloaded : (A : Type 0) (s : Status) (P : Type 0) → ComesOfLoading s → (let r : Result A Status = Err s in WhenTrained r P)
+when_unloaded A Done P own = tt
+when_unloaded A Usage P own = tt
+when_unloaded A ReadFault P own = tt
+when_unloaded A TooLong P own = tt
+when_unloaded A (ProblemRefused r) P own = tt
+when_unloaded A (JournalRefused r) P own = tt
+when_unloaded A (TooMuch t) P own = tt
+when_unloaded A (Range k m r) P own = absurd own
+when_unloaded A (NoStage dead) P own = absurd own
+when_unloaded A DiskFault P own = tt
+when_unloaded A WriteFault P own = tt
+when_unloaded A Memory P own = tt
+
+-- more is known once all is trained
+pub when_both : (A : Type 0) (r : Result A Status) (P Q R : Type 0) → WhenTrained r P → WhenTrained r Q → (P → Q → R) → WhenTrained r R
+when_both A (Ok x) P Q R p q so = so p q
+when_both A (Err Done) P Q R p q so = tt
+when_both A (Err Usage) P Q R p q so = tt
+when_both A (Err ReadFault) P Q R p q so = tt
+when_both A (Err TooLong) P Q R p q so = tt
+when_both A (Err (ProblemRefused r)) P Q R p q so = tt
+when_both A (Err (JournalRefused r)) P Q R p q so = tt
+when_both A (Err (TooMuch t)) P Q R p q so = tt
+when_both A (Err (Range k m r)) P Q R p q so = so p q
+when_both A (Err (NoStage dead)) P Q R p q so = so p q
+when_both A (Err DiskFault) P Q R p q so = tt
+when_both A (Err WriteFault) P Q R p q so = tt
+when_both A (Err Memory) P Q R p q so = tt
+
+-- an answer of another type
+pub when_same : (A B : Type 0) (s : Status) (P : Type 0) → (let r : Result A Status = Err s in WhenTrained r P) → (let r : Result B Status = Err s in WhenTrained r P)
+when_same A B Done P h = tt
+when_same A B Usage P h = tt
+when_same A B ReadFault P h = tt
+when_same A B TooLong P h = tt
+when_same A B (ProblemRefused r) P h = tt
+when_same A B (JournalRefused r) P h = tt
+when_same A B (TooMuch t) P h = tt
+when_same A B (Range k m r) P h = h
+when_same A B (NoStage dead) P h = h
+when_same A B DiskFault P h = tt
+when_same A B WriteFault P h = tt
+when_same A B Memory P h = tt
+
+pub when_as : (A B : Type 0) (s : Status) (r : Result B Status) (P : Type 0) → r ≡ Err s → (let q : Result A Status = Err s in WhenTrained q P) → WhenTrained r P
+when_as A B s r P is h = subst (λ (x : Result B Status). WhenTrained x P) (sym is) (when_same A B s P h)
+
+-- where iterations stop is no refusal
+pub stop_works : (A : Type 0) (s : Status) (stop : Option SweepFault) (P : Type 0) → (let r : Result A Status = Err s in StopsAs r stop) → is_refusal s ≡ true → P
+stop_works A Done stop P h e = absurd h
+stop_works A Usage stop P h e = absurd h
+stop_works A ReadFault stop P h e = absurd h
+stop_works A TooLong stop P h e = absurd h
+stop_works A (ProblemRefused r) stop P h e = absurd h
+stop_works A (JournalRefused r) stop P h e = absurd h
+stop_works A (TooMuch t) stop P h e = absurd h
+stop_works A (Range k m r) stop P h e = absurd cc
+stop_works A (NoStage dead) stop P h e = absurd cc
+stop_works A DiskFault stop P h e = absurd cc
+stop_works A WriteFault stop P h e = absurd h
+stop_works A Memory stop P h e = absurd cc
+
+-- what a crash leaves of a journal that was only read, and then by what follows
+module _ (digest : List ℕ) (seed : ℕ) (o : Outcome) (lists : List (List Entry)) (old mid : Store) (lawful : Lawful old) (stays : Stays old mid) where
+  read_only : (t : Title) (ps : List (List ℕ)) (i : ℕ) → ((c : List ℕ) → old.images c → MineFrom t ps i c) → LeavesOnly old mid (MineFrom t ps i)
+  read_only t ps i here = stays_on old old mid (MineFrom t ps i) (started old (MineFrom t ps i) lawful here) stays
+
+  pub read_leaves : LeavesFrom digest seed o lists old mid
+  read_leaves = told old.reads (λ kept is ps j i stands goes le here. read_only (title_of digest seed o) ps i here)
+
+  pub read_then : (new : Store) → LeavesFrom digest seed o lists mid new → LeavesFrom digest seed o lists old new
+  read_then new run = told old.reads (λ kept is ps j i stands goes le here.
+      let t : Title = title_of digest seed o in
+      let more = known (λ k. (ps : List (List ℕ)) (j i : ℕ) → StandsIn t o ps j k → GoOnWith j ps lists → i ≤ j → ((c : List ℕ) → mid.images c → MineFrom t ps i c) → LeavesOnly mid new (MineFrom t ps i)) mid.reads kept (stays.reads ∙ is) run ps j i stands goes le (λ c left. here c ((stays.images c).0 left)) in
+      then_on old mid new (MineFrom t ps i) (MineFrom t ps i) (read_only t ps i here) more (λ c m. m))
+
+-- the base cuts and what is loaded are determined
+module _ {Start Chain : Type 0} (v : Solving Start Chain) (bytes : List ℕ) (b : WithBase) (seed count : ℕ) (batch : Option ℕ) (is : based_at bytes ≡ Ok b) (old new : Store) where
+  pub leaves_mine : (o : Outcome) → IfSome old.reads (λ kept. loaded_for bytes b seed batch kept ≡ Ok o) → LeavesFrom (sha256 bytes) seed o (iterations v b.problem seed count o).lists old new → IfSome old.reads (λ kept. LeavesMine v bytes kept old new (Train seed count batch))
+  leaves_mine o has run = told old.reads (λ kept there b' o' ps j i is' load' stands goes le here.
+      let same_b : b ≡ b' = same_ok b b' (sym is ∙ is') in
+      let load : loaded_for bytes b seed batch kept ≡ Ok o = known (λ k. loaded_for bytes b seed batch k ≡ Ok o) old.reads kept there has in
+      let same_o : o ≡ o' = same_ok o o' (sym load ∙ subst (λ (x : WithBase). loaded_for bytes x seed batch kept ≡ Ok o') (sym same_b) load') in
+      let more = known (λ k. (ps : List (List ℕ)) (j i : ℕ) → StandsIn (title_of (sha256 bytes) seed o) o ps j k → GoOnWith j ps (iterations v b.problem seed count o).lists → i ≤ j → ((c : List ℕ) → old.images c → MineFrom (title_of (sha256 bytes) seed o) ps i c) → LeavesOnly old new (MineFrom (title_of (sha256 bytes) seed o) ps i)) old.reads kept there run in
+      let at_o' = subst (λ (x : Outcome). (ps : List (List ℕ)) (j i : ℕ) → StandsIn (title_of (sha256 bytes) seed x) x ps j kept → GoOnWith j ps (iterations v b.problem seed count x).lists → i ≤ j → ((c : List ℕ) → old.images c → MineFrom (title_of (sha256 bytes) seed x) ps i c) → LeavesOnly old new (MineFrom (title_of (sha256 bytes) seed x) ps i)) same_o more in
+      at_o' ps j i stands (subst (λ (x : WithBase). GoOnWith j ps (iterations v x.problem seed count o').lists) (sym same_b) goes) le here)
+
+  -- nothing is loaded
+  pub leaves_read : Lawful old → Stays old new → IfSome old.reads (λ kept. LeavesMine v bytes kept old new (Train seed count batch))
+  leaves_read lawful stays = told old.reads (λ kept there b' o' ps j i is' load' stands goes le here. read_only (sha256 bytes) seed o' [] old new lawful stays (title_of (sha256 bytes) seed o') ps i here)
+
+  -- what training leaves of the journal
+  pub grown_after : (A : Type 0) (r : Result A Status) (mid : Store) (o : Outcome) → IfSome old.reads (λ kept. loaded_for bytes b seed batch kept ≡ Ok o) → mid.reads ≡ old.reads
+      → WhenTrained r (new.reads ≡ option_map (λ kept. grown_journal (sha256 bytes) seed o kept (iterations v b.problem seed count o).lists) mid.reads) → WhenTrained r (Quiet new)
+      → IfSome old.reads (λ kept. (o' : Outcome) → loaded_for bytes b seed batch kept ≡ Ok o' → WhenTrained r ((new.reads ≡ Some (grown_journal (sha256 bytes) seed o' kept (iterations v b.problem seed count o').lists)) × Quiet new))
+  grown_after A r mid o has same reads quiet = told old.reads (λ kept there o' load'.
+      let load : loaded_for bytes b seed batch kept ≡ Ok o = known (λ k. loaded_for bytes b seed batch k ≡ Ok o) old.reads kept there has in
+      let same_o : o ≡ o' = same_ok o o' (sym load ∙ load') in
+      when_both A r (new.reads ≡ option_map (λ k. grown_journal (sha256 bytes) seed o k (iterations v b.problem seed count o).lists) mid.reads) (Quiet new) ((new.reads ≡ Some (grown_journal (sha256 bytes) seed o' kept (iterations v b.problem seed count o').lists)) × Quiet new) reads quiet
+      (λ e q. (subst (λ (x : Outcome). new.reads ≡ Some (grown_journal (sha256 bytes) seed x kept (iterations v b.problem seed count x).lists)) same_o
+          (e ∙ ap (option_map (λ k. grown_journal (sha256 bytes) seed o k (iterations v b.problem seed count o).lists)) (same ∙ there)), q)))
+
+-- a count that rose later rose
+pub rose_later : (a b c : ℕ) → a ≤ b → Rose b c → Rose a c
+rose_later a b c le rose = omega (arith, le, rose)
+
+-- sound cuts and bounds give a sound report
+pub train_is_sound : (p : Sealed) (pools : List (List Cut)) (bounds : List ℤ) (unsettled seed count : ℕ) (batch : Option ℕ) (text : List ℕ) → is_sealed p ≡ true → Fit (problem_of p) (length p.raw.nodes) pools → Sound (problem_of p) pools → All (Under (problem_of p)) bounds → text ≡ train_text p pools bounds unsettled → IsSoundReport (Train seed count batch) p pools text
+train_is_sound p pools bounds unsettled seed count batch text e fit sound under is = record {
+  is = (bounds, unsettled, is, under);
+  cuts = sound;
+  bound = sound_bound (problem_of p) pools (root_shaped-sealed p e) (have_cuts-root p pools e fit.some) sound;
+}
+
+-- what the report of training shows
+pub text_trained : (p : Sealed) (o new : Outcome) (c : Continued) (text : List ℕ) → new ≡ trained o c → text ≡ train_text p new.pools new.bounds new.unsettled → text ≡ train_text p c.pools (o.bounds ++ c.bounds) (o.unsettled + unsettled_in c.lists)
+text_trained p o new c text same is = is ∙ ap (λ (x : Outcome). train_text p x.pools x.bounds x.unsettled) same

@@ -24,6 +24,21 @@ Refuses (Range k m r) defined = ⊥
 Refuses (NoStage dead) defined = ⊥
 Refuses WriteFault defined = ⊥
 
+-- the statuses that loading and the formulas may come to
+abbrev pub ComesOfLoading : Status → Type 0
+ComesOfLoading Done = ⊥
+ComesOfLoading Usage = ⊥
+ComesOfLoading ReadFault = ⊥
+ComesOfLoading TooLong = ⊥
+ComesOfLoading (ProblemRefused r) = ⊥
+ComesOfLoading (JournalRefused r) = ⊤
+ComesOfLoading (TooMuch t) = ⊤
+ComesOfLoading (Range k m r) = ⊥
+ComesOfLoading (NoStage dead) = ⊥
+ComesOfLoading DiskFault = ⊤
+ComesOfLoading WriteFault = ⊥
+ComesOfLoading Memory = ⊤
+
 -- where iterations stop, as far as a status tells it
 abbrev pub StopsAs : {A : Type 0} → Result A Status → Option SweepFault → Type 0
 StopsAs (Ok x) stop = stop ≡ None

@@ -1,5 +1,5 @@
 // Training on a journal, from its bytes to its report.
-ghost use Rattle.std.specs.Prelude.{◌≡◌, ◌≢◌, ◌≤◌, ◌^◌, ◌⊎◌, ℕ, List, true, false, length, max, option_map, All, IfOk, IfErr, IfSome, OnOk, None, Some, Ok, Err};
+ghost use Rattle.std.specs.Prelude.{◌≡◌, ◌≤◌, ℕ, List, true, false, length, max, option_map, All, IfOk, IfErr, IfSome, OnOk, None, Some, Ok, Err};
 ghost use Rattle.sha2.specs.Sha256.{sha256};
 ghost use Rattle.hp_num.specs.Steps.{GivesOr};
 ghost use Rattle.hp_outside.specs.Causes.{Rose};
@@ -23,7 +23,7 @@ ghost use Rattle.hp_report.specs.Report.{train_text};
 ghost use Rattle.hp_run.specs.Causes.{Lacks};
 ghost use Rattle.hp_run.specs.Journals.{Grows, LeavesMine, is_refusal};
 ghost use Rattle.hp_run.specs.Outcome.{IsSoundReport, Reports, based_at, loaded_for, ready_for};
-ghost use Rattle.hp_run.specs.Training.{IsDead, Refuses, StopsAs, WhenTrained};
+ghost use Rattle.hp_run.specs.Training.{ComesOfLoading, IsDead, Refuses, StopsAs, WhenTrained};
 ghost use Rattle.hp_run.specs.declared.status.Status.TheVariants as statuses;
 ghost use Rattle.hp_run.specs.declared.task.Task.TheVariants as tasks;
 
@@ -80,7 +80,7 @@ fn load_for<D: Disk>(
     ensures safe { IfOk result (IsSafe problem.now) }
     ensures stays { Stays (D.store journal.old) (D.store journal.new) }
     ensures cause { DiskCause (D.faults journal.old) (D.faults journal.new) (result ≡ Err statuses.DiskFault) }
-    ensures refusals { IfErr result (λ s. s ≢ statuses.Memory → s ≢ statuses.DiskFault → is_refusal s ≡ true) }
+    ensures own { IfErr result ComesOfLoading }
 {
     match load(
         alloc,
@@ -187,6 +187,7 @@ pub(crate) fn report_train<R: Threads + Sync, D: Disk, V: Solver>(
     ensures stays { IfErr result (λ s. is_refusal s ≡ true → Stays (D.store journal.old) (D.store journal.new)) }
     ensures later { D.faults journal.old ≤ D.faults journal.new }
 {
+    let _ = problem.raw();
     let digest = Sha256::digest(bytes);
     let mut loaded = load_for(alloc, problem, pools, journal, &digest, asked)?;
     train_on(

@@ -1,8 +1,0 @@
-use Rattle.hp_run.proofs.Reports.{completes, sounds}
-use Rattle.hp_run.proofs.top.run.Goals as goal
-
-pub returns-clause-complete : goal.returns-clause-complete
-returns-clause-complete g c = completes _ _ _ c.act.ensures.cause
-
-pub returns-clause-sound : goal.returns-clause-sound
-returns-clause-sound g c = sounds _ _ _ c.act.ensures.cause
