@@ -114,7 +114,7 @@ completes v asked e (Range k m i) h bytes kept is r nr nd nw =
     inl (outcome_is v asked h.0 bytes kept (Err (Range k m i)) h.1 w.0 (w.1 kept (read_by asked h.0 e.kept kept h.1 r)))
 completes v asked e (NoStage dead) h bytes kept is r nr nd nw =
     let w = at_bytes e.left _ bytes is h.3.1 in
-    inl (outcome_is v asked h.0 bytes kept (Err (NoStage dead)) h.1 w.0 (w.1 kept (read_by asked h.0 e.kept kept h.1 r)))
+    inl (outcome_is v asked h.0 bytes kept (Err (NoStage dead)) h.1 w.0 (w.1.0 kept (read_by asked h.0 e.kept kept h.1 r)))
 completes v asked e DiskFault h bytes kept is r nr nd nw = absurd (nd h.3)
 completes v asked e WriteFault h bytes kept is r nr nd nw = absurd (nw h.2)
 completes v asked e Memory h bytes kept is r nr nd nw = inr refl

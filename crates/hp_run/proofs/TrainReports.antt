@@ -30,7 +30,7 @@ use Rattle.hp_report.specs.Report.{train_text}
 use Rattle.hp_train.specs.Continuing.{Continued}
 use Rattle.hp_train.specs.Training.{GoOnWith, MineFrom, StandsIn, grown_journal, iterations, title_of, trained, unsettled_in}
 use Rattle.hp_run.specs.Causes.{Lacks}
-use Rattle.hp_run.specs.Journals.{LeavesMine, is_refusal}
+use Rattle.hp_run.specs.Journals.{Leaves, LeavesMine, has_trained, is_refusal, status_of}
 use Rattle.hp_run.specs.Outcome.{IsSoundReport, WithBase, Reports, based_at, loaded_for, or_refused, or_status, ready_for, report_at, report_by, report_trained, status_of_stop, trained_for, unless_much, unless_stopped, within_formulas}
 use Rattle.hp_run.specs.Training.{ComesOfLoading, IsDead, Refuses, StopsAs, WhenTrained}
 use Rattle.hp_run.specs.declared.status.Status.{Status}
@@ -152,7 +152,7 @@ module _ {Start Chain : Type 0} (v : Solving Start Chain) (bytes : List ℕ) (b 
 
 -- nothing was trained
 pub when_unloaded : (A : Type 0) (s : Status) (P : Type 0) → ComesOfLoading s → (let r : Result A Status = Err s in WhenTrained r P)
-when_unloaded A Done P own = tt
+when_unloaded A Done P own = absurd own
 when_unloaded A Usage P own = tt
 when_unloaded A ReadFault P own = tt
 when_unloaded A TooLong P own = tt
@@ -162,13 +162,13 @@ when_unloaded A (TooMuch t) P own = tt
 when_unloaded A (Range k m r) P own = absurd own
 when_unloaded A (NoStage dead) P own = absurd own
 when_unloaded A DiskFault P own = tt
-when_unloaded A WriteFault P own = tt
+when_unloaded A WriteFault P own = absurd own
 when_unloaded A Memory P own = tt
 
 -- more is known once all is trained
 pub when_both : (A : Type 0) (r : Result A Status) (P Q R : Type 0) → WhenTrained r P → WhenTrained r Q → (P → Q → R) → WhenTrained r R
 when_both A (Ok x) P Q R p q so = so p q
-when_both A (Err Done) P Q R p q so = tt
+when_both A (Err Done) P Q R p q so = so p q
 when_both A (Err Usage) P Q R p q so = tt
 when_both A (Err ReadFault) P Q R p q so = tt
 when_both A (Err TooLong) P Q R p q so = tt
@@ -178,12 +178,12 @@ when_both A (Err (TooMuch t)) P Q R p q so = tt
 when_both A (Err (Range k m r)) P Q R p q so = so p q
 when_both A (Err (NoStage dead)) P Q R p q so = so p q
 when_both A (Err DiskFault) P Q R p q so = tt
-when_both A (Err WriteFault) P Q R p q so = tt
+when_both A (Err WriteFault) P Q R p q so = so p q
 when_both A (Err Memory) P Q R p q so = tt
 
 -- an answer of another type
 pub when_same : (A B : Type 0) (s : Status) (P : Type 0) → (let r : Result A Status = Err s in WhenTrained r P) → (let r : Result B Status = Err s in WhenTrained r P)
-when_same A B Done P h = tt
+when_same A B Done P h = h
 when_same A B Usage P h = tt
 when_same A B ReadFault P h = tt
 when_same A B TooLong P h = tt
@@ -193,7 +193,7 @@ when_same A B (TooMuch t) P h = tt
 when_same A B (Range k m r) P h = h
 when_same A B (NoStage dead) P h = h
 when_same A B DiskFault P h = tt
-when_same A B WriteFault P h = tt
+when_same A B WriteFault P h = h
 when_same A B Memory P h = tt
 
 pub when_as : (A B : Type 0) (s : Status) (r : Result B Status) (P : Type 0) → r ≡ Err s → (let q : Result A Status = Err s in WhenTrained q P) → WhenTrained r P
@@ -269,3 +269,29 @@ train_is_sound p pools bounds unsettled seed count batch text e fit sound under 
 -- what the report of training shows
 pub text_trained : (p : Sealed) (o new : Outcome) (c : Continued) (text : List ℕ) → new ≡ trained o c → text ≡ train_text p new.pools new.bounds new.unsettled → text ≡ train_text p c.pools (o.bounds ++ c.bounds) (o.unsettled + unsettled_in c.lists)
 text_trained p o new c text same is = is ∙ ap (λ (x : Outcome). train_text p x.pools x.bounds x.unsettled) same
+
+-- all is trained where the status says so
+pub trained_then : (A : Type 0) (r : Result A Status) (P : Type 0) → WhenTrained r P → has_trained (status_of r) ≡ true → P
+trained_then A (Ok x) P h e = h
+trained_then A (Err Done) P h e = h
+trained_then A (Err Usage) P h e = absurd cc
+trained_then A (Err ReadFault) P h e = absurd cc
+trained_then A (Err TooLong) P h e = absurd cc
+trained_then A (Err (ProblemRefused r)) P h e = absurd cc
+trained_then A (Err (JournalRefused r)) P h e = absurd cc
+trained_then A (Err (TooMuch t)) P h e = absurd cc
+trained_then A (Err (Range k m r)) P h e = h
+trained_then A (Err (NoStage dead)) P h e = h
+trained_then A (Err DiskFault) P h e = absurd cc
+trained_then A (Err WriteFault) P h e = h
+trained_then A (Err Memory) P h e = absurd cc
+
+-- what the report of training says of the journal
+pub leaves_grown : {Start Chain : Type 0} (v : Solving Start Chain) (A : Type 0) (r : Result A Status) (bytes : List ℕ) (b : WithBase) (seed count : ℕ) (batch : Option ℕ) (reads : Option (List ℕ)) (new : Store) (task : Task) → task ≡ Train seed count batch → based_at bytes ≡ Ok b
+    → IfSome reads (λ kept. (o : Outcome) → loaded_for bytes b seed batch kept ≡ Ok o → WhenTrained r ((new.reads ≡ Some (grown_journal (sha256 bytes) seed o kept (iterations v b.problem seed count o).lists)) × Quiet new))
+    → IfSome reads (λ kept. Leaves v r bytes kept new task)
+leaves_grown v A r bytes b seed count batch reads new task at is has = told reads (λ kept there. subst (λ (k : Task). Leaves v r bytes kept new k) (sym at) (λ b' o is' load e.
+    let same_b : b' ≡ b = same_ok b' b (sym is' ∙ is) in
+    let grown = known (λ k. (o : Outcome) → loaded_for bytes b seed batch k ≡ Ok o → WhenTrained r ((new.reads ≡ Some (grown_journal (sha256 bytes) seed o k (iterations v b.problem seed count o).lists)) × Quiet new)) reads kept there has o (subst (λ (x : WithBase). loaded_for bytes x seed batch kept ≡ Ok o) same_b load) in
+    let all = trained_then A r ((new.reads ≡ Some (grown_journal (sha256 bytes) seed o kept (iterations v b.problem seed count o).lists)) × Quiet new) grown e in
+    (subst (λ (x : WithBase). new.reads ≡ Some (grown_journal (sha256 bytes) seed o kept (iterations v x.problem seed count o).lists)) (sym same_b) all.0, all.1)))

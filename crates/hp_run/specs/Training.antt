@@ -55,21 +55,21 @@ StopsAs (Err (JournalRefused r)) stop = ⊥
 StopsAs (Err (TooMuch t)) stop = ⊥
 StopsAs (Err WriteFault) stop = ⊥
 
--- what holds once all iterations are done that the definition has
+-- what holds once all iterations are done that the definition has, as the status says
 abbrev pub WhenTrained : {A : Type 0} → Result A Status → Type 0 → Type 0
 WhenTrained (Ok x) P = P
 WhenTrained (Err (Range k m r)) P = P
 WhenTrained (Err (NoStage dead)) P = P
 WhenTrained (Err DiskFault) P = ⊤
 WhenTrained (Err Memory) P = ⊤
-WhenTrained (Err Done) P = ⊤
+WhenTrained (Err Done) P = P
 WhenTrained (Err Usage) P = ⊤
 WhenTrained (Err ReadFault) P = ⊤
 WhenTrained (Err TooLong) P = ⊤
 WhenTrained (Err (ProblemRefused r)) P = ⊤
 WhenTrained (Err (JournalRefused r)) P = ⊤
 WhenTrained (Err (TooMuch t)) P = ⊤
-WhenTrained (Err WriteFault) P = ⊤
+WhenTrained (Err WriteFault) P = P
 
 -- where a node is refuted, no decisions exist there
 abbrev pub IsDead : Sealed → Status → Type 0
