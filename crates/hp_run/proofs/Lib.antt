@@ -4,3 +4,4 @@ pub mod Checks
 pub mod LoadedEnds
 pub mod Synced
 pub mod TrainReports
+pub mod Wrote
