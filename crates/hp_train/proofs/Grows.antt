@@ -144,7 +144,7 @@ module _ {Start Chain : Type 0} (v : Solving Start Chain) (p : Sealed) (seed : �
   unsettled_more lists es = let one = sum_by-append (sum_by (λ (e : Entry). e.unsettled)) lists (es ∷ []) in let nil = sum_by-cons (sum_by (λ (e : Entry). e.unsettled)) es [] in omega (arith, one, nil)
 
   fields : (pools : List (List Cut)) (bounds bounds' : List ℤ) (u u' : ℕ) (born born' : Bool) (end end' rest rest' version version' batch batch' : ℕ) → bounds ≡ bounds' → u ≡ u' → born ≡ born' → end ≡ end' → rest ≡ rest' → version ≡ version' → batch ≡ batch'
-    → (let o : Outcome = record { pools = pools; bounds = bounds; unsettled = u; born = born; end = end; rest = rest; version = version; batch = batch } in o) ≡ record { pools = pools; bounds = bounds'; unsettled = u'; born = born'; end = end'; rest = rest'; version = version'; batch = batch' }
+      → (let o : Outcome = record { pools = pools; bounds = bounds; unsettled = u; born = born; end = end; rest = rest; version = version; batch = batch } in o) ≡ record { pools = pools; bounds = bounds'; unsettled = u'; born = born'; end = end'; rest = rest'; version = version'; batch = batch' }
   fields pools bounds bounds' u u' born born' end end' rest rest' version version' batch batch' a b c d e f g = rw (a, b, c, d, e, f, g) refl
 
   value_more : (old mid : Loaded) (c : Continued) (s : Stepped) (body : List ℕ) → seen mid ≡ trained (seen old) c → body ≡ body_of (spell s.entries) → moved (with_stepped p mid s) (mid.end + length body) ≡ trained (seen old) (with_step p c (Ok s))
