@@ -12,9 +12,6 @@ use Rattle.hp_backward.specs.declared.fault.SweepFault.{SweepFault}
 use Rattle.hp_train.specs.Stepping.{Stepped, step_of}
 use Rattle.hp_train.specs.Continuing.{Continued, with_step, with_iteration, continued}
 
-none_some : {A : Type 0} (x : A) → (let o : Option A = None in o ≡ Some x) → ⊥
-none_some x h = cc
-
 some_none : {A : Type 0} (x : A) → (let o : Option A = Some x in o ≡ None) → ⊥
 some_none x h = cc
 

@@ -31,6 +31,8 @@ use Rattle.hp_train.specs.Iterating.{EndsShut, Stops, behind, iterated, with_ste
 use Rattle.hp_train.specs.Training.{GoOnWith, StopsAs, WhenWhole, last_gate, payloads, trained, unsettled_in}
 use Rattle.hp_train.proofs.Continuing.{goes_on, next_list, stays}
 use Rattle.hp_train.proofs.Placed.{Parted, parted, behind_none, behind_ends, behind_more, behind_journal, records_longer, payloads-append, last_byte}
+use Rattle.hp_load.proofs.Binding.{bind_ok}
+use Rattle.hp_train.proofs.Answered.{same_ok}
 
 -- ---- the disk
 
@@ -89,14 +91,6 @@ module _ (old mid new : Store) (at : ℕ) (lists : List (List Entry)) (es : List
 
 ok_err : {A E : Type 0} (x : A) (f : E) → (let l : Result A E = Ok x in l ≡ Err f) → ⊥
 ok_err x f h = cc
-
-same_ok : {A E : Type 0} (x y : A) → (let l : Result A E = Ok x in l ≡ Ok y) → x ≡ y
-same_ok x y h = cc
-
--- both parts of a step that did not refuse
-from_parts : {A B E : Type 0} (part : Result A E) (f : A → Result B E) (y : B) → (part >>= f) ≡ Ok y → (x : A) × (part ≡ Ok x) × (f x ≡ Ok y)
-from_parts (Err e) f y h = absurd (ok_err y e (sym h))
-from_parts (Ok x) f y h = (x, refl, h)
 
 same_err : {A E : Type 0} (e f : E) → (let l : Result A E = Err e in l ≡ Err f) → e ≡ f
 same_err e f h = cc
@@ -171,7 +165,7 @@ module _ {Start Chain : Type 0} (v : Solving Start Chain) (p : Sealed) (seed : �
   pub was_stepped : (n k : ℕ) (old mid : Loaded) (body : List ℕ) (o : Outcome) → HasIterated n old mid → k ≡ suc (length old.bounds + n) → iterated v p mid seed k ≡ Ok (o, body) → WasStepped n old mid body o
   unfolding iterated
   was_stepped n k old mid body o has number is =
-      let parts = from_parts (step_of v p mid.pools.lists seed mid.batch k) (λ s. Ok (with_stepped p mid s, body_of (spell s.entries))) (o, body) is in
+      let parts = bind_ok (step_of v p mid.pools.lists seed mid.batch k) (λ s. Ok (with_stepped p mid s, body_of (spell s.entries))) (o, body) is in
       let same = same_pair (with_stepped p mid parts.0) o (body_of (spell parts.0.entries)) body parts.2 in
       let pools : mid.pools.lists ≡ (after old n).pools = ap (λ (x : Outcome). x.pools) has.value in
       let batch : mid.batch ≡ old.batch = ap (λ (x : Outcome). x.batch) has.value in
