@@ -1,8 +1,8 @@
 -- What iterations leave of what was loaded, and of the journal's disk.
-use Rattle.std.proofs.Common.{◌≡◌, ℕ, zero, suc, ◌+◌, ◌*◌, ℤ, ◌≤◌, ◌<◌, ◌^◌, List, [], ◌∷◌, ◌++◌, length, take, drop, get_or, map, Bool, true, false, if◌then◌else◌, Option, Some, None, IfSome, Result, Ok, Err, All, refl, sym, ap, subst, ◌∙◌, append_assoc, length-append, arith}
+use Rattle.std.proofs.Common.{◌≡◌, ℕ, suc, ◌+◌, ◌*◌, ℤ, ◌≤◌, ◌<◌, ◌^◌, List, [], ◌∷◌, ◌++◌, length, take, get_or, Bool, true, if◌then◌else◌, Option, Some, None, IfSome, Result, Ok, Err, All, refl, sym, ap, subst, ◌∙◌, append_assoc, arith}
 use Rattle.std.specs.Option.{option_map}
 use Rattle.std.specs.List.{sum_by}
-use Rattle.std.proofs.lemmas.List.{append-nil, length-map}
+use Rattle.std.proofs.lemmas.List.{append-nil}
 use Rattle.std.proofs.lemmas.List.Sums.{sum_by-append, sum_by-cons}
 use Rattle.hp_num.specs.Steps.{◌>>=◌}
 use Rattle.hp_outside.specs.Disks.{Store, Lawful}
@@ -16,9 +16,9 @@ use Rattle.hp_theory.specs.Pools.{pool, Sound}
 use Rattle.hp_theory.specs.View.{problem_of}
 use Rattle.hp_cut.specs.declared.entry.Entry.{Entry}
 use Rattle.hp_record.specs.Spelling.{spell}
-use Rattle.hp_journal.specs.Layout.{Title, body_of, front, journal, records}
-use Rattle.hp_journal.specs.Mine.{Grown, GrownFrom, shut}
-use Rattle.hp_journal.proofs.Told.{told, known, mapped, map_as, map_same, begins}
+use Rattle.hp_journal.specs.Layout.{Title, body_of, journal, records}
+use Rattle.hp_journal.specs.Mine.{GrownFrom, shut}
+use Rattle.hp_journal.proofs.Told.{told, known, mapped, map_same, begins}
 use Rattle.hp_load.specs.declared.loaded.Loaded.{Loaded}
 use Rattle.hp_load.specs.Load.{Outcome, first_gate, seen}
 use Rattle.hp_lp.specs.Chained.{Solving}
@@ -30,7 +30,7 @@ use Rattle.hp_train.specs.declared.fault.TrainFault.TheVariants as faults
 use Rattle.hp_train.specs.Iterating.{EndsShut, Stops, behind, iterated, with_stepped}
 use Rattle.hp_train.specs.Training.{GoOnWith, StopsAs, WhenWhole, last_gate, payloads, trained, unsettled_in}
 use Rattle.hp_train.proofs.Continuing.{goes_on, next_list, stays}
-use Rattle.hp_train.proofs.Placed.{Parted, parted, behind_none, behind_ends, behind_more, behind_journal, records_longer, payloads-append, last_byte}
+use Rattle.hp_train.proofs.Placed.{parted, behind_none, behind_ends, behind_more, behind_journal, records_longer, payloads-append}
 use Rattle.hp_load.proofs.Binding.{bind_ok}
 use Rattle.hp_train.proofs.Answered.{same_ok}
 
