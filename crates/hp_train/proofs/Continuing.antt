@@ -12,9 +12,6 @@ use Rattle.hp_backward.specs.declared.fault.SweepFault.{SweepFault}
 use Rattle.hp_train.specs.Stepping.{Stepped, step_of}
 use Rattle.hp_train.specs.Continuing.{Continued, with_step, with_iteration, continued}
 
-none_some : {A : Type 0} (x : A) → (let o : Option A = None in o ≡ Some x) → ⊥
-none_some x h = cc
-
 some_none : {A : Type 0} (x : A) → (let o : Option A = Some x in o ≡ None) → ⊥
 some_none x h = cc
 
@@ -55,9 +52,9 @@ module _ {Start Chain : Type 0} (v : Solving Start Chain) (p : Sealed) (pools : 
   in_front (suc m) n below = elim (cases_eq n (suc m)) [
     | inl same ↦ ([], ap (λ (k : ℕ). (after k).lists) (sym same) ∙ sym (append-nil (after n).lists))
     | inr other ↦
-      let before = in_front m n (omega (arith, below, other)) in
-      let one = more (suc (j + m)) (after m) (after m).stop in
-      (before.0 ++ one.0, ap (λ (c : Continued). c.lists) (one_more m) ∙ one.1 ∙ ap (λ (ls : List (List Entry)). ls ++ one.0) before.1 ∙ append_assoc (after n).lists before.0 one.0)
+        let before = in_front m n (omega (arith, below, other)) in
+        let one = more (suc (j + m)) (after m) (after m).stop in
+        (before.0 ++ one.0, ap (λ (c : Continued). c.lists) (one_more m) ∙ one.1 ∙ ap (λ (ls : List (List Entry)). ls ++ one.0) before.1 ∙ append_assoc (after n).lists before.0 one.0)
   ]
 
   -- an iteration more stands behind those before it

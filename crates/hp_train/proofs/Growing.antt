@@ -1,8 +1,7 @@
 -- What sweeps leave of pools: the cuts of each node stay in front.
-use Rattle.std.proofs.Common.{◌≡◌, ℕ, zero, suc, ◌+◌, ◌≤◌, ℤ, List, [], ◌∷◌, ◌++◌, length, take, map, get_or, zip, Result, Ok, Err, refl, sym, ap, subst, ◌∙◌, append_assoc, arith}
+use Rattle.std.proofs.Common.{◌≡◌, ℕ, zero, suc, ◌+◌, ◌≤◌, ℤ, List, [], ◌∷◌, ◌++◌, length, take, map, get_or, zip, Ok, refl, sym, ap, subst, ◌∙◌, append_assoc, arith}
 use Rattle.std.proofs.Math.Seq.{take-append_seam}
 use Rattle.std.proofs.lemmas.List.{append-nil, ext_get_or}
-use Rattle.hp_num.specs.Steps.{◌>>=◌}
 use Rattle.hp_problem.specs.Sealed.{Sealed}
 use Rattle.hp_theory.specs.declared.cut.Cut.{Cut}
 use Rattle.hp_theory.specs.Pools.{pool, push}
@@ -11,6 +10,8 @@ use Rattle.hp_lp.specs.Chained.{Solving}
 use Rattle.hp_sampler.specs.declared.steps.Step.{Step}
 use Rattle.hp_backward.specs.Sweeping.{Swept, made_at, with_made, step_back, backwards, swept}
 use Rattle.hp_train.specs.Growing.{Extends}
+use Rattle.hp_load.proofs.Binding.{bind_ok}
+use Rattle.hp_train.proofs.Answered.{same_ok}
 
 -- the first list stands in front of the second
 abbrev pub Begins : List Cut → List Cut → Type 0
@@ -29,27 +30,16 @@ AllBegin old new = (m : ℕ) → Begins (pool old m) (pool new m)
 begin-push : (old mid : List (List Cut)) (m : ℕ) (c : Cut) → AllBegin old mid → AllBegin old (push mid m c)
 begin-push old mid m c b k = push_at mid m k c (λ (cs : List Cut). Begins (pool old k) cs) (b k) (λ e. subst (λ (j : ℕ). Begins (pool old j) (pool mid m ++ c ∷ [])) (sym e) (begins_more (pool old m) (pool mid m) c (b m)))
 
-not_both : {A E : Type 0} (x : E) (y : A) → (let l : Result A E = Err x in l ≡ Ok y) → ⊥
-not_both x y h = cc
-
-same_ok : {A E : Type 0} (x y : A) → (let l : Result A E = Ok x in l ≡ Ok y) → x ≡ y
-same_ok x y h = cc
-
--- both parts of a step that did not refuse
-from_parts : {A B E : Type 0} (part : Result A E) (f : A → Result B E) (y : B) → (part >>= f) ≡ Ok y → (x : A) × (part ≡ Ok x) × (f x ≡ Ok y)
-from_parts (Err e) f y h = absurd (not_both e y h)
-from_parts (Ok x) f y h = (x, refl, h)
-
 begin-step : {Start Chain : Type 0} (v : Solving Start Chain) (p : Sealed) (k : ℕ) (old : List (List Cut)) (before after : Swept) (visit : Step × List ℤ) → step_back v p k before visit ≡ Ok after → AllBegin old before.pools → AllBegin old after.pools
 unfolding step_back
 begin-step v p k old before after visit h b =
-    let parts = from_parts (made_at v p before.pools k visit.0.node visit.1) (λ made. Ok (with_made before visit.0.node made)) after h in
+    let parts = bind_ok (made_at v p before.pools k visit.0.node visit.1) (λ made. Ok (with_made before visit.0.node made)) after h in
     subst (λ (s : Swept). AllBegin old s.pools) (same_ok (with_made before visit.0.node parts.0) after parts.2) (begin-push old before.pools visit.0.node parts.0.1 b)
 
 begin-backwards : {Start Chain : Type 0} (v : Solving Start Chain) (p : Sealed) (k : ℕ) (visits : List (Step × List ℤ)) (start after : Swept) → backwards (step_back v p k) visits start ≡ Ok after → AllBegin start.pools after.pools
 begin-backwards v p k [] start after h = subst (λ (s : Swept). AllBegin start.pools s.pools) (same_ok start after h) (λ m. begins_itself (pool start.pools m))
 begin-backwards v p k (q ∷ qs) start after h =
-    let parts = from_parts (backwards (step_back v p k) qs start) (λ before. step_back v p k before q) after h in
+    let parts = bind_ok (backwards (step_back v p k) qs start) (λ before. step_back v p k before q) after h in
     begin-step v p k start.pools parts.0 after q parts.2 (begin-backwards v p k qs start parts.0 parts.1)
 
 -- a sweep leaves each node's cuts in front

@@ -1,8 +1,8 @@
 -- What iterations leave of what was loaded, and of the journal's disk.
-use Rattle.std.proofs.Common.{◌≡◌, ℕ, zero, suc, ◌+◌, ◌*◌, ℤ, ◌≤◌, ◌<◌, ◌^◌, List, [], ◌∷◌, ◌++◌, length, take, drop, get_or, map, Bool, true, false, if◌then◌else◌, Option, Some, None, IfSome, Result, Ok, Err, All, refl, sym, ap, subst, ◌∙◌, append_assoc, length-append, arith}
+use Rattle.std.proofs.Common.{◌≡◌, ℕ, suc, ◌+◌, ◌*◌, ℤ, ◌≤◌, ◌<◌, ◌^◌, List, [], ◌∷◌, ◌++◌, length, take, get_or, Bool, true, if◌then◌else◌, Option, Some, None, IfSome, Result, Ok, Err, All, refl, sym, ap, subst, ◌∙◌, append_assoc, arith}
 use Rattle.std.specs.Option.{option_map}
 use Rattle.std.specs.List.{sum_by}
-use Rattle.std.proofs.lemmas.List.{append-nil, length-map}
+use Rattle.std.proofs.lemmas.List.{append-nil}
 use Rattle.std.proofs.lemmas.List.Sums.{sum_by-append, sum_by-cons}
 use Rattle.hp_num.specs.Steps.{◌>>=◌}
 use Rattle.hp_outside.specs.Disks.{Store, Lawful}
@@ -16,9 +16,9 @@ use Rattle.hp_theory.specs.Pools.{pool, Sound}
 use Rattle.hp_theory.specs.View.{problem_of}
 use Rattle.hp_cut.specs.declared.entry.Entry.{Entry}
 use Rattle.hp_record.specs.Spelling.{spell}
-use Rattle.hp_journal.specs.Layout.{Title, body_of, front, journal, records}
-use Rattle.hp_journal.specs.Mine.{Grown, GrownFrom, shut}
-use Rattle.hp_journal.proofs.Told.{told, known, mapped, map_as, map_same, begins}
+use Rattle.hp_journal.specs.Layout.{Title, body_of, journal, records}
+use Rattle.hp_journal.specs.Mine.{GrownFrom, shut}
+use Rattle.hp_journal.proofs.Told.{told, known, mapped, map_same, begins}
 use Rattle.hp_load.specs.declared.loaded.Loaded.{Loaded}
 use Rattle.hp_load.specs.Load.{Outcome, first_gate, seen}
 use Rattle.hp_lp.specs.Chained.{Solving}
@@ -30,7 +30,9 @@ use Rattle.hp_train.specs.declared.fault.TrainFault.TheVariants as faults
 use Rattle.hp_train.specs.Iterating.{EndsShut, Stops, behind, iterated, with_stepped}
 use Rattle.hp_train.specs.Training.{GoOnWith, StopsAs, WhenWhole, last_gate, payloads, trained, unsettled_in}
 use Rattle.hp_train.proofs.Continuing.{goes_on, next_list, stays}
-use Rattle.hp_train.proofs.Placed.{Parted, parted, behind_none, behind_ends, behind_more, behind_journal, records_longer, payloads-append, last_byte}
+use Rattle.hp_train.proofs.Placed.{parted, behind_none, behind_ends, behind_more, behind_journal, records_longer, payloads-append}
+use Rattle.hp_load.proofs.Binding.{bind_ok}
+use Rattle.hp_train.proofs.Answered.{same_ok}
 
 -- ---- the disk
 
@@ -90,14 +92,6 @@ module _ (old mid new : Store) (at : ℕ) (lists : List (List Entry)) (es : List
 ok_err : {A E : Type 0} (x : A) (f : E) → (let l : Result A E = Ok x in l ≡ Err f) → ⊥
 ok_err x f h = cc
 
-same_ok : {A E : Type 0} (x y : A) → (let l : Result A E = Ok x in l ≡ Ok y) → x ≡ y
-same_ok x y h = cc
-
--- both parts of a step that did not refuse
-from_parts : {A B E : Type 0} (part : Result A E) (f : A → Result B E) (y : B) → (part >>= f) ≡ Ok y → (x : A) × (part ≡ Ok x) × (f x ≡ Ok y)
-from_parts (Err e) f y h = absurd (ok_err y e (sym h))
-from_parts (Ok x) f y h = (x, refl, h)
-
 same_err : {A E : Type 0} (e f : E) → (let l : Result A E = Err e in l ≡ Err f) → e ≡ f
 same_err e f h = cc
 
@@ -144,7 +138,7 @@ module _ {Start Chain : Type 0} (v : Solving Start Chain) (p : Sealed) (seed : �
   unsettled_more lists es = let one = sum_by-append (sum_by (λ (e : Entry). e.unsettled)) lists (es ∷ []) in let nil = sum_by-cons (sum_by (λ (e : Entry). e.unsettled)) es [] in omega (arith, one, nil)
 
   fields : (pools : List (List Cut)) (bounds bounds' : List ℤ) (u u' : ℕ) (born born' : Bool) (end end' rest rest' version version' batch batch' : ℕ) → bounds ≡ bounds' → u ≡ u' → born ≡ born' → end ≡ end' → rest ≡ rest' → version ≡ version' → batch ≡ batch'
-    → (let o : Outcome = record { pools = pools; bounds = bounds; unsettled = u; born = born; end = end; rest = rest; version = version; batch = batch } in o) ≡ record { pools = pools; bounds = bounds'; unsettled = u'; born = born'; end = end'; rest = rest'; version = version'; batch = batch' }
+      → (let o : Outcome = record { pools = pools; bounds = bounds; unsettled = u; born = born; end = end; rest = rest; version = version; batch = batch } in o) ≡ record { pools = pools; bounds = bounds'; unsettled = u'; born = born'; end = end'; rest = rest'; version = version'; batch = batch' }
   fields pools bounds bounds' u u' born born' end end' rest rest' version version' batch batch' a b c d e f g = rw (a, b, c, d, e, f, g) refl
 
   value_more : (old mid : Loaded) (c : Continued) (s : Stepped) (body : List ℕ) → seen mid ≡ trained (seen old) c → body ≡ body_of (spell s.entries) → moved (with_stepped p mid s) (mid.end + length body) ≡ trained (seen old) (with_step p c (Ok s))
@@ -171,7 +165,7 @@ module _ {Start Chain : Type 0} (v : Solving Start Chain) (p : Sealed) (seed : �
   pub was_stepped : (n k : ℕ) (old mid : Loaded) (body : List ℕ) (o : Outcome) → HasIterated n old mid → k ≡ suc (length old.bounds + n) → iterated v p mid seed k ≡ Ok (o, body) → WasStepped n old mid body o
   unfolding iterated
   was_stepped n k old mid body o has number is =
-      let parts = from_parts (step_of v p mid.pools.lists seed mid.batch k) (λ s. Ok (with_stepped p mid s, body_of (spell s.entries))) (o, body) is in
+      let parts = bind_ok (step_of v p mid.pools.lists seed mid.batch k) (λ s. Ok (with_stepped p mid s, body_of (spell s.entries))) (o, body) is in
       let same = same_pair (with_stepped p mid parts.0) o (body_of (spell parts.0.entries)) body parts.2 in
       let pools : mid.pools.lists ≡ (after old n).pools = ap (λ (x : Outcome). x.pools) has.value in
       let batch : mid.batch ≡ old.batch = ap (λ (x : Outcome). x.batch) has.value in

@@ -16,9 +16,7 @@ use Rattle.hp_journal.specs.Head.{byte_at, has_magic, version_of, digest_of, see
 use Rattle.hp_journal.specs.Layout.{Title, IsTitle, magic, shared_title, title_bytes, head_length, records, front}
 use Rattle.hp_journal.proofs.Bytes.{piece_of_front}
 use Rattle.hp_train.proofs.ReadBack.{piece_bytes, piece_length, failed_not}
-
-same_ok : {A E : Type 0} (x y : A) → ◌≡◌ {A = Result A E} (Ok x) (Ok y) → x ≡ y
-same_ok x y e = cc
+use Rattle.hp_train.proofs.Answered.{same_ok}
 
 -- ---- the parts of a head
 

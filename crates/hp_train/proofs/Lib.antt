@@ -1,3 +1,4 @@
+pub mod Answered
 pub mod Continuing
 pub mod Drawn
 pub mod Growing

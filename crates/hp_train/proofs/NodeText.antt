@@ -33,6 +33,7 @@ use Rattle.hp_record.specs.Shape.{sizes_of, Suits, StepSuits, CertificateFits, S
 use Rattle.hp_record.proofs.NodeParts.{weights_are, successors_are}
 use Rattle.hp_record.proofs.Room.{all_weaker}
 use Rattle.hp_train.proofs.SettledText.{IsLight, HasText, all_text}
+use Rattle.hp_train.proofs.Answered.{same_ok}
 
 -- the certificates of a node, with the count of the answers of no use
 abbrev type_of : {A : Type 0} → A → Type 0
@@ -75,9 +76,6 @@ sizes_seen p m e h =
   where
     same : (a b c : ℕ) → c ≡ min a b → b ≡ a → c ≡ a
     same a b c e f = omega (arith, e, f)
-
-same_ok : {A E : Type 0} (x y : A) → ◌≡◌ {A = Result A E} (Ok x) (Ok y) → x ≡ y
-same_ok x y e = cc
 
 no_ok : {A E : Type 0} (x : E) (y : A) → ◌≡◌ {A = Result A E} (Err x) (Ok y) → ⊥
 no_ok x y e = cc

@@ -1,21 +1,21 @@
 -- What the journal's end is once it is ready for the next record.
-use Rattle.std.proofs.Common.{◌≡◌, ◌⊎◌, inl, inr, ℕ, suc, ◌+◌, ◌≤◌, ◌<◌, List, [], ◌∷◌, ◌++◌, length, take, drop, Bool, true, false, if◌then◌else◌, Option, Some, None, IfSome, refl, sym, ap, subst, ◌∙◌, length-append, arith}
+use Rattle.std.proofs.Common.{◌≡◌, ◌⊎◌, inl, inr, ℕ, List, [], ◌∷◌, ◌++◌, length, take, Bool, true, false, if◌then◌else◌, Option, IfSome, refl, sym, ap, ◌∙◌, length-append, arith}
 use Rattle.std.specs.Option.{option_map}
 use Rattle.std.proofs.lemmas.List.{length-take}
 use Rattle.std.proofs.Math.Seq.{take-append_seam}
 use Rattle.hp_outside.specs.Disks.{Store}
 use Rattle.hp_outside.specs.Since.{LeavesOnly}
-use Rattle.hp_outside.proofs.RunsOfCalls.{then_on, wider}
+use Rattle.hp_outside.proofs.RunsOfCalls.{wider}
 use Rattle.hp_journal.specs.Gates.{IsShutAt}
-use Rattle.hp_journal.specs.Layout.{Title, IsTitle, front, head_length, journal, records}
+use Rattle.hp_journal.specs.Layout.{Title, IsTitle, front, journal, records}
 use Rattle.hp_journal.specs.Mine as mine
 use Rattle.hp_journal.specs.Mine.{Unborn, Grown, GrownFrom, Mine, LeavesGrown}
 use Rattle.hp_journal.proofs.HeadsRead.{first_gate as head_gate}
-use Rattle.hp_journal.proofs.Told.{told, known, mapped, map_as}
+use Rattle.hp_journal.proofs.Told.{told, known, map_as}
 use Rattle.hp_cut.specs.declared.entry.Entry.{Entry}
 use Rattle.hp_load.specs.Load.{Outcome, first_gate}
 use Rattle.hp_train.specs.Iterating.{EndsShut, behind}
-use Rattle.hp_train.specs.Training.{GoOnWith, MineFrom, StandsIn, unborn, born, grown_journal, last_gate, loaded_front, payloads, title_of}
+use Rattle.hp_train.specs.Training.{MineFrom, StandsIn, unborn, born, grown_journal, last_gate, loaded_front, payloads, title_of}
 
 true_or_false : (b : Bool) → (b ≡ true) ⊎ (b ≡ false)
 true_or_false true = inl refl

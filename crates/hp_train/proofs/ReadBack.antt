@@ -30,6 +30,7 @@ use Rattle.hp_load.specs.Records.{Found, Ended, rest_behind, rest_at, or_more, e
 use Rattle.hp_load.proofs.Binding.{bind_ok}
 use Rattle.hp_train.specs.Training.{payloads}
 use Rattle.hp_train.proofs.Placed.{front-append, payloads-append}
+use Rattle.hp_train.proofs.Answered.{same_ok}
 
 -- ---- bytes
 
@@ -52,9 +53,6 @@ failed_not false e r x h = (refl, h)
 
 not_less : (a b : ℕ) → nat_lt a b ≡ false → b ≤ a
 not_less a b e = grind (arith, nat_tests)
-
-same_ok : {A E : Type 0} (x y : A) → ◌≡◌ {A = Result A E} (Ok x) (Ok y) → x ≡ y
-same_ok x y e = cc
 
 -- ---- the gate at a place
 

@@ -12,6 +12,7 @@ use Rattle.hp_backward.specs.declared.fault.SweepFault.{SweepFault}
 use Rattle.hp_train.specs.Stepping.{Stepped, step_of}
 use Rattle.hp_train.specs.Continuing.{Continued, before_any, with_step, with_iteration, continued}
 use Rattle.hp_train.proofs.Continuing.{goes_on, stays, in_front, counted}
+use Rattle.hp_train.proofs.Answered.{none_some}
 
 -- what some iterations gave, and behind it what others did
 abbrev pub joined : Continued → Continued → Continued
@@ -21,9 +22,6 @@ joined_none : (c : Continued) → c.stop ≡ None → c ≡ joined c (before_any
 joined_none c running =
     ap (λ (o : Option SweepFault). record { pools = c.pools; lists = c.lists; bounds = c.bounds; stop = o }) running
     ∙ ap₂ (λ (ls : List (List Entry)) (bs : List ℤ). record { pools = c.pools; lists = ls; bounds = bs; stop = None }) (sym (append-nil c.lists)) (sym (append-nil c.bounds))
-
-none_some : {A : Type 0} (x : A) → (let o : Option A = None in o ≡ Some x) → ⊥
-none_some x h = cc
 
 module _ {Start Chain : Type 0} (v : Solving Start Chain) (p : Sealed) (seed batch : ℕ) where
   joined_step : (b r : Continued) (s : Result Stepped SweepFault) → with_step p (joined b r) s ≡ joined b (with_step p r s)

@@ -24,9 +24,7 @@ use Rattle.hp_load.proofs.Binding.{bind_ok}
 use Rattle.hp_train.specs.Stored.{IsStored, StandsThere}
 use Rattle.hp_train.proofs.HeadBack.{HeadIs, head_gives}
 use Rattle.hp_train.proofs.ReadBack.{ends_there}
-
-same_ok : {A E : Type 0} (x y : A) → ◌≡◌ {A = Result A E} (Ok x) (Ok y) → x ≡ y
-same_ok x y e = cc
+use Rattle.hp_train.proofs.Answered.{same_ok}
 
 abbrev fine : Result (Unit {0}) LoadFault
 fine = Ok tt

@@ -28,9 +28,7 @@ use Rattle.hp_load.specs.Cuts.{cut_of_step, unless_fault, step_added, steps_adde
 use Rattle.hp_load.proofs.Binding.{bind_ok, bind_on}
 use Rattle.hp_load.proofs.Adding.{step_fit}
 use Rattle.hp_train.proofs.NodeText.{Certified, StepText, certified_text, certified_few}
-
-same_ok : {A E : Type 0} (x y : A) → ◌≡◌ {A = Result A E} (Ok x) (Ok y) → x ≡ y
-same_ok x y e = cc
+use Rattle.hp_train.proofs.Answered.{same_ok}
 
 not_ok : {A E : Type 0} (x : E) (y : A) → ◌≡◌ {A = Result A E} (Err x) (Ok y) → ⊥
 not_ok x y e = cc

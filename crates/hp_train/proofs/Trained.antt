@@ -1,5 +1,5 @@
 -- Training on a journal: its end is made ready, and then iterations follow.
-use Rattle.std.proofs.Common.{◌≡◌, ℕ, ◌+◌, ◌-◌, List, [], ◌∷◌, ◌++◌, length, take, true, Option, Some, None, IfSome, Result, Ok, Err, refl, sym, ap, subst, ◌∙◌}
+use Rattle.std.proofs.Common.{◌≡◌, ℕ, ◌-◌, List, [], ◌∷◌, ◌++◌, length, take, true, Option, Some, None, IfSome, Result, Ok, Err, refl, sym, ap, subst, ◌∙◌}
 use Rattle.std.specs.Option.{option_map}
 use Rattle.hp_outside.specs.Disks.{Store}
 use Rattle.hp_outside.specs.Since.{LeavesOnly}
@@ -7,12 +7,12 @@ use Rattle.hp_outside.proofs.RunsOfCalls.{then_on}
 use Rattle.hp_problem.specs.Sealed.{Sealed}
 use Rattle.hp_cut.specs.declared.entry.Entry.{Entry}
 use Rattle.hp_journal.specs.Gates.{IsShutAt}
-use Rattle.hp_journal.specs.Layout.{Title, IsTitle, front, journal, records}
+use Rattle.hp_journal.specs.Layout.{Title, IsTitle, journal}
 use Rattle.hp_journal.specs.Mine.{GrownFrom}
-use Rattle.hp_journal.proofs.Told.{told, known, mapped, map_as}
+use Rattle.hp_journal.proofs.Told.{told, known, mapped}
 use Rattle.hp_load.specs.Load.{Outcome}
 use Rattle.hp_lp.specs.Chained.{Solving}
-use Rattle.hp_train.specs.Continuing.{Continued, continued}
+use Rattle.hp_train.specs.Continuing.{continued}
 use Rattle.hp_train.specs.Iterating.{EndsShut, behind}
 use Rattle.hp_train.specs.Training.{GoOnWith, MineFrom, StandsIn, WhenWhole, grown_journal, iterations, last_gate, loaded_front, opened, title_of}
 use Rattle.hp_train.specs.declared.fault.TrainFault.{TrainFault}

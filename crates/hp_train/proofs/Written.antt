@@ -36,9 +36,7 @@ use Rattle.hp_train.specs.Drawing.{paths_from, first_stream}
 use Rattle.hp_train.specs.Stepping.{Stepped, entry_of, with_path, forwards, or_dead, with_walks, along, step_of, before_paths}
 use Rattle.hp_train.proofs.NodeText.{StepText}
 use Rattle.hp_train.proofs.SweptText.{SweptText, swept_text}
-
-same_ok : {A E : Type 0} (x y : A) → ◌≡◌ {A = Result A E} (Ok x) (Ok y) → x ≡ y
-same_ok x y e = cc
+use Rattle.hp_train.proofs.Answered.{same_ok}
 
 -- the nodes of a path are a path from the root
 goes_on : (p : Sealed) (m : ℕ) (ss : List Step) → Follows p.raw m ss → GoesOn p m (map (λ (s : Step). s.node) ss)

@@ -1,6 +1,6 @@
 // Why training ends before its last iteration.
 ghost use Rattle.std.specs.Prelude.{◌≡◌};
-use hp_backward::SweepFault;
+
 use hp_num::Memory;
 use hp_outside::Failed;
 use hp_settle::Dead;

@@ -102,11 +102,13 @@ fn stepped<R: Threads + Sync, V: Solver>(
     ) {
         Ok(entries) => Ok(entries),
         Err(SweepFault::NoStage(dead)) => Err(TrainFault::NoStage(dead)),
-        Err(SweepFault::Range {
-            iteration,
-            node,
-            realization,
-        }) => Err(TrainFault::Range {
+        Err(
+            SweepFault::Range {
+                iteration,
+                node,
+                realization,
+            },
+        ) => Err(TrainFault::Range {
             iteration,
             node,
             realization,

@@ -1,4 +1,4 @@
-use Rattle.std.proofs.Common.{◌≡◌, List, ℕ, [], ◌++◌, ◌∷◌, length, ap, sym, ◌∙◌, refl, rules}
+use Rattle.std.proofs.Common.{◌≡◌, [], ◌++◌, ◌∷◌, length, ap, ◌∙◌, refl, rules}
 use Rattle.std.specs.Int.{w32, to_be_bytes}
 use Rattle.hp_journal.specs.Layout.{body_of}
 use Rattle.hp_record.specs.Spelling.{spell}

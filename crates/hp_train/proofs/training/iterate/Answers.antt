@@ -1,4 +1,4 @@
-use Rattle.std.proofs.Common.{◌≡◌, ℕ, ℤ, List, [], ◌∷◌, ◌++◌, All, rules, length, ap, ◌∙◌, sym, subst, arith}
+use Rattle.std.proofs.Common.{◌≡◌, ℤ, List, [], ◌∷◌, ◌++◌, All, rules, length, ap, sym, subst, arith}
 use Rattle.std.specs.List.{AllByRecursion}
 use Rattle.std.proofs.lemmas.List.Elements.{All-append, All-cons, All-nil}
 use Rattle.hp_theory.specs.Bound.{Under}
@@ -8,7 +8,7 @@ use Rattle.hp_record.specs.Shape.{Writable}
 use Rattle.hp_record.specs.Spelling.{spell}
 use Rattle.hp_lp.specs.Chained.{solving}
 use Rattle.hp_train.specs.Stepping.{seen}
-use Rattle.hp_train.proofs.Bodies.{IsWritten, is_written}
+use Rattle.hp_train.proofs.Bodies.{is_written}
 use Rattle.hp_train.proofs.training.iterate.Goals as goal
 
 pub body_of-requires-clause-shape : goal.body_of-requires-clause-shape

@@ -1,8 +1,7 @@
-use Rattle.std.proofs.Common.{◌≡◌, ℕ, suc, ◌+◌, ◌*◌, ◌≤◌, ◌^◌, List, ◌++◌, ◌∷◌, [], length, take, Option, None, Some, IfSome, Ok, Err, refl, sym, ap, subst, ◌∙◌, arith}
+use Rattle.std.proofs.Common.{◌≡◌, ℕ, suc, ◌+◌, ◌*◌, ◌≤◌, ◌^◌, List, length, None, IfSome, Ok, sym, ap, subst, ◌∙◌, arith}
 use Rattle.std.proofs.lemmas.Result.{err_from_is_err_and}
 use Rattle.std.specs.Option.{option_map}
 use Rattle.hp_problem.specs.Formulas.{too_much}
-use Rattle.hp_cut.specs.declared.entry.Entry.{Entry}
 use Rattle.hp_journal.specs.Layout.{body_of, records}
 use Rattle.hp_record.specs.Spelling.{spell}
 use Rattle.hp_journal.proofs.Growing.{body_short}
@@ -10,7 +9,6 @@ use Rattle.hp_load.specs.declared.loaded.Loaded.{Loaded}
 use Rattle.hp_load.specs.Load.{Outcome, seen}
 use Rattle.hp_theory.specs.Pools.{pool}
 use Rattle.hp_lp.specs.Chained.{solving}
-use Rattle.hp_backward.specs.declared.fault.SweepFault.{SweepFault}
 use Rattle.hp_train.specs.Continuing.{Continued, continued}
 use Rattle.hp_train.specs.Iterating.{EndsShut, behind, iterated}
 use Rattle.hp_train.specs.Training.{payloads}

@@ -52,7 +52,7 @@ returns-clause-reads g c =
     let same = same_iterations v p c.args.seed c.args.count o m c.saturating_sub-left.result c.in_ok-open_end.ensures.value left in
     let end : m.end ≡ last_gate o = ap (λ (x : Outcome). x.end) c.in_ok-open_end.ensures.value in
     when_also c.iterate_all.result _ (new.reads ≡ option_map (λ b. grown_journal c.args.digest.now c.args.seed o b lists) old.reads) c.iterate_all.ensures.reads (λ reads.
-        reads ∙ ap (λ (x : Continued). option_map (behind m.end x.lists) mid.reads) same ∙ ready_grows c.args.digest.now c.args.seed o title old.reads mid.reads m.end lists c.requires.shut c.in_ok-open_end.ensures.reads end)
+    reads ∙ ap (λ (x : Continued). option_map (behind m.end x.lists) mid.reads) same ∙ ready_grows c.args.digest.now c.args.seed o title old.reads mid.reads m.end lists c.requires.shut c.in_ok-open_end.ensures.reads end)
 
 pub returns-clause-any_moment : goal.returns-clause-any_moment
 returns-clause-any_moment g c =
