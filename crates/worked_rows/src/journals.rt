@@ -49,7 +49,7 @@ fn disk(alloc: Global, asked: Asked<'_>) -> Result<MemDisk, RowFault> {
 }
 
 /// What the check of a journal writes over a disk, with a sink that takes 10 bytes a call.
-fn checked<R: Threads>(
+fn checked<R: Threads + Sync>(
     rt: &R,
     alloc: Global,
     problem: &str,
@@ -67,7 +67,7 @@ fn checked<R: Threads>(
 }
 
 /// The last line of the check of a journal, and the longest read of its disk where it has further bytes.
-pub fn last_line_of_check<R: Threads>(
+pub fn last_line_of_check<R: Threads + Sync>(
     rt: &R,
     alloc: Global,
     problem: &str,
@@ -84,7 +84,7 @@ pub fn last_line_of_check<R: Threads>(
 }
 
 /// All that the check of a journal writes, in quotation marks.
-pub fn whole_check<R: Threads>(
+pub fn whole_check<R: Threads + Sync>(
     rt: &R,
     alloc: Global,
     problem: &str,

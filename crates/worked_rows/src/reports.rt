@@ -48,7 +48,7 @@ fn sink(alloc: Global, devices: Devices<'_>) -> Result<MemSink, RowFault> {
 }
 
 /// The line of the status, then what was written, of a run of a command line over a journal.
-pub fn report_over<R: Threads, D: Disk>(
+pub fn report_over<R: Threads + Sync, D: Disk>(
     rt: &R,
     alloc: Global,
     devices: Devices<'_>,
@@ -67,7 +67,7 @@ pub fn report_over<R: Threads, D: Disk>(
 }
 
 /// The same over an empty journal.
-pub fn report<R: Threads>(
+pub fn report<R: Threads + Sync>(
     rt: &R,
     alloc: Global,
     devices: Devices<'_>,
@@ -79,7 +79,11 @@ pub fn report<R: Threads>(
 }
 
 /// The last line of the report of a problem's base cuts, which is the status's line where the status has one.
-pub fn last_line<R: Threads>(rt: &R, alloc: Global, problem: &str) -> Result<String, RowFault> {
+pub fn last_line<R: Threads + Sync>(
+    rt: &R,
+    alloc: Global,
+    problem: &str,
+) -> Result<String, RowFault> {
     let report = report(rt, alloc, FAULTLESS, "base", problem)?;
     let line = report.as_str().lines().last().unwrap_or("");
     Ok(String::from_str(alloc, line)?)
@@ -97,7 +101,7 @@ fn three(text: &str) -> Option<(usize, u64, u64)> {
 }
 
 /// The report of a problem's base cuts over devices of which a read and a write fail, in quotation marks.
-pub fn interrupted<R: Threads>(
+pub fn interrupted<R: Threads + Sync>(
     rt: &R,
     alloc: Global,
     problem: &str,

@@ -52,7 +52,7 @@ fn question(kind: &str) -> Option<Question> {
 }
 
 /// The text that a row of another kind gives.
-fn whole<R: Threads>(
+fn whole<R: Threads + Sync>(
     rt: &R,
     alloc: Global,
     row: Row<'_>,
@@ -65,7 +65,7 @@ fn whole<R: Threads>(
     }
 }
 
-fn outcome<R: Threads>(
+fn outcome<R: Threads + Sync>(
     rt: &R,
     alloc: Global,
     row: Row<'_>,
@@ -83,7 +83,7 @@ fn outcome<R: Threads>(
 }
 
 /// The row's name, and whether what it gives is as expected.
-pub fn tried<R: Threads + Files + AllocGlobal>(
+pub fn tried<R: Threads + Sync + Files + AllocGlobal>(
     rt: &R,
     alloc: Global,
     line: &str,

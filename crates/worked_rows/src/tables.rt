@@ -26,7 +26,7 @@ pub enum Question {
     Checks,
 }
 
-fn edited_report<R: Threads>(
+fn edited_report<R: Threads + Sync>(
     rt: &R,
     alloc: Global,
     problem: &str,
@@ -36,7 +36,7 @@ fn edited_report<R: Threads>(
     last_line(rt, alloc, text.as_str())
 }
 
-fn answer<R: Threads>(
+fn answer<R: Threads + Sync>(
     rt: &R,
     alloc: Global,
     question: Question,
@@ -54,7 +54,7 @@ fn answer<R: Threads>(
 }
 
 /// The answer, or the name of the fault that leaves none.
-fn told<R: Threads>(
+fn told<R: Threads + Sync>(
     rt: &R,
     alloc: Global,
     question: Question,
@@ -82,7 +82,7 @@ fn is_expected(
 }
 
 /// Whether a line `QUESTION -> ANSWER` is as expected; otherwise it is shown.
-fn is_answered<R: Threads>(
+fn is_answered<R: Threads + Sync>(
     rt: &R,
     alloc: Global,
     question: Question,
@@ -98,7 +98,7 @@ fn is_answered<R: Threads>(
 }
 
 /// Says how many lines `QUESTION -> ANSWER` are as expected, and shows each of the others.
-pub fn compared<R: Threads>(
+pub fn compared<R: Threads + Sync>(
     rt: &R,
     alloc: Global,
     question: Question,
