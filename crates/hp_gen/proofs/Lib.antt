@@ -1,0 +1,4 @@
+pub mod Counted
+pub mod Orders
+pub mod Streams
+pub mod Plain

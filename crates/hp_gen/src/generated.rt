@@ -1,0 +1,71 @@
+// The text of a generated problem.
+ghost use Rattle.std.specs.Prelude.{◌≡◌, ◌≤◌, ◌^◌, IfOk};
+ghost use Rattle.serde_json.specs.Data.{object};
+ghost use Rattle.serde_json.specs.View.{view, members_view};
+ghost use Rattle.hp_sampler.specs.Drawn.{stream_of, word_in};
+ghost use Rattle.hp_gen.specs.Generated.{initial_values, root, version, problem, words, generated};
+
+use crate::names::{reservoir_name, text_of};
+use crate::nodes::{nodes, pair};
+use crate::stage::subproblem;
+use crate::words::stream_of;
+use hp_num::Memory;
+use serde_json::{Map, Value, json};
+use std::alloc::{AllocError, Global};
+
+fn initial_values(alloc: Global, reservoirs: u32) -> Result<Value, AllocError>
+    requires { reservoirs ≤ 10 }
+    ensures { IfOk result (λ v. view v ≡ object (initial_values reservoirs)) }
+{
+    let mut map = Map::new(alloc);
+    for reservoir in 0..reservoirs {
+        let name = reservoir_name(b'v', reservoir);
+        serde_json::put(&mut map, alloc, text_of(&name), Value::from(50u32))?;
+    }
+    Ok(Value::Object(map))
+}
+
+#[tactic(auto, unfolding(crate::specs::Generated::root))]
+fn root(alloc: Global, reservoirs: u32) -> Result<Value, AllocError>
+    requires { reservoirs ≤ 10 }
+    ensures { IfOk result (λ v. view v ≡ root reservoirs) }
+{
+    let states = initial_values(alloc, reservoirs)?;
+    let successors = pair(alloc, 0, 1, 1)?;
+    json!(in alloc; {"state_variables": states, "successors": successors})
+}
+
+#[tactic(auto, unfolding(crate::specs::Generated::version))]
+fn version(alloc: Global) -> Result<Value, AllocError>
+    ensures { IfOk result (λ v. view v ≡ version) }
+{
+    json!(in alloc; {"major": 1u32, "minor": 0u32})
+}
+
+#[tactic(auto, unfolding(crate::specs::Generated::problem))]
+fn problem(alloc: Global, seed: u64, stages: u32, reservoirs: u32) -> Result<Value, AllocError>
+    requires stages { stages ≤ 500 }
+    requires few { reservoirs ≤ 10 }
+    ensures { IfOk result (λ v. view v ≡ problem (words seed) stages reservoirs) }
+{
+    let nodes = nodes(alloc, &mut stream_of(seed), stages, reservoirs)?;
+    let root = root(alloc, reservoirs)?;
+    let stage = subproblem(alloc, reservoirs)?;
+    let version = version(alloc)?;
+    json!(in alloc; {
+        "version": version, "root": root, "nodes": nodes, "subproblems": {"p": stage}
+    })
+}
+
+/// The problem file of a chain of reservoirs with drawn inflows, as compact JSON and a newline.
+#[tactic(auto, unfolding(crate::specs::Generated::generated))]
+pub fn generate(alloc: Global, seed: u64, stages: u32, reservoirs: u32) -> Result<Vec<u8>, Memory>
+    requires stages { (1 ≤ stages) × (stages ≤ 500) }
+    requires reservoirs { (1 ≤ reservoirs) × (reservoirs ≤ 10) }
+    ensures text { IfOk result (λ text. text.items ≡ generated seed stages reservoirs) }
+{
+    let value = problem(alloc, seed, stages, reservoirs)?;
+    let mut text = value.to_vec(alloc)?;
+    text.push(b'\n')?;
+    Ok(text)
+}
