@@ -1,19 +1,16 @@
 -- The graph of a generated problem has no cycle, and all of it is reached.
-use Rattle.std.proofs.Common.{◌≡◌, ℕ, zero, suc, ◌+◌, ◌*◌, ◌/◌, ◌%◌, ◌-◌, ◌<◌, ◌≤◌, ◌⊎◌, inl, inr, ◌==◌, ◌||◌, ◌&&◌, not, ℤ, pos, ◌≤ℤ◌, List, [], ◌∷◌, length, map, get_or, slice_get, replicate, Bool, true, false, cond, nat_lt, int_le, Option, Some, None, option_and_then, unwrap_or, Result, Ok, refl, sym, ap, subst, ◌∙◌, arith}
-use Rattle.std.specs.List.{list_any, find, fold, cons_option, range_with_len}
-use Rattle.std.specs.Int.{int_min, int_max}
-use Rattle.std.proofs.lemmas.Bool.{cases_lt, ne_eqb, lt-ltb, le-leb, ltb-true}
+use Rattle.std.proofs.Common.{◌≡◌, ℕ, zero, suc, ◌+◌, ◌*◌, ◌/◌, ◌%◌, ◌<◌, ◌≤◌, ◌⊎◌, inl, inr, ◌==◌, ◌||◌, not, List, [], ◌∷◌, length, map, get_or, Bool, true, false, nat_lt, None, Ok, refl, ap, subst, ◌∙◌, arith}
+use Rattle.std.specs.List.{list_any, find, range_with_len}
+use Rattle.std.proofs.lemmas.Bool.{cases_lt, ne_eqb, lt-ltb}
 use Rattle.std.proofs.lemmas.Bool.Decides.{nat_tests}
-use Rattle.std.proofs.lemmas.Int.{ints}
 use Rattle.std.proofs.lemmas.List.FromFn.{length-map-range_with_len, get_or-map-range_with_len}
 use Rattle.hp_paths.specs.Paths.{numbers, links_at, within, reached, in_cycle, first_in_cycle, first_unreached}
 use Rattle.hp_paths.specs.Ranks.{ranks, by_rank, longest_from}
 use Rattle.hp_problem.specs.declared.raw.Node.{Node}
 use Rattle.hp_problem.specs.declared.raw.Raw.{Raw}
 use Rattle.hp_problem.specs.Sealed.{graph_of}
-use Rattle.hp_graph.specs.Arranged.{ordered, boxed, arranged, unless_cycle, unless_unreached}
+use Rattle.hp_graph.specs.Arranged.{ordered, unless_cycle, unless_unreached}
 use Rattle.hp_gen.specs.Names.{stage_of}
-use Rattle.hp_gen.proofs.Subproblems.{form}
 use Rattle.hp_gen.proofs.Reading.{node_form, link_form, raw_form}
 
 -- ---- links

@@ -1,7 +1,6 @@
 -- The boxes of a generated problem hold what comes in: all of it is from 0 to 100.
-use Rattle.std.proofs.Common.{◌≡◌, ℕ, zero, suc, ◌*◌, ◌≤◌, ◌==◌, ◌&&◌, not, ℤ, pos, ◌≤ℤ◌, List, [], ◌∷◌, length, map, get_or, slice_get, replicate, Bool, true, false, cond, Option, Some, None, option_and_then, unwrap_or, Result, Ok, refl, sym, ap, subst, ◌∙◌, arith}
-use Rattle.std.specs.List.{list_any, find, fold, cons_option}
-use Rattle.std.specs.Int.{int_min, int_max}
+use Rattle.std.proofs.Common.{◌≡◌, ℕ, zero, suc, ◌≤◌, ◌==◌, ◌&&◌, not, ℤ, pos, ◌≤ℤ◌, List, [], ◌∷◌, length, map, get_or, slice_get, replicate, Bool, true, false, cond, Option, Some, None, option_and_then, unwrap_or, Ok, refl, sym, ap, subst, ◌∙◌, arith}
+use Rattle.std.specs.List.{list_any, fold, cons_option}
 use Rattle.std.proofs.lemmas.Int.{ints, clamps}
 use Rattle.hp_num.specs.Sums.{entry}
 use Rattle.hp_paths.specs.Paths.{numbers}
@@ -13,11 +12,11 @@ use Rattle.hp_problem.specs.Sealed.{Sealed, graph_of, out_lows, out_highs, initi
 use Rattle.hp_graph.specs.declared.side.Side.{Side}
 use Rattle.hp_graph.specs.declared.side.Side.TheVariants.{Low, High}
 use Rattle.hp_graph.specs.Hull.{outer, outermost, ends, end_at, start_at, incoming, hull, given, given_in, encloses, has_gap, first_gap, gap_in, sides}
-use Rattle.hp_graph.specs.Arranged.{unless_gap, with_order, with_boxes, boxed, ordered, arranged}
+use Rattle.hp_graph.specs.Arranged.{unless_gap, with_order, with_boxes, boxed, arranged}
 use Rattle.hp_theory.proofs.Ranges.{int_le-true}
 use Rattle.hp_gen.specs.Stage.{state_name}
-use Rattle.hp_gen.proofs.Subproblems.{form, each, state_list}
-use Rattle.hp_gen.proofs.Reading.{node_form, raw_form}
+use Rattle.hp_gen.proofs.Subproblems.{form, each}
+use Rattle.hp_gen.proofs.Reading.{raw_form}
 use Rattle.hp_gen.proofs.Arranging.{none_found, order_form, ordered_form}
 
 pub record Inside (z : ℤ) : Type 0 where

@@ -9,3 +9,5 @@ pub mod Subproblems
 pub mod Reading
 pub mod Arranging
 pub mod Boxing
+pub mod Basing
+pub mod Accepting

@@ -1,20 +1,18 @@
 -- What the reader makes of the parts of a generated problem.
-use Rattle.std.proofs.Common.{◌≡◌, ℕ, zero, suc, ◌+◌, ◌*◌, ◌/◌, ◌%◌, ◌^◌, ◌-◌, ◌<◌, ◌≤◌, ◌==◌, ℤ, pos, List, [], ◌∷◌, ◌++◌, map, codes, Bool, true, false, cond, nat_lt, nat_le, Option, Some, None, position, bytes_eq, sum, Result, Ok, Err, refl, sym, ap, ◌∙◌, arith}
-use Rattle.std.specs.List.{range_with_len}
-use Rattle.std.proofs.lemmas.Bool.{le-leb, lt-ltb, ltb-true}
-use Rattle.serde_json.specs.Data.{Data, object, Members, Items, no_items, no_members, member}
+use Rattle.std.proofs.Common.{◌≡◌, ℕ, zero, suc, ◌+◌, ◌*◌, ◌%◌, ◌^◌, ◌<◌, ◌≤◌, ◌==◌, ℤ, pos, List, [], ◌∷◌, ◌++◌, map, codes, Bool, true, false, cond, nat_lt, Some, None, position, bytes_eq, sum, Result, Ok, refl, ap, ◌∙◌, arith}
+use Rattle.std.proofs.lemmas.Bool.{le-leb, ltb-true}
+use Rattle.serde_json.specs.Data.{Data, object, Members, no_items, no_members, member}
 use Rattle.serde_json.specs.Events.{members_len}
 use Rattle.serde_json.specs.Find.{get_member}
 use Rattle.serde_json.specs.View.{items_of}
 use Rattle.hp_problem.specs.declared.raw.State.{State}
 use Rattle.hp_problem.specs.declared.raw.Node.{Node}
 use Rattle.hp_problem.specs.declared.raw.Raw.{Raw}
-use Rattle.hp_problem.specs.declared.refusal.Refusal.{Refusal}
 use Rattle.hp_problem.specs.declared.refusal.Part.{Part}
 use Rattle.hp_problem.specs.declared.refusal.Place.{Place}
 use Rattle.hp_problem.specs.declared.refusal.Part.TheVariants as parts
 use Rattle.hp_paths.specs.Paths.{numbers}
-use Rattle.hp_fields.specs.Steps.{◌>>=◌, walk_members, walk_items, walk_list}
+use Rattle.hp_fields.specs.Steps.{walk_members, walk_items}
 use Rattle.hp_fields.specs.Fields as fields
 use Rattle.hp_fields.specs.Limits as limits
 use Rattle.hp_sof.specs.Values as values
@@ -36,7 +34,7 @@ use Rattle.hp_gen.specs.Generated.{initial_values, first_nodes, root, version, p
 use Rattle.hp_gen.proofs.Found.{members_len-from, known_from, member_at}
 use Rattle.hp_gen.proofs.Orders.{reservoir_above, node_above}
 use Rattle.hp_gen.proofs.Subproblems.{form, state_list, subproblem_read}
-use Rattle.hp_gen.proofs.Walked.{walked, members_walk, items_walk, list_walk, appended}
+use Rattle.hp_gen.proofs.Walked.{members_walk, items_walk, list_walk, appended}
 
 -- the type of a value, and of what a step finds
 abbrev TypeOf : {A : Type 0} → A → Type 0
@@ -112,10 +110,13 @@ weight_read p (suc (suc (suc zero))) some few = refl
 weight_read p (suc (suc (suc (suc w)))) some few = absurd (omega arith)
 
 -- where a path may go on after the node i
-abbrev pub link_form : ℕ → ℕ → Transitions
-link_form stages i = cond (nat_lt (stage_of i) stages)
+abbrev pub link_by : Bool → ℕ → Transitions
+link_by b i = cond b
     (record { nodes = (2 * stage_of i) ∷ (2 * stage_of i + 1) ∷ []; weights = made.weight (kind_of i) 0 ∷ made.weight (kind_of i) 1 ∷ []; stop = 0 })
     (record { nodes = []; weights = []; stop = 0 })
+
+abbrev pub link_form : ℕ → ℕ → Transitions
+link_form stages i = link_by (nat_lt (stage_of i) stages) i
 
 module _ (stages : ℕ) (most : stages ≤ 500) (value : ℕ → Data) where
   abbrev pub names : List (List ℕ)

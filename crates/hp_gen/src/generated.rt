@@ -1,8 +1,10 @@
 // The text of a generated problem.
-ghost use Rattle.std.specs.Prelude.{◌≡◌, ◌≤◌, ◌^◌, IfOk};
+ghost use Rattle.std.specs.Prelude.{◌≡◌, ◌≤◌, IfOk, IsOk};
 ghost use Rattle.serde_json.specs.Data.{object};
 ghost use Rattle.serde_json.specs.View.{view, members_view};
 ghost use Rattle.hp_sampler.specs.Drawn.{stream_of, word_in};
+ghost use Rattle.hp_sof.specs.Problem.{problem_at};
+ghost use Rattle.hp_theory.specs.Range.{based};
 ghost use Rattle.hp_gen.specs.Generated.{initial_values, root, version, problem, words, generated};
 
 use crate::names::{reservoir_name, text_of};
@@ -63,6 +65,9 @@ pub fn generate(alloc: Global, seed: u64, stages: u32, reservoirs: u32) -> Resul
     requires stages { (1 ≤ stages) × (stages ≤ 500) }
     requires reservoirs { (1 ≤ reservoirs) × (reservoirs ≤ 10) }
     ensures text { IfOk result (λ text. text.items ≡ generated seed stages reservoirs) }
+    ensures accepted { IfOk result (λ text. IsOk (problem_at text.items)) }
+    ensures base_fits { IfOk result
+        (λ text. IfOk (problem_at text.items) (λ problem. IsOk (based problem))) }
 {
     let value = problem(alloc, seed, stages, reservoirs)?;
     let mut text = value.to_vec(alloc)?;
