@@ -11,3 +11,4 @@ pub mod Arranging
 pub mod Boxing
 pub mod Basing
 pub mod Accepting
+pub mod Worked

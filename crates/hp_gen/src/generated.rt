@@ -59,7 +59,19 @@ fn problem(alloc: Global, seed: u64, stages: u32, reservoirs: u32) -> Result<Val
     })
 }
 
-/// The problem file of a chain of reservoirs with drawn inflows, as compact JSON and a newline.
+/// A problem file to try out and to measure with, as compact JSON with its keys in byte order, and a newline.
+///
+/// It plans a chain of reservoirs over some stages. At each stage there is a dry node and a wet one, of ten realizations
+/// each, and the next stage is three times as often of the same kind as of the other. A reservoir holds 0 to 100 and
+/// begins with 50; it turbines up to 30, and spills; what it lets down comes to the next one at the same stage. All
+/// turbines, and sources at a cost of 5, 20 and 200, carry a load of 25 for each reservoir. All numbers are whole.
+///
+/// The inflows are drawn by stage, kind, realization and reservoir, one word each of the stream 2^33 of ChaCha20
+/// (Bernstein 2008, RFC 8439) with the key of the seed in little-endian order and 24 zero bytes: the word modulo 11 at
+/// a dry node, and 10 plus the word modulo 21 at a wet one.
+///
+/// There are 1 to 500 stages and 1 to 10 reservoirs. The reader accepts the text, and the base cuts of its problem are
+/// in range. [`Memory`] where memory was refused.
 #[tactic(auto, unfolding(crate::specs::Generated::generated))]
 pub fn generate(alloc: Global, seed: u64, stages: u32, reservoirs: u32) -> Result<Vec<u8>, Memory>
     requires stages { (1 ≤ stages) × (stages ≤ 500) }

@@ -5,6 +5,8 @@ mod generated;
 mod names;
 mod nodes;
 mod stage;
+#[cfg(test)]
+mod tests;
 mod words;
 
 pub use generated::generate;
