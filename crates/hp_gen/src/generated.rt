@@ -64,7 +64,8 @@ fn problem(alloc: Global, seed: u64, stages: u32, reservoirs: u32) -> Result<Val
 /// It plans a chain of reservoirs over some stages. At each stage there is a dry node and a wet one, of ten realizations
 /// each, and the next stage is three times as often of the same kind as of the other. A reservoir holds 0 to 100 and
 /// begins with 50; it turbines up to 30, and spills; what it lets down comes to the next one at the same stage. All
-/// turbines, and sources at a cost of 5, 20 and 200, carry a load of 25 for each reservoir. All numbers are whole.
+/// turbines, and sources at a cost of 5, 20 and 200 that give up to 10, 10 and 40 for each reservoir, carry a load of 25
+/// for each reservoir. All numbers are whole.
 ///
 /// The inflows are drawn by stage, kind, realization and reservoir, one word each of the stream 2^33 of ChaCha20
 /// (Bernstein 2008, RFC 8439) with the key of the seed in little-endian order and 24 zero bytes: the word modulo 11 at
