@@ -1,0 +1,129 @@
+-- What the reader makes of the subproblem.
+use Rattle.std.proofs.Common.{◌≡◌, ℕ, zero, suc, ◌*◌, ◌≤◌, pos, List, [], ◌∷◌, ◌++◌, map, codes, replicate, Some, Result, Ok, Err, refl, arith}
+use Rattle.std.specs.List.{flat_map}
+use Rattle.std.specs.Prelude.{⊤}
+use Rattle.hp_problem.specs.declared.raw.State.{State}
+use Rattle.hp_problem.specs.declared.raw.Decision.{Decision}
+use Rattle.hp_problem.specs.declared.raw.Subproblem.{Subproblem}
+use Rattle.hp_problem.specs.declared.refusal.Refusal.{Refusal}
+use Rattle.hp_paths.specs.Paths.{numbers}
+use Rattle.hp_fields.specs.Fields as fields
+use Rattle.hp_fields.specs.Limits as limits
+use Rattle.hp_fields.specs.Steps.{walk_members, walk_items, walk_list}
+use Rattle.hp_subproblem.specs.Boxes as boxes
+use Rattle.hp_subproblem.specs.Constraint as constraint
+use Rattle.hp_subproblem.specs.Decisions as decisions
+use Rattle.hp_subproblem.specs.Function as function
+use Rattle.hp_subproblem.specs.Objective as objective
+use Rattle.hp_subproblem.specs.Randoms as randoms
+use Rattle.hp_subproblem.specs.Roles as roles
+use Rattle.hp_subproblem.specs.Rows as rows
+use Rattle.hp_subproblem.specs.Sides as sides
+use Rattle.hp_subproblem.specs.StageParts as parts
+use Rattle.hp_subproblem.specs.States as states
+use Rattle.hp_subproblem.specs.Variables as variables
+use Rattle.hp_subproblem.specs.Subproblem.{variables_at, number_of, outs_of, few_rows_at, subproblem_of, filled_at, subproblem_at}
+use Rattle.hp_gen.specs.Names.{reservoir_name}
+use Rattle.hp_gen.specs.Stage as stage
+
+abbrev pub state_list : ℕ → List State
+state_list count = map (λ j. record { name = stage.state_name j; initial = pos 50 }) (numbers count)
+
+abbrev no_subproblem : Subproblem
+no_subproblem = record { decisions = []; outs = []; randoms = []; rows = []; constant = pos 0; state_costs = []; random_costs = []; low = []; high = [] }
+
+abbrev or_none : Result Subproblem Refusal → Subproblem
+or_none (Ok s) = s
+or_none (Err e) = no_subproblem
+
+unfoldable pub sub : ℕ → Subproblem
+sub count = or_none (subproblem_at (state_list count) 0 (codes "p") (stage.subproblem count))
+
+-- what unfolds to compute the reader on the subproblem
+unfoldable reading : ⊤
+unfolding sub subproblem_at variables_at number_of outs_of few_rows_at subproblem_of filled_at walk_members walk_items walk_list fields.whole_at fields.key_at fields.present_at fields.object_at fields.array_at fields.string_at limits.name_at limits.limited_at limits.known_at limits.members_at limits.items_at boxes.bound_at boxes.decision_at boxes.incoming_at boxes.box_at boxes.variable_at boxes.boxes_at boxes.lows_of boxes.highs_of constraint.narrowed constraint.bounded constraint.joined_at constraint.constraint_at constraint.constraints_at decisions.decisions_at function.variable_function_at function.raised function.term_at function.terms_at function.constant_at function.coefficient_at function.coefficients_at function.affine_function_at function.function_at objective.costs_at objective.objective_at randoms.random_at randoms.each_random_at randoms.randoms_at roles.taken_at rows.picked rows.row_of sides.ordered_at sides.side_at sides.equal_at sides.greater_at sides.less_at sides.interval_at sides.set_at sides.shifted_side_at sides.shifted_at parts.array_under parts.object_under parts.stage_parts_at states.state_at states.each_state_at states.states_at variables.variable_at variables.names_at stage.variable stage.term stage.affine stage.equal_to stage.row stage.single stage.up_to stage.bound stage.variables_of stage.variables stage.from_above stage.balance_terms stage.power_terms stage.bounds_of stage.constraints stage.objective stage.state stage.program stage.subproblem reservoir_name
+reading = tt
+
+-- ---- the subproblem that is read
+
+abbrev pub decision : List ℕ → ℕ → ℕ → Decision
+decision name high cost = record { name = name; low = pos 0; high = pos high; cost = pos cost }
+
+abbrev pub decision_list : ℕ → List Decision
+decision_list count =
+    flat_map (λ j. decision (stage.outgoing j) 100 0 ∷ decision (stage.turbined j) 30 0 ∷ decision (stage.spilled j) 10000 0 ∷ []) (numbers count)
+    ++ decision (codes "g") (10 * count) 5 ∷ decision (codes "h") (10 * count) 20 ∷ decision (codes "k") (40 * count) 200 ∷ []
+
+abbrev pub form : ℕ → Subproblem
+form count = record {
+  decisions = decision_list count;
+  outs = map (λ j. 3 * j) (numbers count);
+  randoms = map stage.inflow_name (numbers count);
+  rows = (sub count).rows;
+  constant = pos 0;
+  state_costs = replicate count (pos 0);
+  random_costs = replicate count (pos 0);
+  low = replicate count (Some (pos 0));
+  high = replicate count (Some (pos 100));
+}
+
+-- what holds of each number from 1 to 10
+pub each : (P : ℕ → Type 0) → P 1 → P 2 → P 3 → P 4 → P 5 → P 6 → P 7 → P 8 → P 9 → P 10 → (n : ℕ) → 1 ≤ n → n ≤ 10 → P n
+each P a b c d e f g h i j zero low high = absurd (omega arith)
+each P a b c d e f g h i j (suc zero) low high = a
+each P a b c d e f g h i j (suc (suc zero)) low high = b
+each P a b c d e f g h i j (suc (suc (suc zero))) low high = c
+each P a b c d e f g h i j (suc (suc (suc (suc zero)))) low high = d
+each P a b c d e f g h i j (suc (suc (suc (suc (suc zero))))) low high = e
+each P a b c d e f g h i j (suc (suc (suc (suc (suc (suc zero)))))) low high = f
+each P a b c d e f g h i j (suc (suc (suc (suc (suc (suc (suc zero))))))) low high = g
+each P a b c d e f g h i j (suc (suc (suc (suc (suc (suc (suc (suc zero)))))))) low high = h
+each P a b c d e f g h i j (suc (suc (suc (suc (suc (suc (suc (suc (suc zero))))))))) low high = i
+each P a b c d e f g h i j (suc (suc (suc (suc (suc (suc (suc (suc (suc (suc zero)))))))))) low high = j
+each P a b c d e f g h i j (suc (suc (suc (suc (suc (suc (suc (suc (suc (suc (suc n))))))))))) low high = absurd (omega arith)
+
+abbrev Reads : ℕ → Type 0
+Reads count = subproblem_at (state_list count) 0 (codes "p") (stage.subproblem count) ≡ Ok (form count)
+
+reads1 : Reads 1
+unfolding reading
+reads1 = refl
+
+reads2 : Reads 2
+unfolding reading
+reads2 = refl
+
+reads3 : Reads 3
+unfolding reading
+reads3 = refl
+
+reads4 : Reads 4
+unfolding reading
+reads4 = refl
+
+reads5 : Reads 5
+unfolding reading
+reads5 = refl
+
+reads6 : Reads 6
+unfolding reading
+reads6 = refl
+
+reads7 : Reads 7
+unfolding reading
+reads7 = refl
+
+reads8 : Reads 8
+unfolding reading
+reads8 = refl
+
+reads9 : Reads 9
+unfolding reading
+reads9 = refl
+
+reads10 : Reads 10
+unfolding reading
+reads10 = refl
+
+pub subproblem_read : (count : ℕ) → 1 ≤ count → count ≤ 10 → subproblem_at (state_list count) 0 (codes "p") (stage.subproblem count) ≡ Ok (form count)
+subproblem_read = each Reads reads1 reads2 reads3 reads4 reads5 reads6 reads7 reads8 reads9 reads10

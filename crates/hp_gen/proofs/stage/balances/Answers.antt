@@ -1,0 +1,9 @@
+use Rattle.std.proofs.Common.{◌∙◌, ap}
+use Rattle.hp_gen.specs.Stage.{row, balance}
+use Rattle.hp_gen.proofs.Counted.{list_grown}
+use Rattle.hp_gen.proofs.stage.balances.Goals as goal
+
+pub loop-reservoir-preserved : goal.loop-reservoir-preserved
+loop-reservoir-preserved c =
+    list_grown balance c.loop-reservoir.reservoir c.loop-reservoir.list.items c.push.new.self.items c.in_ok-row.field-0 c.in_ok-push.ensures.items c.loop-reservoir.invariant
+    (c.in_ok-row.ensures ∙ ap (row 0) c.in_ok-terms.ensures)

@@ -1,0 +1,38 @@
+-- The text of a generated problem.
+use Rattle.std.specs.Prelude.{ℕ, ◌^◌, List, [], ◌∷◌, ◌++◌, codes}
+use Rattle.serde_json.specs.Data.{Data, Members, object, no_members, member}
+use Rattle.serde_json.specs.Written.{compact_text}
+use Rattle.hp_sampler.specs.Drawn.{stream_of, word_in}
+use Rattle.hp_gen.specs.Listed.{members_from, whole}
+use Rattle.hp_gen.specs.Stage.{state_name, subproblem}
+use Rattle.hp_gen.specs.Nodes.{pair, nodes}
+
+-- each reservoir begins with 50
+abbrev pub initial_values : ℕ → Members
+initial_values count = members_from state_name (λ j. whole 50) 0 count
+
+-- the horizon begins dry as often as wet
+abbrev pub first_nodes : Members
+first_nodes = pair 0 1 1
+
+unfoldable pub root : ℕ → Data
+root count = object (member (codes "state_variables") (object (initial_values count)) (member (codes "successors") (object first_nodes) no_members))
+
+unfoldable pub version : Data
+version = object (member (codes "major") (whole 1) (member (codes "minor") (whole 0) no_members))
+
+-- the problem of so many stages and reservoirs whose inflows come from these words
+unfoldable pub problem : (ℕ → ℕ) → ℕ → ℕ → Data
+problem word stages count = object (
+    member (codes "nodes") (object (nodes word stages count))
+    (member (codes "root") (root count)
+    (member (codes "subproblems") (object (member (codes "p") (subproblem count) no_members))
+    (member (codes "version") version no_members))))
+
+-- the words of a seed: the stream 2^33 of ChaCha20
+abbrev pub words : ℕ → ℕ → ℕ
+words seed = word_in (stream_of seed (2 ^ 33))
+
+-- the compact text of the problem, and a newline
+unfoldable pub generated : ℕ → ℕ → ℕ → List ℕ
+generated seed stages count = compact_text (problem (words seed) stages count) ++ 10 ∷ []

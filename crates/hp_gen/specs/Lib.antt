@@ -1,0 +1,5 @@
+pub mod Names
+pub mod Listed
+pub mod Stage
+pub mod Nodes
+pub mod Generated

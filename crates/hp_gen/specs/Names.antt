@@ -1,0 +1,22 @@
+-- The names in a generated problem.
+use Rattle.std.specs.Prelude.{ℕ, ◌+◌, ◌/◌, ◌%◌, List, [], ◌∷◌, ◌++◌, codes}
+
+-- the last digit of a number
+abbrev pub digit : ℕ → ℕ
+digit n = 48 + n % 10
+
+-- what belongs to the reservoir j: a letter and two digits, from 01
+unfoldable pub reservoir_name : List ℕ → ℕ → List ℕ
+reservoir_name letter j = letter ++ digit ((j + 1) / 10) ∷ digit (j + 1) ∷ []
+
+-- the nodes are numbered stage by stage, the dry one first
+abbrev pub stage_of : ℕ → ℕ
+stage_of i = i / 2 + 1
+
+-- 0 of a dry node, 1 of a wet one
+abbrev pub kind_of : ℕ → ℕ
+kind_of i = i % 2
+
+-- the name of the node i: the stage with three digits, from 001, and the kind
+unfoldable pub node_name : ℕ → List ℕ
+node_name i = codes "s" ++ digit (stage_of i / 100) ∷ digit (stage_of i / 10) ∷ digit (stage_of i) ∷ [] ++ codes "w" ++ digit (kind_of i) ∷ []

@@ -1,0 +1,122 @@
+-- The subproblem of each stage: a chain of reservoirs that serves a load together with three sources of power.
+use Rattle.std.specs.Prelude.{ℕ, ◌-◌, ◌*◌, ℤ, pos, negsuc, List, [], ◌∷◌, ◌++◌, map, codes, nat_lt, if◌then◌else◌}
+use Rattle.std.specs.List.{flat_map}
+use Rattle.serde_json.specs.Data.{Data, number, string, array, object, no_members, member}
+use Rattle.serde_json.specs.Find.{of_integer}
+use Rattle.serde_json.specs.View.{items_of}
+use Rattle.hp_paths.specs.Paths.{numbers}
+use Rattle.hp_gen.specs.Names.{reservoir_name}
+use Rattle.hp_gen.specs.Listed.{members_from, whole}
+
+-- ---- the parts of the format
+
+unfoldable pub variable : List ℕ → Data
+variable name = object (member (codes "name") (string name) no_members)
+
+unfoldable pub term : ℤ → List ℕ → Data
+term coefficient name = object (member (codes "coefficient") (number (of_integer coefficient)) (member (codes "variable") (string name) no_members))
+
+-- the sum of the terms
+unfoldable pub affine : List Data → Data
+affine terms = object (member (codes "constant") (whole 0) (member (codes "terms") (array (items_of terms)) (member (codes "type") (string (codes "ScalarAffineFunction")) no_members)))
+
+unfoldable pub equal_to : ℕ → Data
+equal_to value = object (member (codes "type") (string (codes "EqualTo")) (member (codes "value") (whole value) no_members))
+
+-- the sum of the terms is the value
+unfoldable pub row : ℕ → List Data → Data
+row value terms = object (member (codes "function") (affine terms) (member (codes "set") (equal_to value) no_members))
+
+unfoldable pub single : List ℕ → Data
+single name = object (member (codes "name") (string name) (member (codes "type") (string (codes "Variable")) no_members))
+
+unfoldable pub up_to : ℕ → Data
+up_to high = object (member (codes "lower") (whole 0) (member (codes "type") (string (codes "Interval")) (member (codes "upper") (whole high) no_members)))
+
+-- the variable is from 0 to high
+unfoldable pub bound : List ℕ → ℕ → Data
+bound name high = object (member (codes "function") (single name) (member (codes "set") (up_to high) no_members))
+
+-- ---- variables: of each reservoir what is stored before, what flows in, what is stored after, what is turbined, what is spilled; then three sources of power
+
+abbrev pub incoming : ℕ → List ℕ
+incoming j = reservoir_name (codes "i") j
+
+abbrev pub inflow_name : ℕ → List ℕ
+inflow_name j = reservoir_name (codes "w") j
+
+abbrev pub outgoing : ℕ → List ℕ
+outgoing j = reservoir_name (codes "o") j
+
+abbrev pub turbined : ℕ → List ℕ
+turbined j = reservoir_name (codes "q") j
+
+abbrev pub spilled : ℕ → List ℕ
+spilled j = reservoir_name (codes "z") j
+
+abbrev pub state_name : ℕ → List ℕ
+state_name j = reservoir_name (codes "v") j
+
+unfoldable pub variables_of : ℕ → List Data
+variables_of j = variable (incoming j) ∷ variable (inflow_name j) ∷ variable (outgoing j) ∷ variable (turbined j) ∷ variable (spilled j) ∷ []
+
+unfoldable pub variables : ℕ → List Data
+variables count = flat_map variables_of (numbers count) ++ variable (codes "g") ∷ variable (codes "h") ∷ variable (codes "k") ∷ []
+
+-- ---- constraints
+
+-- what the reservoir above lets down; there is none above the first
+unfoldable pub from_above : ℕ → List Data
+from_above j = if nat_lt 0 j then term (negsuc 0) (turbined (j - 1)) ∷ term (negsuc 0) (spilled (j - 1)) ∷ [] else []
+
+-- the water of the reservoir j: what is stored after, turbined and spilled, less what was stored, what flows in and what comes from above
+unfoldable pub balance_terms : ℕ → List Data
+balance_terms j =
+    term (pos 1) (outgoing j) ∷ term (pos 1) (turbined j) ∷ term (pos 1) (spilled j) ∷ term (negsuc 0) (incoming j) ∷ term (negsuc 0) (inflow_name j) ∷ [] ++ from_above j
+
+abbrev pub balance : ℕ → Data
+balance j = row 0 (balance_terms j)
+
+-- all power
+unfoldable pub power_terms : ℕ → List Data
+power_terms count = map (λ j. term (pos 1) (turbined j)) (numbers count) ++ term (pos 1) (codes "g") ∷ term (pos 1) (codes "h") ∷ term (pos 1) (codes "k") ∷ []
+
+-- the load is 25 for each reservoir
+abbrev pub load : ℕ → Data
+load count = row (25 * count) (power_terms count)
+
+unfoldable pub bounds_of : ℕ → List Data
+bounds_of j = bound (incoming j) 100 ∷ bound (outgoing j) 100 ∷ bound (turbined j) 30 ∷ bound (spilled j) 10000 ∷ []
+
+unfoldable pub constraints : ℕ → List Data
+constraints count =
+    map balance (numbers count) ++ load count ∷ [] ++ flat_map bounds_of (numbers count)
+    ++ bound (codes "g") (10 * count) ∷ bound (codes "h") (10 * count) ∷ bound (codes "k") (40 * count) ∷ []
+
+-- ---- objective, states and random variables
+
+unfoldable pub objective : Data
+objective = object (
+    member (codes "function") (affine (term (pos 5) (codes "g") ∷ term (pos 20) (codes "h") ∷ term (pos 200) (codes "k") ∷ []))
+    (member (codes "sense") (string (codes "min")) no_members))
+
+unfoldable pub state : ℕ → Data
+state j = object (member (codes "in") (string (incoming j)) (member (codes "out") (string (outgoing j)) no_members))
+
+abbrev pub states : ℕ → Data
+states count = object (members_from state_name state 0 count)
+
+abbrev pub random_variables : ℕ → List Data
+random_variables count = map (λ j. string (inflow_name j)) (numbers count)
+
+unfoldable pub program : ℕ → Data
+program count = object (
+    member (codes "constraints") (array (items_of (constraints count)))
+    (member (codes "objective") objective
+    (member (codes "variables") (array (items_of (variables count))) no_members)))
+
+unfoldable pub subproblem : ℕ → Data
+subproblem count = object (
+    member (codes "random_variables") (array (items_of (random_variables count)))
+    (member (codes "state_variables") (states count)
+    (member (codes "subproblem") (program count) no_members)))

@@ -1,0 +1,12 @@
+//! Generated problems: chains of reservoirs with drawn inflows.
+#![tactic(auto)]
+
+mod generated;
+mod names;
+mod nodes;
+mod stage;
+#[cfg(test)]
+mod tests;
+mod words;
+
+pub use generated::generate;

@@ -1,0 +1,51 @@
+// Names of nodes and of what belongs to a reservoir.
+ghost use Rattle.std.specs.Prelude.{◌≡◌, ◌+◌, ◌<◌, ◌≤◌, [], ◌∷◌, IsAscii};
+ghost use Rattle.hp_gen.specs.Names.{digit, reservoir_name, node_name};
+
+// The last digit of a number.
+fn digit(number: u32) -> u8
+    ensures value { result ≡ digit number }
+    ensures ascii { result < 128 }
+{
+    b'0' + (number % 10) as u8
+}
+
+// What belongs to a reservoir: a letter and two digits, from 01.
+#[tactic(auto, unfolding(crate::specs::Names::reservoir_name))]
+pub(crate) fn reservoir_name(letter: u8, reservoir: u32) -> [u8; 3]
+    requires letter { letter < 128 }
+    requires few { reservoir < 10 }
+    ensures value { result ≡ reservoir_name (letter ∷ []) reservoir }
+    ensures ascii { IsAscii result }
+{
+    [letter, digit((reservoir + 1) / 10), digit(reservoir + 1)]
+}
+
+// The name of a node: its stage with three digits, from 001, and its kind.
+#[tactic(auto, unfolding(crate::specs::Names::node_name))]
+pub(crate) fn node_name(node: u32) -> [u8; 6]
+    requires { node < 2000 }
+    ensures value { result ≡ node_name node }
+    ensures ascii { IsAscii result }
+{
+    let stage = node / 2 + 1;
+    [
+        b's',
+        digit(stage / 100),
+        digit(stage / 10),
+        digit(stage),
+        b'w',
+        digit(node % 2),
+    ]
+}
+
+// A name as text.
+pub(crate) fn text_of(name: &[u8]) -> &str
+    requires { IsAscii name.now }
+    ensures { result.now ≡ name.now }
+{
+    let Ok(text) = str::from_utf8(name) else {
+        unreachable!()
+    };
+    text
+}
