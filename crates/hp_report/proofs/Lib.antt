@@ -1,2 +1,4 @@
+pub mod NamedLines
 pub mod NumberedLines
 pub mod SoundLines
+pub mod SoundTraces

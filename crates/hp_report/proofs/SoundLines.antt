@@ -26,7 +26,7 @@ use Rattle.hp_report.specs.SoundLines.{before_lines, lines_of, first_word, Sound
 abbrev pub printable : List ℕ → Bool
 printable line = list_all (λ b. nat_lt 10 b) line
 
-printable-append : (xs ys : List ℕ) → printable xs ≡ true → printable ys ≡ true → printable (xs ++ ys) ≡ true
+pub printable-append : (xs ys : List ℕ) → printable xs ≡ true → printable ys ≡ true → printable (xs ++ ys) ≡ true
 printable-append xs ys h k = list_all-append (λ b. nat_lt 10 b) xs ys ∙ both (printable xs) (printable ys) h k
 
 glyph_printable : (upper : Bool) (d : ℕ) → nat_lt 10 (digit_glyph upper d) ≡ true
@@ -50,7 +50,7 @@ number_printable : (z : ℤ) → printable (signed_decimal z) ≡ true
 number_printable (pos n) = decimal_printable n
 number_printable (negsuc n) = both (nat_lt 10 45) (printable (decimal (suc n))) refl (decimal_printable (suc n))
 
-word_printable : (z : ℤ) → printable (word z) ≡ true
+pub word_printable : (z : ℤ) → printable (word z) ≡ true
 word_printable z = printable-append (codes " ") (signed_decimal z) refl (number_printable z)
 
 words_printable : (zs : List ℤ) → printable (flat_map word zs) ≡ true
@@ -87,7 +87,7 @@ names_printable : (bs : List ℕ) → printable (flat_map escaped bs) ≡ true
 names_printable [] = refl
 names_printable (b ∷ bs) = printable-append (escaped b) (flat_map escaped bs) (escaped_printable b) (names_printable bs)
 
-name_printable : (name : List ℕ) → printable (json_string name) ≡ true
+pub name_printable : (name : List ℕ) → printable (json_string name) ≡ true
 name_printable name = printable-append (codes "\"" ++ flat_map escaped name) (codes "\"") (printable-append (codes "\"") (flat_map escaped name) refl (names_printable name)) refl
 
 -- a printable line ends at the newline behind it
@@ -102,23 +102,23 @@ one_line (b ∷ bs) rest h =
 
 module _ (p : Problem) where
   -- before sound lines the text is sound too
-  abbrev Good : List ℕ → Type 0
+  abbrev pub Good : List ℕ → Type 0
   Good text = (rest : List ℕ) → SoundLines p rest → SoundLines p (text ++ rest)
 
-  good_line : (line : List ℕ) → printable line ≡ true → SoundLine p line → Good (line ++ codes "\n")
+  pub good_line : (line : List ℕ) → printable line ≡ true → SoundLine p line → Good (line ++ codes "\n")
   good_line line h s rest r =
       let e : lines_of ((line ++ codes "\n") ++ rest) ≡ line ∷ lines_of rest = ap lines_of (append_assoc line (codes "\n") rest) ∙ one_line line rest h in
       subst (All (SoundLine p)) (sym e) (All-cons (SoundLine p) line (lines_of rest) s r)
 
-  good_append : (a b : List ℕ) → Good a → Good b → Good (a ++ b)
+  pub good_append : (a b : List ℕ) → Good a → Good b → Good (a ++ b)
   good_append a b f g rest r = subst (SoundLines p) (sym (append_assoc a b rest)) (f (b ++ rest) (g rest r))
 
-  good_numbered : {A : Type 0} (text : ℕ → A → List ℕ) → ((i : ℕ) (x : A) → Good (text i x)) → (i : ℕ) (xs : List A) → Good (numbered text i xs)
+  pub good_numbered : {A : Type 0} (text : ℕ → A → List ℕ) → ((i : ℕ) (x : A) → Good (text i x)) → (i : ℕ) (xs : List A) → Good (numbered text i xs)
   good_numbered text f i [] = λ rest r. r
   good_numbered text f i (x ∷ xs) = good_append (text i x) (numbered text (suc i) xs) (f i x) (good_numbered text f (suc i) xs)
 
   -- a line whose first letter is none of those of `cut`, `bound` and `iteration`
-  plain_line : (line : List ℕ) (letter : ℕ) → get_or (first_word line) 0 0 ≡ letter → letter ≢ 99 → letter ≢ 98 → letter ≢ 105 → SoundLine p line
+  pub plain_line : (line : List ℕ) (letter : ℕ) → get_or (first_word line) 0 0 ≡ letter → letter ≢ 99 → letter ≢ 98 → letter ≢ 105 → SoundLine p line
   plain_line line letter e c b i = record {
     cut = λ h. absurd (c (sym e ∙ ap (λ w. get_or w 0 0) h));
     bound = λ h. absurd (b (sym e ∙ ap (λ w. get_or w 0 0) h));
@@ -145,7 +145,7 @@ module _ (p : Problem) where
       (good_line (codes "hydroplan 1") refl (plain_line (codes "hydroplan 1") 104 refl (omega arith) (omega arith) (omega arith)))
       (good_line (codes "scale 16777216") refl (plain_line (codes "scale 16777216") 115 refl (omega arith) (omega arith) (omega arith)))
 
-  good_head : (raw : Raw) → Good (head_text raw)
+  pub good_head : (raw : Raw) → Good (head_text raw)
   unfolding head_text
   good_head raw = good_append (title ++ numbered state_line 0 raw.states) (numbered node_line 0 raw.nodes)
       (good_append title (numbered state_line 0 raw.states) good_title (good_numbered state_line good_state 0 raw.states)) (good_numbered node_line good_node 0 raw.nodes)
@@ -175,7 +175,7 @@ module _ (p : Problem) where
       let rest : (k : ℕ) → All (Holds p (suc m + k)) (get_or lists k []) = λ k. subst (λ (i : ℕ). All (Holds p i) (get_or lists k [])) (omega arith) (h (suc k)) in
       good_append (node_cuts m cuts) (numbered node_cuts (suc m) lists) (good_cuts m 0 cuts first) (good_lists (suc m) lists rest)
 
-  good_bound : (b : ℤ) → Under p b → Good (bound_line b)
+  pub good_bound : (b : ℤ) → Under p b → Good (bound_line b)
   good_bound b h =
       let line : List ℕ = codes "bound" ++ word b in
       good_line line (printable-append (codes "bound") (word b) refl (word_printable b))

@@ -6,8 +6,10 @@ mod check;
 mod cuts;
 mod head;
 mod iterations;
+mod traces;
 mod train;
 
 pub use base::base_report;
 pub use check::check_report;
+pub use traces::trace_report;
 pub use train::train_report;

@@ -1,0 +1,4 @@
+pub mod Amounts
+pub mod Following
+pub mod Tracing
+pub mod Numbering

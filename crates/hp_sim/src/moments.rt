@@ -1,0 +1,187 @@
+// What is decided at one moment of a run.
+ghost use Rattle.std.specs.Prelude.{◌≡◌, ◌<◌, ◌≤◌, ◌+◌, ◌^◌, ℕ, ℤ, ◌+ℤ◌, List, length, nat_abs, true, Contains, IfOk};
+ghost use Rattle.hp_problem.specs.Limits.{are_values};
+ghost use Rattle.hp_problem.specs.Parts.{successors_at};
+ghost use Rattle.hp_problem.specs.Sealed.{subproblem_of};
+ghost use Rattle.hp_theory.specs.Fit.{Fit};
+ghost use Rattle.hp_theory.specs.Problem.{S, node_at};
+ghost use Rattle.hp_theory.specs.Tree.{InBox};
+ghost use Rattle.hp_theory.specs.View.{problem_of};
+ghost use Rattle.hp_lp.specs.Chained.{solving};
+ghost use Rattle.hp_lp.specs.Ready.{AreReady};
+ghost use Rattle.hp_forward.specs.Costing.{residuals_of, stage_cost_of};
+ghost use Rattle.hp_forward.specs.Given.{GivesSeen, IsStateAt, OnNoStage, Refutes};
+ghost use Rattle.hp_forward.specs.declared.deciding.Decided.{Decided};
+ghost use Rattle.hp_sim.specs.Tracing.{decide_at, longer, step_on, traced};
+
+use hp_cut::Pools;
+use hp_forward::{Decided, StageFault, Trace, TraceStep, decide, residual, stage_cost};
+use hp_lp::Starts;
+use hp_num::{List, Memory};
+use hp_problem::{Moment, Problem};
+use hp_solver::{Kind, Solver};
+use std::alloc::Global;
+
+/// The same items in a list of their own.
+pub(crate) fn copied<T: Copy + Drop>(alloc: Global, items: &[T]) -> Result<List<T>, Memory>
+    ensures { IfOk result (λ found. found ≡ items.now) }
+{
+    let mut found = Vec::new(alloc);
+    found.extend_from_slice(items)?;
+    Ok(List::from_vec(found))
+}
+
+/// The number of rows of a node.
+fn row_count(problem: &Problem, node: u32) -> u32
+    requires { node < length problem.now.raw.nodes }
+    ensures { result ≡ length (node_at (problem_of problem.now) node).rows }
+{
+    let _ = problem.raw();
+    problem.sub(node).rows.len() as u32
+}
+
+/// By how much decisions miss each row of a node.
+fn residuals(
+    alloc: Global,
+    problem: &Problem,
+    node: u32,
+    decisions: &[i128],
+    state: &[i128],
+    values: &[i64],
+) -> Result<List<i128>, Memory>
+    requires known { node < length problem.now.raw.nodes }
+    requires decisions { InBox S (node_at (problem_of problem.now) node).decision_low (node_at (problem_of problem.now) node).decision_high decisions.now }
+    requires state { IsStateAt problem.now node state.now }
+    requires values { are_values (subproblem_of problem.now node) values.now ≡ true }
+    ensures { IfOk result (λ found. found ≡ residuals_of (node_at (problem_of problem.now) node) decisions.now state.now values.now) }
+{
+    let mut found = List::new(alloc);
+    for row in 0..row_count(problem, node) {
+        found.push(residual(problem, node, row, decisions, state, values))?;
+    }
+    Ok(found)
+}
+
+/// What a stage costs.
+fn cost(problem: &Problem, node: u32, decisions: &[i128], state: &[i128], values: &[i64]) -> i128
+    requires known { node < length problem.now.raw.nodes }
+    requires decisions { InBox S (node_at (problem_of problem.now) node).decision_low (node_at (problem_of problem.now) node).decision_high decisions.now }
+    requires state { IsStateAt problem.now node state.now }
+    requires values { are_values (subproblem_of problem.now node) values.now ≡ true }
+    ensures value { result ≡ stage_cost_of (node_at (problem_of problem.now) node) decisions.now state.now values.now }
+    ensures small { nat_abs result ≤ 2 ^ 115 }
+{
+    let _ = problem.raw();
+    let _ = problem.sub(node);
+    stage_cost(problem, node, decisions, state, values)
+}
+
+/// The step of what was decided at a moment.
+fn traced(
+    alloc: Global,
+    problem: &Problem,
+    moment: &Moment,
+    state: List<i128>,
+    kind: Kind,
+    decisions: List<i128>,
+) -> Result<TraceStep, Memory>
+    requires known { moment.now.node < length problem.now.raw.nodes }
+    requires decisions { InBox S (node_at (problem_of problem.now) moment.now.node).decision_low (node_at (problem_of problem.now) moment.now.node).decision_high decisions }
+    requires state { IsStateAt problem.now moment.now.node state }
+    requires values { are_values (subproblem_of problem.now moment.now.node) moment.now.values ≡ true }
+    ensures value { IfOk result (λ step. (d : Decided) → d.kind ≡ kind → d.decisions ≡ decisions → step ≡ traced problem.now moment.now state d) }
+    ensures small { IfOk result (λ step. nat_abs step.cost ≤ 2 ^ 115) }
+{
+    let node = moment.node;
+    let values = moment.values.as_slice();
+    let residuals = residuals(
+        alloc,
+        problem,
+        node,
+        decisions.as_slice(),
+        state.as_slice(),
+        values,
+    )?;
+    let cost = cost(
+        problem,
+        node,
+        decisions.as_slice(),
+        state.as_slice(),
+        values,
+    );
+    Ok(TraceStep {
+        node,
+        kind,
+        state,
+        values: copied(alloc, values)?,
+        decisions,
+        residuals,
+        cost,
+    })
+}
+
+/// The cost of stages with one more.
+fn sum(costs: i128, cost: i128) -> i128
+    requires costs { nat_abs costs ≤ 2 ^ 126 }
+    requires cost { nat_abs cost ≤ 2 ^ 115 }
+    ensures { result ≡ costs +ℤ cost }
+{
+    costs + cost
+}
+
+/// Adds a step to a trace.
+fn add_step(trace: &mut Trace, step: TraceStep) -> Result<(), Memory>
+    requires costs { nat_abs trace.old.cost ≤ 2 ^ 126 }
+    requires cost { nat_abs step.cost ≤ 2 ^ 115 }
+    ensures { IfOk result (λ _. trace.new ≡ longer trace.old step) }
+{
+    trace.cost = sum(trace.cost, step.cost);
+    trace.steps.push(step)
+}
+
+/// Adds a moment to a trace that has come to a state, and gives the state that leaves the moment's node.
+pub(crate) fn step_on<V: Solver>(
+    alloc: Global,
+    problem: &Problem,
+    pools: &Pools,
+    solver: &V,
+    starts: &Starts<V>,
+    run: u32,
+    trace: &mut Trace,
+    state: List<i128>,
+    moment: &Moment,
+) -> Result<List<i128>, StageFault>
+    requires known { moment.now.node < length problem.now.raw.nodes }
+    requires values { are_values (subproblem_of problem.now moment.now.node) moment.now.values ≡ true }
+    requires state { IsStateAt problem.now moment.now.node state }
+    requires fit { Fit (problem_of problem.now) (length problem.now.raw.nodes) pools.now.lists }
+    requires ready { AreReady (V.started solver.now) (V.suits solver.now) problem.now starts.now.items }
+    requires room { nat_abs trace.old.cost ≤ 2 ^ 126 }
+    ensures value { GivesSeen (λ next. (trace.new, next)) result (step_on problem.now (decide_at (solving (V.started solver.now) (V.begun solver.now) (V.next solver.now)) problem.now pools.now.lists run) trace.old state moment.now) }
+    ensures next { IfOk result (λ next. (m : ℕ) → Contains (successors_at problem.now.raw moment.now.node) m
+        → IsStateAt problem.now m next) }
+    ensures small { IfOk result (λ _. nat_abs trace.new.cost ≤ nat_abs trace.old.cost + 2 ^ 115) }
+    ensures dead { OnNoStage result (Refutes problem.now) }
+{
+    let decided = decide(
+        alloc,
+        problem,
+        pools,
+        solver,
+        starts,
+        run,
+        moment.node,
+        moment.values.as_slice(),
+        state.as_slice(),
+    )?;
+    let step = traced(
+        alloc,
+        problem,
+        moment,
+        state,
+        decided.kind,
+        decided.decisions,
+    )?;
+    add_step(trace, step)?;
+    Ok(decided.next)
+}

@@ -1,0 +1,95 @@
+// Traces of drawn scenarios, and of those that a problem stores.
+ghost use Rattle.std.specs.Prelude.{◌≡◌, ◌≤◌, length, All, IfOk};
+ghost use Rattle.hp_theory.specs.Fit.{Fit};
+ghost use Rattle.hp_theory.specs.View.{problem_of};
+ghost use Rattle.hp_lp.specs.Chained.{solving};
+ghost use Rattle.hp_lp.specs.Ready.{AreReady};
+ghost use Rattle.hp_forward.specs.Given.{Gives, OnNoStage, Refutes};
+ghost use Rattle.hp_sim.specs.Runs.{IsRun, drawn_from};
+ghost use Rattle.hp_sim.specs.Tracing.{AreKnown, traces_of};
+
+use crate::runs::{drawn, trace_of};
+use hp_cut::Pools;
+use hp_forward::{StageFault, Trace};
+use hp_lp::Starts;
+use hp_num::List;
+use hp_problem::{Moment, Problem};
+use hp_solver::Solver;
+use std::alloc::Global;
+
+/// The traces of drawn scenarios, from scenario 0 on: of each step its node and values, the incoming state, what is
+/// decided there over these pools, by how much that misses each row, and what the stage costs; and the sum of these
+/// costs. States, decisions, residuals and costs are at scale 2^24, values are whole.
+///
+/// Scenario i follows the path that the seed and stream 2^32 + i draw, from the initial state, and each step is decided
+/// once, as [`hp_forward::decide`] does it. What is ready was made for this problem and this solver.
+///
+/// One trace per scenario, with one step per node of its path. NoStage exactly at the first step, in order of
+/// scenarios, where no decisions exist, as the multipliers that it carries show; its `run` is the number of the
+/// scenario. Memory where memory was refused.
+pub fn simulate<V: Solver>(
+    alloc: Global,
+    problem: &Problem,
+    pools: &Pools,
+    solver: &V,
+    starts: &Starts<V>,
+    seed: u64,
+    count: u32,
+) -> Result<List<Trace>, StageFault>
+    requires fit { Fit (problem_of problem.now) (length problem.now.raw.nodes) pools.now.lists }
+    requires ready { AreReady (V.started solver.now) (V.suits solver.now) problem.now starts.now.items }
+    ensures value { Gives result (traces_of (solving (V.started solver.now) (V.begun solver.now) (V.next solver.now)) problem.now pools.now.lists (drawn_from problem.now seed 0 count)) }
+    ensures known { IfOk result (All (AreKnown problem.now)) }
+    ensures dead { OnNoStage result (Refutes problem.now) }
+{
+    let mut traces = List::new(alloc);
+    for scenario in 0..count {
+        let run = drawn(alloc, problem, seed, scenario)?;
+        traces.push(trace_of(
+            alloc,
+            problem,
+            pools,
+            solver,
+            starts,
+            scenario,
+            run.as_slice(),
+        )?)?;
+    }
+    Ok(traces)
+}
+
+/// The scenarios that a problem stores.
+fn stored(problem: &Problem) -> &[List<Moment>]
+    ensures value { result.now ≡ problem.now.raw.scenarios }
+    ensures runs { All (IsRun problem.now) result.now }
+    ensures few { length result.now ≤ 1000 }
+{
+    problem.raw().scenarios.as_slice()
+}
+
+/// The traces of the scenarios that a problem stores, in their order and with their own values; the rest is as in
+/// [`simulate`].
+///
+/// What is ready was made for this problem and this solver. NoStage exactly at the first step, in order of scenarios,
+/// where no decisions exist, with the number of the scenario as its `run`. Memory where memory was refused.
+pub fn validate<V: Solver>(
+    alloc: Global,
+    problem: &Problem,
+    pools: &Pools,
+    solver: &V,
+    starts: &Starts<V>,
+) -> Result<List<Trace>, StageFault>
+    requires fit { Fit (problem_of problem.now) (length problem.now.raw.nodes) pools.now.lists }
+    requires ready { AreReady (V.started solver.now) (V.suits solver.now) problem.now starts.now.items }
+    ensures value { Gives result (traces_of (solving (V.started solver.now) (V.begun solver.now) (V.next solver.now)) problem.now pools.now.lists problem.now.raw.scenarios) }
+    ensures known { IfOk result (All (AreKnown problem.now)) }
+    ensures dead { OnNoStage result (Refutes problem.now) }
+{
+    let scenarios = stored(problem);
+    let mut traces = List::new(alloc);
+    for scenario in 0..scenarios.len() as u32 {
+        let run = scenarios[scenario as usize].as_slice();
+        traces.push(trace_of(alloc, problem, pools, solver, starts, scenario, run)?)?;
+    }
+    Ok(traces)
+}
