@@ -251,8 +251,11 @@ module _ {Start Chain : Type 0} (v : Solving Start Chain) (bytes : List ℕ) (b 
       let load : loaded_for bytes b seed batch kept ≡ Ok o = known (λ k. loaded_for bytes b seed batch k ≡ Ok o) old.reads kept there has in
       let same_o : o ≡ o' = same_ok o o' (sym load ∙ load') in
       when_both A r (new.reads ≡ option_map (λ k. grown_journal (sha256 bytes) seed o k (iterations v b.problem seed count o).lists) mid.reads) (Quiet new) ((new.reads ≡ Some (grown_journal (sha256 bytes) seed o' kept (iterations v b.problem seed count o').lists)) × Quiet new) reads quiet
-      (λ e q. (subst (λ (x : Outcome). new.reads ≡ Some (grown_journal (sha256 bytes) seed x kept (iterations v b.problem seed count x).lists)) same_o
-          (e ∙ ap (option_map (λ k. grown_journal (sha256 bytes) seed o k (iterations v b.problem seed count o).lists)) (same ∙ there)), q)))
+      (λ e q. (
+        subst (λ (x : Outcome). new.reads ≡ Some (grown_journal (sha256 bytes) seed x kept (iterations v b.problem seed count x).lists)) same_o
+            (e ∙ ap (option_map (λ k. grown_journal (sha256 bytes) seed o k (iterations v b.problem seed count o).lists)) (same ∙ there)),
+        q,
+      )))
 
 -- a count that rose later rose
 pub rose_later : (a b c : ℕ) → a ≤ b → Rose b c → Rose a c

@@ -71,7 +71,10 @@ fn push_status(alloc: Global, out: &mut Vec<u8>, status: &Status) -> Result<(), 
 {
     match status {
         Status::Done => Ok(()),
-        Status::Usage => push_bytes(out, b"usage: base, train JOURNAL SEED COUNT [BATCH], check JOURNAL"),
+        Status::Usage => push_bytes(
+            out,
+            b"usage: base, train JOURNAL SEED COUNT [BATCH], check JOURNAL",
+        ),
         Status::ReadFault => push_bytes(out, b"problem could not be read"),
         Status::TooLong => push_bytes(out, b"problem is longer than 16777216 bytes"),
         Status::ProblemRefused(refusal) => push_refusal(out, *refusal),

@@ -147,7 +147,6 @@ pub fn run<R: Threads + Sync, I: Source, D: Disk, O: Sink>(
     run_with(rt, alloc, words, problem, journal, out, &DualSimplex)
 }
 
-
 fn act<R: Threads + Sync, I: Source, D: Disk, O: Sink, V: Solver>(
     rt: &R,
     alloc: Global,

@@ -149,11 +149,13 @@ fn train_on<R: Threads + Sync, D: Disk, V: Solver>(
     ) {
         Ok(()) => Ok(()),
         Err(TrainFault::NoStage(dead)) => Err(Status::NoStage(dead)),
-        Err(TrainFault::Range {
-            iteration,
-            node,
-            realization,
-        }) => Err(Status::Range {
+        Err(
+            TrainFault::Range {
+                iteration,
+                node,
+                realization,
+            },
+        ) => Err(Status::Range {
             iteration,
             node,
             realization,

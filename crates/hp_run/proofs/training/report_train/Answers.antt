@@ -48,7 +48,7 @@ train_on-requires-clause-unborn g c κs within = λ none.
     let ready : IfSome old.reads (λ kept. ready_for p b.pools (sha256 bytes) a.seed a.count a.batch kept ≡ Ok o) = subst (λ (x : List ℕ). IfSome old.reads (λ kept. ready_for p b.pools x a.seed a.count a.batch kept ≡ Ok o)) digest c.in_ok-loaded.ensures.value in
     let loads : IfSome old.reads (λ kept. loaded_for bytes b a.seed a.batch kept ≡ Ok o) = told old.reads (λ kept there. loaded_as v bytes b a.seed a.count a.batch c.requires.read kept o (known (λ k. ready_for p b.pools (sha256 bytes) a.seed a.count a.batch k ≡ Ok o) old.reads kept there ready)) in
     subst (λ (r : Option (List ℕ)). IfSome r IsUnborn) (sym c.load_for.ensures.stays.reads) (told old.reads (λ kept there.
-        loaded_unborn p b.pools (sha256 bytes) (Some a.seed) a.batch kept o (outcome_as bytes b a.seed a.batch kept o (known (λ k. loaded_for bytes b a.seed a.batch k ≡ Ok o) old.reads kept there loads)) none))
+    loaded_unborn p b.pools (sha256 bytes) (Some a.seed) a.batch kept o (outcome_as bytes b a.seed a.batch kept o (known (λ k. loaded_for bytes b a.seed a.batch k ≡ Ok o) old.reads kept there loads)) none))
 
 pub train_on-requires-clause-shut : goal.train_on-requires-clause-shut
 train_on-requires-clause-shut g c κs within = λ so.
@@ -64,7 +64,7 @@ train_on-requires-clause-shut g c κs within = λ so.
     let ready : IfSome old.reads (λ kept. ready_for p b.pools (sha256 bytes) a.seed a.count a.batch kept ≡ Ok o) = subst (λ (x : List ℕ). IfSome old.reads (λ kept. ready_for p b.pools x a.seed a.count a.batch kept ≡ Ok o)) digest c.in_ok-loaded.ensures.value in
     let loads : IfSome old.reads (λ kept. loaded_for bytes b a.seed a.batch kept ≡ Ok o) = told old.reads (λ kept there. loaded_as v bytes b a.seed a.count a.batch c.requires.read kept o (known (λ k. ready_for p b.pools (sha256 bytes) a.seed a.count a.batch k ≡ Ok o) old.reads kept there ready)) in
     subst (λ (r : Option (List ℕ)). IfSome r (IsShutAt o.end)) (sym c.load_for.ensures.stays.reads) (told old.reads (λ kept there.
-        loaded_shut p b.pools (sha256 bytes) (Some a.seed) a.batch kept o (outcome_as bytes b a.seed a.batch kept o (known (λ k. loaded_for bytes b a.seed a.batch k ≡ Ok o) old.reads kept there loads)) so))
+    loaded_shut p b.pools (sha256 bytes) (Some a.seed) a.batch kept o (outcome_as bytes b a.seed a.batch kept o (known (λ k. loaded_for bytes b a.seed a.batch k ≡ Ok o) old.reads kept there loads)) so))
 
 pub returns-in_err-train_on-clause-lacks : goal.returns-in_err-train_on-clause-lacks
 returns-in_err-train_on-clause-lacks g c =
