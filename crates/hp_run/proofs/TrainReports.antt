@@ -83,7 +83,7 @@ module _ {Start Chain : Type 0} (v : Solving Start Chain) (bytes : List ℕ) (b 
   unfolding report_at
   train_at kept = ap (λ (r : Result WithBase Refusal). or_refused r >>= report_by v task bytes kept) is
 
-  ended_at : (kept : List ℕ) (o : Outcome) → ready kept ≡ Ok o → report_at v task bytes kept ≡ report_trained b.problem o (iterations v b.problem seed count o)
+  pub ended_at : (kept : List ℕ) (o : Outcome) → ready kept ≡ Ok o → report_at v task bytes kept ≡ report_trained b.problem o (iterations v b.problem seed count o)
   unfolding trained_for
   ended_at kept o h =
       train_at kept

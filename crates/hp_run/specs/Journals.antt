@@ -1,5 +1,5 @@
 -- What a run leaves of the journal.
-use Rattle.std.specs.Prelude.{◌≡◌, ◌≤◌, ℕ, Bool, true, false, List, [], Option, Some, None, IfSome, Result, Ok, Err, ⊤}
+use Rattle.std.specs.Prelude.{◌≡◌, ◌≤◌, ◌<◌, ◌^◌, ℕ, Bool, true, false, List, [], Option, Some, None, IfSome, Result, Ok, Err, ⊤}
 use Rattle.std.specs.Io.KnownBytes.{Appends}
 use Rattle.sha2.specs.Sha256.{sha256}
 use Rattle.hp_outside.specs.Disks.{Store}
@@ -92,7 +92,7 @@ LeavesMine v bytes kept old new Check = ⊤
 abbrev pub IsResumed : {Start Chain : Type 0} → Solving Start Chain → Status → List ℕ → List ℕ → Store → Option (List ℕ) → Option (List ℕ) → Task → Type 0
 IsResumed v status bytes kept new taken taken_now Base = ⊤
 IsResumed v status bytes kept new taken taken_now (Train seed count batch) =
-    (b : WithBase) (j : ℕ) → based_at bytes ≡ Ok b
+    (b : WithBase) (j : ℕ) → based_at bytes ≡ Ok b → seed < 2 ^ 64
     → (let t : Title = new_title (sha256 bytes) seed batch in
     let c : Continued = unstopped v b.problem b.pools t count in
     too_much b.problem count t.batch ≡ None → Mine t (payloads c.lists) j kept

@@ -3,7 +3,7 @@ ghost use Rattle.std.specs.Prelude.{◌≡◌, true};
 ghost use Rattle.hp_outside.specs.Disks.{Stays};
 ghost use Rattle.hp_lp.specs.Chained.{solving};
 ghost use Rattle.hp_run.specs.Causes.{Explains, Completes, Sounds, writes_nothing};
-ghost use Rattle.hp_run.specs.Journals.{Grows, IfAsked, LeavesMine, OfTask, OnlyReads};
+ghost use Rattle.hp_run.specs.Journals.{Grows, IfAsked, IsResumed, LeavesMine, OfTask, OnlyReads};
 ghost use Rattle.hp_run.specs.Outcome.{ReadsJournal};
 ghost use Rattle.hp_run.specs.OwnSolver.{own_solver};
 ghost use Rattle.hp_run.specs.Words.{asked};
@@ -26,7 +26,8 @@ use std::thread::Threads;
 /// `cause` says what each status tells of the words, the source, the disk and the sink; `complete` which status comes where
 /// no device fails; `sound` that each cut and each bound in what was written hold for every decision tree and every policy,
 /// in any fraction of a unit, over any disk and for every solver; `unwritten`, `unread`, `journal` and `journal_unread` what
-/// is left as it was; `grown` what training leaves of the journal; and `any_moment` what a crash at any moment leaves of it.
+/// is left as it was; `grown` what training leaves of the journal; `any_moment` what a crash at any moment leaves of it; and
+/// `resumed` that training which was stopped and is resumed leaves and prints what unstopped training does.
 pub fn run_with<R: Threads + Sync, I: Source, D: Disk, O: Sink, V: Solver>(
     rt: &R,
     alloc: Global,
@@ -83,6 +84,7 @@ pub fn run_with<R: Threads + Sync, I: Source, D: Disk, O: Sink, V: Solver>(
     ensures journal_unread { ¬ (IfAsked (asked words.now) ReadsJournal) → journal.new ≡ journal.old }
     ensures grown { OfTask (I.left problem.old) (D.store journal.old).reads (asked words.now) (λ bytes kept. Grows (solving (V.started solver.now) (V.begun solver.now) (V.next solver.now)) result bytes kept (D.store journal.new)) }
     ensures any_moment { OfTask (I.left problem.old) (D.store journal.old).reads (asked words.now) (λ bytes kept. LeavesMine (solving (V.started solver.now) (V.begun solver.now) (V.next solver.now)) bytes kept (D.store journal.old) (D.store journal.new)) }
+    ensures resumed { OfTask (I.left problem.old) (D.store journal.old).reads (asked words.now) (λ bytes kept. IsResumed (solving (V.started solver.now) (V.begun solver.now) (V.next solver.now)) result bytes kept (D.store journal.new) (O.taken out.old) (O.taken out.new)) }
 {
     act(rt, alloc, words, problem, journal, out, solver)
 }
@@ -143,6 +145,7 @@ pub fn run<R: Threads + Sync, I: Source, D: Disk, O: Sink>(
     ensures journal_unread { ¬ (IfAsked (asked words.now) ReadsJournal) → journal.new ≡ journal.old }
     ensures grown { OfTask (I.left problem.old) (D.store journal.old).reads (asked words.now) (λ bytes kept. Grows own_solver result bytes kept (D.store journal.new)) }
     ensures any_moment { OfTask (I.left problem.old) (D.store journal.old).reads (asked words.now) (λ bytes kept. LeavesMine own_solver bytes kept (D.store journal.old) (D.store journal.new)) }
+    ensures resumed { OfTask (I.left problem.old) (D.store journal.old).reads (asked words.now) (λ bytes kept. IsResumed own_solver result bytes kept (D.store journal.new) (O.taken out.old) (O.taken out.new)) }
 {
     run_with(rt, alloc, words, problem, journal, out, &DualSimplex)
 }

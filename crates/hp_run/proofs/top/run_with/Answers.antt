@@ -1,3 +1,4 @@
+use Rattle.hp_run.proofs.ResumedRuns.{resumes}
 use Rattle.hp_run.proofs.Reports.{completes, sounds}
 use Rattle.hp_run.proofs.top.run_with.Goals as goal
 
@@ -6,3 +7,6 @@ returns-clause-complete g c = completes _ _ _ _ c.act.ensures.cause
 
 pub returns-clause-sound : goal.returns-clause-sound
 returns-clause-sound g c = sounds _ _ _ _ c.act.ensures.cause
+
+pub returns-clause-resumed : goal.returns-clause-resumed
+returns-clause-resumed g c = resumes _ c.args.words.now _ _ (g.D.Disk.store c.act.new.journal) c.act.ensures.cause c.act.ensures.grown

@@ -1,0 +1,224 @@
+-- Training that was stopped and is resumed leaves and prints what unstopped training does.
+use Rattle.std.proofs.Common.{◌≡◌, ◌⊎◌, inl, inr, ℕ, zero, suc, ◌+◌, ◌≤◌, ◌<◌, ◌^◌, max, ℤ, true, List, [], ◌∷◌, ◌++◌, length, take, String, Option, Some, None, IfSome, Result, Ok, Err, refl, sym, ap, subst, ◌∙◌, length-append, arith}
+use Rattle.std.specs.Prelude.{option_and_then}
+use Rattle.std.specs.declared.alloc.Global.{Global}
+use Rattle.std.specs.Io.KnownBytes.{Appends}
+use Rattle.sha2.specs.Sha256.{sha256}
+use Rattle.sha2.proofs.Facts256.{length-sha256}
+use Rattle.hp_fields.specs.Steps.{◌>>=◌}
+use Rattle.hp_outside.specs.Disks.{Store}
+use Rattle.hp_problem.specs.declared.raw.Raw.{Raw}
+use Rattle.hp_problem.specs.declared.refusal.Refusal.{Refusal}
+use Rattle.hp_problem.specs.Formulas.{too_much}
+use Rattle.hp_problem.specs.Sealed.{Sealed, is_sealed}
+use Rattle.hp_graph.specs.Arranged.{arranged}
+use Rattle.hp_graph.proofs.Fitting.{arranged_sealed}
+use Rattle.hp_sof.specs.Problem.{problem_at}
+use Rattle.hp_sof.specs.Read.{raw_of}
+use Rattle.hp_sof.proofs.ReadFits.{raw_fits-read}
+use Rattle.hp_theory.specs.declared.cut.Cut.{Cut}
+use Rattle.hp_theory.specs.Bound.{bound}
+use Rattle.hp_theory.specs.Range.{based}
+use Rattle.hp_theory.specs.View.{problem_of}
+use Rattle.hp_cut.specs.declared.entry.Entry.{Entry}
+use Rattle.hp_journal.specs.Layout.{IsTitle, Title, journal, new_title}
+use Rattle.hp_journal.specs.Mine.{Mine}
+use Rattle.hp_load.specs.Load.{Outcome, load_of, outcome_of}
+use Rattle.hp_lp.specs.Chained.{Solving}
+use Rattle.hp_backward.specs.declared.fault.SweepFault.{SweepFault}
+use Rattle.hp_report.specs.Report.{train_text}
+use Rattle.hp_train.specs.Stepping.{Stepped, step_of}
+use Rattle.hp_train.specs.Continuing.{Continued, with_step, with_iteration, continued}
+use Rattle.hp_train.specs.Resuming.{Resumes, unstopped}
+use Rattle.hp_train.specs.Training.{grown_journal, iterations, payloads, unsettled_in}
+use Rattle.hp_train.proofs.Resumed.{resumed}
+use Rattle.hp_words.specs.declared.command.Command.{Command}
+use Rattle.hp_words.specs.declared.command.Command.TheVariants as commands
+use Rattle.hp_words.specs.Commands.{command_of, texts}
+use Rattle.hp_words.specs.Commands as words
+use Rattle.hp_words.proofs.Within.{numbers_within}
+use Rattle.hp_run.specs.Causes.{Ends, Explains}
+use Rattle.hp_run.specs.Journals.{Grows, IsResumed, OfTask, has_trained}
+use Rattle.hp_run.specs.Outcome.{Reads, WithBase, based_at, based_of, loaded_for, or_status, ready_for, report_at, report_trained, unless_much, unless_stopped, with_base, within_formulas}
+use Rattle.hp_run.specs.Words.{IsWithin, asked, task_of}
+use Rattle.hp_run.specs.declared.status.Status.{Status}
+use Rattle.hp_run.specs.declared.status.Status.TheVariants.{Done}
+use Rattle.hp_run.specs.declared.task.Task.{Task}
+use Rattle.hp_run.specs.declared.task.Task.TheVariants.{Base, Train, Check}
+use Rattle.hp_run.proofs.TrainReports.{ended_at}
+
+same_ok : {A E : Type 0} (x y : A) → (let l : Result A E = Ok x in l ≡ Ok y) → x ≡ y
+same_ok x y h = cc
+
+same_some : {A : Type 0} (x y : A) → (let o : Option A = Some x in o ≡ Some y) → x ≡ y
+same_some x y h = cc
+
+at_some : {A : Type 0} (P : A → Type 0) (o : Option A) (x : A) → o ≡ Some x → IfSome o P → P x
+at_some P o x is h = subst (λ y. IfSome y P) is h
+
+each : {A : Type 0} {P : A → Type 0} (o : Option A) → ((x : A) → o ≡ Some x → P x) → IfSome o P
+each None h = tt
+each (Some x) h = h x refl
+
+parts : {A B E : Type 0} (part : Result A E) (f : A → Result B E) (y : B) → (part >>= f) ≡ Ok y → (x : A) × (part ≡ Ok x) × (f x ≡ Ok y)
+parts (Err e) f y h = absurd cc
+parts (Ok x) f y h = (x, refl, h)
+
+-- ---- the problem that was read
+
+read_sealed : (bytes : List ℕ) (p : Sealed) → problem_at bytes ≡ Ok p → is_sealed p ≡ true
+unfolding problem_at
+read_sealed bytes p h =
+    let r = parts (raw_of bytes) arranged p h in
+    arranged_sealed r.0 p (raw_fits-read bytes r.0 r.1) r.2
+
+has_base : (p : Sealed) (r : Result (List (List Cut)) (ℕ × ℕ)) (b : WithBase) → with_base p r ≡ Ok b → (p ≡ b.problem) × (r ≡ Ok b.pools)
+has_base p (Ok pools) b h = let e = same_ok (record { problem = p; pools = pools }) b h in (ap (λ (x : WithBase). x.problem) e, ap (λ (x : WithBase). Ok x.pools) e)
+has_base p (Err at) b h = absurd cc
+
+base_parts : (bytes : List ℕ) (b : WithBase) → based_at bytes ≡ Ok b → (is_sealed b.problem ≡ true) × (based b.problem ≡ Ok b.pools)
+unfolding based_at based_of
+base_parts bytes b h =
+    let r = parts (problem_at bytes) based_of b h in
+    let e = has_base r.0 (based r.0) b r.2 in
+    (read_sealed bytes b.problem (r.1 ∙ ap (λ (x : Sealed). Ok x) e.0), ap based (sym e.0) ∙ e.1)
+
+-- ---- what is asked for
+
+task_within : (c : Option Command) → IfSome c words.IsWithin → (task : Task) → option_and_then task_of c ≡ Some task → IsWithin task
+task_within None h task e = absurd cc
+task_within (Some commands.Base) h task e = subst IsWithin (same_some Base task e) tt
+task_within (Some (commands.Train seed count batch)) h task e = subst IsWithin (same_some (Train seed count batch) task e) h
+task_within (Some commands.Check) h task e = subst IsWithin (same_some Check task e) tt
+task_within (Some (commands.Simulate seed count)) h task e = absurd cc
+task_within (Some commands.Validate) h task e = absurd cc
+task_within (Some (commands.Gen seed stages reservoirs)) h task e = absurd cc
+task_within (Some commands.Evaluate) h task e = absurd cc
+task_within (Some commands.Hydro) h task e = absurd cc
+task_within (Some commands.Robust) h task e = absurd cc
+
+asked_within : (ws : List (String Global)) (task : Task) → asked ws ≡ Some task → IsWithin task
+unfolding asked
+asked_within ws task e = task_within (command_of (texts ws)) (numbers_within (texts ws)) task e
+
+is_title : (digest : List ℕ) (seed : ℕ) (batch : Option ℕ) → length digest ≡ 32 → seed < 2 ^ 64 → IfSome batch (λ b. (1 ≤ b) × (b ≤ 64)) → IsTitle (new_title digest seed batch)
+is_title digest seed None long small h = record { digest = long; seed = small; version = inl (refl, refl) }
+is_title digest seed (Some b) long small h = record { digest = long; seed = small; version = inr (refl, h.0, h.1) }
+
+title_digest : (digest : List ℕ) (seed : ℕ) (batch : Option ℕ) → (new_title digest seed batch).digest ≡ digest
+title_digest digest seed None = refl
+title_digest digest seed (Some b) = refl
+
+title_seed : (digest : List ℕ) (seed : ℕ) (batch : Option ℕ) → (new_title digest seed batch).seed ≡ seed
+title_seed digest seed None = refl
+title_seed digest seed (Some b) = refl
+
+module _ {Start Chain : Type 0} (v : Solving Start Chain) where
+  -- ---- at most one bound an iteration
+  step_few : (p : Sealed) (c : Continued) (r : Result Stepped SweepFault) (n : ℕ) → length c.bounds ≤ n → length (with_step p c r).bounds ≤ suc n
+  step_few p c (Ok s) n h = omega (arith, h, length-append c.bounds (bound (problem_of p) s.pools ∷ []))
+  step_few p c (Err f) n h = omega (arith, h)
+
+  iteration_few : (p : Sealed) (seed batch k : ℕ) (c : Continued) (o : Option SweepFault) (n : ℕ) → length c.bounds ≤ n → length (with_iteration v p seed batch k c o).bounds ≤ suc n
+  iteration_few p seed batch k c None n h = step_few p c (step_of v p c.pools seed batch k) n h
+  iteration_few p seed batch k c (Some f) n h = omega (arith, h)
+
+  few_bounds : (p : Sealed) (pools : List (List Cut)) (seed batch j n : ℕ) → length (continued v p pools seed batch j n).bounds ≤ n
+  unfolding continued
+  few_bounds p pools seed batch j zero = omega arith
+  few_bounds p pools seed batch j (suc n) = iteration_few p seed batch (suc (j + n)) (continued v p pools seed batch j n) (continued v p pools seed batch j n).stop n (few_bounds p pools seed batch j n)
+
+  -- ---- a resumed run
+  module _ (bytes kept : List ℕ) (seed count : ℕ) (batch : Option ℕ) (b : WithBase) (j : ℕ) (o : Outcome) where
+    abbrev p : Sealed
+    p = b.problem
+
+    abbrev t : Title
+    t = new_title (sha256 bytes) seed batch
+
+    abbrev whole : Continued
+    whole = unstopped v p b.pools t count
+
+    -- the same at the digest and the seed that are asked
+    pub record IsBehind : Type 0 where
+      pub loads : load_of p b.pools (sha256 bytes) (Some seed) batch kept ≡ Ok (o, take j whole.lists)
+      pub batch_is : o.batch ≡ t.batch
+      pub bounds : o.bounds ++ (iterations v p seed count o).bounds ≡ whole.bounds
+      pub unsettled : o.unsettled + unsettled_in (iterations v p seed count o).lists ≡ unsettled_in whole.lists
+      pub pools : (iterations v p seed count o).pools ≡ whole.pools
+      pub stop : (iterations v p seed count o).stop ≡ whole.stop
+      pub all_bytes : grown_journal (sha256 bytes) seed o kept (iterations v p seed count o).lists ≡ journal t (payloads whole.lists) 0 []
+
+    behind : Resumes v p b.pools t batch count j kept o → IsBehind
+    behind r =
+        let d : t.digest ≡ sha256 bytes = title_digest (sha256 bytes) seed batch in
+        let s : t.seed ≡ seed = title_seed (sha256 bytes) seed batch in
+        record {
+          loads = subst (λ (x : List ℕ). load_of p b.pools x (Some seed) batch kept ≡ Ok (o, take j whole.lists)) d (subst (λ (x : ℕ). load_of p b.pools t.digest (Some x) batch kept ≡ Ok (o, take j whole.lists)) s r.loads);
+          batch_is = ap (λ (x : Title). x.batch) r.title;
+          bounds = subst (λ (x : ℕ). o.bounds ++ (iterations v p x count o).bounds ≡ whole.bounds) s r.all_bounds;
+          unsettled = subst (λ (x : ℕ). o.unsettled + unsettled_in (iterations v p x count o).lists ≡ unsettled_in whole.lists) s r.all_unsettled;
+          pools = subst (λ (x : ℕ). (iterations v p x count o).pools ≡ whole.pools) s r.last_pools;
+          stop = subst (λ (x : ℕ). (iterations v p x count o).stop ≡ whole.stop) s r.stop;
+          all_bytes = subst (λ (x : List ℕ). grown_journal x seed o kept (iterations v p seed count o).lists ≡ journal t (payloads whole.lists) 0 []) d
+              (subst (λ (x : ℕ). grown_journal t.digest x o kept (iterations v p x count o).lists ≡ journal t (payloads whole.lists) 0 []) s r.all_bytes);
+        }
+
+    load_is : IsBehind → loaded_for bytes b seed batch kept ≡ Ok o
+    unfolding loaded_for
+    load_is r = ap (λ (x : Result (Outcome × List (List Entry)) _). or_status (outcome_of x)) r.loads
+
+    few : IsBehind → length o.bounds ≤ count
+    few r = omega (arith, few_bounds p b.pools t.seed t.batch 0 count, ap (λ (x : List ℤ). length x) r.bounds, length-append o.bounds (iterations v p seed count o).bounds)
+
+    fits : IsBehind → too_much p count t.batch ≡ None → within_formulas p count o ≡ Ok o
+    unfolding within_formulas
+    fits r room =
+        let most : max count (length o.bounds) ≡ count = omega (arith, few r) in
+        ap (λ x. unless_much x o) (ap (λ (n : ℕ). too_much p n o.batch) most ∙ ap (λ (n : ℕ). too_much p count n) r.batch_is ∙ room)
+
+    ready : IsBehind → too_much p count t.batch ≡ None → ready_for p b.pools (sha256 bytes) seed count batch kept ≡ Ok o
+    unfolding ready_for
+    ready r room = ap (λ (x : Result (Outcome × List (List Entry)) _). or_status (outcome_of x) >>= within_formulas p count) r.loads ∙ fits r room
+
+    printed : (c : Continued) (stop : Option SweepFault) (text : List ℕ) → unless_stopped p o c stop ≡ Ok text → (stop ≡ None) × (train_text p c.pools (o.bounds ++ c.bounds) (o.unsettled + unsettled_in c.lists) ≡ text)
+    printed c None text h = (refl, same_ok (train_text p c.pools (o.bounds ++ c.bounds) (o.unsettled + unsettled_in c.lists)) text h)
+    printed c (Some f) text h = absurd cc
+
+    -- what is printed
+    prints : IsBehind → too_much p count t.batch ≡ None → based_at bytes ≡ Ok b → (text : List ℕ) → report_at v (Train seed count batch) bytes kept ≡ Ok text → (whole.stop ≡ None) × (text ≡ train_text p whole.pools whole.bounds (unsettled_in whole.lists))
+    prints r room is text h =
+        let c : Continued = iterations v p seed count o in
+        let e = printed c c.stop text (sym (ended_at v bytes b seed count batch is kept o (ready r room)) ∙ h) in
+        (sym r.stop ∙ e.0, sym e.1 ∙ ap (λ (x : List (List Cut)). train_text p x (o.bounds ++ c.bounds) (o.unsettled + unsettled_in c.lists)) r.pools
+            ∙ ap (λ (x : List ℤ). train_text p whole.pools x (o.unsettled + unsettled_in c.lists)) r.bounds ∙ ap (train_text p whole.pools whole.bounds) r.unsettled)
+
+  -- the text of a run that is Done
+  done_text : (ask : Option Task) (e : Ends) (task : Task) (bytes kept : List ℕ) → ask ≡ Some task → e.left ≡ Some bytes → Reads task e.kept kept → Explains v ask e Done → (text : List ℕ) × (report_at v task bytes kept ≡ Ok text) × Appends e.taken e.taken_now text
+  done_text ask e task bytes kept is left reads h =
+      let w = at_some _ e.left bytes left h.2.1 in
+      let same : h.0 ≡ task = same_some h.0 task (sym h.1 ∙ is) in
+      (w.1.0, subst (λ (k : Task). report_at v k bytes kept ≡ Ok w.1.0) same (w.1.1 kept (subst (λ (k : Task). Reads k e.kept kept) (sym same) reads)), w.1.3)
+
+  by_task : (ws : List (String Global)) (e : Ends) (status : Status) (new : Store) (bytes kept : List ℕ) (task : Task) → e.left ≡ Some bytes → e.kept ≡ Some kept → asked ws ≡ Some task → Explains v (asked ws) e status → Grows v status bytes kept new task → IsResumed v status bytes kept new e.taken e.taken_now task
+  by_task ws e status new bytes kept Base left told is explains grown = tt
+  by_task ws e status new bytes kept Check left told is explains grown = tt
+  by_task ws e status new bytes kept (Train seed count batch) left told is explains grown = λ b j base small room mine.
+      let ps = base_parts bytes b base in
+      let within = asked_within ws (Train seed count batch) is in
+      let r = resumed v b.problem b.pools (sha256 bytes) seed count batch j kept ps.0 ps.1 (is_title (sha256 bytes) seed batch (length-sha256 bytes) small within.1) within.0 room mine in
+      let q = behind bytes kept seed count batch b j r.0 r.1 in
+      let whole : Continued = unstopped v b.problem b.pools (new_title (sha256 bytes) seed batch) count in
+      (
+        λ trained. (grown b r.0 base (load_is bytes kept seed count batch b j r.0 q) trained).0 ∙ ap (λ (x : List ℕ). Some x) q.all_bytes,
+        λ done.
+          let d = done_text (asked ws) e (Train seed count batch) bytes kept is left told (subst (λ (s : Status). Explains v (asked ws) e s) done explains) in
+          let x = prints bytes kept seed count batch b j r.0 q room base d.0 d.1 in
+          (x.0, subst (λ (y : List ℕ). Appends e.taken e.taken_now y) x.1 d.2),
+      )
+
+  pub resumes : (ws : List (String Global)) (e : Ends) (status : Status) (new : Store) → Explains v (asked ws) e status → OfTask e.left e.kept (asked ws) (λ bytes kept. Grows v status bytes kept new) → OfTask e.left e.kept (asked ws) (λ bytes kept. IsResumed v status bytes kept new e.taken e.taken_now)
+  resumes ws e status new explains grown =
+      each e.left (λ bytes left. each e.kept (λ kept told. each (asked ws) (λ task is.
+          by_task ws e status new bytes kept task left told is explains
+          (at_some (Grows v status bytes kept new) (asked ws) task is (at_some (λ k. IfSome (asked ws) (Grows v status bytes k new)) e.kept kept told (at_some (λ y. IfSome e.kept (λ k. IfSome (asked ws) (Grows v status y k new))) e.left bytes left grown))))))
