@@ -5,3 +5,4 @@ pub mod LoadedEnds
 pub mod Synced
 pub mod TrainReports
 pub mod Wrote
+pub mod Simulated
