@@ -6,3 +6,4 @@ pub mod Synced
 pub mod TrainReports
 pub mod Wrote
 pub mod ResumedRuns
+pub mod Simulated

@@ -8,13 +8,14 @@ use Rattle.hp_theory.specs.declared.cut.Cut.{Cut}
 use Rattle.hp_theory.specs.View.{problem_of}
 use Rattle.hp_report.specs.SoundLines.{SoundLines}
 use Rattle.hp_report.proofs.SoundLines.{sound_lines, sound_check, sound_training}
+use Rattle.hp_report.proofs.SoundTraces.{sound_traces}
 use Rattle.hp_fields.specs.Steps.{◌>>=◌}
 use Rattle.hp_problem.specs.declared.refusal.Refusal.{Refusal}
 use Rattle.hp_lp.specs.Chained.{Solving}
 use Rattle.hp_run.specs.Outcome.{WithBase, based_at, or_refused, report_by, report_at, IsSoundReport, SoundText, Reads}
 use Rattle.hp_run.specs.Causes.{Ends, Explains, status_of, expected, AreRead, Completes, Sounds}
 use Rattle.hp_run.specs.declared.task.Task.{Task}
-use Rattle.hp_run.specs.declared.task.Task.TheVariants.{Base, Train, Check}
+use Rattle.hp_run.specs.declared.task.Task.TheVariants.{Base, Train, Check, Simulate, Validate}
 use Rattle.hp_run.specs.declared.status.Status.{Status}
 use Rattle.hp_run.specs.declared.status.Status.TheVariants.{Done, Usage, ReadFault, TooLong, ProblemRefused, JournalRefused, TooMuch, Range, NoStage, DiskFault, WriteFault, Memory}
 
@@ -24,6 +25,8 @@ lines_of_report (Train seed count batch) p pools text r =
     subst (SoundLines (problem_of p)) (sym r.is.2) (sound_training p pools r.is.0 r.is.1 r.is.3 r.bound)
 lines_of_report Check p pools text r =
     subst (SoundLines (problem_of p)) (sym r.is.3) (sound_check p pools r.is.0 r.is.1 r.is.2 r.cuts r.is.4 r.bound)
+lines_of_report (Simulate seed count) p pools text r = subst (SoundLines (problem_of p)) (sym r.is.1) (sound_traces p pools r.is.0 r.bound)
+lines_of_report Validate p pools text r = subst (SoundLines (problem_of p)) (sym r.is.1) (sound_traces p pools r.is.0 r.bound)
 
 -- a report of the problem that the bytes give is sound
 pub sound_text : (task : Task) (bytes : List ℕ) (p : Sealed) (pools : List (List Cut)) (text : List ℕ) → problem_at bytes ≡ Ok p → IsSoundReport task p pools text → SoundText task bytes text

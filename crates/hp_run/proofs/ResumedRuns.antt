@@ -44,7 +44,7 @@ use Rattle.hp_run.specs.Words.{IsWithin, asked, task_of}
 use Rattle.hp_run.specs.declared.status.Status.{Status}
 use Rattle.hp_run.specs.declared.status.Status.TheVariants.{Done}
 use Rattle.hp_run.specs.declared.task.Task.{Task}
-use Rattle.hp_run.specs.declared.task.Task.TheVariants.{Base, Train, Check}
+use Rattle.hp_run.specs.declared.task.Task.TheVariants.{Base, Train, Check, Simulate, Validate}
 use Rattle.hp_run.proofs.TrainReports.{ended_at}
 
 same_ok : {A E : Type 0} (x y : A) → (let l : Result A E = Ok x in l ≡ Ok y) → x ≡ y
@@ -90,8 +90,8 @@ task_within None h task e = absurd cc
 task_within (Some commands.Base) h task e = subst IsWithin (same_some Base task e) tt
 task_within (Some (commands.Train seed count batch)) h task e = subst IsWithin (same_some (Train seed count batch) task e) h
 task_within (Some commands.Check) h task e = subst IsWithin (same_some Check task e) tt
-task_within (Some (commands.Simulate seed count)) h task e = absurd cc
-task_within (Some commands.Validate) h task e = absurd cc
+task_within (Some (commands.Simulate seed count)) h task e = subst IsWithin (same_some (Simulate seed count) task e) h
+task_within (Some commands.Validate) h task e = subst IsWithin (same_some Validate task e) tt
 task_within (Some (commands.Gen seed stages reservoirs)) h task e = absurd cc
 task_within (Some commands.Evaluate) h task e = absurd cc
 task_within (Some commands.Hydro) h task e = absurd cc
@@ -203,6 +203,8 @@ module _ {Start Chain : Type 0} (v : Solving Start Chain) where
   by_task : (ws : List (String Global)) (e : Ends) (status : Status) (new : Store) (bytes kept : List ℕ) (task : Task) → e.left ≡ Some bytes → e.kept ≡ Some kept → asked ws ≡ Some task → Explains v (asked ws) e status → Grows v status bytes kept new task → IsResumed v status bytes kept new e.taken e.taken_now task
   by_task ws e status new bytes kept Base left told is explains grown = tt
   by_task ws e status new bytes kept Check left told is explains grown = tt
+  by_task ws e status new bytes kept (Simulate seed count) left told is explains grown = tt
+  by_task ws e status new bytes kept Validate left told is explains grown = tt
   by_task ws e status new bytes kept (Train seed count batch) left told is explains grown = λ b j base small room mine.
       let ps = base_parts bytes b base in
       let within = asked_within ws (Train seed count batch) is in

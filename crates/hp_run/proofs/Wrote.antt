@@ -8,7 +8,7 @@ use Rattle.hp_run.specs.Journals.{Grows, OfTask}
 use Rattle.hp_run.specs.declared.status.Status.{Status}
 use Rattle.hp_run.specs.declared.status.Status.TheVariants.{Done, WriteFault}
 use Rattle.hp_run.specs.declared.task.Task.{Task}
-use Rattle.hp_run.specs.declared.task.Task.TheVariants.{Base, Train, Check}
+use Rattle.hp_run.specs.declared.task.Task.TheVariants.{Base, Train, Check, Simulate, Validate}
 use Rattle.hp_run.proofs.KnownBytes.{all_taken}
 
 module _ {Start Chain : Type 0} (v : Solving Start Chain) where
@@ -16,6 +16,8 @@ module _ {Start Chain : Type 0} (v : Solving Start Chain) where
   as_written bytes kept new Base h = tt
   as_written bytes kept new (Train seed count batch) h = λ b o is load e. h b o is load refl
   as_written bytes kept new Check h = tt
+  as_written bytes kept new (Simulate seed count) h = tt
+  as_written bytes kept new Validate h = tt
 
   pub wrote_grown : (left left_now : Option (List ℕ)) (bytes : List ℕ) (asked : Option Task) (task : Task) (reads : Option (List ℕ)) (new : Store) → Consumes left left_now bytes → IsAtEnd left_now → asked ≡ Some task
       → IfSome reads (λ kept. Grows v Done bytes kept new task) → OfTask left reads asked (λ b k. Grows v WriteFault b k new)

@@ -7,7 +7,7 @@ use Rattle.hp_theory.specs.View.{problem_of}
 use Rattle.hp_lp.specs.Chained.{Solving}
 use Rattle.hp_settle.specs.declared.judging.Dead.{Dead}
 use Rattle.hp_settle.specs.Refutation.{NoDecision}
-use Rattle.hp_run.specs.Outcome.{Reads, ReadsJournal, Reports, SoundText, Trains, WithBase, based_at, report_at}
+use Rattle.hp_run.specs.Outcome.{Reads, ReadsJournal, Reports, Solves, SoundText, Trains, WithBase, based_at, report_at}
 use Rattle.hp_run.specs.declared.task.Task.{Task}
 use Rattle.hp_run.specs.declared.status.Status.{Status}
 use Rattle.hp_run.specs.declared.status.Status.TheVariants.{Done, Usage, ReadFault, TooLong, ProblemRefused, JournalRefused, TooMuch, Range, NoStage, DiskFault, WriteFault, Memory}
@@ -44,7 +44,7 @@ Lacks v task told disk disk_now bytes (ProblemRefused r) = based_at bytes ≡ Er
 Lacks v task told disk disk_now bytes (JournalRefused r) = ReadsJournal task × Reports v task told bytes (Err (JournalRefused r))
 Lacks v task told disk disk_now bytes (TooMuch t) = ReadsJournal task × Reports v task told bytes (Err (TooMuch t))
 Lacks v task told disk disk_now bytes (Range k m r) = Trains task × Reports v task told bytes (Err (Range k m r))
-Lacks v task told disk disk_now bytes (NoStage dead) = Trains task × Reports v task told bytes (Err (NoStage dead)) × IsRefuted bytes dead
+Lacks v task told disk disk_now bytes (NoStage dead) = Solves task × Reports v task told bytes (Err (NoStage dead)) × IsRefuted bytes dead
 Lacks v task told disk disk_now bytes DiskFault = ReadsJournal task × Rose disk disk_now
 Lacks v task told disk disk_now bytes Memory = ⊤
 Lacks v task told disk disk_now bytes Done = ⊥
@@ -63,7 +63,7 @@ Explains v asked e (ProblemRefused r) = (task : Task) × (asked ≡ Some task) �
 Explains v asked e (JournalRefused r) = (task : Task) × (asked ≡ Some task) × ReadsJournal task × ReadAll e (λ bytes. Reports v task e.kept bytes (Err (JournalRefused r))) × Keeps e.taken e.taken_now
 Explains v asked e (TooMuch t) = (task : Task) × (asked ≡ Some task) × ReadsJournal task × ReadAll e (λ bytes. Reports v task e.kept bytes (Err (TooMuch t))) × Keeps e.taken e.taken_now
 Explains v asked e (Range k m r) = (task : Task) × (asked ≡ Some task) × Trains task × ReadAll e (λ bytes. Reports v task e.kept bytes (Err (Range k m r))) × Keeps e.taken e.taken_now
-Explains v asked e (NoStage dead) = (task : Task) × (asked ≡ Some task) × Trains task × ReadAll e (λ bytes. Reports v task e.kept bytes (Err (NoStage dead)) × IsRefuted bytes dead) × Keeps e.taken e.taken_now
+Explains v asked e (NoStage dead) = (task : Task) × (asked ≡ Some task) × Solves task × ReadAll e (λ bytes. Reports v task e.kept bytes (Err (NoStage dead)) × IsRefuted bytes dead) × Keeps e.taken e.taken_now
 Explains v asked e DiskFault = (task : Task) × (asked ≡ Some task) × ReadsJournal task × Rose e.disk e.disk_now × IsAtEnd e.left_now × Keeps e.taken e.taken_now
 Explains v asked e WriteFault = (task : Task) × (asked ≡ Some task) × Rose e.writes e.writes_now × Wrote v task e (λ text. (n : ℕ) × Appends e.taken e.taken_now (take n text))
 Explains v asked e Memory = (task : Task) × (asked ≡ Some task) × Keeps e.taken e.taken_now

@@ -17,7 +17,7 @@ use Rattle.hp_run.specs.Outcome.{WithBase, based_at, loaded_for}
 use Rattle.hp_run.specs.declared.status.Status.{Status}
 use Rattle.hp_run.specs.declared.status.Status.TheVariants.{Done, Usage, ReadFault, TooLong, ProblemRefused, JournalRefused, TooMuch, Range, NoStage, DiskFault, WriteFault, Memory}
 use Rattle.hp_run.specs.declared.task.Task.{Task}
-use Rattle.hp_run.specs.declared.task.Task.TheVariants.{Base, Train, Check}
+use Rattle.hp_run.specs.declared.task.Task.TheVariants.{Base, Train, Check, Simulate, Validate}
 
 -- the statuses of a run that ended before any work on the journal
 abbrev pub is_refusal : Status → Bool
@@ -45,6 +45,8 @@ OnlyReads None status = ⊤
 OnlyReads (Some Base) status = ⊤
 OnlyReads (Some (Train seed count batch)) status = is_refusal status ≡ true
 OnlyReads (Some Check) status = ⊤
+OnlyReads (Some (Simulate seed count)) status = ⊤
+OnlyReads (Some Validate) status = ⊤
 
 abbrev pub KeepsJournal : {A : Type 0} → Task → Result A Status → Type 0
 KeepsJournal task r = OnlyReads (Some task) (status_of r)
@@ -72,6 +74,8 @@ Grows v status bytes kept new (Train seed count batch) =
     (b : WithBase) (o : Outcome) → based_at bytes ≡ Ok b → loaded_for bytes b seed batch kept ≡ Ok o → has_trained status ≡ true
     → (new.reads ≡ Some (grown_journal (sha256 bytes) seed o kept (iterations v b.problem seed count o).lists)) × Quiet new
 Grows v status bytes kept new Check = ⊤
+Grows v status bytes kept new (Simulate seed count) = ⊤
+Grows v status bytes kept new Validate = ⊤
 
 abbrev pub Leaves : {Start Chain A : Type 0} → Solving Start Chain → Result A Status → List ℕ → List ℕ → Store → Task → Type 0
 Leaves v r bytes kept new task = Grows v (status_of r) bytes kept new task
@@ -86,6 +90,8 @@ LeavesMine v bytes kept old new (Train seed count batch) =
     → ((c : List ℕ) → old.images c → MineFrom (title_of (sha256 bytes) seed o) ps i c)
     → LeavesOnly old new (MineFrom (title_of (sha256 bytes) seed o) ps i)
 LeavesMine v bytes kept old new Check = ⊤
+LeavesMine v bytes kept old new (Simulate seed count) = ⊤
+LeavesMine v bytes kept old new Validate = ⊤
 
 -- Where the journal stands for the first j records of what unstopped training leaves, training leaves what the unstopped one leaves, and
 -- prints what it prints.
@@ -99,6 +105,8 @@ IsResumed v status bytes kept new taken taken_now (Train seed count batch) =
     → (has_trained status ≡ true → new.reads ≡ Some (journal t (payloads c.lists) 0 []))
     × (status ≡ Done → (c.stop ≡ None) × Appends taken taken_now (train_text b.problem c.pools c.bounds (unsettled_in c.lists))))
 IsResumed v status bytes kept new taken taken_now Check = ⊤
+IsResumed v status bytes kept new taken taken_now (Simulate seed count) = ⊤
+IsResumed v status bytes kept new taken taken_now Validate = ⊤
 
 -- of the bytes of the problem and of the journal, as far as they are told, and of what is asked for
 abbrev pub OfTask : Option (List ℕ) → Option (List ℕ) → Option Task → (List ℕ → List ℕ → Task → Type 0) → Type 0

@@ -7,4 +7,5 @@ pub mod Causes
 pub mod TrainingLines
 pub mod Journals
 pub mod Training
+pub mod Simulating
 pub mod OwnSolver

@@ -5,7 +5,8 @@ use Rattle.hp_problem.specs.declared.refusal.Refusal.{Refusal}
 use Rattle.hp_problem.specs.declared.refusal.RefusalKind.TheVariants as kinds
 use Rattle.hp_problem.specs.declared.refusal.Part.TheVariants as parts
 use Rattle.hp_problem.specs.Sealed.{Sealed}
-use Rattle.hp_problem.specs.Formulas.{too_much}
+use Rattle.hp_problem.specs.declared.raw.Moment.{Moment}
+use Rattle.hp_problem.specs.Formulas.{too_much, too_wide}
 use Rattle.hp_problem.specs.declared.formulas.TooMuch as formulas
 use Rattle.hp_fields.specs.Steps.{◌>>=◌}
 use Rattle.hp_fields.specs.Fields.{place, refuse}
@@ -23,12 +24,19 @@ use Rattle.hp_backward.specs.declared.fault.SweepFault.{SweepFault}
 use Rattle.hp_backward.specs.declared.fault.SweepFault.TheVariants as sweeps
 use Rattle.hp_train.specs.Continuing.{Continued}
 use Rattle.hp_train.specs.Training.{iterations, unsettled_in}
+use Rattle.hp_settle.specs.declared.judging.Dead.{Dead}
+use Rattle.hp_forward.specs.declared.traces.Trace.{Trace}
+use Rattle.hp_sim.specs.Runs.{drawn_from}
+use Rattle.hp_sim.specs.Tracing.{traces_of}
 use Rattle.hp_report.specs.Report.{base_text, check_text, train_text}
 use Rattle.hp_report.specs.SoundLines.{SoundLines}
+use Rattle.hp_report.specs.Traces.{trace_text}
+use Rattle.hp_run.specs.declared.simulating.Scenarios.{Scenarios}
+use Rattle.hp_run.specs.declared.simulating.Scenarios.TheVariants.{Drawn, Stored}
 use Rattle.hp_run.specs.declared.status.Status.{Status}
 use Rattle.hp_run.specs.declared.status.Status.TheVariants.{ProblemRefused, JournalRefused, TooMuch, Range, NoStage, DiskFault, Memory}
 use Rattle.hp_run.specs.declared.task.Task.{Task}
-use Rattle.hp_run.specs.declared.task.Task.TheVariants.{Base, Train, Check}
+use Rattle.hp_run.specs.declared.task.Task.TheVariants.{Base, Train, Check, Simulate, Validate}
 
 -- a problem with its base cuts
 pub record WithBase : Type 0 where
@@ -110,11 +118,43 @@ trained_for v bytes b seed count batch kept = do
   o ← within_formulas b.problem count loaded
   report_trained b.problem o (iterations v b.problem seed count o)
 
+-- the runs of scenarios, and their number
+abbrev pub runs_of : Sealed → Scenarios → List (List Moment)
+runs_of p (Drawn seed count) = drawn_from p seed 0 count
+runs_of p Stored = p.raw.scenarios
+
+abbrev pub count_of : Sealed → Scenarios → ℕ
+count_of p (Drawn seed count) = count
+count_of p Stored = length p.raw.scenarios
+
+-- the formula of so many traces is kept
+unfoldable pub within_width : Sealed → ℕ → Outcome → Result Outcome Status
+within_width p count o = unless_much (too_wide p count) o
+
+-- the report of traces, or the node without decisions that stops them
+abbrev pub report_traced : Sealed → List (List Cut) → Result (List Trace) Dead → Result (List ℕ) Status
+report_traced p pools (Ok traces) = Ok (trace_text p pools traces)
+report_traced p pools (Err dead) = Err (NoStage dead)
+
+-- the report of scenarios over the pools of the journal `kept`
+unfoldable pub simulated_for : {Start Chain : Type 0} → Solving Start Chain → List ℕ → WithBase → Scenarios → List ℕ → Result (List ℕ) Status
+simulated_for v bytes b scenarios kept = do
+  loaded ← or_status (outcome_of (load_of b.problem b.pools (sha256 bytes) None None kept))
+  o ← within_width b.problem (count_of b.problem scenarios) loaded
+  report_traced b.problem o.pools (traces_of v b.problem o.pools (runs_of b.problem scenarios))
+
+-- the task that goes through scenarios
+abbrev pub task_for : Scenarios → Task
+task_for (Drawn seed count) = Simulate seed count
+task_for Stored = Validate
+
 -- the report of a task
 abbrev pub report_by : {Start Chain : Type 0} → Solving Start Chain → Task → List ℕ → List ℕ → WithBase → Result (List ℕ) Status
 report_by v Base bytes kept b = Ok (base_text b.problem b.pools)
 report_by v (Train seed count batch) bytes kept b = trained_for v bytes b seed count batch kept
 report_by v Check bytes kept b = checked bytes b kept
+report_by v (Simulate seed count) bytes kept b = simulated_for v bytes b (Drawn seed count) kept
+report_by v Validate bytes kept b = simulated_for v bytes b Stored kept
 
 -- the report of a task over the bytes of a problem and of a journal, or how the run ends without one
 unfoldable pub report_at : {Start Chain : Type 0} → Solving Start Chain → Task → List ℕ → List ℕ → Result (List ℕ) Status
@@ -127,18 +167,32 @@ abbrev pub ReadsJournal : Task → Type 0
 ReadsJournal Base = ⊥
 ReadsJournal (Train seed count batch) = ⊤
 ReadsJournal Check = ⊤
+ReadsJournal (Simulate seed count) = ⊤
+ReadsJournal Validate = ⊤
 
 -- the task trains
 abbrev pub Trains : Task → Type 0
 Trains Base = ⊥
 Trains (Train seed count batch) = ⊤
 Trains Check = ⊥
+Trains (Simulate seed count) = ⊥
+Trains Validate = ⊥
+
+-- the task solves stage problems
+abbrev pub Solves : Task → Type 0
+Solves Base = ⊥
+Solves (Train seed count batch) = ⊤
+Solves Check = ⊥
+Solves (Simulate seed count) = ⊤
+Solves Validate = ⊤
 
 -- the journal's bytes, where the task reads them
 abbrev pub Reads : Task → Option (List ℕ) → List ℕ → Type 0
 Reads Base told kept = ⊤
 Reads (Train seed count batch) told kept = told ≡ Some kept
 Reads Check told kept = told ≡ Some kept
+Reads (Simulate seed count) told kept = told ≡ Some kept
+Reads Validate told kept = told ≡ Some kept
 
 -- this comes of a task, by the bytes of the problem and those of the journal as far as it tells them
 abbrev pub Reports : {Start Chain : Type 0} → Solving Start Chain → Task → Option (List ℕ) → List ℕ → Result (List ℕ) Status → Type 0
@@ -149,6 +203,8 @@ abbrev pub IsReport : Task → Sealed → List (List Cut) → List ℕ → Type 
 IsReport Base p pools text = text ≡ base_text p pools
 IsReport (Train seed count batch) p pools text = (bounds : List ℤ) × (unsettled : ℕ) × (text ≡ train_text p pools bounds unsettled) × All (Under (problem_of p)) bounds
 IsReport Check p pools text = (bounds : List ℤ) × (unsettled : ℕ) × (rest : ℕ) × (text ≡ check_text p pools bounds unsettled rest) × All (Under (problem_of p)) bounds
+IsReport (Simulate seed count) p pools text = (traces : List Trace) × (text ≡ trace_text p pools traces)
+IsReport Validate p pools text = (traces : List Trace) × (text ≡ trace_text p pools traces)
 
 -- what code answers of a journal that is checked: want of memory and a fault of the disk are free
 abbrev pub Checks : {X : Type 0} → (X → List ℕ) → Result X LoadFault → Result (List ℕ) Status → Type 0

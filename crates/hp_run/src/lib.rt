@@ -6,6 +6,7 @@ mod outcome;
 mod program;
 mod reading;
 mod refusal_lines;
+mod simulating;
 mod status;
 mod task;
 mod top;

@@ -19,6 +19,7 @@ ghost use Rattle.hp_run.specs.Words.{IsWithin};
 ghost use Rattle.hp_run.specs.declared.status.Status.TheVariants as statuses;
 ghost use Rattle.hp_run.specs.declared.task.Task.TheVariants as tasks;
 
+use crate::simulating::{Scenarios, report_scenarios};
 use crate::status::Status;
 use crate::task::Task;
 use crate::training::{Asked, report_train};
@@ -172,6 +173,14 @@ fn report_by<R: Threads + Sync, D: Disk, V: Solver>(
             report_train(rt, alloc, bytes, problem, pools, journal, solver, asked)
         }
         Task::Check => report_check(alloc, bytes, problem, pools, journal, solver),
+        Task::Simulate { seed, count } => {
+            let scenarios = Scenarios::Drawn { seed, count };
+            report_scenarios(alloc, bytes, problem, pools, journal, solver, scenarios)
+        }
+        Task::Validate => {
+            let scenarios = Scenarios::Stored;
+            report_scenarios(alloc, bytes, problem, pools, journal, solver, scenarios)
+        }
     }
 }
 

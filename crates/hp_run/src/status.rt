@@ -35,7 +35,7 @@ pub enum Status {
         node: u32,
         realization: u32,
     },
-    /// Training met a node that is shown to have no decisions.
+    /// Training or a scenario met a node that is shown to have no decisions.
     NoStage(Dead),
     /// The journal could not be read or written; only where the disk's count of faults rose.
     DiskFault,
@@ -73,7 +73,7 @@ fn push_status(alloc: Global, out: &mut Vec<u8>, status: &Status) -> Result<(), 
         Status::Done => Ok(()),
         Status::Usage => push_bytes(
             out,
-            b"usage: base, train JOURNAL SEED COUNT [BATCH], check JOURNAL",
+            b"usage: base, train JOURNAL SEED COUNT [BATCH], check JOURNAL, simulate JOURNAL SEED COUNT, validate JOURNAL",
         ),
         Status::ReadFault => push_bytes(out, b"problem could not be read"),
         Status::TooLong => push_bytes(out, b"problem is longer than 16777216 bytes"),

@@ -18,6 +18,13 @@ pub enum Task {
     },
     /// The report of what a journal gives.
     Check,
+    /// The traces of so many scenarios that a seed draws, over the cuts of a journal.
+    Simulate {
+        seed: u64,
+        count: u32,
+    },
+    /// The traces of the scenarios that the problem stores, over the cuts of a journal.
+    Validate,
 }
 
 fn task_of(command: Command) -> Option<Task>
@@ -27,6 +34,8 @@ fn task_of(command: Command) -> Option<Task>
         Command::Base => Some(Task::Base),
         Command::Train { seed, count, batch } => Some(Task::Train { seed, count, batch }),
         Command::Check => Some(Task::Check),
+        Command::Simulate { seed, count } => Some(Task::Simulate { seed, count }),
+        Command::Validate => Some(Task::Validate),
         _ => None,
     }
 }

@@ -21,7 +21,8 @@ use std::thread::Threads;
 
 /// Does what the words say, with this solver, over the problem that the source holds to its end. `base` writes the report of
 /// its base cuts. `train` trains on the journal, and writes the report of training. `check` reads the journal, checks each
-/// certificate of its records, and writes the report of what it gives. Other words are Usage.
+/// certificate of its records, and writes the report of what it gives. `simulate` and `validate` read it so too, and write the
+/// traces of drawn and of stored scenarios over its cuts. Other words are Usage.
 ///
 /// `cause` says what each status tells of the words, the source, the disk and the sink; `complete` which status comes where
 /// no device fails; `sound` that each cut and each bound in what was written hold for every decision tree and every policy,
