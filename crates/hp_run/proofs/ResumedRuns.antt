@@ -189,9 +189,11 @@ module _ {Start Chain : Type 0} (v : Solving Start Chain) where
     prints : IsBehind → too_much p count t.batch ≡ None → based_at bytes ≡ Ok b → (text : List ℕ) → report_at v (Train seed count batch) bytes kept ≡ Ok text → (whole.stop ≡ None) × (text ≡ train_text p whole.pools whole.bounds (unsettled_in whole.lists))
     prints r room is text h =
         let c : Continued = iterations v p seed count o in
-        let e = printed c c.stop text (sym (ended_at v bytes b seed count batch is kept o (ready r room)) ∙ h) in
-        (sym r.stop ∙ e.0, sym e.1 ∙ ap (λ (x : List (List Cut)). train_text p x (o.bounds ++ c.bounds) (o.unsettled + unsettled_in c.lists)) r.pools
-            ∙ ap (λ (x : List ℤ). train_text p whole.pools x (o.unsettled + unsettled_in c.lists)) r.bounds ∙ ap (train_text p whole.pools whole.bounds) r.unsettled)
+        let e = printed c c.stop text (sym (ended_at v bytes b seed count batch is kept o (ready r room)) ∙ h) in (
+          sym r.stop ∙ e.0,
+          sym e.1 ∙ ap (λ (x : List (List Cut)). train_text p x (o.bounds ++ c.bounds) (o.unsettled + unsettled_in c.lists)) r.pools
+              ∙ ap (λ (x : List ℤ). train_text p whole.pools x (o.unsettled + unsettled_in c.lists)) r.bounds ∙ ap (train_text p whole.pools whole.bounds) r.unsettled,
+        )
 
   -- the text of a run that is Done
   done_text : (ask : Option Task) (e : Ends) (task : Task) (bytes kept : List ℕ) → ask ≡ Some task → e.left ≡ Some bytes → Reads task e.kept kept → Explains v ask e Done → (text : List ℕ) × (report_at v task bytes kept ≡ Ok text) × Appends e.taken e.taken_now text
@@ -210,17 +212,16 @@ module _ {Start Chain : Type 0} (v : Solving Start Chain) where
       let within = asked_within ws (Train seed count batch) is in
       let r = resumed v b.problem b.pools (sha256 bytes) seed count batch j kept ps.0 ps.1 (is_title (sha256 bytes) seed batch (length-sha256 bytes) small within.1) within.0 room mine in
       let q = behind bytes kept seed count batch b j r.0 r.1 in
-      let whole : Continued = unstopped v b.problem b.pools (new_title (sha256 bytes) seed batch) count in
-      (
+      let whole : Continued = unstopped v b.problem b.pools (new_title (sha256 bytes) seed batch) count in (
         λ trained. (grown b r.0 base (load_is bytes kept seed count batch b j r.0 q) trained).0 ∙ ap (λ (x : List ℕ). Some x) q.all_bytes,
         λ done.
-          let d = done_text (asked ws) e (Train seed count batch) bytes kept is left told (subst (λ (s : Status). Explains v (asked ws) e s) done explains) in
-          let x = prints bytes kept seed count batch b j r.0 q room base d.0 d.1 in
-          (x.0, subst (λ (y : List ℕ). Appends e.taken e.taken_now y) x.1 d.2),
+            let d = done_text (asked ws) e (Train seed count batch) bytes kept is left told (subst (λ (s : Status). Explains v (asked ws) e s) done explains) in
+            let x = prints bytes kept seed count batch b j r.0 q room base d.0 d.1 in
+            (x.0, subst (λ (y : List ℕ). Appends e.taken e.taken_now y) x.1 d.2),
       )
 
   pub resumes : (ws : List (String Global)) (e : Ends) (status : Status) (new : Store) → Explains v (asked ws) e status → OfTask e.left e.kept (asked ws) (λ bytes kept. Grows v status bytes kept new) → OfTask e.left e.kept (asked ws) (λ bytes kept. IsResumed v status bytes kept new e.taken e.taken_now)
   resumes ws e status new explains grown =
       each e.left (λ bytes left. each e.kept (λ kept told. each (asked ws) (λ task is.
-          by_task ws e status new bytes kept task left told is explains
-          (at_some (Grows v status bytes kept new) (asked ws) task is (at_some (λ k. IfSome (asked ws) (Grows v status bytes k new)) e.kept kept told (at_some (λ y. IfSome e.kept (λ k. IfSome (asked ws) (Grows v status y k new))) e.left bytes left grown))))))
+      by_task ws e status new bytes kept task left told is explains
+      (at_some (Grows v status bytes kept new) (asked ws) task is (at_some (λ k. IfSome (asked ws) (Grows v status bytes k new)) e.kept kept told (at_some (λ y. IfSome e.kept (λ k. IfSome (asked ws) (Grows v status y k new))) e.left bytes left grown))))))
