@@ -1,0 +1,134 @@
+"""The command `convert`: a file of StochOptFormat to a problem in whole numbers, and a report back to the user's units.
+
+Outside the proved core: what it writes is not proved to mean what was read. The program's bounds are bounds of the problem
+that was written, so the ledger of what was rounded belongs to them.
+"""
+from __future__ import annotations
+
+import argparse
+import json
+import sys
+from fractions import Fraction
+from pathlib import Path
+from typing import Optional, Sequence
+
+from .back import BadReport, Back
+from .converting import Bounds, Ledger, Writer, as_minimum, with_bounds, without_nothing
+from .cursor import Cursor, Refused
+from .located_json import NotJson, parse
+from .model import Quantity, quantity
+from .scales import Scales, complete, read_scales, write_scales
+from .stochopt import read_model
+
+DESCRIPTION = "Converts between StochOptFormat with decimal numbers and the whole numbers of hydroplan. Nothing here is proved."
+PROBLEM = """Reads a file of StochOptFormat 1.x and writes a problem in whole numbers on standard output (or --output), its
+scales (--write-scales), and on standard error (or --ledger) a line for each number that was rounded and for all that was
+left out. What the profile does not have is refused by name and place, with status 1."""
+BACK = """Reads a report of hydroplan on standard input (or REPORT) and the scales that were written, and writes the
+report in the user's units: the same lines behind the head `hydroplan-user 1`. Bounds are rounded to the side on which they
+stay bounds, other numbers to the nearest."""
+
+
+def parser() -> argparse.ArgumentParser:
+    """What the command line may say."""
+    top = argparse.ArgumentParser(prog="convert", description=DESCRIPTION)
+    commands = top.add_subparsers(dest="command", required=True)
+    problem = commands.add_parser("problem", description=PROBLEM, help="a StochOptFormat file to a problem of hydroplan")
+    problem.add_argument("input", type=Path, help="the file of StochOptFormat")
+    problem.add_argument("--output", type=Path, help="where the problem is written")
+    problem.add_argument("--write-scales", type=Path, required=True, help="where the scales are written, for `convert back`")
+    problem.add_argument("--scales", type=Path, help="scales that you choose; what it leaves out is found")
+    problem.add_argument("--bounds", type=Path, help="bounds for variables without: {variable: [low, high], ..}, also by subproblem")
+    problem.add_argument("--negate-max", action="store_true", help="turn sense max into min, all costs negated")
+    problem.add_argument("--normalise", action="store_true", help="take probabilities that do not sum to 1 as shares of their sum")
+    problem.add_argument("--largest", type=int, default=10**9, help="no found scale makes a greater number (10^9)")
+    problem.add_argument("--tolerance", type=Fraction, default=Fraction(1, 1000), help="refuse what is rounded by a greater part (0.001)")
+    problem.add_argument("--ledger", type=Path, help="where the lines on roundings are written")
+    back = commands.add_parser("back", description=BACK, help="a report of hydroplan to your units")
+    back.add_argument("report", type=Path, nargs="?", help="the report (default: standard input)")
+    back.add_argument("--scales", type=Path, required=True, help="the scales that `convert problem` wrote")
+    back.add_argument("--digits", type=int, default=6, help="digits behind the point (6)")
+    back.add_argument("--exact", action="store_true", help="write exact fractions in place of decimals")
+    return top
+
+
+def main(words: Optional[Sequence[str]] = None) -> int:
+    """The status: 0, or 1 with a line on standard error."""
+    chosen = parser().parse_args(words)
+    try:
+        return _problem(chosen) if chosen.command == "problem" else _back(chosen)
+    except NotJson as fault:
+        print(f"convert: NotJson: {fault}", file=sys.stderr)
+    except (Refused, BadReport, ValueError, OSError) as fault:
+        print(f"convert: {fault}", file=sys.stderr)
+    return 1
+
+
+def load(path: Path) -> Cursor:
+    """The value of a file."""
+    document = parse(path.read_bytes())
+    return Cursor(document, document.root)
+
+
+def convert(source: Cursor, chosen: Scales, bounds: Bounds, options: argparse.Namespace) -> tuple[dict, Scales, Ledger]:
+    """The problem in whole numbers, its scales, and what was rounded and left out."""
+    ledger = Ledger(options.tolerance)
+    model = read_model(source)
+    ledger.notes.extend(model.notes)
+    model = with_bounds(without_nothing(model, ledger), bounds, ledger)
+    chosen.negated = as_minimum(model, options.negate_max)
+    if chosen.negated:
+        ledger.notes.append("sense: max was turned into min, all costs are negated")
+    scales = complete(model, chosen, options.largest)
+    return Writer(model, scales, ledger, options.normalise).problem(), scales, ledger
+
+
+def _problem(chosen: argparse.Namespace) -> int:
+    scales = read_scales(load(chosen.scales)) if chosen.scales else Scales()
+    bounds = read_bounds(load(chosen.bounds)) if chosen.bounds else Bounds({}, {})
+    problem, found, ledger = convert(load(chosen.input), scales, bounds, chosen)
+    _write(chosen.output, json.dumps(problem, ensure_ascii=False, separators=(",", ":")) + "\n", sys.stdout)
+    _write(chosen.write_scales, write_scales(found), sys.stdout)
+    lines = [*ledger.notes, *(it.line() for it in ledger.roundings)]
+    lines.append(f"{len(ledger.roundings)} numbers were rounded")
+    _write(chosen.ledger, "".join(line + "\n" for line in lines), sys.stderr)
+    return 0
+
+
+def _write(path: Optional[Path], text: str, stream) -> None:
+    if path is None:
+        stream.write(text)
+    else:
+        path.write_text(text, encoding="utf-8")
+
+
+def _back(chosen: argparse.Namespace) -> int:
+    scales = read_scales(load(chosen.scales))
+    if scales.cost is None or not scales.nodes:
+        raise ValueError(f"{chosen.scales} has not all scales: `convert problem --write-scales` writes them")
+    turning = Back(scales, None if chosen.exact else chosen.digits)
+    if chosen.report is None:
+        sys.stdout.writelines(line + "\n" for line in turning.lines(sys.stdin))
+        return 0
+    with chosen.report.open(encoding="utf-8", newline="\n") as report:
+        sys.stdout.writelines(line + "\n" for line in turning.lines(report))
+    return 0
+
+
+def read_bounds(root: Cursor) -> Bounds:
+    """A table of bounds: arrays of two numbers (null: none) by variable, or by subproblem and variable."""
+    found = Bounds({}, {})
+    for name, at in root.members():
+        if at.is_object():
+            found.by_subproblem.update({(name, variable): _pair(it) for variable, it in at.members()})
+        else:
+            found.by_variable[name] = _pair(at)
+    return found
+
+
+def _pair(cursor: Cursor) -> tuple[Optional[Quantity], Optional[Quantity]]:
+    items = cursor.items()
+    if len(items) != 2:
+        raise cursor.refuse("Shape", "a pair [low, high] is expected")
+    low, high = (None if it.is_null() else quantity(it) for it in items)
+    return low, high

@@ -1,0 +1,158 @@
+"""The command `explain`: refusals of the program in names and places of the problem file, and suspicious keys.
+
+Outside the proved core: it looks at the file again on its own, and the program's line decides.
+"""
+from __future__ import annotations
+
+import argparse
+import re
+import sys
+from fractions import Fraction
+from pathlib import Path
+from typing import Iterable, Optional, Sequence
+
+from .cursor import Cursor
+from .decimals import decimal_text
+from .located_json import NotJson, parse, path_text
+from .misspellings import random_names, warnings
+from .places import MEANINGS, culprit, descend, key_at, locate, node_path, read_refusal, rows_of, states_of
+from .profile import SCALE
+from .stochopt import find_cycle
+
+DESCRIPTION = """Reads the problem file and, on standard input, what hydroplan wrote on standard error. Writes for each
+line of hydroplan what it means, with names, the JSON path, line and column; and warns of keys that hydroplan ignores and
+that look like one it knows, and of keys that come twice. Nothing here is proved."""
+
+RANGE = re.compile(r"range: iteration (\d+) node (\d+) realization (\d+)")
+NO_STAGE = re.compile(r"no stage solution: run (\d+) node (\d+) values((?: -?\d+)*) state((?: -?\d+)*) rows((?: -?\d+)*)")
+CERTIFICATE = re.compile(r"journal refused: BadCertificate iteration (\d+) node (\d+) (\w+)((?: \d+)*)")
+FAULTS = {
+    "Shape": "not one certificate per realization, or not one multiplier per row and one list per successor, at realization {0}",
+    "Sign": "row {1} lacks the side on which its multiplier stands, at realization {0}",
+    "Cutless": "entry {2} of successor {1} names no cut, is not above the one before, or has multiplier 0, at realization {0}",
+    "Sum": "the multipliers of successor {1} do not sum to 2^24 times its weight, at realization {0}",
+    "Range": "numbers leave 128 bits at realization {0}",
+}
+
+
+def parser() -> argparse.ArgumentParser:
+    """What the command line may say."""
+    found = argparse.ArgumentParser(
+        prog="explain", description=DESCRIPTION,
+        epilog="example: hydroplan base < problem.json 2>&1 > report.txt | tools/explain problem.json",
+    )
+    found.add_argument("problem", type=Path, help="the problem file")
+    found.add_argument("--line", action="append", help="a line of hydroplan, in place of standard input")
+    found.add_argument("--keys", action="store_true", help="look at the keys alone, and read nothing else")
+    return found
+
+
+def main(words: Optional[Sequence[str]] = None) -> int:
+    """The status: 0, or 1 where the problem file cannot be read."""
+    chosen = parser().parse_args(words)
+    try:
+        data = chosen.problem.read_bytes()
+    except OSError as fault:
+        print(f"explain: {fault}", file=sys.stderr)
+        return 1
+    lines = [] if chosen.keys else chosen.line or [line for line in sys.stdin if line.startswith("hydroplan:")]
+    for line in explain(data, lines):
+        print(line)
+    return 0
+
+
+def explain(data: bytes, lines: Iterable[str]) -> list[str]:
+    """All that is said of a problem's bytes and of lines of the program."""
+    try:
+        document = parse(data)
+    except NotJson as fault:
+        said = [f"no JSON at line {fault.line}, column {fault.column}: {fault.reason}"]
+        return [*(line.strip() for line in lines), *said]
+    root = Cursor(document, document.root)
+    found: list[str] = []
+    for line in lines:
+        found.append(line.strip())
+        found.extend("  " + it for it in explain_line(root, line))
+    found.extend(f"warning: {it}" for it in warnings(root))
+    return found or ["nothing to explain: no line of hydroplan, and no suspicious keys"]
+
+
+def explain_line(root: Cursor, line: str) -> list[str]:
+    """What a line of the program means."""
+    if read_refusal(line) is not None:
+        return _refusal(root, line)
+    for form, reader in ((RANGE, _range), (NO_STAGE, _no_stage), (CERTIFICATE, _certificate)):
+        found = form.search(line)
+        if found is not None:
+            return reader(root, found)
+    return ["this line names no place of the problem; the README says what each status means"]
+
+
+def _refusal(root: Cursor, line: str) -> list[str]:
+    refusal = read_refusal(line)
+    if not root.is_object():
+        return ["the file is no object", f"path: {root.place()}"]
+    located = locate(root, refusal)
+    said = [f"what: {MEANINGS.get(refusal.kind, 'a kind that is not known here')}", f"where: {located.words}"]
+    if located.missing and refusal.kind == "Shape":
+        missing = path_text(located.missing)[1:].lstrip(".")
+        said.append(f"missing: {missing}")
+    said.append(f"path: {located.cursor.place()}")
+    closer = culprit(root, refusal, located)
+    if closer is not None:
+        said.append(f"look at: {closer[0].place()}: {closer[1]}")
+    if refusal.kind == "Cycle":
+        said.extend(_cycle(root, located.cursor))
+    return said
+
+
+def _cycle(root: Cursor, node: Cursor) -> list[str]:
+    """A ring through the node, where the file shows one."""
+    links: dict[str, list[str]] = {str(node.path[-1]): []}
+    for name, at in root.member("nodes").members():
+        successors = at.find("successors") if at.is_object() else None
+        links[name] = successors.keys() if successors is not None and successors.is_object() else []
+    links = {name: [it for it in followers if it in links] for name, followers in links.items()}
+    ring = find_cycle(links)
+    return [] if ring is None else ["ring: " + " -> ".join(ring)]
+
+
+def _range(root: Cursor, found: re.Match) -> list[str]:
+    iteration, node, realization = (int(number) for number in found.groups())
+    path, words = node_path(root, node)
+    at, _ = descend(root, (*path, "realizations", realization))
+    return [
+        f"what: in iteration {iteration} the certificates' size passes 2^127 - 1: smaller costs or quantities are needed",
+        f"where: realization {realization} of {words}", f"path: {at.place()}",
+    ]
+
+
+def _no_stage(root: Cursor, found: re.Match) -> list[str]:
+    run, node = int(found.group(1)), int(found.group(2))
+    values, states, rows = ([int(number) for number in text.split()] for text in found.groups()[2:])
+    path, words = node_path(root, node)
+    at, _ = descend(root, path)
+    said = [f"what: {words} is shown to have no decisions, in iteration or scenario {run}", f"path: {at.place()}"]
+    said.extend(f'random: "{name}" = {value}' for name, value in zip(random_names(at, root), values))
+    for name, value in zip(states_of(root), states):
+        said.append(f'state: "{name}" = {decimal_text(Fraction(value, SCALE), 6)}')
+    for number, (row, multiplier) in enumerate(zip(rows_of(root, node), rows)):
+        if multiplier:
+            weight = decimal_text(Fraction(multiplier, SCALE), 6)
+            said.append(f"row {number}: {descend(root, row)[0].place()} weighs {weight}: it asks too much together with the others")
+    return [*said, "give such rows a decision that takes up what is missing, at a cost"]
+
+
+def _certificate(root: Cursor, found: re.Match) -> list[str]:
+    node, kind = int(found.group(2)), found.group(3)
+    numbers = [*(int(number) for number in found.group(4).split()), 0, 0, 0]
+    path, words = node_path(root, node)
+    at, _ = descend(root, path)
+    said = [f"what: {FAULTS.get(kind, 'a fault that is not known here').format(*numbers)}", f"where: {words}", f"path: {at.place()}"]
+    if kind == "Sign" and numbers[1] < len(rows_of(root, node)):
+        said.append(f"row: {descend(root, rows_of(root, node)[numbers[1]])[0].place()}")
+    if kind in ("Cutless", "Sum") and at.is_object():
+        said.append(f'successor: "{key_at(at.find("successors"), numbers[1])}"')
+    return said
+
+

@@ -1,0 +1,167 @@
+"""Keys of a problem file that the program ignores and that look like one which it knows, and keys that come twice.
+
+Outside the proved core.
+"""
+from __future__ import annotations
+
+from dataclasses import dataclass
+from typing import Iterator, Optional
+
+from .cursor import Cursor
+from .profile import SETS
+
+
+@dataclass(frozen=True)
+class Keys:
+    """An object, the keys that count there, and keys of other tools that are ignored on purpose."""
+
+    cursor: Cursor
+    known: tuple[str, ...]
+    harmless: tuple[str, ...] = ()
+
+
+def warnings(root: Cursor) -> list[str]:
+    """A line for each suspicious key, in the order of the file's parts."""
+    found: list[str] = []
+    for keys in objects(root):
+        found.extend(_suspicious(keys))
+        found.extend(_twice(keys.cursor))
+    return found
+
+
+def _suspicious(keys: Keys) -> Iterator[str]:
+    for key in keys.cursor.value.content:
+        if key in keys.known or key in keys.harmless:
+            continue
+        like = nearest(key, keys.known)
+        if like is not None:
+            yield f"{_place_of(keys.cursor, key)}: the key `{key}` is ignored, and looks like `{like}`"
+
+
+def _twice(cursor: Cursor) -> Iterator[str]:
+    for key, offset in cursor.value.repeated:
+        line, column = cursor.document.line_and_column(offset)
+        yield f"{cursor.place()}: the key `{key}` comes again at line {line}, column {column}; the last one counts"
+
+
+def _place_of(cursor: Cursor, key: str) -> str:
+    line, column = cursor.document.line_and_column(cursor.value.key_offsets[key])
+    return f"{cursor.member(key).place().split(' (line')[0]} (line {line}, column {column})"
+
+
+def nearest(word: str, known: tuple[str, ...]) -> Optional[str]:
+    """The known word that differs least, none where all differ by much: 0 letters of 2, 1 of up to 5, else 2."""
+    ranked = sorted((distance(_plain(word), _plain(other)), other) for other in known)
+    return next((other for apart, other in ranked if apart <= _allowed(other)), None)
+
+
+def _allowed(word: str) -> int:
+    return 0 if len(word) <= 2 else 1 if len(word) <= 5 else 2
+
+
+def _plain(word: str) -> str:
+    return word.lower().replace("_", "").replace("-", "").replace(" ", "")
+
+
+def distance(left: str, right: str) -> int:
+    """How many letters are added, left out, changed or swapped with their neighbour (optimal string alignment)."""
+    before: list[int] = []
+    row = list(range(len(right) + 1))
+    for i, letter in enumerate(left, 1):
+        before, last, row = row, before, [i]
+        for j, other in enumerate(right, 1):
+            best = min(before[j] + 1, row[j - 1] + 1, before[j - 1] + (letter != other))
+            if i > 1 and j > 1 and letter == right[j - 2] and left[i - 2] == other:
+                best = min(best, last[j - 2] + 1)
+            row.append(best)
+    return row[-1]
+
+
+def objects(root: Cursor) -> Iterator[Keys]:
+    """All objects of the file whose keys are known, as far as the file has its form."""
+    if not root.is_object():
+        return
+    yield Keys(root, ("version", "root", "nodes", "subproblems", "validation_scenarios"), ("name", "author", "date", "description"))
+    yield from _one(root.find("version"), ("major", "minor"))
+    origin = root.find("root")
+    yield from _one(origin, ("state_variables", "successors"), ("name",))
+    for at in _members(_find(origin, "state_variables")):
+        yield from _one(at, ("initial_value",))
+    for at in _members(root.find("nodes")):
+        yield from _node(at, root)
+    for at in _members(root.find("subproblems")):
+        yield from _subproblem(at)
+    for at in _items(root.find("validation_scenarios")):
+        yield from _one(at, ("scenario",), ("probability",))
+        for step in _items(_find(at, "scenario") if at.is_object() else at):
+            yield from _one(step, ("node", "support"))
+
+
+def _find(cursor: Optional[Cursor], key: str) -> Optional[Cursor]:
+    return cursor.find(key) if cursor is not None and cursor.is_object() else None
+
+
+def _members(cursor: Optional[Cursor]) -> list[Cursor]:
+    return [at for _, at in cursor.members()] if cursor is not None and cursor.is_object() else []
+
+
+def _items(cursor: Optional[Cursor]) -> list[Cursor]:
+    return cursor.items() if cursor is not None and isinstance(cursor.value.content, list) else []
+
+
+def _one(cursor: Optional[Cursor], known: tuple[str, ...], harmless: tuple[str, ...] = ()) -> Iterator[Keys]:
+    if cursor is not None and cursor.is_object():
+        yield Keys(cursor, known, harmless)
+
+
+def _node(cursor: Cursor, root: Cursor) -> Iterator[Keys]:
+    yield from _one(cursor, ("subproblem", "realizations", "successors", "stop"))
+    for at in _items(_find(cursor, "realizations")):
+        yield from _one(at, ("probability", "support"))
+        support = _find(at, "support")
+        if support is not None and support.is_object():
+            missing = [name for name in random_names(cursor, root) if support.find(name) is None]
+            yield Keys(support, tuple(missing), tuple(random_names(cursor, root)))
+
+
+def random_names(node: Cursor, root: Cursor) -> list[str]:
+    """The names of the random variables at a node, as far as the file gives them."""
+    at = _find(node, "subproblem")
+    subproblem = _find(root.find("subproblems"), at.text()) if at is not None and at.is_text() else None
+    return [it.text() for it in _items(_find(subproblem, "random_variables")) if it.is_text()]
+
+
+def _subproblem(cursor: Cursor) -> Iterator[Keys]:
+    yield from _one(cursor, ("state_variables", "random_variables", "subproblem"))
+    for at in _members(_find(cursor, "state_variables")):
+        yield from _one(at, ("in", "out"))
+    program = _find(cursor, "subproblem")
+    yield from _one(program, ("variables", "objective", "constraints"), ("version", "name"))
+    for at in _items(_find(program, "variables")):
+        yield from _one(at, ("name",), ("primal_start",))
+    objective = _find(program, "objective")
+    yield from _one(objective, ("sense", "function"))
+    yield from _function(_find(objective, "function"))
+    for at in _items(_find(program, "constraints")):
+        yield from _one(at, ("function", "set"), ("name",))
+        yield from _function(_find(at, "function"))
+        yield from _set(_find(at, "set"))
+
+
+def _kind(cursor: Optional[Cursor]) -> str:
+    at = _find(cursor, "type")
+    return at.text() if at is not None and at.is_text() else ""
+
+
+def _function(cursor: Optional[Cursor]) -> Iterator[Keys]:
+    if _kind(cursor) == "Variable":
+        yield from _one(cursor, ("type", "name", "variable"))
+    else:
+        yield from _one(cursor, ("type", "terms", "constant"), ("name", "variable"))
+    for at in _items(_find(cursor, "terms")):
+        yield from _one(at, ("coefficient", "variable"))
+
+
+def _set(cursor: Optional[Cursor]) -> Iterator[Keys]:
+    sides = SETS.get(_kind(cursor), ("value", "lower", "upper"))
+    yield from _one(cursor, ("type", *sides), ("value", "lower", "upper"))

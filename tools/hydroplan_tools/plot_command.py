@@ -1,0 +1,153 @@
+"""The command `plot`: bounds, water values, storage and residuals from reports, as PNG and SVG or as a table.
+
+Outside the proved core: what a drawing shows is as exact as its pixels. Matplotlib is needed for drawings alone.
+"""
+from __future__ import annotations
+
+import argparse
+import sys
+from fractions import Fraction
+from pathlib import Path
+from typing import Callable, Iterator, Optional, Sequence
+
+from .back import BadReport
+from .cursor import Cursor, Refused
+from .decimals import decimal_text
+from .located_json import NotJson, parse
+from .reports import read_file
+from .series import (
+    SHARES, Fan, Point, policy_cost, residuals, stages_of, storage, water_values_along, water_values_at,
+)
+
+DESCRIPTION = """Reads reports of hydroplan, as they are or as `convert back` writes them, and draws PREFIX.png and
+PREFIX.svg (--output, needs matplotlib) or writes the numbers as a table (no --output). Nothing here is proved."""
+
+
+def parser() -> argparse.ArgumentParser:
+    """What the command line may say."""
+    top = argparse.ArgumentParser(prog="plot", description=DESCRIPTION)
+    commands = top.add_subparsers(dest="command", required=True)
+    bounds = _command(commands, "bounds", "the bound over iterations")
+    bounds.add_argument("reports", type=Path, nargs="+", help="reports of train or check")
+    bounds.add_argument("--cost", type=Path, help="a report of simulate or validate: its mean cost is drawn too")
+    values = _command(commands, "water-values", "water values by stage: slopes of the cuts that are active at given states")
+    values.add_argument("report", type=Path, help="a report of check or base, which has the cuts")
+    values.add_argument("--at", type=Path, help="a report of simulate or validate: the states that it came to")
+    values.add_argument("--state", action="append", default=[], metavar="NAME=VALUE", help="a state that all nodes get; one for each state")
+    values.add_argument("--problem", type=Path, help="the problem file, for the stages of nodes with --state")
+    for name, words in (("storage", "simulated storage by stage"), ("residuals", "residuals by stage")):
+        _command(commands, name, words).add_argument("report", type=Path, help="a report of simulate or validate")
+    return top
+
+
+def _command(commands, name: str, words: str) -> argparse.ArgumentParser:
+    found = commands.add_parser(name, description=f"Draws {words}. {DESCRIPTION}", help=words)
+    found.add_argument("--output", type=Path, help="PREFIX of the files that are drawn")
+    found.add_argument("--title", default=words, help="the title")
+    return found
+
+
+def main(words: Optional[Sequence[str]] = None) -> int:
+    """The status: 0, or 1 with a line on standard error."""
+    chosen = parser().parse_args(words)
+    try:
+        drawing, rows = COMMANDS[chosen.command](chosen)
+        if chosen.output is None:
+            sys.stdout.writelines("\t".join(row) + "\n" for row in rows)
+            return 0
+        return _draw(drawing, chosen.output)
+    except (BadReport, Refused, NotJson, ValueError, OSError) as fault:
+        print(f"plot: {fault}", file=sys.stderr)
+    return 1
+
+
+def _draw(drawing: Callable, prefix: Path) -> int:
+    try:
+        from . import drawing as pictures
+    except ImportError:
+        print("plot: drawings need matplotlib; without --output the numbers are written as a table", file=sys.stderr)
+        return 1
+    for path in pictures.save(drawing(pictures), prefix):
+        print(path)
+    return 0
+
+
+def _bounds(chosen: argparse.Namespace) -> tuple[Callable, Iterator[list[str]]]:
+    reports = [(path.stem, read_file(path)) for path in chosen.reports]
+    series = [(name, report.iterations) for name, report in reports]
+    if not any(bounds for _, bounds in series):
+        raise ValueError("no report has iterations: `train` and `check` write them")
+    cost = policy_cost(read_file(chosen.cost)) if chosen.cost else None
+    word = "no policy earns more" if reports[0][1].maximises else "no policy costs less"
+    rows = [["report", "iteration", "bound"]]
+    rows += [[name, str(number), _text(bound)] for name, bounds in series for number, bound in bounds]
+    if cost is not None:
+        rows.append([cost.label, "", _text(cost.value)])
+    return lambda pictures: pictures.draw_bounds(series, cost, word, chosen.title), iter(rows)
+
+
+def _water_values(chosen: argparse.Namespace) -> tuple[Callable, Iterator[list[str]]]:
+    report = read_file(chosen.report)
+    if not report.cuts:
+        raise ValueError("the report has no cuts: `check` and `base` write them")
+    if (chosen.at is None) == (not chosen.state):
+        raise ValueError("give either --at or --state")
+    if chosen.at is not None:
+        fans = water_values_along(report, read_file(chosen.at))
+        return lambda pictures: pictures.draw_fans(fans, "water value", chosen.title), _fan_rows(fans)
+    stages = stages_of(_problem(chosen.problem)) if chosen.problem else {}
+    points = water_values_at(report, _state(chosen.state), stages)
+    return lambda pictures: pictures.draw_points(points, bool(stages), chosen.title), _point_rows(points)
+
+
+def _problem(path: Path) -> Cursor:
+    document = parse(path.read_bytes())
+    return Cursor(document, document.root)
+
+
+def _state(words: Sequence[str]) -> dict[str, Fraction]:
+    found = {}
+    for word in words:
+        name, equals, value = word.rpartition("=")
+        if not equals:
+            raise ValueError(f"--state {word}: NAME=VALUE is expected")
+        found[name] = Fraction(value)
+    return found
+
+
+def _storage(chosen: argparse.Namespace) -> tuple[Callable, Iterator[list[str]]]:
+    fans = storage(_with_scenarios(chosen.report))
+    return lambda pictures: pictures.draw_fans(fans, "incoming", chosen.title), _fan_rows(fans)
+
+
+def _residuals(chosen: argparse.Namespace) -> tuple[Callable, Iterator[list[str]]]:
+    fans = residuals(_with_scenarios(chosen.report))
+    return lambda pictures: pictures.draw_fans(fans, "residual", chosen.title, True), _fan_rows(fans)
+
+
+def _with_scenarios(path: Path):
+    report = read_file(path)
+    if not report.scenarios:
+        raise ValueError("the report has no scenarios: `simulate` and `validate` write them")
+    return report
+
+
+def _text(value: Fraction) -> str:
+    return decimal_text(value, 9)
+
+
+def _fan_rows(fans: Sequence[Fan]) -> Iterator[list[str]]:
+    yield ["name", "stage", *(f"share {share}" for share in SHARES)]
+    for it in fans:
+        for stage, row in zip(it.stages, it.quantiles):
+            yield [it.name, str(stage), *map(_text, row)]
+
+
+def _point_rows(points: dict[str, list[Point]]) -> Iterator[list[str]]:
+    yield ["name", "stage", "node", "water value"]
+    for name, own in points.items():
+        for it in own:
+            yield [name, str(it.stage), it.node, _text(it.value)]
+
+
+COMMANDS = {"bounds": _bounds, "water-values": _water_values, "storage": _storage, "residuals": _residuals}

@@ -1,0 +1,123 @@
+"""Reports back to the user's units, by the newsvendor's scales: costs times 40 and negated, u times 4, d times 2."""
+import io
+import unittest
+from fractions import Fraction as F
+
+from hydroplan_tools.back import BadReport, Back
+from hydroplan_tools.convert_command import main
+from hydroplan_tools.reports import read_report
+from hydroplan_tools.scales import Scales, SubproblemScales
+from tests.support import DATA, S, run
+
+REPORT = f"""hydroplan 1
+scale 16777216
+state 0 "x"
+node 0 "first_stage"
+node 1 "second_stage"
+cut 1 0 {-80 * S} {60 * S}
+iteration 1 bound {-100 * S - 1}
+total iterations 1 unsettled 0
+scenario 0
+stage 0 node 1 found
+in "x" {S * 5 // 2}
+random "d" 29
+value "x_out" {S}
+value "u" {30 * S}
+row 0 residual 4
+row 1 residual {-2 * S}
+cost {-150 * S}
+end {-150 * S}
+bound {-100 * S - 1}
+rest 3
+"""
+
+# by hand: 80/40 = 2; -60/40 = -1.5; (100 + 1/S)/40 is above 2.5, and a bound of earnings goes up; 29/2; 30/4; 4/(4 S); -2/4; 150/40
+EXPECTED = """hydroplan-user 1
+sense max
+digits 6
+state 0 "x"
+node 0 "first_stage"
+node 1 "second_stage"
+cut 1 0 2 -1.5
+iteration 1 bound 2.500001
+total iterations 1 unsettled 0
+scenario 0
+stage 0 node 1 found
+in "x" 2.5
+random "d" 14.5
+value "x_out" 1
+value "u" 7.5
+row 0 residual 0
+row 1 residual -0.5
+cost 3.75
+end 3.75
+bound 2.500001
+rest 3
+"""
+
+
+def scales(negated=True, cost=F(40), state=F(1)):
+    second = SubproblemScales({"u": F(4), "d": F(2)}, {0: F(4), 1: F(4)}, {}, [0, 1], {"x_out": "x"})
+    first = SubproblemScales({}, {}, {}, [], {"x_out": "x"})
+    nodes = {"first_stage": "first", "second_stage": "second"}
+    return Scales(cost, None, {"x": state}, {"first": first, "second": second}, nodes, negated)
+
+
+def turned(report, own, digits=6):
+    return "".join(line + "\n" for line in Back(own, digits).lines(io.StringIO(report)))
+
+
+class Turning(unittest.TestCase):
+    def test_all_lines(self):
+        self.assertEqual(turned(REPORT, scales()), EXPECTED)
+
+    def test_exact_fractions(self):
+        text = turned(REPORT, scales(), None)
+        self.assertIn(f"bound {F(100 * S + 1, 40 * S)}\n", text)
+        self.assertIn(f"row 0 residual 1/{S}\n", text)
+        self.assertIn("\nexact\n", text)
+
+    def test_costs_that_are_not_negated_and_a_scaled_state(self):
+        text = turned(REPORT, scales(False, F(8), F(10)))
+        # -80/8; 60/8 times 10; a lower bound of -12.5 - 1/(8 S) goes down
+        self.assertIn("cut 1 0 -10 75\n", text)
+        self.assertIn("bound -12.500001\n", text)
+        self.assertIn('in "x" 0.25\n', text)
+        self.assertIn('value "x_out" 0.1\n', text)
+        self.assertNotIn("sense", text)
+
+    def test_the_upper_side_of_a_policy_goes_the_other_way(self):
+        self.assertIn("upper 2.5\n", turned(REPORT + f"upper {-100 * S - 1}\n", scales()))
+        self.assertIn("upper 2.500001\n", turned(REPORT + f"upper {100 * S + 1}\n", scales(False)))
+
+    def test_what_was_turned_is_read_as_a_report(self):
+        report = read_report(io.StringIO(EXPECTED))
+        self.assertTrue(report.maximises)
+        self.assertEqual((report.cuts[0].alpha, report.cuts[0].slopes), (2, (F(-3, 2),)))
+        stage = report.scenarios[0].stages[0]
+        self.assertEqual((stage.randoms["d"], stage.values["u"], stage.residuals), (F(29, 2), F(15, 2), [0, F(-1, 2)]))
+
+
+class Faults(unittest.TestCase):
+    def test_reports_that_do_not_fit(self):
+        rows = [
+            ("scale 16777216", "scale 1000", "line 2"), ('state 0 "x"', 'state 0 "y"', "another problem"),
+            ('node 1 "second_stage"', 'node 1 "third_stage"', "another problem"), ("rest 3", "remainder 3", "no line of a report"),
+            ('value "u"', 'value "v"', "line 14"), ("row 1 residual", "row 2 residual", "line 16"),
+            (f"cut 1 0 {-80 * S} {60 * S}", "cut 1 0 5", "not one slope per state"), ("random \"d\" 29", "random d 29", "line 12"),
+        ]
+        for old, new, part in rows:
+            with self.subTest(new=new):
+                self.assertIn(old, REPORT)
+                with self.assertRaises(BadReport) as caught:
+                    turned(REPORT.replace(old, new), scales())
+                self.assertIn(part, str(caught.exception))
+
+    def test_scales_that_are_not_complete(self):
+        status, out, err = run(main, "back", "--scales", DATA / "newsvendor.bounds.json", typed=REPORT)
+        self.assertEqual((status, out), (1, ""))
+        self.assertIn("has not all scales", err)
+
+
+if __name__ == "__main__":
+    unittest.main()
