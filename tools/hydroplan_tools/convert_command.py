@@ -13,7 +13,7 @@ from pathlib import Path
 from typing import Optional, Sequence
 
 from .back import BadReport, Back
-from .converting import Bounds, Ledger, Writer, as_minimum, with_bounds, without_nothing
+from .converting import Bounds, Ledger, Writer, as_minimum, with_bounds, without_fixings, without_nothing
 from .cursor import Cursor, Refused
 from .located_json import NotJson, parse
 from .model import Quantity, quantity
@@ -75,7 +75,8 @@ def convert(source: Cursor, chosen: Scales, bounds: Bounds, options: argparse.Na
     ledger = Ledger(options.tolerance)
     model = read_model(source)
     ledger.notes.extend(model.notes)
-    model = with_bounds(without_nothing(model, ledger), bounds, ledger)
+    model = without_fixings(without_nothing(model, ledger), ledger)
+    model = with_bounds(model, bounds, ledger)
     chosen.negated = as_minimum(model, options.negate_max)
     if chosen.negated:
         ledger.notes.append("sense: max was turned into min, all costs are negated")

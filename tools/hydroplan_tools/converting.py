@@ -12,7 +12,7 @@ from typing import Iterable, Iterator, Optional, Sequence
 from .decimals import decimal_text
 from .model import Constraint, Function, Model, Node, Quantity, Step, Subproblem, Term, refuse_at
 from . import profile
-from .scales import Scales, rows_of
+from .scales import Scales, bounds_of, rows_of
 from .weights import SUM_TOLERANCE, full_weights, stopping_weights
 
 
@@ -76,26 +76,65 @@ class Bounds:
         return found or self.by_variable.get(variable, (None, None))
 
 
+def without_fixings(model: Model, ledger: Ledger) -> Model:
+    """The model without constraints that fix a random variable or an incoming state to one value.
+
+    Tools leave them behind that set these variables by fixing them; what comes in and the realizations give the values.
+    """
+    subproblems = {}
+    for name, subproblem in model.subproblems.items():
+        given = {*subproblem.randoms, *subproblem.incoming.values()}
+        fixings = [it for it in subproblem.constraints if _fixed(it) in given]
+        for it in fixings:
+            ledger.notes.append(f'left out: {it.place}: it fixes "{_fixed(it)}", which is given from outside')
+        kept = tuple(it for it in subproblem.constraints if it not in fixings)
+        subproblems[name] = replace(subproblem, constraints=kept)
+    return replace(model, subproblems=subproblems)
+
+
+def _fixed(constraint: Constraint) -> Optional[str]:
+    """The variable that a constraint fixes."""
+    is_fixing = constraint.function.is_variable and constraint.set_type == "EqualTo"
+    return constraint.function.terms[0].variable if is_fixing else None
+
+
 def with_bounds(model: Model, bounds: Bounds, ledger: Ledger) -> Model:
-    """The model with a bound from the table for each side that a decision lacks; refused where one stays open."""
+    """The model with a bound from the table for each side that a decision lacks; refused where one stays open.
+
+    A decision that stands in no cost and no row, and leaves as no state, needs no table: its value is of no account.
+    """
     open_sides: list[str] = []
     subproblems = {}
     for name, subproblem in model.subproblems.items():
         added = []
         for variable in subproblem.decisions():
             wanted = missing_sides(subproblem, variable)
-            table = dict(zip(("lower", "upper"), bounds.find(name, variable)))
+            table, source = dict(zip(("lower", "upper"), bounds.find(name, variable))), "from the table"
+            if wanted and not _is_used(subproblem, variable):
+                table, source = _any_bounds(subproblem, variable), "since nothing depends on it"
             open_sides += [f'"{variable}" of "{name}" ({side})' for side in wanted if table[side] is None]
             found = {side: table[side] for side in wanted if table[side] is not None}
             if found:
                 added.append(_bound(variable, found, subproblem))
                 taken = ", ".join(f"{side} {it.text}" for side, it in found.items())
-                ledger.notes.append(f'bound: "{variable}" of "{name}" has {taken} from the table')
+                ledger.notes.append(f'bound: "{variable}" of "{name}" has {taken} {source}')
         subproblems[name] = replace(subproblem, constraints=(*subproblem.constraints, *added))
     if open_sides:
         reason = "each decision needs a lower and an upper bound; give --bounds for " + ", ".join(open_sides)
         raise refuse_at("$.subproblems", "Unbounded", reason)
     return replace(model, subproblems=subproblems)
+
+
+def _is_used(subproblem: Subproblem, variable: str) -> bool:
+    functions = [it.function for it in subproblem.constraints if not subproblem.is_bound(it)]
+    terms = [term for function in (*functions, subproblem.objective) for term in function.terms]
+    return variable in subproblem.outgoing.values() or any(term.variable == variable for term in terms)
+
+
+def _any_bounds(subproblem: Subproblem, variable: str) -> dict[str, Quantity]:
+    """One value as both sides: a side that is given, else 0."""
+    given = next(bounds_of(subproblem, variable), Quantity(Fraction(0), "0", subproblem.cursor.place()))
+    return {"lower": given, "upper": given}
 
 
 def missing_sides(subproblem: Subproblem, variable: str) -> list[str]:

@@ -282,6 +282,33 @@ class Refusals(Files):
         self.assertIn("a pair [low, high] is expected", self.refused(NEWSVENDOR, "--bounds", bounds))
 
 
+class LeftBehind(Files):
+    """What tools leave in a file: fixed random variables and incoming states, and a variable that nothing uses."""
+
+    WORDS = ("--bounds", BOUNDS, "--negate-max")
+
+    def test_fixed_values_are_left_out(self):
+        text = NEWSVENDOR.read_text(encoding="utf-8")
+        fixing = '{"function": {"type": "Variable", "name": "%s"}, "set": {"type": "EqualTo", "value": 7.5}}, '
+        self.assertIn('{"name": "balance"', text)
+        edited = text.replace('{"name": "balance"', fixing % "d" + fixing % "x_in" + '{"name": "balance"')
+        problem, scales, ledger = self.convert(self.write("edited.json", edited), *self.WORDS)
+        self.assertEqual((problem, scales), self.convert(NEWSVENDOR, *self.WORDS)[:2])
+        for name in ("d", "x_in"):
+            self.assertTrue(any(f'it fixes "{name}", which is given from outside' in line for line in ledger))
+
+    def test_a_variable_that_nothing_uses_needs_no_bounds(self):
+        text = NEWSVENDOR.read_text(encoding="utf-8").replace('{"name": "u"}, ', '{"name": "u"}, {"name": "future"}, ', 1)
+        problem, _, ledger = self.convert(self.write("edited.json", text), *self.WORDS)
+        constraints = problem["subproblems"]["second_stage_subproblem"]["subproblem"]["constraints"]
+        self.assertIn({"function": {"type": "Variable", "name": "future"}, "set": {"type": "Interval", "lower": 0, "upper": 0}}, constraints)
+        self.assertTrue(any("since nothing depends on it" in line for line in ledger))
+        bound = '{"function": {"type": "Variable", "name": "future"}, "set": {"type": "GreaterThan", "lower": 2.0}}, '
+        problem = self.convert(self.write("edited.json", text.replace('{"name": "balance"', bound + '{"name": "balance"')), *self.WORDS)[0]
+        constraints = problem["subproblems"]["second_stage_subproblem"]["subproblem"]["constraints"]
+        self.assertIn({"function": {"type": "Variable", "name": "future"}, "set": {"type": "LessThan", "upper": 2}}, constraints)
+
+
 class Older(Files):
     """Files of version 0: `head`, `edges`, SingleVariable; and null for an infinite side."""
 
