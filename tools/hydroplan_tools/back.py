@@ -57,9 +57,9 @@ class Back:
             return [line]
         turn: dict[str, Callable[[str], str]] = {
             "state": self._state, "node": self._node, "stage": self._stage, "branch": self._branch,
-            "cut": self._cut, "plane": self._cut, "iteration": self._iteration, "bound": self._bound, "worst": self._bound,
-            "upper": self._upper, "in": self._incoming, "random": self._random, "value": self._value, "row": self._row,
-            "cost": self._cost, "end": self._cost,
+            "cut": self._cut, "plane": self._cut, "iteration": self._iteration, "bound": self._bound,
+            "worst": self._bound, "upper": self._upper, "in": self._incoming, "random": self._random,
+            "value": self._value, "row": self._row, "cost": self._cost, "end": self._cost,
         }
         if word not in turn:
             raise ValueError("no line of a report")

@@ -1,7 +1,7 @@
 """The command `convert`: a file of StochOptFormat to a problem in whole numbers, and a report back to the user's units.
 
-Outside the proved core: what it writes is not proved to mean what was read. The program's bounds are bounds of the problem
-that was written, so the ledger of what was rounded belongs to them.
+Outside the proved core: what it writes is not proved to mean what was read. The program's bounds are bounds of the
+problem that was written, so the ledger of what was rounded belongs to them.
 """
 from __future__ import annotations
 
@@ -20,30 +20,32 @@ from .model import Quantity, quantity
 from .scales import Scales, complete, read_scales, write_scales
 from .stochopt import read_model
 
-DESCRIPTION = "Converts between StochOptFormat with decimal numbers and the whole numbers of hydroplan. Nothing here is proved."
-PROBLEM = """Reads a file of StochOptFormat 1.x and writes a problem in whole numbers on standard output (or --output), its
-scales (--write-scales), and on standard error (or --ledger) a line for each number that was rounded and for all that was
-left out. What the profile does not have is refused by name and place, with status 1."""
-BACK = """Reads a report of hydroplan on standard input (or REPORT) and the scales that were written, and writes the
-report in the user's units: the same lines behind the head `hydroplan-user 1`. Bounds are rounded to the side on which they
-stay bounds, other numbers to the nearest."""
+DESCRIPTION = """Converts between StochOptFormat with decimal numbers and the whole numbers of hydroplan. Nothing here is
+proved."""
+PROBLEM = """Reads a file of StochOptFormat 1.x and writes a problem in whole numbers on standard output (or --output),
+its scales (--write-scales), and on standard error (or --ledger) a line for each number that was rounded and for all that
+was left out. What the profile does not have is refused by name and place, with status 1."""
+BACK = """Reads a report of hydroplan on standard input (or REPORT) and the scales that were written, and writes on standard
+output the report in the user's units: the same lines behind the head `hydroplan-user 1`. Bounds are rounded to the side
+on which they stay bounds, other numbers to the nearest."""
 
 
 def parser() -> argparse.ArgumentParser:
     """What the command line may say."""
     top = argparse.ArgumentParser(prog="convert", description=DESCRIPTION)
     commands = top.add_subparsers(dest="command", required=True)
-    problem = commands.add_parser("problem", description=PROBLEM, help="a StochOptFormat file to a problem of hydroplan")
-    problem.add_argument("input", type=Path, help="the file of StochOptFormat")
-    problem.add_argument("--output", type=Path, help="where the problem is written")
-    problem.add_argument("--write-scales", type=Path, required=True, help="where the scales are written, for `convert back`")
-    problem.add_argument("--scales", type=Path, help="scales that you choose; what it leaves out is found")
-    problem.add_argument("--bounds", type=Path, help="bounds for variables without: {variable: [low, high], ..}, also by subproblem")
-    problem.add_argument("--negate-max", action="store_true", help="turn sense max into min, all costs negated")
-    problem.add_argument("--normalise", action="store_true", help="take probabilities that do not sum to 1 as shares of their sum")
-    problem.add_argument("--largest", type=int, default=10**9, help="no found scale makes a greater number (10^9)")
-    problem.add_argument("--tolerance", type=Fraction, default=Fraction(1, 1000), help="refuse what is rounded by a greater part (0.001)")
-    problem.add_argument("--ledger", type=Path, help="where the lines on roundings are written")
+    problem = commands.add_parser("problem", description=PROBLEM, help="a file of StochOptFormat to a problem")
+    add = problem.add_argument
+    add("input", type=Path, help="the file of StochOptFormat")
+    add("--output", type=Path, help="where the problem is written")
+    add("--write-scales", type=Path, required=True, help="where the scales are written, for `convert back`")
+    add("--scales", type=Path, help="scales that you choose; what it leaves out is found")
+    add("--bounds", type=Path, help="bounds for variables without: {variable: [low, high], ..}, also by subproblem")
+    add("--negate-max", action="store_true", help="turn sense max into min, all costs negated")
+    add("--normalise", action="store_true", help="take probabilities that do not sum to 1 as parts of their sum")
+    add("--largest", type=int, default=10**9, help="no found scale makes a greater number (10^9)")
+    add("--tolerance", type=Fraction, default=Fraction(1, 1000), help="refuse what is rounded by more than this part (0.001)")
+    add("--ledger", type=Path, help="where the lines on roundings are written")
     back = commands.add_parser("back", description=BACK, help="a report of hydroplan to your units")
     back.add_argument("report", type=Path, nargs="?", help="the report (default: standard input)")
     back.add_argument("--scales", type=Path, required=True, help="the scales that `convert problem` wrote")

@@ -47,7 +47,8 @@ class Ledger:
         """The whole number for a scaled value of a given number; refused where it is too large or too far away."""
         written = round(exact)
         if abs(written) > profile.MOST_NUMBER:
-            raise refuse_at(given.place, "TooLarge", f"{given.text} becomes {written}, above 2^40: choose a smaller scale")
+            reason = f"{given.text} becomes {written}, above 2^40: choose a smaller scale"
+            raise refuse_at(given.place, "TooLarge", reason)
         if abs(written - exact) > self.tolerance * abs(exact):
             reason = f"{given.text} would be {decimal_text(exact, 12)} and become {written}: choose a greater scale"
             raise refuse_at(given.place, "RoundedTooFar", reason)
@@ -151,7 +152,8 @@ def _bound(variable: str, sides: dict[str, Quantity], subproblem: Subproblem) ->
     lower, upper = sides.get("lower"), sides.get("upper")
     if lower and upper and lower.value > upper.value:
         raise refuse_at(place, "EmptyBox", f'the table bounds "{variable}" to {lower.text} to {upper.text}')
-    return Constraint(Function((Term(one, variable),), None, True), _set_type(lower, upper, ""), lower, upper, None, place)
+    function = Function((Term(one, variable),), None, True)
+    return Constraint(function, _set_type(lower, upper, ""), lower, upper, None, place)
 
 
 def _set_type(lower: Optional[Quantity], upper: Optional[Quantity], given: str) -> str:
@@ -163,7 +165,7 @@ def _set_type(lower: Optional[Quantity], upper: Optional[Quantity], given: str) 
 
 
 def as_minimum(model: Model, may_negate: bool) -> bool:
-    """Whether the costs are to be negated, because the model maximises; refused where that is not asked for, or mixed."""
+    """Whether the costs are to be negated, because the model maximises; refused where that is not asked for."""
     senses = {it.sense for it in model.subproblems.values()} - {"feasibility"}
     if "max" not in senses:
         return False
@@ -238,7 +240,8 @@ class Writer:
     def problem(self) -> dict:
         """The problem as a JSON value of whole numbers."""
         _within_limits(self.model)
-        states = {name: self.ledger.whole(it, it.value * self.scales.states[name]) for name, it in self.model.states.items()}
+        scales = self.scales.states
+        states = {name: self.ledger.whole(it, it.value * scales[name]) for name, it in self.model.states.items()}
         return {
             **self.model.texts,
             "version": {"major": 1, "minor": 0},
@@ -293,9 +296,8 @@ class Writer:
         return {"node": step.node, "support": self._support(self.model.nodes[step.node].subproblem, step.support)}
 
     def _subproblem(self, name: str, subproblem: Subproblem) -> dict:
-        states = {
-            state: {"in": variable, "out": subproblem.outgoing[state]} for state, variable in subproblem.incoming.items()
-        }
+        outgoing = subproblem.outgoing
+        states = {state: {"in": name, "out": outgoing[state]} for state, name in subproblem.incoming.items()}
         return {
             "state_variables": states,
             "random_variables": list(subproblem.randoms),

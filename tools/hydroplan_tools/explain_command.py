@@ -19,17 +19,18 @@ from .places import MEANINGS, culprit, descend, key_at, locate, node_path, read_
 from .profile import SCALE
 from .stochopt import find_cycle
 
-DESCRIPTION = """Reads the problem file and, on standard input, what hydroplan wrote on standard error. Writes for each
-line of hydroplan what it means, with names, the JSON path, line and column; and warns of keys that hydroplan ignores and
-that look like one it knows, and of keys that come twice. Nothing here is proved."""
+DESCRIPTION = """Reads the problem file and, on standard input, what hydroplan wrote on standard error. Writes on standard
+output for each line of hydroplan what it means, with names, the JSON path, line and column; and warns of keys that
+hydroplan ignores and that look like one it knows, and of keys that come twice. Nothing here is proved."""
 
 RANGE = re.compile(r"range: iteration (\d+) node (\d+) realization (\d+)")
-NO_STAGE = re.compile(r"no stage solution: run (\d+) node (\d+) values((?: -?\d+)*) state((?: -?\d+)*) rows((?: -?\d+)*)")
+NUMBERS = r"((?: -?\d+)*)"
+NO_STAGE = re.compile(rf"no stage solution: run (\d+) node (\d+) values{NUMBERS} state{NUMBERS} rows{NUMBERS}")
 CERTIFICATE = re.compile(r"journal refused: BadCertificate iteration (\d+) node (\d+) (\w+)((?: \d+)*)")
 FAULTS = {
-    "Shape": "not one certificate per realization, or not one multiplier per row and one list per successor, at realization {0}",
+    "Shape": "not one certificate per realization, or not one multiplier per row and list per successor, at realization {0}",
     "Sign": "row {1} lacks the side on which its multiplier stands, at realization {0}",
-    "Cutless": "entry {2} of successor {1} names no cut, is not above the one before, or has multiplier 0, at realization {0}",
+    "Cutless": "entry {2} of successor {1} names no cut, is not above the last, or has multiplier 0, at realization {0}",
     "Sum": "the multipliers of successor {1} do not sum to 2^24 times its weight, at realization {0}",
     "Range": "numbers leave 128 bits at realization {0}",
 }
@@ -122,7 +123,7 @@ def _range(root: Cursor, found: re.Match) -> list[str]:
     path, words = node_path(root, node)
     at, _ = descend(root, (*path, "realizations", realization))
     return [
-        f"what: in iteration {iteration} the certificates' size passes 2^127 - 1: smaller costs or quantities are needed",
+        f"what: in iteration {iteration} the size of certificates passes 2^127 - 1: use smaller costs or quantities",
         f"where: realization {realization} of {words}", f"path: {at.place()}",
     ]
 
@@ -139,7 +140,8 @@ def _no_stage(root: Cursor, found: re.Match) -> list[str]:
     for number, (row, multiplier) in enumerate(zip(rows_of(root, node), rows)):
         if multiplier:
             weight = decimal_text(Fraction(multiplier, SCALE), 6)
-            said.append(f"row {number}: {descend(root, row)[0].place()} weighs {weight}: it asks too much together with the others")
+            place = descend(root, row)[0].place()
+            said.append(f"row {number}: {place} weighs {weight}: it asks too much together with the others")
     return [*said, "give such rows a decision that takes up what is missing, at a cost"]
 
 
@@ -148,7 +150,8 @@ def _certificate(root: Cursor, found: re.Match) -> list[str]:
     numbers = [*(int(number) for number in found.group(4).split()), 0, 0, 0]
     path, words = node_path(root, node)
     at, _ = descend(root, path)
-    said = [f"what: {FAULTS.get(kind, 'a fault that is not known here').format(*numbers)}", f"where: {words}", f"path: {at.place()}"]
+    meaning = FAULTS.get(kind, "a fault that is not known here").format(*numbers)
+    said = [f"what: {meaning}", f"where: {words}", f"path: {at.place()}"]
     if kind == "Sign" and numbers[1] < len(rows_of(root, node)):
         said.append(f"row: {descend(root, rows_of(root, node)[numbers[1]])[0].place()}")
     if kind in ("Cutless", "Sum") and at.is_object():

@@ -1,4 +1,4 @@
-"""JSON whose values know where they stand: the text of each number as it was written, and the place of each value and key.
+"""JSON whose values know where they stand: the text of each number as written, and the place of each value and key.
 
 Outside the proved core. It accepts what the program's reader accepts (at most 127 levels, no number that rounds to an
 infinity, the last of equal keys stays) and says at which line and column a text is no JSON.

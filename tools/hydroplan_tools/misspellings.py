@@ -81,7 +81,8 @@ def objects(root: Cursor) -> Iterator[Keys]:
     """All objects of the file whose keys are known, as far as the file has its form."""
     if not root.is_object():
         return
-    yield Keys(root, ("version", "root", "nodes", "subproblems", "validation_scenarios"), ("name", "author", "date", "description"))
+    known = ("version", "root", "nodes", "subproblems", "validation_scenarios")
+    yield Keys(root, known, ("name", "author", "date", "description"))
     yield from _one(root.find("version"), ("major", "minor"))
     origin = root.find("root")
     yield from _one(origin, ("state_variables", "successors"), ("name",))

@@ -221,14 +221,14 @@ def _step_of_scenario(root: Cursor, refusal: Refusal) -> tuple[Path, str]:
 
 
 FINDERS: dict[str, Callable[[Cursor, Refusal], tuple[Path, str]]] = {
-    "whole": _whole, "root": _root, "subproblem": _subproblem, "variable": _variable, "state": _state, "random": _random,
-    "objective": _objective, "constraint": _constraint, "node": _node, "realization": _realization, "support": _support,
-    "successor": _successor, "scenario": _scenario, "step": _step_of_scenario,
+    "whole": _whole, "root": _root, "subproblem": _subproblem, "variable": _variable, "state": _state,
+    "random": _random, "objective": _objective, "constraint": _constraint, "node": _node, "realization": _realization,
+    "support": _support, "successor": _successor, "scenario": _scenario, "step": _step_of_scenario,
 }
 
 
 def culprit(root: Cursor, refusal: Refusal, located: Located) -> Optional[tuple[Cursor, str]]:
-    """A closer look: the number or name at the place that makes the refusal, with a word on it; none where none shows."""
+    """A closer look: the value at the place that makes the refusal, with a word on it; none where none shows."""
     if located.missing:
         return None
     if refusal.kind in NUMBER_TESTS:
@@ -258,12 +258,17 @@ def _shape_of(refusal: Refusal, located: Located) -> str:
     return {"successor": "number", "support": "number", "random": "string"}.get(refusal.part, refusal.part)
 
 
+NUMBER_KEYS = (
+    "initial_value", "probability", "coefficient", "function", "constant", "set", "value", "lower", "upper", "stop",
+)
+
+
 def _numbers(cursor: Cursor) -> Iterator[Cursor]:
     """The numbers that belong to a place itself: not those of parts that have places of their own."""
     if cursor.is_number():
         yield cursor
     elif cursor.is_object():
-        for key in ("initial_value", "probability", "coefficient", "function", "constant", "set", "value", "lower", "upper", "stop"):
+        for key in NUMBER_KEYS:
             found = cursor.find(key)
             if found is not None:
                 yield from _numbers(found)
@@ -336,7 +341,8 @@ def rows_of(root: Cursor, node: int) -> list[Path]:
         return []
     subproblem = found.find("subproblem")
     randoms = random_names(found, root)
-    path: Path = ("subproblems", subproblem.text() if subproblem and subproblem.is_text() else 0, "subproblem", "constraints")
+    name = subproblem.text() if subproblem is not None and subproblem.is_text() else 0
+    path: Path = ("subproblems", name, "subproblem", "constraints")
     constraints, missing = descend(root, path)
     items = [] if missing else constraints.items()
     return [it.path for it in items if not _is_bound(it, randoms)]
@@ -345,7 +351,8 @@ def rows_of(root: Cursor, node: int) -> list[Path]:
 def _is_bound(constraint: Cursor, randoms: list[str]) -> bool:
     try:
         function = constraint.member("function")
-        return function.member("type").text() == "Variable" and function.member("name", "variable").text() not in randoms
+        kind = function.member("type").text()
+        return kind == "Variable" and function.member("name", "variable").text() not in randoms
     except Refused:
         return False
 

@@ -30,10 +30,12 @@ def parser() -> argparse.ArgumentParser:
     bounds = _command(commands, "bounds", "the bound over iterations")
     bounds.add_argument("reports", type=Path, nargs="+", help="reports of train or check")
     bounds.add_argument("--cost", type=Path, help="a report of simulate or validate: its mean cost is drawn too")
-    values = _command(commands, "water-values", "water values by stage: slopes of the cuts that are active at given states")
+    words = "water values by stage: slopes of the cuts that are active at given states"
+    values = _command(commands, "water-values", words)
     values.add_argument("report", type=Path, help="a report of check or base, which has the cuts")
     values.add_argument("--at", type=Path, help="a report of simulate or validate: the states that it came to")
-    values.add_argument("--state", action="append", default=[], metavar="NAME=VALUE", help="a state that all nodes get; one for each state")
+    words = "a state that all nodes get; one for each state"
+    values.add_argument("--state", action="append", default=[], metavar="NAME=VALUE", help=words)
     values.add_argument("--problem", type=Path, help="the problem file, for the stages of nodes with --state")
     for name, words in (("storage", "simulated storage by stage"), ("residuals", "residuals by stage")):
         _command(commands, name, words).add_argument("report", type=Path, help="a report of simulate or validate")

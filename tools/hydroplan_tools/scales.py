@@ -1,9 +1,9 @@
 """Scales: by what each quantity, each constraint and all costs are multiplied to be whole numbers.
 
-Outside the proved core. A scale is chosen by the user, or found: the least one that makes all numbers whole, where these
-stay small enough; else the least one that makes whole the simplest fractions within one part in 10^9 of them, so 0.3 for
-0.30000000000000004 and 1/3 for 0.3333333333; else the greatest power of ten that keeps them small enough. Numbers are then
-rounded, and the converter says which.
+Outside the proved core. A scale is chosen by the user, or found: the least one that makes all numbers whole, where
+these stay small enough; else the least one that makes whole the simplest fractions within one part in 10^9 of them, so
+0.3 for 0.30000000000000004 and 1/3 for 0.3333333333; else the greatest power of ten that keeps them small enough. Numbers
+are then rounded, and the converter says which.
 """
 from __future__ import annotations
 
@@ -162,7 +162,8 @@ def _known(model: Model, chosen: Scales) -> None:
         subproblem = model.subproblems[name]
         for variable in own.variables:
             if variable not in _free_variables(subproblem):
-                what = "is a state's: its scale is that of the state" if variable in subproblem.variables else "is not there"
+                there = variable in subproblem.variables
+                what = "is a state's: its scale is that of the state" if there else "is not there"
                 raise ValueError(f'a scale is given for the variable "{variable}" of "{name}", which {what}')
         rows = rows_of(subproblem)
         names = {subproblem.constraints[at].name for at in rows}
@@ -213,8 +214,9 @@ def _scale(cursor: Optional[Cursor]) -> Optional[Fraction]:
 
 def write_scales(scales: Scales) -> str:
     """The text of a file of scales, which `read_scales` reads."""
+    about = "tools/convert multiplied by these; a number of the program divided by its scale is in the user's units"
     return json.dumps({
-        "about": "scales by which tools/convert multiplied; a number of the program divided by its scale is in the user's units",
+        "about": about,
         "negated": scales.negated,
         "cost": str(scales.cost),
         "states": _texts(scales.states),

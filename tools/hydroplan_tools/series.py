@@ -102,7 +102,7 @@ def cuts_by_node(report: Report) -> list[list[Cut]]:
 
 
 def water_values_along(report: Report, simulation: Report) -> list[Fan]:
-    """For each state a fan of its water value: what a unit more of it saves at a step, by the cut that is active there."""
+    """For each state a fan of its water value: what a unit more of it saves at a step, by the active cut there."""
     if simulation.states != report.states or simulation.nodes != report.nodes:
         raise ValueError("the two reports are of different problems")
     cuts = cuts_by_node(report)

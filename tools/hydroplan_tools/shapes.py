@@ -57,7 +57,8 @@ def wrong_shape(cursor: Cursor, part: str) -> Optional[tuple[Cursor, str]]:
     """
     plain = {"number": NUMBER, "string": STRING, "initial": "a number, or an object with the number `initial_value`,"}
     if part in plain:
-        return None if cursor.value.kind() == plain[part] else (cursor, f"{plain[part]} is expected, not {cursor.value.kind()}")
+        kind = cursor.value.kind()
+        return None if kind == plain[part] else (cursor, f"{plain[part]} is expected, not {kind}")
     if part not in MEMBERS or (part == "scenario" and not cursor.is_object()):
         return None
     if not cursor.is_object():

@@ -16,9 +16,9 @@ from .located_json import NotJson
 from .scales import read_scales
 from .watching import Units, Watch, run_check
 
-DESCRIPTION = """Follows a journal that `hydroplan train` writes: runs `hydroplan check JOURNAL` on the problem whenever the
-journal changed, and writes a row for each iteration. Nothing is written but these rows. Ends with --until, --once
-or an interrupt. The bounds are those that `check` printed; nothing else here is proved."""
+DESCRIPTION = """Follows a journal that `hydroplan train` writes: runs `hydroplan check JOURNAL` on the problem file
+whenever the journal changed, and writes a row for each iteration on standard output, and nothing else. Ends with --until,
+--once or an interrupt. The bounds are those that `check` printed; nothing else here is proved."""
 
 
 def parser() -> argparse.ArgumentParser:

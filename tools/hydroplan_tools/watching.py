@@ -44,7 +44,8 @@ def run_check(program: Path, journal: Path, problem: Path) -> Look:
     """Runs `check` on the journal."""
     with problem.open("rb") as source:
         ended = subprocess.run([str(program), "check", str(journal)], stdin=source, capture_output=True, check=False)
-    return read_check(ended.returncode, ended.stdout.decode("utf-8", "replace"), ended.stderr.decode("utf-8", "replace"))
+    output, errors = (it.decode("utf-8", "replace") for it in (ended.stdout, ended.stderr))
+    return read_check(ended.returncode, output, errors)
 
 
 @dataclass(frozen=True)
@@ -91,8 +92,8 @@ def rows(before: Look, now: Look, seconds: float, units: Units, most: int) -> It
 class Watch:
     """Looks at a journal again and again. The devices are handed in: a look, what tells of a change, a clock, a sleep.
 
-    While bytes stand behind the last gate a record is being written; its gate opens without a change of size, so each such
-    look is followed by another.
+    While bytes stand behind the last gate a record is being written; its gate opens without a change of size, so each
+    such look is followed by another.
     """
 
     look: Callable[[], Look]
