@@ -11,13 +11,12 @@ from fractions import Fraction
 from pathlib import Path
 from typing import Iterable, Optional, Sequence
 
-from .cursor import Cursor
+from .cursor import Cursor, Refused
 from .decimals import decimal_text
 from .located_json import NotJson, parse, path_text
 from .misspellings import random_names, warnings
 from .places import MEANINGS, culprit, descend, key_at, locate, node_path, read_refusal, rows_of, states_of
 from .profile import SCALE
-from .stochopt import find_cycle
 
 DESCRIPTION = """Reads the problem file and, on standard input, what hydroplan wrote on standard error. Writes on standard
 output for each line of hydroplan what it means, with names, the JSON path, line and column; and warns of keys that
@@ -73,9 +72,16 @@ def explain(data: bytes, lines: Iterable[str]) -> list[str]:
     found: list[str] = []
     for line in lines:
         found.append(line.strip())
-        found.extend("  " + it for it in explain_line(root, line))
+        found.extend("  " + it for it in _explained(root, line))
     found.extend(f"warning: {it}" for it in warnings(root))
     return found or ["nothing to explain: no line of hydroplan, and no suspicious keys"]
+
+
+def _explained(root: Cursor, line: str) -> list[str]:
+    try:
+        return explain_line(root, line)
+    except Refused as fault:
+        return [f"this line is not of this file: {fault}"]
 
 
 def explain_line(root: Cursor, line: str) -> list[str]:
@@ -108,14 +114,27 @@ def _refusal(root: Cursor, line: str) -> list[str]:
 
 
 def _cycle(root: Cursor, node: Cursor) -> list[str]:
-    """A ring through the node, where the file shows one."""
-    links: dict[str, list[str]] = {str(node.path[-1]): []}
+    """A shortest ring through the node, where the file shows one."""
+    links: dict[str, list[str]] = {}
     for name, at in root.member("nodes").members():
         successors = at.find("successors") if at.is_object() else None
         links[name] = successors.keys() if successors is not None and successors.is_object() else []
-    links = {name: [it for it in followers if it in links] for name, followers in links.items()}
-    ring = find_cycle(links)
+    ring = ring_through(links, str(node.path[-1])) if node.path else None
     return [] if ring is None else ["ring: " + " -> ".join(ring)]
+
+
+def ring_through(links: dict[str, list[str]], start: str) -> Optional[list[str]]:
+    """A shortest way from a node back to itself, with the node at both ends; none where there is none."""
+    ways = [[start]]
+    seen: set[str] = set()
+    for way in ways:
+        for follower in links.get(way[-1], []):
+            if follower == start:
+                return [*way, start]
+            if follower not in seen:
+                seen.add(follower)
+                ways.append([*way, follower])
+    return None
 
 
 def _range(root: Cursor, found: re.Match) -> list[str]:

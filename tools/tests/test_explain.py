@@ -3,7 +3,7 @@ import json
 import re
 import unittest
 
-from hydroplan_tools.explain_command import explain, main
+from hydroplan_tools.explain_command import explain, main, ring_through
 from hydroplan_tools.misspellings import distance, nearest, warnings
 from hydroplan_tools.places import descend, locate, read_refusal
 from tests.support import EXAMPLES, REPOSITORY, S, cursor, run
@@ -67,6 +67,17 @@ class Places(unittest.TestCase):
     def test_a_cycle_is_shown(self):
         text = TWO.replace('"successors": {"autumn": 1}\n    },\n    "autumn": {', '"successors": {"autumn": 1}\n    },\n    "autumn": {"successors": {"summer wet": 1},')
         self.assertIn("ring: autumn -> summer wet -> autumn", said(text, "hydroplan: problem refused: Cycle at node 0 0 0"))
+
+    def test_the_ring_goes_through_the_node(self):
+        links = {"a": ["b", "d"], "b": ["c"], "c": ["b"], "d": ["e"], "e": ["a", "d"], "f": ["a"]}
+        self.assertEqual(ring_through(links, "a"), ["a", "d", "e", "a"])
+        self.assertEqual(ring_through(links, "b"), ["b", "c", "b"])
+        self.assertIsNone(ring_through(links, "f"))
+        self.assertIsNone(ring_through(links, "g"))
+
+    def test_a_line_of_another_file(self):
+        text = said('{"nodes":1}', "hydroplan: problem refused: Cycle at node 0 0 0")
+        self.assertIn("this line is not of this file: Shape at $.nodes", text)
 
     def test_a_file_that_is_no_json(self):
         text = said('{"version":\n 1,}', "hydroplan: problem refused: NotJson at whole 0 0 0")
