@@ -41,11 +41,16 @@ class Back:
 
     def lines(self, report: Iterable[str]) -> Iterator[str]:
         """The lines of the report in the user's units, or BadReport."""
+        number = 0
         for number, line in enumerate(report, 1):
+            if number == 1 and line.rstrip("\n") != HEAD:
+                raise BadReport(f"line 1: a report begins with `{HEAD}`, not with `{line.strip()[:60]}`")
             try:
                 yield from self._line(line.rstrip("\n"))
             except (ValueError, KeyError, IndexError) as fault:
                 raise BadReport(f"line {number} ({line.strip()[:60]}): {fault!r}") from None
+        if number == 0:
+            raise BadReport("the report is empty")
 
     def _line(self, line: str) -> list[str]:
         word, _, rest = line.partition(" ")

@@ -85,7 +85,7 @@ def rows(before: Look, now: Look, seconds: float, units: Units, most: int) -> It
     for at in range(first, len(now.bounds)):
         moved = units.gain(now.bounds[at - 1], now.bounds[at]) if at else ""
         last = str(now.unsettled) if at == len(now.bounds) - 1 else ""
-        yield f"{clock_text(seconds):>9} {at + 1:>9} {units.text(now.bounds[at]):>22} {moved:>16} {last:>9}"
+        yield f"{clock_text(seconds):>9} {at + 1:>9} {units.text(now.bounds[at]):>22} {moved:>16} {last:>9}".rstrip()
 
 
 @dataclass

@@ -98,10 +98,29 @@ class Turning(unittest.TestCase):
         self.assertEqual((stage.randoms["d"], stage.values["u"], stage.residuals), (F(29, 2), F(15, 2), [0, F(-1, 2)]))
 
 
+class Solved(unittest.TestCase):
+    """Bounds that the program came to in 25 iterations of the converted files, against optima that were found by hand."""
+
+    def test_newsvendor(self):
+        # the eleventh paper earns 0.6 times 1.5, less 1.25 and 0.4 times 0.1: so 10 papers, each earning 1.5 - 1.25
+        bound = Back(scales(), None)._bound("-1677721605")
+        self.assertTrue(0 <= F(bound) - F(5, 2) < F(1, 10**6))
+
+    def test_reservoir(self):
+        # the last stage costs 276.475 - 38.475 v up to v = 6.5; node 2 leaves 6.5, node 1 runs its turbine at 8
+        last = {volume: F("276.475") - F("38.475") * volume for volume in (F("6.5"), F("4.8"), F("6.2"))}
+        first = F("42.75") * (F("7.75") - F("0.9") * 8) + F("3.125")
+        dry, wet = (first - volume / 2 + F("0.95") * last[volume] for volume in (F("4.8"), F("6.2")))
+        second = F("42.75") * (F("7.75") - F("0.9") * F("6.25")) + F("3.125") - F("3.25") + last[F("6.5")]
+        optimum = (dry / 4 + wet * 3 / 4) / 3 + second * 2 / 3
+        bound = Back(scales(False, F(8)), None)._bound("13723826401")
+        self.assertTrue(0 <= optimum - F(bound) < F(1, 10**5))
+
+
 class Faults(unittest.TestCase):
     def test_reports_that_do_not_fit(self):
         rows = [
-            ("scale 16777216", "scale 1000", "line 2"), ('state 0 "x"', 'state 0 "y"', "another problem"),
+            ("scale 16777216", "scale 1000", "line 2"), ("hydroplan 1", "hydroplan 2", "line 1"), ('state 0 "x"', 'state 0 "y"', "another problem"),
             ('node 1 "second_stage"', 'node 1 "third_stage"', "another problem"), ("rest 3", "remainder 3", "no line of a report"),
             ('value "u"', 'value "v"', "line 14"), ("row 1 residual", "row 2 residual", "line 16"),
             (f"cut 1 0 {-80 * S} {60 * S}", "cut 1 0 5", "not one slope per state"), ("random \"d\" 29", "random d 29", "line 12"),
@@ -111,6 +130,13 @@ class Faults(unittest.TestCase):
                 self.assertIn(old, REPORT)
                 with self.assertRaises(BadReport) as caught:
                     turned(REPORT.replace(old, new), scales())
+                self.assertIn(part, str(caught.exception))
+
+    def test_what_is_no_report(self):
+        for text, part in (("", "empty"), (EXPECTED, "begins with"), ("hydroplan: memory\n", "begins with")):
+            with self.subTest(text=text[:20]):
+                with self.assertRaises(BadReport) as caught:
+                    turned(text, scales())
                 self.assertIn(part, str(caught.exception))
 
     def test_scales_that_are_not_complete(self):
