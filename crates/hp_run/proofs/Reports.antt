@@ -1,19 +1,24 @@
 -- A report is a sound text, and each status is the expected one where no device fails.
-use Rattle.std.proofs.Common.{◌≡◌, inl, inr, ℕ, ◌<◌, ◌≤◌, ◌^◌, if◌then◌else◌, true, false, List, length, Option, Some, None, IfSome, IfOk, Result, Ok, Err, nat_le, refl, sym, ap, ◌∙◌, subst, length-append, arith}
+use Rattle.std.proofs.Common.{◌≡◌, ◌⊎◌, inl, inr, ℕ, ◌<◌, ◌≤◌, ◌^◌, if◌then◌else◌, true, false, List, length, Option, Some, None, IfSome, IfOk, IsOk, Result, Ok, Err, nat_le, refl, sym, ap, ◌∙◌, subst, length-append, arith}
 use Rattle.std.specs.Io.KnownBytes.{Consumes}
+use Rattle.hp_outside.specs.Causes.{Rose}
 use Rattle.std.proofs.lemmas.Bool.Decides.{nat_tests}
 use Rattle.hp_problem.specs.Sealed.{Sealed}
 use Rattle.hp_sof.specs.Problem.{problem_at}
 use Rattle.hp_theory.specs.declared.cut.Cut.{Cut}
+use Rattle.hp_theory.specs.Range.{based}
 use Rattle.hp_theory.specs.View.{problem_of}
+use Rattle.hp_gen.specs.Generated.{generated}
 use Rattle.hp_report.specs.SoundLines.{SoundLines}
 use Rattle.hp_report.proofs.SoundLines.{sound_lines, sound_check, sound_training}
 use Rattle.hp_report.proofs.SoundTraces.{sound_traces}
 use Rattle.hp_fields.specs.Steps.{◌>>=◌}
 use Rattle.hp_problem.specs.declared.refusal.Refusal.{Refusal}
 use Rattle.hp_lp.specs.Chained.{Solving}
-use Rattle.hp_run.specs.Outcome.{WithBase, based_at, or_refused, report_by, report_at, IsSoundReport, SoundText, Reads}
-use Rattle.hp_run.specs.Causes.{Ends, Explains, status_of, expected, AreRead, Completes, Sounds}
+use Rattle.hp_run.specs.Outcome.{WithBase, based_at, based_of, with_base, or_refused, report_by, report_at, IsSoundReport, SoundText}
+use Rattle.hp_run.specs.Causes.{Ends, Explains, ExplainsProblem, ExplainsTask, IfWritten, status_of, expected, Completes, Sounds}
+use Rattle.hp_run.specs.declared.job.Job.{Job}
+use Rattle.hp_run.specs.declared.job.Job.TheVariants.{Plan, Generate}
 use Rattle.hp_run.specs.declared.task.Task.{Task}
 use Rattle.hp_run.specs.declared.task.Task.TheVariants.{Base, Train, Check, Simulate, Validate}
 use Rattle.hp_run.specs.declared.status.Status.{Status}
@@ -49,20 +54,43 @@ if_some : (o : Option (List ℕ)) (P Q : List ℕ → Type 0) → ((bytes : List
 if_some None P Q f h = tt
 if_some (Some bytes) P Q f h = f bytes h
 
+each_of : {A : Type 0} {P : A → Type 0} (o : Option A) → ((x : A) → P x) → IfSome o P
+each_of None f = tt
+each_of (Some x) f = f x
+
 -- what was written is sound
-pub sounds : {Start Chain : Type 0} (v : Solving Start Chain) (asked : Option Task) (e : Ends) (status : Status) → Explains v asked e status → Sounds e status
-sounds v asked e Done h = if_some e.left _ _ (λ bytes w. (h.0, w.1.0, w.1.2, w.1.3)) h.2.1
-sounds v asked e WriteFault h = if_some e.left _ _ (λ bytes w. (h.0, w.1.0, w.1.2, w.1.3)) h.3.1
-sounds v asked e Usage h = tt
-sounds v asked e ReadFault h = tt
-sounds v asked e TooLong h = tt
-sounds v asked e (ProblemRefused r) h = tt
-sounds v asked e (JournalRefused r) h = tt
-sounds v asked e (TooMuch t) h = tt
-sounds v asked e (Range k m r) h = tt
-sounds v asked e (NoStage dead) h = tt
-sounds v asked e DiskFault h = tt
-sounds v asked e Memory h = tt
+written_sounds : {Start Chain : Type 0} (v : Solving Start Chain) (task : Task) (e : Ends) (status : Status) → ExplainsTask v task e status → IfSome e.left (λ bytes. IfWritten (SoundText task bytes) e status)
+written_sounds v task e Done h = if_some e.left _ _ (λ bytes w. (w.1.0, w.1.2, w.1.3)) h.1
+written_sounds v task e WriteFault h = if_some e.left _ _ (λ bytes w. (w.1.0, w.1.2, w.1.3)) h.1.1
+written_sounds v task e Usage h = each_of e.left (λ bytes. tt)
+written_sounds v task e ReadFault h = each_of e.left (λ bytes. tt)
+written_sounds v task e TooLong h = each_of e.left (λ bytes. tt)
+written_sounds v task e (ProblemRefused r) h = each_of e.left (λ bytes. tt)
+written_sounds v task e (JournalRefused r) h = each_of e.left (λ bytes. tt)
+written_sounds v task e (TooMuch t) h = each_of e.left (λ bytes. tt)
+written_sounds v task e (Range k m r) h = each_of e.left (λ bytes. tt)
+written_sounds v task e (NoStage dead) h = each_of e.left (λ bytes. tt)
+written_sounds v task e DiskFault h = each_of e.left (λ bytes. tt)
+written_sounds v task e Memory h = each_of e.left (λ bytes. tt)
+
+problem_sounds : (text : List ℕ) (e : Ends) (status : Status) → ExplainsProblem text e.taken e.taken_now e.writes e.writes_now status → IfWritten (λ written. IsOk (based_at written)) e status
+problem_sounds text e Done h = (text, h.0, h.1)
+problem_sounds text e WriteFault h = (text, h.1, h.2)
+problem_sounds text e Usage h = tt
+problem_sounds text e ReadFault h = tt
+problem_sounds text e TooLong h = tt
+problem_sounds text e (ProblemRefused r) h = tt
+problem_sounds text e (JournalRefused r) h = tt
+problem_sounds text e (TooMuch t) h = tt
+problem_sounds text e (Range k m r) h = tt
+problem_sounds text e (NoStage dead) h = tt
+problem_sounds text e DiskFault h = tt
+problem_sounds text e Memory h = tt
+
+pub sounds : {Start Chain : Type 0} (v : Solving Start Chain) (asked : Option Job) (e : Ends) (status : Status) → Explains v asked e status → Sounds asked e status
+sounds v None e status h = tt
+sounds v (Some (Plan task)) e status h = written_sounds v task e status h
+sounds v (Some (Generate seed stages reservoirs)) e status h = problem_sounds (generated seed stages reservoirs) e status h.1
 
 at_bytes : (o : Option (List ℕ)) (P : List ℕ → Type 0) (bytes : List ℕ) → o ≡ Some bytes → IfSome o P → P bytes
 at_bytes o P bytes is h = subst (λ (k : Option (List ℕ)). IfSome k P) is h
@@ -73,16 +101,9 @@ few bytes s h = let t : nat_le (length bytes) (2 ^ 24) ≡ true = grind (arith, 
 many : (bytes : List ℕ) (s : Status) → 2 ^ 24 < length bytes → (if nat_le (length bytes) (2 ^ 24) then s else TooLong) ≡ TooLong
 many bytes s h = let t : nat_le (length bytes) (2 ^ 24) ≡ false = grind (arith, nat_tests) in rw t refl
 
--- the expected status of what is asked for, by what comes of it
-outcome_is : {Start Chain : Type 0} (v : Solving Start Chain) (asked : Option Task) (task : Task) (bytes kept : List ℕ) (r : Result (List ℕ) Status) → asked ≡ Some task → length bytes ≤ 2 ^ 24 → report_at v task bytes kept ≡ r → status_of r ≡ expected v asked bytes kept
-outcome_is v asked task bytes kept r is h e =
-    ap status_of (sym e) ∙ sym (few bytes (status_of (report_at v task bytes kept)) h) ∙ ap (λ (o : Option Task). expected v o bytes kept) (sym is)
-
-long_is : {Start Chain : Type 0} (v : Solving Start Chain) (asked : Option Task) (task : Task) (bytes kept : List ℕ) → asked ≡ Some task → 2 ^ 24 < length bytes → TooLong ≡ expected v asked bytes kept
-long_is v asked task bytes kept is h = sym (many bytes (status_of (report_at v task bytes kept)) h) ∙ ap (λ (o : Option Task). expected v o bytes kept) (sym is)
-
-read_by : (asked : Option Task) (task : Task) (told : Option (List ℕ)) (kept : List ℕ) → asked ≡ Some task → AreRead asked told kept → Reads task told kept
-read_by asked task told kept is r = subst (λ (o : Option Task). AreRead o told kept) is r
+-- the expected status of a task, by what comes of it
+outcome_is : {Start Chain : Type 0} (v : Solving Start Chain) (task : Task) (bytes kept : List ℕ) (r : Result (List ℕ) Status) → length bytes ≤ 2 ^ 24 → report_at v task bytes kept ≡ r → status_of r ≡ expected v task bytes kept
+outcome_is v task bytes kept r h e = ap status_of (sym e) ∙ sym (few bytes (status_of (report_at v task bytes kept)) h)
 
 front_length : (now : Option (List ℕ)) (bytes piece : List ℕ) → Consumes (Some bytes) now piece → length piece ≤ length bytes
 front_length None bytes piece h = absurd h
@@ -94,30 +115,70 @@ unfolding report_at
 refused_is v task bytes kept r h = ap (λ (b : Result WithBase Refusal). or_refused b >>= report_by v task bytes kept) h
 
 -- each status is the expected one, where no count rose and memory was there
-pub completes : {Start Chain : Type 0} (v : Solving Start Chain) (asked : Option Task) (e : Ends) (status : Status) → Explains v asked e status → Completes v asked e status
-completes v asked e Done h bytes kept is r nr nd nw =
-    let w = at_bytes e.left _ bytes is h.2.1 in
-    inl (outcome_is v asked h.0 bytes kept (Ok w.1.0) h.1 w.0 (w.1.1 kept (read_by asked h.0 e.kept kept h.1 r)))
-completes v asked e Usage h bytes kept is r nr nd nw = inl (ap (λ (o : Option Task). expected v o bytes kept) (sym h.0))
-completes v asked e ReadFault h bytes kept is r nr nd nw = absurd (nr h.2)
-completes v asked e TooLong h bytes kept is r nr nd nw =
-    let f = front_length e.left_now bytes h.2.0 (subst (λ (o : Option (List ℕ)). Consumes o e.left_now h.2.0) is h.2.2) in
-    inl (long_is v asked h.0 bytes kept h.1 (omega (arith, h.2.1)))
-completes v asked e (ProblemRefused x) h bytes kept is r nr nd nw =
-    let w = at_bytes e.left _ bytes is h.2.1 in
-    inl (outcome_is v asked h.0 bytes kept (Err (ProblemRefused x)) h.1 w.0 (refused_is v h.0 bytes kept x w.1))
-completes v asked e (JournalRefused x) h bytes kept is r nr nd nw =
-    let w = at_bytes e.left _ bytes is h.3.1 in
-    inl (outcome_is v asked h.0 bytes kept (Err (JournalRefused x)) h.1 w.0 (w.1 kept (read_by asked h.0 e.kept kept h.1 r)))
-completes v asked e (TooMuch x) h bytes kept is r nr nd nw =
-    let w = at_bytes e.left _ bytes is h.3.1 in
-    inl (outcome_is v asked h.0 bytes kept (Err (TooMuch x)) h.1 w.0 (w.1 kept (read_by asked h.0 e.kept kept h.1 r)))
-completes v asked e (Range k m i) h bytes kept is r nr nd nw =
-    let w = at_bytes e.left _ bytes is h.3.1 in
-    inl (outcome_is v asked h.0 bytes kept (Err (Range k m i)) h.1 w.0 (w.1 kept (read_by asked h.0 e.kept kept h.1 r)))
-completes v asked e (NoStage dead) h bytes kept is r nr nd nw =
-    let w = at_bytes e.left _ bytes is h.3.1 in
-    inl (outcome_is v asked h.0 bytes kept (Err (NoStage dead)) h.1 w.0 (w.1.0 kept (read_by asked h.0 e.kept kept h.1 r)))
-completes v asked e DiskFault h bytes kept is r nr nd nw = absurd (nd h.3)
-completes v asked e WriteFault h bytes kept is r nr nd nw = absurd (nw h.2)
-completes v asked e Memory h bytes kept is r nr nd nw = inr refl
+task_completes : {Start Chain : Type 0} (v : Solving Start Chain) (task : Task) (e : Ends) (status : Status) → ExplainsTask v task e status → Completes v (Some (Plan task)) e status
+task_completes v task e Done h bytes kept is r nr nd nw =
+    let w = at_bytes e.left _ bytes is h.1 in
+    inl (outcome_is v task bytes kept (Ok w.1.0) w.0 (w.1.1 kept r))
+task_completes v task e Usage h bytes kept is r nr nd nw = absurd h
+task_completes v task e ReadFault h bytes kept is r nr nd nw = absurd (nr h.0)
+task_completes v task e TooLong h bytes kept is r nr nd nw =
+    let f = front_length e.left_now bytes h.0.0 (subst (λ (o : Option (List ℕ)). Consumes o e.left_now h.0.0) is h.0.2) in
+    inl (sym (many bytes (status_of (report_at v task bytes kept)) (omega (arith, h.0.1))))
+task_completes v task e (ProblemRefused x) h bytes kept is r nr nd nw =
+    let w = at_bytes e.left _ bytes is h.0.1 in
+    inl (outcome_is v task bytes kept (Err (ProblemRefused x)) w.0 (refused_is v task bytes kept x w.1))
+task_completes v task e (JournalRefused x) h bytes kept is r nr nd nw =
+    let w = at_bytes e.left _ bytes is h.1.1 in
+    inl (outcome_is v task bytes kept (Err (JournalRefused x)) w.0 (w.1 kept r))
+task_completes v task e (TooMuch x) h bytes kept is r nr nd nw =
+    let w = at_bytes e.left _ bytes is h.1.1 in
+    inl (outcome_is v task bytes kept (Err (TooMuch x)) w.0 (w.1 kept r))
+task_completes v task e (Range k m i) h bytes kept is r nr nd nw =
+    let w = at_bytes e.left _ bytes is h.1.1 in
+    inl (outcome_is v task bytes kept (Err (Range k m i)) w.0 (w.1 kept r))
+task_completes v task e (NoStage dead) h bytes kept is r nr nd nw =
+    let w = at_bytes e.left _ bytes is h.1.1 in
+    inl (outcome_is v task bytes kept (Err (NoStage dead)) w.0 (w.1.0 kept r))
+task_completes v task e DiskFault h bytes kept is r nr nd nw = absurd (nd h.1)
+task_completes v task e WriteFault h bytes kept is r nr nd nw = absurd (nw h.0)
+task_completes v task e Memory h bytes kept is r nr nd nw = inr refl
+
+problem_completes : (text : List ℕ) (taken taken_now : Option (List ℕ)) (writes writes_now : ℕ) (status : Status) → ExplainsProblem text taken taken_now writes writes_now status → ¬ (Rose writes writes_now) → (status ≡ Done) ⊎ (status ≡ Memory)
+problem_completes text taken taken_now writes writes_now Done h nw = inl refl
+problem_completes text taken taken_now writes writes_now WriteFault h nw = absurd (nw h.0)
+problem_completes text taken taken_now writes writes_now Memory h nw = inr refl
+problem_completes text taken taken_now writes writes_now Usage h nw = absurd h
+problem_completes text taken taken_now writes writes_now ReadFault h nw = absurd h
+problem_completes text taken taken_now writes writes_now TooLong h nw = absurd h
+problem_completes text taken taken_now writes writes_now (ProblemRefused r) h nw = absurd h
+problem_completes text taken taken_now writes writes_now (JournalRefused r) h nw = absurd h
+problem_completes text taken taken_now writes writes_now (TooMuch t) h nw = absurd h
+problem_completes text taken taken_now writes writes_now (Range k m r) h nw = absurd h
+problem_completes text taken taken_now writes writes_now (NoStage dead) h nw = absurd h
+problem_completes text taken taken_now writes writes_now DiskFault h nw = absurd h
+
+pub completes : {Start Chain : Type 0} (v : Solving Start Chain) (asked : Option Job) (e : Ends) (status : Status) → Explains v asked e status → Completes v asked e status
+completes v None e status h = h.0
+completes v (Some (Plan task)) e status h = task_completes v task e status h
+completes v (Some (Generate seed stages reservoirs)) e status h = problem_completes (generated seed stages reservoirs) e.taken e.taken_now e.writes e.writes_now status h.1
+
+-- a source whose count of faults cannot rise is read
+pub never_read_fault : {Start Chain : Type 0} (v : Solving Start Chain) (asked : Option Job) (e : Ends) → ¬ (Rose e.reads e.reads_now) → ¬ (Explains v asked e ReadFault)
+never_read_fault v None e never h = absurd cc
+never_read_fault v (Some (Plan task)) e never h = never h.0
+never_read_fault v (Some (Generate seed stages reservoirs)) e never h = h.1
+
+-- a problem that is read, and whose base cuts are in range, is accepted
+with_base_ok : (p : Sealed) (r : Result (List (List Cut)) (ℕ × ℕ)) → IsOk r → IsOk (with_base p r)
+with_base_ok p (Ok pools) h = refl
+with_base_ok p (Err at) h = absurd cc
+
+based_ok : (r : Result Sealed Refusal) → IsOk r → IfOk r (λ p. IsOk (based p)) → IsOk (r >>= based_of)
+unfolding based_of
+based_ok (Ok p) read fits = with_base_ok p (based p) fits
+based_ok (Err e) read fits = absurd cc
+
+pub accepts : {X E : Type 0} (view : X → List ℕ) (r : Result X E) → IfOk r (λ x. IsOk (problem_at (view x))) → IfOk r (λ x. IfOk (problem_at (view x)) (λ p. IsOk (based p))) → IfOk r (λ x. IsOk (based_at (view x)))
+unfolding based_at
+accepts view (Ok x) read fits = based_ok (problem_at (view x)) read fits
+accepts view (Err e) read fits = tt

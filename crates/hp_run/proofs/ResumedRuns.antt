@@ -37,10 +37,12 @@ use Rattle.hp_words.specs.declared.command.Command.TheVariants as commands
 use Rattle.hp_words.specs.Commands.{command_of, texts}
 use Rattle.hp_words.specs.Commands as words
 use Rattle.hp_words.proofs.Within.{numbers_within}
-use Rattle.hp_run.specs.Causes.{Ends, Explains}
+use Rattle.hp_run.specs.Causes.{Ends, Explains, ExplainsTask}
 use Rattle.hp_run.specs.Journals.{Grows, IsResumed, OfTask, has_trained}
 use Rattle.hp_run.specs.Outcome.{Reads, WithBase, based_at, based_of, loaded_for, or_status, ready_for, report_at, report_trained, unless_much, unless_stopped, with_base, within_formulas}
-use Rattle.hp_run.specs.Words.{IsWithin, asked, task_of}
+use Rattle.hp_run.specs.Words.{IsJobWithin, IsWithin, asked, job_of}
+use Rattle.hp_run.specs.declared.job.Job.{Job}
+use Rattle.hp_run.specs.declared.job.Job.TheVariants.{Plan, Generate}
 use Rattle.hp_run.specs.declared.status.Status.{Status}
 use Rattle.hp_run.specs.declared.status.Status.TheVariants.{Done}
 use Rattle.hp_run.specs.declared.task.Task.{Task}
@@ -49,9 +51,6 @@ use Rattle.hp_run.proofs.TrainReports.{ended_at}
 
 same_ok : {A E : Type 0} (x y : A) → (let l : Result A E = Ok x in l ≡ Ok y) → x ≡ y
 same_ok x y h = cc
-
-same_some : {A : Type 0} (x y : A) → (let o : Option A = Some x in o ≡ Some y) → x ≡ y
-same_some x y h = cc
 
 at_some : {A : Type 0} (P : A → Type 0) (o : Option A) (x : A) → o ≡ Some x → IfSome o P → P x
 at_some P o x is h = subst (λ y. IfSome y P) is h
@@ -85,21 +84,21 @@ base_parts bytes b h =
 
 -- ---- what is asked for
 
-task_within : (c : Option Command) → IfSome c words.IsWithin → (task : Task) → option_and_then task_of c ≡ Some task → IsWithin task
-task_within None h task e = absurd cc
-task_within (Some commands.Base) h task e = subst IsWithin (same_some Base task e) tt
-task_within (Some (commands.Train seed count batch)) h task e = subst IsWithin (same_some (Train seed count batch) task e) h
-task_within (Some commands.Check) h task e = subst IsWithin (same_some Check task e) tt
-task_within (Some (commands.Simulate seed count)) h task e = subst IsWithin (same_some (Simulate seed count) task e) h
-task_within (Some commands.Validate) h task e = subst IsWithin (same_some Validate task e) tt
-task_within (Some (commands.Gen seed stages reservoirs)) h task e = absurd cc
-task_within (Some commands.Evaluate) h task e = absurd cc
-task_within (Some commands.Hydro) h task e = absurd cc
-task_within (Some commands.Robust) h task e = absurd cc
+job_within : (c : Option Command) → IfSome c words.IsWithin → IfSome (option_and_then job_of c) IsJobWithin
+job_within None h = tt
+job_within (Some commands.Base) h = tt
+job_within (Some (commands.Train seed count batch)) h = h
+job_within (Some commands.Check) h = tt
+job_within (Some (commands.Simulate seed count)) h = h
+job_within (Some commands.Validate) h = tt
+job_within (Some (commands.Gen seed stages reservoirs)) h = h
+job_within (Some commands.Evaluate) h = tt
+job_within (Some commands.Hydro) h = tt
+job_within (Some commands.Robust) h = tt
 
-asked_within : (ws : List (String Global)) (task : Task) → asked ws ≡ Some task → IsWithin task
+pub asked_within : (ws : List (String Global)) → IfSome (asked ws) IsJobWithin
 unfolding asked
-asked_within ws task e = task_within (command_of (texts ws)) (numbers_within (texts ws)) task e
+asked_within ws = job_within (command_of (texts ws)) (numbers_within (texts ws))
 
 is_title : (digest : List ℕ) (seed : ℕ) (batch : Option ℕ) → length digest ≡ 32 → seed < 2 ^ 64 → IfSome batch (λ b. (1 ≤ b) × (b ≤ 64)) → IsTitle (new_title digest seed batch)
 is_title digest seed None long small h = record { digest = long; seed = small; version = inl (refl, refl) }
@@ -195,33 +194,32 @@ module _ {Start Chain : Type 0} (v : Solving Start Chain) where
               ∙ ap (λ (x : List ℤ). train_text p whole.pools x (o.unsettled + unsettled_in c.lists)) r.bounds ∙ ap (train_text p whole.pools whole.bounds) r.unsettled,
         )
 
-  -- the text of a run that is Done
-  done_text : (ask : Option Task) (e : Ends) (task : Task) (bytes kept : List ℕ) → ask ≡ Some task → e.left ≡ Some bytes → Reads task e.kept kept → Explains v ask e Done → (text : List ℕ) × (report_at v task bytes kept ≡ Ok text) × Appends e.taken e.taken_now text
-  done_text ask e task bytes kept is left reads h =
-      let w = at_some _ e.left bytes left h.2.1 in
-      let same : h.0 ≡ task = same_some h.0 task (sym h.1 ∙ is) in
-      (w.1.0, subst (λ (k : Task). report_at v k bytes kept ≡ Ok w.1.0) same (w.1.1 kept (subst (λ (k : Task). Reads k e.kept kept) (sym same) reads)), w.1.3)
+  -- the text of a task that is Done
+  done_text : (e : Ends) (task : Task) (bytes kept : List ℕ) → e.left ≡ Some bytes → Reads task e.kept kept → ExplainsTask v task e Done → (text : List ℕ) × (report_at v task bytes kept ≡ Ok text) × Appends e.taken e.taken_now text
+  done_text e task bytes kept left reads h =
+      let w = at_some _ e.left bytes left h.1 in
+      (w.1.0, w.1.1 kept reads, w.1.3)
 
-  by_task : (ws : List (String Global)) (e : Ends) (status : Status) (new : Store) (bytes kept : List ℕ) (task : Task) → e.left ≡ Some bytes → e.kept ≡ Some kept → asked ws ≡ Some task → Explains v (asked ws) e status → Grows v status bytes kept new task → IsResumed v status bytes kept new e.taken e.taken_now task
-  by_task ws e status new bytes kept Base left told is explains grown = tt
-  by_task ws e status new bytes kept Check left told is explains grown = tt
-  by_task ws e status new bytes kept (Simulate seed count) left told is explains grown = tt
-  by_task ws e status new bytes kept Validate left told is explains grown = tt
-  by_task ws e status new bytes kept (Train seed count batch) left told is explains grown = λ b j base small room mine.
+  by_task : (e : Ends) (status : Status) (new : Store) (bytes kept : List ℕ) (task : Task) → IsWithin task → e.left ≡ Some bytes → e.kept ≡ Some kept → ExplainsTask v task e status → Grows v status bytes kept new task → IsResumed v status bytes kept new e.taken e.taken_now task
+  by_task e status new bytes kept Base within left told explains grown = tt
+  by_task e status new bytes kept Check within left told explains grown = tt
+  by_task e status new bytes kept (Simulate seed count) within left told explains grown = tt
+  by_task e status new bytes kept Validate within left told explains grown = tt
+  by_task e status new bytes kept (Train seed count batch) within left told explains grown = λ b j base small room mine.
       let ps = base_parts bytes b base in
-      let within = asked_within ws (Train seed count batch) is in
       let r = resumed v b.problem b.pools (sha256 bytes) seed count batch j kept ps.0 ps.1 (is_title (sha256 bytes) seed batch (length-sha256 bytes) small within.1) within.0 room mine in
       let q = behind bytes kept seed count batch b j r.0 r.1 in
       let whole : Continued = unstopped v b.problem b.pools (new_title (sha256 bytes) seed batch) count in (
         λ trained. (grown b r.0 base (load_is bytes kept seed count batch b j r.0 q) trained).0 ∙ ap (λ (x : List ℕ). Some x) q.all_bytes,
         λ done.
-            let d = done_text (asked ws) e (Train seed count batch) bytes kept is left told (subst (λ (s : Status). Explains v (asked ws) e s) done explains) in
+            let d = done_text e (Train seed count batch) bytes kept left told (subst (λ (s : Status). ExplainsTask v (Train seed count batch) e s) done explains) in
             let x = prints bytes kept seed count batch b j r.0 q room base d.0 d.1 in
             (x.0, subst (λ (y : List ℕ). Appends e.taken e.taken_now y) x.1 d.2),
       )
 
-  pub resumes : (ws : List (String Global)) (e : Ends) (status : Status) (new : Store) → Explains v (asked ws) e status → OfTask e.left e.kept (asked ws) (λ bytes kept. Grows v status bytes kept new) → OfTask e.left e.kept (asked ws) (λ bytes kept. IsResumed v status bytes kept new e.taken e.taken_now)
-  resumes ws e status new explains grown =
-      each e.left (λ bytes left. each e.kept (λ kept told. each (asked ws) (λ task is.
-      by_task ws e status new bytes kept task left told is explains
-      (at_some (Grows v status bytes kept new) (asked ws) task is (at_some (λ k. IfSome (asked ws) (Grows v status bytes k new)) e.kept kept told (at_some (λ y. IfSome e.kept (λ k. IfSome (asked ws) (Grows v status y k new))) e.left bytes left grown))))))
+  pub resumes : (job : Option Job) (e : Ends) (status : Status) (new : Store) → IfSome job IsJobWithin → Explains v job e status → OfTask e.left e.kept job (λ bytes kept. Grows v status bytes kept new) → OfTask e.left e.kept job (λ bytes kept. IsResumed v status bytes kept new e.taken e.taken_now)
+  resumes None e status new within explains grown = tt
+  resumes (Some (Plan task)) e status new within explains grown =
+      each e.left (λ bytes left. each e.kept (λ kept told. by_task e status new bytes kept task within left told explains
+      (at_some (λ k. Grows v status bytes k new task) e.kept kept told (at_some (λ y. IfSome e.kept (λ k. Grows v status y k new task)) e.left bytes left grown))))
+  resumes (Some (Generate seed stages reservoirs)) e status new within explains grown = tt

@@ -19,6 +19,8 @@ use Rattle.hp_theory.proofs.BoundBelow.{sound_bound}
 use Rattle.hp_theory.proofs.SealedPremises.{root_shaped-sealed, have_cuts-root}
 use Rattle.hp_theory.specs.declared.cut.Cut.{Cut}
 use Rattle.hp_cut.specs.declared.entry.Entry.{Entry}
+use Rattle.hp_journal.specs.Gates.{IsShutAt}
+use Rattle.hp_journal.specs.Head.{IsUnborn}
 use Rattle.hp_journal.specs.Layout.{Title}
 use Rattle.hp_journal.proofs.Told.{told, known}
 use Rattle.hp_load.specs.declared.refusal.LoadFault.{LoadFault}
@@ -37,6 +39,7 @@ use Rattle.hp_run.specs.declared.status.Status.{Status}
 use Rattle.hp_run.specs.declared.status.Status.TheVariants.{Done, Usage, ReadFault, TooLong, ProblemRefused, JournalRefused, TooMuch, Range, NoStage, DiskFault, WriteFault, Memory}
 use Rattle.hp_run.specs.declared.task.Task.{Task}
 use Rattle.hp_run.specs.declared.task.Task.TheVariants.{Train}
+use Rattle.hp_run.proofs.LoadedEnds.{loaded_shut, loaded_unborn}
 use Rattle.hp_run.proofs.Synced.{LeavesFrom}
 
 same_ok : {A E : Type 0} (x y : A) → (let l : Result A E = Ok x in l ≡ Ok y) → x ≡ y
@@ -55,9 +58,42 @@ loaded_ok (Ok x) o h = ap (λ (y : Outcome). Ok y) (same_ok x o h)
 loaded_ok (Err e) o h = absurd cc
 
 -- what was loaded
-pub outcome_as : (bytes : List ℕ) (b : WithBase) (seed : ℕ) (batch : Option ℕ) (kept : List ℕ) (o : Outcome) → loaded_for bytes b seed batch kept ≡ Ok o → outcome_of (load_of b.problem b.pools (sha256 bytes) (Some seed) batch kept) ≡ Ok o
+outcome_as : (bytes : List ℕ) (b : WithBase) (seed : ℕ) (batch : Option ℕ) (kept : List ℕ) (o : Outcome) → loaded_for bytes b seed batch kept ≡ Ok o → outcome_of (load_of b.problem b.pools (sha256 bytes) (Some seed) batch kept) ≡ Ok o
 unfolding loaded_for
 outcome_as bytes b seed batch kept o h = loaded_ok (outcome_of (load_of b.problem b.pools (sha256 bytes) (Some seed) batch kept)) o h
+
+loaded_as : (bytes : List ℕ) (b : WithBase) (seed count : ℕ) (batch : Option ℕ) (kept : List ℕ) (o : Outcome) → ready_for b.problem b.pools (sha256 bytes) seed count batch kept ≡ Ok o → loaded_for bytes b seed batch kept ≡ Ok o
+unfolding ready_for loaded_for within_formulas
+loaded_as bytes b seed count batch kept o h =
+    let r = parts (or_status (outcome_of (load_of b.problem b.pools (sha256 bytes) (Some seed) batch kept))) (within_formulas b.problem count) o h in
+    r.1 ∙ ap (λ (x : Outcome). Ok x) (kept_as (too_much b.problem (max count (length r.0.bounds)) r.0.batch) r.0 o r.2).0
+
+-- a journal, as far as it is told, gives this to training with a problem and its base cuts
+pub record IsReady (bytes : List ℕ) (b : WithBase) (seed count : ℕ) (batch : Option ℕ) (reads : Option (List ℕ)) (o : Outcome) : Type 0 where
+  pub base : based_at bytes ≡ Ok b
+  pub ready : IfSome reads (λ kept. ready_for b.problem b.pools (sha256 bytes) seed count batch kept ≡ Ok o)
+  pub loads : IfSome reads (λ kept. loaded_for bytes b seed batch kept ≡ Ok o)
+
+-- by the digest that was asked for
+pub is_ready : (bytes digest : List ℕ) (b : WithBase) (seed count : ℕ) (batch : Option ℕ) (reads : Option (List ℕ)) (o : Outcome) → based_at bytes ≡ Ok b → digest ≡ sha256 bytes → IfSome reads (λ kept. ready_for b.problem b.pools digest seed count batch kept ≡ Ok o) → IsReady bytes b seed count batch reads o
+is_ready bytes digest b seed count batch reads o base own value =
+    let ready = subst (λ (x : List ℕ). IfSome reads (λ kept. ready_for b.problem b.pools x seed count batch kept ≡ Ok o)) own value in record {
+      base = base;
+      ready = ready;
+      loads = told reads (λ kept there. loaded_as bytes b seed count batch kept o (known (λ k. ready_for b.problem b.pools (sha256 bytes) seed count batch k ≡ Ok o) reads kept there ready));
+    }
+
+module _ {bytes : List ℕ} {b : WithBase} {seed count : ℕ} {batch : Option ℕ} {reads : Option (List ℕ)} {o : Outcome} (r : IsReady bytes b seed count batch reads o) (now : Option (List ℕ)) (same : now ≡ reads) where
+  loads_at : (kept : List ℕ) → reads ≡ Some kept → outcome_of (load_of b.problem b.pools (sha256 bytes) (Some seed) batch kept) ≡ Ok o
+  loads_at kept there = outcome_as bytes b seed batch kept o (known (λ k. loaded_for bytes b seed batch k ≡ Ok o) reads kept there r.loads)
+
+  -- the journal is not born yet
+  pub ready_unborn : o.born ≡ false → IfSome now IsUnborn
+  ready_unborn none = subst (λ (x : Option (List ℕ)). IfSome x IsUnborn) (sym same) (told reads (λ kept there. loaded_unborn b.problem b.pools (sha256 bytes) (Some seed) batch kept o (loads_at kept there) none))
+
+  -- its records end at a shut gate
+  pub ready_shut : o.born ≡ true → IfSome now (IsShutAt o.end)
+  ready_shut so = subst (λ (x : Option (List ℕ)). IfSome x (IsShutAt o.end)) (sym same) (told reads (λ kept there. loaded_shut b.problem b.pools (sha256 bytes) (Some seed) batch kept o (loads_at kept there) so))
 
 module _ {Start Chain : Type 0} (v : Solving Start Chain) (bytes : List ℕ) (b : WithBase) (seed count : ℕ) (batch : Option ℕ) (is : based_at bytes ≡ Ok b) where
   abbrev task : Task
@@ -65,12 +101,6 @@ module _ {Start Chain : Type 0} (v : Solving Start Chain) (bytes : List ℕ) (b 
 
   abbrev ready : List ℕ → Result Outcome Status
   ready kept = ready_for b.problem b.pools (sha256 bytes) seed count batch kept
-
-  pub loaded_as : (kept : List ℕ) (o : Outcome) → ready kept ≡ Ok o → loaded_for bytes b seed batch kept ≡ Ok o
-  unfolding ready_for loaded_for within_formulas
-  loaded_as kept o h =
-      let r = parts (or_status (outcome_of (load_of b.problem b.pools (sha256 bytes) (Some seed) batch kept))) (within_formulas b.problem count) o h in
-      r.1 ∙ ap (λ (x : Outcome). Ok x) (kept_as (too_much b.problem (max count (length r.0.bounds)) r.0.batch) r.0 o r.2).0
 
   within_as : (kept : List ℕ) (o : Outcome) → ready kept ≡ Ok o → within_formulas b.problem count o ≡ Ok o
   unfolding ready_for within_formulas
@@ -87,7 +117,7 @@ module _ {Start Chain : Type 0} (v : Solving Start Chain) (bytes : List ℕ) (b 
   unfolding trained_for
   ended_at kept o h =
       train_at kept
-      ∙ ap (λ (r : Result Outcome Status). r >>= λ loaded. within_formulas b.problem count loaded >>= λ x. report_trained b.problem x (iterations v b.problem seed count x)) (loaded_as kept o h)
+      ∙ ap (λ (r : Result Outcome Status). r >>= λ loaded. within_formulas b.problem count loaded >>= λ x. report_trained b.problem x (iterations v b.problem seed count x)) (loaded_as bytes b seed count batch kept o h)
       ∙ ap (λ (r : Result Outcome Status). r >>= λ x. report_trained b.problem x (iterations v b.problem seed count x)) (within_as kept o h)
 
   refused_by : (l : Result Outcome Status) (s : Status) → (l >>= within_formulas b.problem count) ≡ Err s → (l >>= λ loaded. within_formulas b.problem count loaded >>= λ x. report_trained b.problem x (iterations v b.problem seed count x)) ≡ Err s
@@ -121,19 +151,22 @@ module _ {Start Chain : Type 0} (v : Solving Start Chain) (bytes : List ℕ) (b 
     refused_reports s has = λ kept e. refused_at kept s (at_kept (λ k. ready k ≡ Err s) kept e has)
 
     -- the journal gives nothing to train on
-    pub unloaded_lacks : (disk now : ℕ) (s : Status) → ComesOfLoading s → IfSome reads (λ kept. Refuses s (ready kept)) → (s ≡ DiskFault → Rose disk now) → Lacks v task reads disk now bytes s
-    unloaded_lacks disk now Done own has rose = absurd own
-    unloaded_lacks disk now Usage own has rose = absurd own
-    unloaded_lacks disk now ReadFault own has rose = absurd own
-    unloaded_lacks disk now TooLong own has rose = absurd own
-    unloaded_lacks disk now (ProblemRefused r) own has rose = absurd own
-    unloaded_lacks disk now (JournalRefused r) own has rose = (tt, refused_reports (JournalRefused r) has)
-    unloaded_lacks disk now (TooMuch t) own has rose = (tt, refused_reports (TooMuch t) has)
-    unloaded_lacks disk now (Range k m r) own has rose = absurd own
-    unloaded_lacks disk now (NoStage dead) own has rose = absurd own
-    unloaded_lacks disk now DiskFault own has rose = (tt, rose refl)
-    unloaded_lacks disk now WriteFault own has rose = absurd own
-    unloaded_lacks disk now Memory own has rose = tt
+    unloaded : (disk now : ℕ) (s : Status) → ComesOfLoading s → IfSome reads (λ kept. Refuses s (ready kept)) → (s ≡ DiskFault → Rose disk now) → Lacks v task reads disk now bytes s
+    unloaded disk now Done own has rose = absurd own
+    unloaded disk now Usage own has rose = absurd own
+    unloaded disk now ReadFault own has rose = absurd own
+    unloaded disk now TooLong own has rose = absurd own
+    unloaded disk now (ProblemRefused r) own has rose = absurd own
+    unloaded disk now (JournalRefused r) own has rose = (tt, refused_reports (JournalRefused r) has)
+    unloaded disk now (TooMuch t) own has rose = (tt, refused_reports (TooMuch t) has)
+    unloaded disk now (Range k m r) own has rose = absurd own
+    unloaded disk now (NoStage dead) own has rose = absurd own
+    unloaded disk now DiskFault own has rose = (tt, rose refl)
+    unloaded disk now WriteFault own has rose = absurd own
+    unloaded disk now Memory own has rose = tt
+
+    pub unloaded_lacks : (digest : List ℕ) (disk now : ℕ) (s : Status) → ComesOfLoading s → digest ≡ sha256 bytes → IfSome reads (λ kept. Refuses s (ready_for b.problem b.pools digest seed count batch kept)) → (s ≡ DiskFault → Rose disk now) → Lacks v task reads disk now bytes s
+    unloaded_lacks digest disk now s own is_digest has rose = unloaded disk now s own (subst (λ (x : List ℕ). IfSome reads (λ kept. Refuses s (ready_for b.problem b.pools x seed count batch kept))) is_digest has) rose
 
     -- iterations stop
     pub stopped_lacks : (A : Type 0) (disk now : ℕ) (o : Outcome) (s : Status) → IfSome reads (λ kept. ready kept ≡ Ok o) → (let r : Result A Status = Err s in StopsAs r (iterations v b.problem seed count o).stop) → (s ≡ DiskFault → Rose disk now) → IsDead b.problem s → Lacks v task reads disk now bytes s
@@ -243,11 +276,19 @@ module _ {Start Chain : Type 0} (v : Solving Start Chain) (bytes : List ℕ) (b 
   pub leaves_read : Lawful old → Stays old new → IfSome old.reads (λ kept. LeavesMine v bytes kept old new (Train seed count batch))
   leaves_read lawful stays = told old.reads (λ kept there b' o' ps j i is' load' stands goes le here. read_only (sha256 bytes) seed o' [] old new lawful stays (title_of (sha256 bytes) seed o') ps i here)
 
+  -- a journal that was read, and then trained on
+  pub leaves_trained : (digest : List ℕ) (mid : Store) (o : Outcome) → digest ≡ sha256 bytes → IfSome old.reads (λ kept. loaded_for bytes b seed batch kept ≡ Ok o) → Lawful old → Stays old mid
+      → LeavesFrom digest seed o (iterations v b.problem seed count o).lists mid new → IfSome old.reads (λ kept. LeavesMine v bytes kept old new (Train seed count batch))
+  leaves_trained digest mid o own has lawful stays run =
+      let lists = (iterations v b.problem seed count o).lists in
+      leaves_mine o has (read_then (sha256 bytes) seed o lists old mid lawful stays new (subst (λ (x : List ℕ). LeavesFrom x seed o lists mid new) own run))
+
   -- what training leaves of the journal
-  pub grown_after : (A : Type 0) (r : Result A Status) (mid : Store) (o : Outcome) → IfSome old.reads (λ kept. loaded_for bytes b seed batch kept ≡ Ok o) → mid.reads ≡ old.reads
-      → WhenTrained r (new.reads ≡ option_map (λ kept. grown_journal (sha256 bytes) seed o kept (iterations v b.problem seed count o).lists) mid.reads) → WhenTrained r (Quiet new)
+  pub grown_after : (A : Type 0) (r : Result A Status) (digest : List ℕ) (mid : Store) (o : Outcome) → digest ≡ sha256 bytes → IfSome old.reads (λ kept. loaded_for bytes b seed batch kept ≡ Ok o) → mid.reads ≡ old.reads
+      → WhenTrained r (new.reads ≡ option_map (λ kept. grown_journal digest seed o kept (iterations v b.problem seed count o).lists) mid.reads) → WhenTrained r (Quiet new)
       → IfSome old.reads (λ kept. (o' : Outcome) → loaded_for bytes b seed batch kept ≡ Ok o' → WhenTrained r ((new.reads ≡ Some (grown_journal (sha256 bytes) seed o' kept (iterations v b.problem seed count o').lists)) × Quiet new))
-  grown_after A r mid o has same reads quiet = told old.reads (λ kept there o' load'.
+  grown_after A r digest mid o own has same by_digest quiet = told old.reads (λ kept there o' load'.
+      let reads = subst (λ (x : List ℕ). WhenTrained r (new.reads ≡ option_map (λ k. grown_journal x seed o k (iterations v b.problem seed count o).lists) mid.reads)) own by_digest in
       let load : loaded_for bytes b seed batch kept ≡ Ok o = known (λ k. loaded_for bytes b seed batch k ≡ Ok o) old.reads kept there has in
       let same_o : o ≡ o' = same_ok o o' (sym load ∙ load') in
       when_both A r (new.reads ≡ option_map (λ k. grown_journal (sha256 bytes) seed o k (iterations v b.problem seed count o).lists) mid.reads) (Quiet new) ((new.reads ≡ Some (grown_journal (sha256 bytes) seed o' kept (iterations v b.problem seed count o').lists)) × Quiet new) reads quiet
@@ -290,10 +331,10 @@ trained_then A (Err WriteFault) P h e = h
 trained_then A (Err Memory) P h e = absurd cc
 
 -- what the report of training says of the journal
-pub leaves_grown : {Start Chain : Type 0} (v : Solving Start Chain) (A : Type 0) (r : Result A Status) (bytes : List ℕ) (b : WithBase) (seed count : ℕ) (batch : Option ℕ) (reads : Option (List ℕ)) (new : Store) (task : Task) → task ≡ Train seed count batch → based_at bytes ≡ Ok b
+pub leaves_grown : {Start Chain : Type 0} (v : Solving Start Chain) (A : Type 0) (r : Result A Status) (bytes : List ℕ) (b : WithBase) (seed count : ℕ) (batch : Option ℕ) (reads : Option (List ℕ)) (new : Store) (t : Task) → t ≡ Train seed count batch → based_at bytes ≡ Ok b
     → IfSome reads (λ kept. (o : Outcome) → loaded_for bytes b seed batch kept ≡ Ok o → WhenTrained r ((new.reads ≡ Some (grown_journal (sha256 bytes) seed o kept (iterations v b.problem seed count o).lists)) × Quiet new))
-    → IfSome reads (λ kept. Leaves v r bytes kept new task)
-leaves_grown v A r bytes b seed count batch reads new task at is has = told reads (λ kept there. subst (λ (k : Task). Leaves v r bytes kept new k) (sym at) (λ b' o is' load e.
+    → IfSome reads (λ kept. Leaves v r bytes kept new t)
+leaves_grown v A r bytes b seed count batch reads new t at is has = told reads (λ kept there. subst (λ (k : Task). Leaves v r bytes kept new k) (sym at) (λ b' o is' load e.
     let same_b : b' ≡ b = same_ok b' b (sym is' ∙ is) in
     let grown = known (λ k. (o : Outcome) → loaded_for bytes b seed batch k ≡ Ok o → WhenTrained r ((new.reads ≡ Some (grown_journal (sha256 bytes) seed o k (iterations v b.problem seed count o).lists)) × Quiet new)) reads kept there has o (subst (λ (x : WithBase). loaded_for bytes x seed batch kept ≡ Ok o) same_b load) in
     let all = trained_then A r ((new.reads ≡ Some (grown_journal (sha256 bytes) seed o kept (iterations v b.problem seed count o).lists)) × Quiet new) grown e in

@@ -1,13 +1,17 @@
 -- What each status says of the words, the source, the disk and the sink.
-use Rattle.std.specs.Prelude.{◌≡◌, ◌⊎◌, ℕ, ◌+◌, ◌^◌, ◌≤◌, List, Bool, true, false, length, take, Option, Some, None, IfSome, Result, Ok, Err, nat_le, if◌then◌else◌, ⊤}
+use Rattle.std.specs.Prelude.{◌≡◌, ◌⊎◌, ℕ, ◌+◌, ◌^◌, ◌≤◌, List, Bool, true, false, length, take, Option, Some, None, IfSome, IsOk, Result, Ok, Err, nat_le, if◌then◌else◌, ⊤}
 use Rattle.std.specs.Io.KnownBytes.{Appends, Consumes, IsAtEnd, Keeps}
 use Rattle.hp_outside.specs.Causes.{Rose}
+use Rattle.hp_outside.specs.Disks.{Store}
+use Rattle.hp_gen.specs.Generated.{generated}
 use Rattle.hp_theory.specs.Problem.{node_at}
 use Rattle.hp_theory.specs.View.{problem_of}
 use Rattle.hp_lp.specs.Chained.{Solving}
 use Rattle.hp_settle.specs.declared.judging.Dead.{Dead}
 use Rattle.hp_settle.specs.Refutation.{NoDecision}
 use Rattle.hp_run.specs.Outcome.{Reads, ReadsJournal, Reports, Solves, SoundText, Trains, WithBase, based_at, report_at}
+use Rattle.hp_run.specs.declared.job.Job.{Job}
+use Rattle.hp_run.specs.declared.job.Job.TheVariants.{Plan, Generate}
 use Rattle.hp_run.specs.declared.task.Task.{Task}
 use Rattle.hp_run.specs.declared.status.Status.{Status}
 use Rattle.hp_run.specs.declared.status.Status.TheVariants.{Done, Usage, ReadFault, TooLong, ProblemRefused, JournalRefused, TooMuch, Range, NoStage, DiskFault, WriteFault, Memory}
@@ -25,6 +29,22 @@ pub record Ends : Type 0 where
   pub taken_now : Option (List ℕ)
   pub writes : ℕ
   pub writes_now : ℕ
+
+-- what they are before and after, by what is known of the three in any state
+abbrev pub ends : {I D O : Type 0} → (I → Option (List ℕ)) → (I → ℕ) → (D → Store) → (D → ℕ) → (O → Option (List ℕ)) → (O → ℕ) → I → I → D → D → O → O → Ends
+ends left reads store disk taken writes source source_now journal journal_now sink sink_now = record {
+  left = left source;
+  left_now = left source_now;
+  reads = reads source;
+  reads_now = reads source_now;
+  kept = (store journal).reads;
+  disk = disk journal;
+  disk_now = disk journal_now;
+  taken = taken sink;
+  taken_now = taken sink_now;
+  writes = writes sink;
+  writes_now = writes sink_now;
+}
 
 -- the source was read to its end, and this holds of its bytes
 abbrev pub ReadAll : Ends → (List ℕ → Type 0) → Type 0
@@ -53,55 +73,83 @@ Lacks v task told disk disk_now bytes ReadFault = ⊥
 Lacks v task told disk disk_now bytes TooLong = ⊥
 Lacks v task told disk disk_now bytes WriteFault = ⊥
 
--- what each status says; want of memory says that nothing was written, and is free otherwise
-abbrev pub Explains : {Start Chain : Type 0} → Solving Start Chain → Option Task → Ends → Status → Type 0
-Explains v asked e Done = (task : Task) × (asked ≡ Some task) × Wrote v task e (λ text. Appends e.taken e.taken_now text)
-Explains v asked e Usage = (asked ≡ None) × (e.left_now ≡ e.left) × (e.reads_now ≡ e.reads) × Keeps e.taken e.taken_now
-Explains v asked e ReadFault = (task : Task) × (asked ≡ Some task) × Rose e.reads e.reads_now × Keeps e.taken e.taken_now
-Explains v asked e TooLong = (task : Task) × (asked ≡ Some task) × ((piece : List ℕ) × (length piece ≡ 2 ^ 24 + 1) × Consumes e.left e.left_now piece) × Keeps e.taken e.taken_now
-Explains v asked e (ProblemRefused r) = (task : Task) × (asked ≡ Some task) × ReadAll e (λ bytes. based_at bytes ≡ Err r) × Keeps e.taken e.taken_now
-Explains v asked e (JournalRefused r) = (task : Task) × (asked ≡ Some task) × ReadsJournal task × ReadAll e (λ bytes. Reports v task e.kept bytes (Err (JournalRefused r))) × Keeps e.taken e.taken_now
-Explains v asked e (TooMuch t) = (task : Task) × (asked ≡ Some task) × ReadsJournal task × ReadAll e (λ bytes. Reports v task e.kept bytes (Err (TooMuch t))) × Keeps e.taken e.taken_now
-Explains v asked e (Range k m r) = (task : Task) × (asked ≡ Some task) × Trains task × ReadAll e (λ bytes. Reports v task e.kept bytes (Err (Range k m r))) × Keeps e.taken e.taken_now
-Explains v asked e (NoStage dead) = (task : Task) × (asked ≡ Some task) × Solves task × ReadAll e (λ bytes. Reports v task e.kept bytes (Err (NoStage dead)) × IsRefuted bytes dead) × Keeps e.taken e.taken_now
-Explains v asked e DiskFault = (task : Task) × (asked ≡ Some task) × ReadsJournal task × Rose e.disk e.disk_now × IsAtEnd e.left_now × Keeps e.taken e.taken_now
-Explains v asked e WriteFault = (task : Task) × (asked ≡ Some task) × Rose e.writes e.writes_now × Wrote v task e (λ text. (n : ℕ) × Appends e.taken e.taken_now (take n text))
-Explains v asked e Memory = (task : Task) × (asked ≡ Some task) × Keeps e.taken e.taken_now
+-- what each status says of a task; want of memory says that nothing was written, and is free otherwise
+abbrev pub ExplainsTask : {Start Chain : Type 0} → Solving Start Chain → Task → Ends → Status → Type 0
+ExplainsTask v task e Done = Wrote v task e (λ text. Appends e.taken e.taken_now text)
+ExplainsTask v task e Usage = ⊥
+ExplainsTask v task e ReadFault = Rose e.reads e.reads_now × Keeps e.taken e.taken_now
+ExplainsTask v task e TooLong = ((piece : List ℕ) × (length piece ≡ 2 ^ 24 + 1) × Consumes e.left e.left_now piece) × Keeps e.taken e.taken_now
+ExplainsTask v task e (ProblemRefused r) = ReadAll e (λ bytes. based_at bytes ≡ Err r) × Keeps e.taken e.taken_now
+ExplainsTask v task e (JournalRefused r) = ReadsJournal task × ReadAll e (λ bytes. Reports v task e.kept bytes (Err (JournalRefused r))) × Keeps e.taken e.taken_now
+ExplainsTask v task e (TooMuch t) = ReadsJournal task × ReadAll e (λ bytes. Reports v task e.kept bytes (Err (TooMuch t))) × Keeps e.taken e.taken_now
+ExplainsTask v task e (Range k m r) = Trains task × ReadAll e (λ bytes. Reports v task e.kept bytes (Err (Range k m r))) × Keeps e.taken e.taken_now
+ExplainsTask v task e (NoStage dead) = Solves task × ReadAll e (λ bytes. Reports v task e.kept bytes (Err (NoStage dead)) × IsRefuted bytes dead) × Keeps e.taken e.taken_now
+ExplainsTask v task e DiskFault = ReadsJournal task × Rose e.disk e.disk_now × IsAtEnd e.left_now × Keeps e.taken e.taken_now
+ExplainsTask v task e WriteFault = Rose e.writes e.writes_now × Wrote v task e (λ text. (n : ℕ) × Appends e.taken e.taken_now (take n text))
+ExplainsTask v task e Memory = Keeps e.taken e.taken_now
+
+-- the source is as it was
+abbrev pub IsUnread : Ends → Type 0
+IsUnread e = (e.left_now ≡ e.left) × (e.reads_now ≡ e.reads)
+
+-- what each status says of a generated problem, which is one that the program accepts, and of the sink
+abbrev pub ExplainsProblem : List ℕ → Option (List ℕ) → Option (List ℕ) → ℕ → ℕ → Status → Type 0
+ExplainsProblem text taken taken_now writes writes_now Done = IsOk (based_at text) × Appends taken taken_now text
+ExplainsProblem text taken taken_now writes writes_now WriteFault = Rose writes writes_now × IsOk (based_at text) × ((n : ℕ) × Appends taken taken_now (take n text))
+ExplainsProblem text taken taken_now writes writes_now Memory = Keeps taken taken_now
+ExplainsProblem text taken taken_now writes writes_now Usage = ⊥
+ExplainsProblem text taken taken_now writes writes_now ReadFault = ⊥
+ExplainsProblem text taken taken_now writes writes_now TooLong = ⊥
+ExplainsProblem text taken taken_now writes writes_now (ProblemRefused r) = ⊥
+ExplainsProblem text taken taken_now writes writes_now (JournalRefused r) = ⊥
+ExplainsProblem text taken taken_now writes writes_now (TooMuch t) = ⊥
+ExplainsProblem text taken taken_now writes writes_now (Range k m r) = ⊥
+ExplainsProblem text taken taken_now writes writes_now (NoStage dead) = ⊥
+ExplainsProblem text taken taken_now writes writes_now DiskFault = ⊥
+
+-- what each status says of what is asked for: words that ask for nothing are Usage, and a generated problem leaves the source as it was
+abbrev pub Explains : {Start Chain : Type 0} → Solving Start Chain → Option Job → Ends → Status → Type 0
+Explains v None e status = (status ≡ Usage) × IsUnread e × Keeps e.taken e.taken_now
+Explains v (Some (Plan task)) e status = ExplainsTask v task e status
+Explains v (Some (Generate seed stages reservoirs)) e status = IsUnread e × ExplainsProblem (generated seed stages reservoirs) e.taken e.taken_now e.writes e.writes_now status
 
 abbrev pub status_of : Result (List ℕ) Status → Status
 status_of (Ok text) = Done
 status_of (Err s) = s
 
--- the status where no device fails and memory is there
-abbrev pub expected : {Start Chain : Type 0} → Solving Start Chain → Option Task → List ℕ → List ℕ → Status
-expected v None bytes kept = Usage
-expected v (Some task) bytes kept = if nat_le (length bytes) (2 ^ 24) then status_of (report_at v task bytes kept) else TooLong
-
--- the journal's bytes, where what is asked for reads them
-abbrev pub AreRead : Option Task → Option (List ℕ) → List ℕ → Type 0
-AreRead None told kept = ⊤
-AreRead (Some task) told kept = Reads task told kept
+-- the status of a task where no device fails and memory is there
+abbrev pub expected : {Start Chain : Type 0} → Solving Start Chain → Task → List ℕ → List ℕ → Status
+expected v task bytes kept = if nat_le (length bytes) (2 ^ 24) then status_of (report_at v task bytes kept) else TooLong
 
 -- where no count rose the status is the expected one, or memory was refused
-abbrev pub Completes : {Start Chain : Type 0} → Solving Start Chain → Option Task → Ends → Status → Type 0
-Completes v asked e status =
-    (bytes kept : List ℕ) → e.left ≡ Some bytes → AreRead asked e.kept kept → ¬ (Rose e.reads e.reads_now) → ¬ (Rose e.disk e.disk_now) → ¬ (Rose e.writes e.writes_now)
-    → (status ≡ expected v asked bytes kept) ⊎ (status ≡ Memory)
+abbrev pub Completes : {Start Chain : Type 0} → Solving Start Chain → Option Job → Ends → Status → Type 0
+Completes v None e status = status ≡ Usage
+Completes v (Some (Plan task)) e status =
+    (bytes kept : List ℕ) → e.left ≡ Some bytes → Reads task e.kept kept → ¬ (Rose e.reads e.reads_now) → ¬ (Rose e.disk e.disk_now) → ¬ (Rose e.writes e.writes_now)
+    → (status ≡ expected v task bytes kept) ⊎ (status ≡ Memory)
+Completes v (Some (Generate seed stages reservoirs)) e status = ¬ (Rose e.writes e.writes_now) → (status ≡ Done) ⊎ (status ≡ Memory)
 
--- what was written is a sound text, or the front of one, over any disk
-abbrev pub Sounds : Ends → Status → Type 0
-Sounds e Done = IfSome e.left (λ bytes. (task : Task) × (text : List ℕ) × SoundText task bytes text × Appends e.taken e.taken_now text)
-Sounds e WriteFault = IfSome e.left (λ bytes. (task : Task) × (text : List ℕ) × SoundText task bytes text × ((n : ℕ) × Appends e.taken e.taken_now (take n text)))
-Sounds e Usage = ⊤
-Sounds e ReadFault = ⊤
-Sounds e TooLong = ⊤
-Sounds e (ProblemRefused r) = ⊤
-Sounds e (JournalRefused r) = ⊤
-Sounds e (TooMuch t) = ⊤
-Sounds e (Range k m r) = ⊤
-Sounds e (NoStage dead) = ⊤
-Sounds e DiskFault = ⊤
-Sounds e Memory = ⊤
+-- what was written is a text of which this holds, or the front of one
+abbrev pub IfWritten : (List ℕ → Type 0) → Ends → Status → Type 0
+IfWritten P e Done = (text : List ℕ) × P text × Appends e.taken e.taken_now text
+IfWritten P e WriteFault = (text : List ℕ) × P text × ((n : ℕ) × Appends e.taken e.taken_now (take n text))
+IfWritten P e Usage = ⊤
+IfWritten P e ReadFault = ⊤
+IfWritten P e TooLong = ⊤
+IfWritten P e (ProblemRefused r) = ⊤
+IfWritten P e (JournalRefused r) = ⊤
+IfWritten P e (TooMuch t) = ⊤
+IfWritten P e (Range k m r) = ⊤
+IfWritten P e (NoStage dead) = ⊤
+IfWritten P e DiskFault = ⊤
+IfWritten P e Memory = ⊤
+
+-- What was written is sound, over any disk: a report of the problem that the source held, each line of it sound; or a generated problem, in
+-- which no cut and no bound stands, and which the program accepts.
+abbrev pub Sounds : Option Job → Ends → Status → Type 0
+Sounds None e status = ⊤
+Sounds (Some (Plan task)) e status = IfSome e.left (λ bytes. IfWritten (SoundText task bytes) e status)
+Sounds (Some (Generate seed stages reservoirs)) e status = IfWritten (λ text. IsOk (based_at text)) e status
 
 -- the statuses after which the sink is untouched
 abbrev pub writes_nothing : Status → Bool

@@ -16,6 +16,8 @@ use Rattle.hp_train.specs.Training.{GoOnWith, MineFrom, StandsIn, grown_journal,
 use Rattle.hp_run.specs.Outcome.{WithBase, based_at, loaded_for}
 use Rattle.hp_run.specs.declared.status.Status.{Status}
 use Rattle.hp_run.specs.declared.status.Status.TheVariants.{Done, Usage, ReadFault, TooLong, ProblemRefused, JournalRefused, TooMuch, Range, NoStage, DiskFault, WriteFault, Memory}
+use Rattle.hp_run.specs.declared.job.Job.{Job}
+use Rattle.hp_run.specs.declared.job.Job.TheVariants.{Plan, Generate}
 use Rattle.hp_run.specs.declared.task.Task.{Task}
 use Rattle.hp_run.specs.declared.task.Task.TheVariants.{Base, Train, Check, Simulate, Validate}
 
@@ -39,17 +41,21 @@ abbrev pub status_of : {A : Type 0} → Result A Status → Status
 status_of (Ok x) = Done
 status_of (Err s) = s
 
--- the journal is only read: by a command that does not train, or on a refusal
-abbrev pub OnlyReads : Option Task → Status → Type 0
+-- the journal is only read: by a task that does not train, or on a refusal
+abbrev pub TaskOnlyReads : Task → Status → Type 0
+TaskOnlyReads Base status = ⊤
+TaskOnlyReads (Train seed count batch) status = is_refusal status ≡ true
+TaskOnlyReads Check status = ⊤
+TaskOnlyReads (Simulate seed count) status = ⊤
+TaskOnlyReads Validate status = ⊤
+
+abbrev pub OnlyReads : Option Job → Status → Type 0
 OnlyReads None status = ⊤
-OnlyReads (Some Base) status = ⊤
-OnlyReads (Some (Train seed count batch)) status = is_refusal status ≡ true
-OnlyReads (Some Check) status = ⊤
-OnlyReads (Some (Simulate seed count)) status = ⊤
-OnlyReads (Some Validate) status = ⊤
+OnlyReads (Some (Plan task)) status = TaskOnlyReads task status
+OnlyReads (Some (Generate seed stages reservoirs)) status = ⊤
 
 abbrev pub KeepsJournal : {A : Type 0} → Task → Result A Status → Type 0
-KeepsJournal task r = OnlyReads (Some task) (status_of r)
+KeepsJournal task r = TaskOnlyReads task (status_of r)
 
 -- the statuses of a run that trained to the end, or to where iterations stop
 abbrev pub has_trained : Status → Bool
@@ -108,11 +114,8 @@ IsResumed v status bytes kept new taken taken_now Check = ⊤
 IsResumed v status bytes kept new taken taken_now (Simulate seed count) = ⊤
 IsResumed v status bytes kept new taken taken_now Validate = ⊤
 
--- of the bytes of the problem and of the journal, as far as they are told, and of what is asked for
-abbrev pub OfTask : Option (List ℕ) → Option (List ℕ) → Option Task → (List ℕ → List ℕ → Task → Type 0) → Type 0
-OfTask left kept asked P = IfSome left (λ bytes. IfSome kept (λ k. IfSome asked (P bytes k)))
-
--- of what is asked for, where the words are a command that the program does
-abbrev pub IfAsked : Option Task → (Task → Type 0) → Type 0
-IfAsked None P = ⊥
-IfAsked (Some task) P = P task
+-- of the bytes of the problem and of the journal, as far as they are told, and of the task that is asked for
+abbrev pub OfTask : Option (List ℕ) → Option (List ℕ) → Option Job → (List ℕ → List ℕ → Task → Type 0) → Type 0
+OfTask left kept None P = ⊤
+OfTask left kept (Some (Plan task)) P = IfSome left (λ bytes. IfSome kept (λ k. P bytes k task))
+OfTask left kept (Some (Generate seed stages reservoirs)) P = ⊤

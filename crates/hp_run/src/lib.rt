@@ -1,6 +1,8 @@
 //! What the program does with its words, a problem and a sink.
 #![tactic(auto)]
 
+mod generating;
+mod job;
 mod journal_lines;
 mod outcome;
 mod program;
@@ -14,7 +16,8 @@ mod training;
 mod training_lines;
 mod writing;
 
+pub use job::Job;
 pub use program::{execute, start};
 pub use status::{Status, number, status_line};
 pub use task::Task;
-pub use top::{run, run_with};
+pub use top::{run, run_safe, run_with};

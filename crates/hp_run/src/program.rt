@@ -1,7 +1,7 @@
 // The program over the objects that stand for the world outside.
 ghost use Rattle.std.specs.Prelude.{◌≡◌};
 ghost use Rattle.std.specs.Process.{exit_status};
-ghost use Rattle.hp_run.specs.Causes.{Explains};
+ghost use Rattle.hp_run.specs.Causes.{Explains, ends};
 ghost use Rattle.hp_run.specs.OwnSolver.{own_solver};
 ghost use Rattle.hp_run.specs.Status.{number_of};
 ghost use Rattle.hp_run.specs.Words.{asked};
@@ -42,19 +42,7 @@ pub fn execute<R: Threads + Sync, I: Source, D: Disk, O: Sink, E: Write>(
     out: &mut O,
     errors: &mut E,
 ) -> ExitCode
-    ensures { (status : Status) × (exit_status result ≡ number_of status) × Explains own_solver (asked words.now) (record {
-      left = I.left problem.old;
-      left_now = I.left problem.new;
-      reads = I.faults problem.old;
-      reads_now = I.faults problem.new;
-      kept = (D.store journal.old).reads;
-      disk = D.faults journal.old;
-      disk_now = D.faults journal.new;
-      taken = O.taken out.old;
-      taken_now = O.taken out.new;
-      writes = O.faults out.old;
-      writes_now = O.faults out.new;
-    }) status }
+    ensures { (status : Status) × (exit_status result ≡ number_of status) × Explains own_solver (asked words.now) (ends I.left I.faults D.store D.faults O.taken O.faults problem.old problem.new journal.old journal.new out.old out.new) status }
 {
     let status = run(rt, alloc, words, problem, journal, out);
     ended(alloc, &status, errors)

@@ -73,7 +73,7 @@ fn push_status(alloc: Global, out: &mut Vec<u8>, status: &Status) -> Result<(), 
         Status::Done => Ok(()),
         Status::Usage => push_bytes(
             out,
-            b"usage: base, train JOURNAL SEED COUNT [BATCH], check JOURNAL, simulate JOURNAL SEED COUNT, validate JOURNAL",
+            b"usage: base, train JOURNAL SEED COUNT [BATCH], check JOURNAL, simulate JOURNAL SEED COUNT, validate JOURNAL, gen SEED STAGES RESERVOIRS",
         ),
         Status::ReadFault => push_bytes(out, b"problem could not be read"),
         Status::TooLong => push_bytes(out, b"problem is longer than 16777216 bytes"),

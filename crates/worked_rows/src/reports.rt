@@ -1,7 +1,7 @@
 // What the program writes of a problem.
 use crate::fault::RowFault;
-use hp_outside::{Disk, FaultlessDisk, MemSink, MemSource};
-use hp_run::{run, status_line};
+use hp_outside::{Disk, FaultlessDisk, FaultlessSink, FaultlessSource, MemSink, MemSource};
+use hp_run::{number, run, run_safe, status_line};
 use std::alloc::Global;
 use std::thread::Threads;
 
@@ -76,6 +76,21 @@ pub fn report<R: Threads + Sync>(
 ) -> Result<String, RowFault> {
     let mut journal = FaultlessDisk::new(alloc, &[], 0)?;
     report_over(rt, alloc, devices, command, problem, &mut journal)
+}
+
+/// The number of the status of a run of a command line over objects of which no call fails.
+pub fn safe<R: Threads + Sync>(
+    rt: &R,
+    alloc: Global,
+    command: &str,
+    problem: &str,
+) -> Result<String, RowFault> {
+    let words = words(alloc, command)?;
+    let mut source = FaultlessSource::new(problem.as_bytes().to_vec(alloc)?);
+    let mut journal = FaultlessDisk::new(alloc, &[], 0)?;
+    let mut sink = FaultlessSink::new();
+    let status = run_safe(rt, alloc, &words, &mut source, &mut journal, &mut sink);
+    Ok(format!(in alloc; "status {}\n", number(&status))?)
 }
 
 /// The last line of the report of a problem's base cuts, which is the status's line where the status has one.

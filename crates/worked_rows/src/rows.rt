@@ -1,7 +1,7 @@
 // One row.
 use crate::fault::RowFault;
 use crate::parts::parts;
-use crate::reports::{FAULTLESS, report};
+use crate::reports::{FAULTLESS, report, safe};
 use crate::tables::{Question, compared};
 use std::alloc::{AllocError, Global};
 use std::fs;
@@ -60,6 +60,7 @@ fn whole<R: Threads + Sync>(
 ) -> Result<String, RowFault> {
     match row.kind {
         "print" | "report" => report(rt, alloc, FAULTLESS, row.command, problem),
+        "safe" => safe(rt, alloc, row.command, problem),
         "parts" => parts(alloc, problem),
         _ => Err(RowFault::Form),
     }

@@ -1,4 +1,4 @@
-// The bounds in a report of training.
+// The bounds in a report of training, and the lines in a report of simulation.
 use std::alloc::{AllocError, Global};
 
 /// The bound in a line `iteration K bound B`.
@@ -30,4 +30,19 @@ pub fn of(alloc: Global, report: &str) -> Result<String, AllocError> {
     }
     let first = report.lines().next().unwrap_or("");
     format!(in alloc; "{first}\niterations {count} rising {rising}\n")
+}
+
+/// How many scenarios a report of simulation has, and how many stages in all.
+pub fn stages(alloc: Global, report: &str) -> Result<String, AllocError> {
+    let mut scenarios = 0u32;
+    let mut stages = 0u32;
+    for line in report.lines() {
+        if line.starts_with("scenario ") {
+            scenarios = scenarios.saturating_add(1);
+        }
+        if line.starts_with("stage ") {
+            stages = stages.saturating_add(1);
+        }
+    }
+    format!(in alloc; "scenarios {scenarios} stages {stages}\n")
 }

@@ -73,9 +73,16 @@ fn rising<R: Threads + Sync>(
         room: LARGE_ROOM,
         ..task
     };
+    let follow = Task {
+        command: "simulate J 5 5",
+        ..large
+    };
     let mut disk = disk(alloc, large, journal, &[])?;
-    let report = report(rt, alloc, large, &mut disk)?;
-    let found = bounds::of(alloc, &report)?;
+    let trained = report(rt, alloc, large, &mut disk)?;
+    let followed = report(rt, alloc, follow, &mut disk)?;
+    let rising = bounds::of(alloc, &trained)?;
+    let stages = bounds::stages(alloc, &followed)?;
+    let found = format!(in alloc; "{rising}{stages}")?;
     Ok(verdict(alloc, &found, expected)?)
 }
 

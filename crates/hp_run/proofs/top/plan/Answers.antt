@@ -1,9 +1,9 @@
-use Rattle.std.proofs.Common.{List, ℕ, IfSome, sym, subst, ◌∙◌}
+use Rattle.std.proofs.Common.{List, ℕ, IfSome, subst}
 use Rattle.hp_lp.specs.Chained.{solving}
 use Rattle.hp_run.specs.Journals.{Grows}
 use Rattle.hp_run.specs.declared.status.Status.TheVariants.{Done}
 use Rattle.hp_run.proofs.Wrote.{wrote_grown}
-use Rattle.hp_run.proofs.top.act.Goals as goal
+use Rattle.hp_run.proofs.top.plan.Goals as goal
 
 pub returns-clause-grown : goal.returns-clause-grown
 returns-clause-grown g c =
@@ -11,6 +11,6 @@ returns-clause-grown g c =
     let old = g.D.Disk.store c.args.journal.now in
     let new = g.D.Disk.store c.report_of.new.journal in
     let bytes = c.in-Ok.bytes.items in
-    let task = c.in-Some.task in
+    let task = c.args.task in
     let grown : IfSome old.reads (λ kept. Grows v Done bytes kept new task) = subst (λ (x : List ℕ). IfSome old.reads (λ kept. Grows v Done x kept new task)) c.as_slice.ensures.value c.in-Ok-report_of.ensures.grown in
-    wrote_grown v _ _ bytes _ task old.reads new c.in-Ok.ensures.bytes.0 c.in-Ok.ensures.bytes.1 (sym c.asked.ensures.value ∙ c.in-Some.is) grown
+    wrote_grown v _ _ bytes task old.reads new c.in-Ok.ensures.bytes.0 c.in-Ok.ensures.bytes.1 grown

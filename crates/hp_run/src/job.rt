@@ -1,0 +1,52 @@
+// What the program is asked to do.
+ghost use Rattle.std.specs.Prelude.{◌≡◌, IfSome};
+ghost use Rattle.hp_run.specs.Words.{IsJobWithin, asked, job_of};
+
+use crate::task::Task;
+use hp_words::{Command, read_words};
+
+/// What the program does.
+#[derive(Clone, Copy, Debug, PartialEq, Eq)]
+pub enum Job {
+    /// A task over the problem that the source holds.
+    Plan(Task),
+    /// A problem that a seed draws, of 1 to 500 stages and 1 to 10 reservoirs.
+    Generate {
+        seed: u64,
+        stages: u32,
+        reservoirs: u32,
+    },
+}
+
+fn job_of(command: Command) -> Option<Job>
+    ensures { result ≡ job_of command }
+{
+    match command {
+        Command::Base => Some(Job::Plan(Task::Base)),
+        Command::Train { seed, count, batch } => {
+            Some(Job::Plan(Task::Train { seed, count, batch }))
+        }
+        Command::Check => Some(Job::Plan(Task::Check)),
+        Command::Simulate { seed, count } => Some(Job::Plan(Task::Simulate { seed, count })),
+        Command::Validate => Some(Job::Plan(Task::Validate)),
+        Command::Gen {
+            seed,
+            stages,
+            reservoirs,
+        } => Some(Job::Generate {
+            seed,
+            stages,
+            reservoirs,
+        }),
+        _ => None,
+    }
+}
+
+/// What the words ask for, where they are a command that the program does.
+#[tactic(auto, unfolding(crate::specs::Words::asked))]
+pub(crate) fn asked(words: &[String]) -> Option<Job>
+    ensures value { result ≡ asked words.now }
+    ensures within { IfSome result IsJobWithin }
+{
+    job_of(read_words(words)?)
+}
