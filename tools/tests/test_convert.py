@@ -5,6 +5,7 @@ import tempfile
 import unittest
 from fractions import Fraction as F
 from pathlib import Path
+from unittest import mock
 
 from hydroplan_tools.convert_command import main
 from hydroplan_tools.profile import MOST_NUMBER
@@ -207,6 +208,16 @@ class Chosen(Files):
         for chosen, part in rows:
             with self.subTest(chosen=chosen):
                 self.assertIn(part, self.refused(RESERVOIR, "--scales", self.write("chosen.json", json.dumps(chosen))))
+
+    def test_a_fault_in_a_file_beside_the_problem_names_that_file(self):
+        chosen = self.write("chosen.json", '{"cost": -1}')
+        self.assertIn(f"convert: {chosen}: Scale at $.cost (line 1, column 10)", self.refused(RESERVOIR, "--scales", chosen))
+        bounds = self.write("bounds.json", "{")
+        self.assertIn(f"convert: {bounds}: line 1, column 2", self.refused(NEWSVENDOR, "--bounds", bounds))
+
+    def test_a_problem_that_would_be_too_long_is_refused(self):
+        with mock.patch("hydroplan_tools.convert_command.MOST_FILE_BYTES", 100):
+            self.assertIn("more than 100 bytes", self.refused(RESERVOIR))
 
     def test_a_problem_in_whole_numbers_keeps_them(self):
         self.assertIn("the probabilities sum to 2", self.refused(EXAMPLES / "one_reservoir.json"))
