@@ -257,6 +257,8 @@ class Refusals(Files):
         ('"major": 1, "minor": 0', '"major": 2, "minor": 0', "Version", "$.version.major", "version 2"),
         ('"probability": 0.6', '"probability": 0.5', "Probability", "$.nodes.second_stage", "9/10"),
         ('"probability": 0.6', '"probability": -0.6', "Probability", "realizations[1].probability", "below 0"),
+        ('[{"probability": 0.4, "support": {"d": 10.0}}, {"probability": 0.6, "support": {"d": 14.5}}]',
+         '[{"probability": 0.0, "support": {"d": 10.0}}]', "Probability", "$.nodes.second_stage", "have probability 0"),
         ('{"d": 14.5}', '{"e": 14.5}', "Shape", "realizations[1].support", "`d` is missing"),
         ('"variable": "x_in"}', '"variable": "x_inn"}', "UnknownName", "terms[0].variable", "x_inn"),
         ('{"name": "u"}, {"name": "d"}', '{"name": "u"}, {"name": "u"}', "Duplicate", "variables[3].name", '"u"'),
