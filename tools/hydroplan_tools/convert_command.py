@@ -10,16 +10,18 @@ import json
 import sys
 from fractions import Fraction
 from pathlib import Path
-from typing import Optional, Sequence
+from typing import Callable, Optional, Sequence, TextIO, TypeVar
 
 from .back import BadReport, Back
 from .converting import Bounds, Ledger, Writer, as_minimum, with_bounds, without_fixings, without_nothing
 from .cursor import Cursor, Refused
 from .located_json import NotJson, parse
 from .model import Quantity, quantity
+from .profile import MOST_FILE_BYTES
 from .scales import Scales, complete, read_scales, write_scales
 from .stochopt import read_model
 
+Read = TypeVar("Read")
 DESCRIPTION = """Converts between StochOptFormat with decimal numbers and the whole numbers of hydroplan. Nothing here is
 proved."""
 PROBLEM = """Reads a file of StochOptFormat 1.x and writes a problem in whole numbers on standard output (or --output),
@@ -72,6 +74,14 @@ def load(path: Path) -> Cursor:
     return Cursor(document, document.root)
 
 
+def read_with(path: Path, reader: Callable[[Cursor], Read]) -> Read:
+    """What a reader makes of a file beside the problem; a fault in it names the file."""
+    try:
+        return reader(load(path))
+    except (Refused, NotJson) as fault:
+        raise ValueError(f"{path}: {fault}") from None
+
+
 def convert(source: Cursor, chosen: Scales, bounds: Bounds, options: argparse.Namespace) -> tuple[dict, Scales, Ledger]:
     """The problem in whole numbers, its scales, and what was rounded and left out."""
     ledger = Ledger(options.tolerance)
@@ -87,10 +97,13 @@ def convert(source: Cursor, chosen: Scales, bounds: Bounds, options: argparse.Na
 
 
 def _problem(chosen: argparse.Namespace) -> int:
-    scales = read_scales(load(chosen.scales)) if chosen.scales else Scales()
-    bounds = read_bounds(load(chosen.bounds)) if chosen.bounds else Bounds({}, {})
+    scales = read_with(chosen.scales, read_scales) if chosen.scales else Scales()
+    bounds = read_with(chosen.bounds, read_bounds) if chosen.bounds else Bounds({}, {})
     problem, found, ledger = convert(load(chosen.input), scales, bounds, chosen)
-    _write(chosen.output, json.dumps(problem, ensure_ascii=False, separators=(",", ":")) + "\n", sys.stdout)
+    text = json.dumps(problem, ensure_ascii=False, separators=(",", ":")) + "\n"
+    if len(text.encode("utf-8")) > MOST_FILE_BYTES:
+        raise ValueError(f"the problem would have more than {MOST_FILE_BYTES} bytes")
+    _write(chosen.output, text, sys.stdout)
     _write(chosen.write_scales, write_scales(found), sys.stdout)
     lines = [*ledger.notes, *(it.line() for it in ledger.roundings)]
     lines.append(f"{len(ledger.roundings)} numbers were rounded")
@@ -98,7 +111,7 @@ def _problem(chosen: argparse.Namespace) -> int:
     return 0
 
 
-def _write(path: Optional[Path], text: str, stream) -> None:
+def _write(path: Optional[Path], text: str, stream: TextIO) -> None:
     if path is None:
         stream.write(text)
     else:
@@ -106,7 +119,7 @@ def _write(path: Optional[Path], text: str, stream) -> None:
 
 
 def _back(chosen: argparse.Namespace) -> int:
-    scales = read_scales(load(chosen.scales))
+    scales = read_with(chosen.scales, read_scales)
     if scales.cost is None or not scales.nodes:
         raise ValueError(f"{chosen.scales} has not all scales: `convert problem --write-scales` writes them")
     turning = Back(scales, None if chosen.exact else chosen.digits)

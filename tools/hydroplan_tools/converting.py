@@ -184,6 +184,8 @@ def without_nothing(model: Model, ledger: Ledger) -> Model:
     nodes = {}
     for name, node in model.nodes.items():
         kept = tuple(it for it in node.realizations if it.probability.value > 0)
+        if node.realizations and not kept:
+            raise node.cursor.refuse("Probability", "all its realizations have probability 0")
         for it in node.realizations:
             if it.probability.value == 0:
                 ledger.notes.append(f"left out: {it.probability.place}: a realization of probability 0")

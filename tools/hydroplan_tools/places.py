@@ -238,11 +238,21 @@ def culprit(root: Cursor, refusal: Refusal, located: Located) -> Optional[tuple[
     if refusal.kind == "UnknownName":
         return _unknown(root, refusal, located)
     if refusal.kind == "Shape":
-        return wrong_shape(located.cursor, _shape_of(refusal, located))
+        return wrong_shape(located.cursor, _shape_of(refusal, located)) or _without_realizations(root, refusal, located)
     if refusal.kind == "Unsupported":
         return unsupported(located.cursor, refusal.part)
     if refusal.kind == "Duplicate" and refusal.part == "variable":
         return _earlier(root, located)
+    return None
+
+
+def _without_realizations(root: Cursor, refusal: Refusal, located: Located) -> Optional[tuple[Cursor, str]]:
+    """A node without realizations whose subproblem has random variables."""
+    if refusal.part != "node" or not located.cursor.is_object():
+        return None
+    realizations = located.cursor.find("realizations")
+    if (realizations is None or not realizations.items()) and random_names(located.cursor, root):
+        return realizations or located.cursor, "its subproblem has random variables, and it has no realizations"
     return None
 
 

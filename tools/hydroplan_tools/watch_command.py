@@ -10,9 +10,7 @@ import time
 from pathlib import Path
 from typing import Optional, Sequence
 
-from .convert_command import load
-from .cursor import Refused
-from .located_json import NotJson
+from .convert_command import read_with
 from .scales import read_scales
 from .watching import Units, Watch, run_check
 
@@ -54,7 +52,7 @@ def main(words: Optional[Sequence[str]] = None) -> int:
         return _watch(chosen, units).run(chosen.until, chosen.once)
     except KeyboardInterrupt:
         return 0
-    except (Refused, NotJson, ValueError, OSError) as fault:
+    except (ValueError, OSError) as fault:
         print(f"watch: {fault}", file=sys.stderr)
     return 1
 
@@ -62,7 +60,7 @@ def main(words: Optional[Sequence[str]] = None) -> int:
 def _units(path: Optional[Path]) -> Units:
     if path is None:
         return Units()
-    scales = read_scales(load(path))
+    scales = read_with(path, read_scales)
     if scales.cost is None:
         raise ValueError(f"{path} has no scale of costs")
     return Units(scales.cost, scales.negated)

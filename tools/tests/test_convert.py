@@ -5,6 +5,7 @@ import tempfile
 import unittest
 from fractions import Fraction as F
 from pathlib import Path
+from unittest import mock
 
 from hydroplan_tools.convert_command import main
 from hydroplan_tools.profile import MOST_NUMBER
@@ -208,6 +209,16 @@ class Chosen(Files):
             with self.subTest(chosen=chosen):
                 self.assertIn(part, self.refused(RESERVOIR, "--scales", self.write("chosen.json", json.dumps(chosen))))
 
+    def test_a_fault_in_a_file_beside_the_problem_names_that_file(self):
+        chosen = self.write("chosen.json", '{"cost": -1}')
+        self.assertIn(f"convert: {chosen}: Scale at $.cost (line 1, column 10)", self.refused(RESERVOIR, "--scales", chosen))
+        bounds = self.write("bounds.json", "{")
+        self.assertIn(f"convert: {bounds}: line 1, column 2", self.refused(NEWSVENDOR, "--bounds", bounds))
+
+    def test_a_problem_that_would_be_too_long_is_refused(self):
+        with mock.patch("hydroplan_tools.convert_command.MOST_FILE_BYTES", 100):
+            self.assertIn("more than 100 bytes", self.refused(RESERVOIR))
+
     def test_a_problem_in_whole_numbers_keeps_them(self):
         self.assertIn("the probabilities sum to 2", self.refused(EXAMPLES / "one_reservoir.json"))
         problem, scales, ledger = self.convert(EXAMPLES / "one_reservoir.json", "--normalise")
@@ -246,6 +257,8 @@ class Refusals(Files):
         ('"major": 1, "minor": 0', '"major": 2, "minor": 0', "Version", "$.version.major", "version 2"),
         ('"probability": 0.6', '"probability": 0.5', "Probability", "$.nodes.second_stage", "9/10"),
         ('"probability": 0.6', '"probability": -0.6', "Probability", "realizations[1].probability", "below 0"),
+        ('[{"probability": 0.4, "support": {"d": 10.0}}, {"probability": 0.6, "support": {"d": 14.5}}]',
+         '[{"probability": 0.0, "support": {"d": 10.0}}]', "Probability", "$.nodes.second_stage", "have probability 0"),
         ('{"d": 14.5}', '{"e": 14.5}', "Shape", "realizations[1].support", "`d` is missing"),
         ('"variable": "x_in"}', '"variable": "x_inn"}', "UnknownName", "terms[0].variable", "x_inn"),
         ('{"name": "u"}, {"name": "d"}', '{"name": "u"}, {"name": "u"}', "Duplicate", "variables[3].name", '"u"'),

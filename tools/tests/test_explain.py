@@ -53,6 +53,8 @@ class Places(unittest.TestCase):
             ('"name": "coal"}, "set"', '"name": "coals"}, "set"', "UnknownName at constraint 0 8 0", "function.name", '"coal" is'),
             ('"sense": "min"', '"sense": "max"', "Unsupported at objective 0 0 0", "objective.sense", '"max" is not read'),
             ('"type": "GreaterThan", "lower": 0}', '"type": "GreaterThan", "low": 0}', "Shape at constraint 0 2 0", "constraints[2].set", "`lower` is missing"),
+            ('"realizations": [{"probability": 1, "support": {"rain": 15, "demand": 30}}]', '"realizations": []',
+             "Shape at node 3 0 0", '$.nodes["summer wet"].realizations', "it has no realizations"),
             ('"name": "spill"}', '"name": "rain"}', "Duplicate at variable 0 8 0", "variables[2].name", "stands here already"),
         ]
         for old, new, line, place, part in rows:
