@@ -1,6 +1,6 @@
 -- A report is a sound text, and each status is the expected one where no device fails.
 use Rattle.std.proofs.Common.{◌≡◌, ◌⊎◌, inl, inr, ℕ, ◌<◌, ◌≤◌, ◌^◌, if◌then◌else◌, true, false, List, length, Option, Some, None, IfSome, IfOk, IsOk, Result, Ok, Err, nat_le, refl, sym, ap, ◌∙◌, subst, length-append, arith}
-use Rattle.std.specs.Io.KnownBytes.{Consumes}
+use Rattle.std.specs.Io.KnownBytes.{Consumes, IsAtEnd, Keeps}
 use Rattle.hp_outside.specs.Causes.{Rose}
 use Rattle.std.proofs.lemmas.Bool.Decides.{nat_tests}
 use Rattle.hp_problem.specs.Sealed.{Sealed}
@@ -15,14 +15,15 @@ use Rattle.hp_report.proofs.SoundTraces.{sound_traces}
 use Rattle.hp_fields.specs.Steps.{◌>>=◌}
 use Rattle.hp_problem.specs.declared.refusal.Refusal.{Refusal}
 use Rattle.hp_lp.specs.Chained.{Solving}
-use Rattle.hp_run.specs.Outcome.{WithBase, based_at, based_of, with_base, or_refused, report_by, report_at, IsSoundReport, SoundText}
-use Rattle.hp_run.specs.Causes.{Ends, Explains, ExplainsProblem, ExplainsTask, IfWritten, status_of, expected, Completes, Sounds}
+use Rattle.hp_run.specs.Outcome.{Reports, WithBase, based_at, based_of, with_base, or_refused, report_by, report_at, IsSoundReport, SoundText}
+use Rattle.hp_run.specs.Causes.{Ends, Explains, ExplainsProblem, ExplainsTask, IsRefuted, Lacks, ReadAll, status_of, expected, Completes}
 use Rattle.hp_run.specs.declared.job.Job.{Job}
 use Rattle.hp_run.specs.declared.job.Job.TheVariants.{Plan, Generate}
 use Rattle.hp_run.specs.declared.task.Task.{Task}
 use Rattle.hp_run.specs.declared.task.Task.TheVariants.{Base, Train, Check, Simulate, Validate}
 use Rattle.hp_run.specs.declared.status.Status.{Status}
 use Rattle.hp_run.specs.declared.status.Status.TheVariants.{Done, Usage, ReadFault, TooLong, ProblemRefused, JournalRefused, TooMuch, Range, NoStage, DiskFault, WriteFault, Memory}
+use Rattle.hp_run.proofs.KnownBytes.{all_taken}
 
 lines_of_report : (task : Task) (p : Sealed) (pools : List (List Cut)) (text : List ℕ) → IsSoundReport task p pools text → SoundLines (problem_of p) text
 lines_of_report Base p pools text r = subst (SoundLines (problem_of p)) (sym r.is) (sound_lines p pools r.cuts r.bound)
@@ -49,48 +50,6 @@ sound_text task bytes p pools text read r = record {
 pub sound_texts : {X E : Type 0} (view : X → List ℕ) (task : Task) (bytes : List ℕ) (p : Sealed) (r : Result X E) → problem_at bytes ≡ Ok p → IfOk r (λ v. (cuts : List (List Cut)) × IsSoundReport task p cuts (view v)) → IfOk r (λ v. SoundText task bytes (view v))
 sound_texts view task bytes p (Ok v) read h = sound_text task bytes p h.0 (view v) read h.1
 sound_texts view task bytes p (Err e) read h = tt
-
-if_some : (o : Option (List ℕ)) (P Q : List ℕ → Type 0) → ((bytes : List ℕ) → P bytes → Q bytes) → IfSome o P → IfSome o Q
-if_some None P Q f h = tt
-if_some (Some bytes) P Q f h = f bytes h
-
-each_of : {A : Type 0} {P : A → Type 0} (o : Option A) → ((x : A) → P x) → IfSome o P
-each_of None f = tt
-each_of (Some x) f = f x
-
--- what was written is sound
-written_sounds : {Start Chain : Type 0} (v : Solving Start Chain) (task : Task) (e : Ends) (status : Status) → ExplainsTask v task e status → IfSome e.left (λ bytes. IfWritten (SoundText task bytes) e status)
-written_sounds v task e Done h = if_some e.left _ _ (λ bytes w. (w.1.0, w.1.2, w.1.3)) h.1
-written_sounds v task e WriteFault h = if_some e.left _ _ (λ bytes w. (w.1.0, w.1.2, w.1.3)) h.1.1
-written_sounds v task e Usage h = each_of e.left (λ bytes. tt)
-written_sounds v task e ReadFault h = each_of e.left (λ bytes. tt)
-written_sounds v task e TooLong h = each_of e.left (λ bytes. tt)
-written_sounds v task e (ProblemRefused r) h = each_of e.left (λ bytes. tt)
-written_sounds v task e (JournalRefused r) h = each_of e.left (λ bytes. tt)
-written_sounds v task e (TooMuch t) h = each_of e.left (λ bytes. tt)
-written_sounds v task e (Range k m r) h = each_of e.left (λ bytes. tt)
-written_sounds v task e (NoStage dead) h = each_of e.left (λ bytes. tt)
-written_sounds v task e DiskFault h = each_of e.left (λ bytes. tt)
-written_sounds v task e Memory h = each_of e.left (λ bytes. tt)
-
-problem_sounds : (text : List ℕ) (e : Ends) (status : Status) → ExplainsProblem text e.taken e.taken_now e.writes e.writes_now status → IfWritten (λ written. IsOk (based_at written)) e status
-problem_sounds text e Done h = (text, h.0, h.1)
-problem_sounds text e WriteFault h = (text, h.1, h.2)
-problem_sounds text e Usage h = tt
-problem_sounds text e ReadFault h = tt
-problem_sounds text e TooLong h = tt
-problem_sounds text e (ProblemRefused r) h = tt
-problem_sounds text e (JournalRefused r) h = tt
-problem_sounds text e (TooMuch t) h = tt
-problem_sounds text e (Range k m r) h = tt
-problem_sounds text e (NoStage dead) h = tt
-problem_sounds text e DiskFault h = tt
-problem_sounds text e Memory h = tt
-
-pub sounds : {Start Chain : Type 0} (v : Solving Start Chain) (asked : Option Job) (e : Ends) (status : Status) → Explains v asked e status → Sounds asked e status
-sounds v None e status h = tt
-sounds v (Some (Plan task)) e status h = written_sounds v task e status h
-sounds v (Some (Generate seed stages reservoirs)) e status h = problem_sounds (generated seed stages reservoirs) e status h.1
 
 at_bytes : (o : Option (List ℕ)) (P : List ℕ → Type 0) (bytes : List ℕ) → o ≡ Some bytes → IfSome o P → P bytes
 at_bytes o P bytes is h = subst (λ (k : Option (List ℕ)). IfSome k P) is h
@@ -162,11 +121,37 @@ completes v None e status h = h.0
 completes v (Some (Plan task)) e status h = task_completes v task e status h
 completes v (Some (Generate seed stages reservoirs)) e status h = problem_completes (generated seed stages reservoirs) e.taken e.taken_now e.writes e.writes_now status h.1
 
--- a source whose count of faults cannot rise is read
-pub never_read_fault : {Start Chain : Type 0} (v : Solving Start Chain) (asked : Option Job) (e : Ends) → ¬ (Rose e.reads e.reads_now) → ¬ (Explains v asked e ReadFault)
-never_read_fault v None e never h = absurd cc
-never_read_fault v (Some (Plan task)) e never h = never h.0
-never_read_fault v (Some (Generate seed stages reservoirs)) e never h = h.1
+keeps_same : (taken taken_now : Option (List ℕ)) → taken_now ≡ taken → Keeps taken taken_now
+keeps_same taken taken_now same = subst (Keeps taken) (sym same) (itself taken)
+  where
+    itself : (o : Option (List ℕ)) → Keeps o o
+    itself None = tt
+    itself (Some bytes) = refl
+
+-- how a task ends that gives no report
+module _ {Start Chain : Type 0} (v : Solving Start Chain) (task : Task) (e : Ends) (bytes : List ℕ) (consumes : Consumes e.left e.left_now bytes) (end : IsAtEnd e.left_now) (few : length bytes ≤ 2 ^ 24) (same : e.taken_now ≡ e.taken) where
+  read_all : (P : List ℕ → Type 0) → P bytes → ReadAll e P
+  read_all P h = (end, all_taken e.left e.left_now bytes (λ b. (length b ≤ 2 ^ 24) × P b) consumes end (few, h))
+
+  keeps : Keeps e.taken e.taken_now
+  keeps = keeps_same e.taken e.taken_now same
+
+  without_report : (s : Status) → Lacks v task e.kept e.disk e.disk_now bytes s → ExplainsTask v task e s
+  without_report (ProblemRefused r) h = (read_all (λ b. based_at b ≡ Err r) h, keeps)
+  without_report (JournalRefused r) h = (h.0, read_all (λ b. Reports v task e.kept b (Err (JournalRefused r))) h.1, keeps)
+  without_report (TooMuch t) h = (h.0, read_all (λ b. Reports v task e.kept b (Err (TooMuch t))) h.1, keeps)
+  without_report (Range k m r) h = (h.0, read_all (λ b. Reports v task e.kept b (Err (Range k m r))) h.1, keeps)
+  without_report (NoStage dead) h = (h.0, read_all (λ b. Reports v task e.kept b (Err (NoStage dead)) × IsRefuted b dead) (h.1, h.2), keeps)
+  without_report DiskFault h = (h.0, h.1, end, keeps)
+  without_report Memory h = keeps
+  without_report Done h = absurd h
+  without_report Usage h = absurd h
+  without_report ReadFault h = absurd h
+  without_report TooLong h = absurd h
+  without_report WriteFault h = absurd h
+
+  pub lacks_explains : (slice : List ℕ) (s : Status) → slice ≡ bytes → Lacks v task e.kept e.disk e.disk_now slice s → ExplainsTask v task e s
+  lacks_explains slice s is h = without_report s (subst (λ (b : List ℕ). Lacks v task e.kept e.disk e.disk_now b s) is h)
 
 -- a problem that is read, and whose base cuts are in range, is accepted
 with_base_ok : (p : Sealed) (r : Result (List (List Cut)) (ℕ × ℕ)) → IsOk r → IsOk (with_base p r)

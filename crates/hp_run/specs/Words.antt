@@ -1,5 +1,5 @@
 -- What the words of the command line ask for.
-use Rattle.std.specs.Prelude.{◌≤◌, Bool, true, false, List, String, Option, Some, None, IfSome, option_and_then, ⊤}
+use Rattle.std.specs.Prelude.{◌≤◌, Bool, true, false, List, String, Option, Some, None, IfSome, option_and_then}
 use Rattle.std.specs.declared.alloc.Global.{Global}
 use Rattle.hp_words.specs.declared.command.Command.{Command}
 use Rattle.hp_words.specs.declared.command.Command.TheVariants as commands

@@ -1,9 +1,13 @@
-use Rattle.std.proofs.Common.{List, ℕ, IfSome, subst}
+use Rattle.std.proofs.Common.{List, ℕ, IfSome, refl, subst}
 use Rattle.hp_lp.specs.Chained.{solving}
 use Rattle.hp_run.specs.Journals.{Grows}
 use Rattle.hp_run.specs.declared.status.Status.TheVariants.{Done}
+use Rattle.hp_run.proofs.Reports.{lacks_explains}
 use Rattle.hp_run.proofs.Wrote.{wrote_grown}
 use Rattle.hp_run.proofs.top.plan.Goals as goal
+
+pub returns-in-Err-clause-cause : goal.returns-in-Err-clause-cause
+returns-in-Err-clause-cause g c = lacks_explains _ _ _ c.in-Ok.bytes.items c.in-Ok.ensures.bytes.0 c.in-Ok.ensures.bytes.1 c.in-Ok.ensures.bytes.2 refl _ c.in-Err.status c.as_slice.ensures.value c.in-Err.ensures.lacks
 
 pub returns-clause-grown : goal.returns-clause-grown
 returns-clause-grown g c =

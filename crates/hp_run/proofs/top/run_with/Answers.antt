@@ -1,13 +1,10 @@
 use Rattle.hp_run.specs.Words.{asked}
 use Rattle.hp_run.proofs.ResumedRuns.{asked_within, resumes}
-use Rattle.hp_run.proofs.Reports.{completes, sounds}
+use Rattle.hp_run.proofs.Reports.{completes}
 use Rattle.hp_run.proofs.top.run_with.Goals as goal
 
 pub returns-clause-complete : goal.returns-clause-complete
 returns-clause-complete g c = completes _ _ _ _ c.act.ensures.cause
-
-pub returns-clause-sound : goal.returns-clause-sound
-returns-clause-sound g c = sounds _ _ _ _ c.act.ensures.cause
 
 pub returns-clause-resumed : goal.returns-clause-resumed
 returns-clause-resumed g c = resumes _ (asked c.args.words.now) _ _ (g.D.Disk.store c.act.new.journal) (asked_within c.args.words.now) c.act.ensures.cause c.act.ensures.grown

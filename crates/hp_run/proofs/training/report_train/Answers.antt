@@ -1,4 +1,4 @@
-use Rattle.std.proofs.Common.{Result, Ok, Err, rules, ap, ◌∙◌}
+use Rattle.std.proofs.Common.{Ok, Err, rules, ap, ◌∙◌}
 use Rattle.std.proofs.lemmas.Result.{err_from_is_err_and}
 use Rattle.hp_run.proofs.TrainReports.{grown_after, is_ready, leaves_trained, ready_shut, ready_unborn, rose_later, stopped_lacks, text_trained, train_is_sound, trained_reports, unloaded_lacks, when_as}
 use Rattle.hp_run.proofs.training.report_train.Goals as goal
