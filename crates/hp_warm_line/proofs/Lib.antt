@@ -4,3 +4,4 @@ pub mod Lines
 pub mod Products
 pub mod Sized
 pub mod Terms
+pub mod Worked
