@@ -1,0 +1,4 @@
+pub mod Passes
+pub mod Between
+pub mod Walking
+pub mod Worked

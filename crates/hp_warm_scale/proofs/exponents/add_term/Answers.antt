@@ -1,0 +1,12 @@
+use Rattle.std.proofs.Common.{◌≡◌, ℤ, pos, negsuc, arith, subst, sym, None, get_or}
+use Rattle.std.proofs.lemmas.Int.{ints}
+use Rattle.hp_warm_scale.specs.Spans.{AreBetween}
+use Rattle.hp_warm_scale.proofs.Between.{grown_between}
+use Rattle.hp_warm_scale.proofs.Passes.{set_between}
+use Rattle.hp_warm_scale.proofs.exponents.add_term.Goals as goal
+
+pub returns-then-border-size-clause-spans : goal.returns-then-border-size-clause-spans
+returns-then-border-size-clause-spans c =
+    set_between (negsuc 478) (pos 161) c.args.spans.now c.args.term.0 c.grow.result
+    (subst (AreBetween (negsuc 478) (pos 161)) (sym c.grow.ensures) (grown_between (negsuc 478) (pos 161) (get_or c.args.spans.now c.args.term.0 None) _ (?) (?) (c.requires.spans c.args.term.0)))
+    c.requires.spans

@@ -1,0 +1,4 @@
+pub mod Bits
+pub mod Exponents
+pub mod Spans
+pub mod Walks
