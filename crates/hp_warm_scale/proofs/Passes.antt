@@ -39,7 +39,7 @@ row_lift_between k border rs fs ts h =
     (l.0, omega (arith, ints, l.1))
 
 -- one entry written over
-set_between : (low high : ℤ) (spans : List (Option Span)) (i : ℕ) (s : Option Span) → AreBetween low high s → SpansBetween low high spans → SpansBetween low high (slice_set spans i s)
+pub set_between : (low high : ℤ) (spans : List (Option Span)) (i : ℕ) (s : Option Span) → AreBetween low high s → SpansBetween low high spans → SpansBetween low high (slice_set spans i s)
 set_between low high [] i s b h j = h j
 set_between low high (x ∷ xs) zero s b h zero = b
 set_between low high (x ∷ xs) zero s b h (suc j) = h (suc j)
@@ -103,7 +103,10 @@ pub row_is : (decisions border : ℕ) (rs : List ℕ) (fs : List ℤ) (e : ℤ) 
 unfolding with_row
 row_is decisions border rs fs e spans now ts b r w = w ∙ ap₂ (λ (n : ℕ) (z : ℤ). with_terms decisions n rs z spans ts) b (r ∙ ap (λ (n : ℕ). row_lift n rs fs ts) b)
 
-pub nones_same : (spans : List (Option Span)) (fs : List ℤ) → length spans ≡ length fs → map (λ (s : Option Span). None {T = Span}) spans ≡ map (λ (f : ℤ). None {T = Span}) fs
+abbrev pub no_span : {A : Type 0} → A → Option Span
+no_span x = None
+
+pub nones_same : (spans : List (Option Span)) (fs : List ℤ) → length spans ≡ length fs → map (no_span {A = Option Span}) spans ≡ map (no_span {A = ℤ}) fs
 nones_same [] [] h = refl
 nones_same [] (f ∷ fs) h = absurd (omega arith)
 nones_same (s ∷ ss) [] h = absurd (omega arith)
