@@ -1,5 +1,5 @@
 -- The range of exponents.
-use Rattle.std.proofs.Common.{◌≡◌, ℕ, zero, suc, ◌+◌, ◌-◌, ◌≤◌, ◌<◌, ℤ, pos, negsuc, ◌+ℤ◌, ◌-ℤ◌, ◌≤ℤ◌, Bool, true, false, cond, ◌&&◌, nat_lt, nat_le, List, [], ◌∷◌, map, get_or, slice_set, length, Option, Some, None, arith, refl, ap, ap₂, ◌∙◌, sym, subst}
+use Rattle.std.proofs.Common.{◌≡◌, ℕ, zero, suc, ◌+◌, ◌-◌, ◌≤◌, ◌<◌, ℤ, pos, negsuc, ◌+ℤ◌, ◌-ℤ◌, ◌≤ℤ◌, Bool, true, false, cond, ◌&&◌, nat_lt, nat_le, List, [], ◌∷◌, map, get_or, slice_set, replicate, length, Option, Some, None, arith, refl, ap, ap₂, ◌∙◌, sym, subst}
 use Rattle.std.specs.Int.{int_max}
 use Rattle.std.proofs.lemmas.Int.{ints, clamps}
 use Rattle.std.proofs.Math.ListN.{get_or-map}
@@ -8,9 +8,9 @@ use Rattle.hp_solver.specs.declared.stage_lp.Column.{Column}
 use Rattle.hp_solver.specs.declared.stage_lp.LpRow.{LpRow}
 use Rattle.hp_warm_scale.specs.declared.spans.Span.{Span}
 use Rattle.hp_warm_scale.specs.Walks.{walk}
-use Rattle.hp_warm_scale.specs.Bits.{bits_of}
+use Rattle.hp_warm_table.specs.Numbers.{bits_of}
 use Rattle.hp_warm_scale.specs.Spans.{grown, span_of, lift, AreBetween}
-use Rattle.hp_warm_scale.specs.Exponents.{Term, size_of, border_of, weight_of, counted_weight, row_lift, with_term, with_terms, with_row, spans_of, column_lift, pass_of, AreUpTo, SpansBetween, ReachUpTo, reach_of}
+use Rattle.hp_warm_scale.specs.Exponents.{Term, size_of, row_weight_of, border_of, weight_of, counted_weight, row_lift, with_term, with_terms, with_row, spans_of, column_lift, pass_of, AreUpTo, SpansBetween, ReachUpTo, reach_of}
 use Rattle.hp_warm_scale.proofs.Walking.{walk_keeps}
 use Rattle.hp_warm_scale.proofs.Between.{grown_between, span_between, lift_between, GivesBetween}
 
@@ -49,10 +49,10 @@ set_between low high (x ∷ xs) (suc i) s b h (suc j) = set_between low high xs 
 pub term_between : (low high : ℤ) (decisions border : ℕ) (rs : List ℕ) (e : ℤ) (spans : List (Option Span)) (t : Term) → low ≤ℤ e → (e +ℤ pos 128) ≤ℤ high → SpansBetween low high spans → SpansBetween low high (with_term decisions border rs e spans t)
 term_between low high decisions border rs e spans t l g h = by (nat_lt t.0 decisions && nat_le border (size_of rs t))
   where
-    by : (b : Bool) → SpansBetween low high (cond b (slice_set spans t.0 (grown (get_or spans t.0 None) (pos (bits_of t.1.0) +ℤ e))) spans)
+    by : (b : Bool) → SpansBetween low high (cond b (slice_set spans t.0 (grown (get_or spans t.0 None) (row_weight_of e t))) spans)
     by true =
         let b = bits_small t.1.0 in
-        set_between low high spans t.0 _ (grown_between low high (get_or spans t.0 None) (pos (bits_of t.1.0) +ℤ e) (omega (arith, ints)) (omega (arith, ints, b)) (h t.0)) h
+        set_between low high spans t.0 _ (grown_between low high (get_or spans t.0 None) (row_weight_of e t) (omega (arith, ints)) (omega (arith, ints, b)) (h t.0)) h
     by false = h
 
 pub terms_between : (low high : ℤ) (decisions border : ℕ) (rs : List ℕ) (e : ℤ) (spans : List (Option Span)) (ts : List Term) → low ≤ℤ e → (e +ℤ pos 128) ≤ℤ high → SpansBetween low high spans → SpansBetween low high (with_terms decisions border rs e spans ts)
@@ -65,14 +65,16 @@ row_between k decisions rs fs spans ts f h =
     let e = row_lift_between k _ rs fs ts f in
     terms_between (pos 33 -ℤ pos (k + 128)) (pos 161) decisions _ rs _ spans ts e.0 (omega (arith, ints, e.1)) h
 
-none_between : (low high : ℤ) (fs : List ℤ) → SpansBetween low high (map (λ (f : ℤ). None) fs)
-none_between low high fs j = let none : ℤ → Option Span = λ f. None in subst (AreBetween low high) (sym (get_or-map none fs j (pos 0))) tt
+pub nones_between : (low high : ℤ) (n : ℕ) → SpansBetween low high (replicate n None)
+nones_between low high zero j = tt
+nones_between low high (suc n) zero = tt
+nones_between low high (suc n) (suc j) = nones_between low high n j
 
 pub spans_between : (k decisions : ℕ) (rs : List ℕ) (rows : List LpRow) (fs : List ℤ) → AreUpTo k fs → SpansBetween (pos 33 -ℤ pos (k + 128)) (pos 161) (spans_of decisions rs rows fs)
 unfolding spans_of
 spans_between k decisions rs rows fs h =
-    walk_keeps (λ (i : ℕ) ss (row : LpRow). with_row decisions rs fs ss row.terms) (SpansBetween (pos 33 -ℤ pos (k + 128)) (pos 161)) (λ i s row b. row_between k decisions rs fs s row.terms h b) 0 (map (λ (f : ℤ). None) fs) rows
-    (none_between (pos 33 -ℤ pos (k + 128)) (pos 161) fs)
+    walk_keeps (λ (i : ℕ) ss (row : LpRow). with_row decisions rs fs ss row.terms) (SpansBetween (pos 33 -ℤ pos (k + 128)) (pos 161)) (λ i s row b. row_between k decisions rs fs s row.terms h b) 0 (replicate (length fs) None) rows
+    (nones_between (pos 33 -ℤ pos (k + 128)) (pos 161) (length fs))
 
 column_up_to : (k : ℕ) (s : Option Span) → AreBetween (pos 33 -ℤ pos (k + 128)) (pos 161) s → (pos 0 ≤ℤ column_lift s) × (column_lift s ≤ℤ pos (k + 128))
 column_up_to k s h =
@@ -90,10 +92,10 @@ reaches_small [] j = omega arith
 reaches_small (c ∷ cs) zero = let a = bits_small c.low.0 in let b = bits_small c.high.0 in omega (arith, a, b)
 reaches_small (c ∷ cs) (suc j) = reaches_small cs j
 
-pub zeros_up_to : (cs : List Column) → AreUpTo 0 (map (λ (c : Column). pos 0) cs)
-zeros_up_to [] j = (omega (arith, ints), omega (arith, ints))
-zeros_up_to (c ∷ cs) zero = (omega (arith, ints), omega (arith, ints))
-zeros_up_to (c ∷ cs) (suc j) = zeros_up_to cs j
+pub zeros_up_to : (n : ℕ) → AreUpTo 0 (replicate n (pos 0))
+zeros_up_to zero j = (omega (arith, ints), omega (arith, ints))
+zeros_up_to (suc n) zero = (omega (arith, ints), omega (arith, ints))
+zeros_up_to (suc n) (suc j) = zeros_up_to n j
 
 pub up_to_more : (k m : ℕ) (fs : List ℤ) → k ≤ m → AreUpTo k fs → AreUpTo m fs
 up_to_more k m fs l h j = ((h j).0, let f = (h j).1 in omega (arith, ints, f))
@@ -103,16 +105,9 @@ pub row_is : (decisions border : ℕ) (rs : List ℕ) (fs : List ℤ) (e : ℤ) 
 unfolding with_row
 row_is decisions border rs fs e spans now ts b r w = w ∙ ap₂ (λ (n : ℕ) (z : ℤ). with_terms decisions n rs z spans ts) b (r ∙ ap (λ (n : ℕ). row_lift n rs fs ts) b)
 
-abbrev pub no_span : {A : Type 0} → A → Option Span
-no_span x = None
+abbrev pub no_span : Option Span → Option Span
+no_span s = None
 
-pub nones_same : (spans : List (Option Span)) (fs : List ℤ) → length spans ≡ length fs → map (no_span {A = Option Span}) spans ≡ map (no_span {A = ℤ}) fs
-nones_same [] [] h = refl
-nones_same [] (f ∷ fs) h = absurd (omega arith)
-nones_same (s ∷ ss) [] h = absurd (omega arith)
-nones_same (s ∷ ss) (f ∷ fs) h = ap (λ (xs : List (Option Span)). None ∷ xs) (nones_same ss fs (omega arith))
-
-pub nones_between : (low high : ℤ) (spans : List (Option Span)) → SpansBetween low high (map (λ (s : Option Span). None) spans)
-nones_between low high [] j = tt
-nones_between low high (s ∷ ss) zero = tt
-nones_between low high (s ∷ ss) (suc j) = nones_between low high ss j
+pub nones_are : (spans : List (Option Span)) → map no_span spans ≡ replicate (length spans) None
+nones_are [] = refl
+nones_are (s ∷ ss) = ap (λ (xs : List (Option Span)). None ∷ xs) (nones_are ss)

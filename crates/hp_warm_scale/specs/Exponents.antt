@@ -1,5 +1,5 @@
 -- Exponents of two that bring the terms of rows near each other.
-use Rattle.std.specs.Prelude.{ℕ, ◌+◌, ◌-◌, ◌≤◌, max, ℤ, pos, ◌+ℤ◌, ◌-ℤ◌, ◌≤ℤ◌, Bool, ◌&&◌, List, map, take, length, get_or, slice_set, Option, Some, None, nat_lt, nat_le, if◌then◌else◌}
+use Rattle.std.specs.Prelude.{ℕ, ◌+◌, ◌-◌, ◌≤◌, max, ℤ, pos, ◌+ℤ◌, ◌-ℤ◌, ◌≤ℤ◌, Bool, ◌&&◌, List, map, take, length, replicate, get_or, slice_set, Option, Some, None, nat_lt, nat_le, if◌then◌else◌}
 use Rattle.std.specs.Int.{int_min, int_max}
 use Rattle.std.specs.Ordering.{int_eq}
 use Rattle.hp_num.specs.Sums.{entry}
@@ -8,7 +8,7 @@ use Rattle.hp_solver.specs.declared.stage_lp.Column.{Column}
 use Rattle.hp_solver.specs.declared.stage_lp.LpRow.{LpRow}
 use Rattle.hp_solver.specs.declared.stage_lp.StageLp.{StageLp}
 use Rattle.hp_warm_scale.specs.declared.spans.Span.{Span}
-use Rattle.hp_warm_scale.specs.Bits.{bits_of}
+use Rattle.hp_warm_table.specs.Numbers.{bits_of}
 use Rattle.hp_warm_scale.specs.Walks.{walk}
 use Rattle.hp_warm_scale.specs.Spans.{grown, span_of, lift, AreBetween}
 
@@ -32,6 +32,10 @@ border_of rs ts = walk (λ j m t. max m (size_of rs t)) 0 0 ts - 20
 abbrev pub weight_of : List ℤ → Term → ℤ
 weight_of fs t = pos (bits_of t.1.0) +ℤ entry fs t.0
 
+-- the binary digits of a term whose row is scaled by the exponent e
+abbrev pub row_weight_of : ℤ → Term → ℤ
+row_weight_of e t = pos (bits_of t.1.0) +ℤ e
+
 -- the weight of a term that counts
 abbrev pub counted_weight : ℕ → List ℕ → List ℤ → Term → Option ℤ
 counted_weight border rs fs t = if nat_le border (size_of rs t) then Some (weight_of fs t) else None
@@ -43,7 +47,7 @@ row_lift border rs fs ts = lift (span_of (λ j t. counted_weight border rs fs t)
 -- the spans of the columns with one term more, of a row with the exponent e
 abbrev pub with_term : ℕ → ℕ → List ℕ → ℤ → List (Option Span) → Term → List (Option Span)
 with_term decisions border rs e spans t =
-    if nat_lt t.0 decisions && nat_le border (size_of rs t) then slice_set spans t.0 (grown (get_or spans t.0 None) (pos (bits_of t.1.0) +ℤ e)) else spans
+    if nat_lt t.0 decisions && nat_le border (size_of rs t) then slice_set spans t.0 (grown (get_or spans t.0 None) (row_weight_of e t)) else spans
 
 -- with some terms more
 abbrev pub with_terms : ℕ → ℕ → List ℕ → ℤ → List (Option Span) → List Term → List (Option Span)
@@ -55,7 +59,7 @@ with_row decisions rs fs spans ts = with_terms decisions (border_of rs ts) rs (r
 
 -- for each column the span of its terms in all rows, each by the exponent of its row
 unfoldable pub spans_of : ℕ → List ℕ → List LpRow → List ℤ → List (Option Span)
-spans_of decisions rs rows fs = walk (λ i ss (row : LpRow). with_row decisions rs fs ss row.terms) 0 (map (λ (f : ℤ). None) fs) rows
+spans_of decisions rs rows fs = walk (λ i ss (row : LpRow). with_row decisions rs fs ss row.terms) 0 (replicate (length fs) None) rows
 
 -- the exponent of a column is at least 0
 abbrev pub column_lift : Option Span → ℤ
@@ -71,7 +75,7 @@ passes_of decisions rs rows fs = let pass = pass_of decisions rs rows in pass (p
 
 -- the exponents of columns, of which the first `decisions` are scaled: four passes from 0
 unfoldable pub columns_of : ℕ → List Column → List LpRow → List ℤ
-columns_of decisions columns rows = passes_of decisions (map reach_of columns) rows (map (λ (c : Column). pos 0) columns)
+columns_of decisions columns rows = passes_of decisions (map reach_of columns) rows (replicate (length columns) (pos 0))
 
 -- each from 0 to `most`, those past the end too
 abbrev pub AreUpTo : ℕ → List ℤ → Type 0

@@ -1,4 +1,3 @@
-pub mod Bits
 pub mod Exponents
 pub mod Spans
 pub mod Walks

@@ -1,14 +1,15 @@
 // Exponents of two that bring the terms of rows near each other.
-ghost use Rattle.std.specs.Prelude.{◌≡◌, ◌+◌, ◌≤◌, ◌≤ℤ◌, ℕ, pos, negsuc, length, slice_index_or as get_or, map, IfOk, None};
+ghost use Rattle.std.specs.Prelude.{◌≡◌, ◌+◌, ◌≤◌, ◌≤ℤ◌, ℕ, pos, negsuc, length, slice_index_or as get_or, map, replicate, IfOk, None};
 ghost use Rattle.hp_solver.specs.declared.stage_lp.Column.{Column};
 ghost use Rattle.hp_num.specs.Sums.{entry};
 ghost use Rattle.hp_warm_scale.specs.Spans.{AreBetween, span_of};
-ghost use Rattle.hp_warm_scale.specs.Exponents.{reach_of, size_of, border_of, weight_of, counted_weight, row_lift, with_term, with_terms, with_row, columns_of, spans_of, column_lift, pass_of, passes_of, AreUpTo, ReachUpTo, SpansBetween};
+ghost use Rattle.hp_warm_scale.specs.Exponents.{reach_of, size_of, border_of, weight_of, row_weight_of, counted_weight, row_lift, with_term, with_terms, with_row, columns_of, spans_of, column_lift, pass_of, passes_of, AreUpTo, ReachUpTo, SpansBetween};
 
-use crate::numbers::bits;
 use crate::spans::{Span, grow, join, lift};
 use hp_num::{List, Memory};
 use hp_solver::{Column, Fx, LpRow};
+use hp_warm_table::lists::repeated;
+use hp_warm_table::numbers::bits;
 use std::alloc::Global;
 
 // The binary digits of a column's box.
@@ -99,6 +100,17 @@ fn row_lift(border: u32, reaches: &[u32], exponents: &[i32], terms: &[(u32, Fx)]
     lift(row_span(border, reaches, exponents, terms))
 }
 
+// The binary digits of a term whose row is scaled.
+fn row_weight(exponent: i32, term: (u32, Fx)) -> i32
+    requires least { negsuc 478 ≤ℤ exponent }
+    requires greatest { exponent ≤ℤ pos 33 }
+    ensures value { result ≡ row_weight_of exponent term }
+    ensures least { negsuc 478 ≤ℤ result }
+    ensures greatest { result ≤ℤ pos 161 }
+{
+    bits(term.1.0) as i32 + exponent
+}
+
 // The spans of the columns with one term more, of a row with an exponent.
 fn add_term(
     decisions: usize,
@@ -119,7 +131,7 @@ fn add_term(
 {
     let column = term.0 as usize;
     if column < decisions && border <= size(reaches, term) {
-        spans[column] = grow(spans[column], bits(term.1.0) as i32 + exponent);
+        spans[column] = grow(spans[column], row_weight(exponent, term));
     }
 }
 
@@ -170,7 +182,7 @@ fn add_row(
 
 // The spans of columns without terms.
 fn clear(spans: &mut [Option<Span>])
-    ensures { spans.new ≡ map (λ s. None) spans.old }
+    ensures { spans.new ≡ replicate (length spans.old) None }
 {
     for j in 0..spans.len() {
         spans[j] = None;
@@ -274,26 +286,6 @@ fn reaches(alloc: Global, columns: &[Column]) -> Result<List<u32>, Memory>
     Ok(found)
 }
 
-fn zeros(alloc: Global, columns: &[Column]) -> Result<List<i32>, Memory>
-    ensures { IfOk result (λ found. found ≡ map (λ (c : Column). pos 0) columns.now) }
-{
-    let mut found = List::new(alloc);
-    for _column in columns {
-        found.push(0)?;
-    }
-    Ok(found)
-}
-
-fn no_spans(alloc: Global, columns: &[Column]) -> Result<List<Option<Span>>, Memory>
-    ensures { IfOk result (λ found. length found ≡ length columns.now) }
-{
-    let mut found = List::new(alloc);
-    for _column in columns {
-        found.push(None)?;
-    }
-    Ok(found)
-}
-
 /// The exponents of columns by the terms of rows: what they are multiplied by, so that terms come
 /// near 2^33 (a geometric mean of the least and the greatest; Fourer, 1982). [`Memory`] where memory was refused.
 #[tactic(auto, unfolding(crate::specs::Exponents::columns_of))]
@@ -309,8 +301,8 @@ pub fn columns(
     ensures count { IfOk result (λ found. length found ≡ length columns.now) }
 {
     let reaches = reaches(alloc, columns)?;
-    let mut exponents = zeros(alloc, columns)?;
-    let mut spans = no_spans(alloc, columns)?;
+    let mut exponents = repeated(alloc, columns.len(), 0)?;
+    let mut spans = repeated(alloc, columns.len(), None)?;
     passes(decisions, reaches.as_slice(), rows, exponents.as_mut_slice(), spans.as_mut_slice());
     Ok(exponents)
 }

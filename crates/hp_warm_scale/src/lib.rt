@@ -2,5 +2,4 @@
 #![tactic(auto)]
 
 pub mod exponents;
-pub mod numbers;
 pub mod spans;

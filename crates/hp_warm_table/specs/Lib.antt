@@ -1,0 +1,5 @@
+pub mod Numbers
+pub mod Each
+pub mod Squares
+pub mod Bounding
+pub mod Shape
