@@ -73,9 +73,9 @@ pass_of decisions rs rows fs = map column_lift (spans_of decisions rs rows fs)
 abbrev pub passes_of : ℕ → List ℕ → List LpRow → List ℤ → List ℤ
 passes_of decisions rs rows fs = let pass = pass_of decisions rs rows in pass (pass (pass (pass fs)))
 
--- the exponents of columns, of which the first `decisions` are scaled: four passes from 0
+-- the exponents of so many columns, of which the first are the decisions, which are scaled: four passes from 0
 unfoldable pub columns_of : ℕ → List Column → List LpRow → List ℤ
-columns_of decisions columns rows = passes_of decisions (map reach_of columns) rows (replicate (length columns) (pos 0))
+columns_of count decisions rows = passes_of (length decisions) (map reach_of decisions) rows (replicate count (pos 0))
 
 -- each from 0 to `most`, those past the end too
 abbrev pub AreUpTo : ℕ → List ℤ → Type 0

@@ -13,7 +13,7 @@ use hp_warm_table::numbers::bits;
 use std::alloc::Global;
 
 // The binary digits of a column's box.
-fn reach(column: &Column) -> u32
+pub(crate) fn reach(column: &Column) -> u32
     ensures value { result ≡ reach_of column.now }
     ensures small { result ≤ 128 }
 {
@@ -28,7 +28,7 @@ fn reach_at(reaches: &[u32], at: usize) -> u32
 }
 
 // The exponent at a place, 0 past the end.
-fn exponent_at(exponents: &[i32], at: usize) -> i32
+pub(crate) fn exponent_at(exponents: &[i32], at: usize) -> i32
     ensures { result ≡ entry exponents.now at }
 {
     exponents.get(at).copied().unwrap_or(0)
@@ -56,7 +56,7 @@ fn border(reaches: &[u32], terms: &[(u32, Fx)]) -> u32
 }
 
 // The binary digits of a term whose column is scaled.
-fn weight(exponents: &[i32], term: (u32, Fx)) -> i32
+pub(crate) fn weight(exponents: &[i32], term: (u32, Fx)) -> i32
     requires { AreUpTo 1000 exponents.now }
     ensures { result ≡ weight_of exponents.now term }
 {
@@ -260,7 +260,13 @@ fn pass(
 }
 
 // Four passes from exponents of 0.
-fn passes(decisions: usize, reaches: &[u32], rows: &[LpRow], exponents: &mut [i32], spans: &mut [Option<Span>])
+fn passes(
+    decisions: usize,
+    reaches: &[u32],
+    rows: &[LpRow],
+    exponents: &mut [i32],
+    spans: &mut [Option<Span>],
+)
     requires reaches { ReachUpTo 128 reaches.now }
     requires exponents { AreUpTo 0 exponents.old }
     requires decisions { decisions ≤ length spans.old }
@@ -286,23 +292,30 @@ fn reaches(alloc: Global, columns: &[Column]) -> Result<List<u32>, Memory>
     Ok(found)
 }
 
-/// The exponents of columns by the terms of rows: what they are multiplied by, so that terms come
-/// near 2^33 (a geometric mean of the least and the greatest; Fourer, 1982). [`Memory`] where memory was refused.
+/// The exponents of so many columns, of which the first are the decisions, by the terms of rows:
+/// powers of two by which terms come near 2^33 (after the geometric scaling of Fourer, 1982). Those
+/// of the other columns are 0. [`Memory`] where memory was refused.
 #[tactic(auto, unfolding(crate::specs::Exponents::columns_of))]
 pub fn columns(
     alloc: Global,
-    decisions: usize,
-    columns: &[Column],
+    count: usize,
+    decisions: &[Column],
     rows: &[LpRow],
 ) -> Result<List<i32>, Memory>
-    requires { decisions ≤ length columns.now }
-    ensures value { IfOk result (λ found. found ≡ columns_of decisions columns.now rows.now) }
+    requires { length decisions.now ≤ count }
+    ensures value { IfOk result (λ found. found ≡ columns_of count decisions.now rows.now) }
     ensures range { IfOk result (λ found. AreUpTo 512 found) }
-    ensures count { IfOk result (λ found. length found ≡ length columns.now) }
+    ensures count { IfOk result (λ found. length found ≡ count) }
 {
-    let reaches = reaches(alloc, columns)?;
-    let mut exponents = repeated(alloc, columns.len(), 0)?;
-    let mut spans = repeated(alloc, columns.len(), None)?;
-    passes(decisions, reaches.as_slice(), rows, exponents.as_mut_slice(), spans.as_mut_slice());
+    let reaches = reaches(alloc, decisions)?;
+    let mut exponents = repeated(alloc, count, 0)?;
+    let mut spans = repeated(alloc, count, None)?;
+    passes(
+        decisions.len(),
+        reaches.as_slice(),
+        rows,
+        exponents.as_mut_slice(),
+        spans.as_mut_slice(),
+    );
     Ok(exponents)
 }

@@ -10,7 +10,8 @@ use Rattle.hp_warm_scale.proofs.exponents.write_spans.Goals as goal
 pub loop-i-init : goal.loop-i-init
 unfolding spans_of
 loop-i-init c =
-    let e = c.clear.ensures ∙ ap (λ (n : ℕ). replicate n (None {T = Span})) c.requires.count in
+    let none : Option Span = None in
+    let e = c.clear.ensures ∙ ap (λ (n : ℕ). replicate n none) c.requires.count in
     record {
       count = ap length c.clear.ensures ∙ length-replicate (length c.args.spans.now) None;
       between = subst (SpansBetween (negsuc 478) (pos 161)) (sym c.clear.ensures) (nones_between (negsuc 478) (pos 161) (length c.args.spans.now));
