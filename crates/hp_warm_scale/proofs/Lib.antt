@@ -1,5 +1,6 @@
 pub mod Between
 pub mod Coefficients
+pub mod Cuts
 pub mod Passes
 pub mod Rising
 pub mod Shapes
