@@ -11,7 +11,7 @@ append_row-requires-clause-small c = c.loop-i.invariant.small 1000 c.requires.sm
 
 pub loop-i-preserved : goal.loop-i-preserved
 loop-i-preserved c =
-    let t : c.in_ok-append_row.field-0 ≡ true = first_of (c.if-not-branch.false, search rules, grind (arith, nat_tests)) in
+    let t : c.in_ok-append_row.field-0 ≡ true = first_of (search rules, grind (arith, nat_tests)) in
     record {
       whole = c.in_ok-append_row.ensures.whole t;
       small = λ (most : ℕ) w. c.in_ok-append_row.ensures.small t most (c.loop-i.invariant.small most w);
