@@ -1,5 +1,5 @@
 -- The columns and the exponents of cuts.
-use Rattle.std.proofs.Common.{◌≡◌, ℕ, zero, suc, ◌-◌, ◌<◌, ◌≤◌, ℤ, pos, ◌≤ℤ◌, List, [], ◌∷◌, length, slice_get, slice_set, Option, Some, None, IfSome, refl}
+use Rattle.std.proofs.Common.{ℕ, zero, suc, ◌-◌, ◌<◌, ℤ, pos, ◌≤ℤ◌, List, [], ◌∷◌, length, slice_get, slice_set, Option, Some, None, IfSome}
 use Rattle.std.specs.Option.{option_map}
 use Rattle.hp_solver.specs.Proper.{AreRising}
 use Rattle.hp_warm_scale.specs.Exponents.{Term, AreUpTo}

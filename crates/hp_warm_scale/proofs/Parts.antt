@@ -1,5 +1,5 @@
 -- The first table is that of a program's own part.
-use Rattle.std.proofs.Common.{◌≡◌, ℕ, ◌+◌, ◌-◌, ◌≤◌, List, ◌++◌, length, length-append, take, take_all, drop, map, Option, Some, None, Bool, cond, nat_lt, arith, refl, ap, ap₂, sym, ◌∙◌}
+use Rattle.std.proofs.Common.{◌≡◌, ℕ, ◌≤◌, List, ◌++◌, length, length-append, take, take_all, drop, map, Option, None, cond, nat_lt, arith, ap, ap₂, ◌∙◌}
 use Rattle.std.specs.Option.{option_and_then}
 use Rattle.std.proofs.lemmas.List.{take_at, length-take-le, length-drop, length-map}
 use Rattle.hp_solver.specs.declared.stage_lp.Column.{Column}

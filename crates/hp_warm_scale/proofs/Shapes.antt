@@ -1,16 +1,15 @@
 -- Tables stay tables.
-use Rattle.std.proofs.Common.{◌≡◌, Result, Ok, Err, IfOk, OnOk, negsuc, ◌≤ℤ◌, ℕ, zero, suc, ◌+◌, ◌<◌, ◌≤◌, ℤ, pos, true, false, Bool, List, [], ◌∷◌, ◌++◌, length, length-set, length-append, map, slice_set, replicate, Option, Some, None, IfSome, All, arith, refl, ap, ap₂, sym, subst, ◌∙◌}
+use Rattle.std.proofs.Common.{◌≡◌, Result, Ok, Err, IfOk, OnOk, negsuc, ◌≤ℤ◌, ℕ, zero, suc, ◌+◌, ◌<◌, ◌≤◌, ℤ, pos, true, false, Bool, List, [], ◌∷◌, ◌++◌, length, length-set, length-append, replicate, Option, Some, None, IfSome, All, arith, refl, ap, sym, subst, ◌∙◌}
 use Rattle.std.proofs.lemmas.List.{length-map, length-replicate}
 use Rattle.std.proofs.lemmas.List.Elements.{All-weaker, All-push, All-nil, All-cons, All-map}
 use Rattle.hp_warm_table.specs.declared.table.Scales.{Scales}
 use Rattle.hp_warm_table.specs.declared.table.Bounds.{Bounds}
-use Rattle.hp_warm_table.specs.declared.table.Basis.{Basis}
 use Rattle.hp_warm_table.specs.declared.table.Table.{Table}
-use Rattle.hp_warm_table.specs.Shape.{IsTable, AreRising, variables}
+use Rattle.hp_warm_table.specs.Shape.{IsTable, AreRising}
 use Rattle.hp_warm_scale.specs.declared.sides.Sides.{Sides}
 use Rattle.hp_warm_scale.specs.declared.scaling.ScaledColumn.{ScaledColumn}
 use Rattle.hp_warm_scale.specs.Walks.{count_from, Gives}
-use Rattle.hp_warm_scale.specs.Scaling.{numbers, blank_bounds_of, blank_basis_of, blank_with, with_column, stood, is_negative, AreSmall}
+use Rattle.hp_warm_scale.specs.Scaling.{numbers, blank_with, with_column, stood, is_negative, AreSmall}
 use Rattle.std.proofs.lemmas.Int.{ints}
 use Rattle.hp_warm_scale.specs.Exponents.{AreUpTo}
 use Rattle.hp_warm_scale.proofs.Passes.{up_to_more}

@@ -1,5 +1,5 @@
 -- Worked tables, computed.
-use Rattle.std.proofs.Common.{◌≡◌, pos, negsuc, List, [], ◌∷◌, Option, Some, None, true, false, refl}
+use Rattle.std.proofs.Common.{◌≡◌, pos, negsuc, [], ◌∷◌, Some, None, true, false, refl}
 use Rattle.std.specs.Option.{option_map, option_and_then}
 use lib.Count.{count_leading_zeros}
 use Rattle.hp_solver.specs.declared.stage_lp.StageLp.{StageLp}

@@ -1,5 +1,5 @@
 -- A table that is widened by a program: the columns of successors get scales, bounds and costs, and the cuts are put behind the rows.
-use Rattle.std.specs.Prelude.{ℕ, ◌-◌, ℤ, pos, negsuc, ◌+ℤ◌, ◌-ℤ◌, List, [], length, replicate, take, drop, get_or, slice_get, slice_set, Option, Some, None, nat_le, if◌then◌else◌}
+use Rattle.std.specs.Prelude.{ℕ, ◌-◌, ℤ, pos, negsuc, ◌+ℤ◌, ◌-ℤ◌, List, length, replicate, take, drop, get_or, slice_get, slice_set, Option, Some, None, nat_le, if◌then◌else◌}
 use Rattle.std.specs.Int.{int_max}
 use Rattle.std.specs.Ordering.{int_eq}
 use Rattle.std.specs.Option.{option_map, option_and_then}

@@ -1,4 +1,4 @@
-use Rattle.std.proofs.Common.{◌≡◌, ◌+◌, None, drop, get_or, slice_set, length}
+use Rattle.std.proofs.Common.{◌≡◌, ◌+◌, drop, length}
 use Rattle.hp_warm_scale.specs.Walks.{walk}
 use Rattle.hp_warm_scale.specs.Exponents.{AreUpTo}
 use Rattle.hp_warm_scale.specs.Widening.{with_scale, successor_scales}
