@@ -48,11 +48,11 @@ steep =
     record {
       columns = box 0 100 ∷ box 0 30 ∷ box 0 50 ∷ box 0 1000000000 ∷ [];
       rows =
-        record { low = Some (units 60); high = Some (units 60); terms = (0, one) ∷ (1, one) ∷ [] }
-        ∷ record { low = Some (units 40); high = Some (units 40); terms = (1, one) ∷ (2, one) ∷ [] }
-        ∷ record { low = Some (units 70000000); high = None; terms = (0, units 1000000) ∷ (3, one) ∷ [] }
-        ∷ record { low = Some (units 40000000); high = None; terms = (0, number (pos (300000 * 2 ^ 32 + 1431655765))) ∷ (3, one) ∷ [] }
-        ∷ [];
+          record { low = Some (units 60); high = Some (units 60); terms = (0, one) ∷ (1, one) ∷ [] }
+          ∷ record { low = Some (units 40); high = Some (units 40); terms = (1, one) ∷ (2, one) ∷ [] }
+          ∷ record { low = Some (units 70000000); high = None; terms = (0, units 1000000) ∷ (3, one) ∷ [] }
+          ∷ record { low = Some (units 40000000); high = None; terms = (0, number (pos (300000 * 2 ^ 32 + 1431655765))) ∷ (3, one) ∷ [] }
+          ∷ [];
       decisions = 4;
       own = 4;
     }

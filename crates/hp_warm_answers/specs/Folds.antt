@@ -11,3 +11,8 @@ fold_from step k s (x ∷ xs) = option_and_then (λ t. fold_from step (suc k) t 
 abbrev pub Reaches : {A : Type 0} → Bool → Option A → A → Type 0
 Reaches true made new = made ≡ Some new
 Reaches false made new = made ≡ None
+
+-- the same, where a step that stops leaves the old value
+abbrev pub ReachesOrKeeps : {A : Type 0} → Bool → Option A → A → A → Type 0
+ReachesOrKeeps true made old new = made ≡ Some new
+ReachesOrKeeps false made old new = (made ≡ None) × (new ≡ old)

@@ -2,6 +2,7 @@
 #![tactic(auto)]
 
 pub mod entering;
+pub mod finishing;
 pub mod found;
 pub mod proving;
 pub mod ray;

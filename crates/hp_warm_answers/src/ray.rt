@@ -56,13 +56,7 @@ fn greater(best: Option<i64>, x: i64) -> i64
 {
     match best {
         None => x,
-        Some(best) => {
-            if best < x {
-                x
-            } else {
-                best
-            }
-        }
+        Some(best) => { if best < x { x } else { best } }
     }
 }
 
@@ -124,13 +118,7 @@ fn top_of(table: &Table, line: &[Cell], variable: usize, above: bool) -> i64
     ensures value { result ≡ top_of table.now line.now variable above }
     ensures small { nat_abs result ≤ 2 ^ 32 }
 {
-    or_zero(greatest(
-        table,
-        line,
-        variable,
-        above,
-        table.scales.rows.as_slice(),
-    ))
+    or_zero(greatest(table, line, variable, above, table.scales.rows.as_slice()))
 }
 
 // By which power of two the factor of a row is multiplied.
