@@ -1,16 +1,15 @@
 -- The greatest digits of a factor, by which no shift of a ray's duals leaves 128 bits.
-use Rattle.std.proofs.Common.{◌≡◌, ℕ, zero, suc, ◌+◌, ◌*◌, ◌^◌, ◌<◌, ◌≤◌, ◌==◌, ℤ, pos, negsuc, ◌+ℤ◌, ◌-ℤ◌, ◌*ℤ◌, ◌≤ℤ◌, nat_abs, int_lt, Bool, true, false, cond, List, [], ◌∷◌, length, get_or, Option, Some, None, FitsSigned, arith, refl, ap, ap₂, subst, sym, ◌∙◌}
+use Rattle.std.proofs.Common.{◌≡◌, ℕ, zero, suc, ◌+◌, ◌*◌, ◌^◌, ◌<◌, ◌≤◌, ◌==◌, ℤ, pos, negsuc, ◌+ℤ◌, ◌-ℤ◌, ◌*ℤ◌, ◌≤ℤ◌, nat_abs, int_lt, Bool, true, false, cond, List, [], ◌∷◌, length, Option, Some, None, arith, refl, ap, ap₂, subst, sym, ◌∙◌}
 use Rattle.std.specs.Option.{IsSome}
 use Rattle.std.proofs.Math.Nat.{mul-le-mul}
 use Rattle.std.proofs.lemmas.Nat.{pow-add, leading_length}
 use Rattle.std.proofs.lemmas.Int.{ints, unsigned_abs-mul, fits_signed_from_abs}
 use Rattle.std.proofs.lemmas.Bool.Decides.{nat_tests}
-use lib.Count.{count_leading_zeros}
 use Rattle.std.proofs.Math.IntN.{zero-*ℤ}
 use mir.Syntax.{w128}
 use Rattle.hp_num.specs.Sums.{entry}
 use Rattle.hp_warm_table.specs.declared.table.Table.{Table}
-use Rattle.hp_warm_table.specs.Numbers.{bits_of, fits, held, shift_up, shift_of}
+use Rattle.hp_warm_table.specs.Numbers.{bits_of, held, shift_up, shift_of}
 use Rattle.hp_warm_table.proofs.Holding.{fits-true}
 use Rattle.hp_warm_table.proofs.Powers.{power_more}
 use Rattle.hp_warm_answers.specs.Ray.{greater, with_digits, greatest_from, or_zero, factor_at, top_of}
