@@ -51,9 +51,10 @@ class NumberText:
         """Its value, exactly."""
         return Fraction(self.text)
 
-    def is_written_whole(self) -> bool:
-        """Whether it is written without a point and an exponent; `-0` is not whole."""
-        return self.text.lstrip("-").isdigit() and self.text != "-0"
+    def is_whole(self) -> bool:
+        """Whether the program takes it for whole: no point, no exponent, not `-0`, from -2^63 to 2^64 - 1."""
+        written = self.text.lstrip("-").isdigit() and self.text != "-0" and len(self.text) < 25
+        return written and -(1 << 63) <= int(self.text) < 1 << 64
 
 
 @dataclass

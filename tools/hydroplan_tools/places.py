@@ -286,16 +286,16 @@ def _numbers(cursor: Cursor) -> Iterator[Cursor]:
 
 def _is_below_one(cursor: Cursor) -> bool:
     least = 0 if cursor.path[-1] == "stop" else 1
-    return cursor.value.content.is_written_whole() and int(cursor.value.content.text) < least
+    return cursor.value.content.is_whole() and int(cursor.value.content.text) < least
 
 
 def _is_too_large(cursor: Cursor) -> bool:
     content: NumberText = cursor.value.content
-    return content.is_written_whole() and abs(int(content.text)) > MOST_NUMBER
+    return content.is_whole() and abs(int(content.text)) > MOST_NUMBER
 
 
 NUMBER_TESTS: dict[str, tuple[Callable[[Cursor], bool], str]] = {
-    "NotWhole": (lambda it: not it.value.content.is_written_whole(), "is not whole"),
+    "NotWhole": (lambda it: not it.value.content.is_whole(), "is not whole, or outside 64 bits"),
     "TooLarge": (_is_too_large, "is above 2^40 in absolute value"),
     "Weight": (_is_below_one, "is too small for a weight"),
 }

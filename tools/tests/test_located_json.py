@@ -4,7 +4,7 @@ import unittest
 from fractions import Fraction
 
 from hydroplan_tools.cursor import Refused
-from hydroplan_tools.located_json import NotJson, parse, path_text
+from hydroplan_tools.located_json import NotJson, NumberText, parse, path_text
 from tests.support import EXAMPLES, cursor
 
 
@@ -38,6 +38,10 @@ class Reading(unittest.TestCase):
         root = cursor('{"a":1,"a":2}')
         self.assertEqual(root.member("a").written(), "2")
         self.assertEqual(root.value.repeated, [("a", 7)])
+
+    def test_whole_numbers_are_those_of_64_bits(self):
+        texts = ("0", "-5", "18446744073709551615", "-9223372036854775808", "-0", "18446744073709551616", "-9223372036854775809", "5.0", "1e3", "1" * 5000)
+        self.assertEqual([NumberText(it).is_whole() for it in texts], [True] * 4 + [False] * 6)
 
     def test_paths(self):
         self.assertEqual(path_text(("nodes", "summer dry", "realizations", 0)), '$.nodes["summer dry"].realizations[0]')
