@@ -95,6 +95,10 @@ module _ {bytes : List ℕ} {b : WithBase} {seed count : ℕ} {batch : Option �
   pub ready_shut : o.born ≡ true → IfSome now (IsShutAt o.end)
   ready_shut so = subst (λ (x : Option (List ℕ)). IfSome x (IsShutAt o.end)) (sym same) (told reads (λ kept there. loaded_shut b.problem b.pools (sha256 bytes) (Some seed) batch kept o (loads_at kept there) so))
 
+-- what the report of training shows
+text_trained : (p : Sealed) (o new : Outcome) (c : Continued) (text : List ℕ) → new ≡ trained o c → text ≡ train_text p new.pools new.bounds new.unsettled → text ≡ train_text p c.pools (o.bounds ++ c.bounds) (o.unsettled + unsettled_in c.lists)
+text_trained p o new c text same is = is ∙ ap (λ (x : Outcome). train_text p x.pools x.bounds x.unsettled) same
+
 module _ {Start Chain : Type 0} (v : Solving Start Chain) (bytes : List ℕ) (b : WithBase) (seed count : ℕ) (batch : Option ℕ) (is : based_at bytes ≡ Ok b) where
   abbrev task : Task
   task = Train seed count batch
@@ -139,10 +143,10 @@ module _ {Start Chain : Type 0} (v : Solving Start Chain) (bytes : List ℕ) (b 
     at_kept P kept e h = known P reads kept e h
 
     -- the report
-    pub trained_reports : (o : Outcome) (text : List ℕ) → IfSome reads (λ kept. ready kept ≡ Ok o) → (let c : Continued = iterations v b.problem seed count o in (c.stop ≡ None) → (text ≡ train_text b.problem c.pools (o.bounds ++ c.bounds) (o.unsettled + unsettled_in c.lists)) → Reports v task reads bytes (Ok text))
-    trained_reports o text has stop is_text = λ kept e.
+    pub trained_reports : (o new : Outcome) (text : List ℕ) → IfSome reads (λ kept. ready kept ≡ Ok o) → (iterations v b.problem seed count o).stop ≡ None → new ≡ trained o (iterations v b.problem seed count o) → text ≡ train_text b.problem new.pools new.bounds new.unsettled → Reports v task reads bytes (Ok text)
+    trained_reports o new text has stop same is_text = λ kept e.
         let c : Continued = iterations v b.problem seed count o in
-        ended_at kept o (at_kept (λ k. ready k ≡ Ok o) kept e has) ∙ ap (unless_stopped b.problem o c) stop ∙ ap (λ (x : List ℕ). Ok x) (sym is_text)
+        ended_at kept o (at_kept (λ k. ready k ≡ Ok o) kept e has) ∙ ap (unless_stopped b.problem o c) stop ∙ ap (λ (x : List ℕ). Ok x) (sym (text_trained b.problem o new c text same is_text))
 
     stopped_reports : (o : Outcome) (f : SweepFault) → IfSome reads (λ kept. ready kept ≡ Ok o) → (iterations v b.problem seed count o).stop ≡ Some f → Reports v task reads bytes (Err (status_of_stop f))
     stopped_reports o f has stop = λ kept e. ended_at kept o (at_kept (λ k. ready k ≡ Ok o) kept e has) ∙ ap (unless_stopped b.problem o (iterations v b.problem seed count o)) stop
@@ -309,10 +313,6 @@ train_is_sound p pools bounds unsettled seed count batch text e fit sound under 
   cuts = sound;
   bound = sound_bound (problem_of p) pools (root_shaped-sealed p e) (have_cuts-root p pools e fit.some) sound;
 }
-
--- what the report of training shows
-pub text_trained : (p : Sealed) (o new : Outcome) (c : Continued) (text : List ℕ) → new ≡ trained o c → text ≡ train_text p new.pools new.bounds new.unsettled → text ≡ train_text p c.pools (o.bounds ++ c.bounds) (o.unsettled + unsettled_in c.lists)
-text_trained p o new c text same is = is ∙ ap (λ (x : Outcome). train_text p x.pools x.bounds x.unsettled) same
 
 -- all is trained where the status says so
 pub trained_then : (A : Type 0) (r : Result A Status) (P : Type 0) → WhenTrained r P → has_trained (status_of r) ≡ true → P

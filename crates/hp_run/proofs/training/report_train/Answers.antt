@@ -1,6 +1,7 @@
 use Rattle.std.proofs.Common.{Ok, Err, rules, ap, ◌∙◌}
 use Rattle.std.proofs.lemmas.Result.{err_from_is_err_and}
-use Rattle.hp_run.proofs.TrainReports.{grown_after, is_ready, leaves_trained, ready_shut, ready_unborn, rose_later, stopped_lacks, text_trained, train_is_sound, trained_reports, unloaded_lacks, when_as}
+use Rattle.hp_load.specs.Load.{seen}
+use Rattle.hp_run.proofs.TrainReports.{grown_after, is_ready, leaves_trained, ready_shut, ready_unborn, rose_later, stopped_lacks, train_is_sound, trained_reports, unloaded_lacks, when_as}
 use Rattle.hp_run.proofs.training.report_train.Goals as goal
 
 pub returns-in_err-loaded-clause-lacks : goal.returns-in_err-loaded-clause-lacks
@@ -30,7 +31,7 @@ returns-in_err-train_on-clause-grown g c =
     let e = err_from_is_err_and c.from_residual-in_err-train_on.result c.from_residual-in_err-train_on.ensures.1 in
     let as_ended = when_as (Unit {0}) _ c.in_err-train_on.field-0.0 c.from_residual-in_err-train_on.result in
     let is = e.1 ∙ ap Err e.2 in
-    grown_after _ _ _ _ _ _ ready.base _ _ _ c.from_residual-in_err-train_on.result _ _ _ c.digest-digest.ensures ready.loads c.load_for.ensures.stays.reads (as_ended _ is c.in_err-train_on.ensures.reads) (as_ended _ is c.in_err-train_on.ensures.quiet)
+    grown_after _ _ _ _ _ _ ready.base (g.D.Disk.store c.args.journal.now) (g.D.Disk.store c.train_on.new.journal) _ c.from_residual-in_err-train_on.result _ (g.D.Disk.store c.load_for.new.journal) _ c.digest-digest.ensures ready.loads c.load_for.ensures.stays.reads (as_ended _ is c.in_err-train_on.ensures.reads) (as_ended _ is c.in_err-train_on.ensures.quiet)
 
 pub returns-in_err-train_on-clause-any_moment : goal.returns-in_err-train_on-clause-any_moment
 returns-in_err-train_on-clause-any_moment g c =
@@ -40,7 +41,7 @@ returns-in_err-train_on-clause-any_moment g c =
 pub returns-in-Ok-clause-report : goal.returns-in-Ok-clause-report
 returns-in-Ok-clause-report g c =
     let ready = is_ready _ _ _ _ _ _ _ _ c.requires.read c.digest-digest.ensures c.in_ok-loaded.ensures.value in
-    trained_reports _ _ _ _ _ _ ready.base _ _ c.in-Ok.text.items ready.ready c.in_ok-train_on.ensures.stop (text_trained _ _ _ _ _ c.in_ok-train_on.ensures.value c.in-Ok.ensures.text)
+    trained_reports _ _ _ _ _ _ ready.base _ _ (seen c.train_on.new.loaded) c.in-Ok.text.items ready.ready c.in_ok-train_on.ensures.stop c.in_ok-train_on.ensures.value c.in-Ok.ensures.text
 
 pub returns-in-Ok-clause-sound : goal.returns-in-Ok-clause-sound
 returns-in-Ok-clause-sound g c =
@@ -51,7 +52,7 @@ returns-in-Ok-clause-sound g c =
 pub returns-in-Ok-clause-grown : goal.returns-in-Ok-clause-grown
 returns-in-Ok-clause-grown g c =
     let ready = is_ready _ _ _ _ _ _ _ _ c.requires.read c.digest-digest.ensures c.in_ok-loaded.ensures.value in
-    grown_after _ _ _ _ _ _ ready.base _ _ _ (Ok c.in-Ok.text) _ _ _ c.digest-digest.ensures ready.loads c.load_for.ensures.stays.reads c.in_ok-train_on.ensures.reads c.in_ok-train_on.ensures.quiet
+    grown_after _ _ _ _ _ _ ready.base (g.D.Disk.store c.args.journal.now) (g.D.Disk.store c.train_on.new.journal) _ (Ok c.in-Ok.text) _ (g.D.Disk.store c.load_for.new.journal) _ c.digest-digest.ensures ready.loads c.load_for.ensures.stays.reads c.in_ok-train_on.ensures.reads c.in_ok-train_on.ensures.quiet
 
 pub returns-in-Ok-clause-any_moment : goal.returns-in-Ok-clause-any_moment
 returns-in-Ok-clause-any_moment g c =
