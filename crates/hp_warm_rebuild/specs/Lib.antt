@@ -1,3 +1,4 @@
 pub mod Clean
+pub mod Kept
 pub mod Standings
 pub mod Tighten

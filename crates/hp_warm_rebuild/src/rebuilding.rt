@@ -2,6 +2,7 @@
 ghost use Rattle.std.specs.Prelude.{◌≡◌, length, IfOk, OnErr};
 ghost use Rattle.hp_warm_table.specs.Shape.{IsTable};
 ghost use Rattle.hp_warm_table.specs.Updates.{Gives};
+ghost use Rattle.hp_warm_rebuild.specs.Kept.{KeepsProgram};
 ghost use Rattle.hp_warm_rebuild.specs.Standings.{rebuilt_of};
 
 use crate::clean::clean;
@@ -19,6 +20,7 @@ fn rebuild_from(table: &mut Table, line: &mut List<Cell>, was: &Basis) -> bool
     requires was { was.now ≡ table.old.basis }
     ensures sized { IsTable table.new }
     ensures width { length line.new ≡ length line.old }
+    ensures program { KeepsProgram table.old table.new }
     ensures rebuilt { Gives result (rebuilt_of table.old) table.new }
 {
     clean(table);
@@ -32,14 +34,16 @@ fn rebuild_from(table: &mut Table, line: &mut List<Cell>, was: &Basis) -> bool
 /// Rebuilds the basis of a table from the program that the table holds: first all slacks are basic,
 /// then those that were not leave again, in order, each for the place of its greatest cell at which
 /// a column stands that was basic. The answer is `Ok(false)` exactly where a number on the way has
-/// an absolute value of 2^60 or more: nothing is promised of the table then but its shape.
-/// [`Memory`] where memory was refused: the table is as before. `line` is for work: as many numbers
-/// as columns.
+/// an absolute value of 2^60 or more: nothing is promised of the table then but its shape and its
+/// program.
+/// [`Memory`] where memory was refused: the table is as before. The program of the table stays.
+/// `line` is for work: as many numbers as columns.
 pub fn rebuild(alloc: Global, table: &mut Table, line: &mut List<Cell>) -> Result<bool, Memory>
     requires sized { IsTable table.old }
     requires width { length line.old ≡ length table.old.costs }
     ensures sized { IsTable table.new }
     ensures width { length line.new ≡ length line.old }
+    ensures program { KeepsProgram table.old table.new }
     ensures rebuilt { IfOk result (λ done. Gives done (rebuilt_of table.old) table.new) }
     ensures refused { OnErr result (table.new ≡ table.old) }
 {
