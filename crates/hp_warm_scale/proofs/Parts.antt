@@ -5,24 +5,10 @@ use Rattle.std.proofs.lemmas.List.{take_at, length-take-le, length-drop, length-
 use Rattle.hp_solver.specs.declared.stage_lp.Column.{Column}
 use Rattle.hp_solver.specs.declared.stage_lp.LpRow.{LpRow}
 use Rattle.hp_solver.specs.declared.stage_lp.StageLp.{StageLp}
-use Rattle.hp_solver.specs.Numbers.{zero_fx}
 use Rattle.hp_warm_table.specs.declared.table.Table.{Table}
 use Rattle.hp_warm_scale.specs.Scaling.{columns_table}
 use Rattle.hp_warm_scale.specs.Appending.{appended}
-use Rattle.hp_warm_scale.specs.First.{first_of}
-
--- a column that stands at 0 and costs nothing
-abbrev idle : Column → Column
-idle c = record { low = zero_fx; high = zero_fx; cost = zero_fx }
-
--- a program without its cuts, with its columns from `decisions` on idle
-abbrev own_part : StageLp → StageLp
-own_part lp = record {
-  columns = take lp.decisions lp.columns ++ map idle (drop lp.decisions lp.columns);
-  rows = take lp.own lp.rows;
-  decisions = lp.decisions;
-  own = lp.own;
-}
+use Rattle.hp_warm_scale.specs.First.{first_of, own_part, idle}
 
 abbrev by_parts : ℕ → List Column → List LpRow → Option Table
 by_parts n decisions rows = cond (nat_lt 1199 n) None (option_and_then (appended rows) (columns_table n decisions rows))

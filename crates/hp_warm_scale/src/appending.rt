@@ -166,7 +166,7 @@ fn append_row(alloc: Global, table: &mut Table, row: &LpRow) -> Result<bool, Mem
 /// Puts some rows of a program behind the others, one after the other. The answer is false exactly
 /// where a number leaves its range: nothing is promised of the table then. [`Memory`] where memory
 /// was refused.
-pub fn append(alloc: Global, table: &mut Table, rows: &[LpRow]) -> Result<bool, Memory>
+pub(crate) fn append(alloc: Global, table: &mut Table, rows: &[LpRow]) -> Result<bool, Memory>
     requires whole { IsTable table.old }
     requires small { AreSmall 1000 table.old.scales }
     requires rising { All (λ (r : LpRow). AreRising 0 (length table.old.costs) r.terms) rows.now }

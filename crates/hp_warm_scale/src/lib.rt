@@ -3,6 +3,7 @@
 
 pub mod appending;
 pub mod exponents;
+pub mod laws;
 pub mod scaling;
 pub mod sides;
 pub mod spans;

@@ -102,6 +102,7 @@ pub fn set_sides(table: &mut Table, lp: &StageLp) -> bool
     requires rows { length lp.now.rows ≡ length table.old.rows }
     ensures answer { result ≡ (sided table.old lp.now.rows).0 }
     ensures value { table.new ≡ with_bounds (sided table.old lp.now.rows).1 table.old }
+    ensures scales { table.new.scales ≡ table.old.scales }
     ensures whole { IsTable table.new }
 {
     let first = table.costs.len();
