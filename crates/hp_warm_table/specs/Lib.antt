@@ -3,3 +3,4 @@ pub mod Each
 pub mod Squares
 pub mod Bounding
 pub mod Shape
+pub mod Updates

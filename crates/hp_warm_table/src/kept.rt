@@ -1,5 +1,5 @@
 // Numbers that keep their range.
-ghost use Rattle.std.specs.Prelude.{◌≡◌, ◌^◌, ◌<◌, ◌≤◌, pos, nat_abs};
+ghost use Rattle.std.specs.Prelude.{◌≡◌, ◌^◌, ◌<◌, ◌≤◌, pos, neg_ℤ, nat_abs};
 ghost use Rattle.hp_warm_table.specs.Numbers.{cell_of, value_of, coefficient_of};
 
 use std::marker::Model;
@@ -35,6 +35,13 @@ impl Cell {
         ensures { result ≡ pos 0 }
     {
         Cell { v: 0 }
+    }
+
+    /// -2^40, which stands for -1.
+    pub fn minus_one() -> Cell
+        ensures { result ≡ neg_ℤ (pos (2 ^ 40)) }
+    {
+        Cell { v: -(1 << 40) }
     }
 
     /// A number of 64 bits as a cell. None exactly where its absolute value is 2^60 or more.
@@ -161,6 +168,13 @@ impl Coefficient {
             Ok(v) => Coefficient::narrow(v),
             Err(_) => None,
         }
+    }
+
+    /// The same number as a cell.
+    pub fn cell(self) -> Cell
+        ensures { result ≡ self }
+    {
+        Cell { v: self.v }
     }
 
     /// The number.

@@ -7,6 +7,7 @@ pub mod numbers;
 pub mod rows;
 pub mod square;
 pub mod table;
+pub mod updates;
 
 pub use kept::{Cell, Coefficient, Quantity};
 pub use rows::Rows;

@@ -46,8 +46,8 @@ pub fn quotient(a: i128, b: i128) -> i128
     a / b
 }
 
-// 2^k.
-fn power(k: u32) -> i128
+/// 2^k.
+pub fn power(k: u32) -> i128
     requires { k ≤ 126 }
     ensures { result ≡ pos (2 ^ k) }
 {

@@ -1,9 +1,12 @@
 // As many rows as columns.
-ghost use Rattle.std.specs.Prelude.{◌≡◌, ◌+◌, ◌*◌, ◌^◌, ◌<◌, ◌≤◌, [], pos, length, get_or, slice_set, replicate, IfOk};
+ghost use Rattle.std.specs.Prelude.{◌≡◌, ◌+◌, ◌*◌, ◌^◌, ◌<◌, ◌≤◌, [], pos, length, get_or, slice_set, take, drop, replicate, IfOk};
+ghost use Rattle.std.specs.Option.{option_map};
 ghost use Rattle.hp_warm_table.specs.Squares.{rows_of, put};
+ghost use Rattle.hp_warm_table.specs.Updates.{Gives, moved_row, moved_at};
 
 use crate::kept::Cell;
 use crate::lists::{copied, repeated};
+use crate::updates::move_row;
 use hp_num::{List, Memory};
 use std::alloc::Global;
 use std::marker::Model;
@@ -67,6 +70,20 @@ impl Square {
         set_row_of(&mut self.cells, self.size, v, row);
     }
 
+    /// Row v after the variable at a place is replaced by the sum that the addend is; the other rows
+    /// stay. The answer is false exactly where a result leaves the range of cells: nothing but
+    /// their number is promised of the rows then.
+    #[tactic(auto, using(crate::proofs::Flat::rows_count))]
+    pub fn move_row(&mut self, v: usize, place: usize, addend: &[Cell]) -> bool
+        requires there { v < length self.old }
+        requires place { place < length self.old }
+        requires width { length addend.now ≡ length self.old }
+        ensures count { length self.new ≡ length self.old }
+        ensures moved { Gives result (moved_at v place addend.now self.old) self.new }
+    {
+        move_row_of(&mut self.cells, self.size, v, place, addend)
+    }
+
     /// The same rows, in memory of their own. [`Memory`] where memory was refused.
     pub fn copy(&self, alloc: Global) -> Result<Square, Memory>
         ensures { IfOk result (λ square. square ≡ self.now) }
@@ -109,4 +126,30 @@ fn set_row_of(cells: &mut List<Cell>, size: u32, v: usize, row: &[Cell])
     ensures rows { rows_of size size cells.new ≡ slice_set (rows_of size size cells.old) v row.now }
 {
     put_row(cells.as_mut_slice(), v * size as usize, row);
+}
+
+// One row, from the cell `start` on, after the variable at a place is replaced.
+fn move_row_at(cells: &mut [Cell], start: usize, place: usize, addend: &[Cell]) -> bool
+    requires place { place < length addend.now }
+    requires inside { start + length addend.now ≤ length cells.old }
+    ensures lengths { length cells.new ≡ length cells.old }
+    ensures moved { Gives result (option_map (put (length addend.now) start cells.old)
+        (moved_row place addend.now (take (length addend.now) (drop start cells.old)))) cells.new }
+{
+    let (_, rest) = cells.split_at_mut(start);
+    let (row, _) = rest.split_at_mut(addend.len());
+    move_row(row, place, addend)
+}
+
+// Row v of as many rows as cells in each, after the variable at a place is replaced.
+fn move_row_of(cells: &mut List<Cell>, size: u32, v: usize, place: usize, addend: &[Cell]) -> bool
+    requires there { v < size }
+    requires place { place < size }
+    requires width { length addend.now ≡ size }
+    requires square { length cells.old ≡ size * size }
+    ensures square { length cells.new ≡ size * size }
+    ensures moved { Gives result (moved_at v place addend.now (rows_of size size cells.old))
+        (rows_of size size cells.new) }
+{
+    move_row_at(cells.as_mut_slice(), v * size as usize, place, addend)
 }
