@@ -1,0 +1,6 @@
+pub mod Digits
+pub mod FarShifts
+pub mod Small
+pub mod Walks
+pub mod WorkedAnswers
+pub mod WorkedProofs
