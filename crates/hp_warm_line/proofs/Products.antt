@@ -10,3 +10,6 @@ share_small t q h k =
     let i : nat_abs t ≤ 2 ^ 60 = omega (arith, h) in
     let j : nat_abs q ≤ 2 ^ 55 = omega (arith, k) in
     subst (λ (n : ℕ). n ≤ 2 ^ 115) (sym (unsigned_abs-mul t q)) (mul-le-mul i j)
+
+pub turned_small : (x inv : ℤ) → nat_abs x < 2 ^ 60 → nat_abs inv ≤ 2 ^ 57 → nat_abs (x *ℤ inv) ≤ 2 ^ 117
+turned_small x inv h k = let i : nat_abs x ≤ 2 ^ 60 = omega (arith, h) in subst (λ (n : ℕ). n ≤ 2 ^ 117) (sym (unsigned_abs-mul x inv)) (mul-le-mul i k)

@@ -1,5 +1,5 @@
 -- The pivot: a basic variable leaves, and the one at a place enters.
-use Rattle.std.specs.Prelude.{ℕ, ◌+◌, ◌-◌, ◌^◌, ℤ, pos, negsuc, neg_ℤ, ◌+ℤ◌, ◌*ℤ◌, Bool, false, not, ◌&&◌, ◌==◌, List, [], ◌∷◌, length, get_or, slice_set, is_none, nat_lt, Option, Some, None, if◌then◌else◌}
+use Rattle.std.specs.Prelude.{ℕ, ◌+◌, ◌-◌, ◌^◌, ℤ, pos, neg_ℤ, ◌+ℤ◌, ◌*ℤ◌, Bool, false, not, ◌&&◌, ◌==◌, List, [], ◌∷◌, length, get_or, slice_set, is_none, nat_lt, Option, Some, None, if◌then◌else◌}
 use Rattle.std.specs.Option.{option_map, option_and_then}
 use Rattle.std.specs.Ordering.{int_eq}
 use Rattle.hp_num.specs.Sums.{entry, floor_over}
@@ -48,9 +48,14 @@ exchanged b v above e flips =
       high = slice_set (flipped b.high flips) e above;
     }
 
+-- the table after the pivot of v at place e, whose new line is n, but for the basis and that line; none where a number is no cell
+unfoldable pub eliminated : Table → List ℤ → ℕ → ℕ → Option Table
+eliminated t n v e = option_and_then (λ lines. option_map (λ reduced. with_basis t t.basis reduced lines) (moved_row e n t.reduced)) (each_from (moved_or_kept t.basis.places v e n) 0 t.lines)
+
+-- the table with v at place e, and the line n of the variable that was there
+unfoldable pub replaced : Table → List ℤ → ℕ → Bool → ℕ → List ℕ → Table
+replaced t n v above e flips = with_basis t (exchanged t.basis v above e flips) t.reduced (entered t.lines (get_or t.basis.nonbasic e 0) n)
+
 -- the table after v leaves, with the line r, for the variable at place e; none where a number is no cell
 unfoldable pub pivoted : Table → List ℤ → ℕ → Bool → ℕ → List ℕ → Option Table
-pivoted t r v above e flips =
-    option_and_then
-    (λ n. option_and_then (λ lines. option_map (λ reduced. with_basis t (exchanged t.basis v above e flips) reduced (entered lines (get_or t.basis.nonbasic e 0) n)) (moved_row e n t.reduced)) (each_from (moved_or_kept t.basis.places v e n) 0 t.lines))
-    (turned_line e r)
+pivoted t r v above e flips = option_and_then (λ n. option_map (λ s. replaced s n v above e flips) (eliminated t n v e)) (turned_line e r)

@@ -1,6 +1,6 @@
 use Rattle.std.proofs.Common.{◌≡◌, length, drop}
 use Rattle.hp_warm_line.specs.Refine.{stood}
-use Rattle.hp_warm_line.proofs.refine.stand_all.Given as goal
+use Rattle.hp_warm_line.proofs.points.stand_all.Given as goal
 
 abbrev pub invariant-loop-j : goal.invariant-loop-j
 invariant-loop-j l = record {

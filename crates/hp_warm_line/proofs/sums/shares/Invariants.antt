@@ -1,6 +1,6 @@
-use Rattle.std.proofs.Common.{◌≡◌, ◌≤◌, ◌*◌, ◌^◌, ℕ, ◌+ℤ◌, nat_abs, drop}
+use Rattle.std.proofs.Common.{◌≡◌, ◌≤◌, ◌*◌, ◌^◌, ◌+ℤ◌, nat_abs, drop}
 use Rattle.hp_num.specs.Sums.{dot}
-use Rattle.hp_warm_line.proofs.activity.shares.Given as goal
+use Rattle.hp_warm_line.proofs.sums.shares.Given as goal
 
 abbrev pub invariant-loop-j : goal.invariant-loop-j
 invariant-loop-j l = record {

@@ -1,8 +1,8 @@
-use Rattle.std.proofs.Common.{to_z, of_z, ◌≡◌, ◌∙◌, ◌+ℤ◌, ◌*ℤ◌, ◌*◌, ◌+◌, ◌^◌, ◌<◌, ◌≤◌, nat_abs, ap, sym, subst, ℕ, ℤ, pos, length, arith, rules}
+use Rattle.std.proofs.Common.{to_z, of_z, ◌∙◌, ◌+ℤ◌, ◌*◌, ◌+◌, ◌^◌, ◌<◌, ◌≤◌, nat_abs, ap, sym, subst, ℕ, ℤ}
 use mir.Syntax.{w128}
 use Rattle.std.proofs.lemmas.Int.{to_z-of_z}
-use Rattle.hp_warm_line.proofs.Terms.{dot_step, dot_done, small_step}
-use Rattle.hp_warm_line.proofs.activity.shares.Goals as goal
+use Rattle.hp_warm_line.proofs.Terms.{dot_step, small_step}
+use Rattle.hp_warm_line.proofs.sums.shares.Goals as goal
 
 pub loop-j-preserved : goal.loop-j-preserved
 loop-j-preserved c =

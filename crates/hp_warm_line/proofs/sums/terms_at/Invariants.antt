@@ -1,6 +1,6 @@
 use Rattle.std.proofs.Common.{◌≡◌, ◌≤◌, ◌*◌, ◌^◌, ℕ, ℤ, ◌*ℤ◌, nat_abs, take}
 use Rattle.hp_num.specs.Sums.{total, entry}
-use Rattle.hp_warm_line.proofs.activity.terms_at.Given as goal
+use Rattle.hp_warm_line.proofs.sums.terms_at.Given as goal
 
 abbrev pub invariant-loop-k : goal.invariant-loop-k
 invariant-loop-k l = record {

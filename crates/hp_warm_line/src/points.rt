@@ -7,7 +7,7 @@ ghost use Rattle.hp_warm_table.specs.Numbers.{down_of, value_of};
 ghost use Rattle.hp_warm_line.specs.Kept.{with_values};
 ghost use Rattle.hp_warm_line.specs.Refine.{IsWhole, stand_of, placed, stood, off, shift_at, shifts_of, moved_value, moved_values, stood_table, refined};
 
-use crate::activity::{activity, shares};
+use crate::sums::{activity, shares};
 use hp_num::List;
 use hp_warm_table::numbers::down;
 use hp_warm_table::{Bounds, Quantity, Square, Table};
@@ -159,4 +159,58 @@ fn move_all(
         }
     }
     true
+}
+
+// Puts each nonbasic column of a table at its bound.
+#[tactic(auto, unfolding(crate::specs::Refine::stood_table), using(crate::proofs::Inside::whole_bounds, crate::proofs::Sized::sized_values))]
+fn stand_columns(table: &mut Table)
+    requires sized { IsTable table.old }
+    ensures sized { IsTable table.new }
+    ensures stood { table.new ≡ stood_table table.old }
+    ensures kept { table.new ≡ with_values table.old table.new.values }
+{
+    stand_all(
+        &mut table.values,
+        &table.bounds,
+        table.basis.high.as_slice(),
+        table.basis.nonbasic.as_slice(),
+    );
+}
+
+// Moves the values of a table's basic columns by the shifts.
+#[tactic(auto, unfolding(crate::specs::Refine::moved_values), using(crate::proofs::Sized::sized_values))]
+fn move_columns(table: &mut Table, shifts: &[Quantity]) -> bool
+    requires sized { IsTable table.old }
+    requires count { length shifts.now ≡ length table.old.costs }
+    ensures sized { IsTable table.new }
+    ensures kept { table.new ≡ with_values table.old table.new.values }
+    ensures moved { Gives result (moved_values table.old shifts.now) table.new.values }
+{
+    move_all(
+        &mut table.values,
+        table.basis.places.as_slice(),
+        &table.lines,
+        shifts,
+    )
+}
+
+/// Writes the values of the basis: a nonbasic column stands at its bound, and a basic one is moved
+/// by the shifts of all nonbasic slacks, by which their rows are off. The answer is false exactly
+/// where a value of a row, a shift or a value of a column has an absolute value of 2^55 or more:
+/// nothing is promised of the values then. All else of the table stays. `shifts` is for work: as
+/// many numbers as columns.
+#[tactic(auto, unfolding(crate::specs::Refine::refined))]
+pub fn refine(table: &mut Table, shifts: &mut List<Quantity>) -> bool
+    requires sized { IsTable table.old }
+    requires shifts { length shifts.old ≡ length table.old.costs }
+    ensures sized { IsTable table.new }
+    ensures shifts { length shifts.new ≡ length shifts.old }
+    ensures kept { table.new ≡ with_values table.old table.new.values }
+    ensures refined { Gives result (refined table.old) table.new.values }
+{
+    stand_columns(table);
+    if !write_shifts(table, shifts) {
+        return false;
+    }
+    move_columns(table, shifts.as_slice())
 }

@@ -25,7 +25,8 @@ fn share(t: Cell, q: Quantity) -> i128
     product(t.number(), q.number())
 }
 
-fn plus(x: i128, y: i128) -> i128
+// A sum.
+pub(crate) fn plus(x: i128, y: i128) -> i128
     requires left { nat_abs x ≤ 2 ^ 126 }
     requires right { nat_abs y ≤ 2 ^ 115 }
     ensures value { result ≡ x +ℤ y }

@@ -2,7 +2,7 @@ use Rattle.std.proofs.Common.{◌≡◌, length, take, drop}
 use Rattle.hp_warm_table.specs.Each.{each_from}
 use Rattle.hp_warm_table.proofs.Each.{behind}
 use Rattle.hp_warm_line.specs.Refine.{shift_at, shifts_of}
-use Rattle.hp_warm_line.proofs.refine.write_shifts.Given as goal
+use Rattle.hp_warm_line.proofs.points.write_shifts.Given as goal
 
 abbrev pub invariant-loop-j : goal.invariant-loop-j
 invariant-loop-j l = record {

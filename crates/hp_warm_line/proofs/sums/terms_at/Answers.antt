@@ -1,10 +1,10 @@
-use Rattle.std.proofs.Common.{to_z, of_z, ◌≡◌, ◌∙◌, ◌+ℤ◌, ◌*ℤ◌, ◌*◌, ◌+◌, ◌^◌, ◌≤◌, nat_abs, ap₂, sym, subst, ℕ, ℤ, pos}
+use Rattle.std.proofs.Common.{to_z, of_z, ◌∙◌, ◌+ℤ◌, ◌*ℤ◌, ◌*◌, ◌+◌, ◌^◌, ◌≤◌, nat_abs, ap₂, sym, subst, ℕ, ℤ, pos}
 use mir.Syntax.{w128}
 use Rattle.std.proofs.lemmas.Int.{to_z-of_z}
 use Rattle.hp_num.specs.Sums.{entry}
 use Rattle.hp_num.proofs.Fronts.{total_more}
 use Rattle.hp_warm_line.proofs.Terms.{term_read, small_step}
-use Rattle.hp_warm_line.proofs.activity.terms_at.Goals as goal
+use Rattle.hp_warm_line.proofs.sums.terms_at.Goals as goal
 
 pub loop-k-preserved : goal.loop-k-preserved
 loop-k-preserved c =

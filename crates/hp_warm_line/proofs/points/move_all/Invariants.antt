@@ -2,7 +2,7 @@ use Rattle.std.proofs.Common.{◌≡◌, length, take, drop}
 use Rattle.hp_warm_table.specs.Each.{each_from}
 use Rattle.hp_warm_table.proofs.Each.{behind}
 use Rattle.hp_warm_line.specs.Refine.{moved_value}
-use Rattle.hp_warm_line.proofs.refine.move_all.Given as goal
+use Rattle.hp_warm_line.proofs.points.move_all.Given as goal
 
 abbrev pub invariant-loop-v : goal.invariant-loop-v
 invariant-loop-v l = record {
