@@ -1,6 +1,6 @@
 -- Products and sums of small numbers.
-use Rattle.std.proofs.Common.{◌≡◌, ℕ, suc, ◌+◌, ◌-◌, ◌*◌, ◌^◌, ◌<◌, ◌≤◌, ℤ, ◌-ℤ◌, ◌*ℤ◌, nat_abs, List, [], ◌∷◌, length, get_or, slice_set, All, zero, arith, mul-le-mul, subst, sym}
-use Rattle.std.proofs.lemmas.Int.{ints, unsigned_abs-mul}
+use Rattle.std.proofs.Common.{ℕ, suc, ◌+◌, ◌-◌, ◌*◌, ◌^◌, ◌<◌, ◌≤◌, ℤ, ◌*ℤ◌, nat_abs, List, [], ◌∷◌, length, get_or, slice_set, zero, arith, mul-le-mul, subst, sym}
+use Rattle.std.proofs.lemmas.Int.{unsigned_abs-mul}
 use Rattle.std.proofs.lemmas.List.Elements.{All-set}
 use Rattle.hp_num.specs.Sums.{Term}
 use Rattle.hp_warm_table.specs.Shape.{AreRising}

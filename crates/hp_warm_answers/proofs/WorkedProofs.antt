@@ -1,8 +1,7 @@
 -- Worked duals, and what they prove.
-use Rattle.std.proofs.Common.{◌≡◌, ℕ, ◌^◌, ◌*◌, ◌+◌, pos, negsuc, true, false, [], ◌∷◌, Option, Some, None, refl}
+use Rattle.std.proofs.Common.{◌≡◌, ℕ, ◌^◌, ◌*◌, ◌+◌, pos, negsuc, true, false, [], ◌∷◌, Some, None, refl}
 use Rattle.hp_solver.specs.declared.fixed.Fx.{Fx}
 use Rattle.hp_solver.specs.declared.stage_lp.Column.{Column}
-use Rattle.hp_solver.specs.declared.stage_lp.LpRow.{LpRow}
 use Rattle.hp_solver.specs.declared.stage_lp.StageLp.{StageLp}
 use Rattle.hp_solver.specs.Numbers.{number, zero_fx, one, plus, minus, times}
 use Rattle.hp_warm_answers.specs.Proves.{side_of, clip, lessened, term_step, row_step, weights_of, side_step, box_step, excess_of, proves}

@@ -1,5 +1,5 @@
 -- What duals prove: that no point in the columns' boxes keeps all rows (Farkas, 1902).
-use Rattle.std.specs.Prelude.{ℕ, suc, pos, Bool, true, false, not, ◌&&◌, List, [], ◌∷◌, length, replicate, get_or, slice_get, slice_set, Option, Some, None, int_lt, if◌then◌else◌}
+use Rattle.std.specs.Prelude.{ℕ, suc, pos, Bool, false, not, ◌&&◌, List, [], ◌∷◌, length, replicate, get_or, slice_get, slice_set, Option, Some, None, int_lt, if◌then◌else◌}
 use Rattle.std.specs.Option.{option_map, option_and_then}
 use Rattle.hp_solver.specs.declared.fixed.Fx.{Fx}
 use Rattle.hp_solver.specs.declared.stage_lp.Column.{Column}

@@ -1,8 +1,9 @@
 // The duals of a row that nothing brings back to its bound.
-ghost use Rattle.std.specs.Prelude.{◌≡◌, ◌<◌, ◌≤◌, ◌+◌, ◌^◌, ◌+ℤ◌, ◌-ℤ◌, pos, nat_abs, length, map, IfOk, IfSome, None};
+ghost use Rattle.std.specs.Prelude.{◌≡◌, ◌<◌, ◌≤◌, ◌+◌, ◌^◌, ◌+ℤ◌, ◌-ℤ◌, pos, nat_abs, length, map, IfOk, IfSome, None, OnOk};
+ghost use Rattle.std.specs.Option.{IsSome};
 ghost use Rattle.hp_num.specs.Sums.{entry};
 ghost use Rattle.hp_warm_table.specs.Shape.{IsTable, variables};
-ghost use Rattle.hp_warm_table.specs.Numbers.{bits_of};
+ghost use Rattle.hp_warm_table.specs.Numbers.{bits_of, shift_of};
 ghost use Rattle.hp_warm_table.specs.Each.{each_from};
 ghost use Rattle.hp_warm_answers.specs.Ray.{own_factor, turned, factor_by, factor_at, greater, with_digits, greatest_from, or_zero, top_of, ray_dual, ray_with, where_proved, ray_of};
 
@@ -130,7 +131,28 @@ fn ray_exponent(scales: &Scales, row: usize, top: i64) -> i64
     i64::from(scales.rows.as_slice()[row]) + 52 - top
 }
 
-// The dual of a row.
+// The factor of a row, no longer scaled, so that the greatest has 52 digits. It is always there.
+fn unscaled(
+    table: &Table,
+    line: &[Cell],
+    variable: usize,
+    above: bool,
+    top: i64,
+    row: usize,
+) -> Option<i128>
+    requires sized { IsTable table.now }
+    requires line { length line.now ≡ length table.now.costs }
+    requires row { row < length table.now.rows }
+    requires top { top ≡ top_of table.now line.now variable above }
+    requires small { nat_abs top ≤ 2 ^ 32 }
+    ensures value { result ≡ shift_of (factor_at table.now line.now variable above row) ((entry table.now.scales.rows row +ℤ pos 52) -ℤ top) }
+    ensures there { IsSome result }
+{
+    let factor = i128::from(factor_at(table, line, variable, above, row));
+    shift_by(factor, ray_exponent(&table.scales, row, top))
+}
+
+// The dual of a row. It is always there.
 #[tactic(auto, unfolding(crate::specs::Ray::ray_dual))]
 fn ray_dual(
     table: &Table,
@@ -144,11 +166,12 @@ fn ray_dual(
     requires sized { IsTable table.now }
     requires line { length line.now ≡ length table.now.costs }
     requires row { number < length table.now.rows }
+    requires top { top ≡ top_of table.now line.now variable above }
     requires small { nat_abs top ≤ 2 ^ 32 }
-    ensures { result ≡ ray_dual table.now line.now variable above top number row.now }
+    ensures value { result ≡ ray_dual table.now line.now variable above top number row.now }
+    ensures there { IsSome result }
 {
-    let factor = i128::from(factor_at(table, line, variable, above, number));
-    let dual = shift_by(factor, ray_exponent(&table.scales, number, top))?;
+    let dual = unscaled(table, line, variable, above, top, number)?;
     Some(clipped(row, Fx(dual)))
 }
 
@@ -164,8 +187,9 @@ fn ray_duals(
     requires sized { IsTable table.now }
     requires line { length line.now ≡ length table.now.costs }
     requires rows { length rows.now ≡ length table.now.rows }
-    ensures { IfOk result (λ found. found
+    ensures value { IfOk result (λ found. found
         ≡ each_from (ray_dual table.now line.now variable above (top_of table.now line.now variable above)) 0 rows.now) }
+    ensures there { IfOk result (λ found. IsSome found) }
 {
     let top = top_of(table, line, variable, above);
     let mut found = List::new(alloc);
@@ -194,8 +218,9 @@ fn where_proved(alloc: Global, lp: &StageLp, duals: List<Fx>) -> Result<Option<A
 
 /// The answer to a program by a variable that violates its lower bound, or its upper one where `above` is true, and
 /// that nothing brings back. The line has the cells by which the variable depends on the nonbasic ones, one for each
-/// place. The duals of the rows are the factors by which a sum of the rows shows that; their greatest has 52 binary
-/// digits. None where they do not prove that no point keeps all rows. [`Memory`] where memory was refused.
+/// place. The duals of the rows are the factors by which a sum of the rows shows that, clipped; the greatest factor has
+/// 52 binary digits, so each of them is there. None where they do not prove that no point keeps all rows. [`Memory`]
+/// where memory was refused.
 #[tactic(auto, unfolding(crate::specs::Ray::ray_of))]
 pub fn ray(
     alloc: Global,
@@ -208,7 +233,8 @@ pub fn ray(
     requires sized { IsTable table.now }
     requires line { length line.now ≡ length table.now.costs }
     requires rows { length lp.now.rows ≡ length table.now.rows }
-    ensures { IfOk result (λ answer. answer ≡ ray_of table.now line.now variable above lp.now) }
+    ensures answer { IfOk result (λ answer. answer ≡ ray_of table.now line.now variable above lp.now) }
+    ensures duals { OnOk result (IsSome (each_from (ray_dual table.now line.now variable above (top_of table.now line.now variable above)) 0 lp.now.rows)) }
 {
     match ray_duals(alloc, table, line, variable, above, lp.rows.as_slice())? {
         None => Ok(None),

@@ -1,4 +1,4 @@
-use Rattle.std.proofs.Common.{ℕ, ℤ, ◌^◌, ◌≤◌, nat_abs, subst, sym}
+use Rattle.std.proofs.Common.{ℤ, ◌^◌, ◌≤◌, nat_abs, subst, sym}
 use Rattle.std.proofs.lemmas.Int.{to_z-of_z}
 use mir.Syntax.{w64, w128}
 use Rattle.hp_warm_answers.proofs.Small.{product_within}
