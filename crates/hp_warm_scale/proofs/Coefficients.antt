@@ -1,5 +1,5 @@
 -- Terms of rows that are scaled are coefficients.
-use Rattle.std.proofs.Common.{◌≡◌, ℕ, suc, ◌+◌, ◌*◌, ◌^◌, ◌/◌, ◌<◌, ◌≤◌, ℤ, pos, negsuc, ◌+ℤ◌, ◌*ℤ◌, ◌≤ℤ◌, nat_abs, nat_lt, nat_le, Bool, true, Option, Some, None, cond, arith, refl, ap, sym, subst, ◌∙◌}
+use Rattle.std.proofs.Common.{◌≡◌, ℕ, suc, ◌+◌, ◌*◌, ◌^◌, ◌/◌, ◌<◌, ◌≤◌, ℤ, pos, negsuc, ◌+ℤ◌, ◌*ℤ◌, ◌≤ℤ◌, nat_abs, SFits, nat_lt, nat_le, Bool, true, Option, Some, None, cond, arith, refl, ap, sym, subst, ◌∙◌}
 use Rattle.std.proofs.lemmas.Int.{ints, unsigned_abs-mul, fits_signed_from_abs}
 use Rattle.std.proofs.lemmas.Nat.{leading_length, pow-add}
 use Rattle.std.proofs.Math.Nat.{pow-le-pow_right, mul-lt-mul_of_pos_right, div-lt_iff_lt-mul}
@@ -59,3 +59,7 @@ pub same_cell : (v k : ℤ) → nat_abs v < 2 ^ 128 → (pos (bits_of v) +ℤ k)
 same_cell v k h b =
     let s = shift_small v k h b in
     ap (option_and_then coefficient_of) s.1 ∙ same_small s.0 s.2 ∙ sym (ap (option_and_then cell_of) s.1)
+
+pub wide : (v : ℤ) → SFits w128 v → nat_abs v < 2 ^ 128
+wide (pos n) f = let h : n < 2 ^ 127 = f.sfits in omega (arith, h)
+wide (negsuc n) f = let h : n < 2 ^ 127 = f.sfits in omega (arith, h)

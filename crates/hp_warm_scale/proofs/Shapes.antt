@@ -1,5 +1,5 @@
 -- Tables stay tables.
-use Rattle.std.proofs.Common.{◌≡◌, ℕ, zero, suc, ◌+◌, ◌<◌, ◌≤◌, ℤ, pos, true, false, Bool, List, [], ◌∷◌, ◌++◌, length, length-set, length-append, map, slice_set, replicate, Option, Some, None, IfSome, All, arith, refl, ap, ap₂, sym, subst, ◌∙◌}
+use Rattle.std.proofs.Common.{◌≡◌, Result, Ok, Err, IfOk, OnOk, negsuc, ◌≤ℤ◌, ℕ, zero, suc, ◌+◌, ◌<◌, ◌≤◌, ℤ, pos, true, false, Bool, List, [], ◌∷◌, ◌++◌, length, length-set, length-append, map, slice_set, replicate, Option, Some, None, IfSome, All, arith, refl, ap, ap₂, sym, subst, ◌∙◌}
 use Rattle.std.proofs.lemmas.List.{length-map, length-replicate}
 use Rattle.std.proofs.lemmas.List.Elements.{All-weaker, All-push, All-nil, All-cons, All-map}
 use Rattle.hp_warm_table.specs.declared.table.Scales.{Scales}
@@ -10,7 +10,10 @@ use Rattle.hp_warm_table.specs.Shape.{IsTable, AreRising, variables}
 use Rattle.hp_warm_scale.specs.declared.sides.Sides.{Sides}
 use Rattle.hp_warm_scale.specs.declared.scaling.ScaledColumn.{ScaledColumn}
 use Rattle.hp_warm_scale.specs.Walks.{count_from}
-use Rattle.hp_warm_scale.specs.Scaling.{numbers, blank_bounds_of, blank_basis_of, blank_with, with_column, stood, is_negative}
+use Rattle.hp_warm_scale.specs.Scaling.{numbers, blank_bounds_of, blank_basis_of, blank_with, with_column, stood, is_negative, AreSmall}
+use Rattle.std.proofs.lemmas.Int.{ints}
+use Rattle.hp_warm_scale.specs.Exponents.{AreUpTo}
+use Rattle.hp_warm_scale.proofs.Passes.{up_to_more}
 use Rattle.hp_warm_scale.specs.Appending.{with_row, with_bounds}
 
 pub column_table : (j : ℕ) (s : ScaledColumn) (t : Table) → IsTable t → IsTable (with_column j s t)
@@ -83,7 +86,7 @@ one_more xs ys x y n h = omega (arith, h, length-append xs (x ∷ []), length-ap
 pub row_table : (e : ℤ) (ts : List (ℕ × ℤ)) (s : Sides) (t : Table) → AreRising 0 (length t.costs) ts → IsTable t → IsTable (with_row e ts s t)
 row_table e ts s t r w = record {
   few = w.few;
-  row_scales = one_more t.scales.rows t.rows e ts 0 w.row_scales;
+  row_scales = omega (arith, w.row_scales, length-append t.scales.rows (e ∷ []), length-append t.rows (ts ∷ []));
   column_scales = w.column_scales;
   lows = one_more t.bounds.lows t.rows s.low ts (length t.costs) w.lows;
   ups = one_more t.bounds.ups t.rows s.up ts (length t.costs) w.ups;
@@ -111,6 +114,7 @@ count_below j (suc n) m h = All-cons (λ (v : ℕ). v < m) j (count_from (suc j)
 pub blank_table : (n : ℕ) (fs : List ℤ) (g h : ℤ) → n ≤ 1199 → length fs ≡ n → IsTable (blank_with n fs g h)
 blank_table n fs g h few count =
     let z : ℤ = pos 0 in
+    let some : ℕ → Option ℕ = λ j. Some j in
     let zs = length-replicate n z in
     record {
       few = subst (λ (k : ℕ). k ≤ 1199) (sym zs) few;
@@ -121,7 +125,7 @@ blank_table n fs g h few count =
       has_low = omega (arith, zs, length-replicate n true);
       has_up = omega (arith, zs, length-replicate n true);
       nonbasic = count_length 0 n ∙ sym zs;
-      places = omega (arith, zs, length-map (numbers n) (Some {T = ℕ}), count_length 0 n);
+      places = omega (arith, zs, length-map (numbers n) some, count_length 0 n);
       high = length-replicate n false ∙ sym zs;
       reduced = refl;
       lines = length-replicate n (replicate n z) ∙ sym zs;
@@ -130,3 +134,32 @@ blank_table n fs g h few count =
       inside = All-map (λ (p : Option ℕ). IfSome p (λ j. j < length (replicate n z))) Some (numbers n) (count_below 0 n (length (replicate n z)) (omega (arith, zs)));
       terms = All-nil (AreRising 0 (length (replicate n z)));
     }
+
+pub blank_small : (most n : ℕ) (fs : List ℤ) (g h : ℤ) → AreUpTo most fs → negsuc 1299 ≤ℤ g → g ≤ℤ pos 1300 → negsuc 1299 ≤ℤ h → h ≤ℤ pos 0 → AreSmall most (blank_with n fs g h).scales
+blank_small most n fs g h f a b c d = record {
+  columns = f;
+  rows = λ i. (omega (arith, ints), omega (arith, ints));
+  costs_least = a;
+  costs_greatest = b;
+  values_least = c;
+  values_greatest = d;
+}
+
+pub small_more : (k m : ℕ) (s : Scales) → k ≤ m → AreSmall k s → AreSmall m s
+small_more k m s l w = record {
+  columns = up_to_more k m s.columns l w.columns;
+  rows = w.rows;
+  costs_least = w.costs_least;
+  costs_greatest = w.costs_greatest;
+  values_least = w.values_least;
+  values_greatest = w.values_greatest;
+}
+
+-- what holds of a value holds of a result that gives it
+pub if_ok : {T E : Type 0} (P : T → Type 0) (r : Result T E) (x : T) → IfOk r (λ t. t ≡ x) → P x → IfOk r P
+if_ok P (Ok t) x e p = subst P (sym e) p
+if_ok P (Err e) x h p = tt
+
+pub on_ok : {T E : Type 0} {A B : Type 0} (r : Result T E) → OnOk r A → (A → B) → OnOk r B
+on_ok (Ok t) a f = f a
+on_ok (Err e) a f = tt

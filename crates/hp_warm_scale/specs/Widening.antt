@@ -54,11 +54,15 @@ successor_scales h spans j cs fs = walk (λ k es c. slice_set es k (successor_sc
 abbrev pub with_scales : List ℤ → Table → Table
 with_scales fs t = record t { scales = record t.scales { columns = fs } }
 
--- the table with the scales of successors' columns, each by the exponents of the other terms of its cuts as they were before
-unfoldable pub rescaled : StageLp → Table → Table
-rescaled lp t =
-    with_scales (successor_scales t.scales.values (cut_spans lp.decisions (length t.costs) t.scales.columns (drop lp.own lp.rows)) lp.decisions (drop lp.decisions lp.columns) t.scales.columns) t
+-- the table with the scales of successors' columns, from number `decisions` on, each by the exponents of the other terms of
+-- its cuts as they were before
+unfoldable pub rescaled : ℕ → List Column → List LpRow → Table → Table
+rescaled decisions successors cuts t =
+    with_scales (successor_scales t.scales.values (cut_spans decisions (length t.costs) t.scales.columns cuts) decisions successors t.scales.columns) t
 
 -- the table of a program that has successors' columns and cuts, from one of its own part; absent where a number leaves its range
 unfoldable pub widened : StageLp → Table → Option Table
-widened lp t = option_and_then (appended (drop lp.own lp.rows)) (run column_step lp.decisions (drop lp.decisions lp.columns) (rescaled lp t))
+widened lp t =
+    let successors = drop lp.decisions lp.columns in
+    let cuts = drop lp.own lp.rows in
+    option_and_then (appended cuts) (run column_step lp.decisions successors (rescaled lp.decisions successors cuts t))

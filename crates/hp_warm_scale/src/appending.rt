@@ -4,12 +4,13 @@ ghost use Rattle.hp_num.specs.Sums.{entry};
 ghost use Rattle.hp_solver.specs.Proper.{AreRising};
 ghost use Rattle.hp_solver.specs.declared.stage_lp.LpRow.{LpRow};
 ghost use Rattle.hp_warm_table.specs.Shape.{IsTable};
+ghost use Rattle.hp_warm_table.specs.Shape as shape;
 ghost use Rattle.hp_warm_scale.specs.Walks.{Gives};
 ghost use Rattle.std.specs.Option.{option_and_then};
-ghost use Rattle.hp_warm_table.specs.Numbers.{bits_of, coefficient_of, shift_of};
+ghost use Rattle.hp_warm_table.specs.Numbers.{bits_of, cell_of, coefficient_of, shift_of};
 ghost use Rattle.hp_warm_scale.specs.Spans.{span_of, AreBetween};
 ghost use Rattle.hp_warm_scale.specs.Exponents.{weight_of, AreUpTo};
-ghost use Rattle.hp_warm_scale.specs.Scaling.{AreSmall, scaled_cell};
+ghost use Rattle.hp_warm_scale.specs.Scaling.{AreSmall};
 ghost use Rattle.hp_warm_scale.specs.Appending.{row_scale, scaled_term, scaled_terms, with_row, row_step, appended_row, appended, AreBelow};
 
 use crate::exponents::{exponent_at, weight};
@@ -66,22 +67,22 @@ fn push_row(
 }
 
 // The number times 2^exponent, as a coefficient.
-fn narrow_coefficient(number: Fx, exponent: i32) -> Option<Coefficient>
-    ensures { result ≡ option_and_then coefficient_of (shift_of number.0 exponent) }
+fn narrow_coefficient(number: i128, exponent: i32) -> Option<Coefficient>
+    ensures { result ≡ option_and_then coefficient_of (shift_of number exponent) }
 {
-    Coefficient::new(shift(number.0, exponent)?)
+    Coefficient::new(shift(number, exponent)?)
 }
 
-// The number times 2^exponent. It is at most 2^40 where it has at most 40 binary digits then.
-fn coefficient(number: Fx, exponent: i32) -> Option<Coefficient>
-    requires { (pos (bits_of number.0) +ℤ exponent) ≤ℤ pos 40 }
-    ensures { result ≡ scaled_cell number exponent }
+// The number times 2^exponent. It is at most 2^40 where it then has at most 40 binary digits.
+fn coefficient(number: i128, exponent: i32) -> Option<Coefficient>
+    requires { (pos (bits_of number) +ℤ exponent) ≤ℤ pos 40 }
+    ensures { result ≡ option_and_then cell_of (shift_of number exponent) }
 {
     narrow_coefficient(number, exponent)
 }
 
 // A term of a row with an exponent by which its terms have at most 32 binary digits, scaled.
-#[tactic(auto, unfolding(crate::specs::Appending::scaled_term))]
+#[tactic(auto, unfolding(crate::specs::Appending::scaled_term, crate::specs::Scaling::scaled_cell))]
 fn scaled_term(exponents: &[i32], exponent: i32, term: (u32, Fx)) -> Option<(u32, Coefficient)>
     requires exponents { AreUpTo 1000 exponents.now }
     requires least { negsuc 1299 ≤ℤ exponent }
@@ -90,7 +91,7 @@ fn scaled_term(exponents: &[i32], exponent: i32, term: (u32, Fx)) -> Option<(u32
     ensures { result ≡ scaled_term exponents.now exponent term }
 {
     let power = power(exponent, exponent_at(exponents, term.0 as usize));
-    Some((term.0, coefficient(term.1, power)?))
+    Some((term.0, coefficient(term.1.0, power)?))
 }
 
 // The terms of a row, scaled.
@@ -117,13 +118,37 @@ fn scaled_terms(
     Ok(Some(found))
 }
 
+// Puts a row behind the others, which makes a table of a table.
+fn put_row(
+    table: &mut Table,
+    exponent: i32,
+    terms: List<(u32, Coefficient)>,
+    sides: Sides,
+) -> Result<(), Memory>
+    requires whole { IsTable table.old }
+    requires rising { shape.AreRising 0 (length table.old.costs) terms }
+    requires least { negsuc 1299 ≤ℤ exponent }
+    requires greatest { exponent ≤ℤ pos 1300 }
+    ensures value { OnOk result (table.new ≡ with_row exponent terms sides table.old) }
+    ensures whole { OnOk result (IsTable table.new) }
+    ensures small { OnOk result ((most : ℕ) → AreSmall most table.old.scales → AreSmall most table.new.scales) }
+    ensures count { OnOk result (length table.new.costs ≡ length table.old.costs) }
+{
+    push_row(table, exponent, terms, sides)
+}
+
 /// Puts a row of a program behind the others: its terms and sides, scaled, and its slack, which is
 /// basic. The answer is false exactly where a number leaves its range: nothing is promised of the
 /// table then. [`Memory`] where memory was refused.
 #[tactic(auto, unfolding(crate::specs::Appending::appended_row))]
 fn append_row(alloc: Global, table: &mut Table, row: &LpRow) -> Result<bool, Memory>
+    requires whole { IsTable table.old }
     requires small { AreSmall 1000 table.old.scales }
+    requires rising { AreRising 0 (length table.old.costs) row.now.terms }
     ensures value { IfOk result (λ made. Gives made (appended_row row.now table.old) table.new) }
+    ensures whole { IfOk result (λ made. made ≡ true → IsTable table.new) }
+    ensures small { IfOk result (λ made. made ≡ true → (most : ℕ) → AreSmall most table.old.scales → AreSmall most table.new.scales) }
+    ensures count { IfOk result (λ made. made ≡ true → length table.new.costs ≡ length table.old.costs) }
 {
     let terms = row.terms.as_slice();
     let exponent = row_scale(table.scales.columns.as_slice(), terms);
@@ -131,7 +156,7 @@ fn append_row(alloc: Global, table: &mut Table, row: &LpRow) -> Result<bool, Mem
     let sides = scaled_sides(exponent + table.scales.values, row);
     match (scaled, sides) {
         (Some(scaled), Some(sides)) => {
-            push_row(table, exponent, scaled, sides)?;
+            put_row(table, exponent, scaled, sides)?;
             Ok(true)
         }
         _ => Ok(false),
@@ -148,7 +173,7 @@ pub fn append(alloc: Global, table: &mut Table, rows: &[LpRow]) -> Result<bool, 
     ensures value { IfOk result (λ made. Gives made (appended rows.now table.old) table.new) }
     ensures whole { IfOk result (λ made. made ≡ true → IsTable table.new) }
     ensures small { IfOk result (λ made. made ≡ true → (most : ℕ) → AreSmall most table.old.scales → AreSmall most table.new.scales) }
-    ensures columns { IfOk result (λ made. made ≡ true → length table.new.costs ≡ length table.old.costs) }
+    ensures count { IfOk result (λ made. made ≡ true → length table.new.costs ≡ length table.old.costs) }
 {
     for i in 0..rows.len() {
         if !append_row(alloc, table, &rows[i])? {

@@ -11,3 +11,4 @@ pub mod widening;
 
 pub use sides::set_sides;
 pub use tables::first;
+pub use widening::widen;

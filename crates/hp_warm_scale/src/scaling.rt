@@ -133,6 +133,17 @@ pub struct ScaledColumn {
     pub cost: Cell,
 }
 
+// A cost, scaled. None where it leaves the range of cells.
+fn scaled_cost(cost: Fx, costs: i32, exponent: i32) -> Option<Cell>
+    requires costs_least { negsuc 1299 ≤ℤ costs }
+    requires costs_greatest { costs ≤ℤ pos 1300 }
+    requires least { pos 0 ≤ℤ exponent }
+    requires greatest { exponent ≤ℤ pos 1000 }
+    ensures { result ≡ scaled_cell cost (costs +ℤ exponent +ℤ pos 8) }
+{
+    scaled_cell(cost, power(costs, exponent))
+}
+
 // The bounds and the cost of a column with the exponent `exponent`. None where one leaves its range.
 #[tactic(auto, unfolding(crate::specs::Scaling::scaled_column))]
 pub(crate) fn scaled_column(
@@ -151,6 +162,6 @@ pub(crate) fn scaled_column(
 {
     let low = scaled_value(column.low, values - exponent)?;
     let up = scaled_value(column.high, values - exponent)?;
-    let cost = scaled_cell(column.cost, power(costs, exponent))?;
+    let cost = scaled_cost(column.cost, costs, exponent)?;
     Some(ScaledColumn { low, up, cost })
 }

@@ -5,7 +5,7 @@ ghost use Rattle.hp_warm_table.specs.Shape.{IsTable};
 ghost use Rattle.hp_warm_scale.specs.Walks.{Gives};
 ghost use Rattle.hp_warm_scale.specs.Walks.{run, count_from};
 ghost use Rattle.hp_warm_scale.specs.First.{first_of};
-ghost use Rattle.hp_warm_scale.specs.Scaling.{column_step, with_column, blank_of, blank_bounds_of, blank_basis_of, stood, columns_table, AreSmall, numbers, is_negative};
+ghost use Rattle.hp_warm_scale.specs.Scaling.{column_step, with_column, blank_with, blank_of, blank_bounds_of, blank_basis_of, stood, columns_table, AreSmall, numbers, is_negative};
 
 use crate::appending::append;
 use crate::exponents::columns;
@@ -57,16 +57,17 @@ fn blank_basis(alloc: Global, count: usize) -> Result<Basis, Memory>
     })
 }
 
-// A table without rows, whose columns are 0.
-#[tactic(auto, unfolding(crate::specs::Scaling::blank_of))]
-fn blank(alloc: Global, count: usize, decisions: &[Column], rows: &[LpRow]) -> Result<Table, Memory>
+// A table without rows, whose columns are 0, with exponents of columns, costs and values.
+fn blank_with(
+    alloc: Global,
+    count: usize,
+    columns: List<i32>,
+    costs: i32,
+    values: i32,
+) -> Result<Table, Memory>
     requires few { count ≤ 1199 }
-    requires decisions { length decisions.now ≤ count }
-    ensures { IfOk result (λ table. table ≡ blank_of count decisions.now rows.now) }
+    ensures { IfOk result (λ table. table ≡ blank_with count columns costs values) }
 {
-    let columns = columns(alloc, count, decisions, rows)?;
-    let costs = costs_scale(columns.as_slice(), decisions);
-    let values = values_scale(columns.as_slice(), decisions);
     Ok(Table {
         scales: Scales {
             rows: List::new(alloc),
@@ -83,6 +84,22 @@ fn blank(alloc: Global, count: usize, decisions: &[Column], rows: &[LpRow]) -> R
         values: repeated(alloc, count, Quantity::zero())?,
         weak: false,
     })
+}
+
+// The same by the exponents for some decisions and rows.
+#[tactic(auto, unfolding(crate::specs::Scaling::blank_of))]
+fn blank(alloc: Global, count: usize, decisions: &[Column], rows: &[LpRow]) -> Result<Table, Memory>
+    requires few { count ≤ 1199 }
+    requires decisions { length decisions.now ≤ count }
+    ensures value { IfOk result (λ table. table ≡ blank_of count decisions.now rows.now) }
+    ensures whole { IfOk result IsTable }
+    ensures small { IfOk result (λ table. AreSmall 512 table.scales) }
+    ensures count { IfOk result (λ table. length table.costs ≡ count) }
+{
+    let columns = columns(alloc, count, decisions, rows)?;
+    let costs = costs_scale(columns.as_slice(), decisions);
+    let values = values_scale(columns.as_slice(), decisions);
+    blank_with(alloc, count, columns, costs, values)
 }
 
 // Writes the bounds, the cost and the reduced cost of column j, which is nonbasic at place j.

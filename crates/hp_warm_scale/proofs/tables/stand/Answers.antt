@@ -10,7 +10,7 @@ loop-j-preserved c =
     let n = length-map c.args.reduced.now is_negative in
     record {
       count = length-set c.loop-j.high c.loop-j.j _ ∙ c.loop-j.invariant.count;
-      value = write_more (map is_negative c.args.reduced.now) c.args.high.now c.loop-j.high c.loop-j.j _ (is_negative (pos 0)) (omega (arith, n, c.loop-j-test.true)) (omega (arith, c.loop-j-test.true, c.requires)) (?) c.loop-j.invariant.value;
+      value = write_more (map is_negative c.args.reduced.now) c.args.high.now c.loop-j.high c.loop-j.j _ (is_negative (pos 0)) (omega (arith, n, c.loop-j-test.true)) (omega (arith, c.loop-j-test.true, c.requires)) (c.is_negative.ensures ∙ ap is_negative (c.index-reduced-j.is ∙ sym (get_or_default c.args.reduced.now c.loop-j.j (pos 0) c.index-reduced-j.result c.loop-j-test.true)) ∙ sym (get_or-map is_negative c.args.reduced.now c.loop-j.j (pos 0))) c.loop-j.invariant.value;
     }
 
 pub returns : goal.returns
