@@ -1,0 +1,6 @@
+pub mod Chains
+pub mod Fitting
+pub mod Going
+pub mod Steps
+pub mod Turns
+pub mod Violations
