@@ -185,3 +185,45 @@ cuts_scales = refl
 cuts_costs : option_map (λ (t : Table). t.reduced) (option_and_then (widened with_cuts) (first_of reference)) ≡ Some (pos 0 ∷ pos 824633720832 ∷ pos 1099511627776 ∷ [])
 unfolding with_row spans_of pass_of columns_of count_leading_zeros scaled_value scaled_cell costs_scale values_scale scaled_column column_step blank_of columns_table scaled_sides row_scale scaled_term scaled_terms appended_row first_of shift_up shift_down top_of cut_spans rescaled widened
 cuts_costs = refl
+
+-- rows that are nearly parallel
+abbrev parallel : StageLp
+parallel =
+    record {
+      columns = record { low = number (negsuc 9223372036854775807); high = number (pos 9223372036854775808); cost = number (pos 4294967296) } ∷ record { low = number (negsuc 9223372036854775807); high = number (pos 9223372036854775808); cost = number (pos 4294967296) } ∷ record { low = number (negsuc 9223372036854775807); high = number (pos 9223372036854775808); cost = number (pos 4294967296) } ∷ record { low = number (negsuc 9223372036854775807); high = number (pos 9223372036854775808); cost = number (pos 4294967296) } ∷ [];
+      rows = record { low = Some (number (pos 0)); high = Some (number (pos 0)); terms = (0, number (pos 4294967296)) ∷ (1, number (pos 4294967296)) ∷ [] } ∷ record { low = Some (number (pos 0)); high = Some (number (pos 0)); terms = (0, number (pos 4295098368)) ∷ (1, number (pos 4294967296)) ∷ (2, number (negsuc 4294967295)) ∷ [] } ∷ record { low = Some (number (pos 4294967296)); high = Some (number (pos 4294967296)); terms = (2, number (pos 4294967296)) ∷ (3, number (pos 4294967296)) ∷ [] } ∷ record { low = Some (number (pos 8589934592)); high = Some (number (pos 8589934592)); terms = (2, number (pos 4295098368)) ∷ (3, number (pos 4294967296)) ∷ [] } ∷ [];
+      decisions = 4;
+      own = 4;
+    }
+
+parallel_rows : option_map (λ (t : Table). t.scales.rows) (first_of parallel) ≡ Some (negsuc 0 ∷ negsuc 0 ∷ negsuc 0 ∷ negsuc 0 ∷ [])
+unfolding with_row spans_of pass_of columns_of count_leading_zeros scaled_value scaled_cell costs_scale values_scale scaled_column column_step blank_of columns_table scaled_sides row_scale scaled_term scaled_terms appended_row first_of shift_up shift_down
+parallel_rows = refl
+
+parallel_values : option_map (λ (t : Table). t.scales.values) (first_of parallel) ≡ Some (negsuc 9)
+unfolding with_row spans_of pass_of columns_of count_leading_zeros scaled_value scaled_cell costs_scale values_scale scaled_column column_step blank_of columns_table scaled_sides row_scale scaled_term scaled_terms appended_row first_of shift_up shift_down
+parallel_values = refl
+
+-- a reservoir, a turbine and a plant, and a successor's column that stands at 0
+abbrev own_rows : StageLp
+own_rows =
+    record {
+      columns = record { low = number (pos 0); high = number (pos 42949672960); cost = number (pos 0) } ∷ record { low = number (pos 0); high = number (pos 34359738368); cost = number (pos 0) } ∷ record { low = number (pos 0); high = number (pos 85899345920); cost = number (pos 21474836480) } ∷ record { low = number (pos 0); high = number (pos 0); cost = number (pos 0) } ∷ [];
+      rows = record { low = Some (number (pos 21474836480)); high = Some (number (pos 21474836480)); terms = (0, number (pos 4294967296)) ∷ (1, number (pos 4294967296)) ∷ [] } ∷ record { low = Some (number (pos 38654705664)); high = Some (number (pos 38654705664)); terms = (1, number (pos 4294967296)) ∷ (2, number (pos 4294967296)) ∷ [] } ∷ [];
+      decisions = 3;
+      own = 2;
+    }
+
+-- the same with two cuts, of which one has no other term
+abbrev two_cuts : StageLp
+two_cuts =
+    record {
+      columns = record { low = number (pos 0); high = number (pos 42949672960); cost = number (pos 0) } ∷ record { low = number (pos 0); high = number (pos 34359738368); cost = number (pos 0) } ∷ record { low = number (pos 0); high = number (pos 85899345920); cost = number (pos 21474836480) } ∷ record { low = number (negsuc 214748364799); high = number (pos 429496729600); cost = number (pos 4294967296) } ∷ [];
+      rows = record { low = Some (number (pos 21474836480)); high = Some (number (pos 21474836480)); terms = (0, number (pos 4294967296)) ∷ (1, number (pos 4294967296)) ∷ [] } ∷ record { low = Some (number (pos 38654705664)); high = Some (number (pos 38654705664)); terms = (1, number (pos 4294967296)) ∷ (2, number (pos 4294967296)) ∷ [] } ∷ record { low = Some (number (pos 0)); high = None; terms = (3, number (pos 4294967296)) ∷ [] } ∷ record { low = Some (number (pos 171798691840)); high = None; terms = (0, number (pos 21474836480)) ∷ (3, number (pos 4294967296)) ∷ [] } ∷ [];
+      decisions = 3;
+      own = 2;
+    }
+
+two_cuts_scales : option_map (λ (t : Table). t.scales) (option_and_then (widened two_cuts) (first_of own_rows)) ≡ Some (record { rows = negsuc 0 ∷ negsuc 0 ∷ negsuc 2 ∷ negsuc 2 ∷ []; columns = pos 0 ∷ pos 0 ∷ pos 0 ∷ pos 2 ∷ []; costs = negsuc 2; values = pos 0 })
+unfolding with_row spans_of pass_of columns_of count_leading_zeros scaled_value scaled_cell costs_scale values_scale scaled_column column_step blank_of columns_table scaled_sides row_scale scaled_term scaled_terms appended_row first_of shift_up shift_down top_of cut_spans rescaled widened
+two_cuts_scales = refl
