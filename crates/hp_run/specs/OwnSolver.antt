@@ -1,7 +1,8 @@
--- The solver of the program: the boxed dual simplex, which keeps nothing along a chain.
-use Rattle.std.specs.Prelude.{⊤}
+-- The solver of the program: the warm simplex, which keeps a table along a chain.
+use Rattle.std.specs.Prelude.{Option}
 use Rattle.hp_lp.specs.Chained.{Solving}
-use Rattle.hp_simplex.specs.Solve.{solve_of}
+use Rattle.hp_warm_table.specs.declared.table.Table.{Table}
+use Rattle.hp_warm_simplex.specs.Chains.{begun_of, next_of, started_of}
 
-abbrev pub own_solver : Solving ⊤ ⊤
-own_solver = record { started = λ lp. tt; begun = λ start lp. tt; next = λ chain lp. (solve_of lp, tt) }
+abbrev pub own_solver : Solving (Option Table) (Option Table)
+own_solver = record { started = started_of; begun = begun_of; next = next_of }

@@ -16,8 +16,8 @@ use crate::status::Status;
 use crate::task::Task;
 use crate::writing::put;
 use hp_outside::{Disk, FaultlessSource, Sink, Source};
-use hp_simplex::DualSimplex;
 use hp_solver::Solver;
+use hp_warm_simplex::WarmSimplex;
 use std::alloc::Global;
 use std::thread::Threads;
 
@@ -58,7 +58,7 @@ pub fn run_with<R: Threads + Sync, I: Source, D: Disk, O: Sink, V: Solver>(
     act(rt, alloc, words, problem, journal, out, solver)
 }
 
-/// Does what the words say, as [`run_with`] by the boxed dual simplex.
+/// Does what the words say, as [`run_with`] by the warm simplex.
 pub fn run<R: Threads + Sync, I: Source, D: Disk, O: Sink>(
     rt: &R,
     alloc: Global,
@@ -80,7 +80,7 @@ pub fn run<R: Threads + Sync, I: Source, D: Disk, O: Sink>(
     ensures any_moment { OfTask (I.left problem.old) (D.store journal.old).reads (asked words.now) (λ bytes kept. LeavesMine own_solver bytes kept (D.store journal.old) (D.store journal.new)) }
     ensures resumed { OfTask (I.left problem.old) (D.store journal.old).reads (asked words.now) (λ bytes kept. IsResumed own_solver result bytes kept (D.store journal.new) (O.taken out.old) (O.taken out.new)) }
 {
-    run_with(rt, alloc, words, problem, journal, out, &DualSimplex)
+    run_with(rt, alloc, words, problem, journal, out, &WarmSimplex)
 }
 
 /// Does what the words say, as [`run`], over bytes in memory as the problem: it never ends as ReadFault.
