@@ -1,5 +1,5 @@
 -- A table has a row for each row of its program.
-use Rattle.std.proofs.Common.{◌≡◌, ℕ, suc, ◌+◌, ◌-◌, ◌≤◌, ℤ, ◌+ℤ◌, Bool, true, false, List, [], ◌∷◌, ◌++◌, length, length-append, take, drop, Option, Some, None, nat_lt, if◌then◌else◌, arith, refl, ap, sym, subst, ◌∙◌}
+use Rattle.std.proofs.Common.{◌≡◌, ℕ, suc, ◌+◌, ◌≤◌, ℤ, ◌+ℤ◌, Bool, true, false, List, [], ◌∷◌, length, length-append, take, drop, Option, Some, None, nat_lt, if◌then◌else◌, arith, refl, ap, sym, ◌∙◌}
 use Rattle.std.specs.Option.{option_map, option_and_then}
 use Rattle.std.proofs.lemmas.List.{length-take-le, length-drop}
 use Rattle.hp_solver.specs.declared.stage_lp.Column.{Column}
@@ -8,7 +8,7 @@ use Rattle.hp_solver.specs.declared.stage_lp.StageLp.{StageLp}
 use Rattle.hp_warm_table.specs.declared.table.Table.{Table}
 use Rattle.hp_warm_table.proofs.Each.{map_some, some_same}
 use Rattle.hp_warm_scale.specs.Walks.{run}
-use Rattle.hp_warm_scale.specs.Scaling.{with_column, scaled_column, column_step, blank_of, stood, columns_table}
+use Rattle.hp_warm_scale.specs.Scaling.{with_column, column_step, blank_of, stood, columns_table}
 use Rattle.hp_warm_scale.specs.Appending.{scaled_sides, scaled_terms, row_scale, with_row, appended_row, appended}
 use Rattle.hp_warm_scale.specs.First.{first_of}
 use Rattle.hp_warm_scale.specs.Widening.{rescaled, widened}

@@ -1,5 +1,5 @@
 -- Tables that suit or fit a program suit or fit others.
-use Rattle.std.proofs.Common.{◌≡◌, ◌≤◌, List, length, Option, Some, None, Result, Ok, Err, IfOk, IfSome, arith, ap, sym, subst, ◌∙◌}
+use Rattle.std.proofs.Common.{◌≡◌, List, length, Option, Some, None, Result, Ok, Err, IfOk, IfSome, arith, ap, sym, subst, ◌∙◌}
 use Rattle.std.proofs.lemmas.List.{length-map}
 use Rattle.hp_solver.specs.declared.stage_lp.LpRow.{LpRow}
 use Rattle.hp_solver.specs.declared.stage_lp.StageLp.{StageLp}

@@ -1,20 +1,18 @@
 -- Turns on a table with the sides of a program.
-use Rattle.std.proofs.Common.{◌≡◌, ℕ, ◌+◌, ◌*◌, pos, Bool, true, false, length, replicate, Option, None, Result, Ok, Err, IfOk, refl, ap, sym, subst, ◌∙◌}
+use Rattle.std.proofs.Common.{◌≡◌, ◌+◌, ◌*◌, pos, true, false, length, replicate, Option, None, Result, IfOk, refl, ap, sym, subst, ◌∙◌}
 use Rattle.std.proofs.lemmas.List.{length-replicate}
 use Rattle.hp_solver.specs.declared.stage_lp.StageLp.{StageLp}
 use Rattle.hp_solver.specs.declared.stage_lp.Answer.{Answer}
-use Rattle.hp_warm_table.specs.declared.table.Scales.{Scales}
 use Rattle.hp_warm_table.specs.declared.table.Table.{Table}
 use Rattle.hp_warm_table.specs.Shape.{IsTable}
 use Rattle.hp_warm_scale.specs.Scaling.{AreSmall}
 use Rattle.hp_warm_scale.specs.Appending.{sided, with_bounds}
 use Rattle.hp_warm_rebuild.specs.Kept.{KeepsProgram}
-use Rattle.hp_warm_simplex.specs.Fitting.{Fits, IsHeld, IsWorked}
+use Rattle.hp_warm_simplex.specs.Fitting.{Fits, IsWorked}
 use Rattle.hp_warm_simplex.specs.Turns.{Went, went, turns}
 use Rattle.hp_warm_simplex.specs.Going.{trusted, by_sides, go_of, cleared}
 use Rattle.hp_warm_simplex.specs.Steps.{Ends}
 use Rattle.hp_warm_simplex.proofs.Ending.{ends_none}
-use Rattle.hp_warm_simplex.proofs.Fitting.{still_fits}
 
 pub trusted_table : (t : Table) → IsTable t → IsTable (trusted t)
 trusted_table t s = record {

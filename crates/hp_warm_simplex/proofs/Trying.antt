@@ -1,13 +1,12 @@
 -- Attempts go by what turns leave.
-use Rattle.std.proofs.Common.{◌≡◌, Option, Some, None, refl, ap, sym, subst, ◌∙◌}
+use Rattle.std.proofs.Common.{◌≡◌, Option, Some, None, ap, sym, ◌∙◌}
 use Rattle.hp_solver.specs.declared.stage_lp.StageLp.{StageLp}
 use Rattle.hp_solver.specs.declared.stage_lp.Answer.{Answer}
 use Rattle.hp_warm_table.specs.declared.table.Table.{Table}
 use Rattle.hp_warm_rebuild.specs.Clean.{clean_of}
 use Rattle.hp_warm_rebuild.specs.Standings.{rebuilt_of}
-use Rattle.hp_warm_simplex.specs.declared.attempts.Attempt.{Attempt}
 use Rattle.hp_warm_simplex.specs.Fitting.{IsHeld}
-use Rattle.hp_warm_simplex.specs.Turns.{Went, went}
+use Rattle.hp_warm_simplex.specs.Turns.{Went}
 use Rattle.hp_warm_simplex.specs.Going.{restored_of}
 use Rattle.hp_warm_simplex.specs.Steps.{Ends}
 use Rattle.hp_warm_simplex.specs.Chains.{replaced_by, replaced, tried, unless_good, warm_attempt, readied_by, readied}

@@ -1,5 +1,5 @@
 -- Turns on a table with the sides of a program.
-use Rattle.std.specs.Prelude.{ℕ, ◌+◌, ◌*◌, ℤ, pos, Bool, true, false, length, replicate, Option, None}
+use Rattle.std.specs.Prelude.{◌+◌, ◌*◌, pos, Bool, true, false, length, replicate, Option, None}
 use Rattle.hp_solver.specs.declared.stage_lp.StageLp.{StageLp}
 use Rattle.hp_warm_table.specs.declared.table.Table.{Table}
 use Rattle.hp_warm_scale.specs.Appending.{sided, with_bounds}

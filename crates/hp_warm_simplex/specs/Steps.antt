@@ -1,10 +1,9 @@
 -- What a step in place comes to.
-use Rattle.std.specs.Prelude.{◌≡◌, ◌<◌, ◌≤◌, ◌^◌, ℕ, ℤ, nat_abs, List, length, Option, Some, None, All, ⊤}
+use Rattle.std.specs.Prelude.{◌≡◌, ◌<◌, ◌≤◌, ◌^◌, ℕ, ℤ, nat_abs, List, length, Option, Some, None, ⊤}
 use Rattle.hp_num.specs.Sums.{entry}
 use Rattle.hp_solver.specs.declared.stage_lp.Answer.{Answer}
 use Rattle.hp_warm_table.specs.declared.table.Table.{Table}
 use Rattle.hp_warm_answers.specs.Enters.{AreThere}
-use Rattle.hp_warm_simplex.specs.declared.violations.Violation.{Violation}
 use Rattle.hp_warm_simplex.specs.declared.looking.Glance.{Glance}
 use Rattle.hp_warm_simplex.specs.declared.looking.Glance.TheVariants as glances
 use Rattle.hp_warm_simplex.specs.declared.looking.Look.{Look}

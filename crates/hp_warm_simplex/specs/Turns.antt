@@ -1,5 +1,5 @@
 -- Turns of the bounded dual simplex method (Lemke, 1954; Wagner, 1958), with bound flips (Maros, 2003).
-use Rattle.std.specs.Prelude.{ℕ, zero, suc, ◌+◌, ◌*◌, ℤ, Bool, true, false, List, length, Option, Some, None, if◌then◌else◌}
+use Rattle.std.specs.Prelude.{ℕ, zero, suc, ℤ, Bool, true, false, List, length, Option, Some, None, if◌then◌else◌}
 use Rattle.hp_solver.specs.declared.stage_lp.StageLp.{StageLp}
 use Rattle.hp_solver.specs.declared.stage_lp.Answer.{Answer}
 use Rattle.hp_warm_table.specs.declared.table.Table.{Table}

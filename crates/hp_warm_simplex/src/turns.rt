@@ -92,7 +92,12 @@ fn mend(alloc: Global, lp: &StageLp, table: &mut Table, room: &mut Room) -> Resu
 
 // One turn.
 #[tactic(auto, unfolding(crate::specs::Turns::turn_of), using(crate::proofs::Fitting::still_fits))]
-fn take_turn(alloc: Global, lp: &StageLp, table: &mut Table, room: &mut Room) -> Result<Turn, Memory>
+fn take_turn(
+    alloc: Global,
+    lp: &StageLp,
+    table: &mut Table,
+    room: &mut Room,
+) -> Result<Turn, Memory>
     requires fits { Fits table.old lp.now }
     requires room { IsRoomy room.old table.old }
     ensures fits { Fits table.new lp.now }

@@ -136,8 +136,7 @@ impl Solver for WarmSimplex {
 
     fn solve(&self, alloc: Global, chain: &mut Chain, lp: &StageLp) -> Result<Answer, Memory> {
         let table = chain.table.take();
-        let (answer, table) =
-            next_answer(alloc, lp, table, &mut chain.room, &mut chain.plain)?;
+        let (answer, table) = next_answer(alloc, lp, table, &mut chain.room, &mut chain.plain)?;
         chain.table = table;
         Ok(answer)
     }

@@ -1,4 +1,4 @@
-use Rattle.std.proofs.Common.{◌≡◌, true, false, rules, ap, sym, ◌∙◌}
+use Rattle.std.proofs.Common.{◌≡◌, true, false, rules, ap, ◌∙◌}
 use Rattle.hp_warm_table.specs.declared.table.Table.{Table}
 use Rattle.hp_warm_scale.specs.Appending.{sided}
 use Rattle.hp_warm_simplex.specs.Going.{trusted}

@@ -1,5 +1,5 @@
-use Rattle.std.proofs.Common.{◌≡◌, Some, length, rules, ◌∙◌}
-use Rattle.hp_warm_simplex.specs.Turns.{passes, shows, stops, glance_of, look_from}
+use Rattle.std.proofs.Common.{◌≡◌, length, rules, ◌∙◌}
+use Rattle.hp_warm_simplex.specs.Turns.{passes, shows, stops, glance_of}
 use Rattle.hp_warm_simplex.proofs.Steps.{look_passes, look_finds, look_fails}
 use Rattle.hp_warm_simplex.proofs.looking.inspect_all.Goals as goal
 

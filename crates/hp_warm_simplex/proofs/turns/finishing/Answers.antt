@@ -1,4 +1,4 @@
-use Rattle.std.proofs.Common.{◌≡◌, true, Some, rules, subst}
+use Rattle.std.proofs.Common.{◌≡◌, true, rules, subst}
 use Rattle.hp_warm_answers.specs.Folds.{ReachesOrKeeps}
 use Rattle.hp_warm_answers.specs.Finish.{finish_of}
 use Rattle.hp_warm_simplex.proofs.Ending.{held_worked, finished_held, finished_fits, finishing_went}
