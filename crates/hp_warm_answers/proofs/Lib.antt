@@ -1,0 +1,7 @@
+pub mod Digits
+pub mod FarShifts
+pub mod Small
+pub mod Tops
+pub mod Walks
+pub mod WorkedAnswers
+pub mod WorkedProofs

@@ -1,0 +1,243 @@
+// The duals of a row that nothing brings back to its bound.
+ghost use Rattle.std.specs.Prelude.{◌≡◌, ◌<◌, ◌≤◌, ◌+◌, ◌^◌, ◌+ℤ◌, ◌-ℤ◌, pos, nat_abs, length, map, IfOk, IfSome, None, OnOk};
+ghost use Rattle.std.specs.Option.{IsSome};
+ghost use Rattle.hp_num.specs.Sums.{entry};
+ghost use Rattle.hp_warm_table.specs.Shape.{IsTable, variables};
+ghost use Rattle.hp_warm_table.specs.Numbers.{bits_of, shift_of};
+ghost use Rattle.hp_warm_table.specs.Each.{each_from};
+ghost use Rattle.hp_warm_answers.specs.Ray.{own_factor, turned, factor_by, factor_at, greater, with_digits, greatest_from, or_zero, top_of, ray_dual, ray_with, where_proved, ray_of};
+
+use crate::found::{place_of, slack_of};
+use crate::proving::{clipped, proves};
+use crate::shifting::shift_by;
+use hp_num::{List, Memory};
+use hp_solver::{Answer, Fx, Kind, LpRow, StageLp};
+use hp_warm_table::numbers::bits;
+use hp_warm_table::{Cell, Scales, Table};
+use std::alloc::Global;
+
+// The factor of the violated variable's own row.
+fn own_factor(above: bool) -> i64
+    ensures value { result ≡ own_factor above }
+    ensures small { nat_abs result < 2 ^ 60 }
+{
+    if above { -(1 << 40) } else { 1 << 40 }
+}
+
+// A cell of the line, with the other sign where the variable is below its bound.
+fn turned(above: bool, cell: Cell) -> i64
+    ensures value { result ≡ turned above cell }
+    ensures small { nat_abs result < 2 ^ 60 }
+{
+    if above { cell.number() } else { -cell.number() }
+}
+
+// The scaled factor of a row.
+#[tactic(auto, unfolding(crate::specs::Ray::factor_at))]
+fn factor_at(table: &Table, line: &[Cell], variable: usize, above: bool, row: usize) -> i64
+    requires sized { IsTable table.now }
+    requires line { length line.now ≡ length table.now.costs }
+    requires row { row < length table.now.rows }
+    ensures value { result ≡ factor_at table.now line.now variable above row }
+    ensures small { nat_abs result < 2 ^ 60 }
+{
+    let slack = slack_of(table, row);
+    if slack == variable {
+        return own_factor(above);
+    }
+    match place_of(table, slack) {
+        None => 0,
+        Some(place) => turned(above, line[place]),
+    }
+}
+
+// The greater of the greatest so far, if there is one, and a number.
+fn greater(best: Option<i64>, x: i64) -> i64
+    ensures { result ≡ greater best x }
+{
+    match best {
+        None => x,
+        Some(best) => { if best < x { x } else { best } }
+    }
+}
+
+// The greatest so far of digits and exponent, and those of a factor other than 0.
+fn with_digits(best: Option<i64>, factor: i64, exponent: i32) -> Option<i64>
+    requires { IfSome best (λ b. nat_abs b ≤ 2 ^ 32) }
+    ensures value { result ≡ with_digits best (bits_of factor) exponent }
+    ensures small { IfSome result (λ b. nat_abs b ≤ 2 ^ 32) }
+{
+    let digits = bits(i128::from(factor));
+    if digits == 0 {
+        best
+    } else {
+        Some(greater(best, i64::from(digits) + i64::from(exponent)))
+    }
+}
+
+// The greatest digits and exponent of all factors other than 0.
+fn greatest(
+    table: &Table,
+    line: &[Cell],
+    variable: usize,
+    above: bool,
+    exponents: &[i32],
+) -> Option<i64>
+    requires sized { IsTable table.now }
+    requires line { length line.now ≡ length table.now.costs }
+    requires rows { length exponents.now ≡ length table.now.rows }
+    ensures value { result ≡ greatest_from table.now line.now variable above 0 None exponents.now }
+    ensures small { IfSome result (λ b. nat_abs b ≤ 2 ^ 32) }
+{
+    let mut best = None;
+    for i in 0..exponents.len() {
+        best = with_digits(
+            best,
+            factor_at(table, line, variable, above, i),
+            exponents[i],
+        );
+    }
+    best
+}
+
+fn or_zero(best: Option<i64>) -> i64
+    requires { IfSome best (λ b. nat_abs b ≤ 2 ^ 32) }
+    ensures value { result ≡ or_zero best }
+    ensures small { nat_abs result ≤ 2 ^ 32 }
+{
+    match best {
+        None => 0,
+        Some(best) => best,
+    }
+}
+
+// The most binary digits that a factor has once it is no longer scaled.
+#[tactic(auto, unfolding(crate::specs::Ray::top_of))]
+fn top_of(table: &Table, line: &[Cell], variable: usize, above: bool) -> i64
+    requires sized { IsTable table.now }
+    requires line { length line.now ≡ length table.now.costs }
+    ensures value { result ≡ top_of table.now line.now variable above }
+    ensures small { nat_abs result ≤ 2 ^ 32 }
+{
+    or_zero(greatest(table, line, variable, above, table.scales.rows.as_slice()))
+}
+
+// By which power of two the factor of a row is multiplied.
+fn ray_exponent(scales: &Scales, row: usize, top: i64) -> i64
+    requires row { row < length scales.now.rows }
+    requires small { nat_abs top ≤ 2 ^ 32 }
+    ensures { result ≡ (entry scales.now.rows row +ℤ pos 52) -ℤ top }
+{
+    i64::from(scales.rows.as_slice()[row]) + 52 - top
+}
+
+// The factor of a row, no longer scaled, so that the greatest has 52 digits. It is always there.
+fn unscaled(
+    table: &Table,
+    line: &[Cell],
+    variable: usize,
+    above: bool,
+    top: i64,
+    row: usize,
+) -> Option<i128>
+    requires sized { IsTable table.now }
+    requires line { length line.now ≡ length table.now.costs }
+    requires row { row < length table.now.rows }
+    requires top { top ≡ top_of table.now line.now variable above }
+    requires small { nat_abs top ≤ 2 ^ 32 }
+    ensures value { result ≡ shift_of (factor_at table.now line.now variable above row) ((entry table.now.scales.rows row +ℤ pos 52) -ℤ top) }
+    ensures there { IsSome result }
+{
+    let factor = i128::from(factor_at(table, line, variable, above, row));
+    shift_by(factor, ray_exponent(&table.scales, row, top))
+}
+
+// The dual of a row. It is always there.
+#[tactic(auto, unfolding(crate::specs::Ray::ray_dual))]
+fn ray_dual(
+    table: &Table,
+    line: &[Cell],
+    variable: usize,
+    above: bool,
+    top: i64,
+    number: usize,
+    row: &LpRow,
+) -> Option<Fx>
+    requires sized { IsTable table.now }
+    requires line { length line.now ≡ length table.now.costs }
+    requires row { number < length table.now.rows }
+    requires top { top ≡ top_of table.now line.now variable above }
+    requires small { nat_abs top ≤ 2 ^ 32 }
+    ensures value { result ≡ ray_dual table.now line.now variable above top number row.now }
+    ensures there { IsSome result }
+{
+    let dual = unscaled(table, line, variable, above, top, number)?;
+    Some(clipped(row, Fx(dual)))
+}
+
+// The duals of all rows.
+fn ray_duals(
+    alloc: Global,
+    table: &Table,
+    line: &[Cell],
+    variable: usize,
+    above: bool,
+    rows: &[LpRow],
+) -> Result<Option<List<Fx>>, Memory>
+    requires sized { IsTable table.now }
+    requires line { length line.now ≡ length table.now.costs }
+    requires rows { length rows.now ≡ length table.now.rows }
+    ensures value { IfOk result (λ found. found
+        ≡ each_from (ray_dual table.now line.now variable above (top_of table.now line.now variable above)) 0 rows.now) }
+    ensures there { IfOk result (λ found. IsSome found) }
+{
+    let top = top_of(table, line, variable, above);
+    let mut found = List::new(alloc);
+    for i in 0..rows.len() {
+        match ray_dual(table, line, variable, above, top, i, &rows[i]) {
+            Some(dual) => found.push(dual)?,
+            None => return Ok(None),
+        }
+    }
+    Ok(Some(found))
+}
+
+// The answer by duals, where they prove that no point keeps all rows.
+fn where_proved(alloc: Global, lp: &StageLp, duals: List<Fx>) -> Result<Option<Answer>, Memory>
+    ensures { IfOk result (λ answer. answer ≡ where_proved lp.now duals) }
+{
+    if !proves(alloc, lp, duals.as_slice())? {
+        return Ok(None);
+    }
+    Ok(Some(Answer {
+        kind: Kind::Ray,
+        point: lp.lows(alloc)?,
+        duals,
+    }))
+}
+
+/// The answer to a program by a variable that violates its lower bound, or its upper one where `above` is true, and
+/// that nothing brings back. The line has the cells by which the variable depends on the nonbasic ones, one for each
+/// place. The duals of the rows are the factors by which a sum of the rows shows that, clipped; the greatest factor has
+/// 52 binary digits, so each of them is there. None where they do not prove that no point keeps all rows. [`Memory`]
+/// where memory was refused.
+#[tactic(auto, unfolding(crate::specs::Ray::ray_of))]
+pub fn ray(
+    alloc: Global,
+    table: &Table,
+    line: &[Cell],
+    variable: usize,
+    above: bool,
+    lp: &StageLp,
+) -> Result<Option<Answer>, Memory>
+    requires sized { IsTable table.now }
+    requires line { length line.now ≡ length table.now.costs }
+    requires rows { length lp.now.rows ≡ length table.now.rows }
+    ensures answer { IfOk result (λ answer. answer ≡ ray_of table.now line.now variable above lp.now) }
+    ensures duals { OnOk result (IsSome (each_from (ray_dual table.now line.now variable above (top_of table.now line.now variable above)) 0 lp.now.rows)) }
+{
+    match ray_duals(alloc, table, line, variable, above, lp.rows.as_slice())? {
+        None => Ok(None),
+        Some(duals) => where_proved(alloc, lp, duals),
+    }
+}

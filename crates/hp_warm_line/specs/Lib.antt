@@ -1,0 +1,5 @@
+pub mod Activity
+pub mod Kept
+pub mod Line
+pub mod Pivot
+pub mod Refine

@@ -1,0 +1,216 @@
+// The point of a basis.
+ghost use Rattle.std.specs.Prelude.{◌≡◌, ◌^◌, ◌<◌, ◌≤◌, ◌+ℤ◌, length, nat_abs, All};
+ghost use Rattle.hp_warm_table.specs.Each.{each_from};
+ghost use Rattle.hp_warm_table.specs.Shape.{IsTable, variables};
+ghost use Rattle.hp_warm_table.specs.Updates.{Gives};
+ghost use Rattle.hp_warm_table.specs.Numbers.{down_of, value_of};
+ghost use Rattle.hp_warm_line.specs.Kept.{with_values};
+ghost use Rattle.hp_warm_line.specs.Refine.{IsWhole, stand_of, placed, stood, off, shift_at, shifts_of, moved_value, moved_values, stood_table, refined};
+
+use crate::sums::{activity, shares};
+use hp_num::List;
+use hp_warm_table::numbers::down;
+use hp_warm_table::{Bounds, Quantity, Square, Table};
+
+// The upper or the lower bound of a variable, 0 where it is absent.
+#[tactic(auto, unfolding(crate::specs::Refine::stand_of))]
+fn stand(bounds: &Bounds, high: bool, variable: usize) -> Quantity
+    requires whole { IsWhole bounds.now }
+    requires there { variable < length bounds.now.lows }
+    ensures { result ≡ stand_of bounds.now high variable }
+{
+    let bound = if high {
+        bounds.up(variable)
+    } else {
+        bounds.low(variable)
+    };
+    match bound {
+        Some(bound) => bound,
+        None => Quantity::zero(),
+    }
+}
+
+// Puts the variable at place j at its bound, where it is a column.
+#[tactic(auto, unfolding(crate::specs::Refine::placed))]
+fn place_value(
+    values: &mut List<Quantity>,
+    bounds: &Bounds,
+    high: &[bool],
+    j: usize,
+    variable: usize,
+)
+    requires whole { IsWhole bounds.now }
+    requires there { variable < length bounds.now.lows }
+    requires high { j < length high.now }
+    ensures value { values.new ≡ placed bounds.now high.now j variable values.old }
+    ensures count { length values.new ≡ length values.old }
+{
+    if variable < values.len() {
+        values.set(variable, stand(bounds, high[j], variable));
+    }
+}
+
+// Puts each nonbasic column at its bound.
+fn stand_all(values: &mut List<Quantity>, bounds: &Bounds, high: &[bool], nonbasic: &[usize])
+    requires whole { IsWhole bounds.now }
+    requires there { All (λ v. v < length bounds.now.lows) nonbasic.now }
+    requires high { length nonbasic.now ≡ length high.now }
+    ensures values { values.new ≡ stood bounds.now high.now 0 nonbasic.now values.old }
+    ensures count { length values.new ≡ length values.old }
+{
+    for j in 0..nonbasic.len() {
+        place_value(values, bounds, high, j, nonbasic[j]);
+    }
+}
+
+// The difference of a stand and the value of a row.
+fn off(stand: Quantity, found: Option<Quantity>) -> Option<Quantity>
+    ensures { result ≡ off stand found }
+{
+    let found = found?;
+    Quantity::new(i128::from(stand.number()) - i128::from(found.number()))
+}
+
+// The shift at a place.
+#[tactic(auto, unfolding(crate::specs::Refine::shift_at), using(crate::proofs::Inside::whole_bounds))]
+fn shift_at(table: &Table, j: usize, variable: usize) -> Option<Quantity>
+    requires sized { IsTable table.now }
+    requires place { j < length table.now.costs }
+    requires there { variable < variables table.now }
+    ensures { result ≡ shift_at table.now j variable }
+{
+    let columns = table.costs.len();
+    if variable < columns {
+        Some(Quantity::zero())
+    } else {
+        let high = table.basis.high.as_slice()[j];
+        let stand = stand(&table.bounds, high, variable);
+        off(stand, activity(table, variable - columns))
+    }
+}
+
+// Writes the shifts of all places.
+#[tactic(auto, unfolding(crate::specs::Refine::shifts_of))]
+fn write_shifts(table: &Table, shifts: &mut List<Quantity>) -> bool
+    requires sized { IsTable table.now }
+    requires count { length shifts.old ≡ length table.now.costs }
+    ensures count { length shifts.new ≡ length shifts.old }
+    ensures shifts { Gives result (shifts_of table.now) shifts.new }
+{
+    let nonbasic = table.basis.nonbasic.as_slice();
+    for j in 0..nonbasic.len() {
+        match shift_at(table, j, nonbasic[j]) {
+            Some(x) => shifts.set(j, x),
+            None => return false,
+        }
+    }
+    true
+}
+
+// A value with a sum of shares added.
+fn shifted(x: Quantity, sum: i128) -> Option<Quantity>
+    requires { nat_abs sum ≤ 2 ^ 126 }
+    ensures { result ≡ value_of (x +ℤ down_of sum) }
+{
+    Quantity::new(i128::from(x.number()) + down(sum))
+}
+
+// The value of a column after the shifts.
+#[tactic(auto, unfolding(crate::specs::Refine::moved_value))]
+fn moved_value(
+    places: &[Option<usize>],
+    lines: &Square,
+    shifts: &[Quantity],
+    v: usize,
+    x: Quantity,
+) -> Option<Quantity>
+    requires place { v < length places.now }
+    requires there { v < length lines.now }
+    requires count { length shifts.now ≡ length lines.now }
+    requires few { length lines.now ≤ 2 ^ 11 }
+    ensures { result ≡ moved_value places.now lines.now shifts.now v x }
+{
+    if places[v].is_none() {
+        shifted(x, shares(lines.row(v), shifts))
+    } else {
+        Some(x)
+    }
+}
+
+// Moves the values of the basic columns by the shifts.
+fn move_all(
+    values: &mut List<Quantity>,
+    places: &[Option<usize>],
+    lines: &Square,
+    shifts: &[Quantity],
+) -> bool
+    requires places { length values.old ≤ length places.now }
+    requires there { length values.old ≡ length lines.now }
+    requires count { length shifts.now ≡ length lines.now }
+    requires few { length lines.now ≤ 2 ^ 11 }
+    ensures count { length values.new ≡ length values.old }
+    ensures moved { Gives result
+        (each_from (moved_value places.now lines.now shifts.now) 0 values.old) values.new }
+{
+    for v in 0..values.len() {
+        match moved_value(places, lines, shifts, v, values.as_slice()[v]) {
+            Some(x) => values.set(v, x),
+            None => return false,
+        }
+    }
+    true
+}
+
+// Puts each nonbasic column of a table at its bound.
+#[tactic(auto, unfolding(crate::specs::Refine::stood_table), using(crate::proofs::Inside::whole_bounds, crate::proofs::Sized::sized_values))]
+fn stand_columns(table: &mut Table)
+    requires sized { IsTable table.old }
+    ensures sized { IsTable table.new }
+    ensures stood { table.new ≡ stood_table table.old }
+    ensures kept { table.new ≡ with_values table.old table.new.values }
+{
+    stand_all(
+        &mut table.values,
+        &table.bounds,
+        table.basis.high.as_slice(),
+        table.basis.nonbasic.as_slice(),
+    );
+}
+
+// Moves the values of a table's basic columns by the shifts.
+#[tactic(auto, unfolding(crate::specs::Refine::moved_values), using(crate::proofs::Sized::sized_values))]
+fn move_columns(table: &mut Table, shifts: &[Quantity]) -> bool
+    requires sized { IsTable table.old }
+    requires count { length shifts.now ≡ length table.old.costs }
+    ensures sized { IsTable table.new }
+    ensures kept { table.new ≡ with_values table.old table.new.values }
+    ensures moved { Gives result (moved_values table.old shifts.now) table.new.values }
+{
+    move_all(
+        &mut table.values,
+        table.basis.places.as_slice(),
+        &table.lines,
+        shifts,
+    )
+}
+
+/// Writes the values of the basis: a nonbasic column stands at its bound, and a basic one is moved
+/// by the shifts of all nonbasic slacks, by which their rows are off. The answer is false exactly
+/// where a value of a row, a shift or a value of a column has an absolute value of 2^55 or more:
+/// nothing is promised of the values then. All else of the table stays. `shifts` is for work: as
+/// many numbers as columns.
+#[tactic(auto, unfolding(crate::specs::Refine::refined))]
+pub fn refine(table: &mut Table, shifts: &mut List<Quantity>) -> bool
+    requires sized { IsTable table.old }
+    requires shifts { length shifts.old ≡ length table.old.costs }
+    ensures sized { IsTable table.new }
+    ensures shifts { length shifts.new ≡ length shifts.old }
+    ensures kept { table.new ≡ with_values table.old table.new.values }
+    ensures refined { Gives result (refined table.old) table.new.values }
+{
+    stand_columns(table);
+    if !write_shifts(table, shifts) {
+        return false;
+    }
+    move_columns(table, shifts.as_slice())
+}

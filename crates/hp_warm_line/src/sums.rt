@@ -1,0 +1,83 @@
+// Sums of products, and the value of a row.
+ghost use Rattle.std.specs.Prelude.{◌≡◌, ◌^◌, ◌+◌, ◌<◌, ◌≤◌, pos, ◌+ℤ◌, ◌*ℤ◌, length, nat_abs, All};
+ghost use Rattle.hp_num.specs.Sums.{at_terms, dot, entry};
+ghost use Rattle.hp_warm_table.specs.Shape.{IsTable};
+ghost use Rattle.hp_warm_line.specs.Activity.{row_value, activity_of};
+
+use hp_warm_table::numbers::{down, product};
+use hp_warm_table::{Cell, Coefficient, Quantity, Table};
+
+// A term's value.
+#[tactic(auto, using(crate::proofs::Products::term_small))]
+fn term(a: Coefficient, x: Quantity) -> i128
+    ensures value { result ≡ a *ℤ x }
+    ensures small { nat_abs result ≤ 2 ^ 95 }
+{
+    product(a.number(), x.number())
+}
+
+// A cell times a quantity.
+#[tactic(auto, using(crate::proofs::Products::share_small))]
+fn share(t: Cell, q: Quantity) -> i128
+    ensures value { result ≡ t *ℤ q }
+    ensures small { nat_abs result ≤ 2 ^ 115 }
+{
+    product(t.number(), q.number())
+}
+
+// A sum.
+pub(crate) fn plus(x: i128, y: i128) -> i128
+    requires left { nat_abs x ≤ 2 ^ 126 }
+    requires right { nat_abs y ≤ 2 ^ 115 }
+    ensures value { result ≡ x +ℤ y }
+    ensures small { nat_abs result ≤ nat_abs x + nat_abs y }
+{
+    x + y
+}
+
+// The sum of terms at the values x.
+fn terms_at(terms: &[(u32, Coefficient)], x: &[Quantity]) -> i128
+    requires inside { All (λ t. t.0 < length x.now) terms.now }
+    requires few { length terms.now ≤ 2 ^ 11 }
+    ensures value { result ≡ at_terms terms.now (entry x.now) }
+    ensures small { nat_abs result ≤ 2 ^ 106 }
+{
+    let mut sum: i128 = 0;
+    for k in 0..terms.len() {
+        sum = plus(sum, term(terms[k].1, x[terms[k].0 as usize]));
+    }
+    sum
+}
+
+// The sum of products of cells and quantities, as far as there are both.
+pub(crate) fn shares(line: &[Cell], q: &[Quantity]) -> i128
+    requires lengths { length line.now ≡ length q.now }
+    requires few { length line.now ≤ 2 ^ 11 }
+    ensures value { result ≡ dot line.now q.now }
+    ensures small { nat_abs result ≤ 2 ^ 126 }
+{
+    let mut sum: i128 = 0;
+    for j in 0..line.len() {
+        sum = plus(sum, share(line[j], q[j]));
+    }
+    sum
+}
+
+// The value of a row with these terms, at the values x.
+pub(crate) fn row_value(terms: &[(u32, Coefficient)], x: &[Quantity]) -> Option<Quantity>
+    requires inside { All (λ t. t.0 < length x.now) terms.now }
+    requires few { length terms.now ≤ 2 ^ 11 }
+    ensures { result ≡ row_value terms.now x.now }
+{
+    Quantity::new(down(terms_at(terms, x)))
+}
+
+/// The value of a row at the columns' values. None exactly where its absolute value is 2^55 or more.
+#[tactic(auto, using(crate::proofs::Inside::row_inside, crate::proofs::Inside::row_few))]
+pub fn activity(table: &Table, row: usize) -> Option<Quantity>
+    requires sized { IsTable table.now }
+    requires there { row < length table.now.rows }
+    ensures { result ≡ activity_of table.now row }
+{
+    row_value(table.rows.row(row), table.values.as_slice())
+}

@@ -1,0 +1,13 @@
+use Rattle.std.proofs.Common.{◌≡◌, pos, drop, length}
+use Rattle.hp_solver.specs.declared.stage_lp.LpRow.{LpRow}
+use Rattle.hp_warm_scale.specs.Walks.{walk}
+use Rattle.hp_warm_scale.specs.Exponents.{SpansBetween}
+use Rattle.hp_warm_scale.specs.Widening.{cut_spans, with_top, top_of, last_column}
+use Rattle.hp_warm_scale.proofs.widening.write_cut_spans.Given as goal
+
+abbrev pub invariant-loop-i : goal.invariant-loop-i
+invariant-loop-i l = record {
+  count : length l.spans ≡ length l.fn.spans;
+  between : SpansBetween (pos 0) (pos 640) l.spans;
+  value : cut_spans l.decisions (length l.fn.spans) l.exponents l.cuts ≡ walk (λ i ss (r : LpRow). with_top l.decisions ss (top_of l.exponents r.terms) (last_column r.terms)) l.i l.spans (drop l.i l.cuts);
+}

@@ -1,0 +1,118 @@
+-- Numbers of a program by the scales of a table, and the columns of the first table.
+use Rattle.std.specs.Prelude.{◌≡◌, ℕ, suc, ◌≤◌, ℤ, pos, negsuc, ◌+ℤ◌, ◌-ℤ◌, ◌≤ℤ◌, Bool, true, false, List, [], ◌∷◌, map, length, replicate, slice_set, Option, Some, None, int_lt, if◌then◌else◌}
+use Rattle.std.specs.Int.{int_min}
+use Rattle.std.specs.Ordering.{int_eq}
+use Rattle.std.specs.Option.{option_map, option_and_then}
+use Rattle.hp_num.specs.Sums.{entry, table}
+use Rattle.hp_solver.specs.declared.fixed.Fx.{Fx}
+use Rattle.hp_solver.specs.declared.stage_lp.Column.{Column}
+use Rattle.hp_solver.specs.declared.stage_lp.LpRow.{LpRow}
+use Rattle.hp_warm_table.specs.declared.table.Scales.{Scales}
+use Rattle.hp_warm_table.specs.declared.table.Bounds.{Bounds}
+use Rattle.hp_warm_table.specs.declared.table.Basis.{Basis}
+use Rattle.hp_warm_table.specs.declared.table.Table.{Table}
+use Rattle.hp_warm_table.specs.Numbers.{bits_of, cell_of, value_of, shift_of}
+use Rattle.hp_warm_scale.specs.declared.spans.Span.{Span}
+use Rattle.hp_warm_scale.specs.declared.scaling.ScaledColumn.{ScaledColumn}
+use Rattle.hp_warm_scale.specs.Walks.{run, count_from}
+use Rattle.hp_warm_scale.specs.Spans.{span_of}
+use Rattle.hp_warm_scale.specs.Exponents.{reach_of, AreUpTo, columns_of}
+
+-- a number times 2^k, as a point, a bound or a side; absent where it leaves their range
+unfoldable pub scaled_value : Fx → ℤ → Option ℤ
+scaled_value x k = option_and_then value_of (shift_of x.0 k)
+
+-- a number times 2^k, as a cell; absent where it leaves the range of cells
+unfoldable pub scaled_cell : Fx → ℤ → Option ℤ
+scaled_cell x k = option_and_then cell_of (shift_of x.0 k)
+
+-- how far the greatest is below a limit; 0 where there is none
+abbrev pub room : ℤ → Option Span → ℤ
+room limit None = pos 0
+room limit (Some s) = limit -ℤ s.greatest
+
+-- the binary digits of a scaled cost that is not 0
+abbrev pub cost_weight : List ℤ → ℕ → Column → Option ℤ
+cost_weight fs j c = if int_eq c.cost.0 (pos 0) then None else Some (pos (bits_of c.cost.0) +ℤ entry fs j)
+
+-- the exponent of costs, by the decisions
+unfoldable pub costs_scale : List ℤ → List Column → ℤ
+costs_scale fs decisions = room (pos 32) (span_of (cost_weight fs) decisions)
+
+-- the binary digits of a scaled box
+abbrev pub box_weight : List ℤ → ℕ → Column → Option ℤ
+box_weight fs j c = Some (pos (reach_of c) -ℤ entry fs j)
+
+-- the exponent of values, by the decisions
+unfoldable pub values_scale : List ℤ → List Column → ℤ
+values_scale fs decisions = int_min (pos 0) (room (pos 54) (span_of (box_weight fs) decisions))
+
+-- the bounds and the cost of a column whose exponent is f
+unfoldable pub scaled_column : Column → ℤ → ℤ → ℤ → Option ScaledColumn
+scaled_column c f g h =
+    option_and_then (λ low. option_and_then (λ up. option_map (λ cost. record { low = low; up = up; cost = cost }) (scaled_cell c.cost (g +ℤ f +ℤ pos 8))) (scaled_value c.high (h -ℤ f))) (scaled_value c.low (h -ℤ f))
+
+-- with the bounds, the cost and the reduced cost of column j, which is nonbasic at place j
+abbrev pub with_column : ℕ → ScaledColumn → Table → Table
+with_column j s t = record t {
+  costs = slice_set t.costs j s.cost;
+  reduced = slice_set t.reduced j s.cost;
+  bounds = record t.bounds { lows = slice_set t.bounds.lows j s.low; ups = slice_set t.bounds.ups j s.up };
+}
+
+-- the table with column j of a program
+unfoldable pub column_step : ℕ → Column → Table → Option Table
+column_step j c t = option_map (λ s. with_column j s t) (scaled_column c (entry t.scales.columns j) t.scales.costs t.scales.values)
+
+-- 0, 1, .. , n - 1
+abbrev pub numbers : ℕ → List ℕ
+numbers n = count_from 0 n
+
+abbrev pub blank_bounds_of : ℕ → Bounds
+blank_bounds_of n = record { lows = replicate n (pos 0); ups = replicate n (pos 0); has_low = replicate n true; has_up = replicate n true }
+
+abbrev pub blank_basis_of : ℕ → Basis
+blank_basis_of n = record { nonbasic = numbers n; places = map Some (numbers n); high = replicate n false }
+
+-- a table without rows, whose columns are 0, by the exponents of columns, costs and values
+abbrev pub blank_with : ℕ → List ℤ → ℤ → ℤ → Table
+blank_with n fs g h = record {
+  scales = record { rows = []; columns = fs; costs = g; values = h };
+  rows = [];
+  costs = replicate n (pos 0);
+  bounds = blank_bounds_of n;
+  basis = blank_basis_of n;
+  reduced = replicate n (pos 0);
+  lines = replicate n (replicate n (pos 0));
+  values = replicate n (pos 0);
+  weak = false;
+}
+
+-- the same with the exponents for some decisions and rows
+unfoldable pub blank_of : ℕ → List Column → List LpRow → Table
+blank_of n decisions rows =
+    let fs = columns_of n decisions rows in
+    blank_with n fs (costs_scale fs decisions) (values_scale fs decisions)
+
+abbrev pub is_negative : ℤ → Bool
+is_negative d = int_lt d (pos 0)
+
+-- each column stands at its upper bound where its reduced cost is negative
+abbrev pub stood : Table → Table
+stood t = record t { basis = record t.basis { high = map is_negative t.reduced } }
+
+-- the columns of the first table; absent where a number leaves its range
+unfoldable pub columns_table : ℕ → List Column → List LpRow → Option Table
+columns_table n decisions rows = option_map stood (run column_step 0 decisions (blank_of n decisions rows))
+
+abbrev pub AreRowScales : List ℤ → Type 0
+AreRowScales es = (i : ℕ) → (negsuc 1299 ≤ℤ entry es i) × (entry es i ≤ℤ pos 1300)
+
+-- the range of exponents: those of columns from 0 to `most`
+pub record AreSmall (most : ℕ) (s : Scales) : Type 0 where
+  pub columns : AreUpTo most s.columns
+  pub rows : AreRowScales s.rows
+  pub costs_least : negsuc 1299 ≤ℤ s.costs
+  pub costs_greatest : s.costs ≤ℤ pos 1300
+  pub values_least : negsuc 1299 ≤ℤ s.values
+  pub values_greatest : s.values ≤ℤ pos 0

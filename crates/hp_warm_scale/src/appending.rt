@@ -1,0 +1,184 @@
+// Rows that are put behind a table.
+ghost use Rattle.std.specs.Prelude.{◌≡◌, ℕ, ◌+◌, ◌+ℤ◌, ◌<◌, ◌≤◌, ◌≤ℤ◌, pos, negsuc, length, All, Some, true, IfOk, OnOk, IfSome};
+ghost use Rattle.hp_num.specs.Sums.{entry};
+ghost use Rattle.hp_solver.specs.Proper.{AreRising};
+ghost use Rattle.hp_solver.specs.declared.stage_lp.LpRow.{LpRow};
+ghost use Rattle.hp_warm_table.specs.Shape.{IsTable};
+ghost use Rattle.hp_warm_table.specs.Shape as shape;
+ghost use Rattle.hp_warm_scale.specs.Walks.{Gives};
+ghost use Rattle.std.specs.Option.{option_and_then};
+ghost use Rattle.hp_warm_table.specs.Numbers.{bits_of, cell_of, coefficient_of, shift_of};
+ghost use Rattle.hp_warm_scale.specs.Spans.{span_of, AreBetween};
+ghost use Rattle.hp_warm_scale.specs.Exponents.{weight_of, AreUpTo};
+ghost use Rattle.hp_warm_scale.specs.Scaling.{AreSmall};
+ghost use Rattle.hp_warm_scale.specs.Appending.{row_scale, scaled_term, scaled_terms, with_row, row_step, appended_row, appended, AreBelow};
+
+use crate::exponents::{exponent_at, weight};
+use crate::scaling::{power, room};
+use crate::sides::{Sides, scaled_sides};
+use crate::spans::{Span, join};
+use hp_num::{List, Memory};
+use hp_solver::{Fx, LpRow};
+use hp_warm_table::numbers::shift;
+use hp_warm_table::{Coefficient, Table};
+use std::alloc::Global;
+
+// The span of the binary digits of a row's terms.
+pub(crate) fn term_span(exponents: &[i32], terms: &[(u32, Fx)]) -> Option<Span>
+    requires { AreUpTo 1000 exponents.now }
+    ensures { result ≡ span_of (λ k t. Some (weight_of exponents.now t)) terms.now }
+{
+    let mut span = None;
+    for k in 0..terms.len() {
+        span = join(span, Some(weight(exponents, terms[k])));
+    }
+    span
+}
+
+// The exponent of a row.
+#[tactic(auto, unfolding(crate::specs::Appending::row_scale))]
+fn row_scale(exponents: &[i32], terms: &[(u32, Fx)]) -> i32
+    requires { AreUpTo 1000 exponents.now }
+    ensures value { result ≡ row_scale exponents.now terms.now }
+    ensures least { negsuc 1299 ≤ℤ result }
+    ensures greatest { result ≤ℤ pos 1300 }
+    ensures fits { AreBelow exponents.now result terms.now }
+{
+    room(32, term_span(exponents, terms))
+}
+
+// Puts a row behind the others.
+fn push_row(
+    table: &mut Table,
+    exponent: i32,
+    terms: List<(u32, Coefficient)>,
+    sides: Sides,
+) -> Result<(), Memory>
+    ensures { OnOk result (table.new ≡ with_row exponent terms sides table.old) }
+{
+    table.scales.rows.push(exponent)?;
+    table.rows.push(terms)?;
+    table.bounds.lows.push(sides.low)?;
+    table.bounds.ups.push(sides.up)?;
+    table.bounds.has_low.push(sides.has_low)?;
+    table.bounds.has_up.push(sides.has_up)?;
+    table.basis.places.push(None)?;
+    Ok(())
+}
+
+// The number times 2^exponent, as a coefficient.
+fn narrow_coefficient(number: i128, exponent: i32) -> Option<Coefficient>
+    ensures { result ≡ option_and_then coefficient_of (shift_of number exponent) }
+{
+    Coefficient::new(shift(number, exponent)?)
+}
+
+// The number times 2^exponent. It is at most 2^40 where it then has at most 40 binary digits.
+fn coefficient(number: i128, exponent: i32) -> Option<Coefficient>
+    requires { (pos (bits_of number) +ℤ exponent) ≤ℤ pos 40 }
+    ensures { result ≡ option_and_then cell_of (shift_of number exponent) }
+{
+    narrow_coefficient(number, exponent)
+}
+
+// A term of a row with an exponent by which its terms have at most 32 binary digits, scaled.
+#[tactic(auto, unfolding(crate::specs::Appending::scaled_term, crate::specs::Scaling::scaled_cell))]
+fn scaled_term(exponents: &[i32], exponent: i32, term: (u32, Fx)) -> Option<(u32, Coefficient)>
+    requires exponents { AreUpTo 1000 exponents.now }
+    requires least { negsuc 1299 ≤ℤ exponent }
+    requires greatest { exponent ≤ℤ pos 1300 }
+    requires fits { (exponent +ℤ weight_of exponents.now term) ≤ℤ pos 32 }
+    ensures { result ≡ scaled_term exponents.now exponent term }
+{
+    let power = power(exponent, exponent_at(exponents, term.0 as usize));
+    Some((term.0, coefficient(term.1.0, power)?))
+}
+
+// The terms of a row, scaled.
+#[tactic(auto, unfolding(crate::specs::Appending::scaled_terms))]
+fn scaled_terms(
+    alloc: Global,
+    exponents: &[i32],
+    exponent: i32,
+    terms: &[(u32, Fx)],
+) -> Result<Option<List<(u32, Coefficient)>>, Memory>
+    requires exponents { AreUpTo 1000 exponents.now }
+    requires least { negsuc 1299 ≤ℤ exponent }
+    requires greatest { exponent ≤ℤ pos 1300 }
+    requires fits { AreBelow exponents.now exponent terms.now }
+    ensures { IfOk result (λ found. found ≡ scaled_terms exponents.now exponent terms.now) }
+{
+    let mut found = List::new(alloc);
+    for k in 0..terms.len() {
+        match scaled_term(exponents, exponent, terms[k]) {
+            Some(term) => found.push(term)?,
+            None => return Ok(None),
+        }
+    }
+    Ok(Some(found))
+}
+
+// Puts a row behind the others, which makes a table of a table.
+fn put_row(
+    table: &mut Table,
+    exponent: i32,
+    terms: List<(u32, Coefficient)>,
+    sides: Sides,
+) -> Result<(), Memory>
+    requires whole { IsTable table.old }
+    requires rising { shape.AreRising 0 (length table.old.costs) terms }
+    requires least { negsuc 1299 ≤ℤ exponent }
+    requires greatest { exponent ≤ℤ pos 1300 }
+    ensures value { OnOk result (table.new ≡ with_row exponent terms sides table.old) }
+    ensures whole { OnOk result (IsTable table.new) }
+    ensures small { OnOk result ((most : ℕ) → AreSmall most table.old.scales → AreSmall most table.new.scales) }
+    ensures count { OnOk result (length table.new.costs ≡ length table.old.costs) }
+{
+    push_row(table, exponent, terms, sides)
+}
+
+/// Puts a row of a program behind the others: its terms and sides, scaled, and its slack, which is
+/// basic. The answer is false exactly where a number leaves its range: nothing is promised of the
+/// table then. [`Memory`] where memory was refused.
+#[tactic(auto, unfolding(crate::specs::Appending::appended_row))]
+fn append_row(alloc: Global, table: &mut Table, row: &LpRow) -> Result<bool, Memory>
+    requires whole { IsTable table.old }
+    requires small { AreSmall 1000 table.old.scales }
+    requires rising { AreRising 0 (length table.old.costs) row.now.terms }
+    ensures value { IfOk result (λ made. Gives made (appended_row row.now table.old) table.new) }
+    ensures whole { IfOk result (λ made. made ≡ true → IsTable table.new) }
+    ensures small { IfOk result (λ made. made ≡ true → (most : ℕ) → AreSmall most table.old.scales → AreSmall most table.new.scales) }
+    ensures count { IfOk result (λ made. made ≡ true → length table.new.costs ≡ length table.old.costs) }
+{
+    let terms = row.terms.as_slice();
+    let exponent = row_scale(table.scales.columns.as_slice(), terms);
+    let scaled = scaled_terms(alloc, table.scales.columns.as_slice(), exponent, terms)?;
+    let sides = scaled_sides(exponent + table.scales.values, row);
+    match (scaled, sides) {
+        (Some(scaled), Some(sides)) => {
+            put_row(table, exponent, scaled, sides)?;
+            Ok(true)
+        }
+        _ => Ok(false),
+    }
+}
+
+/// Puts some rows of a program behind the others, one after the other. The answer is false exactly
+/// where a number leaves its range: nothing is promised of the table then. [`Memory`] where memory
+/// was refused.
+pub fn append(alloc: Global, table: &mut Table, rows: &[LpRow]) -> Result<bool, Memory>
+    requires whole { IsTable table.old }
+    requires small { AreSmall 1000 table.old.scales }
+    requires rising { All (λ (r : LpRow). AreRising 0 (length table.old.costs) r.terms) rows.now }
+    ensures value { IfOk result (λ made. Gives made (appended rows.now table.old) table.new) }
+    ensures whole { IfOk result (λ made. made ≡ true → IsTable table.new) }
+    ensures small { IfOk result (λ made. made ≡ true → (most : ℕ) → AreSmall most table.old.scales → AreSmall most table.new.scales) }
+    ensures count { IfOk result (λ made. made ≡ true → length table.new.costs ≡ length table.old.costs) }
+{
+    for i in 0..rows.len() {
+        if !append_row(alloc, table, &rows[i])? {
+            return Ok(false);
+        }
+    }
+    Ok(true)
+}

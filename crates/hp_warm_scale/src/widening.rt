@@ -1,0 +1,204 @@
+// A table that is widened by the columns of successors and by cuts.
+ghost use Rattle.std.specs.Prelude.{◌≡◌, ℕ, ◌+◌, ◌<◌, ◌≤◌, ◌≤ℤ◌, pos, negsuc, length, replicate, true, All, None, OnOk, IfOk, IfSome};
+ghost use Rattle.hp_num.specs.Sums.{entry};
+ghost use Rattle.hp_solver.specs.Proper.{IsProper, AreRising};
+ghost use Rattle.hp_solver.specs.declared.stage_lp.LpRow.{LpRow};
+ghost use Rattle.hp_warm_table.specs.Shape.{IsTable};
+ghost use Rattle.hp_warm_scale.specs.Walks.{Gives};
+ghost use Rattle.hp_warm_scale.specs.Spans.{AreBetween};
+ghost use Rattle.hp_warm_scale.specs.Exponents.{AreUpTo, SpansBetween};
+ghost use Rattle.hp_warm_scale.specs.Scaling.{AreSmall};
+ghost use Rattle.hp_warm_scale.specs.Widening.{last_column, top, top_of, with_top, cut_spans, cut_lift, successor_scale, successor_scales, rescaled, widened};
+
+use crate::appending::{append, term_span};
+use crate::exponents::reach;
+use crate::spans::{Span, grow};
+use crate::tables::scale_columns;
+use hp_num::Memory;
+use hp_solver::{Column, Fx, LpRow, StageLp};
+use hp_warm_table::Table;
+use hp_warm_table::lists::repeated;
+use std::alloc::Global;
+
+// The column of a cut's last term.
+fn last_column(terms: &[(u32, Fx)]) -> Option<usize>
+    ensures { result ≡ last_column terms.now }
+{
+    match terms.get(terms.len().saturating_sub(1)) {
+        Some(term) => Some(term.0 as usize),
+        None => None,
+    }
+}
+
+// The greatest of a span, none where it is 0.
+fn top(span: Option<Span>) -> Option<i32>
+    ensures { result ≡ top span }
+{
+    match span {
+        None => None,
+        Some(span) => {
+            if span.greatest == 0 {
+                None
+            } else {
+                Some(span.greatest)
+            }
+        }
+    }
+}
+
+// The most binary digits of a cut's terms but the last.
+#[tactic(auto, unfolding(crate::specs::Widening::top_of))]
+fn cut_top(exponents: &[i32], terms: &[(u32, Fx)]) -> Option<i32>
+    requires { AreUpTo 512 exponents.now }
+    ensures value { result ≡ top_of exponents.now terms.now }
+    ensures range { IfSome result (λ x. (pos 0 ≤ℤ x) × (x ≤ℤ pos 640)) }
+{
+    let (front, _) = terms.split_at(terms.len().saturating_sub(1));
+    top(term_span(exponents, front))
+}
+
+// The spans of successors' columns with one number more.
+fn add_top(decisions: usize, spans: &mut [Option<Span>], top: Option<i32>, column: Option<usize>)
+    requires range { IfSome top (λ x. (pos 0 ≤ℤ x) × (x ≤ℤ pos 640)) }
+    requires column { IfSome column (λ j. j < length spans.old) }
+    requires spans { SpansBetween (pos 0) (pos 640) spans.old }
+    ensures value { spans.new ≡ with_top decisions spans.old top column }
+    ensures count { length spans.new ≡ length spans.old }
+    ensures spans { SpansBetween (pos 0) (pos 640) spans.new }
+{
+    if let (Some(top), Some(column)) = (top, column) {
+        if decisions <= column {
+            spans[column] = grow(spans[column], top);
+        }
+    }
+}
+
+// For each column of a successor the span of the tops of its cuts.
+#[tactic(auto, unfolding(crate::specs::Widening::cut_spans))]
+fn write_cut_spans(decisions: usize, exponents: &[i32], spans: &mut [Option<Span>], cuts: &[LpRow])
+    requires exponents { AreUpTo 512 exponents.now }
+    requires rising { All (λ (r : LpRow). AreRising 0 (length spans.old) r.terms) cuts.now }
+    requires spans { spans.old ≡ replicate (length spans.old) None }
+    ensures value { spans.new ≡ cut_spans decisions (length spans.old) exponents.now cuts.now }
+    ensures count { length spans.new ≡ length spans.old }
+    ensures spans { SpansBetween (pos 0) (pos 640) spans.new }
+{
+    for i in 0..cuts.len() {
+        let terms = cuts[i].terms.as_slice();
+        add_top(
+            decisions,
+            spans,
+            cut_top(exponents, terms),
+            last_column(terms),
+        );
+    }
+}
+
+// Half of the greatest and the least top, less 33.
+fn cut_lift(span: Option<Span>) -> i32
+    requires { AreBetween (pos 0) (pos 640) span }
+    ensures value { result ≡ cut_lift span }
+    ensures least { negsuc 99 ≤ℤ result }
+    ensures greatest { result ≤ℤ pos 640 }
+{
+    match span {
+        None => -33,
+        Some(span) => (span.greatest + span.least.max(span.greatest - 20)).div_euclid(2) - 33,
+    }
+}
+
+// The exponent of a successor's column.
+fn successor_scale(values: i32, span: Option<Span>, column: &Column) -> i32
+    requires least { negsuc 1299 ≤ℤ values }
+    requires greatest { values ≤ℤ pos 0 }
+    requires span { AreBetween (pos 0) (pos 640) span }
+    ensures value { result ≡ successor_scale values span column.now }
+    ensures least { pos 0 ≤ℤ result }
+    ensures greatest { result ≤ℤ pos 1000 }
+{
+    cut_lift(span)
+        .max(reach(column) as i32 + values - 54)
+        .max(0)
+}
+
+// Writes the exponents of the columns from number `first` on.
+fn write_scales(
+    values: i32,
+    spans: &[Option<Span>],
+    first: usize,
+    columns: &[Column],
+    exponents: &mut [i32],
+)
+    requires least { negsuc 1299 ≤ℤ values }
+    requires greatest { values ≤ℤ pos 0 }
+    requires spans { SpansBetween (pos 0) (pos 640) spans.now }
+    requires exponents { AreUpTo 1000 exponents.old }
+    requires there { first + length columns.now ≤ length exponents.old }
+    requires count { length spans.now ≡ length exponents.old }
+    ensures value { exponents.new ≡ successor_scales values spans.now first columns.now exponents.old }
+    ensures count { length exponents.new ≡ length exponents.old }
+    ensures exponents { AreUpTo 1000 exponents.new }
+{
+    for j in 0..columns.len() {
+        exponents[first + j] = successor_scale(values, spans[first + j], &columns[j]);
+    }
+}
+
+// Scales the columns of successors, from number `decisions` on, by their cuts.
+#[tactic(auto, unfolding(crate::specs::Widening::rescaled))]
+fn rescale(
+    alloc: Global,
+    table: &mut Table,
+    decisions: usize,
+    successors: &[Column],
+    cuts: &[LpRow],
+) -> Result<(), Memory>
+    requires whole { IsTable table.old }
+    requires small { AreSmall 512 table.old.scales }
+    requires there { decisions + length successors.now ≤ length table.old.costs }
+    requires rising { All (λ (r : LpRow). AreRising 0 (length table.old.costs) r.terms) cuts.now }
+    ensures value { OnOk result (table.new ≡ rescaled decisions successors.now cuts.now table.old) }
+    ensures columns { OnOk result (AreUpTo 1000 table.new.scales.columns) }
+    ensures count { OnOk result (length table.new.scales.columns ≡ length table.old.scales.columns) }
+{
+    let mut spans = repeated(alloc, table.costs.len(), None)?;
+    write_cut_spans(
+        decisions,
+        table.scales.columns.as_slice(),
+        spans.as_mut_slice(),
+        cuts,
+    );
+    write_scales(
+        table.scales.values,
+        spans.as_slice(),
+        decisions,
+        successors,
+        table.scales.columns.as_mut_slice(),
+    );
+    Ok(())
+}
+
+/// Widens a table of a program's own part by its other columns, which belong to successors, and by
+/// its cuts: the columns get exponents, bounds, costs and reduced costs, and stay at their lower
+/// bounds, and the cuts are put behind the rows. The answer is false exactly where a number leaves
+/// its range: nothing is promised of the table then. [`Memory`] where memory was refused.
+#[tactic(auto, unfolding(crate::specs::Widening::widened))]
+pub fn widen(alloc: Global, table: &mut Table, lp: &StageLp) -> Result<bool, Memory>
+    requires whole { IsTable table.old }
+    requires small { AreSmall 512 table.old.scales }
+    requires proper { IsProper lp.now }
+    requires columns { length lp.now.columns ≡ length table.old.costs }
+    ensures value { IfOk result (λ made. Gives made (widened lp.now table.old) table.new) }
+    ensures whole { IfOk result (λ made. made ≡ true → IsTable table.new) }
+    ensures small { IfOk result (λ made. made ≡ true → AreSmall 1000 table.new.scales) }
+    ensures count { IfOk result (λ made. made ≡ true → length table.new.costs ≡ length table.old.costs) }
+{
+    let decisions = lp.decisions as usize;
+    let (_, successors) = lp.columns.as_slice().split_at(decisions);
+    let (_, cuts) = lp.rows.as_slice().split_at(lp.own as usize);
+    rescale(alloc, table, decisions, successors, cuts)?;
+    if !scale_columns(table, decisions, successors) {
+        return Ok(false);
+    }
+    append(alloc, table, cuts)
+}

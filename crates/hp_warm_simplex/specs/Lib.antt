@@ -1,0 +1,3 @@
+pub mod Activity
+pub mod Results
+pub mod Violations

@@ -1,0 +1,5 @@
+//! The bounded dual simplex method, warm.
+#![tactic(auto)]
+
+pub mod activity;
+pub mod violations;

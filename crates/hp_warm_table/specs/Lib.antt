@@ -1,0 +1,6 @@
+pub mod Numbers
+pub mod Each
+pub mod Squares
+pub mod Bounding
+pub mod Shape
+pub mod Updates

@@ -1,0 +1,15 @@
+//! The numbers and the table of the warm simplex.
+#![tactic(auto)]
+
+pub mod kept;
+pub mod lists;
+pub mod numbers;
+pub mod rows;
+pub mod square;
+pub mod table;
+pub mod updates;
+
+pub use kept::{Cell, Coefficient, Quantity};
+pub use rows::Rows;
+pub use square::Square;
+pub use table::{Basis, Bounds, Scales, Table};

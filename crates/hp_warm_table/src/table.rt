@@ -1,0 +1,157 @@
+// The table of a chain of solves.
+ghost use Rattle.std.specs.Prelude.{◌≡◌, ◌<◌, length, IfOk};
+ghost use Rattle.hp_warm_table.specs.Bounding.{low_of, up_of};
+
+use crate::kept::{Cell, Quantity};
+use crate::lists::copied;
+use crate::rows::Rows;
+use crate::square::Square;
+use hp_num::{List, Memory};
+use std::alloc::Global;
+
+/// Exponents of two: what is scaled is the number times 2 to the power of its exponents.
+#[derive(Drop)]
+pub struct Scales {
+    /// The exponent e of each row.
+    pub rows: List<i32>,
+    /// The exponent f of each column.
+    pub columns: List<i32>,
+    /// The exponent g of all costs.
+    pub costs: i32,
+    /// The exponent h of all values.
+    pub values: i32,
+}
+
+impl Scales {
+    fn copy(&self, alloc: Global) -> Result<Scales, Memory>
+        ensures { IfOk result (λ scales. scales ≡ self.now) }
+    {
+        Ok(Scales {
+            rows: copied(alloc, self.rows.as_slice())?,
+            columns: copied(alloc, self.columns.as_slice())?,
+            costs: self.costs,
+            values: self.values,
+        })
+    }
+}
+
+/// Bounds of all variables, scaled: first those of the columns, then those of the slacks, which are
+/// the sides of the rows.
+#[derive(Drop)]
+pub struct Bounds {
+    /// The lower bound of each variable, 0 where there is none.
+    pub lows: List<Quantity>,
+    /// The upper bound of each variable, 0 where there is none.
+    pub ups: List<Quantity>,
+    /// Whether each variable has a lower bound.
+    pub has_low: List<bool>,
+    /// Whether each variable has an upper bound.
+    pub has_up: List<bool>,
+}
+
+impl Bounds {
+    /// The lower bound of a variable. None where there is none.
+    pub fn low(&self, variable: usize) -> Option<Quantity>
+        requires low { variable < length self.now.lows }
+        requires flag { variable < length self.now.has_low }
+        ensures { result ≡ low_of self.now variable }
+    {
+        if self.has_low.as_slice()[variable] {
+            Some(self.lows.as_slice()[variable])
+        } else {
+            None
+        }
+    }
+
+    /// The upper bound of a variable. None where there is none.
+    pub fn up(&self, variable: usize) -> Option<Quantity>
+        requires up { variable < length self.now.ups }
+        requires flag { variable < length self.now.has_up }
+        ensures { result ≡ up_of self.now variable }
+    {
+        if self.has_up.as_slice()[variable] {
+            Some(self.ups.as_slice()[variable])
+        } else {
+            None
+        }
+    }
+
+    fn copy(&self, alloc: Global) -> Result<Bounds, Memory>
+        ensures { IfOk result (λ bounds. bounds ≡ self.now) }
+    {
+        Ok(Bounds {
+            lows: copied(alloc, self.lows.as_slice())?,
+            ups: copied(alloc, self.ups.as_slice())?,
+            has_low: copied(alloc, self.has_low.as_slice())?,
+            has_up: copied(alloc, self.has_up.as_slice())?,
+        })
+    }
+}
+
+/// Which variables are not basic, and where they stand. Variables are numbered: first the columns,
+/// then the slack of each row.
+#[derive(Drop)]
+pub struct Basis {
+    /// The variable at each place.
+    pub nonbasic: List<usize>,
+    /// The place of each variable, none where it is basic.
+    pub places: List<Option<usize>>,
+    /// Whether the variable at each place stands at its upper bound, and else at its lower one.
+    pub high: List<bool>,
+}
+
+impl Basis {
+    fn copy(&self, alloc: Global) -> Result<Basis, Memory>
+        ensures { IfOk result (λ basis. basis ≡ self.now) }
+    {
+        Ok(Basis {
+            nonbasic: copied(alloc, self.nonbasic.as_slice())?,
+            places: copied(alloc, self.places.as_slice())?,
+            high: copied(alloc, self.high.as_slice())?,
+        })
+    }
+}
+
+/// What a chain of solves holds: a program in scaled numbers, with how its basic variables depend
+/// on the nonbasic ones. There are as many places, for nonbasic variables, as columns.
+#[derive(Drop)]
+pub struct Table {
+    /// How the numbers are scaled.
+    pub scales: Scales,
+    /// The terms of each row.
+    pub rows: Rows,
+    /// The cost of each column.
+    pub costs: List<Cell>,
+    /// The bounds of all variables.
+    pub bounds: Bounds,
+    /// Which variables are not basic.
+    pub basis: Basis,
+    /// The reduced cost at each place; of a slack, the dual of its row.
+    pub reduced: List<Cell>,
+    /// For each basic column the cells by which it is a sum over all places; for other columns
+    /// what was left there.
+    pub lines: Square,
+    /// The value of each column.
+    pub values: List<Quantity>,
+    /// Whether the answer that was found last is not to be trusted.
+    pub weak: bool,
+}
+
+impl Table {
+    /// The same table, in memory of its own. [`Memory`] where memory was refused.
+    pub fn copy(&self, alloc: Global) -> Result<Table, Memory>
+        ensures { IfOk result (λ table. table ≡ self.now) }
+    {
+        Ok(Table {
+            scales: self.scales.copy(alloc)?,
+            rows: self.rows.copy(alloc)?,
+            costs: copied(alloc, self.costs.as_slice())?,
+            bounds: self.bounds.copy(alloc)?,
+            basis: self.basis.copy(alloc)?,
+            reduced: copied(alloc, self.reduced.as_slice())?,
+            lines: self.lines.copy(alloc)?,
+            values: copied(alloc, self.values.as_slice())?,
+            weak: self.weak,
+        })
+    }
+}

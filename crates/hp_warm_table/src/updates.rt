@@ -1,0 +1,137 @@
+// Rows with a multiple of another row added.
+ghost use Rattle.std.specs.Prelude.{◌≡◌, ℤ, ◌^◌, ◌<◌, ◌≤◌, pos, ◌+ℤ◌, ◌*ℤ◌, [], length, get_or, slice_set, nat_abs};
+ghost use Rattle.std.specs.Option.{option_map};
+ghost use Rattle.hp_num.specs.Sums.{floor_over};
+ghost use Rattle.hp_warm_table.specs.Numbers.{down_of, cell_of};
+ghost use Rattle.hp_warm_table.specs.Updates.{Gives, moved, added_row, moved_row};
+
+use crate::kept::Cell;
+use crate::numbers::{down_product, product};
+
+fn plus(x: i64, y: i128) -> i128
+    requires { nat_abs y ≤ 2 ^ 87 }
+    ensures { result ≡ x +ℤ y }
+{
+    i128::from(x) + y
+}
+
+fn added(t: Cell, factor: Cell, n: Cell) -> Option<Cell>
+    ensures { result ≡ cell_of (t +ℤ down_of (factor *ℤ n)) }
+{
+    Cell::new(plus(t.number(), down_product(factor.number(), n.number())))
+}
+
+// The cell with a product added.
+fn moved(t: Cell, factor: Cell, n: Cell) -> Option<Cell>
+    ensures { result ≡ moved factor n t }
+{
+    let _number = t.number();
+    added(t, factor, n)
+}
+
+// The number over 2^64, rounded to the nearest.
+fn high(sum: i128) -> i64
+    requires { nat_abs sum ≤ 2 ^ 126 }
+    ensures value { result ≡ floor_over (sum +ℤ pos (2 ^ 63)) (2 ^ 64) }
+    ensures small { nat_abs result ≤ 2 ^ 62 }
+{
+    ((sum + (1 << 63)) >> 64) as i64
+}
+
+// The product over 2^64, rounded to the nearest.
+fn high_product(x: i64, y: i64) -> i64
+    ensures value { result ≡ floor_over (x *ℤ y +ℤ pos (2 ^ 63)) (2 ^ 64) }
+    ensures small { nat_abs result ≤ 2 ^ 62 }
+{
+    high(product(x, y))
+}
+
+fn near_cell(t: Cell, step: i64) -> Option<Cell>
+    requires { nat_abs step ≤ 2 ^ 62 }
+    ensures { result ≡ cell_of (t +ℤ step) }
+{
+    Cell::narrow(t.number() + step)
+}
+
+// 2^24 times the factor.
+fn scaled(factor: Cell) -> i64
+    requires { nat_abs factor < 2 ^ 39 }
+    ensures { result ≡ pos (2 ^ 24) *ℤ factor }
+{
+    (1 << 24) * factor.number()
+}
+
+// The cell with a product added, for `scaled` = 2^24 times the factor.
+fn moved_near(t: Cell, scaled: i64, n: Cell) -> Option<Cell>
+    ensures { (q : ℤ) → scaled ≡ pos (2 ^ 24) *ℤ q → result ≡ moved q n t }
+{
+    let _number = t.number();
+    near_cell(t, high_product(scaled, n.number()))
+}
+
+#[tactic(auto, unfolding(crate::specs::Updates::added_row))]
+fn add_row_wide(row: &mut [Cell], factor: Cell, addend: &[Cell]) -> bool
+    requires lengths { length addend.now ≡ length row.old }
+    ensures lengths { length row.new ≡ length row.old }
+    ensures moved { Gives result (added_row factor addend.now row.old) row.new }
+{
+    for j in 0..row.len() {
+        match moved(row[j], factor, addend[j]) {
+            Some(x) => row[j] = x,
+            None => return false,
+        }
+    }
+    true
+}
+
+// The same for a factor below 2^39, by the high half of a product of 64 bits.
+#[tactic(auto, unfolding(crate::specs::Updates::added_row))]
+fn add_row_near(row: &mut [Cell], factor: Cell, addend: &[Cell]) -> bool
+    requires near { nat_abs factor < 2 ^ 39 }
+    requires lengths { length addend.now ≡ length row.old }
+    ensures lengths { length row.new ≡ length row.old }
+    ensures moved { Gives result (added_row factor addend.now row.old) row.new }
+{
+    let scaled = scaled(factor);
+    for j in 0..row.len() {
+        match moved_near(row[j], scaled, addend[j]) {
+            Some(x) => row[j] = x,
+            None => return false,
+        }
+    }
+    true
+}
+
+/// Adds to each cell of a row the factor times a cell of the addend, over 2^40, rounded to the
+/// nearest. The answer is false exactly where a result leaves the range of cells: nothing but its
+/// length is promised of the row then.
+pub fn add_row(row: &mut [Cell], factor: Cell, addend: &[Cell]) -> bool
+    requires lengths { length addend.now ≡ length row.old }
+    ensures lengths { length row.new ≡ length row.old }
+    ensures moved { Gives result (added_row factor addend.now row.old) row.new }
+{
+    let number = factor.number();
+    if -(1 << 39) < number && number < 1 << 39 {
+        add_row_near(row, factor, addend)
+    } else {
+        add_row_wide(row, factor, addend)
+    }
+}
+
+/// The row after the variable at a place is replaced by the sum that the addend is. The answer is
+/// false exactly where a result leaves the range of cells: nothing but its length is promised of
+/// the row then.
+#[tactic(auto, unfolding(crate::specs::Updates::moved_row))]
+pub fn move_row(row: &mut [Cell], place: usize, addend: &[Cell]) -> bool
+    requires place { place < length row.old }
+    requires lengths { length addend.now ≡ length row.old }
+    ensures lengths { length row.new ≡ length row.old }
+    ensures moved { Gives result (moved_row place addend.now row.old) row.new }
+{
+    let factor = row[place];
+    if factor.number() == 0 {
+        return true;
+    }
+    row[place] = Cell::zero();
+    add_row(row, factor, addend)
+}
