@@ -1,5 +1,6 @@
 pub mod Digits
 pub mod FarShifts
+pub mod Large
 pub mod Small
 pub mod Tops
 pub mod Walks

@@ -1,4 +1,5 @@
-//! What the warm simplex answers: what is found at the end, and duals that prove that no point keeps all rows.
+//! What the warm simplex reads off its table: the variable that enters, what is found at the end, and duals that prove
+//! that no point keeps all rows.
 #![tactic(auto)]
 
 pub mod entering;

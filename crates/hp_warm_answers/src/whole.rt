@@ -1,5 +1,5 @@
 // Sums and products that may leave 128 bits.
-ghost use Rattle.std.specs.Prelude.{◌≡◌, ◌+ℤ◌, ◌-ℤ◌, ◌*ℤ◌};
+ghost use Rattle.std.specs.Prelude.{◌≡◌, ◌+ℤ◌, ◌*ℤ◌};
 ghost use Rattle.hp_warm_table.specs.Numbers.{held};
 
 // The sum. None exactly where 128 bits do not hold it.
@@ -8,14 +8,6 @@ pub(crate) fn sum(x: i128, y: i128) -> Option<i128>
     ensures { result ≡ held (x +ℤ y) }
 {
     x.checked_add(y)
-}
-
-// The difference. None exactly where 128 bits do not hold it.
-#[tactic(auto, using(hp_warm_table::proofs::Holding::is_held))]
-pub(crate) fn difference(x: i128, y: i128) -> Option<i128>
-    ensures { result ≡ held (x -ℤ y) }
-{
-    x.checked_sub(y)
 }
 
 // The product. None exactly where 128 bits do not hold it.

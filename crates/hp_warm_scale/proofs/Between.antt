@@ -1,12 +1,10 @@
 -- The range of spans.
-use Rattle.std.proofs.Common.{◌≡◌, ℕ, ◌<◌, ℤ, pos, negsuc, ◌+ℤ◌, ◌-ℤ◌, ◌≤ℤ◌, List, Option, Some, None, arith, refl}
-use Rattle.std.specs.Int.{int_min, int_max}
+use Rattle.std.proofs.Common.{◌≡◌, ℕ, ℤ, pos, ◌+ℤ◌, ◌-ℤ◌, ◌≤ℤ◌, List, Option, Some, None, arith, refl}
 use Rattle.std.proofs.lemmas.Int.{ints, clamps}
 use Rattle.hp_num.specs.Sums.{floor_over}
 use Rattle.hp_num.proofs.Order.{floor_at_most, floor_above}
 use Rattle.hp_warm_scale.specs.declared.spans.Span.{Span}
-use Rattle.hp_warm_scale.specs.Walks.{walk}
-use Rattle.hp_warm_scale.specs.Spans.{grown, joined, span_of, middle, lift, IsBetween, AreBetween}
+use Rattle.hp_warm_scale.specs.Spans.{grown, joined, span_of, lift, AreBetween}
 use Rattle.hp_warm_scale.proofs.Walking.{walk_keeps}
 
 pub grown_between : (low high : ℤ) (s : Option Span) (x : ℤ) → low ≤ℤ x → x ≤ℤ high → AreBetween low high s → AreBetween low high (grown s x)

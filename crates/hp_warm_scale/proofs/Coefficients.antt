@@ -1,14 +1,13 @@
 -- Terms of rows that are scaled are coefficients.
-use Rattle.std.proofs.Common.{◌≡◌, ℕ, suc, ◌+◌, ◌*◌, ◌^◌, ◌/◌, ◌<◌, ◌≤◌, ℤ, pos, negsuc, ◌+ℤ◌, ◌*ℤ◌, ◌≤ℤ◌, nat_abs, SFits, nat_lt, nat_le, Bool, true, Option, Some, None, cond, arith, refl, ap, sym, subst, ◌∙◌}
+use Rattle.std.proofs.Common.{◌≡◌, ℕ, suc, ◌+◌, ◌^◌, ◌/◌, ◌<◌, ◌≤◌, ℤ, pos, negsuc, ◌+ℤ◌, ◌*ℤ◌, ◌≤ℤ◌, nat_abs, SFits, nat_lt, nat_le, Bool, true, Some, None, cond, arith, refl, ap, sym, subst, ◌∙◌}
 use Rattle.std.proofs.lemmas.Int.{ints, unsigned_abs-mul, fits_signed_from_abs}
 use Rattle.std.proofs.lemmas.Nat.{leading_length, pow-add}
-use Rattle.std.proofs.Math.Nat.{pow-le-pow_right, mul-lt-mul_of_pos_right, div-lt_iff_lt-mul}
+use Rattle.std.proofs.Math.Nat.{mul-lt-mul_of_pos_right, div-lt_iff_lt-mul}
 use Rattle.std.proofs.lemmas.Bool.Decides.{nat_tests}
 use Rattle.std.specs.Option.{option_and_then}
-use Rattle.std.specs.Int.Count.{count_leading_zeros}
 use mir.Syntax.{w128}
 use Rattle.hp_num.specs.Sums.{floor_over}
-use Rattle.hp_warm_table.specs.Numbers.{bits_of, coefficient_of, cell_of, shift_of, shift_up, shift_down, held}
+use Rattle.hp_warm_table.specs.Numbers.{bits_of, coefficient_of, cell_of, shift_of, shift_up, shift_down}
 use Rattle.hp_warm_table.proofs.Holding.{fits-true}
 use Rattle.hp_warm_table.proofs.Powers.{power_more}
 

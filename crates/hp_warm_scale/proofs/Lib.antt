@@ -1,5 +1,7 @@
 pub mod Between
 pub mod Coefficients
+pub mod Cuts
+pub mod Parts
 pub mod Passes
 pub mod Rising
 pub mod Shapes

@@ -1,15 +1,12 @@
 -- The range of exponents.
-use Rattle.std.proofs.Common.{◌≡◌, ℕ, zero, suc, ◌+◌, ◌-◌, ◌≤◌, ◌<◌, ℤ, pos, negsuc, ◌+ℤ◌, ◌-ℤ◌, ◌≤ℤ◌, Bool, true, false, cond, ◌&&◌, nat_lt, nat_le, List, [], ◌∷◌, map, get_or, slice_set, replicate, length, Option, Some, None, arith, refl, ap, ap₂, ◌∙◌, sym, subst}
-use Rattle.std.specs.Int.{int_max}
+use Rattle.std.proofs.Common.{◌≡◌, ℕ, zero, suc, ◌+◌, ◌≤◌, ℤ, pos, ◌+ℤ◌, ◌-ℤ◌, ◌≤ℤ◌, Bool, true, false, cond, ◌&&◌, nat_lt, nat_le, List, [], ◌∷◌, map, get_or, slice_set, replicate, length, Option, Some, None, arith, refl, ap, ap₂, ◌∙◌, sym, subst}
 use Rattle.std.proofs.lemmas.Int.{ints, clamps}
 use Rattle.std.proofs.Math.ListN.{get_or-map}
-use Rattle.hp_num.specs.Sums.{entry}
 use Rattle.hp_solver.specs.declared.stage_lp.Column.{Column}
 use Rattle.hp_solver.specs.declared.stage_lp.LpRow.{LpRow}
 use Rattle.hp_warm_scale.specs.declared.spans.Span.{Span}
-use Rattle.hp_warm_scale.specs.Walks.{walk}
 use Rattle.hp_warm_table.specs.Numbers.{bits_of}
-use Rattle.hp_warm_scale.specs.Spans.{grown, span_of, lift, AreBetween}
+use Rattle.hp_warm_scale.specs.Spans.{grown, span_of, AreBetween}
 use Rattle.hp_warm_scale.specs.Exponents.{Term, size_of, row_weight_of, border_of, weight_of, counted_weight, row_lift, with_term, with_terms, with_row, spans_of, column_lift, pass_of, AreUpTo, SpansBetween, ReachUpTo, reach_of}
 use Rattle.hp_warm_scale.proofs.Walking.{walk_keeps}
 use Rattle.hp_warm_scale.proofs.Between.{grown_between, span_between, lift_between, GivesBetween}

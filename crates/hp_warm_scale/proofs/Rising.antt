@@ -1,11 +1,9 @@
 -- Terms that are scaled stand in the columns where they stood.
-use Rattle.std.proofs.Common.{◌≡◌, ℕ, suc, ◌<◌, ◌≤◌, ℤ, List, [], ◌∷◌, Option, Some, None, refl, sym, subst, ap}
+use Rattle.std.proofs.Common.{◌≡◌, ℕ, suc, ◌<◌, ◌≤◌, ℤ, List, [], ◌∷◌, Option, Some, None, refl, sym, subst}
 use Rattle.std.specs.Option.{option_map, option_and_then}
-use Rattle.hp_solver.specs.declared.fixed.Fx.{Fx}
 use Rattle.hp_solver.specs.Proper as program
 use Rattle.hp_warm_table.specs.Shape.{AreRising}
 use Rattle.hp_warm_table.specs.Each.{each_from}
-use Rattle.hp_warm_scale.specs.Scaling.{scaled_cell}
 use Rattle.hp_warm_scale.specs.Exponents.{Term}
 use Rattle.hp_warm_scale.specs.Appending.{scaled_term, scaled_terms}
 

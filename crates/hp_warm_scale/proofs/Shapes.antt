@@ -1,19 +1,19 @@
 -- Tables stay tables.
-use Rattle.std.proofs.Common.{◌≡◌, Result, Ok, Err, IfOk, OnOk, negsuc, ◌≤ℤ◌, ℕ, zero, suc, ◌+◌, ◌<◌, ◌≤◌, ℤ, pos, true, false, Bool, List, [], ◌∷◌, ◌++◌, length, length-set, length-append, map, slice_set, replicate, Option, Some, None, IfSome, All, arith, refl, ap, ap₂, sym, subst, ◌∙◌}
+use Rattle.std.proofs.Common.{◌≡◌, Result, Ok, Err, IfOk, OnOk, negsuc, ◌≤ℤ◌, ℕ, zero, suc, ◌+◌, ◌<◌, ◌≤◌, ℤ, pos, true, false, Bool, List, [], ◌∷◌, ◌++◌, length, length-set, length-append, replicate, Option, Some, None, IfSome, All, arith, refl, ap, sym, subst, ◌∙◌}
 use Rattle.std.proofs.lemmas.List.{length-map, length-replicate}
 use Rattle.std.proofs.lemmas.List.Elements.{All-weaker, All-push, All-nil, All-cons, All-map}
 use Rattle.hp_warm_table.specs.declared.table.Scales.{Scales}
 use Rattle.hp_warm_table.specs.declared.table.Bounds.{Bounds}
-use Rattle.hp_warm_table.specs.declared.table.Basis.{Basis}
 use Rattle.hp_warm_table.specs.declared.table.Table.{Table}
-use Rattle.hp_warm_table.specs.Shape.{IsTable, AreRising, variables}
+use Rattle.hp_warm_table.specs.Shape.{IsTable, AreRising}
 use Rattle.hp_warm_scale.specs.declared.sides.Sides.{Sides}
 use Rattle.hp_warm_scale.specs.declared.scaling.ScaledColumn.{ScaledColumn}
-use Rattle.hp_warm_scale.specs.Walks.{count_from}
-use Rattle.hp_warm_scale.specs.Scaling.{numbers, blank_bounds_of, blank_basis_of, blank_with, with_column, stood, is_negative, AreSmall}
+use Rattle.hp_warm_scale.specs.Walks.{count_from, Gives}
+use Rattle.hp_warm_scale.specs.Scaling.{numbers, blank_with, with_column, stood, is_negative, AreSmall}
 use Rattle.std.proofs.lemmas.Int.{ints}
 use Rattle.hp_warm_scale.specs.Exponents.{AreUpTo}
 use Rattle.hp_warm_scale.proofs.Passes.{up_to_more}
+use Rattle.hp_warm_scale.specs.Widening.{with_scales}
 use Rattle.hp_warm_scale.specs.Appending.{with_row, with_bounds}
 
 pub column_table : (j : ℕ) (s : ScaledColumn) (t : Table) → IsTable t → IsTable (with_column j s t)
@@ -163,3 +163,45 @@ if_ok P (Err e) x h p = tt
 pub on_ok : {T E : Type 0} {A B : Type 0} (r : Result T E) → OnOk r A → (A → B) → OnOk r B
 on_ok (Ok t) a f = f a
 on_ok (Err e) a f = tt
+
+pub on_both : {T E : Type 0} {A B C : Type 0} (r : Result T E) → OnOk r A → OnOk r B → (A → B → C) → OnOk r C
+on_both (Ok t) a b f = f a b
+on_both (Err e) a b f = tt
+
+pub if_ok_more : {T E : Type 0} (P Q : T → Type 0) (r : Result T E) → ((x : T) → P x → Q x) → IfOk r P → IfOk r Q
+if_ok_more P Q (Ok t) f p = f t p
+if_ok_more P Q (Err e) f p = tt
+
+pub gives_true : {A : Type 0} (made : Bool) (o : Option A) (x : A) → made ≡ true → Gives made o x → o ≡ Some x
+gives_true true o x e g = g
+gives_true false o x e g = absurd (cc)
+
+pub scales_table : (fs : List ℤ) (t : Table) → length fs ≡ length t.scales.columns → IsTable t → IsTable (with_scales fs t)
+scales_table fs t n w = record {
+  few = w.few;
+  row_scales = w.row_scales;
+  column_scales = n ∙ w.column_scales;
+  lows = w.lows;
+  ups = w.ups;
+  has_low = w.has_low;
+  has_up = w.has_up;
+  nonbasic = w.nonbasic;
+  places = w.places;
+  high = w.high;
+  reduced = w.reduced;
+  lines = w.lines;
+  values = w.values;
+  numbers = w.numbers;
+  inside = w.inside;
+  terms = w.terms;
+}
+
+pub scales_small : (k m : ℕ) (fs : List ℤ) (t : Table) → AreUpTo m fs → AreSmall k t.scales → AreSmall m (with_scales fs t).scales
+scales_small k m fs t f w = record {
+  columns = f;
+  rows = w.rows;
+  costs_least = w.costs_least;
+  costs_greatest = w.costs_greatest;
+  values_least = w.values_least;
+  values_greatest = w.values_greatest;
+}

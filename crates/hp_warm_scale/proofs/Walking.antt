@@ -1,5 +1,5 @@
 -- Walks, one step on and at the end.
-use Rattle.std.proofs.Common.{◌≡◌, ℕ, zero, suc, ◌+◌, ◌<◌, ◌≤◌, List, [], ◌∷◌, ◌++◌, length, get_or, Option, Some, None, take, take_all, drop, slice_set, arith, append-nil, refl, ap, ap₂, add-one, sym, ◌∙◌}
+use Rattle.std.proofs.Common.{◌≡◌, ℕ, zero, suc, ◌+◌, ◌<◌, ◌≤◌, List, [], ◌∷◌, ◌++◌, length, get_or, Option, Some, take, take_all, drop, slice_set, arith, append-nil, refl, ap, ap₂, add-one, sym, ◌∙◌}
 use Rattle.std.proofs.lemmas.List.{drop_more}
 use Rattle.std.proofs.Math.ListN.{drop_of_length-le}
 use Rattle.std.specs.Option.{option_and_then}
@@ -29,13 +29,6 @@ write_more ys old now j x d h k e w = ap₂ (λ xs z. slice_set xs j z) w e ∙ 
 pub write_all : {A : Type 0} (ys old now : List A) (j : ℕ) → length ys ≤ j → length old ≤ j → now ≡ take j ys ++ drop j old → now ≡ ys
 write_all ys old now j h k w = w ∙ ap₂ (λ a b. a ++ b) (take_all j ys h) (drop_of_length-le old k) ∙ append-nil ys
 
-pub run_more : {S A : Type 0} (step : ℕ → A → S → Option S) (whole : Option S) (xs : List A) (first k : ℕ) (d : A) (s t : S) → k < length xs → whole ≡ run step (first + k) (drop k xs) s → step (first + k) (get_or xs k d) s ≡ Some t → whole ≡ run step (first + (k + 1)) (drop (k + 1) xs) t
-run_more step whole xs first k d s t h w e =
-    let next : suc (first + k) ≡ first + (k + 1) = omega arith in
-    w ∙ ap (λ ys. run step (first + k) ys s) (drop_more xs k d h) ∙ ap (option_and_then (run step (suc (first + k)) (drop (k + 1) xs))) e ∙ ap (λ (j : ℕ). run step j (drop (k + 1) xs) t) next
-
-pub run_none : {S A : Type 0} (step : ℕ → A → S → Option S) (whole : Option S) (xs : List A) (first k : ℕ) (d : A) (s : S) → k < length xs → whole ≡ run step (first + k) (drop k xs) s → step (first + k) (get_or xs k d) s ≡ None → whole ≡ None
-run_none step whole xs first k d s h w e = w ∙ ap (λ ys. run step (first + k) ys s) (drop_more xs k d h) ∙ ap (option_and_then (run step (suc (first + k)) (drop (k + 1) xs))) e
-
-pub run_all : {S A : Type 0} (step : ℕ → A → S → Option S) (whole : Option S) (xs : List A) (first k : ℕ) (s : S) → length xs ≤ k → whole ≡ run step (first + k) (drop k xs) s → whole ≡ Some s
-run_all step whole xs first k s h w = w ∙ ap (λ ys. run step (first + k) ys s) (drop_of_length-le xs h)
+pub run_next : {S A : Type 0} (step : ℕ → A → S → Option S) (whole : Option S) (xs : List A) (k : ℕ) (d : A) (s t : S) → k < length xs → whole ≡ run step k (drop k xs) s → step k (get_or xs k d) s ≡ Some t → whole ≡ run step (k + 1) (drop (k + 1) xs) t
+run_next step whole xs k d s t h w e =
+    w ∙ ap (λ ys. run step k ys s) (drop_more xs k d h) ∙ ap (option_and_then (run step (suc k) (drop (k + 1) xs))) e ∙ ap (λ (j : ℕ). run step j (drop (k + 1) xs) t) (sym (add-one k))

@@ -1,9 +1,10 @@
 -- The range of the exponents that Append and First give.
-use Rattle.std.proofs.Common.{◌≡◌, IfSome, All, ℕ, zero, suc, ◌+◌, ◌-◌, ◌<◌, ◌≤◌, ℤ, pos, negsuc, ◌+ℤ◌, ◌-ℤ◌, ◌≤ℤ◌, Bool, true, false, cond, List, [], ◌∷◌, ◌++◌, length, map, Option, Some, None, arith, refl, ap, subst, sym, ◌∙◌}
+use Rattle.std.proofs.Common.{◌≡◌, SFits, to_z, of_z, IfSome, All, ℕ, zero, suc, ◌+◌, ◌-◌, ◌<◌, ℤ, pos, negsuc, ◌+ℤ◌, ◌-ℤ◌, ◌≤ℤ◌, Bool, true, false, cond, List, [], ◌∷◌, ◌++◌, Option, Some, None, arith, refl, ap, subst, sym, ◌∙◌}
 use Rattle.std.specs.Ordering.{int_eq}
 use Rattle.std.specs.Int.{int_min, int_max}
 use Rattle.std.proofs.lemmas.List.Elements.{All-nil, All-cons, All-weaker}
-use Rattle.std.proofs.lemmas.Int.{ints, clamps}
+use Rattle.std.proofs.lemmas.Int.{ints, clamps, to_z-of_z}
+use mir.Syntax.{w32}
 use Rattle.hp_num.specs.Sums.{entry}
 use Rattle.hp_solver.specs.declared.stage_lp.Column.{Column}
 use Rattle.hp_warm_table.specs.Numbers.{bits_of}
@@ -108,3 +109,10 @@ top_between low high (Some s) h = by (int_eq s.greatest (pos 0))
     by : (b : Bool) → IfSome (cond b None (Some s.greatest)) (λ x. (low ≤ℤ x) × (x ≤ℤ high))
     by true = tt
     by false = (h.low_greatest, h.high_greatest)
+
+-- numbers as they are read
+pub read_least : (a z : ℤ) → SFits w32 z → a ≤ℤ z → a ≤ℤ to_z w32 (of_z w32 z)
+read_least a z f h = subst (λ (x : ℤ). a ≤ℤ x) (sym (to_z-of_z w32 z f)) h
+
+pub read_greatest : (a z : ℤ) → SFits w32 z → z ≤ℤ a → to_z w32 (of_z w32 z) ≤ℤ a
+read_greatest a z f h = subst (λ (x : ℤ). x ≤ℤ a) (sym (to_z-of_z w32 z f)) h

@@ -1,25 +1,187 @@
--- Worked exponents, computed.
-use Rattle.std.proofs.Common.{◌≡◌, ◌+◌, ◌^◌, ◌*◌, ℕ, ℤ, pos, negsuc, List, [], ◌∷◌, Option, Some, None, refl}
-use Rattle.hp_solver.specs.declared.fixed.Fx.{Fx}
-use Rattle.hp_solver.specs.declared.stage_lp.Column.{Column}
-use Rattle.hp_solver.specs.declared.stage_lp.LpRow.{LpRow}
-use Rattle.hp_solver.specs.Numbers.{number, zero_fx, one}
+-- Worked tables, computed.
+use Rattle.std.proofs.Common.{◌≡◌, pos, negsuc, [], ◌∷◌, Some, None, true, false, refl}
+use Rattle.std.specs.Option.{option_map, option_and_then}
 use lib.Count.{count_leading_zeros}
+use Rattle.hp_solver.specs.declared.stage_lp.StageLp.{StageLp}
+use Rattle.hp_solver.specs.Numbers.{number}
+use Rattle.hp_warm_table.specs.declared.table.Table.{Table}
+use Rattle.hp_warm_table.specs.Numbers.{shift_up, shift_down}
 use Rattle.hp_warm_scale.specs.Exponents.{with_row, spans_of, pass_of, columns_of}
+use Rattle.hp_warm_scale.specs.Scaling.{scaled_value, scaled_cell, costs_scale, values_scale, scaled_column, column_step, blank_of, columns_table}
+use Rattle.hp_warm_scale.specs.Appending.{scaled_sides, row_scale, scaled_term, scaled_terms, appended_row}
+use Rattle.hp_warm_scale.specs.First.{first_of}
+use Rattle.hp_warm_scale.specs.Widening.{top_of, cut_spans, rescaled, widened}
 
-abbrev units : ℕ → Fx
-units n = number (pos (n * 2 ^ 32))
+-- x at least 3, at a cost of 2
+abbrev one_row : StageLp
+one_row =
+    record {
+      columns = record { low = number (pos 0); high = number (pos 42949672960); cost = number (pos 8589934592) } ∷ [];
+      rows = record { low = Some (number (pos 12884901888)); high = None; terms = (0, number (pos 4294967296)) ∷ [] } ∷ [];
+      decisions = 1;
+      own = 1;
+    }
 
-abbrev box : ℕ → ℕ → ℕ → Column
-box low high cost = record { low = units low; high = units high; cost = units cost }
+one_row_scales : option_map (λ (t : Table). t.scales) (first_of one_row) ≡ Some (record { rows = negsuc 0 ∷ []; columns = pos 0 ∷ []; costs = negsuc 1; values = pos 0 })
+unfolding with_row spans_of pass_of columns_of count_leading_zeros scaled_value scaled_cell costs_scale values_scale scaled_column column_step blank_of columns_table scaled_sides row_scale scaled_term scaled_terms appended_row first_of shift_up shift_down
+one_row_scales = refl
 
-abbrev from : ℕ → List (ℕ × Fx) → LpRow
-from low terms = record { low = Some (units low); high = None; terms = terms }
+one_row_terms : option_map (λ (t : Table). t.rows) (first_of one_row) ≡ Some (((0, pos 549755813888) ∷ []) ∷ [])
+unfolding with_row spans_of pass_of columns_of count_leading_zeros scaled_value scaled_cell costs_scale values_scale scaled_column column_step blank_of columns_table scaled_sides row_scale scaled_term scaled_terms appended_row first_of shift_up shift_down
+one_row_terms = refl
 
-abbrev at : ℕ → List (ℕ × Fx) → LpRow
-at side terms = record { low = Some (units side); high = Some (units side); terms = terms }
+one_row_costs : option_map (λ (t : Table). t.reduced) (first_of one_row) ≡ Some (pos 549755813888 ∷ [])
+unfolding with_row spans_of pass_of columns_of count_leading_zeros scaled_value scaled_cell costs_scale values_scale scaled_column column_step blank_of columns_table scaled_sides row_scale scaled_term scaled_terms appended_row first_of shift_up shift_down
+one_row_costs = refl
 
--- four columns of very different reach
-steep_columns : columns_of 4 (box 0 100 0 ∷ box 0 30 0 ∷ box 0 50 20000 ∷ box 0 (10 ^ 9) 1 ∷ []) (at 60 ((0, one) ∷ (1, one) ∷ []) ∷ at 40 ((1, one) ∷ (2, one) ∷ []) ∷ from 70000000 ((0, units 1000000) ∷ (3, one) ∷ []) ∷ from 40000000 ((0, number (pos (300000 * 2 ^ 32 + 1431655765))) ∷ (3, one) ∷ []) ∷ []) ≡ pos 0 ∷ pos 0 ∷ pos 0 ∷ pos 17 ∷ []
-unfolding with_row spans_of pass_of columns_of count_leading_zeros
-steep_columns = refl
+-- a reservoir, a turbine and a plant
+abbrev stage : StageLp
+stage =
+    record {
+      columns = record { low = number (pos 0); high = number (pos 42949672960); cost = number (pos 0) } ∷ record { low = number (pos 0); high = number (pos 34359738368); cost = number (pos 0) } ∷ record { low = number (pos 0); high = number (pos 85899345920); cost = number (pos 21474836480) } ∷ [];
+      rows = record { low = Some (number (pos 21474836480)); high = Some (number (pos 21474836480)); terms = (0, number (pos 4294967296)) ∷ (1, number (pos 4294967296)) ∷ [] } ∷ record { low = Some (number (pos 38654705664)); high = Some (number (pos 38654705664)); terms = (1, number (pos 4294967296)) ∷ (2, number (pos 4294967296)) ∷ [] } ∷ [];
+      decisions = 3;
+      own = 2;
+    }
+
+stage_scales : option_map (λ (t : Table). t.scales) (first_of stage) ≡ Some (record { rows = negsuc 0 ∷ negsuc 0 ∷ []; columns = pos 0 ∷ pos 0 ∷ pos 0 ∷ []; costs = negsuc 2; values = pos 0 })
+unfolding with_row spans_of pass_of columns_of count_leading_zeros scaled_value scaled_cell costs_scale values_scale scaled_column column_step blank_of columns_table scaled_sides row_scale scaled_term scaled_terms appended_row first_of shift_up shift_down
+stage_scales = refl
+
+stage_costs : option_map (λ (t : Table). t.reduced) (first_of stage) ≡ Some (pos 0 ∷ pos 0 ∷ pos 687194767360 ∷ [])
+unfolding with_row spans_of pass_of columns_of count_leading_zeros scaled_value scaled_cell costs_scale values_scale scaled_column column_step blank_of columns_table scaled_sides row_scale scaled_term scaled_terms appended_row first_of shift_up shift_down
+stage_costs = refl
+
+-- four columns in one row
+abbrev flips : StageLp
+flips =
+    record {
+      columns = record { low = number (pos 0); high = number (pos 12884901888); cost = number (pos 4294967296) } ∷ record { low = number (pos 0); high = number (pos 17179869184); cost = number (pos 8589934592) } ∷ record { low = number (pos 0); high = number (pos 38654705664); cost = number (pos 30064771072) } ∷ record { low = number (negsuc 21474836479); high = number (pos 21474836480); cost = number (pos 38654705664) } ∷ [];
+      rows = record { low = Some (number (pos 51539607552)); high = None; terms = (0, number (pos 4294967296)) ∷ (1, number (pos 8589934592)) ∷ (2, number (pos 4294967296)) ∷ (3, number (pos 4294967296)) ∷ [] } ∷ [];
+      decisions = 4;
+      own = 1;
+    }
+
+flips_scales : option_map (λ (t : Table). t.scales) (first_of flips) ≡ Some (record { rows = negsuc 1 ∷ []; columns = pos 0 ∷ pos 0 ∷ pos 0 ∷ pos 0 ∷ []; costs = negsuc 3; values = pos 0 })
+unfolding with_row spans_of pass_of columns_of count_leading_zeros scaled_value scaled_cell costs_scale values_scale scaled_column column_step blank_of columns_table scaled_sides row_scale scaled_term scaled_terms appended_row first_of shift_up shift_down
+flips_scales = refl
+
+flips_terms : option_map (λ (t : Table). t.rows) (first_of flips) ≡ Some (((0, pos 274877906944) ∷ (1, pos 549755813888) ∷ (2, pos 274877906944) ∷ (3, pos 274877906944) ∷ []) ∷ [])
+unfolding with_row spans_of pass_of columns_of count_leading_zeros scaled_value scaled_cell costs_scale values_scale scaled_column column_step blank_of columns_table scaled_sides row_scale scaled_term scaled_terms appended_row first_of shift_up shift_down
+flips_terms = refl
+
+-- a factor of 3
+abbrev thirds : StageLp
+thirds =
+    record {
+      columns = record { low = number (pos 0); high = number (pos 4294967296); cost = number (pos 4294967296) } ∷ [];
+      rows = record { low = Some (number (pos 4294967296)); high = Some (number (pos 4294967296)); terms = (0, number (pos 12884901888)) ∷ [] } ∷ [];
+      decisions = 1;
+      own = 1;
+    }
+
+thirds_terms : option_map (λ (t : Table). t.rows) (first_of thirds) ≡ Some (((0, pos 824633720832) ∷ []) ∷ [])
+unfolding with_row spans_of pass_of columns_of count_leading_zeros scaled_value scaled_cell costs_scale values_scale scaled_column column_step blank_of columns_table scaled_sides row_scale scaled_term scaled_terms appended_row first_of shift_up shift_down
+thirds_terms = refl
+
+-- columns and rows of very different size
+abbrev steep : StageLp
+steep =
+    record {
+      columns = record { low = number (pos 0); high = number (pos 429496729600); cost = number (pos 0) } ∷ record { low = number (pos 0); high = number (pos 128849018880); cost = number (pos 0) } ∷ record { low = number (pos 0); high = number (pos 214748364800); cost = number (pos 85899345920000) } ∷ record { low = number (pos 0); high = number (pos 4294967296000000000); cost = number (pos 4294967296) } ∷ [];
+      rows = record { low = Some (number (pos 257698037760)); high = Some (number (pos 257698037760)); terms = (0, number (pos 4294967296)) ∷ (1, number (pos 4294967296)) ∷ [] } ∷ record { low = Some (number (pos 171798691840)); high = Some (number (pos 171798691840)); terms = (1, number (pos 4294967296)) ∷ (2, number (pos 4294967296)) ∷ [] } ∷ record { low = Some (number (pos 300647710720000000)); high = None; terms = (0, number (pos 4294967296000000)) ∷ (3, number (pos 4294967296)) ∷ [] } ∷ record { low = Some (number (pos 171798691840000000)); high = None; terms = (0, number (pos 1288491620455765)) ∷ (3, number (pos 4294967296)) ∷ [] } ∷ [];
+      decisions = 4;
+      own = 4;
+    }
+
+steep_scales : option_map (λ (t : Table). t.scales) (first_of steep) ≡ Some (record { rows = negsuc 0 ∷ negsuc 0 ∷ negsuc 19 ∷ negsuc 18 ∷ []; columns = pos 0 ∷ pos 0 ∷ pos 0 ∷ pos 17 ∷ []; costs = negsuc 17; values = pos 0 })
+unfolding with_row spans_of pass_of columns_of count_leading_zeros scaled_value scaled_cell costs_scale values_scale scaled_column column_step blank_of columns_table scaled_sides row_scale scaled_term scaled_terms appended_row first_of shift_up shift_down
+steep_scales = refl
+
+-- a box that is wider than values may be
+abbrev tall : StageLp
+tall =
+    record {
+      columns = record { low = number (pos 0); high = number (pos 4722366482869645213696); cost = number (pos 4294967296) } ∷ record { low = number (pos 0); high = number (pos 12884901888); cost = number (pos 21474836480) } ∷ [];
+      rows = record { low = Some (number (pos 2361183241434822606848)); high = None; terms = (0, number (pos 4294967296)) ∷ [] } ∷ record { low = Some (number (pos 8589934592)); high = None; terms = (1, number (pos 4294967296)) ∷ [] } ∷ [];
+      decisions = 2;
+      own = 2;
+    }
+
+tall_values : option_map (λ (t : Table). t.scales.values) (first_of tall) ≡ Some (negsuc 18)
+unfolding with_row spans_of pass_of columns_of count_leading_zeros scaled_value scaled_cell costs_scale values_scale scaled_column column_step blank_of columns_table scaled_sides row_scale scaled_term scaled_terms appended_row first_of shift_up shift_down
+tall_values = refl
+
+-- factors, bounds and costs below 0
+abbrev interval : StageLp
+interval =
+    record {
+      columns = record { low = number (negsuc 30064771071); high = number (negsuc 8589934591); cost = number (pos 12884901888) } ∷ record { low = number (negsuc 42949672959); high = number (pos 42949672960); cost = number (negsuc 4294967295) } ∷ record { low = number (pos 0); high = number (pos 171798691840); cost = number (pos 21474836480) } ∷ [];
+      rows = record { low = Some (number (negsuc 17179869183)); high = Some (number (pos 25769803776)); terms = (0, number (pos 4294967296)) ∷ (1, number (pos 8589934592)) ∷ (2, number (negsuc 4294967295)) ∷ [] } ∷ record { low = None; high = Some (number (pos 12884901888)); terms = (0, number (negsuc 8589934591)) ∷ (1, number (pos 4294967296)) ∷ [] } ∷ [];
+      decisions = 3;
+      own = 2;
+    }
+
+interval_stands : option_map (λ (t : Table). t.basis.high) (first_of interval) ≡ Some (false ∷ true ∷ false ∷ [])
+unfolding with_row spans_of pass_of columns_of count_leading_zeros scaled_value scaled_cell costs_scale values_scale scaled_column column_step blank_of columns_table scaled_sides row_scale scaled_term scaled_terms appended_row first_of shift_up shift_down
+interval_stands = refl
+
+-- exponents above 0
+abbrev runaway : StageLp
+runaway =
+    record {
+      columns = record { low = number (pos 920701512557196); high = number (pos 117507942678290262); cost = number (pos 245511287151066) } ∷ record { low = number (pos 335007449088); high = number (pos 4913442586624); cost = number (pos 0) } ∷ record { low = number (pos 8589934592); high = number (pos 357555071019325646); cost = number (pos 38376909770) } ∷ [];
+      rows = record { low = Some (number (pos 83310331876159680023)); high = None; terms = (1, number (pos 4294967296)) ∷ (2, number (pos 1000727379968)) ∷ [] } ∷ record { low = Some (number (pos 10510665696589712330)); high = None; terms = (0, number (pos 371100677779)) ∷ (1, number (pos 3082020331)) ∷ (2, number (pos 4294967296)) ∷ [] } ∷ record { low = Some (number (pos 11676966785433635438)); high = None; terms = (0, number (pos 8589934592)) ∷ (1, number (pos 2419071643287)) ∷ (2, number (pos 137438953472)) ∷ [] } ∷ [];
+      decisions = 3;
+      own = 3;
+    }
+
+runaway_scales : option_map (λ (t : Table). t.scales) (first_of runaway) ≡ Some (record { rows = negsuc 9 ∷ negsuc 7 ∷ negsuc 9 ∷ []; columns = pos 1 ∷ pos 0 ∷ pos 2 ∷ []; costs = negsuc 16; values = negsuc 2 })
+unfolding with_row spans_of pass_of columns_of count_leading_zeros scaled_value scaled_cell costs_scale values_scale scaled_column column_step blank_of columns_table scaled_sides row_scale scaled_term scaled_terms appended_row first_of shift_up shift_down
+runaway_scales = refl
+
+-- a side that leaves the range of values
+abbrev too_large : StageLp
+too_large =
+    record {
+      columns = record { low = number (pos 0); high = number (pos 4294967296); cost = number (pos 4294967296) } ∷ record { low = number (pos 0); high = number (pos 4722366482869645213696); cost = number (pos 0) } ∷ [];
+      rows = record { low = Some (number (pos 1152921504606846976)); high = None; terms = (0, number (pos 4294967296)) ∷ (1, number (pos 1)) ∷ [] } ∷ record { low = Some (number (negsuc 1237940039285380274899124223)); high = None; terms = (1, number (pos 1)) ∷ [] } ∷ [];
+      decisions = 2;
+      own = 2;
+    }
+
+no_table : first_of too_large ≡ None
+unfolding with_row spans_of pass_of columns_of count_leading_zeros scaled_value scaled_cell costs_scale values_scale scaled_column column_step blank_of columns_table scaled_sides row_scale scaled_term scaled_terms appended_row first_of shift_up shift_down
+no_table = refl
+
+-- two decisions, and a successor's column that stands at 0
+abbrev reference : StageLp
+reference =
+    record {
+      columns = record { low = number (pos 0); high = number (pos 42949672960); cost = number (pos 0) } ∷ record { low = number (pos 0); high = number (pos 42949672960); cost = number (pos 12884901888) } ∷ record { low = number (pos 0); high = number (pos 0); cost = number (pos 0) } ∷ [];
+      rows = record { low = Some (number (pos 25769803776)); high = Some (number (pos 25769803776)); terms = (0, number (pos 4294967296)) ∷ (1, number (pos 4294967296)) ∷ [] } ∷ [];
+      decisions = 2;
+      own = 1;
+    }
+
+reference_scales : option_map (λ (t : Table). t.scales) (first_of reference) ≡ Some (record { rows = negsuc 0 ∷ []; columns = pos 0 ∷ pos 0 ∷ pos 0 ∷ []; costs = negsuc 1; values = pos 0 })
+unfolding with_row spans_of pass_of columns_of count_leading_zeros scaled_value scaled_cell costs_scale values_scale scaled_column column_step blank_of columns_table scaled_sides row_scale scaled_term scaled_terms appended_row first_of shift_up shift_down
+reference_scales = refl
+
+-- the same with its successor's cuts
+abbrev with_cuts : StageLp
+with_cuts =
+    record {
+      columns = record { low = number (pos 0); high = number (pos 42949672960); cost = number (pos 0) } ∷ record { low = number (pos 0); high = number (pos 42949672960); cost = number (pos 12884901888) } ∷ record { low = number (pos 0); high = number (pos 171798691840); cost = number (pos 4294967296) } ∷ [];
+      rows = record { low = Some (number (pos 17179869184)); high = Some (number (pos 17179869184)); terms = (0, number (pos 4294967296)) ∷ (1, number (pos 4294967296)) ∷ [] } ∷ record { low = Some (number (pos 128849018880)); high = None; terms = (0, number (pos 21474836480)) ∷ (2, number (pos 4294967296)) ∷ [] } ∷ record { low = Some (number (pos 0)); high = None; terms = (2, number (pos 4294967296)) ∷ [] } ∷ [];
+      decisions = 2;
+      own = 1;
+    }
+
+cuts_scales : option_map (λ (t : Table). t.scales) (option_and_then (widened with_cuts) (first_of reference)) ≡ Some (record { rows = negsuc 0 ∷ negsuc 2 ∷ negsuc 2 ∷ []; columns = pos 0 ∷ pos 0 ∷ pos 2 ∷ []; costs = negsuc 1; values = pos 0 })
+unfolding with_row spans_of pass_of columns_of count_leading_zeros scaled_value scaled_cell costs_scale values_scale scaled_column column_step blank_of columns_table scaled_sides row_scale scaled_term scaled_terms appended_row first_of shift_up shift_down top_of cut_spans rescaled widened
+cuts_scales = refl
+
+cuts_costs : option_map (λ (t : Table). t.reduced) (option_and_then (widened with_cuts) (first_of reference)) ≡ Some (pos 0 ∷ pos 824633720832 ∷ pos 1099511627776 ∷ [])
+unfolding with_row spans_of pass_of columns_of count_leading_zeros scaled_value scaled_cell costs_scale values_scale scaled_column column_step blank_of columns_table scaled_sides row_scale scaled_term scaled_terms appended_row first_of shift_up shift_down top_of cut_spans rescaled widened
+cuts_costs = refl

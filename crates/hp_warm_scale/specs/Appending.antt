@@ -1,14 +1,10 @@
 -- Rows that are put behind a table, and the sides of its rows.
-use Rattle.std.specs.Prelude.{◌≡◌, ◌≤ℤ◌, All, ℕ, suc, ◌+◌, ℤ, pos, ◌+ℤ◌, ◌-ℤ◌, Bool, true, false, List, [], ◌∷◌, ◌++◌, length, slice_set, take, drop, Option, Some, None}
+use Rattle.std.specs.Prelude.{◌≤ℤ◌, All, ℕ, suc, ℤ, pos, ◌+ℤ◌, Bool, true, false, List, [], ◌∷◌, ◌++◌, length, slice_set, Option, Some, None}
 use Rattle.std.specs.Option.{option_map, option_and_then, is_some}
 use Rattle.hp_num.specs.Sums.{entry}
 use Rattle.hp_solver.specs.declared.fixed.Fx.{Fx}
-use Rattle.hp_solver.specs.declared.stage_lp.Column.{Column}
 use Rattle.hp_solver.specs.declared.stage_lp.LpRow.{LpRow}
-use Rattle.hp_solver.specs.declared.stage_lp.StageLp.{StageLp}
-use Rattle.hp_warm_table.specs.declared.table.Scales.{Scales}
 use Rattle.hp_warm_table.specs.declared.table.Bounds.{Bounds}
-use Rattle.hp_warm_table.specs.declared.table.Basis.{Basis}
 use Rattle.hp_warm_table.specs.declared.table.Table.{Table}
 use Rattle.hp_warm_table.specs.Each.{each_from}
 use Rattle.hp_warm_scale.specs.declared.sides.Sides.{Sides}

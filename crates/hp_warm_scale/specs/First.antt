@@ -1,5 +1,5 @@
 -- The first table of a program.
-use Rattle.std.specs.Prelude.{◌≡◌, List, length, take, drop, Option, Some, None, nat_lt, if◌then◌else◌}
+use Rattle.std.specs.Prelude.{length, take, Option, None, nat_lt, if◌then◌else◌}
 use Rattle.std.specs.Option.{option_and_then}
 use Rattle.hp_solver.specs.declared.stage_lp.StageLp.{StageLp}
 use Rattle.hp_warm_table.specs.declared.table.Table.{Table}

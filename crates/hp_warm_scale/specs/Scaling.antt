@@ -1,9 +1,9 @@
 -- Numbers of a program by the scales of a table, and the columns of the first table.
-use Rattle.std.specs.Prelude.{◌≡◌, ℕ, suc, ◌≤◌, ℤ, pos, negsuc, ◌+ℤ◌, ◌-ℤ◌, ◌≤ℤ◌, Bool, true, false, List, [], ◌∷◌, map, length, replicate, slice_set, Option, Some, None, int_lt, if◌then◌else◌}
+use Rattle.std.specs.Prelude.{ℕ, ℤ, pos, negsuc, ◌+ℤ◌, ◌-ℤ◌, ◌≤ℤ◌, Bool, true, false, List, [], map, replicate, slice_set, Option, Some, None, int_lt, if◌then◌else◌}
 use Rattle.std.specs.Int.{int_min}
 use Rattle.std.specs.Ordering.{int_eq}
 use Rattle.std.specs.Option.{option_map, option_and_then}
-use Rattle.hp_num.specs.Sums.{entry, table}
+use Rattle.hp_num.specs.Sums.{entry}
 use Rattle.hp_solver.specs.declared.fixed.Fx.{Fx}
 use Rattle.hp_solver.specs.declared.stage_lp.Column.{Column}
 use Rattle.hp_solver.specs.declared.stage_lp.LpRow.{LpRow}
@@ -47,10 +47,13 @@ box_weight fs j c = Some (pos (reach_of c) -ℤ entry fs j)
 unfoldable pub values_scale : List ℤ → List Column → ℤ
 values_scale fs decisions = int_min (pos 0) (room (pos 54) (span_of (box_weight fs) decisions))
 
--- the bounds and the cost of a column whose exponent is f
+-- both bounds and the cost; absent where one of them is
+abbrev pub column_of : Option ℤ → Option ℤ → Option ℤ → Option ScaledColumn
+column_of low up cost = option_and_then (λ l. option_and_then (λ u. option_map (λ c. record { low = l; up = u; cost = c }) cost) up) low
+
+-- the bounds and the cost of a column with the exponent f; g and h are the exponents of costs and of values
 unfoldable pub scaled_column : Column → ℤ → ℤ → ℤ → Option ScaledColumn
-scaled_column c f g h =
-    option_and_then (λ low. option_and_then (λ up. option_map (λ cost. record { low = low; up = up; cost = cost }) (scaled_cell c.cost (g +ℤ f +ℤ pos 8))) (scaled_value c.high (h -ℤ f))) (scaled_value c.low (h -ℤ f))
+scaled_column c f g h = column_of (scaled_value c.low (h -ℤ f)) (scaled_value c.high (h -ℤ f)) (scaled_cell c.cost (g +ℤ f +ℤ pos 8))
 
 -- with the bounds, the cost and the reduced cost of column j, which is nonbasic at place j
 abbrev pub with_column : ℕ → ScaledColumn → Table → Table

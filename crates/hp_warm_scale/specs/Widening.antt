@@ -1,5 +1,5 @@
 -- A table that is widened by a program: the columns of successors get scales, bounds and costs, and the cuts are put behind the rows.
-use Rattle.std.specs.Prelude.{ℕ, ◌-◌, ℤ, pos, negsuc, ◌+ℤ◌, ◌-ℤ◌, List, [], length, replicate, take, drop, get_or, slice_get, slice_set, Option, Some, None, nat_le, if◌then◌else◌}
+use Rattle.std.specs.Prelude.{ℕ, ◌-◌, ℤ, pos, negsuc, ◌+ℤ◌, ◌-ℤ◌, List, length, replicate, take, drop, get_or, slice_get, slice_set, Option, Some, None, nat_le, if◌then◌else◌}
 use Rattle.std.specs.Int.{int_max}
 use Rattle.std.specs.Ordering.{int_eq}
 use Rattle.std.specs.Option.{option_map, option_and_then}
@@ -38,18 +38,26 @@ with_top decisions spans (Some x) (Some j) = if nat_le decisions j then slice_se
 unfoldable pub cut_spans : ℕ → ℕ → List ℤ → List LpRow → List (Option Span)
 cut_spans decisions n fs cuts = walk (λ i ss (r : LpRow). with_top decisions ss (top_of fs r.terms) (last_column r.terms)) 0 (replicate n None) cuts
 
--- half of the greatest and the least top, where the least is at most 20 below the greatest, less 33
+-- the greatest and the least, where the least is taken to be at most 20 below the greatest
+abbrev pub tops : Span → ℤ
+tops s = s.greatest +ℤ int_max s.least (s.greatest -ℤ pos 20)
+
+-- half of these, less 33; both are 0 where there are none
 abbrev pub cut_lift : Option Span → ℤ
 cut_lift None = negsuc 32
-cut_lift (Some s) = floor_over (s.greatest +ℤ int_max s.least (s.greatest -ℤ pos 20)) 2 -ℤ pos 33
+cut_lift (Some s) = floor_over (tops s) 2 -ℤ pos 33
 
 -- the exponent of a successor's column, by the span of the tops of its cuts; h is the exponent of values
 abbrev pub successor_scale : ℤ → Option Span → Column → ℤ
-successor_scale h s c = int_max (pos 0) (int_max (cut_lift s) (pos (reach_of c) +ℤ h -ℤ pos 54))
+successor_scale h s c = int_max (int_max (cut_lift s) (pos (reach_of c) +ℤ h -ℤ pos 54)) (pos 0)
 
--- the exponents fs, with those of the columns from number j on written over
+-- the exponents fs with that of column k written over
+abbrev pub with_scale : ℤ → List (Option Span) → ℕ → List ℤ → Column → List ℤ
+with_scale h spans k fs c = slice_set fs k (successor_scale h (get_or spans k None) c)
+
+-- with those of the columns from number j on
 abbrev pub successor_scales : ℤ → List (Option Span) → ℕ → List Column → List ℤ → List ℤ
-successor_scales h spans j cs fs = walk (λ k es c. slice_set es k (successor_scale h (get_or spans k None) c)) j fs cs
+successor_scales h spans j cs fs = walk (with_scale h spans) j fs cs
 
 abbrev pub with_scales : List ℤ → Table → Table
 with_scales fs t = record t { scales = record t.scales { columns = fs } }

@@ -1,5 +1,5 @@
 // Numbers of a program by the scales of a table, and the columns of the first table.
-ghost use Rattle.std.specs.Prelude.{◌≡◌, ◌<◌, ◌≤◌, ◌≤ℤ◌, ◌+◌, ◌+ℤ◌, ◌∷◌, pos, negsuc, length, map, replicate, int_lt, slice_set, Some, IfOk};
+ghost use Rattle.std.specs.Prelude.{◌≡◌, ◌<◌, ◌≤◌, ◌≤ℤ◌, ◌+◌, ◌+ℤ◌, ◌-ℤ◌, ◌∷◌, pos, negsuc, length, map, replicate, int_lt, slice_set, Some, IfOk};
 ghost use Rattle.std.specs.Option.{option_map};
 ghost use Rattle.hp_num.specs.Sums.{entry};
 ghost use Rattle.hp_warm_table.specs.Shape.{IsTable};
@@ -7,7 +7,7 @@ ghost use Rattle.hp_warm_scale.specs.Walks.{Gives};
 ghost use Rattle.hp_warm_scale.specs.Walks.{run};
 ghost use Rattle.hp_warm_scale.specs.Spans.{AreBetween, span_of};
 ghost use Rattle.hp_warm_scale.specs.Exponents.{AreUpTo};
-ghost use Rattle.hp_warm_scale.specs.Scaling.{scaled_value, scaled_cell, room, cost_weight, costs_scale, box_weight, values_scale, scaled_column, with_column, column_step, numbers, blank_of, stood, columns_table, AreSmall};
+ghost use Rattle.hp_warm_scale.specs.Scaling.{scaled_value, scaled_cell, room, cost_weight, costs_scale, box_weight, values_scale, column_of, scaled_column, with_column, column_step, numbers, blank_of, stood, columns_table, AreSmall};
 
 use crate::exponents::{exponent_at, reach};
 use crate::spans::{Span, join};
@@ -144,7 +144,33 @@ fn scaled_cost(cost: Fx, costs: i32, exponent: i32) -> Option<Cell>
     scaled_cell(cost, power(costs, exponent))
 }
 
-// The bounds and the cost of a column with the exponent `exponent`. None where one leaves its range.
+// Both bounds and the cost. None where one of them is absent.
+fn column_of(
+    low: Option<Quantity>,
+    up: Option<Quantity>,
+    cost: Option<Cell>,
+) -> Option<ScaledColumn>
+    ensures { result ≡ column_of low up cost }
+{
+    Some(ScaledColumn {
+        low: low?,
+        up: up?,
+        cost: cost?,
+    })
+}
+
+// A bound of a column, scaled. None where it leaves the range of bounds.
+fn scaled_bound(bound: Fx, values: i32, exponent: i32) -> Option<Quantity>
+    requires values_least { negsuc 1299 ≤ℤ values }
+    requires values_greatest { values ≤ℤ pos 0 }
+    requires least { pos 0 ≤ℤ exponent }
+    requires greatest { exponent ≤ℤ pos 1000 }
+    ensures { result ≡ scaled_value bound (values -ℤ exponent) }
+{
+    scaled_value(bound, values - exponent)
+}
+
+// The bounds and the cost of a column with an exponent. None where one leaves its range.
 #[tactic(auto, unfolding(crate::specs::Scaling::scaled_column))]
 pub(crate) fn scaled_column(
     column: &Column,
@@ -160,8 +186,7 @@ pub(crate) fn scaled_column(
     requires values_greatest { values ≤ℤ pos 0 }
     ensures { result ≡ scaled_column column.now exponent costs values }
 {
-    let low = scaled_value(column.low, values - exponent)?;
-    let up = scaled_value(column.high, values - exponent)?;
-    let cost = scaled_cost(column.cost, costs, exponent)?;
-    Some(ScaledColumn { low, up, cost })
+    let low = scaled_bound(column.low, values, exponent);
+    let up = scaled_bound(column.high, values, exponent);
+    column_of(low, up, scaled_cost(column.cost, costs, exponent))
 }

@@ -98,7 +98,7 @@ fn set_all(
 #[tactic(auto, unfolding(crate::specs::Appending::sided))]
 pub fn set_sides(table: &mut Table, lp: &StageLp) -> bool
     requires whole { IsTable table.old }
-    requires small { AreSmall 1300 table.old.scales }
+    requires small { AreSmall 1000 table.old.scales }
     requires rows { length lp.now.rows ≡ length table.old.rows }
     ensures answer { result ≡ (sided table.old lp.now.rows).0 }
     ensures value { table.new ≡ with_bounds (sided table.old lp.now.rows).1 table.old }

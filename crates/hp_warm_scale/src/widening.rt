@@ -1,14 +1,15 @@
 // A table that is widened by the columns of successors and by cuts.
-ghost use Rattle.std.specs.Prelude.{◌≡◌, ℕ, ◌+◌, ◌<◌, ◌≤◌, ◌≤ℤ◌, pos, negsuc, length, replicate, true, All, None, OnOk, IfOk, IfSome};
-ghost use Rattle.hp_num.specs.Sums.{entry};
+ghost use Rattle.std.specs.Prelude.{◌≡◌, ℕ, ◌+◌, ◌+ℤ◌, ◌-ℤ◌, ◌<◌, ◌≤◌, ◌≤ℤ◌, pos, negsuc, length, replicate, true, All, None, OnOk, IfOk, IfSome};
+ghost use Rattle.hp_num.specs.Sums.{floor_over};
 ghost use Rattle.hp_solver.specs.Proper.{IsProper, AreRising};
 ghost use Rattle.hp_solver.specs.declared.stage_lp.LpRow.{LpRow};
 ghost use Rattle.hp_warm_table.specs.Shape.{IsTable};
 ghost use Rattle.hp_warm_scale.specs.Walks.{Gives};
-ghost use Rattle.hp_warm_scale.specs.Spans.{AreBetween};
-ghost use Rattle.hp_warm_scale.specs.Exponents.{AreUpTo, SpansBetween};
+ghost use Rattle.hp_warm_scale.specs.Spans.{IsBetween, AreBetween};
+ghost use Rattle.std.specs.Int.{int_max};
+ghost use Rattle.hp_warm_scale.specs.Exponents.{AreUpTo, SpansBetween, reach_of};
 ghost use Rattle.hp_warm_scale.specs.Scaling.{AreSmall};
-ghost use Rattle.hp_warm_scale.specs.Widening.{last_column, top, top_of, with_top, cut_spans, cut_lift, successor_scale, successor_scales, rescaled, widened};
+ghost use Rattle.hp_warm_scale.specs.Widening.{last_column, top, top_of, with_top, cut_spans, tops, cut_lift, successor_scale, with_scale, successor_scales, rescaled, widened};
 
 use crate::appending::{append, term_span};
 use crate::exponents::reach;
@@ -94,6 +95,26 @@ fn write_cut_spans(decisions: usize, exponents: &[i32], spans: &mut [Option<Span
     }
 }
 
+// The greatest and the least top, where the least is at most 20 below the greatest.
+fn tops(span: Span) -> i32
+    requires { IsBetween (pos 0) (pos 640) span }
+    ensures value { result ≡ tops span }
+    ensures least { pos 0 ≤ℤ result }
+    ensures greatest { result ≤ℤ pos 1280 }
+{
+    span.greatest + span.least.max(span.greatest - 20)
+}
+
+fn half(number: i32) -> i32
+    requires least { pos 0 ≤ℤ number }
+    requires greatest { number ≤ℤ pos 1280 }
+    ensures value { result ≡ floor_over number 2 }
+    ensures least { pos 0 ≤ℤ result }
+    ensures greatest { result ≤ℤ pos 640 }
+{
+    number.div_euclid(2)
+}
+
 // Half of the greatest and the least top, less 33.
 fn cut_lift(span: Option<Span>) -> i32
     requires { AreBetween (pos 0) (pos 640) span }
@@ -103,8 +124,29 @@ fn cut_lift(span: Option<Span>) -> i32
 {
     match span {
         None => -33,
-        Some(span) => (span.greatest + span.least.max(span.greatest - 20)).div_euclid(2) - 33,
+        Some(span) => half(tops(span)) - 33,
     }
+}
+
+// What the box of a successor's column asks of its exponent.
+fn box_lift(values: i32, column: &Column) -> i32
+    requires least { negsuc 1299 ≤ℤ values }
+    requires greatest { values ≤ℤ pos 0 }
+    ensures value { result ≡ pos (reach_of column.now) +ℤ values -ℤ pos 54 }
+    ensures greatest { result ≤ℤ pos 640 }
+{
+    reach(column) as i32 + values - 54
+}
+
+// The greatest of two numbers and 0.
+fn greatest(first: i32, second: i32) -> i32
+    requires first { first ≤ℤ pos 640 }
+    requires second { second ≤ℤ pos 640 }
+    ensures value { result ≡ int_max (int_max first second) (pos 0) }
+    ensures least { pos 0 ≤ℤ result }
+    ensures greatest { result ≤ℤ pos 1000 }
+{
+    first.max(second).max(0)
 }
 
 // The exponent of a successor's column.
@@ -116,9 +158,28 @@ fn successor_scale(values: i32, span: Option<Span>, column: &Column) -> i32
     ensures least { pos 0 ≤ℤ result }
     ensures greatest { result ≤ℤ pos 1000 }
 {
-    cut_lift(span)
-        .max(reach(column) as i32 + values - 54)
-        .max(0)
+    greatest(cut_lift(span), box_lift(values, column))
+}
+
+// Writes the exponent of column j.
+fn write_scale(
+    values: i32,
+    spans: &[Option<Span>],
+    j: usize,
+    column: &Column,
+    exponents: &mut [i32],
+)
+    requires least { negsuc 1299 ≤ℤ values }
+    requires greatest { values ≤ℤ pos 0 }
+    requires spans { SpansBetween (pos 0) (pos 640) spans.now }
+    requires exponents { AreUpTo 1000 exponents.old }
+    requires there { j < length exponents.old }
+    requires count { length spans.now ≡ length exponents.old }
+    ensures value { exponents.new ≡ with_scale values spans.now j exponents.old column.now }
+    ensures count { length exponents.new ≡ length exponents.old }
+    ensures exponents { AreUpTo 1000 exponents.new }
+{
+    exponents[j] = successor_scale(values, spans[j], column);
 }
 
 // Writes the exponents of the columns from number `first` on.
@@ -140,13 +201,13 @@ fn write_scales(
     ensures exponents { AreUpTo 1000 exponents.new }
 {
     for j in 0..columns.len() {
-        exponents[first + j] = successor_scale(values, spans[first + j], &columns[j]);
+        write_scale(values, spans, first + j, &columns[j], exponents);
     }
 }
 
-// Scales the columns of successors, from number `decisions` on, by their cuts.
+// Writes the exponents of successors' columns, from number `decisions` on, by their cuts.
 #[tactic(auto, unfolding(crate::specs::Widening::rescaled))]
-fn rescale(
+fn write_successors(
     alloc: Global,
     table: &mut Table,
     decisions: usize,
@@ -176,6 +237,26 @@ fn rescale(
         table.scales.columns.as_mut_slice(),
     );
     Ok(())
+}
+
+// Scales the columns of successors, from number `decisions` on, which makes a table of a table.
+fn rescale(
+    alloc: Global,
+    table: &mut Table,
+    decisions: usize,
+    successors: &[Column],
+    cuts: &[LpRow],
+) -> Result<(), Memory>
+    requires whole { IsTable table.old }
+    requires small { AreSmall 512 table.old.scales }
+    requires there { decisions + length successors.now ≤ length table.old.costs }
+    requires rising { All (λ (r : LpRow). AreRising 0 (length table.old.costs) r.terms) cuts.now }
+    ensures value { OnOk result (table.new ≡ rescaled decisions successors.now cuts.now table.old) }
+    ensures whole { OnOk result (IsTable table.new) }
+    ensures small { OnOk result (AreSmall 1000 table.new.scales) }
+    ensures count { OnOk result (length table.new.costs ≡ length table.old.costs) }
+{
+    write_successors(alloc, table, decisions, successors, cuts)
 }
 
 /// Widens a table of a program's own part by its other columns, which belong to successors, and by

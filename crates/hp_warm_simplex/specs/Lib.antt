@@ -1,3 +1,6 @@
-pub mod Activity
-pub mod Results
+pub mod Chains
+pub mod Fitting
+pub mod Going
+pub mod Steps
+pub mod Turns
 pub mod Violations

@@ -1,5 +1,11 @@
-//! The bounded dual simplex method, warm.
+//! The bounded dual simplex method, warm: turns on a table, answers along a chain, and what a chain begins with.
 #![tactic(auto)]
 
-pub mod activity;
+mod attempts;
+mod going;
+mod looking;
+pub mod turns;
 pub mod violations;
+pub mod warm;
+
+pub use warm::WarmSimplex;

@@ -4,7 +4,6 @@ use Rattle.std.specs.Option.{option_map}
 use Rattle.std.specs.Ordering.{int_eq}
 use Rattle.std.proofs.lemmas.List.{take_at, length-drop, length-take-le}
 use Rattle.hp_num.specs.Sums.{entry}
-use Rattle.hp_warm_table.specs.Each.{each_from}
 use Rattle.hp_warm_table.specs.Squares.{rows_of, put}
 use Rattle.hp_warm_table.specs.Updates.{Gives, moved, added_row, moved_row, moved_at}
 use Rattle.hp_warm_table.proofs.Each.{each_length, some_same}

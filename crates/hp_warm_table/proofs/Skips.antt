@@ -1,5 +1,5 @@
 -- A cell to which nothing is added.
-use Rattle.std.proofs.Common.{◌≡◌, zero, ◌^◌, ◌<◌, ℤ, pos, negsuc, ◌+ℤ◌, ◌*ℤ◌, nat_abs, nat_lt, Bool, true, false, Option, Some, None, cond, arith, refl, ap, sym, ◌∙◌}
+use Rattle.std.proofs.Common.{◌≡◌, ◌^◌, ◌<◌, ℤ, pos, ◌+ℤ◌, ◌*ℤ◌, nat_abs, nat_lt, Bool, true, false, Option, Some, None, cond, arith, refl, ap, ◌∙◌}
 use Rattle.std.specs.Ordering.{int_eq}
 use Rattle.std.proofs.lemmas.Bool.Decides.{Decides-int_eq, nat_tests}
 use lib.IntN.{*ℤ-zero, +ℤ_idr}

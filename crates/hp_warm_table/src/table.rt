@@ -101,7 +101,8 @@ pub struct Basis {
 }
 
 impl Basis {
-    fn copy(&self, alloc: Global) -> Result<Basis, Memory>
+    /// The same basis, in memory of its own. [`Memory`] where memory was refused.
+    pub fn copy(&self, alloc: Global) -> Result<Basis, Memory>
         ensures { IfOk result (λ basis. basis ≡ self.now) }
     {
         Ok(Basis {

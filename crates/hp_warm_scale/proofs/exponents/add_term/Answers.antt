@@ -1,4 +1,4 @@
-use Rattle.std.proofs.Common.{◌≡◌, ℤ, pos, negsuc, ◌≤ℤ◌, subst, sym, None, get_or}
+use Rattle.std.proofs.Common.{ℤ, pos, negsuc, ◌≤ℤ◌, subst, sym, None, get_or}
 use Rattle.std.proofs.lemmas.Int.{to_z-of_z}
 use mir.Syntax.{w32}
 use Rattle.hp_warm_scale.specs.Spans.{AreBetween}

@@ -1,4 +1,4 @@
-use Rattle.std.proofs.Common.{◌≡◌, length, map, None, arith, sym, length-set, ◌∙◌}
+use Rattle.std.proofs.Common.{map, None, arith, sym, length-set, ◌∙◌}
 use Rattle.std.proofs.Math.ListN.{get_or-map}
 use Rattle.std.proofs.lemmas.List.{length-map}
 use Rattle.hp_warm_scale.proofs.Passes.{no_span, nones_are}

@@ -1,4 +1,4 @@
-use Rattle.std.proofs.Common.{◌≡◌, length, map, pos, ap, arith, sym, length-set, ◌∙◌}
+use Rattle.std.proofs.Common.{map, pos, ap, arith, sym, length-set, ◌∙◌}
 use Rattle.std.proofs.Math.ListN.{get_or-map}
 use Rattle.std.proofs.lemmas.List.{length-map, get_or_default}
 use Rattle.hp_warm_scale.specs.Scaling.{is_negative}

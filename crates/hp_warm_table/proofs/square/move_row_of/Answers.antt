@@ -1,4 +1,4 @@
-use Rattle.std.proofs.Common.{◌≡◌, ◌+◌, ◌*◌, ◌≤◌, ℕ, List, ℤ, length, arith, ap, sym, ◌∙◌, subst, take, drop}
+use Rattle.std.proofs.Common.{◌*◌, List, ℤ, length, arith, ap, ◌∙◌, subst, take, drop}
 use Rattle.std.specs.Option.{option_map}
 use Rattle.hp_warm_table.proofs.Flat.{inside}
 use Rattle.hp_warm_table.proofs.Moves.{moved_rows, written}

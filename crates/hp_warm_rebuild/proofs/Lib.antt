@@ -1,0 +1,5 @@
+pub mod Keeping
+pub mod Sizes
+pub mod Standing
+pub mod Tightening
+pub mod Worked

@@ -1,0 +1,4 @@
+pub mod Clean
+pub mod Kept
+pub mod Standings
+pub mod Tighten

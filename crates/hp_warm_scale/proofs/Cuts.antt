@@ -1,0 +1,27 @@
+-- The columns and the exponents of cuts.
+use Rattle.std.proofs.Common.{ℕ, zero, suc, ◌-◌, ◌<◌, ℤ, pos, ◌≤ℤ◌, List, [], ◌∷◌, length, slice_get, slice_set, Option, Some, None, IfSome}
+use Rattle.std.specs.Option.{option_map}
+use Rattle.hp_solver.specs.Proper.{AreRising}
+use Rattle.hp_warm_scale.specs.Exponents.{Term, AreUpTo}
+use Rattle.hp_warm_scale.specs.Widening.{last_column}
+
+-- a term of rising ones is in a column that is there
+term_inside : (least n k : ℕ) (ts : List Term) → AreRising least n ts → IfSome (slice_get ts k) (λ (t : Term). t.0 < n)
+term_inside least n k [] r = tt
+term_inside least n zero (t ∷ ts) r = r.1
+term_inside least n (suc k) (t ∷ ts) r = term_inside (suc t.0) n k ts r.2
+
+mapped : (n : ℕ) (o : Option Term) → IfSome o (λ (t : Term). t.0 < n) → IfSome (option_map (λ (t : Term). t.0) o) (λ j. j < n)
+mapped n None h = tt
+mapped n (Some t) h = h
+
+pub last_inside : (least n : ℕ) (ts : List Term) → AreRising least n ts → IfSome (last_column ts) (λ j. j < n)
+last_inside least n ts r = mapped n (slice_get ts (length ts - 1)) (term_inside least n (length ts - 1) ts r)
+
+-- one exponent written over
+pub set_up_to : (most : ℕ) (fs : List ℤ) (i : ℕ) (x : ℤ) → pos 0 ≤ℤ x → x ≤ℤ pos most → AreUpTo most fs → AreUpTo most (slice_set fs i x)
+set_up_to most [] i x a b h j = h j
+set_up_to most (f ∷ fs) zero x a b h zero = (a, b)
+set_up_to most (f ∷ fs) zero x a b h (suc j) = h (suc j)
+set_up_to most (f ∷ fs) (suc i) x a b h zero = h 0
+set_up_to most (f ∷ fs) (suc i) x a b h (suc j) = set_up_to most fs i x a b (λ k. h (suc k)) j

@@ -1,0 +1,39 @@
+-- The first table is that of a program's own part.
+use Rattle.std.proofs.Common.{◌≡◌, ℕ, ◌≤◌, List, ◌++◌, length, length-append, take, take_all, drop, map, Option, None, cond, nat_lt, arith, ap, ap₂, ◌∙◌}
+use Rattle.std.specs.Option.{option_and_then}
+use Rattle.std.proofs.lemmas.List.{take_at, length-take-le, length-drop, length-map}
+use Rattle.hp_solver.specs.declared.stage_lp.Column.{Column}
+use Rattle.hp_solver.specs.declared.stage_lp.LpRow.{LpRow}
+use Rattle.hp_solver.specs.declared.stage_lp.StageLp.{StageLp}
+use Rattle.hp_solver.specs.Numbers.{zero_fx}
+use Rattle.hp_warm_table.specs.declared.table.Table.{Table}
+use Rattle.hp_warm_scale.specs.Scaling.{columns_table}
+use Rattle.hp_warm_scale.specs.Appending.{appended}
+use Rattle.hp_warm_scale.specs.First.{first_of}
+
+-- a column that stands at 0 and costs nothing
+abbrev idle : Column → Column
+idle c = record { low = zero_fx; high = zero_fx; cost = zero_fx }
+
+-- a program without its cuts, with its columns from `decisions` on idle
+abbrev own_part : StageLp → StageLp
+own_part lp = record {
+  columns = take lp.decisions lp.columns ++ map idle (drop lp.decisions lp.columns);
+  rows = take lp.own lp.rows;
+  decisions = lp.decisions;
+  own = lp.own;
+}
+
+abbrev by_parts : ℕ → List Column → List LpRow → Option Table
+by_parts n decisions rows = cond (nat_lt 1199 n) None (option_and_then (appended rows) (columns_table n decisions rows))
+
+pub first_of_own_part : (lp : StageLp) → lp.decisions ≤ length lp.columns → lp.own ≤ length lp.rows → first_of (own_part lp) ≡ first_of lp
+unfolding first_of
+first_of_own_part lp d o =
+    let front = take lp.decisions lp.columns in
+    let back = map idle (drop lp.decisions lp.columns) in
+    let wide : length front ≡ lp.decisions = length-take-le lp.decisions lp.columns d in
+    let count : length (front ++ back) ≡ length lp.columns = omega (arith, length-append front back, wide, length-map (drop lp.decisions lp.columns) idle, length-drop lp.decisions lp.columns) in
+    let rows : take lp.own (take lp.own lp.rows) ≡ take lp.own lp.rows = take_all lp.own (take lp.own lp.rows) (omega (arith, length-take-le lp.own lp.rows o)) in
+    ap (λ (n : ℕ). by_parts n (take lp.decisions (front ++ back)) (take lp.own (take lp.own lp.rows))) count
+    ∙ ap₂ (by_parts (length lp.columns)) (take_at front back lp.decisions wide) rows

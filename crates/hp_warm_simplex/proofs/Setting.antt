@@ -1,0 +1,88 @@
+-- Turns on a table with the sides of a program.
+use Rattle.std.proofs.Common.{◌≡◌, ◌+◌, ◌*◌, pos, true, false, length, replicate, Option, None, Result, IfOk, refl, ap, sym, subst, ◌∙◌}
+use Rattle.std.proofs.lemmas.List.{length-replicate}
+use Rattle.hp_solver.specs.declared.stage_lp.StageLp.{StageLp}
+use Rattle.hp_solver.specs.declared.stage_lp.Answer.{Answer}
+use Rattle.hp_warm_table.specs.declared.table.Table.{Table}
+use Rattle.hp_warm_table.specs.Shape.{IsTable}
+use Rattle.hp_warm_scale.specs.Scaling.{AreSmall}
+use Rattle.hp_warm_scale.specs.Appending.{sided, with_bounds}
+use Rattle.hp_warm_rebuild.specs.Kept.{KeepsProgram}
+use Rattle.hp_warm_simplex.specs.Fitting.{Fits, IsWorked}
+use Rattle.hp_warm_simplex.specs.Turns.{Went, went, turns}
+use Rattle.hp_warm_simplex.specs.Going.{trusted, by_sides, go_of, cleared}
+use Rattle.hp_warm_simplex.specs.Steps.{Ends}
+use Rattle.hp_warm_simplex.proofs.Ending.{ends_none}
+
+pub trusted_table : (t : Table) → IsTable t → IsTable (trusted t)
+trusted_table t s = record {
+  few = s.few;
+  row_scales = s.row_scales;
+  column_scales = s.column_scales;
+  lows = s.lows;
+  ups = s.ups;
+  has_low = s.has_low;
+  has_up = s.has_up;
+  nonbasic = s.nonbasic;
+  places = s.places;
+  high = s.high;
+  reduced = s.reduced;
+  lines = s.lines;
+  values = s.values;
+  numbers = s.numbers;
+  inside = s.inside;
+  terms = s.terms;
+}
+
+pub cleared_table : (t : Table) → IsTable t → IsTable (cleared t)
+cleared_table t s = record {
+  few = s.few;
+  row_scales = s.row_scales;
+  column_scales = s.column_scales;
+  lows = s.lows;
+  ups = s.ups;
+  has_low = s.has_low;
+  has_up = s.has_up;
+  nonbasic = s.nonbasic;
+  places = s.places;
+  high = s.high;
+  reduced = s.reduced;
+  lines = length-replicate (length t.costs) (replicate (length t.costs) (pos 0));
+  values = s.values;
+  numbers = s.numbers;
+  inside = s.inside;
+  terms = s.terms;
+}
+
+-- other bounds change neither the columns nor the rows
+pub prepared_fits : (old new : Table) (lp : StageLp) → Fits old lp → IsTable new → new ≡ with_bounds (sided (trusted old) lp.rows).1 (trusted old) → Fits new lp
+prepared_fits old new lp f s e = record {
+  table = s;
+  small = subst (AreSmall 1000) (sym (ap (λ (t : Table). t.scales) e)) f.small;
+  columns = f.columns ∙ sym (ap (λ (t : Table). length t.costs) e);
+  rows = f.rows ∙ sym (ap (λ (t : Table). length t.rows) e);
+}
+
+pub restored_fits : (old mid new : Table) (lp : StageLp) → Fits old lp → mid ≡ cleared old → IsTable new → KeepsProgram mid new → Fits new lp
+restored_fits old mid new lp f c s k = record {
+  table = s;
+  small = subst (AreSmall 1000) (sym (ap (λ (t : Table). t.scales) k ∙ ap (λ (t : Table). t.scales) c)) f.small;
+  columns = f.columns ∙ sym (ap (λ (t : Table). length t.costs) k ∙ ap (λ (t : Table). length t.costs) c);
+  rows = f.rows ∙ sym (ap (λ (t : Table). length t.rows) k ∙ ap (λ (t : Table). length t.rows) c);
+}
+
+pub worked_scales : (old new : Table) → IsWorked old new → new.scales ≡ old.scales
+worked_scales old new h = ap (λ (t : Table). t.scales) h
+
+-- where a side is out of range
+pub go_fails : (lp : StageLp) (old new : Table) → false ≡ (sided (trusted old) lp.rows).0 → new ≡ with_bounds (sided (trusted old) lp.rows).1 (trusted old) → Ends None (go_of lp old) new
+unfolding go_of
+go_fails lp old new e p = ends_none (go_of lp old) new new (ap (by_sides lp (with_bounds (sided (trusted old) lp.rows).1 (trusted old))) (sym e) ∙ ap (went None) (sym p)) refl
+
+-- else turns
+pub go_turns : (lp : StageLp) (old new : Table) → true ≡ (sided (trusted old) lp.rows).0 → new ≡ with_bounds (sided (trusted old) lp.rows).1 (trusted old) → turns lp (20 * length new.costs + 100) false new ≡ go_of lp old
+unfolding go_of
+go_turns lp old new e p = ap (λ (t : Table). turns lp (20 * length t.costs + 100) false t) p ∙ ap (by_sides lp (with_bounds (sided (trusted old) lp.rows).1 (trusted old))) e
+
+pub ends_on : {E : Type 0} (r : Result (Option Answer) E) (v w : Went) (t : Table) → v ≡ w → IfOk r (λ a. Ends a v t) → IfOk r (λ a. Ends a w t)
+ends_on r v w t e h = subst (λ (x : Went). IfOk r (λ a. Ends a x t)) e h

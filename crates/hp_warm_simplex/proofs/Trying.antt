@@ -1,0 +1,29 @@
+-- Attempts go by what turns leave.
+use Rattle.std.proofs.Common.{◌≡◌, Option, Some, None, ap, sym, ◌∙◌}
+use Rattle.hp_solver.specs.declared.stage_lp.StageLp.{StageLp}
+use Rattle.hp_solver.specs.declared.stage_lp.Answer.{Answer}
+use Rattle.hp_warm_table.specs.declared.table.Table.{Table}
+use Rattle.hp_warm_rebuild.specs.Clean.{clean_of}
+use Rattle.hp_warm_rebuild.specs.Standings.{rebuilt_of}
+use Rattle.hp_warm_simplex.specs.Fitting.{IsHeld}
+use Rattle.hp_warm_simplex.specs.Turns.{Went}
+use Rattle.hp_warm_simplex.specs.Going.{restored_of}
+use Rattle.hp_warm_simplex.specs.Steps.{Ends}
+use Rattle.hp_warm_simplex.specs.Chains.{replaced_by, replaced, tried, unless_good, warm_attempt, readied_by, readied}
+
+-- the basis of a table in a clean one depends on its program and its basis alone
+pub held_restored : (old new : Table) → IsHeld old new → restored_of old ≡ restored_of new
+unfolding restored_of rebuilt_of clean_of
+held_restored old new h = sym (ap restored_of h)
+
+pub replaced_on : (before : Option Answer) (w : Went) (a : Option Answer) (t : Table) → Ends a w t → replaced before w ≡ replaced_by before t a
+replaced_on before w None t h = ap (replaced_by before w.table) h.0
+replaced_on before w (Some a) t h = ap (replaced before) h
+
+pub warm_on : (lp : StageLp) (w : Went) (a : Option Answer) (t : Table) → Ends a w t → warm_attempt lp w ≡ unless_good lp a t
+warm_on lp w None t h = ap (λ (o : Option Answer). unless_good lp o w.table) h.0 ∙ ap (tried lp None) (held_restored w.table t h.1)
+warm_on lp w (Some a) t h = ap (warm_attempt lp) h
+
+pub readied_on : (t : Table) (w : Went) (a : Option Answer) (u : Table) → Ends a w u → readied t w ≡ readied_by t a u
+readied_on t w None u h = ap (λ (o : Option Answer). readied_by t o w.table) h.0
+readied_on t w (Some a) u h = ap (readied t) h

@@ -1,0 +1,29 @@
+-- Turns on a table with the sides of a program.
+use Rattle.std.specs.Prelude.{◌+◌, ◌*◌, pos, Bool, true, false, length, replicate, Option, None}
+use Rattle.hp_solver.specs.declared.stage_lp.StageLp.{StageLp}
+use Rattle.hp_warm_table.specs.declared.table.Table.{Table}
+use Rattle.hp_warm_scale.specs.Appending.{sided, with_bounds}
+use Rattle.hp_warm_rebuild.specs.Standings.{rebuilt_of}
+use Rattle.hp_warm_simplex.specs.Fitting.{with_work}
+use Rattle.hp_warm_simplex.specs.Turns.{Went, went, turns}
+
+-- nothing is known yet of the answer that will be found
+abbrev pub trusted : Table → Table
+trusted t = with_work t t.basis t.reduced t.lines t.values false
+
+-- by whether all sides were set
+abbrev pub by_sides : StageLp → Table → Bool → Went
+by_sides lp t true = turns lp (20 * length t.costs + 100) false t
+by_sides lp t false = went None t
+
+-- the sides are set to those of a program, and turns are taken until there is an answer
+unfoldable pub go_of : StageLp → Table → Went
+go_of lp t = by_sides lp (with_bounds (sided (trusted t) lp.rows).1 (trusted t)) (sided (trusted t) lp.rows).0
+
+-- no line is known, as none is needed where all slacks are basic
+abbrev pub cleared : Table → Table
+cleared t = with_work t t.basis t.reduced (replicate (length t.costs) (replicate (length t.costs) (pos 0))) t.values t.weak
+
+-- the basis of a table in a clean one: it depends on the table's program and basis alone
+unfoldable pub restored_of : Table → Option Table
+restored_of t = rebuilt_of (cleared t)

@@ -1,0 +1,143 @@
+// The warm simplex, as a solver of one program after another.
+ghost use Rattle.std.specs.Prelude.{◌≡◌, Option, Some, IfOk, IfSome, OnOk};
+ghost use Rattle.hp_solver.specs.declared.stage_lp.StageLp.{StageLp};
+ghost use Rattle.hp_solver.specs.declared.stage_lp.Answer.{Answer};
+ghost use Rattle.hp_solver.specs.Proper.{IsProper, IsReference, Extends, IsLike};
+ghost use Rattle.hp_warm_scale.specs.First.{first_of};
+ghost use Rattle.hp_warm_simplex.specs.Fitting.{Fits};
+ghost use Rattle.hp_warm_simplex.specs.Going.{go_of};
+ghost use Rattle.hp_warm_simplex.specs.Chains.{Suits, readied, started_of, begun_of, next_of};
+
+use crate::attempts::{first_table, is_good, next_answer, widened};
+use crate::going::go;
+use crate::turns::Room;
+use hp_num::{List, Memory};
+use hp_simplex::DualSimplex;
+use hp_simplex::dual_simplex::Room as PlainRoom;
+use hp_solver::{Answer, Solver, StageLp};
+use hp_warm_table::Table;
+use std::alloc::Global;
+use std::marker::Model;
+
+/// The bounded dual simplex method (Lemke, 1954; Wagner, 1958) with bound flips (Maros, 2003), on a table of 64-bit
+/// numbers that is scaled by powers of two and refined on the program's own rows. A chain goes on from the table that the
+/// program before it left, and begins from one that belongs to the node alone. Its last resort is [`DualSimplex`].
+pub struct WarmSimplex;
+
+/// What a chain holds: the table that its last program left, if there is one, and lists for work, on which no answer
+/// depends.
+#[derive(Drop)]
+pub struct Chain {
+    table: Option<Table>,
+    room: Room,
+    plain: PlainRoom,
+}
+
+impl Model for Chain {
+    ghost use Rattle.std.specs.Prelude.{Option};
+    ghost use Rattle.hp_warm_table.specs.declared.table.Table.{Table};
+
+    ghost Value = { Option Table };
+
+    ghost view = { λ c. c.table };
+}
+
+impl Chain {
+    fn new(alloc: Global, table: Option<Table>, plain: PlainRoom) -> Chain
+        ensures { result ≡ table }
+    {
+        Chain {
+            table,
+            room: new_room(alloc),
+            plain,
+        }
+    }
+}
+
+fn new_room(alloc: Global) -> Room {
+    Room {
+        violations: List::new(alloc),
+        line: List::new(alloc),
+        shifts: List::new(alloc),
+        flips: List::new(alloc),
+    }
+}
+
+// The table after turns that came to something good, else as it was before them.
+#[tactic(auto, using(crate::proofs::Trying::readied_on, crate::proofs::Likeness::ready_suits))]
+fn ready(alloc: Global, lp: &StageLp, mut table: Table) -> Result<Option<Table>, Memory>
+    requires proper { IsProper lp.now }
+    requires suits { Suits table lp.now }
+    requires fits { Fits table lp.now }
+    requires first { first_of lp.now ≡ Some table }
+    ensures table { IfOk result (λ found. found ≡ Some (readied table (go_of lp.now table))) }
+    ensures suits { IfOk result (λ found. IfSome found (λ t. Suits t lp.now)) }
+{
+    let mut room = new_room(alloc);
+    let answer = go(alloc, lp, &mut table, &mut room)?;
+    if is_good(&answer, table.weak) {
+        Ok(Some(table))
+    } else {
+        first_table(alloc, lp)
+    }
+}
+
+// The table that is made ready by a program of own rows.
+#[tactic(auto, unfolding(crate::specs::Chains::started_of), using(crate::proofs::Likeness::reference_fits))]
+fn started(alloc: Global, lp: &StageLp) -> Result<Option<Table>, Memory>
+    requires proper { IsProper lp.now }
+    requires reference { IsReference lp.now }
+    ensures table { IfOk result (λ table. table ≡ started_of lp.now) }
+    ensures suits { IfOk result (λ table. IfSome table (λ t. Suits t lp.now)) }
+{
+    match first_table(alloc, lp)? {
+        None => Ok(None),
+        Some(table) => ready(alloc, lp, table),
+    }
+}
+
+// The table of a chain that begins with a program.
+#[tactic(auto, unfolding(crate::specs::Chains::begun_of))]
+fn begun(alloc: Global, start: &Option<Table>, lp: &StageLp) -> Result<Option<Table>, Memory>
+    requires proper { IsProper lp.now }
+    requires suits { IfSome start.now (λ t. Suits t lp.now) }
+    ensures table { IfOk result (λ table. table ≡ begun_of start.now lp.now) }
+    ensures fits { IfOk result (λ table. IfSome table (λ t. Fits t lp.now)) }
+{
+    match start {
+        None => Ok(None),
+        Some(table) => widened(alloc, table.copy(alloc)?, lp),
+    }
+}
+
+impl Solver for WarmSimplex {
+    type Start = Option<Table>;
+
+    type Chain = Chain;
+
+    ghost started = { λ _ lp. started_of lp };
+
+    ghost begun = { λ _ start lp. begun_of start lp };
+
+    ghost next = { λ _ chain lp. next_of chain lp };
+
+    ghost suits = { λ _ start lp. IfSome start (λ t. Suits t lp) };
+
+    ghost fits = { λ _ chain lp. IfSome chain (λ t. Fits t lp) };
+
+    fn start(&self, alloc: Global, lp: &StageLp) -> Result<Option<Table>, Memory> {
+        started(alloc, lp)
+    }
+
+    fn begin(&self, alloc: Global, start: &Option<Table>, lp: &StageLp) -> Result<Chain, Memory> {
+        let plain = DualSimplex.begin(alloc, &(), lp)?;
+        Ok(Chain::new(alloc, begun(alloc, start, lp)?, plain))
+    }
+
+    fn solve(&self, alloc: Global, chain: &mut Chain, lp: &StageLp) -> Result<Answer, Memory> {
+        let table = chain.table.take();
+        let (answer, table) = next_answer(alloc, lp, table, &mut chain.room, &mut chain.plain)?;
+        chain.table = table;
+        Ok(answer)
+    }
+}
