@@ -3,6 +3,7 @@ use crate::chain::solved;
 use crate::fault::RowFault;
 use crate::reading::word;
 use hp_simplex::DualSimplex;
+use hp_warm_simplex::WarmSimplex;
 use std::alloc::Global;
 use std::fs;
 use std::rt::Files;
@@ -19,6 +20,7 @@ pub fn outcome<R: Files + AllocGlobal>(
     let text = fs::read_to_string(rt, word(&mut words)?)?;
     match solver {
         "dual-simplex" => solved(alloc, &DualSimplex, text.as_str()),
+        "warm" => solved(alloc, &WarmSimplex, text.as_str()),
         _ => Err(RowFault::Form),
     }
 }
