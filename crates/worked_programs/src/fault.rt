@@ -1,0 +1,43 @@
+// Why a row gives no text.
+use hp_num::Memory;
+use std::alloc::{AllocError, AllocFailed};
+use std::io;
+
+/// Why a row gives no text.
+#[derive(Clone, Copy, Debug)]
+pub enum RowFault {
+    /// A file could not be read.
+    File,
+    /// A line is not in its form.
+    Form,
+    /// A program with an empty box, with sides that no value keeps, or with terms that do not rise.
+    Improper,
+    /// A program that no chain of the start may take.
+    Unlike,
+    /// Memory was refused.
+    Memory,
+}
+
+impl From<AllocError> for RowFault {
+    fn from(_: AllocError) -> Self {
+        RowFault::Memory
+    }
+}
+
+impl<T: Drop> From<AllocFailed<T>> for RowFault {
+    fn from(_: AllocFailed<T>) -> Self {
+        RowFault::Memory
+    }
+}
+
+impl From<Memory> for RowFault {
+    fn from(_: Memory) -> Self {
+        RowFault::Memory
+    }
+}
+
+impl From<io::Error> for RowFault {
+    fn from(_: io::Error) -> Self {
+        RowFault::File
+    }
+}
