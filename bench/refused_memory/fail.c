@@ -1,11 +1,10 @@
-// Loaded before the C library: the call to an allocating function that has the number FAIL_AT finds no memory.
-// At the end the number of such calls is written to the file FAIL_COUNT.
+// Loaded before the C library: the call to an allocating function that has the number FAIL_AT finds no memory, and
+// the file FAIL_MARK is made then.
 #define _GNU_SOURCE
 #include <dlfcn.h>
 #include <errno.h>
 #include <fcntl.h>
 #include <stdatomic.h>
-#include <stdio.h>
 #include <stdlib.h>
 #include <unistd.h>
 
@@ -16,6 +15,10 @@ static int fails(void) {
   long call = atomic_fetch_add(&calls, 1) + 1;
   if (at == NULL || call != atol(at)) {
     return 0;
+  }
+  const char *mark = getenv("FAIL_MARK");
+  if (mark != NULL) {
+    close(open(mark, O_WRONLY | O_CREAT, 0644));
   }
   errno = ENOMEM;
   return 1;
@@ -51,17 +54,4 @@ int posix_memalign(void **made, size_t alignment, size_t size) {
     real = dlsym(RTLD_NEXT, "posix_memalign");
   }
   return fails() ? ENOMEM : real(made, alignment, size);
-}
-
-__attribute__((destructor)) static void tell(void) {
-  const char *name = getenv("FAIL_COUNT");
-  if (name != NULL) {
-    char text[32];
-    int file = open(name, O_WRONLY | O_CREAT | O_TRUNC, 0644);
-    int length = snprintf(text, sizeof text, "%ld\n", (long)calls);
-    if (write(file, text, (size_t)length) != length) {
-      _exit(1);
-    }
-    close(file);
-  }
 }
