@@ -10,6 +10,7 @@ ghost use Rattle.hp_warm_answers.specs.Within.{AreWithin};
 
 use crate::wide::Wide;
 use hp_num::{List, Memory, floor_div};
+use hp_warm_table::lists::with_room;
 use hp_warm_table::{Bounds, Cell, Coefficient, Quantity, Table};
 use std::alloc::Global;
 
@@ -108,7 +109,7 @@ fn whole_costs(alloc: Global, costs: &[Cell]) -> Result<List<Wide>, Memory>
     ensures lengths { IfOk result (λ found. length found ≡ length costs.now) }
     ensures small { IfOk result (λ found. AreWithin 1 found) }
 {
-    let mut found = List::new(alloc);
+    let mut found = with_room(alloc, costs.len())?;
     for j in 0..costs.len() {
         found.push(Wide::of_cost(costs[j]))?;
     }
@@ -133,7 +134,7 @@ fn cells_of(alloc: Global, rests: &[Wide]) -> Result<Option<List<Cell>>, Memory>
     ensures cells { IfOk result (λ found. found ≡ each_from cell_at 0 rests.now) }
     ensures lengths { IfOk result (λ found. IfSome found (λ cells. length cells ≡ length rests.now)) }
 {
-    let mut found = List::new(alloc);
+    let mut found = with_room(alloc, rests.len())?;
     for v in 0..rests.len() {
         match rests[v].rounded() {
             Some(cell) => found.push(cell)?,
@@ -327,7 +328,7 @@ fn new_costs(
     ensures costs { IfOk result (λ found. found ≡ new_costs table.now costs.now 0 nonbasic.now) }
     ensures lengths { IfOk result (λ found. length found ≡ length table.now.costs) }
 {
-    let mut found = List::new(alloc);
+    let mut found = with_room(alloc, nonbasic.len())?;
     for j in 0..nonbasic.len() {
         let cost = table.reduced.as_slice()[j];
         found.push(new_cost(table, costs, nonbasic[j], cost))?;

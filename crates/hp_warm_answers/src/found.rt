@@ -10,6 +10,7 @@ use crate::shifting::shift_by;
 use crate::whole::{sum, whole_product};
 use hp_num::{List, Memory, floor_div};
 use hp_solver::{Answer, Column, Fx, Kind, LpRow, StageLp};
+use hp_warm_table::lists::with_room;
 use hp_warm_table::{Scales, Table};
 use std::alloc::Global;
 
@@ -114,7 +115,7 @@ fn point(alloc: Global, table: &Table, columns: &[Column]) -> Result<Option<List
     requires columns { length columns.now ≡ length table.now.costs }
     ensures { IfOk result (λ found. found ≡ each_from (point_at table.now) 0 columns.now) }
 {
-    let mut found = List::new(alloc);
+    let mut found = with_room(alloc, columns.len())?;
     for j in 0..columns.len() {
         match point_at(table, j, &columns[j]) {
             Some(x) => found.push(x)?,
@@ -154,7 +155,7 @@ fn duals(alloc: Global, table: &Table, rows: &[LpRow]) -> Result<Option<List<Fx>
     requires rows { length rows.now ≡ length table.now.rows }
     ensures { IfOk result (λ found. found ≡ each_from (dual_at table.now) 0 rows.now) }
 {
-    let mut found = List::new(alloc);
+    let mut found = with_room(alloc, rows.len())?;
     for i in 0..rows.len() {
         match dual_at(table, i, &rows[i]) {
             Some(x) => found.push(x)?,

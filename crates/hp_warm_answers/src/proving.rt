@@ -7,7 +7,7 @@ ghost use Rattle.hp_warm_answers.specs.Proves.{side_of, with_side, clipped, numb
 
 use hp_num::{List, Memory};
 use hp_solver::{Column, Fx, LpRow, StageLp};
-use hp_warm_table::lists::repeated;
+use hp_warm_table::lists::{repeated, with_room};
 use std::alloc::Global;
 
 // The side of a row that a dual speaks of.
@@ -49,7 +49,7 @@ fn number_at(numbers: &[Fx], at: usize) -> Fx
 pub fn clip(alloc: Global, rows: &[LpRow], duals: &[Fx]) -> Result<List<Fx>, Memory>
     ensures { IfOk result (λ found. found ≡ clip rows.now duals.now) }
 {
-    let mut found = List::new(alloc);
+    let mut found = with_room(alloc, rows.len())?;
     for i in 0..rows.len() {
         found.push(clipped(&rows[i], number_at(duals, i)))?;
     }

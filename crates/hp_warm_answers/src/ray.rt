@@ -12,6 +12,7 @@ use crate::proving::{clipped, proves};
 use crate::shifting::shift_by;
 use hp_num::{List, Memory};
 use hp_solver::{Answer, Fx, Kind, LpRow, StageLp};
+use hp_warm_table::lists::with_room;
 use hp_warm_table::numbers::bits;
 use hp_warm_table::{Cell, Scales, Table};
 use std::alloc::Global;
@@ -192,7 +193,7 @@ fn ray_duals(
     ensures there { IfOk result (λ found. IsSome found) }
 {
     let top = top_of(table, line, variable, above);
-    let mut found = List::new(alloc);
+    let mut found = with_room(alloc, rows.len())?;
     for i in 0..rows.len() {
         match ray_dual(table, line, variable, above, top, i, &rows[i]) {
             Some(dual) => found.push(dual)?,

@@ -3,3 +3,4 @@ pub mod Kept
 pub mod Line
 pub mod Pivot
 pub mod Refine
+pub mod Sparse

@@ -1,11 +1,13 @@
 // The point of a basis.
-ghost use Rattle.std.specs.Prelude.{◌≡◌, ◌^◌, ◌<◌, ◌≤◌, ◌+ℤ◌, length, nat_abs, All};
+ghost use Rattle.std.specs.Prelude.{◌≡◌, ◌^◌, ◌+◌, ◌<◌, ◌≤◌, ◌+ℤ◌, [], ◌∷◌, ◌++◌, length, take, nat_abs, All, IfSome};
+ghost use Rattle.std.specs.Option.{option_map};
 ghost use Rattle.hp_warm_table.specs.Each.{each_from};
 ghost use Rattle.hp_warm_table.specs.Shape.{IsTable, variables};
 ghost use Rattle.hp_warm_table.specs.Updates.{Gives};
 ghost use Rattle.hp_warm_table.specs.Numbers.{down_of, value_of};
 ghost use Rattle.hp_warm_line.specs.Kept.{with_values};
-ghost use Rattle.hp_warm_line.specs.Refine.{IsWhole, stand_of, placed, stood, off, shift_at, shifts_of, moved_value, moved_values, stood_table, refined};
+ghost use Rattle.hp_warm_line.specs.Refine.{IsWhole, stand_of, placed, stood, off, shift_at, shifts_of, stood_table, refined};
+ghost use Rattle.hp_warm_line.specs.Sparse.{sparse, moved_by};
 
 use crate::sums::{activity, shares};
 use hp_num::List;
@@ -89,22 +91,45 @@ fn shift_at(table: &Table, j: usize, variable: usize) -> Option<Quantity>
     }
 }
 
-// Writes the shifts of all places.
+// Puts the shift at place j behind those that count, where it is not 0. The answer is how many count then.
+fn keep_shift(
+    shifts: &mut List<(usize, Quantity)>,
+    count: usize,
+    j: usize,
+    shift: Quantity,
+) -> usize
+    requires room { count < length shifts.old }
+    requires fits { count + 1 < 2 ^ 64 }
+    ensures lengths { length shifts.new ≡ length shifts.old }
+    ensures few { result ≤ count + 1 }
+    ensures kept { take result shifts.new ≡ take count shifts.old ++ sparse j (shift ∷ []) }
+{
+    if shift.number() == 0 {
+        count
+    } else {
+        shifts.set(count, (j, shift));
+        count + 1
+    }
+}
+
+// Writes the shifts that are not 0, each with its place. The answer is how many these are.
 #[tactic(auto, unfolding(crate::specs::Refine::shifts_of))]
-fn write_shifts(table: &Table, shifts: &mut List<Quantity>) -> bool
+fn write_shifts(table: &Table, shifts: &mut List<(usize, Quantity)>) -> Option<usize>
     requires sized { IsTable table.now }
     requires count { length shifts.old ≡ length table.now.costs }
     ensures count { length shifts.new ≡ length shifts.old }
-    ensures shifts { Gives result (shifts_of table.now) shifts.new }
+    ensures few { IfSome result (λ k. k ≤ length shifts.new) }
+    ensures shifts { option_map (sparse 0) (shifts_of table.now) ≡ option_map (λ k. take k shifts.new) result }
 {
     let nonbasic = table.basis.nonbasic.as_slice();
+    let mut count = 0;
     for j in 0..nonbasic.len() {
         match shift_at(table, j, nonbasic[j]) {
-            Some(x) => shifts.set(j, x),
-            None => return false,
+            Some(shift) => count = keep_shift(shifts, count, j, shift),
+            None => return None,
         }
     }
-    true
+    Some(count)
 }
 
 // A value with a sum of shares added.
@@ -116,22 +141,22 @@ fn shifted(x: Quantity, sum: i128) -> Option<Quantity>
 }
 
 // The value of a column after the shifts.
-#[tactic(auto, unfolding(crate::specs::Refine::moved_value))]
+#[tactic(auto, unfolding(crate::specs::Sparse::moved_by))]
 fn moved_value(
     places: &[Option<usize>],
     lines: &Square,
-    shifts: &[Quantity],
+    shifts: &[(usize, Quantity)],
     v: usize,
     x: Quantity,
 ) -> Option<Quantity>
     requires place { v < length places.now }
     requires there { v < length lines.now }
-    requires count { length shifts.now ≡ length lines.now }
-    requires few { length lines.now ≤ 2 ^ 11 }
-    ensures { result ≡ moved_value places.now lines.now shifts.now v x }
+    requires inside { All (λ s. s.0 < length lines.now) shifts.now }
+    requires few { length shifts.now ≤ 2 ^ 11 }
+    ensures { result ≡ moved_by places.now lines.now shifts.now v x }
 {
     if places[v].is_none() {
-        shifted(x, shares(lines.row(v), shifts))
+        shifted(x, shares(shifts, lines.row(v)))
     } else {
         Some(x)
     }
@@ -142,15 +167,15 @@ fn move_all(
     values: &mut List<Quantity>,
     places: &[Option<usize>],
     lines: &Square,
-    shifts: &[Quantity],
+    shifts: &[(usize, Quantity)],
 ) -> bool
     requires places { length values.old ≤ length places.now }
     requires there { length values.old ≡ length lines.now }
-    requires count { length shifts.now ≡ length lines.now }
-    requires few { length lines.now ≤ 2 ^ 11 }
+    requires inside { All (λ s. s.0 < length lines.now) shifts.now }
+    requires few { length shifts.now ≤ 2 ^ 11 }
     ensures count { length values.new ≡ length values.old }
     ensures moved { Gives result
-        (each_from (moved_value places.now lines.now shifts.now) 0 values.old) values.new }
+        (each_from (moved_by places.now lines.now shifts.now) 0 values.old) values.new }
 {
     for v in 0..values.len() {
         match moved_value(places, lines, shifts, v, values.as_slice()[v]) {
@@ -178,13 +203,16 @@ fn stand_columns(table: &mut Table)
 }
 
 // Moves the values of a table's basic columns by the shifts.
-#[tactic(auto, unfolding(crate::specs::Refine::moved_values), using(crate::proofs::Sized::sized_values))]
-fn move_columns(table: &mut Table, shifts: &[Quantity]) -> bool
+#[tactic(auto, using(crate::proofs::Sized::sized_values))]
+fn move_columns(table: &mut Table, shifts: &[(usize, Quantity)]) -> bool
     requires sized { IsTable table.old }
-    requires count { length shifts.now ≡ length table.old.costs }
+    requires inside { All (λ s. s.0 < length table.old.lines) shifts.now }
+    requires few { length shifts.now ≤ 2 ^ 11 }
     ensures sized { IsTable table.new }
     ensures kept { table.new ≡ with_values table.old table.new.values }
-    ensures moved { Gives result (moved_values table.old shifts.now) table.new.values }
+    ensures moved { Gives result (each_from
+        (moved_by table.old.basis.places table.old.lines shifts.now) 0 table.old.values)
+        table.new.values }
 {
     move_all(
         &mut table.values,
@@ -198,9 +226,9 @@ fn move_columns(table: &mut Table, shifts: &[Quantity]) -> bool
 /// by the shifts of all nonbasic slacks, by which their rows are off. The answer is false exactly
 /// where a value of a row, a shift or a value of a column has an absolute value of 2^55 or more:
 /// nothing is promised of the values then. All else of the table stays. `shifts` is for work: as
-/// many numbers as columns.
+/// many places with shifts as columns.
 #[tactic(auto, unfolding(crate::specs::Refine::refined))]
-pub fn refine(table: &mut Table, shifts: &mut List<Quantity>) -> bool
+pub fn refine(table: &mut Table, shifts: &mut List<(usize, Quantity)>) -> bool
     requires sized { IsTable table.old }
     requires shifts { length shifts.old ≡ length table.old.costs }
     ensures sized { IsTable table.new }
@@ -209,8 +237,8 @@ pub fn refine(table: &mut Table, shifts: &mut List<Quantity>) -> bool
     ensures refined { Gives result (refined table.old) table.new.values }
 {
     stand_columns(table);
-    if !write_shifts(table, shifts) {
-        return false;
+    match write_shifts(table, shifts) {
+        Some(count) => move_columns(table, shifts.as_slice().split_at(count).0),
+        None => false,
     }
-    move_columns(table, shifts.as_slice())
 }

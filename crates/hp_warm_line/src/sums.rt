@@ -1,6 +1,6 @@
 // Sums of products, and the value of a row.
 ghost use Rattle.std.specs.Prelude.{◌≡◌, ◌^◌, ◌+◌, ◌<◌, ◌≤◌, pos, ◌+ℤ◌, ◌*ℤ◌, length, nat_abs, All};
-ghost use Rattle.hp_num.specs.Sums.{at_terms, dot, entry};
+ghost use Rattle.hp_num.specs.Sums.{at_terms, entry};
 ghost use Rattle.hp_warm_table.specs.Shape.{IsTable};
 ghost use Rattle.hp_warm_line.specs.Activity.{row_value, activity_of};
 
@@ -16,13 +16,13 @@ fn term(a: Coefficient, x: Quantity) -> i128
     product(a.number(), x.number())
 }
 
-// A cell times a quantity.
+// A shift times a cell.
 #[tactic(auto, using(crate::proofs::Products::share_small))]
-fn share(t: Cell, q: Quantity) -> i128
-    ensures value { result ≡ t *ℤ q }
+fn share(q: Quantity, t: Cell) -> i128
+    ensures value { result ≡ q *ℤ t }
     ensures small { nat_abs result ≤ 2 ^ 115 }
 {
-    product(t.number(), q.number())
+    product(q.number(), t.number())
 }
 
 // A sum.
@@ -49,16 +49,16 @@ fn terms_at(terms: &[(u32, Coefficient)], x: &[Quantity]) -> i128
     sum
 }
 
-// The sum of products of cells and quantities, as far as there are both.
-pub(crate) fn shares(line: &[Cell], q: &[Quantity]) -> i128
-    requires lengths { length line.now ≡ length q.now }
-    requires few { length line.now ≤ 2 ^ 11 }
-    ensures value { result ≡ dot line.now q.now }
+// The sum of shifts, each times the cell at its place.
+pub(crate) fn shares(shifts: &[(usize, Quantity)], line: &[Cell]) -> i128
+    requires inside { All (λ s. s.0 < length line.now) shifts.now }
+    requires few { length shifts.now ≤ 2 ^ 11 }
+    ensures value { result ≡ at_terms shifts.now (entry line.now) }
     ensures small { nat_abs result ≤ 2 ^ 126 }
 {
     let mut sum: i128 = 0;
-    for j in 0..line.len() {
-        sum = plus(sum, share(line[j], q[j]));
+    for k in 0..shifts.len() {
+        sum = plus(sum, share(shifts[k].1, line[shifts[k].0]));
     }
     sum
 }

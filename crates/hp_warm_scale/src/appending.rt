@@ -19,6 +19,7 @@ use crate::sides::{Sides, scaled_sides};
 use crate::spans::{Span, join};
 use hp_num::{List, Memory};
 use hp_solver::{Fx, LpRow};
+use hp_warm_table::lists::with_room;
 use hp_warm_table::numbers::shift;
 use hp_warm_table::{Coefficient, Table};
 use std::alloc::Global;
@@ -108,7 +109,7 @@ fn scaled_terms(
     requires fits { AreBelow exponents.now exponent terms.now }
     ensures { IfOk result (λ found. found ≡ scaled_terms exponents.now exponent terms.now) }
 {
-    let mut found = List::new(alloc);
+    let mut found = with_room(alloc, terms.len())?;
     for k in 0..terms.len() {
         match scaled_term(exponents, exponent, terms[k]) {
             Some(term) => found.push(term)?,

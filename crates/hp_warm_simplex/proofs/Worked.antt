@@ -1,5 +1,5 @@
 -- Worked programs, and what is answered to them.
-use Rattle.std.proofs.Common.{◌≡◌, ◌^◌, ℕ, ℤ, pos, neg_ℤ, ◌*ℤ◌, List, [], ◌∷◌, ◌++◌, map, Option, Some, None, refl}
+use Rattle.std.proofs.Common.{◌≡◌, ◌^◌, ℕ, ℤ, pos, neg_ℤ, ◌*ℤ◌, List, [], ◌∷◌, map, Option, Some, None, refl}
 use Rattle.std.specs.Option.{option_map}
 use Rattle.hp_solver.specs.declared.fixed.Fx.{Fx}
 use Rattle.hp_solver.specs.declared.stage_lp.Column.{Column}
@@ -9,7 +9,7 @@ use Rattle.hp_solver.specs.declared.stage_lp.Answer.{Answer}
 use Rattle.hp_solver.specs.declared.stage_lp.Kind.TheVariants as kinds
 use Rattle.hp_solver.specs.Numbers.{number}
 use Rattle.hp_warm_table.specs.declared.table.Table.{Table}
-use Rattle.hp_warm_simplex.specs.Chains.{started_of, begun_of, next_of}
+use Rattle.hp_warm_simplex.specs.Chains.{next_of}
 use Rattle.hp_simplex.specs.Answers as plain_answers
 use Rattle.hp_simplex.specs.Dictionary as plain_dictionary
 use Rattle.hp_simplex.specs.Entering as plain_entering
@@ -48,9 +48,6 @@ units n = number (n *ℤ pos (2 ^ 32))
 abbrev column : ℤ → ℤ → ℤ → Column
 column low high cost = record { low = units low; high = units high; cost = units cost }
 
-abbrev raw_column : ℤ → ℤ → ℤ → Column
-raw_column low high cost = record { low = number low; high = number high; cost = number cost }
-
 abbrev row : Option Fx → Option Fx → List (ℕ × Fx) → LpRow
 row low high terms = record { low = low; high = high; terms = terms }
 
@@ -60,12 +57,7 @@ found point duals = record { kind = kinds.Found; point = map number point; duals
 abbrev ray : List ℤ → List ℤ → Answer
 ray point duals = record { kind = kinds.Ray; point = map number point; duals = map number duals }
 
--- the answers along a chain that has this table
-abbrev answers : Option Table → List StageLp → List Answer
-answers chain [] = []
-answers chain (lp ∷ lps) = (next_of chain lp).0 ∷ answers (next_of chain lp).1 lps
-
--- the reduced costs along it
+-- the reduced costs along a chain that has this table
 abbrev reduced_along : Option Table → List StageLp → List (Option (List ℤ))
 reduced_along chain [] = []
 reduced_along chain (lp ∷ lps) = option_map (λ t. t.reduced) (next_of chain lp).1 ∷ reduced_along (next_of chain lp).1 lps
@@ -74,15 +66,6 @@ reduced_along chain (lp ∷ lps) = option_map (λ t. t.reduced) (next_of chain l
 abbrev answer : StageLp → Answer
 answer lp = (next_of None lp).0
 
-abbrev one : StageLp
-one =
-    record {
-      columns = column (pos 0) (pos 10) (pos 2) ∷ [];
-      rows = row (Some (units (pos 3))) None ((0, units (pos 1)) ∷ []) ∷ [];
-      decisions = 1;
-      own = 1;
-    }
-
 abbrev flips : StageLp
 flips =
     record {
@@ -90,51 +73,6 @@ flips =
       rows = row (Some (units (pos 12))) None ((0, units (pos 1)) ∷ (1, units (pos 2)) ∷ (2, units (pos 1)) ∷ (3, units (pos 1)) ∷ []) ∷ [];
       decisions = 4;
       own = 1;
-    }
-
-abbrev thirds : StageLp
-thirds =
-    record {
-      columns = column (pos 0) (pos 1) (pos 1) ∷ [];
-      rows = row (Some (units (pos 1))) (Some (units (pos 1))) ((0, units (pos 3)) ∷ []) ∷ [];
-      decisions = 1;
-      own = 1;
-    }
-
-abbrev interval : StageLp
-interval =
-    record {
-      columns = column (neg_ℤ (pos 7)) (neg_ℤ (pos 2)) (pos 3) ∷ column (neg_ℤ (pos 10)) (pos 10) (neg_ℤ (pos 1)) ∷ column (pos 0) (pos 40) (pos 5) ∷ [];
-      rows = row (Some (units (neg_ℤ (pos 4)))) (Some (units (pos 6))) ((0, units (pos 1)) ∷ (1, units (pos 2)) ∷ (2, units (neg_ℤ (pos 1))) ∷ []) ∷ row None (Some (units (pos 3))) ((0, units (neg_ℤ (pos 2))) ∷ (1, units (pos 1)) ∷ []) ∷ [];
-      decisions = 3;
-      own = 2;
-    }
-
-abbrev tall : StageLp
-tall =
-    record {
-      columns = column (pos 0) (pos 1099511627776) (pos 1) ∷ column (pos 0) (pos 3) (pos 5) ∷ [];
-      rows = row (Some (units (pos 549755813888))) None ((0, units (pos 1)) ∷ []) ∷ row (Some (units (pos 2))) None ((1, units (pos 1)) ∷ []) ∷ [];
-      decisions = 2;
-      own = 2;
-    }
-
-abbrev no_rows : StageLp
-no_rows =
-    record {
-      columns = column (neg_ℤ (pos 3)) (pos 8) (pos 2) ∷ column (neg_ℤ (pos 3)) (pos 8) (neg_ℤ (pos 2)) ∷ [];
-      rows = [];
-      decisions = 2;
-      own = 0;
-    }
-
-abbrev ray_box : StageLp
-ray_box =
-    record {
-      columns = column (pos 0) (pos 5) (pos 1) ∷ column (pos 0) (pos 4) (pos 2) ∷ [];
-      rows = row (Some (units (pos 20))) None ((0, units (pos 1)) ∷ (1, units (pos 3)) ∷ []) ∷ row None (Some (units (pos 6))) ((0, units (pos 1)) ∷ (1, units (pos 1)) ∷ []) ∷ [];
-      decisions = 2;
-      own = 2;
     }
 
 abbrev two_rays : StageLp
@@ -173,109 +111,16 @@ chain_third =
       own = 2;
     }
 
-abbrev cuts_reference : StageLp
-cuts_reference =
-    record {
-      columns = column (pos 0) (pos 10) (pos 0) ∷ column (pos 0) (pos 8) (pos 0) ∷ column (pos 0) (pos 20) (pos 5) ∷ column (pos 0) (pos 0) (pos 0) ∷ [];
-      rows = row (Some (units (pos 5))) (Some (units (pos 5))) ((0, units (pos 1)) ∷ (1, units (pos 1)) ∷ []) ∷ row (Some (units (pos 9))) (Some (units (pos 9))) ((1, units (pos 1)) ∷ (2, units (pos 1)) ∷ []) ∷ [];
-      decisions = 3;
-      own = 2;
-    }
-
-abbrev cuts : StageLp
-cuts =
-    record {
-      columns = column (pos 0) (pos 10) (pos 0) ∷ column (pos 0) (pos 8) (pos 0) ∷ column (pos 0) (pos 20) (pos 5) ∷ column (neg_ℤ (pos 50)) (pos 100) (pos 1) ∷ [];
-      rows = row (Some (units (pos 5))) (Some (units (pos 5))) ((0, units (pos 1)) ∷ (1, units (pos 1)) ∷ []) ∷ row (Some (units (pos 9))) (Some (units (pos 9))) ((1, units (pos 1)) ∷ (2, units (pos 1)) ∷ []) ∷ row (Some (units (pos 0))) None ((3, units (pos 1)) ∷ []) ∷ row (Some (units (pos 40))) None ((0, units (pos 5)) ∷ (3, units (pos 1)) ∷ []) ∷ [];
-      decisions = 3;
-      own = 2;
-    }
-
-abbrev begun_reference : StageLp
-begun_reference =
-    record {
-      columns = column (pos 0) (pos 10) (pos 0) ∷ column (pos 0) (pos 10) (pos 3) ∷ column (pos 0) (pos 0) (pos 0) ∷ [];
-      rows = row (Some (units (pos 6))) (Some (units (pos 6))) ((0, units (pos 1)) ∷ (1, units (pos 1)) ∷ []) ∷ [];
-      decisions = 2;
-      own = 1;
-    }
-
-abbrev begun_first : StageLp
-begun_first =
-    record {
-      columns = column (pos 0) (pos 10) (pos 0) ∷ column (pos 0) (pos 10) (pos 3) ∷ column (pos 0) (pos 40) (pos 1) ∷ [];
-      rows = row (Some (units (pos 4))) (Some (units (pos 4))) ((0, units (pos 1)) ∷ (1, units (pos 1)) ∷ []) ∷ row (Some (units (pos 30))) None ((0, units (pos 5)) ∷ (2, units (pos 1)) ∷ []) ∷ row (Some (units (pos 0))) None ((2, units (pos 1)) ∷ []) ∷ [];
-      decisions = 2;
-      own = 1;
-    }
-
-abbrev begun_second : StageLp
-begun_second =
-    record {
-      columns = column (pos 0) (pos 10) (pos 0) ∷ column (pos 0) (pos 10) (pos 3) ∷ column (pos 0) (pos 40) (pos 1) ∷ [];
-      rows = row (Some (units (pos 8))) (Some (units (pos 8))) ((0, units (pos 1)) ∷ (1, units (pos 1)) ∷ []) ∷ row (Some (units (pos 30))) None ((0, units (pos 5)) ∷ (2, units (pos 1)) ∷ []) ∷ row (Some (units (pos 0))) None ((2, units (pos 1)) ∷ []) ∷ [];
-      decisions = 2;
-      own = 1;
-    }
-
-abbrev steep : StageLp
-steep =
-    record {
-      columns = raw_column (pos 0) (pos 429496729600) (pos 0) ∷ raw_column (pos 0) (pos 128849018880) (pos 0) ∷ raw_column (pos 0) (pos 214748364800) (pos 85899345920000) ∷ raw_column (pos 0) (pos 4294967296000000000) (pos 4294967296) ∷ [];
-      rows = row (Some (number (pos 257698037760))) (Some (number (pos 257698037760))) ((0, number (pos 4294967296)) ∷ (1, number (pos 4294967296)) ∷ []) ∷ row (Some (number (pos 171798691840))) (Some (number (pos 171798691840))) ((1, number (pos 4294967296)) ∷ (2, number (pos 4294967296)) ∷ []) ∷ row (Some (number (pos 300647710720000000))) None ((0, number (pos 4294967296000000)) ∷ (3, number (pos 4294967296)) ∷ []) ∷ row (Some (number (pos 171798691840000000))) None ((0, number (pos 1288491620455765)) ∷ (3, number (pos 4294967296)) ∷ []) ∷ [];
-      decisions = 4;
-      own = 4;
-    }
-
-abbrev parallel : StageLp
-parallel =
-    record {
-      columns = raw_column (neg_ℤ (pos 9223372036854775808)) (pos 9223372036854775808) (pos 4294967296) ∷ raw_column (neg_ℤ (pos 9223372036854775808)) (pos 9223372036854775808) (pos 4294967296) ∷ raw_column (neg_ℤ (pos 9223372036854775808)) (pos 9223372036854775808) (pos 4294967296) ∷ raw_column (neg_ℤ (pos 9223372036854775808)) (pos 9223372036854775808) (pos 4294967296) ∷ [];
-      rows = row (Some (number (pos 0))) (Some (number (pos 0))) ((0, number (pos 4294967296)) ∷ (1, number (pos 4294967296)) ∷ []) ∷ row (Some (number (pos 0))) (Some (number (pos 0))) ((0, number (pos 4295098368)) ∷ (1, number (pos 4294967296)) ∷ (2, number (neg_ℤ (pos 4294967296))) ∷ []) ∷ row (Some (number (pos 4294967296))) (Some (number (pos 4294967296))) ((2, number (pos 4294967296)) ∷ (3, number (pos 4294967296)) ∷ []) ∷ row (Some (number (pos 8589934592))) (Some (number (pos 8589934592))) ((2, number (pos 4295098368)) ∷ (3, number (pos 4294967296)) ∷ []) ∷ [];
-      decisions = 4;
-      own = 4;
-    }
-
-abbrev runaway : StageLp
-runaway =
-    record {
-      columns = raw_column (pos 920701512557196) (pos 117507942678290262) (pos 245511287151066) ∷ raw_column (pos 335007449088) (pos 4913442586624) (pos 0) ∷ raw_column (pos 8589934592) (pos 357555071019325646) (pos 38376909770) ∷ [];
-      rows = row (Some (number (pos 83310331876159680023))) None ((1, number (pos 4294967296)) ∷ (2, number (pos 1000727379968)) ∷ []) ∷ row (Some (number (pos 10510665696589712330))) None ((0, number (pos 371100677779)) ∷ (1, number (pos 3082020331)) ∷ (2, number (pos 4294967296)) ∷ []) ∷ row (Some (number (pos 11676966785433635438))) None ((0, number (pos 8589934592)) ∷ (1, number (pos 2419071643287)) ∷ (2, number (pos 137438953472)) ∷ []) ∷ [];
-      decisions = 3;
-      own = 3;
-    }
-
-abbrev out_of_range : StageLp
-out_of_range =
-    record {
-      columns = raw_column (pos 0) (pos 4294967296) (pos 4294967296) ∷ raw_column (pos 0) (pos 4722366482869645213696) (pos 0) ∷ [];
-      rows = row (Some (number (pos 1152921504606846976))) None ((0, number (pos 4294967296)) ∷ (1, number (pos 1)) ∷ []) ∷ row (Some (number (neg_ℤ (pos 1237940039285380274899124224)))) None ((1, number (pos 1)) ∷ []) ∷ [];
-      decisions = 2;
-      own = 2;
-    }
-
-answers_of_one : map answer (one ∷ flips ∷ thirds ∷ interval ∷ tall ∷ no_rows ∷ steep ∷ parallel ∷ [])
-    ≡ found (pos 12884901888 ∷ []) (pos 8589934592 ∷ []) ∷ found (pos 12884901888 ∷ pos 17179869184 ∷ pos 25769803776 ∷ neg_ℤ (pos 21474836480) ∷ []) (pos 30064771072 ∷ []) ∷ found (pos 1431655680 ∷ []) (pos 1431655765 ∷ []) ∷ found (neg_ℤ (pos 8589934592) ∷ neg_ℤ (pos 4294967296) ∷ pos 0 ∷ []) (pos 858993459 ∷ neg_ℤ (pos 6012954215) ∷ []) ∷ found (pos 2361183241434822606848 ∷ pos 8589934592 ∷ []) (pos 4294967296 ∷ pos 21474836480 ∷ []) ∷ found (neg_ℤ (pos 12884901888) ∷ pos 34359738368 ∷ []) ([]) ∷ found (pos 257698037760 ∷ pos 0 ∷ pos 171798691840 ∷ pos 94489194612916224 ∷ []) (neg_ℤ (pos 1288491620454400) ∷ pos 85899345920000 ∷ pos 0 ∷ pos 4294967296 ∷ []) ∷ found (pos 9223372036854775808 ∷ neg_ℤ (pos 9223372036854775808) ∷ pos 281474976710656 ∷ neg_ℤ (pos 281474976710656) ∷ []) (pos 4294836220 ∷ pos 131072 ∷ pos 0 ∷ pos 4294967296 ∷ []) ∷ []
+answer_of_flips : answer flips ≡ found (pos 12884901888 ∷ pos 17179869184 ∷ pos 25769803776 ∷ neg_ℤ (pos 21474836480) ∷ []) (pos 30064771072 ∷ [])
 unfolding solver_answers.zero_of solver_numbers.plus solver_numbers.minus solver_numbers.times solver_numbers.over table_numbers.shift_up table_numbers.shift_down table_updates.moved table_updates.added_row table_updates.moved_row line_line.line_of line_pivot.inverse_of line_pivot.turned line_pivot.turned_line line_pivot.moved_or_kept line_pivot.entered line_pivot.exchanged line_pivot.eliminated line_pivot.replaced line_pivot.pivoted line_refine.stand_of line_refine.placed line_refine.shift_at line_refine.moved_value line_refine.stood_table line_refine.shifts_of line_refine.moved_values line_refine.refined rebuild_clean.slack_basis rebuild_clean.clean_of rebuild_standings.standing rebuild_standings.standing_at rebuild_standings.stood_up rebuild_standings.rebuilt_of rebuild_tighten.was_basic rebuild_tighten.better_place rebuild_tighten.best_place rebuild_tighten.left rebuild_tighten.tight answers_enter.is_fixed answers_enter.is_eligible answers_enter.rank_at answers_enter.precedes answers_enter.first_step answers_enter.left_after answers_enter.turn_of answers_finish.dual_of answers_finish.less_place answers_finish.plus_side answers_finish.new_cost answers_finish.finish_of answers_found.rounded answers_found.clamped answers_found.basic_point answers_found.slack_dual answers_found.found_of answers_proves.side_of answers_proves.lessened answers_proves.term_step answers_proves.row_step answers_proves.weights_of answers_proves.side_step answers_proves.box_step answers_proves.excess_of answers_proves.proves answers_ray.factor_at answers_ray.top_of answers_ray.ray_dual answers_ray.ray_of scale_appending.scaled_sides scale_appending.sided scale_appending.row_scale scale_appending.scaled_term scale_appending.scaled_terms scale_appending.appended_row scale_exponents.with_row scale_exponents.spans_of scale_exponents.pass_of scale_exponents.columns_of scale_first.first_of scale_scaling.scaled_value scale_scaling.scaled_cell scale_scaling.costs_scale scale_scaling.values_scale scale_scaling.scaled_column scale_scaling.column_step scale_scaling.blank_of scale_scaling.columns_table scale_widening.top_of scale_widening.cut_spans scale_widening.rescaled scale_widening.widened simplex_chains.new_table simplex_chains.next_of simplex_chains.started_of simplex_chains.begun_of simplex_going.go_of simplex_going.restored_of simplex_turns.glance_of simplex_turns.look_of simplex_turns.turn_of simplex_turns.finishing simplex_violations.violation_of simplex_violations.value_at simplex_violations.violations_step simplex_violations.violations_of simplex_violations.precedes simplex_violations.next_violation lib.Count.count_leading_zeros
-answers_of_one = refl
-
-answers_of_chains : answers None (chain_first ∷ chain_second ∷ chain_third ∷ [])
-    ≡ found (pos 0 ∷ pos 21474836480 ∷ pos 4294967296 ∷ []) (neg_ℤ (pos 17179869184) ∷ pos 21474836480 ∷ []) ∷ found (pos 4294967296 ∷ pos 34359738368 ∷ pos 4294967296 ∷ []) (pos 0 ∷ pos 21474836480 ∷ []) ∷ found (pos 0 ∷ pos 8589934592 ∷ pos 30064771072 ∷ []) (neg_ℤ (pos 17179869184) ∷ pos 21474836480 ∷ []) ∷ []
-unfolding solver_answers.zero_of solver_numbers.plus solver_numbers.minus solver_numbers.times solver_numbers.over table_numbers.shift_up table_numbers.shift_down table_updates.moved table_updates.added_row table_updates.moved_row line_line.line_of line_pivot.inverse_of line_pivot.turned line_pivot.turned_line line_pivot.moved_or_kept line_pivot.entered line_pivot.exchanged line_pivot.eliminated line_pivot.replaced line_pivot.pivoted line_refine.stand_of line_refine.placed line_refine.shift_at line_refine.moved_value line_refine.stood_table line_refine.shifts_of line_refine.moved_values line_refine.refined rebuild_clean.slack_basis rebuild_clean.clean_of rebuild_standings.standing rebuild_standings.standing_at rebuild_standings.stood_up rebuild_standings.rebuilt_of rebuild_tighten.was_basic rebuild_tighten.better_place rebuild_tighten.best_place rebuild_tighten.left rebuild_tighten.tight answers_enter.is_fixed answers_enter.is_eligible answers_enter.rank_at answers_enter.precedes answers_enter.first_step answers_enter.left_after answers_enter.turn_of answers_finish.dual_of answers_finish.less_place answers_finish.plus_side answers_finish.new_cost answers_finish.finish_of answers_found.rounded answers_found.clamped answers_found.basic_point answers_found.slack_dual answers_found.found_of answers_proves.side_of answers_proves.lessened answers_proves.term_step answers_proves.row_step answers_proves.weights_of answers_proves.side_step answers_proves.box_step answers_proves.excess_of answers_proves.proves answers_ray.factor_at answers_ray.top_of answers_ray.ray_dual answers_ray.ray_of scale_appending.scaled_sides scale_appending.sided scale_appending.row_scale scale_appending.scaled_term scale_appending.scaled_terms scale_appending.appended_row scale_exponents.with_row scale_exponents.spans_of scale_exponents.pass_of scale_exponents.columns_of scale_first.first_of scale_scaling.scaled_value scale_scaling.scaled_cell scale_scaling.costs_scale scale_scaling.values_scale scale_scaling.scaled_column scale_scaling.column_step scale_scaling.blank_of scale_scaling.columns_table scale_widening.top_of scale_widening.cut_spans scale_widening.rescaled scale_widening.widened simplex_chains.new_table simplex_chains.next_of simplex_chains.started_of simplex_chains.begun_of simplex_going.go_of simplex_going.restored_of simplex_turns.glance_of simplex_turns.look_of simplex_turns.turn_of simplex_turns.finishing simplex_violations.violation_of simplex_violations.value_at simplex_violations.violations_step simplex_violations.violations_of simplex_violations.precedes simplex_violations.next_violation lib.Count.count_leading_zeros
-answers_of_chains = refl
+answer_of_flips = refl
 
 costs_along_a_chain : reduced_along None (chain_first ∷ chain_second ∷ chain_third ∷ [])
     ≡ Some (pos 549755813888 ∷ pos 1374389534720 ∷ neg_ℤ (pos 1099511627776) ∷ []) ∷ Some (neg_ℤ (pos 549755813888) ∷ pos 1374389534720 ∷ pos 0 ∷ []) ∷ Some (pos 549755813888 ∷ pos 1374389534720 ∷ neg_ℤ (pos 1099511627776) ∷ []) ∷ []
 unfolding solver_answers.zero_of solver_numbers.plus solver_numbers.minus solver_numbers.times solver_numbers.over table_numbers.shift_up table_numbers.shift_down table_updates.moved table_updates.added_row table_updates.moved_row line_line.line_of line_pivot.inverse_of line_pivot.turned line_pivot.turned_line line_pivot.moved_or_kept line_pivot.entered line_pivot.exchanged line_pivot.eliminated line_pivot.replaced line_pivot.pivoted line_refine.stand_of line_refine.placed line_refine.shift_at line_refine.moved_value line_refine.stood_table line_refine.shifts_of line_refine.moved_values line_refine.refined rebuild_clean.slack_basis rebuild_clean.clean_of rebuild_standings.standing rebuild_standings.standing_at rebuild_standings.stood_up rebuild_standings.rebuilt_of rebuild_tighten.was_basic rebuild_tighten.better_place rebuild_tighten.best_place rebuild_tighten.left rebuild_tighten.tight answers_enter.is_fixed answers_enter.is_eligible answers_enter.rank_at answers_enter.precedes answers_enter.first_step answers_enter.left_after answers_enter.turn_of answers_finish.dual_of answers_finish.less_place answers_finish.plus_side answers_finish.new_cost answers_finish.finish_of answers_found.rounded answers_found.clamped answers_found.basic_point answers_found.slack_dual answers_found.found_of answers_proves.side_of answers_proves.lessened answers_proves.term_step answers_proves.row_step answers_proves.weights_of answers_proves.side_step answers_proves.box_step answers_proves.excess_of answers_proves.proves answers_ray.factor_at answers_ray.top_of answers_ray.ray_dual answers_ray.ray_of scale_appending.scaled_sides scale_appending.sided scale_appending.row_scale scale_appending.scaled_term scale_appending.scaled_terms scale_appending.appended_row scale_exponents.with_row scale_exponents.spans_of scale_exponents.pass_of scale_exponents.columns_of scale_first.first_of scale_scaling.scaled_value scale_scaling.scaled_cell scale_scaling.costs_scale scale_scaling.values_scale scale_scaling.scaled_column scale_scaling.column_step scale_scaling.blank_of scale_scaling.columns_table scale_widening.top_of scale_widening.cut_spans scale_widening.rescaled scale_widening.widened simplex_chains.new_table simplex_chains.next_of simplex_chains.started_of simplex_chains.begun_of simplex_going.go_of simplex_going.restored_of simplex_turns.glance_of simplex_turns.look_of simplex_turns.turn_of simplex_turns.finishing simplex_violations.violation_of simplex_violations.value_at simplex_violations.violations_step simplex_violations.violations_of simplex_violations.precedes simplex_violations.next_violation lib.Count.count_leading_zeros
 costs_along_a_chain = refl
 
-answers_from_starts : answers (begun_of (started_of cuts_reference) cuts) (cuts ∷ []) ++ answers (begun_of (started_of begun_reference) begun_first) (begun_first ∷ begun_second ∷ [])
-    ≡ found (pos 21474836480 ∷ pos 0 ∷ pos 38654705664 ∷ pos 64424509440 ∷ []) (neg_ℤ (pos 21474836480) ∷ pos 21474836480 ∷ pos 0 ∷ pos 4294967296 ∷ []) ∷ found (pos 17179869184 ∷ pos 0 ∷ pos 42949672960 ∷ []) (neg_ℤ (pos 21474836480) ∷ pos 4294967296 ∷ pos 0 ∷ []) ∷ found (pos 34359738368 ∷ pos 0 ∷ pos 0 ∷ []) (pos 0 ∷ pos 0 ∷ pos 0 ∷ []) ∷ []
-unfolding solver_answers.zero_of solver_numbers.plus solver_numbers.minus solver_numbers.times solver_numbers.over table_numbers.shift_up table_numbers.shift_down table_updates.moved table_updates.added_row table_updates.moved_row line_line.line_of line_pivot.inverse_of line_pivot.turned line_pivot.turned_line line_pivot.moved_or_kept line_pivot.entered line_pivot.exchanged line_pivot.eliminated line_pivot.replaced line_pivot.pivoted line_refine.stand_of line_refine.placed line_refine.shift_at line_refine.moved_value line_refine.stood_table line_refine.shifts_of line_refine.moved_values line_refine.refined rebuild_clean.slack_basis rebuild_clean.clean_of rebuild_standings.standing rebuild_standings.standing_at rebuild_standings.stood_up rebuild_standings.rebuilt_of rebuild_tighten.was_basic rebuild_tighten.better_place rebuild_tighten.best_place rebuild_tighten.left rebuild_tighten.tight answers_enter.is_fixed answers_enter.is_eligible answers_enter.rank_at answers_enter.precedes answers_enter.first_step answers_enter.left_after answers_enter.turn_of answers_finish.dual_of answers_finish.less_place answers_finish.plus_side answers_finish.new_cost answers_finish.finish_of answers_found.rounded answers_found.clamped answers_found.basic_point answers_found.slack_dual answers_found.found_of answers_proves.side_of answers_proves.lessened answers_proves.term_step answers_proves.row_step answers_proves.weights_of answers_proves.side_step answers_proves.box_step answers_proves.excess_of answers_proves.proves answers_ray.factor_at answers_ray.top_of answers_ray.ray_dual answers_ray.ray_of scale_appending.scaled_sides scale_appending.sided scale_appending.row_scale scale_appending.scaled_term scale_appending.scaled_terms scale_appending.appended_row scale_exponents.with_row scale_exponents.spans_of scale_exponents.pass_of scale_exponents.columns_of scale_first.first_of scale_scaling.scaled_value scale_scaling.scaled_cell scale_scaling.costs_scale scale_scaling.values_scale scale_scaling.scaled_column scale_scaling.column_step scale_scaling.blank_of scale_scaling.columns_table scale_widening.top_of scale_widening.cut_spans scale_widening.rescaled scale_widening.widened simplex_chains.new_table simplex_chains.next_of simplex_chains.started_of simplex_chains.begun_of simplex_going.go_of simplex_going.restored_of simplex_turns.glance_of simplex_turns.look_of simplex_turns.turn_of simplex_turns.finishing simplex_violations.violation_of simplex_violations.value_at simplex_violations.violations_step simplex_violations.violations_of simplex_violations.precedes simplex_violations.next_violation lib.Count.count_leading_zeros
-answers_from_starts = refl
-
--- the plain method's rays, which prove, take the place of those of the warm one
-answers_of_rays : map answer (ray_box ∷ two_rays ∷ runaway ∷ out_of_range ∷ [])
-    ≡ ray (pos 0 ∷ pos 0 ∷ []) (pos 4294967296 ∷ pos 0 ∷ []) ∷ ray (pos 0 ∷ pos 0 ∷ []) (pos 1431655765 ∷ neg_ℤ (pos 4294967296) ∷ []) ∷ ray (pos 920701512557196 ∷ pos 335007449088 ∷ pos 8589934592 ∷ []) (pos 4294967296 ∷ pos 2158 ∷ pos 0 ∷ []) ∷ ray (pos 0 ∷ pos 0 ∷ []) (pos 4294967296 ∷ pos 0 ∷ []) ∷ []
+-- the plain method's ray, which proves, takes the place of the warm one's
+answer_of_rays : answer two_rays ≡ ray (pos 0 ∷ pos 0 ∷ []) (pos 1431655765 ∷ neg_ℤ (pos 4294967296) ∷ [])
 unfolding solver_answers.zero_of solver_numbers.plus solver_numbers.minus solver_numbers.times solver_numbers.over table_numbers.shift_up table_numbers.shift_down table_updates.moved table_updates.added_row table_updates.moved_row line_line.line_of line_pivot.inverse_of line_pivot.turned line_pivot.turned_line line_pivot.moved_or_kept line_pivot.entered line_pivot.exchanged line_pivot.eliminated line_pivot.replaced line_pivot.pivoted line_refine.stand_of line_refine.placed line_refine.shift_at line_refine.moved_value line_refine.stood_table line_refine.shifts_of line_refine.moved_values line_refine.refined rebuild_clean.slack_basis rebuild_clean.clean_of rebuild_standings.standing rebuild_standings.standing_at rebuild_standings.stood_up rebuild_standings.rebuilt_of rebuild_tighten.was_basic rebuild_tighten.better_place rebuild_tighten.best_place rebuild_tighten.left rebuild_tighten.tight answers_enter.is_fixed answers_enter.is_eligible answers_enter.rank_at answers_enter.precedes answers_enter.first_step answers_enter.left_after answers_enter.turn_of answers_finish.dual_of answers_finish.less_place answers_finish.plus_side answers_finish.new_cost answers_finish.finish_of answers_found.rounded answers_found.clamped answers_found.basic_point answers_found.slack_dual answers_found.found_of answers_proves.side_of answers_proves.lessened answers_proves.term_step answers_proves.row_step answers_proves.weights_of answers_proves.side_step answers_proves.box_step answers_proves.excess_of answers_proves.proves answers_ray.factor_at answers_ray.top_of answers_ray.ray_dual answers_ray.ray_of scale_appending.scaled_sides scale_appending.sided scale_appending.row_scale scale_appending.scaled_term scale_appending.scaled_terms scale_appending.appended_row scale_exponents.with_row scale_exponents.spans_of scale_exponents.pass_of scale_exponents.columns_of scale_first.first_of scale_scaling.scaled_value scale_scaling.scaled_cell scale_scaling.costs_scale scale_scaling.values_scale scale_scaling.scaled_column scale_scaling.column_step scale_scaling.blank_of scale_scaling.columns_table scale_widening.top_of scale_widening.cut_spans scale_widening.rescaled scale_widening.widened simplex_chains.new_table simplex_chains.next_of simplex_chains.started_of simplex_chains.begun_of simplex_going.go_of simplex_going.restored_of simplex_turns.glance_of simplex_turns.look_of simplex_turns.turn_of simplex_turns.finishing simplex_violations.violation_of simplex_violations.value_at simplex_violations.violations_step simplex_violations.violations_of simplex_violations.precedes simplex_violations.next_violation lib.Count.count_leading_zeros plain_answers.stuck_of plain_answers.clamped plain_answers.point_at plain_answers.found_of plain_answers.ray_dual plain_answers.ray_of plain_dictionary.low_of plain_dictionary.high_of plain_dictionary.value_at plain_dictionary.sum_step plain_dictionary.row_value plain_dictionary.start_of plain_entering.is_fixed plain_entering.is_towards plain_entering.is_eligible plain_entering.magnitude plain_entering.at_least_zero plain_entering.slack_of plain_entering.ratio_of plain_entering.entering_step plain_leaving.is_below plain_leaving.is_above plain_leaving.violated plain_leaving.leaving_step plain_pivot.turned plain_pivot.moved plain_pivot.turned_row plain_pivot.moved_row plain_pivot.pivot_of plain_pivot.grid_of plain_solve.exchanged plain_solve.turn_of plain_solve.solve_of plain_whole.dictionary_of
-answers_of_rays = refl
+answer_of_rays = refl

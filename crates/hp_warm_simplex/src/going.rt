@@ -38,7 +38,7 @@ fn make_room(alloc: Global, room: &mut Room, table: &Table) -> Result<(), Memory
 {
     let columns = table.costs.len();
     fit(alloc, &mut room.line, columns, Cell::zero())?;
-    fit(alloc, &mut room.shifts, columns, Quantity::zero())
+    fit(alloc, &mut room.shifts, columns, (0, Quantity::zero()))
 }
 
 // Sets the sides, and forgets what was known of the last answer. False where a side is out of range.

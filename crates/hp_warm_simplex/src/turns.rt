@@ -25,8 +25,8 @@ pub struct Room {
     pub(crate) violations: List<Violation>,
     // The line of one of them, a cell for each place.
     pub(crate) line: List<Cell>,
-    // The shifts of all places.
-    pub(crate) shifts: List<Quantity>,
+    // Places with their shifts, as many as there are places.
+    pub(crate) shifts: List<(usize, Quantity)>,
     // The places that flip.
     pub(crate) flips: List<usize>,
 }

@@ -1,27 +1,28 @@
 // Lists that are made whole.
-ghost use Rattle.std.specs.Prelude.{◌≡◌, replicate, IfOk};
+ghost use Rattle.std.specs.Prelude.{◌≡◌, [], replicate, IfOk};
 
 use hp_num::{List, Memory};
 use std::alloc::Global;
+
+/// A list without values, with memory for so many. [`Memory`] where memory was refused.
+pub fn with_room<T>(alloc: Global, count: usize) -> Result<List<T>, Memory>
+    ensures { IfOk result (λ found. found ≡ []) }
+{
+    Ok(List::from_vec(Vec::with_capacity(alloc, count)?))
+}
 
 /// The same values in a list of their own. [`Memory`] where memory was refused.
 pub fn copied<T: Copy + Drop>(alloc: Global, items: &[T]) -> Result<List<T>, Memory>
     ensures { IfOk result (λ found. found ≡ items.now) }
 {
-    let mut found = List::new(alloc);
-    for item in items {
-        found.push(*item)?;
-    }
-    Ok(found)
+    Ok(List::from_vec(Vec::from_slice(alloc, items)?))
 }
 
 /// So many times the same value. [`Memory`] where memory was refused.
 pub fn repeated<T: Copy + Drop>(alloc: Global, count: usize, item: T) -> Result<List<T>, Memory>
     ensures { IfOk result (λ found. found ≡ replicate count item) }
 {
-    let mut found = List::new(alloc);
-    for _k in 0..count {
-        found.push(item)?;
-    }
-    Ok(found)
+    let mut found = Vec::new(alloc);
+    found.resize(count, item)?;
+    Ok(List::from_vec(found))
 }

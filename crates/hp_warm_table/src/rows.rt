@@ -2,7 +2,7 @@
 ghost use Rattle.std.specs.Prelude.{◌≡◌, ◌<◌, ◌∷◌, ◌++◌, [], length, get_or, IfOk, is_ok, if◌then◌else◌};
 
 use crate::kept::Coefficient;
-use crate::lists::copied;
+use crate::lists::{copied, with_room};
 use hp_num::{List, Memory};
 use std::alloc::Global;
 use std::marker::Model;
@@ -70,7 +70,7 @@ fn copied_rows(
 ) -> Result<List<List<(u32, Coefficient)>>, Memory>
     ensures { IfOk result (λ found. found ≡ rows.now) }
 {
-    let mut found = List::new(alloc);
+    let mut found = with_room(alloc, rows.len())?;
     for terms in rows {
         found.push(copied(alloc, terms.as_slice())?)?;
     }

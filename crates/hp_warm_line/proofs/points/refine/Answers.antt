@@ -1,16 +1,22 @@
-use Rattle.std.proofs.Common.{◌∙◌, length, ap, sym}
+use Rattle.std.proofs.Common.{◌≡◌, ◌∙◌, ◌<◌, ℕ, ℤ, List, length, take, All, Some, ap, sym, subst}
+use Rattle.std.specs.Option.{option_map}
 use Rattle.hp_warm_table.specs.declared.table.Table.{Table}
-use Rattle.hp_warm_line.specs.Kept.{with_values}
+use Rattle.hp_warm_line.specs.Refine.{shifts_of}
+use Rattle.hp_warm_line.specs.Sparse.{sparse}
+use Rattle.hp_warm_line.proofs.Shifts.{shifts_inside, refined_by}
 use Rattle.hp_warm_line.proofs.points.refine.Goals as goal
 
 pub write_shifts-requires-clause-count : goal.write_shifts-requires-clause-count
 write_shifts-requires-clause-count c = c.requires.shifts ∙ sym (ap (λ (t : Table). length t.costs) c.stand_columns.ensures.kept)
 
-pub returns-then-not-write_shifts-clause-kept : goal.returns-then-not-write_shifts-clause-kept
-returns-then-not-write_shifts-clause-kept c = c.stand_columns.ensures.kept
+pub move_columns-requires-clause-inside : goal.move_columns-requires-clause-inside
+move_columns-requires-clause-inside c =
+    let whole = c.write_shifts.ensures.shifts ∙ ap (option_map (λ (k : ℕ). take k c.write_shifts.new.shifts)) c.in-Some.is in
+    let front = c.split_at.ensures.front ∙ ap (take c.in-Some.count) c.as_slice.ensures in
+    subst (λ (ps : List (ℕ × ℤ)). All (λ (p : ℕ × ℤ). p.0 < length c.stand_columns.new.table.lines) ps) (sym front) (shifts_inside c.stand_columns.new.table (take c.in-Some.count c.write_shifts.new.shifts) c.stand_columns.ensures.sized whole)
 
-pub move_columns-requires-clause-count : goal.move_columns-requires-clause-count
-move_columns-requires-clause-count c = ap length c.as_slice.ensures ∙ c.write_shifts.ensures.count ∙ c.requires.shifts ∙ sym (ap (λ (t : Table). length t.costs) c.stand_columns.ensures.kept)
-
-pub returns-clause-kept : goal.returns-clause-kept
-returns-clause-kept c = c.move_columns.ensures.kept ∙ ap (λ (t : Table). with_values t c.move_columns.new.table.values) c.stand_columns.ensures.kept
+pub returns-in-Some-clause-refined : goal.returns-in-Some-clause-refined
+returns-in-Some-clause-refined c =
+    let whole = c.write_shifts.ensures.shifts ∙ ap (option_map (λ (k : ℕ). take k c.write_shifts.new.shifts)) c.in-Some.is in
+    let front = c.split_at.ensures.front ∙ ap (take c.in-Some.count) c.as_slice.ensures in
+    refined_by c.args.table.now c.stand_columns.new.table c.split_at.result.0.now c.move_columns.result c.move_columns.new.table.values c.stand_columns.ensures.stood (whole ∙ ap Some (sym front)) c.move_columns.ensures.moved

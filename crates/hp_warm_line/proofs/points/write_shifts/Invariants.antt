@@ -1,11 +1,14 @@
-use Rattle.std.proofs.Common.{◌≡◌, length, take, drop}
+use Rattle.std.proofs.Common.{◌≡◌, ◌≤◌, length, take, drop}
+use Rattle.std.specs.Option.{option_map}
 use Rattle.hp_warm_table.specs.Each.{each_from}
-use Rattle.hp_warm_table.proofs.Each.{behind}
 use Rattle.hp_warm_line.specs.Refine.{shift_at, shifts_of}
+use Rattle.hp_warm_line.specs.Sparse.{sparse}
+use Rattle.hp_warm_line.proofs.Shifts.{kept}
 use Rattle.hp_warm_line.proofs.points.write_shifts.Given as goal
 
 abbrev pub invariant-loop-j : goal.invariant-loop-j
 invariant-loop-j l = record {
-  count : length l.shifts ≡ length l.fn.shifts;
-  shifts : shifts_of l.table ≡ behind (take l.j l.shifts) (each_from (shift_at l.table) l.j (drop l.j l.table.basis.nonbasic));
+  lengths : length l.shifts ≡ length l.fn.shifts;
+  few : l.count ≤ l.j;
+  shifts : option_map (sparse 0) (shifts_of l.table) ≡ kept (take l.count l.shifts) l.j (each_from (shift_at l.table) l.j (drop l.j l.table.basis.nonbasic));
 }

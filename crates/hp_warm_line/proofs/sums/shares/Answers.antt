@@ -1,15 +1,18 @@
-use Rattle.std.proofs.Common.{to_z, of_z, ◌∙◌, ◌+ℤ◌, ◌*◌, ◌+◌, ◌^◌, ◌<◌, ◌≤◌, nat_abs, ap, sym, subst, ℕ, ℤ}
+use Rattle.std.proofs.Common.{to_z, of_z, ◌∙◌, ◌+ℤ◌, ◌*ℤ◌, ◌*◌, ◌+◌, ◌^◌, ◌≤◌, nat_abs, ap₂, sym, subst, ℕ, ℤ, pos}
 use mir.Syntax.{w128}
 use Rattle.std.proofs.lemmas.Int.{to_z-of_z}
-use Rattle.hp_warm_line.proofs.Terms.{dot_step, small_step}
+use Rattle.hp_num.specs.Sums.{entry}
+use Rattle.hp_num.proofs.Fronts.{total_more}
+use Rattle.hp_warm_line.proofs.Terms.{term_read, small_step}
 use Rattle.hp_warm_line.proofs.sums.shares.Goals as goal
 
-pub loop-j-preserved : goal.loop-j-preserved
-loop-j-preserved c =
+pub loop-k-preserved : goal.loop-k-preserved
+loop-k-preserved c =
+    let f : ℕ × ℤ → ℤ = λ t. t.1 *ℤ entry c.args.line.now t.0 in
     let s = to_z-of_z w128 c.plus-sum.result (record { sfits = c.plus-sum.type_inv }) in
     let t = to_z-of_z w128 c.share.result (record { sfits = c.share.type_inv }) in
+    let read = term_read c.args.shifts.now c.args.line.now c.loop-k.k c.index-shifts-k.result c.index-shifts-k-in-loop-k.result c.index-line-shifts.result c.loop-k-test.true c.requires.inside c.index-line-shifts.is in
     record {
-      value = dot_step c.args.line.now c.args.q.now c.loop-j.j _ _ _ c.index-line-j.result c.index-q-j.result c.loop-j-test.true (subst (λ (n : ℕ). c.loop-j.j < n) c.requires.lengths c.loop-j-test.true)
-          (s ∙ c.plus-sum.ensures.value ∙ ap (λ (b : ℤ). to_z w128 c.loop-j.sum-bits +ℤ b) (t ∙ c.share.ensures.value)) c.index-line-j.is c.index-q-j.is c.loop-j.invariant.value;
-      small = subst (λ (z : ℤ). nat_abs z ≤ (c.loop-j.j + 1) * 2 ^ 115) (sym s) (small_step c.plus-sum.result (to_z w128 c.loop-j.sum-bits) (to_z w128 (of_z w128 c.share.result)) c.loop-j.j (2 ^ 115) c.plus-sum.ensures.small c.loop-j.invariant.small (subst (λ (z : ℤ). nat_abs z ≤ 2 ^ 115) (sym t) c.share.ensures.small));
+      value = s ∙ c.plus-sum.ensures.value ∙ ap₂ (λ (a b : ℤ). a +ℤ b) c.loop-k.invariant.value (t ∙ c.share.ensures.value ∙ read) ∙ sym (total_more f c.args.shifts.now c.loop-k.k (0, pos 0) c.loop-k-test.true);
+      small = subst (λ (z : ℤ). nat_abs z ≤ (c.loop-k.k + 1) * 2 ^ 115) (sym s) (small_step c.plus-sum.result (to_z w128 c.loop-k.sum-bits) (to_z w128 (of_z w128 c.share.result)) c.loop-k.k (2 ^ 115) c.plus-sum.ensures.small c.loop-k.invariant.small (subst (λ (z : ℤ). nat_abs z ≤ 2 ^ 115) (sym t) c.share.ensures.small));
     }
