@@ -1,0 +1,11 @@
+pub mod Lists
+pub mod Blocks
+pub mod Flow
+pub mod Left
+pub mod ByKind
+pub mod Places
+pub mod Meets
+pub mod OneStage
+pub mod Equivalent
+pub mod Costs
+pub mod Described

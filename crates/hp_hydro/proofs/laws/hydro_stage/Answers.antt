@@ -1,0 +1,12 @@
+use Rattle.std.proofs.Common.{[], ap}
+use Rattle.hp_hydro.specs.Made.{node_from}
+use Rattle.hp_hydro.proofs.Described.{short}
+use Rattle.hp_hydro.proofs.OneStage as lemmas
+use Rattle.hp_hydro.proofs.laws.hydro_stage.Goals as goal
+
+pub returns : goal.returns
+returns c = record {
+  node = λ h m s stages e. ap (node_from h m) e;
+  decisions = λ h units s links past i u d b. lemmas.hydro_stage h units s links past i.water (short h d) u b;
+  next = λ h units s links past here d. lemmas.next_ahead h units s links past [] (short h d) here;
+}

@@ -1,0 +1,91 @@
+-- Small descriptions that were worked out by hand.
+use Rattle.std.specs.Prelude.{ℕ, ℤ, pos, negsuc, List, [], ◌∷◌, Some, None}
+use Rattle.hp_problem.specs.declared.raw.Row.{Row}
+use Rattle.hp_theory.specs.Problem.{Node}
+use Rattle.hp_plants.specs.declared.plants.Plants.{Plants}
+use Rattle.hp_hydro.specs.Plan.{Choice, Moment, Plan, choose, no_plan, the_end}
+
+-- one stage: a bus with demand 9 and deficit cost 200, a thermal up to 20 of cost 5
+abbrev pub one_stage : Plants
+one_stage = record {
+  buses = record { name = 98 ∷ []; deficit_cost = pos 200 } ∷ [];
+  reservoirs = [];
+  thermals = record { name = 116 ∷ []; bus = 0; high = pos 20; cost = pos 5 } ∷ [];
+  lines = [];
+  stages = record { demand = pos 9 ∷ []; inflows = record { weight = 1; water = [] } ∷ [] } ∷ [];
+}
+
+-- 9 units of the thermal, in halves
+abbrev pub nine : Choice
+nine = record { turbine = λ j. pos 0; spill = λ j. pos 0; thermal = λ i. pos 18; line = λ l. pos 0; deficit = λ b. pos 0 }
+
+abbrev pub nine_plan : Plan
+nine_plan = choose nine the_end no_plan
+
+-- two reservoirs, of which the first leads to the second; the bus is served by both turbines
+abbrev pub cascade : ℕ → Plants
+cascade n = record {
+  buses = record { name = 120 ∷ []; deficit_cost = pos 200 } ∷ [];
+  reservoirs = record { name = 97 ∷ []; bus = 0; low = pos 1; high = pos 10; initial = pos 5; turbine = pos 4; spill = pos 3; factor = pos 2; downstream = Some (record { target = 1; stages = n }) }
+      ∷ record { name = 98 ∷ []; bus = 0; low = pos 0; high = pos 20; initial = pos 6; turbine = pos 8; spill = pos 9; factor = pos 3; downstream = None } ∷ [];
+  thermals = [];
+  lines = [];
+  stages = record { demand = pos 9 ∷ []; inflows = record { weight = 1; water = pos 7 ∷ pos 2 ∷ [] } ∷ record { weight = 3; water = negsuc 0 ∷ pos 0 ∷ [] } ∷ [] }
+      ∷ record { demand = pos 8 ∷ []; inflows = record { weight = 1; water = pos 0 ∷ pos 1 ∷ [] } ∷ [] } ∷ [];
+}
+
+abbrev pub zero_row : List (ℕ × ℤ) → List (ℕ × ℤ) → List (ℕ × ℤ) → Row
+zero_row ds ss rs = record { low = Some (pos 0); high = Some (pos 0); decisions = ds; states = ss; randoms = rs }
+
+-- 3 go through each turbine and 1 past it, with 7 and 2 flowing in; then nothing, with 0 and 1
+abbrev pub moving : Moment
+moving = record { water = pos 7 ∷ pos 2 ∷ []; choice = record { turbine = λ j. pos 3; spill = λ j. pos 1; thermal = λ i. pos 0; line = λ l. pos 0; deficit = λ b. pos 0 } }
+
+abbrev pub still : Moment
+still = record { water = pos 0 ∷ pos 1 ∷ []; choice = record { turbine = λ j. pos 0; spill = λ j. pos 0; thermal = λ i. pos 0; line = λ l. pos 0; deficit = λ b. pos 0 } }
+
+-- the node of the one stage: decisions g:t, u:b
+abbrev pub one_stage_node : Node
+one_stage_node = record {
+  decision_low = pos 0 ∷ pos 0 ∷ [];
+  decision_high = pos 20 ∷ pos 1048576 ∷ [];
+  costs = pos 5 ∷ pos 200 ∷ [];
+  outs = [];
+  rows = record { low = Some (pos 0); high = Some (pos 0); decisions = (0, pos 1) ∷ (1, pos 1) ∷ []; states = []; randoms = (0, negsuc 0) ∷ [] } ∷ [];
+  constant = pos 0;
+  state_costs = [];
+  random_costs = pos 0 ∷ [];
+  low = [];
+  high = [];
+  realizations = record { weight = 1; values = pos 9 ∷ [] } ∷ [];
+  links = [];
+  stop = 0;
+}
+
+-- the first node where the water travels for two stages: decisions o:a, q:a, z:a, b1:a, b2:a, o:b, q:b, z:b, u:x; states p1:a, p2:a, v:a, v:b
+abbrev pub two_stages_node : Node
+two_stages_node = record {
+  decision_low = pos 1 ∷ pos 0 ∷ pos 0 ∷ pos 0 ∷ pos 0 ∷ pos 0 ∷ pos 0 ∷ pos 0 ∷ pos 0 ∷ [];
+  decision_high = pos 10 ∷ pos 4 ∷ pos 3 ∷ pos 7 ∷ pos 7 ∷ pos 20 ∷ pos 8 ∷ pos 9 ∷ pos 1048576 ∷ [];
+  costs = pos 0 ∷ pos 0 ∷ pos 0 ∷ pos 0 ∷ pos 0 ∷ pos 0 ∷ pos 0 ∷ pos 0 ∷ pos 200 ∷ [];
+  outs = 3 ∷ 4 ∷ 0 ∷ 5 ∷ [];
+  rows = zero_row ((0, pos 1) ∷ (1, pos 1) ∷ (2, pos 1) ∷ []) ((2, negsuc 0) ∷ []) ((0, negsuc 0) ∷ [])
+      ∷ zero_row ((5, pos 1) ∷ (6, pos 1) ∷ (7, pos 1) ∷ []) ((0, negsuc 0) ∷ (3, negsuc 0) ∷ []) ((1, negsuc 0) ∷ [])
+      ∷ zero_row ((3, pos 1) ∷ []) ((1, negsuc 0) ∷ []) []
+      ∷ zero_row ((1, negsuc 0) ∷ (2, negsuc 0) ∷ (4, pos 1) ∷ []) [] []
+      ∷ zero_row ((1, pos 2) ∷ (6, pos 3) ∷ (8, pos 1) ∷ []) [] ((2, negsuc 0) ∷ []) ∷ [];
+  constant = pos 0;
+  state_costs = pos 0 ∷ pos 0 ∷ pos 0 ∷ pos 0 ∷ [];
+  random_costs = pos 0 ∷ pos 0 ∷ pos 0 ∷ [];
+  low = pos 0 ∷ pos 0 ∷ pos 1 ∷ pos 0 ∷ [];
+  high = pos 7 ∷ pos 7 ∷ pos 10 ∷ pos 20 ∷ [];
+  realizations = record { weight = 1; values = pos 7 ∷ pos 2 ∷ pos 9 ∷ [] } ∷ record { weight = 3; values = negsuc 0 ∷ pos 0 ∷ pos 9 ∷ [] } ∷ [];
+  links = record { node = 1; weight = 1 } ∷ [];
+  stop = 0;
+}
+
+-- the rows where it is there at once: decisions o:a, q:a, z:a, o:b, q:b, z:b, u:x; states v:a, v:b
+abbrev pub at_once_rows : List Row
+at_once_rows = zero_row ((0, pos 1) ∷ (1, pos 1) ∷ (2, pos 1) ∷ []) ((0, negsuc 0) ∷ []) ((0, negsuc 0) ∷ [])
+    ∷ zero_row ((1, negsuc 0) ∷ (2, negsuc 0) ∷ (3, pos 1) ∷ (4, pos 1) ∷ (5, pos 1) ∷ []) ((1, negsuc 0) ∷ []) ((1, negsuc 0) ∷ [])
+    ∷ zero_row ((1, pos 2) ∷ (4, pos 3) ∷ (6, pos 1) ∷ []) [] ((2, negsuc 0) ∷ []) ∷ []

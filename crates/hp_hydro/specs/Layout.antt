@@ -1,0 +1,165 @@
+-- What hydro plants keep from stage to stage, what is decided in a stage, and what is not known before it.
+use Rattle.std.specs.Prelude.{ℕ, suc, ◌+◌, ◌^◌, ℤ, pos, ◌+ℤ◌, List, [], ◌∷◌, ◌++◌, length, map, get_or, Option, Some, None, nat_le, if◌then◌else◌}
+use Rattle.std.specs.List.{flat_map}
+use Rattle.hp_num.specs.Sums.{entry, same_place}
+use Rattle.hp_paths.specs.Paths.{numbers}
+use Rattle.hp_plants.specs.declared.plants.Bus.{Bus}
+use Rattle.hp_plants.specs.declared.plants.Travel.{Travel}
+use Rattle.hp_plants.specs.declared.plants.Reservoir.{Reservoir}
+use Rattle.hp_plants.specs.declared.plants.Thermal.{Thermal}
+use Rattle.hp_plants.specs.declared.plants.Line.{Line}
+use Rattle.hp_plants.specs.declared.plants.Plants.{Plants}
+
+-- ---- the plants by their numbers
+
+abbrev pub reservoir : Plants → ℕ → Reservoir
+reservoir h j = get_or h.reservoirs j (record { name = []; bus = 0; low = pos 0; high = pos 0; initial = pos 0; turbine = pos 0; spill = pos 0; factor = pos 0; downstream = None })
+
+abbrev pub thermal : Plants → ℕ → Thermal
+thermal h i = get_or h.thermals i (record { name = []; bus = 0; high = pos 0; cost = pos 0 })
+
+abbrev pub line : Plants → ℕ → Line
+line h l = get_or h.lines l (record { name = []; source = 0; target = 0; high = pos 0 })
+
+abbrev pub bus : Plants → ℕ → Bus
+bus h b = get_or h.buses b (record { name = []; deficit_cost = pos 0 })
+
+abbrev pub all_reservoirs : Plants → List ℕ
+all_reservoirs h = numbers (length h.reservoirs)
+
+abbrev pub all_thermals : Plants → List ℕ
+all_thermals h = numbers (length h.thermals)
+
+abbrev pub all_lines : Plants → List ℕ
+all_lines h = numbers (length h.lines)
+
+abbrev pub all_buses : Plants → List ℕ
+all_buses h = numbers (length h.buses)
+
+-- ---- where water goes
+
+abbrev pub travel_of : Option Travel → ℕ
+travel_of None = 0
+travel_of (Some t) = t.stages
+
+-- after how many stages the water of reservoir i is there
+abbrev pub travel : Plants → ℕ → ℕ
+travel h i = travel_of (reservoir h i).downstream
+
+abbrev pub leads_by : Option Travel → ℕ → ℤ
+leads_by None j = pos 0
+leads_by (Some t) j = same_place t.target j
+
+-- 1 where the water of reservoir i goes to reservoir j, else 0
+abbrev pub leads : Plants → ℕ → ℕ → ℤ
+leads h i j = leads_by (reservoir h i).downstream j
+
+-- ---- states
+
+pub data Store : Type 0 where
+  -- the volume of reservoir j
+  volume_of : ℕ → Store
+  -- the water of reservoir j that arrives with the k-th stage from here
+  way_of : ℕ → ℕ → Store
+
+-- 1, .., n
+abbrev pub steps : ℕ → List ℕ
+steps n = map suc (numbers n)
+
+-- the water that is k stages away, from each reservoir whose water travels so far
+abbrev pub ways : Plants → ℕ → List Store
+ways h k = flat_map (λ j. if nat_le k (travel h j) then way_of j k ∷ [] else []) (all_reservoirs h)
+
+-- in the order of the names p1:.., p2:.., p3:.., v:..; no water travels for more than three stages
+abbrev pub stores : Plants → List Store
+stores h = flat_map (ways h) (steps 3) ++ map volume_of (all_reservoirs h)
+
+abbrev pub store_low : Plants → Store → ℤ
+store_low h (volume_of j) = (reservoir h j).low
+store_low h (way_of j k) = pos 0
+
+abbrev pub store_high : Plants → Store → ℤ
+store_high h (volume_of j) = (reservoir h j).high
+store_high h (way_of j k) = (reservoir h j).turbine +ℤ (reservoir h j).spill
+
+abbrev pub store_initial : Plants → Store → ℤ
+store_initial h (volume_of j) = (reservoir h j).initial
+store_initial h (way_of j k) = pos 0
+
+-- ---- decisions
+
+pub data Variable : Type 0 where
+  -- what a state is after the stage
+  after : Store → Variable
+  -- what goes through the turbine of reservoir j, and past it
+  turbine_of : ℕ → Variable
+  spill_of : ℕ → Variable
+  -- the energy of thermal i, on line l, and missing at bus b
+  thermal_of : ℕ → Variable
+  line_of : ℕ → Variable
+  deficit_of : ℕ → Variable
+
+abbrev pub variables_of : Plants → ℕ → List Variable
+variables_of h j = after (volume_of j) ∷ turbine_of j ∷ spill_of j ∷ map (λ k. after (way_of j k)) (steps (travel h j))
+
+abbrev pub variables : Plants → List Variable
+variables h = flat_map (variables_of h) (all_reservoirs h) ++ map thermal_of (all_thermals h) ++ map line_of (all_lines h) ++ map deficit_of (all_buses h)
+
+abbrev pub least : Plants → Variable → ℤ
+least h (after s) = store_low h s
+least h (turbine_of j) = pos 0
+least h (spill_of j) = pos 0
+least h (thermal_of i) = pos 0
+least h (line_of l) = pos 0
+least h (deficit_of b) = pos 0
+
+abbrev pub greatest_deficit : ℕ
+greatest_deficit = 2 ^ 20
+
+abbrev pub greatest : Plants → Variable → ℤ
+greatest h (after s) = store_high h s
+greatest h (turbine_of j) = (reservoir h j).turbine
+greatest h (spill_of j) = (reservoir h j).spill
+greatest h (thermal_of i) = (thermal h i).high
+greatest h (line_of l) = (line h l).high
+greatest h (deficit_of b) = pos greatest_deficit
+
+abbrev pub cost_of : Plants → Variable → ℤ
+cost_of h (after s) = pos 0
+cost_of h (turbine_of j) = pos 0
+cost_of h (spill_of j) = pos 0
+cost_of h (thermal_of i) = (thermal h i).cost
+cost_of h (line_of l) = pos 0
+cost_of h (deficit_of b) = (bus h b).deficit_cost
+
+-- how many variables stand before those of reservoir j
+abbrev pub first_of : Plants → ℕ → ℕ
+first_of h j = length (flat_map (variables_of h) (numbers j))
+
+abbrev pub store_place : Plants → Store → ℕ
+store_place h (volume_of j) = first_of h j
+store_place h (way_of j k) = first_of h j + 2 + k
+
+-- the number of a variable
+abbrev pub place_of : Plants → Variable → ℕ
+place_of h (after s) = store_place h s
+place_of h (turbine_of j) = first_of h j + 1
+place_of h (spill_of j) = first_of h j + 2
+place_of h (thermal_of i) = first_of h (length h.reservoirs) + i
+place_of h (line_of l) = first_of h (length h.reservoirs) + length h.thermals + l
+place_of h (deficit_of b) = first_of h (length h.reservoirs) + length h.thermals + length h.lines + b
+
+-- ---- what is not known before a stage
+
+pub data Chance : Type 0 where
+  -- the inflow of reservoir j, and the demand at bus b
+  inflow_of : ℕ → Chance
+  demand_of : ℕ → Chance
+
+abbrev pub chances : Plants → List Chance
+chances h = map inflow_of (all_reservoirs h) ++ map demand_of (all_buses h)
+
+-- one entry of water per reservoir, one of demand per bus
+abbrev pub chance_value : List ℤ → List ℤ → Chance → ℤ
+chance_value demand water (inflow_of j) = entry water j
+chance_value demand water (demand_of b) = entry demand b

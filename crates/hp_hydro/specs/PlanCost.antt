@@ -1,0 +1,33 @@
+-- What a plan costs: the average by the weights of thermal and deficit costs and what comes after.
+use Rattle.std.specs.Prelude.{ℕ, ◌+◌, ◌+ℤ◌, ◌*ℤ◌, List, [], ◌∷◌}
+use Rattle.hp_num.specs.Sums.{total}
+use Rattle.hp_theory.specs.Fraction.{Fraction, nothing, plus, times, over}
+use Rattle.hp_plants.specs.declared.plants.Inflow.{Inflow}
+use Rattle.hp_plants.specs.declared.plants.Stage.{Stage}
+use Rattle.hp_plants.specs.declared.plants.Plants.{Plants}
+use Rattle.hp_hydro.specs.Layout.{thermal, bus, all_thermals, all_buses}
+use Rattle.hp_hydro.specs.Plan.{Choice, Plan, no_plan, choose, Later, the_end, later}
+
+-- of thermals and deficits, divided by N
+abbrev pub choice_cost : Plants → ℕ → Choice → Fraction
+choice_cost h units c = record { up = total (λ i. (thermal h i).cost *ℤ c.thermal i) (all_thermals h) +ℤ total (λ b. (bus h b).deficit_cost *ℤ c.deficit b) (all_buses h); under = units }
+
+abbrev pub inflow_weight : List Inflow → ℕ
+inflow_weight [] = 0
+inflow_weight (i ∷ is) = i.weight + inflow_weight is
+
+abbrev mutual
+  -- the sum over the branches of weight * (choice + what comes after)
+  pub branches_cost : Plants → ℕ → List Stage → List Inflow → Plan → Fraction
+  branches_cost h units stages is no_plan = nothing
+  branches_cost h units stages [] (choose c l p) = nothing
+  branches_cost h units stages (i ∷ is) (choose c l p) = plus (times i.weight (plus (choice_cost h units c) (later_cost h units stages l))) (branches_cost h units stages is p)
+
+  -- that sum over the total of the weights
+  pub later_cost : Plants → ℕ → List Stage → Later → Fraction
+  later_cost h units stages the_end = nothing
+  later_cost h units [] (later p) = nothing
+  later_cost h units (s ∷ stages) (later p) = over (branches_cost h units stages s.inflows p) (inflow_weight s.inflows)
+
+abbrev pub plan_cost : Plants → ℕ → Plan → Fraction
+plan_cost h units p = later_cost h units h.stages (later p)

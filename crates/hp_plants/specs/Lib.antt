@@ -1,0 +1,11 @@
+pub mod Steps
+pub mod Fields
+pub mod Names
+pub mod Tables
+pub mod Shown
+pub mod Grid
+pub mod Stages
+pub mod Plants
+pub mod Described
+pub mod Texts
+pub mod Examples

@@ -1,0 +1,35 @@
+-- Names, and what they name.
+use Rattle.std.specs.Prelude.{ℕ, Bool, ◌&&◌, ◌||◌, ◌==◌, List, length, Option, Some, None, Result, Ok, nat_lt, nat_le, position, if◌then◌else◌}
+use Rattle.std.specs.Char.{is_ascii_alphanumeric}
+use Rattle.std.specs.List.{list_all}
+use Rattle.std.specs.Str.{bytes_eq}
+use Rattle.serde_json.specs.Data.{Data}
+use Rattle.hp_plants.specs.declared.refusal.HydroRefusal.{HydroRefusal}
+use Rattle.hp_plants.specs.declared.refusal.HydroKind.TheVariants as kinds
+use Rattle.hp_plants.specs.declared.place.Place.{Place}
+use Rattle.hp_plants.specs.Steps.{◌>>=◌}
+use Rattle.hp_plants.specs.Fields.{refuse, present_at, string_at}
+
+-- a letter or digit of ASCII, `_` (95) or `-` (45)
+abbrev pub is_name_byte : ℕ → Bool
+is_name_byte b = is_ascii_alphanumeric b || (b == 95) || (b == 45)
+
+-- 1 to 16 letters, digits, `_` or `-`
+unfoldable pub is_name : List ℕ → Bool
+is_name k = nat_lt 0 (length k) && nat_le (length k) 16 && list_all is_name_byte k
+
+-- a key of the form of names
+unfoldable pub key_at : Place → List ℕ → Result (List ℕ) HydroRefusal
+key_at p k = if is_name k then Ok k else refuse kinds.Limit p
+
+-- the number of a known name
+unfoldable pub known_at : Place → Option ℕ → Result ℕ HydroRefusal
+known_at p None = refuse kinds.UnknownName p
+known_at p (Some i) = Ok i
+
+-- a string that is one of the names; its number
+unfoldable pub named_at : Place → List (List ℕ) → Option Data → Result ℕ HydroRefusal
+named_at p names o = do
+  d ← present_at p o
+  text ← string_at p d
+  known_at p (position (bytes_eq text) names)

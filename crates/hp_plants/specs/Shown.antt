@@ -1,0 +1,13 @@
+-- What the tables of a description stand for.
+use Rattle.serde_json.specs.View.{members_view, items_view}
+use Rattle.hp_plants.specs.declared.tables.Tables.{Tables}
+use Rattle.hp_plants.specs.Tables as tables
+
+abbrev pub shown : Tables → tables.Tables
+shown f = record {
+  buses = members_view f.buses.now.entries;
+  reservoirs = members_view f.reservoirs.now.entries;
+  thermals = members_view f.thermals.now.entries;
+  lines = members_view f.lines.now.entries;
+  stages = items_view f.stages.now;
+}

@@ -1,0 +1,11 @@
+// What holds of every description that is read.
+ghost use Rattle.std.specs.Prelude.{◌≡◌, ℕ, List, Ok};
+ghost use Rattle.hp_plants.specs.declared.plants.Plants.{Plants};
+ghost use Rattle.hp_plants.specs.Described.{IsPlants};
+ghost use Rattle.hp_plants.specs.Plants.{plants_at};
+
+/// Every description that is read keeps the ranges of its counts and numbers, and each of its numbers of buses and
+/// reservoirs names one.
+pub fn descriptions_fit()
+    ensures { (bytes : List ℕ) (p : Plants) → plants_at bytes ≡ Ok p → IsPlants p }
+{}

@@ -1,0 +1,62 @@
+// The lines of a description.
+ghost use Rattle.std.specs.Prelude.{◌≤◌, ◌^◌, length};
+ghost use Rattle.serde_json.specs.View.{view, members_view};
+ghost use Rattle.hp_plants.specs.Steps.{Gives};
+ghost use Rattle.hp_plants.specs.Grid.{line_at, lines_at};
+
+use crate::field::{amount, object};
+use crate::names::{key, named};
+use crate::place::Place;
+use crate::plants::Line;
+use crate::refusal::{HydroFault, HydroPart};
+use hp_fields::{Names, count, few};
+use hp_num::List;
+use serde_json::{Map, Value};
+use std::alloc::Global;
+
+#[tactic(auto, unfolding(crate::specs::Grid::line_at))]
+fn line(
+    alloc: Global,
+    buses: &Names,
+    found: &mut List<Line>,
+    i: u32,
+    name: &str,
+    value: &Value,
+) -> Result<(), HydroFault>
+    requires { length buses.now ≤ 2 ^ 32 }
+    ensures { Gives (λ _. found.new) result
+        (line_at buses.now found.old i name.now (view value.now)) }
+{
+    let place = Place::new(HydroPart::Line, i, 0);
+    let name = key(alloc, name, place)?;
+    object(value, place)?;
+    let source = named(buses, value.get("from"), place)?;
+    let target = named(buses, value.get("to"), place)?;
+    let high = amount(value.get("high"), place)?;
+    found.push(Line {
+        name,
+        source,
+        target,
+        high,
+    })?;
+    Ok(())
+}
+
+/// The lines, in the byte order of their names, where `buses` are the names of all buses.
+pub(crate) fn lines(
+    alloc: Global,
+    buses: &Names,
+    table: &Map<String, Value>,
+) -> Result<List<Line>, HydroFault>
+    requires { length buses.now ≤ 2 ^ 32 }
+    ensures { Gives (λ l. l) result (lines_at buses.now (members_view table.now.entries)) }
+{
+    few(count(table))?;
+    let mut found = List::new(alloc);
+    let mut i = 0u32;
+    for (name, value) in table.iter() {
+        line(alloc, buses, &mut found, i, name.as_str(), value)?;
+        i += 1;
+    }
+    Ok(found)
+}

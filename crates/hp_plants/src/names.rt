@@ -1,0 +1,73 @@
+// Names, and what they name.
+ghost use Rattle.std.specs.Prelude.{◌≡◌, ◌≤◌, ◌^◌, length, position, option_map};
+ghost use Rattle.std.specs.List.{list_all};
+ghost use Rattle.std.specs.Str.{bytes_eq};
+ghost use Rattle.serde_json.specs.View.{view};
+ghost use Rattle.hp_plants.specs.Steps.{Gives};
+ghost use Rattle.hp_plants.specs.Names.{is_name, is_name_byte, key_at, known_at, named_at};
+
+use crate::field::{present, string};
+use crate::place::Place;
+use crate::refusal::{HydroFault, HydroKind, HydroRefusal};
+use hp_fields::Names;
+use hp_num::Name;
+use serde_json::Value;
+use std::alloc::Global;
+
+/// The most bytes of a name.
+const NAME_BYTES: usize = 16;
+
+// A letter, a digit, `_` or `-`.
+fn is_name_byte(byte: u8) -> bool
+    ensures { result ≡ is_name_byte byte }
+{
+    byte.is_ascii_alphanumeric() || byte == b'_' || byte == b'-'
+}
+
+fn has_only_name_bytes(text: &[u8]) -> bool
+    ensures { result ≡ list_all is_name_byte text.now }
+{
+    text.iter().all(|byte| is_name_byte(*byte))
+}
+
+// 1 to 16 letters, digits, `_` or `-`.
+#[tactic(auto, unfolding(crate::specs::Names::is_name))]
+fn is_name(text: &[u8]) -> bool
+    ensures { result ≡ is_name text.now }
+{
+    0 < text.len() && text.len() <= NAME_BYTES && has_only_name_bytes(text)
+}
+
+/// A key of the form of names, else Limit.
+#[tactic(auto, unfolding(crate::specs::Names::key_at))]
+pub(crate) fn key(alloc: Global, text: &str, place: Place) -> Result<Name, HydroFault>
+    ensures { Gives (λ n. n) result (key_at place text.now) }
+{
+    if !is_name(text.as_bytes()) {
+        return Err(HydroFault::Refused(HydroKind::Limit.at(place)));
+    }
+    Ok(Name::new(alloc, text)?)
+}
+
+// The number of a known name, else UnknownName.
+#[tactic(auto, unfolding(crate::specs::Names::known_at))]
+fn known(names: &Names, name: &str, place: Place) -> Result<u32, HydroRefusal>
+    requires { length names.now ≤ 2 ^ 32 }
+    ensures { result ≡ known_at place (position (bytes_eq name.now) names.now) }
+{
+    match names.position(name) {
+        Some(at) => Ok(at as u32),
+        None => Err(HydroKind::UnknownName.at(place)),
+    }
+}
+
+/// The number of the name that a member gives: Shape where it is absent or no string, UnknownName where it is
+/// not among the names.
+#[tactic(auto, unfolding(crate::specs::Names::named_at))]
+pub(crate) fn named(names: &Names, value: Option<&Value>, place: Place) -> Result<u32, HydroRefusal>
+    requires { length names.now ≤ 2 ^ 32 }
+    ensures { result ≡ named_at place names.now (option_map (λ v. view v.now) value.entry) }
+{
+    let name = string(present(value, place)?, place)?;
+    known(names, name, place)
+}

@@ -1,0 +1,77 @@
+// A description of plants from its bytes.
+ghost use Rattle.std.specs.Prelude.{IfOk};
+ghost use Rattle.serde_json.specs.View.{view};
+ghost use Rattle.hp_plants.specs.Described.{IsPlants};
+ghost use Rattle.hp_plants.specs.Plants.{described_at, plants_of, plants_at};
+ghost use Rattle.hp_plants.specs.Shown.{shown};
+ghost use Rattle.hp_plants.specs.Steps.{Gives};
+
+use crate::buses::buses;
+use crate::lines::lines;
+use crate::plants::Plants;
+use crate::refusal::HydroFault;
+use crate::reservoirs::{reservoirs, states};
+use crate::stages::stages;
+use crate::tables::{Tables, tables_of};
+use crate::text::json;
+use crate::thermals::thermals;
+use hp_fields::{Names, few, keys};
+use serde_json::{Map, Value};
+use std::alloc::Global;
+
+// What the tables hold, where `bus_names` and `reservoir_names` are the names of all buses and of all reservoirs.
+#[tactic(auto, unfolding(crate::specs::Plants::described_at))]
+fn described(
+    alloc: Global,
+    bus_names: &Names,
+    reservoir_names: &Names,
+    tables: &Tables,
+) -> Result<Plants, HydroFault>
+    ensures { Gives (λ p. p) result (described_at bus_names.now reservoir_names.now (shown tables.now)) }
+{
+    few(bus_names.len())?;
+    few(reservoir_names.len())?;
+    let buses = buses(alloc, tables.buses)?;
+    let reservoirs = reservoirs(alloc, bus_names, tables.reservoirs, reservoir_names)?;
+    let thermals = thermals(alloc, bus_names, tables.thermals)?;
+    let lines = lines(alloc, bus_names, tables.lines)?;
+    states(reservoirs.as_slice())?;
+    let stages = stages(alloc, bus_names, reservoir_names, tables.stages)?;
+    Ok(Plants {
+        buses,
+        reservoirs,
+        thermals,
+        lines,
+        stages,
+    })
+}
+
+// The description that a JSON value gives, or the first refusal.
+#[tactic(auto, unfolding(crate::specs::Plants::plants_of))]
+fn plants(alloc: Global, value: &Value) -> Result<Plants, HydroFault>
+    ensures { Gives (λ p. p) result (plants_of (view value.now)) }
+{
+    let none = Map::new(alloc);
+    let tables = tables_of(value, &none)?;
+    let bus_names = keys(alloc, tables.buses)?;
+    let reservoir_names = keys(alloc, tables.reservoirs)?;
+    described(alloc, &bus_names, &reservoir_names, &tables)
+}
+
+// The description that the bytes give, or the first refusal.
+#[tactic(auto, unfolding(crate::specs::Plants::plants_at))]
+fn read(alloc: Global, bytes: &[u8]) -> Result<Plants, HydroFault>
+    ensures { Gives (λ p. p) result (plants_at bytes.now) }
+{
+    let value = json(alloc, bytes)?;
+    plants(alloc, &value)
+}
+
+/// The description of plants that the bytes give, or the first refusal, or Memory where memory was refused.
+pub fn read_plants(alloc: Global, bytes: &[u8]) -> Result<Plants, HydroFault>
+    ensures value { Gives (λ p. p) result (plants_at bytes.now) }
+    ensures known { IfOk result IsPlants }
+{
+    let plants = read(alloc, bytes)?;
+    Ok(plants)
+}

@@ -1,0 +1,73 @@
+// The stages of a description.
+ghost use Rattle.std.specs.Prelude.{◌≡◌, ◌≤◌, OnOk};
+ghost use Rattle.serde_json.specs.View.{view, items_view};
+ghost use Rattle.hp_plants.specs.Steps.{Gives};
+ghost use Rattle.hp_plants.specs.Stages.{count_at, stage_at, stages_at};
+
+use crate::entries::entries;
+use crate::field::{items, object, table};
+use crate::inflows::{inflows, total};
+use crate::place::Place;
+use crate::plants::Stage;
+use crate::refusal::{HydroFault, HydroKind, HydroPart, HydroRefusal};
+use hp_fields::{Names, few};
+use hp_num::List;
+use serde_json::Value;
+use std::alloc::Global;
+
+/// The most inflows of a stage.
+const MOST_INFLOWS: usize = 100;
+
+// Limit where there is no inflow, or more than 100.
+#[tactic(auto, unfolding(crate::specs::Stages::count_at))]
+fn counted(count: usize, place: Place) -> Result<(), HydroRefusal>
+    ensures value { result ≡ count_at place count }
+    ensures few { OnOk result (count ≤ 100) }
+{
+    if 0 < count && count <= MOST_INFLOWS {
+        return Ok(());
+    }
+    Err(HydroKind::Limit.at(place))
+}
+
+#[tactic(auto, unfolding(crate::specs::Stages::stage_at), using(hp_fields::proofs::InOrder::counts))]
+fn stage(
+    alloc: Global,
+    buses: &Names,
+    reservoirs: &Names,
+    found: &mut List<Stage>,
+    t: u32,
+    value: &Value,
+) -> Result<(), HydroFault>
+    ensures { Gives (λ _. found.new) result
+        (stage_at buses.now reservoirs.now found.old t (view value.now)) }
+{
+    let place = Place::new(HydroPart::Stage, t, 0);
+    object(value, place)?;
+    let demands = table(value.get("demand"), place)?;
+    let items = items(value.get("inflows"), place)?;
+    counted(items.len(), place)?;
+    let demand = entries(alloc, 0, buses, demands, place)?;
+    let inflows = inflows(alloc, reservoirs, t, items)?;
+    total(inflows.as_slice(), place)?;
+    found.push(Stage { demand, inflows })?;
+    Ok(())
+}
+
+/// The stages, where `buses` and `reservoirs` are the names of all buses and of all reservoirs.
+pub(crate) fn stages(
+    alloc: Global,
+    buses: &Names,
+    reservoirs: &Names,
+    items: &[Value],
+) -> Result<List<Stage>, HydroFault>
+    ensures { Gives (λ l. l) result
+        (stages_at buses.now reservoirs.now (items_view items.now)) }
+{
+    few(items.len())?;
+    let mut found = List::new(alloc);
+    for (t, value) in items.iter().enumerate() {
+        stage(alloc, buses, reservoirs, &mut found, t as u32, value)?;
+    }
+    Ok(found)
+}
