@@ -116,7 +116,7 @@ def _one(cursor: Optional[Cursor], known: tuple[str, ...], harmless: tuple[str, 
 
 
 def _node(cursor: Cursor, root: Cursor) -> Iterator[Keys]:
-    yield from _one(cursor, ("subproblem", "realizations", "successors", "stop"))
+    yield from _one(cursor, ("subproblem", "realizations", "successors", "stop", "alternatives"))
     for at in _items(_find(cursor, "realizations")):
         yield from _one(at, ("probability", "support"))
         support = _find(at, "support")

@@ -199,6 +199,20 @@ def _successor(root: Cursor, refusal: Refusal) -> tuple[Path, str]:
     return (*path, "successors", key), f'successor "{key}" of {words}'
 
 
+def _alternative(root: Cursor, refusal: Refusal) -> tuple[Path, str]:
+    """The member as a whole, one of its arrays, or, where a weight itself is refused, that weight; arrays count from 1."""
+    path, words = node_path(root, refusal.numbers[0])
+    path = (*path, "alternatives")
+    alternative, realization = refusal.numbers[1:]
+    if alternative == 0:
+        return path, f"the alternatives of {words}"
+    path, words = (*path, alternative - 1), f"alternative {alternative} of {words}"
+    found, missing = descend(root, (*path, realization))
+    if missing or (refusal.kind == "Shape" and realization == 0 and found.is_number()):
+        return path, words
+    return (*path, realization), f"weight {realization} of {words}"
+
+
 def _scenario(root: Cursor, refusal: Refusal) -> tuple[Path, str]:
     return ("validation_scenarios", refusal.numbers[0]), f"stored scenario {refusal.numbers[0]}"
 
@@ -224,6 +238,7 @@ FINDERS: dict[str, Callable[[Cursor, Refusal], tuple[Path, str]]] = {
     "whole": _whole, "root": _root, "subproblem": _subproblem, "variable": _variable, "state": _state,
     "random": _random, "objective": _objective, "constraint": _constraint, "node": _node, "realization": _realization,
     "support": _support, "successor": _successor, "scenario": _scenario, "step": _step_of_scenario,
+    "alternative": _alternative,
 }
 
 

@@ -66,6 +66,19 @@ class Places(unittest.TestCase):
                 self.assertIn(place, pointed[0])
                 self.assertIn(part, pointed[0])
 
+    def test_alternatives(self):
+        rows = [
+            ("7", "Shape at alternative 2 0 0", 'the alternatives of node "summer dry"', '$.nodes["summer dry"].alternatives (line'),
+            ("[[]]", "Shape at alternative 2 1 0", 'alternative 1 of node "summer dry"', '$.nodes["summer dry"].alternatives[0] (line'),
+            ("[[1, 2], [3, 0.5]]", "NotWhole at alternative 2 2 1", 'weight 1 of alternative 2 of node "summer dry"',
+             '$.nodes["summer dry"].alternatives[1][1] (line'),
+        ]
+        for listed, line, words, place in rows:
+            with self.subTest(line=line):
+                text = said(TWO.replace('"stop": 1', f'"stop": 1, "alternatives": {listed}'), f"hydroplan: problem refused: {line}")
+                self.assertIn(f"where: {words}\n", text)
+                self.assertIn(place, text)
+
     def test_a_cycle_is_shown(self):
         text = TWO.replace('"successors": {"autumn": 1}\n    },\n    "autumn": {', '"successors": {"autumn": 1}\n    },\n    "autumn": {"successors": {"summer wet": 1},')
         self.assertIn("ring: autumn -> summer wet -> autumn", said(text, "hydroplan: problem refused: Cycle at node 0 0 0"))

@@ -24,14 +24,14 @@ use Rattle.hp_run.specs.declared.task.Task.{Task}
 use Rattle.hp_run.specs.declared.task.Task.TheVariants.{Base, Check}
 
 -- the bound of sound cuts is under the cost of each policy
-bound_under : (p : Sealed) (pools : List (List Cut)) → is_sealed p ≡ true → Fit (problem_of p) (length p.raw.nodes) pools → Sound (problem_of p) pools → Under (problem_of p) (bound (problem_of p) pools)
+pub bound_under : (p : Sealed) (pools : List (List Cut)) → is_sealed p ≡ true → Fit (problem_of p) (length p.raw.nodes) pools → Sound (problem_of p) pools → Under (problem_of p) (bound (problem_of p) pools)
 bound_under p pools e fit sound = sound_bound (problem_of p) pools (root_shaped-sealed p e) (have_cuts-root p pools e fit.some) sound
 
-pub base_is_sound : (p : Sealed) (pools : List (List Cut)) (text : List ℕ) → is_sealed p ≡ true → Fit (problem_of p) (length p.raw.nodes) pools → Sound (problem_of p) pools → text ≡ base_text p pools → IsSoundReport Base p pools text
-base_is_sound p pools text e fit sound is = record { is = is; cuts = sound; bound = bound_under p pools e fit sound }
+pub base_is_sound : (bytes : List ℕ) (p : Sealed) (pools : List (List Cut)) (text : List ℕ) → is_sealed p ≡ true → Fit (problem_of p) (length p.raw.nodes) pools → Sound (problem_of p) pools → text ≡ base_text p pools → IsSoundReport Base bytes p pools text
+base_is_sound bytes p pools text e fit sound is = record { is = is; cuts = sound; bound = bound_under p pools e fit sound }
 
-pub check_is_sound : (p : Sealed) (l : Loaded) (text : List ℕ) → is_sealed p ≡ true → IsSafe p l → text ≡ check_text p l.pools.lists l.bounds l.unsettled l.rest → IsSoundReport Check p l.pools.lists text
-check_is_sound p l text e safe is = record { is = (l.bounds, l.unsettled, l.rest, is, safe.under); cuts = safe.sound; bound = bound_under p l.pools.lists e safe.fit safe.sound }
+pub check_is_sound : (bytes : List ℕ) (p : Sealed) (l : Loaded) (text : List ℕ) → is_sealed p ≡ true → IsSafe p l → text ≡ check_text p l.pools.lists l.bounds l.unsettled l.rest → IsSoundReport Check bytes p l.pools.lists text
+check_is_sound bytes p l text e safe is = record { is = (l.bounds, l.unsettled, l.rest, is, safe.under); cuts = safe.sound; bound = bound_under p l.pools.lists e safe.fit safe.sound }
 
 -- the report of a task over a problem with its base cuts
 report_is : {Start Chain : Type 0} (v : Solving Start Chain) (task : Task) (bytes kept : List ℕ) (b : WithBase) → based_at bytes ≡ Ok b → report_at v task bytes kept ≡ report_by v task bytes kept b
@@ -57,3 +57,8 @@ check_lacks v view told disk disk_now bytes b (faults.Refused r) is rose has = (
 check_lacks v view told disk disk_now bytes b (faults.TooMuch t) is rose has = (tt, check_reports v told bytes _ b is has)
 check_lacks v view told disk disk_now bytes b faults.DiskFault is rose has = (tt, rose refl)
 check_lacks v view told disk disk_now bytes b faults.Memory is rose has = tt
+
+-- the report of base cuts is that of the task that asks for it
+pub base_sounds : {X : Type 0} (view : X → List ℕ) (r : Result X Status) (task : Task) (bytes : List ℕ) (p : Sealed) (pools : List (List Cut)) → task ≡ Base → IfOk r (λ x. IsSoundReport Base bytes p pools (view x)) → IfOk r (λ x. (cuts : List (List Cut)) × IsSoundReport task bytes p cuts (view x))
+base_sounds view (Ok x) task bytes p pools is h = (pools, subst (λ (k : Task). IsSoundReport k bytes p pools (view x)) (sym is) h)
+base_sounds view (Err s) task bytes p pools is h = tt

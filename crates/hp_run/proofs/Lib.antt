@@ -7,3 +7,5 @@ pub mod TrainReports
 pub mod Wrote
 pub mod ResumedRuns
 pub mod Simulated
+pub mod Listed
+pub mod SoundPlanes

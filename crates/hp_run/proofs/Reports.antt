@@ -15,27 +15,30 @@ use Rattle.hp_report.proofs.SoundTraces.{sound_traces}
 use Rattle.hp_fields.specs.Steps.{◌>>=◌}
 use Rattle.hp_problem.specs.declared.refusal.Refusal.{Refusal}
 use Rattle.hp_lp.specs.Chained.{Solving}
-use Rattle.hp_run.specs.Outcome.{Reports, WithBase, based_at, based_of, with_base, or_refused, report_by, report_at, IsSoundReport, SoundText}
+use Rattle.hp_run.specs.Outcome.{IsRefused, Reports, WithBase, listed_at, with_alternatives, based_at, based_of, with_base, or_refused, report_by, report_at, IsSoundReport, SoundText}
 use Rattle.hp_run.specs.Causes.{Ends, Explains, ExplainsProblem, ExplainsTask, IsRefuted, Lacks, ReadAll, status_of, expected, Completes}
 use Rattle.hp_run.specs.declared.job.Job.{Job}
 use Rattle.hp_run.specs.declared.job.Job.TheVariants.{Plan, Generate}
 use Rattle.hp_run.specs.declared.task.Task.{Task}
-use Rattle.hp_run.specs.declared.task.Task.TheVariants.{Base, Train, Check, Simulate, Validate}
+use Rattle.hp_run.specs.declared.task.Task.TheVariants.{Base, Train, Check, Simulate, Validate, Robust}
 use Rattle.hp_run.specs.declared.status.Status.{Status}
 use Rattle.hp_run.specs.declared.status.Status.TheVariants.{Done, Usage, ReadFault, TooLong, ProblemRefused, JournalRefused, TooMuch, Range, NoStage, DiskFault, WriteFault, Memory}
 use Rattle.hp_run.proofs.KnownBytes.{all_taken}
+use Rattle.hp_run.proofs.Listed.{robust_refused}
+use Rattle.hp_run.proofs.SoundPlanes.{sound_planes}
 
-lines_of_report : (task : Task) (p : Sealed) (pools : List (List Cut)) (text : List ℕ) → IsSoundReport task p pools text → SoundLines (problem_of p) text
-lines_of_report Base p pools text r = subst (SoundLines (problem_of p)) (sym r.is) (sound_lines p pools r.cuts r.bound)
-lines_of_report (Train seed count batch) p pools text r =
+lines_of_report : (task : Task) (bytes : List ℕ) (p : Sealed) (pools : List (List Cut)) (text : List ℕ) → IsSoundReport task bytes p pools text → SoundLines (problem_of p) text
+lines_of_report Base bytes p pools text r = subst (SoundLines (problem_of p)) (sym r.is) (sound_lines p pools r.cuts r.bound)
+lines_of_report (Train seed count batch) bytes p pools text r =
     subst (SoundLines (problem_of p)) (sym r.is.2) (sound_training p pools r.is.0 r.is.1 r.is.3 r.bound)
-lines_of_report Check p pools text r =
+lines_of_report Check bytes p pools text r =
     subst (SoundLines (problem_of p)) (sym r.is.3) (sound_check p pools r.is.0 r.is.1 r.is.2 r.cuts r.is.4 r.bound)
-lines_of_report (Simulate seed count) p pools text r = subst (SoundLines (problem_of p)) (sym r.is.1) (sound_traces p pools r.is.0 r.bound)
-lines_of_report Validate p pools text r = subst (SoundLines (problem_of p)) (sym r.is.1) (sound_traces p pools r.is.0 r.bound)
+lines_of_report (Simulate seed count) bytes p pools text r = subst (SoundLines (problem_of p)) (sym r.is.1) (sound_traces p pools r.is.0 r.bound)
+lines_of_report Validate bytes p pools text r = subst (SoundLines (problem_of p)) (sym r.is.1) (sound_traces p pools r.is.0 r.bound)
+lines_of_report Robust bytes p pools text r = subst (SoundLines (problem_of p)) (sym r.is.3) (sound_planes p r.is.1)
 
 -- a report of the problem that the bytes give is sound
-pub sound_text : (task : Task) (bytes : List ℕ) (p : Sealed) (pools : List (List Cut)) (text : List ℕ) → problem_at bytes ≡ Ok p → IsSoundReport task p pools text → SoundText task bytes text
+pub sound_text : (task : Task) (bytes : List ℕ) (p : Sealed) (pools : List (List Cut)) (text : List ℕ) → problem_at bytes ≡ Ok p → IsSoundReport task bytes p pools text → SoundText task bytes text
 sound_text task bytes p pools text read r = record {
   problem = p;
   pools = pools;
@@ -43,11 +46,11 @@ sound_text task bytes p pools text read r = record {
   is = r.is;
   cuts = r.cuts;
   bound = r.bound;
-  lines = lines_of_report task p pools text r;
+  lines = lines_of_report task bytes p pools text r;
 }
 
 -- the report of the problem that the bytes give, where there is one
-pub sound_texts : {X E : Type 0} (view : X → List ℕ) (task : Task) (bytes : List ℕ) (p : Sealed) (r : Result X E) → problem_at bytes ≡ Ok p → IfOk r (λ v. (cuts : List (List Cut)) × IsSoundReport task p cuts (view v)) → IfOk r (λ v. SoundText task bytes (view v))
+pub sound_texts : {X E : Type 0} (view : X → List ℕ) (task : Task) (bytes : List ℕ) (p : Sealed) (r : Result X E) → problem_at bytes ≡ Ok p → IfOk r (λ v. (cuts : List (List Cut)) × IsSoundReport task bytes p cuts (view v)) → IfOk r (λ v. SoundText task bytes (view v))
 sound_texts view task bytes p (Ok v) read h = sound_text task bytes p h.0 (view v) read h.1
 sound_texts view task bytes p (Err e) read h = tt
 
@@ -68,10 +71,31 @@ front_length : (now : Option (List ℕ)) (bytes piece : List ℕ) → Consumes (
 front_length None bytes piece h = absurd h
 front_length (Some rest) bytes piece h = omega (arith, ap length h, length-append piece rest)
 
+-- where the problem is refused, so is that of any task
+pub refused_as : (task : Task) (bytes : List ℕ) (r : Refusal) → based_at bytes ≡ Err r → IsRefused task bytes r
+unfolding listed_at
+refused_as Base bytes r e = e
+refused_as (Train seed count batch) bytes r e = e
+refused_as Check bytes r e = e
+refused_as (Simulate seed count) bytes r e = e
+refused_as Validate bytes r e = e
+refused_as Robust bytes r e = ap (λ (b : Result WithBase Refusal). b >>= with_alternatives bytes) e
+
 -- a refused problem is refused whatever the journal holds
-refused_is : {Start Chain : Type 0} (v : Solving Start Chain) (task : Task) (bytes kept : List ℕ) (r : Refusal) → based_at bytes ≡ Err r → report_at v task bytes kept ≡ Err (ProblemRefused r)
+refused_is : {Start Chain : Type 0} (v : Solving Start Chain) (task : Task) (bytes kept : List ℕ) (r : Refusal) → IsRefused task bytes r → report_at v task bytes kept ≡ Err (ProblemRefused r)
 unfolding report_at
-refused_is v task bytes kept r h = ap (λ (b : Result WithBase Refusal). or_refused b >>= report_by v task bytes kept) h
+refused_is v task bytes kept r h = each task h
+  where
+    plain : (t : Task) → based_at bytes ≡ Err r → (or_refused (based_at bytes) >>= report_by v t bytes kept) ≡ Err (ProblemRefused r)
+    plain t e = ap (λ (b : Result WithBase Refusal). or_refused b >>= report_by v t bytes kept) e
+
+    each : (t : Task) → IsRefused t bytes r → (or_refused (based_at bytes) >>= report_by v t bytes kept) ≡ Err (ProblemRefused r)
+    each Base e = plain Base e
+    each (Train seed count batch) e = plain (Train seed count batch) e
+    each Check e = plain Check e
+    each (Simulate seed count) e = plain (Simulate seed count) e
+    each Validate e = plain Validate e
+    each Robust e = robust_refused v bytes kept r e
 
 -- each status is the expected one, where no count rose and memory was there
 task_completes : {Start Chain : Type 0} (v : Solving Start Chain) (task : Task) (e : Ends) (status : Status) → ExplainsTask v task e status → Completes v (Some (Plan task)) e status
@@ -137,7 +161,7 @@ module _ {Start Chain : Type 0} (v : Solving Start Chain) (task : Task) (e : End
   keeps = keeps_same e.taken e.taken_now same
 
   without_report : (s : Status) → Lacks v task e.kept e.disk e.disk_now bytes s → ExplainsTask v task e s
-  without_report (ProblemRefused r) h = (read_all (λ b. based_at b ≡ Err r) h, keeps)
+  without_report (ProblemRefused r) h = (read_all (λ b. IsRefused task b r) h, keeps)
   without_report (JournalRefused r) h = (h.0, read_all (λ b. Reports v task e.kept b (Err (JournalRefused r))) h.1, keeps)
   without_report (TooMuch t) h = (h.0, read_all (λ b. Reports v task e.kept b (Err (TooMuch t))) h.1, keeps)
   without_report (Range k m r) h = (h.0, read_all (λ b. Reports v task e.kept b (Err (Range k m r))) h.1, keeps)

@@ -46,7 +46,7 @@ use Rattle.hp_run.specs.declared.job.Job.TheVariants.{Plan, Generate}
 use Rattle.hp_run.specs.declared.status.Status.{Status}
 use Rattle.hp_run.specs.declared.status.Status.TheVariants.{Done}
 use Rattle.hp_run.specs.declared.task.Task.{Task}
-use Rattle.hp_run.specs.declared.task.Task.TheVariants.{Base, Train, Check, Simulate, Validate}
+use Rattle.hp_run.specs.declared.task.Task.TheVariants.{Base, Train, Check, Simulate, Validate, Robust}
 use Rattle.hp_run.proofs.TrainReports.{ended_at}
 
 same_ok : {A E : Type 0} (x y : A) → (let l : Result A E = Ok x in l ≡ Ok y) → x ≡ y
@@ -205,6 +205,7 @@ module _ {Start Chain : Type 0} (v : Solving Start Chain) where
   by_task e status new bytes kept Check within left told explains grown = tt
   by_task e status new bytes kept (Simulate seed count) within left told explains grown = tt
   by_task e status new bytes kept Validate within left told explains grown = tt
+  by_task e status new bytes kept Robust within left told explains grown = tt
   by_task e status new bytes kept (Train seed count batch) within left told explains grown = λ b j base small room mine.
       let ps = base_parts bytes b base in
       let r = resumed v b.problem b.pools (sha256 bytes) seed count batch j kept ps.0 ps.1 (is_title (sha256 bytes) seed batch (length-sha256 bytes) small within.1) within.0 room mine in

@@ -54,13 +54,13 @@ kept_is (Drawn seed count) told kept r = r
 kept_is Stored told kept r = r
 
 -- the text of traces is the report of a task that goes through scenarios
-text_is : (scenarios : Scenarios) (p : Sealed) (pools : List (List Cut)) (traces : List Trace) (text : List ℕ) → text ≡ trace_text p pools traces → IsReport (task_for scenarios) p pools text
-text_is (Drawn seed count) p pools traces text is = (traces, is)
-text_is Stored p pools traces text is = (traces, is)
+text_is : (scenarios : Scenarios) (bytes : List ℕ) (p : Sealed) (pools : List (List Cut)) (traces : List Trace) (text : List ℕ) → text ≡ trace_text p pools traces → IsReport (task_for scenarios) bytes p pools text
+text_is (Drawn seed count) bytes p pools traces text is = (traces, is)
+text_is Stored bytes p pools traces text is = (traces, is)
 
-pub scenarios_sound : (scenarios : Scenarios) (p : Sealed) (pools : List (List Cut)) (traces : List Trace) (text : List ℕ) → is_sealed p ≡ true → Fit (problem_of p) (length p.raw.nodes) pools → Sound (problem_of p) pools → text ≡ trace_text p pools traces → IsSoundReport (task_for scenarios) p pools text
-scenarios_sound scenarios p pools traces text e fit sound is = record {
-  is = text_is scenarios p pools traces text is;
+pub scenarios_sound : (scenarios : Scenarios) (bytes : List ℕ) (p : Sealed) (pools : List (List Cut)) (traces : List Trace) (text : List ℕ) → is_sealed p ≡ true → Fit (problem_of p) (length p.raw.nodes) pools → Sound (problem_of p) pools → text ≡ trace_text p pools traces → IsSoundReport (task_for scenarios) bytes p pools text
+scenarios_sound scenarios bytes p pools traces text e fit sound is = record {
+  is = text_is scenarios bytes p pools traces text is;
   cuts = sound;
   bound = sound_bound (problem_of p) pools (root_shaped-sealed p e) (have_cuts-fit p pools e fit) sound;
 }

@@ -307,8 +307,8 @@ pub rose_later : (a b c : ℕ) → a ≤ b → Rose b c → Rose a c
 rose_later a b c le rose = omega (arith, le, rose)
 
 -- sound cuts and bounds give a sound report
-pub train_is_sound : (p : Sealed) (pools : List (List Cut)) (bounds : List ℤ) (unsettled seed count : ℕ) (batch : Option ℕ) (text : List ℕ) → is_sealed p ≡ true → Fit (problem_of p) (length p.raw.nodes) pools → Sound (problem_of p) pools → All (Under (problem_of p)) bounds → text ≡ train_text p pools bounds unsettled → IsSoundReport (Train seed count batch) p pools text
-train_is_sound p pools bounds unsettled seed count batch text e fit sound under is = record {
+pub train_is_sound : (bytes : List ℕ) (p : Sealed) (pools : List (List Cut)) (bounds : List ℤ) (unsettled seed count : ℕ) (batch : Option ℕ) (text : List ℕ) → is_sealed p ≡ true → Fit (problem_of p) (length p.raw.nodes) pools → Sound (problem_of p) pools → All (Under (problem_of p)) bounds → text ≡ train_text p pools bounds unsettled → IsSoundReport (Train seed count batch) bytes p pools text
+train_is_sound bytes p pools bounds unsettled seed count batch text e fit sound under is = record {
   is = (bounds, unsettled, is, under);
   cuts = sound;
   bound = sound_bound (problem_of p) pools (root_shaped-sealed p e) (have_cuts-root p pools e fit.some) sound;

@@ -9,7 +9,7 @@ use Rattle.hp_theory.specs.View.{problem_of}
 use Rattle.hp_lp.specs.Chained.{Solving}
 use Rattle.hp_settle.specs.declared.judging.Dead.{Dead}
 use Rattle.hp_settle.specs.Refutation.{NoDecision}
-use Rattle.hp_run.specs.Outcome.{Reads, ReadsJournal, Reports, Solves, SoundText, Trains, WithBase, based_at, report_at}
+use Rattle.hp_run.specs.Outcome.{IsRefused, Makes, Reads, ReadsJournal, Reports, Solves, SoundText, WithBase, based_at, report_at}
 use Rattle.hp_run.specs.declared.job.Job.{Job}
 use Rattle.hp_run.specs.declared.job.Job.TheVariants.{Plan, Generate}
 use Rattle.hp_run.specs.declared.task.Task.{Task}
@@ -60,10 +60,10 @@ IsRefuted bytes dead = (b : WithBase) × (based_at bytes ≡ Ok b) × NoDecision
 
 -- why a task gives no report
 abbrev pub Lacks : {Start Chain : Type 0} → Solving Start Chain → Task → Option (List ℕ) → ℕ → ℕ → List ℕ → Status → Type 0
-Lacks v task told disk disk_now bytes (ProblemRefused r) = based_at bytes ≡ Err r
+Lacks v task told disk disk_now bytes (ProblemRefused r) = IsRefused task bytes r
 Lacks v task told disk disk_now bytes (JournalRefused r) = ReadsJournal task × Reports v task told bytes (Err (JournalRefused r))
 Lacks v task told disk disk_now bytes (TooMuch t) = ReadsJournal task × Reports v task told bytes (Err (TooMuch t))
-Lacks v task told disk disk_now bytes (Range k m r) = Trains task × Reports v task told bytes (Err (Range k m r))
+Lacks v task told disk disk_now bytes (Range k m r) = Makes task × Reports v task told bytes (Err (Range k m r))
 Lacks v task told disk disk_now bytes (NoStage dead) = Solves task × Reports v task told bytes (Err (NoStage dead)) × IsRefuted bytes dead
 Lacks v task told disk disk_now bytes DiskFault = ReadsJournal task × Rose disk disk_now
 Lacks v task told disk disk_now bytes Memory = ⊤
@@ -79,10 +79,10 @@ ExplainsTask v task e Done = Wrote v task e (λ text. Appends e.taken e.taken_no
 ExplainsTask v task e Usage = ⊥
 ExplainsTask v task e ReadFault = Rose e.reads e.reads_now × Keeps e.taken e.taken_now
 ExplainsTask v task e TooLong = ((piece : List ℕ) × (length piece ≡ 2 ^ 24 + 1) × Consumes e.left e.left_now piece) × Keeps e.taken e.taken_now
-ExplainsTask v task e (ProblemRefused r) = ReadAll e (λ bytes. based_at bytes ≡ Err r) × Keeps e.taken e.taken_now
+ExplainsTask v task e (ProblemRefused r) = ReadAll e (λ bytes. IsRefused task bytes r) × Keeps e.taken e.taken_now
 ExplainsTask v task e (JournalRefused r) = ReadsJournal task × ReadAll e (λ bytes. Reports v task e.kept bytes (Err (JournalRefused r))) × Keeps e.taken e.taken_now
 ExplainsTask v task e (TooMuch t) = ReadsJournal task × ReadAll e (λ bytes. Reports v task e.kept bytes (Err (TooMuch t))) × Keeps e.taken e.taken_now
-ExplainsTask v task e (Range k m r) = Trains task × ReadAll e (λ bytes. Reports v task e.kept bytes (Err (Range k m r))) × Keeps e.taken e.taken_now
+ExplainsTask v task e (Range k m r) = Makes task × ReadAll e (λ bytes. Reports v task e.kept bytes (Err (Range k m r))) × Keeps e.taken e.taken_now
 ExplainsTask v task e (NoStage dead) = Solves task × ReadAll e (λ bytes. Reports v task e.kept bytes (Err (NoStage dead)) × IsRefuted bytes dead) × Keeps e.taken e.taken_now
 ExplainsTask v task e DiskFault = ReadsJournal task × Rose e.disk e.disk_now × IsAtEnd e.left_now × Keeps e.taken e.taken_now
 ExplainsTask v task e WriteFault = Rose e.writes e.writes_now × Wrote v task e (λ text. (n : ℕ) × Appends e.taken e.taken_now (take n text))

@@ -19,7 +19,7 @@ use Rattle.hp_run.specs.declared.status.Status.TheVariants.{Done, Usage, ReadFau
 use Rattle.hp_run.specs.declared.job.Job.{Job}
 use Rattle.hp_run.specs.declared.job.Job.TheVariants.{Plan, Generate}
 use Rattle.hp_run.specs.declared.task.Task.{Task}
-use Rattle.hp_run.specs.declared.task.Task.TheVariants.{Base, Train, Check, Simulate, Validate}
+use Rattle.hp_run.specs.declared.task.Task.TheVariants.{Base, Train, Check, Simulate, Validate, Robust}
 
 -- the statuses of a run that ended before any work on the journal
 abbrev pub is_refusal : Status → Bool
@@ -48,6 +48,7 @@ TaskOnlyReads (Train seed count batch) status = is_refusal status ≡ true
 TaskOnlyReads Check status = ⊤
 TaskOnlyReads (Simulate seed count) status = ⊤
 TaskOnlyReads Validate status = ⊤
+TaskOnlyReads Robust status = ⊤
 
 abbrev pub OnlyReads : Option Job → Status → Type 0
 OnlyReads None status = ⊤
@@ -82,6 +83,7 @@ Grows v status bytes kept new (Train seed count batch) =
 Grows v status bytes kept new Check = ⊤
 Grows v status bytes kept new (Simulate seed count) = ⊤
 Grows v status bytes kept new Validate = ⊤
+Grows v status bytes kept new Robust = ⊤
 
 abbrev pub Leaves : {Start Chain A : Type 0} → Solving Start Chain → Result A Status → List ℕ → List ℕ → Store → Task → Type 0
 Leaves v r bytes kept new task = Grows v (status_of r) bytes kept new task
@@ -98,6 +100,7 @@ LeavesMine v bytes kept old new (Train seed count batch) =
 LeavesMine v bytes kept old new Check = ⊤
 LeavesMine v bytes kept old new (Simulate seed count) = ⊤
 LeavesMine v bytes kept old new Validate = ⊤
+LeavesMine v bytes kept old new Robust = ⊤
 
 -- Where the journal stands for the first j records of what unstopped training leaves, training leaves what the unstopped one leaves, and
 -- prints what it prints.
@@ -113,6 +116,7 @@ IsResumed v status bytes kept new taken taken_now (Train seed count batch) =
 IsResumed v status bytes kept new taken taken_now Check = ⊤
 IsResumed v status bytes kept new taken taken_now (Simulate seed count) = ⊤
 IsResumed v status bytes kept new taken taken_now Validate = ⊤
+IsResumed v status bytes kept new taken taken_now Robust = ⊤
 
 -- of the bytes of the problem and of the journal, as far as they are told, and of the task that is asked for
 abbrev pub OfTask : Option (List ℕ) → Option (List ℕ) → Option Job → (List ℕ → List ℕ → Task → Type 0) → Type 0

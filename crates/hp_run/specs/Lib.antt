@@ -8,4 +8,5 @@ pub mod TrainingLines
 pub mod Journals
 pub mod Training
 pub mod Simulating
+pub mod Listing
 pub mod OwnSolver

@@ -14,6 +14,7 @@ use Rattle.hp_sof.specs.Problem.{problem_at}
 use Rattle.hp_theory.specs.declared.cut.Cut.{Cut}
 use Rattle.hp_theory.specs.Pools.{Sound}
 use Rattle.hp_theory.specs.Bound.{bound, Under}
+use Rattle.hp_theory.specs.Problem.{Problem}
 use Rattle.hp_theory.specs.Range.{based}
 use Rattle.hp_theory.specs.View.{problem_of}
 use Rattle.hp_load.specs.declared.refusal.LoadFault.{LoadFault}
@@ -31,12 +32,17 @@ use Rattle.hp_sim.specs.Tracing.{traces_of}
 use Rattle.hp_report.specs.Report.{base_text, check_text, train_text}
 use Rattle.hp_report.specs.SoundLines.{SoundLines}
 use Rattle.hp_report.specs.Traces.{trace_text}
+use Rattle.hp_risk.specs.declared.alternatives.Alternatives.{Alternatives}
+use Rattle.hp_risk.specs.Alternatives.{alternatives_of}
+use Rattle.hp_risk.specs.Planes.{planes_of}
+use Rattle.hp_risk.specs.RiskCost.{RiskSound, RiskUnder}
+use Rattle.hp_risk.specs.Report.{robust_text}
 use Rattle.hp_run.specs.declared.simulating.Scenarios.{Scenarios}
 use Rattle.hp_run.specs.declared.simulating.Scenarios.TheVariants.{Drawn, Stored}
 use Rattle.hp_run.specs.declared.status.Status.{Status}
 use Rattle.hp_run.specs.declared.status.Status.TheVariants.{ProblemRefused, JournalRefused, TooMuch, Range, NoStage, DiskFault, Memory}
 use Rattle.hp_run.specs.declared.task.Task.{Task}
-use Rattle.hp_run.specs.declared.task.Task.TheVariants.{Base, Train, Check, Simulate, Validate}
+use Rattle.hp_run.specs.declared.task.Task.TheVariants.{Base, Train, Check, Simulate, Validate, Robust}
 
 -- a problem with its base cuts
 pub record WithBase : Type 0 where
@@ -57,8 +63,15 @@ based_at bytes = do
   problem ← problem_at bytes
   based_of problem
 
-abbrev pub or_refused : Result WithBase Refusal → Result WithBase Status
-or_refused (Ok b) = Ok b
+-- the same with the weights that the problem lists, whose refusals come after those of the problem
+abbrev pub with_alternatives : List ℕ → WithBase → Result (WithBase × Alternatives) Refusal
+with_alternatives bytes b = alternatives_of b.problem bytes >>= λ x. Ok (b, x)
+
+unfoldable pub listed_at : List ℕ → Result (WithBase × Alternatives) Refusal
+listed_at bytes = based_at bytes >>= with_alternatives bytes
+
+abbrev pub or_refused : {A : Type 0} → Result A Refusal → Result A Status
+or_refused (Ok x) = Ok x
 or_refused (Err r) = Err (ProblemRefused r)
 
 -- how a run ends where a journal is not loaded
@@ -143,6 +156,23 @@ simulated_for v bytes b scenarios kept = do
   o ← within_width b.problem (count_of b.problem scenarios) loaded
   report_traced b.problem o.pools (traces_of v b.problem o.pools (runs_of b.problem scenarios))
 
+-- the report of planes, or where they stop
+abbrev pub report_planes : Sealed → Result (List (List Cut)) (ℕ × ℕ × ℕ) → Result (List ℕ) Status
+report_planes p (Ok planes) = Ok (robust_text p planes)
+report_planes p (Err at) = Err (Range at.0 at.1 at.2)
+
+-- the report of the planes that the records of the journal `kept` give with listed weights
+unfoldable pub worst_for : List ℕ → WithBase → Alternatives → List ℕ → Result (List ℕ) Status
+worst_for bytes b alternatives kept = do
+  loaded ← or_status (load_of b.problem b.pools (sha256 bytes) None None kept)
+  report_planes b.problem (planes_of b.problem alternatives loaded.1)
+
+-- the same with the weights that the problem lists
+unfoldable pub robust_for : List ℕ → WithBase → List ℕ → Result (List ℕ) Status
+robust_for bytes b kept = do
+  alternatives ← or_refused (alternatives_of b.problem bytes)
+  worst_for bytes b alternatives kept
+
 -- the task that goes through scenarios
 abbrev pub task_for : Scenarios → Task
 task_for (Drawn seed count) = Simulate seed count
@@ -155,12 +185,22 @@ report_by v (Train seed count batch) bytes kept b = trained_for v bytes b seed c
 report_by v Check bytes kept b = checked bytes b kept
 report_by v (Simulate seed count) bytes kept b = simulated_for v bytes b (Drawn seed count) kept
 report_by v Validate bytes kept b = simulated_for v bytes b Stored kept
+report_by v Robust bytes kept b = robust_for bytes b kept
 
 -- the report of a task over the bytes of a problem and of a journal, or how the run ends without one
 unfoldable pub report_at : {Start Chain : Type 0} → Solving Start Chain → Task → List ℕ → List ℕ → Result (List ℕ) Status
 report_at v task bytes kept = do
   b ← or_refused (based_at bytes)
   report_by v task bytes kept b
+
+-- the bytes are refused as the problem of a task; of `robust` also by the weights that the problem lists
+abbrev pub IsRefused : Task → List ℕ → Refusal → Type 0
+IsRefused Base bytes r = based_at bytes ≡ Err r
+IsRefused (Train seed count batch) bytes r = based_at bytes ≡ Err r
+IsRefused Check bytes r = based_at bytes ≡ Err r
+IsRefused (Simulate seed count) bytes r = based_at bytes ≡ Err r
+IsRefused Validate bytes r = based_at bytes ≡ Err r
+IsRefused Robust bytes r = listed_at bytes ≡ Err r
 
 -- the task reads a journal
 abbrev pub ReadsJournal : Task → Type 0
@@ -169,14 +209,16 @@ ReadsJournal (Train seed count batch) = ⊤
 ReadsJournal Check = ⊤
 ReadsJournal (Simulate seed count) = ⊤
 ReadsJournal Validate = ⊤
+ReadsJournal Robust = ⊤
 
--- the task trains
-abbrev pub Trains : Task → Type 0
-Trains Base = ⊥
-Trains (Train seed count batch) = ⊤
-Trains Check = ⊥
-Trains (Simulate seed count) = ⊥
-Trains Validate = ⊥
+-- the task makes cuts or planes
+abbrev pub Makes : Task → Type 0
+Makes Base = ⊥
+Makes (Train seed count batch) = ⊤
+Makes Check = ⊥
+Makes (Simulate seed count) = ⊥
+Makes Validate = ⊥
+Makes Robust = ⊤
 
 -- the task solves stage problems
 abbrev pub Solves : Task → Type 0
@@ -185,6 +227,7 @@ Solves (Train seed count batch) = ⊤
 Solves Check = ⊥
 Solves (Simulate seed count) = ⊤
 Solves Validate = ⊤
+Solves Robust = ⊥
 
 -- the journal's bytes, where the task reads them
 abbrev pub Reads : Task → Option (List ℕ) → List ℕ → Type 0
@@ -193,18 +236,25 @@ Reads (Train seed count batch) told kept = told ≡ Some kept
 Reads Check told kept = told ≡ Some kept
 Reads (Simulate seed count) told kept = told ≡ Some kept
 Reads Validate told kept = told ≡ Some kept
+Reads Robust told kept = told ≡ Some kept
 
 -- this comes of a task, by the bytes of the problem and those of the journal as far as it tells them
 abbrev pub Reports : {Start Chain : Type 0} → Solving Start Chain → Task → Option (List ℕ) → List ℕ → Result (List ℕ) Status → Type 0
 Reports v task told bytes outcome = (kept : List ℕ) → Reads task told kept → report_at v task bytes kept ≡ outcome
 
+-- each plane holds, and the bound over them is under the cost of each policy, where each node weighs by the worst of its lists
+pub record IsWorst (p : Problem) (x : Alternatives) (planes : List (List Cut)) : Type 0 where
+  pub holds : RiskSound p x.lists planes
+  pub under : RiskUnder p x.lists (bound p planes)
+
 -- the text is the report of these pools
-abbrev pub IsReport : Task → Sealed → List (List Cut) → List ℕ → Type 0
-IsReport Base p pools text = text ≡ base_text p pools
-IsReport (Train seed count batch) p pools text = (bounds : List ℤ) × (unsettled : ℕ) × (text ≡ train_text p pools bounds unsettled) × All (Under (problem_of p)) bounds
-IsReport Check p pools text = (bounds : List ℤ) × (unsettled : ℕ) × (rest : ℕ) × (text ≡ check_text p pools bounds unsettled rest) × All (Under (problem_of p)) bounds
-IsReport (Simulate seed count) p pools text = (traces : List Trace) × (text ≡ trace_text p pools traces)
-IsReport Validate p pools text = (traces : List Trace) × (text ≡ trace_text p pools traces)
+abbrev pub IsReport : Task → List ℕ → Sealed → List (List Cut) → List ℕ → Type 0
+IsReport Base bytes p pools text = text ≡ base_text p pools
+IsReport (Train seed count batch) bytes p pools text = (bounds : List ℤ) × (unsettled : ℕ) × (text ≡ train_text p pools bounds unsettled) × All (Under (problem_of p)) bounds
+IsReport Check bytes p pools text = (bounds : List ℤ) × (unsettled : ℕ) × (rest : ℕ) × (text ≡ check_text p pools bounds unsettled rest) × All (Under (problem_of p)) bounds
+IsReport (Simulate seed count) bytes p pools text = (traces : List Trace) × (text ≡ trace_text p pools traces)
+IsReport Validate bytes p pools text = (traces : List Trace) × (text ≡ trace_text p pools traces)
+IsReport Robust bytes p pools text = (x : Alternatives) × (planes : List (List Cut)) × (alternatives_of p bytes ≡ Ok x) × (text ≡ robust_text p planes) × IsWorst (problem_of p) x planes
 
 -- what code answers of a journal that is checked: want of memory and a fault of the disk are free
 abbrev pub Checks : {X : Type 0} → (X → List ℕ) → Result X LoadFault → Result (List ℕ) Status → Type 0
@@ -215,8 +265,8 @@ Checks view (Err faults.DiskFault) outcome = ⊤
 Checks view (Err faults.Memory) outcome = ⊤
 
 -- the text is the report of pools whose cuts hold, and whose bound is under the cost of each policy
-pub record IsSoundReport (task : Task) (p : Sealed) (pools : List (List Cut)) (text : List ℕ) : Type 0 where
-  pub is : IsReport task p pools text
+pub record IsSoundReport (task : Task) (bytes : List ℕ) (p : Sealed) (pools : List (List Cut)) (text : List ℕ) : Type 0 where
+  pub is : IsReport task bytes p pools text
   pub cuts : Sound (problem_of p) pools
   pub bound : Under (problem_of p) (bound (problem_of p) pools)
 
@@ -227,7 +277,7 @@ pub record SoundText (task : Task) (bytes text : List ℕ) : Type 0 where
   pub problem : Sealed
   pub pools : List (List Cut)
   pub read : problem_at bytes ≡ Ok problem
-  pub is : IsReport task problem pools text
+  pub is : IsReport task bytes problem pools text
   pub cuts : Sound (problem_of problem) pools
   pub bound : Under (problem_of problem) (bound (problem_of problem) pools)
   pub lines : SoundLines (problem_of problem) text

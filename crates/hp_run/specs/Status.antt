@@ -22,7 +22,7 @@ number_of Memory = 12
 
 unfoldable pub status_text : Status → List ℕ
 status_text Done = []
-status_text Usage = codes "usage: base, train JOURNAL SEED COUNT [BATCH], check JOURNAL, simulate JOURNAL SEED COUNT, validate JOURNAL, gen SEED STAGES RESERVOIRS"
+status_text Usage = codes "usage: base, train JOURNAL SEED COUNT [BATCH], check JOURNAL, simulate JOURNAL SEED COUNT, validate JOURNAL, gen SEED STAGES RESERVOIRS, robust JOURNAL"
 status_text ReadFault = codes "problem could not be read"
 status_text TooLong = codes "problem is longer than 16777216 bytes"
 status_text (ProblemRefused r) = refusal_text r

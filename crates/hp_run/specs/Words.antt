@@ -7,7 +7,7 @@ use Rattle.hp_words.specs.Commands.{command_of, texts}
 use Rattle.hp_run.specs.declared.job.Job.{Job}
 use Rattle.hp_run.specs.declared.job.Job.TheVariants.{Plan, Generate}
 use Rattle.hp_run.specs.declared.task.Task.{Task}
-use Rattle.hp_run.specs.declared.task.Task.TheVariants.{Base, Train, Check, Simulate, Validate}
+use Rattle.hp_run.specs.declared.task.Task.TheVariants.{Base, Train, Check, Simulate, Validate, Robust}
 
 -- of the commands those that the program does
 abbrev pub job_of : Command → Option Job
@@ -19,7 +19,7 @@ job_of commands.Validate = Some (Plan Validate)
 job_of (commands.Gen seed stages reservoirs) = Some (Generate seed stages reservoirs)
 job_of commands.Evaluate = None
 job_of commands.Hydro = None
-job_of commands.Robust = None
+job_of commands.Robust = Some (Plan Robust)
 
 -- what the words ask for; none where they are no command that the program does
 unfoldable pub asked : List (String Global) → Option Job
@@ -32,6 +32,7 @@ IsWithin (Train seed count batch) = (count ≤ 2000) × IfSome batch (λ b. (1 �
 IsWithin Check = Unit {0}
 IsWithin (Simulate seed count) = count ≤ 1000
 IsWithin Validate = Unit {0}
+IsWithin Robust = Unit {0}
 
 -- the numbers of what is asked for are in their ranges
 abbrev pub IsJobWithin : Job → Type 0

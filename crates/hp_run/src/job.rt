@@ -29,6 +29,7 @@ fn job_of(command: Command) -> Option<Job>
         Command::Check => Some(Job::Plan(Task::Check)),
         Command::Simulate { seed, count } => Some(Job::Plan(Task::Simulate { seed, count })),
         Command::Validate => Some(Job::Plan(Task::Validate)),
+        Command::Robust => Some(Job::Plan(Task::Robust)),
         Command::Gen {
             seed,
             stages,
@@ -38,7 +39,7 @@ fn job_of(command: Command) -> Option<Job>
             stages,
             reservoirs,
         }),
-        _ => None,
+        Command::Evaluate | Command::Hydro => None,
     }
 }
 

@@ -2,9 +2,11 @@
 #![tactic(auto)]
 
 mod generating;
+mod help;
 mod job;
 mod journal_lines;
 mod outcome;
+mod planes;
 mod program;
 mod reading;
 mod refusal_lines;

@@ -19,6 +19,7 @@ ghost use Rattle.hp_run.specs.Words.{IsWithin};
 ghost use Rattle.hp_run.specs.declared.status.Status.TheVariants as statuses;
 ghost use Rattle.hp_run.specs.declared.task.Task.TheVariants as tasks;
 
+use crate::planes::report_robust;
 use crate::simulating::{Scenarios, report_scenarios};
 use crate::status::Status;
 use crate::task::Task;
@@ -78,7 +79,7 @@ fn check<D: Disk>(
 ) -> Result<Vec<u8>, LoadFault>
     requires base { based problem.now ≡ Ok pools.lists }
     ensures value { IfSome (D.store journal.old).reads (λ kept. Checks (λ v. v.items) result (checked bytes.now (record { problem = problem.now; pools = pools.lists }) kept)) }
-    ensures sound { IfOk result (λ v. (cuts : List (List Cut)) × IsSoundReport tasks.Check problem.now cuts v.items) }
+    ensures sound { IfOk result (λ v. (cuts : List (List Cut)) × IsSoundReport tasks.Check bytes.now problem.now cuts v.items) }
     ensures stays { Stays (D.store journal.old) (D.store journal.new) }
     ensures cause { DiskCause (D.faults journal.old) (D.faults journal.new) (result ≡ Err faults.DiskFault) }
 {
@@ -112,7 +113,7 @@ fn report_check<D: Disk, V: Solver>(
     requires read { based_at bytes.now ≡ Ok (record { problem = problem.now; pools = pools.lists }) }
     requires base { based problem.now ≡ Ok pools.lists }
     ensures report { IfOk result (λ v. Reports (solving (V.started solver.now) (V.begun solver.now) (V.next solver.now)) tasks.Check (D.store journal.old).reads bytes.now (Ok v.items)) }
-    ensures sound { IfOk result (λ v. (cuts : List (List Cut)) × IsSoundReport tasks.Check problem.now cuts v.items) }
+    ensures sound { IfOk result (λ v. (cuts : List (List Cut)) × IsSoundReport tasks.Check bytes.now problem.now cuts v.items) }
     ensures lacks { IfErr result (λ s. Lacks (solving (V.started solver.now) (V.begun solver.now) (V.next solver.now)) tasks.Check (D.store journal.old).reads (D.faults journal.old) (D.faults journal.new) bytes.now s) }
     ensures stays { Stays (D.store journal.old) (D.store journal.new) }
     ensures later { D.faults journal.old ≤ D.faults journal.new }
@@ -131,7 +132,7 @@ fn report_base(alloc: Global, problem: &Problem, pools: Pools) -> Result<Vec<u8>
     requires fit { Fit (problem_of problem.now) (length problem.now.raw.nodes) pools.lists }
     requires sound { Sound (problem_of problem.now) pools.lists }
     ensures text { IfOk result (λ v. v.items ≡ base_text problem.now pools.lists) }
-    ensures sound { IfOk result (λ v. IsSoundReport tasks.Base problem.now pools.lists v.items) }
+    ensures sound { (bytes : List ℕ) → IfOk result (λ v. IsSoundReport tasks.Base bytes problem.now pools.lists v.items) }
     ensures memory { IfErr result (λ s. s ≡ statuses.Memory) }
 {
     let _ = problem.raw();
@@ -154,11 +155,12 @@ fn report_by<R: Threads + Sync, D: Disk, V: Solver>(
 ) -> Result<Vec<u8>, Status>
     requires within { IsWithin task }
     requires read { based_at bytes.now ≡ Ok (record { problem = problem.now; pools = pools.lists }) }
+    requires known { problem_at bytes.now ≡ Ok problem.now }
     requires base { based problem.now ≡ Ok pools.lists }
     requires fit { Fit (problem_of problem.now) (length problem.now.raw.nodes) pools.lists }
     requires sound { Sound (problem_of problem.now) pools.lists }
     ensures report { IfOk result (λ v. Reports (solving (V.started solver.now) (V.begun solver.now) (V.next solver.now)) task (D.store journal.old).reads bytes.now (Ok v.items)) }
-    ensures sound { IfOk result (λ v. (cuts : List (List Cut)) × IsSoundReport task problem.now cuts v.items) }
+    ensures sound { IfOk result (λ v. (cuts : List (List Cut)) × IsSoundReport task bytes.now problem.now cuts v.items) }
     ensures lacks { IfErr result (λ s. Lacks (solving (V.started solver.now) (V.begun solver.now) (V.next solver.now)) task (D.store journal.old).reads (D.faults journal.old) (D.faults journal.new) bytes.now s) }
     ensures grown { IfSome (D.store journal.old).reads (λ kept. Leaves (solving (V.started solver.now) (V.begun solver.now) (V.next solver.now)) result bytes.now kept (D.store journal.new) task) }
     ensures any_moment { IfSome (D.store journal.old).reads (λ kept. LeavesMine (solving (V.started solver.now) (V.begun solver.now) (V.next solver.now)) bytes.now kept (D.store journal.old) (D.store journal.new) task) }
@@ -181,6 +183,7 @@ fn report_by<R: Threads + Sync, D: Disk, V: Solver>(
             let scenarios = Scenarios::Stored;
             report_scenarios(alloc, bytes, problem, pools, journal, solver, scenarios)
         }
+        Task::Robust => report_robust(alloc, bytes, problem, pools, journal, solver),
     }
 }
 

@@ -6,8 +6,10 @@ ghost use Rattle.hp_run.specs.OwnSolver.{own_solver};
 ghost use Rattle.hp_run.specs.Status.{number_of};
 ghost use Rattle.hp_run.specs.Words.{asked};
 
+use crate::help::own_text;
 use crate::status::{Status, number, status_line};
 use crate::top::run;
+use crate::writing::put;
 use hp_num::{Memory, Name};
 use hp_outside::{Disk, FileDisk, Sink, Source, StdSink, StdSource};
 use std::alloc::Global;
@@ -79,7 +81,16 @@ fn writes_journal(words: &[String]) -> bool {
     }
 }
 
-/// The program: the words of the command line, over these streams and the file that the second word names.
+/// Writes a text of the program's own.
+fn show<O: Sink>(out: &mut O, text: &[u8]) -> Status {
+    match put(out, text) {
+        Ok(()) => Status::Done,
+        Err(_) => Status::WriteFault,
+    }
+}
+
+/// The program: the words of the command line, over these streams and the file that the second word names. The words `--help`
+/// and `--version` alone are answered here, and nothing is read.
 pub fn start<R, I, O, E>(rt: &R, input: I, output: O, errors: &mut E) -> ExitCode
 where
     R: Env + Files + Threads + Sync + AllocGlobal,
@@ -91,12 +102,15 @@ where
         Ok(words) => words,
         Err(status) => return ended(rt.alloc(), &status, errors),
     };
+    let mut out = StdSink::new(output);
+    if let Some(text) = own_text(words.as_slice()) {
+        return ended(rt.alloc(), &show(&mut out, text), errors);
+    }
     let Ok(name) = journal_name(rt.alloc(), words.as_slice()) else {
         return ended(rt.alloc(), &Status::Memory, errors);
     };
     let mut problem = StdSource::new(input);
     let mut journal = FileDisk::at(rt, name, writes_journal(words.as_slice()));
-    let mut out = StdSink::new(output);
     execute(
         rt,
         rt.alloc(),

@@ -130,7 +130,7 @@ pub(crate) fn report_scenarios<D: Disk, V: Solver>(
     requires read { based_at bytes.now ≡ Ok (record { problem = problem.now; pools = pools.lists }) }
     requires base { based problem.now ≡ Ok pools.lists }
     ensures report { IfOk result (λ v. Reports (solving (V.started solver.now) (V.begun solver.now) (V.next solver.now)) (task_for scenarios) (D.store journal.old).reads bytes.now (Ok v.items)) }
-    ensures sound { IfOk result (λ v. (cuts : List (List Cut)) × IsSoundReport (task_for scenarios) problem.now cuts v.items) }
+    ensures sound { IfOk result (λ v. (cuts : List (List Cut)) × IsSoundReport (task_for scenarios) bytes.now problem.now cuts v.items) }
     ensures lacks { IfErr result (λ s. Lacks (solving (V.started solver.now) (V.begun solver.now) (V.next solver.now)) (task_for scenarios) (D.store journal.old).reads (D.faults journal.old) (D.faults journal.new) bytes.now s) }
     ensures stays { Stays (D.store journal.old) (D.store journal.new) }
     ensures later { D.faults journal.old ≤ D.faults journal.new }

@@ -29,7 +29,8 @@ pub enum Status {
     JournalRefused(JournalRefusal),
     /// A formula that bounds what a run takes passes its limit.
     TooMuch(TooMuch),
-    /// Training met certificates of a node whose size passes 2^127 - 1 at a realization.
+    /// Certificates of a node have a size that passes 2^127 - 1 at a realization: in training, or with weights that the
+    /// problem lists; iteration 0 where the plane of a base cut is made.
     Range {
         iteration: u32,
         node: u32,
@@ -73,7 +74,7 @@ fn push_status(alloc: Global, out: &mut Vec<u8>, status: &Status) -> Result<(), 
         Status::Done => Ok(()),
         Status::Usage => push_bytes(
             out,
-            b"usage: base, train JOURNAL SEED COUNT [BATCH], check JOURNAL, simulate JOURNAL SEED COUNT, validate JOURNAL, gen SEED STAGES RESERVOIRS",
+            b"usage: base, train JOURNAL SEED COUNT [BATCH], check JOURNAL, simulate JOURNAL SEED COUNT, validate JOURNAL, gen SEED STAGES RESERVOIRS, robust JOURNAL",
         ),
         Status::ReadFault => push_bytes(out, b"problem could not be read"),
         Status::TooLong => push_bytes(out, b"problem is longer than 16777216 bytes"),

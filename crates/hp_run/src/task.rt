@@ -21,4 +21,6 @@ pub enum Task {
     },
     /// The traces of the scenarios that the problem stores, over the cuts of a journal.
     Validate,
+    /// The planes that a journal's certificates give for the worst of the weights that the problem lists.
+    Robust,
 }

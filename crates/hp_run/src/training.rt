@@ -181,7 +181,7 @@ pub(crate) fn report_train<R: Threads + Sync, D: Disk, V: Solver>(
     requires count { asked.count ≤ 2000 }
     requires batch { IfSome asked.batch (λ b. (1 ≤ b) × (b ≤ 64)) }
     ensures report { IfOk result (λ v. Reports (solving (V.started solver.now) (V.begun solver.now) (V.next solver.now)) (tasks.Train asked.seed asked.count asked.batch) (D.store journal.old).reads bytes.now (Ok v.items)) }
-    ensures sound { IfOk result (λ v. (cuts : List (List Cut)) × IsSoundReport (tasks.Train asked.seed asked.count asked.batch) problem.now cuts v.items) }
+    ensures sound { IfOk result (λ v. (cuts : List (List Cut)) × IsSoundReport (tasks.Train asked.seed asked.count asked.batch) bytes.now problem.now cuts v.items) }
     ensures lacks { IfErr result (λ s. Lacks (solving (V.started solver.now) (V.begun solver.now) (V.next solver.now)) (tasks.Train asked.seed asked.count asked.batch) (D.store journal.old).reads (D.faults journal.old) (D.faults journal.new) bytes.now s) }
     ensures grown { IfSome (D.store journal.old).reads (λ kept. (o : Outcome) → loaded_for bytes.now (record { problem = problem.now; pools = pools.lists }) asked.seed asked.batch kept ≡ Ok o
         → WhenTrained result ((D.store journal.new).reads ≡ Some (grown_journal (sha256 bytes.now) asked.seed o kept (iterations (solving (V.started solver.now) (V.begun solver.now) (V.next solver.now)) problem.now asked.seed asked.count o).lists) × Quiet (D.store journal.new))) }

@@ -27,4 +27,4 @@ pub returns-in-Ok-trace_report-clause-sound : goal.returns-in-Ok-trace_report-cl
 returns-in-Ok-trace_report-clause-sound g c =
     let safe = c.in-Ok.ensures.safe in
     let text = c.in-Ok-trace_report.ensures.text ∙ ap (λ (traces : List Trace). trace_text c.args.problem.now c.in-Ok.loaded.pools.lists traces) c.as_slice.ensures in
-    (c.in-Ok.loaded.pools.lists, scenarios_sound c.args.scenarios c.args.problem.now c.in-Ok.loaded.pools.lists c.in-Ok-traced.traces c.in-Ok-trace_report.text.items c.raw.ensures.sealed safe.fit safe.sound text)
+    (c.in-Ok.loaded.pools.lists, scenarios_sound c.args.scenarios c.args.bytes.now c.args.problem.now c.in-Ok.loaded.pools.lists c.in-Ok-traced.traces c.in-Ok-trace_report.text.items c.raw.ensures.sealed safe.fit safe.sound text)

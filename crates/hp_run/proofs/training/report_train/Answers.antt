@@ -47,7 +47,7 @@ pub returns-in-Ok-clause-sound : goal.returns-in-Ok-clause-sound
 returns-in-Ok-clause-sound g c =
     let safe = c.in_ok-loaded.ensures.safe in
     let new = c.train_on.new.loaded in
-    (new.pools.lists, train_is_sound c.args.problem.now new.pools.lists new.bounds new.unsettled c.args.asked.seed c.args.asked.count c.args.asked.batch c.in-Ok.text.items c.raw.ensures.sealed c.in_ok-train_on.ensures.fit (c.in_ok-train_on.ensures.sound safe.sound) (c.in_ok-train_on.ensures.under safe.sound safe.under) c.in-Ok.ensures.text)
+    (new.pools.lists, train_is_sound c.args.bytes.now c.args.problem.now new.pools.lists new.bounds new.unsettled c.args.asked.seed c.args.asked.count c.args.asked.batch c.in-Ok.text.items c.raw.ensures.sealed c.in_ok-train_on.ensures.fit (c.in_ok-train_on.ensures.sound safe.sound) (c.in_ok-train_on.ensures.under safe.sound safe.under) c.in-Ok.ensures.text)
 
 pub returns-in-Ok-clause-grown : goal.returns-in-Ok-clause-grown
 returns-in-Ok-clause-grown g c =

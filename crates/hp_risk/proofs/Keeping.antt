@@ -1,0 +1,112 @@
+-- What planes keep: each fits, and each holds as the lists of weights ask.
+use Rattle.std.proofs.Common.{◌≡◌, ℕ, zero, suc, ◌+◌, ◌<◌, ◌≤◌, Bool, true, false, nat_lt, List, [], ◌∷◌, ◌++◌, length, get_or, sum, All, Option, Some, None, Ok, Contains, refl, sym, ap, subst, ◌∙◌, arith}
+use Rattle.std.specs.List.{AllByRecursion}
+use Rattle.std.proofs.lemmas.Bool.Decides.{nat_tests}
+use Rattle.std.proofs.lemmas.List.{length-set}
+use Rattle.std.proofs.lemmas.List.Sums.{sum_by-cons}
+use Rattle.std.proofs.lemmas.List.Elements.{All-nil, All-push, All-head}
+use Rattle.std.proofs.lemmas.Option.{slice_get_past}
+use Rattle.hp_problem.specs.declared.raw.Raw.{Raw}
+use Rattle.hp_problem.specs.Sealed.{Sealed, is_sealed}
+use Rattle.hp_theory.specs.declared.cut.Cut.{Cut}
+use Rattle.hp_theory.specs.declared.cut.Certificate.{Certificate}
+use Rattle.hp_theory.specs.Problem.{Realization, Node, Problem, no_node, node_at, weight_of_realizations, realization_weight, successor_weight, with_weights}
+use Rattle.hp_theory.specs.Pools.{pool, push}
+use Rattle.hp_theory.specs.CutOf.{cut_of}
+use Rattle.hp_theory.specs.Fit.{CutFits, Fit}
+use Rattle.hp_theory.specs.View.{problem_of}
+use Rattle.hp_theory.proofs.Appending.{push_at, kept_some}
+use Rattle.hp_theory.proofs.SizeToFit.{size_to_fit_given}
+use Rattle.hp_theory.proofs.SealedPremises.{shaped-sealed, narrow-sealed}
+use Rattle.hp_theory.proofs.Views.{node_at-past}
+use Rattle.hp_dual.proofs.Accepted.{right-fault_of, size-fault_of}
+use Rattle.hp_dual.specs.Acceptance.{fault_of}
+use Rattle.hp_risk.specs.declared.alternatives.Alternatives.{Alternatives}
+use Rattle.hp_risk.specs.Listed.{lists_at, Weighs, Listed}
+use Rattle.hp_risk.specs.Planes.{plane_of, plane_added}
+use Rattle.hp_risk.specs.RiskCost.{Weighty, RiskHolds, RiskSound}
+use Rattle.hp_risk.proofs.Planned.{plane_has, added_plane}
+use Rattle.hp_risk.proofs.RiskDuality.{Heavy, weight-reweighted, risk_duality}
+
+pub push_fit : (p : Problem) (count : ℕ) (pools : List (List Cut)) (m : ℕ) (c : Cut) → Fit p count pools → CutFits (node_at p m) c → Fit p count (push pools m c)
+push_fit p count pools m c f fits = record {
+  lists = length-set pools m (pool pools m ++ c ∷ []) ∙ f.lists;
+  some = λ k h. kept_some pools m k c (f.some k h);
+  cuts = λ k h. push_at pools m k c (All (CutFits (node_at p k))) (f.cuts k h)
+      (λ e. subst (λ (j : ℕ). All (CutFits (node_at p j)) (pool pools m ++ c ∷ [])) (sym e) (All-push (CutFits (node_at p m)) (pool pools m) c (subst (λ (j : ℕ). All (CutFits (node_at p j)) (pool pools j)) e (f.cuts k h)) fits));
+}
+
+push_risk : (p : Problem) (x : List (List (List ℕ))) (pools : List (List Cut)) (m : ℕ) (c : Cut) → RiskSound p x pools → RiskHolds p x m c → RiskSound p x (push pools m c)
+push_risk p x pools m c s h k = push_at pools m k c (All (RiskHolds p x k)) (s k) (λ e. subst (λ (j : ℕ). All (RiskHolds p x j) (pool pools m ++ c ∷ [])) (sym e) (All-push (RiskHolds p x m) (pool pools m) c (s m) h))
+
+-- weights of a node that has realizations
+no_weight : (rs : List Realization) → 0 ≡ length rs → 0 < weight_of_realizations rs → ⊥
+no_weight [] e z = absurd (omega arith)
+no_weight (r ∷ rs) e z = absurd (omega arith)
+
+sum_more : (w : ℕ) (ws : List ℕ) → sum (w ∷ ws) ≡ w + sum ws
+sum_more w ws = sum_by-cons (λ k. k) w ws
+
+pub some_sum : (n : Node) (ws : List ℕ) → 0 < realization_weight n → Weighs n ws → 0 < sum ws
+some_sum n [] z w = absurd (no_weight n.realizations w.count z)
+some_sum n (v ∷ ws) z w = omega (arith, sum_more v ws, All-head (λ w. 1 ≤ w) v ws w.positive)
+
+past : {A : Type 0} (xs : List (List A)) (m : ℕ) → length xs ≤ m → get_or xs m [] ≡ []
+past [] m h = refl
+past (x ∷ xs) zero h = absurd (omega arith)
+past (x ∷ xs) (suc m) h = past xs m (omega arith)
+
+module _ (p : Sealed) (x : Alternatives) (sealed : is_sealed p ≡ true) (listed : Listed p x.lists) where
+  abbrev here : ℕ → Node
+  here m = node_at (problem_of p) m
+
+  pub heavy : (m : ℕ) → m < length p.raw.nodes → Heavy (lists_at x.lists m)
+  heavy m h = λ i d lt. some_sum (here m) (get_or (lists_at x.lists m) i d) (shaped-sealed p m sealed h).realizations (listed.each m h i d lt)
+
+  pub weighty : Weighty (problem_of p) x.lists
+  weighty = record { successors = λ m. successors m (nat_lt m (length p.raw.nodes)) refl; lists = λ m. lists m (nat_lt m (length p.raw.nodes)) refl }
+    where
+      successors : (m : ℕ) (b : Bool) → nat_lt m (length p.raw.nodes) ≡ b → 0 < successor_weight (here m)
+      successors m true e = (shaped-sealed p m sealed (grind (arith, nat_tests, e))).successors
+      successors m false e =
+          let above : length p.raw.nodes ≤ m = grind (arith, nat_tests, e) in
+          subst (λ (n : Node). 0 < successor_weight n) (sym (node_at-past p m (slice_get_past p.raw.nodes m above))) (omega arith)
+
+      lists : (m : ℕ) (b : Bool) → nat_lt m (length p.raw.nodes) ≡ b → Heavy (lists_at x.lists m)
+      lists m true e = heavy m (grind (arith, nat_tests, e))
+      lists m false e =
+          let above : length p.raw.nodes ≤ m = grind (arith, nat_tests, e) in
+          subst Heavy (sym (past x.lists m (omega (arith, above, listed.nodes)))) (All-nil (λ (ws : List ℕ). 0 < sum ws))
+
+  module _ (m : ℕ) (known : m < length p.raw.nodes) (planes : List (List Cut)) (list : List Certificate) where
+    weighs : (i : ℕ) → i < length (lists_at x.lists m) → Weighs (here m) (get_or (lists_at x.lists m) i [])
+    weighs i lt = listed.each m known i [] lt
+
+    -- with one of the lists
+    fits_with : (i : ℕ) → i < length (lists_at x.lists m) → fault_of planes (with_weights (get_or (lists_at x.lists m) i []) (here m)) list ≡ None → CutFits (here m) (cut_of planes (with_weights (get_or (lists_at x.lists m) i []) (here m)) list)
+    fits_with i lt e =
+        let ws : List ℕ = get_or (lists_at x.lists m) i [] in
+        let sh = shaped-sealed p m sealed known in
+        size_to_fit_given planes ws (here m) list sh.successors (subst (λ (k : ℕ). 0 < k) (sym (weight-reweighted ws (here m).realizations (weighs i lt).count)) (some_sum (here m) ws sh.realizations (weighs i lt)))
+        (narrow-sealed p m sealed known) (size-fault_of planes (with_weights ws (here m)) list e)
+
+    holds_with : RiskSound (problem_of p) x.lists planes → (i : ℕ) → i < length (lists_at x.lists m) → fault_of planes (with_weights (get_or (lists_at x.lists m) i []) (here m)) list ≡ None → RiskHolds (problem_of p) x.lists m (cut_of planes (with_weights (get_or (lists_at x.lists m) i []) (here m)) list)
+    holds_with s i lt e =
+        let ws : List ℕ = get_or (lists_at x.lists m) i [] in
+        let sh = shaped-sealed p m sealed known in
+        risk_duality (problem_of p) x.lists planes m i ws list weighty sh s lt refl (weighs i lt).count (some_sum (here m) ws sh.realizations (weighs i lt)) (right-fault_of planes (with_weights ws (here m)) list e)
+
+    pub plane_fits : (c : Cut) → plane_of planes (here m) list (lists_at x.lists m) ≡ Some c → CutFits (here m) c
+    plane_fits c is = plane_has (CutFits (here m)) planes (here m) list (lists_at x.lists m) c fits_with is
+
+    -- one plane more
+    module _ (k : ℕ) (new : List (List Cut)) (added : plane_added p x k planes m list ≡ Ok new) where
+      pub fit_more : Fit (problem_of p) (length p.raw.nodes) planes → Fit (problem_of p) (length p.raw.nodes) new
+      fit_more f =
+          let a = added_plane p x k planes m list new added in
+          subst (λ (q : List (List Cut)). Fit (problem_of p) (length p.raw.nodes) q) a.2 (push_fit (problem_of p) (length p.raw.nodes) planes m a.0 f (plane_fits a.0 a.1))
+
+      pub risk_more : RiskSound (problem_of p) x.lists planes → RiskSound (problem_of p) x.lists new
+      risk_more s =
+          let a = added_plane p x k planes m list new added in
+          subst (λ (q : List (List Cut)). RiskSound (problem_of p) x.lists q) a.2 (push_risk (problem_of p) x.lists planes m a.0 s (plane_has (RiskHolds (problem_of p) x.lists m) planes (here m) list (lists_at x.lists m) a.0 (holds_with s) a.1))

@@ -1,0 +1,12 @@
+pub mod Each
+pub mod Based
+pub mod Reaching
+pub mod RiskDuality
+pub mod RiskBound
+pub mod Planned
+pub mod Keeping
+pub mod Placed
+pub mod Adding
+pub mod Reading
+pub mod OwnAlone
+pub mod WorkedPlanes

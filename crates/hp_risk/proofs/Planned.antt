@@ -1,0 +1,112 @@
+-- What a plane is: the cut of a list of weights with which its certificates are accepted.
+use Rattle.std.proofs.Common.{◌≡◌, ◌∙◌, ℕ, zero, suc, ◌+◌, ◌<◌, ◌≤◌, ℤ, Bool, true, false, List, [], ◌∷◌, length, drop, get_or, Option, Some, None, IfSome, Result, Ok, Err, int_lt, refl, sym, subst, ap, arith, if◌then◌else◌}
+use Rattle.std.specs.Prelude.{is_none, slice_get}
+use Rattle.std.proofs.lemmas.List.{drop_more, drop_all}
+use Rattle.std.proofs.lemmas.Option.{get_or_from_slice_get}
+use Rattle.hp_problem.specs.declared.raw.Node as nodes
+use Rattle.hp_problem.specs.declared.raw.Subproblem.{Subproblem}
+use Rattle.hp_problem.specs.Sealed.{Sealed, is_sealed}
+use Rattle.hp_theory.proofs.SealedParts.{Parts, parts}
+use Rattle.hp_theory.specs.declared.cut.Cut.{Cut}
+use Rattle.hp_theory.specs.declared.cut.Certificate.{Certificate}
+use Rattle.hp_theory.specs.Problem.{Node, node_at, with_weights}
+use Rattle.hp_theory.specs.Pools.{push}
+use Rattle.hp_theory.specs.CutOf.{cut_of}
+use Rattle.hp_theory.specs.Bound.{value_of_cut}
+use Rattle.hp_theory.specs.View.{node_of, problem_of}
+use Rattle.hp_dual.specs.declared.fault.CertFault.{CertFault}
+use Rattle.hp_dual.specs.Acceptance.{fault_of}
+use Rattle.hp_risk.specs.declared.alternatives.Alternatives.{Alternatives}
+use Rattle.hp_risk.specs.Listed.{lists_at}
+use Rattle.hp_risk.specs.Planes.{candidate, better, best_from, plane_of, failing, add_or_stop, plane_added}
+use Rattle.hp_risk.proofs.Each.{same_ok}
+
+module _ (P : Cut → Type 0) where
+  pub better_has : (x : List ℤ) (best next : Option Cut) → IfSome best P → IfSome next P → IfSome (better x best next) P
+  better_has x best None h i = h
+  better_has x None (Some c) h i = i
+  better_has x (Some b) (Some c) h i = by (int_lt (value_of_cut b x) (value_of_cut c x))
+    where
+      by : (t : Bool) → IfSome (if t then Some c else Some b) P
+      by true = i
+      by false = h
+
+  module _ (planes : List (List Cut)) (n : Node) (list : List Certificate) where
+    candidate_has : (ws : List ℕ) → (fault_of planes (with_weights ws n) list ≡ None → P (cut_of planes (with_weights ws n) list)) → IfSome (candidate planes n list ws) P
+    unfolding candidate
+    candidate_has ws h = by (fault_of planes (with_weights ws n) list) refl
+      where
+        by : (o : Option CertFault) → fault_of planes (with_weights ws n) list ≡ o → IfSome (if is_none o then Some (cut_of planes (with_weights ws n) list) else None) P
+        by None e = h e
+        by (Some f) e = tt
+
+    -- what holds of the cut of each list with which the certificates are accepted
+    abbrev pub OfEach : List (List ℕ) → Type 0
+    OfEach lists = (i : ℕ) → i < length lists → fault_of planes (with_weights (get_or lists i []) n) list ≡ None → P (cut_of planes (with_weights (get_or lists i []) n) list)
+
+    best_has : (best : Option Cut) (lists : List (List ℕ)) → IfSome best P → OfEach lists → IfSome (best_from planes n list best lists) P
+    best_has best [] h g = h
+    best_has best (ws ∷ lists) h g =
+        best_has (better n.low best (candidate planes n list ws)) lists (better_has n.low best (candidate planes n list ws) h (candidate_has ws (λ e. g 0 (omega arith) e))) (λ i lt e. g (suc i) (omega arith) e)
+
+    pub plane_has : (lists : List (List ℕ)) (c : Cut) → OfEach lists → plane_of planes n list lists ≡ Some c → P c
+    unfolding plane_of
+    plane_has lists c g is = subst (λ (o : Option Cut). IfSome o P) is (best_has None lists tt g)
+
+-- what a candidate is
+pub candidate_some : (planes : List (List Cut)) (n : Node) (list : List Certificate) (ws : List ℕ) → fault_of planes (with_weights ws n) list ≡ None → candidate planes n list ws ≡ Some (cut_of planes (with_weights ws n) list)
+unfolding candidate
+candidate_some planes n list ws h = ap (λ (o : Option CertFault). if is_none o then Some (cut_of planes (with_weights ws n) list) else None) h
+
+pub candidate_none : (planes : List (List Cut)) (n : Node) (list : List Certificate) (ws : List ℕ) (f : CertFault) → fault_of planes (with_weights ws n) list ≡ Some f → candidate planes n list ws ≡ None
+unfolding candidate
+candidate_none planes n list ws f h = ap (λ (o : Option CertFault). if is_none o then Some (cut_of planes (with_weights ws n) list) else None) h
+
+-- a plane that was added
+pub added_plane : (p : Sealed) (x : Alternatives) (k : ℕ) (planes : List (List Cut)) (m : ℕ) (list : List Certificate) (new : List (List Cut)) → plane_added p x k planes m list ≡ Ok new
+    → (c : Cut) × (plane_of planes (node_at (problem_of p) m) list (lists_at x.lists m) ≡ Some c) × (push planes m c ≡ new)
+unfolding plane_added
+added_plane p x k planes m list new e = by (plane_of planes (node_at (problem_of p) m) list (lists_at x.lists m)) refl e
+  where
+    by : (o : Option Cut) → plane_of planes (node_at (problem_of p) m) list (lists_at x.lists m) ≡ o → add_or_stop k m (failing planes (node_at (problem_of p) m) list (lists_at x.lists m)) planes o ≡ Ok new
+        → (c : Cut) × (plane_of planes (node_at (problem_of p) m) list (lists_at x.lists m) ≡ Some c) × (push planes m c ≡ new)
+    by None is e = absurd cc
+    by (Some c) is e = (c, is, same_ok (push planes m c) new e)
+
+-- one list more was tried
+pub best_more : (planes : List (List Cut)) (n : Node) (list : List Certificate) (lists : List (List ℕ)) (i : ℕ) (ws : List ℕ) (best whole : Option Cut) → i < length lists → ws ≡ get_or lists i ws → best_from planes n list best (drop i lists) ≡ whole
+    → best_from planes n list (better n.low best (candidate planes n list ws)) (drop (i + 1) lists) ≡ whole
+best_more planes n list lists i ws best whole lt is h =
+    sym (ap (λ (ls : List (List ℕ)). best_from planes n list best ls) (drop_more lists i ws lt ∙ ap (λ (vs : List ℕ). vs ∷ drop (i + 1) lists) (sym is))) ∙ h
+
+pub best_done : (planes : List (List Cut)) (n : Node) (list : List Certificate) (lists : List (List ℕ)) (i : ℕ) (best whole : Option Cut) → length lists ≤ i → best_from planes n list best (drop i lists) ≡ whole → best ≡ whole
+best_done planes n list lists i best whole all h = sym (ap (λ (ls : List (List ℕ)). best_from planes n list best ls) (drop_all i lists all)) ∙ h
+
+pub plane_from : (planes : List (List Cut)) (n : Node) (list : List Certificate) (lists : List (List ℕ)) → best_from planes n list None lists ≡ plane_of planes n list lists
+unfolding plane_of
+plane_from planes n list lists = refl
+
+-- the lower end of a node's box
+low_of : (n : nodes.Node) (s : Subproblem) (low high : List ℤ) → (node_of n s low high).low ≡ low
+unfolding node_of
+low_of n s low high = refl
+
+pub low_is : (p : Sealed) (m : ℕ) (low : List ℤ) → is_sealed p ≡ true → m < length p.raw.nodes → slice_get p.lo m ≡ Some low → low ≡ (node_at (problem_of p) m).low
+low_is p m low e h at =
+    let q : Parts p m = parts p m e h in
+    sym (get_or_from_slice_get p.lo m low [] at) ∙ get_or_from_slice_get p.lo m q.low [] q.fit.the_low ∙ sym (ap (λ (n : Node). n.low) q.fit.is ∙ low_of q.node q.subproblem q.low q.high)
+
+-- what a step adds
+module _ (p : Sealed) (x : Alternatives) (k : ℕ) (planes : List (List Cut)) (m : ℕ) (list : List Certificate) (lists : List (List ℕ)) (is : lists ≡ lists_at x.lists m) where
+  abbrev there : Node
+  there = node_at (problem_of p) m
+
+  pub added_some : (c : Cut) → plane_of planes there list lists ≡ Some c → plane_added p x k planes m list ≡ Ok (push planes m c)
+  unfolding plane_added
+  added_some c h = ap (λ (o : Option Cut). add_or_stop k m (failing planes there list (lists_at x.lists m)) planes o) (ap (λ (ls : List (List ℕ)). plane_of planes there list ls) (sym is) ∙ h)
+
+  pub added_none : (r : ℕ) → plane_of planes there list lists ≡ None → r ≡ failing planes there list lists → plane_added p x k planes m list ≡ Err (k, m, r)
+  unfolding plane_added
+  added_none r h e =
+      ap (λ (o : Option Cut). add_or_stop k m (failing planes there list (lists_at x.lists m)) planes o) (ap (λ (ls : List (List ℕ)). plane_of planes there list ls) (sym is) ∙ h)
+      ∙ ap (λ (n : ℕ). add_or_stop k m n planes None) (ap (λ (ls : List (List ℕ)). failing planes there list ls) (sym is) ∙ sym e)

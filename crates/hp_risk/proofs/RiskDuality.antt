@@ -1,0 +1,256 @@
+-- Planes: a candidate's cut is at most the greatest average of a stage's costs, and so is the bound over planes.
+use Rattle.std.proofs.Common.{◌≡◌, ℕ, zero, suc, ◌+◌, ◌*◌, ◌<◌, ℤ, pos, negsuc, ◌+ℤ◌, ◌*ℤ◌, ◌-ℤ◌, ◌≤ℤ◌, ◌<ℤ◌, Bool, true, false, cond, List, [], ◌∷◌, length, get_or, All, zip, sum, int_lt, arith, refl, ap, ap₂, sym, ◌∙◌, subst, mul-pos, if◌then◌else◌}
+use Rattle.std.proofs.lemmas.Int.{ints}
+use Rattle.std.proofs.lemmas.List.{length-map, get_or-map}
+use Rattle.std.proofs.lemmas.List.Sums.{sum_by-cons}
+use Rattle.std.proofs.lemmas.List.Elements.{All-nil, All-cons}
+use Rattle.hp_num.specs.Sums.{sum_to, total, entry}
+use Rattle.hp_num.proofs.Order.{le_refl, le_of_eq, le_trans, le_add, le_scale, le_cancel, floor_at_most}
+use Rattle.hp_num.proofs.Ring.{ring, var, num, ◌⊕◌, ◌⊗◌, ⊖}
+use Rattle.hp_num.proofs.Sums.{sum_ext, sum_times, sum_le, All_head, All_tail, dot_table}
+use Rattle.hp_theory.specs.Certificates.{RightAt, Right, AboveCuts}
+use Rattle.hp_theory.specs.Cost.{stage}
+use Rattle.hp_theory.specs.CutOf.{alpha_at, beta_at, alpha_sum, beta_sum, divisor, slope, remainder, cut_of}
+use Rattle.hp_theory.specs.Fraction.{Fraction, ◌≤ᶠ◌, plus, times, over, weighted}
+use Rattle.hp_theory.specs.Pools.{scaled_value, cut_value, pool}
+use Rattle.hp_theory.specs.Premises.{Nested, Shaped}
+use Rattle.hp_theory.specs.Problem.{S, Realization, Link, Node, Problem, node_at, link_weights, weight_of_realizations, realization_weight, successor_weight, reweighted, with_weights}
+use Rattle.hp_theory.specs.Tree.{InBox, next_state, Tree, Forest, no_branch, branch, no_tree, tree, FeasibleTree, FeasibleForest}
+use Rattle.hp_theory.proofs.Fractions.{ratio, between, below_none, below_plus, below_times, below_over, below_less, below_cancel}
+use Rattle.hp_theory.proofs.OneStage.{sum_total, total_linear}
+use Rattle.hp_theory.proofs.Duality.{one_stage, scale_some}
+use Rattle.hp_theory.specs.declared.cut.Cut.{Cut}
+use Rattle.hp_theory.specs.declared.cut.Certificate.{Certificate}
+use Rattle.hp_risk.specs.Listed.{lists_at}
+use Rattle.hp_risk.specs.RiskCost.{Weighty, greater, average, worst, branch_costs, risk_costs, risk_cost, RiskHolds, RiskSound}
+
+-- what is at most one fraction is at most a greater one
+carried : (a : ℤ) (k : ℕ) (f g : Fraction) → 0 < f.under → (f.up *ℤ pos g.under) ≤ℤ (g.up *ℤ pos f.under) → ratio a k ≤ᶠ f → ratio a k ≤ᶠ g
+carried a k f g p le h =
+    let first : (pos f.under *ℤ (a *ℤ pos g.under)) ≤ℤ (pos k *ℤ (f.up *ℤ pos g.under)) = between (pos f.under *ℤ (a *ℤ pos g.under)) (pos g.under *ℤ (a *ℤ pos f.under)) (pos g.under *ℤ (f.up *ℤ pos k)) (pos k *ℤ (f.up *ℤ pos g.under))
+    (ring (pos f.under ∷ a ∷ pos g.under ∷ []) (var 0 ⊗ (var 1 ⊗ var 2)) (var 2 ⊗ (var 1 ⊗ var 0)) tt)
+    (le_scale g.under (a *ℤ pos f.under) (f.up *ℤ pos k) h.crossed)
+    (ring (pos g.under ∷ f.up ∷ pos k ∷ []) (var 0 ⊗ (var 1 ⊗ var 2)) (var 2 ⊗ (var 1 ⊗ var 0)) tt) in
+    let second : (pos k *ℤ (f.up *ℤ pos g.under)) ≤ℤ (pos f.under *ℤ (g.up *ℤ pos k)) = between (pos k *ℤ (f.up *ℤ pos g.under)) (pos k *ℤ (f.up *ℤ pos g.under)) (pos k *ℤ (g.up *ℤ pos f.under)) (pos f.under *ℤ (g.up *ℤ pos k))
+    refl (le_scale k (f.up *ℤ pos g.under) (g.up *ℤ pos f.under) le)
+    (ring (pos k ∷ g.up ∷ pos f.under ∷ []) (var 0 ⊗ (var 1 ⊗ var 2)) (var 2 ⊗ (var 1 ⊗ var 0)) tt) in
+    record { crossed = le_cancel f.under (a *ℤ pos g.under) (g.up *ℤ pos k) p (le_trans (pos f.under *ℤ (a *ℤ pos g.under)) (pos k *ℤ (f.up *ℤ pos g.under)) (pos f.under *ℤ (g.up *ℤ pos k)) first second) }
+
+lt_le : (x y : ℤ) → int_lt x y ≡ true → x ≤ℤ y
+lt_le x y e = grind (arith, ints, e)
+
+not_lt_le : (x y : ℤ) → int_lt x y ≡ false → y ≤ℤ x
+not_lt_le x y e = grind (arith, ints, e)
+
+below_first : (a : ℤ) (k : ℕ) (f g : Fraction) → 0 < f.under → ratio a k ≤ᶠ f → ratio a k ≤ᶠ greater f g
+below_first a k f g p h = by (int_lt (f.up *ℤ pos g.under) (g.up *ℤ pos f.under)) refl
+  where
+    by : (b : Bool) → int_lt (f.up *ℤ pos g.under) (g.up *ℤ pos f.under) ≡ b → ratio a k ≤ᶠ (if b then g else f)
+    by true e = carried a k f g p (lt_le (f.up *ℤ pos g.under) (g.up *ℤ pos f.under) e) h
+    by false e = h
+
+below_second : (a : ℤ) (k : ℕ) (f g : Fraction) → 0 < g.under → ratio a k ≤ᶠ g → ratio a k ≤ᶠ greater f g
+below_second a k f g p h = by (int_lt (f.up *ℤ pos g.under) (g.up *ℤ pos f.under)) refl
+  where
+    by : (b : Bool) → int_lt (f.up *ℤ pos g.under) (g.up *ℤ pos f.under) ≡ b → ratio a k ≤ᶠ (if b then g else f)
+    by true e = h
+    by false e = carried a k g f p (not_lt_le (f.up *ℤ pos g.under) (g.up *ℤ pos f.under) e) h
+
+-- what stands under risk costs is positive
+abbrev pub Some : Fraction → Type 0
+Some f = 0 < f.under
+
+under_weighted : (ws : List ℕ) (fs : List Fraction) → All Some fs → 0 < (weighted ws fs).under
+under_weighted [] fs h = omega arith
+under_weighted (w ∷ ws) [] h = omega arith
+under_weighted (w ∷ ws) (f ∷ fs) h = mul-pos (All_head Some f fs h) (under_weighted ws fs (All_tail Some f fs h))
+
+under_average : (ws : List ℕ) (fs : List Fraction) → 0 < sum ws → All Some fs → Some (average ws fs)
+under_average ws fs p h = mul-pos (under_weighted ws fs h) p
+
+under_greater : (f g : Fraction) → Some f → Some g → Some (greater f g)
+under_greater f g p q = by (int_lt (f.up *ℤ pos g.under) (g.up *ℤ pos f.under))
+  where
+    by : (b : Bool) → Some (if b then g else f)
+    by true = q
+    by false = p
+
+-- lists of some weight each
+abbrev pub Heavy : List (List ℕ) → Type 0
+Heavy lists = All (λ (ws : List ℕ). 0 < sum ws) lists
+
+under_worst : (lists : List (List ℕ)) (fs : List Fraction) → Heavy lists → All Some fs → Some (worst lists fs)
+under_worst [] fs p h = omega arith
+under_worst (ws ∷ []) fs p h = under_average ws fs (All_head (λ (ws : List ℕ). 0 < sum ws) ws [] p) h
+under_worst (ws ∷ (vs ∷ lists)) fs p h =
+    under_greater (average ws fs) (worst (vs ∷ lists) fs) (under_average ws fs (All_head (λ (ws : List ℕ). 0 < sum ws) ws (vs ∷ lists) p) h)
+    (under_worst (vs ∷ lists) fs (All_tail (λ (ws : List ℕ). 0 < sum ws) ws (vs ∷ lists) p) h)
+
+-- what is at most one of the averages is at most the worst
+below_worst : (a : ℤ) (k i : ℕ) (lists : List (List ℕ)) (fs : List Fraction) → Heavy lists → All Some fs → i < length lists → ratio a k ≤ᶠ average (get_or lists i []) fs → ratio a k ≤ᶠ worst lists fs
+below_worst a k i [] fs p h lt le = absurd (omega arith)
+below_worst a k zero (ws ∷ []) fs p h lt le = le
+below_worst a k (suc i) (ws ∷ []) fs p h lt le = absurd (omega arith)
+below_worst a k zero (ws ∷ (vs ∷ lists)) fs p h lt le = below_first a k (average ws fs) (worst (vs ∷ lists) fs) (under_average ws fs (All_head (λ (ws : List ℕ). 0 < sum ws) ws (vs ∷ lists) p) h) le
+below_worst a k (suc i) (ws ∷ (vs ∷ lists)) fs p h lt le =
+    let rest : Heavy (vs ∷ lists) = All_tail (λ (ws : List ℕ). 0 < sum ws) ws (vs ∷ lists) p in
+    below_second a k (average ws fs) (worst (vs ∷ lists) fs) (under_worst (vs ∷ lists) fs rest h) (below_worst a k i (vs ∷ lists) fs rest h (omega arith) le)
+
+mutual
+  pub branches_some : (p : Problem) (x : List (List (List ℕ))) (units : ℕ) (n : Node) (rs : List Realization) (xi : List ℤ) (t : Tree) → 0 < units → Weighty p x → 0 < successor_weight n → All Some (branch_costs p x units n rs xi t)
+  branches_some p x units n rs xi no_branch z w q = All-nil Some
+  branches_some p x units n [] xi (branch u f t) z w q = All-nil Some
+  branches_some p x units n (r ∷ rs) xi (branch u f t) z w q =
+      All-cons Some (plus (stage units n r.values xi u) (over (weighted (link_weights n.links) (risk_costs p x units n.links (next_state n u) f)) (successor_weight n))) (branch_costs p x units n rs xi t)
+      (mul-pos z (mul-pos (under_weighted (link_weights n.links) (risk_costs p x units n.links (next_state n u) f) (risks_some p x units n.links (next_state n u) f z w)) q))
+      (branches_some p x units n rs xi t z w q)
+
+  pub risks_some : (p : Problem) (x : List (List (List ℕ))) (units : ℕ) (ls : List Link) (xi : List ℤ) (f : Forest) → 0 < units → Weighty p x → All Some (risk_costs p x units ls xi f)
+  risks_some p x units ls xi no_tree z w = All-nil Some
+  risks_some p x units [] xi (tree t f) z w = All-nil Some
+  risks_some p x units (l ∷ ls) xi (tree t f) z w =
+      All-cons Some (worst (lists_at x l.node) (branch_costs p x units (node_at p l.node) (node_at p l.node).realizations xi t)) (risk_costs p x units ls xi f)
+      (under_worst (lists_at x l.node) (branch_costs p x units (node_at p l.node) (node_at p l.node).realizations xi t) (w.lists l.node) (branches_some p x units (node_at p l.node) (node_at p l.node).realizations xi t z w (w.successors l.node)))
+      (risks_some p x units ls xi f z w)
+
+-- the successors' trees
+in_next : (units : ℕ) (n m : Node) (u : List ℤ) → Nested n m → InBox units n.decision_low n.decision_high u → InBox units m.low m.high (next_state n u)
+in_next units n m u h b = record {
+  count = length-map n.outs (entry u) ∙ h.count;
+  above = λ k p. let q : k < length n.outs = omega (arith, h.count) in
+      subst (λ (z : ℤ). (pos units *ℤ entry m.low k) ≤ℤ z) (sym (get_or-map (entry u) n.outs k 0 (pos 0) q))
+      (le_trans (pos units *ℤ entry m.low k) (pos units *ℤ entry n.decision_low (get_or n.outs k 0)) (entry u (get_or n.outs k 0)) (le_scale units (entry m.low k) (entry n.decision_low (get_or n.outs k 0)) (h.lows k p)) (b.above (get_or n.outs k 0) (h.outs k p)));
+  below = λ k p. let q : k < length n.outs = omega (arith, h.count) in
+      subst (λ (z : ℤ). z ≤ℤ (pos units *ℤ entry m.high k)) (sym (get_or-map (entry u) n.outs k 0 (pos 0) q))
+      (le_trans (entry u (get_or n.outs k 0)) (pos units *ℤ entry n.decision_high (get_or n.outs k 0)) (pos units *ℤ entry m.high k) (b.below (get_or n.outs k 0) (h.outs k p)) (le_scale units (entry n.decision_high (get_or n.outs k 0)) (entry m.high k) (h.highs k p)));
+}
+
+risks_above : (p : Problem) (x : List (List (List ℕ))) (pools : List (List Cut)) (units : ℕ) (xi : List ℤ) (ls : List Link) (f : Forest) → 0 < units → RiskSound p x pools → All (λ (l : Link). InBox units (node_at p l.node).low (node_at p l.node).high xi) ls
+    → FeasibleForest p units ls xi f → AboveCuts pools units xi ls (risk_costs p x units ls xi f)
+risks_above p x pools units xi [] no_tree z s b h = tt
+risks_above p x pools units xi (l ∷ ls) no_tree z s b h = absurd h
+risks_above p x pools units xi [] (tree t f) z s b h = absurd h
+risks_above p x pools units xi (l ∷ ls) (tree t f) z s b h = (
+  (λ k d q. s l.node k d q units xi t z (All_head (λ (l : Link). InBox units (node_at p l.node).low (node_at p l.node).high xi) l ls b) h.0),
+  risks_above p x pools units xi ls f z s (All_tail (λ (l : Link). InBox units (node_at p l.node).low (node_at p l.node).high xi) l ls b) h.1,
+)
+
+-- the average by given weights
+abbrev part : List (List Cut) → ℕ → Node → List ℤ → Realization × Certificate → ℤ
+part pools units n xi q = alpha_at pools n q.0.values q.1 *ℤ pos units +ℤ sum_to (length n.state_costs) (λ k. beta_at n q.1 k *ℤ entry xi k)
+
+abbrev stage_scale : Node → ℕ → ℕ
+stage_scale n units = S * S * successor_weight n * units
+
+averaged : (p : Problem) (x : List (List (List ℕ))) (pools : List (List Cut)) (units : ℕ) (n : Node) (xi : List ℤ) (ws : List ℕ) (rs : List Realization) (list : List Certificate) (t : Tree) → 0 < units → RiskSound p x pools → Shaped p n → length xi ≡ length n.state_costs
+    → length ws ≡ length rs → length list ≡ length rs → All (RightAt pools n) list → FeasibleTree p units n rs xi t
+    → ratio (total (λ (q : Realization × Certificate). pos q.0.weight *ℤ part pools units n xi q) (zip (reweighted ws rs) list)) (stage_scale n units) ≤ᶠ weighted ws (branch_costs p x units n rs xi t)
+averaged p x pools units n xi [] [] list no_branch z s sh ex c e r h = below_none (stage_scale n units)
+averaged p x pools units n xi [] [] list (branch u f t) z s sh ex c e r h = absurd h
+averaged p x pools units n xi [] (w ∷ rs) list t z s sh ex c e r h = absurd (omega arith)
+averaged p x pools units n xi (v ∷ ws) [] list t z s sh ex c e r h = absurd (omega arith)
+averaged p x pools units n xi (v ∷ ws) (w ∷ rs) list no_branch z s sh ex c e r h = absurd h
+averaged p x pools units n xi (v ∷ ws) (w ∷ rs) [] (branch u f t) z s sh ex c e r h = absurd (omega arith)
+averaged p x pools units n xi (v ∷ ws) (w ∷ rs) (d ∷ list) (branch u f t) z s sh ex c e r h =
+    let costs : List Fraction = risk_costs p x units n.links (next_state n u) f in
+    let here : Fraction = plus (stage units n w.values xi u) (over (weighted (link_weights n.links) costs) (successor_weight n)) in
+    below_plus (pos v *ℤ part pools units n xi (w, d)) (total (λ (q : Realization × Certificate). pos q.0.weight *ℤ part pools units n xi q) (zip (reweighted ws rs) list)) (stage_scale n units)
+    (times v here) (weighted ws (branch_costs p x units n rs xi t))
+    (below_times (part pools units n xi (w, d)) (stage_scale n units) v here
+    (one_stage pools units n d w.values xi u costs sh.decisions ex (All_head (RightAt pools n) d list r) h.0
+    (risks_above p x pools units (next_state n u) n.links f z s (λ k b q. in_next units n (node_at p (get_or n.links k b).node) u (sh.nested k b q) h.0.box) h.1)))
+    (averaged p x pools units n xi ws rs list t z s sh ex (omega arith) (omega arith) (All_tail (RightAt pools n) d list r) h.2)
+
+-- the rounding
+le_scale_by : (c a b : ℤ) → pos 0 ≤ℤ c → a ≤ℤ b → (c *ℤ a) ≤ℤ (c *ℤ b)
+le_scale_by (pos k) a b h i = le_scale k a b i
+le_scale_by (negsuc k) a b h i = absurd (omega (arith, ints))
+
+sum_minus : (n : ℕ) (d : ℤ) (f g x : ℕ → ℤ) → sum_to n (λ k. (f k -ℤ d *ℤ g k) *ℤ x k) ≡ sum_to n (λ k. f k *ℤ x k) -ℤ d *ℤ sum_to n (λ k. g k *ℤ x k)
+sum_minus zero d f g x = ring (d ∷ []) (num (pos 0)) (num (pos 0) ⊕ ⊖ (var 0 ⊗ num (pos 0))) tt
+sum_minus (suc n) d f g x =
+    ap (λ (k : ℤ). (f 0 -ℤ d *ℤ g 0) *ℤ x 0 +ℤ k) (sum_minus n d (λ k. f (suc k)) (λ k. g (suc k)) (λ k. x (suc k)))
+    ∙ ring (d ∷ f 0 ∷ g 0 ∷ x 0 ∷ sum_to n (λ k. f (suc k) *ℤ x (suc k)) ∷ sum_to n (λ k. g (suc k) *ℤ x (suc k)) ∷ [])
+    ((var 1 ⊕ ⊖ (var 0 ⊗ var 2)) ⊗ var 3 ⊕ (var 4 ⊕ ⊖ (var 0 ⊗ var 5))) (var 1 ⊗ var 3 ⊕ var 4 ⊕ ⊖ (var 0 ⊗ (var 2 ⊗ var 3 ⊕ var 5))) tt
+
+not_below : (a b : ℤ) → a ≤ℤ b → pos 0 ≤ℤ (b -ℤ a)
+not_below a b h = omega (arith, ints)
+
+-- plain numbers: l is the sum of r_k lo_k, x that of r_k xi_k
+round_numbers : (d n : ℕ) (a alpha l x b g : ℤ) → (pos d *ℤ alpha) ≤ℤ (a +ℤ l) → (pos n *ℤ l) ≤ℤ x → x ≡ b -ℤ pos d *ℤ g → (pos d *ℤ (alpha *ℤ pos n +ℤ g)) ≤ℤ (a *ℤ pos n +ℤ b)
+round_numbers d n a alpha l x b g h i e =
+    between (pos d *ℤ (alpha *ℤ pos n +ℤ g)) (pos n *ℤ (pos d *ℤ alpha) +ℤ (pos n *ℤ l +ℤ (pos d *ℤ g -ℤ pos n *ℤ l))) (pos n *ℤ (a +ℤ l) +ℤ (x +ℤ (pos d *ℤ g -ℤ pos n *ℤ l))) (a *ℤ pos n +ℤ b)
+    (ring (pos d ∷ alpha ∷ pos n ∷ g ∷ l ∷ []) (var 0 ⊗ (var 1 ⊗ var 2 ⊕ var 3)) (var 2 ⊗ (var 0 ⊗ var 1) ⊕ (var 2 ⊗ var 4 ⊕ (var 0 ⊗ var 3 ⊕ ⊖ (var 2 ⊗ var 4)))) tt)
+    (le_add (pos n *ℤ (pos d *ℤ alpha)) (pos n *ℤ (a +ℤ l)) (pos n *ℤ l +ℤ (pos d *ℤ g -ℤ pos n *ℤ l)) (x +ℤ (pos d *ℤ g -ℤ pos n *ℤ l)) (le_scale n (pos d *ℤ alpha) (a +ℤ l) h)
+    (le_add (pos n *ℤ l) x (pos d *ℤ g -ℤ pos n *ℤ l) (pos d *ℤ g -ℤ pos n *ℤ l) i (le_refl (pos d *ℤ g -ℤ pos n *ℤ l))))
+    (ap (λ (k : ℤ). pos n *ℤ (a +ℤ l) +ℤ (k +ℤ (pos d *ℤ g -ℤ pos n *ℤ l))) e
+    ∙ ring (pos d ∷ a ∷ pos n ∷ g ∷ l ∷ b ∷ []) (var 2 ⊗ (var 1 ⊕ var 4) ⊕ (var 5 ⊕ ⊖ (var 0 ⊗ var 3) ⊕ (var 0 ⊗ var 3 ⊕ ⊖ (var 2 ⊗ var 4)))) (var 1 ⊗ var 2 ⊕ var 5) tt)
+
+rounding : (pools : List (List Cut)) (units : ℕ) (n : Node) (list : List Certificate) (xi : List ℤ) → 0 < divisor n → InBox units n.low n.high xi
+    → (pos (divisor n) *ℤ scaled_value units xi (cut_of pools n list)) ≤ℤ (alpha_sum pools n list *ℤ pos units +ℤ sum_to (length n.low) (λ k. beta_sum n list k *ℤ entry xi k))
+rounding pools units n list xi z b =
+    let a : ℤ = alpha_sum pools n list in
+    let low : ℤ = sum_to (length n.low) (λ k. remainder n list k *ℤ entry n.low k) in
+    let alpha : ℤ = (cut_of pools n list).alpha in
+    subst (λ (g : ℤ). (pos (divisor n) *ℤ (alpha *ℤ pos units +ℤ g)) ≤ℤ (a *ℤ pos units +ℤ sum_to (length n.low) (λ k. beta_sum n list k *ℤ entry xi k))) (sym (dot_table (length n.low) (slope n list) xi))
+    (round_numbers (divisor n) units a alpha low (sum_to (length n.low) (λ k. remainder n list k *ℤ entry xi k)) (sum_to (length n.low) (λ k. beta_sum n list k *ℤ entry xi k)) (sum_to (length n.low) (λ k. slope n list k *ℤ entry xi k))
+    (floor_at_most (a +ℤ low) (divisor n) z)
+    (between (pos units *ℤ low) (sum_to (length n.low) (λ k. pos units *ℤ (remainder n list k *ℤ entry n.low k))) (sum_to (length n.low) (λ k. remainder n list k *ℤ entry xi k)) (sum_to (length n.low) (λ k. remainder n list k *ℤ entry xi k))
+    (sym (sum_times (length n.low) (pos units) (λ k. remainder n list k *ℤ entry n.low k)))
+    (sum_le (length n.low) (λ k. pos units *ℤ (remainder n list k *ℤ entry n.low k)) (λ k. remainder n list k *ℤ entry xi k)
+    (λ k p. between (pos units *ℤ (remainder n list k *ℤ entry n.low k)) (remainder n list k *ℤ (pos units *ℤ entry n.low k)) (remainder n list k *ℤ entry xi k) (remainder n list k *ℤ entry xi k)
+    (ring (pos units ∷ remainder n list k ∷ entry n.low k ∷ []) (var 0 ⊗ (var 1 ⊗ var 2)) (var 1 ⊗ (var 0 ⊗ var 2)) tt)
+    (le_scale_by (remainder n list k) (pos units *ℤ entry n.low k) (entry xi k) (let f : (pos (divisor n) *ℤ slope n list k) ≤ℤ beta_sum n list k = floor_at_most (beta_sum n list k) (divisor n) z in not_below (pos (divisor n) *ℤ slope n list k) (beta_sum n list k) f) (b.above k p))
+    refl))
+    refl)
+    (sum_minus (length n.low) (pos (divisor n)) (beta_sum n list) (slope n list) (entry xi)))
+
+-- the averages of a node with given weights
+parts_total : (pools : List (List Cut)) (units : ℕ) (n : Node) (xi : List ℤ) (qs : List (Realization × Certificate))
+    → total (λ (q : Realization × Certificate). pos q.0.weight *ℤ part pools units n xi q) qs
+    ≡ total (λ (q : Realization × Certificate). pos q.0.weight *ℤ alpha_at pools n q.0.values q.1) qs *ℤ pos units +ℤ sum_to (length n.state_costs) (λ k. total (λ (q : Realization × Certificate). pos q.0.weight *ℤ beta_at n q.1 k) qs *ℤ entry xi k)
+parts_total pools units n xi qs =
+    total_linear (pos units) (λ (q : Realization × Certificate). pos q.0.weight *ℤ alpha_at pools n q.0.values q.1) (λ (q : Realization × Certificate). pos q.0.weight *ℤ sum_to (length n.state_costs) (λ k. beta_at n q.1 k *ℤ entry xi k)) (λ (q : Realization × Certificate). pos q.0.weight *ℤ part pools units n xi q) qs
+    (λ q. ring (pos q.0.weight ∷ alpha_at pools n q.0.values q.1 ∷ pos units ∷ sum_to (length n.state_costs) (λ k. beta_at n q.1 k *ℤ entry xi k) ∷ []) (var 0 ⊗ (var 1 ⊗ var 2 ⊕ var 3)) (var 2 ⊗ (var 0 ⊗ var 1) ⊕ var 0 ⊗ var 3) tt)
+    ∙ ap₂ ◌+ℤ◌
+    (ring (pos units ∷ total (λ (q : Realization × Certificate). pos q.0.weight *ℤ alpha_at pools n q.0.values q.1) qs ∷ []) (var 0 ⊗ var 1) (var 1 ⊗ var 0) tt)
+    (sym (sum_total (length n.state_costs) (λ (q : Realization × Certificate) k. pos q.0.weight *ℤ beta_at n q.1 k) (λ (q : Realization × Certificate). pos q.0.weight *ℤ sum_to (length n.state_costs) (λ k. beta_at n q.1 k *ℤ entry xi k)) (entry xi) qs
+    (λ q. sum_ext (length n.state_costs) (λ k. pos q.0.weight *ℤ beta_at n q.1 k *ℤ entry xi k) (λ k. pos q.0.weight *ℤ (beta_at n q.1 k *ℤ entry xi k)) (λ k p. ring (pos q.0.weight ∷ beta_at n q.1 k ∷ entry xi k ∷ []) (var 0 ⊗ var 1 ⊗ var 2) (var 0 ⊗ (var 1 ⊗ var 2)) tt)
+    ∙ sum_times (length n.state_costs) (pos q.0.weight) (λ k. beta_at n q.1 k *ℤ entry xi k))))
+
+under_is : (s q n w : ℕ) → s * s * q * n * w ≡ s * q * w * (s * n)
+under_is s q n w = omega arith
+
+-- W of given weights is their sum
+pub weight-reweighted : (ws : List ℕ) (rs : List Realization) → length ws ≡ length rs → weight_of_realizations (reweighted ws rs) ≡ sum ws
+weight-reweighted [] rs e = refl
+weight-reweighted (w ∷ ws) [] e = absurd (omega arith)
+weight-reweighted (w ∷ ws) (r ∷ rs) e = ap (λ (k : ℕ). w + k) (weight-reweighted ws rs (omega arith)) ∙ sym (sum_by-cons (λ k. k) w ws)
+
+-- a right list with the weights of one of the node's lists
+pub risk_duality : (p : Problem) (x : List (List (List ℕ))) (pools : List (List Cut)) (m i : ℕ) (ws : List ℕ) (list : List Certificate) → Weighty p x → Shaped p (node_at p m) → RiskSound p x pools
+    → i < length (lists_at x m) → get_or (lists_at x m) i [] ≡ ws → length ws ≡ length (node_at p m).realizations → 0 < sum ws → Right pools (with_weights ws (node_at p m)) list → RiskHolds p x m (cut_of pools (with_weights ws (node_at p m)) list)
+risk_duality p x pools m i ws list wt sh s lt at count some r units xi t z b h =
+    let n : Node = node_at p m in
+    let k : Node = with_weights ws n in
+    let costs : List Fraction = branch_costs p x units n n.realizations xi t in
+    let ex : length xi ≡ length n.state_costs = b.count ∙ sh.states in
+    let total_weight : realization_weight k ≡ sum ws = weight-reweighted ws n.realizations count in
+    let whole : ℤ = alpha_sum pools k list *ℤ pos units +ℤ sum_to (length n.state_costs) (λ j. beta_sum k list j *ℤ entry xi j) in
+    let zd : 0 < divisor k = mul-pos (mul-pos scale_some sh.successors) (subst (λ (j : ℕ). 0 < j) (sym total_weight) some) in
+    let counted : length list ≡ length n.realizations = r.count ∙ length-reweighted ws n.realizations count in
+    let each : All (RightAt pools n) list = λ j d q. let a : RightAt pools k (get_or list j d) = r.each j d q in record { rows = a.rows; links = a.links; signs = a.signs; pairs = a.pairs } in
+    let one : ratio whole (stage_scale n units) ≤ᶠ weighted ws costs = subst (λ (j : ℤ). ratio j (stage_scale n units) ≤ᶠ weighted ws costs) (parts_total pools units n xi (zip (reweighted ws n.realizations) list)) (averaged p x pools units n xi ws n.realizations list t z s sh ex count counted each h) in
+    let two : ratio whole (stage_scale n units * sum ws) ≤ᶠ average ws costs = below_over whole (stage_scale n units) (sum ws) (weighted ws costs) one in
+    let three : ratio whole (divisor k * (S * units)) ≤ᶠ average ws costs = subst (λ (j : ℕ). ratio whole j ≤ᶠ average ws costs) (ap (λ (j : ℕ). stage_scale n units * j) (sym total_weight) ∙ under_is S (successor_weight n) units (realization_weight k)) two in
+    let four : (pos (divisor k) *ℤ scaled_value units xi (cut_of pools k list)) ≤ℤ whole = subst (λ (j : ℕ). (pos (divisor k) *ℤ scaled_value units xi (cut_of pools k list)) ≤ℤ (alpha_sum pools k list *ℤ pos units +ℤ sum_to j (λ j. beta_sum k list j *ℤ entry xi j))) sh.states (rounding pools units k list xi zd (record { count = b.count; above = b.above; below = b.below })) in
+    let five : ratio (scaled_value units xi (cut_of pools k list)) (S * units) ≤ᶠ average ws costs = below_cancel (scaled_value units xi (cut_of pools k list)) (S * units) (divisor k) (average ws costs) zd
+    (below_less (pos (divisor k) *ℤ scaled_value units xi (cut_of pools k list)) whole (divisor k * (S * units)) (average ws costs) four three) in
+    below_worst (scaled_value units xi (cut_of pools k list)) (S * units) i (lists_at x m) costs (wt.lists m) (branches_some p x units n n.realizations xi t z wt (wt.successors m)) lt
+    (subst (λ (vs : List ℕ). ratio (scaled_value units xi (cut_of pools k list)) (S * units) ≤ᶠ average vs costs) (sym at) five)
+  where
+    length-reweighted : (ws : List ℕ) (rs : List Realization) → length ws ≡ length rs → length (reweighted ws rs) ≡ length rs
+    length-reweighted [] [] e = refl
+    length-reweighted [] (r ∷ rs) e = absurd (omega arith)
+    length-reweighted (w ∷ ws) [] e = absurd (omega arith)
+    length-reweighted (w ∷ ws) (r ∷ rs) e = ap suc (length-reweighted ws rs (omega arith))

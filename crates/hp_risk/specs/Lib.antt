@@ -1,0 +1,5 @@
+pub mod Alternatives
+pub mod Listed
+pub mod Planes
+pub mod RiskCost
+pub mod Report

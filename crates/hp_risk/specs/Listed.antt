@@ -1,0 +1,26 @@
+-- What holds of the weights that are listed for the realizations of the nodes.
+use Rattle.std.specs.Prelude.{◌≡◌, ℕ, ◌<◌, ◌≤◌, List, [], ◌∷◌, length, map, get_or, All, sum}
+use Rattle.hp_problem.specs.Sealed.{Sealed}
+use Rattle.hp_theory.specs.Problem.{Realization, Node, node_at}
+use Rattle.hp_theory.specs.View.{problem_of}
+
+-- the lists of the node m
+abbrev pub lists_at : List (List (List ℕ)) → ℕ → List (List ℕ)
+lists_at x m = get_or x m []
+
+-- the node's own weights
+abbrev pub own_weights : Node → List ℕ
+own_weights n = map (λ (r : Realization). r.weight) n.realizations
+
+-- one weight for each realization of the node, each at least 1, at most 65535 together
+pub record Weighs (n : Node) (ws : List ℕ) : Type 0 where
+  pub count : length ws ≡ length n.realizations
+  pub positive : All (λ w. 1 ≤ w) ws
+  pub total : sum ws ≤ 65535
+
+-- for each node its lists, its own weights first
+pub record Listed (p : Sealed) (x : List (List (List ℕ))) : Type 0 where
+  pub nodes : length x ≡ length p.raw.nodes
+  pub some : (m : ℕ) → m < length p.raw.nodes → 0 < length (lists_at x m)
+  pub own : (m : ℕ) → m < length p.raw.nodes → get_or (lists_at x m) 0 [] ≡ own_weights (node_at (problem_of p) m)
+  pub each : (m : ℕ) → m < length p.raw.nodes → All (Weighs (node_at (problem_of p) m)) (lists_at x m)

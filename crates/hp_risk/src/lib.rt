@@ -1,0 +1,15 @@
+//! The worst of several lists of weights: what a problem file lists, and planes that bound the greatest expectation.
+#![tactic(auto)]
+
+mod alternatives;
+mod base;
+mod candidates;
+pub mod laws;
+mod planes;
+mod report;
+mod weights;
+pub mod worked;
+
+pub use alternatives::{Alternatives, read_alternatives};
+pub use planes::{RobustFault, robust};
+pub use report::robust_report;
