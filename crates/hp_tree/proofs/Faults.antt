@@ -1,0 +1,81 @@
+-- What faults mean, as they are handed on.
+use Rattle.std.proofs.Common.{◌≡◌, ◌∙◌, ℕ, zero, suc, ◌+◌, ℤ, List, Result, Ok, Err, IfOk, refl, sym, ap, subst, arith}
+use Rattle.hp_num.specs.Steps.{◌>>=◌}
+use Rattle.hp_settle.specs.declared.judging.Dead.{Dead}
+use Rattle.hp_problem.specs.Sealed.{Sealed}
+use Rattle.hp_theory.specs.View.{problem_of}
+use Rattle.hp_theory.specs.Problem.{Link, Node, Problem, node_at, realization_weight, successor_weight}
+use Rattle.hp_sampler.specs.declared.steps.Step.{Step}
+use Rattle.hp_forward.specs.declared.deciding.Decided.{Decided}
+use Rattle.hp_forward.specs.Costing.{stage_cost_of}
+use Rattle.hp_tree.specs.declared.costs.Walked.{Walked}
+use Rattle.hp_tree.specs.declared.walking.Fault.{Fault}
+use Rattle.hp_tree.specs.declared.walking.Fault.TheVariants as faults
+use Rattle.hp_tree.specs.PolicyTree.{Deciding, Stop, behind, dead, missed}
+use Rattle.hp_tree.specs.Costs.{add_stage, branch_cost, branch_costs, link_costs, no_cost, share, tree_cost}
+use Rattle.hp_tree.specs.Small.{IsCost}
+use Rattle.hp_tree.specs.TooBig.{branches, denominator}
+use Rattle.hp_tree.specs.Verdicts.{OnDead, Stops}
+
+-- what stops one thing stops another
+pub stops_on : {A B : Type 0} (f : Fault) (a : Result A Stop) (b : Result B Stop) → ((s : Stop) → a ≡ Err s → b ≡ Err s) → Stops f a → Stops f b
+stops_on (faults.NoStage d) a b h g = h (dead d) g
+stops_on (faults.Missed m) a b h g = h (missed m) g
+stops_on faults.Memory a b h g = tt
+
+-- and so it is with what holds of a refutation
+pub dead_on : (A B : Type 0) (f : Fault) (P : Dead → Type 0) → OnDead {A = A} (Err f) P → OnDead {A = B} (Err f) P
+dead_on A B (faults.NoStage d) P h = h
+dead_on A B (faults.Missed m) P h = tt
+dead_on A B faults.Memory P h = tt
+
+pub dead_behind : (A B : Type 0) (f : Fault) (r : Result A Fault) (P : Dead → Type 0) → ((d : Dead) → f ≡ faults.NoStage d → r ≡ Err (faults.NoStage d)) → OnDead r P → OnDead {A = B} (Err f) P
+dead_behind A B (faults.NoStage d) r P h o = subst (λ (r : Result A Fault). OnDead r P) (h d refl) o
+dead_behind A B (faults.Missed m) r P h o = tt
+dead_behind A B faults.Memory r P h o = tt
+
+-- what holds of an answer
+pub ok_of : {A E : Type 0} (r : Result A E) (x : A) (P : A → Type 0) → r ≡ Ok x → IfOk r P → P x
+ok_of {A} {E} r x P e h = subst (λ (r : Result A E). IfOk r P) e h
+
+pub links_same : (go : List ℤ → ℕ → ℕ → Result Walked Stop) (x y : List ℤ) (j k : ℕ) (ls ms : List Link) → x ≡ y → j ≡ k → ls ≡ ms → link_costs (go x) (no_cost j) ls ≡ link_costs (go y) (no_cost k) ms
+links_same go x y j k ls ms e f h =
+    ap (λ (x : List ℤ). link_costs (go x) (no_cost j) ls) e ∙ ap (λ (j : ℕ). link_costs (go y) (no_cost j) ls) f ∙ ap (λ (ls : List Link). link_costs (go y) (no_cost k) ls) h
+
+-- nothing costs nothing
+pub none_cost : (p : Sealed) (n m decided : ℕ) → n ≡ zero → IsCost p n (denominator (problem_of p) n m) 1 (decided + branches (problem_of p) n m) (no_cost decided)
+none_cost p n m decided e = subst (λ (n : ℕ). IsCost p n (denominator (problem_of p) n m) 1 (decided + branches (problem_of p) n m) (no_cost decided)) (sym e) (record { under = refl; small = omega arith; decided = omega arith })
+
+-- a branch, by what is decided there and what its successors cost
+module _ (decide : Deciding) (go : List ℤ → ℕ → ℕ → Result Walked Stop) (n : Node) (decided : ℕ) (s : Step) (values x : List ℤ) where
+  abbrev pub behind_it : Decided → Result Walked Stop
+  behind_it d = behind s (link_costs (go d.next) (no_cost (suc decided)) n.links)
+
+  abbrev whole : Decided → Walked → Result Walked Stop
+  whole d w = Ok (add_stage (successor_weight n) (stage_cost_of n d.decisions x values) w)
+
+  pub branch_done : (d : Decided) (w : Walked) → decide decided s values x ≡ Ok d → behind_it d ≡ Ok w → branch_cost decide go n decided s values x ≡ Ok (add_stage (successor_weight n) (stage_cost_of n d.decisions x values) w)
+  branch_done d w e h = ap (λ (r : Result Decided Stop). r >>= λ d. behind_it d >>= whole d) e ∙ ap (λ (r : Result Walked Stop). r >>= whole d) h
+
+  pub branch_undecided : (t : Stop) → decide decided s values x ≡ Err t → branch_cost decide go n decided s values x ≡ Err t
+  branch_undecided t e = ap (λ (r : Result Decided Stop). r >>= λ d. behind_it d >>= whole d) e
+
+  pub branch_behind : (d : Decided) (t : Stop) → decide decided s values x ≡ Ok d → behind_it d ≡ Err t → branch_cost decide go n decided s values x ≡ Err t
+  branch_behind d t e h = ap (λ (r : Result Decided Stop). r >>= λ d. behind_it d >>= whole d) e ∙ ap (λ (r : Result Walked Stop). r >>= whole d) h
+
+-- a tree, by its branches
+module _ (decide : Deciding) (p : Problem) (n k : ℕ) (x : List ℤ) (decided m : ℕ) where
+  abbrev pub branches_there : Result Walked Stop
+  branches_there = branch_costs decide (tree_cost decide p k) (node_at p m) m (no_cost decided) 0 (node_at p m).realizations x
+
+  abbrev shared : Walked → Result Walked Stop
+  shared w = Ok (share (realization_weight (node_at p m)) w)
+
+  pub tree_done : n ≡ suc k → (w : Walked) → branches_there ≡ Ok w → tree_cost decide p n x decided m ≡ Ok (share (realization_weight (node_at p m)) w)
+  tree_done e w h = ap (λ (n : ℕ). tree_cost decide p n x decided m) e ∙ ap (λ (r : Result Walked Stop). r >>= shared) h
+
+  pub tree_stops : n ≡ suc k → (t : Stop) → branches_there ≡ Err t → tree_cost decide p n x decided m ≡ Err t
+  tree_stops e t h = ap (λ (n : ℕ). tree_cost decide p n x decided m) e ∙ ap (λ (r : Result Walked Stop). r >>= shared) h
+
+  pub tree_none : n ≡ zero → tree_cost decide p n x decided m ≡ Ok (no_cost decided)
+  tree_none e = ap (λ (n : ℕ). tree_cost decide p n x decided m) e

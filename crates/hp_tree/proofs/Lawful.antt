@@ -1,0 +1,105 @@
+-- What is decided at a branch is lawful: in its boxes, on its rows, and its outs leave the node.
+use Rattle.std.proofs.Common.{◌≡◌, ◌∙◌, ℕ, zero, suc, ◌<◌, ℤ, pos, Bool, true, false, if◌then◌else◌, List, [], ◌∷◌, length, map, All, Option, Some, None, Result, Ok, Err, refl, sym, ap, subst}
+use Rattle.std.specs.Ordering.{int_eq}
+use Rattle.std.proofs.lemmas.Bool.Decides.{Decides-int_eq}
+use Rattle.std.proofs.lemmas.List.Elements.{All-cons, All-nil}
+use Rattle.hp_num.specs.Steps.{◌>>=◌}
+use Rattle.hp_problem.specs.declared.raw.Row.{Row}
+use Rattle.hp_problem.specs.Sealed.{Sealed, is_sealed}
+use Rattle.hp_theory.specs.declared.cut.Cut.{Cut}
+use Rattle.hp_theory.specs.Problem.{S, Node, node_at}
+use Rattle.hp_theory.specs.Tree.{InBox, RowHolds, Decides, next_state}
+use Rattle.hp_theory.specs.View.{problem_of}
+use Rattle.hp_solver.specs.declared.stage_lp.Answer.{Answer}
+use Rattle.hp_settle.specs.declared.judging.Dead.{Dead}
+use Rattle.hp_settle.specs.declared.judging.Judged.{Judged}
+use Rattle.hp_settle.specs.declared.judging.Judged.TheVariants as judged
+use Rattle.hp_settle.specs.Judging.{judge_of}
+use Rattle.hp_lp.specs.Chained.{Solving, answered}
+use Rattle.hp_sampler.specs.declared.steps.Step.{Step}
+use Rattle.hp_forward.specs.declared.deciding.Decided.{Decided}
+use Rattle.hp_forward.specs.Costing.{residual_of, residuals_of}
+use Rattle.hp_forward.specs.Deciding.{decide_of, decide_by, decided_of}
+use Rattle.hp_forward.proofs.ByAnswers.{inside_by}
+use Rattle.hp_forward.proofs.MetRows.{residual_met}
+use Rattle.hp_tree.specs.PolicyTree.{Stop, dead, missed, or_dead, unless_missed, first_missed, decide_branch}
+use Rattle.hp_tree.proofs.Following.{Lawful}
+
+decided_same : (x y : Decided) (r : Result Decided Dead) → r ≡ Ok x → r ≡ Ok y → x ≡ y
+decided_same x y r e f = cc
+
+no_decided : (x : Decided) (d : Dead) (r : Result Decided Dead) → r ≡ Err d → r ≡ Ok x → ⊥
+no_decided x d r e f = cc
+
+-- the state that leaves the node
+pub next_is : (p : Sealed) (run m : ℕ) (values x : List ℤ) (answer : Answer) (known : Judged) (d : Decided) → decide_by p run m values x answer known ≡ Ok d → d.next ≡ next_state (node_at (problem_of p) m) d.decisions
+next_is p run m values x answer judged.Found d e = subst (λ (y : Decided). y.next ≡ next_state (node_at (problem_of p) m) y.decisions) (decided_same (decided_of (node_at (problem_of p) m) answer judged.Found) d (Ok (decided_of (node_at (problem_of p) m) answer judged.Found)) refl e) refl
+next_is p run m values x answer judged.Unsettled d e = subst (λ (y : Decided). y.next ≡ next_state (node_at (problem_of p) m) y.decisions) (decided_same (decided_of (node_at (problem_of p) m) answer judged.Unsettled) d (Ok (decided_of (node_at (problem_of p) m) answer judged.Unsettled)) refl e) refl
+next_is p run m values x answer (judged.Dead ys) d e = absurd (no_decided d (record { run = run; node = m; values = values; state = x; rows = ys }) (Err (record { run = run; node = m; values = values; state = x; rows = ys })) refl e)
+
+-- no row is missed where no residual is found
+row_found : (i : ℕ) (z : ℤ) (rs : List ℤ) (b : Bool) → b ≡ false → (if b then first_missed (suc i) rs else Some (i, z)) ≡ None → ⊥
+row_found i z rs true e f = cc
+row_found i z rs false e f = cc
+
+rows_left : (i : ℕ) (z : ℤ) (rs : List ℤ) (b : Bool) → b ≡ true → (if b then first_missed (suc i) rs else Some (i, z)) ≡ None → first_missed (suc i) rs ≡ None
+rows_left i z rs true e f = f
+rows_left i z rs false e f = cc
+
+pub all_met : (i : ℕ) (rows : List Row) (u x values : List ℤ) → first_missed i (map (λ (row : Row). residual_of row u x values) rows) ≡ None → All (RowHolds S values x u) rows
+all_met i [] u x values e = All-nil (RowHolds S values x u)
+all_met i (row ∷ rows) u x values e = by (all_met (suc i) rows u x values) (int_eq (residual_of row u x values) (pos 0)) refl
+  where
+    left : List ℤ
+    left = map (λ (row : Row). residual_of row u x values) rows
+
+    by : (first_missed (suc i) left ≡ None → All (RowHolds S values x u) rows) → (b : Bool) → int_eq (residual_of row u x values) (pos 0) ≡ b → All (RowHolds S values x u) (row ∷ rows)
+    by rest true is =
+        All-cons (RowHolds S values x u) row rows ((residual_met row u x values).0 ((Decides-int_eq (residual_of row u x values) (pos 0)).0 is))
+        (rest (rows_left i (residual_of row u x values) left (int_eq (residual_of row u x values) (pos 0)) is e))
+    by rest false is = absurd (row_found i (residual_of row u x values) left (int_eq (residual_of row u x values) (pos 0)) is e)
+
+-- a decision at a branch is that of its node, and misses no row
+record IsDecided (first : Result Decided Dead) (rs : Decided → List ℤ) (d : Decided) : Type 0 where
+  pub here : first ≡ Ok d
+  pub rows : first_missed 0 (rs d) ≡ None
+
+one_stop : (x : Stop) (d : Decided) (r : Result Decided Stop) → r ≡ Err x → r ≡ Ok d → ⊥
+one_stop x d r e f = cc
+
+one_same : (x y : Decided) (r : Result Decided Stop) → r ≡ Ok x → r ≡ Ok y → x ≡ y
+one_same x y r e f = cc
+
+taken : (s : Step) (first : Result Decided Dead) (rs : Decided → List ℤ) (d : Decided) → (or_dead first >>= λ d. unless_missed s (first_missed 0 (rs d)) d) ≡ Ok d → IsDecided first rs d
+taken s (Err x) rs d e = absurd (one_stop (dead x) d (Err (dead x)) refl e)
+taken s (Ok y) rs d e = by (first_missed 0 (rs y)) refl e
+  where
+    by : (o : Option (ℕ × ℤ)) → first_missed 0 (rs y) ≡ o → unless_missed s o y ≡ Ok d → IsDecided (Ok y) rs d
+    by None is f =
+        let same : y ≡ d = one_same y d (Ok y) refl f in
+        subst (λ (z : Decided). IsDecided (Ok y) rs z) same (record { here = refl; rows = is })
+    by (Some q) is f = absurd (one_stop (missed (record { branches = s ∷ []; row = q.0; residual = q.1 })) d (unless_missed s (Some q) y) refl f)
+
+module _ {Start Chain : Type 0} (v : Solving Start Chain) (p : Sealed) (pools : List (List Cut)) where
+  branch_decided : (k : ℕ) (s : Step) (values x : List ℤ) (d : Decided) → decide_branch v p pools k s values x ≡ Ok d → IsDecided (decide_of v p pools k s.node values x) (λ d. residuals_of (node_at (problem_of p) s.node) d.decisions x values) d
+  unfolding decide_branch
+  branch_decided k s values x d e = taken s (decide_of v p pools k s.node values x) (λ d. residuals_of (node_at (problem_of p) s.node) d.decisions x values) d e
+
+  by_answer : (k m : ℕ) (values x : List ℤ) (d : Decided) → decide_of v p pools k m values x ≡ Ok d → decide_by p k m values x (answered v p pools m values x) (judge_of (node_at (problem_of p) m) values x (answered v p pools m values x)) ≡ Ok d
+  unfolding decide_of
+  by_answer k m values x d e = e
+
+  pub lawful : is_sealed p ≡ true → Lawful (problem_of p) (length p.raw.nodes) (decide_branch v p pools)
+  lawful sealed = record {
+    decides = λ k s values x d known e.
+        let own = branch_decided k s values x d e in
+        let answer : Answer = answered v p pools s.node values x in
+        record {
+          box = inside_by p sealed k s.node known values x answer (judge_of (node_at (problem_of p) s.node) values x answer) d (by_answer k s.node values x d own.here);
+          rows = all_met 0 (node_at (problem_of p) s.node).rows d.decisions x values own.rows;
+        };
+    leaves = λ k s values x d e.
+        let own = branch_decided k s values x d e in
+        let answer : Answer = answered v p pools s.node values x in
+        next_is p k s.node values x answer (judge_of (node_at (problem_of p) s.node) values x answer) d (by_answer k s.node values x d own.here);
+  }

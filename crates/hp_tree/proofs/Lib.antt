@@ -1,0 +1,15 @@
+pub mod Divisors
+pub mod Adding
+pub mod Branching
+pub mod Agreeing
+pub mod Ceilings
+pub mod Following
+pub mod Rows
+pub mod Lawful
+pub mod StageSizes
+pub mod Whole
+pub mod Seen
+pub mod Steps
+pub mod Rooted
+pub mod Faults
+pub mod WorkedUppers

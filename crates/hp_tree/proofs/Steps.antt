@@ -1,0 +1,111 @@
+-- The steps of the loops through successors and through branches.
+use Rattle.std.proofs.Common.{◌≡◌, ◌∙◌, ℕ, zero, suc, ◌+◌, ◌*◌, ◌<◌, ◌≤◌, ℤ, pos, ◌+ℤ◌, ◌*ℤ◌, FitsSigned, true, nat_lt, List, [], ◌∷◌, length, get_or, drop, drop_of_length-le, map, sum, All, Some, slice_get, Result, Ok, Err, refl, sym, ap, subst, arith}
+use Rattle.std.specs.Int.{w128}
+use Rattle.std.specs.List.{list_all}
+use Rattle.std.proofs.lemmas.Bool.Decides.{nat_tests}
+use Rattle.std.proofs.lemmas.List.Elements.{All-drop}
+use Rattle.hp_num.proofs.Tests.{all_at}
+use Rattle.hp_problem.specs.declared.raw.Node as nodes
+use Rattle.hp_problem.specs.Sealed.{Sealed, is_sealed}
+use Rattle.hp_sampler.specs.declared.steps.Step.{Step}
+use Rattle.hp_theory.specs.Problem.{Realization, Link, Node, node_at, link_weights, weight_of_realizations}
+use Rattle.hp_theory.specs.View.{links_of, realizations_of, problem_of}
+use Rattle.hp_theory.proofs.Views.{All-links_of, length-links_of}
+use Rattle.hp_tree.specs.declared.costs.Walked.{Walked}
+use Rattle.hp_tree.specs.PolicyTree.{Deciding, Stop}
+use Rattle.hp_tree.specs.Costs.{add_branch, add_cost, branch_cost, branch_costs, link_costs, no_cost}
+use Rattle.hp_tree.specs.Small.{AddsUp, IsCost, IsSmall, link_branches, link_denominator}
+use Rattle.hp_tree.specs.TooBig.{branches, denominator}
+use Rattle.hp_tree.proofs.Adding.{LinksGo, dens, link_adds, link_next, link_small, link_stops, links_last}
+use Rattle.hp_tree.proofs.Branching.{BranchesGo, branch_next, branch_small_here, branch_stops, branch_weighted, branch_whole, branches_last}
+use Rattle.hp_tree.proofs.Seen.{Seen, length-realizations_of, link_here, realization_here}
+use Rattle.hp_tree.proofs.Whole.{dens_some}
+
+less : (m n : ℕ) → nat_lt m n ≡ true → m < n
+less m n e = grind (arith, nat_tests)
+
+links_known : (count : ℕ) (ms ws : List ℕ) → length ws ≡ length ms → list_all (λ m. nat_lt m count) ms ≡ true → All (λ (l : Link). l.node < count) (links_of ms ws)
+links_known count ms ws e h = All-links_of (λ (l : Link). l.node < count) ms ws e (λ i inside. less (get_or ms i 0) count (all_at (λ m. nat_lt m count) ms i 0 h inside))
+
+-- a step of the loop through successors
+module _ (p : Sealed) (e : is_sealed p ≡ true) (n k : ℕ) (go : ℕ → ℕ → Result Walked Stop) (ms ws : List ℕ) (known : list_all (λ m. nat_lt m (length p.raw.nodes)) ms ≡ true) (counted : length ws ≡ length ms)
+    (small : IsSmall p n (link_denominator p n (links_of ms ws)) (sum (link_weights (links_of ms ws))) k (link_branches p n (links_of ms ws))) (i m w : ℕ) (inside : i < length ms) (em : m ≡ get_or ms i m) (ew : w ≡ get_or ws i w) (total : Walked)
+    (h : LinksGo p n k go (links_of ms ws) (drop i (links_of ms ws)) total) where
+  abbrev rest : List Link
+  rest = drop (i + 1) (links_of ms ws)
+
+  abbrev link : Link
+  link = record { node = m; weight = w }
+
+  split : drop i (links_of ms ws) ≡ link ∷ rest
+  split = link_here ms ws i m w counted inside em ew
+
+  here : LinksGo p n k go (links_of ms ws) (link ∷ rest) total
+  here = subst (λ (ls : List Link). LinksGo p n k go (links_of ms ws) ls total) split h
+
+  some : All (λ b. 0 < b) (dens p n (link ∷ rest))
+  some =
+      dens_some p e n (link ∷ rest)
+      (subst (λ (ls : List Link). All (λ (l : Link). l.node < length p.raw.nodes) ls) split (All-drop (λ (l : Link). l.node < length p.raw.nodes) i (links_of ms ws) (links_known (length p.raw.nodes) ms ws counted known)))
+
+  pub step_small : IsSmall p n (denominator (problem_of p) n m) 1 total.decided (branches (problem_of p) n m)
+  step_small = link_small p n k go (links_of ms ws) link rest total total here some small
+
+  pub step_known : m < length p.raw.nodes
+  step_known = subst (λ (j : ℕ). j < length p.raw.nodes) (sym em) (less (get_or ms i m) (length p.raw.nodes) (all_at (λ m. nat_lt m (length p.raw.nodes)) ms i m known inside))
+
+  pub step_adds : (c : Walked) → IsCost p n (denominator (problem_of p) n m) 1 (total.decided + branches (problem_of p) n m) c → AddsUp total w c
+  step_adds c is = link_adds p n k go (links_of ms ws) link rest total c here some small is
+
+  pub step_next : (c : Walked) → IsCost p n (denominator (problem_of p) n m) 1 (total.decided + branches (problem_of p) n m) c → go total.decided m ≡ Ok c → LinksGo p n k go (links_of ms ws) (drop (i + 1) (links_of ms ws)) (add_cost total w c)
+  step_next c is e = link_next p n k go (links_of ms ws) link rest total c here some small is e
+
+  pub step_stops : (s : Stop) → go total.decided m ≡ Err s → link_costs go (no_cost k) (links_of ms ws) ≡ Err s
+  step_stops s e = link_stops p n k go (links_of ms ws) link rest total total here some small s e
+
+pub steps_last : (p : Sealed) (n k : ℕ) (go : ℕ → ℕ → Result Walked Stop) (ms ws : List ℕ) (i : ℕ) (total : Walked) → length ws ≡ length ms → length ms ≤ i → LinksGo p n k go (links_of ms ws) (drop i (links_of ms ws)) total
+    → (link_costs go (no_cost k) (links_of ms ws) ≡ Ok total) × IsCost p n (link_denominator p n (links_of ms ws)) (sum (link_weights (links_of ms ws))) (k + link_branches p n (links_of ms ws)) total
+steps_last p n k go ms ws i total counted past h =
+    let all : LinksGo p n k go (links_of ms ws) [] total = subst (λ (ls : List Link). LinksGo p n k go (links_of ms ws) ls total) (drop_of_length-le (links_of ms ws) (omega (arith, past, length-links_of ms ws counted))) h in
+    (sym all.value, links_last p n k go (links_of ms ws) total all)
+
+-- a step of the loop through branches
+module _ (p : Sealed) (n U j k : ℕ) (decide : Deciding) (go : List ℤ → ℕ → ℕ → Result Walked Stop) (node : Node) (m : ℕ) (x : List ℤ) (ws : List ℕ) (vs : List (List ℤ)) (is : node.realizations ≡ realizations_of ws vs) (valued : length vs ≡ length ws)
+    (small : IsSmall p n U (weight_of_realizations node.realizations) k (length node.realizations * j)) (i w : ℕ) (v : List ℤ) (inside : i < length ws) (ew : w ≡ get_or ws i w) (ev : v ≡ get_or vs i v) (total : Walked)
+    (h : BranchesGo p n U j k decide go node m x node.realizations (drop i node.realizations) i total) where
+  abbrev left : List Realization
+  left = drop (i + 1) node.realizations
+
+  abbrev own : Realization
+  own = record { weight = w; values = v }
+
+  parted : drop i node.realizations ≡ own ∷ left
+  parted = ap (λ (rs : List Realization). drop i rs) is ∙ realization_here ws vs i w v valued inside ew ev ∙ ap (λ (rs : List Realization). own ∷ drop (i + 1) rs) (sym is)
+
+  now : BranchesGo p n U j k decide go node m x node.realizations (own ∷ left) i total
+  now = subst (λ (rs : List Realization). BranchesGo p n U j k decide go node m x node.realizations rs i total) parted h
+
+  pub branch_small : IsSmall p n U 1 total.decided j
+  branch_small = branch_small_here p n U j k decide go node m x node.realizations own left i total total now small
+
+  module _ (c : Walked) (cost : IsCost p n U 1 (total.decided + j) c) where
+    pub adds_weighted : FitsSigned w128 (pos w *ℤ c.up)
+    adds_weighted = branch_weighted p n U j k decide go node m x node.realizations own left i total c now small cost
+
+    pub adds_whole : FitsSigned w128 (total.up +ℤ pos w *ℤ c.up)
+    adds_whole = branch_whole p n U j k decide go node m x node.realizations own left i total c now small cost
+
+    pub adds_next : branch_cost decide go node total.decided (record { node = m; realization = i }) v x ≡ Ok c → BranchesGo p n U j k decide go node m x node.realizations (drop (i + 1) node.realizations) (i + 1) (add_branch total w c)
+    adds_next e = subst (λ (q : ℕ). BranchesGo p n U j k decide go node m x node.realizations left q (add_branch total w c)) one_more (branch_next p n U j k decide go node m x node.realizations own left i total c now small cost e)
+      where
+        one_more : suc i ≡ i + 1
+        one_more = omega arith
+
+  pub adds_stops : (s : Stop) → branch_cost decide go node total.decided (record { node = m; realization = i }) v x ≡ Err s → branch_costs decide go node m (no_cost k) 0 node.realizations x ≡ Err s
+  adds_stops s e = branch_stops p n U j k decide go node m x node.realizations own left i total total now small s e
+
+pub branches_end : (p : Sealed) (n U j k : ℕ) (decide : Deciding) (go : List ℤ → ℕ → ℕ → Result Walked Stop) (node : Node) (m : ℕ) (x : List ℤ) (i : ℕ) (total : Walked) → 0 < i → length node.realizations ≤ i → BranchesGo p n U j k decide go node m x node.realizations (drop i node.realizations) i total
+    → (branch_costs decide go node m (no_cost k) 0 node.realizations x ≡ Ok total) × IsCost p n U (weight_of_realizations node.realizations) (k + length node.realizations * j) total
+branches_end p n U j k decide go node m x i total some past h =
+    let all : BranchesGo p n U j k decide go node m x node.realizations [] i total = subst (λ (rs : List Realization). BranchesGo p n U j k decide go node m x node.realizations rs i total) (drop_of_length-le node.realizations past) h in
+    (sym all.value, branches_last p n U j k decide go node m x node.realizations i total some all)

@@ -1,0 +1,226 @@
+-- The whole policy: its cost stays inside 128 bits, its tree is a policy, and its verdict is that of its cost.
+use Rattle.std.proofs.Common.{◌≡◌, ◌∙◌, ℕ, zero, suc, ◌+◌, ◌*◌, ◌<◌, ◌≤◌, ◌^◌, min, ℤ, pos, ◌+ℤ◌, ◌*ℤ◌, ◌≤ℤ◌, nat_abs, Bool, true, false, if◌then◌else◌, nat_lt, List, [], ◌∷◌, length, get_or, map, sum, reverse, All, Contains, Option, Some, None, Result, Ok, Err, IfOk, refl, sym, ap, ap₂, subst, arith, mul-pos}
+use Rattle.std.proofs.Math.Nat.{mul-le-mul}
+use Rattle.std.proofs.lemmas.Bool.Decides.{nat_tests}
+use Rattle.std.proofs.lemmas.Grind.{common_steps}
+use Rattle.std.proofs.lemmas.Int.{ints}
+use Rattle.std.proofs.lemmas.List.{length-map}
+use Rattle.std.proofs.lemmas.List.Elements.{All-cons, All-nil, Contains-get_or}
+use Rattle.std.proofs.lemmas.Option.{slice_get-get_or}
+use Rattle.hp_num.specs.Steps.{◌>>=◌}
+use Rattle.hp_num.proofs.Sums.{All_head, All_tail}
+use Rattle.hp_num.proofs.Ring.{ring, var, ◌⊗◌}
+use Rattle.hp_paths.specs.Ranks.{longest_from, rank, ranks}
+use Rattle.hp_paths.proofs.AllRanked.{greatest_over}
+use Rattle.hp_paths.proofs.Placing.{rank_at}
+use Rattle.hp_problem.specs.declared.formulas.TooMuch.{TooMuch}
+use Rattle.hp_problem.specs.declared.raw.Node as nodes
+use Rattle.hp_problem.specs.Formulas.{above, or_then}
+use Rattle.hp_problem.specs.Sealed.{Sealed, is_sealed, graph_fits, graph_of}
+use Rattle.hp_problem.proofs.SealedFacts.{graph-is_sealed}
+use Rattle.hp_theory.specs.declared.cut.Cut.{Cut}
+use Rattle.hp_theory.specs.Bound.{bound, Under}
+use Rattle.hp_theory.specs.Cost.{policy_cost}
+use Rattle.hp_theory.specs.Fit.{Fit}
+use Rattle.hp_theory.specs.Fraction.{Fraction}
+use Rattle.hp_theory.specs.Pools.{Sound}
+use Rattle.hp_theory.specs.Premises.{Known}
+use Rattle.hp_theory.specs.Problem.{S, Link, Node, Problem, node_at, link_weights, realization_weight, successor_weight}
+use Rattle.hp_theory.specs.Tree.{Forest, Policy, times_all}
+use Rattle.hp_theory.specs.View.{links_of, problem_of}
+use Rattle.hp_theory.proofs.BoundBelow.{sound_bound}
+use Rattle.hp_theory.proofs.Denominators.{positive_policy}
+use Rattle.hp_theory.proofs.SealedPremises.{known-sealed, root-sealed, root_shaped-sealed}
+use Rattle.hp_theory.proofs.Views.{All-links_of, root-problem_of}
+use Rattle.hp_cut.proofs.Weighted.{have_cuts-fit}
+use Rattle.hp_settle.specs.declared.judging.Dead.{Dead}
+use Rattle.hp_lp.specs.Chained.{Solving}
+use Rattle.hp_sampler.proofs.Draws.{root_counted, root_inside}
+use Rattle.hp_forward.specs.declared.deciding.StageFault.{StageFault}
+use Rattle.hp_forward.specs.declared.deciding.StageFault.TheVariants as stages
+use Rattle.hp_forward.specs.Given.{Gives}
+use Rattle.hp_tree.specs.declared.costs.Walked.{Walked}
+use Rattle.hp_tree.specs.declared.walking.Missed.{Missed}
+use Rattle.hp_tree.specs.declared.walking.Verdict.{Verdict}
+use Rattle.hp_tree.specs.declared.walking.Verdict.TheVariants as verdicts
+use Rattle.hp_tree.specs.Multiples.{lcm_all}
+use Rattle.hp_tree.specs.Costs.{link_costs, no_cost, root_cost, share, tree_cost}
+use Rattle.hp_tree.specs.PolicyTree.{Deciding, Grown, Stop, dead, missed, decide_branch, judged, policy_tree, verdict_of, whole_tree}
+use Rattle.hp_tree.specs.Small.{IsCost, IsSmall, link_branches, link_denominator, most_cost}
+use Rattle.hp_tree.specs.TooBig.{branch_count, branches, denominator, most_size, root_denominator, too_big_of}
+use Rattle.hp_tree.specs.Upper.{IsUpper, ceiling_over, scaled_up, upper_of}
+use Rattle.hp_tree.specs.Verdicts.{OnCost, rounded}
+use Rattle.hp_tree.proofs.Adding.{cost_limit, dens}
+use Rattle.hp_tree.proofs.Agreeing.{Agree, Is, IsPolicy, Leaves, policies_agree}
+use Rattle.hp_tree.proofs.Ceilings.{ceiling_same, under_upper, upper_is}
+use Rattle.hp_tree.proofs.Divisors.{lcm_all_least}
+use Rattle.hp_tree.proofs.Following.{Lawful, policy_feasible}
+use Rattle.hp_tree.proofs.Lawful.{lawful}
+
+-- no formula is above its limit
+not_some : (t : TooMuch) → Some t ≡ None → ⊥
+not_some t e = cc
+
+within : (which limit value : ℕ) → above which limit value ≡ None → value ≤ limit
+within which limit value e = by (nat_lt limit value) refl
+  where
+    by : (b : Bool) → nat_lt limit value ≡ b → value ≤ limit
+    by true is = absurd (not_some (record { which = which; value = value }) (sym (ap (λ (b : Bool). if b then Some (record { which = which; value = value }) else None) is) ∙ e))
+    by false is = grind (arith, nat_tests, is)
+
+both_none : (t u : Option TooMuch) → or_then t u ≡ None → (t ≡ None) × (u ≡ None)
+both_none (Some t) u e = absurd (not_some t e)
+both_none None u e = (refl, e)
+
+pub record Bounded (p : Sealed) : Type 0 where
+  pub branches : branch_count p ≤ 2 ^ 16
+  pub denominator : root_denominator p ≤ 2 ^ 40
+  pub sizes : p.longest * most_size p ≤ 2 ^ 60
+
+pub bounded : (p : Sealed) → too_big_of p ≡ None → Bounded p
+unfolding too_big_of
+bounded p e =
+    let first = both_none (above 5 (2 ^ 16) (min (branch_count p) (2 ^ 32))) _ e in
+    let second = both_none (above 6 (2 ^ 40) (min (root_denominator p) (2 ^ 41))) _ first.1 in
+    record {
+      branches = omega (arith, within 5 (2 ^ 16) (min (branch_count p) (2 ^ 32)) first.0);
+      denominator = omega (arith, within 6 (2 ^ 40) (min (root_denominator p) (2 ^ 41)) second.0);
+      sizes = omega (arith, within 7 (2 ^ 60) (min (p.longest * most_size p) (2 ^ 61)) second.1);
+    }
+
+S_some : 0 < S
+unfolding S
+S_some = omega arith
+
+pub upper_sealed : (p : Sealed) (f : Forest) → is_sealed p ≡ true → IsUpper (problem_of p) f (upper_of (problem_of p) f)
+upper_sealed p f e = upper_is (problem_of p) f (positive_policy p S f e S_some)
+
+positive_mul : (w l : ℕ) → 0 < w → w * l ≤ 2 ^ 40 → (l ≤ 2 ^ 40) × (l * w ≤ 2 ^ 40)
+positive_mul zero l h k = absurd (omega (arith, h))
+positive_mul (suc w) l h k = (omega (arith, k), omega (arith, k))
+
+module _ (p : Sealed) (e : is_sealed p ≡ true) where
+  pub root_some : 0 < sum (link_weights (problem_of p).root)
+  root_some = (root_shaped-sealed p e).some
+
+  -- the root's successors keep their sums small
+  pub root_small : too_big_of p ≡ None → IsSmall p p.longest (link_denominator p p.longest (problem_of p).root) (sum (link_weights (problem_of p).root)) 0 (link_branches p p.longest (problem_of p).root)
+  unfolding branch_count root_denominator
+  root_small none =
+      let b = bounded p none in
+      let m = positive_mul (sum (link_weights (problem_of p).root)) (link_denominator p p.longest (problem_of p).root) root_some b.denominator in
+      record { under = m.0; weighted = m.1; branches = omega (arith, b.branches); sizes = b.sizes }
+
+  -- denominators are positive
+  dens_by : (n : ℕ) → ((m : ℕ) → m < length p.raw.nodes → 0 < denominator (problem_of p) n m) → (ls : List Link) → All (λ (l : Link). l.node < length p.raw.nodes) ls → All (λ b. 0 < b) (dens p n ls)
+  dens_by n f [] h = All-nil (λ b. 0 < b)
+  dens_by n f (l ∷ ls) h =
+      All-cons (λ b. 0 < b) (denominator (problem_of p) n l.node) (dens p n ls) (f l.node (All_head (λ (l : Link). l.node < length p.raw.nodes) l ls h)) (dens_by n f ls (All_tail (λ (l : Link). l.node < length p.raw.nodes) l ls h))
+
+  pub denominator_some : (n m : ℕ) → m < length p.raw.nodes → 0 < denominator (problem_of p) n m
+  denominator_some zero m h = omega arith
+  denominator_some (suc n) m h =
+      let known = known-sealed p e in
+      let least = lcm_all_least 1 (dens p n (node_at (problem_of p) m).links) (omega arith) (dens_by n (λ m h. denominator_some n m h) (node_at (problem_of p) m).links (known.links m h)) in
+      mul-pos (known.realizations m h) (mul-pos (known.successors m h) (omega (arith, least)))
+
+  pub dens_some : (n : ℕ) (ls : List Link) → All (λ (l : Link). l.node < length p.raw.nodes) ls → All (λ b. 0 < b) (dens p n ls)
+  dens_some n ls h = dens_by n (denominator_some n) ls h
+
+  lcm_some : (n : ℕ) (ls : List Link) → All (λ (l : Link). l.node < length p.raw.nodes) ls → 0 < lcm_all 1 (dens p n ls)
+  lcm_some n ls h = omega (arith, lcm_all_least 1 (dens p n ls) (omega arith) (dens_some n ls h))
+
+  pub root_lcm_some : 0 < link_denominator p p.longest (problem_of p).root
+  root_lcm_some = lcm_some p.longest (problem_of p).root (root-sealed p e)
+
+  -- no tree is cut off
+  longest_is : p.longest ≡ longest_from (ranks (graph_of p.raw)) p.raw.root
+  unfolding graph_fits
+  longest_is = let g : graph_fits p.raw p.order p.longest ≡ true = graph-is_sealed p e in grind (arith, nat_tests, common_steps, g)
+
+  root_low : (m : ℕ) → m < length p.raw.nodes → Contains p.raw.root m → rank (graph_of p.raw) m < p.longest
+  root_low m h c =
+      let most : suc (get_or (ranks (graph_of p.raw)) m 0) ≤ longest_from (ranks (graph_of p.raw)) p.raw.root = greatest_over (λ k. suc (get_or (ranks (graph_of p.raw)) k 0)) p.raw.root m c in
+      let at : get_or (ranks (graph_of p.raw)) m 0 ≡ rank (graph_of p.raw) m = rank_at (graph_of p.raw) m (omega (arith, h, length-map p.raw.nodes (λ (n : nodes.Node). n.links))) in
+      omega (arith, most, at, longest_is)
+
+  root_ranks : All (λ (l : Link). rank (graph_of p.raw) l.node < p.longest) (problem_of p).root
+  root_ranks =
+      subst (λ (ls : List Link). All (λ (l : Link). rank (graph_of p.raw) l.node < p.longest) ls) (sym (root-problem_of p))
+      (All-links_of (λ (l : Link). rank (graph_of p.raw) l.node < p.longest) p.raw.root p.raw.root_weights (root_counted p e)
+      (λ i h. root_low (get_or p.raw.root i 0) (root_there i h) (Contains-get_or p.raw.root i 0 h)))
+    where
+      root_there : (i : ℕ) → i < length p.raw.root → get_or p.raw.root i 0 < length p.raw.nodes
+      root_there i h = root_inside p i (get_or p.raw.root i 0) e (slice_get-get_or p.raw.root i 0 h)
+
+  module _ (decide : Deciding) (law : Lawful (problem_of p) (length p.raw.nodes) decide) where
+    abbrev pub tree : Grown Forest
+    tree = whole_tree decide (problem_of p) p.longest
+
+    abbrev pub costs : Result Walked Stop
+    costs = link_costs (tree_cost decide (problem_of p) p.longest (times_all S (problem_of p).initial)) (no_cost 0) (problem_of p).root
+
+    -- the verdict on the tree is that on its cost
+    same_upper : (w : Walked) (f : Forest) → IsPolicy (problem_of p) decide law.leaves p.longest w f → upper_of (problem_of p) f ≡ ceiling_over w.up (sum (link_weights (problem_of p).root) * w.under)
+    unfolding upper_of
+    same_upper w f h =
+        let c : Fraction = policy_cost (problem_of p) S f in
+        let q : ℕ = sum (link_weights (problem_of p).root) in
+        let some : 0 < q * w.under = mul-pos root_some (subst (λ (k : ℕ). 0 < k) (sym h.1) root_lcm_some) in
+        ceiling_same (c.up *ℤ pos S) w.up c.under (q * w.under) (positive_policy p S f e S_some) some
+        (ring (c.up ∷ pos S ∷ pos (q * w.under) ∷ []) (var 0 ⊗ var 1 ⊗ var 2) (var 0 ⊗ (var 1 ⊗ var 2)) tt ∙ h.0.crossed)
+
+    pub same_verdict : judged (problem_of p) (tree >>= λ f. Ok f.0) ≡ rounded (root_cost decide (problem_of p) p.longest)
+    same_verdict = by costs tree (policies_agree (problem_of p) decide law.leaves p.longest)
+      where
+        by : (a : Result Walked Stop) (b : Grown Forest) → Agree (IsPolicy (problem_of p) decide law.leaves p.longest) a b → judged (problem_of p) (b >>= λ f. Ok f.0) ≡ rounded (a >>= λ w. Ok (share (sum (link_weights (problem_of p).root)) w))
+        by (Ok w) (Ok f) h = ap (λ (u : ℤ). Ok (verdicts.Cost u)) (same_upper w f.0 h.1)
+        by (Ok w) (Err s) h = absurd h
+        by (Err s) (Ok f) h = absurd h
+        by (Err s) (Err u) h = subst (λ (u : Stop). judged (problem_of p) (Err u) ≡ rounded (Err s)) h (stops s)
+          where
+            stops : (s : Stop) → judged (problem_of p) (Err s) ≡ rounded (Err s)
+            stops (dead d) = refl
+            stops (missed m) = refl
+
+    -- where there is a cost, there is a policy, and the bound lies below
+    abbrev pub TwoSided : List (List Cut) → ℤ → Type 0
+    TwoSided pools upper = (f : Forest) × Policy (problem_of p) S f × IsUpper (problem_of p) f upper × (Sound (problem_of p) pools → bound (problem_of p) pools ≤ℤ upper)
+
+    policy_sides : (pools : List (List Cut)) → Fit (problem_of p) (length p.raw.nodes) pools → (f : Forest) → Policy (problem_of p) S f → TwoSided pools (upper_of (problem_of p) f)
+    policy_sides pools fit f policy =
+        let some = positive_policy p S f e S_some in
+        let upper = upper_is (problem_of p) f some in
+        (f, policy, upper, λ sound. under_upper (problem_of p) f (bound (problem_of p) pools) (upper_of (problem_of p) f) some (sound_bound (problem_of p) pools (root_shaped-sealed p e) (have_cuts-fit p pools e fit) sound S f S_some policy) upper)
+
+    pub two_sided : (pools : List (List Cut)) → Fit (problem_of p) (length p.raw.nodes) pools → (r : Result Verdict StageFault) → Gives r (judged (problem_of p) (tree >>= λ f. Ok f.0)) → OnCost r (TwoSided pools)
+    two_sided pools fit r g = by tree r (policy_feasible p e decide law p.longest root_ranks) g
+      where
+        cost_same : (x y : ℤ) (r : Result Verdict Dead) → r ≡ Ok (verdicts.Cost x) → r ≡ Ok (verdicts.Cost y) → x ≡ y
+        cost_same x y r e f = cc
+
+        no_cost_dead : (x : ℤ) (d : Dead) (r : Result Verdict Dead) → r ≡ Err d → r ≡ Ok (verdicts.Cost x) → ⊥
+        no_cost_dead x d r e f = cc
+
+        no_cost_missed : (x : ℤ) (m : Missed) (r : Result Verdict Dead) → r ≡ Ok (verdicts.Missed (reverse m.branches) m.row m.residual) → r ≡ Ok (verdicts.Cost x) → ⊥
+        no_cost_missed x m r e f = cc
+
+        by : (b : Grown Forest) (r : Result Verdict StageFault) → IfOk b (λ (f : Forest × ℕ). Policy (problem_of p) S f.0) → Gives r (judged (problem_of p) (b >>= λ f. Ok f.0)) → OnCost r (TwoSided pools)
+        by (Ok f) (Ok (verdicts.Cost u)) h g = subst (TwoSided pools) (cost_same (upper_of (problem_of p) f.0) u (Ok (verdicts.Cost (upper_of (problem_of p) f.0))) refl g) (policy_sides pools fit f.0 h)
+        by (Err (dead d)) (Ok (verdicts.Cost u)) h g = absurd (no_cost_dead u d (Err d) refl g)
+        by (Err (missed m)) (Ok (verdicts.Cost u)) h g = absurd (no_cost_missed u m (Ok (verdicts.Missed (reverse m.branches) m.row m.residual)) refl g)
+        by b (Ok (verdicts.Missed branches row residual)) h g = tt
+        by b (Err fault) h g = tt
+
+-- the same of what a solver decides
+module _ {Start Chain : Type 0} (v : Solving Start Chain) (p : Sealed) (e : is_sealed p ≡ true) (pools : List (List Cut)) where
+  verdict_by_tree : verdict_of v p pools ≡ judged (problem_of p) (whole_tree (decide_branch v p pools) (problem_of p) p.longest >>= λ f. Ok f.0)
+  unfolding verdict_of policy_tree
+  verdict_by_tree = refl
+
+  pub verdict_by_cost : verdict_of v p pools ≡ rounded (root_cost (decide_branch v p pools) (problem_of p) p.longest)
+  verdict_by_cost = verdict_by_tree ∙ same_verdict p e (decide_branch v p pools) (lawful v p pools e)
+
+  pub sides_by_verdict : Fit (problem_of p) (length p.raw.nodes) pools → (r : Result Verdict StageFault) → Gives r (verdict_of v p pools)
+      → OnCost r (λ upper. (f : Forest) × Policy (problem_of p) S f × IsUpper (problem_of p) f upper × (Sound (problem_of p) pools → bound (problem_of p) pools ≤ℤ upper))
+  sides_by_verdict fit r g = two_sided p e (decide_branch v p pools) (lawful v p pools e) pools fit r (subst (λ (x : Result Verdict Dead). Gives r x) verdict_by_tree g)

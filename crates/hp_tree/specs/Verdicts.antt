@@ -1,0 +1,47 @@
+-- What code that may run out of memory gives of a walk through the tree.
+use Rattle.std.specs.Prelude.{◌≡◌, ℤ, reverse, Result, Ok, Err}
+use Rattle.hp_num.specs.Steps.{GivesOr}
+use Rattle.hp_settle.specs.declared.judging.Dead.{Dead}
+use Rattle.hp_forward.specs.declared.deciding.StageFault.{StageFault}
+use Rattle.hp_forward.specs.declared.deciding.StageFault.TheVariants as stages
+use Rattle.hp_tree.specs.PolicyTree.{Stop, dead, missed}
+use Rattle.hp_tree.specs.Upper.{ceiling_over}
+use Rattle.hp_tree.specs.declared.costs.Walked.{Walked}
+use Rattle.hp_tree.specs.declared.walking.Verdict.{Verdict}
+use Rattle.hp_tree.specs.declared.walking.Verdict.TheVariants as verdicts
+use Rattle.hp_tree.specs.declared.walking.Fault.{Fault}
+use Rattle.hp_tree.specs.declared.walking.Fault.TheVariants as faults
+
+-- a fault of one stage
+abbrev pub fault_of : StageFault → Fault
+fault_of (stages.NoStage d) = faults.NoStage d
+fault_of stages.Memory = faults.Memory
+
+-- the stop that was defined; want of memory is free
+abbrev pub Stops : {A : Type 0} → Fault → Result A Stop → Type 0
+Stops (faults.NoStage d) defined = defined ≡ Err (dead d)
+Stops (faults.Missed m) defined = defined ≡ Err (missed m)
+Stops faults.Memory defined = Unit {0}
+
+-- what was defined, or the stop
+abbrev pub GivesWalk : {A : Type 0} → Result A Fault → Result A Stop → Type 0
+GivesWalk result defined = GivesOr Stops (λ x. x) result defined
+
+-- what holds of a refutation
+abbrev pub OnDead : {A : Type 0} → Result A Fault → (Dead → Type 0) → Type 0
+OnDead (Ok x) P = Unit {0}
+OnDead (Err (faults.NoStage d)) P = P d
+OnDead (Err (faults.Missed m)) P = Unit {0}
+OnDead (Err faults.Memory) P = Unit {0}
+
+-- the cost over its denominator, rounded up; or the branches from the root to the one that misses a row
+abbrev pub rounded : Result Walked Stop → Result Verdict Dead
+rounded (Ok w) = Ok (verdicts.Cost (ceiling_over w.up w.under))
+rounded (Err (dead d)) = Err d
+rounded (Err (missed m)) = Ok (verdicts.Missed (reverse m.branches) m.row m.residual)
+
+-- what holds of the cost of a policy from above
+abbrev pub OnCost : Result Verdict StageFault → (ℤ → Type 0) → Type 0
+OnCost (Ok (verdicts.Cost upper)) P = P upper
+OnCost (Ok (verdicts.Missed branches row residual)) P = Unit {0}
+OnCost (Err fault) P = Unit {0}

@@ -1,0 +1,118 @@
+// What is decided at one branch of the tree.
+ghost use Rattle.std.specs.Prelude.{◌≡◌, ◌<◌, ◌∷◌, [], ℕ, ℤ, length, true, Contains, IfOk, Option, Some, None};
+ghost use Rattle.hp_problem.specs.Limits.{are_values};
+ghost use Rattle.hp_problem.specs.Parts.{successors_at};
+ghost use Rattle.hp_problem.specs.Sealed.{subproblem_of};
+ghost use Rattle.hp_theory.specs.Fit.{Fit};
+ghost use Rattle.hp_theory.specs.Problem.{S, node_at};
+ghost use Rattle.hp_theory.specs.Tree.{InBox};
+ghost use Rattle.hp_theory.specs.View.{problem_of};
+ghost use Rattle.hp_lp.specs.Chained.{solving};
+ghost use Rattle.hp_lp.specs.Ready.{AreReady};
+ghost use Rattle.hp_forward.specs.Costing.{residuals_of};
+ghost use Rattle.hp_forward.specs.Given.{IsStateAt, Refutes};
+ghost use Rattle.hp_tree.specs.PolicyTree.{decide_branch, first_missed, unless_missed};
+ghost use Rattle.hp_tree.specs.Verdicts.{GivesWalk, OnDead};
+
+use crate::walking::{Fault, Missed};
+use hp_cut::Pools;
+use hp_forward::{Decided, StageFault, decide, residual};
+use hp_lp::Starts;
+use hp_num::{List, Memory};
+use hp_problem::Problem;
+use hp_sampler::Step;
+use hp_solver::Solver;
+use std::alloc::Global;
+
+/// The number of rows of a node.
+fn row_count(problem: &Problem, node: u32) -> u32
+    requires { node < length problem.now.raw.nodes }
+    ensures { result ≡ length (node_at (problem_of problem.now) node).rows }
+{
+    let _ = problem.raw();
+    problem.sub(node).rows.len() as u32
+}
+
+/// The first row that decisions miss, and by how much.
+fn first_missed(
+    problem: &Problem,
+    node: u32,
+    decisions: &[i128],
+    state: &[i128],
+    values: &[i64],
+) -> Option<(u32, i128)>
+    requires known { node < length problem.now.raw.nodes }
+    requires decisions { InBox S (node_at (problem_of problem.now) node).decision_low (node_at (problem_of problem.now) node).decision_high decisions.now }
+    requires state { IsStateAt problem.now node state.now }
+    requires values { are_values (subproblem_of problem.now node) values.now ≡ true }
+    ensures { result ≡ first_missed 0 (residuals_of (node_at (problem_of problem.now) node) decisions.now state.now values.now) }
+{
+    for row in 0..row_count(problem, node) {
+        let residual = residual(problem, node, row, decisions, state, values);
+        if residual != 0 {
+            return Some((row, residual));
+        }
+    }
+    None
+}
+
+/// What is decided, unless a row is missed.
+fn unless_missed(
+    alloc: Global,
+    step: Step,
+    missed: Option<(u32, i128)>,
+    decided: Decided,
+) -> Result<Decided, Fault>
+    ensures { GivesWalk result (unless_missed step missed decided) }
+{
+    match missed {
+        None => Ok(decided),
+        Some((row, residual)) => {
+            let mut branches = List::new(alloc);
+            branches.push(step)?;
+            Err(Fault::Missed(Missed {
+                branches,
+                row,
+                residual,
+            }))
+        }
+    }
+}
+
+/// What is decided at a branch, after so many others.
+#[tactic(auto, unfolding(crate::specs::PolicyTree::decide_branch))]
+pub(crate) fn decide_branch<V: Solver>(
+    alloc: Global,
+    problem: &Problem,
+    pools: &Pools,
+    solver: &V,
+    starts: &Starts<V>,
+    run: u32,
+    step: Step,
+    values: &[i64],
+    state: &[i128],
+) -> Result<Decided, Fault>
+    requires known { step.node < length problem.now.raw.nodes }
+    requires values { are_values (subproblem_of problem.now step.node) values.now ≡ true }
+    requires state { IsStateAt problem.now step.node state.now }
+    requires fit { Fit (problem_of problem.now) (length problem.now.raw.nodes) pools.now.lists }
+    requires ready { AreReady (V.started solver.now) (V.suits solver.now) problem.now starts.now.items }
+    ensures value { GivesWalk result (decide_branch (solving (V.started solver.now) (V.begun solver.now) (V.next solver.now)) problem.now pools.now.lists run step values.now state.now) }
+    ensures inside { let n = node_at (problem_of problem.now) step.node in
+        IfOk result (λ d. InBox S n.decision_low n.decision_high d.decisions) }
+    ensures next { IfOk result (λ d. (m : ℕ) → Contains (successors_at problem.now.raw step.node) m
+        → IsStateAt problem.now m d.next) }
+    ensures dead { OnDead result (Refutes problem.now) }
+{
+    let decided = decide(
+        alloc, problem, pools, solver, starts, run, step.node, values, state,
+    )?;
+    let missed = first_missed(
+        problem,
+        step.node,
+        decided.decisions.as_slice(),
+        state,
+        values,
+    );
+    unless_missed(alloc, step, missed, decided)
+}

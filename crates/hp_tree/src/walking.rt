@@ -1,0 +1,64 @@
+// The walk through the tree of the policy.
+ghost use Rattle.std.specs.Prelude.{◌≡◌};
+ghost use Rattle.hp_forward.specs.declared.deciding.StageFault.TheVariants as stages;
+ghost use Rattle.hp_tree.specs.declared.walking.Fault.TheVariants as faults;
+ghost use Rattle.hp_tree.specs.Verdicts.{fault_of};
+
+use hp_forward::StageFault;
+use hp_num::{List, Memory};
+use hp_sampler::Step;
+use hp_settle::Dead;
+
+/// What the whole policy costs, or where it misses a row.
+#[derive(Drop)]
+pub enum Verdict {
+    /// Each branch meets its rows.
+    Cost {
+        /// The least whole number at scale 2^24 that is not below the cost of the policy.
+        upper: i128,
+    },
+    /// A branch misses a row.
+    Missed {
+        /// The nodes and realizations from the root to the first branch that misses a row.
+        branches: List<Step>,
+        /// The number of the first row that it misses.
+        row: u32,
+        /// By how much it misses that row, at scale 2^24.
+        residual: i128,
+    },
+}
+
+// Where a branch misses a row: the branches from it back to the root, the row and its residual.
+#[derive(Drop)]
+pub(crate) struct Missed {
+    pub(crate) branches: List<Step>,
+    pub(crate) row: u32,
+    pub(crate) residual: i128,
+}
+
+// Why a walk ends before its end.
+#[derive(Drop)]
+pub(crate) enum Fault {
+    NoStage(Dead),
+    Missed(Missed),
+    Memory,
+}
+
+impl From<Memory> for Fault {
+    ghost from_gives = { λ _ e. e ≡ faults.Memory };
+
+    fn from(_: Memory) -> Self {
+        Fault::Memory
+    }
+}
+
+impl From<StageFault> for Fault {
+    ghost from_gives = { λ f e. e ≡ fault_of f };
+
+    fn from(fault: StageFault) -> Self {
+        match fault {
+            StageFault::NoStage(dead) => Fault::NoStage(dead),
+            StageFault::Memory => Fault::Memory,
+        }
+    }
+}

@@ -1,0 +1,12 @@
+// Rows that were worked out by hand, over one reservoir and one thermal plant.
+ghost use Rattle.std.specs.Prelude.{◌≡◌, pos, [], ◌∷◌};
+ghost use Rattle.hp_theory.specs.Examples.{policy_of, reservoir_problem};
+ghost use Rattle.hp_theory.specs.Tree.{branch, no_branch, no_tree};
+ghost use Rattle.hp_tree.specs.Upper.{upper_of};
+
+/// From volume 4, stages that cost 20 at inflow 1 and 10 at inflow 3 make 15 on average, and a third of 40 where inflow 3
+/// weighs twice: that is rounded up.
+pub fn worked_rows()
+    ensures even { upper_of (reservoir_problem 1) (policy_of (branch (pos 0 ∷ pos 83886080 ∷ pos 67108864 ∷ []) no_tree (branch (pos 0 ∷ pos 117440512 ∷ pos 33554432 ∷ []) no_tree no_branch))) ≡ pos 251658240 }
+    ensures uneven { upper_of (reservoir_problem 2) (policy_of (branch (pos 0 ∷ pos 83886080 ∷ pos 67108864 ∷ []) no_tree (branch (pos 0 ∷ pos 117440512 ∷ pos 33554432 ∷ []) no_tree no_branch))) ≡ pos 223696214 }
+{}
