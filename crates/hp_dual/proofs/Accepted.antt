@@ -1,5 +1,5 @@
 -- An accepted list of certificates is right, and its size is in range.
-use Rattle.std.proofs.Common.{◌≡◌, ℕ, zero, suc, ◌+◌, ◌*◌, ◌<◌, ◌≤◌, ◌-◌, ◌^◌, ℤ, pos, negsuc, ◌≤ℤ◌, Bool, true, false, ◌==◌, if◌then◌else◌, List, [], ◌∷◌, length, get_or, zip, min, All, IsSome, Option, Some, None, refl, arith}
+use Rattle.std.proofs.Common.{◌≡◌, ℕ, zero, suc, ◌+◌, ◌*◌, ◌<◌, ◌≤◌, ◌-◌, ◌^◌, ℤ, pos, negsuc, ◌≤ℤ◌, Bool, true, false, ◌==◌, if◌then◌else◌, List, [], ◌∷◌, length, get_or, zip, min, All, IsSome, Option, Some, None, refl, ap, ◌∙◌, arith}
 use Rattle.std.specs.Prelude.{is_some}
 use Rattle.std.specs.Option.{option_map}
 use Rattle.std.proofs.lemmas.Grind.{common_steps}
@@ -16,7 +16,7 @@ use Rattle.hp_theory.specs.Range.{range_of}
 use Rattle.hp_theory.proofs.Ranges.{within-range_of}
 use Rattle.hp_dual.specs.declared.fault.CertFault.{CertFault}
 use Rattle.hp_dual.specs.declared.fault.CertFault.TheVariants.{Shape, Sign, Cutless, Sum, Range}
-use Rattle.hp_dual.specs.Acceptance.{or_then, is_shaped, first_unshaped, shape_fault, is_sign, sign_fault, is_pair, pair_fault, sum_fault, links_fault, certificates_fault, range_fault, fault_of}
+use Rattle.hp_dual.specs.Acceptance.{or_then, is_shaped, first_unshaped, shape_fault, is_sign, sign_fault, is_pair, pair_fault, sum_fault, links_fault, certificates_fault, right_fault, range_fault, fault_of}
 
 -- a fault that is not there
 pub none-or_then : (a b : Option CertFault) → or_then a b ≡ None → (a ≡ None) × (b ≡ None)
@@ -164,15 +164,19 @@ module _ (pools : List (List Cut)) (n : Node) (list : List Certificate) (e : fau
   pub size-fault_of : size_of pools n list ≤ℤ pos (2 ^ 127 - 1)
   size-fault_of = within-range_of pools n list (none-option_map (range_of pools n list) none-rest.1)
 
--- the first fault, walk by walk
-module _ (pools : List (List Cut)) (n : Node) (list : List Certificate) where
-  pub fault-shape : (f : CertFault) → shape_fault n list ≡ Some f → fault_of pools n list ≡ Some f
-  unfolding fault_of
-  fault-shape f e = rw e refl
+-- the first fault: that before the size, or the size's
+or_then-or_then : (a b c : Option CertFault) → or_then a (or_then b c) ≡ or_then (or_then a b) c
+or_then-or_then None b c = refl
+or_then-or_then (Some f) b c = refl
 
-  pub fault-certificates : (f : CertFault) → shape_fault n list ≡ None → certificates_fault pools n 0 list ≡ Some f → fault_of pools n list ≡ Some f
+module _ (pools : List (List Cut)) (n : Node) (list : List Certificate) where
+  pub fault-right : (f : CertFault) → right_fault pools n list ≡ Some f → fault_of pools n list ≡ Some f
   unfolding fault_of
-  fault-certificates f e h = rw (e, h) refl
+  fault-right f e = or_then-or_then (shape_fault n list) (certificates_fault pools n 0 list) (range_fault pools n list) ∙ ap (λ (o : Option CertFault). or_then o (range_fault pools n list)) e
+
+  pub fault-size : right_fault pools n list ≡ None → fault_of pools n list ≡ range_fault pools n list
+  unfolding fault_of
+  fault-size e = or_then-or_then (shape_fault n list) (certificates_fault pools n 0 list) (range_fault pools n list) ∙ ap (λ (o : Option CertFault). or_then o (range_fault pools n list)) e
 
   pub fault-range : shape_fault n list ≡ None → certificates_fault pools n 0 list ≡ None → fault_of pools n list ≡ range_fault pools n list
   unfolding fault_of

@@ -89,6 +89,14 @@ module _ (pools : List (List Cut)) (n : Node) where
       (some_rows n c (λ row y. magnitude (side row y) +ℤ terms_size row.randoms (entry values)) (λ row y. some_add (magnitude (side row y)) (terms_size row.randoms (entry values)) (some_magnitude (side row y)) (some_terms row.randoms (entry values))))))
       (some_pairs pools n c (λ cut. magnitude cut.alpha) (λ cut. some_magnitude cut.alpha)))))
 
+  -- d_j times the ends of its box, where the terms of its realization are in range
+  pub reduced_of_terms : (values : List ℤ) (c : Certificate) → (alpha_size pools n values c +ℤ sum_to (length n.low) (λ k. reach n.low n.high k *ℤ beta_size n c k)) ≤ℤ pos (2 ^ 127 - 1)
+      → (j : ℕ) → j < length n.costs → (reach n.decision_low n.decision_high j *ℤ magnitude (reduced_cost pools n c j)) ≤ℤ pos (2 ^ 127 - 1)
+  reduced_of_terms values c small j h =
+      let states : ℤ = sum_to (length n.low) (λ k. reach n.low n.high k *ℤ beta_size n c k) in
+      le_trans (reach n.decision_low n.decision_high j *ℤ magnitude (reduced_cost pools n c j)) (alpha_size pools n values c) (pos (2 ^ 127 - 1)) (reduced_of_one values c j h)
+      (le_trans (alpha_size pools n values c) (alpha_size pools n values c +ℤ states) (pos (2 ^ 127 - 1)) (first_part (alpha_size pools n values c) states (sum_some (length n.low) (λ k. reach n.low n.high k *ℤ beta_size n c k) (some_states c))) small)
+
   module _ (list : List Certificate) (z : 0 < divisor n) (small : size_of pools n list ≤ℤ pos (2 ^ 127 - 1)) where
     realizations_in : total (realization_size pools n) (zip n.realizations list) ≤ℤ pos (2 ^ 127 - 1)
     realizations_in = le_trans (total (realization_size pools n) (zip n.realizations list)) (size_of pools n list) (pos (2 ^ 127 - 1)) (first_part (total (realization_size pools n) (zip n.realizations list)) (remainder_size n list) (some_remainder n list z)) small

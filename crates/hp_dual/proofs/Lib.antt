@@ -16,6 +16,8 @@ pub mod SizeRange
 pub mod SizeWhole
 pub mod Tables
 pub mod Weighted
+pub mod Sharing
+pub mod Reweighted
 pub mod Viewed
 pub mod InSize
 pub mod Divisor

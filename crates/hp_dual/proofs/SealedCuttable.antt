@@ -51,7 +51,7 @@ row_randoms s states row e = grind (arith, nat_tests)
 below : (k count : ℕ) → nat_lt k count ≡ true → k < count
 below k count h = grind (arith, nat_tests)
 
-limited-sealed : (p : Sealed) (m : ℕ) (n : nodes.Node) (s : Subproblem) (low high : List ℤ) → is_sealed p ≡ true → PartsFit p m n s low high → Limited n s
+pub limited-sealed : (p : Sealed) (m : ℕ) (n : nodes.Node) (s : Subproblem) (low high : List ℤ) → is_sealed p ≡ true → PartsFit p m n s low high → Limited n s
 limited-sealed p m n s low high e fit =
     let states : ℕ = length p.raw.states in
     let l = linked n (length p.raw.nodes) fit.links in
@@ -68,7 +68,7 @@ limited-sealed p m n s low high e fit =
     }
 
 -- pairs that are right are in the pools
-pairs_there : (pools : List (List Cut)) (ms ws : List ℕ) (cuts : List (List (ℕ × ℕ))) → length ws ≡ length ms → All (PairsRight pools) (zip (links_of ms ws) cuts) → PairsThere pools ms cuts
+pub pairs_there : (pools : List (List Cut)) (ms ws : List ℕ) (cuts : List (List (ℕ × ℕ))) → length ws ≡ length ms → All (PairsRight pools) (zip (links_of ms ws) cuts) → PairsThere pools ms cuts
 pairs_there pools [] ws cuts e h = All-nil (λ (q : ℕ × List (ℕ × ℕ)). All (λ (s : ℕ × ℕ). s.0 < length (pool pools q.0)) q.1)
 pairs_there pools (m ∷ ms) [] cuts e h = absurd (omega arith)
 pairs_there pools (m ∷ ms) (w ∷ ws) [] e h = All-nil (λ (q : ℕ × List (ℕ × ℕ)). All (λ (s : ℕ × ℕ). s.0 < length (pool pools q.0)) q.1)
@@ -96,7 +96,7 @@ module _ (n : nodes.Node) (s : Subproblem) (low high : List ℤ) (ws : List ℕ)
       subst (λ (d : ℤ). (reach (lows s) (highs s) j *ℤ magnitude d) ≤ℤ pos (2 ^ 127 - 1)) (reduced-node_of n s low high pools own limits.links j)
       (reduced_in pools (with_weights ws (node_of n s low high)) list some_divisor size right.count positive_weights i c h j (subst (λ (m : ℕ). j < m) (sym (length-map s.decisions (λ (d : Decision). d.cost))) k))
 
-  cuttable : length low ≡ length s.state_costs → Right pools (with_weights ws (node_of n s low high)) list → size_of pools (with_weights ws (node_of n s low high)) list ≤ℤ pos (2 ^ 127 - 1) → Cuttable pools n s low ws list
+  pub cuttable : length low ≡ length s.state_costs → Right pools (with_weights ws (node_of n s low high)) list → size_of pools (with_weights ws (node_of n s low high)) list ≤ℤ pos (2 ^ 127 - 1) → Cuttable pools n s low ws list
   unfolding node_of
   cuttable states right size = record {
     limits = limits;

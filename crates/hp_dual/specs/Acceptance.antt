@@ -64,6 +64,10 @@ certificates_fault pools n r [] = None
 certificates_fault pools n r (c ∷ cs) =
     or_then (sign_fault r 0 (zip n.rows c.rows)) (or_then (links_fault pools r 0 (zip n.links c.cuts)) (certificates_fault pools n (suc r) cs))
 
+-- the first fault before the size: shapes, then signs, pairs and sums by realization
+abbrev pub right_fault : List (List Cut) → Node → List Certificate → Option CertFault
+right_fault pools n list = or_then (shape_fault n list) (certificates_fault pools n 0 list)
+
 -- the size passes 2^127 - 1
 abbrev pub range_fault : List (List Cut) → Node → List Certificate → Option CertFault
 range_fault pools n list = option_map Range (range_of pools n list)

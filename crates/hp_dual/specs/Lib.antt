@@ -6,3 +6,5 @@ pub mod Tabled
 pub mod Parts
 pub mod SizeByTerms
 pub mod Sized
+pub mod Reweighting
+pub mod Shares

@@ -77,7 +77,7 @@ fn base_certificate(alloc: Global, node: &Node, sub: &Subproblem) -> Result<Cert
 }
 
 /// A cut of so many slopes, all 0.
-fn no_slopes(alloc: Global, states: usize) -> Result<Cut, Memory>
+pub(crate) fn no_slopes(alloc: Global, states: usize) -> Result<Cut, Memory>
     ensures { IfOk result (λ cut. length cut.beta ≡ states) }
 {
     let mut beta = List::new(alloc);

@@ -8,5 +8,8 @@ mod slopes;
 mod sums;
 mod wrapping;
 
+pub(crate) use divided::write_cut_of;
 pub(crate) use repeated::write_repeated_cut;
 pub(crate) use slopes::{repeated_slope_sums, slope_sums};
+pub(crate) use sums::{constant_over, fixed_constant};
+pub(crate) use wrapping::wrapping_add_product;

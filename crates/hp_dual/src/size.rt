@@ -6,5 +6,6 @@ mod rows;
 mod stages;
 mod terms;
 
-pub(crate) use range::range_with;
+pub(crate) use range::{range_with, remainders_range};
 pub(crate) use repeated::repeated_range;
+pub(crate) use stages::realization_size;

@@ -12,7 +12,7 @@ ghost use Rattle.hp_theory.specs.Size.{size_of};
 ghost use Rattle.hp_theory.specs.Base.{base_list};
 ghost use Rattle.hp_theory.specs.Fit.{FitFor};
 ghost use Rattle.hp_dual.specs.Sized.{Sized};
-ghost use Rattle.hp_dual.specs.Acceptance.{range_fault, fault_of, Accepts};
+ghost use Rattle.hp_dual.specs.Acceptance.{right_fault, range_fault, fault_of, Accepts};
 
 use super::walk::{check_certificates, check_count};
 use crate::fault::CertFault;
@@ -36,12 +36,12 @@ fn check_range(here: &NodeAt, list: &[Certificate]) -> Result<(), CertFault>
     }
 }
 
-/// The first fault over the parts of a node.
-fn check(here: &NodeAt, list: &[Certificate]) -> Result<(), CertFault>
+/// The first fault before the size: shapes, then signs, pairs and sums by realization.
+pub(crate) fn check_right(here: &NodeAt, list: &[Certificate]) -> Result<(), CertFault>
     ghost n: { problems.Node }
     requires is { n ≡ with_weights here.now.weights.now (node_of here.now.node.now here.now.subproblem.now here.now.low.now here.now.high.now) }
     requires sized { Sized here.now.pools.now.lists here.now.node.now here.now.subproblem.now here.now.low.now here.now.weights.now }
-    ensures { Accepts result (fault_of here.now.pools.now.lists n list.now) }
+    ensures { Accepts result (right_fault here.now.pools.now.lists n list.now) }
 {
     check_count(
         here.weights.len(),
@@ -49,7 +49,17 @@ fn check(here: &NodeAt, list: &[Certificate]) -> Result<(), CertFault>
         here.node.links.len(),
         list,
     )?;
-    check_certificates(here, list)?;
+    check_certificates(here, list)
+}
+
+/// The first fault over the parts of a node.
+fn check(here: &NodeAt, list: &[Certificate]) -> Result<(), CertFault>
+    ghost n: { problems.Node }
+    requires is { n ≡ with_weights here.now.weights.now (node_of here.now.node.now here.now.subproblem.now here.now.low.now here.now.high.now) }
+    requires sized { Sized here.now.pools.now.lists here.now.node.now here.now.subproblem.now here.now.low.now here.now.weights.now }
+    ensures { Accepts result (fault_of here.now.pools.now.lists n list.now) }
+{
+    check_right(here, list)?;
     check_range(here, list)
 }
 

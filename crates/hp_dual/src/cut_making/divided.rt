@@ -60,7 +60,7 @@ fn write_slopes(here: &NodeAt, sums: &[i128], under: i128, slopes: &mut List<i12
 }
 
 /// Writes the cut of a list of certificates from A and B, modulo 2^128, where its sums are in range.
-pub(super) fn write_cut_of(here: &NodeAt, constant: i128, sums: &[i128], cut: &mut Cut)
+pub(crate) fn write_cut_of(here: &NodeAt, constant: i128, sums: &[i128], cut: &mut Cut)
     requires sized { Sized here.now.pools.now.lists here.now.node.now here.now.subproblem.now here.now.low.now here.now.weights.now }
     requires slopes { length cut.old.beta ≡ length here.now.low.now }
     requires table { length sums.now ≡ 50 }

@@ -29,7 +29,7 @@ fn least_sum(scale: i128, here: &NodeAt, certificate: &Certificate) -> i128
 }
 
 /// The part of A_r that is the same at all values: its pairs and its decisions, modulo 2^128.
-pub(super) fn fixed_constant(scale: i128, here: &NodeAt, certificate: &Certificate) -> i128
+pub(crate) fn fixed_constant(scale: i128, here: &NodeAt, certificate: &Certificate) -> i128
     requires limits { Limited here.now.node.now here.now.subproblem.now }
     requires known { All (λ m. m < length here.now.pools.now.lists) here.now.node.now.links }
     requires there { PairsThere here.now.pools.now.lists here.now.node.now.links certificate.now.cuts }
@@ -47,7 +47,7 @@ pub(super) fn fixed_constant(scale: i128, here: &NodeAt, certificate: &Certifica
 }
 
 /// A_r, modulo 2^128, over its fixed part.
-pub(super) fn constant_over(
+pub(crate) fn constant_over(
     fixed: i128,
     scale: i128,
     here: &NodeAt,

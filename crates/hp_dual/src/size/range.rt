@@ -68,7 +68,7 @@ fn plus_remainders(size: Size, here: &NodeAt, sums: &[i128]) -> Option<Size>
 
 /// Where the sizes of the realizations are in range: their number where the remainders of the slopes bring the sum above
 /// 2^127 - 1, and else none. B is given modulo 2^128.
-pub(super) fn remainders_range(size: Size, here: &NodeAt, sums: &[i128]) -> Option<usize>
+pub(crate) fn remainders_range(size: Size, here: &NodeAt, sums: &[i128]) -> Option<usize>
     requires sized { Sized here.now.pools.now.lists here.now.node.now here.now.subproblem.now here.now.low.now here.now.weights.now }
     requires table { length sums.now ≡ 50 }
     ensures { (list : List Certificate) → length list ≡ length here.now.weights.now → Tabled (beta_sum (unboxed here.now.weights.now here.now.node.now here.now.subproblem.now) list) sums.now

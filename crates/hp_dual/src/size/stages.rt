@@ -113,7 +113,7 @@ pub(super) fn realization_over(
 }
 
 /// All of a realization, without its weight.
-pub(super) fn realization_size(
+pub(crate) fn realization_size(
     here: &NodeAt,
     values: &[i64],
     certificate: &Certificate,

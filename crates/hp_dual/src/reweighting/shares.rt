@@ -1,0 +1,70 @@
+// What of a list of certificates no weight changes.
+ghost use Rattle.std.specs.Prelude.{◌≡◌, ◌^◌, ◌<◌, ◌≤◌, List, [], length, min, sum, All, IfOk};
+ghost use Rattle.hp_theory.specs.declared.cut.Certificate.{Certificate};
+ghost use Rattle.hp_theory.specs.CutOf.{scale};
+ghost use Rattle.hp_theory.specs.View.{node_of};
+ghost use Rattle.hp_dual.specs.Congruent.{Congruent};
+ghost use Rattle.hp_dual.specs.Parts.{Limited, PairsThere, constant_at};
+ghost use Rattle.hp_dual.specs.Shares.{Shares};
+ghost use Rattle.hp_dual.specs.Sized.{Sized};
+ghost use Rattle.hp_dual.specs.SizeByTerms.{certificate_amount};
+
+use crate::cut_making::{constant_over, fixed_constant};
+use crate::node_at::NodeAt;
+use crate::scales::scale;
+use crate::size::realization_size;
+use hp_num::{List, Memory};
+use hp_theory::Certificate;
+use std::alloc::Global;
+
+/// What of a realization's certificate its weight does not change.
+#[derive(Clone, Copy)]
+pub struct Share {
+    /// All its terms in absolute value, 2^127 where they are more.
+    pub size: u128,
+    /// A_r modulo 2^128 where the size is below 2^127, else 0.
+    pub constant: i128,
+}
+
+fn share_of(here: &NodeAt, values: &[i64], certificate: &Certificate) -> Share
+    requires limits { Limited here.now.node.now here.now.subproblem.now }
+    requires sized { Sized here.now.pools.now.lists here.now.node.now here.now.subproblem.now here.now.low.now here.now.weights.now }
+    requires there { PairsThere here.now.pools.now.lists here.now.node.now.links certificate.now.cuts }
+    requires values { length values.now ≡ length here.now.subproblem.now.randoms }
+    ensures size { result.size ≡ min (certificate_amount here.now.node.now here.now.subproblem.now here.now.low.now here.now.high.now here.now.pools.now.lists (values.now, certificate.now)) (2 ^ 127) }
+    ensures constant { result.size < 2 ^ 127 → Congruent result.constant (constant_at (scale (node_of here.now.node.now here.now.subproblem.now [] [])) here.now.pools.now.lists here.now.node.now here.now.subproblem.now values.now certificate.now) }
+{
+    let Some(size) = realization_size(here, values, certificate) else {
+        return Share {
+            size: 1 << 127,
+            constant: 0,
+        };
+    };
+    let scale = scale(here.node);
+    let fixed = fixed_constant(scale, here, certificate);
+    let constant = constant_over(fixed, scale, here, values, certificate);
+    Share {
+        size: size.total(),
+        constant,
+    }
+}
+
+/// The shares of all realizations.
+pub(super) fn all_shares(
+    alloc: Global,
+    here: &NodeAt,
+    list: &[Certificate],
+) -> Result<List<Share>, Memory>
+    requires limits { Limited here.now.node.now here.now.subproblem.now }
+    requires sized { Sized here.now.pools.now.lists here.now.node.now here.now.subproblem.now here.now.low.now here.now.weights.now }
+    requires there { All (λ (c : Certificate). PairsThere here.now.pools.now.lists here.now.node.now.links c.cuts) list.now }
+    requires list { length list.now ≡ length here.now.node.now.values }
+    ensures { IfOk result (Shares here.now.pools.now.lists here.now.node.now here.now.subproblem.now here.now.low.now here.now.high.now list.now) }
+{
+    let values = here.node.values.as_slice();
+    let mut found = List::new(alloc);
+    for r in 0..list.len() {
+        found.push(share_of(here, values[r].as_slice(), &list[r]))?;
+    }
+    Ok(found)
+}
