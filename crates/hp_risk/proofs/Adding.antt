@@ -1,5 +1,5 @@
 -- Planes of steps, entries and records, as the loops add them.
-use Rattle.std.proofs.Common.{◌≡◌, ℕ, zero, suc, ◌+◌, ◌<◌, ◌≤◌, true, List, [], ◌∷◌, ◌++◌, length, get_or, nat_lt, All, Contains, replicate, IfOk, Result, Ok, Err, refl, sym, subst, ap, ◌∙◌, arith}
+use Rattle.std.proofs.Common.{◌≡◌, ℕ, zero, suc, ◌<◌, true, List, [], ◌∷◌, ◌++◌, length, get_or, nat_lt, All, Contains, replicate, IfOk, Result, Ok, Err, subst, arith}
 use Rattle.std.specs.List.{AllByRecursion, list_all}
 use Rattle.std.proofs.lemmas.Bool.Decides.{nat_tests}
 use Rattle.std.proofs.lemmas.List.{length-map}
@@ -12,7 +12,6 @@ use Rattle.hp_problem.specs.declared.raw.Raw.{Raw}
 use Rattle.hp_problem.specs.Limits.{root_fits}
 use Rattle.hp_problem.specs.Sealed.{Sealed, is_sealed, graph_of}
 use Rattle.hp_problem.proofs.SealedFacts.{raw-is_sealed, root-raw_fits, known_graph}
-use Rattle.hp_theory.specs.declared.cut.Cut.{Cut}
 use Rattle.hp_theory.specs.Problem.{node_at}
 use Rattle.hp_theory.specs.Base.{base_list}
 use Rattle.hp_theory.specs.Bound.{bound}

@@ -1,5 +1,5 @@
 -- The base certificates that are made are those of the node.
-use Rattle.std.proofs.Common.{◌≡◌, ℕ, ◌*◌, ◌<◌, ℤ, pos, true, List, [], ◌∷◌, length, map, Option, Some, slice_get, refl, sym, ap, ◌∙◌, arith}
+use Rattle.std.proofs.Common.{◌≡◌, ℕ, ◌*◌, ℤ, pos, true, List, [], ◌∷◌, length, map, Some, slice_get, refl, sym, ap, ◌∙◌, arith}
 use Rattle.hp_problem.specs.declared.raw.Row.{Row}
 use Rattle.hp_problem.specs.declared.raw.Node as nodes
 use Rattle.hp_problem.specs.declared.raw.Subproblem.{Subproblem}

@@ -1,16 +1,14 @@
 -- What planes keep: each fits, and each holds as the lists of weights ask.
-use Rattle.std.proofs.Common.{◌≡◌, ℕ, zero, suc, ◌+◌, ◌<◌, ◌≤◌, Bool, true, false, nat_lt, List, [], ◌∷◌, ◌++◌, length, get_or, sum, All, Option, Some, None, Ok, Contains, refl, sym, ap, subst, ◌∙◌, arith}
-use Rattle.std.specs.List.{AllByRecursion}
+use Rattle.std.proofs.Common.{◌≡◌, ℕ, zero, suc, ◌+◌, ◌<◌, ◌≤◌, Bool, true, false, nat_lt, List, [], ◌∷◌, ◌++◌, length, get_or, sum, All, Some, None, Ok, refl, sym, subst, ◌∙◌, arith}
 use Rattle.std.proofs.lemmas.Bool.Decides.{nat_tests}
 use Rattle.std.proofs.lemmas.List.{length-set}
 use Rattle.std.proofs.lemmas.List.Sums.{sum_by-cons}
 use Rattle.std.proofs.lemmas.List.Elements.{All-nil, All-push, All-head}
 use Rattle.std.proofs.lemmas.Option.{slice_get_past}
-use Rattle.hp_problem.specs.declared.raw.Raw.{Raw}
 use Rattle.hp_problem.specs.Sealed.{Sealed, is_sealed}
 use Rattle.hp_theory.specs.declared.cut.Cut.{Cut}
 use Rattle.hp_theory.specs.declared.cut.Certificate.{Certificate}
-use Rattle.hp_theory.specs.Problem.{Realization, Node, Problem, no_node, node_at, weight_of_realizations, realization_weight, successor_weight, with_weights}
+use Rattle.hp_theory.specs.Problem.{Realization, Node, Problem, node_at, weight_of_realizations, realization_weight, successor_weight, with_weights}
 use Rattle.hp_theory.specs.Pools.{pool, push}
 use Rattle.hp_theory.specs.CutOf.{cut_of}
 use Rattle.hp_theory.specs.Fit.{CutFits, Fit}
@@ -22,7 +20,8 @@ use Rattle.hp_theory.proofs.Views.{node_at-past}
 use Rattle.hp_dual.proofs.Accepted.{right-fault_of, size-fault_of}
 use Rattle.hp_dual.specs.Acceptance.{fault_of}
 use Rattle.hp_risk.specs.declared.alternatives.Alternatives.{Alternatives}
-use Rattle.hp_risk.specs.Listed.{lists_at, Weighs, Listed}
+use Rattle.hp_dual.specs.Reweighting.{Weighs}
+use Rattle.hp_risk.specs.Listed.{lists_at, Listed}
 use Rattle.hp_risk.specs.Planes.{plane_of, plane_added}
 use Rattle.hp_risk.specs.RiskCost.{Weighty, RiskHolds, RiskSound}
 use Rattle.hp_risk.proofs.Planned.{plane_has, added_plane}

@@ -1,5 +1,5 @@
 -- Where each node lists its own weights alone, nothing changes.
-use Rattle.std.proofs.Common.{◌≡◌, ℕ, ◌+◌, ◌<◌, ℤ, List, [], ◌∷◌, length, map, sum, get_or, zip, All, Option, Some, None, refl, sym, ap, ap₂, ◌∙◌, if◌then◌else◌, arith}
+use Rattle.std.proofs.Common.{◌≡◌, ℕ, ◌+◌, ◌<◌, ℤ, List, [], ◌∷◌, length, map, sum, get_or, zip, All, Option, Some, None, refl, ap, ap₂, ◌∙◌, if◌then◌else◌, arith}
 use Rattle.std.specs.Prelude.{is_none}
 use Rattle.std.proofs.lemmas.List.Sums.{sum_by-cons}
 use Rattle.hp_num.proofs.Sums.{All_head, All_tail}
@@ -11,15 +11,16 @@ use Rattle.hp_theory.specs.Cost.{stage, cost, cost_sum, costs_of, policy_cost}
 use Rattle.hp_theory.specs.Fraction.{Fraction, plus, times, over, weighted}
 use Rattle.hp_theory.specs.Pools.{pool}
 use Rattle.hp_theory.specs.Premises.{Known}
-use Rattle.hp_theory.specs.Problem.{Realization, Link, Node, Problem, node_at, link_weights, weight_of_realizations, realization_weight, successor_weight, reweighted, with_weights}
+use Rattle.hp_theory.specs.Problem.{Realization, Link, Node, Problem, node_at, link_weights, weight_of_realizations, successor_weight, reweighted, with_weights}
 use Rattle.hp_theory.specs.Tree.{next_state, times_all, Tree, Forest, no_branch, branch, no_tree, tree}
 use Rattle.hp_theory.proofs.GivenWeights.{right_with_weights}
 use Rattle.hp_dual.specs.declared.fault.CertFault.{CertFault}
+use Rattle.hp_dual.specs.Reweighting.{cut_with}
 use Rattle.hp_dual.specs.Acceptance.{fault_of, range_fault}
 use Rattle.hp_dual.proofs.Accepted.{right-fault_of}
 use Rattle.hp_dual.proofs.Faultless.{right-range_fault}
-use Rattle.hp_risk.specs.Listed.{lists_at, own_weights}
-use Rattle.hp_risk.specs.Planes.{candidate, better, plane_of}
+use Rattle.hp_risk.specs.Listed.{own_weights}
+use Rattle.hp_risk.specs.Planes.{better, plane_of}
 use Rattle.hp_risk.specs.RiskCost.{ListsOwn, worst, branch_costs, risk_costs, risk_cost, risk_policy_cost}
 
 sum-own : (rs : List Realization) → sum (map (λ (r : Realization). r.weight) rs) ≡ weight_of_realizations rs
@@ -66,15 +67,15 @@ same_realizations (r ∷ rs) = ap (λ (qs : List Realization). r ∷ qs) (same_r
 pub with_own : (n : Node) → with_weights (own_weights n) n ≡ n
 with_own n = ap (λ (rs : List Realization). record n { realizations = rs }) (same_realizations n.realizations)
 
-candidate-own : (planes : List (List Cut)) (n : Node) (list : List Certificate) → fault_of planes n list ≡ None → candidate planes n list (own_weights n) ≡ Some (cut_of planes n list)
-unfolding candidate
-candidate-own planes n list h =
+own_cut : (planes : List (List Cut)) (n : Node) (list : List Certificate) → fault_of planes n list ≡ None → cut_with planes n list (own_weights n) ≡ Some (cut_of planes n list)
+unfolding cut_with
+own_cut planes n list h =
     ap (λ (k : Node). if is_none (fault_of planes k list) then Some (cut_of planes k list) else None) (with_own n)
     ∙ ap (λ (o : Option CertFault). if is_none o then Some (cut_of planes n list) else None) h
 
 pub plane-own : (planes : List (List Cut)) (n : Node) (list : List Certificate) → fault_of planes n list ≡ None → plane_of planes n list (own_weights n ∷ []) ≡ Some (cut_of planes n list)
 unfolding plane_of
-plane-own planes n list h = ap (λ (o : Option Cut). better n.low None o) (candidate-own planes n list h)
+plane-own planes n list h = ap (λ (o : Option Cut). better n.low None o) (own_cut planes n list h)
 
 -- what is right over pools is right over planes of the same number
 right_elsewhere : (pools planes : List (List Cut)) (n : Node) (list : List Certificate) → ((m : ℕ) → length (pool planes m) ≡ length (pool pools m)) → Right pools n list → Right planes n list

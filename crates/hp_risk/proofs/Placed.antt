@@ -1,5 +1,5 @@
 -- The base planes made so far, and what is still to be made.
-use Rattle.std.proofs.Common.{◌≡◌, ℕ, zero, suc, get_or, ◌+◌, ◌<◌, ◌≤◌, true, List, [], ◌∷◌, ◌++◌, length, drop, replicate, All, Contains, Option, Some, Ok, ◌⊎◌, inl, inr, refl, sym, ap, ◌∙◌, subst, length-append, arith}
+use Rattle.std.proofs.Common.{◌≡◌, ℕ, zero, suc, get_or, ◌+◌, ◌<◌, ◌≤◌, true, List, [], ◌∷◌, ◌++◌, length, drop, replicate, All, Contains, Ok, ◌⊎◌, inl, inr, refl, sym, ap, ◌∙◌, subst, length-append, arith}
 use Rattle.std.proofs.Math.Logic.{⊎_elim}
 use Rattle.std.proofs.lemmas.List.{length-set, length-replicate, get_or-set_same, get_or-set_other, drop_more, drop_all}
 use Rattle.std.proofs.lemmas.List.Elements.{All-push, All-weaker}
@@ -18,7 +18,7 @@ use Rattle.hp_theory.proofs.Appending.{push_at}
 use Rattle.hp_theory.proofs.SealedOrder.{Fresh, in_order-sealed, fresh-sealed, ordered-sealed}
 use Rattle.hp_risk.specs.declared.alternatives.Alternatives.{Alternatives}
 use Rattle.hp_risk.specs.declared.planes.RobustFault.{RobustFault}
-use Rattle.hp_risk.specs.Listed.{lists_at, Listed}
+use Rattle.hp_risk.specs.Listed.{Listed}
 use Rattle.hp_risk.specs.Planes.{each, base_added, base_planes, Stops}
 use Rattle.hp_risk.proofs.Each.{next_more, next_stops, each_done}
 use Rattle.hp_risk.proofs.Planned.{added_plane}

@@ -1,7 +1,6 @@
 -- What a plane is: the cut of a list of weights with which its certificates are accepted.
-use Rattle.std.proofs.Common.{◌≡◌, ◌∙◌, ℕ, zero, suc, ◌+◌, ◌<◌, ◌≤◌, ℤ, Bool, true, false, List, [], ◌∷◌, length, drop, get_or, Option, Some, None, IfSome, Result, Ok, Err, int_lt, refl, sym, subst, ap, arith, if◌then◌else◌}
+use Rattle.std.proofs.Common.{map, ◌≡◌, ◌∙◌, ℕ, suc, ◌<◌, ℤ, Bool, true, false, List, [], ◌∷◌, length, get_or, Option, Some, None, IfSome, Ok, Err, int_lt, refl, sym, subst, ap, arith, if◌then◌else◌}
 use Rattle.std.specs.Prelude.{is_none, slice_get}
-use Rattle.std.proofs.lemmas.List.{drop_more, drop_all}
 use Rattle.std.proofs.lemmas.Option.{get_or_from_slice_get}
 use Rattle.hp_problem.specs.declared.raw.Node as nodes
 use Rattle.hp_problem.specs.declared.raw.Subproblem.{Subproblem}
@@ -16,9 +15,10 @@ use Rattle.hp_theory.specs.Bound.{value_of_cut}
 use Rattle.hp_theory.specs.View.{node_of, problem_of}
 use Rattle.hp_dual.specs.declared.fault.CertFault.{CertFault}
 use Rattle.hp_dual.specs.Acceptance.{fault_of}
+use Rattle.hp_dual.specs.Reweighting.{cut_with}
 use Rattle.hp_risk.specs.declared.alternatives.Alternatives.{Alternatives}
 use Rattle.hp_risk.specs.Listed.{lists_at}
-use Rattle.hp_risk.specs.Planes.{candidate, better, best_from, plane_of, failing, add_or_stop, plane_added}
+use Rattle.hp_risk.specs.Planes.{better, best_from, plane_of, failing, add_or_stop, plane_added}
 use Rattle.hp_risk.proofs.Each.{same_ok}
 
 module _ (P : Cut → Type 0) where
@@ -32,9 +32,9 @@ module _ (P : Cut → Type 0) where
       by false = h
 
   module _ (planes : List (List Cut)) (n : Node) (list : List Certificate) where
-    candidate_has : (ws : List ℕ) → (fault_of planes (with_weights ws n) list ≡ None → P (cut_of planes (with_weights ws n) list)) → IfSome (candidate planes n list ws) P
-    unfolding candidate
-    candidate_has ws h = by (fault_of planes (with_weights ws n) list) refl
+    cut_has : (ws : List ℕ) → (fault_of planes (with_weights ws n) list ≡ None → P (cut_of planes (with_weights ws n) list)) → IfSome (cut_with planes n list ws) P
+    unfolding cut_with
+    cut_has ws h = by (fault_of planes (with_weights ws n) list) refl
       where
         by : (o : Option CertFault) → fault_of planes (with_weights ws n) list ≡ o → IfSome (if is_none o then Some (cut_of planes (with_weights ws n) list) else None) P
         by None e = h e
@@ -44,23 +44,14 @@ module _ (P : Cut → Type 0) where
     abbrev pub OfEach : List (List ℕ) → Type 0
     OfEach lists = (i : ℕ) → i < length lists → fault_of planes (with_weights (get_or lists i []) n) list ≡ None → P (cut_of planes (with_weights (get_or lists i []) n) list)
 
-    best_has : (best : Option Cut) (lists : List (List ℕ)) → IfSome best P → OfEach lists → IfSome (best_from planes n list best lists) P
+    best_has : (best : Option Cut) (lists : List (List ℕ)) → IfSome best P → OfEach lists → IfSome (best_from n.low best (map (cut_with planes n list) lists)) P
     best_has best [] h g = h
     best_has best (ws ∷ lists) h g =
-        best_has (better n.low best (candidate planes n list ws)) lists (better_has n.low best (candidate planes n list ws) h (candidate_has ws (λ e. g 0 (omega arith) e))) (λ i lt e. g (suc i) (omega arith) e)
+        best_has (better n.low best (cut_with planes n list ws)) lists (better_has n.low best (cut_with planes n list ws) h (cut_has ws (λ e. g 0 (omega arith) e))) (λ i lt e. g (suc i) (omega arith) e)
 
     pub plane_has : (lists : List (List ℕ)) (c : Cut) → OfEach lists → plane_of planes n list lists ≡ Some c → P c
     unfolding plane_of
     plane_has lists c g is = subst (λ (o : Option Cut). IfSome o P) is (best_has None lists tt g)
-
--- what a candidate is
-pub candidate_some : (planes : List (List Cut)) (n : Node) (list : List Certificate) (ws : List ℕ) → fault_of planes (with_weights ws n) list ≡ None → candidate planes n list ws ≡ Some (cut_of planes (with_weights ws n) list)
-unfolding candidate
-candidate_some planes n list ws h = ap (λ (o : Option CertFault). if is_none o then Some (cut_of planes (with_weights ws n) list) else None) h
-
-pub candidate_none : (planes : List (List Cut)) (n : Node) (list : List Certificate) (ws : List ℕ) (f : CertFault) → fault_of planes (with_weights ws n) list ≡ Some f → candidate planes n list ws ≡ None
-unfolding candidate
-candidate_none planes n list ws f h = ap (λ (o : Option CertFault). if is_none o then Some (cut_of planes (with_weights ws n) list) else None) h
 
 -- a plane that was added
 pub added_plane : (p : Sealed) (x : Alternatives) (k : ℕ) (planes : List (List Cut)) (m : ℕ) (list : List Certificate) (new : List (List Cut)) → plane_added p x k planes m list ≡ Ok new
@@ -73,18 +64,9 @@ added_plane p x k planes m list new e = by (plane_of planes (node_at (problem_of
     by None is e = absurd cc
     by (Some c) is e = (c, is, same_ok (push planes m c) new e)
 
--- one list more was tried
-pub best_more : (planes : List (List Cut)) (n : Node) (list : List Certificate) (lists : List (List ℕ)) (i : ℕ) (ws : List ℕ) (best whole : Option Cut) → i < length lists → ws ≡ get_or lists i ws → best_from planes n list best (drop i lists) ≡ whole
-    → best_from planes n list (better n.low best (candidate planes n list ws)) (drop (i + 1) lists) ≡ whole
-best_more planes n list lists i ws best whole lt is h =
-    sym (ap (λ (ls : List (List ℕ)). best_from planes n list best ls) (drop_more lists i ws lt ∙ ap (λ (vs : List ℕ). vs ∷ drop (i + 1) lists) (sym is))) ∙ h
-
-pub best_done : (planes : List (List Cut)) (n : Node) (list : List Certificate) (lists : List (List ℕ)) (i : ℕ) (best whole : Option Cut) → length lists ≤ i → best_from planes n list best (drop i lists) ≡ whole → best ≡ whole
-best_done planes n list lists i best whole all h = sym (ap (λ (ls : List (List ℕ)). best_from planes n list best ls) (drop_all i lists all)) ∙ h
-
-pub plane_from : (planes : List (List Cut)) (n : Node) (list : List Certificate) (lists : List (List ℕ)) → best_from planes n list None lists ≡ plane_of planes n list lists
-unfolding plane_of
-plane_from planes n list lists = refl
+pub none_left : {A : Type 0} (xs : List A) → length xs ≡ 0 → xs ≡ []
+none_left [] e = refl
+none_left (x ∷ xs) e = absurd (omega arith)
 
 -- the lower end of a node's box
 low_of : (n : nodes.Node) (s : Subproblem) (low high : List ℤ) → (node_of n s low high).low ≡ low

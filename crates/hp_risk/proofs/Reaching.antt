@@ -1,5 +1,5 @@
 -- A cut that fits stays small at the lower end of its node's box.
-use Rattle.std.proofs.Common.{◌≡◌, ℕ, suc, ◌<◌, ◌^◌, ℤ, pos, ◌+ℤ◌, ◌*ℤ◌, ◌≤ℤ◌, List, [], ◌∷◌, length, max, nat_abs, ap, subst, arith, Option, Some, None, IfSome}
+use Rattle.std.proofs.Common.{◌≡◌, ℕ, suc, ◌<◌, ◌^◌, ℤ, pos, ◌*ℤ◌, ◌≤ℤ◌, List, [], ◌∷◌, length, max, nat_abs, ap, subst, arith, Option, Some, None, IfSome}
 use Rattle.std.proofs.lemmas.Int.{ints}
 use Rattle.hp_num.specs.Sums.{sum_to, entry, dot}
 use Rattle.hp_num.proofs.Order.{le_refl, le_trans, le_add, le_scale}

@@ -1,5 +1,5 @@
 -- The lists of weights that were read: for each node its own weights, and others of the same number, small enough together.
-use Rattle.std.proofs.Common.{◌≡◌, ◌+◌, ◌==◌, ◌<◌, ◌≤◌, ℕ, zero, suc, ℤ, List, [], ◌∷◌, ◌++◌, length, map, sum, get_or, All, Bool, true, false, nat_le, nat_lt, codes, Option, Some, Result, Ok, Err, IfOk, slice_get, unsigned_abs, refl, sym, ap, subst, ◌∙◌, arith}
+use Rattle.std.proofs.Common.{◌≡◌, ◌==◌, ◌<◌, ◌≤◌, ℕ, zero, suc, ℤ, List, [], ◌∷◌, ◌++◌, length, map, sum, get_or, All, true, nat_le, nat_lt, codes, Option, Result, Ok, Err, IfOk, unsigned_abs, refl, sym, ap, subst, ◌∙◌, arith}
 use Rattle.std.specs.List.{list_all}
 use Rattle.std.proofs.lemmas.Bool.{eqb-true}
 use Rattle.std.proofs.lemmas.Bool.Decides.{nat_tests}
@@ -13,7 +13,7 @@ use Rattle.hp_problem.specs.declared.raw.Node as nodes
 use Rattle.hp_problem.specs.declared.raw.Subproblem.{Subproblem}
 use Rattle.hp_problem.specs.Sealed.{Sealed, is_sealed}
 use Rattle.hp_fields.specs.declared.refusal.ReadRefusal.{ReadRefusal}
-use Rattle.hp_fields.specs.Steps.{walk_items, walk_list, Gives}
+use Rattle.hp_fields.specs.Steps.{walk_list, Gives}
 use Rattle.hp_fields.specs.Fields.{weight_at, present_at, array_at, json_at}
 use Rattle.hp_fields.specs.Limits.{items_at}
 use Rattle.hp_fields.proofs.Answered.{step-Ok}
@@ -24,8 +24,9 @@ use Rattle.hp_theory.specs.Problem.{Realization, Node, node_at}
 use Rattle.hp_theory.specs.View.{node_of, realizations_of, problem_of}
 use Rattle.hp_theory.proofs.SealedParts.{Parts, parts, weighty, weights_positive}
 use Rattle.hp_risk.specs.declared.alternatives.Alternatives.{Alternatives}
-use Rattle.hp_risk.specs.Alternatives.{at_weight, one_weight_at, all_weights_at, alternative_at, next_alternative_at, alternatives_at, node_lists_at, next_node_at, all_lists_at, alternatives_of}
-use Rattle.hp_risk.specs.Listed.{lists_at, own_weights, Weighs, Listed}
+use Rattle.hp_risk.specs.Alternatives.{at_weight, one_weight_at, all_weights_at, alternative_at, next_alternative_at, node_lists_at, next_node_at, all_lists_at, alternatives_of}
+use Rattle.hp_dual.specs.Reweighting.{Weighs}
+use Rattle.hp_risk.specs.Listed.{lists_at, own_weights, Listed}
 
 -- so many weights
 record Many (count : ℕ) (ws : List ℕ) : Type 0 where

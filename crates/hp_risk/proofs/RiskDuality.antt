@@ -1,18 +1,18 @@
 -- Planes: a candidate's cut is at most the greatest average of a stage's costs, and so is the bound over planes.
-use Rattle.std.proofs.Common.{◌≡◌, ℕ, zero, suc, ◌+◌, ◌*◌, ◌<◌, ℤ, pos, negsuc, ◌+ℤ◌, ◌*ℤ◌, ◌-ℤ◌, ◌≤ℤ◌, ◌<ℤ◌, Bool, true, false, cond, List, [], ◌∷◌, length, get_or, All, zip, sum, int_lt, arith, refl, ap, ap₂, sym, ◌∙◌, subst, mul-pos, if◌then◌else◌}
+use Rattle.std.proofs.Common.{◌≡◌, ℕ, zero, suc, ◌+◌, ◌*◌, ◌<◌, ℤ, pos, negsuc, ◌+ℤ◌, ◌*ℤ◌, ◌-ℤ◌, ◌≤ℤ◌, Bool, true, false, List, [], ◌∷◌, length, get_or, All, zip, sum, int_lt, arith, refl, ap, ap₂, sym, ◌∙◌, subst, mul-pos, if◌then◌else◌}
 use Rattle.std.proofs.lemmas.Int.{ints}
 use Rattle.std.proofs.lemmas.List.{length-map, get_or-map}
 use Rattle.std.proofs.lemmas.List.Sums.{sum_by-cons}
 use Rattle.std.proofs.lemmas.List.Elements.{All-nil, All-cons}
 use Rattle.hp_num.specs.Sums.{sum_to, total, entry}
-use Rattle.hp_num.proofs.Order.{le_refl, le_of_eq, le_trans, le_add, le_scale, le_cancel, floor_at_most}
+use Rattle.hp_num.proofs.Order.{le_refl, le_trans, le_add, le_scale, le_cancel, floor_at_most}
 use Rattle.hp_num.proofs.Ring.{ring, var, num, ◌⊕◌, ◌⊗◌, ⊖}
 use Rattle.hp_num.proofs.Sums.{sum_ext, sum_times, sum_le, All_head, All_tail, dot_table}
 use Rattle.hp_theory.specs.Certificates.{RightAt, Right, AboveCuts}
 use Rattle.hp_theory.specs.Cost.{stage}
 use Rattle.hp_theory.specs.CutOf.{alpha_at, beta_at, alpha_sum, beta_sum, divisor, slope, remainder, cut_of}
 use Rattle.hp_theory.specs.Fraction.{Fraction, ◌≤ᶠ◌, plus, times, over, weighted}
-use Rattle.hp_theory.specs.Pools.{scaled_value, cut_value, pool}
+use Rattle.hp_theory.specs.Pools.{scaled_value}
 use Rattle.hp_theory.specs.Premises.{Nested, Shaped}
 use Rattle.hp_theory.specs.Problem.{S, Realization, Link, Node, Problem, node_at, link_weights, weight_of_realizations, realization_weight, successor_weight, reweighted, with_weights}
 use Rattle.hp_theory.specs.Tree.{InBox, next_state, Tree, Forest, no_branch, branch, no_tree, tree, FeasibleTree, FeasibleForest}
@@ -22,7 +22,7 @@ use Rattle.hp_theory.proofs.Duality.{one_stage, scale_some}
 use Rattle.hp_theory.specs.declared.cut.Cut.{Cut}
 use Rattle.hp_theory.specs.declared.cut.Certificate.{Certificate}
 use Rattle.hp_risk.specs.Listed.{lists_at}
-use Rattle.hp_risk.specs.RiskCost.{Weighty, greater, average, worst, branch_costs, risk_costs, risk_cost, RiskHolds, RiskSound}
+use Rattle.hp_risk.specs.RiskCost.{Weighty, greater, average, worst, branch_costs, risk_costs, RiskHolds, RiskSound}
 
 -- what is at most one fraction is at most a greater one
 carried : (a : ℤ) (k : ℕ) (f g : Fraction) → 0 < f.under → (f.up *ℤ pos g.under) ≤ℤ (g.up *ℤ pos f.under) → ratio a k ≤ᶠ f → ratio a k ≤ᶠ g

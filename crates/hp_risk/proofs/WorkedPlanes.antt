@@ -6,20 +6,21 @@ use Rattle.hp_theory.specs.Bound.{bound}
 use Rattle.hp_theory.specs.Examples.{reservoir, reservoir_problem, reservoir_certificate, best_tree, policy_of}
 use Rattle.hp_dual.specs.Acceptance.{fault_of}
 use Rattle.hp_risk.specs.Listed.{own_weights}
-use Rattle.hp_risk.specs.Planes.{candidate, plane_of}
+use Rattle.hp_dual.specs.Reweighting.{cut_with}
+use Rattle.hp_risk.specs.Planes.{plane_of}
 use Rattle.hp_risk.specs.RiskCost.{risk_policy_cost}
 
 pub base_plane : plane_of [] (reservoir 1) (base_list (reservoir 1)) (own_weights (reservoir 1) ∷ (3 ∷ 1 ∷ []) ∷ []) ≡ Some (record { alpha = pos 0; beta = pos 0 ∷ [] })
-unfolding S plane_of candidate fault_of
+unfolding S plane_of cut_with fault_of
 base_plane = refl
 
 -- (3*40 + 30)/4 - 5v is greater at 0 than 35 - 5v
 pub plane : plane_of [] (reservoir 1) (reservoir_certificate ∷ reservoir_certificate ∷ []) (own_weights (reservoir 1) ∷ (3 ∷ 1 ∷ []) ∷ []) ≡ Some (record { alpha = pos 629145600; beta = negsuc 83886079 ∷ [] })
-unfolding S plane_of candidate fault_of
+unfolding S plane_of cut_with fault_of
 plane = refl
 
 pub own_plane : plane_of [] (reservoir 1) (reservoir_certificate ∷ reservoir_certificate ∷ []) (own_weights (reservoir 1) ∷ []) ≡ Some (record { alpha = pos 587202560; beta = negsuc 83886079 ∷ [] })
-unfolding S plane_of candidate fault_of
+unfolding S plane_of cut_with fault_of
 own_plane = refl
 
 -- 37.5 - 5*4 at the volume 4

@@ -1,5 +1,5 @@
 -- The weights that a problem file lists for the realizations of its nodes, beside their own.
-use Rattle.std.specs.Prelude.{ℕ, zero, suc, List, [], ◌∷◌, ◌++◌, length, Option, Result, Ok, nat_le, ◌==◌, codes, unsigned_abs, if◌then◌else◌}
+use Rattle.std.specs.Prelude.{ℕ, suc, List, [], ◌∷◌, ◌++◌, length, Option, Result, Ok, nat_le, ◌==◌, codes, unsigned_abs, if◌then◌else◌}
 use Rattle.serde_json.specs.Data.{Data, Items, Members}
 use Rattle.serde_json.specs.Events.{items_len}
 use Rattle.serde_json.specs.Find.{get, get_member}

@@ -1,8 +1,9 @@
 -- What holds of the weights that are listed for the realizations of the nodes.
-use Rattle.std.specs.Prelude.{◌≡◌, ℕ, ◌<◌, ◌≤◌, List, [], ◌∷◌, length, map, get_or, All, sum}
+use Rattle.std.specs.Prelude.{◌≡◌, ℕ, ◌<◌, List, [], length, map, get_or, All}
 use Rattle.hp_problem.specs.Sealed.{Sealed}
 use Rattle.hp_theory.specs.Problem.{Realization, Node, node_at}
 use Rattle.hp_theory.specs.View.{problem_of}
+use Rattle.hp_dual.specs.Reweighting.{Weighs}
 
 -- the lists of the node m
 abbrev pub lists_at : List (List (List ℕ)) → ℕ → List (List ℕ)
@@ -11,12 +12,6 @@ lists_at x m = get_or x m []
 -- the node's own weights
 abbrev pub own_weights : Node → List ℕ
 own_weights n = map (λ (r : Realization). r.weight) n.realizations
-
--- one weight for each realization of the node, each at least 1, at most 65535 together
-pub record Weighs (n : Node) (ws : List ℕ) : Type 0 where
-  pub count : length ws ≡ length n.realizations
-  pub positive : All (λ w. 1 ≤ w) ws
-  pub total : sum ws ≤ 65535
 
 -- for each node its lists, its own weights first
 pub record Listed (p : Sealed) (x : List (List (List ℕ))) : Type 0 where

@@ -1,12 +1,11 @@
 -- Planes: what bounds the greatest expectation over the lists of weights, made from the certificates of a journal.
-use Rattle.std.specs.Prelude.{◌≡◌, ℕ, ℤ, List, [], ◌∷◌, length, get_or, replicate, is_none, Option, Some, None, Result, Ok, Err, int_lt, if◌then◌else◌}
+use Rattle.std.specs.Prelude.{◌≡◌, ℕ, ℤ, List, [], ◌∷◌, length, get_or, map, replicate, Option, Some, None, Result, Ok, Err, int_lt, if◌then◌else◌}
 pub use Rattle.hp_num.specs.Steps.{◌>>=◌}
 use Rattle.hp_problem.specs.Sealed.{Sealed}
 use Rattle.hp_theory.specs.declared.cut.Cut.{Cut}
 use Rattle.hp_theory.specs.declared.cut.Certificate.{Certificate}
 use Rattle.hp_theory.specs.Problem.{Node, node_at, with_weights}
 use Rattle.hp_theory.specs.Pools.{push}
-use Rattle.hp_theory.specs.CutOf.{cut_of}
 use Rattle.hp_theory.specs.Base.{base_list}
 use Rattle.hp_theory.specs.Bound.{value_of_cut}
 use Rattle.hp_theory.specs.View.{problem_of}
@@ -16,6 +15,7 @@ use Rattle.hp_cut.specs.declared.entry.EntryStep.{EntryStep}
 use Rattle.hp_dual.specs.declared.fault.CertFault.{CertFault}
 use Rattle.hp_dual.specs.declared.fault.CertFault.TheVariants as faults
 use Rattle.hp_dual.specs.Acceptance.{fault_of}
+use Rattle.hp_dual.specs.Reweighting.{cut_with}
 use Rattle.hp_risk.specs.declared.alternatives.Alternatives.{Alternatives}
 use Rattle.hp_risk.specs.declared.planes.RobustFault.{RobustFault}
 use Rattle.hp_risk.specs.declared.planes.RobustFault.TheVariants as ends
@@ -28,24 +28,20 @@ each step a (x ∷ xs) = do
   next ← step a x
   each step next xs
 
--- the candidate of a list of weights: the cut with these weights, where the certificates are accepted with them
-unfoldable pub candidate : List (List Cut) → Node → List Certificate → List ℕ → Option Cut
-candidate planes n list ws = if is_none (fault_of planes (with_weights ws n) list) then Some (cut_of planes (with_weights ws n) list) else None
-
 -- the one of greater value at x, the first where they are equal
 abbrev pub better : List ℤ → Option Cut → Option Cut → Option Cut
 better x best None = best
 better x None (Some c) = Some c
 better x (Some best) (Some c) = if int_lt (value_of_cut best x) (value_of_cut c x) then Some c else Some best
 
--- the best candidate of several lists of weights and of what was best before, at the lower end of the node's box
-abbrev pub best_from : List (List Cut) → Node → List Certificate → Option Cut → List (List ℕ) → Option Cut
-best_from planes n list best [] = best
-best_from planes n list best (ws ∷ lists) = best_from planes n list (better n.low best (candidate planes n list ws)) lists
+-- the best of several cuts and of what was best before, by their values at x
+abbrev pub best_from : List ℤ → Option Cut → List (Option Cut) → Option Cut
+best_from x best [] = best
+best_from x best (c ∷ cs) = best_from x (better x best c) cs
 
--- the plane: the best candidate
+-- the plane: of the cuts with each list of weights the best at the lower end of the node's box
 unfoldable pub plane_of : List (List Cut) → Node → List Certificate → List (List ℕ) → Option Cut
-plane_of planes n list lists = best_from planes n list None lists
+plane_of planes n list lists = best_from n.low None (map (cut_with planes n list) lists)
 
 -- the realization that a fault names
 abbrev pub realization_in : Option CertFault → ℕ

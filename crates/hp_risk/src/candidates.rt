@@ -1,55 +1,20 @@
-// The candidates of a list of certificates, and the best of them.
-ghost use Rattle.std.specs.Prelude.{◌≡◌, ◌<◌, length, All, IfOk, IfSome, IsOk, None, Some, is_none};
+// The cuts of a list of certificates with each list of weights, and the best of them.
+ghost use Rattle.std.specs.Prelude.{◌≡◌, ◌<◌, length, All, IfOk, IfSome, None, Some, Option};
 ghost use Rattle.hp_theory.specs.Problem.{node_at, with_weights};
 ghost use Rattle.hp_theory.specs.View.{problem_of};
-ghost use Rattle.hp_theory.specs.Fit.{CutFits, FitFor};
+ghost use Rattle.hp_theory.specs.Fit.{FitFor};
 ghost use Rattle.hp_cut.specs.Reaches.{Reaches};
 ghost use Rattle.hp_dual.specs.Acceptance.{fault_of};
-ghost use Rattle.hp_risk.specs.Listed.{Weighs};
-ghost use Rattle.hp_risk.specs.Planes.{candidate, better, plane_of, realization_in, failing};
+ghost use Rattle.hp_dual.specs.Reweighting.{Weighs};
+ghost use Rattle.hp_theory.specs.declared.cut.Cut.{Cut};
+ghost use Rattle.hp_risk.specs.Planes.{better, best_from, plane_of, realization_in, failing};
 
 use hp_cut::{Cut, Pools, value_of_cut};
-use hp_dual::{CertFault, accept_with, make_with};
+use hp_dual::{CertFault, accept_with, make_each};
 use hp_num::{List, Memory};
 use hp_problem::Problem;
 use hp_theory::Certificate;
 use std::alloc::Global;
-
-// A cut of so many slopes, all 0.
-fn no_slopes(alloc: Global, states: usize) -> Result<Cut, Memory>
-    ensures { IfOk result (λ cut. length cut.beta ≡ states) }
-{
-    let mut beta = List::new(alloc);
-    for _ in 0..states {
-        beta.push(0)?;
-    }
-    Ok(Cut { alpha: 0, beta })
-}
-
-// The cut with these weights, where the certificates are accepted with them.
-#[tactic(auto, unfolding(crate::specs::Planes::candidate))]
-fn candidate(
-    alloc: Global,
-    problem: &Problem,
-    planes: &Pools,
-    node: u32,
-    list: &[Certificate],
-    weights: &[u32],
-) -> Result<Option<Cut>, Memory>
-    requires known { node < length problem.now.raw.nodes }
-    requires fit { FitFor (problem_of problem.now) (length problem.now.raw.nodes) planes.now.lists node }
-    requires weighs { Weighs (node_at (problem_of problem.now) node) weights.now }
-    ensures value { IfOk result (λ c. c ≡ candidate planes.now.lists (node_at (problem_of problem.now) node) list.now weights.now) }
-    ensures fits { IfOk result (λ c. IfSome c (CutFits (node_at (problem_of problem.now) node))) }
-{
-    let states = problem.raw().states.len();
-    let Ok(()) = accept_with(problem, planes, node, weights, list) else {
-        return Ok(None);
-    };
-    let mut cut = no_slopes(alloc, states)?;
-    make_with(problem, planes, node, weights, list, &mut cut);
-    Ok(Some(cut))
-}
 
 // The one of greater value at the state, the first where they are equal.
 fn better(state: &[i64], best: Option<Cut>, next: Option<Cut>) -> Option<Cut>
@@ -70,8 +35,21 @@ fn better(state: &[i64], best: Option<Cut>, next: Option<Cut>) -> Option<Cut>
     }
 }
 
-/// The plane of a list of certificates at a node: the candidate of the greatest value at the lower end of the node's
-/// box, the first where values are equal. None where no list of weights is a candidate.
+// The best of several cuts, by their values at the state.
+fn best_of(state: &[i64], cuts: List<Option<Cut>>) -> Option<Cut>
+    requires reach { All (λ (cut : Option Cut). IfSome cut (Reaches state.now)) cuts }
+    ensures { result ≡ best_from state.now None cuts }
+{
+    let mut best = None;
+    for cut in cuts.into_vec() {
+        best = better(state, best, cut);
+    }
+    best
+}
+
+/// The plane of a list of certificates at a node: of the cuts with each list of weights with which they are accepted the
+/// one of greatest value at the lower end of the node's box, the first where values are equal. None where they are
+/// accepted with no list.
 pub(crate) fn plane(
     alloc: Global,
     problem: &Problem,
@@ -86,13 +64,8 @@ pub(crate) fn plane(
     ensures { IfOk result (λ c. c ≡ plane_of planes.now.lists (node_at (problem_of problem.now) node) list.now lists.now) }
 {
     let _ = problem.raw();
-    let low = problem.lo(node);
-    let mut best = None;
-    for weights in lists {
-        let next = candidate(alloc, problem, planes, node, list, weights.as_slice())?;
-        best = better(low, best, next);
-    }
-    Ok(best)
+    let cuts = make_each(alloc, problem, planes, node, lists, list)?;
+    Ok(best_of(problem.lo(node), cuts))
 }
 
 // The realization that a fault names.

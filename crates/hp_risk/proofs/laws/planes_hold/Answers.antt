@@ -1,6 +1,3 @@
-use Rattle.hp_risk.proofs.Based as based
-use Rattle.hp_risk.proofs.Reaching as reaching
-use Rattle.hp_risk.proofs.Placed as placed
 use Rattle.hp_risk.proofs.Adding as lemmas
 use Rattle.hp_risk.proofs.laws.planes_hold.Goals as goal
 

@@ -1,9 +1,8 @@
 use Rattle.std.proofs.Common.{arith, subst, sym}
 use Rattle.std.proofs.lemmas.Result.{err_from_is_err_and}
-use Rattle.hp_load.specs.Accepted.{IsRecord}
 use Rattle.hp_risk.specs.Planes.{entry_added}
 use Rattle.hp_risk.proofs.Each.{each_more, each_stops, each_done}
-use Rattle.hp_risk.proofs.Adding.{KnownStep, KnownEntry, record_known, at_index, step_fit, entry_fit, entries_fit}
+use Rattle.hp_risk.proofs.Adding.{KnownEntry, entry_fit}
 use Rattle.hp_risk.proofs.planes.add_entries.Goals as goal
 
 pub returns-in_err-add_entry : goal.returns-in_err-add_entry

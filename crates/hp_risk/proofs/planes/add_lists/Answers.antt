@@ -3,7 +3,7 @@ use Rattle.std.proofs.lemmas.Result.{err_from_is_err_and}
 use Rattle.hp_load.specs.Accepted.{IsRecord}
 use Rattle.hp_risk.specs.Planes.{entries_added}
 use Rattle.hp_risk.proofs.Each.{each_more, each_stops, each_done}
-use Rattle.hp_risk.proofs.Adding.{KnownStep, KnownEntry, record_known, at_index, step_fit, entry_fit, entries_fit}
+use Rattle.hp_risk.proofs.Adding.{record_known, at_index, entries_fit}
 use Rattle.hp_risk.proofs.planes.add_lists.Goals as goal
 
 pub returns-in_err-add_record-clause-value : goal.returns-in_err-add_record-clause-value

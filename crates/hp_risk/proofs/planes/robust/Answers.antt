@@ -1,7 +1,5 @@
-use Rattle.std.proofs.Common.{List, subst, sym, ◌≡◌, ◌∙◌, ap, Result, ℕ}
-use Rattle.std.specs.List.{AllByRecursion}
+use Rattle.std.proofs.Common.{List, subst}
 use Rattle.hp_cut.specs.declared.entry.Entry.{Entry}
-use Rattle.hp_load.specs.Accepted.{IsRecord}
 use Rattle.hp_risk.specs.Planes.{Plans, planes_of}
 use Rattle.hp_risk.proofs.Adding.{planes_hold, planes_under}
 use Rattle.hp_risk.proofs.planes.robust.Goals as goal
