@@ -1,20 +1,21 @@
 -- The costs of successors and of branches, one after another, and what keeps them inside 128 bits.
-use Rattle.std.proofs.Common.{◌≡◌, ◌∙◌, ℕ, zero, suc, ◌+◌, ◌*◌, ◌/◌, ◌<◌, ◌≤◌, ◌^◌, ℤ, pos, ◌+ℤ◌, ◌*ℤ◌, nat_abs, List, [], ◌∷◌, length, map, sum, All, Result, Ok, Err, FitsSigned, refl, sym, ap, subst, arith, mul-pos, mul-le-mul_left}
+use Rattle.std.proofs.Common.{◌≡◌, ◌∙◌, ℕ, zero, suc, ◌+◌, ◌*◌, ◌/◌, ◌<◌, ◌≤◌, ◌^◌, ℤ, pos, ◌+ℤ◌, ◌*ℤ◌, nat_abs, List, [], ◌∷◌, map, sum, All, Result, Ok, Err, FitsSigned, refl, sym, ap, subst, arith, mul-le-mul_left}
 use Rattle.std.specs.Int.{w128}
 use Rattle.std.proofs.Math.Nat.{mul-le-mul}
 use Rattle.std.proofs.lemmas.Int.{ints, unsigned_abs-mul, fits_signed_from_abs}
 use Rattle.std.proofs.lemmas.List.Sums.{sum_by-cons}
 use Rattle.hp_num.proofs.Sums.{All_head, All_tail}
 use Rattle.hp_problem.specs.Sealed.{Sealed}
-use Rattle.hp_theory.specs.Problem.{S, Link, Node, node_at, link_weights}
+use Rattle.hp_theory.specs.Problem.{S, Link, link_weights}
 use Rattle.hp_theory.specs.View.{problem_of}
 use Rattle.hp_tree.specs.declared.costs.Walked.{Walked}
 use Rattle.hp_tree.specs.Multiples.{gcd, lcm, lcm_all}
 use Rattle.hp_tree.specs.PolicyTree.{Stop}
-use Rattle.hp_tree.specs.Costs.{add_cost, add_stage, add_branch, link_costs, no_cost, share}
+use Rattle.hp_tree.specs.Costs.{add_cost, link_costs, no_cost}
 use Rattle.hp_tree.specs.TooBig.{branches, denominator, most_size}
 use Rattle.hp_tree.specs.Small.{AddsUp, IsCost, IsSmall, link_branches, link_denominator, most_cost}
-use Rattle.hp_tree.proofs.Divisors.{Parted, factor_positive, parts_of, lcm_first, lcm_second, lcm_positive, lcm_all_least}
+use Rattle.hp_tree.proofs.Divisors.{Parted, factor_positive, parts_of, lcm_second, lcm_positive, lcm_all_least}
+use Rattle.hp_tree.proofs.Positive.{dens}
 
 -- over plain numbers: x / A and y / B are added, y with the weight w; W is the whole weight and rest the weight left
 step_small : (x y A B a b g w rest W C : ℕ) → A ≡ g * a → B ≡ g * b → x + A * ((w + rest) * C) ≤ A * (W * C) → y ≤ B * (1 * C) → x * b + w * y * a + a * B * (rest * C) ≤ a * B * (W * C)
@@ -49,10 +50,6 @@ abs_sum u x b w a =
 pub at_least_once : (k a : ℕ) → 0 < a → k ≤ k * a
 at_least_once k zero h = absurd (omega arith)
 at_least_once k (suc a) h = omega arith
-
--- the denominators of successors
-abbrev pub dens : Sealed → ℕ → List Link → List ℕ
-dens p n ls = map (λ (l : Link). denominator (problem_of p) n l.node) ls
 
 -- what holds of the sum so far, where the costs of `rest` are still to be added
 pub record LinksGo (p : Sealed) (n k : ℕ) (go : ℕ → ℕ → Result Walked Stop) (ls rest : List Link) (total : Walked) : Type 0 where

@@ -1,6 +1,5 @@
 -- The cost of the tree is that of the walk through it.
-use Rattle.std.proofs.Common.{◌≡◌, ◌∙◌, ℕ, zero, suc, ◌+◌, ◌*◌, ◌/◌, ◌<◌, ◌≤◌, ℤ, pos, ◌+ℤ◌, ◌*ℤ◌, List, [], ◌∷◌, ◌++◌, length, map, sum, Result, Ok, Err, refl, sym, ap, ap₂, subst, arith}
-use lib.IntN.{*ℤ-zero}
+use Rattle.std.proofs.Common.{◌≡◌, ◌∙◌, ℕ, zero, suc, ◌*◌, ◌/◌, ℤ, pos, ◌+ℤ◌, ◌*ℤ◌, List, [], ◌∷◌, map, sum, Result, Ok, Err, refl, sym, ap, ap₂, subst, arith}
 use Rattle.std.proofs.lemmas.Int.{ints}
 use Rattle.hp_num.specs.Steps.{◌>>=◌}
 use Rattle.hp_num.proofs.Ring.{ring, var, num, ◌⊕◌, ◌⊗◌}
@@ -8,16 +7,14 @@ use Rattle.hp_sampler.specs.declared.steps.Step.{Step}
 use Rattle.hp_theory.specs.Cost.{stage, cost, cost_sum, costs_of, policy_cost}
 use Rattle.hp_theory.specs.Fraction.{Fraction, nothing, plus, times, over, weighted}
 use Rattle.hp_theory.specs.Problem.{S, Realization, Link, Node, Problem, node_at, link_weights, weight_of_realizations, realization_weight, successor_weight}
-use Rattle.hp_theory.specs.Tree.{Tree, Forest, no_branch, branch, no_tree, tree, next_state, times_all}
-use Rattle.hp_settle.specs.declared.judging.Dead.{Dead}
+use Rattle.hp_theory.specs.Tree.{Tree, Forest, no_branch, branch, tree, next_state, times_all}
 use Rattle.hp_forward.specs.declared.deciding.Decided.{Decided}
 use Rattle.hp_forward.specs.Costing.{stage_cost_of}
 use Rattle.hp_tree.specs.declared.costs.Walked.{Walked}
-use Rattle.hp_tree.specs.declared.walking.Missed.{Missed}
 use Rattle.hp_tree.specs.Multiples.{gcd, lcm, lcm_all}
 use Rattle.hp_tree.specs.TooBig.{denominator}
 use Rattle.hp_tree.specs.PolicyTree.{Deciding, Stop, dead, missed, Grown, behind, forest_of, branch_of, tree_of, grow, whole_tree}
-use Rattle.hp_tree.specs.Costs.{no_cost, add_cost, add_stage, add_branch, share, link_costs, branch_cost, branch_costs, tree_cost, root_cost}
+use Rattle.hp_tree.specs.Costs.{no_cost, add_cost, add_stage, add_branch, share, link_costs, branch_cost, branch_costs, tree_cost}
 use Rattle.hp_tree.proofs.Divisors.{is_gcd, parted}
 
 -- the fraction is a / k

@@ -1,11 +1,10 @@
 -- The costs of a node's branches, one after another, and what keeps them inside 128 bits.
-use Rattle.std.proofs.Common.{◌≡◌, ◌∙◌, ℕ, zero, suc, ◌+◌, ◌*◌, ◌<◌, ◌≤◌, ◌^◌, ℤ, pos, ◌+ℤ◌, ◌*ℤ◌, nat_abs, List, [], ◌∷◌, length, map, sum, Result, Ok, Err, FitsSigned, refl, sym, ap, subst, arith, mul-pos, mul-le-mul_left}
+use Rattle.std.proofs.Common.{◌≡◌, ◌∙◌, ℕ, suc, ◌+◌, ◌*◌, ◌<◌, ◌≤◌, ◌^◌, ℤ, pos, ◌+ℤ◌, ◌*ℤ◌, nat_abs, List, [], ◌∷◌, length, Result, Ok, Err, FitsSigned, refl, sym, ap, subst, arith, mul-le-mul_left}
 use Rattle.std.specs.Int.{w128}
 use Rattle.std.proofs.Math.Nat.{mul-le-mul}
 use Rattle.std.proofs.lemmas.Int.{ints, unsigned_abs-mul}
 use Rattle.hp_problem.specs.Sealed.{Sealed}
-use Rattle.hp_sampler.specs.declared.steps.Step.{Step}
-use Rattle.hp_theory.specs.Problem.{S, Realization, Link, Node, node_at, link_weights, weight_of_realizations, realization_weight, successor_weight}
+use Rattle.hp_theory.specs.Problem.{S, Realization, Node, node_at, weight_of_realizations, realization_weight, successor_weight}
 use Rattle.hp_theory.specs.View.{problem_of}
 use Rattle.hp_tree.specs.declared.costs.Walked.{Walked}
 use Rattle.hp_tree.specs.PolicyTree.{Deciding, Stop}

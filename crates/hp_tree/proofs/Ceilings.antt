@@ -1,11 +1,9 @@
 -- Fractions rounded up, and the least whole number that is not below a cost.
-use Rattle.std.proofs.Common.{◌≡◌, ◌∙◌, ℕ, zero, suc, ◌+◌, ◌*◌, ◌<◌, ℤ, pos, negsuc, ◌+ℤ◌, ◌-ℤ◌, ◌*ℤ◌, ◌≤ℤ◌, ◌<ℤ◌, neg_ℤ, [], ◌∷◌, refl, sym, ap, subst, arith, mul-pos}
+use Rattle.std.proofs.Common.{◌≡◌, ◌∙◌, ℕ, zero, suc, ◌<◌, ℤ, pos, negsuc, ◌+ℤ◌, ◌-ℤ◌, ◌*ℤ◌, ◌≤ℤ◌, ◌<ℤ◌, neg_ℤ, [], ◌∷◌, sym, arith}
 use Rattle.std.proofs.lemmas.Int.{ints}
 use Rattle.hp_num.specs.Sums.{floor_over}
 use Rattle.hp_num.proofs.Order.{le_of_eq, le_trans, le_scale, le_cancel, floor_at_most, floor_above}
 use Rattle.hp_num.proofs.Ring.{ring, var, num, ◌⊕◌, ◌⊗◌, ⊖}
-use Rattle.hp_theory.specs.declared.cut.Cut.{Cut}
-use Rattle.hp_theory.specs.Bound.{bound, Under}
 use Rattle.hp_theory.specs.Cost.{policy_cost}
 use Rattle.hp_theory.specs.Fraction.{Fraction, ◌≤ᶠ◌}
 use Rattle.hp_theory.specs.Problem.{S, Problem}

@@ -1,20 +1,13 @@
 -- The tree of a policy is feasible.
-use Rattle.std.proofs.Common.{◌≡◌, ◌∙◌, ℕ, zero, suc, ◌+◌, ◌<◌, ◌≤◌, ℤ, pos, Bool, true, false, if◌then◌else◌, List, [], ◌∷◌, length, get_or, map, All, Contains, Option, Some, None, Result, Ok, Err, IfOk, refl, sym, ap, subst, arith}
-use Rattle.std.specs.Ordering.{int_eq}
-use Rattle.std.proofs.lemmas.Int.{ints}
-use Rattle.std.proofs.lemmas.List.{length-map}
-use Rattle.std.proofs.lemmas.List.Elements.{All-cons, All-nil, All-weaker}
+use Rattle.std.proofs.Common.{◌≡◌, ℕ, zero, suc, ◌<◌, ℤ, true, List, [], ◌∷◌, length, get_or, All, Result, Ok, Err, IfOk, refl, subst, arith}
 use Rattle.hp_num.specs.Steps.{◌>>=◌}
 use Rattle.hp_num.proofs.Sums.{All_head, All_tail}
-use Rattle.hp_paths.specs.Paths.{links_at}
 use Rattle.hp_paths.specs.Ranks.{rank}
 use Rattle.hp_paths.proofs.Falling.{rank_falls}
-use Rattle.hp_problem.specs.declared.raw.Node as nodes
-use Rattle.hp_problem.specs.declared.raw.Row.{Row}
 use Rattle.hp_problem.specs.Sealed.{Sealed, is_sealed, graph_of}
 use Rattle.hp_problem.proofs.SealedFacts.{raw-is_sealed, known_graph}
 use Rattle.hp_theory.specs.Problem.{S, Realization, Link, Node, Problem, node_at}
-use Rattle.hp_theory.specs.Tree.{Tree, Forest, no_branch, branch, no_tree, tree, next_state, times_all, Decides, RowHolds, FeasibleTree, FeasibleForest, Policy}
+use Rattle.hp_theory.specs.Tree.{Tree, Forest, branch, tree, next_state, times_all, Decides, FeasibleTree, FeasibleForest, Policy}
 use Rattle.hp_theory.specs.View.{problem_of}
 use Rattle.hp_theory.proofs.SealedOrder.{no_cycle-sealed}
 use Rattle.hp_theory.proofs.SealedPremises.{leads-sealed, links-sealed, root-sealed}

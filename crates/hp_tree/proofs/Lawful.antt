@@ -1,5 +1,5 @@
 -- What is decided at a branch is lawful: in its boxes, on its rows, and its outs leave the node.
-use Rattle.std.proofs.Common.{◌≡◌, ◌∙◌, ℕ, zero, suc, ◌<◌, ℤ, pos, Bool, true, false, if◌then◌else◌, List, [], ◌∷◌, length, map, All, Option, Some, None, Result, Ok, Err, refl, sym, ap, subst}
+use Rattle.std.proofs.Common.{◌≡◌, ℕ, suc, ℤ, pos, Bool, true, false, if◌then◌else◌, List, [], ◌∷◌, length, map, All, Option, Some, None, Result, Ok, Err, refl, subst}
 use Rattle.std.specs.Ordering.{int_eq}
 use Rattle.std.proofs.lemmas.Bool.Decides.{Decides-int_eq}
 use Rattle.std.proofs.lemmas.List.Elements.{All-cons, All-nil}
@@ -7,8 +7,8 @@ use Rattle.hp_num.specs.Steps.{◌>>=◌}
 use Rattle.hp_problem.specs.declared.raw.Row.{Row}
 use Rattle.hp_problem.specs.Sealed.{Sealed, is_sealed}
 use Rattle.hp_theory.specs.declared.cut.Cut.{Cut}
-use Rattle.hp_theory.specs.Problem.{S, Node, node_at}
-use Rattle.hp_theory.specs.Tree.{InBox, RowHolds, Decides, next_state}
+use Rattle.hp_theory.specs.Problem.{S, node_at}
+use Rattle.hp_theory.specs.Tree.{RowHolds, next_state}
 use Rattle.hp_theory.specs.View.{problem_of}
 use Rattle.hp_solver.specs.declared.stage_lp.Answer.{Answer}
 use Rattle.hp_settle.specs.declared.judging.Dead.{Dead}

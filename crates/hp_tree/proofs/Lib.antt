@@ -1,4 +1,10 @@
 pub mod Divisors
+pub mod Stopping
+pub mod Positive
+pub mod Ordered
+pub mod Filling
+pub mod Standing
+pub mod Sizing
 pub mod Adding
 pub mod Branching
 pub mod Agreeing
@@ -9,6 +15,7 @@ pub mod Lawful
 pub mod StageSizes
 pub mod Whole
 pub mod Seen
+pub mod Behind
 pub mod Steps
 pub mod Rooted
 pub mod Faults

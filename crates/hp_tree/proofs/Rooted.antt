@@ -1,10 +1,12 @@
 -- The successors of the root, as code reads them.
-use Rattle.std.proofs.Common.{◌≡◌, ◌∙◌, ℕ, ◌+◌, ◌*◌, ◌<◌, ◌≤◌, ◌^◌, ℤ, nat_abs, true, List, [], ◌∷◌, length, sum, Contains, None, Result, Ok, Err, refl, sym, ap, subst, arith, mul-pos}
+use Rattle.std.proofs.Common.{◌≡◌, ◌∙◌, ℕ, ◌+◌, ◌*◌, ◌<◌, ◌≤◌, ◌^◌, ℤ, nat_abs, true, nat_lt, List, length, sum, Contains, None, Result, Ok, Err, refl, sym, ap, ap₂, subst, arith, mul-pos}
+use Rattle.std.specs.List.{list_all}
 use Rattle.std.proofs.Math.Nat.{mul-le-mul}
 use Rattle.hp_num.specs.Steps.{◌>>=◌}
+use Rattle.hp_problem.specs.declared.raw.Raw.{Raw}
 use Rattle.hp_problem.specs.Formulas.{total_weight}
 use Rattle.hp_problem.specs.Sealed.{Sealed, is_sealed}
-use Rattle.hp_sampler.proofs.Draws.{root_counted, root_weighty}
+use Rattle.hp_sampler.proofs.Draws.{root_counted, root_known, root_weighty}
 use Rattle.hp_theory.specs.Problem.{S, Link, link_weights}
 use Rattle.hp_theory.specs.Tree.{times_all}
 use Rattle.hp_theory.specs.View.{links_of, problem_of}
@@ -15,8 +17,9 @@ use Rattle.hp_tree.specs.declared.costs.Walked.{Walked}
 use Rattle.hp_tree.specs.PolicyTree.{Deciding, Stop}
 use Rattle.hp_tree.specs.Costs.{link_costs, no_cost, root_cost, share, tree_cost}
 use Rattle.hp_tree.specs.Small.{IsCost, IsSmall, link_branches, link_denominator, most_cost}
-use Rattle.hp_tree.specs.TooBig.{most_size, too_big_of}
+use Rattle.hp_tree.specs.TooBig.{too_big_of}
 use Rattle.hp_tree.proofs.Adding.{cost_limit}
+use Rattle.hp_tree.proofs.Faults.{links_same}
 use Rattle.hp_tree.proofs.Seen.{total_of}
 use Rattle.hp_tree.proofs.Whole.{root_lcm_some, root_small, root_some}
 
@@ -63,3 +66,42 @@ module _ (p : Sealed) (e : is_sealed p ≡ true) where
 
     pub whole_err : (s : Stop) → found ≡ Err s → root_cost decide (problem_of p) p.longest ≡ Err s
     whole_err s is = whole_by ∙ ap (λ (r : Result Walked Stop). r >>= λ w. Ok (share (sum (link_weights roots)) w)) is
+
+-- the root's successors, their weights and the number of stages, as code reads them
+module _ (p : Sealed) (e : is_sealed p ≡ true) (raw : Raw) (is : raw ≡ p.raw) (k : ℕ) (stages : k ≡ p.longest) (ms ws : List ℕ) (em : ms ≡ raw.root) (ew : ws ≡ raw.root_weights) where
+  nodes_are : ms ≡ p.raw.root
+  nodes_are = em ∙ ap (λ (r : Raw). r.root) is
+
+  weights_are : ws ≡ p.raw.root_weights
+  weights_are = ew ∙ ap (λ (r : Raw). r.root_weights) is
+
+  links_are : links_of ms ws ≡ roots p e
+  links_are = ap₂ links_of nodes_are weights_are
+
+  pub read_known : list_all (λ m. nat_lt m (length p.raw.nodes)) ms ≡ true
+  read_known = subst (λ (ks : List ℕ). list_all (λ m. nat_lt m (length p.raw.nodes)) ks ≡ true) (sym nodes_are) (root_known p e)
+
+  pub read_counted : length ws ≡ length ms
+  read_counted = ap (λ (ks : List ℕ). length ks) weights_are ∙ root_counted p e ∙ sym (ap (λ (ks : List ℕ). length ks) nodes_are)
+
+  pub read_state : (y : List ℤ) → y ≡ times_all S (problem_of p).initial → (m : ℕ) → Contains ms m → IsStateAt p m y
+  read_state y start m there = subst (λ (a : List ℤ). IsStateAt p m a) (sym start) (roots_start p e m (subst (λ (ks : List ℕ). Contains ks m) nodes_are there))
+
+  pub read_small : too_big_of p ≡ None → IsSmall p k (link_denominator p k (links_of ms ws)) (sum (link_weights (links_of ms ws))) 0 (link_branches p k (links_of ms ws))
+  read_small none =
+      subst (λ (n : ℕ). IsSmall p n (link_denominator p n (links_of ms ws)) (sum (link_weights (links_of ms ws))) 0 (link_branches p n (links_of ms ws))) (sym stages)
+      (subst (λ (ls : List Link). IsSmall p p.longest (link_denominator p p.longest ls) (sum (link_weights ls)) 0 (link_branches p p.longest ls)) (sym links_are) (roots_small p e none))
+
+  pub read_cost : (w : Walked) → IsCost p k (link_denominator p k (links_of ms ws)) (sum (link_weights (links_of ms ws))) (0 + link_branches p k (links_of ms ws)) w
+      → IsCost p p.longest (link_denominator p p.longest (roots p e)) (sum (link_weights (roots p e))) (0 + link_branches p p.longest (roots p e)) w
+  read_cost w c =
+      subst (λ (ls : List Link). IsCost p p.longest (link_denominator p p.longest ls) (sum (link_weights ls)) (0 + link_branches p p.longest ls) w) links_are
+      (subst (λ (n : ℕ). IsCost p n (link_denominator p n (links_of ms ws)) (sum (link_weights (links_of ms ws))) (0 + link_branches p n (links_of ms ws)) w) stages c)
+
+  pub read_found : (decide : Deciding) (y : List ℤ) → y ≡ times_all S (problem_of p).initial → link_costs (tree_cost decide (problem_of p) k y) (no_cost 0) (links_of ms ws) ≡ found p e decide
+  read_found decide y start =
+      ap (λ (n : ℕ). link_costs (tree_cost decide (problem_of p) n y) (no_cost 0) (links_of ms ws)) stages
+      ∙ links_same (tree_cost decide (problem_of p) p.longest) y (times_all S (problem_of p).initial) 0 0 (links_of ms ws) (roots p e) start refl links_are
+
+  pub read_total : (vs : List ℕ) (t : ℕ) → vs ≡ raw.root_weights → t ≡ total_weight vs → t ≡ sum (link_weights (roots p e))
+  read_total vs t ev et = et ∙ ap (λ (ks : List ℕ). total_weight ks) (ev ∙ ap (λ (r : Raw). r.root_weights) is) ∙ roots_total p e

@@ -1,5 +1,5 @@
 -- What code reads of a node, and what the definitions see of it.
-use Rattle.std.proofs.Common.{◌≡◌, ◌∙◌, ℕ, zero, suc, ◌+◌, ◌<◌, ◌≤◌, ℤ, true, nat_lt, List, [], ◌∷◌, length, get_or, drop, map, sum, Some, slice_get, Option, refl, sym, ap, ap₂, subst, arith}
+use Rattle.std.proofs.Common.{◌≡◌, ◌∙◌, ℕ, zero, suc, ◌+◌, ◌<◌, ◌≤◌, ℤ, true, nat_lt, List, [], ◌∷◌, length, get_or, drop, sum, Some, slice_get, Option, refl, sym, ap, ap₂, subst, arith}
 use Rattle.std.specs.List.{list_all}
 use Rattle.std.proofs.lemmas.List.{drop_more, get_or_default}
 use Rattle.hp_problem.specs.declared.raw.Node as nodes
@@ -81,6 +81,22 @@ seen p m n e h is =
       few = w.1;
       light = w.2;
     })
+
+-- what a loop through a node's realizations reads at a place
+pub record Read (own : nodes.Node) (i w : ℕ) (v : List ℤ) : Type 0 where
+  pub inside : i < length own.weights
+  pub weight : w ≡ get_or own.weights i w
+  pub values : v ≡ get_or own.values i v
+
+pub read_at : (p : Sealed) (m : ℕ) (own other : nodes.Node) (ws : List ℕ) (vs : List (List ℤ)) (i : ℕ) (r v : List ℤ) → ws ≡ own.weights → vs ≡ other.values → slice_get p.raw.nodes m ≡ Some own → slice_get p.raw.nodes m ≡ Some other
+    → i < length ws → r ≡ get_or vs i r → v ≡ r → Read own i (get_or ws i 0) v
+read_at p m own other ws vs i r v ew ev is again h at e =
+    let values : vs ≡ own.values = ev ∙ ap (λ (n : nodes.Node). n.values) (node_same other own (slice_get p.raw.nodes m) again is) in
+    record {
+      inside = omega (arith, h, ap (λ (ks : List ℕ). length ks) ew);
+      weight = get_or_default ws i 0 (get_or ws i 0) h ∙ ap (λ (ks : List ℕ). get_or ks i (get_or ws i 0)) ew;
+      values = e ∙ at ∙ ap (λ (ks : List (List ℤ)). get_or ks i r) values ∙ ap (λ (a : List ℤ). get_or own.values i a) (sym e);
+    }
 
 -- the values of the realization at a place
 pub realization_values : (p : Sealed) (m i : ℕ) (n : nodes.Node) (v : List ℤ) → Seen p m n → i < length n.weights → v ≡ get_or n.values i v → (get_or (node_at (problem_of p) m).realizations i no_realization).values ≡ v

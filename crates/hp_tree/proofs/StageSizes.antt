@@ -1,9 +1,7 @@
 -- What a stage costs is at most its size.
-use Rattle.std.proofs.Common.{◌≡◌, ◌∙◌, ℕ, zero, suc, ◌+◌, ◌*◌, ◌<◌, ◌≤◌, max, ℤ, pos, ◌+ℤ◌, ◌*ℤ◌, ◌≤ℤ◌, nat_abs, true, List, [], ◌∷◌, length, get_or, map, Contains, refl, sym, ap, subst, arith, mul-le-mul_left}
-use Rattle.std.proofs.Math.Nat.{mul-le-mul}
+use Rattle.std.proofs.Common.{◌≡◌, ◌∙◌, ℕ, zero, suc, ◌+◌, ◌*◌, ◌<◌, ◌≤◌, ℤ, pos, ◌+ℤ◌, ◌*ℤ◌, ◌≤ℤ◌, nat_abs, true, List, [], ◌∷◌, length, get_or, map, sym, subst, arith, mul-le-mul_left}
 use Rattle.std.proofs.lemmas.Int.{ints, unsigned_abs-mul}
-use Rattle.std.proofs.lemmas.List.{length-map, get_or_default}
-use Rattle.std.proofs.lemmas.List.Elements.{Contains-get_or}
+use Rattle.std.proofs.lemmas.List.{length-map}
 use Rattle.hp_num.specs.Sums.{entry, dot}
 use Rattle.hp_paths.specs.Paths.{numbers}
 use Rattle.hp_paths.specs.Ranks.{greatest}

@@ -1,25 +1,28 @@
 -- The steps of the loops through successors and through branches.
-use Rattle.std.proofs.Common.{◌≡◌, ◌∙◌, ℕ, zero, suc, ◌+◌, ◌*◌, ◌<◌, ◌≤◌, ℤ, pos, ◌+ℤ◌, ◌*ℤ◌, FitsSigned, true, nat_lt, List, [], ◌∷◌, length, get_or, drop, drop_of_length-le, map, sum, All, Some, slice_get, Result, Ok, Err, refl, sym, ap, subst, arith}
+use Rattle.std.proofs.Common.{◌≡◌, ◌∙◌, ℕ, suc, ◌+◌, ◌*◌, ◌<◌, ◌≤◌, ℤ, pos, ◌+ℤ◌, ◌*ℤ◌, FitsSigned, true, nat_lt, List, [], ◌∷◌, length, get_or, drop, drop_of_length-le, sum, All, Result, Ok, Err, sym, ap, subst, arith}
 use Rattle.std.specs.Int.{w128}
 use Rattle.std.specs.List.{list_all}
 use Rattle.std.proofs.lemmas.Bool.Decides.{nat_tests}
+use Rattle.std.proofs.lemmas.List.{get_or_default}
 use Rattle.std.proofs.lemmas.List.Elements.{All-drop}
 use Rattle.hp_num.proofs.Tests.{all_at}
 use Rattle.hp_problem.specs.declared.raw.Node as nodes
 use Rattle.hp_problem.specs.Sealed.{Sealed, is_sealed}
-use Rattle.hp_sampler.specs.declared.steps.Step.{Step}
-use Rattle.hp_theory.specs.Problem.{Realization, Link, Node, node_at, link_weights, weight_of_realizations}
-use Rattle.hp_theory.specs.View.{links_of, realizations_of, problem_of}
+use Rattle.hp_theory.specs.Problem.{Realization, Link, Node, node_at, link_weights, realization_weight, weight_of_realizations}
+use Rattle.hp_theory.specs.View.{links_of, problem_of}
 use Rattle.hp_theory.proofs.Views.{All-links_of, length-links_of}
 use Rattle.hp_tree.specs.declared.costs.Walked.{Walked}
+use Rattle.hp_tree.specs.declared.walking.Fault.{Fault}
 use Rattle.hp_tree.specs.PolicyTree.{Deciding, Stop}
 use Rattle.hp_tree.specs.Costs.{add_branch, add_cost, branch_cost, branch_costs, link_costs, no_cost}
 use Rattle.hp_tree.specs.Small.{AddsUp, IsCost, IsSmall, link_branches, link_denominator}
 use Rattle.hp_tree.specs.TooBig.{branches, denominator}
-use Rattle.hp_tree.proofs.Adding.{LinksGo, dens, link_adds, link_next, link_small, link_stops, links_last}
+use Rattle.hp_tree.specs.Verdicts.{Stops}
+use Rattle.hp_tree.proofs.Adding.{LinksGo, link_adds, link_next, link_small, link_stops, links_last}
 use Rattle.hp_tree.proofs.Branching.{BranchesGo, branch_next, branch_small_here, branch_stops, branch_weighted, branch_whole, branches_last}
-use Rattle.hp_tree.proofs.Seen.{Seen, length-realizations_of, link_here, realization_here}
-use Rattle.hp_tree.proofs.Whole.{dens_some}
+use Rattle.hp_tree.proofs.Faults.{stops_on}
+use Rattle.hp_tree.proofs.Positive.{dens, dens_some}
+use Rattle.hp_tree.proofs.Seen.{Read, Seen, link_here, realization_here}
 
 less : (m n : ℕ) → nat_lt m n ≡ true → m < n
 less m n e = grind (arith, nat_tests)
@@ -29,8 +32,14 @@ links_known count ms ws e h = All-links_of (λ (l : Link). l.node < count) ms ws
 
 -- a step of the loop through successors
 module _ (p : Sealed) (e : is_sealed p ≡ true) (n k : ℕ) (go : ℕ → ℕ → Result Walked Stop) (ms ws : List ℕ) (known : list_all (λ m. nat_lt m (length p.raw.nodes)) ms ≡ true) (counted : length ws ≡ length ms)
-    (small : IsSmall p n (link_denominator p n (links_of ms ws)) (sum (link_weights (links_of ms ws))) k (link_branches p n (links_of ms ws))) (i m w : ℕ) (inside : i < length ms) (em : m ≡ get_or ms i m) (ew : w ≡ get_or ws i w) (total : Walked)
+    (small : IsSmall p n (link_denominator p n (links_of ms ws)) (sum (link_weights (links_of ms ws))) k (link_branches p n (links_of ms ws))) (i : ℕ) (inside : i < length ms) (total : Walked)
     (h : LinksGo p n k go (links_of ms ws) (drop i (links_of ms ws)) total) where
+  abbrev m : ℕ
+  m = get_or ms i 0
+
+  abbrev w : ℕ
+  w = get_or ws i 0
+
   abbrev rest : List Link
   rest = drop (i + 1) (links_of ms ws)
 
@@ -38,7 +47,7 @@ module _ (p : Sealed) (e : is_sealed p ≡ true) (n k : ℕ) (go : ℕ → ℕ �
   link = record { node = m; weight = w }
 
   split : drop i (links_of ms ws) ≡ link ∷ rest
-  split = link_here ms ws i m w counted inside em ew
+  split = link_here ms ws i m w counted inside (get_or_default ms i 0 m inside) (get_or_default ws i 0 w (omega (arith, inside, counted)))
 
   here : LinksGo p n k go (links_of ms ws) (link ∷ rest) total
   here = subst (λ (ls : List Link). LinksGo p n k go (links_of ms ws) ls total) split h
@@ -52,16 +61,19 @@ module _ (p : Sealed) (e : is_sealed p ≡ true) (n k : ℕ) (go : ℕ → ℕ �
   step_small = link_small p n k go (links_of ms ws) link rest total total here some small
 
   pub step_known : m < length p.raw.nodes
-  step_known = subst (λ (j : ℕ). j < length p.raw.nodes) (sym em) (less (get_or ms i m) (length p.raw.nodes) (all_at (λ m. nat_lt m (length p.raw.nodes)) ms i m known inside))
+  step_known = less m (length p.raw.nodes) (all_at (λ m. nat_lt m (length p.raw.nodes)) ms i 0 known inside)
 
   pub step_adds : (c : Walked) → IsCost p n (denominator (problem_of p) n m) 1 (total.decided + branches (problem_of p) n m) c → AddsUp total w c
   step_adds c is = link_adds p n k go (links_of ms ws) link rest total c here some small is
 
-  pub step_next : (c : Walked) → IsCost p n (denominator (problem_of p) n m) 1 (total.decided + branches (problem_of p) n m) c → go total.decided m ≡ Ok c → LinksGo p n k go (links_of ms ws) (drop (i + 1) (links_of ms ws)) (add_cost total w c)
-  step_next c is e = link_next p n k go (links_of ms ws) link rest total c here some small is e
+  pub step_next : (c next : Walked) → IsCost p n (denominator (problem_of p) n m) 1 (total.decided + branches (problem_of p) n m) c → go total.decided m ≡ Ok c → next ≡ add_cost total w c → LinksGo p n k go (links_of ms ws) (drop (i + 1) (links_of ms ws)) next
+  step_next c next is e same = subst (λ (s : Walked). LinksGo p n k go (links_of ms ws) rest s) (sym same) (link_next p n k go (links_of ms ws) link rest total c here some small is e)
 
   pub step_stops : (s : Stop) → go total.decided m ≡ Err s → link_costs go (no_cost k) (links_of ms ws) ≡ Err s
   step_stops s e = link_stops p n k go (links_of ms ws) link rest total total here some small s e
+
+  pub step_fault : (f : Fault) → Stops f (go total.decided m) → Stops f (link_costs go (no_cost k) (links_of ms ws))
+  step_fault f e = stops_on f (go total.decided m) (link_costs go (no_cost k) (links_of ms ws)) step_stops e
 
 pub steps_last : (p : Sealed) (n k : ℕ) (go : ℕ → ℕ → Result Walked Stop) (ms ws : List ℕ) (i : ℕ) (total : Walked) → length ws ≡ length ms → length ms ≤ i → LinksGo p n k go (links_of ms ws) (drop i (links_of ms ws)) total
     → (link_costs go (no_cost k) (links_of ms ws) ≡ Ok total) × IsCost p n (link_denominator p n (links_of ms ws)) (sum (link_weights (links_of ms ws))) (k + link_branches p n (links_of ms ws)) total
@@ -70,9 +82,12 @@ steps_last p n k go ms ws i total counted past h =
     (sym all.value, links_last p n k go (links_of ms ws) total all)
 
 -- a step of the loop through branches
-module _ (p : Sealed) (n U j k : ℕ) (decide : Deciding) (go : List ℤ → ℕ → ℕ → Result Walked Stop) (node : Node) (m : ℕ) (x : List ℤ) (ws : List ℕ) (vs : List (List ℤ)) (is : node.realizations ≡ realizations_of ws vs) (valued : length vs ≡ length ws)
-    (small : IsSmall p n U (weight_of_realizations node.realizations) k (length node.realizations * j)) (i w : ℕ) (v : List ℤ) (inside : i < length ws) (ew : w ≡ get_or ws i w) (ev : v ≡ get_or vs i v) (total : Walked)
-    (h : BranchesGo p n U j k decide go node m x node.realizations (drop i node.realizations) i total) where
+module _ (p : Sealed) (n U j k : ℕ) (decide : Deciding) (go : List ℤ → ℕ → ℕ → Result Walked Stop) (m : ℕ) (x : List ℤ) (read : nodes.Node) (q : Seen p m read)
+    (small : IsSmall p n U (realization_weight (node_at (problem_of p) m)) k (length (node_at (problem_of p) m).realizations * j)) (i w : ℕ) (v : List ℤ) (r : Read read i w v) (total : Walked)
+    (h : BranchesGo p n U j k decide go (node_at (problem_of p) m) m x (node_at (problem_of p) m).realizations (drop i (node_at (problem_of p) m).realizations) i total) where
+  abbrev node : Node
+  node = node_at (problem_of p) m
+
   abbrev left : List Realization
   left = drop (i + 1) node.realizations
 
@@ -80,7 +95,7 @@ module _ (p : Sealed) (n U j k : ℕ) (decide : Deciding) (go : List ℤ → ℕ
   own = record { weight = w; values = v }
 
   parted : drop i node.realizations ≡ own ∷ left
-  parted = ap (λ (rs : List Realization). drop i rs) is ∙ realization_here ws vs i w v valued inside ew ev ∙ ap (λ (rs : List Realization). own ∷ drop (i + 1) rs) (sym is)
+  parted = ap (λ (rs : List Realization). drop i rs) q.realizations ∙ realization_here read.weights read.values i w v q.valued r.inside r.weight r.values ∙ ap (λ (rs : List Realization). own ∷ drop (i + 1) rs) (sym q.realizations)
 
   now : BranchesGo p n U j k decide go node m x node.realizations (own ∷ left) i total
   now = subst (λ (rs : List Realization). BranchesGo p n U j k decide go node m x node.realizations rs i total) parted h
@@ -95,14 +110,19 @@ module _ (p : Sealed) (n U j k : ℕ) (decide : Deciding) (go : List ℤ → ℕ
     pub adds_whole : FitsSigned w128 (total.up +ℤ pos w *ℤ c.up)
     adds_whole = branch_whole p n U j k decide go node m x node.realizations own left i total c now small cost
 
-    pub adds_next : branch_cost decide go node total.decided (record { node = m; realization = i }) v x ≡ Ok c → BranchesGo p n U j k decide go node m x node.realizations (drop (i + 1) node.realizations) (i + 1) (add_branch total w c)
-    adds_next e = subst (λ (q : ℕ). BranchesGo p n U j k decide go node m x node.realizations left q (add_branch total w c)) one_more (branch_next p n U j k decide go node m x node.realizations own left i total c now small cost e)
+    pub adds_next : (next : Walked) → branch_cost decide go node total.decided (record { node = m; realization = i }) v x ≡ Ok c → next ≡ add_branch total w c → BranchesGo p n U j k decide go node m x node.realizations (drop (i + 1) node.realizations) (i + 1) next
+    adds_next next e same =
+        subst (λ (s : Walked). BranchesGo p n U j k decide go node m x node.realizations left (i + 1) s) (sym same)
+        (subst (λ (q : ℕ). BranchesGo p n U j k decide go node m x node.realizations left q (add_branch total w c)) one_more (branch_next p n U j k decide go node m x node.realizations own left i total c now small cost e))
       where
         one_more : suc i ≡ i + 1
         one_more = omega arith
 
   pub adds_stops : (s : Stop) → branch_cost decide go node total.decided (record { node = m; realization = i }) v x ≡ Err s → branch_costs decide go node m (no_cost k) 0 node.realizations x ≡ Err s
   adds_stops s e = branch_stops p n U j k decide go node m x node.realizations own left i total total now small s e
+
+  pub adds_fault : (f : Fault) → Stops f (branch_cost decide go node total.decided (record { node = m; realization = i }) v x) → Stops f (branch_costs decide go node m (no_cost k) 0 node.realizations x)
+  adds_fault f e = stops_on f (branch_cost decide go node total.decided (record { node = m; realization = i }) v x) (branch_costs decide go node m (no_cost k) 0 node.realizations x) adds_stops e
 
 pub branches_end : (p : Sealed) (n U j k : ℕ) (decide : Deciding) (go : List ℤ → ℕ → ℕ → Result Walked Stop) (node : Node) (m : ℕ) (x : List ℤ) (i : ℕ) (total : Walked) → 0 < i → length node.realizations ≤ i → BranchesGo p n U j k decide go node m x node.realizations (drop i node.realizations) i total
     → (branch_costs decide go node m (no_cost k) 0 node.realizations x ≡ Ok total) × IsCost p n U (weight_of_realizations node.realizations) (k + length node.realizations * j) total

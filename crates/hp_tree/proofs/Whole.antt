@@ -1,43 +1,31 @@
 -- The whole policy: its cost stays inside 128 bits, its tree is a policy, and its verdict is that of its cost.
-use Rattle.std.proofs.Common.{◌≡◌, ◌∙◌, ℕ, zero, suc, ◌+◌, ◌*◌, ◌<◌, ◌≤◌, ◌^◌, min, ℤ, pos, ◌+ℤ◌, ◌*ℤ◌, ◌≤ℤ◌, nat_abs, Bool, true, false, if◌then◌else◌, nat_lt, List, [], ◌∷◌, length, get_or, map, sum, reverse, All, Contains, Option, Some, None, Result, Ok, Err, IfOk, refl, sym, ap, ap₂, subst, arith, mul-pos}
-use Rattle.std.proofs.Math.Nat.{mul-le-mul}
+use Rattle.std.proofs.Common.{◌≡◌, ◌∙◌, ℕ, zero, suc, ◌*◌, ◌<◌, ◌≤◌, ◌^◌, min, ℤ, pos, ◌*ℤ◌, ◌≤ℤ◌, Bool, true, false, if◌then◌else◌, nat_lt, List, [], ◌∷◌, length, get_or, sum, reverse, All, Option, Some, None, Result, Ok, Err, IfOk, refl, sym, ap, subst, arith, mul-pos}
 use Rattle.std.proofs.lemmas.Bool.Decides.{nat_tests}
-use Rattle.std.proofs.lemmas.Grind.{common_steps}
-use Rattle.std.proofs.lemmas.Int.{ints}
-use Rattle.std.proofs.lemmas.List.{length-map}
-use Rattle.std.proofs.lemmas.List.Elements.{All-cons, All-nil, Contains-get_or}
-use Rattle.std.proofs.lemmas.Option.{slice_get-get_or}
+use Rattle.std.proofs.lemmas.List.Elements.{Contains-get_or}
 use Rattle.hp_num.specs.Steps.{◌>>=◌}
-use Rattle.hp_num.proofs.Sums.{All_head, All_tail}
 use Rattle.hp_num.proofs.Ring.{ring, var, ◌⊗◌}
-use Rattle.hp_paths.specs.Ranks.{longest_from, rank, ranks}
-use Rattle.hp_paths.proofs.AllRanked.{greatest_over}
-use Rattle.hp_paths.proofs.Placing.{rank_at}
+use Rattle.hp_paths.specs.Ranks.{rank}
 use Rattle.hp_problem.specs.declared.formulas.TooMuch.{TooMuch}
-use Rattle.hp_problem.specs.declared.raw.Node as nodes
 use Rattle.hp_problem.specs.Formulas.{above, or_then}
-use Rattle.hp_problem.specs.Sealed.{Sealed, is_sealed, graph_fits, graph_of}
-use Rattle.hp_problem.proofs.SealedFacts.{graph-is_sealed}
+use Rattle.hp_problem.specs.Sealed.{Sealed, is_sealed, graph_of}
 use Rattle.hp_theory.specs.declared.cut.Cut.{Cut}
-use Rattle.hp_theory.specs.Bound.{bound, Under}
+use Rattle.hp_theory.specs.Bound.{bound}
 use Rattle.hp_theory.specs.Cost.{policy_cost}
 use Rattle.hp_theory.specs.Fit.{Fit}
 use Rattle.hp_theory.specs.Fraction.{Fraction}
 use Rattle.hp_theory.specs.Pools.{Sound}
-use Rattle.hp_theory.specs.Premises.{Known}
-use Rattle.hp_theory.specs.Problem.{S, Link, Node, Problem, node_at, link_weights, realization_weight, successor_weight}
+use Rattle.hp_theory.specs.Problem.{S, Link, link_weights}
 use Rattle.hp_theory.specs.Tree.{Forest, Policy, times_all}
-use Rattle.hp_theory.specs.View.{links_of, problem_of}
+use Rattle.hp_theory.specs.View.{problem_of}
 use Rattle.hp_theory.proofs.BoundBelow.{sound_bound}
 use Rattle.hp_theory.proofs.Denominators.{positive_policy}
-use Rattle.hp_theory.proofs.SealedPremises.{known-sealed, root-sealed, root_shaped-sealed}
+use Rattle.hp_theory.proofs.SealedPremises.{root-sealed, root_shaped-sealed}
 use Rattle.hp_theory.proofs.Views.{All-links_of, root-problem_of}
 use Rattle.hp_cut.proofs.Weighted.{have_cuts-fit}
 use Rattle.hp_settle.specs.declared.judging.Dead.{Dead}
 use Rattle.hp_lp.specs.Chained.{Solving}
-use Rattle.hp_sampler.proofs.Draws.{root_counted, root_inside}
+use Rattle.hp_sampler.proofs.Draws.{root_counted}
 use Rattle.hp_forward.specs.declared.deciding.StageFault.{StageFault}
-use Rattle.hp_forward.specs.declared.deciding.StageFault.TheVariants as stages
 use Rattle.hp_forward.specs.Given.{Gives}
 use Rattle.hp_tree.specs.declared.costs.Walked.{Walked}
 use Rattle.hp_tree.specs.declared.walking.Missed.{Missed}
@@ -46,16 +34,17 @@ use Rattle.hp_tree.specs.declared.walking.Verdict.TheVariants as verdicts
 use Rattle.hp_tree.specs.Multiples.{lcm_all}
 use Rattle.hp_tree.specs.Costs.{link_costs, no_cost, root_cost, share, tree_cost}
 use Rattle.hp_tree.specs.PolicyTree.{Deciding, Grown, Stop, dead, missed, decide_branch, judged, policy_tree, verdict_of, whole_tree}
-use Rattle.hp_tree.specs.Small.{IsCost, IsSmall, link_branches, link_denominator, most_cost}
-use Rattle.hp_tree.specs.TooBig.{branch_count, branches, denominator, most_size, root_denominator, too_big_of}
-use Rattle.hp_tree.specs.Upper.{IsUpper, ceiling_over, scaled_up, upper_of}
+use Rattle.hp_tree.specs.Small.{IsSmall, link_branches, link_denominator}
+use Rattle.hp_tree.specs.TooBig.{branch_count, branches, most_size, root_denominator, too_big_of}
+use Rattle.hp_tree.specs.Upper.{IsUpper, ceiling_over, upper_of}
 use Rattle.hp_tree.specs.Verdicts.{OnCost, rounded}
-use Rattle.hp_tree.proofs.Adding.{cost_limit, dens}
-use Rattle.hp_tree.proofs.Agreeing.{Agree, Is, IsPolicy, Leaves, policies_agree}
+use Rattle.hp_tree.proofs.Agreeing.{Agree, IsPolicy, policies_agree}
 use Rattle.hp_tree.proofs.Ceilings.{ceiling_same, under_upper, upper_is}
 use Rattle.hp_tree.proofs.Divisors.{lcm_all_least}
 use Rattle.hp_tree.proofs.Following.{Lawful, policy_feasible}
 use Rattle.hp_tree.proofs.Lawful.{lawful}
+use Rattle.hp_tree.proofs.Ordered.{root_low}
+use Rattle.hp_tree.proofs.Positive.{dens, dens_some}
 
 -- no formula is above its limit
 not_some : (t : TooMuch) → Some t ≡ None → ⊥
@@ -111,47 +100,18 @@ module _ (p : Sealed) (e : is_sealed p ≡ true) where
       let m = positive_mul (sum (link_weights (problem_of p).root)) (link_denominator p p.longest (problem_of p).root) root_some b.denominator in
       record { under = m.0; weighted = m.1; branches = omega (arith, b.branches); sizes = b.sizes }
 
-  -- denominators are positive
-  dens_by : (n : ℕ) → ((m : ℕ) → m < length p.raw.nodes → 0 < denominator (problem_of p) n m) → (ls : List Link) → All (λ (l : Link). l.node < length p.raw.nodes) ls → All (λ b. 0 < b) (dens p n ls)
-  dens_by n f [] h = All-nil (λ b. 0 < b)
-  dens_by n f (l ∷ ls) h =
-      All-cons (λ b. 0 < b) (denominator (problem_of p) n l.node) (dens p n ls) (f l.node (All_head (λ (l : Link). l.node < length p.raw.nodes) l ls h)) (dens_by n f ls (All_tail (λ (l : Link). l.node < length p.raw.nodes) l ls h))
-
-  pub denominator_some : (n m : ℕ) → m < length p.raw.nodes → 0 < denominator (problem_of p) n m
-  denominator_some zero m h = omega arith
-  denominator_some (suc n) m h =
-      let known = known-sealed p e in
-      let least = lcm_all_least 1 (dens p n (node_at (problem_of p) m).links) (omega arith) (dens_by n (λ m h. denominator_some n m h) (node_at (problem_of p) m).links (known.links m h)) in
-      mul-pos (known.realizations m h) (mul-pos (known.successors m h) (omega (arith, least)))
-
-  pub dens_some : (n : ℕ) (ls : List Link) → All (λ (l : Link). l.node < length p.raw.nodes) ls → All (λ b. 0 < b) (dens p n ls)
-  dens_some n ls h = dens_by n (denominator_some n) ls h
-
   lcm_some : (n : ℕ) (ls : List Link) → All (λ (l : Link). l.node < length p.raw.nodes) ls → 0 < lcm_all 1 (dens p n ls)
-  lcm_some n ls h = omega (arith, lcm_all_least 1 (dens p n ls) (omega arith) (dens_some n ls h))
+  lcm_some n ls h = omega (arith, lcm_all_least 1 (dens p n ls) (omega arith) (dens_some p e n ls h))
 
   pub root_lcm_some : 0 < link_denominator p p.longest (problem_of p).root
   root_lcm_some = lcm_some p.longest (problem_of p).root (root-sealed p e)
 
   -- no tree is cut off
-  longest_is : p.longest ≡ longest_from (ranks (graph_of p.raw)) p.raw.root
-  unfolding graph_fits
-  longest_is = let g : graph_fits p.raw p.order p.longest ≡ true = graph-is_sealed p e in grind (arith, nat_tests, common_steps, g)
-
-  root_low : (m : ℕ) → m < length p.raw.nodes → Contains p.raw.root m → rank (graph_of p.raw) m < p.longest
-  root_low m h c =
-      let most : suc (get_or (ranks (graph_of p.raw)) m 0) ≤ longest_from (ranks (graph_of p.raw)) p.raw.root = greatest_over (λ k. suc (get_or (ranks (graph_of p.raw)) k 0)) p.raw.root m c in
-      let at : get_or (ranks (graph_of p.raw)) m 0 ≡ rank (graph_of p.raw) m = rank_at (graph_of p.raw) m (omega (arith, h, length-map p.raw.nodes (λ (n : nodes.Node). n.links))) in
-      omega (arith, most, at, longest_is)
-
   root_ranks : All (λ (l : Link). rank (graph_of p.raw) l.node < p.longest) (problem_of p).root
   root_ranks =
       subst (λ (ls : List Link). All (λ (l : Link). rank (graph_of p.raw) l.node < p.longest) ls) (sym (root-problem_of p))
       (All-links_of (λ (l : Link). rank (graph_of p.raw) l.node < p.longest) p.raw.root p.raw.root_weights (root_counted p e)
-      (λ i h. root_low (get_or p.raw.root i 0) (root_there i h) (Contains-get_or p.raw.root i 0 h)))
-    where
-      root_there : (i : ℕ) → i < length p.raw.root → get_or p.raw.root i 0 < length p.raw.nodes
-      root_there i h = root_inside p i (get_or p.raw.root i 0) e (slice_get-get_or p.raw.root i 0 h)
+      (λ i h. root_low p e (get_or p.raw.root i 0) (Contains-get_or p.raw.root i 0 h)))
 
   module _ (decide : Deciding) (law : Lawful (problem_of p) (length p.raw.nodes) decide) where
     abbrev pub tree : Grown Forest

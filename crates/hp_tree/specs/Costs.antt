@@ -1,10 +1,9 @@
 -- The cost of the tree while it is walked through, over the least common denominator.
-use Rattle.std.specs.Prelude.{ℕ, zero, suc, ◌*◌, ◌/◌, ℤ, pos, ◌+ℤ◌, ◌*ℤ◌, List, [], ◌∷◌, Result, Ok, Err, length, sum}
+use Rattle.std.specs.Prelude.{ℕ, zero, suc, ◌*◌, ◌/◌, ℤ, pos, ◌+ℤ◌, ◌*ℤ◌, List, [], ◌∷◌, Result, Ok, sum}
 use Rattle.hp_num.specs.Steps.{◌>>=◌}
 use Rattle.hp_theory.specs.Problem.{S, Realization, Link, Node, Problem, node_at, link_weights, realization_weight, successor_weight}
 use Rattle.hp_theory.specs.Tree.{times_all}
 use Rattle.hp_sampler.specs.declared.steps.Step.{Step}
-use Rattle.hp_forward.specs.declared.deciding.Decided.{Decided}
 use Rattle.hp_forward.specs.Costing.{stage_cost_of}
 use Rattle.hp_tree.specs.Multiples.{gcd, lcm}
 use Rattle.hp_tree.specs.PolicyTree.{Deciding, Stop, behind}

@@ -1,5 +1,6 @@
 pub mod Multiples
 pub mod TooBig
+pub mod Tables
 pub mod PolicyTree
 pub mod Upper
 pub mod Costs

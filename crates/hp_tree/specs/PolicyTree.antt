@@ -5,7 +5,7 @@ use Rattle.std.specs.Ordering.{int_eq}
 use Rattle.hp_num.specs.Steps.{◌>>=◌}
 use Rattle.hp_problem.specs.Sealed.{Sealed}
 use Rattle.hp_theory.specs.declared.cut.Cut.{Cut}
-use Rattle.hp_theory.specs.Problem.{S, Realization, Link, Node, Problem, node_at}
+use Rattle.hp_theory.specs.Problem.{S, Realization, Link, Problem, node_at}
 use Rattle.hp_theory.specs.Tree.{Tree, Forest, no_branch, branch, no_tree, tree, times_all}
 use Rattle.hp_theory.specs.View.{problem_of}
 use Rattle.hp_settle.specs.declared.judging.Dead.{Dead}

@@ -1,8 +1,8 @@
 -- What keeps the costs of a walk through the tree inside 128 bits, and what is known of them.
-use Rattle.std.specs.Prelude.{◌≡◌, ℕ, zero, suc, ◌+◌, ◌*◌, ◌/◌, ◌<◌, ◌≤◌, ◌^◌, ℤ, pos, ◌+ℤ◌, ◌*ℤ◌, nat_abs, List, length, map, sum, FitsSigned}
+use Rattle.std.specs.Prelude.{◌≡◌, ℕ, ◌+◌, ◌*◌, ◌/◌, ◌<◌, ◌≤◌, ◌^◌, pos, ◌+ℤ◌, ◌*ℤ◌, nat_abs, List, map, sum, FitsSigned}
 use Rattle.std.specs.Int.{w128}
 use Rattle.hp_problem.specs.Sealed.{Sealed}
-use Rattle.hp_theory.specs.Problem.{S, Link, Node, Problem, node_at, link_weights, realization_weight, successor_weight}
+use Rattle.hp_theory.specs.Problem.{S, Link}
 use Rattle.hp_theory.specs.View.{problem_of}
 use Rattle.hp_tree.specs.Multiples.{gcd, lcm, lcm_all}
 use Rattle.hp_tree.specs.TooBig.{branches, denominator, most_size}

@@ -1,4 +1,4 @@
-use Rattle.std.proofs.Common.{◌+◌, ◌*◌, suc, drop, length}
+use Rattle.std.proofs.Common.{◌+◌, ◌*◌, suc, drop}
 use Rattle.hp_theory.specs.Problem.{node_at, successor_weight}
 use Rattle.hp_theory.specs.View.{links_of, problem_of}
 use Rattle.hp_lp.specs.Chained.{solving}

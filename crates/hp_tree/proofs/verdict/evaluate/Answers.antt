@@ -1,4 +1,4 @@
-use Rattle.std.proofs.Common.{◌≡◌, Result, sym, subst}
+use Rattle.std.proofs.Common.{Result, sym, subst}
 use Rattle.hp_settle.specs.declared.judging.Dead.{Dead}
 use Rattle.hp_theory.specs.View.{problem_of}
 use Rattle.hp_lp.specs.Chained.{solving}
