@@ -1,10 +1,11 @@
 -- The reader accepts a generated problem, and its base cuts fit.
-use Rattle.std.proofs.Common.{◌≡◌, ℕ, zero, suc, ◌+◌, ◌*◌, ◌^◌, ◌<◌, ◌≤◌, ◌==◌, ◌⊎◌, inl, inr, ℤ, pos, ◌+ℤ◌, ◌*ℤ◌, ◌≤ℤ◌, List, [], ◌∷◌, ◌++◌, length, map, get_or, slice_get, replicate, codes, Bool, true, false, cond, nat_lt, Some, None, Ok, refl, sym, ap, ap₂, subst, ◌∙◌, arith}
+use Rattle.std.proofs.Common.{◌≡◌, ℕ, zero, suc, ◌+◌, ◌*◌, ◌-◌, ◌^◌, ◌<◌, ◌≤◌, ◌==◌, ◌⊎◌, inl, inr, ℤ, pos, ◌+ℤ◌, ◌*ℤ◌, ◌≤ℤ◌, List, [], ◌∷◌, ◌++◌, length, map, get_or, slice_get, replicate, codes, Bool, true, false, cond, nat_lt, Some, None, Ok, refl, sym, ap, ap₂, subst, ◌∙◌, arith}
 use Rattle.std.specs.List.{flat_map, range_with_len}
 use Rattle.std.specs.Str.{IsUtf8}
 use Rattle.std.proofs.lemmas.Str.{is_utf8-from_IsUtf8, IsUtf8-append, IsUtf8-from_ascii}
 use Rattle.std.proofs.lemmas.Int.{ints}
-use lib.IntN.{zero-*ℤ}
+use lib.IntN.{zero-*ℤ, *ℤ-zero}
+use Rattle.hp_num.proofs.Order.{le_scale}
 use Rattle.json.specs.Lex.{tokens}
 use Rattle.json.specs.Print.{print}
 use Rattle.serde_json.specs.Data.{Data, depth}
@@ -30,7 +31,7 @@ use Rattle.hp_gen.specs.Generated.{problem}
 use Rattle.hp_gen.proofs.Subproblems.{form, decision, decision_list, each}
 use Rattle.hp_gen.proofs.Reading.{node_form, link_by, raw_read}
 use Rattle.hp_gen.proofs.Boxing.{sealed_form, arranged_form}
-use Rattle.hp_gen.proofs.Newline.{read-newline}
+use Rattle.hp_forms.proofs.Newline.{read-newline}
 use Rattle.hp_gen.proofs.Plain.{problem_plain}
 use Rattle.hp_gen.proofs.Basing.{Tame, MayBeTame, all_based, no_cuts_zero}
 
@@ -64,6 +65,9 @@ unfolding TameDecisions
 low_at [] t j = refl
 low_at (d ∷ ds) t zero = t.0
 low_at (d ∷ ds) t (suc j) = low_at ds t.3 j
+
+free_low : (ds : List Decision) (j : ℕ) → entry (map (λ (d : Decision). d.low) ds) j ≡ pos 0 → entry (map (λ (d : Decision). d.cost) ds) j *ℤ entry (map (λ (d : Decision). d.low) ds) j ≡ pos 0
+free_low ds j e = ap (λ (l : ℤ). entry (map (λ (d : Decision). d.cost) ds) j *ℤ l) e ∙ *ℤ-zero (entry (map (λ (d : Decision). d.cost) ds) j)
 
 high_at : (ds : List Decision) → TameDecisions ds → (j : ℕ) → pos 0 ≤ℤ entry (map (λ (d : Decision). d.high) ds) j
 unfolding TameDecisions
@@ -126,6 +130,9 @@ factor_fits : (q : ℕ) → q ≤ 6 → 10 * (S * S * q) ≤ 2 ^ 60
 unfolding S
 factor_fits q h = omega arith
 
+far_within : (k : ℕ) (c : ℤ) → k ≤ 2 ^ 60 → (pos k *ℤ c) ≤ℤ (pos k *ℤ pos 82500) → (pos k *ℤ c) ≤ℤ pos (2 ^ 127 - 1)
+far_within k c h l = omega (arith, ints)
+
 below : (count : ℕ) (z : ℤ) → z ≡ pos (8250 * count) → count ≤ 10 → z ≤ℤ pos 82500
 below count z e h = rw e (omega (arith, ints))
 
@@ -141,12 +148,11 @@ module _ (word : ℕ → ℕ) (stages count : ℕ) (some : 1 ≤ count) (few : c
         randoms = dot_repeated count;
         randoms_small = dot_small count;
         states = entry_repeated count;
-        lows = low_at (decision_list count) (tame_decisions count);
+        lows = λ j. free_low (decision_list count) j (low_at (decision_list count) (tame_decisions count) j);
         highs = high_at (decision_list count) (tame_decisions count);
         costs = cost_at (decision_list count) (tame_decisions count);
-        size = below count (costs_size count) (sized count some few) few;
         weights = some_divisor _ q.0;
-        factor = factor_fits _ q.1;
+        fits = far_within _ (costs_size count) (factor_fits _ q.1) (le_scale _ (costs_size count) (pos 82500) (below count (costs_size count) (sized count some few) few));
       }
 
   -- the node of a number is one that was read, or none

@@ -1,5 +1,5 @@
--- The base cuts of a generated problem are 0, and the sizes of their certificates are far within their range.
-use Rattle.std.proofs.Common.{◌≡◌, ℕ, zero, suc, ◌*◌, ◌^◌, ◌-◌, ◌<◌, ◌≤◌, ◌⊎◌, inl, inr, ℤ, pos, ◌+ℤ◌, ◌-ℤ◌, ◌*ℤ◌, ◌≤ℤ◌, List, [], ◌∷◌, ◌++◌, length, map, zip, get_or, set, replicate, Option, None, Ok, refl, sym, ap, ap₂, subst, ◌∙◌, arith}
+-- Where decisions cost nothing at their least values and never less, base cuts are 0; where costs are not too large, the sizes of their certificates are within their range.
+use Rattle.std.proofs.Common.{◌≡◌, ℕ, zero, suc, ◌*◌, ◌^◌, ◌-◌, ◌<◌, ◌⊎◌, inl, inr, ℤ, pos, ◌+ℤ◌, ◌-ℤ◌, ◌*ℤ◌, ◌≤ℤ◌, List, [], ◌∷◌, ◌++◌, length, map, zip, get_or, set, replicate, Option, None, Ok, refl, sym, ap, ap₂, subst, ◌∙◌, arith}
 use Rattle.std.specs.Int.{int_min}
 use Rattle.std.proofs.lemmas.Int.{ints, clamps}
 use lib.IntN.{zero-*ℤ}
@@ -95,19 +95,18 @@ rows_small : (rows : List Row) (f : Row → ℤ → ℤ) → total (λ (q : Row 
 rows_small [] f = refl
 rows_small (r ∷ rs) f = ap₂ ◌+ℤ◌ (zero-*ℤ (f r (pos 0))) (rows_small rs f)
 
--- ---- nodes that cost at least 0, with sides at 0
+-- ---- nodes that cost at least 0, where no decision costs at its least value
 
 pub record Tame (n : Node) : Type 0 where
   pub constant : n.constant ≡ pos 0
   pub randoms : (values : List ℤ) → dot n.random_costs values ≡ pos 0
   pub randoms_small : (values : List ℤ) → dot (magnitudes n.random_costs) values ≡ pos 0
   pub states : (k : ℕ) → entry n.state_costs k ≡ pos 0
-  pub lows : (j : ℕ) → entry n.decision_low j ≡ pos 0
+  pub lows : (j : ℕ) → entry n.costs j *ℤ entry n.decision_low j ≡ pos 0
   pub highs : (j : ℕ) → pos 0 ≤ℤ entry n.decision_high j
   pub costs : (j : ℕ) → pos 0 ≤ℤ entry n.costs j
-  pub size : sum_to (length n.costs) (λ j. reach n.decision_low n.decision_high j *ℤ magnitude (entry n.costs j)) ≤ℤ pos 82500
   pub weights : 0 < divisor n
-  pub factor : realization_weight n * (S * S * successor_weight n) ≤ 2 ^ 60
+  pub fits : (pos (realization_weight n * (S * S * successor_weight n)) *ℤ sum_to (length n.costs) (λ j. reach n.decision_low n.decision_high j *ℤ magnitude (entry n.costs j))) ≤ℤ pos (2 ^ 127 - 1)
 
 over_rows_zero : (n : Node) (f : Row → ℤ → ℤ) → over_rows n (base_certificate n) f ≡ pos 0
 over_rows_zero n f = rows_zero n.rows f
@@ -115,14 +114,16 @@ over_rows_zero n f = rows_zero n.rows f
 rows_size_zero : (n : Node) (f : Row → ℤ → ℤ) → rows_size n (base_certificate n) f ≡ pos 0
 rows_size_zero n f = rows_small n.rows f
 
-least_zero : (d l h : ℤ) → l ≡ pos 0 → pos 0 ≤ℤ d → pos 0 ≤ℤ h → int_min (d *ℤ l) (d *ℤ h) ≡ pos 0
-least_zero d l h e p q =
-    let r : pos 0 ≤ℤ (d *ℤ h) = some_mul d h p q in
-    let o : d *ℤ l ≡ pos 0 = ap (λ (x : ℤ). d *ℤ x) e ∙ times_zero d in
-    ap (λ (x : ℤ). int_min x (d *ℤ h)) o ∙ lesser (d *ℤ h) r
-  where
-    lesser : (x : ℤ) → pos 0 ≤ℤ x → int_min (pos 0) x ≡ pos 0
-    lesser x r = omega (arith, ints, clamps)
+lesser : (x : ℤ) → pos 0 ≤ℤ x → int_min (pos 0) x ≡ pos 0
+lesser x r = omega (arith, ints, clamps)
+
+-- what costs nothing at its least value and at least 0 anywhere
+least_zero : (k : ℕ) (c l h : ℤ) → c *ℤ l ≡ pos 0 → pos 0 ≤ℤ c → pos 0 ≤ℤ h → int_min (pos k *ℤ c *ℤ l) (pos k *ℤ c *ℤ h) ≡ pos 0
+least_zero k c l h e p q =
+    let some : pos 0 ≤ℤ (pos k *ℤ c) = subst (λ (x : ℤ). x ≤ℤ (pos k *ℤ c)) (times_zero (pos k)) (le_scale k (pos 0) c p) in
+    let r : pos 0 ≤ℤ (pos k *ℤ c *ℤ h) = some_mul (pos k *ℤ c) h some q in
+    let o : pos k *ℤ c *ℤ l ≡ pos 0 = ring (pos k ∷ c ∷ l ∷ []) (var 0 ⊗ var 1 ⊗ var 2) (var 0 ⊗ (var 1 ⊗ var 2)) tt ∙ ap (λ (x : ℤ). pos k *ℤ x) e ∙ times_zero (pos k) in
+    ap (λ (x : ℤ). int_min x (pos k *ℤ c *ℤ h)) o ∙ lesser (pos k *ℤ c *ℤ h) r
 
 table_zero : (n : ℕ) (f : ℕ → ℤ) → ((k : ℕ) → f k ≡ pos 0) → (k : ℕ) → entry (table n f) k ≡ pos 0
 table_zero zero f h k = refl
@@ -131,9 +132,6 @@ table_zero (suc n) f h (suc k) = table_zero n (λ j. f (suc j)) (λ j. h (suc j)
 
 zero_floor : (d : ℕ) → 0 < d → floor_over (pos 0) d ≡ pos 0
 zero_floor d h = ap (λ (a : ℤ). floor_over a d) (sym (times_zero (pos d))) ∙ floor_exact d (pos 0) h
-
-far_within : (k : ℕ) (c : ℤ) → k ≤ 2 ^ 60 → (pos k *ℤ c) ≤ℤ (pos k *ℤ pos 82500) → (pos k *ℤ c) ≤ℤ pos (2 ^ 127 - 1)
-far_within k c h l = omega (arith, ints)
 
 module _ (pools : List (List Cut)) (z : ZeroPools pools) (n : Node) (t : Tame n) where
   abbrev base : Certificate
@@ -146,8 +144,7 @@ module _ (pools : List (List Cut)) (z : ZeroPools pools) (n : Node) (t : Tame n)
 
   least_is : (j : ℕ) → box_least n j (reduced_cost pools n base j) ≡ pos 0
   least_is j =
-      ap (box_least n j) (cost_is j) ∙ least_zero (scale n *ℤ entry n.costs j) (entry n.decision_low j) (entry n.decision_high j) (t.lows j)
-      (subst (λ (x : ℤ). x ≤ℤ (scale n *ℤ entry n.costs j)) (times_zero (scale n)) (le_scale (S * S * successor_weight n) (pos 0) (entry n.costs j) (t.costs j))) (t.highs j)
+      ap (box_least n j) (cost_is j) ∙ least_zero (S * S * successor_weight n) (entry n.costs j) (entry n.decision_low j) (entry n.decision_high j) (t.lows j) (t.costs j) (t.highs j)
 
   alpha_zero : (values : List ℤ) → alpha_at pools n values base ≡ pos 0
   alpha_zero values =
@@ -237,9 +234,7 @@ module _ (pools : List (List Cut)) (z : ZeroPools pools) (n : Node) (t : Tame n)
       ∙ ring (pos (realization_weight n) ∷ scale n ∷ costs_size ∷ []) (var 0 ⊗ (var 1 ⊗ var 2) ⊕ num (pos 0)) ((var 0 ⊗ var 1) ⊗ var 2) tt
 
   pub size_fits : size_of pools n (base_list n) ≤ℤ pos (2 ^ 127 - 1)
-  size_fits =
-      let k = realization_weight n * (S * S * successor_weight n) in
-      rw size_is (far_within k costs_size t.factor (le_scale k costs_size (pos 82500) t.size))
+  size_fits = rw size_is t.fits
 
   pub in_range : range_of pools n (base_list n) ≡ None
   in_range = none-range_of pools n (base_list n) t.weights size_fits

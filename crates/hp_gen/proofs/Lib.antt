@@ -1,10 +1,6 @@
-pub mod Counted
 pub mod Orders
 pub mod Streams
 pub mod Plain
-pub mod Walked
-pub mod Found
-pub mod Newline
 pub mod Subproblems
 pub mod Reading
 pub mod Arranging

@@ -1,49 +1,19 @@
 -- The names of nodes and of what belongs to reservoirs rise with their numbers.
-use Rattle.std.proofs.Common.{◌≡◌, ℕ, ◌+◌, ◌/◌, ◌<◌, ◌≤◌, ◌⊎◌, inl, inr, List, [], ◌∷◌, Less, Equal, Greater, nat_cmp, refl, ap, ◌∙◌, arith}
+use Rattle.std.proofs.Common.{◌≡◌, ℕ, ◌+◌, ◌/◌, ◌<◌, ◌≤◌, List, [], ◌∷◌, Less, Greater, nat_cmp, refl, ◌∙◌, arith}
 use Rattle.std.specs.Cmp.Lexicographic.{slice_cmp}
-use Rattle.std.specs.Ordering.{ordering_reverse, ordering_then}
-use Rattle.std.proofs.lemmas.Cmp.{nat_list_cmp_total}
 use Rattle.std.proofs.lemmas.Bool.{cases_lt}
-use Rattle.std.proofs.lemmas.Bool.Decides.{nat_tests}
 use Rattle.serde_json.specs.Data.{Data, Members, no_members, member, put}
-use Rattle.hp_gen.specs.Listed.{members_from}
-use Rattle.hp_gen.proofs.Counted.{put_next}
-use Rattle.hp_gen.specs.Names.{reservoir_name, node_name, digit, stage_of, kind_of}
-
-less : (x y : ℕ) → x < y → nat_cmp x y ≡ Less
-less x y h = grind (arith, nat_tests)
-
-same : (x y : ℕ) → x ≡ y → nat_cmp x y ≡ Equal
-same x y h = grind (arith, nat_tests)
-
-first_less : (x y : ℕ) (xs ys : List ℕ) → x < y → slice_cmp nat_cmp (x ∷ xs) (y ∷ ys) ≡ Less
-first_less x y xs ys h = ap (λ o. ordering_then o (slice_cmp nat_cmp xs ys)) (less x y h)
-
-later_less : (x y : ℕ) (xs ys : List ℕ) → x ≡ y → slice_cmp nat_cmp xs ys ≡ Less → slice_cmp nat_cmp (x ∷ xs) (y ∷ ys) ≡ Less
-later_less x y xs ys e h = ap (λ o. ordering_then o (slice_cmp nat_cmp xs ys)) (same x y e) ∙ h
-
--- the first digit decides, and where both have the same one the second does
-two_digits : (a b c d : ℕ) → (a < c) ⊎ (c ≤ a) → a ≤ c → (c ≤ a → b < d) → slice_cmp nat_cmp (a ∷ b ∷ []) (c ∷ d ∷ []) ≡ Less
-two_digits a b c d (inl h) most then = first_less a c (b ∷ []) (d ∷ []) h
-two_digits a b c d (inr h) most then = later_less a c (b ∷ []) (d ∷ []) (omega arith) (first_less b d [] [] (then h))
+use Rattle.hp_forms.specs.Listed.{members_from}
+use Rattle.hp_forms.proofs.Counted.{put_next}
+use Rattle.hp_forms.proofs.Orders.{first_less, later_less, two_digits, three_digits, above_from_below}
+use Rattle.hp_forms.specs.Listed.{digit}
+use Rattle.hp_gen.specs.Names.{reservoir_name, node_name, stage_of, kind_of}
 
 pub reservoirs_rise : (letter j k : ℕ) → j < k → k < 10 → slice_cmp nat_cmp (reservoir_name (letter ∷ []) j) (reservoir_name (letter ∷ []) k) ≡ Less
 unfolding reservoir_name
 reservoirs_rise letter j k h few =
     later_less letter letter (digit ((j + 1) / 10) ∷ digit (j + 1) ∷ []) (digit ((k + 1) / 10) ∷ digit (k + 1) ∷ []) refl
     (two_digits (digit ((j + 1) / 10)) (digit (j + 1)) (digit ((k + 1) / 10)) (digit (k + 1)) (cases_lt _ _) (omega arith) (λ e. omega arith))
-
-three_digits : (a b c d e f : ℕ) (xs ys : List ℕ) → (a < d) ⊎ (d ≤ a) → (b < e) ⊎ (e ≤ b) → (c < f) ⊎ (f ≤ c) → a ≤ d → (d ≤ a → b ≤ e) → (d ≤ a → e ≤ b → c ≤ f)
-    → (d ≤ a → e ≤ b → f ≤ c → slice_cmp nat_cmp xs ys ≡ Less) → slice_cmp nat_cmp (a ∷ b ∷ c ∷ xs) (d ∷ e ∷ f ∷ ys) ≡ Less
-three_digits a b c d e f xs ys (inl h) s t m1 m2 m3 more = first_less a d (b ∷ c ∷ xs) (e ∷ f ∷ ys) h
-three_digits a b c d e f xs ys (inr h) (inl s) t m1 m2 m3 more = later_less a d (b ∷ c ∷ xs) (e ∷ f ∷ ys) (omega arith) (first_less b e (c ∷ xs) (f ∷ ys) s)
-three_digits a b c d e f xs ys (inr h) (inr s) (inl t) m1 m2 m3 more =
-    let l : b ≤ e = m2 h in
-    later_less a d (b ∷ c ∷ xs) (e ∷ f ∷ ys) (omega arith) (later_less b e (c ∷ xs) (f ∷ ys) (omega arith) (first_less c f xs ys t))
-three_digits a b c d e f xs ys (inr h) (inr s) (inr t) m1 m2 m3 more =
-    let l : b ≤ e = m2 h in
-    let k : c ≤ f = m3 h s in
-    later_less a d (b ∷ c ∷ xs) (e ∷ f ∷ ys) (omega arith) (later_less b e (c ∷ xs) (f ∷ ys) (omega arith) (later_less c f xs ys (omega arith) (more h s t)))
 
 -- the last digits of s and t, where their other digits are the same
 tail_rise : (s t x y : ℕ) → s ≤ t → t < 1000 → (s ≡ t → x < y) → digit (t / 100) ≤ digit (s / 100) → digit (t / 10) ≤ digit (s / 10) → digit t ≤ digit s → s ≡ t
@@ -62,10 +32,6 @@ nodes_rise i j h few =
     later_less 115 115 (digit (stage_of i / 100) ∷ digit (stage_of i / 10) ∷ digit (stage_of i) ∷ 119 ∷ digit (kind_of i) ∷ [])
     (digit (stage_of j / 100) ∷ digit (stage_of j / 10) ∷ digit (stage_of j) ∷ 119 ∷ digit (kind_of j) ∷ []) refl
     (digits_rise (stage_of i) (stage_of j) (kind_of i) (kind_of j) (omega arith) (omega arith) (omega arith) (omega arith) (λ e. omega arith))
-
--- the other way round
-above_from_below : (xs ys : List ℕ) → slice_cmp nat_cmp xs ys ≡ Less → slice_cmp nat_cmp ys xs ≡ Greater
-above_from_below xs ys h = nat_list_cmp_total.antisymm ys xs ∙ ap ordering_reverse h
 
 pub reservoir_above : (letter j k : ℕ) → j < k → k < 10 → slice_cmp nat_cmp (reservoir_name (letter ∷ []) k) (reservoir_name (letter ∷ []) j) ≡ Greater
 reservoir_above letter j k h few = above_from_below (reservoir_name (letter ∷ []) j) (reservoir_name (letter ∷ []) k) (reservoirs_rise letter j k h few)

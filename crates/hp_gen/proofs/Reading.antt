@@ -27,14 +27,15 @@ use Rattle.hp_sof.specs.Read.{graph_at, raw_of}
 use Rattle.hp_sof.specs.Subproblems as subproblems
 use Rattle.hp_sof.specs.Weights.{weights_at}
 use Rattle.hp_gen.specs.Names.{node_name, stage_of, kind_of, reservoir_name}
-use Rattle.hp_gen.specs.Listed.{members_from, whole}
+use Rattle.hp_forms.specs.Listed.{members_from, whole}
 use Rattle.hp_gen.specs.Stage.{inflow_name, state_name, subproblem}
 use Rattle.hp_gen.specs.Nodes as made
-use Rattle.hp_gen.specs.Generated.{initial_values, first_nodes, root, version, problem}
-use Rattle.hp_gen.proofs.Found.{members_len-from, known_from, member_at}
+use Rattle.hp_forms.specs.Nodes as forms
+use Rattle.hp_gen.specs.Generated.{initial_values, first_nodes, root, problem}
+use Rattle.hp_forms.proofs.Found.{members_len-from, known_from, member_at}
 use Rattle.hp_gen.proofs.Orders.{reservoir_above, node_above}
 use Rattle.hp_gen.proofs.Subproblems.{form, state_list, subproblem_read}
-use Rattle.hp_gen.proofs.Walked.{members_walk, items_walk, list_walk, appended}
+use Rattle.hp_forms.proofs.Walked.{members_walk, items_walk, list_walk, appended}
 
 -- the type of a value, and of what a step finds
 abbrev TypeOf : {A : Type 0} → A → Type 0
@@ -90,7 +91,7 @@ module _ (word : ℕ → ℕ) (first kind count : ℕ) (few : count ≤ 10) wher
   grown found k = record { weights = found.weights ++ 1 ∷ []; values = found.values ++ values_of word first kind count k ∷ [] }
 
   realization_read : (n : ℕ) (found : Realizations) (k : ℕ) → realizations.realization_at n (map inflow_name (numbers count)) found k (made.realization word (first + k * count) kind count) ≡ Ok (grown found k)
-  unfolding realizations.realization_at made.realization made.support fields.object_at fields.present_at fields.weight_at fields.whole_at limits.members_at
+  unfolding realizations.realization_at made.realization made.support forms.realization_of fields.object_at fields.present_at fields.weight_at fields.whole_at limits.members_at
   realization_read n found k =
       rw (values_read parts.Support n k count (λ j. made.inflow kind (word (first + k * count + j))) few (λ j. small_inflow kind (word (first + k * count + j)))) refl
 
@@ -187,7 +188,7 @@ node_form word stages count i = record {
 
 module _ (word : ℕ → ℕ) (stages count : ℕ) (most : stages ≤ 500) (few : count ≤ 10) where
   node_read : (found : List Node) (i : ℕ) → nodes.node_at (fields.keys_of (members_from node_name (made.node word stages count) 0 (2 * stages))) (table count) found i (node_name i) (made.node word stages count i) ≡ Ok (found ++ node_form word stages count i ∷ [])
-  unfolding nodes.node_at fields.key_at node_name fields.object_at fields.present_at fields.string_at fields.array_at limits.items_at limits.members_at limits.known_at made.node made.node_of weights_at
+  unfolding nodes.node_at fields.key_at node_name fields.object_at fields.present_at fields.string_at fields.array_at limits.items_at limits.members_at limits.known_at made.node forms.node_of weights_at
   node_read found i =
       rw (realizations_read word (i * (10 * count)) (kind_of i) count few i, transitions_read stages most (made.node word stages count) i) refl
 
@@ -240,7 +241,7 @@ unfolding sizes_at made.nodes
 sizes_read word stages count d most = rw (members_len-from node_name (made.node word stages count) 0 (2 * stages), le-leb (2 * stages) 1000 (omega arith)) refl
 
 tables_read : (word : ℕ → ℕ) (stages count : ℕ) → stages ≤ 500 → tables_at (problem word stages count) ≡ Ok (tables_of word stages count)
-unfolding tables_at table_at version_at fields.object_at fields.present_at fields.array_at limits.items_at problem root version
+unfolding tables_at table_at version_at fields.object_at fields.present_at fields.array_at limits.items_at problem root forms.problem_of forms.root_of forms.version
 tables_read word stages count most = rw (sizes_read word stages count (subproblem count) most) refl
 
 subproblems_read : (count : ℕ) → 1 ≤ count → count ≤ 10 → subproblems.subproblems_at (state_list count) (member (codes "p") (subproblem count) no_members) ≡ Ok (table count)

@@ -1,12 +1,12 @@
 -- Worked parts of generated problems.
-use Rattle.std.proofs.Common.{◌≡◌, codes, refl}
+use Rattle.std.proofs.Common.{◌≡◌, pos, codes, refl}
 use Rattle.json.proofs.OnLiterals.{json_on_literals}
 use Rattle.serde_json.specs.Written.{compact_text}
 use Rattle.serde_json.specs.Data.{object}
 use Rattle.std.specs.Fmt.{digits}
 use Rattle.hp_gen.specs.Names.{reservoir_name, node_name}
 use Rattle.hp_gen.specs.Nodes.{inflow, support, pair, successors}
-use Rattle.hp_gen.specs.Stage.{single, up_to, bound}
+use Rattle.hp_forms.specs.Stage.{single, interval, bound}
 
 first_node : node_name 0 ≡ codes "s001w0"
 unfolding node_name
@@ -29,7 +29,7 @@ unfolding inflow
 wet_inflow = refl
 
 -- the words that follow are 7, 8 and so on
-dry_support : compact_text (support (λ place. place) 7 0 2) ≡ codes "{\"w01\":7,\"w02\":8}"
+dry_support : compact_text (object (support (λ place. place) 7 0 2)) ≡ codes "{\"w01\":7,\"w02\":8}"
 unfolding json_on_literals digits support inflow reservoir_name
 dry_support = refl
 
@@ -42,6 +42,6 @@ no_successors : compact_text (object (successors 12 23)) ≡ codes "{}"
 unfolding json_on_literals successors
 no_successors = refl
 
-one_bound : compact_text (bound (codes "q01") 30) ≡ codes "{\"function\":{\"name\":\"q01\",\"type\":\"Variable\"},\"set\":{\"lower\":0,\"type\":\"Interval\",\"upper\":30}}"
-unfolding json_on_literals digits bound single up_to
+one_bound : compact_text (bound (codes "q01") (pos 0) (pos 30)) ≡ codes "{\"function\":{\"name\":\"q01\",\"type\":\"Variable\"},\"set\":{\"lower\":0,\"type\":\"Interval\",\"upper\":30}}"
+unfolding json_on_literals digits bound single interval
 one_bound = refl

@@ -1,9 +1,10 @@
 -- The text of a generated problem.
-use Rattle.std.specs.Prelude.{ℕ, ◌^◌, List, [], ◌∷◌, ◌++◌, codes}
-use Rattle.serde_json.specs.Data.{Data, Members, object, no_members, member}
+use Rattle.std.specs.Prelude.{ℕ, ◌^◌, List, [], ◌∷◌, ◌++◌}
+use Rattle.serde_json.specs.Data.{Data, Members}
 use Rattle.serde_json.specs.Written.{compact_text}
 use Rattle.hp_sampler.specs.Drawn.{stream_of, word_in}
-use Rattle.hp_gen.specs.Listed.{members_from, whole}
+use Rattle.hp_forms.specs.Listed.{members_from, whole}
+use Rattle.hp_forms.specs.Nodes.{root_of, problem_of}
 use Rattle.hp_gen.specs.Stage.{state_name, subproblem}
 use Rattle.hp_gen.specs.Nodes.{pair, nodes}
 
@@ -16,18 +17,11 @@ abbrev pub first_nodes : Members
 first_nodes = pair 0 1 1
 
 unfoldable pub root : ℕ → Data
-root count = object (member (codes "state_variables") (object (initial_values count)) (member (codes "successors") (object first_nodes) no_members))
-
-unfoldable pub version : Data
-version = object (member (codes "major") (whole 1) (member (codes "minor") (whole 0) no_members))
+root count = root_of (initial_values count) first_nodes
 
 -- the problem of so many stages and reservoirs whose inflows come from these words
 unfoldable pub problem : (ℕ → ℕ) → ℕ → ℕ → Data
-problem word stages count = object (
-    member (codes "nodes") (object (nodes word stages count))
-    (member (codes "root") (root count)
-    (member (codes "subproblems") (object (member (codes "p") (subproblem count) no_members))
-    (member (codes "version") version no_members))))
+problem word stages count = problem_of (nodes word stages count) (root count) (subproblem count)
 
 -- the words of a seed: the stream 2^33 of ChaCha20
 abbrev pub words : ℕ → ℕ → ℕ

@@ -1,5 +1,4 @@
 pub mod Names
-pub mod Listed
 pub mod Stage
 pub mod Nodes
 pub mod Generated

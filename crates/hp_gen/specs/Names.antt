@@ -1,9 +1,6 @@
 -- The names in a generated problem.
 use Rattle.std.specs.Prelude.{ℕ, ◌+◌, ◌/◌, ◌%◌, List, [], ◌∷◌, ◌++◌, codes}
-
--- the last digit of a number
-abbrev pub digit : ℕ → ℕ
-digit n = 48 + n % 10
+use Rattle.hp_forms.specs.Listed.{digit}
 
 -- what belongs to the reservoir j: a letter and two digits, from 01
 unfoldable pub reservoir_name : List ℕ → ℕ → List ℕ

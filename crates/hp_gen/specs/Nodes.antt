@@ -1,10 +1,10 @@
 -- The nodes: at each stage a dry one and a wet one.
-use Rattle.std.specs.Prelude.{ℕ, ◌+◌, ◌*◌, ◌%◌, ◌==◌, List, map, codes, nat_lt, if◌then◌else◌}
-use Rattle.serde_json.specs.Data.{Data, string, array, object, Members, no_members, member}
-use Rattle.serde_json.specs.View.{items_of}
+use Rattle.std.specs.Prelude.{ℕ, ◌+◌, ◌*◌, ◌%◌, ◌==◌, List, map, nat_lt, if◌then◌else◌}
+use Rattle.serde_json.specs.Data.{Data, Members, no_members, member}
 use Rattle.hp_paths.specs.Paths.{numbers}
 use Rattle.hp_gen.specs.Names.{node_name, stage_of, kind_of}
-use Rattle.hp_gen.specs.Listed.{members_from, whole}
+use Rattle.hp_forms.specs.Listed.{members_from, whole}
+use Rattle.hp_forms.specs.Nodes.{realization_of, node_of}
 use Rattle.hp_gen.specs.Stage.{inflow_name}
 
 -- what a word gives as an inflow of a dry node, and of a wet one
@@ -12,11 +12,11 @@ unfoldable pub inflow : ℕ → ℕ → ℕ
 inflow kind word = if kind == 0 then word % 11 else 10 + word % 21
 
 -- one inflow per reservoir, from the words at `first` on
-unfoldable pub support : (ℕ → ℕ) → ℕ → ℕ → ℕ → Data
-support word first kind count = object (members_from inflow_name (λ j. whole (inflow kind (word (first + j)))) 0 count)
+unfoldable pub support : (ℕ → ℕ) → ℕ → ℕ → ℕ → Members
+support word first kind count = members_from inflow_name (λ j. whole (inflow kind (word (first + j)))) 0 count
 
 unfoldable pub realization : (ℕ → ℕ) → ℕ → ℕ → ℕ → Data
-realization word first kind count = object (member (codes "probability") (whole 1) (member (codes "support") (support word first kind count) no_members))
+realization word first kind count = realization_of 1 (support word first kind count)
 
 -- ten realizations, one after another
 unfoldable pub realizations : (ℕ → ℕ) → ℕ → ℕ → ℕ → List Data
@@ -33,12 +33,6 @@ pair i dry wet = member (node_name i) (whole dry) (member (node_name (i + 1)) (w
 -- both nodes of the next stage, which begins with the node 2 * stage_of i; none after the last stage
 unfoldable pub successors : ℕ → ℕ → Members
 successors stages i = if nat_lt (stage_of i) stages then pair (2 * stage_of i) (weight (kind_of i) 0) (weight (kind_of i) 1) else no_members
-
-unfoldable pub node_of : List Data → Members → Data
-node_of inflows next = object (
-    member (codes "realizations") (array (items_of inflows))
-    (member (codes "subproblem") (string (codes "p"))
-    (member (codes "successors") (object next) no_members)))
 
 -- the node i. The nodes before it take ten words per reservoir each.
 unfoldable pub node : (ℕ → ℕ) → ℕ → ℕ → ℕ → Data

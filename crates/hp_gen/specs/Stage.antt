@@ -1,41 +1,11 @@
 -- The subproblem of each stage: a chain of reservoirs that serves a load together with three sources of power.
-use Rattle.std.specs.Prelude.{ℕ, ◌-◌, ◌*◌, ℤ, pos, negsuc, List, [], ◌∷◌, ◌++◌, map, codes, nat_lt, if◌then◌else◌}
+use Rattle.std.specs.Prelude.{ℕ, ◌-◌, ◌*◌, pos, negsuc, List, [], ◌∷◌, ◌++◌, map, codes, nat_lt, if◌then◌else◌}
 use Rattle.std.specs.List.{flat_map}
-use Rattle.serde_json.specs.Data.{Data, number, string, array, object, no_members, member}
-use Rattle.serde_json.specs.Find.{of_integer}
-use Rattle.serde_json.specs.View.{items_of}
+use Rattle.serde_json.specs.Data.{Data, string, Members}
 use Rattle.hp_paths.specs.Paths.{numbers}
 use Rattle.hp_gen.specs.Names.{reservoir_name}
-use Rattle.hp_gen.specs.Listed.{members_from, whole}
-
--- ---- the parts of the format
-
-unfoldable pub variable : List ℕ → Data
-variable name = object (member (codes "name") (string name) no_members)
-
-unfoldable pub term : ℤ → List ℕ → Data
-term coefficient name = object (member (codes "coefficient") (number (of_integer coefficient)) (member (codes "variable") (string name) no_members))
-
--- the sum of the terms
-unfoldable pub affine : List Data → Data
-affine terms = object (member (codes "constant") (whole 0) (member (codes "terms") (array (items_of terms)) (member (codes "type") (string (codes "ScalarAffineFunction")) no_members)))
-
-unfoldable pub equal_to : ℕ → Data
-equal_to value = object (member (codes "type") (string (codes "EqualTo")) (member (codes "value") (whole value) no_members))
-
--- the sum of the terms is the value
-unfoldable pub row : ℕ → List Data → Data
-row value terms = object (member (codes "function") (affine terms) (member (codes "set") (equal_to value) no_members))
-
-unfoldable pub single : List ℕ → Data
-single name = object (member (codes "name") (string name) (member (codes "type") (string (codes "Variable")) no_members))
-
-unfoldable pub up_to : ℕ → Data
-up_to high = object (member (codes "lower") (whole 0) (member (codes "type") (string (codes "Interval")) (member (codes "upper") (whole high) no_members)))
-
--- the variable is from 0 to high
-unfoldable pub bound : List ℕ → ℕ → Data
-bound name high = object (member (codes "function") (single name) (member (codes "set") (up_to high) no_members))
+use Rattle.hp_forms.specs.Listed.{members_from}
+use Rattle.hp_forms.specs.Stage.{variable, term, row, bound, least_sum, state_between, program_of, subproblem_of}
 
 -- ---- variables: of each reservoir what is stored before, what flows in, what is stored after, what is turbined, what is spilled; then three sources of power
 
@@ -86,37 +56,29 @@ abbrev pub load : ℕ → Data
 load count = row (25 * count) (power_terms count)
 
 unfoldable pub bounds_of : ℕ → List Data
-bounds_of j = bound (incoming j) 100 ∷ bound (outgoing j) 100 ∷ bound (turbined j) 30 ∷ bound (spilled j) 10000 ∷ []
+bounds_of j = bound (incoming j) (pos 0) (pos 100) ∷ bound (outgoing j) (pos 0) (pos 100) ∷ bound (turbined j) (pos 0) (pos 30) ∷ bound (spilled j) (pos 0) (pos 10000) ∷ []
 
 unfoldable pub constraints : ℕ → List Data
 constraints count =
     map balance (numbers count) ++ load count ∷ [] ++ flat_map bounds_of (numbers count)
-    ++ bound (codes "g") (10 * count) ∷ bound (codes "h") (10 * count) ∷ bound (codes "k") (40 * count) ∷ []
+    ++ bound (codes "g") (pos 0) (pos (10 * count)) ∷ bound (codes "h") (pos 0) (pos (10 * count)) ∷ bound (codes "k") (pos 0) (pos (40 * count)) ∷ []
 
 -- ---- objective, states and random variables
 
 unfoldable pub objective : Data
-objective = object (
-    member (codes "function") (affine (term (pos 5) (codes "g") ∷ term (pos 20) (codes "h") ∷ term (pos 200) (codes "k") ∷ []))
-    (member (codes "sense") (string (codes "min")) no_members))
+objective = least_sum (term (pos 5) (codes "g") ∷ term (pos 20) (codes "h") ∷ term (pos 200) (codes "k") ∷ [])
 
-unfoldable pub state : ℕ → Data
-state j = object (member (codes "in") (string (incoming j)) (member (codes "out") (string (outgoing j)) no_members))
+abbrev pub state : ℕ → Data
+state j = state_between (incoming j) (outgoing j)
 
-abbrev pub states : ℕ → Data
-states count = object (members_from state_name state 0 count)
+abbrev pub states : ℕ → Members
+states count = members_from state_name state 0 count
 
 abbrev pub random_variables : ℕ → List Data
 random_variables count = map (λ j. string (inflow_name j)) (numbers count)
 
 unfoldable pub program : ℕ → Data
-program count = object (
-    member (codes "constraints") (array (items_of (constraints count)))
-    (member (codes "objective") objective
-    (member (codes "variables") (array (items_of (variables count))) no_members)))
+program count = program_of (constraints count) objective (variables count)
 
 unfoldable pub subproblem : ℕ → Data
-subproblem count = object (
-    member (codes "random_variables") (array (items_of (random_variables count)))
-    (member (codes "state_variables") (states count)
-    (member (codes "subproblem") (program count) no_members)))
+subproblem count = subproblem_of (random_variables count) (states count) (program count)

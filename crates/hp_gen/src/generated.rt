@@ -1,30 +1,30 @@
 // The text of a generated problem.
 ghost use Rattle.std.specs.Prelude.{◌≡◌, ◌≤◌, IfOk, IsOk};
-ghost use Rattle.serde_json.specs.Data.{object};
 ghost use Rattle.serde_json.specs.View.{view, members_view};
 ghost use Rattle.hp_sampler.specs.Drawn.{stream_of, word_in};
 ghost use Rattle.hp_sof.specs.Problem.{problem_at};
 ghost use Rattle.hp_theory.specs.Range.{based};
-ghost use Rattle.hp_gen.specs.Generated.{initial_values, root, version, problem, words, generated};
+ghost use Rattle.hp_gen.specs.Generated.{initial_values, root, problem, words, generated};
 
-use crate::names::{reservoir_name, text_of};
+use crate::names::reservoir_name;
 use crate::nodes::{nodes, pair};
 use crate::stage::subproblem;
 use crate::words::stream_of;
+use hp_forms::text_of;
 use hp_num::Memory;
-use serde_json::{Map, Value, json};
+use serde_json::{Map, Value};
 use std::alloc::{AllocError, Global};
 
-fn initial_values(alloc: Global, reservoirs: u32) -> Result<Value, AllocError>
+fn initial_values(alloc: Global, reservoirs: u32) -> Result<Map<String, Value>, AllocError>
     requires { reservoirs ≤ 10 }
-    ensures { IfOk result (λ v. view v ≡ object (initial_values reservoirs)) }
+    ensures { IfOk result (λ m. members_view m.entries ≡ initial_values reservoirs) }
 {
     let mut map = Map::new(alloc);
     for reservoir in 0..reservoirs {
         let name = reservoir_name(b'v', reservoir);
         serde_json::put(&mut map, alloc, text_of(&name), Value::from(50u32))?;
     }
-    Ok(Value::Object(map))
+    Ok(map)
 }
 
 #[tactic(auto, unfolding(crate::specs::Generated::root))]
@@ -34,14 +34,7 @@ fn root(alloc: Global, reservoirs: u32) -> Result<Value, AllocError>
 {
     let states = initial_values(alloc, reservoirs)?;
     let successors = pair(alloc, 0, 1, 1)?;
-    json!(in alloc; {"state_variables": states, "successors": successors})
-}
-
-#[tactic(auto, unfolding(crate::specs::Generated::version))]
-fn version(alloc: Global) -> Result<Value, AllocError>
-    ensures { IfOk result (λ v. view v ≡ version) }
-{
-    json!(in alloc; {"major": 1u32, "minor": 0u32})
+    hp_forms::root(alloc, states, successors)
 }
 
 #[tactic(auto, unfolding(crate::specs::Generated::problem))]
@@ -53,10 +46,7 @@ fn problem(alloc: Global, seed: u64, stages: u32, reservoirs: u32) -> Result<Val
     let nodes = nodes(alloc, &mut stream_of(seed), stages, reservoirs)?;
     let root = root(alloc, reservoirs)?;
     let stage = subproblem(alloc, reservoirs)?;
-    let version = version(alloc)?;
-    json!(in alloc; {
-        "version": version, "root": root, "nodes": nodes, "subproblems": {"p": stage}
-    })
+    hp_forms::problem(alloc, nodes, root, stage)
 }
 
 /// A problem file to try out and to measure with, as compact JSON with its keys in byte order, and a newline.

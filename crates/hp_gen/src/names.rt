@@ -1,14 +1,8 @@
 // Names of nodes and of what belongs to a reservoir.
 ghost use Rattle.std.specs.Prelude.{◌≡◌, ◌+◌, ◌<◌, ◌≤◌, [], ◌∷◌, IsAscii};
-ghost use Rattle.hp_gen.specs.Names.{digit, reservoir_name, node_name};
+ghost use Rattle.hp_gen.specs.Names.{reservoir_name, node_name};
 
-// The last digit of a number.
-fn digit(number: u32) -> u8
-    ensures value { result ≡ digit number }
-    ensures ascii { result < 128 }
-{
-    b'0' + (number % 10) as u8
-}
+use hp_forms::digit;
 
 // What belongs to a reservoir: a letter and two digits, from 01.
 #[tactic(auto, unfolding(crate::specs::Names::reservoir_name))]
@@ -37,15 +31,4 @@ pub(crate) fn node_name(node: u32) -> [u8; 6]
         b'w',
         digit(node % 2),
     ]
-}
-
-// A name as text.
-pub(crate) fn text_of(name: &[u8]) -> &str
-    requires { IsAscii name.now }
-    ensures { result.now ≡ name.now }
-{
-    let Ok(text) = str::from_utf8(name) else {
-        unreachable!()
-    };
-    text
 }

@@ -1,14 +1,14 @@
 // The nodes, with the inflows that are drawn.
 ghost use Rattle.std.specs.Prelude.{◌≡◌, ◌+◌, ◌*◌, ◌^◌, ◌<◌, ◌≤◌, map, IfOk};
-ghost use Rattle.serde_json.specs.Data.{object, Members};
-ghost use Rattle.serde_json.specs.View.{view};
+ghost use Rattle.serde_json.specs.View.{view, members_view};
 ghost use Rattle.hp_sampler.specs.Drawn.{word_in};
-ghost use Rattle.hp_gen.specs.Nodes.{inflow, support, realization, realizations, weight, pair, successors, node_of, node, nodes};
+ghost use Rattle.hp_gen.specs.Nodes.{inflow, support, realization, realizations, weight, pair, successors, node, nodes};
 
-use crate::names::{node_name, reservoir_name, text_of};
+use crate::names::{node_name, reservoir_name};
 use crate::words::next;
+use hp_forms::text_of;
 use rand_chacha::ChaCha20Rng;
-use serde_json::{Map, Value, json};
+use serde_json::{Map, Value};
 use std::alloc::{AllocError, Global};
 
 // The inflow that the next word gives at a node of this kind.
@@ -29,10 +29,10 @@ fn support(
     words: &mut ChaCha20Rng,
     kind: u32,
     reservoirs: u32,
-) -> Result<Value, AllocError>
+) -> Result<Map<String, Value>, AllocError>
     requires few { reservoirs ≤ 10 }
     requires place { words.old.word_pos + reservoirs ≤ 2 ^ 40 }
-    ensures value { IfOk result (λ v. view v
+    ensures value { IfOk result (λ m. members_view m.entries
         ≡ support (word_in words.old) words.old.word_pos kind reservoirs) }
     ensures later { IfOk result (λ _. words.new
         ≡ record words.old { word_pos = words.old.word_pos + reservoirs }) }
@@ -43,7 +43,7 @@ fn support(
         let value = Value::from(inflow(words, kind));
         serde_json::put(&mut map, alloc, text_of(&name), value)?;
     }
-    Ok(Value::Object(map))
+    Ok(map)
 }
 
 #[tactic(auto, unfolding(crate::specs::Nodes::realization))]
@@ -61,12 +61,12 @@ fn realization(
         ≡ record words.old { word_pos = words.old.word_pos + reservoirs }) }
 {
     let support = support(alloc, words, kind, reservoirs)?;
-    let value = json!(in alloc; {"probability": 1u32, "support": support})?;
+    let value = hp_forms::realization(alloc, 1, support)?;
     Ok(value)
 }
 
 // Ten realizations.
-#[tactic(auto, using(crate::proofs::Counted::map_more), unfolding(crate::specs::Nodes::realizations))]
+#[tactic(auto, using(hp_forms::proofs::Counted::map_more), unfolding(crate::specs::Nodes::realizations))]
 fn realizations(
     alloc: Global,
     words: &mut ChaCha20Rng,
@@ -95,41 +95,36 @@ fn weight(kind: u32, next: u32) -> u32
 }
 
 // Two nodes of one stage, the dry one first, with their weights.
-pub(crate) fn pair(alloc: Global, first: u32, dry: u32, wet: u32) -> Result<Value, AllocError>
+pub(crate) fn pair(
+    alloc: Global,
+    first: u32,
+    dry: u32,
+    wet: u32,
+) -> Result<Map<String, Value>, AllocError>
     requires { first < 999 }
-    ensures { IfOk result (λ v. view v ≡ object (pair first dry wet)) }
+    ensures { IfOk result (λ m. members_view m.entries ≡ pair first dry wet) }
 {
     let dry_name = node_name(first);
     let wet_name = node_name(first + 1);
     let mut map = Map::new(alloc);
     serde_json::put(&mut map, alloc, text_of(&dry_name), Value::from(dry))?;
     serde_json::put(&mut map, alloc, text_of(&wet_name), Value::from(wet))?;
-    Ok(Value::Object(map))
+    Ok(map)
 }
 
 // Both nodes of the next stage, none after the last one.
 #[tactic(auto, unfolding(crate::specs::Nodes::successors))]
-fn successors(alloc: Global, stages: u32, node: u32) -> Result<Value, AllocError>
+fn successors(alloc: Global, stages: u32, node: u32) -> Result<Map<String, Value>, AllocError>
     requires node { node < 2 * stages }
     requires stages { stages ≤ 500 }
-    ensures { IfOk result (λ v. view v ≡ object (successors stages node)) }
+    ensures { IfOk result (λ m. members_view m.entries ≡ successors stages node) }
 {
     let stage = node / 2 + 1;
     if stage < stages {
         pair(alloc, 2 * stage, weight(node % 2, 0), weight(node % 2, 1))
     } else {
-        Ok(Value::Object(Map::new(alloc)))
+        Ok(Map::new(alloc))
     }
-}
-
-#[tactic(auto, unfolding(crate::specs::Nodes::node_of))]
-fn node_of(alloc: Global, realizations: Vec<Value>, successors: Value) -> Result<Value, AllocError>
-    ensures { IfOk result (λ v. (next : Members) → view successors ≡ object next
-        → view v ≡ node_of (map view realizations.items) next) }
-{
-    json!(in alloc; {
-        "subproblem": "p", "realizations": realizations, "successors": successors
-    })
 }
 
 // A node, with the next words.
@@ -151,7 +146,7 @@ fn node(
 {
     let realizations = realizations(alloc, words, number % 2, reservoirs)?;
     let successors = successors(alloc, stages, number)?;
-    let value = node_of(alloc, realizations, successors)?;
+    let value = hp_forms::node(alloc, realizations, successors)?;
     Ok(value)
 }
 
@@ -162,12 +157,12 @@ pub(crate) fn nodes(
     words: &mut ChaCha20Rng,
     stages: u32,
     reservoirs: u32,
-) -> Result<Value, AllocError>
+) -> Result<Map<String, Value>, AllocError>
     requires few { reservoirs ≤ 10 }
     requires stages { stages ≤ 500 }
     requires place { words.old.word_pos ≡ 0 }
-    ensures { IfOk result (λ v. view v
-        ≡ object (nodes (word_in words.old) stages reservoirs)) }
+    ensures { IfOk result (λ m. members_view m.entries
+        ≡ nodes (word_in words.old) stages reservoirs) }
 {
     let mut map = Map::new(alloc);
     for number in 0..2 * stages {
@@ -175,5 +170,5 @@ pub(crate) fn nodes(
         let value = node(alloc, words, stages, reservoirs, number)?;
         serde_json::put(&mut map, alloc, text_of(&name), value)?;
     }
-    Ok(Value::Object(map))
+    Ok(map)
 }

@@ -1,86 +1,16 @@
 // The subproblem of each stage.
-ghost use Rattle.std.specs.Prelude.{◌≡◌, ◌+◌, ◌*◌, ◌<◌, ◌≤◌, [], ◌∷◌, ◌++◌, map, IfOk, OnOk};
+ghost use Rattle.std.specs.Prelude.{◌≡◌, ◌+◌, ◌*◌, ◌<◌, ◌≤◌, ◌++◌, map, IfOk, OnOk};
 ghost use Rattle.std.specs.List.{flat_map};
-ghost use Rattle.serde_json.specs.Data.{string, object, array};
-ghost use Rattle.serde_json.specs.View.{view, members_view, items_of};
+ghost use Rattle.serde_json.specs.Data.{string};
+ghost use Rattle.serde_json.specs.View.{view, members_view};
 ghost use Rattle.hp_paths.specs.Paths.{numbers};
-ghost use Rattle.hp_gen.specs.Listed.{members_from};
-ghost use Rattle.hp_gen.specs.Stage.{variable, term, affine, equal_to, row, single, up_to, bound, variables_of, variables, from_above, balance_terms, power_terms, bounds_of, balance, constraints, objective, state, state_name, states, random_variables, program, subproblem};
+ghost use Rattle.hp_forms.specs.Listed.{members_from};
+ghost use Rattle.hp_gen.specs.Stage.{variables_of, variables, from_above, balance_terms, power_terms, bounds_of, balance, constraints, objective, state, state_name, states, random_variables, program, subproblem};
 
-use crate::names::{reservoir_name, text_of};
-use serde_json::{Map, Value, json};
+use crate::names::reservoir_name;
+use hp_forms::{least_sum, push_bound, push_term, push_variable, row, state_between, text_of};
+use serde_json::{Map, Value};
 use std::alloc::{AllocError, Global};
-
-#[tactic(auto, unfolding(crate::specs::Stage::variable))]
-fn variable(alloc: Global, name: &str) -> Result<Value, AllocError>
-    ensures { IfOk result (λ v. view v ≡ variable name.now) }
-{
-    json!(in alloc; {"name": name})
-}
-
-#[tactic(auto, unfolding(crate::specs::Stage::term))]
-fn term(alloc: Global, coefficient: i32, name: &str) -> Result<Value, AllocError>
-    ensures { IfOk result (λ v. view v ≡ term coefficient name.now) }
-{
-    json!(in alloc; {"coefficient": coefficient, "variable": name})
-}
-
-// The sum of the terms.
-#[tactic(auto, unfolding(crate::specs::Stage::affine))]
-fn affine(alloc: Global, terms: Vec<Value>) -> Result<Value, AllocError>
-    ensures { IfOk result (λ v. view v ≡ affine (map view terms.items)) }
-{
-    json!(in alloc; {"type": "ScalarAffineFunction", "terms": terms, "constant": 0u32})
-}
-
-#[tactic(auto, unfolding(crate::specs::Stage::equal_to))]
-fn equal_to(alloc: Global, value: u32) -> Result<Value, AllocError>
-    ensures { IfOk result (λ v. view v ≡ equal_to value) }
-{
-    json!(in alloc; {"type": "EqualTo", "value": value})
-}
-
-// The row that says that the sum of the terms is the value.
-#[tactic(auto, unfolding(crate::specs::Stage::row))]
-fn row(alloc: Global, value: u32, terms: Vec<Value>) -> Result<Value, AllocError>
-    ensures { IfOk result (λ v. view v ≡ row value (map view terms.items)) }
-{
-    let function = affine(alloc, terms)?;
-    let set = equal_to(alloc, value)?;
-    json!(in alloc; {"function": function, "set": set})
-}
-
-#[tactic(auto, unfolding(crate::specs::Stage::single))]
-fn single(alloc: Global, name: &str) -> Result<Value, AllocError>
-    ensures { IfOk result (λ v. view v ≡ single name.now) }
-{
-    json!(in alloc; {"type": "Variable", "name": name})
-}
-
-#[tactic(auto, unfolding(crate::specs::Stage::up_to))]
-fn up_to(alloc: Global, high: u32) -> Result<Value, AllocError>
-    ensures { IfOk result (λ v. view v ≡ up_to high) }
-{
-    json!(in alloc; {"type": "Interval", "lower": 0u32, "upper": high})
-}
-
-// The bound that says that a variable is from 0 to `high`.
-#[tactic(auto, unfolding(crate::specs::Stage::bound))]
-fn bound(alloc: Global, name: &str, high: u32) -> Result<Value, AllocError>
-    ensures { IfOk result (λ v. view v ≡ bound name.now high) }
-{
-    let function = single(alloc, name)?;
-    let set = up_to(alloc, high)?;
-    json!(in alloc; {"function": function, "set": set})
-}
-
-// One more variable.
-fn push_variable(alloc: Global, list: &mut Vec<Value>, name: &str) -> Result<(), AllocError>
-    ensures { OnOk result (map view list.new.items
-        ≡ map view list.old.items ++ variable name.now ∷ []) }
-{
-    Ok(list.push(variable(alloc, name)?)?)
-}
 
 // The variables of one more reservoir.
 #[tactic(auto, unfolding(crate::specs::Stage::variables_of))]
@@ -96,7 +26,7 @@ fn push_variables_of(alloc: Global, list: &mut Vec<Value>, reservoir: u32) -> Re
     push_variable(alloc, list, text_of(&reservoir_name(b'z', reservoir)))
 }
 
-#[tactic(auto, using(crate::proofs::Counted::flat_more), unfolding(crate::specs::Stage::variables))]
+#[tactic(auto, using(hp_forms::proofs::Counted::flat_more), unfolding(crate::specs::Stage::variables))]
 fn variables(alloc: Global, reservoirs: u32) -> Result<Vec<Value>, AllocError>
     requires { reservoirs ≤ 10 }
     ensures { IfOk result (λ list. map view list.items ≡ variables reservoirs) }
@@ -109,19 +39,6 @@ fn variables(alloc: Global, reservoirs: u32) -> Result<Vec<Value>, AllocError>
     push_variable(alloc, &mut list, "h")?;
     push_variable(alloc, &mut list, "k")?;
     Ok(list)
-}
-
-// One more term.
-fn push_term(
-    alloc: Global,
-    list: &mut Vec<Value>,
-    coefficient: i32,
-    name: &str,
-) -> Result<(), AllocError>
-    ensures { OnOk result (map view list.new.items
-        ≡ map view list.old.items ++ term coefficient name.now ∷ []) }
-{
-    Ok(list.push(term(alloc, coefficient, name)?)?)
 }
 
 // What the reservoir above lets down.
@@ -179,7 +96,7 @@ fn balance_terms(alloc: Global, reservoir: u32) -> Result<Vec<Value>, AllocError
     Ok(list)
 }
 
-#[tactic(auto, using(crate::proofs::Counted::map_more), unfolding(crate::specs::Stage::power_terms))]
+#[tactic(auto, using(hp_forms::proofs::Counted::map_more), unfolding(crate::specs::Stage::power_terms))]
 fn power_terms(alloc: Global, reservoirs: u32) -> Result<Vec<Value>, AllocError>
     requires { reservoirs ≤ 10 }
     ensures { IfOk result (λ list. map view list.items ≡ power_terms reservoirs) }
@@ -207,12 +124,11 @@ fn objective(alloc: Global) -> Result<Value, AllocError>
     push_term(alloc, &mut list, 5, "g")?;
     push_term(alloc, &mut list, 20, "h")?;
     push_term(alloc, &mut list, 200, "k")?;
-    let function = affine(alloc, list)?;
-    json!(in alloc; {"sense": "min", "function": function})
+    least_sum(alloc, list)
 }
 
 // The balances of all reservoirs.
-#[tactic(auto, using(crate::proofs::Counted::map_more))]
+#[tactic(auto, using(hp_forms::proofs::Counted::map_more))]
 fn balances(alloc: Global, reservoirs: u32) -> Result<Vec<Value>, AllocError>
     requires { reservoirs ≤ 10 }
     ensures { IfOk result (λ list. map view list.items ≡ map balance (numbers reservoirs)) }
@@ -225,14 +141,6 @@ fn balances(alloc: Global, reservoirs: u32) -> Result<Vec<Value>, AllocError>
     Ok(list)
 }
 
-// One more bound.
-fn push_bound(alloc: Global, list: &mut Vec<Value>, name: &str, high: u32) -> Result<(), AllocError>
-    ensures { OnOk result (map view list.new.items
-        ≡ map view list.old.items ++ bound name.now high ∷ []) }
-{
-    Ok(list.push(bound(alloc, name, high)?)?)
-}
-
 // The bounds of one more reservoir.
 #[tactic(auto, unfolding(crate::specs::Stage::bounds_of))]
 fn push_bounds_of(alloc: Global, list: &mut Vec<Value>, reservoir: u32) -> Result<(), AllocError>
@@ -240,19 +148,38 @@ fn push_bounds_of(alloc: Global, list: &mut Vec<Value>, reservoir: u32) -> Resul
     ensures { OnOk result (map view list.new.items
         ≡ map view list.old.items ++ bounds_of reservoir) }
 {
-    push_bound(alloc, list, text_of(&reservoir_name(b'i', reservoir)), 100)?;
-    push_bound(alloc, list, text_of(&reservoir_name(b'o', reservoir)), 100)?;
-    push_bound(alloc, list, text_of(&reservoir_name(b'q', reservoir)), 30)?;
+    push_bound(
+        alloc,
+        list,
+        text_of(&reservoir_name(b'i', reservoir)),
+        0,
+        100,
+    )?;
+    push_bound(
+        alloc,
+        list,
+        text_of(&reservoir_name(b'o', reservoir)),
+        0,
+        100,
+    )?;
+    push_bound(
+        alloc,
+        list,
+        text_of(&reservoir_name(b'q', reservoir)),
+        0,
+        30,
+    )?;
     push_bound(
         alloc,
         list,
         text_of(&reservoir_name(b'z', reservoir)),
+        0,
         10000,
     )
 }
 
 // The bounds of all reservoirs.
-#[tactic(auto, using(crate::proofs::Counted::flat_more))]
+#[tactic(auto, using(hp_forms::proofs::Counted::flat_more))]
 fn push_bounds(alloc: Global, list: &mut Vec<Value>, reservoirs: u32) -> Result<(), AllocError>
     requires { reservoirs ≤ 10 }
     ensures { OnOk result (map view list.new.items
@@ -273,25 +200,24 @@ fn constraints(alloc: Global, reservoirs: u32) -> Result<Vec<Value>, AllocError>
     let terms = power_terms(alloc, reservoirs)?;
     list.push(row(alloc, 25 * reservoirs, terms)?)?;
     push_bounds(alloc, &mut list, reservoirs)?;
-    push_bound(alloc, &mut list, "g", 10 * reservoirs)?;
-    push_bound(alloc, &mut list, "h", 10 * reservoirs)?;
-    push_bound(alloc, &mut list, "k", 40 * reservoirs)?;
+    push_bound(alloc, &mut list, "g", 0, 10 * reservoirs as i64)?;
+    push_bound(alloc, &mut list, "h", 0, 10 * reservoirs as i64)?;
+    push_bound(alloc, &mut list, "k", 0, 40 * reservoirs as i64)?;
     Ok(list)
 }
 
-#[tactic(auto, unfolding(crate::specs::Stage::state))]
 fn state(alloc: Global, reservoir: u32) -> Result<Value, AllocError>
     requires { reservoir < 10 }
     ensures { IfOk result (λ v. view v ≡ state reservoir) }
 {
     let incoming = reservoir_name(b'i', reservoir);
     let outgoing = reservoir_name(b'o', reservoir);
-    json!(in alloc; {"in": text_of(&incoming), "out": text_of(&outgoing)})
+    state_between(alloc, text_of(&incoming), text_of(&outgoing))
 }
 
-fn states(alloc: Global, reservoirs: u32) -> Result<Value, AllocError>
+fn states(alloc: Global, reservoirs: u32) -> Result<Map<String, Value>, AllocError>
     requires { reservoirs ≤ 10 }
-    ensures { IfOk result (λ v. view v ≡ states reservoirs) }
+    ensures { IfOk result (λ m. members_view m.entries ≡ states reservoirs) }
 {
     let mut map = Map::new(alloc);
     for reservoir in 0..reservoirs {
@@ -299,10 +225,10 @@ fn states(alloc: Global, reservoirs: u32) -> Result<Value, AllocError>
         let value = state(alloc, reservoir)?;
         serde_json::put(&mut map, alloc, text_of(&name), value)?;
     }
-    Ok(Value::Object(map))
+    Ok(map)
 }
 
-#[tactic(auto, using(crate::proofs::Counted::map_more))]
+#[tactic(auto, using(hp_forms::proofs::Counted::map_more))]
 fn random_variables(alloc: Global, reservoirs: u32) -> Result<Vec<Value>, AllocError>
     requires { reservoirs ≤ 10 }
     ensures { IfOk result (λ list. map view list.items ≡ random_variables reservoirs) }
@@ -323,7 +249,7 @@ fn program(alloc: Global, reservoirs: u32) -> Result<Value, AllocError>
     let variables = variables(alloc, reservoirs)?;
     let objective = objective(alloc)?;
     let constraints = constraints(alloc, reservoirs)?;
-    json!(in alloc; {"variables": variables, "objective": objective, "constraints": constraints})
+    hp_forms::program(alloc, constraints, objective, variables)
 }
 
 // The subproblem of each node.
@@ -335,5 +261,5 @@ pub(crate) fn subproblem(alloc: Global, reservoirs: u32) -> Result<Value, AllocE
     let states = states(alloc, reservoirs)?;
     let randoms = random_variables(alloc, reservoirs)?;
     let program = program(alloc, reservoirs)?;
-    json!(in alloc; {"state_variables": states, "random_variables": randoms, "subproblem": program})
+    hp_forms::subproblem(alloc, randoms, states, program)
 }

@@ -1,6 +1,6 @@
 use Rattle.std.proofs.Common.{◌∙◌, arith}
 use Rattle.serde_json.specs.View.{view, members_view}
-use Rattle.hp_gen.specs.Listed.{whole}
+use Rattle.hp_forms.specs.Listed.{whole}
 use Rattle.hp_gen.proofs.Orders.{reservoir_grown}
 use Rattle.hp_gen.proofs.generated.initial_values.Goals as goal
 

@@ -1,6 +1,6 @@
 use Rattle.std.proofs.Common.{◌≡◌}
 use Rattle.serde_json.specs.View.{members_view}
-use Rattle.hp_gen.specs.Listed.{members_from, whole}
+use Rattle.hp_forms.specs.Listed.{members_from, whole}
 use Rattle.hp_gen.specs.Stage.{state_name}
 use Rattle.hp_gen.proofs.generated.initial_values.Given as goal
 

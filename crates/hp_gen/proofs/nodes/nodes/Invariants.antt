@@ -2,7 +2,7 @@ use Rattle.std.proofs.Common.{◌*◌, ◌≡◌}
 use Rattle.serde_json.specs.View.{members_view}
 use Rattle.hp_sampler.specs.Drawn.{word_in}
 use Rattle.hp_gen.specs.Names.{node_name}
-use Rattle.hp_gen.specs.Listed.{members_from}
+use Rattle.hp_forms.specs.Listed.{members_from}
 use Rattle.hp_gen.specs.Nodes.{node}
 use Rattle.hp_gen.proofs.Streams.{at}
 use Rattle.hp_gen.proofs.nodes.nodes.Given as goal

@@ -1,7 +1,7 @@
 use Rattle.std.proofs.Common.{ℕ, ◌+◌, ◌*◌, ◌∙◌, ap, arith}
 use Rattle.hp_sampler.specs.Drawn.{word_in}
 use Rattle.hp_gen.specs.Nodes.{realization}
-use Rattle.hp_gen.proofs.Counted.{list_grown}
+use Rattle.hp_forms.proofs.Counted.{list_grown}
 use Rattle.hp_gen.proofs.Streams.{later, same_words, place_of}
 use Rattle.hp_gen.proofs.nodes.realizations.Goals as goal
 

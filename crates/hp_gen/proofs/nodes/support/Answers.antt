@@ -1,7 +1,7 @@
 use Rattle.std.proofs.Common.{ℕ, ◌≡◌, ◌+◌, ◌∙◌, ap, arith}
 use Rattle.serde_json.specs.View.{view, members_view}
 use Rattle.hp_sampler.specs.Drawn.{word_in}
-use Rattle.hp_gen.specs.Listed.{whole}
+use Rattle.hp_forms.specs.Listed.{whole}
 use Rattle.hp_gen.specs.Nodes.{inflow}
 use Rattle.hp_gen.proofs.Orders.{reservoir_grown}
 use Rattle.hp_gen.proofs.Streams.{later, same_words, place_of}

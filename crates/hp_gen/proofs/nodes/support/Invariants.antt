@@ -1,7 +1,7 @@
 use Rattle.std.proofs.Common.{◌+◌, ◌≡◌}
 use Rattle.serde_json.specs.View.{members_view}
 use Rattle.hp_sampler.specs.Drawn.{word_in}
-use Rattle.hp_gen.specs.Listed.{members_from, whole}
+use Rattle.hp_forms.specs.Listed.{members_from, whole}
 use Rattle.hp_gen.specs.Stage.{inflow_name}
 use Rattle.hp_gen.specs.Nodes.{inflow}
 use Rattle.hp_gen.proofs.Streams.{at}

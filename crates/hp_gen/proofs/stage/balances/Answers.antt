@@ -1,6 +1,7 @@
 use Rattle.std.proofs.Common.{◌∙◌, ap}
-use Rattle.hp_gen.specs.Stage.{row, balance}
-use Rattle.hp_gen.proofs.Counted.{list_grown}
+use Rattle.hp_forms.specs.Stage.{row}
+use Rattle.hp_gen.specs.Stage.{balance}
+use Rattle.hp_forms.proofs.Counted.{list_grown}
 use Rattle.hp_gen.proofs.stage.balances.Goals as goal
 
 pub loop-reservoir-preserved : goal.loop-reservoir-preserved

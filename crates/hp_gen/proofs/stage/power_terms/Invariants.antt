@@ -1,7 +1,8 @@
 use Rattle.std.proofs.Common.{map, pos, ◌≡◌}
 use Rattle.serde_json.specs.View.{view}
 use Rattle.hp_paths.specs.Paths.{numbers}
-use Rattle.hp_gen.specs.Stage.{term, turbined}
+use Rattle.hp_forms.specs.Stage.{term}
+use Rattle.hp_gen.specs.Stage.{turbined}
 use Rattle.hp_gen.proofs.stage.power_terms.Given as goal
 
 abbrev pub invariant-loop-reservoir : goal.invariant-loop-reservoir

@@ -4,7 +4,7 @@ use Rattle.serde_json.specs.Data.{Data}
 use Rattle.serde_json.specs.View.{view}
 use Rattle.hp_paths.specs.Paths.{numbers}
 use Rattle.hp_gen.specs.Stage.{bounds_of}
-use Rattle.hp_gen.proofs.Counted.{flat_more}
+use Rattle.hp_forms.proofs.Counted.{flat_more}
 use Rattle.hp_gen.proofs.stage.push_bounds.Goals as goal
 
 pub loop-reservoir-preserved : goal.loop-reservoir-preserved

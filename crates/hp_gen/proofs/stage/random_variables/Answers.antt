@@ -1,7 +1,7 @@
 use Rattle.std.proofs.Common.{ℕ, ◌∙◌, ap}
 use Rattle.serde_json.specs.Data.{string}
 use Rattle.hp_gen.specs.Stage.{inflow_name}
-use Rattle.hp_gen.proofs.Counted.{list_grown}
+use Rattle.hp_forms.proofs.Counted.{list_grown}
 use Rattle.hp_gen.proofs.stage.random_variables.Goals as goal
 
 pub loop-reservoir-preserved : goal.loop-reservoir-preserved

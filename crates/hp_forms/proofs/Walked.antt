@@ -5,7 +5,7 @@ use Rattle.serde_json.specs.Data.{Data}
 use Rattle.serde_json.specs.View.{items_of}
 use Rattle.hp_problem.specs.declared.refusal.Refusal.{Refusal}
 use Rattle.hp_fields.specs.Steps.{◌>>=◌, walk_members, walk_items, walk_list}
-use Rattle.hp_gen.specs.Listed.{members_from}
+use Rattle.hp_forms.specs.Listed.{members_from}
 
 -- what is found after n steps, from the number i on
 abbrev pub walked : {A : Type 0} → (A → ℕ → A) → A → ℕ → ℕ → A

@@ -9,7 +9,7 @@ use Rattle.serde_json.specs.Data.{Data}
 use Rattle.serde_json.specs.Events.{members_len}
 use Rattle.serde_json.specs.Find.{get_member}
 use Rattle.hp_fields.specs.Fields.{keys_of}
-use Rattle.hp_gen.specs.Listed.{members_from}
+use Rattle.hp_forms.specs.Listed.{members_from}
 
 pub members_len-from : (key : ℕ → List ℕ) (value : ℕ → Data) (i n : ℕ) → members_len (members_from key value i n) ≡ n
 members_len-from key value i zero = refl
