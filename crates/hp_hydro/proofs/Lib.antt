@@ -9,3 +9,7 @@ pub mod OneStage
 pub mod Equivalent
 pub mod Costs
 pub mod Described
+pub mod Steps
+pub mod Orders
+pub mod Plain
+pub mod Written

@@ -27,7 +27,7 @@ rising f a b (suc n) h =
     ap₂ ◌∷◌ (ap f e ∙ h 0 ∙ z) (rising f (a + 1) (b + 1) n (λ k. let p : b + 1 + k ≡ b + suc k = omega arith in let q : a + suc k ≡ a + 1 + k = omega arith in ap f p ∙ h (suc k) ∙ q))
 
 -- the places of these variables are the numbers from a on
-abbrev Run : Plants → List Variable → ℕ → Type 0
+abbrev pub Run : Plants → List Variable → ℕ → Type 0
 Run h ds a = map (place_of h) ds ≡ range_with_len a (length ds)
 
 run-append : (h : Plants) (xs ys : List Variable) (a : ℕ) → Run h xs a → Run h ys (a + length xs) → Run h (xs ++ ys) a
@@ -60,7 +60,7 @@ run_reservoirs h (suc n) =
     subst (λ (ds : List Variable). Run h ds 0) (sym (ap (λ (k : ℕ). flat_map (variables_of h) (numbers k)) e ∙ flat_map_more (variables_of h) n))
     (run-append h (flat_map (variables_of h) (numbers n)) (variables_of h n) 0 (run_reservoirs h n) (subst (λ (a : ℕ). Run h (variables_of h n) a) z (run_reservoir h n)))
 
-run_variables : (h : Plants) → Run h (variables h) 0
+pub run_variables : (h : Plants) → Run h (variables h) 0
 run_variables h =
     let rs : List Variable = flat_map (variables_of h) (all_reservoirs h) in
     let ts : List Variable = map thermal_of (all_thermals h) in

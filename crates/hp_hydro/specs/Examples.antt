@@ -1,5 +1,5 @@
 -- Small descriptions that were worked out by hand.
-use Rattle.std.specs.Prelude.{ℕ, ℤ, pos, negsuc, List, [], ◌∷◌, Some, None}
+use Rattle.std.specs.Prelude.{ℕ, ℤ, pos, negsuc, List, [], ◌∷◌, ◌++◌, codes, Some, None}
 use Rattle.hp_problem.specs.declared.raw.Row.{Row}
 use Rattle.hp_theory.specs.Problem.{Node}
 use Rattle.hp_plants.specs.declared.plants.Plants.{Plants}
@@ -89,3 +89,66 @@ abbrev pub at_once_rows : List Row
 at_once_rows = zero_row ((0, pos 1) ∷ (1, pos 1) ∷ (2, pos 1) ∷ []) ((0, negsuc 0) ∷ []) ((0, negsuc 0) ∷ [])
     ∷ zero_row ((1, negsuc 0) ∷ (2, negsuc 0) ∷ (3, pos 1) ∷ (4, pos 1) ∷ (5, pos 1) ∷ []) ((1, negsuc 0) ∷ []) ((1, negsuc 0) ∷ [])
     ∷ zero_row ((1, pos 2) ∷ (4, pos 3) ∷ (6, pos 1) ∷ []) [] ((2, negsuc 0) ∷ []) ∷ []
+
+-- the problem of the one stage, as it is written
+unfoldable pub one_stage_text : List ℕ
+one_stage_text =
+    codes "{\"nodes\":{\"s001\":{\"realizations\":[{\"probability\":1,\"support\":{\"d:b\":9}}],\"subproblem\":\"p\",\"successors\":{}}},\"root\":{\"state_variables\":{},\"successors\":{\"s001\":1}},"
+    ++ codes "\"subproblems\":{\"p\":{\"random_variables\":[\"d:b\"],\"state_variables\":{},\"subproblem\":{\"constraints\":["
+    ++ codes "{\"function\":{\"constant\":0,\"terms\":[{\"coefficient\":1,\"variable\":\"g:t\"},{\"coefficient\":1,\"variable\":\"u:b\"},{\"coefficient\":-1,\"variable\":\"d:b\"}],\"type\":\"ScalarAffineFunction\"},"
+    ++ codes "\"set\":{\"type\":\"EqualTo\",\"value\":0}},"
+    ++ codes "{\"function\":{\"name\":\"g:t\",\"type\":\"Variable\"},\"set\":{\"lower\":0,\"type\":\"Interval\",\"upper\":20}},"
+    ++ codes "{\"function\":{\"name\":\"u:b\",\"type\":\"Variable\"},\"set\":{\"lower\":0,\"type\":\"Interval\",\"upper\":1048576}}],"
+    ++ codes "\"objective\":{\"function\":{\"constant\":0,\"terms\":[{\"coefficient\":5,\"variable\":\"g:t\"},{\"coefficient\":200,\"variable\":\"u:b\"}],\"type\":\"ScalarAffineFunction\"},\"sense\":\"min\"},"
+    ++ codes "\"variables\":[{\"name\":\"g:t\"},{\"name\":\"d:b\"},{\"name\":\"u:b\"}]}}},\"version\":{\"major\":1,\"minor\":0}}\n"
+
+-- the variables of a stage of the cascade
+abbrev pub cascade_names : List (List ℕ)
+cascade_names = codes "i:a" ∷ codes "w:a" ∷ codes "o:a" ∷ codes "q:a" ∷ codes "z:a" ∷ codes "a1:a" ∷ codes "b1:a" ∷ codes "a2:a" ∷ codes "b2:a" ∷ codes "i:b" ∷ codes "w:b" ∷ codes "o:b" ∷ codes "q:b" ∷ codes "z:b" ∷ codes "d:x" ∷ codes "u:x" ∷ []
+
+-- its rows, as they are written
+unfoldable pub cascade_rows_text : List ℕ
+cascade_rows_text =
+    codes "[{\"function\":{\"constant\":0,\"terms\":[{\"coefficient\":1,\"variable\":\"o:a\"},{\"coefficient\":1,\"variable\":\"q:a\"},{\"coefficient\":1,\"variable\":\"z:a\"},{\"coefficient\":-1,\"variable\":\"i:a\"},{\"coefficient\":-1,\"variable\":\"w:a\"}],\"type\":\"ScalarAffineFunction\"},\"set\":{\"type\":\"EqualTo\",\"value\":0}}"
+    ++ codes ",{\"function\":{\"constant\":0,\"terms\":[{\"coefficient\":1,\"variable\":\"o:b\"},{\"coefficient\":1,\"variable\":\"q:b\"},{\"coefficient\":1,\"variable\":\"z:b\"},{\"coefficient\":-1,\"variable\":\"i:b\"},{\"coefficient\":-1,\"variable\":\"w:b\"},{\"coefficient\":-1,\"variable\":\"a1:a\"}],\"type\":\"ScalarAffineFunction\"},\"set\":{\"type\":\"EqualTo\",\"value\":0}}"
+    ++ codes ",{\"function\":{\"constant\":0,\"terms\":[{\"coefficient\":1,\"variable\":\"b1:a\"},{\"coefficient\":-1,\"variable\":\"a2:a\"}],\"type\":\"ScalarAffineFunction\"},\"set\":{\"type\":\"EqualTo\",\"value\":0}}"
+    ++ codes ",{\"function\":{\"constant\":0,\"terms\":[{\"coefficient\":1,\"variable\":\"b2:a\"},{\"coefficient\":-1,\"variable\":\"q:a\"},{\"coefficient\":-1,\"variable\":\"z:a\"}],\"type\":\"ScalarAffineFunction\"},\"set\":{\"type\":\"EqualTo\",\"value\":0}}"
+    ++ codes ",{\"function\":{\"constant\":0,\"terms\":[{\"coefficient\":2,\"variable\":\"q:a\"},{\"coefficient\":3,\"variable\":\"q:b\"},{\"coefficient\":1,\"variable\":\"u:x\"},{\"coefficient\":-1,\"variable\":\"d:x\"}],\"type\":\"ScalarAffineFunction\"},\"set\":{\"type\":\"EqualTo\",\"value\":0}}]"
+
+-- its nodes, as written
+unfoldable pub cascade_nodes_text : List ℕ
+cascade_nodes_text =
+    codes "{\"s001\":{\"realizations\":[{\"probability\":1,\"support\":{\"d:x\":9,\"w:a\":7,\"w:b\":2}},{\"probability\":3,\"support\":{\"d:x\":9,\"w:a\":-1,\"w:b\":0}}],\"subproblem\":\"p\",\"successors\":{\"s002\":1}},"
+    ++ codes "\"s002\":{\"realizations\":[{\"probability\":1,\"support\":{\"d:x\":8,\"w:a\":0,\"w:b\":1}}],\"subproblem\":\"p\",\"successors\":{}}}"
+
+-- its root, as written
+unfoldable pub cascade_root_text : List ℕ
+cascade_root_text =
+    codes "{\"state_variables\":{\"p1:a\":0,\"p2:a\":0,\"v:a\":5,\"v:b\":6},\"successors\":{\"s001\":1}}"
+
+-- its states, as written
+unfoldable pub cascade_states_text : List ℕ
+cascade_states_text =
+    codes "{\"p1:a\":{\"in\":\"a1:a\",\"out\":\"b1:a\"},\"p2:a\":{\"in\":\"a2:a\",\"out\":\"b2:a\"},\"v:a\":{\"in\":\"i:a\",\"out\":\"o:a\"},\"v:b\":{\"in\":\"i:b\",\"out\":\"o:b\"}}"
+
+-- its bounds, as written
+unfoldable pub cascade_bounds_text : List ℕ
+cascade_bounds_text =
+    codes "[{\"function\":{\"name\":\"i:a\",\"type\":\"Variable\"},\"set\":{\"lower\":1,\"type\":\"Interval\",\"upper\":10}}"
+    ++ codes ",{\"function\":{\"name\":\"o:a\",\"type\":\"Variable\"},\"set\":{\"lower\":1,\"type\":\"Interval\",\"upper\":10}}"
+    ++ codes ",{\"function\":{\"name\":\"q:a\",\"type\":\"Variable\"},\"set\":{\"lower\":0,\"type\":\"Interval\",\"upper\":4}}"
+    ++ codes ",{\"function\":{\"name\":\"z:a\",\"type\":\"Variable\"},\"set\":{\"lower\":0,\"type\":\"Interval\",\"upper\":3}}"
+    ++ codes ",{\"function\":{\"name\":\"a1:a\",\"type\":\"Variable\"},\"set\":{\"lower\":0,\"type\":\"Interval\",\"upper\":7}}"
+    ++ codes ",{\"function\":{\"name\":\"b1:a\",\"type\":\"Variable\"},\"set\":{\"lower\":0,\"type\":\"Interval\",\"upper\":7}}"
+    ++ codes ",{\"function\":{\"name\":\"a2:a\",\"type\":\"Variable\"},\"set\":{\"lower\":0,\"type\":\"Interval\",\"upper\":7}}"
+    ++ codes ",{\"function\":{\"name\":\"b2:a\",\"type\":\"Variable\"},\"set\":{\"lower\":0,\"type\":\"Interval\",\"upper\":7}}"
+    ++ codes ",{\"function\":{\"name\":\"i:b\",\"type\":\"Variable\"},\"set\":{\"lower\":0,\"type\":\"Interval\",\"upper\":20}}"
+    ++ codes ",{\"function\":{\"name\":\"o:b\",\"type\":\"Variable\"},\"set\":{\"lower\":0,\"type\":\"Interval\",\"upper\":20}}"
+    ++ codes ",{\"function\":{\"name\":\"q:b\",\"type\":\"Variable\"},\"set\":{\"lower\":0,\"type\":\"Interval\",\"upper\":8}}"
+    ++ codes ",{\"function\":{\"name\":\"z:b\",\"type\":\"Variable\"},\"set\":{\"lower\":0,\"type\":\"Interval\",\"upper\":9}}"
+    ++ codes ",{\"function\":{\"name\":\"u:x\",\"type\":\"Variable\"},\"set\":{\"lower\":0,\"type\":\"Interval\",\"upper\":1048576}}]"
+
+-- the water of the second reservoir where that of the first is there at once
+unfoldable pub at_once_row_text : List ℕ
+at_once_row_text =
+    codes "{\"function\":{\"constant\":0,\"terms\":[{\"coefficient\":1,\"variable\":\"o:b\"},{\"coefficient\":1,\"variable\":\"q:b\"},{\"coefficient\":1,\"variable\":\"z:b\"},{\"coefficient\":-1,\"variable\":\"i:b\"},{\"coefficient\":-1,\"variable\":\"w:b\"},{\"coefficient\":-1,\"variable\":\"q:a\"},{\"coefficient\":-1,\"variable\":\"z:a\"}],\"type\":\"ScalarAffineFunction\"},\"set\":{\"type\":\"EqualTo\",\"value\":0}}"

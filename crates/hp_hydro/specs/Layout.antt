@@ -66,9 +66,12 @@ pub data Store : Type 0 where
 abbrev pub steps : ℕ → List ℕ
 steps n = map suc (numbers n)
 
--- the water that is k stages away, from each reservoir whose water travels so far
+-- the water of reservoir j that is k stages away, where it travels so far
+abbrev pub way_at : Plants → ℕ → ℕ → List Store
+way_at h k j = if nat_le k (travel h j) then way_of j k ∷ [] else []
+
 abbrev pub ways : Plants → ℕ → List Store
-ways h k = flat_map (λ j. if nat_le k (travel h j) then way_of j k ∷ [] else []) (all_reservoirs h)
+ways h k = flat_map (way_at h k) (all_reservoirs h)
 
 -- in the order of the names p1:.., p2:.., p3:.., v:..; no water travels for more than three stages
 abbrev pub stores : Plants → List Store

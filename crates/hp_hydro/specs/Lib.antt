@@ -5,4 +5,9 @@ pub mod Made
 pub mod Plan
 pub mod PlanCost
 pub mod Trees
+pub mod Columns
+pub mod Seen
+pub mod Stage
+pub mod Nodes
+pub mod Text
 pub mod Examples

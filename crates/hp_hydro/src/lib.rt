@@ -1,5 +1,17 @@
 //! Hydro plants as a problem: what a plan for them is, the problem that is made of them, and that both mean the same.
 #![tactic(auto)]
 
+mod bounds;
+mod columns;
 pub mod laws;
+mod names;
+mod nodes;
+mod plants;
+mod rows;
+mod stage;
+#[cfg(test)]
+mod tests;
+mod text;
 pub mod worked;
+
+pub use text::make;

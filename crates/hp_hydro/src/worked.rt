@@ -1,11 +1,19 @@
 // Rows that were worked out by hand, over the descriptions of specs/Examples.antt.
-ghost use Rattle.std.specs.Prelude.{◌≡◌, pos, [], ◌∷◌};
+ghost use Rattle.std.specs.Prelude.{◌≡◌, pos, [], ◌∷◌, map};
+ghost use Rattle.std.specs.List.{flat_map};
+ghost use Rattle.serde_json.specs.Data.{array, object};
+ghost use Rattle.serde_json.specs.View.{items_of};
+ghost use Rattle.serde_json.specs.Written.{compact_text};
 ghost use Rattle.hp_theory.specs.Problem.{node_at};
 ghost use Rattle.hp_theory.specs.Tree.{no_branch, branch, no_tree, tree};
 ghost use Rattle.hp_hydro.specs.Made.{problem_of_plants};
 ghost use Rattle.hp_hydro.specs.PlanCost.{plan_cost};
 ghost use Rattle.hp_hydro.specs.Trees.{ahead, tree_of};
-ghost use Rattle.hp_hydro.specs.Examples.{one_stage, one_stage_node, nine_plan, cascade, two_stages_node, at_once_rows, moving, still};
+ghost use Rattle.hp_hydro.specs.Columns.{columns, column_name};
+ghost use Rattle.hp_hydro.specs.Stage.{rows, bounds_of, states, zero_row, water_sum};
+ghost use Rattle.hp_hydro.specs.Nodes.{nodes};
+ghost use Rattle.hp_hydro.specs.Text.{root, hydro_text};
+ghost use Rattle.hp_hydro.specs.Examples.{one_stage, one_stage_node, one_stage_text, cascade_names, cascade_rows_text, cascade_bounds_text, cascade_states_text, cascade_nodes_text, cascade_root_text, at_once_row_text, nine_plan, cascade, two_stages_node, at_once_rows, moving, still};
 
 /// What the definitions give on small descriptions.
 pub fn worked_rows()
@@ -21,4 +29,17 @@ pub fn worked_rows()
     ensures arrived { ahead (cascade 2) 1 (still ∷ still ∷ moving ∷ [])
         ≡ pos 0 ∷ pos 0 ∷ pos 8 ∷ pos 10 ∷ [] }
     ensures arrived_at_once { ahead (cascade 0) 1 (moving ∷ []) ≡ pos 8 ∷ pos 8 ∷ [] }
+{}
+
+/// What is written of small descriptions.
+pub fn worked_texts()
+    ensures one_stage { hydro_text one_stage ≡ one_stage_text }
+    ensures columns { map (column_name (cascade 2)) (columns (cascade 2)) ≡ cascade_names }
+    ensures rows { compact_text (array (items_of (rows (cascade 2)))) ≡ cascade_rows_text }
+    ensures bounds { compact_text (array (items_of (flat_map (bounds_of (cascade 2)) (columns (cascade 2)))))
+        ≡ cascade_bounds_text }
+    ensures states { compact_text (object (states (cascade 2))) ≡ cascade_states_text }
+    ensures nodes { compact_text (object (nodes (cascade 2))) ≡ cascade_nodes_text }
+    ensures root { compact_text (root (cascade 2)) ≡ cascade_root_text }
+    ensures at_once { compact_text (zero_row (cascade 0) (water_sum (cascade 0) 1)) ≡ at_once_row_text }
 {}

@@ -1,0 +1,45 @@
+// The laws over the definitions. Each is the contract of a function with an empty body.
+ghost use Rattle.std.specs.Prelude.{◌≡◌, ◌≤◌, ℕ, List, [], ◌∷◌, ◌++◌, length, Ok, IfOk, IsOk};
+ghost use Rattle.serde_json.specs.Data.{Data, depth};
+ghost use Rattle.serde_json.specs.Written.{compact_text};
+ghost use Rattle.hp_problem.specs.Sealed.{Sealed};
+ghost use Rattle.hp_fields.specs.Fields.{json_at};
+ghost use Rattle.hp_sof.specs.Problem.{problem_at};
+ghost use Rattle.hp_theory.specs.Range.{based};
+ghost use Rattle.hp_theory.specs.View.{problem_of};
+ghost use Rattle.hp_plants.specs.declared.plants.Plants.{Plants};
+ghost use Rattle.hp_plants.specs.Described.{IsPlants};
+ghost use Rattle.hp_hydro.specs.Layout.{stores, variables, chances};
+ghost use Rattle.hp_hydro.specs.Rows.{all_rows};
+ghost use Rattle.hp_hydro.specs.Made.{problem_of_plants};
+ghost use Rattle.hp_hydro.specs.Text.{hydro_text, hydro_at};
+ghost use Rattle.hp_accepts.specs.Fair.{Fair};
+
+/// The compact text of a value, and a newline, is read as the value.
+pub fn text_read()
+    ensures { (d : Data) → Fair d → depth d ≤ 127 → json_at (compact_text d ++ 10 ∷ []) ≡ Ok d }
+{}
+
+/// Read accepts the text that is made of plants whose description was read, and gives the problem that they mean.
+/// Its base cuts are in range.
+pub fn accepted()
+    ensures problem { (h : Plants) → IsPlants h
+        → (s : Sealed) × (problem_at (hydro_text h) ≡ Ok s) × (problem_of s ≡ problem_of_plants h) }
+    ensures base_fits { (h : Plants) → IsPlants h
+        → IfOk (problem_at (hydro_text h)) (λ s. IsOk (based s)) }
+{}
+
+/// Read accepts each text that the bytes of a description give, and the base cuts of its problem are in range.
+pub fn made_accepted()
+    ensures problem { (bytes text : List ℕ) → hydro_at bytes ≡ Ok text → IsOk (problem_at text) }
+    ensures base_fits { (bytes text : List ℕ) → hydro_at bytes ≡ Ok text
+        → IfOk (problem_at text) (λ s. IsOk (based s)) }
+{}
+
+/// How much a problem that is made of plants may have, each within what the reader allows.
+pub fn within_limits()
+    ensures states { (h : Plants) → IsPlants h → length (stores h) ≤ 50 }
+    ensures decisions { (h : Plants) → IsPlants h → length (variables h) ≤ 200 }
+    ensures randoms { (h : Plants) → IsPlants h → length (chances h) ≤ 50 }
+    ensures rows { (h : Plants) → IsPlants h → length (all_rows h) ≤ 200 }
+{}

@@ -1,0 +1,34 @@
+-- The text of the problem that is made from a hydro description.
+use Rattle.std.specs.Prelude.{ℕ, List, [], ◌∷◌, ◌++◌, Result, Ok}
+use Rattle.serde_json.specs.Data.{Data, Members}
+use Rattle.serde_json.specs.Written.{compact_text}
+use Rattle.hp_forms.specs.Listed.{members_by, integer}
+use Rattle.hp_forms.specs.Nodes.{root_of, problem_of}
+use Rattle.hp_plants.specs.declared.plants.Plants.{Plants}
+use Rattle.hp_plants.specs.declared.refusal.HydroRefusal.{HydroRefusal}
+use Rattle.hp_plants.specs.Plants.{plants_at}
+use Rattle.hp_plants.specs.Steps.{◌>>=◌}
+use Rattle.hp_hydro.specs.Layout.{stores, store_initial}
+use Rattle.hp_hydro.specs.Columns.{state_name}
+use Rattle.hp_hydro.specs.Stage.{subproblem}
+use Rattle.hp_hydro.specs.Nodes.{link_to, nodes}
+
+unfoldable pub initial_values : Plants → Members
+initial_values h = members_by (state_name h) (λ s. integer (store_initial h s)) (stores h)
+
+-- the horizon begins with the first stage
+unfoldable pub root : Plants → Data
+root h = root_of (initial_values h) (link_to h 0)
+
+unfoldable pub hydro_data : Plants → Data
+hydro_data h = problem_of (nodes h) (root h) (subproblem h)
+
+-- the compact text of the problem, and a newline
+unfoldable pub hydro_text : Plants → List ℕ
+hydro_text h = compact_text (hydro_data h) ++ 10 ∷ []
+
+-- the text that the bytes of a description give, or the first refusal
+unfoldable pub hydro_at : List ℕ → Result (List ℕ) HydroRefusal
+hydro_at bytes = do
+  h ← plants_at bytes
+  Ok (hydro_text h)

@@ -1,0 +1,196 @@
+// The nodes: one for each stage.
+ghost use Rattle.std.specs.Prelude.{◌≡◌, ◌≤◌, ◌<◌, length, map, IfOk, OnOk, IsAscii};
+ghost use Rattle.serde_json.specs.Data.{put};
+ghost use Rattle.serde_json.specs.View.{view, members_view};
+ghost use Rattle.hp_num.specs.Sums.{entry};
+ghost use Rattle.hp_forms.specs.Listed.{put_by, integer};
+ghost use Rattle.hp_plants.specs.Described.{IsPlants, IsStage};
+ghost use Rattle.hp_hydro.specs.Layout.{inflow_of, demand_of, all_reservoirs, all_buses};
+ghost use Rattle.hp_hydro.specs.Columns.{chance_name};
+ghost use Rattle.hp_hydro.specs.Nodes.{node_name, support, realization, link_to, node, nodes};
+
+use crate::names::{demand_name, inflow_name};
+use hp_forms::{digit, put_whole, text_of};
+use hp_plants::{Inflow, Plants, Stage};
+use serde_json::{Map, Value};
+use std::alloc::{AllocError, Global};
+
+// The name of a node: its stage with three digits, from 001.
+#[tactic(auto, unfolding(crate::specs::Nodes::node_name))]
+fn node_name(node: u32) -> [u8; 4]
+    requires { node < 999 }
+    ensures value { result ≡ node_name node }
+    ensures ascii { IsAscii result }
+{
+    let stage = node + 1;
+    [b's', digit(stage / 100), digit(stage / 10), digit(stage)]
+}
+
+// One of some numbers.
+fn number(numbers: &[i64], at: usize) -> i64
+    requires { at < length numbers.now }
+    ensures { result ≡ entry numbers.now at }
+{
+    numbers[at]
+}
+
+// What is asked for at a bus.
+fn put_demand(
+    alloc: Global,
+    plants: &Plants,
+    demand: &[i64],
+    b: usize,
+    map: &mut Map<String, Value>,
+) -> Result<(), AllocError>
+    requires { b < length demand.now }
+    ensures { OnOk result (members_view map.new.entries ≡ put (chance_name plants.now (demand_of b))
+        (integer (entry demand.now b)) (members_view map.old.entries)) }
+{
+    let name = demand_name(alloc, plants, b)?;
+    put_whole(alloc, map, name.as_str(), number(demand, b))
+}
+
+// What is asked for at each bus.
+fn put_demands(
+    alloc: Global,
+    plants: &Plants,
+    demand: &[i64],
+    map: &mut Map<String, Value>,
+) -> Result<(), AllocError>
+    requires { length demand.now ≡ length plants.now.buses }
+    ensures { OnOk result (members_view map.new.entries
+        ≡ put_by (λ b. chance_name plants.now (demand_of b)) (λ b. integer (entry demand.now b)) (all_buses plants.now) (members_view map.old.entries)) }
+{
+    for b in 0..plants.buses.len() {
+        put_demand(alloc, plants, demand, b, map)?;
+    }
+    Ok(())
+}
+
+// What flows into a reservoir.
+fn put_inflow(
+    alloc: Global,
+    plants: &Plants,
+    water: &[i64],
+    j: usize,
+    map: &mut Map<String, Value>,
+) -> Result<(), AllocError>
+    requires { j < length water.now }
+    ensures { OnOk result (members_view map.new.entries ≡ put (chance_name plants.now (inflow_of j))
+        (integer (entry water.now j)) (members_view map.old.entries)) }
+{
+    let name = inflow_name(alloc, plants, j)?;
+    put_whole(alloc, map, name.as_str(), number(water, j))
+}
+
+// What flows into each reservoir.
+fn put_inflows(
+    alloc: Global,
+    plants: &Plants,
+    water: &[i64],
+    map: &mut Map<String, Value>,
+) -> Result<(), AllocError>
+    requires { length water.now ≡ length plants.now.reservoirs }
+    ensures { OnOk result (members_view map.new.entries
+        ≡ put_by (λ j. chance_name plants.now (inflow_of j)) (λ j. integer (entry water.now j)) (all_reservoirs plants.now) (members_view map.old.entries)) }
+{
+    for j in 0..plants.reservoirs.len() {
+        put_inflow(alloc, plants, water, j, map)?;
+    }
+    Ok(())
+}
+
+// The demands of a stage and the water of one of its inflows.
+fn support(
+    alloc: Global,
+    plants: &Plants,
+    demand: &[i64],
+    water: &[i64],
+) -> Result<Map<String, Value>, AllocError>
+    requires plants { IsPlants plants.now }
+    requires demand { length demand.now ≡ length plants.now.buses }
+    requires water { length water.now ≡ length plants.now.reservoirs }
+    ensures { IfOk result (λ m. members_view m.entries ≡ support plants.now demand.now water.now) }
+{
+    let mut map = Map::new(alloc);
+    put_demands(alloc, plants, demand, &mut map)?;
+    put_inflows(alloc, plants, water, &mut map)?;
+    Ok(map)
+}
+
+#[tactic(auto, unfolding(crate::specs::Nodes::realization))]
+fn realization(
+    alloc: Global,
+    plants: &Plants,
+    demand: &[i64],
+    inflow: &Inflow,
+) -> Result<Value, AllocError>
+    requires plants { IsPlants plants.now }
+    requires demand { length demand.now ≡ length plants.now.buses }
+    requires water { length inflow.now.water ≡ length plants.now.reservoirs }
+    ensures { IfOk result (λ v. view v ≡ realization plants.now demand.now inflow.now) }
+{
+    let support = support(alloc, plants, demand, inflow.water.as_slice())?;
+    hp_forms::realization(alloc, inflow.weight, support)
+}
+
+// A realization for each inflow of a stage.
+fn realizations(alloc: Global, plants: &Plants, stage: &Stage) -> Result<Vec<Value>, AllocError>
+    requires plants { IsPlants plants.now }
+    requires stage { IsStage (length plants.now.buses) (length plants.now.reservoirs) stage.now }
+    ensures { IfOk result (λ list. map view list.items
+        ≡ map (realization plants.now stage.now.demand) stage.now.inflows) }
+{
+    let mut list = Vec::new(alloc);
+    for inflow in stage.inflows.as_slice() {
+        list.push(realization(alloc, plants, stage.demand.as_slice(), inflow)?)?;
+    }
+    Ok(list)
+}
+
+/// The node of a number with weight 1, none after the last one. [`AllocError`] where memory was refused, as of all
+/// functions here.
+#[tactic(auto, unfolding(crate::specs::Nodes::link_to))]
+pub(crate) fn link_to(
+    alloc: Global,
+    plants: &Plants,
+    node: usize,
+) -> Result<Map<String, Value>, AllocError>
+    requires { length plants.now.stages ≤ 100 }
+    ensures { IfOk result (λ m. members_view m.entries ≡ link_to plants.now node) }
+{
+    let mut map = Map::new(alloc);
+    if node >= plants.stages.len() {
+        return Ok(map);
+    }
+    let name = node_name(node as u32);
+    serde_json::put(&mut map, alloc, text_of(&name), Value::from(1u32))?;
+    Ok(map)
+}
+
+// The node of a stage, which the next one follows.
+#[tactic(auto, unfolding(crate::specs::Nodes::node))]
+fn node(alloc: Global, plants: &Plants, m: usize) -> Result<Value, AllocError>
+    requires plants { IsPlants plants.now }
+    requires known { m < length plants.now.stages }
+    ensures { IfOk result (λ v. view v ≡ node plants.now m) }
+{
+    let realizations = realizations(alloc, plants, &plants.stages.as_slice()[m])?;
+    let next = link_to(alloc, plants, m + 1)?;
+    hp_forms::node(alloc, realizations, next)
+}
+
+/// All nodes, stage by stage.
+#[tactic(auto, unfolding(crate::specs::Nodes::nodes))]
+pub(crate) fn nodes(alloc: Global, plants: &Plants) -> Result<Map<String, Value>, AllocError>
+    requires { IsPlants plants.now }
+    ensures { IfOk result (λ m. members_view m.entries ≡ nodes plants.now) }
+{
+    let mut map = Map::new(alloc);
+    for m in 0..plants.stages.len() {
+        let name = node_name(m as u32);
+        let value = node(alloc, plants, m)?;
+        serde_json::put(&mut map, alloc, text_of(&name), value)?;
+    }
+    Ok(map)
+}
