@@ -30,12 +30,12 @@ named_printable : (what name : List ℕ) (z : ℤ) → printable what ≡ true �
 named_printable what name z h = printable-append (what ++ json_string name) (word z) (printable-append what (json_string name) h (name_printable name)) (word_printable z)
 
 -- two texts that differ at a place
-differ : (k a b : ℕ) (v w : List ℕ) → get_or v k 0 ≡ a → get_or w k 0 ≡ b → a ≢ b → v ≢ w
+pub differ : (k a b : ℕ) (v w : List ℕ) → get_or v k 0 ≡ a → get_or w k 0 ≡ b → a ≢ b → v ≢ w
 differ k a b v w e f n h = n (sym e ∙ ap (λ u. get_or u k 0) h ∙ f)
 
 module _ (p : Problem) where
   -- a line whose first word is none of `cut`, `bound` and `iteration`
-  other_line : (line first : List ℕ) → first_word line ≡ first → first ≢ codes "cut" → first ≢ codes "bound" → first ≢ codes "iteration" → SoundLine p line
+  pub other_line : (line first : List ℕ) → first_word line ≡ first → first ≢ codes "cut" → first ≢ codes "bound" → first ≢ codes "iteration" → SoundLine p line
   other_line line first e c b i = record {
     cut = λ h. absurd (c (sym e ∙ h));
     bound = λ h. absurd (b (sym e ∙ h));
@@ -66,7 +66,7 @@ module _ (p : Problem) where
       let line : List ℕ = codes "value " ++ json_string name ++ word z in
       good_line p line (named_printable (codes "value ") name z refl) (plain_line p line 118 refl (omega arith) (omega arith) (omega arith))
 
-  good_row : (i : ℕ) (r : ℤ) → Good p (row_line i r)
+  pub good_row : (i : ℕ) (r : ℤ) → Good p (row_line i r)
   good_row i r =
       let front : List ℕ = codes "row" ++ word (pos i) in
       let line : List ℕ = front ++ codes " residual" ++ word r in

@@ -1,11 +1,15 @@
 pub mod KnownBytes
 pub mod Reports
+pub mod Described
 pub mod Checks
 pub mod LoadedEnds
 pub mod Synced
 pub mod TrainReports
 pub mod Wrote
 pub mod ResumedRuns
+pub mod Loaded
 pub mod Simulated
+pub mod Evaluated
 pub mod Listed
 pub mod SoundPlanes
+pub mod SoundVerdict

@@ -9,6 +9,7 @@ use Rattle.hp_theory.specs.declared.cut.Cut.{Cut}
 use Rattle.hp_theory.specs.Range.{based}
 use Rattle.hp_theory.specs.View.{problem_of}
 use Rattle.hp_gen.specs.Generated.{generated}
+use Rattle.hp_hydro.specs.Text.{hydro_at}
 use Rattle.hp_report.specs.SoundLines.{SoundLines}
 use Rattle.hp_report.proofs.SoundLines.{sound_lines, sound_check, sound_training}
 use Rattle.hp_report.proofs.SoundTraces.{sound_traces}
@@ -16,16 +17,17 @@ use Rattle.hp_fields.specs.Steps.{◌>>=◌}
 use Rattle.hp_problem.specs.declared.refusal.Refusal.{Refusal}
 use Rattle.hp_lp.specs.Chained.{Solving}
 use Rattle.hp_run.specs.Outcome.{IsRefused, Reports, WithBase, listed_at, with_alternatives, based_at, based_of, with_base, or_refused, report_by, report_at, IsSoundReport, SoundText}
-use Rattle.hp_run.specs.Causes.{Ends, Explains, ExplainsProblem, ExplainsTask, IsRefuted, Lacks, ReadAll, status_of, expected, Completes}
+use Rattle.hp_run.specs.Causes.{Ends, Explains, ExplainsDescribed, ExplainsProblem, ExplainsTask, IsRefuted, Lacks, ReadAll, status_of, status_of_text, expected, expected_of, Completes}
 use Rattle.hp_run.specs.declared.job.Job.{Job}
-use Rattle.hp_run.specs.declared.job.Job.TheVariants.{Plan, Generate}
+use Rattle.hp_run.specs.declared.job.Job.TheVariants.{Plan, Hydro, Generate}
 use Rattle.hp_run.specs.declared.task.Task.{Task}
-use Rattle.hp_run.specs.declared.task.Task.TheVariants.{Base, Train, Check, Simulate, Validate, Robust}
+use Rattle.hp_run.specs.declared.task.Task.TheVariants.{Base, Train, Check, Simulate, Validate, Evaluate, Robust}
 use Rattle.hp_run.specs.declared.status.Status.{Status}
-use Rattle.hp_run.specs.declared.status.Status.TheVariants.{Done, Usage, ReadFault, TooLong, ProblemRefused, JournalRefused, TooMuch, Range, NoStage, DiskFault, WriteFault, Memory}
+use Rattle.hp_run.specs.declared.status.Status.TheVariants.{Done, Usage, ReadFault, TooLong, HydroRefused, ProblemRefused, JournalRefused, TooMuch, Range, NoStage, DiskFault, WriteFault, Memory}
 use Rattle.hp_run.proofs.KnownBytes.{all_taken}
 use Rattle.hp_run.proofs.Listed.{robust_refused}
 use Rattle.hp_run.proofs.SoundPlanes.{sound_planes}
+use Rattle.hp_run.proofs.SoundVerdict.{sound_verdict}
 
 lines_of_report : (task : Task) (bytes : List ℕ) (p : Sealed) (pools : List (List Cut)) (text : List ℕ) → IsSoundReport task bytes p pools text → SoundLines (problem_of p) text
 lines_of_report Base bytes p pools text r = subst (SoundLines (problem_of p)) (sym r.is) (sound_lines p pools r.cuts r.bound)
@@ -35,6 +37,7 @@ lines_of_report Check bytes p pools text r =
     subst (SoundLines (problem_of p)) (sym r.is.3) (sound_check p pools r.is.0 r.is.1 r.is.2 r.cuts r.is.4 r.bound)
 lines_of_report (Simulate seed count) bytes p pools text r = subst (SoundLines (problem_of p)) (sym r.is.1) (sound_traces p pools r.is.0 r.bound)
 lines_of_report Validate bytes p pools text r = subst (SoundLines (problem_of p)) (sym r.is.1) (sound_traces p pools r.is.0 r.bound)
+lines_of_report Evaluate bytes p pools text r = subst (SoundLines (problem_of p)) (sym r.is.1) (sound_verdict p pools r.is.0 r.bound)
 lines_of_report Robust bytes p pools text r = subst (SoundLines (problem_of p)) (sym r.is.3) (sound_planes p r.is.1)
 
 -- a report of the problem that the bytes give is sound
@@ -79,6 +82,7 @@ refused_as (Train seed count batch) bytes r e = e
 refused_as Check bytes r e = e
 refused_as (Simulate seed count) bytes r e = e
 refused_as Validate bytes r e = e
+refused_as Evaluate bytes r e = e
 refused_as Robust bytes r e = ap (λ (b : Result WithBase Refusal). b >>= with_alternatives bytes) e
 
 -- a refused problem is refused whatever the journal holds
@@ -95,6 +99,7 @@ refused_is v task bytes kept r h = each task h
     each Check e = plain Check e
     each (Simulate seed count) e = plain (Simulate seed count) e
     each Validate e = plain Validate e
+    each Evaluate e = plain Evaluate e
     each Robust e = robust_refused v bytes kept r e
 
 -- each status is the expected one, where no count rose and memory was there
@@ -107,6 +112,7 @@ task_completes v task e ReadFault h bytes kept is r nr nd nw = absurd (nr h.0)
 task_completes v task e TooLong h bytes kept is r nr nd nw =
     let f = front_length e.left_now bytes h.0.0 (subst (λ (o : Option (List ℕ)). Consumes o e.left_now h.0.0) is h.0.2) in
     inl (sym (many bytes (status_of (report_at v task bytes kept)) (omega (arith, h.0.1))))
+task_completes v task e (HydroRefused refusal) h bytes kept is r nr nd nw = absurd h
 task_completes v task e (ProblemRefused x) h bytes kept is r nr nd nw =
     let w = at_bytes e.left _ bytes is h.0.1 in
     inl (outcome_is v task bytes kept (Err (ProblemRefused x)) w.0 (refused_is v task bytes kept x w.1))
@@ -133,6 +139,7 @@ problem_completes text taken taken_now writes writes_now Memory h nw = inr refl
 problem_completes text taken taken_now writes writes_now Usage h nw = absurd h
 problem_completes text taken taken_now writes writes_now ReadFault h nw = absurd h
 problem_completes text taken taken_now writes writes_now TooLong h nw = absurd h
+problem_completes text taken taken_now writes writes_now (HydroRefused refusal) h nw = absurd h
 problem_completes text taken taken_now writes writes_now (ProblemRefused r) h nw = absurd h
 problem_completes text taken taken_now writes writes_now (JournalRefused r) h nw = absurd h
 problem_completes text taken taken_now writes writes_now (TooMuch t) h nw = absurd h
@@ -140,9 +147,28 @@ problem_completes text taken taken_now writes writes_now (Range k m r) h nw = ab
 problem_completes text taken taken_now writes writes_now (NoStage dead) h nw = absurd h
 problem_completes text taken taken_now writes writes_now DiskFault h nw = absurd h
 
+described_completes : (e : Ends) (status : Status) → ExplainsDescribed e.left e.left_now e.reads e.reads_now e.taken e.taken_now e.writes e.writes_now status → (bytes : List ℕ) → e.left ≡ Some bytes
+    → ¬ (Rose e.reads e.reads_now) → ¬ (Rose e.writes e.writes_now) → (status ≡ expected_of bytes) ⊎ (status ≡ Memory)
+described_completes e Done h bytes is nr nw = let w = at_bytes e.left _ bytes is h.1 in inl (ap status_of_text (sym w.1.1) ∙ sym (few bytes (status_of_text (hydro_at bytes)) w.0))
+described_completes e (HydroRefused r) h bytes is nr nw = let w = at_bytes e.left _ bytes is h.0.1 in inl (ap status_of_text (sym w.1) ∙ sym (few bytes (status_of_text (hydro_at bytes)) w.0))
+described_completes e TooLong h bytes is nr nw =
+    let f = front_length e.left_now bytes h.0.0 (subst (λ (o : Option (List ℕ)). Consumes o e.left_now h.0.0) is h.0.2) in
+    inl (sym (many bytes (status_of_text (hydro_at bytes)) (omega (arith, h.0.1))))
+described_completes e WriteFault h bytes is nr nw = absurd (nw h.0)
+described_completes e ReadFault h bytes is nr nw = absurd (nr h.0)
+described_completes e Memory h bytes is nr nw = inr refl
+described_completes e Usage h bytes is nr nw = absurd h
+described_completes e (ProblemRefused r) h bytes is nr nw = absurd h
+described_completes e (JournalRefused r) h bytes is nr nw = absurd h
+described_completes e (TooMuch t) h bytes is nr nw = absurd h
+described_completes e (Range k m r) h bytes is nr nw = absurd h
+described_completes e (NoStage dead) h bytes is nr nw = absurd h
+described_completes e DiskFault h bytes is nr nw = absurd h
+
 pub completes : {Start Chain : Type 0} (v : Solving Start Chain) (asked : Option Job) (e : Ends) (status : Status) → Explains v asked e status → Completes v asked e status
 completes v None e status h = h.0
 completes v (Some (Plan task)) e status h = task_completes v task e status h
+completes v (Some Hydro) e status h = described_completes e status h
 completes v (Some (Generate seed stages reservoirs)) e status h = problem_completes (generated seed stages reservoirs) e.taken e.taken_now e.writes e.writes_now status h.1
 
 keeps_same : (taken taken_now : Option (List ℕ)) → taken_now ≡ taken → Keeps taken taken_now
@@ -172,6 +198,7 @@ module _ {Start Chain : Type 0} (v : Solving Start Chain) (task : Task) (e : End
   without_report Usage h = absurd h
   without_report ReadFault h = absurd h
   without_report TooLong h = absurd h
+  without_report (HydroRefused refusal) h = absurd h
   without_report WriteFault h = absurd h
 
   pub lacks_explains : (slice : List ℕ) (s : Status) → slice ≡ bytes → Lacks v task e.kept e.disk e.disk_now slice s → ExplainsTask v task e s

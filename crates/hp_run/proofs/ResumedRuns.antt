@@ -1,6 +1,6 @@
 -- Training that was stopped and is resumed leaves and prints what unstopped training does.
 use Rattle.std.proofs.Common.{◌≡◌, ◌⊎◌, inl, inr, ℕ, zero, suc, ◌+◌, ◌≤◌, ◌<◌, ◌^◌, max, ℤ, true, List, [], ◌∷◌, ◌++◌, length, take, String, Option, Some, None, IfSome, Result, Ok, Err, refl, sym, ap, subst, ◌∙◌, length-append, arith}
-use Rattle.std.specs.Prelude.{option_and_then}
+use Rattle.std.specs.Option.{option_map}
 use Rattle.std.specs.declared.alloc.Global.{Global}
 use Rattle.std.specs.Io.KnownBytes.{Appends}
 use Rattle.sha2.specs.Sha256.{sha256}
@@ -42,11 +42,11 @@ use Rattle.hp_run.specs.Journals.{Grows, IsResumed, OfTask, has_trained}
 use Rattle.hp_run.specs.Outcome.{Reads, WithBase, based_at, based_of, loaded_for, or_status, ready_for, report_at, report_trained, unless_much, unless_stopped, with_base, within_formulas}
 use Rattle.hp_run.specs.Words.{IsJobWithin, IsWithin, asked, job_of}
 use Rattle.hp_run.specs.declared.job.Job.{Job}
-use Rattle.hp_run.specs.declared.job.Job.TheVariants.{Plan, Generate}
+use Rattle.hp_run.specs.declared.job.Job.TheVariants.{Plan, Hydro, Generate}
 use Rattle.hp_run.specs.declared.status.Status.{Status}
 use Rattle.hp_run.specs.declared.status.Status.TheVariants.{Done}
 use Rattle.hp_run.specs.declared.task.Task.{Task}
-use Rattle.hp_run.specs.declared.task.Task.TheVariants.{Base, Train, Check, Simulate, Validate, Robust}
+use Rattle.hp_run.specs.declared.task.Task.TheVariants.{Base, Train, Check, Simulate, Validate, Evaluate, Robust}
 use Rattle.hp_run.proofs.TrainReports.{ended_at}
 
 same_ok : {A E : Type 0} (x y : A) → (let l : Result A E = Ok x in l ≡ Ok y) → x ≡ y
@@ -84,7 +84,7 @@ base_parts bytes b h =
 
 -- ---- what is asked for
 
-job_within : (c : Option Command) → IfSome c words.IsWithin → IfSome (option_and_then job_of c) IsJobWithin
+job_within : (c : Option Command) → IfSome c words.IsWithin → IfSome (option_map job_of c) IsJobWithin
 job_within None h = tt
 job_within (Some commands.Base) h = tt
 job_within (Some (commands.Train seed count batch)) h = h
@@ -205,6 +205,7 @@ module _ {Start Chain : Type 0} (v : Solving Start Chain) where
   by_task e status new bytes kept Check within left told explains grown = tt
   by_task e status new bytes kept (Simulate seed count) within left told explains grown = tt
   by_task e status new bytes kept Validate within left told explains grown = tt
+  by_task e status new bytes kept Evaluate within left told explains grown = tt
   by_task e status new bytes kept Robust within left told explains grown = tt
   by_task e status new bytes kept (Train seed count batch) within left told explains grown = λ b j base small room mine.
       let ps = base_parts bytes b base in
@@ -223,4 +224,5 @@ module _ {Start Chain : Type 0} (v : Solving Start Chain) where
   resumes (Some (Plan task)) e status new within explains grown =
       each e.left (λ bytes left. each e.kept (λ kept told. by_task e status new bytes kept task within left told explains
       (at_some (λ k. Grows v status bytes k new task) e.kept kept told (at_some (λ y. IfSome e.kept (λ k. Grows v status y k new task)) e.left bytes left grown))))
+  resumes (Some Hydro) e status new within explains grown = tt
   resumes (Some (Generate seed stages reservoirs)) e status new within explains grown = tt

@@ -36,7 +36,7 @@ use Rattle.hp_run.specs.Journals.{Leaves, LeavesMine, has_trained, is_refusal, s
 use Rattle.hp_run.specs.Outcome.{IsSoundReport, WithBase, Reports, based_at, loaded_for, or_refused, or_status, ready_for, report_at, report_by, report_trained, status_of_stop, trained_for, unless_much, unless_stopped, within_formulas}
 use Rattle.hp_run.specs.Training.{ComesOfLoading, IsDead, Refuses, StopsAs, WhenTrained}
 use Rattle.hp_run.specs.declared.status.Status.{Status}
-use Rattle.hp_run.specs.declared.status.Status.TheVariants.{Done, Usage, ReadFault, TooLong, ProblemRefused, JournalRefused, TooMuch, Range, NoStage, DiskFault, WriteFault, Memory}
+use Rattle.hp_run.specs.declared.status.Status.TheVariants.{Done, Usage, ReadFault, TooLong, HydroRefused, ProblemRefused, JournalRefused, TooMuch, Range, NoStage, DiskFault, WriteFault, Memory}
 use Rattle.hp_run.specs.declared.task.Task.{Task}
 use Rattle.hp_run.specs.declared.task.Task.TheVariants.{Train}
 use Rattle.hp_run.proofs.LoadedEnds.{loaded_shut, loaded_unborn}
@@ -160,6 +160,7 @@ module _ {Start Chain : Type 0} (v : Solving Start Chain) (bytes : List ℕ) (b 
     unloaded disk now Usage own has rose = absurd own
     unloaded disk now ReadFault own has rose = absurd own
     unloaded disk now TooLong own has rose = absurd own
+    unloaded disk now (HydroRefused refusal) own has rose = absurd own
     unloaded disk now (ProblemRefused r) own has rose = absurd own
     unloaded disk now (JournalRefused r) own has rose = (tt, refused_reports (JournalRefused r) has)
     unloaded disk now (TooMuch t) own has rose = (tt, refused_reports (TooMuch t) has)
@@ -178,6 +179,7 @@ module _ {Start Chain : Type 0} (v : Solving Start Chain) (bytes : List ℕ) (b 
     stopped_lacks A disk now o Usage has stops rose dead = absurd stops
     stopped_lacks A disk now o ReadFault has stops rose dead = absurd stops
     stopped_lacks A disk now o TooLong has stops rose dead = absurd stops
+    stopped_lacks A disk now o (HydroRefused refusal) has stops rose dead = absurd stops
     stopped_lacks A disk now o (ProblemRefused r) has stops rose dead = absurd stops
     stopped_lacks A disk now o (JournalRefused r) has stops rose dead = absurd stops
     stopped_lacks A disk now o (TooMuch t) has stops rose dead = absurd stops
@@ -193,6 +195,7 @@ when_unloaded A Done P own = absurd own
 when_unloaded A Usage P own = tt
 when_unloaded A ReadFault P own = tt
 when_unloaded A TooLong P own = tt
+when_unloaded A (HydroRefused refusal) P own = tt
 when_unloaded A (ProblemRefused r) P own = tt
 when_unloaded A (JournalRefused r) P own = tt
 when_unloaded A (TooMuch t) P own = tt
@@ -209,6 +212,7 @@ when_both A (Err Done) P Q R p q so = so p q
 when_both A (Err Usage) P Q R p q so = tt
 when_both A (Err ReadFault) P Q R p q so = tt
 when_both A (Err TooLong) P Q R p q so = tt
+when_both A (Err (HydroRefused refusal)) P Q R p q so = tt
 when_both A (Err (ProblemRefused r)) P Q R p q so = tt
 when_both A (Err (JournalRefused r)) P Q R p q so = tt
 when_both A (Err (TooMuch t)) P Q R p q so = tt
@@ -224,6 +228,7 @@ when_same A B Done P h = h
 when_same A B Usage P h = tt
 when_same A B ReadFault P h = tt
 when_same A B TooLong P h = tt
+when_same A B (HydroRefused refusal) P h = tt
 when_same A B (ProblemRefused r) P h = tt
 when_same A B (JournalRefused r) P h = tt
 when_same A B (TooMuch t) P h = tt
@@ -242,6 +247,7 @@ stop_works A Done stop P h e = absurd h
 stop_works A Usage stop P h e = absurd h
 stop_works A ReadFault stop P h e = absurd h
 stop_works A TooLong stop P h e = absurd h
+stop_works A (HydroRefused refusal) stop P h e = absurd h
 stop_works A (ProblemRefused r) stop P h e = absurd h
 stop_works A (JournalRefused r) stop P h e = absurd h
 stop_works A (TooMuch t) stop P h e = absurd h
@@ -321,6 +327,7 @@ trained_then A (Err Done) P h e = h
 trained_then A (Err Usage) P h e = absurd cc
 trained_then A (Err ReadFault) P h e = absurd cc
 trained_then A (Err TooLong) P h e = absurd cc
+trained_then A (Err (HydroRefused refusal)) P h e = absurd cc
 trained_then A (Err (ProblemRefused r)) P h e = absurd cc
 trained_then A (Err (JournalRefused r)) P h e = absurd cc
 trained_then A (Err (TooMuch t)) P h e = absurd cc

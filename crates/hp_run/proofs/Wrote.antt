@@ -8,7 +8,7 @@ use Rattle.hp_run.specs.Journals.{Grows}
 use Rattle.hp_run.specs.declared.status.Status.{Status}
 use Rattle.hp_run.specs.declared.status.Status.TheVariants.{Done, WriteFault}
 use Rattle.hp_run.specs.declared.task.Task.{Task}
-use Rattle.hp_run.specs.declared.task.Task.TheVariants.{Base, Train, Check, Simulate, Validate, Robust}
+use Rattle.hp_run.specs.declared.task.Task.TheVariants.{Base, Train, Check, Simulate, Validate, Evaluate, Robust}
 use Rattle.hp_run.proofs.KnownBytes.{all_taken}
 
 module _ {Start Chain : Type 0} (v : Solving Start Chain) where
@@ -18,6 +18,7 @@ module _ {Start Chain : Type 0} (v : Solving Start Chain) where
   as_written bytes kept new Check h = tt
   as_written bytes kept new (Simulate seed count) h = tt
   as_written bytes kept new Validate h = tt
+  as_written bytes kept new Evaluate h = tt
   as_written bytes kept new Robust h = tt
 
   pub wrote_grown : (left left_now : Option (List ℕ)) (bytes : List ℕ) (task : Task) (reads : Option (List ℕ)) (new : Store) → Consumes left left_now bytes → IsAtEnd left_now

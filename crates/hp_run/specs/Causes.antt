@@ -4,6 +4,8 @@ use Rattle.std.specs.Io.KnownBytes.{Appends, Consumes, IsAtEnd, Keeps}
 use Rattle.hp_outside.specs.Causes.{Rose}
 use Rattle.hp_outside.specs.Disks.{Store}
 use Rattle.hp_gen.specs.Generated.{generated}
+use Rattle.hp_plants.specs.declared.refusal.HydroRefusal.{HydroRefusal}
+use Rattle.hp_hydro.specs.Text.{hydro_at}
 use Rattle.hp_theory.specs.Problem.{node_at}
 use Rattle.hp_theory.specs.View.{problem_of}
 use Rattle.hp_lp.specs.Chained.{Solving}
@@ -11,10 +13,10 @@ use Rattle.hp_settle.specs.declared.judging.Dead.{Dead}
 use Rattle.hp_settle.specs.Refutation.{NoDecision}
 use Rattle.hp_run.specs.Outcome.{IsRefused, Makes, Reads, ReadsJournal, Reports, Solves, SoundText, WithBase, based_at, report_at}
 use Rattle.hp_run.specs.declared.job.Job.{Job}
-use Rattle.hp_run.specs.declared.job.Job.TheVariants.{Plan, Generate}
+use Rattle.hp_run.specs.declared.job.Job.TheVariants.{Plan, Hydro, Generate}
 use Rattle.hp_run.specs.declared.task.Task.{Task}
 use Rattle.hp_run.specs.declared.status.Status.{Status}
-use Rattle.hp_run.specs.declared.status.Status.TheVariants.{Done, Usage, ReadFault, TooLong, ProblemRefused, JournalRefused, TooMuch, Range, NoStage, DiskFault, WriteFault, Memory}
+use Rattle.hp_run.specs.declared.status.Status.TheVariants.{Done, Usage, ReadFault, TooLong, HydroRefused, ProblemRefused, JournalRefused, TooMuch, Range, NoStage, DiskFault, WriteFault, Memory}
 
 -- what is known of a source, a disk and a sink before a call and after it
 pub record Ends : Type 0 where
@@ -47,8 +49,15 @@ ends left reads store disk taken writes source source_now journal journal_now si
 }
 
 -- the source was read to its end, and this holds of its bytes
+abbrev pub WasRead : Option (List ℕ) → Option (List ℕ) → (List ℕ → Type 0) → Type 0
+WasRead left left_now P = IsAtEnd left_now × IfSome left (λ bytes. (length bytes ≤ 2 ^ 24) × P bytes)
+
 abbrev pub ReadAll : Ends → (List ℕ → Type 0) → Type 0
-ReadAll e P = IsAtEnd e.left_now × IfSome e.left (λ bytes. (length bytes ≤ 2 ^ 24) × P bytes)
+ReadAll e P = WasRead e.left e.left_now P
+
+-- more was read than a source may hold
+abbrev pub WasLong : Option (List ℕ) → Option (List ℕ) → Type 0
+WasLong left left_now = (piece : List ℕ) × (length piece ≡ 2 ^ 24 + 1) × Consumes left left_now piece
 
 -- of a report that was written, or a front of it
 abbrev pub Wrote : {Start Chain : Type 0} → Solving Start Chain → Task → Ends → (List ℕ → Type 0) → Type 0
@@ -71,6 +80,7 @@ Lacks v task told disk disk_now bytes Done = ⊥
 Lacks v task told disk disk_now bytes Usage = ⊥
 Lacks v task told disk disk_now bytes ReadFault = ⊥
 Lacks v task told disk disk_now bytes TooLong = ⊥
+Lacks v task told disk disk_now bytes (HydroRefused refusal) = ⊥
 Lacks v task told disk disk_now bytes WriteFault = ⊥
 
 -- what each status says of a task; want of memory says that nothing was written, and is free otherwise
@@ -78,7 +88,8 @@ abbrev pub ExplainsTask : {Start Chain : Type 0} → Solving Start Chain → Tas
 ExplainsTask v task e Done = Wrote v task e (λ text. Appends e.taken e.taken_now text)
 ExplainsTask v task e Usage = ⊥
 ExplainsTask v task e ReadFault = Rose e.reads e.reads_now × Keeps e.taken e.taken_now
-ExplainsTask v task e TooLong = ((piece : List ℕ) × (length piece ≡ 2 ^ 24 + 1) × Consumes e.left e.left_now piece) × Keeps e.taken e.taken_now
+ExplainsTask v task e TooLong = WasLong e.left e.left_now × Keeps e.taken e.taken_now
+ExplainsTask v task e (HydroRefused refusal) = ⊥
 ExplainsTask v task e (ProblemRefused r) = ReadAll e (λ bytes. IsRefused task bytes r) × Keeps e.taken e.taken_now
 ExplainsTask v task e (JournalRefused r) = ReadsJournal task × ReadAll e (λ bytes. Reports v task e.kept bytes (Err (JournalRefused r))) × Keeps e.taken e.taken_now
 ExplainsTask v task e (TooMuch t) = ReadsJournal task × ReadAll e (λ bytes. Reports v task e.kept bytes (Err (TooMuch t))) × Keeps e.taken e.taken_now
@@ -100,6 +111,7 @@ ExplainsProblem text taken taken_now writes writes_now Memory = Keeps taken take
 ExplainsProblem text taken taken_now writes writes_now Usage = ⊥
 ExplainsProblem text taken taken_now writes writes_now ReadFault = ⊥
 ExplainsProblem text taken taken_now writes writes_now TooLong = ⊥
+ExplainsProblem text taken taken_now writes writes_now (HydroRefused refusal) = ⊥
 ExplainsProblem text taken taken_now writes writes_now (ProblemRefused r) = ⊥
 ExplainsProblem text taken taken_now writes writes_now (JournalRefused r) = ⊥
 ExplainsProblem text taken taken_now writes writes_now (TooMuch t) = ⊥
@@ -107,10 +119,29 @@ ExplainsProblem text taken taken_now writes writes_now (Range k m r) = ⊥
 ExplainsProblem text taken taken_now writes writes_now (NoStage dead) = ⊥
 ExplainsProblem text taken taken_now writes writes_now DiskFault = ⊥
 
+-- what each status says of the problem that the description in the source means, which is one that the program accepts, and of the sink
+abbrev pub ExplainsDescribed : Option (List ℕ) → Option (List ℕ) → ℕ → ℕ → Option (List ℕ) → Option (List ℕ) → ℕ → ℕ → Status → Type 0
+ExplainsDescribed left left_now reads reads_now taken taken_now writes writes_now Done =
+    WasRead left left_now (λ bytes. (text : List ℕ) × (hydro_at bytes ≡ Ok text) × IsOk (based_at text) × Appends taken taken_now text)
+ExplainsDescribed left left_now reads reads_now taken taken_now writes writes_now WriteFault =
+    Rose writes writes_now × WasRead left left_now (λ bytes. (text : List ℕ) × (hydro_at bytes ≡ Ok text) × IsOk (based_at text) × ((n : ℕ) × Appends taken taken_now (take n text)))
+ExplainsDescribed left left_now reads reads_now taken taken_now writes writes_now (HydroRefused r) = WasRead left left_now (λ bytes. hydro_at bytes ≡ Err r) × Keeps taken taken_now
+ExplainsDescribed left left_now reads reads_now taken taken_now writes writes_now ReadFault = Rose reads reads_now × Keeps taken taken_now
+ExplainsDescribed left left_now reads reads_now taken taken_now writes writes_now TooLong = WasLong left left_now × Keeps taken taken_now
+ExplainsDescribed left left_now reads reads_now taken taken_now writes writes_now Memory = Keeps taken taken_now
+ExplainsDescribed left left_now reads reads_now taken taken_now writes writes_now Usage = ⊥
+ExplainsDescribed left left_now reads reads_now taken taken_now writes writes_now (ProblemRefused r) = ⊥
+ExplainsDescribed left left_now reads reads_now taken taken_now writes writes_now (JournalRefused r) = ⊥
+ExplainsDescribed left left_now reads reads_now taken taken_now writes writes_now (TooMuch t) = ⊥
+ExplainsDescribed left left_now reads reads_now taken taken_now writes writes_now (Range k m r) = ⊥
+ExplainsDescribed left left_now reads reads_now taken taken_now writes writes_now (NoStage dead) = ⊥
+ExplainsDescribed left left_now reads reads_now taken taken_now writes writes_now DiskFault = ⊥
+
 -- what each status says of what is asked for: words that ask for nothing are Usage, and a generated problem leaves the source as it was
 abbrev pub Explains : {Start Chain : Type 0} → Solving Start Chain → Option Job → Ends → Status → Type 0
 Explains v None e status = (status ≡ Usage) × IsUnread e × Keeps e.taken e.taken_now
 Explains v (Some (Plan task)) e status = ExplainsTask v task e status
+Explains v (Some Hydro) e status = ExplainsDescribed e.left e.left_now e.reads e.reads_now e.taken e.taken_now e.writes e.writes_now status
 Explains v (Some (Generate seed stages reservoirs)) e status = IsUnread e × ExplainsProblem (generated seed stages reservoirs) e.taken e.taken_now e.writes e.writes_now status
 
 abbrev pub status_of : Result (List ℕ) Status → Status
@@ -121,12 +152,21 @@ status_of (Err s) = s
 abbrev pub expected : {Start Chain : Type 0} → Solving Start Chain → Task → List ℕ → List ℕ → Status
 expected v task bytes kept = if nat_le (length bytes) (2 ^ 24) then status_of (report_at v task bytes kept) else TooLong
 
+-- the status of a description where no device fails and memory is there
+abbrev pub status_of_text : Result (List ℕ) HydroRefusal → Status
+status_of_text (Ok text) = Done
+status_of_text (Err r) = HydroRefused r
+
+abbrev pub expected_of : List ℕ → Status
+expected_of bytes = if nat_le (length bytes) (2 ^ 24) then status_of_text (hydro_at bytes) else TooLong
+
 -- where no count rose the status is the expected one, or memory was refused
 abbrev pub Completes : {Start Chain : Type 0} → Solving Start Chain → Option Job → Ends → Status → Type 0
 Completes v None e status = status ≡ Usage
 Completes v (Some (Plan task)) e status =
     (bytes kept : List ℕ) → e.left ≡ Some bytes → Reads task e.kept kept → ¬ (Rose e.reads e.reads_now) → ¬ (Rose e.disk e.disk_now) → ¬ (Rose e.writes e.writes_now)
     → (status ≡ expected v task bytes kept) ⊎ (status ≡ Memory)
+Completes v (Some Hydro) e status = (bytes : List ℕ) → e.left ≡ Some bytes → ¬ (Rose e.reads e.reads_now) → ¬ (Rose e.writes e.writes_now) → (status ≡ expected_of bytes) ⊎ (status ≡ Memory)
 Completes v (Some (Generate seed stages reservoirs)) e status = ¬ (Rose e.writes e.writes_now) → (status ≡ Done) ⊎ (status ≡ Memory)
 
 -- what was written is a text of which this holds, or the front of one
@@ -136,6 +176,7 @@ IfWritten P e WriteFault = (text : List ℕ) × P text × ((n : ℕ) × Appends 
 IfWritten P e Usage = ⊤
 IfWritten P e ReadFault = ⊤
 IfWritten P e TooLong = ⊤
+IfWritten P e (HydroRefused refusal) = ⊤
 IfWritten P e (ProblemRefused r) = ⊤
 IfWritten P e (JournalRefused r) = ⊤
 IfWritten P e (TooMuch t) = ⊤
@@ -144,11 +185,12 @@ IfWritten P e (NoStage dead) = ⊤
 IfWritten P e DiskFault = ⊤
 IfWritten P e Memory = ⊤
 
--- What was written is sound, over any disk: a report of the problem that the source held, each line of it sound; or a generated problem, in
--- which no cut and no bound stands, and which the program accepts.
+-- What was written is sound, over any disk: a report of the problem that the source held, each line of it sound; or the problem that a
+-- description means, or a generated one, in which no cut and no bound stands, and which the program accepts.
 abbrev pub Sounds : Option Job → Ends → Status → Type 0
 Sounds None e status = ⊤
 Sounds (Some (Plan task)) e status = IfSome e.left (λ bytes. IfWritten (SoundText task bytes) e status)
+Sounds (Some Hydro) e status = IfSome e.left (λ bytes. IfWritten (λ text. (hydro_at bytes ≡ Ok text) × IsOk (based_at text)) e status)
 Sounds (Some (Generate seed stages reservoirs)) e status = IfWritten (λ text. IsOk (based_at text)) e status
 
 -- the statuses after which the sink is untouched
@@ -158,6 +200,7 @@ writes_nothing WriteFault = false
 writes_nothing Usage = true
 writes_nothing ReadFault = true
 writes_nothing TooLong = true
+writes_nothing (HydroRefused refusal) = true
 writes_nothing (ProblemRefused r) = true
 writes_nothing (JournalRefused r) = true
 writes_nothing (TooMuch t) = true

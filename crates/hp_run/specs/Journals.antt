@@ -15,11 +15,11 @@ use Rattle.hp_train.specs.Resuming.{unstopped}
 use Rattle.hp_train.specs.Training.{GoOnWith, MineFrom, StandsIn, grown_journal, iterations, payloads, title_of, unsettled_in}
 use Rattle.hp_run.specs.Outcome.{WithBase, based_at, loaded_for}
 use Rattle.hp_run.specs.declared.status.Status.{Status}
-use Rattle.hp_run.specs.declared.status.Status.TheVariants.{Done, Usage, ReadFault, TooLong, ProblemRefused, JournalRefused, TooMuch, Range, NoStage, DiskFault, WriteFault, Memory}
+use Rattle.hp_run.specs.declared.status.Status.TheVariants.{Done, Usage, ReadFault, TooLong, HydroRefused, ProblemRefused, JournalRefused, TooMuch, Range, NoStage, DiskFault, WriteFault, Memory}
 use Rattle.hp_run.specs.declared.job.Job.{Job}
-use Rattle.hp_run.specs.declared.job.Job.TheVariants.{Plan, Generate}
+use Rattle.hp_run.specs.declared.job.Job.TheVariants.{Plan, Hydro, Generate}
 use Rattle.hp_run.specs.declared.task.Task.{Task}
-use Rattle.hp_run.specs.declared.task.Task.TheVariants.{Base, Train, Check, Simulate, Validate, Robust}
+use Rattle.hp_run.specs.declared.task.Task.TheVariants.{Base, Train, Check, Simulate, Validate, Evaluate, Robust}
 
 -- the statuses of a run that ended before any work on the journal
 abbrev pub is_refusal : Status → Bool
@@ -27,6 +27,7 @@ is_refusal Done = false
 is_refusal Usage = true
 is_refusal ReadFault = true
 is_refusal TooLong = true
+is_refusal (HydroRefused refusal) = true
 is_refusal (ProblemRefused r) = true
 is_refusal (JournalRefused r) = true
 is_refusal (TooMuch t) = true
@@ -48,11 +49,13 @@ TaskOnlyReads (Train seed count batch) status = is_refusal status ≡ true
 TaskOnlyReads Check status = ⊤
 TaskOnlyReads (Simulate seed count) status = ⊤
 TaskOnlyReads Validate status = ⊤
+TaskOnlyReads Evaluate status = ⊤
 TaskOnlyReads Robust status = ⊤
 
 abbrev pub OnlyReads : Option Job → Status → Type 0
 OnlyReads None status = ⊤
 OnlyReads (Some (Plan task)) status = TaskOnlyReads task status
+OnlyReads (Some Hydro) status = ⊤
 OnlyReads (Some (Generate seed stages reservoirs)) status = ⊤
 
 abbrev pub KeepsJournal : {A : Type 0} → Task → Result A Status → Type 0
@@ -64,6 +67,7 @@ has_trained Done = true
 has_trained Usage = false
 has_trained ReadFault = false
 has_trained TooLong = false
+has_trained (HydroRefused refusal) = false
 has_trained (ProblemRefused r) = false
 has_trained (JournalRefused r) = false
 has_trained (TooMuch t) = false
@@ -83,6 +87,7 @@ Grows v status bytes kept new (Train seed count batch) =
 Grows v status bytes kept new Check = ⊤
 Grows v status bytes kept new (Simulate seed count) = ⊤
 Grows v status bytes kept new Validate = ⊤
+Grows v status bytes kept new Evaluate = ⊤
 Grows v status bytes kept new Robust = ⊤
 
 abbrev pub Leaves : {Start Chain A : Type 0} → Solving Start Chain → Result A Status → List ℕ → List ℕ → Store → Task → Type 0
@@ -100,6 +105,7 @@ LeavesMine v bytes kept old new (Train seed count batch) =
 LeavesMine v bytes kept old new Check = ⊤
 LeavesMine v bytes kept old new (Simulate seed count) = ⊤
 LeavesMine v bytes kept old new Validate = ⊤
+LeavesMine v bytes kept old new Evaluate = ⊤
 LeavesMine v bytes kept old new Robust = ⊤
 
 -- Where the journal stands for the first j records of what unstopped training leaves, training leaves what the unstopped one leaves, and
@@ -116,10 +122,12 @@ IsResumed v status bytes kept new taken taken_now (Train seed count batch) =
 IsResumed v status bytes kept new taken taken_now Check = ⊤
 IsResumed v status bytes kept new taken taken_now (Simulate seed count) = ⊤
 IsResumed v status bytes kept new taken taken_now Validate = ⊤
+IsResumed v status bytes kept new taken taken_now Evaluate = ⊤
 IsResumed v status bytes kept new taken taken_now Robust = ⊤
 
 -- of the bytes of the problem and of the journal, as far as they are told, and of the task that is asked for
 abbrev pub OfTask : Option (List ℕ) → Option (List ℕ) → Option Job → (List ℕ → List ℕ → Task → Type 0) → Type 0
 OfTask left kept None P = ⊤
 OfTask left kept (Some (Plan task)) P = IfSome left (λ bytes. IfSome kept (λ k. P bytes k task))
+OfTask left kept (Some Hydro) P = ⊤
 OfTask left kept (Some (Generate seed stages reservoirs)) P = ⊤

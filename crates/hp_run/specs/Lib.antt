@@ -7,6 +7,6 @@ pub mod Causes
 pub mod TrainingLines
 pub mod Journals
 pub mod Training
-pub mod Simulating
+pub mod Loading
 pub mod Listing
 pub mod OwnSolver

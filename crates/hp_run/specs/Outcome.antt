@@ -1,5 +1,5 @@
 -- What the bytes of a problem and of a journal give, and when a text is sound.
-use Rattle.std.specs.Prelude.{◌≡◌, ℕ, ◌+◌, ℤ, List, ◌++◌, length, max, All, Option, Some, None, Result, Ok, Err, ⊤}
+use Rattle.std.specs.Prelude.{◌≡◌, ℕ, ◌+◌, ℤ, ◌≤ℤ◌, List, ◌++◌, length, max, All, Option, Some, None, Result, Ok, Err, ⊤}
 use Rattle.sha2.specs.Sha256.{sha256}
 use Rattle.hp_problem.specs.declared.refusal.Refusal.{Refusal}
 use Rattle.hp_problem.specs.declared.refusal.RefusalKind.TheVariants as kinds
@@ -14,8 +14,9 @@ use Rattle.hp_sof.specs.Problem.{problem_at}
 use Rattle.hp_theory.specs.declared.cut.Cut.{Cut}
 use Rattle.hp_theory.specs.Pools.{Sound}
 use Rattle.hp_theory.specs.Bound.{bound, Under}
-use Rattle.hp_theory.specs.Problem.{Problem}
+use Rattle.hp_theory.specs.Problem.{S, Problem}
 use Rattle.hp_theory.specs.Range.{based}
+use Rattle.hp_theory.specs.Tree.{Forest, Policy}
 use Rattle.hp_theory.specs.View.{problem_of}
 use Rattle.hp_load.specs.declared.refusal.LoadFault.{LoadFault}
 use Rattle.hp_load.specs.declared.refusal.LoadFault.TheVariants as faults
@@ -32,6 +33,12 @@ use Rattle.hp_sim.specs.Tracing.{traces_of}
 use Rattle.hp_report.specs.Report.{base_text, check_text, train_text}
 use Rattle.hp_report.specs.SoundLines.{SoundLines}
 use Rattle.hp_report.specs.Traces.{trace_text}
+use Rattle.hp_tree.specs.declared.walking.Verdict.{Verdict}
+use Rattle.hp_tree.specs.declared.walking.Verdict.TheVariants.{Cost, Missed}
+use Rattle.hp_tree.specs.PolicyTree.{verdict_of}
+use Rattle.hp_tree.specs.Report.{verdict_text}
+use Rattle.hp_tree.specs.TooBig.{too_big_of}
+use Rattle.hp_tree.specs.Upper.{IsUpper}
 use Rattle.hp_risk.specs.declared.alternatives.Alternatives.{Alternatives}
 use Rattle.hp_risk.specs.Alternatives.{alternatives_of}
 use Rattle.hp_risk.specs.Planes.{planes_of}
@@ -42,7 +49,7 @@ use Rattle.hp_run.specs.declared.simulating.Scenarios.TheVariants.{Drawn, Stored
 use Rattle.hp_run.specs.declared.status.Status.{Status}
 use Rattle.hp_run.specs.declared.status.Status.TheVariants.{ProblemRefused, JournalRefused, TooMuch, Range, NoStage, DiskFault, Memory}
 use Rattle.hp_run.specs.declared.task.Task.{Task}
-use Rattle.hp_run.specs.declared.task.Task.TheVariants.{Base, Train, Check, Simulate, Validate, Robust}
+use Rattle.hp_run.specs.declared.task.Task.TheVariants.{Base, Train, Check, Simulate, Validate, Evaluate, Robust}
 
 -- a problem with its base cuts
 pub record WithBase : Type 0 where
@@ -131,6 +138,10 @@ trained_for v bytes b seed count batch kept = do
   o ← within_formulas b.problem count loaded
   report_trained b.problem o (iterations v b.problem seed count o)
 
+-- what the journal `kept` gives over these base cuts, by the digest that it has to state, unless a formula is above its limit
+unfoldable pub loaded_within : Sealed → List (List Cut) → List ℕ → Option formulas.TooMuch → List ℕ → Result Outcome Status
+loaded_within p base digest formula kept = or_status (outcome_of (load_of p base digest None None kept)) >>= unless_much formula
+
 -- the runs of scenarios, and their number
 abbrev pub runs_of : Sealed → Scenarios → List (List Moment)
 runs_of p (Drawn seed count) = drawn_from p seed 0 count
@@ -140,10 +151,6 @@ abbrev pub count_of : Sealed → Scenarios → ℕ
 count_of p (Drawn seed count) = count
 count_of p Stored = length p.raw.scenarios
 
--- the formula of so many traces is kept
-unfoldable pub within_width : Sealed → ℕ → Outcome → Result Outcome Status
-within_width p count o = unless_much (too_wide p count) o
-
 -- the report of traces, or the node without decisions that stops them
 abbrev pub report_traced : Sealed → List (List Cut) → Result (List Trace) Dead → Result (List ℕ) Status
 report_traced p pools (Ok traces) = Ok (trace_text p pools traces)
@@ -152,9 +159,19 @@ report_traced p pools (Err dead) = Err (NoStage dead)
 -- the report of scenarios over the pools of the journal `kept`
 unfoldable pub simulated_for : {Start Chain : Type 0} → Solving Start Chain → List ℕ → WithBase → Scenarios → List ℕ → Result (List ℕ) Status
 simulated_for v bytes b scenarios kept = do
-  loaded ← or_status (outcome_of (load_of b.problem b.pools (sha256 bytes) None None kept))
-  o ← within_width b.problem (count_of b.problem scenarios) loaded
+  o ← loaded_within b.problem b.pools (sha256 bytes) (too_wide b.problem (count_of b.problem scenarios)) kept
   report_traced b.problem o.pools (traces_of v b.problem o.pools (runs_of b.problem scenarios))
+
+-- the report of a verdict, or the node without decisions that stops it
+abbrev pub report_judged : Sealed → List (List Cut) → Result Verdict Dead → Result (List ℕ) Status
+report_judged p pools (Ok verdict) = Ok (verdict_text p pools verdict)
+report_judged p pools (Err dead) = Err (NoStage dead)
+
+-- the report of what the whole policy costs over the pools of the journal `kept`
+unfoldable pub evaluated_for : {Start Chain : Type 0} → Solving Start Chain → List ℕ → WithBase → List ℕ → Result (List ℕ) Status
+evaluated_for v bytes b kept = do
+  o ← loaded_within b.problem b.pools (sha256 bytes) (too_big_of b.problem) kept
+  report_judged b.problem o.pools (verdict_of v b.problem o.pools)
 
 -- the report of planes, or where they stop
 abbrev pub report_planes : Sealed → Result (List (List Cut)) (ℕ × ℕ × ℕ) → Result (List ℕ) Status
@@ -185,6 +202,7 @@ report_by v (Train seed count batch) bytes kept b = trained_for v bytes b seed c
 report_by v Check bytes kept b = checked bytes b kept
 report_by v (Simulate seed count) bytes kept b = simulated_for v bytes b (Drawn seed count) kept
 report_by v Validate bytes kept b = simulated_for v bytes b Stored kept
+report_by v Evaluate bytes kept b = evaluated_for v bytes b kept
 report_by v Robust bytes kept b = robust_for bytes b kept
 
 -- the report of a task over the bytes of a problem and of a journal, or how the run ends without one
@@ -200,6 +218,7 @@ IsRefused (Train seed count batch) bytes r = based_at bytes ≡ Err r
 IsRefused Check bytes r = based_at bytes ≡ Err r
 IsRefused (Simulate seed count) bytes r = based_at bytes ≡ Err r
 IsRefused Validate bytes r = based_at bytes ≡ Err r
+IsRefused Evaluate bytes r = based_at bytes ≡ Err r
 IsRefused Robust bytes r = listed_at bytes ≡ Err r
 
 -- the task reads a journal
@@ -209,6 +228,7 @@ ReadsJournal (Train seed count batch) = ⊤
 ReadsJournal Check = ⊤
 ReadsJournal (Simulate seed count) = ⊤
 ReadsJournal Validate = ⊤
+ReadsJournal Evaluate = ⊤
 ReadsJournal Robust = ⊤
 
 -- the task makes cuts or planes
@@ -218,6 +238,7 @@ Makes (Train seed count batch) = ⊤
 Makes Check = ⊥
 Makes (Simulate seed count) = ⊥
 Makes Validate = ⊥
+Makes Evaluate = ⊥
 Makes Robust = ⊤
 
 -- the task solves stage problems
@@ -227,6 +248,7 @@ Solves (Train seed count batch) = ⊤
 Solves Check = ⊥
 Solves (Simulate seed count) = ⊤
 Solves Validate = ⊤
+Solves Evaluate = ⊤
 Solves Robust = ⊥
 
 -- the journal's bytes, where the task reads them
@@ -236,6 +258,7 @@ Reads (Train seed count batch) told kept = told ≡ Some kept
 Reads Check told kept = told ≡ Some kept
 Reads (Simulate seed count) told kept = told ≡ Some kept
 Reads Validate told kept = told ≡ Some kept
+Reads Evaluate told kept = told ≡ Some kept
 Reads Robust told kept = told ≡ Some kept
 
 -- this comes of a task, by the bytes of the problem and those of the journal as far as it tells them
@@ -247,6 +270,18 @@ pub record IsWorst (p : Problem) (x : Alternatives) (planes : List (List Cut)) :
   pub holds : RiskSound p x.lists planes
   pub under : RiskUnder p x.lists (bound p planes)
 
+-- a policy costs this much, rounded up once to the scale of states, and the bound over the pools is not above it
+pub record CostsAtMost (p : Problem) (pools : List (List Cut)) (upper : ℤ) : Type 0 where
+  pub forest : Forest
+  pub policy : Policy p S forest
+  pub cost : IsUpper p forest upper
+  pub bound : bound p pools ≤ℤ upper
+
+-- what a verdict says over the bound
+abbrev pub IsTwoSided : Problem → List (List Cut) → Verdict → Type 0
+IsTwoSided p pools (Cost upper) = CostsAtMost p pools upper
+IsTwoSided p pools (Missed branches row residual) = ⊤
+
 -- the text is the report of these pools
 abbrev pub IsReport : Task → List ℕ → Sealed → List (List Cut) → List ℕ → Type 0
 IsReport Base bytes p pools text = text ≡ base_text p pools
@@ -254,6 +289,7 @@ IsReport (Train seed count batch) bytes p pools text = (bounds : List ℤ) × (u
 IsReport Check bytes p pools text = (bounds : List ℤ) × (unsettled : ℕ) × (rest : ℕ) × (text ≡ check_text p pools bounds unsettled rest) × All (Under (problem_of p)) bounds
 IsReport (Simulate seed count) bytes p pools text = (traces : List Trace) × (text ≡ trace_text p pools traces)
 IsReport Validate bytes p pools text = (traces : List Trace) × (text ≡ trace_text p pools traces)
+IsReport Evaluate bytes p pools text = (verdict : Verdict) × (text ≡ verdict_text p pools verdict) × IsTwoSided (problem_of p) pools verdict
 IsReport Robust bytes p pools text = (x : Alternatives) × (planes : List (List Cut)) × (alternatives_of p bytes ≡ Ok x) × (text ≡ robust_text p planes) × IsWorst (problem_of p) x planes
 
 -- what code answers of a journal that is checked: want of memory and a fault of the disk are free

@@ -7,7 +7,7 @@ use Rattle.hp_settle.specs.Refutation.{NoDecision}
 use Rattle.hp_backward.specs.declared.fault.SweepFault.{SweepFault}
 use Rattle.hp_backward.specs.declared.fault.SweepFault.TheVariants as sweeps
 use Rattle.hp_run.specs.declared.status.Status.{Status}
-use Rattle.hp_run.specs.declared.status.Status.TheVariants.{Done, Usage, ReadFault, TooLong, ProblemRefused, JournalRefused, TooMuch, Range, NoStage, DiskFault, WriteFault, Memory}
+use Rattle.hp_run.specs.declared.status.Status.TheVariants.{Done, Usage, ReadFault, TooLong, HydroRefused, ProblemRefused, JournalRefused, TooMuch, Range, NoStage, DiskFault, WriteFault, Memory}
 
 -- a refusal of the journal or a formula that was defined; a fault of the disk and want of memory are free, and nothing else comes
 abbrev pub Refuses : {A : Type 0} → Status → Result A Status → Type 0
@@ -19,6 +19,7 @@ Refuses Done defined = ⊥
 Refuses Usage defined = ⊥
 Refuses ReadFault defined = ⊥
 Refuses TooLong defined = ⊥
+Refuses (HydroRefused refusal) defined = ⊥
 Refuses (ProblemRefused r) defined = ⊥
 Refuses (Range k m r) defined = ⊥
 Refuses (NoStage dead) defined = ⊥
@@ -30,6 +31,7 @@ ComesOfLoading Done = ⊥
 ComesOfLoading Usage = ⊥
 ComesOfLoading ReadFault = ⊥
 ComesOfLoading TooLong = ⊥
+ComesOfLoading (HydroRefused refusal) = ⊥
 ComesOfLoading (ProblemRefused r) = ⊥
 ComesOfLoading (JournalRefused r) = ⊤
 ComesOfLoading (TooMuch t) = ⊤
@@ -50,6 +52,7 @@ StopsAs (Err Done) stop = ⊥
 StopsAs (Err Usage) stop = ⊥
 StopsAs (Err ReadFault) stop = ⊥
 StopsAs (Err TooLong) stop = ⊥
+StopsAs (Err (HydroRefused refusal)) stop = ⊥
 StopsAs (Err (ProblemRefused r)) stop = ⊥
 StopsAs (Err (JournalRefused r)) stop = ⊥
 StopsAs (Err (TooMuch t)) stop = ⊥
@@ -66,6 +69,7 @@ WhenTrained (Err Done) P = P
 WhenTrained (Err Usage) P = ⊤
 WhenTrained (Err ReadFault) P = ⊤
 WhenTrained (Err TooLong) P = ⊤
+WhenTrained (Err (HydroRefused refusal)) P = ⊤
 WhenTrained (Err (ProblemRefused r)) P = ⊤
 WhenTrained (Err (JournalRefused r)) P = ⊤
 WhenTrained (Err (TooMuch t)) P = ⊤
@@ -78,6 +82,7 @@ IsDead p Done = ⊤
 IsDead p Usage = ⊤
 IsDead p ReadFault = ⊤
 IsDead p TooLong = ⊤
+IsDead p (HydroRefused refusal) = ⊤
 IsDead p (ProblemRefused r) = ⊤
 IsDead p (JournalRefused r) = ⊤
 IsDead p (TooMuch t) = ⊤

@@ -1,29 +1,30 @@
 -- What the words of the command line ask for.
-use Rattle.std.specs.Prelude.{◌≤◌, Bool, true, false, List, String, Option, Some, None, IfSome, option_and_then}
+use Rattle.std.specs.Prelude.{◌≤◌, Bool, true, false, List, String, Option, Some, None, IfSome}
+use Rattle.std.specs.Option.{option_map}
 use Rattle.std.specs.declared.alloc.Global.{Global}
 use Rattle.hp_words.specs.declared.command.Command.{Command}
 use Rattle.hp_words.specs.declared.command.Command.TheVariants as commands
 use Rattle.hp_words.specs.Commands.{command_of, texts}
 use Rattle.hp_run.specs.declared.job.Job.{Job}
-use Rattle.hp_run.specs.declared.job.Job.TheVariants.{Plan, Generate}
+use Rattle.hp_run.specs.declared.job.Job.TheVariants.{Plan, Hydro, Generate}
 use Rattle.hp_run.specs.declared.task.Task.{Task}
-use Rattle.hp_run.specs.declared.task.Task.TheVariants.{Base, Train, Check, Simulate, Validate, Robust}
+use Rattle.hp_run.specs.declared.task.Task.TheVariants.{Base, Train, Check, Simulate, Validate, Evaluate, Robust}
 
--- of the commands those that the program does
-abbrev pub job_of : Command → Option Job
-job_of commands.Base = Some (Plan Base)
-job_of (commands.Train seed count batch) = Some (Plan (Train seed count batch))
-job_of commands.Check = Some (Plan Check)
-job_of (commands.Simulate seed count) = Some (Plan (Simulate seed count))
-job_of commands.Validate = Some (Plan Validate)
-job_of (commands.Gen seed stages reservoirs) = Some (Generate seed stages reservoirs)
-job_of commands.Evaluate = None
-job_of commands.Hydro = None
-job_of commands.Robust = Some (Plan Robust)
+-- what a command asks for
+abbrev pub job_of : Command → Job
+job_of commands.Base = Plan Base
+job_of (commands.Train seed count batch) = Plan (Train seed count batch)
+job_of commands.Check = Plan Check
+job_of (commands.Simulate seed count) = Plan (Simulate seed count)
+job_of commands.Validate = Plan Validate
+job_of (commands.Gen seed stages reservoirs) = Generate seed stages reservoirs
+job_of commands.Evaluate = Plan Evaluate
+job_of commands.Hydro = Hydro
+job_of commands.Robust = Plan Robust
 
--- what the words ask for; none where they are no command that the program does
+-- what the words ask for; none where they are no command
 unfoldable pub asked : List (String Global) → Option Job
-asked words = option_and_then job_of (command_of (texts words))
+asked words = option_map job_of (command_of (texts words))
 
 -- the numbers of a task are in their ranges
 abbrev pub IsWithin : Task → Type 0
@@ -32,21 +33,25 @@ IsWithin (Train seed count batch) = (count ≤ 2000) × IfSome batch (λ b. (1 �
 IsWithin Check = Unit {0}
 IsWithin (Simulate seed count) = count ≤ 1000
 IsWithin Validate = Unit {0}
+IsWithin Evaluate = Unit {0}
 IsWithin Robust = Unit {0}
 
 -- the numbers of what is asked for are in their ranges
 abbrev pub IsJobWithin : Job → Type 0
 IsJobWithin (Plan task) = IsWithin task
+IsJobWithin Hydro = Unit {0}
 IsJobWithin (Generate seed stages reservoirs) = (1 ≤ stages) × (stages ≤ 500) × (1 ≤ reservoirs) × (reservoirs ≤ 10)
 
--- a task over the problem that the source holds is asked for
+-- what the source holds is asked for
 abbrev pub reads_problem : Option Job → Bool
 reads_problem None = false
 reads_problem (Some (Plan task)) = true
+reads_problem (Some Hydro) = true
 reads_problem (Some (Generate seed stages reservoirs)) = false
 
 -- a task is asked for, and this holds of it
 abbrev pub IfPlanned : Option Job → (Task → Type 0) → Type 0
 IfPlanned None P = ⊥
 IfPlanned (Some (Plan task)) P = P task
+IfPlanned (Some Hydro) P = ⊥
 IfPlanned (Some (Generate seed stages reservoirs)) P = ⊥

@@ -13,13 +13,15 @@ usage: hydroplan COMMAND < PROBLEM > REPORT
   check JOURNAL                        checks each certificate of JOURNAL, prints its cuts and bounds
   simulate JOURNAL SEED COUNT          prints the decisions in COUNT drawn scenarios (0 to 1000)
   validate JOURNAL                     prints the decisions in the scenarios that the problem stores
+  evaluate JOURNAL                     prints what the whole policy costs, or the first branch where it misses a row
   robust JOURNAL                       prints what holds for the worst of the weights that the problem lists
+  hydro                                reads a description of hydro plants in the place of PROBLEM, prints its problem
   gen SEED STAGES RESERVOIRS           prints a problem: 1 to 500 stages, 1 to 10 reservoirs; reads nothing
 
 PROBLEM is a JSON file of at most 16 MiB. Every command but train leaves JOURNAL as it is.
 Ends with 0 where the report was written whole. Else a line on standard error says why:
   2 usage  3 problem not read  4 problem too long  5 problem refused  6 journal refused  7 too much
-  8 range  9 no stage solution  10 journal device failed  11 output failed  12 memory
+  8 range  9 no stage solution  10 journal device failed  11 output failed  12 memory  14 description refused
 
 docs/GUIDE.md shows how to write a problem and how to read the reports; docs/FORMAT.md has each member of the file.
 ";

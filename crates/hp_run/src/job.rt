@@ -10,6 +10,8 @@ use hp_words::{Command, read_words};
 pub enum Job {
     /// A task over the problem that the source holds.
     Plan(Task),
+    /// The problem that the description of hydro plants in the source means.
+    Hydro,
     /// A problem that a seed draws, of 1 to 500 stages and 1 to 10 reservoirs.
     Generate {
         seed: u64,
@@ -18,36 +20,35 @@ pub enum Job {
     },
 }
 
-fn job_of(command: Command) -> Option<Job>
+fn job_of(command: Command) -> Job
     ensures { result ≡ job_of command }
 {
     match command {
-        Command::Base => Some(Job::Plan(Task::Base)),
-        Command::Train { seed, count, batch } => {
-            Some(Job::Plan(Task::Train { seed, count, batch }))
-        }
-        Command::Check => Some(Job::Plan(Task::Check)),
-        Command::Simulate { seed, count } => Some(Job::Plan(Task::Simulate { seed, count })),
-        Command::Validate => Some(Job::Plan(Task::Validate)),
-        Command::Robust => Some(Job::Plan(Task::Robust)),
+        Command::Base => Job::Plan(Task::Base),
+        Command::Train { seed, count, batch } => Job::Plan(Task::Train { seed, count, batch }),
+        Command::Check => Job::Plan(Task::Check),
+        Command::Simulate { seed, count } => Job::Plan(Task::Simulate { seed, count }),
+        Command::Validate => Job::Plan(Task::Validate),
+        Command::Evaluate => Job::Plan(Task::Evaluate),
+        Command::Robust => Job::Plan(Task::Robust),
+        Command::Hydro => Job::Hydro,
         Command::Gen {
             seed,
             stages,
             reservoirs,
-        } => Some(Job::Generate {
+        } => Job::Generate {
             seed,
             stages,
             reservoirs,
-        }),
-        Command::Evaluate | Command::Hydro => None,
+        },
     }
 }
 
-/// What the words ask for, where they are a command that the program does.
+/// What the words ask for, where they are a command.
 #[tactic(auto, unfolding(crate::specs::Words::asked))]
 pub(crate) fn asked(words: &[String]) -> Option<Job>
     ensures value { result ≡ asked words.now }
     ensures within { IfSome result IsJobWithin }
 {
-    job_of(read_words(words)?)
+    Some(job_of(read_words(words)?))
 }

@@ -1,10 +1,13 @@
 //! What the program does with its words, a problem and a sink.
 #![tactic(auto)]
 
+mod describing;
+mod evaluating;
 mod generating;
 mod help;
 mod job;
 mod journal_lines;
+mod loading;
 mod outcome;
 mod planes;
 mod program;

@@ -19,6 +19,7 @@ ghost use Rattle.hp_run.specs.Words.{IsWithin};
 ghost use Rattle.hp_run.specs.declared.status.Status.TheVariants as statuses;
 ghost use Rattle.hp_run.specs.declared.task.Task.TheVariants as tasks;
 
+use crate::evaluating::report_evaluate;
 use crate::planes::report_robust;
 use crate::simulating::{Scenarios, report_scenarios};
 use crate::status::Status;
@@ -183,6 +184,7 @@ fn report_by<R: Threads + Sync, D: Disk, V: Solver>(
             let scenarios = Scenarios::Stored;
             report_scenarios(alloc, bytes, problem, pools, journal, solver, scenarios)
         }
+        Task::Evaluate => report_evaluate(alloc, bytes, problem, pools, journal, solver),
         Task::Robust => report_robust(alloc, bytes, problem, pools, journal, solver),
     }
 }

@@ -1,27 +1,21 @@
 // Simulation over the pools of a journal.
-ghost use Rattle.std.specs.Prelude.{◌≡◌, ◌≤◌, List, Ok, Err, length, All, IfOk, IfErr, IfSome};
-ghost use Rattle.hp_num.specs.Steps.{GivesOr};
+ghost use Rattle.std.specs.Prelude.{◌≡◌, ◌≤◌, List, Ok, length, All, IfOk, IfErr};
 ghost use Rattle.hp_outside.specs.Disks.{Stays};
 ghost use Rattle.hp_theory.specs.Fit.{Fit};
 ghost use Rattle.hp_theory.specs.Range.{based};
 ghost use Rattle.hp_theory.specs.View.{problem_of};
 ghost use Rattle.hp_theory.specs.declared.cut.Cut.{Cut};
-ghost use Rattle.hp_journal.specs.Causes.{DiskCause};
-ghost use Rattle.hp_load.specs.Accepted.{IsSafe};
-ghost use Rattle.hp_load.specs.Load.{seen};
-ghost use Rattle.hp_load.specs.declared.refusal.LoadFault.TheVariants as faults;
 ghost use Rattle.hp_lp.specs.Chained.{solving};
 ghost use Rattle.hp_forward.specs.Given.{Gives, OnNoStage, Refutes};
 ghost use Rattle.hp_sim.specs.Tracing.{AreKnown, traces_of};
 ghost use Rattle.hp_run.specs.Causes.{Lacks};
-ghost use Rattle.hp_run.specs.Outcome.{IsSoundReport, Reports, based_at, count_of, runs_of, task_for, within_width};
-ghost use Rattle.hp_run.specs.Simulating.{NotLoaded, loaded_narrow, status_of_stage};
+ghost use Rattle.hp_run.specs.Outcome.{IsSoundReport, Reports, based_at, count_of, runs_of, task_for};
 
+use crate::loading::{load_within, status_of_stage};
 use crate::outcome::status_of_fault;
 use crate::status::Status;
 use hp_cut::Pools;
 use hp_forward::{StageFault, Trace};
-use hp_load::{LoadFault, Loaded, load};
 use hp_lp::Starts;
 use hp_num::{List, Memory};
 use hp_outside::Disk;
@@ -52,39 +46,6 @@ fn count_of(problem: &Problem, scenarios: Scenarios) -> u32
     }
 }
 
-/// The formula of the scenarios' traces.
-#[tactic(auto, unfolding(crate::specs::Outcome::within_width))]
-fn check_width(problem: &Problem, scenarios: Scenarios, loaded: &Loaded) -> Result<(), LoadFault>
-    ensures value { GivesOr NotLoaded (λ _. seen loaded.now) result (within_width problem.now (count_of problem.now scenarios) (seen loaded.now)) }
-    ensures cause { ¬ (result ≡ Err faults.DiskFault) }
-{
-    match problem.too_wide(count_of(problem, scenarios)) {
-        None => Ok(()),
-        Some(formula) => Err(LoadFault::TooMuch(formula)),
-    }
-}
-
-/// The journal, loaded, where the formula of the scenarios' traces is kept.
-fn load_narrow<D: Disk>(
-    alloc: Global,
-    problem: &Problem,
-    pools: Pools,
-    journal: &mut D,
-    digest: &[u8; 32],
-    scenarios: Scenarios,
-) -> Result<Loaded, LoadFault>
-    requires base { based problem.now ≡ Ok pools.lists }
-    ensures value { IfSome (D.store journal.old).reads (λ kept. GivesOr NotLoaded seen result
-        (loaded_narrow problem.now pools.lists digest.now scenarios kept)) }
-    ensures safe { IfOk result (IsSafe problem.now) }
-    ensures stays { Stays (D.store journal.old) (D.store journal.new) }
-    ensures cause { DiskCause (D.faults journal.old) (D.faults journal.new) (result ≡ Err faults.DiskFault) }
-{
-    let loaded = load(alloc, problem, pools, journal, digest, None, None)?;
-    check_width(problem, scenarios, &loaded)?;
-    Ok(loaded)
-}
-
 /// The traces of the scenarios over these pools, once the solver has made ready for each node.
 fn traced<V: Solver>(
     alloc: Global,
@@ -104,16 +65,6 @@ fn traced<V: Solver>(
             simulate(alloc, problem, pools, solver, &starts, seed, count)
         }
         Scenarios::Stored => validate(alloc, problem, pools, solver, &starts),
-    }
-}
-
-/// How a run ends where traces stop.
-fn status_of_stage(fault: StageFault) -> Status
-    ensures { result ≡ status_of_stage fault }
-{
-    match fault {
-        StageFault::NoStage(dead) => Status::NoStage(dead),
-        StageFault::Memory => Status::Memory,
     }
 }
 
@@ -137,7 +88,8 @@ pub(crate) fn report_scenarios<D: Disk, V: Solver>(
 {
     let _ = problem.raw();
     let digest = Sha256::digest(bytes);
-    let loaded = match load_narrow(alloc, problem, pools, journal, &digest, scenarios) {
+    let formula = problem.too_wide(count_of(problem, scenarios));
+    let loaded = match load_within(alloc, problem, pools, journal, &digest, formula) {
         Ok(loaded) => loaded,
         Err(fault) => return Err(status_of_fault(fault)),
     };

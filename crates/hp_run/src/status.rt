@@ -7,6 +7,7 @@ use crate::refusal_lines::push_refusal;
 use crate::training_lines::{push_no_stage, push_range};
 use hp_load::JournalRefusal;
 use hp_num::Memory;
+use hp_plants::{HydroRefusal, push_hydro_refusal};
 use hp_problem::{Refusal, TooMuch};
 use hp_settle::Dead;
 use hp_text::push_bytes;
@@ -23,6 +24,8 @@ pub enum Status {
     ReadFault,
     /// The problem is longer than 2^24 bytes.
     TooLong,
+    /// The description of hydro plants is refused: the first refusal of its reading.
+    HydroRefused(HydroRefusal),
     /// The problem is refused: the first refusal of its reading.
     ProblemRefused(Refusal),
     /// The journal is refused: the first refusal of its loading.
@@ -36,7 +39,7 @@ pub enum Status {
         node: u32,
         realization: u32,
     },
-    /// Training or a scenario met a node that is shown to have no decisions.
+    /// Training, a scenario or a whole policy met a node that is shown to have no decisions.
     NoStage(Dead),
     /// The journal could not be read or written; only where the disk's count of faults rose.
     DiskFault,
@@ -55,6 +58,7 @@ pub fn number(status: &Status) -> u8
         Status::Usage => 2,
         Status::ReadFault => 3,
         Status::TooLong => 4,
+        Status::HydroRefused(_) => 14,
         Status::ProblemRefused(_) => 5,
         Status::JournalRefused(_) => 6,
         Status::TooMuch(_) => 7,
@@ -74,10 +78,11 @@ fn push_status(alloc: Global, out: &mut Vec<u8>, status: &Status) -> Result<(), 
         Status::Done => Ok(()),
         Status::Usage => push_bytes(
             out,
-            b"usage: base, train JOURNAL SEED COUNT [BATCH], check JOURNAL, simulate JOURNAL SEED COUNT, validate JOURNAL, gen SEED STAGES RESERVOIRS, robust JOURNAL",
+            b"usage: base, train JOURNAL SEED COUNT [BATCH], check JOURNAL, simulate JOURNAL SEED COUNT, validate JOURNAL, gen SEED STAGES RESERVOIRS, evaluate JOURNAL, hydro, robust JOURNAL",
         ),
         Status::ReadFault => push_bytes(out, b"problem could not be read"),
         Status::TooLong => push_bytes(out, b"problem is longer than 16777216 bytes"),
+        Status::HydroRefused(refusal) => push_hydro_refusal(out, *refusal),
         Status::ProblemRefused(refusal) => push_refusal(out, *refusal),
         Status::JournalRefused(refusal) => push_journal_refusal(alloc, out, refusal),
         Status::TooMuch(formula) => push_too_much(out, *formula),

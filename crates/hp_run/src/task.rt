@@ -21,6 +21,8 @@ pub enum Task {
     },
     /// The traces of the scenarios that the problem stores, over the cuts of a journal.
     Validate,
+    /// The cost of the whole policy over the cuts of a journal, from above, or the first branch where it misses a row.
+    Evaluate,
     /// The planes that a journal's certificates give for the worst of the weights that the problem lists.
     Robust,
 }

@@ -8,6 +8,7 @@ ghost use Rattle.hp_run.specs.Outcome.{ReadsJournal};
 ghost use Rattle.hp_run.specs.OwnSolver.{own_solver};
 ghost use Rattle.hp_run.specs.Words.{IfPlanned, IsWithin, asked, reads_problem};
 
+use crate::describing::write_described;
 use crate::generating::write_problem;
 use crate::job::{Job, asked};
 use crate::outcome::report_of;
@@ -24,12 +25,15 @@ use std::thread::Threads;
 /// Does what the words say, with this solver, over the problem that the source holds to its end. `base` writes the report of
 /// its base cuts. `train` trains on the journal, and writes the report of training. `check` reads the journal, checks each
 /// certificate of its records, and writes the report of what it gives. `simulate` and `validate` read it so too, and write the
-/// traces of drawn and of stored scenarios over its cuts. `gen` reads nothing, and writes a generated problem. Other words are
-/// Usage.
+/// traces of drawn and of stored scenarios over its cuts; `evaluate` writes what the whole policy over them costs, and `robust`
+/// the planes of its certificates for the worst of the weights that the problem lists. `hydro` takes the source for a
+/// description of hydro plants, and writes the problem that it means. `gen` reads nothing, and writes a generated problem.
+/// Other words are Usage.
 ///
 /// `cause` says what each status tells of the words, the source, the disk and the sink; `complete` which status comes where
 /// no device fails; `sound` that each cut and each bound in what was written hold for every decision tree and every policy,
-/// in any fraction of a unit, over any disk and for every solver, and that a generated problem is accepted; `unwritten`,
+/// in any fraction of a unit, over any disk and for every solver, and that the problem of a description is the one that is
+/// defined, and like a generated one accepted; `unwritten`,
 /// `unread`, `journal` and `journal_unread` what is left as it was; `grown` what training leaves of the journal; `any_moment`
 /// what a crash at any moment leaves of it; and `resumed` that training which was stopped and is resumed leaves and prints
 /// what unstopped training does.
@@ -131,6 +135,7 @@ fn act<R: Threads + Sync, I: Source, D: Disk, O: Sink, V: Solver>(
     match asked(words) {
         None => Status::Usage,
         Some(Job::Plan(task)) => plan(rt, alloc, task, problem, journal, out, solver),
+        Some(Job::Hydro) => write_described(alloc, problem, out),
         Some(
             Job::Generate {
                 seed,

@@ -46,3 +46,31 @@ pub fn stages(alloc: Global, report: &str) -> Result<String, AllocError> {
     }
     format!(in alloc; "scenarios {scenarios} stages {stages}\n")
 }
+
+/// The bound of a report, which is that of its last line `bound B`.
+fn last_bound(report: &str) -> Option<i128> {
+    let mut last = None;
+    for line in report.lines() {
+        if let Some(bound) = line.strip_prefix("bound ") {
+            last = bound.parse::<i128>().ok();
+        }
+    }
+    last
+}
+
+/// The numbers of a line `between LEAST GREATEST`.
+fn limits(text: &str) -> Option<(i128, i128)> {
+    let (least, greatest) = text.trim_end().strip_prefix("between ")?.split_once(" ")?;
+    Some((least.parse::<i128>().ok()?, greatest.parse::<i128>().ok()?))
+}
+
+/// Whether the bound of a report is between the numbers that are expected, or else what it is.
+pub fn between(alloc: Global, report: &str, expected: &str) -> Result<String, AllocError> {
+    match (last_bound(report), limits(expected)) {
+        (Some(bound), Some((least, greatest))) if least <= bound && bound <= greatest => {
+            format!(in alloc; "as expected")
+        }
+        (Some(bound), _) => format!(in alloc; "gives {bound}, expected {expected}"),
+        (None, _) => format!(in alloc; "gives no bound"),
+    }
+}

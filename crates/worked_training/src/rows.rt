@@ -62,6 +62,39 @@ fn whole<R: Threads + Sync>(
     Ok(verdict(alloc, &found, expected)?)
 }
 
+/// The reports of a command over each line of the problem's file.
+fn of_each<R: Threads + Sync>(
+    rt: &R,
+    alloc: Global,
+    task: Task<'_>,
+    journal: &[u8],
+) -> Result<String, RowFault> {
+    let mut found = String::new(alloc);
+    for problem in task.problem.lines() {
+        let mut disk = disk(alloc, task, journal, &[])?;
+        let one = report(rt, alloc, Task { problem, ..task }, &mut disk)?;
+        found.push_str(&one)?;
+    }
+    Ok(found)
+}
+
+/// Whether the bound of training is between the numbers that are expected.
+fn between<R: Threads + Sync>(
+    rt: &R,
+    alloc: Global,
+    task: Task<'_>,
+    journal: &[u8],
+    expected: &str,
+) -> Result<String, RowFault> {
+    let large = Task {
+        room: LARGE_ROOM,
+        ..task
+    };
+    let mut disk = disk(alloc, large, journal, &[])?;
+    let trained = report(rt, alloc, large, &mut disk)?;
+    Ok(bounds::between(alloc, &trained, expected)?)
+}
+
 fn rising<R: Threads + Sync>(
     rt: &R,
     alloc: Global,
@@ -103,6 +136,11 @@ fn answer<R: Threads + Sync>(
             let found = moments(rt, alloc, task, journal)?;
             Ok(verdict(alloc, &found, expected)?)
         }
+        "each" => {
+            let found = of_each(rt, alloc, task, journal)?;
+            Ok(verdict(alloc, &found, expected)?)
+        }
+        "between" => between(rt, alloc, task, journal, expected),
         "rising" => rising(rt, alloc, task, journal, expected),
         _ => Err(RowFault::Form),
     }

@@ -1,0 +1,67 @@
+-- What the report of a verdict is, and why there is none.
+use Rattle.std.proofs.Common.{◌≡◌, ◌∙◌, ℕ, ◌≤ℤ◌, true, List, length, Option, IfSome, Result, Ok, Err, sym, ap}
+use Rattle.sha2.specs.Sha256.{sha256}
+use Rattle.hp_fields.specs.Steps.{◌>>=◌}
+use Rattle.hp_problem.specs.Sealed.{Sealed, is_sealed}
+use Rattle.hp_theory.specs.declared.cut.Cut.{Cut}
+use Rattle.hp_theory.specs.Bound.{bound}
+use Rattle.hp_theory.specs.Fit.{Fit}
+use Rattle.hp_theory.specs.Pools.{Sound}
+use Rattle.hp_theory.specs.Problem.{S}
+use Rattle.hp_theory.specs.Tree.{Forest, Policy}
+use Rattle.hp_theory.specs.View.{problem_of}
+use Rattle.hp_load.specs.Load.{Outcome}
+use Rattle.hp_lp.specs.Chained.{Solving}
+use Rattle.hp_forward.specs.declared.deciding.StageFault.{StageFault}
+use Rattle.hp_forward.specs.Given.{Fails, OnNoStage, Refutes}
+use Rattle.hp_tree.specs.declared.walking.Verdict.{Verdict}
+use Rattle.hp_tree.specs.declared.walking.Verdict.TheVariants.{Cost, Missed}
+use Rattle.hp_tree.specs.PolicyTree.{verdict_of}
+use Rattle.hp_tree.specs.Report.{verdict_text}
+use Rattle.hp_tree.specs.TooBig.{too_big_of}
+use Rattle.hp_tree.specs.Upper.{IsUpper}
+use Rattle.hp_tree.specs.Verdicts.{OnCost}
+use Rattle.hp_run.specs.Causes.{Lacks}
+use Rattle.hp_run.specs.Outcome.{IsSoundReport, IsTwoSided, Reports, WithBase, based_at, evaluated_for, loaded_within, or_refused, report_at, report_by, report_judged}
+use Rattle.hp_run.specs.Loading.{status_of_stage}
+use Rattle.hp_run.specs.declared.status.Status.{Status}
+use Rattle.hp_run.specs.declared.task.Task.TheVariants.{Evaluate}
+use Rattle.hp_run.proofs.Checks.{bound_under}
+use Rattle.hp_run.proofs.Loaded.{GoesOn, gone_on, not_decided}
+
+two_sided : (p : Sealed) (pools : List (List Cut)) (verdict : Verdict) → Sound (problem_of p) pools
+    → (let r : Result Verdict StageFault = Ok verdict in OnCost r (λ upper. (f : Forest) × Policy (problem_of p) S f × IsUpper (problem_of p) f upper × (Sound (problem_of p) pools → bound (problem_of p) pools ≤ℤ upper)))
+    → IsTwoSided (problem_of p) pools verdict
+two_sided p pools (Cost upper) sound h = record { forest = h.0; policy = h.1; cost = h.2; bound = h.3 sound }
+two_sided p pools (Missed branches row residual) sound h = tt
+
+pub verdict_sound : (bytes : List ℕ) (p : Sealed) (pools : List (List Cut)) (verdict : Verdict) (text : List ℕ) → is_sealed p ≡ true → Fit (problem_of p) (length p.raw.nodes) pools → Sound (problem_of p) pools
+    → (let r : Result Verdict StageFault = Ok verdict in OnCost r (λ upper. (f : Forest) × Policy (problem_of p) S f × IsUpper (problem_of p) f upper × (Sound (problem_of p) pools → bound (problem_of p) pools ≤ℤ upper)))
+    → text ≡ verdict_text p pools verdict → IsSoundReport Evaluate bytes p pools text
+verdict_sound bytes p pools verdict text e fit sound sides is = record {
+  is = (verdict, is, two_sided p pools verdict sound sides);
+  cuts = sound;
+  bound = bound_under p pools e fit sound;
+}
+
+module _ {Start Chain : Type 0} (v : Solving Start Chain) (bytes : List ℕ) (b : WithBase) where
+  -- the verdict over what was loaded
+  abbrev pub judge : Outcome → Result (List ℕ) Status
+  judge o = report_judged b.problem o.pools (verdict_of v b.problem o.pools)
+
+  by_task : based_at bytes ≡ Ok b → (kept : List ℕ) → report_at v Evaluate bytes kept ≡ (loaded_within b.problem b.pools (sha256 bytes) (too_big_of b.problem) kept >>= judge)
+  unfolding report_at evaluated_for
+  by_task based kept = ap (λ r. or_refused r >>= report_by v Evaluate bytes kept) based
+
+  pub judges : based_at bytes ≡ Ok b → GoesOn v Evaluate bytes b (too_big_of b.problem) judge
+  judges based = record { based = based; reads = tt; solves = tt; told = λ told kept reads. reads; is = by_task based }
+
+  module _ (told : Option (List ℕ)) (based : based_at bytes ≡ Ok b) (o : Outcome) (has : IfSome told (λ kept. loaded_within b.problem b.pools (sha256 bytes) (too_big_of b.problem) kept ≡ Ok o)) where
+    -- the verdict over what was loaded
+    pub verdict_reported : (verdict : Verdict) (text : List ℕ) → verdict_of v b.problem o.pools ≡ Ok verdict → text ≡ verdict_text b.problem o.pools verdict → Reports v Evaluate told bytes (Ok text)
+    verdict_reported verdict text e is = gone_on v Evaluate told bytes b (too_big_of b.problem) judge (judges based) o (Ok text) has (ap (report_judged b.problem o.pools) e ∙ ap (λ (x : List ℕ). Ok x) (sym is))
+
+    -- a node without decisions
+    pub not_judged : (disk disk_now : ℕ) (f : StageFault) → Fails f (verdict_of v b.problem o.pools) → (let r : Result Verdict StageFault = Err f in OnNoStage r (Refutes b.problem)) → Lacks v Evaluate told disk disk_now bytes (status_of_stage f)
+    not_judged disk disk_now f fails none =
+        not_decided v Evaluate told bytes b (too_big_of b.problem) judge (judges based) disk disk_now o f (verdict_of v b.problem o.pools) has (λ dead e. ap (report_judged b.problem o.pools) e) fails none

@@ -1,0 +1,64 @@
+// A journal that is loaded for decisions over its pools.
+ghost use Rattle.std.specs.Prelude.{◌≡◌, None, Ok, Err, IfOk, IfSome};
+ghost use Rattle.hp_num.specs.Steps.{GivesOr};
+ghost use Rattle.hp_outside.specs.Disks.{Stays};
+ghost use Rattle.hp_theory.specs.Range.{based};
+ghost use Rattle.hp_journal.specs.Causes.{DiskCause};
+ghost use Rattle.hp_load.specs.Accepted.{IsSafe};
+ghost use Rattle.hp_load.specs.Load.{seen};
+ghost use Rattle.hp_load.specs.declared.refusal.LoadFault.TheVariants as faults;
+ghost use Rattle.hp_run.specs.Loading.{NotLoaded, status_of_stage};
+ghost use Rattle.hp_run.specs.Outcome.{loaded_within, unless_much};
+
+use crate::status::Status;
+use hp_cut::Pools;
+use hp_forward::StageFault;
+use hp_load::{LoadFault, Loaded, load};
+use hp_outside::Disk;
+use hp_problem::{Problem, TooMuch};
+use std::alloc::Global;
+
+/// What was loaded, unless a formula is above its limit.
+fn unless_much(formula: Option<TooMuch>, loaded: Loaded) -> Result<Loaded, LoadFault>
+    ensures value { GivesOr NotLoaded seen result (unless_much formula (seen loaded)) }
+    ensures same { IfOk result (λ l. l ≡ loaded) }
+    ensures kept { IfOk result (λ l. formula ≡ None) }
+    ensures cause { ¬ (result ≡ Err faults.DiskFault) }
+{
+    match formula {
+        None => Ok(loaded),
+        Some(formula) => Err(LoadFault::TooMuch(formula)),
+    }
+}
+
+/// The journal, loaded, unless the formula is above its limit; what the formula gives is looked at behind the loading.
+#[tactic(auto, unfolding(crate::specs::Outcome::loaded_within))]
+pub(crate) fn load_within<D: Disk>(
+    alloc: Global,
+    problem: &Problem,
+    pools: Pools,
+    journal: &mut D,
+    digest: &[u8; 32],
+    formula: Option<TooMuch>,
+) -> Result<Loaded, LoadFault>
+    requires base { based problem.now ≡ Ok pools.lists }
+    ensures value { IfSome (D.store journal.old).reads (λ kept. GivesOr NotLoaded seen result
+        (loaded_within problem.now pools.lists digest.now formula kept)) }
+    ensures safe { IfOk result (IsSafe problem.now) }
+    ensures kept { IfOk result (λ l. formula ≡ None) }
+    ensures stays { Stays (D.store journal.old) (D.store journal.new) }
+    ensures cause { DiskCause (D.faults journal.old) (D.faults journal.new) (result ≡ Err faults.DiskFault) }
+{
+    let loaded = load(alloc, problem, pools, journal, digest, None, None)?;
+    unless_much(formula, loaded)
+}
+
+/// How a run ends where decisions stop.
+pub(crate) fn status_of_stage(fault: StageFault) -> Status
+    ensures { result ≡ status_of_stage fault }
+{
+    match fault {
+        StageFault::NoStage(dead) => Status::NoStage(dead),
+        StageFault::Memory => Status::Memory,
+    }
+}
