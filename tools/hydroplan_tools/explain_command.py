@@ -16,12 +16,15 @@ from .decimals import decimal_text
 from .located_json import NotJson, parse, path_text
 from .misspellings import random_names, warnings
 from .places import MEANINGS, culprit, descend, key_at, locate, node_path, read_refusal, rows_of, states_of
+from .plants import MEANINGS as HYDRO_MEANINGS, Place, first_fault, place_of
 from .profile import SCALE
 
-DESCRIPTION = """Reads the problem file and, on standard input, what hydroplan wrote on standard error. Writes on standard
-output for each line of hydroplan what it means, with names, the JSON path, line and column; and warns of keys that
-hydroplan ignores and that look like one it knows, and of keys that come twice. Nothing here is proved."""
+DESCRIPTION = """Reads the problem file, or the description of hydro plants, and, on standard input, what hydroplan wrote on
+standard error. Writes on standard output for each line of hydroplan what it means, with names, the JSON path, line and
+column; and warns of keys that hydroplan ignores and that look like one it knows, and of keys that come twice. Nothing
+here is proved."""
 
+HYDRO = re.compile(r"hydro refused: (\w+) at (\w+) (\d+) (\d+)")
 RANGE = re.compile(r"range: iteration (\d+) node (\d+) realization (\d+)")
 NUMBERS = r"((?: -?\d+)*)"
 NO_STAGE = re.compile(rf"no stage solution: run (\d+) node (\d+) values{NUMBERS} state{NUMBERS} rows{NUMBERS}")
@@ -39,16 +42,17 @@ def parser() -> argparse.ArgumentParser:
     """What the command line may say."""
     found = argparse.ArgumentParser(
         prog="explain", description=DESCRIPTION,
-        epilog="example: hydroplan base < problem.json 2>&1 > report.txt | tools/explain problem.json",
+        epilog="example: hydroplan base < problem.json 2>&1 > report.txt | tools/explain problem.json; "
+        "hydroplan hydro < plants.json 2>&1 > problem.json | tools/explain plants.json",
     )
-    found.add_argument("problem", type=Path, help="the problem file")
+    found.add_argument("problem", type=Path, help="the problem file, or the description of hydro plants")
     found.add_argument("--line", action="append", help="a line of hydroplan, in place of standard input")
     found.add_argument("--keys", action="store_true", help="look at the keys alone, and read nothing else")
     return found
 
 
 def main(words: Optional[Sequence[str]] = None) -> int:
-    """The status: 0, or 1 where the problem file cannot be read."""
+    """The status: 0, or 1 where the file cannot be read."""
     chosen = parser().parse_args(words)
     try:
         data = chosen.problem.read_bytes()
@@ -62,7 +66,7 @@ def main(words: Optional[Sequence[str]] = None) -> int:
 
 
 def explain(data: bytes, lines: Iterable[str]) -> list[str]:
-    """All that is said of a problem's bytes and of lines of the program."""
+    """All that is said of the bytes of a problem or a description and of lines of the program."""
     try:
         document = parse(data)
     except NotJson as fault:
@@ -88,7 +92,7 @@ def explain_line(root: Cursor, line: str) -> list[str]:
     """What a line of the program means."""
     if read_refusal(line) is not None:
         return _refusal(root, line)
-    for form, reader in ((RANGE, _range), (NO_STAGE, _no_stage), (CERTIFICATE, _certificate)):
+    for form, reader in ((HYDRO, _hydro), (RANGE, _range), (NO_STAGE, _no_stage), (CERTIFICATE, _certificate)):
         found = form.search(line)
         if found is not None:
             return reader(root, found)
@@ -111,6 +115,22 @@ def _refusal(root: Cursor, line: str) -> list[str]:
     if refusal.kind == "Cycle":
         said.extend(_cycle(root, located.cursor))
     return said
+
+
+def _hydro(root: Cursor, found: re.Match) -> list[str]:
+    """A refusal of a description. The closer look is this tool's own reading of the file, where that gives the same."""
+    kind, place = found.group(1), Place(found.group(2), int(found.group(3)), int(found.group(4)))
+    path, words = place_of(root, place)
+    at, missing = descend(root, path)
+    said = [f"what: {HYDRO_MEANINGS.get(kind, 'a kind that is not known here')}", f"where: {words}"]
+    if missing:
+        said.append(f"missing: {path_text(missing)[1:].lstrip('.')}")
+    said.append(f"path: {at.place()}")
+    fault = first_fault(root)
+    if fault is not None and (fault.kind, fault.place) == (kind, place):
+        return [*said, f"look at: {fault.cursor.place()}: {fault.reason}"]
+    other = "nothing is refused" if fault is None else f"the first refusal is {fault}"
+    return [*said, f"this line is not of this file as the tool reads it: {other}"]
 
 
 def _cycle(root: Cursor, node: Cursor) -> list[str]:
@@ -152,7 +172,7 @@ def _no_stage(root: Cursor, found: re.Match) -> list[str]:
     values, states, rows = ([int(number) for number in text.split()] for text in found.groups()[2:])
     path, words = node_path(root, node)
     at, _ = descend(root, path)
-    said = [f"what: {words} is shown to have no decisions, in iteration or scenario {run}", f"path: {at.place()}"]
+    said = [f"what: {words} is shown to have no decisions, in iteration or scenario {run}, or in a whole policy after {run} branches", f"path: {at.place()}"]
     said.extend(f'random: "{name}" = {value}' for name, value in zip(random_names(at, root), values))
     for name, value in zip(states_of(root), states):
         said.append(f'state: "{name}" = {decimal_text(Fraction(value, SCALE), 6)}')

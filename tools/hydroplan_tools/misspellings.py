@@ -1,4 +1,4 @@
-"""Keys of a problem file that the program ignores and that look like one which it knows, and keys that come twice.
+"""Keys of a problem file or a description that the program ignores and that look like known ones, and keys that come twice.
 
 Outside the proved core.
 """
@@ -8,7 +8,12 @@ from dataclasses import dataclass
 from typing import Iterator, Optional
 
 from .cursor import Cursor
+from .likeness import nearest
+from .plants import MEMBERS, STAGES, TABLES, is_description, names_of
 from .profile import SETS
+
+
+OF_OTHER_TOOLS = ("name", "author", "date", "description")
 
 
 @dataclass(frozen=True)
@@ -23,10 +28,11 @@ class Keys:
 def warnings(root: Cursor) -> list[str]:
     """A line for each suspicious key, in the order of the file's parts."""
     found: list[str] = []
-    for keys in objects(root):
+    described = is_description(root)
+    for keys in described_objects(root) if described else objects(root):
         found.extend(_suspicious(keys))
         found.extend(_twice(keys.cursor))
-    return found
+    return [*found, *_unread_travels(root)] if described else found
 
 
 def _suspicious(keys: Keys) -> Iterator[str]:
@@ -44,37 +50,15 @@ def _twice(cursor: Cursor) -> Iterator[str]:
         yield f"{cursor.place()}: the key `{key}` comes again at line {line}, column {column}; the last one counts"
 
 
+def _unread_travels(root: Cursor) -> Iterator[str]:
+    for at in _members(root.find("reservoirs")):
+        if at.is_object() and at.find("travel") is not None and at.find("downstream") is None:
+            yield f"{_place_of(at, 'travel')}: `travel` is not read, since there is no `downstream`"
+
+
 def _place_of(cursor: Cursor, key: str) -> str:
     line, column = cursor.document.line_and_column(cursor.value.key_offsets[key])
     return f"{cursor.member(key).place().split(' (line')[0]} (line {line}, column {column})"
-
-
-def nearest(word: str, known: tuple[str, ...]) -> Optional[str]:
-    """The known word that differs least, none where all differ by much: 0 letters of 2, 1 of up to 5, else 2."""
-    ranked = sorted((distance(_plain(word), _plain(other)), other) for other in known)
-    return next((other for apart, other in ranked if apart <= _allowed(other)), None)
-
-
-def _allowed(word: str) -> int:
-    return 0 if len(word) <= 2 else 1 if len(word) <= 5 else 2
-
-
-def _plain(word: str) -> str:
-    return word.lower().replace("_", "").replace("-", "").replace(" ", "")
-
-
-def distance(left: str, right: str) -> int:
-    """How many letters are added, left out, changed or swapped with their neighbour (optimal string alignment)."""
-    before: list[int] = []
-    row = list(range(len(right) + 1))
-    for i, letter in enumerate(left, 1):
-        before, last, row = row, before, [i]
-        for j, other in enumerate(right, 1):
-            best = min(before[j] + 1, row[j - 1] + 1, before[j - 1] + (letter != other))
-            if i > 1 and j > 1 and letter == right[j - 2] and left[i - 2] == other:
-                best = min(best, last[j - 2] + 1)
-            row.append(best)
-    return row[-1]
 
 
 def objects(root: Cursor) -> Iterator[Keys]:
@@ -82,7 +66,7 @@ def objects(root: Cursor) -> Iterator[Keys]:
     if not root.is_object():
         return
     known = ("version", "root", "nodes", "subproblems", "validation_scenarios")
-    yield Keys(root, known, ("name", "author", "date", "description"))
+    yield Keys(root, known, OF_OTHER_TOOLS)
     yield from _one(root.find("version"), ("major", "minor"))
     origin = root.find("root")
     yield from _one(origin, ("state_variables", "successors"), ("name",))
@@ -96,6 +80,28 @@ def objects(root: Cursor) -> Iterator[Keys]:
         yield from _one(at, ("scenario",), ("probability",))
         for step in _items(_find(at, "scenario") if at.is_object() else at):
             yield from _one(step, ("node", "support"))
+
+
+def described_objects(root: Cursor) -> Iterator[Keys]:
+    """All objects of a description whose keys are known, as far as it has its form."""
+    yield from _one(root, (*(table for table, *_ in TABLES), STAGES[0]), OF_OTHER_TOOLS)
+    for table, part, *_ in TABLES:
+        known = tuple(key for key, _ in MEMBERS[part])
+        yield from _one(root.find(table), ())
+        for at in _members(root.find(table)):
+            yield from _one(at, (*known, "downstream", "travel") if part == "reservoir" else known)
+    for stage in _items(root.find(STAGES[0])):
+        yield from _one(stage, ("demand", "inflows"))
+        yield from _numbers_of(_find(stage, "demand"), names_of(root, "buses"))
+        for at in _items(_find(stage, "inflows")):
+            yield from _one(at, ("weight", "inflow"))
+            yield from _numbers_of(_find(at, "inflow"), names_of(root, "reservoirs"))
+
+
+def _numbers_of(cursor: Optional[Cursor], names: list[str]) -> Iterator[Keys]:
+    """An object with a number under each name: a key that is none of them may stand for one that is missing."""
+    if cursor is not None and cursor.is_object():
+        yield Keys(cursor, tuple(name for name in names if cursor.find(name) is None), tuple(names))
 
 
 def _find(cursor: Optional[Cursor], key: str) -> Optional[Cursor]:
@@ -120,9 +126,7 @@ def _node(cursor: Cursor, root: Cursor) -> Iterator[Keys]:
     for at in _items(_find(cursor, "realizations")):
         yield from _one(at, ("probability", "support"))
         support = _find(at, "support")
-        if support is not None and support.is_object():
-            missing = [name for name in random_names(cursor, root) if support.find(name) is None]
-            yield Keys(support, tuple(missing), tuple(random_names(cursor, root)))
+        yield from _numbers_of(support, random_names(cursor, root))
 
 
 def random_names(node: Cursor, root: Cursor) -> list[str]:

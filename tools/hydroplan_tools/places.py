@@ -9,8 +9,9 @@ from dataclasses import dataclass
 from typing import Callable, Iterator, Optional, Union
 
 from .cursor import Cursor, Refused
+from .likeness import unknown_word
 from .located_json import NumberText, byte_order
-from .misspellings import nearest, random_names
+from .misspellings import random_names
 from .profile import MOST_NUMBER
 from .shapes import unsupported, wrong_shape
 
@@ -320,20 +321,14 @@ def _unknown(root: Cursor, refusal: Refusal, located: Located) -> Optional[tuple
     """The name that is not known, with the nearest that is."""
     known = _known_names(root, refusal)
     if refusal.part in ("root", "successor"):
-        return located.cursor, _unknown_word(str(located.cursor.path[-1]), known)
+        return located.cursor, unknown_word(str(located.cursor.path[-1]), known)
     keys = ("subproblem", "node", "in", "out", "name", "variable")
     spots = [located.cursor] if located.cursor.is_text() else []
     for at in (located.cursor, located.cursor.find("function") if located.cursor.is_object() else None):
         if at is not None and at.is_object():
             spots.extend(found for found in map(at.find, keys) if found is not None and found.is_text())
     wrong = next((at for at in spots if at.text() not in known), None)
-    return None if wrong is None else (wrong, _unknown_word(wrong.text(), known))
-
-
-def _unknown_word(name: str, known: list[str]) -> str:
-    like = nearest(name, tuple(known))
-    hint = f'; "{like}" is' if like is not None else f"; known are {', '.join(known[:10])}" if known else ""
-    return f'"{name[:140]}" is not known{hint}'
+    return None if wrong is None else (wrong, unknown_word(wrong.text(), known))
 
 
 def _known_names(root: Cursor, refusal: Refusal) -> list[str]:

@@ -4,7 +4,8 @@ import re
 import unittest
 
 from hydroplan_tools.explain_command import explain, main, ring_through
-from hydroplan_tools.misspellings import distance, nearest, warnings
+from hydroplan_tools.likeness import distance, nearest
+from hydroplan_tools.misspellings import warnings
 from hydroplan_tools.places import descend, locate, read_refusal
 from tests.support import EXAMPLES, REPOSITORY, S, cursor, run
 
