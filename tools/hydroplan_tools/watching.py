@@ -41,9 +41,9 @@ def read_check(status: int, output: str, errors: str) -> Look:
 
 
 def run_check(program: Path, journal: Path, problem: Path) -> Look:
-    """Runs `check` on the journal."""
+    """Runs `check` on the journal. A program in the folder at hand is found there, not among the commands of the machine."""
     with problem.open("rb") as source:
-        ended = subprocess.run([str(program), "check", str(journal)], stdin=source, capture_output=True, check=False)
+        ended = subprocess.run([str(program.resolve()), "check", str(journal)], stdin=source, capture_output=True, check=False)
     output, errors = (it.decode("utf-8", "replace") for it in (ended.stdout, ended.stderr))
     return read_check(ended.returncode, output, errors)
 

@@ -1,4 +1,5 @@
 """A journal that grows, looked at by a program of a few lines in place of hydroplan."""
+import os
 import stat
 import sys
 import tempfile
@@ -110,6 +111,14 @@ class Command(unittest.TestCase):
         status, out, err = self.watch("--once", "--last", "2")
         self.assertEqual((status, err), (0, ""))
         self.assertEqual([row.split()[1:] for row in out.splitlines()[1:]], [[".."], ["2", "1", "0.5"], ["3", "1.5", "0.5", "3"]])
+
+    def test_a_program_in_the_folder_at_hand(self):
+        self.journal.write_bytes(b"o")
+        before = os.getcwd()
+        self.addCleanup(os.chdir, before)
+        os.chdir(self.folder)
+        status, out, err = run(main, self.journal, self.problem, "--program", "program", "--once")
+        self.assertEqual((status, err, len(out.splitlines())), (0, "", 2))
 
     def test_a_journal_that_is_refused(self):
         self.journal.write_bytes(b"x")
