@@ -20,7 +20,8 @@ const MOST_TRACE_NUMBERS: u64 = 1 << 22;
 #[derive(Clone, Copy, Debug, PartialEq, Eq)]
 pub struct TooMuch {
     /// The number of the formula: 1 for the numbers of the cuts along a path, 2 for a node's dictionary, 3 for the
-    /// bytes of a record, 4 for the numbers of the traces.
+    /// bytes of a record, 4 for the numbers of the traces, 5 for the branches of a whole policy, 6 for the number over
+    /// which its cost stands, 7 for the size of its costs along a path.
     pub which: u8,
     /// What the formula gives.
     pub value: u64,
@@ -47,7 +48,8 @@ fn successor_total(stop: u32, weights: &[u32]) -> u32
     stop + total(weights)
 }
 
-fn above(which: u8, limit: u64, value: u64) -> Option<TooMuch>
+/// The formula of this number with its value, where the value is above the limit; None where it is not.
+pub fn above(which: u8, limit: u64, value: u64) -> Option<TooMuch>
     ensures { result ≡ above which limit value }
 {
     if limit < value {

@@ -13,54 +13,9 @@ use Rattle.hp_theory.specs.Premises.{StartsIn, RootShaped, HaveCuts}
 use Rattle.hp_theory.specs.Problem.{S, Link, Node, Problem, node_at, link_weights}
 use Rattle.hp_theory.specs.Tree.{InBox, times_all, Forest, no_tree, tree, FeasibleForest}
 use Rattle.hp_theory.proofs.Fractions.{ratio, below_none, below_plus, below_times, below_over, below_less, below_cancel}
+use Rattle.hp_theory.proofs.BoundBelow.{start_in, one_cut, all_cuts}
 use Rattle.hp_theory.specs.declared.cut.Cut.{Cut}
 use Rattle.hp_risk.specs.RiskCost.{risk_cost, risk_costs, risk_policy_cost, RiskSound, RiskUnder}
-
-entry_times : (units : ℕ) (xs : List ℤ) (k : ℕ) → entry (times_all units xs) k ≡ pos units *ℤ entry xs k
-entry_times units [] k = sym (*ℤ-zero (pos units))
-entry_times units (x ∷ xs) zero = refl
-entry_times units (x ∷ xs) (suc k) = entry_times units xs k
-
-length_times : (units : ℕ) (xs : List ℤ) → length (times_all units xs) ≡ length xs
-length_times units [] = refl
-length_times units (x ∷ xs) = ap suc (length_times units xs)
-
-dot_times : (units : ℕ) (bs xs : List ℤ) → dot bs (times_all units xs) ≡ pos units *ℤ dot bs xs
-dot_times units [] xs = sym (*ℤ-zero (pos units))
-dot_times units (b ∷ bs) [] = sym (*ℤ-zero (pos units))
-dot_times units (b ∷ bs) (x ∷ xs) = ap (λ (k : ℤ). b *ℤ (pos units *ℤ x) +ℤ k) (dot_times units bs xs) ∙ ring (b ∷ pos units ∷ x ∷ dot bs xs ∷ []) (var 0 ⊗ (var 1 ⊗ var 2) ⊕ var 1 ⊗ var 3) (var 1 ⊗ (var 0 ⊗ var 2 ⊕ var 3)) tt
-
-start_in : (p : Problem) (units : ℕ) (n : Node) → StartsIn p n → InBox units n.low n.high (times_all units p.initial)
-start_in p units n s = record {
-  count = length_times units p.initial ∙ s.count;
-  above = λ k q. subst (λ (z : ℤ). (pos units *ℤ entry n.low k) ≤ℤ z) (sym (entry_times units p.initial k)) (le_scale units (entry n.low k) (entry p.initial k) (s.lows k q));
-  below = λ k q. subst (λ (z : ℤ). z ≤ℤ (pos units *ℤ entry n.high k)) (sym (entry_times units p.initial k)) (le_scale units (entry p.initial k) (entry n.high k) (s.highs k q));
-}
-
--- one cut's value at the start, without the units
-one_cut : (units : ℕ) (x : List ℤ) (c : Cut) (f : Fraction) → 0 < units → cut_value units (times_all units x) c ≤ᶠ f → ratio (c.alpha +ℤ dot c.beta x) S ≤ᶠ f
-one_cut units x c f z h =
-    below_cancel (c.alpha +ℤ dot c.beta x) S units f z
-    (subst (λ (k : ℕ). ratio (pos units *ℤ (c.alpha +ℤ dot c.beta x)) k ≤ᶠ f) (turn S units)
-    (subst (λ (a : ℤ). ratio a (S * units) ≤ᶠ f) (ap (λ (k : ℤ). c.alpha *ℤ pos units +ℤ k) (dot_times units c.beta x) ∙ ring (c.alpha ∷ pos units ∷ dot c.beta x ∷ []) (var 0 ⊗ var 1 ⊕ var 1 ⊗ var 2) (var 1 ⊗ (var 0 ⊕ var 2)) tt) h))
-  where
-    turn : (s n : ℕ) → s * n ≡ n * s
-    turn s n = omega arith
-
--- the greater of two is one of them
-greater_by : (P : ℤ → Type 0) (x y : ℤ) → P x → P y → P (int_max x y)
-greater_by P x y a b = pick (int_lt y x)
-  where
-    pick : (t : Bool) → P (cond t x y)
-    pick true = a
-    pick false = b
-
-all_cuts : (x : List ℤ) (f : Fraction) (cs : List Cut) → 0 < length cs → All (λ (c : Cut). ratio (c.alpha +ℤ dot c.beta x) S ≤ᶠ f) cs → ratio (greatest cs x) S ≤ᶠ f
-all_cuts x f [] z h = absurd (omega arith)
-all_cuts x f (c ∷ []) z h = All_head (λ (c : Cut). ratio (c.alpha +ℤ dot c.beta x) S ≤ᶠ f) c [] h
-all_cuts x f (c ∷ (d ∷ cs)) z h =
-    greater_by (λ a. ratio a S ≤ᶠ f) (c.alpha +ℤ dot c.beta x) (greatest (d ∷ cs) x) (All_head (λ (c : Cut). ratio (c.alpha +ℤ dot c.beta x) S ≤ᶠ f) c (d ∷ cs) h)
-    (all_cuts x f (d ∷ cs) (omega arith) (All_tail (λ (c : Cut). ratio (c.alpha +ℤ dot c.beta x) S ≤ᶠ f) c (d ∷ cs) h))
 
 roots : (p : Problem) (w : List (List (List ℕ))) (pools : List (List Cut)) (units : ℕ) (ls : List Link) (f : Forest) → 0 < units → RiskSound p w pools → All (λ (l : Link). StartsIn p (node_at p l.node)) ls → HaveCuts pools ls
     → FeasibleForest p units ls (times_all units p.initial) f → ratio (weighted_value pools p.initial ls) S ≤ᶠ weighted (link_weights ls) (risk_costs p w units ls (times_all units p.initial) f)

@@ -18,7 +18,7 @@ use Rattle.hp_theory.specs.Problem.{S, Realization, Link, Node, Problem, node_at
 use Rattle.hp_theory.specs.Tree.{InBox, next_state, Tree, Forest, no_branch, branch, no_tree, tree, FeasibleTree, FeasibleForest}
 use Rattle.hp_theory.proofs.Fractions.{ratio, between, below_none, below_plus, below_times, below_over, below_less, below_cancel}
 use Rattle.hp_theory.proofs.OneStage.{sum_total, total_linear}
-use Rattle.hp_theory.proofs.Duality.{one_stage, scale_some}
+use Rattle.hp_theory.proofs.Duality.{in_next, one_stage, part, parts_total, rounding, scale_some, under_is}
 use Rattle.hp_theory.specs.declared.cut.Cut.{Cut}
 use Rattle.hp_theory.specs.declared.cut.Certificate.{Certificate}
 use Rattle.hp_risk.specs.Listed.{lists_at}
@@ -114,17 +114,6 @@ mutual
       (risks_some p x units ls xi f z w)
 
 -- the successors' trees
-in_next : (units : ℕ) (n m : Node) (u : List ℤ) → Nested n m → InBox units n.decision_low n.decision_high u → InBox units m.low m.high (next_state n u)
-in_next units n m u h b = record {
-  count = length-map n.outs (entry u) ∙ h.count;
-  above = λ k p. let q : k < length n.outs = omega (arith, h.count) in
-      subst (λ (z : ℤ). (pos units *ℤ entry m.low k) ≤ℤ z) (sym (get_or-map (entry u) n.outs k 0 (pos 0) q))
-      (le_trans (pos units *ℤ entry m.low k) (pos units *ℤ entry n.decision_low (get_or n.outs k 0)) (entry u (get_or n.outs k 0)) (le_scale units (entry m.low k) (entry n.decision_low (get_or n.outs k 0)) (h.lows k p)) (b.above (get_or n.outs k 0) (h.outs k p)));
-  below = λ k p. let q : k < length n.outs = omega (arith, h.count) in
-      subst (λ (z : ℤ). z ≤ℤ (pos units *ℤ entry m.high k)) (sym (get_or-map (entry u) n.outs k 0 (pos 0) q))
-      (le_trans (entry u (get_or n.outs k 0)) (pos units *ℤ entry n.decision_high (get_or n.outs k 0)) (pos units *ℤ entry m.high k) (b.below (get_or n.outs k 0) (h.outs k p)) (le_scale units (entry n.decision_high (get_or n.outs k 0)) (entry m.high k) (h.highs k p)));
-}
-
 risks_above : (p : Problem) (x : List (List (List ℕ))) (pools : List (List Cut)) (units : ℕ) (xi : List ℤ) (ls : List Link) (f : Forest) → 0 < units → RiskSound p x pools → All (λ (l : Link). InBox units (node_at p l.node).low (node_at p l.node).high xi) ls
     → FeasibleForest p units ls xi f → AboveCuts pools units xi ls (risk_costs p x units ls xi f)
 risks_above p x pools units xi [] no_tree z s b h = tt
@@ -136,9 +125,6 @@ risks_above p x pools units xi (l ∷ ls) (tree t f) z s b h = (
 )
 
 -- the average by given weights
-abbrev part : List (List Cut) → ℕ → Node → List ℤ → Realization × Certificate → ℤ
-part pools units n xi q = alpha_at pools n q.0.values q.1 *ℤ pos units +ℤ sum_to (length n.state_costs) (λ k. beta_at n q.1 k *ℤ entry xi k)
-
 abbrev stage_scale : Node → ℕ → ℕ
 stage_scale n units = S * S * successor_weight n * units
 
@@ -160,66 +146,6 @@ averaged p x pools units n xi (v ∷ ws) (w ∷ rs) (d ∷ list) (branch u f t) 
     (one_stage pools units n d w.values xi u costs sh.decisions ex (All_head (RightAt pools n) d list r) h.0
     (risks_above p x pools units (next_state n u) n.links f z s (λ k b q. in_next units n (node_at p (get_or n.links k b).node) u (sh.nested k b q) h.0.box) h.1)))
     (averaged p x pools units n xi ws rs list t z s sh ex (omega arith) (omega arith) (All_tail (RightAt pools n) d list r) h.2)
-
--- the rounding
-le_scale_by : (c a b : ℤ) → pos 0 ≤ℤ c → a ≤ℤ b → (c *ℤ a) ≤ℤ (c *ℤ b)
-le_scale_by (pos k) a b h i = le_scale k a b i
-le_scale_by (negsuc k) a b h i = absurd (omega (arith, ints))
-
-sum_minus : (n : ℕ) (d : ℤ) (f g x : ℕ → ℤ) → sum_to n (λ k. (f k -ℤ d *ℤ g k) *ℤ x k) ≡ sum_to n (λ k. f k *ℤ x k) -ℤ d *ℤ sum_to n (λ k. g k *ℤ x k)
-sum_minus zero d f g x = ring (d ∷ []) (num (pos 0)) (num (pos 0) ⊕ ⊖ (var 0 ⊗ num (pos 0))) tt
-sum_minus (suc n) d f g x =
-    ap (λ (k : ℤ). (f 0 -ℤ d *ℤ g 0) *ℤ x 0 +ℤ k) (sum_minus n d (λ k. f (suc k)) (λ k. g (suc k)) (λ k. x (suc k)))
-    ∙ ring (d ∷ f 0 ∷ g 0 ∷ x 0 ∷ sum_to n (λ k. f (suc k) *ℤ x (suc k)) ∷ sum_to n (λ k. g (suc k) *ℤ x (suc k)) ∷ [])
-    ((var 1 ⊕ ⊖ (var 0 ⊗ var 2)) ⊗ var 3 ⊕ (var 4 ⊕ ⊖ (var 0 ⊗ var 5))) (var 1 ⊗ var 3 ⊕ var 4 ⊕ ⊖ (var 0 ⊗ (var 2 ⊗ var 3 ⊕ var 5))) tt
-
-not_below : (a b : ℤ) → a ≤ℤ b → pos 0 ≤ℤ (b -ℤ a)
-not_below a b h = omega (arith, ints)
-
--- plain numbers: l is the sum of r_k lo_k, x that of r_k xi_k
-round_numbers : (d n : ℕ) (a alpha l x b g : ℤ) → (pos d *ℤ alpha) ≤ℤ (a +ℤ l) → (pos n *ℤ l) ≤ℤ x → x ≡ b -ℤ pos d *ℤ g → (pos d *ℤ (alpha *ℤ pos n +ℤ g)) ≤ℤ (a *ℤ pos n +ℤ b)
-round_numbers d n a alpha l x b g h i e =
-    between (pos d *ℤ (alpha *ℤ pos n +ℤ g)) (pos n *ℤ (pos d *ℤ alpha) +ℤ (pos n *ℤ l +ℤ (pos d *ℤ g -ℤ pos n *ℤ l))) (pos n *ℤ (a +ℤ l) +ℤ (x +ℤ (pos d *ℤ g -ℤ pos n *ℤ l))) (a *ℤ pos n +ℤ b)
-    (ring (pos d ∷ alpha ∷ pos n ∷ g ∷ l ∷ []) (var 0 ⊗ (var 1 ⊗ var 2 ⊕ var 3)) (var 2 ⊗ (var 0 ⊗ var 1) ⊕ (var 2 ⊗ var 4 ⊕ (var 0 ⊗ var 3 ⊕ ⊖ (var 2 ⊗ var 4)))) tt)
-    (le_add (pos n *ℤ (pos d *ℤ alpha)) (pos n *ℤ (a +ℤ l)) (pos n *ℤ l +ℤ (pos d *ℤ g -ℤ pos n *ℤ l)) (x +ℤ (pos d *ℤ g -ℤ pos n *ℤ l)) (le_scale n (pos d *ℤ alpha) (a +ℤ l) h)
-    (le_add (pos n *ℤ l) x (pos d *ℤ g -ℤ pos n *ℤ l) (pos d *ℤ g -ℤ pos n *ℤ l) i (le_refl (pos d *ℤ g -ℤ pos n *ℤ l))))
-    (ap (λ (k : ℤ). pos n *ℤ (a +ℤ l) +ℤ (k +ℤ (pos d *ℤ g -ℤ pos n *ℤ l))) e
-    ∙ ring (pos d ∷ a ∷ pos n ∷ g ∷ l ∷ b ∷ []) (var 2 ⊗ (var 1 ⊕ var 4) ⊕ (var 5 ⊕ ⊖ (var 0 ⊗ var 3) ⊕ (var 0 ⊗ var 3 ⊕ ⊖ (var 2 ⊗ var 4)))) (var 1 ⊗ var 2 ⊕ var 5) tt)
-
-rounding : (pools : List (List Cut)) (units : ℕ) (n : Node) (list : List Certificate) (xi : List ℤ) → 0 < divisor n → InBox units n.low n.high xi
-    → (pos (divisor n) *ℤ scaled_value units xi (cut_of pools n list)) ≤ℤ (alpha_sum pools n list *ℤ pos units +ℤ sum_to (length n.low) (λ k. beta_sum n list k *ℤ entry xi k))
-rounding pools units n list xi z b =
-    let a : ℤ = alpha_sum pools n list in
-    let low : ℤ = sum_to (length n.low) (λ k. remainder n list k *ℤ entry n.low k) in
-    let alpha : ℤ = (cut_of pools n list).alpha in
-    subst (λ (g : ℤ). (pos (divisor n) *ℤ (alpha *ℤ pos units +ℤ g)) ≤ℤ (a *ℤ pos units +ℤ sum_to (length n.low) (λ k. beta_sum n list k *ℤ entry xi k))) (sym (dot_table (length n.low) (slope n list) xi))
-    (round_numbers (divisor n) units a alpha low (sum_to (length n.low) (λ k. remainder n list k *ℤ entry xi k)) (sum_to (length n.low) (λ k. beta_sum n list k *ℤ entry xi k)) (sum_to (length n.low) (λ k. slope n list k *ℤ entry xi k))
-    (floor_at_most (a +ℤ low) (divisor n) z)
-    (between (pos units *ℤ low) (sum_to (length n.low) (λ k. pos units *ℤ (remainder n list k *ℤ entry n.low k))) (sum_to (length n.low) (λ k. remainder n list k *ℤ entry xi k)) (sum_to (length n.low) (λ k. remainder n list k *ℤ entry xi k))
-    (sym (sum_times (length n.low) (pos units) (λ k. remainder n list k *ℤ entry n.low k)))
-    (sum_le (length n.low) (λ k. pos units *ℤ (remainder n list k *ℤ entry n.low k)) (λ k. remainder n list k *ℤ entry xi k)
-    (λ k p. between (pos units *ℤ (remainder n list k *ℤ entry n.low k)) (remainder n list k *ℤ (pos units *ℤ entry n.low k)) (remainder n list k *ℤ entry xi k) (remainder n list k *ℤ entry xi k)
-    (ring (pos units ∷ remainder n list k ∷ entry n.low k ∷ []) (var 0 ⊗ (var 1 ⊗ var 2)) (var 1 ⊗ (var 0 ⊗ var 2)) tt)
-    (le_scale_by (remainder n list k) (pos units *ℤ entry n.low k) (entry xi k) (let f : (pos (divisor n) *ℤ slope n list k) ≤ℤ beta_sum n list k = floor_at_most (beta_sum n list k) (divisor n) z in not_below (pos (divisor n) *ℤ slope n list k) (beta_sum n list k) f) (b.above k p))
-    refl))
-    refl)
-    (sum_minus (length n.low) (pos (divisor n)) (beta_sum n list) (slope n list) (entry xi)))
-
--- the averages of a node with given weights
-parts_total : (pools : List (List Cut)) (units : ℕ) (n : Node) (xi : List ℤ) (qs : List (Realization × Certificate))
-    → total (λ (q : Realization × Certificate). pos q.0.weight *ℤ part pools units n xi q) qs
-    ≡ total (λ (q : Realization × Certificate). pos q.0.weight *ℤ alpha_at pools n q.0.values q.1) qs *ℤ pos units +ℤ sum_to (length n.state_costs) (λ k. total (λ (q : Realization × Certificate). pos q.0.weight *ℤ beta_at n q.1 k) qs *ℤ entry xi k)
-parts_total pools units n xi qs =
-    total_linear (pos units) (λ (q : Realization × Certificate). pos q.0.weight *ℤ alpha_at pools n q.0.values q.1) (λ (q : Realization × Certificate). pos q.0.weight *ℤ sum_to (length n.state_costs) (λ k. beta_at n q.1 k *ℤ entry xi k)) (λ (q : Realization × Certificate). pos q.0.weight *ℤ part pools units n xi q) qs
-    (λ q. ring (pos q.0.weight ∷ alpha_at pools n q.0.values q.1 ∷ pos units ∷ sum_to (length n.state_costs) (λ k. beta_at n q.1 k *ℤ entry xi k) ∷ []) (var 0 ⊗ (var 1 ⊗ var 2 ⊕ var 3)) (var 2 ⊗ (var 0 ⊗ var 1) ⊕ var 0 ⊗ var 3) tt)
-    ∙ ap₂ ◌+ℤ◌
-    (ring (pos units ∷ total (λ (q : Realization × Certificate). pos q.0.weight *ℤ alpha_at pools n q.0.values q.1) qs ∷ []) (var 0 ⊗ var 1) (var 1 ⊗ var 0) tt)
-    (sym (sum_total (length n.state_costs) (λ (q : Realization × Certificate) k. pos q.0.weight *ℤ beta_at n q.1 k) (λ (q : Realization × Certificate). pos q.0.weight *ℤ sum_to (length n.state_costs) (λ k. beta_at n q.1 k *ℤ entry xi k)) (entry xi) qs
-    (λ q. sum_ext (length n.state_costs) (λ k. pos q.0.weight *ℤ beta_at n q.1 k *ℤ entry xi k) (λ k. pos q.0.weight *ℤ (beta_at n q.1 k *ℤ entry xi k)) (λ k p. ring (pos q.0.weight ∷ beta_at n q.1 k ∷ entry xi k ∷ []) (var 0 ⊗ var 1 ⊗ var 2) (var 0 ⊗ (var 1 ⊗ var 2)) tt)
-    ∙ sum_times (length n.state_costs) (pos q.0.weight) (λ k. beta_at n q.1 k *ℤ entry xi k))))
-
-under_is : (s q n w : ℕ) → s * s * q * n * w ≡ s * q * w * (s * n)
-under_is s q n w = omega arith
 
 -- W of given weights is their sum
 pub weight-reweighted : (ws : List ℕ) (rs : List Realization) → length ws ≡ length rs → weight_of_realizations (reweighted ws rs) ≡ sum ws

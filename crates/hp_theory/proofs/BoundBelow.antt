@@ -30,7 +30,7 @@ dot_times units [] xs = sym (*ℤ-zero (pos units))
 dot_times units (b ∷ bs) [] = sym (*ℤ-zero (pos units))
 dot_times units (b ∷ bs) (x ∷ xs) = ap (λ (k : ℤ). b *ℤ (pos units *ℤ x) +ℤ k) (dot_times units bs xs) ∙ ring (b ∷ pos units ∷ x ∷ dot bs xs ∷ []) (var 0 ⊗ (var 1 ⊗ var 2) ⊕ var 1 ⊗ var 3) (var 1 ⊗ (var 0 ⊗ var 2 ⊕ var 3)) tt
 
-start_in : (p : Problem) (units : ℕ) (n : Node) → StartsIn p n → InBox units n.low n.high (times_all units p.initial)
+pub start_in : (p : Problem) (units : ℕ) (n : Node) → StartsIn p n → InBox units n.low n.high (times_all units p.initial)
 start_in p units n s = record {
   count = length_times units p.initial ∙ s.count;
   above = λ k q. subst (λ (z : ℤ). (pos units *ℤ entry n.low k) ≤ℤ z) (sym (entry_times units p.initial k)) (le_scale units (entry n.low k) (entry p.initial k) (s.lows k q));
@@ -38,7 +38,7 @@ start_in p units n s = record {
 }
 
 -- one cut's value at the start, without the units
-one_cut : (units : ℕ) (x : List ℤ) (c : Cut) (f : Fraction) → 0 < units → cut_value units (times_all units x) c ≤ᶠ f → ratio (c.alpha +ℤ dot c.beta x) S ≤ᶠ f
+pub one_cut : (units : ℕ) (x : List ℤ) (c : Cut) (f : Fraction) → 0 < units → cut_value units (times_all units x) c ≤ᶠ f → ratio (c.alpha +ℤ dot c.beta x) S ≤ᶠ f
 one_cut units x c f z h =
     below_cancel (c.alpha +ℤ dot c.beta x) S units f z
     (subst (λ (k : ℕ). ratio (pos units *ℤ (c.alpha +ℤ dot c.beta x)) k ≤ᶠ f) (turn S units)
@@ -55,7 +55,7 @@ greater_by P x y a b = pick (int_lt y x)
     pick true = a
     pick false = b
 
-all_cuts : (x : List ℤ) (f : Fraction) (cs : List Cut) → 0 < length cs → All (λ (c : Cut). ratio (c.alpha +ℤ dot c.beta x) S ≤ᶠ f) cs → ratio (greatest cs x) S ≤ᶠ f
+pub all_cuts : (x : List ℤ) (f : Fraction) (cs : List Cut) → 0 < length cs → All (λ (c : Cut). ratio (c.alpha +ℤ dot c.beta x) S ≤ᶠ f) cs → ratio (greatest cs x) S ≤ᶠ f
 all_cuts x f [] z h = absurd (omega arith)
 all_cuts x f (c ∷ []) z h = All_head (λ (c : Cut). ratio (c.alpha +ℤ dot c.beta x) S ≤ᶠ f) c [] h
 all_cuts x f (c ∷ (d ∷ cs)) z h =

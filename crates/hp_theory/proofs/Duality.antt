@@ -75,7 +75,7 @@ one_stage pools units n c values xi u fs e ex r d h =
     }))
 
 -- the successors' trees
-in_next : (units : ℕ) (n m : Node) (u : List ℤ) → Nested n m → InBox units n.decision_low n.decision_high u → InBox units m.low m.high (next_state n u)
+pub in_next : (units : ℕ) (n m : Node) (u : List ℤ) → Nested n m → InBox units n.decision_low n.decision_high u → InBox units m.low m.high (next_state n u)
 in_next units n m u h b = record {
   count = length-map n.outs (entry u) ∙ h.count;
   above = λ k p. let q : k < length n.outs = omega (arith, h.count) in
@@ -97,7 +97,7 @@ costs_above p pools units x (l ∷ ls) (tree t f) z s b h = (
 )
 
 -- the average
-abbrev part : List (List Cut) → ℕ → Node → List ℤ → Realization × Certificate → ℤ
+abbrev pub part : List (List Cut) → ℕ → Node → List ℤ → Realization × Certificate → ℤ
 part pools units n xi q = alpha_at pools n q.0.values q.1 *ℤ pos units +ℤ sum_to (length n.state_costs) (λ k. beta_at n q.1 k *ℤ entry xi k)
 
 average : (p : Problem) (pools : List (List Cut)) (units : ℕ) (n : Node) (xi : List ℤ) (rs : List Realization) (list : List Certificate) (t : Tree) → 0 < units → Sound p pools → Shaped p n → length xi ≡ length n.state_costs
@@ -140,7 +140,7 @@ round_numbers d n a alpha l x b g h i e =
     (ap (λ (k : ℤ). pos n *ℤ (a +ℤ l) +ℤ (k +ℤ (pos d *ℤ g -ℤ pos n *ℤ l))) e
     ∙ ring (pos d ∷ a ∷ pos n ∷ g ∷ l ∷ b ∷ []) (var 2 ⊗ (var 1 ⊕ var 4) ⊕ (var 5 ⊕ ⊖ (var 0 ⊗ var 3) ⊕ (var 0 ⊗ var 3 ⊕ ⊖ (var 2 ⊗ var 4)))) (var 1 ⊗ var 2 ⊕ var 5) tt)
 
-rounding : (pools : List (List Cut)) (units : ℕ) (n : Node) (list : List Certificate) (xi : List ℤ) → 0 < divisor n → InBox units n.low n.high xi
+pub rounding : (pools : List (List Cut)) (units : ℕ) (n : Node) (list : List Certificate) (xi : List ℤ) → 0 < divisor n → InBox units n.low n.high xi
     → (pos (divisor n) *ℤ scaled_value units xi (cut_of pools n list)) ≤ℤ (alpha_sum pools n list *ℤ pos units +ℤ sum_to (length n.low) (λ k. beta_sum n list k *ℤ entry xi k))
 rounding pools units n list xi z b =
     let a : ℤ = alpha_sum pools n list in
@@ -160,7 +160,7 @@ rounding pools units n list xi z b =
     (sum_minus (length n.low) (pos (divisor n)) (beta_sum n list) (slope n list) (entry xi)))
 
 -- weak duality
-parts_total : (pools : List (List Cut)) (units : ℕ) (n : Node) (xi : List ℤ) (qs : List (Realization × Certificate))
+pub parts_total : (pools : List (List Cut)) (units : ℕ) (n : Node) (xi : List ℤ) (qs : List (Realization × Certificate))
     → total (λ (q : Realization × Certificate). pos q.0.weight *ℤ part pools units n xi q) qs
     ≡ total (λ (q : Realization × Certificate). pos q.0.weight *ℤ alpha_at pools n q.0.values q.1) qs *ℤ pos units +ℤ sum_to (length n.state_costs) (λ k. total (λ (q : Realization × Certificate). pos q.0.weight *ℤ beta_at n q.1 k) qs *ℤ entry xi k)
 parts_total pools units n xi qs =
@@ -172,7 +172,7 @@ parts_total pools units n xi qs =
     (λ q. sum_ext (length n.state_costs) (λ k. pos q.0.weight *ℤ beta_at n q.1 k *ℤ entry xi k) (λ k. pos q.0.weight *ℤ (beta_at n q.1 k *ℤ entry xi k)) (λ k p. ring (pos q.0.weight ∷ beta_at n q.1 k ∷ entry xi k ∷ []) (var 0 ⊗ var 1 ⊗ var 2) (var 0 ⊗ (var 1 ⊗ var 2)) tt)
     ∙ sum_times (length n.state_costs) (pos q.0.weight) (λ k. beta_at n q.1 k *ℤ entry xi k))))
 
-under_is : (s q n w : ℕ) → s * s * q * n * w ≡ s * q * w * (s * n)
+pub under_is : (s q n w : ℕ) → s * s * q * n * w ≡ s * q * w * (s * n)
 under_is s q n w = omega arith
 
 pub scale_some : 0 < S

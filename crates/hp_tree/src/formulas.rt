@@ -1,12 +1,12 @@
 // The formulas that bound what goes through a whole policy.
 ghost use Rattle.std.specs.Prelude.{◌≡◌, IfOk};
-ghost use Rattle.hp_problem.specs.Formulas.{above};
 ghost use Rattle.hp_tree.specs.TooBig.{too_big_of};
 
 use crate::branch_counts::branch_count;
 use crate::denominators::root_denominator;
 use crate::stage_sizes::path_size;
 use hp_num::Memory;
+use hp_problem::formulas::above;
 use hp_problem::{Problem, TooMuch};
 use std::alloc::Global;
 
@@ -15,16 +15,6 @@ const MOST_BRANCHES: u64 = 1 << 16;
 const MOST_DENOMINATOR: u64 = 1 << 40;
 
 const MOST_SIZE: u64 = 1 << 60;
-
-fn above(which: u8, limit: u64, value: u64) -> Option<TooMuch>
-    ensures { result ≡ above which limit value }
-{
-    if limit < value {
-        Some(TooMuch { which, value })
-    } else {
-        None
-    }
-}
 
 /// The first of formulas 5 to 7 that is above its limit for a whole policy of a problem: its branches, above 2^16, where
 /// `value` stops at 2^32; the number over which its cost stands, above 2^40, where `value` stops at 2^41; and the number
