@@ -20,6 +20,7 @@ use Rattle.hp_backward.specs.Certifying.{values_at}
 -- the values of the node m: one list per realization, at most 100, each of the node's random variables
 pub record NodeValues (p : Sealed) (m : ℕ) (values : List (List ℤ)) : Type 0 where
   pub fit : All (λ own. are_values (subproblem_of p m) own ≡ true) values
+  pub some : 0 < length values
   pub few : length values ≤ 100
   pub count : length values ≡ length (node_at (problem_of p) m).realizations
 
@@ -38,6 +39,7 @@ values_here p m e h =
     subst (NodeValues p m) (sym at)
     (record {
       fit = λ i d l. subst (λ (o : Option Subproblem). are_values o (get_or n.values i d) ≡ true) (sym sub) (all_at (are_numbers (length s.randoms)) n.values i d (numbers n (length s.randoms) q.fit.realizations) l);
+      some = omega (arith, w.0, w.3);
       few = omega (arith, w.1, w.3);
       count = omega (arith, ap (λ (k : List Realization). length k) rs, length-map {B = Realization} (zip n.weights n.values) (λ (r : ℕ × List ℤ). record { weight = r.0; values = r.1 }), length-zip n.weights n.values, w.3);
     })

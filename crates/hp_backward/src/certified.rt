@@ -1,19 +1,22 @@
 // Certificates of a node's realizations, from a solver's answers.
-ghost use Rattle.std.specs.Prelude.{◌≡◌, ◌+◌, ◌<◌, ◌≤◌, ◌-◌, ◌^◌, length, IfOk};
+ghost use Rattle.std.specs.Prelude.{◌≡◌, ◌+◌, ◌<◌, ◌≤◌, ◌-◌, ◌^◌, true, length, IfOk};
+ghost use Rattle.hp_problem.specs.Limits.{are_values};
+ghost use Rattle.hp_problem.specs.Sealed.{subproblem_of};
 ghost use Rattle.hp_num.specs.Steps.{GivesOr};
 ghost use Rattle.hp_theory.specs.Problem.{node_at};
 ghost use Rattle.hp_theory.specs.View.{problem_of};
 ghost use Rattle.hp_theory.specs.Fit.{Fit};
 ghost use Rattle.hp_backward.specs.Sweeping.{Stops};
 ghost use Rattle.hp_backward.specs.Certifying.{certify, nothing};
+ghost use Rattle.hp_backward.specs.Given.{CanVisit, IsStageOver};
 
 use crate::fault::SweepFault;
 use hp_cut::Pools;
-use hp_lp::Starts;
+use hp_lp::{Starts, stage};
 use hp_num::{List, Memory};
 use hp_problem::Problem;
 use hp_settle::{Dead, Judged, judge, settle};
-use hp_solver::{Answer, Solver};
+use hp_solver::{Answer, Solver, StageLp};
 use hp_theory::Certificate;
 use std::alloc::Global;
 
@@ -62,6 +65,22 @@ fn copied<T: Copy + Drop>(alloc: Global, items: &[T]) -> Result<List<T>, Memory>
 }
 
 impl<'a, V: Solver> Visit<'a, V> {
+    /// The stage problem of the node at these values.
+    pub(crate) fn stage(&self, alloc: Global, values: &[i64]) -> Result<StageLp, Memory>
+        requires visit { CanVisit (V.started self.now.solver.now) (V.suits self.now.solver.now) self.now.problem.now self.now.starts.now.items self.now.pools.now.lists self.now.node self.now.state.now }
+        requires values { are_values (subproblem_of self.now.problem.now self.now.node) values.now ≡ true }
+        ensures stage { IfOk result (IsStageOver self.now.problem.now self.now.pools.now.lists self.now.node) }
+    {
+        stage(
+            alloc,
+            self.problem,
+            self.pools,
+            self.node,
+            values,
+            self.state,
+        )
+    }
+
     /// The node without decisions at these values, as these rows show.
     fn dead(&self, alloc: Global, values: &[i64], rows: List<i64>) -> Result<Dead, Memory>
         ensures { IfOk result (λ dead. dead ≡ record { run = self.now.iteration; node = self.now.node; values = values.now; state = self.now.state.now; rows = rows }) }

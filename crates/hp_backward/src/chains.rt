@@ -1,5 +1,5 @@
 // Realizations of a node, solved one after another in a chain.
-ghost use Rattle.std.specs.Prelude.{◌≡◌, ◌+◌, ◌<◌, ◌≤◌, ◌^◌, ℤ, true, List, length, map, get_or, All, IfOk};
+ghost use Rattle.std.specs.Prelude.{◌≡◌, ◌+◌, ◌<◌, ◌≤◌, ◌^◌, ℤ, true, List, length, map, get_or, All, IfOk, OnOk};
 ghost use Rattle.hp_num.specs.Steps.{GivesOr};
 ghost use Rattle.hp_problem.specs.Limits.{are_values};
 ghost use Rattle.hp_problem.specs.Sealed.{is_sealed, subproblem_of};
@@ -16,7 +16,7 @@ ghost use Rattle.hp_backward.specs.Given.{CanVisit, IsStageOver};
 use crate::certified::{Certified, Visit};
 use crate::fault::SweepFault;
 use hp_cut::Pools;
-use hp_lp::{Starts, restate, stage};
+use hp_lp::{Starts, restate};
 use hp_num::List;
 use hp_problem::Problem;
 use hp_solver::{Solver, StageLp};
@@ -27,31 +27,58 @@ fn certify_in_chain<V: Solver>(
     alloc: Global,
     here: &Visit<V>,
     values: &[List<i64>],
-    lp: StageLp,
+    lp: &mut StageLp,
     chain: V::Chain,
 ) -> Result<Certified, SweepFault>
     requires visit { CanVisit (V.started here.now.solver.now) (V.suits here.now.solver.now) here.now.problem.now here.now.starts.now.items here.now.pools.now.lists here.now.node here.now.state.now }
     requires values { All (λ own. are_values (subproblem_of here.now.problem.now here.now.node) own ≡ true) values.now }
     requires few { length values.now ≤ 100 }
-    requires stage { IsStageOver here.now.problem.now here.now.pools.now.lists here.now.node lp }
-    requires fits { (other : StageLp) → IsLike lp other → V.fits here.now.solver.now chain other }
+    requires stage { IsStageOver here.now.problem.now here.now.pools.now.lists here.now.node lp.old }
+    requires fits { (other : StageLp) → IsLike lp.old other → V.fits here.now.solver.now chain other }
+    ensures stage { OnOk result (IsStageOver here.now.problem.now here.now.pools.now.lists here.now.node lp.new) }
     ensures value { GivesOr Stops (λ found. found) result
         (certify_all (certify here.now.pools.now.lists (node_at (problem_of here.now.problem.now) here.now.node) here.now.iteration here.now.node here.now.state.now) nothing values.now
         (answers (V.next here.now.solver.now) chain (map (λ (own : List ℤ). stage_at here.now.problem.now here.now.pools.now.lists here.now.node own here.now.state.now) values.now))) }
     ensures few { IfOk result (λ found. found.unsettled ≤ length values.now) }
 {
-    let mut lp = lp;
     let mut chain = chain;
     let mut found = Certified::nothing(alloc);
     for own in values {
-        restate(here.problem, here.node, own.as_slice(), here.state, &mut lp);
-        let answer = here.solver.solve(alloc, &mut chain, &lp)?;
+        restate(here.problem, here.node, own.as_slice(), here.state, lp);
+        let answer = here.solver.solve(alloc, &mut chain, lp)?;
         here.certify(alloc, own.as_slice(), &answer, &mut found)?;
     }
     Ok(found)
 }
 
-/// The realizations with these values, in a chain of their own. Without values nothing is begun.
+/// The realizations with these values, in a chain of their own, by a stage problem of the node over these pools: its sides
+/// are set anew for each. Without values nothing is begun.
+pub(crate) fn certify_over<V: Solver>(
+    alloc: Global,
+    here: &Visit<V>,
+    values: &[List<i64>],
+    lp: &mut StageLp,
+) -> Result<Certified, SweepFault>
+    requires visit { CanVisit (V.started here.now.solver.now) (V.suits here.now.solver.now) here.now.problem.now here.now.starts.now.items here.now.pools.now.lists here.now.node here.now.state.now }
+    requires values { All (λ own. are_values (subproblem_of here.now.problem.now here.now.node) own ≡ true) values.now }
+    requires few { length values.now ≤ 100 }
+    requires stage { IsStageOver here.now.problem.now here.now.pools.now.lists here.now.node lp.old }
+    ensures stage { OnOk result (IsStageOver here.now.problem.now here.now.pools.now.lists here.now.node lp.new) }
+    ensures value { GivesOr Stops (λ found. found) result
+        (in_chain (solving (V.started here.now.solver.now) (V.begun here.now.solver.now) (V.next here.now.solver.now)) here.now.problem.now here.now.pools.now.lists here.now.iteration here.now.node here.now.state.now values.now) }
+    ensures few { IfOk result (λ found. found.unsettled ≤ length values.now) }
+{
+    let Some(first) = values.first() else {
+        return Ok(Certified::nothing(alloc));
+    };
+    restate(here.problem, here.node, first.as_slice(), here.state, lp);
+    let chain = here
+        .starts
+        .begin(alloc, here.problem, here.solver, here.node, lp)?;
+    certify_in_chain(alloc, here, values, lp, chain)
+}
+
+/// The same with a stage problem of its own.
 pub(crate) fn certify_each<V: Solver>(
     alloc: Global,
     problem: &Problem,
@@ -73,8 +100,6 @@ pub(crate) fn certify_each<V: Solver>(
     let Some(first) = values.first() else {
         return Ok(Certified::nothing(alloc));
     };
-    let lp = stage(alloc, problem, pools, node, first.as_slice(), state)?;
-    let chain = starts.begin(alloc, problem, solver, node, &lp)?;
     let here = Visit {
         problem,
         pools,
@@ -84,5 +109,6 @@ pub(crate) fn certify_each<V: Solver>(
         node,
         state,
     };
-    certify_in_chain(alloc, &here, values, lp, chain)
+    let mut lp = here.stage(alloc, first.as_slice())?;
+    certify_over(alloc, &here, values, &mut lp)
 }

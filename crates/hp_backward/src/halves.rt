@@ -7,17 +7,15 @@ ghost use Rattle.hp_problem.specs.Limits.{are_values};
 ghost use Rattle.hp_problem.specs.Sealed.{subproblem_of};
 ghost use Rattle.hp_backward.specs.Certifying.{both, certified, first_half, in_chain, in_order, second_half, values_at};
 ghost use Rattle.hp_backward.specs.Sweeping.{Stops};
-ghost use Rattle.hp_backward.specs.Given.{CanVisit};
+ghost use Rattle.hp_backward.specs.Given.{CanVisit, IsStageOver};
 ghost use Rattle.hp_lp.specs.Chained.{solving};
 
-use crate::certified::Certified;
-use crate::chains::certify_each;
+use crate::certified::{Certified, Visit};
+use crate::chains::{certify_each, certify_over};
 use crate::fault::SweepFault;
-use hp_cut::Pools;
-use hp_lp::Starts;
 use hp_num::{List, Memory};
 use hp_problem::Problem;
-use hp_solver::Solver;
+use hp_solver::{Solver, StageLp};
 use std::alloc::Global;
 use std::thread::{Threads, join};
 
@@ -26,6 +24,7 @@ fn values_of(problem: &Problem, node: u32) -> &[List<i64>]
     requires { node < length problem.now.raw.nodes }
     ensures value { result.now ≡ values_at problem.now.raw node }
     ensures fit { All (λ own. are_values (subproblem_of problem.now node) own ≡ true) result.now }
+    ensures some { 0 < length result.now }
     ensures few { length result.now ≤ 100 }
 {
     problem.raw().nodes.as_slice()[node as usize]
@@ -33,16 +32,12 @@ fn values_of(problem: &Problem, node: u32) -> &[List<i64>]
         .as_slice()
 }
 
-/// The values of a node's realizations, up to their middle, rounded down, and from there on.
-fn halves(problem: &Problem, node: u32) -> (&[List<i64>], &[List<i64>])
-    requires { node < length problem.now.raw.nodes }
-    ensures first { result.0.now ≡ first_half (values_at problem.now.raw node) }
-    ensures second { result.1.now ≡ second_half (values_at problem.now.raw node) }
-    ensures first_fit { All (λ own. are_values (subproblem_of problem.now node) own ≡ true) result.0.now }
-    ensures second_fit { All (λ own. are_values (subproblem_of problem.now node) own ≡ true) result.1.now }
-    ensures few { length result.0.now + length result.1.now ≤ 100 }
+/// A list up to its middle, rounded down, and from there on.
+fn halves(values: &[List<i64>]) -> (&[List<i64>], &[List<i64>])
+    ensures first { result.0.now ≡ first_half values.now }
+    ensures second { result.1.now ≡ second_half values.now }
+    ensures whole { length result.0.now + length result.1.now ≡ length values.now }
 {
-    let values = values_of(problem, node);
     values.split_at(values.len() / 2)
 }
 
@@ -74,24 +69,25 @@ fn both(
     Ok(joined(first?, second?)?)
 }
 
-/// The certificates of a node's realizations: the first half in one chain, the rest in another, beside each other.
-pub(crate) fn certified<R: Threads, V: Solver>(
+/// The certificates of two parts of a node's realizations, each in a chain of its own, the chains beside each other.
+fn beside_each_other<R: Threads, V: Solver>(
     rt: &R,
     alloc: Global,
-    problem: &Problem,
-    pools: &Pools,
-    solver: &V,
-    starts: &Starts<V>,
-    iteration: u32,
-    node: u32,
-    state: &[i128],
+    here: &Visit<V>,
+    left: &[List<i64>],
+    right: &[List<i64>],
 ) -> Result<Certified, SweepFault>
-    requires { CanVisit (V.started solver.now) (V.suits solver.now) problem.now starts.now.items pools.now.lists node state.now }
-    ensures value { GivesOr Stops (λ found. found) result
-        (certified (solving (V.started solver.now) (V.begun solver.now) (V.next solver.now)) problem.now pools.now.lists iteration node state.now) }
+    requires visit { CanVisit (V.started here.now.solver.now) (V.suits here.now.solver.now) here.now.problem.now here.now.starts.now.items here.now.pools.now.lists here.now.node here.now.state.now }
+    requires left { All (λ own. are_values (subproblem_of here.now.problem.now here.now.node) own ≡ true) left.now }
+    requires right { All (λ own. are_values (subproblem_of here.now.problem.now here.now.node) own ≡ true) right.now }
+    requires few { length left.now + length right.now ≤ 100 }
+    ensures value { GivesOr Stops (λ found. found) result (in_order
+        (in_chain (solving (V.started here.now.solver.now) (V.begun here.now.solver.now) (V.next here.now.solver.now)) here.now.problem.now here.now.pools.now.lists here.now.iteration here.now.node here.now.state.now left.now)
+        (in_chain (solving (V.started here.now.solver.now) (V.begun here.now.solver.now) (V.next here.now.solver.now)) here.now.problem.now here.now.pools.now.lists here.now.iteration here.now.node here.now.state.now right.now)) }
     ensures few { IfOk result (λ found. found.unsettled ≤ 100) }
 {
-    let (left, right) = halves(problem, node);
+    let (problem, pools, solver) = (here.problem, here.pools, here.solver);
+    let (starts, iteration, node, state) = (here.starts, here.iteration, here.node, here.state);
     let (first, second) = join(
         rt,
         || -> Result<Certified, SweepFault>
@@ -120,4 +116,72 @@ pub(crate) fn certified<R: Threads, V: Solver>(
         },
     );
     both(first, second)
+}
+
+/// The same, the chains one after the other, over one stage problem.
+fn one_after_the_other<V: Solver>(
+    alloc: Global,
+    here: &Visit<V>,
+    left: &[List<i64>],
+    right: &[List<i64>],
+    lp: &mut StageLp,
+) -> Result<Certified, SweepFault>
+    requires visit { CanVisit (V.started here.now.solver.now) (V.suits here.now.solver.now) here.now.problem.now here.now.starts.now.items here.now.pools.now.lists here.now.node here.now.state.now }
+    requires left { All (λ own. are_values (subproblem_of here.now.problem.now here.now.node) own ≡ true) left.now }
+    requires right { All (λ own. are_values (subproblem_of here.now.problem.now here.now.node) own ≡ true) right.now }
+    requires few { length left.now + length right.now ≤ 100 }
+    requires stage { IsStageOver here.now.problem.now here.now.pools.now.lists here.now.node lp.old }
+    ensures value { GivesOr Stops (λ found. found) result (in_order
+        (in_chain (solving (V.started here.now.solver.now) (V.begun here.now.solver.now) (V.next here.now.solver.now)) here.now.problem.now here.now.pools.now.lists here.now.iteration here.now.node here.now.state.now left.now)
+        (in_chain (solving (V.started here.now.solver.now) (V.begun here.now.solver.now) (V.next here.now.solver.now)) here.now.problem.now here.now.pools.now.lists here.now.iteration here.now.node here.now.state.now right.now)) }
+    ensures few { IfOk result (λ found. found.unsettled ≤ 100) }
+{
+    let first = certify_over(alloc, here, left, lp)?;
+    let second = certify_over(alloc, here, right, lp)?;
+    Ok(joined(first, second)?)
+}
+
+/// The same, beside each other where that is worth a thread, by a stage problem of the node.
+fn in_two_chains<R: Threads, V: Solver>(
+    rt: &R,
+    alloc: Global,
+    here: &Visit<V>,
+    left: &[List<i64>],
+    right: &[List<i64>],
+    lp: StageLp,
+) -> Result<Certified, SweepFault>
+    requires visit { CanVisit (V.started here.now.solver.now) (V.suits here.now.solver.now) here.now.problem.now here.now.starts.now.items here.now.pools.now.lists here.now.node here.now.state.now }
+    requires left { All (λ own. are_values (subproblem_of here.now.problem.now here.now.node) own ≡ true) left.now }
+    requires right { All (λ own. are_values (subproblem_of here.now.problem.now here.now.node) own ≡ true) right.now }
+    requires few { length left.now + length right.now ≤ 100 }
+    requires stage { IsStageOver here.now.problem.now here.now.pools.now.lists here.now.node lp }
+    ensures value { GivesOr Stops (λ found. found) result (in_order
+        (in_chain (solving (V.started here.now.solver.now) (V.begun here.now.solver.now) (V.next here.now.solver.now)) here.now.problem.now here.now.pools.now.lists here.now.iteration here.now.node here.now.state.now left.now)
+        (in_chain (solving (V.started here.now.solver.now) (V.begun here.now.solver.now) (V.next here.now.solver.now)) here.now.problem.now here.now.pools.now.lists here.now.iteration here.now.node here.now.state.now right.now)) }
+    ensures few { IfOk result (λ found. found.unsettled ≤ 100) }
+{
+    let mut lp = lp;
+    if here.solver.worth_a_thread(&lp, left.len() + right.len()) {
+        beside_each_other(rt, alloc, here, left, right)
+    } else {
+        one_after_the_other(alloc, here, left, right, &mut lp)
+    }
+}
+
+/// The certificates of a node's realizations: the first half in one chain, the rest in another. The chains go beside each
+/// other where that is worth a thread; the answer is the same.
+pub(crate) fn certified<R: Threads, V: Solver>(
+    rt: &R,
+    alloc: Global,
+    here: &Visit<V>,
+) -> Result<Certified, SweepFault>
+    requires { CanVisit (V.started here.now.solver.now) (V.suits here.now.solver.now) here.now.problem.now here.now.starts.now.items here.now.pools.now.lists here.now.node here.now.state.now }
+    ensures value { GivesOr Stops (λ found. found) result
+        (certified (solving (V.started here.now.solver.now) (V.begun here.now.solver.now) (V.next here.now.solver.now)) here.now.problem.now here.now.pools.now.lists here.now.iteration here.now.node here.now.state.now) }
+    ensures few { IfOk result (λ found. found.unsettled ≤ 100) }
+{
+    let values = values_of(here.problem, here.node);
+    let (left, right) = halves(values);
+    let lp = here.stage(alloc, values[0].as_slice())?;
+    in_two_chains(rt, alloc, here, left, right, lp)
 }

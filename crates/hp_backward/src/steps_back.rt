@@ -92,17 +92,7 @@ fn made_at<R: Threads, V: Solver>(
     ensures holds { IfOk result (λ made. Sound (problem_of here.now.problem.now) here.now.pools.now.lists → Holds (problem_of here.now.problem.now) here.now.node made.1) }
 {
     let _ = here.problem.raw();
-    let found = certified(
-        rt,
-        alloc,
-        here.problem,
-        here.pools,
-        here.solver,
-        here.starts,
-        here.iteration,
-        here.node,
-        here.state,
-    )?;
+    let found = certified(rt, alloc, here)?;
     let cut = cut_of(alloc, here, found.list.as_slice())?;
     Ok((found, cut))
 }

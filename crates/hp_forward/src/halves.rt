@@ -75,8 +75,66 @@ fn in_turn(
     Ok(joined(first?, rest?)?)
 }
 
+/// The walks along paths, the first half of them, rounded down, beside the rest.
+fn states_beside<R: Threads + Sync, V: Solver>(
+    rt: &R,
+    alloc: Global,
+    problem: &Problem,
+    pools: &Pools,
+    solver: &V,
+    starts: &Starts<V>,
+    run: u32,
+    paths: &[List<Step>],
+) -> Result<List<Walk>, StageFault>
+    requires paths { All (IsPath problem.now) paths.now }
+    requires fit { Fit (problem_of problem.now) (length problem.now.raw.nodes) pools.now.lists }
+    requires ready { AreReady (V.started solver.now) (V.suits solver.now) problem.now starts.now.items }
+    ensures { Gives result (walks_of (solving (V.started solver.now) (V.begun solver.now) (V.next solver.now)) problem.now pools.now.lists run paths.now) }
+{
+    let (front, back) = split(problem, paths);
+    let (first, rest) = join(
+        rt,
+        || -> Result<List<Walk>, StageFault>
+            requires paths { All (IsPath problem.now) front.now }
+            requires fit { Fit (problem_of problem.now) (length problem.now.raw.nodes) pools.now.lists }
+            requires ready { AreReady (V.started solver.now) (V.suits solver.now) problem.now starts.now.items }
+            ensures { Gives result (walks_of (solving (V.started solver.entry.now) (V.begun solver.entry.now) (V.next solver.entry.now)) problem.entry.now pools.entry.now.lists run front.entry.now) }
+        { states_each(alloc, problem, pools, solver, starts, run, front) },
+        || -> Result<List<Walk>, StageFault>
+            requires paths { All (IsPath problem.now) back.now }
+            requires fit { Fit (problem_of problem.now) (length problem.now.raw.nodes) pools.now.lists }
+            requires ready { AreReady (V.started solver.now) (V.suits solver.now) problem.now starts.now.items }
+            ensures { Gives result (walks_of (solving (V.started solver.entry.now) (V.begun solver.entry.now) (V.next solver.entry.now)) problem.entry.now pools.entry.now.lists run back.entry.now) }
+        { states_each(alloc, problem, pools, solver, starts, run, back) },
+    );
+    in_turn(first, rest)
+}
+
+/// The walks along paths. One path alone is walked on no other thread.
+fn states_of<R: Threads + Sync, V: Solver>(
+    rt: &R,
+    alloc: Global,
+    problem: &Problem,
+    pools: &Pools,
+    solver: &V,
+    starts: &Starts<V>,
+    run: u32,
+    paths: &[List<Step>],
+) -> Result<List<Walk>, StageFault>
+    requires paths { All (IsPath problem.now) paths.now }
+    requires fit { Fit (problem_of problem.now) (length problem.now.raw.nodes) pools.now.lists }
+    requires ready { AreReady (V.started solver.now) (V.suits solver.now) problem.now starts.now.items }
+    ensures { Gives result (walks_of (solving (V.started solver.now) (V.begun solver.now) (V.next solver.now)) problem.now pools.now.lists run paths.now) }
+{
+    if paths.len() < 2 {
+        states_each(alloc, problem, pools, solver, starts, run, paths)
+    } else {
+        states_beside(rt, alloc, problem, pools, solver, starts, run, paths)
+    }
+}
+
 /// The walks of [`states`] along each of these paths, in their order. The first half of the paths, rounded down, and the
-/// rest are walked beside each other; the answer is that of one path after another.
+/// rest are walked beside each other, one path alone on no other thread; the answer is that of one path after another.
 ///
 /// Each path is one of the problem's graph, and what is ready was made for this problem and this solver.
 ///
@@ -99,21 +157,5 @@ pub fn states_all<R: Threads + Sync, V: Solver>(
     ensures dead { OnNoStage result (Refutes problem.now) }
 {
     let _ = problem.raw();
-    let (front, back) = split(problem, paths);
-    let (first, rest) = join(
-        rt,
-        || -> Result<List<Walk>, StageFault>
-            requires paths { All (IsPath problem.now) front.now }
-            requires fit { Fit (problem_of problem.now) (length problem.now.raw.nodes) pools.now.lists }
-            requires ready { AreReady (V.started solver.now) (V.suits solver.now) problem.now starts.now.items }
-            ensures { Gives result (walks_of (solving (V.started solver.entry.now) (V.begun solver.entry.now) (V.next solver.entry.now)) problem.entry.now pools.entry.now.lists run front.entry.now) }
-        { states_each(alloc, problem, pools, solver, starts, run, front) },
-        || -> Result<List<Walk>, StageFault>
-            requires paths { All (IsPath problem.now) back.now }
-            requires fit { Fit (problem_of problem.now) (length problem.now.raw.nodes) pools.now.lists }
-            requires ready { AreReady (V.started solver.now) (V.suits solver.now) problem.now starts.now.items }
-            ensures { Gives result (walks_of (solving (V.started solver.entry.now) (V.begun solver.entry.now) (V.next solver.entry.now)) problem.entry.now pools.entry.now.lists run back.entry.now) }
-        { states_each(alloc, problem, pools, solver, starts, run, back) },
-    );
-    in_turn(first, rest)
+    states_of(rt, alloc, problem, pools, solver, starts, run, paths)
 }

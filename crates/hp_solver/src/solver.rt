@@ -59,4 +59,10 @@ pub trait Solver: Sync {
         ensures chain { OnOk result (chain.new ≡ (next self.now chain.old lp.now).1) }
         ensures fits { OnOk result ((other : StageLp) → IsLike lp.now other
             → fits self.now chain.new other) };
+
+    /// Whether so many solves, of programs like this one, take so long that half of them are worth a thread of their own.
+    /// No answer depends on it.
+    fn worth_a_thread(&self, _lp: &StageLp, _solves: usize) -> bool {
+        true
+    }
 }

@@ -1,4 +1,4 @@
-use Rattle.std.proofs.Common.{◌≡◌, ◌≤◌, ◌∙◌, true, length, All, ap, sym, subst}
+use Rattle.std.proofs.Common.{◌≡◌, ◌<◌, ◌≤◌, ◌∙◌, true, length, All, ap, sym, subst}
 use Rattle.hp_problem.specs.declared.raw.Raw.{Raw}
 use Rattle.hp_problem.specs.Limits.{are_values}
 use Rattle.hp_problem.specs.Sealed.{subproblem_of}
@@ -13,3 +13,6 @@ returns-clause-fit c = subst (λ vs. All (λ own. are_values (subproblem_of c.ar
 
 pub returns-clause-few : goal.returns-clause-few
 returns-clause-few c = subst (λ vs. length vs ≤ 100) (sym (returns-clause-value c)) (values_here c.args.problem.now c.args.node c.raw.ensures.sealed c.requires).few
+
+pub returns-clause-some : goal.returns-clause-some
+returns-clause-some c = subst (λ vs. 0 < length vs) (sym (returns-clause-value c)) (values_here c.args.problem.now c.args.node c.raw.ensures.sealed c.requires).some
