@@ -4,7 +4,7 @@ use Rattle.std.specs.Option.{option_map, option_and_then}
 use Rattle.std.specs.Ordering.{int_eq}
 use Rattle.std.proofs.lemmas.Bool.{cases_lt}
 use Rattle.std.proofs.lemmas.Bool.Decides.{Decides-int_eq}
-use Rattle.std.proofs.lemmas.List.{drop_more, append_assoc, append-nil}
+use Rattle.std.proofs.lemmas.List.{drop_more, append-nil}
 use Rattle.std.proofs.Math.ListN.{drop_of_length-le}
 use lib.IntN.{*ℤ_comm, *ℤ-zero, zero-*ℤ, +ℤ_idl}
 use Rattle.hp_num.specs.Sums.{entry, dot, at_terms}
@@ -15,20 +15,9 @@ use Rattle.hp_warm_table.specs.Shape.{IsTable}
 use Rattle.hp_warm_table.specs.Updates.{Gives}
 use Rattle.hp_warm_table.proofs.Each.{each_length, map_some}
 use Rattle.hp_warm_line.specs.Refine.{shift_at, shifts_of, moved_value, moved_values, stood_table, refined}
-use Rattle.hp_warm_line.specs.Sparse.{sparse, moved_by}
-
-none_inside : (n : ℕ) → All (λ (s : ℕ × ℤ). s.0 < n) []
-none_inside n k d p = absurd (omega arith)
-
--- all places are inside
-pub sparse_inside : (n j : ℕ) (qs : List ℤ) → j + length qs ≤ n → All (λ (s : ℕ × ℤ). s.0 < n) (sparse j qs)
-sparse_inside n j [] h = none_inside n
-sparse_inside n j (q ∷ qs) h = by (int_eq q (pos 0)) (sparse_inside n (suc j) qs (omega (arith, h)))
-  where
-    by : (b : Bool) → All (λ (s : ℕ × ℤ). s.0 < n) (sparse (suc j) qs) → All (λ (s : ℕ × ℤ). s.0 < n) (cond b (sparse (suc j) qs) ((j, q) ∷ sparse (suc j) qs))
-    by true rest k d p = rest k d p
-    by false rest zero d p = omega (arith, h)
-    by false rest (suc k) d p = rest k d (omega arith)
+use Rattle.hp_warm_table.specs.Sparse.{sparse}
+use Rattle.hp_warm_table.proofs.Stepping.{sparse_inside, one_kept}
+use Rattle.hp_warm_line.specs.Sparse.{moved_by}
 
 -- the sum over all of a shift's and the others' shares
 first_share : (j : ℕ) (q : ℤ) (qs : List ℤ) (x : ℕ → ℤ) → at_terms (sparse j (q ∷ qs)) x ≡ q *ℤ x j +ℤ at_terms (sparse (suc j) qs) x
@@ -86,13 +75,6 @@ all_moved places lines qs values = each_same (moved_value places lines qs) (move
 -- some shifts that are not 0, and those of the rest behind them
 abbrev pub kept : List (ℕ × ℤ) → ℕ → Option (List ℤ) → Option (List (ℕ × ℤ))
 kept done j rest = option_map (λ qs. done ++ sparse j qs) rest
-
-one_kept : (done : List (ℕ × ℤ)) (j : ℕ) (q : ℤ) (qs : List ℤ) → done ++ sparse j (q ∷ qs) ≡ (done ++ sparse j (q ∷ [])) ++ sparse (suc j) qs
-one_kept done j q qs = by (int_eq q (pos 0))
-  where
-    by : (b : Bool) → done ++ cond b (sparse (suc j) qs) ((j, q) ∷ sparse (suc j) qs) ≡ (done ++ cond b [] ((j, q) ∷ [])) ++ sparse (suc j) qs
-    by true = sym (append_assoc done [] (sparse (suc j) qs))
-    by false = sym (append_assoc done ((j, q) ∷ []) (sparse (suc j) qs))
 
 some_kept : (done : List (ℕ × ℤ)) (j : ℕ) (q : ℤ) (rest : Option (List ℤ)) → kept done j (option_map (λ qs. q ∷ qs) rest) ≡ kept (done ++ sparse j (q ∷ [])) (suc j) rest
 some_kept done j q None = refl

@@ -1,13 +1,7 @@
--- Shifts without those that are 0.
-use Rattle.std.specs.Prelude.{ℕ, suc, ℤ, pos, ◌+ℤ◌, List, [], ◌∷◌, get_or, is_none, Option, Some, None, if◌then◌else◌}
-use Rattle.std.specs.Ordering.{int_eq}
+-- Values after shifts, of which those that are 0 are left out.
+use Rattle.std.specs.Prelude.{ℕ, ℤ, ◌+ℤ◌, List, [], get_or, is_none, Option, Some, None, if◌then◌else◌}
 use Rattle.hp_num.specs.Sums.{entry, at_terms}
 use Rattle.hp_warm_table.specs.Numbers.{down_of, value_of}
-
--- the shifts from place j on that are not 0, each with its place
-abbrev pub sparse : ℕ → List ℤ → List (ℕ × ℤ)
-sparse j [] = []
-sparse j (q ∷ qs) = if int_eq q (pos 0) then sparse (suc j) qs else (j, q) ∷ sparse (suc j) qs
 
 -- the value of column v, which is x, after shifts at some places
 unfoldable pub moved_by : List (Option ℕ) → List (List ℤ) → List (ℕ × ℤ) → ℕ → ℤ → Option ℤ

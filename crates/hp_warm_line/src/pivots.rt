@@ -7,11 +7,13 @@ ghost use Rattle.hp_warm_table.specs.Each.{each_from};
 ghost use Rattle.hp_warm_table.specs.Shape.{IsTable, variables};
 ghost use Rattle.hp_warm_line.specs.Kept.{with_basis};
 ghost use Rattle.hp_warm_table.specs.Updates.{Gives, moved_row};
+ghost use Rattle.hp_warm_table.specs.Sparse.{sparse};
 ghost use Rattle.hp_warm_line.specs.Pivot.{minus_one, inverse_of, turned, turned_line, moved_or_kept, entered, flipped, exchanged, eliminated, replaced, pivoted};
 
 use crate::sums::plus;
 use hp_num::List;
 use hp_warm_table::numbers::{bits, power, product, quotient};
+use hp_warm_table::steps::write_steps;
 use hp_warm_table::updates::move_row;
 use hp_warm_table::{Basis, Cell, Square, Table};
 
@@ -169,8 +171,10 @@ fn move_line(
     leaving: usize,
     place: usize,
     entering: &[Cell],
+    steps: &[(usize, Cell)],
     k: usize,
 ) -> bool
+    requires steps { steps.now ≡ sparse 0 entering.now }
     requires there { k < length lines.old }
     requires places { k < length places.now }
     requires place { place < length lines.old }
@@ -180,7 +184,7 @@ fn move_line(
         (moved_or_kept places.now leaving place entering.now k (get_or lines.old k []))) lines.new }
 {
     if places[k].is_none() && k != leaving {
-        lines.move_row(k, place, entering)
+        lines.move_row(k, place, entering, steps)
     } else {
         true
     }
@@ -193,7 +197,9 @@ fn move_lines(
     leaving: usize,
     place: usize,
     entering: &[Cell],
+    steps: &[(usize, Cell)],
 ) -> bool
+    requires steps { steps.now ≡ sparse 0 entering.now }
     requires places { length lines.old ≤ length places.now }
     requires place { place < length lines.old }
     requires width { length entering.now ≡ length lines.old }
@@ -202,7 +208,7 @@ fn move_lines(
         (each_from (moved_or_kept places.now leaving place entering.now) 0 lines.old) lines.new }
 {
     for k in 0..lines.size() {
-        if !move_line(lines, places, leaving, place, entering, k) {
+        if !move_line(lines, places, leaving, place, entering, steps, k) {
             return false;
         }
     }
@@ -252,18 +258,31 @@ fn exchange(basis: &mut Basis, leaving: usize, above: bool, place: usize, flips:
 }
 
 // A list of reduced costs after the pivot.
-fn move_reduced(reduced: &mut List<Cell>, place: usize, line: &[Cell]) -> bool
+fn move_reduced(
+    reduced: &mut List<Cell>,
+    place: usize,
+    line: &[Cell],
+    steps: &[(usize, Cell)],
+) -> bool
+    requires steps { steps.now ≡ sparse 0 line.now }
     requires place { place < length reduced.old }
     requires width { length line.now ≡ length reduced.old }
     ensures count { length reduced.new ≡ length reduced.old }
     ensures moved { Gives result (moved_row place line.now reduced.old) reduced.new }
 {
-    move_row(reduced.as_mut_slice(), place, line)
+    move_row(reduced.as_mut_slice(), place, line, steps)
 }
 
 // The lines and the reduced costs after the pivot, but for the line of the entering variable.
 #[tactic(auto, unfolding(crate::specs::Pivot::eliminated), using(crate::proofs::Sized::sized_parts))]
-fn eliminate(table: &mut Table, line: &[Cell], leaving: usize, place: usize) -> bool
+fn eliminate_by(
+    table: &mut Table,
+    line: &[Cell],
+    steps: &[(usize, Cell)],
+    leaving: usize,
+    place: usize,
+) -> bool
+    requires steps { steps.now ≡ sparse 0 line.now }
     requires sized { IsTable table.old }
     requires width { length line.now ≡ length table.old.costs }
     requires place { place < length table.old.costs }
@@ -273,10 +292,38 @@ fn eliminate(table: &mut Table, line: &[Cell], leaving: usize, place: usize) -> 
     ensures eliminated { Gives result (eliminated table.old line.now leaving place) table.new }
 {
     let places = table.basis.places.as_slice();
-    if !move_lines(&mut table.lines, places, leaving, place, line) {
+    if !move_lines(&mut table.lines, places, leaving, place, line, steps) {
         return false;
     }
-    move_reduced(&mut table.reduced, place, line)
+    move_reduced(&mut table.reduced, place, line, steps)
+}
+
+// The same. `steps` is for work.
+fn eliminate(
+    table: &mut Table,
+    line: &[Cell],
+    steps: &mut List<(usize, Cell)>,
+    leaving: usize,
+    place: usize,
+) -> bool
+    requires sized { IsTable table.old }
+    requires width { length line.now ≡ length table.old.costs }
+    requires steps { length steps.old ≡ length table.old.costs }
+    requires place { place < length table.old.costs }
+    ensures sized { IsTable table.new }
+    ensures steps { length steps.new ≡ length steps.old }
+    ensures kept { table.new
+        ≡ with_basis table.old table.old.basis table.new.reduced table.new.lines }
+    ensures eliminated { Gives result (eliminated table.old line.now leaving place) table.new }
+{
+    let count = write_steps(line, steps);
+    eliminate_by(
+        table,
+        line,
+        steps.as_slice().split_at(count).0,
+        leaving,
+        place,
+    )
 }
 
 // The variables change places, and the line of the entering one is written.
@@ -306,6 +353,7 @@ fn replace(
 fn pivot_over(
     table: &mut Table,
     line: &mut [Cell],
+    steps: &mut List<(usize, Cell)>,
     leaving: usize,
     above: bool,
     place: usize,
@@ -313,12 +361,14 @@ fn pivot_over(
 ) -> bool
     requires sized { IsTable table.old }
     requires width { length line.old ≡ length table.old.costs }
+    requires steps { length steps.old ≡ length table.old.costs }
     requires there { leaving < variables table.old }
     requires place { place < length table.old.costs }
     requires pivot { 0 < nat_abs (entry line.old place) }
     requires flips { All (λ j. j < length table.old.costs) flips.now }
     ensures sized { IsTable table.new }
     ensures width { length line.new ≡ length line.old }
+    ensures steps { length steps.new ≡ length steps.old }
     ensures kept { table.new
         ≡ with_basis table.old table.new.basis table.new.reduced table.new.lines }
     ensures stopped { result ≡ false → table.new.basis ≡ table.old.basis }
@@ -328,7 +378,7 @@ fn pivot_over(
     if !turn(line, place) {
         return false;
     }
-    if !eliminate(table, line, leaving, place) {
+    if !eliminate(table, line, steps, leaving, place) {
         return false;
     }
     replace(table, line, leaving, above, place, flips);
@@ -337,12 +387,13 @@ fn pivot_over(
 
 /// The pivot: a basic variable, with its line, leaves for the variable at a place, and stands at its
 /// upper bound where it was above that. The variables at some more places, the flips, change their
-/// bounds. `line` is for work after that. The answer is false exactly where a number of it has an
+/// bounds. `line` is for work after that, and `steps`, as many places with cells as columns, too. The answer is false exactly where a number of it has an
 /// absolute value of 2^60 or more: the basis is then as before, and nothing is promised of the
 /// reduced costs and of the lines. All else of the table stays.
 pub fn pivot(
     table: &mut Table,
     line: &mut List<Cell>,
+    steps: &mut List<(usize, Cell)>,
     leaving: usize,
     above: bool,
     place: usize,
@@ -350,17 +401,27 @@ pub fn pivot(
 ) -> bool
     requires sized { IsTable table.old }
     requires width { length line.old ≡ length table.old.costs }
+    requires steps { length steps.old ≡ length table.old.costs }
     requires there { leaving < variables table.old }
     requires place { place < length table.old.costs }
     requires pivot { 0 < nat_abs (entry line.old place) }
     requires flips { All (λ j. j < length table.old.costs) flips.now }
     ensures sized { IsTable table.new }
     ensures width { length line.new ≡ length line.old }
+    ensures steps { length steps.new ≡ length steps.old }
     ensures kept { table.new
         ≡ with_basis table.old table.new.basis table.new.reduced table.new.lines }
     ensures stopped { result ≡ false → table.new.basis ≡ table.old.basis }
     ensures pivoted { Gives result (pivoted table.old line.old leaving above place flips.now)
         table.new }
 {
-    pivot_over(table, line.as_mut_slice(), leaving, above, place, flips)
+    pivot_over(
+        table,
+        line.as_mut_slice(),
+        steps,
+        leaving,
+        above,
+        place,
+        flips,
+    )
 }

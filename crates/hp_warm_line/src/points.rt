@@ -7,7 +7,8 @@ ghost use Rattle.hp_warm_table.specs.Updates.{Gives};
 ghost use Rattle.hp_warm_table.specs.Numbers.{down_of, value_of};
 ghost use Rattle.hp_warm_line.specs.Kept.{with_values};
 ghost use Rattle.hp_warm_line.specs.Refine.{IsWhole, stand_of, placed, stood, off, shift_at, shifts_of, stood_table, refined};
-ghost use Rattle.hp_warm_line.specs.Sparse.{sparse, moved_by};
+ghost use Rattle.hp_warm_table.specs.Sparse.{sparse};
+ghost use Rattle.hp_warm_line.specs.Sparse.{moved_by};
 
 use crate::sums::{activity, shares};
 use hp_num::List;

@@ -14,17 +14,24 @@ use std::alloc::Global;
 
 // Rebuilds a basis, of which a copy is given.
 #[tactic(auto, unfolding(crate::specs::Standings::rebuilt_of))]
-fn rebuild_from(table: &mut Table, line: &mut List<Cell>, was: &Basis) -> bool
+fn rebuild_from(
+    table: &mut Table,
+    line: &mut List<Cell>,
+    steps: &mut List<(usize, Cell)>,
+    was: &Basis,
+) -> bool
     requires sized { IsTable table.old }
     requires width { length line.old ≡ length table.old.costs }
+    requires steps { length steps.old ≡ length table.old.costs }
     requires was { was.now ≡ table.old.basis }
     ensures sized { IsTable table.new }
     ensures width { length line.new ≡ length line.old }
+    ensures steps { length steps.new ≡ length steps.old }
     ensures program { KeepsProgram table.old table.new }
     ensures rebuilt { Gives result (rebuilt_of table.old) table.new }
 {
     clean(table);
-    if !tighten_all(table, line, was) {
+    if !tighten_all(table, line, steps, was) {
         return false;
     }
     stand_up(table, was);
@@ -37,16 +44,23 @@ fn rebuild_from(table: &mut Table, line: &mut List<Cell>, was: &Basis) -> bool
 /// an absolute value of 2^60 or more: nothing is promised of the table then but its shape and its
 /// program.
 /// [`Memory`] where memory was refused: the table is as before. The program of the table stays.
-/// `line` is for work: as many numbers as columns.
-pub fn rebuild(alloc: Global, table: &mut Table, line: &mut List<Cell>) -> Result<bool, Memory>
+/// `line` and `steps` are for work: as many numbers, and as many places with cells, as columns.
+pub fn rebuild(
+    alloc: Global,
+    table: &mut Table,
+    line: &mut List<Cell>,
+    steps: &mut List<(usize, Cell)>,
+) -> Result<bool, Memory>
     requires sized { IsTable table.old }
     requires width { length line.old ≡ length table.old.costs }
+    requires steps { length steps.old ≡ length table.old.costs }
     ensures sized { IsTable table.new }
     ensures width { length line.new ≡ length line.old }
+    ensures steps { length steps.new ≡ length steps.old }
     ensures program { KeepsProgram table.old table.new }
     ensures rebuilt { IfOk result (λ done. Gives done (rebuilt_of table.old) table.new) }
     ensures refused { OnErr result (table.new ≡ table.old) }
 {
     let was = table.basis.copy(alloc)?;
-    Ok(rebuild_from(table, line, &was))
+    Ok(rebuild_from(table, line, steps, &was))
 }

@@ -110,14 +110,22 @@ fn best_place(basis: &Basis, nonbasic: &[usize], line: &[Cell]) -> Option<usize>
 
 // A slack leaves, where a place is found for it.
 #[tactic(auto, unfolding(crate::specs::Tighten::left), using(crate::proofs::Sizes::numbers_inside))]
-fn leave(table: &mut Table, line: &mut List<Cell>, was: &Basis, slack: usize) -> bool
+fn leave(
+    table: &mut Table,
+    line: &mut List<Cell>,
+    steps: &mut List<(usize, Cell)>,
+    was: &Basis,
+    slack: usize,
+) -> bool
     requires sized { IsTable table.old }
     requires width { length line.old ≡ length table.old.costs }
+    requires steps { length steps.old ≡ length table.old.costs }
     requires there { slack < variables table.old }
     requires places { length was.now.places ≡ variables table.old }
     requires inside { All (λ p. IfSome p (λ j. j < length was.now.high)) was.now.places }
     ensures sized { IsTable table.new }
     ensures width { length line.new ≡ length line.old }
+    ensures steps { length steps.new ≡ length steps.old }
     ensures kept { table.new
         ≡ with_basis table.old table.new.basis table.new.reduced table.new.lines }
     ensures left { Gives result (left was.now table.old slack) table.new }
@@ -127,20 +135,28 @@ fn leave(table: &mut Table, line: &mut List<Cell>, was: &Basis, slack: usize) ->
     }
     match best_place(was, table.basis.nonbasic.as_slice(), line.as_slice()) {
         None => true,
-        Some(place) => pivot(table, line, slack, was_high(was, slack), place, &[]),
+        Some(place) => pivot(table, line, steps, slack, was_high(was, slack), place, &[]),
     }
 }
 
 // A slack leaves, where it was not basic.
 #[tactic(auto, unfolding(crate::specs::Tighten::tight))]
-fn tighten(table: &mut Table, line: &mut List<Cell>, was: &Basis, slack: usize) -> bool
+fn tighten(
+    table: &mut Table,
+    line: &mut List<Cell>,
+    steps: &mut List<(usize, Cell)>,
+    was: &Basis,
+    slack: usize,
+) -> bool
     requires sized { IsTable table.old }
     requires width { length line.old ≡ length table.old.costs }
+    requires steps { length steps.old ≡ length table.old.costs }
     requires there { slack < variables table.old }
     requires places { length was.now.places ≡ variables table.old }
     requires inside { All (λ p. IfSome p (λ j. j < length was.now.high)) was.now.places }
     ensures sized { IsTable table.new }
     ensures width { length line.new ≡ length line.old }
+    ensures steps { length steps.new ≡ length steps.old }
     ensures kept { table.new
         ≡ with_basis table.old table.new.basis table.new.reduced table.new.lines }
     ensures tight { Gives result (tight was.now table.old slack) table.new }
@@ -148,18 +164,25 @@ fn tighten(table: &mut Table, line: &mut List<Cell>, was: &Basis, slack: usize) 
     if was.places.as_slice()[slack].is_none() {
         true
     } else {
-        leave(table, line, was, slack)
+        leave(table, line, steps, was, slack)
     }
 }
 
 // All slacks leave that were not basic, in order.
-pub(crate) fn tighten_all(table: &mut Table, line: &mut List<Cell>, was: &Basis) -> bool
+pub(crate) fn tighten_all(
+    table: &mut Table,
+    line: &mut List<Cell>,
+    steps: &mut List<(usize, Cell)>,
+    was: &Basis,
+) -> bool
     requires sized { IsTable table.old }
     requires width { length line.old ≡ length table.old.costs }
+    requires steps { length steps.old ≡ length table.old.costs }
     requires places { length was.now.places ≡ variables table.old }
     requires inside { All (λ p. IfSome p (λ j. j < length was.now.high)) was.now.places }
     ensures sized { IsTable table.new }
     ensures width { length line.new ≡ length line.old }
+    ensures steps { length steps.new ≡ length steps.old }
     ensures kept { table.new
         ≡ with_basis table.old table.new.basis table.new.reduced table.new.lines }
     ensures tightened { Gives result
@@ -168,7 +191,7 @@ pub(crate) fn tighten_all(table: &mut Table, line: &mut List<Cell>, was: &Basis)
     let columns = table.costs.len();
     let variables = was.places.len();
     for slack in columns..variables {
-        if !tighten(table, line, was, slack) {
+        if !tighten(table, line, steps, was, slack) {
             return false;
         }
     }

@@ -19,7 +19,6 @@ use crate::sides::{Sides, scaled_sides};
 use crate::spans::{Span, join};
 use hp_num::{List, Memory};
 use hp_solver::{Fx, LpRow};
-use hp_warm_table::lists::with_room;
 use hp_warm_table::numbers::shift;
 use hp_warm_table::{Coefficient, Table};
 use std::alloc::Global;
@@ -52,10 +51,10 @@ fn row_scale(exponents: &[i32], terms: &[(u32, Fx)]) -> i32
 fn push_row(
     table: &mut Table,
     exponent: i32,
-    terms: List<(u32, Coefficient)>,
+    terms: &[(u32, Coefficient)],
     sides: Sides,
 ) -> Result<(), Memory>
-    ensures { OnOk result (table.new ≡ with_row exponent terms sides table.old) }
+    ensures { OnOk result (table.new ≡ with_row exponent terms.now sides table.old) }
 {
     table.scales.rows.push(exponent)?;
     table.rows.push(terms)?;
@@ -95,42 +94,42 @@ fn scaled_term(exponents: &[i32], exponent: i32, term: (u32, Fx)) -> Option<(u32
     Some((term.0, coefficient(term.1.0, power)?))
 }
 
-// The terms of a row, scaled.
+// Writes the terms of a row, scaled. False where one is out of range.
 #[tactic(auto, unfolding(crate::specs::Appending::scaled_terms))]
-fn scaled_terms(
-    alloc: Global,
+fn scale_terms(
     exponents: &[i32],
     exponent: i32,
     terms: &[(u32, Fx)],
-) -> Result<Option<List<(u32, Coefficient)>>, Memory>
+    found: &mut List<(u32, Coefficient)>,
+) -> Result<bool, Memory>
     requires exponents { AreUpTo 1000 exponents.now }
     requires least { negsuc 1299 ≤ℤ exponent }
     requires greatest { exponent ≤ℤ pos 1300 }
     requires fits { AreBelow exponents.now exponent terms.now }
-    ensures { IfOk result (λ found. found ≡ scaled_terms exponents.now exponent terms.now) }
+    ensures { IfOk result (λ made. Gives made (scaled_terms exponents.now exponent terms.now) found.new) }
 {
-    let mut found = with_room(alloc, terms.len())?;
+    found.clear();
     for k in 0..terms.len() {
         match scaled_term(exponents, exponent, terms[k]) {
             Some(term) => found.push(term)?,
-            None => return Ok(None),
+            None => return Ok(false),
         }
     }
-    Ok(Some(found))
+    Ok(true)
 }
 
 // Puts a row behind the others, which makes a table of a table.
 fn put_row(
     table: &mut Table,
     exponent: i32,
-    terms: List<(u32, Coefficient)>,
+    terms: &[(u32, Coefficient)],
     sides: Sides,
 ) -> Result<(), Memory>
     requires whole { IsTable table.old }
-    requires rising { shape.AreRising 0 (length table.old.costs) terms }
+    requires rising { shape.AreRising 0 (length table.old.costs) terms.now }
     requires least { negsuc 1299 ≤ℤ exponent }
     requires greatest { exponent ≤ℤ pos 1300 }
-    ensures value { OnOk result (table.new ≡ with_row exponent terms sides table.old) }
+    ensures value { OnOk result (table.new ≡ with_row exponent terms.now sides table.old) }
     ensures whole { OnOk result (IsTable table.new) }
     ensures small { OnOk result ((most : ℕ) → AreSmall most table.old.scales → AreSmall most table.new.scales) }
     ensures count { OnOk result (length table.new.costs ≡ length table.old.costs) }
@@ -140,9 +139,13 @@ fn put_row(
 
 /// Puts a row of a program behind the others: its terms and sides, scaled, and its slack, which is
 /// basic. The answer is false exactly where a number leaves its range: nothing is promised of the
-/// table then. [`Memory`] where memory was refused.
+/// table then. [`Memory`] where memory was refused. `scaled` is for work.
 #[tactic(auto, unfolding(crate::specs::Appending::appended_row))]
-fn append_row(alloc: Global, table: &mut Table, row: &LpRow) -> Result<bool, Memory>
+fn append_row(
+    table: &mut Table,
+    row: &LpRow,
+    scaled: &mut List<(u32, Coefficient)>,
+) -> Result<bool, Memory>
     requires whole { IsTable table.old }
     requires small { AreSmall 1000 table.old.scales }
     requires rising { AreRising 0 (length table.old.costs) row.now.terms }
@@ -153,11 +156,10 @@ fn append_row(alloc: Global, table: &mut Table, row: &LpRow) -> Result<bool, Mem
 {
     let terms = row.terms.as_slice();
     let exponent = row_scale(table.scales.columns.as_slice(), terms);
-    let scaled = scaled_terms(alloc, table.scales.columns.as_slice(), exponent, terms)?;
-    let sides = scaled_sides(exponent + table.scales.values, row);
-    match (scaled, sides) {
-        (Some(scaled), Some(sides)) => {
-            put_row(table, exponent, scaled, sides)?;
+    let whole = scale_terms(table.scales.columns.as_slice(), exponent, terms, scaled)?;
+    match scaled_sides(exponent + table.scales.values, row) {
+        Some(sides) if whole => {
+            put_row(table, exponent, scaled.as_slice(), sides)?;
             Ok(true)
         }
         _ => Ok(false),
@@ -176,8 +178,9 @@ pub(crate) fn append(alloc: Global, table: &mut Table, rows: &[LpRow]) -> Result
     ensures small { IfOk result (λ made. made ≡ true → (most : ℕ) → AreSmall most table.old.scales → AreSmall most table.new.scales) }
     ensures count { IfOk result (λ made. made ≡ true → length table.new.costs ≡ length table.old.costs) }
 {
+    let mut scaled = List::new(alloc);
     for i in 0..rows.len() {
-        if !append_row(alloc, table, &rows[i])? {
+        if !append_row(table, &rows[i], &mut scaled)? {
             return Ok(false);
         }
     }

@@ -40,4 +40,5 @@ IsHeld old new = new ≡ with_work old old.basis new.reduced new.lines new.value
 -- lists for work are as long as the table asks
 pub record IsRoomy (room : Room) (t : Table) : Type 0 where
   pub line : length room.line ≡ length t.costs
+  pub steps : length room.steps ≡ length t.costs
   pub shifts : length room.shifts ≡ length t.costs

@@ -38,6 +38,7 @@ fn make_room(alloc: Global, room: &mut Room, table: &Table) -> Result<(), Memory
 {
     let columns = table.costs.len();
     fit(alloc, &mut room.line, columns, Cell::zero())?;
+    fit(alloc, &mut room.steps, columns, (0, Cell::zero()))?;
     fit(alloc, &mut room.shifts, columns, (0, Quantity::zero()))
 }
 
@@ -121,5 +122,5 @@ pub(crate) fn restore(
     ensures restored { IfOk result (λ made. Gives made (restored_of table.old) table.new) }
 {
     clear(alloc, table)?;
-    rebuild(alloc, table, &mut room.line)
+    rebuild(alloc, table, &mut room.line, &mut room.steps)
 }

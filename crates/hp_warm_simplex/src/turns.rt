@@ -25,6 +25,8 @@ pub struct Room {
     pub(crate) violations: List<Violation>,
     // The line of one of them, a cell for each place.
     pub(crate) line: List<Cell>,
+    // Its cells that are not 0, with their places; room for as many as there are places.
+    pub(crate) steps: List<(usize, Cell)>,
     // Places with their shifts, as many as there are places.
     pub(crate) shifts: List<(usize, Quantity)>,
     // The places that flip.
@@ -57,6 +59,7 @@ fn exchange(table: &mut Table, room: &mut Room, violation: Violation, place: usi
     if pivot(
         table,
         &mut room.line,
+        &mut room.steps,
         violation.variable,
         violation.above,
         place,

@@ -19,6 +19,10 @@ use hp_warm_table::Table;
 use std::alloc::Global;
 use std::marker::Model;
 
+// Below so much work a second thread costs more of the processors' time than it saves on the clock. A column, a row and a
+// solve take some 3 ns (measured), so this is some 3 ms, where a thread with memory of its own takes some 0.1 ms.
+const LEAST_WORK: usize = 1 << 20;
+
 /// The bounded dual simplex method (Lemke, 1954; Wagner, 1958) with bound flips (Maros, 2003), on a table of 64-bit
 /// numbers that is scaled by powers of two and refined on the program's own rows. A chain goes on from the table that the
 /// program before it left, and begins from one that belongs to the node alone. Its last resort is [`DualSimplex`].
@@ -58,6 +62,7 @@ fn new_room(alloc: Global) -> Room {
     Room {
         violations: List::new(alloc),
         line: List::new(alloc),
+        steps: List::new(alloc),
         shifts: List::new(alloc),
         flips: List::new(alloc),
     }
@@ -106,7 +111,10 @@ fn begun(alloc: Global, start: &Option<Table>, lp: &StageLp) -> Result<Option<Ta
 {
     match start {
         None => Ok(None),
-        Some(table) => widened(alloc, table.copy(alloc)?, lp),
+        Some(table) => {
+            let cuts = lp.rows.len().saturating_sub(table.rows.len());
+            widened(alloc, table.copy(alloc, cuts)?, lp)
+        }
     }
 }
 
@@ -139,5 +147,11 @@ impl Solver for WarmSimplex {
         let (answer, table) = next_answer(alloc, lp, table, &mut chain.room, &mut chain.plain)?;
         chain.table = table;
         Ok(answer)
+    }
+
+    // By the number of cells of the programs, all together.
+    fn worth_a_thread(&self, lp: &StageLp, solves: usize) -> bool {
+        let cells = lp.columns.len().saturating_mul(lp.rows.len());
+        cells.saturating_mul(solves) >= LEAST_WORK
     }
 }

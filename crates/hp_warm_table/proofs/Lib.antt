@@ -1,3 +1,4 @@
+pub mod ByEnds
 pub mod Each
 pub mod Flat
 pub mod Holding
@@ -6,3 +7,4 @@ pub mod Near
 pub mod Powers
 pub mod Shifts
 pub mod Skips
+pub mod Stepping

@@ -6,6 +6,7 @@ pub mod lists;
 pub mod numbers;
 pub mod rows;
 pub mod square;
+pub mod steps;
 pub mod table;
 pub mod updates;
 

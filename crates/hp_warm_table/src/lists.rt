@@ -18,6 +18,19 @@ pub fn copied<T: Copy + Drop>(alloc: Global, items: &[T]) -> Result<List<T>, Mem
     Ok(List::from_vec(Vec::from_slice(alloc, items)?))
 }
 
+/// The same values in a list of their own, with memory for so many more. [`Memory`] where memory was refused.
+pub fn copied_with_room<T: Copy + Drop>(
+    alloc: Global,
+    items: &[T],
+    more: usize,
+) -> Result<List<T>, Memory>
+    ensures { IfOk result (λ found. found ≡ items.now) }
+{
+    let mut found = Vec::with_capacity(alloc, items.len().saturating_add(more))?;
+    found.extend_from_slice(items)?;
+    Ok(List::from_vec(found))
+}
+
 /// So many times the same value. [`Memory`] where memory was refused.
 pub fn repeated<T: Copy + Drop>(alloc: Global, count: usize, item: T) -> Result<List<T>, Memory>
     ensures { IfOk result (λ found. found ≡ replicate count item) }

@@ -1,24 +1,31 @@
 // The terms of rows.
 ghost use Rattle.std.specs.Prelude.{◌≡◌, ◌<◌, ◌∷◌, ◌++◌, [], length, get_or, IfOk, is_ok, if◌then◌else◌};
+ghost use Rattle.hp_warm_table.specs.Ends.{rows_by, AreEnds, begins_at};
 
 use crate::kept::Coefficient;
-use crate::lists::{copied, with_room};
-use hp_num::{List, Memory};
+use crate::lists::copied_with_room;
+use hp_num::Memory;
 use std::alloc::Global;
 use std::marker::Model;
 
-/// The terms of some rows, in order: for each row the numbers of columns with their coefficients.
+/// The terms of some rows, in order: for each row the numbers of columns with their coefficients. All stand one after the
+/// other in one list.
 #[derive(Drop)]
 pub struct Rows {
-    items: List<List<(u32, Coefficient)>>,
+    terms: Vec<(u32, Coefficient)>,
+    /// Where the terms of each row end.
+    ends: Vec<usize>,
 }
 
 impl Model for Rows {
-    ghost use Rattle.std.specs.Prelude.{List, ℕ, ℤ};
+    ghost use Rattle.std.specs.Prelude.{List, ℕ, ℤ, length};
+    ghost use Rattle.hp_warm_table.specs.Ends.{rows_by, AreEnds};
 
     ghost Value = { List (List (ℕ × ℤ)) };
 
-    ghost view = { λ r. r.items };
+    ghost view = { λ r. rows_by 0 r.terms.items r.ends.items };
+
+    ghost invariant = { λ r. AreEnds 0 r.ends.items (length r.terms.items) };
 }
 
 impl Rows {
@@ -27,52 +34,65 @@ impl Rows {
         ensures { result ≡ [] }
     {
         Rows {
-            items: List::new(alloc),
+            terms: Vec::new(alloc),
+            ends: Vec::new(alloc),
         }
     }
 
     /// The number of rows.
+    #[tactic(auto, using(crate::proofs::ByEnds::rows_count))]
     pub fn len(&self) -> usize
         ensures { result ≡ length self.now }
     {
-        self.items.len()
+        self.ends.len()
     }
 
     /// The terms of row i.
+    #[tactic(auto, using(crate::proofs::ByEnds::rows_count))]
     pub fn row(&self, i: usize) -> &[(u32, Coefficient)]
         requires { i < length self.now }
         ensures { result.now ≡ get_or self.now i [] }
     {
-        self.items.as_slice()[i].as_slice()
+        row_of(self.terms.as_slice(), self.ends.as_slice(), i)
     }
 
     /// Puts a row behind the others. [`Memory`] where memory was refused: the rows are as before.
-    pub fn push(&mut self, terms: List<(u32, Coefficient)>) -> Result<(), Memory>
-        ensures { self.new ≡ (if is_ok result then self.old ++ terms ∷ [] else self.old) }
+    pub fn push(&mut self, terms: &[(u32, Coefficient)]) -> Result<(), Memory>
+        ensures { self.new ≡ (if is_ok result then self.old ++ terms.now ∷ [] else self.old) }
     {
-        self.items.push(terms)
+        self.ends.reserve(1)?;
+        self.terms.extend_from_slice(terms)?;
+        self.ends.push(self.terms.as_slice().len())?;
+        Ok(())
     }
 
-    /// The same rows, in memory of their own. [`Memory`] where memory was refused.
-    pub fn copy(&self, alloc: Global) -> Result<Rows, Memory>
+    /// The same rows, in memory of their own, with memory for the places of so many more. [`Memory`] where memory was
+    /// refused.
+    pub fn copy(&self, alloc: Global, more: usize) -> Result<Rows, Memory>
         ensures { IfOk result (λ rows. rows ≡ self.now) }
     {
         Ok(Rows {
-            items: copied_rows(alloc, self.items.as_slice())?,
+            terms: Vec::from_slice(alloc, self.terms.as_slice())?,
+            ends: copied_with_room(alloc, self.ends.as_slice(), more)?.into_vec(),
         })
     }
 }
 
-// The same lists of terms, in memory of their own.
-fn copied_rows(
-    alloc: Global,
-    rows: &[List<(u32, Coefficient)>],
-) -> Result<List<List<(u32, Coefficient)>>, Memory>
-    ensures { IfOk result (λ found. found ≡ rows.now) }
+// Where row i begins.
+fn start_of(ends: &[usize], i: usize) -> usize
+    requires { i < length ends.now }
+    ensures { result ≡ begins_at ends.now i }
 {
-    let mut found = with_room(alloc, rows.len())?;
-    for terms in rows {
-        found.push(copied(alloc, terms.as_slice())?)?;
-    }
-    Ok(found)
+    if i == 0 { 0 } else { ends[i - 1] }
+}
+
+// The terms of row i.
+#[tactic(auto, using(crate::proofs::ByEnds::row_at, crate::proofs::ByEnds::begins_before, crate::proofs::ByEnds::ends_within))]
+fn row_of<'a>(terms: &'a [(u32, Coefficient)], ends: &[usize], i: usize) -> &'a [(u32, Coefficient)]
+    requires ends { AreEnds 0 ends.now (length terms.now) }
+    requires there { i < length ends.now }
+    ensures { result.now ≡ get_or (rows_by 0 terms.now ends.now) i [] }
+{
+    let start = start_of(ends, i);
+    &terms[start..ends[i]]
 }

@@ -3,6 +3,7 @@ ghost use Rattle.std.specs.Prelude.{◌≡◌, ◌+◌, ◌*◌, ◌^◌, ◌<�
 ghost use Rattle.std.specs.Option.{option_map};
 ghost use Rattle.hp_warm_table.specs.Squares.{rows_of, put};
 ghost use Rattle.hp_warm_table.specs.Updates.{Gives, moved_row, moved_at};
+ghost use Rattle.hp_warm_table.specs.Sparse.{sparse};
 
 use crate::kept::Cell;
 use crate::lists::{copied, repeated};
@@ -72,16 +73,24 @@ impl Square {
 
     /// Row v after the variable at a place is replaced by the sum that the addend is; the other rows
     /// stay. The answer is false exactly where a result leaves the range of cells: nothing but
-    /// their number is promised of the rows then.
+    /// their number is promised of the rows then. `steps` are the addend's cells that are not 0,
+    /// each with its place.
     #[tactic(auto, using(crate::proofs::Flat::rows_count))]
-    pub fn move_row(&mut self, v: usize, place: usize, addend: &[Cell]) -> bool
+    pub fn move_row(
+        &mut self,
+        v: usize,
+        place: usize,
+        addend: &[Cell],
+        steps: &[(usize, Cell)],
+    ) -> bool
         requires there { v < length self.old }
         requires place { place < length self.old }
         requires width { length addend.now ≡ length self.old }
+        requires steps { steps.now ≡ sparse 0 addend.now }
         ensures count { length self.new ≡ length self.old }
         ensures moved { Gives result (moved_at v place addend.now self.old) self.new }
     {
-        move_row_of(&mut self.cells, self.size, v, place, addend)
+        move_row_of(&mut self.cells, self.size, v, place, addend, steps)
     }
 
     /// The same rows, in memory of their own. [`Memory`] where memory was refused.
@@ -129,8 +138,15 @@ fn set_row_of(cells: &mut List<Cell>, size: u32, v: usize, row: &[Cell])
 }
 
 // One row, from the cell `start` on, after the variable at a place is replaced.
-fn move_row_at(cells: &mut [Cell], start: usize, place: usize, addend: &[Cell]) -> bool
+fn move_row_at(
+    cells: &mut [Cell],
+    start: usize,
+    place: usize,
+    addend: &[Cell],
+    steps: &[(usize, Cell)],
+) -> bool
     requires place { place < length addend.now }
+    requires steps { steps.now ≡ sparse 0 addend.now }
     requires inside { start + length addend.now ≤ length cells.old }
     ensures lengths { length cells.new ≡ length cells.old }
     ensures moved { Gives result (option_map (put (length addend.now) start cells.old)
@@ -138,18 +154,32 @@ fn move_row_at(cells: &mut [Cell], start: usize, place: usize, addend: &[Cell]) 
 {
     let (_, rest) = cells.split_at_mut(start);
     let (row, _) = rest.split_at_mut(addend.len());
-    move_row(row, place, addend)
+    move_row(row, place, addend, steps)
 }
 
 // Row v of as many rows as cells in each, after the variable at a place is replaced.
-fn move_row_of(cells: &mut List<Cell>, size: u32, v: usize, place: usize, addend: &[Cell]) -> bool
+fn move_row_of(
+    cells: &mut List<Cell>,
+    size: u32,
+    v: usize,
+    place: usize,
+    addend: &[Cell],
+    steps: &[(usize, Cell)],
+) -> bool
     requires there { v < size }
     requires place { place < size }
+    requires steps { steps.now ≡ sparse 0 addend.now }
     requires width { length addend.now ≡ size }
     requires square { length cells.old ≡ size * size }
     ensures square { length cells.new ≡ size * size }
     ensures moved { Gives result (moved_at v place addend.now (rows_of size size cells.old))
         (rows_of size size cells.new) }
 {
-    move_row_at(cells.as_mut_slice(), v * size as usize, place, addend)
+    move_row_at(
+        cells.as_mut_slice(),
+        v * size as usize,
+        place,
+        addend,
+        steps,
+    )
 }

@@ -3,7 +3,7 @@ ghost use Rattle.std.specs.Prelude.{◌≡◌, ◌<◌, length, IfOk};
 ghost use Rattle.hp_warm_table.specs.Bounding.{low_of, up_of};
 
 use crate::kept::{Cell, Quantity};
-use crate::lists::copied;
+use crate::lists::{copied, copied_with_room};
 use crate::rows::Rows;
 use crate::square::Square;
 use hp_num::{List, Memory};
@@ -23,11 +23,12 @@ pub struct Scales {
 }
 
 impl Scales {
-    fn copy(&self, alloc: Global) -> Result<Scales, Memory>
+    // With memory for so many rows more.
+    fn copy(&self, alloc: Global, more: usize) -> Result<Scales, Memory>
         ensures { IfOk result (λ scales. scales ≡ self.now) }
     {
         Ok(Scales {
-            rows: copied(alloc, self.rows.as_slice())?,
+            rows: copied_with_room(alloc, self.rows.as_slice(), more)?,
             columns: copied(alloc, self.columns.as_slice())?,
             costs: self.costs,
             values: self.values,
@@ -76,14 +77,15 @@ impl Bounds {
         }
     }
 
-    fn copy(&self, alloc: Global) -> Result<Bounds, Memory>
+    // With memory for so many rows more.
+    fn copy(&self, alloc: Global, more: usize) -> Result<Bounds, Memory>
         ensures { IfOk result (λ bounds. bounds ≡ self.now) }
     {
         Ok(Bounds {
-            lows: copied(alloc, self.lows.as_slice())?,
-            ups: copied(alloc, self.ups.as_slice())?,
-            has_low: copied(alloc, self.has_low.as_slice())?,
-            has_up: copied(alloc, self.has_up.as_slice())?,
+            lows: copied_with_room(alloc, self.lows.as_slice(), more)?,
+            ups: copied_with_room(alloc, self.ups.as_slice(), more)?,
+            has_low: copied_with_room(alloc, self.has_low.as_slice(), more)?,
+            has_up: copied_with_room(alloc, self.has_up.as_slice(), more)?,
         })
     }
 }
@@ -105,9 +107,16 @@ impl Basis {
     pub fn copy(&self, alloc: Global) -> Result<Basis, Memory>
         ensures { IfOk result (λ basis. basis ≡ self.now) }
     {
+        self.copy_with_room(alloc, 0)
+    }
+
+    // The same with memory for so many rows more.
+    fn copy_with_room(&self, alloc: Global, more: usize) -> Result<Basis, Memory>
+        ensures { IfOk result (λ basis. basis ≡ self.now) }
+    {
         Ok(Basis {
             nonbasic: copied(alloc, self.nonbasic.as_slice())?,
-            places: copied(alloc, self.places.as_slice())?,
+            places: copied_with_room(alloc, self.places.as_slice(), more)?,
             high: copied(alloc, self.high.as_slice())?,
         })
     }
@@ -139,16 +148,16 @@ pub struct Table {
 }
 
 impl Table {
-    /// The same table, in memory of its own. [`Memory`] where memory was refused.
-    pub fn copy(&self, alloc: Global) -> Result<Table, Memory>
+    /// The same table, in memory of its own, with memory for so many rows more. [`Memory`] where memory was refused.
+    pub fn copy(&self, alloc: Global, more: usize) -> Result<Table, Memory>
         ensures { IfOk result (λ table. table ≡ self.now) }
     {
         Ok(Table {
-            scales: self.scales.copy(alloc)?,
-            rows: self.rows.copy(alloc)?,
+            scales: self.scales.copy(alloc, more)?,
+            rows: self.rows.copy(alloc, more)?,
             costs: copied(alloc, self.costs.as_slice())?,
-            bounds: self.bounds.copy(alloc)?,
-            basis: self.basis.copy(alloc)?,
+            bounds: self.bounds.copy(alloc, more)?,
+            basis: self.basis.copy_with_room(alloc, more)?,
             reduced: copied(alloc, self.reduced.as_slice())?,
             lines: self.lines.copy(alloc)?,
             values: copied(alloc, self.values.as_slice())?,

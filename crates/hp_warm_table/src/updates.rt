@@ -1,9 +1,10 @@
 // Rows with a multiple of another row added.
-ghost use Rattle.std.specs.Prelude.{◌≡◌, ℤ, ◌^◌, ◌<◌, ◌≤◌, pos, ◌+ℤ◌, ◌*ℤ◌, [], length, get_or, slice_set, nat_abs};
+ghost use Rattle.std.specs.Prelude.{◌≡◌, true, ℤ, ◌^◌, ◌<◌, ◌≤◌, pos, ◌+ℤ◌, ◌*ℤ◌, [], length, get_or, slice_set, nat_abs, All};
 ghost use Rattle.std.specs.Option.{option_map};
 ghost use Rattle.hp_num.specs.Sums.{floor_over};
 ghost use Rattle.hp_warm_table.specs.Numbers.{down_of, cell_of};
 ghost use Rattle.hp_warm_table.specs.Updates.{Gives, moved, added_row, moved_row};
+ghost use Rattle.hp_warm_table.specs.Sparse.{sparse, added_at};
 
 use crate::kept::Cell;
 use crate::numbers::{down_product, product};
@@ -51,6 +52,14 @@ fn near_cell(t: Cell, step: i64) -> Option<Cell>
     ensures { result ≡ cell_of (t +ℤ step) }
 {
     Cell::narrow(t.number() + step)
+}
+
+// Whether a factor is below 2^39 in absolute value.
+fn is_near(factor: Cell) -> bool
+    ensures { result ≡ true → nat_abs factor < 2 ^ 39 }
+{
+    let number = factor.number();
+    -(1 << 39) < number && number < 1 << 39
 }
 
 // 2^24 times the factor.
@@ -110,21 +119,83 @@ pub fn add_row(row: &mut [Cell], factor: Cell, addend: &[Cell]) -> bool
     ensures lengths { length row.new ≡ length row.old }
     ensures moved { Gives result (added_row factor addend.now row.old) row.new }
 {
-    let number = factor.number();
-    if -(1 << 39) < number && number < 1 << 39 {
+    if is_near(factor) {
         add_row_near(row, factor, addend)
     } else {
         add_row_wide(row, factor, addend)
     }
 }
 
+// Adds to some cells of a row, one after the other, the factor times a number over 2^40.
+fn add_wide_at(row: &mut [Cell], factor: Cell, steps: &[(usize, Cell)]) -> bool
+    requires { All (λ s. s.0 < length row.old) steps.now }
+    ensures lengths { length row.new ≡ length row.old }
+    ensures added { Gives result (added_at factor steps.now row.old) row.new }
+{
+    for k in 0..steps.len() {
+        let step = steps[k];
+        match moved(row[step.0], factor, step.1) {
+            Some(x) => row[step.0] = x,
+            None => return false,
+        }
+    }
+    true
+}
+
+// The same for a factor below 2^39.
+fn add_near_at(row: &mut [Cell], factor: Cell, steps: &[(usize, Cell)]) -> bool
+    requires near { nat_abs factor < 2 ^ 39 }
+    requires inside { All (λ s. s.0 < length row.old) steps.now }
+    ensures lengths { length row.new ≡ length row.old }
+    ensures added { Gives result (added_at factor steps.now row.old) row.new }
+{
+    let scaled = scaled(factor);
+    for k in 0..steps.len() {
+        let step = steps[k];
+        match moved_near(row[step.0], scaled, step.1) {
+            Some(x) => row[step.0] = x,
+            None => return false,
+        }
+    }
+    true
+}
+
+// The same for any factor.
+fn add_at(row: &mut [Cell], factor: Cell, steps: &[(usize, Cell)]) -> bool
+    requires { All (λ s. s.0 < length row.old) steps.now }
+    ensures lengths { length row.new ≡ length row.old }
+    ensures added { Gives result (added_at factor steps.now row.old) row.new }
+{
+    if is_near(factor) {
+        add_near_at(row, factor, steps)
+    } else {
+        add_wide_at(row, factor, steps)
+    }
+}
+
+// The same as `add_row`, by the addend's cells that are not 0, where there are others.
+#[tactic(auto, using(crate::proofs::Stepping::sparse_added))]
+fn add_steps(row: &mut [Cell], factor: Cell, addend: &[Cell], steps: &[(usize, Cell)]) -> bool
+    requires lengths { length addend.now ≡ length row.old }
+    requires steps { steps.now ≡ sparse 0 addend.now }
+    ensures lengths { length row.new ≡ length row.old }
+    ensures moved { Gives result (added_row factor addend.now row.old) row.new }
+{
+    if steps.len() < addend.len() {
+        add_at(row, factor, steps)
+    } else {
+        add_row(row, factor, addend)
+    }
+}
+
 /// The row after the variable at a place is replaced by the sum that the addend is. The answer is
 /// false exactly where a result leaves the range of cells: nothing but its length is promised of
-/// the row then.
+/// the row then. `steps` are the addend's cells that are not 0, each with its place.
 #[tactic(auto, unfolding(crate::specs::Updates::moved_row))]
-pub fn move_row(row: &mut [Cell], place: usize, addend: &[Cell]) -> bool
+pub fn move_row(row: &mut [Cell], place: usize, addend: &[Cell], steps: &[(usize, Cell)]) -> bool
     requires place { place < length row.old }
     requires lengths { length addend.now ≡ length row.old }
+    requires steps { steps.now ≡ sparse 0 addend.now }
     ensures lengths { length row.new ≡ length row.old }
     ensures moved { Gives result (moved_row place addend.now row.old) row.new }
 {
@@ -133,5 +204,5 @@ pub fn move_row(row: &mut [Cell], place: usize, addend: &[Cell]) -> bool
         return true;
     }
     row[place] = Cell::zero();
-    add_row(row, factor, addend)
+    add_steps(row, factor, addend, steps)
 }

@@ -1,8 +1,6 @@
-use Rattle.std.proofs.Common.{◌≡◌, ◌∙◌, ◌<◌, ℕ, ℤ, List, length, take, All, Some, ap, sym, subst}
+use Rattle.std.proofs.Common.{◌∙◌, ◌<◌, ℕ, ℤ, List, length, take, All, Some, ap, sym, subst}
 use Rattle.std.specs.Option.{option_map}
 use Rattle.hp_warm_table.specs.declared.table.Table.{Table}
-use Rattle.hp_warm_line.specs.Refine.{shifts_of}
-use Rattle.hp_warm_line.specs.Sparse.{sparse}
 use Rattle.hp_warm_line.proofs.Shifts.{shifts_inside, refined_by}
 use Rattle.hp_warm_line.proofs.points.refine.Goals as goal
 

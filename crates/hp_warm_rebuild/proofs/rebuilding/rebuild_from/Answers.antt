@@ -16,6 +16,10 @@ pub tighten_all-requires-clause-width : goal.tighten_all-requires-clause-width
 unfolding clean_of
 tighten_all-requires-clause-width c = c.requires.width ∙ sym (ap (λ (t : Table). length t.costs) c.clean.ensures)
 
+pub tighten_all-requires-clause-steps : goal.tighten_all-requires-clause-steps
+unfolding clean_of
+tighten_all-requires-clause-steps c = c.requires.steps ∙ sym (ap (λ (t : Table). length t.costs) c.clean.ensures)
+
 pub tighten_all-requires-clause-places : goal.tighten_all-requires-clause-places
 unfolding clean_of
 tighten_all-requires-clause-places c = ap (λ (b : Basis). length b.places) c.requires.was ∙ c.requires.sized.places ∙ sym (ap variables c.clean.ensures)

@@ -13,6 +13,7 @@ loop-slack-init c =
     record {
       sized = c.requires.sized;
       width = refl;
+      steps = refl;
       kept = refl;
       left = ap (tightened c.args.was.now t (length t.costs)) e ∙ ap (λ (v : ℕ). tightened c.args.was.now t v (variables t - v)) (sym c.len-columns.ensures);
     }
@@ -21,6 +22,7 @@ pub loop-slack-preserved : goal.loop-slack-preserved
 loop-slack-preserved c = record {
   sized = c.tighten.ensures.sized;
   width = c.tighten.ensures.width ∙ c.loop-slack.invariant.width;
+  steps = c.tighten.ensures.steps ∙ c.loop-slack.invariant.steps;
   kept = c.tighten.ensures.kept ∙ ap (λ (t : Table). with_basis t c.tighten.new.table.basis c.tighten.new.table.reduced c.tighten.new.table.lines) c.loop-slack.invariant.kept;
   left = tight_step c.args.was.now c.loop-slack.table c.loop-slack.slack (variables c.args.table.now) _ c.tighten.new.table (omega (arith, c.loop-slack-test.true, c.len-variables.ensures, c.requires.places)) c.if-not-tighten.ensures.tight c.loop-slack.invariant.left;
 }
