@@ -1,11 +1,10 @@
 -- Sums of products modulo 2^128.
-use Rattle.std.proofs.Common.{◌≡◌, ℕ, ◌+◌, ◌-◌, ◌^◌, ◌<◌, ◌≤◌, ℤ, pos, negsuc, ◌+ℤ◌, ◌-ℤ◌, ◌*ℤ◌, ◌≤ℤ◌, List, [], ◌∷◌, length, take, get_or, SFits, w64, to_z, of_z, take_all, arith, refl, ap, sym, ◌∙◌}
+use Rattle.std.proofs.Common.{◌≡◌, ℕ, ◌+◌, ◌-◌, ◌^◌, ◌<◌, ◌≤◌, ℤ, pos, ◌+ℤ◌, ◌*ℤ◌, ◌≤ℤ◌, List, length, take, get_or, SFits, w64, to_z, of_z, take_all, arith, ap, sym, ◌∙◌}
 use Rattle.std.proofs.lemmas.Int.{ints, to_z-of_z, fits_signed_from_abs, int_wrap_fits, int_wrap-add_left, int_wrap-add_right, int_wrap-mul_left, int_wrap-mul_right}
 use Rattle.std.specs.Int.{int_wrap}
 use mir.Syntax.{w128}
 use Rattle.hp_num.specs.Sums.{total}
 use Rattle.hp_num.proofs.Fronts.{total_more}
-use Rattle.hp_num.proofs.Ring.{ring, var, num, ◌⊕◌, ◌⊗◌, ⊖}
 use Rattle.hp_theory.specs.Size.{magnitude}
 use Rattle.hp_dual.specs.Congruent.{Congruent}
 
@@ -18,12 +17,6 @@ pub same_times : (a b x y : ℤ) → Congruent a x → Congruent b y → Congrue
 same_times a b x y e f =
     sym (int_wrap-mul_left w128 a b) ∙ ap (λ z. int_wrap w128 (z *ℤ b)) e ∙ int_wrap-mul_left w128 x b
     ∙ sym (int_wrap-mul_right w128 x b) ∙ ap (λ z. int_wrap w128 (x *ℤ z)) f ∙ int_wrap-mul_right w128 x y
-
-pub same_less : (a b x y : ℤ) → Congruent a x → Congruent b y → Congruent (a -ℤ b) (x -ℤ y)
-same_less a b x y e f = ap (int_wrap w128) (sym (less a b)) ∙ same_add a (negsuc 0 *ℤ b) x (negsuc 0 *ℤ y) e (same_times (negsuc 0) b (negsuc 0) y refl f) ∙ ap (int_wrap w128) (less x y)
-  where
-    less : (a b : ℤ) → a +ℤ negsuc 0 *ℤ b ≡ a -ℤ b
-    less a b = ring (a ∷ b ∷ []) (var 0 ⊕ num (negsuc 0) ⊗ var 1) (var 0 ⊕ ⊖ (var 1)) tt
 
 -- numbers in range that are congruent are the same
 pub exact : (a x : ℤ) → SFits w128 a → SFits w128 x → Congruent a x → a ≡ x

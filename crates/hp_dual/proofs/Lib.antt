@@ -1,4 +1,5 @@
 pub mod Accepted
+pub mod AcceptedCuts
 pub mod Walking
 pub mod GivenNode
 pub mod Passing
@@ -8,6 +9,7 @@ pub mod Faultless
 pub mod Basing
 pub mod Standing
 pub mod Fitting
+pub mod Fixing
 pub mod Amounts
 pub mod Congruence
 pub mod Places

@@ -71,7 +71,7 @@ module _ (ds : List Decision) (low high values : List ℤ) where
       let a : ℕ = nat_abs (side q.0 q.1) in
       ap (λ (k : ℤ). magnitude q.1 *ℤ (pos a +ℤ k) +ℤ magnitude q.1 *ℤ sum_to (length ds) (λ j. decided j *ℤ magnitude (coefficient q.0.decisions j)) +ℤ magnitude q.1 *ℤ sum_to (length low) (λ k. incoming k *ℤ magnitude (coefficient q.0.states k))) (terms_of (over_values values) q.0.randoms)
       ∙ ap₂ (λ (k l : ℤ). magnitude q.1 *ℤ (pos a +ℤ pos r) +ℤ magnitude q.1 *ℤ k +ℤ magnitude q.1 *ℤ l) (row_terms (length ds) (over_decisions ds) q.0.decisions h.0) (row_terms (length low) (over_box low high) q.0.states h.1)
-      ∙ ring (magnitude q.1 ∷ pos a ∷ pos r ∷ pos d ∷ pos x ∷ []) (var 0 ⊗ (var 1 ⊕ var 2) ⊕ var 0 ⊗ var 3 ⊕ var 0 ⊗ var 4) (var 0 ⊗ (var 1 ⊕ var 3 ⊕ var 4 ⊕ var 2)) tt
+      ∙ ring (magnitude q.1 ∷ pos a ∷ pos r ∷ pos d ∷ pos x ∷ []) (var 0 ⊗ (var 1 ⊕ var 2) ⊕ var 0 ⊗ var 3 ⊕ var 0 ⊗ var 4) (var 0 ⊗ (var 1 ⊕ (var 3 ⊕ var 4) ⊕ var 2)) tt
 
   all_rows : (qs : List (Row × ℤ)) → All (λ (q : Row × ℤ). Placed (length ds) (length low) q.0) qs
       → total (λ (q : Row × ℤ). magnitude q.1 *ℤ (magnitude (side q.0 q.1) +ℤ terms_size q.0.randoms (entry values))) qs
@@ -140,12 +140,12 @@ split_two n x a b u v =
 -- the parts together
 assemble : (s q : ℤ) (fixed random r0 rd rx pa pp costs states : ℤ) (rows pairs : ℤ) → r0 +ℤ rd +ℤ rx ≡ rows → pa +ℤ pp ≡ pairs
     → (s *ℤ s *ℤ q) *ℤ (fixed +ℤ random) +ℤ s *ℤ r0 +ℤ pa +ℤ ((s *ℤ s *ℤ q) *ℤ costs +ℤ s *ℤ rd +ℤ pp) +ℤ ((s *ℤ s *ℤ q) *ℤ states +ℤ s *ℤ rx)
-    ≡ pairs +ℤ s *ℤ (rows +ℤ (s *ℤ q) *ℤ (fixed +ℤ random +ℤ costs +ℤ states))
+    ≡ pairs +ℤ s *ℤ (rows +ℤ (s *ℤ q) *ℤ (fixed +ℤ costs +ℤ states +ℤ random))
 assemble s q fixed random r0 rd rx pa pp costs states rows pairs e f =
     ring (s ∷ q ∷ fixed ∷ random ∷ r0 ∷ rd ∷ rx ∷ pa ∷ pp ∷ costs ∷ states ∷ [])
     ((var 0 ⊗ var 0 ⊗ var 1) ⊗ (var 2 ⊕ var 3) ⊕ var 0 ⊗ var 4 ⊕ var 7 ⊕ ((var 0 ⊗ var 0 ⊗ var 1) ⊗ var 9 ⊕ var 0 ⊗ var 5 ⊕ var 8) ⊕ ((var 0 ⊗ var 0 ⊗ var 1) ⊗ var 10 ⊕ var 0 ⊗ var 6))
-    (var 7 ⊕ var 8 ⊕ var 0 ⊗ (var 4 ⊕ var 5 ⊕ var 6 ⊕ (var 0 ⊗ var 1) ⊗ (var 2 ⊕ var 3 ⊕ var 9 ⊕ var 10))) tt
-    ∙ ap₂ (λ (k l : ℤ). k +ℤ s *ℤ (l +ℤ (s *ℤ q) *ℤ (fixed +ℤ random +ℤ costs +ℤ states))) f e
+    (var 7 ⊕ var 8 ⊕ var 0 ⊗ (var 4 ⊕ var 5 ⊕ var 6 ⊕ (var 0 ⊗ var 1) ⊗ (var 2 ⊕ var 9 ⊕ var 10 ⊕ var 3))) tt
+    ∙ ap₂ (λ (k l : ℤ). k +ℤ s *ℤ (l +ℤ (s *ℤ q) *ℤ (fixed +ℤ costs +ℤ states +ℤ random))) f e
 
 -- all of a realization but its weight
 pub stage_is : (pools : List (List Cut)) (n : nodes.Node) (s : Subproblem) (low high values : List ℤ) (c : Certificate) → subproblem_fits (length low) s ≡ true → length n.link_weights ≡ length n.links
@@ -185,4 +185,4 @@ stage_is pools n s low high values c fits same =
     ap₂ (λ (k l : ℤ). sc *ℤ (fixed +ℤ random) +ℤ pos S *ℤ r0 +ℤ pa +ℤ k +ℤ l) first second
     ∙ assemble (pos S) (pos (link_weight n)) fixed random r0 (sum_to dn (λ j. dm j *ℤ bj j)) (sum_to sn (λ k. x k *ℤ bk k)) pa (sum_to dn (λ j. dm j *ℤ pj j)) (pos (sum_by decision_amount ds)) (pos (numbers_by (over_box low high) s.state_costs))
     (pos (rows_amount ds low high values s.rows c.rows)) (pos (links_amount ds s.outs pools n.links c.cuts)) rows pairs
-    ∙ ap (λ (k : ℤ). pos (links_amount ds s.outs pools n.links c.cuts) +ℤ pos S *ℤ (pos (rows_amount ds low high values s.rows c.rows) +ℤ (pos S *ℤ pos (link_weight n)) *ℤ (fixed +ℤ k +ℤ pos (sum_by decision_amount ds) +ℤ pos (numbers_by (over_box low high) s.state_costs)))) (random_costs s.random_costs values)
+    ∙ ap (λ (k : ℤ). pos (links_amount ds s.outs pools n.links c.cuts) +ℤ pos S *ℤ (pos (rows_amount ds low high values s.rows c.rows) +ℤ (pos S *ℤ pos (link_weight n)) *ℤ (fixed +ℤ pos (sum_by decision_amount ds) +ℤ pos (numbers_by (over_box low high) s.state_costs) +ℤ k))) (random_costs s.random_costs values)

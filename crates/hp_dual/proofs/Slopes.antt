@@ -1,5 +1,5 @@
 -- The sums of the slopes of a list of certificates, in a table with one entry per state.
-use Rattle.std.proofs.Common.{◌≡◌, ℕ, ◌-◌, ◌^◌, ◌<◌, ◌≤◌, ℤ, pos, ◌+ℤ◌, ◌*ℤ◌, ◌≤ℤ◌, true, List, [], ◌∷◌, length, get_or, zip, sum, All, SFits, arith, ap, sym, ◌∙◌}
+use Rattle.std.proofs.Common.{◌≡◌, ℕ, ◌-◌, ◌^◌, ◌<◌, ◌≤◌, ℤ, pos, ◌+ℤ◌, ◌-ℤ◌, ◌*ℤ◌, ◌≤ℤ◌, true, List, [], ◌∷◌, length, get_or, zip, sum, All, SFits, arith, ap, sym, ◌∙◌}
 use mir.Syntax.{w128}
 use Rattle.std.specs.List.{list_all}
 use Rattle.std.proofs.lemmas.Bool.Decides.{nat_tests}
@@ -7,7 +7,7 @@ use Rattle.std.proofs.lemmas.Int.{ints}
 use Rattle.std.proofs.lemmas.List.Sums.{sum_by-cons}
 use Rattle.hp_num.specs.Sums.{total, entry}
 use Rattle.hp_num.proofs.Order.{le_trans}
-use Rattle.hp_num.proofs.Ring.{ring, var, ◌⊕◌, ◌⊗◌}
+use Rattle.hp_num.proofs.Ring.{ring, var, ◌⊕◌, ◌⊗◌, ⊖}
 use Rattle.hp_num.proofs.Tests.{all_at}
 use Rattle.hp_problem.specs.Limits.{terms_fit, row_fits, subproblem_fits}
 use Rattle.hp_problem.specs.declared.raw.Node as nodes
@@ -48,6 +48,19 @@ pub read_slope : (n : Node) (list : List Certificate) (xs : List ℤ) (k : ℕ) 
 read_slope n list xs k h fits table size =
     exact (entry xs k) (beta_sum n list k) fits
     (in_range (beta_sum n list k) (le_trans (magnitude (beta_sum n list k)) (slope_size n list k) (pos (2 ^ 127 - 1)) (beta_sum_size n list k) size)) (table k h)
+
+-- what all realizations have, and what their certificates take away
+pub split_sum : (a : ℤ) (g : Certificate → ℤ) (ws vs : List ℕ) (xs : List (List ℤ)) (list : List Certificate) → length ws ≡ length vs → length xs ≡ length vs → length list ≡ length vs
+    → total (λ (q : Realization × Certificate). pos q.0.weight *ℤ (a -ℤ g q.1)) (zip (reweighted ws (realizations_of vs xs)) list) ≡ pos (sum ws) *ℤ a -ℤ total (λ (q : Realization × Certificate). pos q.0.weight *ℤ g q.1) (zip (reweighted ws (realizations_of vs xs)) list)
+split_sum a g [] vs xs list e h k = omega (arith, ints)
+split_sum a g (w ∷ ws) [] xs list e h k = absurd (omega arith)
+split_sum a g (w ∷ ws) (v ∷ vs) [] list e h k = absurd (omega arith)
+split_sum a g (w ∷ ws) (v ∷ vs) (x ∷ xs) [] e h k = absurd (omega arith)
+split_sum a g (w ∷ ws) (v ∷ vs) (x ∷ xs) (c ∷ list) e h k =
+    let rest : ℤ = total (λ (q : Realization × Certificate). pos q.0.weight *ℤ g q.1) (zip (reweighted ws (realizations_of vs xs)) list) in
+    ap (λ (z : ℤ). pos w *ℤ (a -ℤ g c) +ℤ z) (split_sum a g ws vs xs list (omega arith) (omega arith) (omega arith))
+    ∙ ring (pos w ∷ pos (sum ws) ∷ a ∷ g c ∷ rest ∷ []) (var 0 ⊗ (var 2 ⊕ ⊖ (var 3)) ⊕ (var 1 ⊗ var 2 ⊕ ⊖ (var 4))) ((var 0 ⊕ var 1) ⊗ var 2 ⊕ ⊖ (var 0 ⊗ var 3 ⊕ var 4)) tt
+    ∙ ap (λ (z : ℕ). pos z *ℤ a -ℤ (pos w *ℤ g c +ℤ rest)) (sym (sum_by-cons (λ (z : ℕ). z) w ws))
 
 -- one certificate at all realizations
 pub repeated_sum : (f : Certificate → ℤ) (c : Certificate) (ws vs : List ℕ) (xs : List (List ℤ)) → length ws ≡ length vs → length xs ≡ length vs

@@ -2,7 +2,7 @@
 use Rattle.std.proofs.Common.{◌≡◌, ℕ, zero, suc, ◌+◌, ◌<◌, ℤ, pos, ◌+ℤ◌, ◌-ℤ◌, ◌*ℤ◌, List, [], ◌∷◌, length, take, get_or, set, zip, replicate, add-one, arith, refl, ap, sym, subst, ◌∙◌}
 use Rattle.std.proofs.Math.Logic.{⊎_elim}
 use Rattle.std.proofs.lemmas.Bool.{cases_eq}
-use Rattle.std.proofs.lemmas.List.{length-set, get_or-set_same, get_or-set_other}
+use Rattle.std.proofs.lemmas.List.{length-set, length-take, get_or-set_same, get_or-set_other, get_or-take}
 use Rattle.std.specs.Int.{int_wrap}
 use mir.Syntax.{w128}
 use lib.IntN.{+ℤ_assoc}
@@ -33,6 +33,9 @@ tabled_at f xs p v x y h e t = λ j k.
         ap (int_wrap w128) (get_or-set_other xs p j v (pos 0) i) ∙ t j k
         ∙ ap (int_wrap w128) (ring (f j ∷ x ∷ y ∷ []) (var 0) (var 0 ⊕ var 1 ⊗ (var 2 ⊗ num (pos 0))) tt ∙ ap (λ (z : ℤ). f j +ℤ x *ℤ (y *ℤ z)) (sym (place_apart p j (λ q. i (sym q)))))
 
+pub tabled_front : (f : ℕ → ℤ) (xs : List ℤ) (n : ℕ) → Tabled f xs → Tabled f (take n xs)
+tabled_front f xs n t = λ j h. ap (int_wrap w128) (get_or-take n xs j (pos 0) (omega (arith, h, length-take n xs))) ∙ t j (omega (arith, h, length-take n xs))
+
 -- one summand more, times a multiplier
 pub more_times : {A : Type 0} (part : A → ℤ) (xs : List A) (i : ℕ) (d : A) (b m z : ℤ) → i < length xs → z ≡ part (get_or xs i d) → b +ℤ m *ℤ total part (take i xs) +ℤ m *ℤ z ≡ b +ℤ m *ℤ total part (take (i + 1) xs)
 more_times part xs i d b m z h e =
@@ -50,6 +53,13 @@ more_less part xs i d b m z h e =
     ap (λ (k : ℤ). b -ℤ m *ℤ total part (take i xs) -ℤ m *ℤ k) e
     ∙ ring (b ∷ m ∷ total part (take i xs) ∷ part (get_or xs i d) ∷ []) (var 0 ⊕ ⊖ (var 1 ⊗ var 2) ⊕ ⊖ (var 1 ⊗ var 3)) (var 0 ⊕ ⊖ (var 1 ⊗ (var 2 ⊕ var 3))) tt
     ∙ ap (λ (k : ℤ). b -ℤ m *ℤ k) (sym (total_more part xs i d h))
+
+-- one summand more, taken away
+pub more_taken : {A : Type 0} (part : A → ℤ) (xs : List A) (i : ℕ) (d : A) (b z : ℤ) → i < length xs → z ≡ part (get_or xs i d) → b -ℤ total part (take i xs) -ℤ z ≡ b -ℤ total part (take (i + 1) xs)
+more_taken part xs i d b z h e =
+    ap (λ (k : ℤ). b -ℤ total part (take i xs) -ℤ k) e
+    ∙ ring (b ∷ total part (take i xs) ∷ part (get_or xs i d) ∷ []) (var 0 ⊕ ⊖ (var 1) ⊕ ⊖ (var 2)) (var 0 ⊕ ⊖ (var 1 ⊕ var 2)) tt
+    ∙ ap (λ (k : ℤ). b -ℤ k) (sym (total_more part xs i d h))
 
 -- one entry more
 pub entry_more : (xs : List ℤ) (i j : ℕ) → i < length xs → entry (take (suc i) xs) j ≡ entry (take i xs) j +ℤ entry xs i *ℤ same_place i j

@@ -10,7 +10,7 @@ use Rattle.hp_theory.specs.declared.cut.Cut.{Cut}
 use Rattle.hp_theory.specs.declared.cut.Certificate.{Certificate}
 use Rattle.hp_theory.specs.Problem.{S, Realization, Node}
 use Rattle.hp_theory.specs.Pools.{pool, no_cut}
-use Rattle.hp_theory.specs.CutOf.{scale, side, alpha_sum, remainder}
+use Rattle.hp_theory.specs.CutOf.{scale, side, over_rows, alpha_sum, remainder}
 use Rattle.hp_theory.specs.Size.{magnitude, reach, beta_size}
 use Rattle.hp_dual.specs.Sized.{Sized, unboxed}
 
@@ -29,10 +29,14 @@ lows s = map (λ (d : Decision). d.low) s.decisions
 abbrev pub highs : Subproblem → List ℤ
 highs s = map (λ (d : Decision). d.high) s.decisions
 
+-- the decisions' costs at the scale k
+abbrev pub costs_at : ℤ → Subproblem → ℕ → ℤ
+costs_at k s j = k *ℤ entry (map (λ (d : Decision). d.cost) s.decisions) j
+
 -- d_j at the scale k
 abbrev pub reduced_at : ℤ → List (List Cut) → nodes.Node → Subproblem → Certificate → ℕ → ℤ
 reduced_at k pools n s c j =
-    k *ℤ entry (map (λ (d : Decision). d.cost) s.decisions) j -ℤ pos S *ℤ total (λ (q : Row × ℤ). q.1 *ℤ coefficient q.0.decisions j) (zip s.rows c.rows) +ℤ over_links pools n.links c.cuts (λ cut. coefficient (placed s.outs cut.beta) j)
+    costs_at k s j -ℤ pos S *ℤ total (λ (q : Row × ℤ). q.1 *ℤ coefficient q.0.decisions j) (zip s.rows c.rows) +ℤ over_links pools n.links c.cuts (λ cut. coefficient (placed s.outs cut.beta) j)
 
 -- the sum of the least products of the reduced costs over the boxes
 abbrev pub least_at : ℤ → List (List Cut) → nodes.Node → Subproblem → Certificate → ℤ
@@ -71,6 +75,10 @@ PairsThere pools links cuts = All (λ (q : ℕ × List (ℕ × ℕ)). All (λ (s
 -- the terms of the state k at all realizations, by their weights
 abbrev pub slope_size : Node → List Certificate → ℕ → ℤ
 slope_size n list k = total (λ (q : Realization × Certificate). pos q.0.weight *ℤ beta_size n q.1 k) (zip n.realizations list)
+
+-- the sum over the realizations of the weight times S times the multipliers times their rows' terms of the state k
+abbrev pub rows_sum : Node → List Certificate → ℕ → ℤ
+rows_sum n list k = total (λ (q : Realization × Certificate). pos q.0.weight *ℤ (pos S *ℤ over_rows n q.1 (λ row y. coefficient row.states k))) (zip n.realizations list)
 
 -- what makes a cut out of a list of certificates with these weights: the limits, pairs that are in the pools, and sums in range
 pub record Cuttable (pools : List (List Cut)) (n : nodes.Node) (s : Subproblem) (low : List ℤ) (weights : List ℕ) (list : List Certificate) : Type 0 where

@@ -1,5 +1,5 @@
 -- The amounts of Size as they are walked, in natural numbers: by the terms of each row and by the slopes of each pair.
-use Rattle.std.specs.Prelude.{ℕ, zero, suc, ◌+◌, ◌*◌, ◌^◌, ◌≤◌, ◌≡◌, ℤ, List, length, zip, slice_get, max, nat_abs, Option, Some, None, MatchOption}
+use Rattle.std.specs.Prelude.{ℕ, zero, suc, ◌+◌, ◌*◌, ◌^◌, ◌<◌, ◌≤◌, ◌≡◌, ℤ, List, length, get_or, zip, slice_get, min, max, nat_abs, Option, Some, None, MatchOption}
 use Rattle.std.specs.List.{sum_by}
 use Rattle.hp_num.specs.Sums.{Term, entry}
 use Rattle.hp_num.specs.declared.size.Size.{Size}
@@ -53,10 +53,21 @@ terms_by f ts = sum_by (term_by f) ts
 abbrev pub numbers_by : (ℕ → ℕ) → List ℤ → ℕ
 numbers_by f zs = count_by (length zs) (λ k. nat_abs (entry zs k) * f k)
 
+-- a row's terms of the decisions and of the incoming state, the same at all realizations
+abbrev pub fixed_row : List Decision → List ℤ → List ℤ → Row → ℕ
+fixed_row ds low high row = terms_by (over_decisions ds) row.decisions + terms_by (over_box low high) row.states
+
+-- the amounts of these rows, by their index, none above 2^127
+abbrev pub FixedRows : List Decision → List ℤ → List ℤ → List Row → List ℕ → Type 0
+FixedRows ds low high rows amounts = (i : ℕ) (row : Row) (amount : ℕ) → i < length rows → get_or amounts i amount ≡ min (fixed_row ds low high (get_or rows i row)) (2 ^ 127)
+
+-- a row at its side, with its terms of the random variables, beside what is the same at all realizations
+abbrev pub row_over : List ℤ → Row × ℤ → ℕ → ℕ
+row_over values q fixed = nat_abs (side q.0 q.1) + fixed + terms_by (over_values values) q.0.randoms
+
 -- a row at its side, with its terms
 abbrev pub row_amount : List Decision → List ℤ → List ℤ → List ℤ → Row × ℤ → ℕ
-row_amount ds low high values q =
-    nat_abs (side q.0 q.1) + terms_by (over_decisions ds) q.0.decisions + terms_by (over_box low high) q.0.states + terms_by (over_values values) q.0.randoms
+row_amount ds low high values q = row_over values q (fixed_row ds low high q.0)
 
 -- the rows times their multipliers
 abbrev pub scaled_row : List Decision → List ℤ → List ℤ → List ℤ → Row × ℤ → ℕ
@@ -69,10 +80,13 @@ rows_amount ds low high values rows ys = sum_by (scaled_row ds low high values) 
 abbrev pub decision_amount : Decision → ℕ
 decision_amount d = span d.low d.high * nat_abs d.cost
 
+-- what a stage costs without rows, cuts and random costs, the same at all realizations
+abbrev pub fixed_costs : Subproblem → List ℤ → List ℤ → ℕ
+fixed_costs s low high = nat_abs s.constant + sum_by decision_amount s.decisions + numbers_by (over_box low high) s.state_costs
+
 -- what a stage costs without rows and cuts
 abbrev pub costs_amount : Subproblem → List ℤ → List ℤ → List ℤ → ℕ
-costs_amount s low high values =
-    nat_abs s.constant + numbers_by (over_values values) s.random_costs + sum_by decision_amount s.decisions + numbers_by (over_box low high) s.state_costs
+costs_amount s low high values = fixed_costs s low high + numbers_by (over_values values) s.random_costs
 
 -- a cut at the ends of the boxes of the decisions that leave the stage
 abbrev pub cut_amount : List Decision → List ℕ → Cut → ℕ
@@ -108,3 +122,9 @@ certificate_amount n s low high pools q =
 -- all of a realization
 abbrev pub weighted_amount : Node → Subproblem → List ℤ → List ℤ → List (List Cut) → ℕ × (List ℤ × Certificate) → ℕ
 weighted_amount n s low high pools q = q.0 * certificate_amount n s low high pools q.1
+
+-- the amounts that are the same at all realizations: those of the rows, by their index, and that of the costs
+pub record Fixed (s : Subproblem) (low high : List ℤ) (amounts : List ℕ) (cost : ℕ) : Type 0 where
+  pub room : length s.rows ≤ length amounts
+  pub rows : FixedRows s.decisions low high s.rows amounts
+  pub costs : cost ≡ min (fixed_costs s low high) (2 ^ 127)

@@ -13,6 +13,7 @@ pub mod sides;
 mod size;
 
 pub use acceptance::checker::{accept, accept_with};
+pub use acceptance::making::accept_into;
 pub use base_pools::{BaseFault, base};
 pub use cut_making::make::{make_into, make_with};
 pub use fault::CertFault;

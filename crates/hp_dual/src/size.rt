@@ -1,11 +1,13 @@
 // The size of a list of certificates: the sum of absolute values, before any cancellation, that acceptance bounds.
 mod cuts;
+mod fixed;
 mod range;
 mod repeated;
 mod rows;
 mod stages;
 mod terms;
 
-pub(crate) use range::{range_with, remainders_range};
+pub(crate) use fixed::{FixedAmounts, write_rows};
+pub(crate) use range::{remainders_range, sums_in_range};
 pub(crate) use repeated::repeated_range;
 pub(crate) use stages::realization_size;

@@ -12,7 +12,7 @@ ghost use Rattle.hp_load.specs.Cuts.{step_added, steps_added, entries_added};
 
 use crate::refusal::{JournalRefusal, LoadFault};
 use hp_cut::{Cut, Entry, EntryStep, Pools};
-use hp_dual::{accept, make_into};
+use hp_dual::accept_into;
 use hp_num::{List, Memory};
 use hp_problem::Problem;
 use std::alloc::Global;
@@ -21,11 +21,10 @@ use std::alloc::Global;
 fn no_slopes(alloc: Global, states: usize) -> Result<Cut, Memory>
     ensures { IfOk result (λ cut. length cut.beta ≡ states) }
 {
-    let mut beta = List::new(alloc);
-    for _ in 0..states {
-        beta.push(0)?;
-    }
-    Ok(Cut { alpha: 0, beta })
+    Ok(Cut {
+        alpha: 0,
+        beta: List::from_vec(vec![in alloc; 0i128; states]?),
+    })
 }
 
 // Appends the cut of a step, where its certificates are accepted over the cuts so far.
@@ -43,18 +42,15 @@ fn add_cut(
     ensures value { Gives (λ _. pools.new.lists) result (step_added problem.now iteration pools.old.lists step.now) }
     ensures own { IfErr result (λ fault. fault ≢ faults.DiskFault) }
 {
-    let states = problem.raw().states.len();
+    let mut cut = no_slopes(alloc, problem.raw().states.len())?;
     let list = step.list.as_slice();
-    if let Err(fault) = accept(problem, pools, step.node, list) {
+    if let Err(fault) = accept_into(problem, pools, step.node, list, &mut cut) {
         return Err(LoadFault::Refused(JournalRefusal::BadCertificate {
             iteration,
             node: step.node,
             fault,
         }));
     }
-    let mut cut = no_slopes(alloc, states)?;
-    pools.reserve(step.node)?;
-    make_into(problem, pools, step.node, list, &mut cut);
     pools.push(step.node, cut)?;
     Ok(())
 }

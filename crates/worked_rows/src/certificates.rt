@@ -5,7 +5,7 @@ ghost use Rattle.hp_theory.specs.View.{problem_of};
 
 use crate::fault::RowFault;
 use hp_cut::{Certificate, Cut, Pools};
-use hp_dual::{CertFault, accept, accept_with, base, make_into, make_with};
+use hp_dual::{CertFault, accept, accept_into, accept_with, base, make_into, make_with};
 use hp_num::List;
 use hp_problem::Problem;
 use hp_sof::read_problem;
@@ -121,6 +121,17 @@ fn is_made(problem: &Problem, pools: &Pools, list: &[Certificate], cut: &mut Cut
     }
 }
 
+/// The same by one call.
+fn is_made_at_once(problem: &Problem, pools: &Pools, list: &[Certificate], cut: &mut Cut) -> bool
+    requires { Fit (problem_of problem.now) (length problem.now.raw.nodes) pools.now.lists }
+{
+    let raw = problem.raw();
+    if raw.nodes.is_empty() || cut.beta.len() != raw.states.len() {
+        return false;
+    }
+    accept_into(problem, pools, 0, list, cut).is_ok()
+}
+
 /// The same with given weights.
 fn is_made_with(
     problem: &Problem,
@@ -184,6 +195,26 @@ fn cut_of(
     cut_text(alloc, is_made, &cut)
 }
 
+/// The cut of a list at the first node over the base cuts, by one call.
+fn cut_at_once(alloc: Global, problem: &Problem, list: &[Certificate]) -> Result<String, RowFault> {
+    let pools = base(alloc, problem)?;
+    let mut cut = blank(alloc, problem)?;
+    let is_made = is_made_at_once(problem, &pools, list, &mut cut);
+    cut_text(alloc, is_made, &cut)
+}
+
+/// The cut of a list at the first node with the realizations' own weights, which acceptance writes too: both ways, where
+/// they differ.
+fn own_cut(alloc: Global, problem: &Problem, list: &[Certificate]) -> Result<String, RowFault> {
+    let made = cut_of(alloc, problem, None, list)?;
+    let at_once = cut_at_once(alloc, problem, list)?;
+    if made.as_str() == at_once.as_str() {
+        Ok(made)
+    } else {
+        Ok(format!(in alloc; "{made}, at once {at_once}")?)
+    }
+}
+
 /// The first fault of a list at a node over the base cuts.
 fn fault_of(
     alloc: Global,
@@ -205,6 +236,7 @@ fn said(
 ) -> Result<String, RowFault> {
     match fault_of(alloc, problem, node, list)? {
         Some(fault) => Ok(format!(in alloc; "{fault:?}")?),
+        None if node == 0 && weights.is_none() => own_cut(alloc, problem, list),
         None if node == 0 => cut_of(alloc, problem, weights, list),
         None => Ok(String::from_str(alloc, "accepted")?),
     }

@@ -12,15 +12,32 @@ ghost use Rattle.hp_theory.specs.Size.{size_of};
 ghost use Rattle.hp_theory.specs.Base.{base_list};
 ghost use Rattle.hp_theory.specs.Fit.{FitFor};
 ghost use Rattle.hp_dual.specs.Sized.{Sized};
-ghost use Rattle.hp_dual.specs.Acceptance.{right_fault, range_fault, fault_of, Accepts};
+ghost use Rattle.hp_dual.specs.Acceptance.{right_fault, range_fault, fault_of, Accepts, SumsAccepted};
 
 use super::walk::{check_certificates, check_count};
 use crate::fault::CertFault;
 use crate::node_at::{NodeAt, own_weights};
-use crate::size::range_with;
+use crate::size::sums_in_range;
 use hp_cut::Pools;
-use hp_problem::Problem;
+use hp_problem::{MOST_STATES, Problem};
 use hp_theory::Certificate;
+
+/// B modulo 2^128 where the size stays in range.
+pub(super) fn range_sums(
+    here: &NodeAt,
+    list: &[Certificate],
+) -> Result<[i128; MOST_STATES], CertFault>
+    requires sized { Sized here.now.pools.now.lists here.now.node.now here.now.subproblem.now here.now.low.now here.now.weights.now }
+    requires list { length list.now ≡ length here.now.weights.now }
+    ensures { SumsAccepted here.now.weights.now here.now.node.now here.now.subproblem.now list.now (range_fault here.now.pools.now.lists (with_weights here.now.weights.now (node_of here.now.node.now here.now.subproblem.now here.now.low.now here.now.high.now)) list.now) result }
+{
+    match sums_in_range(here, list) {
+        Ok(sums) => Ok(sums),
+        Err(r) => Err(CertFault::Range {
+            realization: r as u32,
+        }),
+    }
+}
 
 /// The size stays in range.
 fn check_range(here: &NodeAt, list: &[Certificate]) -> Result<(), CertFault>
@@ -28,11 +45,9 @@ fn check_range(here: &NodeAt, list: &[Certificate]) -> Result<(), CertFault>
     requires list { length list.now ≡ length here.now.weights.now }
     ensures { Accepts result (range_fault here.now.pools.now.lists (with_weights here.now.weights.now (node_of here.now.node.now here.now.subproblem.now here.now.low.now here.now.high.now)) list.now) }
 {
-    match range_with(here, list) {
-        None => Ok(()),
-        Some(r) => Err(CertFault::Range {
-            realization: r as u32,
-        }),
+    match range_sums(here, list) {
+        Ok(_) => Ok(()),
+        Err(fault) => Err(fault),
     }
 }
 

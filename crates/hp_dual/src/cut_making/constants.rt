@@ -95,15 +95,22 @@ pub(crate) fn link_constants(links: &[u32], pools: &Pools, cuts: &[List<(u32, u6
     sum
 }
 
+/// The end of a decision's box at which its product with a reduced cost is least.
+fn least_end(reduced: i128, decision: &Decision) -> i64
+    ensures { reduced *ℤ result ≡ int_min (reduced *ℤ decision.now.low) (reduced *ℤ decision.now.high) }
+{
+    let lesser = decision.low.min(decision.high);
+    let greater = decision.low.max(decision.high);
+    if reduced < 0 { greater } else { lesser }
+}
+
 /// The least product of a reduced cost and a value in a decision's box, where both products are in range.
 fn box_least(reduced: i128, decision: &Decision) -> i128
     ensures { (magnitude reduced *ℤ magnitude decision.now.low) ≤ℤ pos (2 ^ 127 - 1)
         → (magnitude reduced *ℤ magnitude decision.now.high) ≤ℤ pos (2 ^ 127 - 1)
         → result ≡ int_min (reduced *ℤ decision.now.low) (reduced *ℤ decision.now.high) }
 {
-    let low = wrapping_product(reduced, i128::from(decision.low));
-    let high = wrapping_product(reduced, i128::from(decision.high));
-    low.min(high)
+    wrapping_product(reduced, i128::from(least_end(reduced, decision)))
 }
 
 /// The sum of these over all decisions, modulo 2^128.

@@ -8,9 +8,9 @@ ghost use Rattle.hp_theory.specs.Pools.{pool};
 ghost use Rattle.hp_dual.specs.Parts.{over_pool, over_links};
 ghost use Rattle.hp_dual.specs.Tabled.{Tabled};
 
-use super::wrapping::wrapping_add_product;
+use super::wrapping::{wide_product, wrapping_add_product};
 use crate::node_at::NodeAt;
-use crate::scales::SCALE;
+use crate::scales::SHORT_SCALE;
 use hp_cut::{Cut, Pools};
 use hp_num::List;
 use hp_problem::{Decision, Row};
@@ -26,8 +26,25 @@ pub(super) fn add_at(sums: &mut [i128], decision: usize, x: i128, y: i128)
     sums[decision] = wrapping_add_product(sums[decision], x, y);
 }
 
-/// Adds a multiple of the terms, each to its decision's sum, modulo 2^128.
-pub(super) fn add_terms(sums: &mut [i128], multiplier: i128, terms: &[(u32, i64)])
+/// Adds a multiple of the terms, each to its decision's sum, modulo 2^128. Numbers of 64 bits take one multiplication each.
+fn add_narrow_terms(sums: &mut [i128], multiplier: i64, terms: &[(u32, i64)])
+    requires { All (λ t. t.0 < length sums.old) terms.now }
+    ensures count { length sums.new ≡ length sums.old }
+    ensures value { (f : ℕ → ℤ) → Tabled f sums.old
+        → Tabled (λ j. f j +ℤ multiplier *ℤ coefficient terms.now j) sums.new }
+{
+    for (variable, factor) in terms {
+        add_at(
+            sums,
+            *variable as usize,
+            i128::from(multiplier),
+            i128::from(*factor),
+        );
+    }
+}
+
+/// The same for a multiplier of 128 bits.
+fn add_wide_terms(sums: &mut [i128], multiplier: i128, terms: &[(u32, i64)])
     requires { All (λ t. t.0 < length sums.old) terms.now }
     ensures count { length sums.new ≡ length sums.old }
     ensures value { (f : ℕ → ℤ) → Tabled f sums.old
@@ -35,6 +52,19 @@ pub(super) fn add_terms(sums: &mut [i128], multiplier: i128, terms: &[(u32, i64)
 {
     for (variable, factor) in terms {
         add_at(sums, *variable as usize, multiplier, i128::from(*factor));
+    }
+}
+
+/// Adds a product of two numbers times the terms, each to its decision's sum, modulo 2^128.
+pub(super) fn add_terms(sums: &mut [i128], x: i64, y: i64, terms: &[(u32, i64)])
+    requires { All (λ t. t.0 < length sums.old) terms.now }
+    ensures count { length sums.new ≡ length sums.old }
+    ensures value { (f : ℕ → ℤ) → Tabled f sums.old
+        → Tabled (λ j. f j +ℤ x *ℤ y *ℤ coefficient terms.now j) sums.new }
+{
+    match x.checked_mul(y) {
+        Some(multiplier) => add_narrow_terms(sums, multiplier, terms),
+        None => add_wide_terms(sums, wide_product(x, y), terms),
     }
 }
 
@@ -58,11 +88,7 @@ fn add_row(sums: &mut [i128], row: &Row, multiplier: i64)
         → Tabled (λ j. f j -ℤ pos S *ℤ (multiplier *ℤ coefficient row.now.decisions j)) sums.new }
 {
     if multiplier != 0 {
-        add_terms(
-            sums,
-            -SCALE * i128::from(multiplier),
-            row.decisions.as_slice(),
-        );
+        add_terms(sums, -SHORT_SCALE, multiplier, row.decisions.as_slice());
     }
 }
 
@@ -79,7 +105,7 @@ fn add_rows(sums: &mut [i128], rows: &[Row], multipliers: &[i64])
 }
 
 /// Adds the decisions' costs at a scale, modulo 2^128.
-fn add_costs(sums: &mut [i128], scale: i128, decisions: &[Decision])
+pub(super) fn add_costs(sums: &mut [i128], scale: i128, decisions: &[Decision])
     requires { length decisions.now ≤ length sums.old }
     ensures count { length sums.new ≡ length sums.old }
     ensures value { (f : ℕ → ℤ) → Tabled f sums.old
@@ -133,25 +159,18 @@ fn add_links(
     }
 }
 
-/// d_j for each decision, modulo 2^128; the table has zeros before.
-pub(crate) fn add_reduced_costs(
-    sums: &mut [i128],
-    scale: i128,
-    here: &NodeAt,
-    certificate: &Certificate,
-)
-    requires decisions { length here.now.subproblem.now.decisions ≤ length sums.old }
+/// Adds what the multipliers of a certificate make of each decision's reduced cost, modulo 2^128. With the decision's cost
+/// at the scale it is d_j.
+pub(super) fn add_multipliers(sums: &mut [i128], here: &NodeAt, certificate: &Certificate)
     requires rows { All (λ (row : Row). All (λ (t : ℕ × ℤ). t.0 < length sums.old) row.decisions) here.now.subproblem.now.rows }
     requires outs { All (λ o. o < length sums.old) here.now.subproblem.now.outs }
     requires known { All (λ m. m < length here.now.pools.now.lists) here.now.node.now.links }
     requires there { All (λ (q : ℕ × List (ℕ × ℕ)). All (λ (s : ℕ × ℕ). s.0 < length (pool here.now.pools.now.lists q.0)) q.1) (zip here.now.node.now.links certificate.now.cuts) }
     ensures count { length sums.new ≡ length sums.old }
     ensures value { (f : ℕ → ℤ) → Tabled f sums.old
-        → Tabled (λ j. f j +ℤ scale *ℤ entry (map (λ (d : Decision). d.cost) here.now.subproblem.now.decisions) j
-        -ℤ pos S *ℤ total (λ (q : Row × ℤ). q.1 *ℤ coefficient q.0.decisions j) (zip here.now.subproblem.now.rows certificate.now.rows)
+        → Tabled (λ j. f j -ℤ pos S *ℤ total (λ (q : Row × ℤ). q.1 *ℤ coefficient q.0.decisions j) (zip here.now.subproblem.now.rows certificate.now.rows)
         +ℤ over_links here.now.pools.now.lists here.now.node.now.links certificate.now.cuts (λ cut. coefficient (placed here.now.subproblem.now.outs cut.beta) j)) sums.new }
 {
-    add_costs(sums, scale, here.subproblem.decisions.as_slice());
     add_rows(
         sums,
         here.subproblem.rows.as_slice(),

@@ -1,5 +1,5 @@
 // Sums of products modulo 2^128. A sum whose value is in the range of 128 bits is exact, whatever its parts are.
-ghost use Rattle.std.specs.Prelude.{◌+ℤ◌, ◌*ℤ◌};
+ghost use Rattle.std.specs.Prelude.{◌≡◌, ◌+ℤ◌, ◌*ℤ◌};
 ghost use Rattle.hp_dual.specs.Congruent.{Congruent};
 
 /// The sum with one product more, modulo 2^128.
@@ -21,4 +21,11 @@ pub(crate) fn wrapping_product(x: i128, y: i128) -> i128
     ensures { Congruent result (x *ℤ y) }
 {
     x.wrapping_mul(y)
+}
+
+/// The product of two numbers of 64 bits.
+pub(crate) fn wide_product(x: i64, y: i64) -> i128
+    ensures { result ≡ x *ℤ y }
+{
+    i128::from(x) * i128::from(y)
 }

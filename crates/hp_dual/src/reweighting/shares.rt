@@ -7,13 +7,14 @@ ghost use Rattle.hp_dual.specs.Congruent.{Congruent};
 ghost use Rattle.hp_dual.specs.Parts.{Limited, PairsThere, constant_at};
 ghost use Rattle.hp_dual.specs.Shares.{Shares};
 ghost use Rattle.hp_dual.specs.Sized.{Sized};
-ghost use Rattle.hp_dual.specs.SizeByTerms.{certificate_amount};
+ghost use Rattle.hp_dual.specs.SizeByTerms.{Fixed, certificate_amount};
 
 use crate::cut_making::{constant_over, fixed_constant};
 use crate::node_at::NodeAt;
 use crate::scales::scale;
-use crate::size::realization_size;
+use crate::size::{FixedAmounts, realization_size, write_rows};
 use hp_num::{List, Memory};
+use hp_problem::MOST_ROWS;
 use hp_theory::Certificate;
 use std::alloc::Global;
 
@@ -26,15 +27,16 @@ pub struct Share {
     pub constant: i128,
 }
 
-fn share_of(here: &NodeAt, values: &[i64], certificate: &Certificate) -> Share
+fn share_of(here: &NodeAt, fixed: &FixedAmounts, values: &[i64], certificate: &Certificate) -> Share
     requires limits { Limited here.now.node.now here.now.subproblem.now }
     requires sized { Sized here.now.pools.now.lists here.now.node.now here.now.subproblem.now here.now.low.now here.now.weights.now }
     requires there { PairsThere here.now.pools.now.lists here.now.node.now.links certificate.now.cuts }
+    requires fixed { Fixed here.now.subproblem.now here.now.low.now here.now.high.now fixed.now.rows.now fixed.now.costs }
     requires values { length values.now ≡ length here.now.subproblem.now.randoms }
     ensures size { result.size ≡ min (certificate_amount here.now.node.now here.now.subproblem.now here.now.low.now here.now.high.now here.now.pools.now.lists (values.now, certificate.now)) (2 ^ 127) }
     ensures constant { result.size < 2 ^ 127 → Congruent result.constant (constant_at (scale (node_of here.now.node.now here.now.subproblem.now [] [])) here.now.pools.now.lists here.now.node.now here.now.subproblem.now values.now certificate.now) }
 {
-    let Some(size) = realization_size(here, values, certificate) else {
+    let Some(size) = realization_size(here, fixed, values, certificate) else {
         return Share {
             size: 1 << 127,
             constant: 0,
@@ -62,9 +64,12 @@ pub(super) fn all_shares(
     ensures { IfOk result (Shares here.now.pools.now.lists here.now.node.now here.now.subproblem.now here.now.low.now here.now.high.now list.now) }
 {
     let values = here.node.values.as_slice();
+    let mut rows: [u128; MOST_ROWS] = [0; MOST_ROWS];
+    write_rows(here, &mut rows);
+    let fixed = FixedAmounts::of(here, &rows);
     let mut found = List::new(alloc);
     for r in 0..list.len() {
-        found.push(share_of(here, values[r].as_slice(), &list[r]))?;
+        found.push(share_of(here, &fixed, values[r].as_slice(), &list[r]))?;
     }
     Ok(found)
 }

@@ -10,8 +10,9 @@ ghost use Rattle.hp_theory.specs.Range.{range_of};
 ghost use Rattle.hp_dual.specs.Parts.{slope_size};
 ghost use Rattle.hp_dual.specs.Sized.{Sized, Passes, unboxed, remainders_amount};
 ghost use Rattle.hp_dual.specs.SizeByTerms.{Adds, weighted_amount};
-ghost use Rattle.hp_dual.specs.Tabled.{Tabled};
+ghost use Rattle.hp_dual.specs.Tabled.{SumsInRange, Tabled};
 
+use super::fixed::{FixedAmounts, write_rows};
 use super::stages::realization_size;
 use super::terms::plus_scaled;
 use crate::cut_making::slope_sums;
@@ -19,6 +20,7 @@ use crate::magnitudes::absolute;
 use crate::node_at::NodeAt;
 use crate::scales::divisor;
 use hp_num::Size;
+use hp_problem::{MOST_ROWS, MOST_STATES};
 use hp_theory::Certificate;
 
 /// The sizes of all realizations by their weights, or the first that brings the sum above 2^127 - 1.
@@ -30,9 +32,12 @@ fn realizations_size(here: &NodeAt, list: &[Certificate]) -> Result<Size, usize>
         (Passes (weighted_amount here.now.node.now here.now.subproblem.now here.now.low.now here.now.high.now here.now.pools.now.lists) (zip here.now.weights.now (zip here.now.node.now.values list.now))) }
 {
     let values = here.node.values.as_slice();
+    let mut rows: [u128; MOST_ROWS] = [0; MOST_ROWS];
+    write_rows(here, &mut rows);
+    let fixed = FixedAmounts::of(here, &rows);
     let mut size = Size::zero();
     for r in 0..here.weights.len() {
-        let inner = realization_size(here, values[r].as_slice(), &list[r]);
+        let inner = realization_size(here, &fixed, values[r].as_slice(), &list[r]);
         let Some(sum) = plus_scaled(size, u128::from(here.weights[r]), inner) else {
             return Err(r);
         };
@@ -81,16 +86,24 @@ pub(crate) fn remainders_range(size: Size, here: &NodeAt, sums: &[i128]) -> Opti
     }
 }
 
-/// The realization at which the size of a list of certificates with given weights passes 2^127 - 1: the least such that
-/// the terms of the realizations up to it do, or their number where only the remainders of the slopes bring it there.
-/// None where the size stays in range.
-pub(crate) fn range_with(here: &NodeAt, list: &[Certificate]) -> Option<usize>
+/// B modulo 2^128 where the size of a list of certificates with given weights stays in range. Else the realization at
+/// which it passes 2^127 - 1: the least such that the terms of the realizations up to it do, or their number where only
+/// the remainders of the slopes bring it there.
+pub(crate) fn sums_in_range(
+    here: &NodeAt,
+    list: &[Certificate],
+) -> Result<[i128; MOST_STATES], usize>
     requires sized { Sized here.now.pools.now.lists here.now.node.now here.now.subproblem.now here.now.low.now here.now.weights.now }
     requires list { length list.now ≡ length here.now.weights.now }
-    ensures { result ≡ range_of here.now.pools.now.lists (with_weights here.now.weights.now (node_of here.now.node.now here.now.subproblem.now here.now.low.now here.now.high.now)) list.now }
+    ensures { SumsInRange here.now.weights.now here.now.node.now here.now.subproblem.now list.now (range_of here.now.pools.now.lists (with_weights here.now.weights.now (node_of here.now.node.now here.now.subproblem.now here.now.low.now here.now.high.now)) list.now) result }
 {
-    match realizations_size(here, list) {
-        Err(realization) => Some(realization),
-        Ok(size) => remainders_range(size, here, &slope_sums(here, list)),
+    let size = match realizations_size(here, list) {
+        Ok(size) => size,
+        Err(realization) => return Err(realization),
+    };
+    let sums = slope_sums(here, list);
+    match remainders_range(size, here, &sums) {
+        Some(realization) => Err(realization),
+        None => Ok(sums),
     }
 }

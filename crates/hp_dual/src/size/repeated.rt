@@ -8,12 +8,14 @@ ghost use Rattle.hp_dual.specs.Parts.{repeated};
 ghost use Rattle.hp_dual.specs.Sized.{Sized, Passes};
 ghost use Rattle.hp_dual.specs.SizeByTerms.{weighted_amount};
 
+use super::fixed::{FixedAmounts, write_rows};
 use super::range::remainders_range;
 use super::stages::{pairs_size, realization_over};
 use super::terms::plus_scaled;
 use crate::cut_making::repeated_slope_sums;
 use crate::node_at::NodeAt;
 use hp_num::Size;
+use hp_problem::MOST_ROWS;
 use hp_theory::Certificate;
 
 /// The sizes of all realizations by their weights, or the first that brings the sum above 2^127 - 1.
@@ -25,9 +27,12 @@ fn realizations_size(here: &NodeAt, certificate: &Certificate) -> Result<Size, u
 {
     let values = here.node.values.as_slice();
     let pairs = pairs_size(here, certificate);
+    let mut rows: [u128; MOST_ROWS] = [0; MOST_ROWS];
+    write_rows(here, &mut rows);
+    let fixed = FixedAmounts::of(here, &rows);
     let mut size = Size::zero();
     for r in 0..here.weights.len() {
-        let inner = realization_over(pairs, here, values[r].as_slice(), certificate);
+        let inner = realization_over(pairs, here, &fixed, values[r].as_slice(), certificate);
         match plus_scaled(size, u128::from(here.weights[r]), inner) {
             Some(sum) => size = sum,
             None => return Err(r),

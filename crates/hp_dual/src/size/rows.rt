@@ -1,40 +1,48 @@
 // The size of the rows of a certificate.
-ghost use Rattle.hp_dual.specs.SizeByTerms.{Adds, row_amount, scaled_row, rows_amount};
+ghost use Rattle.std.specs.Prelude.{◌≡◌, ◌≤◌, ◌*◌, ◌^◌, ℕ, ℤ, List, length, min, nat_abs};
+ghost use Rattle.hp_problem.specs.declared.raw.Decision.{Decision};
+ghost use Rattle.hp_dual.specs.SizeByTerms.{Adds, row_over, rows_amount, FixedRows};
 
-use super::terms::{StageMultiples, plus_scaled, plus_terms};
+use super::fixed::plus_capped;
+use super::terms::{Values, plus_scaled, plus_terms};
 use crate::magnitudes::absolute;
 use crate::sides::row_side;
 use hp_num::Size;
 use hp_problem::Row;
 
-/// A row's side and its terms.
-fn row_size(row: &Row, multiplier: i64, by: &StageMultiples) -> Option<Size>
-    ensures { Adds 0 result (row_amount by.now.decisions.decisions.now by.now.states.low.now by.now.states.high.now by.now.values.values.now (row.now, multiplier)) }
+/// A row's side and its terms of the random variables, beside what is the same at all realizations.
+fn row_size(row: &Row, multiplier: i64, fixed: u128, values: &Values) -> Option<Size>
+    ensures { (amount : ℕ) → fixed ≡ min amount (2 ^ 127) → Adds 0 result (row_over values.now.values.now (row.now, multiplier) amount) }
 {
-    let fixed = Size::zero().plus_product(1, absolute(row_side(row, multiplier)))?;
-    let decided = plus_terms(fixed, row.decisions.as_slice(), &by.decisions)?;
-    let incoming = plus_terms(decided, row.states.as_slice(), &by.states)?;
-    plus_terms(incoming, row.randoms.as_slice(), &by.values)
+    let side = Size::zero().plus_product(1, absolute(row_side(row, multiplier)))?;
+    let sided = plus_capped(side, fixed)?;
+    plus_terms(sided, row.randoms.as_slice(), values)
 }
 
 /// A row times its multiplier.
-fn plus_row(size: Size, row: &Row, multiplier: i64, by: &StageMultiples) -> Option<Size>
-    ensures { Adds size.total result (scaled_row by.now.decisions.decisions.now by.now.states.low.now by.now.states.high.now by.now.values.values.now (row.now, multiplier)) }
+fn plus_row(size: Size, row: &Row, multiplier: i64, fixed: u128, values: &Values) -> Option<Size>
+    ensures { (amount : ℕ) → fixed ≡ min amount (2 ^ 127) → Adds size.total result (nat_abs multiplier * row_over values.now.values.now (row.now, multiplier) amount) }
 {
     if multiplier == 0 {
         return Some(size);
     }
-    let inner = row_size(row, multiplier, by);
+    let inner = row_size(row, multiplier, fixed, values);
     plus_scaled(size, absolute(multiplier), inner)
 }
 
-/// The rows times their multipliers.
-pub(super) fn rows_size(rows: &[Row], multipliers: &[i64], by: &StageMultiples) -> Option<Size>
-    ensures { Adds 0 result (rows_amount by.now.decisions.decisions.now by.now.states.low.now by.now.states.high.now by.now.values.values.now rows.now multipliers.now) }
+/// The rows times their multipliers, beside what is the same at all realizations.
+pub(super) fn rows_size(
+    rows: &[Row],
+    multipliers: &[i64],
+    fixed: &[u128],
+    values: &Values,
+) -> Option<Size>
+    requires room { length rows.now ≤ length fixed.now }
+    ensures { (ds : List Decision) (low high : List ℤ) → FixedRows ds low high rows.now fixed.now → Adds 0 result (rows_amount ds low high values.now.values.now rows.now multipliers.now) }
 {
     let mut sum = Size::zero();
     for i in 0..rows.len().min(multipliers.len()) {
-        sum = plus_row(sum, &rows[i], multipliers[i], by)?;
+        sum = plus_row(sum, &rows[i], multipliers[i], fixed[i], values)?;
     }
     Some(sum)
 }

@@ -74,14 +74,6 @@ impl Multiples for Values<'_> {
     }
 }
 
-/// What the factors of a stage's terms are multiplied with.
-#[derive(Clone, Copy)]
-pub(super) struct StageMultiples<'a> {
-    pub(super) decisions: DecisionBoxes<'a>,
-    pub(super) states: StateBox<'a>,
-    pub(super) values: Values<'a>,
-}
-
 /// A term's factor times its multiple.
 fn plus_term<M: Multiples>(size: Size, term: &(u32, i64), multiples: &M) -> Option<Size>
     ensures { Adds size.total result (term_by (M.at multiples.now) term.now) }

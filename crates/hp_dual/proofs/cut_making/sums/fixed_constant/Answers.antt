@@ -1,22 +1,22 @@
-use Rattle.std.proofs.Common.{ℤ, to_z, of_z, ap, ◌∙◌}
+use Rattle.std.proofs.Common.{◌*ℤ◌, pos, map, length, ◌∙◌}
 use mir.Syntax.{w128}
+use lib.IntN.{+ℤ_idl}
 use Rattle.std.specs.Int.{int_wrap}
 use Rattle.std.proofs.lemmas.Int.{to_z-of_z}
-use Rattle.hp_theory.specs.declared.cut.Cut.{Cut}
-use Rattle.hp_dual.specs.Congruent.{Congruent}
-use Rattle.hp_dual.specs.Parts.{over_links, least_at}
-use Rattle.hp_dual.proofs.Congruence.{same_add, same_read}
+use Rattle.hp_num.specs.Sums.{entry}
+use Rattle.hp_problem.specs.declared.raw.Decision.{Decision}
+use Rattle.hp_dual.specs.Parts.{costs_at}
+use Rattle.hp_dual.specs.Tabled.{Tabled}
+use Rattle.hp_dual.proofs.Congruence.{same_read}
+use Rattle.hp_dual.proofs.Tables.{tabled_as, tabled_front, zeros}
 use Rattle.hp_dual.proofs.cut_making.sums.fixed_constant.Goals as goal
 
 pub returns : goal.returns
 returns c =
-    let k : ℤ = c.args.scale in
-    let h = c.args.here.now in
-    let first : Cut → ℤ = λ (cut : Cut). cut.alpha in
-    let p : ℤ = over_links h.pools.now.lists h.node.now.links c.args.certificate.now.cuts first in
-    let l : ℤ = least_at k h.pools.now.lists h.node.now h.subproblem.now c.args.certificate.now in
-    let least : Congruent (to_z w128 (of_z w128 c.least_sum-least.result)) l = same_read c.least_sum-least.result (record { sfits = c.least_sum-least.type_inv }) ∙ c.least_sum-least.ensures
-    ∙ ap (λ (z : ℤ). int_wrap w128 (least_at z h.pools.now.lists h.node.now h.subproblem.now c.args.certificate.now)) (to_z-of_z w128 k c.ranges.scale) in
-    let pairs : Congruent (to_z w128 (of_z w128 c.link_constants-pairs.result)) p =
-    same_read c.link_constants-pairs.result (record { sfits = c.link_constants-pairs.type_inv }) ∙ c.link_constants-pairs.ensures ∙ (λ i. int_wrap w128 (over_links h.pools.now.lists (c.as_slice.ensures i) (c.as_slice-2.ensures i) first)) in
-    same_read c.wrapping_add.result (record { sfits = c.wrapping_add.type_inv }) ∙ c.wrapping_add.ensures ∙ same_add _ _ p l pairs least
+    let s = c.args.here.now.subproblem.now in
+    let start : Tabled (costs_at c.args.scale s) c.add_costs.new.sums =
+    tabled_as _ _ c.add_costs.new.sums
+    (λ j i. int_wrap w128 (+ℤ_idl (to_z-of_z w128 c.args.scale c.ranges.scale i *ℤ entry (map (λ (d : Decision). d.cost) (c.as_slice-decisions.ensures i)) j) i))
+    (c.add_costs.ensures.value (λ j. pos 0) (zeros 200)) in
+    same_read c.fixed_part.result (record { sfits = c.fixed_part.type_inv })
+    ∙ c.fixed_part.ensures.value c.args.scale (tabled_front (costs_at c.args.scale s) c.add_costs.new.sums (length c.as_slice-decisions.result.now) start) c.requires.small

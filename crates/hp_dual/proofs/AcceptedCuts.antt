@@ -1,0 +1,56 @@
+-- The cut of an accepted list over the parts of a node, and at a node with its own weights.
+use Rattle.std.proofs.Common.{◌≡◌, ◌<◌, ◌≤◌, ℕ, ℤ, true, List, length, All, Result, Ok, Err, None, Option, IfOk, sym, ap, subst, ◌∙◌}
+use Rattle.hp_problem.specs.declared.raw.Node as nodes
+use Rattle.hp_problem.specs.declared.raw.Subproblem.{Subproblem}
+use Rattle.hp_problem.specs.Sealed.{Sealed, is_sealed}
+use Rattle.hp_theory.specs.declared.cut.Cut.{Cut}
+use Rattle.hp_theory.specs.declared.cut.Certificate.{Certificate}
+use Rattle.hp_theory.specs.Problem.{Node, node_at, with_weights}
+use Rattle.hp_theory.specs.View.{node_of, problem_of}
+use Rattle.hp_theory.specs.CutOf.{slope, cut_of}
+use Rattle.hp_theory.specs.Fit.{CutFits}
+use Rattle.hp_theory.specs.Pools.{Holds, Sound}
+use Rattle.hp_theory.proofs.Duality.{weak_duality}
+use Rattle.hp_theory.proofs.SealedPremises.{shaped-sealed, narrow-sealed}
+use Rattle.hp_theory.proofs.SizeToFit.{length_table, size_to_fit_given}
+use Rattle.hp_dual.specs.declared.fault.CertFault.{CertFault}
+use Rattle.hp_dual.specs.Acceptance.{Accepts, right_fault, range_fault, fault_of}
+use Rattle.hp_dual.specs.Parts.{Limited, Cuttable}
+use Rattle.hp_dual.specs.Sized.{Sized}
+use Rattle.hp_dual.proofs.Accepted.{fault-size, right-fault_of, size-fault_of}
+use Rattle.hp_dual.proofs.SealedCuttable.{cuttable, given_weight}
+
+-- what follows of acceptance and of what then is so
+pub accepted_then : (r : Result (Unit {0}) CertFault) (fault : Option CertFault) (P Q : Type 0) → Accepts r fault → IfOk r (λ u. P) → (fault ≡ None → P → Q) → IfOk r (λ u. Q)
+accepted_then (Ok u) fault P Q a p f = f a p
+accepted_then (Err e) fault P Q a p f = tt
+
+-- the node with its own weights, over its parts
+pub own_node : (k : Node) (n : nodes.Node) (s : Subproblem) (low high : List ℤ) (ws vs : List ℕ) → k ≡ node_of n s low high → vs ≡ ws → with_weights ws k ≡ k → with_weights vs (node_of n s low high) ≡ k
+own_node k n s low high ws vs is weights own = ap (λ (us : List ℕ). with_weights us (node_of n s low high)) weights ∙ ap (with_weights ws) (sym is) ∙ own
+
+module _ (n : nodes.Node) (s : Subproblem) (low high : List ℤ) (ws : List ℕ) (pools : List (List Cut)) (list : List Certificate) (k : Node) (is : k ≡ with_weights ws (node_of n s low high)) where
+  pub range_none : right_fault pools k list ≡ None → range_fault pools (with_weights ws (node_of n s low high)) list ≡ None → fault_of pools k list ≡ None
+  range_none right range = fault-size pools k list right ∙ ap (λ (x : Node). range_fault pools x list) is ∙ range
+
+  pub cuttable_none : Limited n s → Sized pools n s low ws → length low ≡ length s.state_costs → fault_of pools k list ≡ None → Cuttable pools n s low ws list
+  cuttable_none limits sized states none =
+      let own = subst (λ (x : Node). fault_of pools x list ≡ None) is none in
+      cuttable n s low high ws pools list limits sized states (right-fault_of pools (with_weights ws (node_of n s low high)) list own) (size-fault_of pools (with_weights ws (node_of n s low high)) list own)
+
+pub slopes_given : (pools : List (List Cut)) (ws : List ℕ) (n : nodes.Node) (s : Subproblem) (low high : List ℤ) (list : List Certificate) → length (cut_of pools (with_weights ws (node_of n s low high)) list).beta ≡ length low
+unfolding node_of
+slopes_given pools ws n s low high list = length_table (length low) (slope (with_weights ws (node_of n s low high)) list)
+
+-- the cut of an accepted list at a node of a sealed problem, with its own weights
+module _ (p : Sealed) (m : ℕ) (pools : List (List Cut)) (list : List Certificate) (ws : List ℕ) (e : is_sealed p ≡ true) (h : m < length p.raw.nodes) (own : with_weights ws (node_at (problem_of p) m) ≡ node_at (problem_of p) m) where
+  pub accepted_fits : length ws ≡ length (node_at (problem_of p) m).realizations → All (λ w. 1 ≤ w) ws → fault_of pools (node_at (problem_of p) m) list ≡ None → (cut : Cut) → cut ≡ cut_of pools (node_at (problem_of p) m) list → CutFits (node_at (problem_of p) m) cut
+  accepted_fits count positive none cut value =
+      let k : Node = node_at (problem_of p) m in
+      let given : fault_of pools (with_weights ws k) list ≡ None = ap (λ (x : Node). fault_of pools x list) own ∙ none in
+      subst (CutFits k) (sym (value ∙ ap (λ (x : Node). cut_of pools x list) (sym own)))
+      (size_to_fit_given pools ws k list (shaped-sealed p m e h).successors (given_weight p m ws e h count positive) (narrow-sealed p m e h) (size-fault_of pools (with_weights ws k) list given))
+
+  pub accepted_holds : fault_of pools (node_at (problem_of p) m) list ≡ None → (cut : Cut) → cut ≡ cut_of pools (node_at (problem_of p) m) list → Sound (problem_of p) pools → Holds (problem_of p) m cut
+  accepted_holds none cut value sound =
+      subst (Holds (problem_of p) m) (sym value) (weak_duality (problem_of p) pools m list (shaped-sealed p m e h) sound (right-fault_of pools (node_at (problem_of p) m) list none))

@@ -1,0 +1,4 @@
+use Rattle.hp_dual.proofs.acceptance.making.accept_at.Given as goal
+
+abbrev pub ghost-check_right : goal.ghost-check_right
+ghost-check_right g a = g.n

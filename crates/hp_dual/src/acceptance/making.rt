@@ -1,0 +1,72 @@
+// Acceptance of a list of certificates and its cut in one go.
+ghost use Rattle.std.specs.Prelude.{◌≡◌, ◌<◌, length, IfOk};
+ghost use Rattle.hp_theory.specs.Problem as problems;
+ghost use Rattle.hp_theory.specs.Problem.{node_at, with_weights};
+ghost use Rattle.hp_theory.specs.View.{node_of, problem_of};
+ghost use Rattle.hp_theory.specs.CutOf.{beta_sum, cut_of};
+ghost use Rattle.hp_theory.specs.Fit.{CutFits, FitFor};
+ghost use Rattle.hp_theory.specs.Pools.{Holds, Sound};
+ghost use Rattle.hp_dual.specs.Acceptance.{fault_of, Accepts};
+ghost use Rattle.hp_dual.specs.Parts.{Cuttable, Limited};
+ghost use Rattle.hp_dual.specs.Sized.{Sized, unboxed};
+ghost use Rattle.hp_dual.specs.Tabled.{Tabled};
+
+use super::checker::{check_right, range_sums};
+use crate::cut_making::{constant_sum, write_cut_of};
+use crate::fault::CertFault;
+use crate::node_at::{NodeAt, own_weights};
+use hp_cut::{Cut, Pools};
+use hp_problem::Problem;
+use hp_theory::Certificate;
+
+/// Writes the cut of an accepted list of certificates from B modulo 2^128.
+fn write_accepted(here: &NodeAt, list: &[Certificate], sums: &[i128], cut: &mut Cut)
+    requires made { Cuttable here.now.pools.now.lists here.now.node.now here.now.subproblem.now here.now.low.now here.now.weights.now list.now }
+    requires table { length sums.now ≡ 50 }
+    requires sums { Tabled (beta_sum (unboxed here.now.weights.now here.now.node.now here.now.subproblem.now) list.now) sums.now }
+    requires slopes { length cut.old.beta ≡ length here.now.low.now }
+    ensures { cut.new ≡ cut_of here.now.pools.now.lists (with_weights here.now.weights.now (node_of here.now.node.now here.now.subproblem.now here.now.low.now here.now.high.now)) list.now }
+{
+    write_cut_of(here, constant_sum(here, list), sums, cut);
+}
+
+/// Whether a list is accepted over the parts of a node; where it is, its cut is written.
+fn accept_at(here: &NodeAt, list: &[Certificate], cut: &mut Cut) -> Result<(), CertFault>
+    ghost n: { problems.Node }
+    requires is { n ≡ with_weights here.now.weights.now (node_of here.now.node.now here.now.subproblem.now here.now.low.now here.now.high.now) }
+    requires limits { Limited here.now.node.now here.now.subproblem.now }
+    requires sized { Sized here.now.pools.now.lists here.now.node.now here.now.subproblem.now here.now.low.now here.now.weights.now }
+    requires states { length here.now.low.now ≡ length here.now.subproblem.now.state_costs }
+    requires slopes { length cut.old.beta ≡ length here.now.low.now }
+    ensures accepted { Accepts result (fault_of here.now.pools.now.lists n list.now) }
+    ensures value { IfOk result (λ u. cut.new ≡ cut_of here.now.pools.now.lists n list.now) }
+    ensures slopes { length cut.new.beta ≡ length cut.old.beta }
+{
+    check_right(here, list)?;
+    let sums = range_sums(here, list)?;
+    write_accepted(here, list, &sums, cut);
+    Ok(())
+}
+
+/// Whether a list of certificates is accepted at a node, with its realizations' own weights: Ok, or the first fault, as
+/// `accept` answers. An accepted list's cut is written, as `make_into` writes it; the sums that its slopes come of are
+/// taken once for both. No memory is taken.
+pub fn accept_into(
+    problem: &Problem,
+    pools: &Pools,
+    node: u32,
+    list: &[Certificate],
+    cut: &mut Cut,
+) -> Result<(), CertFault>
+    requires known { node < length problem.now.raw.nodes }
+    requires fit { FitFor (problem_of problem.now) (length problem.now.raw.nodes) pools.now.lists node }
+    requires slopes { length cut.old.beta ≡ length problem.now.raw.states }
+    ensures accepted { Accepts result (fault_of pools.now.lists (node_at (problem_of problem.now) node) list.now) }
+    ensures value { IfOk result (λ u. cut.new ≡ cut_of pools.now.lists (node_at (problem_of problem.now) node) list.now) }
+    ensures fits { IfOk result (λ u. CutFits (node_at (problem_of problem.now) node) cut.new) }
+    ensures holds { IfOk result (λ u. Sound (problem_of problem.now) pools.now.lists → Holds (problem_of problem.now) node cut.new) }
+    ensures slopes { length cut.new.beta ≡ length cut.old.beta }
+{
+    let here = NodeAt::of(problem, pools, node, own_weights(problem, node));
+    accept_at(&here, list, cut)
+}
