@@ -6,9 +6,11 @@ ghost use Rattle.hp_theory.specs.Pools.{pool};
 ghost use Rattle.hp_theory.specs.View.{problem_of};
 
 use crate::fault::RowFault;
-use crate::lines::{push_cuts, push_dead, push_entries};
+use crate::lines::{push_cuts, push_dead, push_entries, push_sums};
+use crate::threaded::Threaded;
+use crate::twice::Twice;
 use hp_backward::SweepFault;
-use hp_cut::Pools;
+use hp_cut::{Entry, Pools};
 use hp_dual::base;
 use hp_lp::Starts;
 use hp_num::{List, Memory};
@@ -16,12 +18,22 @@ use hp_problem::Problem;
 use hp_simplex::DualSimplex;
 use hp_solver::{Answer, Fx, Kind, Liar, Meeting, Solver, Zero};
 use hp_train::batch_once;
+use hp_warm_simplex::WarmSimplex;
 use std::alloc::Global;
 use std::fmt::Write;
 use std::thread::Threads;
 
 /// How the two halves of `Meeting` look for each other: at most so many looks.
 const LOOKS: u64 = 1 << 30;
+
+/// What is printed of training.
+#[derive(Clone, Copy, PartialEq, Eq)]
+pub enum Told {
+    /// Each entry with its certificates, and all cuts.
+    Everything,
+    /// How many programs each iteration solved, and how many answers were of no use.
+    Sums,
+}
 
 /// What is trained.
 #[derive(Clone, Copy)]
@@ -31,6 +43,7 @@ pub struct Plan {
     pub batch: u16,
     /// The number of iterations.
     pub count: u32,
+    pub told: Told,
 }
 
 /// No node has more than 2^23 cuts.
@@ -43,6 +56,14 @@ fn has_room(pools: &Pools) -> bool
         }
     }
     true
+}
+
+/// Appends what is told of an iteration's entries.
+fn push_told(text: &mut String, entries: &[Entry], told: Told) -> Result<(), RowFault> {
+    match told {
+        Told::Everything => push_entries(text, entries),
+        Told::Sums => push_sums(text, entries),
+    }
 }
 
 /// One iteration more.
@@ -69,7 +90,7 @@ fn step<R: Threads + Sync, V: Solver>(
     match batch_once(
         rt, alloc, problem, solver, starts, pools, plan.seed, batch, iteration,
     ) {
-        Ok(entries) => push_entries(text, entries.as_slice()),
+        Ok(entries) => push_told(text, entries.as_slice(), plan.told),
         Err(SweepFault::NoStage(dead)) => push_dead(text, &dead),
         Err(fault) => Err(fault.into()),
     }
@@ -106,7 +127,7 @@ fn steps<R: Threads + Sync, V: Solver>(
     Ok(())
 }
 
-/// The entries of so many iterations, the cuts after them, and the bound.
+/// What is told of so many iterations and of the cuts after them, and the bound.
 fn trained<R: Threads + Sync, V: Solver>(
     rt: &R,
     alloc: Global,
@@ -120,7 +141,9 @@ fn trained<R: Threads + Sync, V: Solver>(
     steps(
         rt, alloc, problem, solver, &starts, plan, &mut pools, &mut text,
     )?;
-    push_cuts(&mut text, &pools)?;
+    if plan.told == Told::Everything {
+        push_cuts(&mut text, &pools)?;
+    }
     write!(text, "bound {}", pools.bound(problem))?;
     Ok(text)
 }
@@ -152,6 +175,33 @@ fn met<R: Threads + Sync>(
     Ok(text)
 }
 
+/// What is trained with the solver of the program, all on one thread or in halves on two.
+fn warm_on<R: Threads + Sync>(
+    rt: &R,
+    alloc: Global,
+    problem: &Problem,
+    worth: bool,
+    plan: Plan,
+) -> Result<String, RowFault> {
+    let solver = &WarmSimplex;
+    trained(rt, alloc, problem, &Threaded { solver, worth }, plan)
+}
+
+/// What is trained with the solver of the program on one thread, where each program is solved twice.
+fn warm_twice<R: Threads + Sync>(
+    rt: &R,
+    alloc: Global,
+    problem: &Problem,
+    plan: Plan,
+) -> Result<String, RowFault> {
+    let twice = Twice {
+        solver: &WarmSimplex,
+    };
+    let solver = &twice;
+    let worth = false;
+    trained(rt, alloc, problem, &Threaded { solver, worth }, plan)
+}
+
 /// What is trained with the solver of a name.
 pub fn trained_by<R: Threads + Sync>(
     rt: &R,
@@ -162,6 +212,10 @@ pub fn trained_by<R: Threads + Sync>(
 ) -> Result<String, RowFault> {
     match solver {
         "dual-simplex" => trained(rt, alloc, problem, &DualSimplex, plan),
+        "warm-simplex" => trained(rt, alloc, problem, &WarmSimplex, plan),
+        "warm-one-thread" => warm_on(rt, alloc, problem, false, plan),
+        "warm-two-threads" => warm_on(rt, alloc, problem, true, plan),
+        "warm-twice" => warm_twice(rt, alloc, problem, plan),
         "zero" => trained(rt, alloc, problem, &Zero, plan),
         "wild" => {
             let liar = Liar::new(wild(alloc, Kind::Found)?);

@@ -41,6 +41,29 @@ pub fn push_entries(text: &mut String, entries: &[Entry]) -> Result<(), RowFault
     Ok(())
 }
 
+/// The programs that an entry's path solved: one forward at each step, and one for each realization back.
+fn solves(entry: &Entry) -> u64 {
+    let mut solves = 0u64;
+    for step in entry.steps.as_slice() {
+        solves = solves.wrapping_add(step.list.len() as u64).wrapping_add(1);
+    }
+    solves
+}
+
+/// Appends how many programs the entries of an iteration solved, and how many answers were of no use.
+pub fn push_sums(text: &mut String, entries: &[Entry]) -> Result<(), RowFault> {
+    for entry in entries {
+        write!(
+            text,
+            "iteration {} solves {} unsettled {}\n",
+            entry.iteration,
+            solves(entry),
+            entry.unsettled
+        )?;
+    }
+    Ok(())
+}
+
 fn push_node_cuts(text: &mut String, node: usize, cuts: &[Cut]) -> Result<(), RowFault> {
     for cut in cuts {
         write!(

@@ -1,12 +1,15 @@
 //! Goes through the worked rows of training in the folder that it runs in, and prints what each gives.
 //!
-//! A row is a line of `rows.txt`: `train NAME PROBLEM SOLVER SEED BATCH COUNT`, which `data/README` explains.
+//! A row is a line of `rows.txt`: `train` or `measure`, and NAME PROBLEM SOLVER SEED BATCH COUNT, which `data/README`
+//! explains.
 #![tactic(auto)]
 
 mod fault;
 mod iterations;
 mod lines;
 mod rows;
+mod threaded;
+mod twice;
 
 use std::{fs, io};
 

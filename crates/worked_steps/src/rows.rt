@@ -1,7 +1,6 @@
 // One row.
 use crate::fault::RowFault;
-use crate::iterations::{Plan, trained_by};
-use hp_problem::Problem;
+use crate::iterations::{Plan, Told, trained_by};
 use hp_sof::read_problem;
 use std::alloc::Global;
 use std::fs;
@@ -17,29 +16,26 @@ fn number(words: &mut SplitWhitespace<'_>) -> Result<u64, RowFault> {
     word(words)?.parse::<u64>().map_err(|_| RowFault::Form)
 }
 
+/// What a kind of row prints.
+fn told(kind: &str) -> Result<Told, RowFault> {
+    match kind {
+        "train" => Ok(Told::Everything),
+        "measure" => Ok(Told::Sums),
+        _ => Err(RowFault::Form),
+    }
+}
+
 /// SEED BATCH COUNT: 1 to 64 paths, and at most 2,000 iterations.
-fn plan(words: &mut SplitWhitespace<'_>) -> Result<Plan, RowFault> {
+fn plan(told: Told, words: &mut SplitWhitespace<'_>) -> Result<Plan, RowFault> {
     let seed = number(words)?;
     let batch = number(words)?.clamp(1, 64) as u16;
     let count = number(words)?.min(2000) as u32;
-    Ok(Plan { seed, batch, count })
-}
-
-fn asked<R: Threads + Sync>(
-    rt: &R,
-    alloc: Global,
-    problem: &Problem,
-    kind: &str,
-    words: &mut SplitWhitespace<'_>,
-) -> Result<String, RowFault> {
-    match kind {
-        "train" => {
-            let solver = word(words)?;
-            let plan = plan(words)?;
-            trained_by(rt, alloc, problem, solver, plan)
-        }
-        _ => Err(RowFault::Form),
-    }
+    Ok(Plan {
+        seed,
+        batch,
+        count,
+        told,
+    })
 }
 
 /// What the row of a line gives.
@@ -49,9 +45,11 @@ pub fn outcome<R: Threads + Sync + Files + AllocGlobal>(
     line: &str,
 ) -> Result<String, RowFault> {
     let mut words = line.split_whitespace();
-    let kind = word(&mut words)?;
+    let told = told(word(&mut words)?)?;
     let _name = word(&mut words)?;
     let text = fs::read_to_string(rt, word(&mut words)?)?;
     let problem = read_problem(alloc, text.as_bytes())?;
-    asked(rt, alloc, &problem, kind, &mut words)
+    let solver = word(&mut words)?;
+    let plan = plan(told, &mut words)?;
+    trained_by(rt, alloc, &problem, solver, plan)
 }

@@ -1,0 +1,110 @@
+// Cuts that fit, from answers that no solver gave.
+ghost use Rattle.std.specs.Prelude.{◌≡◌, ◌<◌, ◌^◌, length, IfOk};
+ghost use Rattle.hp_theory.specs.Fit.{CutFits, Fit};
+ghost use Rattle.hp_theory.specs.Problem.{node_at};
+ghost use Rattle.hp_theory.specs.View.{problem_of};
+
+use crate::answers::answer;
+use crate::fault::PartFault;
+use hp_cut::{Cut, Pools};
+use hp_dual::{accept, make_into};
+use hp_num::{List, Memory};
+use hp_problem::Problem;
+use hp_settle::settle;
+use hp_theory::Certificate;
+use std::alloc::Global;
+
+/// No node gets more cuts.
+const MOST_CUTS: u32 = 1 << 20;
+
+/// The certificates of an answer for each of a node's realizations, with all weight on the first cut of each successor.
+fn certificates(
+    alloc: Global,
+    problem: &Problem,
+    pools: &Pools,
+    node: u32,
+    turn: u32,
+) -> Result<List<Certificate>, Memory>
+    requires known { node < length problem.now.raw.nodes }
+    requires fit { Fit (problem_of problem.now) (length problem.now.raw.nodes) pools.now.lists }
+{
+    let rows = problem.sub(node).rows.len();
+    let answer = answer(alloc, rows, 0, turn)?;
+    let mut list = List::new(alloc);
+    for _ in problem.node(node).weights.as_slice() {
+        list.push(settle(alloc, problem, pools, node, &answer)?)?;
+    }
+    Ok(list)
+}
+
+/// A cut of so many slopes, all 0.
+fn flat(alloc: Global, states: usize) -> Result<Cut, Memory>
+    ensures { IfOk result (λ cut. length cut.beta ≡ states) }
+{
+    Ok(Cut {
+        alpha: 0,
+        beta: List::from_vec(vec![in alloc; 0i128; states]?),
+    })
+}
+
+/// The cut of such certificates.
+fn made(
+    alloc: Global,
+    problem: &Problem,
+    pools: &Pools,
+    node: u32,
+    turn: u32,
+) -> Result<Cut, PartFault>
+    requires known { node < length problem.now.raw.nodes }
+    requires fit { Fit (problem_of problem.now) (length problem.now.raw.nodes) pools.now.lists }
+    ensures { IfOk result (CutFits (node_at (problem_of problem.now) node)) }
+{
+    let list = certificates(alloc, problem, pools, node, turn)?;
+    let mut cut = flat(alloc, problem.raw().states.len())?;
+    match accept(problem, pools, node, list.as_slice()) {
+        Ok(()) => {
+            make_into(problem, pools, node, list.as_slice(), &mut cut);
+            Ok(cut)
+        }
+        Err(_) => Err(PartFault::Range),
+    }
+}
+
+/// Puts one cut more into the pool of a node.
+#[tactic(auto, using(hp_backward::proofs::Cuts::fit_push))]
+fn add_cut(
+    alloc: Global,
+    problem: &Problem,
+    pools: &mut Pools,
+    node: u32,
+    turn: u32,
+) -> Result<(), PartFault>
+    requires known { node < length problem.now.raw.nodes }
+    requires fit { Fit (problem_of problem.now) (length problem.now.raw.nodes) pools.old.lists }
+    ensures { Fit (problem_of problem.now) (length problem.now.raw.nodes) pools.new.lists }
+{
+    if pools.count(node) >= MOST_CUTS {
+        return Err(PartFault::Memory);
+    }
+    let cut = made(alloc, problem, pools, node, turn)?;
+    pools.push(node, cut)?;
+    Ok(())
+}
+
+/// Puts so many cuts more into the pool of a node.
+pub fn add_cuts(
+    alloc: Global,
+    problem: &Problem,
+    pools: &mut Pools,
+    node: u32,
+    count: u32,
+) -> Result<(), PartFault>
+    requires known { node < length problem.now.raw.nodes }
+    requires fit { Fit (problem_of problem.now) (length problem.now.raw.nodes) pools.old.lists }
+    ensures { Fit (problem_of problem.now) (length problem.now.raw.nodes) pools.new.lists }
+{
+    for turn in 0..count {
+        add_cut(alloc, problem, pools, node, turn)?;
+    }
+    Ok(())
+}

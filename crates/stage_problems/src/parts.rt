@@ -1,0 +1,159 @@
+// The parts that are measured.
+ghost use Rattle.std.specs.Prelude.{◌≡◌, ◌<◌, length, IfOk};
+ghost use Rattle.hp_lp.specs.Nodes.{IsStageAt};
+ghost use Rattle.hp_theory.specs.Fit.{Fit};
+ghost use Rattle.hp_theory.specs.View.{problem_of};
+ghost use Rattle.stage_problems.specs.Moments.{MayStand};
+
+use crate::answers::answer;
+use crate::cuts::add_cuts;
+use crate::fault::PartFault;
+use crate::moments::{Moment, first, last};
+use crate::texts::{push_certificate, push_program};
+use hp_cut::Pools;
+use hp_dual::base;
+use hp_lp::{restate, stage};
+use hp_num::Memory;
+use hp_problem::Problem;
+use hp_settle::settle;
+use hp_solver::{Answer, StageLp};
+use hp_theory::Certificate;
+use std::alloc::Global;
+
+/// How many cuts there are beside the base cut, and how often each part is done beside once.
+#[derive(Clone, Copy)]
+pub struct Counts {
+    pub cuts: u32,
+    pub builds: u32,
+    pub sides: u32,
+    pub settles: u32,
+}
+
+/// The node whose stage problem is measured.
+const NODE: u32 = 0;
+
+/// The stage problem at a moment.
+fn stage_at(
+    alloc: Global,
+    problem: &Problem,
+    pools: &Pools,
+    moment: &Moment,
+) -> Result<StageLp, Memory>
+    requires fit { Fit (problem_of problem.now) (length problem.now.raw.nodes) pools.now.lists }
+    requires moment { MayStand problem.now 0 moment.now.values.now moment.now.state }
+    ensures { IfOk result (IsStageAt problem.now 0) }
+{
+    stage(
+        alloc,
+        problem,
+        pools,
+        NODE,
+        moment.values,
+        moment.state.as_slice(),
+    )
+}
+
+/// The stage problem, built so many times and once.
+fn built(
+    alloc: Global,
+    problem: &Problem,
+    pools: &Pools,
+    moment: &Moment,
+    builds: u32,
+) -> Result<StageLp, Memory>
+    requires fit { Fit (problem_of problem.now) (length problem.now.raw.nodes) pools.now.lists }
+    requires moment { MayStand problem.now 0 moment.now.values.now moment.now.state }
+    ensures { IfOk result (IsStageAt problem.now 0) }
+{
+    for _ in 0..builds {
+        stage_at(alloc, problem, pools, moment)?;
+    }
+    stage_at(alloc, problem, pools, moment)
+}
+
+/// Gives the stage problem the sides of a moment.
+fn turn_to(problem: &Problem, moment: &Moment, lp: &mut StageLp)
+    requires moment { MayStand problem.now 0 moment.now.values.now moment.now.state }
+    requires stage { IsStageAt problem.now 0 lp.old }
+    ensures { IsStageAt problem.now 0 lp.new }
+{
+    restate(problem, NODE, moment.values, moment.state.as_slice(), lp);
+}
+
+/// Gives the stage problem the sides of one moment and of the other, so many times in turn.
+fn turned(problem: &Problem, first: &Moment, last: &Moment, sides: u32, lp: &mut StageLp)
+    requires first { MayStand problem.now 0 first.now.values.now first.now.state }
+    requires last { MayStand problem.now 0 last.now.values.now last.now.state }
+    requires stage { IsStageAt problem.now 0 lp.old }
+{
+    for turn in 0..sides {
+        if turn % 2 == 0 {
+            turn_to(problem, last, lp);
+        } else {
+            turn_to(problem, first, lp);
+        }
+    }
+}
+
+/// The certificate of an answer, settled so many times and once.
+fn settled(
+    alloc: Global,
+    problem: &Problem,
+    pools: &Pools,
+    answer: &Answer,
+    settles: u32,
+) -> Result<Certificate, Memory>
+    requires known { 0 < length problem.now.raw.nodes }
+    requires fit { Fit (problem_of problem.now) (length problem.now.raw.nodes) pools.now.lists }
+{
+    for _ in 0..settles {
+        settle(alloc, problem, pools, NODE, answer)?;
+    }
+    settle(alloc, problem, pools, NODE, answer)
+}
+
+/// The first successor of the node.
+fn successor(problem: &Problem) -> Result<u32, PartFault>
+    ensures { IfOk result (λ m. m < length problem.now.raw.nodes) }
+{
+    let nodes = problem.raw().nodes.as_slice();
+    let node = nodes.first().ok_or(PartFault::NoSuccessor)?;
+    let link = *node.links.as_slice().first().ok_or(PartFault::NoSuccessor)?;
+    if (link as usize) < nodes.len() {
+        Ok(link)
+    } else {
+        Err(PartFault::NoSuccessor)
+    }
+}
+
+/// The parts over pools.
+fn parts(
+    alloc: Global,
+    problem: &Problem,
+    pools: &Pools,
+    counts: Counts,
+) -> Result<String, PartFault>
+    requires known { 0 < length problem.now.raw.nodes }
+    requires fit { Fit (problem_of problem.now) (length problem.now.raw.nodes) pools.now.lists }
+{
+    let first = first(alloc, problem, NODE)?;
+    let last = last(alloc, problem, NODE)?;
+    let mut text = String::new(alloc);
+    let mut lp = built(alloc, problem, pools, &first, counts.builds)?;
+    push_program(&mut text, &lp)?;
+    turned(problem, &first, &last, counts.sides, &mut lp);
+    push_program(&mut text, &lp)?;
+    let own = lp.own as usize;
+    let answer = answer(alloc, own, lp.rows.len().saturating_sub(own), 1)?;
+    let certificate = settled(alloc, problem, pools, &answer, counts.settles)?;
+    push_certificate(&mut text, &certificate)?;
+    Ok(text)
+}
+
+/// What stands after each part.
+pub fn measured(alloc: Global, problem: &Problem, counts: Counts) -> Result<String, PartFault> {
+    let node = successor(problem)?;
+    let mut pools = base(alloc, problem)?;
+    add_cuts(alloc, problem, &mut pools, node, counts.cuts)?;
+    parts(alloc, problem, &pools, counts)
+}

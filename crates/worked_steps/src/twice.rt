@@ -1,0 +1,62 @@
+// A solver that takes twice the time of another.
+ghost use Rattle.std.specs.Prelude.{◌≡◌, IfOk, OnOk};
+ghost use Rattle.hp_solver.specs.declared.stage_lp.StageLp.{StageLp};
+ghost use Rattle.hp_solver.specs.declared.stage_lp.Answer.{Answer};
+ghost use Rattle.hp_solver.specs.Proper.{IsProper, IsReference, Extends, IsLike};
+
+use hp_num::Memory;
+use hp_solver::{Answer, Solver, StageLp};
+use std::alloc::Global;
+
+/// Solves each program twice, in two chains that know nothing of each other, and answers as the first. What this takes
+/// longer than the solver alone is what the solver takes.
+#[derive(Drop)]
+pub struct Twice<'a, V: Solver> {
+    pub solver: &'a V,
+}
+
+impl<'a, V: Solver> Solver for Twice<'a, V> {
+    type Start = V::Start;
+
+    type Chain = (V::Chain, V::Chain);
+
+    ghost started = { λ twice lp. V.started twice.solver.now lp };
+
+    ghost begun = { λ twice start lp. (V.begun twice.solver.now start lp, V.begun twice.solver.now start lp) };
+
+    ghost next = { λ twice chains lp. ((V.next twice.solver.now chains.0 lp).0, ((V.next twice.solver.now chains.0 lp).1, (V.next twice.solver.now chains.1 lp).1)) };
+
+    ghost suits = { λ twice start lp. V.suits twice.solver.now start lp };
+
+    ghost fits = { λ twice chains lp. V.fits twice.solver.now chains.0 lp × V.fits twice.solver.now chains.1 lp };
+
+    fn start(&self, alloc: Global, lp: &StageLp) -> Result<V::Start, Memory> {
+        self.solver.start(alloc, lp)
+    }
+
+    fn begin(
+        &self,
+        alloc: Global,
+        start: &V::Start,
+        lp: &StageLp,
+    ) -> Result<(V::Chain, V::Chain), Memory> {
+        let first = self.solver.begin(alloc, start, lp)?;
+        let second = self.solver.begin(alloc, start, lp)?;
+        Ok((first, second))
+    }
+
+    fn solve(
+        &self,
+        alloc: Global,
+        chains: &mut (V::Chain, V::Chain),
+        lp: &StageLp,
+    ) -> Result<Answer, Memory> {
+        let answer = self.solver.solve(alloc, &mut chains.0, lp)?;
+        self.solver.solve(alloc, &mut chains.1, lp)?;
+        Ok(answer)
+    }
+
+    fn worth_a_thread(&self, lp: &StageLp, solves: usize) -> bool {
+        self.solver.worth_a_thread(lp, solves)
+    }
+}
