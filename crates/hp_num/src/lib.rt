@@ -1,4 +1,4 @@
-//! Names, lists, numbers in bytes and exact arithmetic.
+//! Names, lists and their memory, numbers in bytes and exact arithmetic.
 #![tactic(auto)]
 
 pub mod big_endian;
@@ -6,12 +6,14 @@ pub mod list;
 pub mod memory;
 pub mod name;
 pub mod size;
+pub mod spare;
 pub mod whole;
 
 pub use list::List;
 pub use memory::Memory;
 pub use name::Name;
 pub use size::Size;
+pub use spare::Spare;
 pub use whole::{add_product, floor_div};
 
 #[cfg(test)]
