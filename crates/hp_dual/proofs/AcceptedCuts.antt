@@ -18,16 +18,15 @@ use Rattle.hp_dual.specs.Acceptance.{Accepts, right_fault, range_fault, fault_of
 use Rattle.hp_dual.specs.Parts.{Limited, Cuttable}
 use Rattle.hp_dual.specs.Sized.{Sized}
 use Rattle.hp_dual.proofs.Accepted.{fault-size, right-fault_of, size-fault_of}
+use Rattle.hp_dual.specs.NodeParts.{NodeParts}
+use Rattle.hp_dual.proofs.OwnWeights.{OwnWeights}
+use Rattle.hp_dual.proofs.PartsOfNode.{own_weighted}
 use Rattle.hp_dual.proofs.SealedCuttable.{cuttable, given_weight}
 
 -- what follows of acceptance and of what then is so
 pub accepted_then : (r : Result (Unit {0}) CertFault) (fault : Option CertFault) (P Q : Type 0) → Accepts r fault → IfOk r (λ u. P) → (fault ≡ None → P → Q) → IfOk r (λ u. Q)
 accepted_then (Ok u) fault P Q a p f = f a p
 accepted_then (Err e) fault P Q a p f = tt
-
--- the node with its own weights, over its parts
-pub own_node : (k : Node) (n : nodes.Node) (s : Subproblem) (low high : List ℤ) (ws vs : List ℕ) → k ≡ node_of n s low high → vs ≡ ws → with_weights ws k ≡ k → with_weights vs (node_of n s low high) ≡ k
-own_node k n s low high ws vs is weights own = ap (λ (us : List ℕ). with_weights us (node_of n s low high)) weights ∙ ap (with_weights ws) (sym is) ∙ own
 
 module _ (n : nodes.Node) (s : Subproblem) (low high : List ℤ) (ws : List ℕ) (pools : List (List Cut)) (list : List Certificate) (k : Node) (is : k ≡ with_weights ws (node_of n s low high)) where
   pub range_none : right_fault pools k list ≡ None → range_fault pools (with_weights ws (node_of n s low high)) list ≡ None → fault_of pools k list ≡ None
@@ -54,3 +53,23 @@ module _ (p : Sealed) (m : ℕ) (pools : List (List Cut)) (list : List Certifica
   pub accepted_holds : fault_of pools (node_at (problem_of p) m) list ≡ None → (cut : Cut) → cut ≡ cut_of pools (node_at (problem_of p) m) list → Sound (problem_of p) pools → Holds (problem_of p) m cut
   accepted_holds none cut value sound =
       subst (Holds (problem_of p) m) (sym value) (weak_duality (problem_of p) pools m list (shaped-sealed p m e h) sound (right-fault_of pools (node_at (problem_of p) m) list none))
+
+-- what is answered and written over the node's parts is so at the node
+module _ (p : Sealed) (m : ℕ) (pools qs : List (List Cut)) (list : List Certificate) (ws vs : List ℕ) (n : nodes.Node) (s : Subproblem) (low high : List ℤ) (parts : NodeParts p m qs vs n s low high) (h : m < length p.raw.nodes) (own : OwnWeights ws (node_at (problem_of p) m))
+    (weights : vs ≡ ws) (same : qs ≡ pools) (r : Result (Unit {0}) CertFault) (cut : Cut) (a : Accepts r (fault_of qs (with_weights vs (node_of n s low high)) list)) (v : IfOk r (λ u. cut ≡ cut_of qs (with_weights vs (node_of n s low high)) list)) where
+  is : with_weights vs (node_of n s low high) ≡ node_at (problem_of p) m
+  is = own_weighted p m qs ws vs n s low high parts weights own.own
+
+  pub made_accepted : Accepts r (fault_of pools (node_at (problem_of p) m) list)
+  made_accepted = rw (← same, ← is) a
+
+  pub made_value : IfOk r (λ u. cut ≡ cut_of pools (node_at (problem_of p) m) list)
+  made_value = rw (← same, ← is) v
+
+  pub made_fits : IfOk r (λ u. CutFits (node_at (problem_of p) m) cut)
+  made_fits = accepted_then r (fault_of pools (node_at (problem_of p) m) list) (cut ≡ cut_of pools (node_at (problem_of p) m) list) (CutFits (node_at (problem_of p) m) cut) made_accepted made_value
+      (λ none value. accepted_fits p m pools list ws parts.sealed h own.own own.weighs.count own.weighs.positive none cut value)
+
+  pub made_holds : IfOk r (λ u. Sound (problem_of p) pools → Holds (problem_of p) m cut)
+  made_holds = accepted_then r (fault_of pools (node_at (problem_of p) m) list) (cut ≡ cut_of pools (node_at (problem_of p) m) list) (Sound (problem_of p) pools → Holds (problem_of p) m cut) made_accepted made_value
+      (λ none value sound. accepted_holds p m pools list ws parts.sealed h own.own none cut value sound)

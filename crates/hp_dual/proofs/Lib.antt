@@ -5,6 +5,7 @@ pub mod GivenNode
 pub mod Passing
 pub mod SealedWithin
 pub mod OwnWeights
+pub mod PartsOfNode
 pub mod Faultless
 pub mod Basing
 pub mod Standing

@@ -1,5 +1,5 @@
 -- The weights of a sealed problem's node are such as may be given.
-use Rattle.std.proofs.Common.{◌≡◌, ℕ, ◌<◌, ◌≤◌, ℤ, true, List, length, get_or, All, sum, nat_lt, sym, ap, ◌∙◌, subst, arith}
+use Rattle.std.proofs.Common.{◌≡◌, ℕ, ◌<◌, ◌≤◌, ℤ, true, List, length, get_or, nat_lt, sym, ap, ◌∙◌, subst, arith}
 use Rattle.std.proofs.lemmas.Bool.Decides.{nat_tests}
 use Rattle.std.proofs.lemmas.Option.{get_or_from_slice_get}
 use Rattle.hp_problem.specs.declared.raw.Raw.{Raw}
@@ -10,22 +10,23 @@ use Rattle.hp_num.proofs.Tests.{all_at}
 use Rattle.hp_theory.specs.Problem.{Node, node_at, with_weights}
 use Rattle.hp_theory.specs.View.{node_of, problem_of}
 use Rattle.hp_theory.proofs.SealedParts.{PartsFit, Parts, parts, weighty, weights_positive}
+use Rattle.hp_dual.specs.Reweighting.{Weighs}
 use Rattle.hp_dual.proofs.GivenNode.{length-realizations, with_weights-own}
 
--- one per realization, each at least 1, of at most 65535 together; and they change nothing
+-- such as may be given, and they change nothing
 pub record OwnWeights (ws : List ℕ) (k : Node) : Type 0 where
-  pub count : length ws ≡ length k.realizations
-  pub positive : All (λ w. 1 ≤ w) ws
-  pub total : sum ws ≤ 65535
+  pub weighs : Weighs k ws
   pub own : with_weights ws k ≡ k
 
 own_weights : (p : Sealed) (m : ℕ) (n : nodes.Node) (s : Subproblem) (low high : List ℤ) → PartsFit p m n s low high → OwnWeights n.weights (node_of n s low high)
 own_weights p m n s low high fit =
     let w = weighty n (length s.randoms) fit.realizations in
     record {
-      count = sym (length-realizations n s low high w.3);
-      positive = λ k d h. some (get_or n.weights k d) (all_at (λ w. nat_lt 0 w) n.weights k d (weights_positive n (length s.randoms) fit.realizations) h);
-      total = w.2;
+      weighs = record {
+        count = sym (length-realizations n s low high w.3);
+        positive = λ k d h. some (get_or n.weights k d) (all_at (λ w. nat_lt 0 w) n.weights k d (weights_positive n (length s.randoms) fit.realizations) h);
+        total = w.2;
+      };
       own = with_weights-own n s low high w.3;
     }
   where

@@ -1,5 +1,5 @@
 -- An accepted list of certificates at a node of a sealed problem makes a cut.
-use Rattle.std.proofs.Common.{◌≡◌, ℕ, ◌-◌, ◌^◌, ◌<◌, ◌≤◌, ℤ, pos, ◌*ℤ◌, ◌≤ℤ◌, true, List, [], ◌∷◌, length, get_or, zip, sum, All, None, nat_lt, arith, sym, ap, subst, ◌∙◌}
+use Rattle.std.proofs.Common.{◌≡◌, ℕ, ◌-◌, ◌^◌, ◌<◌, ◌≤◌, ℤ, pos, ◌*ℤ◌, ◌≤ℤ◌, true, List, [], ◌∷◌, length, get_or, zip, sum, All, nat_lt, arith, sym, ap, subst, ◌∙◌}
 use Rattle.std.specs.List.{list_all}
 use Rattle.std.proofs.lemmas.Bool.Decides.{nat_tests}
 use Rattle.std.proofs.lemmas.List.{length-map}
@@ -21,15 +21,12 @@ use Rattle.hp_theory.specs.Pools.{pool}
 use Rattle.hp_theory.specs.Certificates.{PairsRight, Right}
 use Rattle.hp_theory.specs.CutOf.{scale, divisor}
 use Rattle.hp_theory.specs.Size.{magnitude, reach, size_of}
-use Rattle.hp_theory.proofs.SealedParts.{PartsFit, Parts, parts, weighty, linked, counted, outs_known, numbers_counted}
-use Rattle.hp_dual.specs.Acceptance.{fault_of}
+use Rattle.hp_theory.proofs.SealedParts.{PartsFit, Parts, parts, weighty, linked, outs_known, numbers_counted}
 use Rattle.hp_dual.specs.Sized.{Sized}
 use Rattle.hp_dual.specs.Parts.{lows, highs, Limited, PairsThere, ReducedFit, Cuttable}
-use Rattle.hp_dual.proofs.Accepted.{right-fault_of, size-fault_of}
 use Rattle.hp_dual.proofs.Divisor.{divisor_some}
 use Rattle.hp_dual.proofs.GivenNode.{length-realizations, realizations-given}
 use Rattle.hp_dual.proofs.InSize.{slope_in, constant_in, reduced_in}
-use Rattle.hp_dual.proofs.SealedWithin.{sized-sealed}
 use Rattle.hp_dual.proofs.SizeParts.{terms_inside}
 use Rattle.hp_dual.proofs.Slopes.{rows_fit}
 use Rattle.hp_dual.proofs.Viewed.{reduced-node_of}
@@ -108,16 +105,6 @@ module _ (n : nodes.Node) (s : Subproblem) (low high : List ℤ) (ws : List ℕ)
     slopes = slope_in pools (with_weights ws (node_of n s low high)) list some_divisor size;
     constant = constant_in pools (with_weights ws (node_of n s low high)) list some_divisor size;
   }
-
-pub cuttable-sealed : (p : Sealed) (m : ℕ) (n : nodes.Node) (s : Subproblem) (low high : List ℤ) (ws : List ℕ) (pools : List (List Cut)) (list : List Certificate) → is_sealed p ≡ true → m < length p.raw.nodes → PartsFit p m n s low high → length pools ≡ length p.raw.nodes
-    → length ws ≡ length (node_at (problem_of p) m).realizations → All (λ w. 1 ≤ w) ws → sum ws ≤ 65535 → fault_of pools (with_weights ws (node_at (problem_of p) m)) list ≡ None → Cuttable pools n s low ws list
-cuttable-sealed p m n s low high ws pools list e h fit lists count positive total accepted =
-    let limits : Limited n s = limited-sealed p m n s low high e fit in
-    let k : Node = with_weights ws (node_of n s low high) in
-    let none : fault_of pools k list ≡ None = subst (λ (x : Node). fault_of pools (with_weights ws x) list ≡ None) fit.is accepted in
-    let given : length ws ≡ length n.weights = count ∙ ap (λ (x : Node). length x.realizations) fit.is ∙ length-realizations n s low high limits.values in
-    cuttable n s low high ws pools list limits (sized-sealed p m n s low high ws pools e h fit lists given positive total)
-    (numbers_counted low (length p.raw.states) fit.lows ∙ sym (counted s (length p.raw.states) fit.subproblem).0) (right-fault_of pools k list none) (size-fault_of pools k list none)
 
 weight_of : (ws : List ℕ) (n : nodes.Node) (s : Subproblem) (low high : List ℤ) → length ws ≡ length n.weights → length n.values ≡ length n.weights → 0 < sum ws → 0 < realization_weight (with_weights ws (node_of n s low high))
 unfolding node_of

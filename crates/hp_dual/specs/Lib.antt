@@ -8,3 +8,4 @@ pub mod SizeByTerms
 pub mod Sized
 pub mod Reweighting
 pub mod Shares
+pub mod NodeParts

@@ -67,18 +67,20 @@ fn first_cuts(alloc: Global, weights: &[u32]) -> Result<List<List<(u32, u64)>>, 
     Ok(found)
 }
 
-/// All rows 0, and for each successor its first cut with all of its weight.
-fn base_certificate(alloc: Global, node: &Node, sub: &Subproblem) -> Result<Certificate, Memory>
-    ensures { IfOk result (λ c. c ≡ certificate_of node.now sub.now) }
+/// The base certificate of each realization of a node with this subproblem: all rows 0, and for each successor its first
+/// cut with all of its weight. [`Memory`] where memory was refused.
+pub fn base_certificate(alloc: Global, node: &Node, sub: &Subproblem) -> Result<Certificate, Memory>
+    ensures value { IfOk result (λ c. c ≡ certificate_of node.now sub.now) }
 {
     let rows = no_multipliers(alloc, sub.rows.as_slice())?;
     let cuts = first_cuts(alloc, node.link_weights.as_slice())?;
     Ok(Certificate { rows, cuts })
 }
 
-/// A cut of so many slopes, all 0.
-pub(crate) fn no_slopes(alloc: Global, states: usize) -> Result<Cut, Memory>
-    ensures { IfOk result (λ cut. length cut.beta ≡ states) }
+/// A cut with a slope for each of so many states, all 0, for another cut to be written over it. [`Memory`] where memory was
+/// refused.
+pub fn no_slopes(alloc: Global, states: usize) -> Result<Cut, Memory>
+    ensures states { IfOk result (λ cut. length cut.beta ≡ states) }
 {
     let mut beta = List::new(alloc);
     for _ in 0..states {

@@ -14,7 +14,7 @@ mod size;
 
 pub use acceptance::checker::{accept, accept_with};
 pub use acceptance::making::accept_into;
-pub use base_pools::{BaseFault, base};
+pub use base_pools::{BaseFault, base, base_certificate, no_slopes};
 pub use cut_making::make::{make_into, make_with};
 pub use fault::CertFault;
 pub use magnitudes::{absolute, reach};

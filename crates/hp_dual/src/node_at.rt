@@ -1,8 +1,11 @@
 // A node and what stands round it.
-ghost use Rattle.std.specs.Prelude.{◌≡◌, ◌<◌, ◌≤◌, true, length, sum, slice_get, All};
-ghost use Rattle.hp_problem.specs.Sealed.{is_sealed, subproblem_of};
+ghost use Rattle.std.specs.Prelude.{◌≡◌, ◌<◌, true, length};
+ghost use Rattle.hp_problem.specs.Sealed.{is_sealed};
+ghost use Rattle.hp_theory.specs.Fit.{FitFor};
 ghost use Rattle.hp_theory.specs.Problem.{node_at, with_weights};
 ghost use Rattle.hp_theory.specs.View.{problem_of};
+ghost use Rattle.hp_dual.specs.NodeParts.{NodeParts};
+ghost use Rattle.hp_dual.specs.Reweighting.{Weighs};
 
 use hp_cut::Pools;
 use hp_problem::{Node, Problem, Subproblem};
@@ -30,12 +33,10 @@ impl<'a> NodeAt<'a> {
         node: u32,
         weights: &'a [u32],
     ) -> NodeAt<'a>
-        requires { node < length problem.now.raw.nodes }
-        ensures sealed { is_sealed problem.now ≡ true }
-        ensures the_node { slice_get problem.now.raw.nodes node ≡ Some result.node.now }
-        ensures the_subproblem { subproblem_of problem.now node ≡ Some result.subproblem.now }
-        ensures the_low { slice_get problem.now.lo node ≡ Some result.low.now }
-        ensures the_high { slice_get problem.now.hi node ≡ Some result.high.now }
+        requires known { node < length problem.now.raw.nodes }
+        requires fit { FitFor (problem_of problem.now) (length problem.now.raw.nodes) pools.now.lists node }
+        requires weighs { Weighs (node_at (problem_of problem.now) node) weights.now }
+        ensures parts { NodeParts problem.now node result.pools.now.lists result.weights.now result.node.now result.subproblem.now result.low.now result.high.now }
         ensures weights { result.weights.now ≡ weights.now }
         ensures pools { result.pools.now ≡ pools.now }
     {
@@ -54,9 +55,7 @@ impl<'a> NodeAt<'a> {
 pub(crate) fn own_weights(problem: &Problem, node: u32) -> &[u32]
     requires { node < length problem.now.raw.nodes }
     ensures sealed { is_sealed problem.now ≡ true }
-    ensures count { length result.now ≡ length (node_at (problem_of problem.now) node).realizations }
-    ensures positive { All (λ w. 1 ≤ w) result.now }
-    ensures total { sum result.now ≤ 65535 }
+    ensures weighs { Weighs (node_at (problem_of problem.now) node) result.now }
     ensures own { with_weights result.now (node_at (problem_of problem.now) node) ≡ node_at (problem_of problem.now) node }
 {
     problem.raw().nodes.as_slice()[node as usize]

@@ -9,5 +9,5 @@ loop-preserved c =
     let made = certificate_of c.args.node.now c.args.sub.now in
     c.in_ok-push.ensures
     ∙ ap (λ (list : List Certificate). list ++ c.in_ok-base_certificate.field-0 ∷ []) c.loop.invariant
-    ∙ ap (λ (one : Certificate). map (λ (w : ℕ). made) (take c.loop.index c.args.weights.now) ++ one ∷ []) c.in_ok-base_certificate.ensures
+    ∙ ap (λ (one : Certificate). map (λ (w : ℕ). made) (take c.loop.index c.args.weights.now) ++ one ∷ []) c.in_ok-base_certificate.ensures.value
     ∙ sym (map_more (λ (w : ℕ). made) c.args.weights.now c.loop.index 0 c.loop-test.true)

@@ -19,7 +19,7 @@ accept_with-requires-clause-count c =
     let there : 0 < length c.args.problem.now.raw.nodes = grind (arith, nat_tests, nodes, test) in
     let same : length c.args.weights.now ≡ length c.index-as_slice-0.result.weights = grind (arith, nat_tests, c.len-2.ensures, c.if-len-weights.false) in
     let own = own_weights-sealed c.args.problem.now c.raw-raw.result.now c.as_slice.result.now c.index-as_slice-0.result.weights 0 c.index-as_slice-0.result c.raw-raw.ensures.sealed c.raw-raw.ensures.value c.as_slice.ensures there c.index-as_slice-0.is refl in
-    same ∙ own.count
+    same ∙ own.weighs.count
 
 pub make_with-requires-clause-fit : goal.make_with-requires-clause-fit
 make_with-requires-clause-fit c =
@@ -35,4 +35,4 @@ make_with-requires-clause-count c =
     let there : 0 < length c.args.problem.now.raw.nodes = grind (arith, nat_tests, nodes, test) in
     let same : length c.args.weights.now ≡ length c.index-as_slice-0.result.weights = grind (arith, nat_tests, c.len-2.ensures, c.if-len-weights.false) in
     let own = own_weights-sealed c.args.problem.now c.raw-raw.result.now c.as_slice.result.now c.index-as_slice-0.result.weights 0 c.index-as_slice-0.result c.raw-raw.ensures.sealed c.raw-raw.ensures.value c.as_slice.ensures there c.index-as_slice-0.is refl in
-    same ∙ own.count
+    same ∙ own.weighs.count

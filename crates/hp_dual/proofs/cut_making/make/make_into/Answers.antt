@@ -12,6 +12,15 @@ use Rattle.hp_dual.proofs.cut_making.make.make_into.Goals as goal
 pub make_with-requires-clause-accepted : goal.make_with-requires-clause-accepted
 make_with-requires-clause-accepted c = ap (λ (k : Node). fault_of c.args.pools.now.lists k c.args.list.now) c.own_weights.ensures.own ∙ c.requires.accepted
 
+pub make_with-requires-clause-count : goal.make_with-requires-clause-count
+make_with-requires-clause-count c = c.own_weights.ensures.weighs.count
+
+pub make_with-requires-clause-positive : goal.make_with-requires-clause-positive
+make_with-requires-clause-positive c = c.own_weights.ensures.weighs.positive
+
+pub make_with-requires-clause-total : goal.make_with-requires-clause-total
+make_with-requires-clause-total c = c.own_weights.ensures.weighs.total
+
 pub returns-clause-value : goal.returns-clause-value
 returns-clause-value c = c.make_with.ensures.value ∙ ap (λ (k : Node). cut_of c.args.pools.now.lists k c.args.list.now) c.own_weights.ensures.own
 
