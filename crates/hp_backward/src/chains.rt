@@ -17,7 +17,7 @@ use crate::certified::{Certified, Visit};
 use crate::fault::SweepFault;
 use hp_cut::Pools;
 use hp_lp::{Starts, restate};
-use hp_num::List;
+use hp_num::{List, Spare};
 use hp_problem::Problem;
 use hp_solver::{Solver, StageLp};
 use std::alloc::Global;
@@ -109,6 +109,7 @@ pub(crate) fn certify_each<V: Solver>(
         node,
         state,
     };
-    let mut lp = here.stage(alloc, first.as_slice())?;
+    let mut spare = Spare::new(alloc);
+    let mut lp = here.stage(alloc, &mut spare, first.as_slice())?;
     certify_over(alloc, &here, values, &mut lp)
 }

@@ -13,9 +13,10 @@ ghost use Rattle.hp_lp.specs.Chained.{solving};
 use crate::certified::{Certified, Visit};
 use crate::chains::{certify_each, certify_over};
 use crate::fault::SweepFault;
-use hp_num::{List, Memory};
+use hp_lp::give_back;
+use hp_num::{List, Memory, Spare};
 use hp_problem::Problem;
-use hp_solver::{Solver, StageLp};
+use hp_solver::{Fx, Solver, StageLp};
 use std::alloc::Global;
 use std::thread::{Threads, join};
 
@@ -148,31 +149,32 @@ fn in_two_chains<R: Threads, V: Solver>(
     here: &Visit<V>,
     left: &[List<i64>],
     right: &[List<i64>],
-    lp: StageLp,
+    lp: &mut StageLp,
 ) -> Result<Certified, SweepFault>
     requires visit { CanVisit (V.started here.now.solver.now) (V.suits here.now.solver.now) here.now.problem.now here.now.starts.now.items here.now.pools.now.lists here.now.node here.now.state.now }
     requires left { All (λ own. are_values (subproblem_of here.now.problem.now here.now.node) own ≡ true) left.now }
     requires right { All (λ own. are_values (subproblem_of here.now.problem.now here.now.node) own ≡ true) right.now }
     requires few { length left.now + length right.now ≤ 100 }
-    requires stage { IsStageOver here.now.problem.now here.now.pools.now.lists here.now.node lp }
+    requires stage { IsStageOver here.now.problem.now here.now.pools.now.lists here.now.node lp.old }
     ensures value { GivesOr Stops (λ found. found) result (in_order
         (in_chain (solving (V.started here.now.solver.now) (V.begun here.now.solver.now) (V.next here.now.solver.now)) here.now.problem.now here.now.pools.now.lists here.now.iteration here.now.node here.now.state.now left.now)
         (in_chain (solving (V.started here.now.solver.now) (V.begun here.now.solver.now) (V.next here.now.solver.now)) here.now.problem.now here.now.pools.now.lists here.now.iteration here.now.node here.now.state.now right.now)) }
     ensures few { IfOk result (λ found. found.unsettled ≤ 100) }
 {
-    let mut lp = lp;
-    if here.solver.worth_a_thread(&lp, left.len() + right.len()) {
+    if here.solver.worth_a_thread(lp, left.len() + right.len()) {
         beside_each_other(rt, alloc, here, left, right)
     } else {
-        one_after_the_other(alloc, here, left, right, &mut lp)
+        one_after_the_other(alloc, here, left, right, lp)
     }
 }
 
 /// The certificates of a node's realizations: the first half in one chain, the rest in another. The chains go beside each
-/// other where that is worth a thread; the answer is the same.
+/// other where that is worth a thread; the answer is the same. The lists of terms of the node's stage problem are taken
+/// from those that are spare, and given back.
 pub(crate) fn certified<R: Threads, V: Solver>(
     rt: &R,
     alloc: Global,
+    spare: &mut Spare<(u32, Fx)>,
     here: &Visit<V>,
 ) -> Result<Certified, SweepFault>
     requires { CanVisit (V.started here.now.solver.now) (V.suits here.now.solver.now) here.now.problem.now here.now.starts.now.items here.now.pools.now.lists here.now.node here.now.state.now }
@@ -182,6 +184,8 @@ pub(crate) fn certified<R: Threads, V: Solver>(
 {
     let values = values_of(here.problem, here.node);
     let (left, right) = halves(values);
-    let lp = here.stage(alloc, values[0].as_slice())?;
-    in_two_chains(rt, alloc, here, left, right, lp)
+    let mut lp = here.stage(alloc, spare, values[0].as_slice())?;
+    let found = in_two_chains(rt, alloc, here, left, right, &mut lp);
+    give_back(lp, spare);
+    found
 }

@@ -17,25 +17,33 @@ use crate::certified::{Certified, Visit};
 use crate::fault::SweepFault;
 use crate::halves::certified;
 use hp_cut::{Cut, Entry, EntryStep, Pools};
-use hp_dual::{CertFault, accept, make_into};
+use hp_dual::{CertFault, accept_into};
 use hp_lp::Starts;
-use hp_num::{List, Memory};
+use hp_num::{List, Memory, Spare};
 use hp_problem::Problem;
 use hp_sampler::Step;
-use hp_solver::Solver;
+use hp_solver::{Fx, Solver};
 use hp_theory::Certificate;
 use std::alloc::Global;
 use std::thread::Threads;
 
-/// Settled certificates are accepted, unless their size passes the range.
-fn check_range<V: Solver>(here: &Visit<V>, list: &[Certificate]) -> Result<(), SweepFault>
+/// Settled certificates are accepted and their cut is written, unless their size passes the range.
+fn write_cut<V: Solver>(
+    here: &Visit<V>,
+    list: &[Certificate],
+    cut: &mut Cut,
+) -> Result<(), SweepFault>
     requires known { here.now.node < length here.now.problem.now.raw.nodes }
     requires fit { FitFor (problem_of here.now.problem.now) (length here.now.problem.now.raw.nodes) here.now.pools.now.lists here.now.node }
     requires settled { fault_of here.now.pools.now.lists (node_at (problem_of here.now.problem.now) here.now.node) list.now
         ≡ range_fault here.now.pools.now.lists (node_at (problem_of here.now.problem.now) here.now.node) list.now }
-    ensures { GivesOr Stops (λ u. u) result (within_range here.now.iteration here.now.node (range_of here.now.pools.now.lists (node_at (problem_of here.now.problem.now) here.now.node) list.now) tt) }
+    requires slopes { length cut.old.beta ≡ length here.now.problem.now.raw.states }
+    ensures value { let n = node_at (problem_of here.now.problem.now) here.now.node in
+        GivesOr Stops (λ _. cut.new) result (within_range here.now.iteration here.now.node (range_of here.now.pools.now.lists n list.now) (cut_of here.now.pools.now.lists n list.now)) }
+    ensures fits { IfOk result (λ _. CutFits (node_at (problem_of here.now.problem.now) here.now.node) cut.new) }
+    ensures holds { IfOk result (λ _. Sound (problem_of here.now.problem.now) here.now.pools.now.lists → Holds (problem_of here.now.problem.now) here.now.node cut.new) }
 {
-    match accept(here.problem, here.pools, here.node, list) {
+    match accept_into(here.problem, here.pools, here.node, list, cut) {
         Ok(()) => Ok(()),
         Err(CertFault::Range { realization }) => Err(SweepFault::Range {
             iteration: here.iteration,
@@ -71,9 +79,8 @@ fn cut_of<V: Solver>(
     ensures fits { IfOk result (CutFits (node_at (problem_of here.now.problem.now) here.now.node)) }
     ensures holds { IfOk result (λ cut. Sound (problem_of here.now.problem.now) here.now.pools.now.lists → Holds (problem_of here.now.problem.now) here.now.node cut) }
 {
-    check_range(here, list)?;
     let mut cut = flat(alloc, here.problem.raw().states.len())?;
-    make_into(here.problem, here.pools, here.node, list, &mut cut);
+    write_cut(here, list, &mut cut)?;
     Ok(cut)
 }
 
@@ -82,6 +89,7 @@ fn cut_of<V: Solver>(
 fn made_at<R: Threads, V: Solver>(
     rt: &R,
     alloc: Global,
+    spare: &mut Spare<(u32, Fx)>,
     here: &Visit<V>,
 ) -> Result<(Certified, Cut), SweepFault>
     requires { CanVisit (V.started here.now.solver.now) (V.suits here.now.solver.now) here.now.problem.now here.now.starts.now.items here.now.pools.now.lists here.now.node here.now.state.now }
@@ -92,7 +100,7 @@ fn made_at<R: Threads, V: Solver>(
     ensures holds { IfOk result (λ made. Sound (problem_of here.now.problem.now) here.now.pools.now.lists → Holds (problem_of here.now.problem.now) here.now.node made.1) }
 {
     let _ = here.problem.raw();
-    let found = certified(rt, alloc, here)?;
+    let found = certified(rt, alloc, spare, here)?;
     let cut = cut_of(alloc, here, found.list.as_slice())?;
     Ok((found, cut))
 }
@@ -107,12 +115,14 @@ pub(crate) struct Training<'a, V: Solver> {
 }
 
 /// One step back along a path: the cut of the step's node at its incoming state is appended to the pools, and its
-/// certificates to the entry.
+/// certificates to the entry. The terms of the stage problem's rows are in lists that are spare, and are so again
+/// afterwards.
 #[tactic(auto, unfolding(crate::specs::Sweeping::step_back))]
 pub(crate) fn step_back<R: Threads, V: Solver>(
     rt: &R,
     alloc: Global,
     training: &Training<V>,
+    spare: &mut Spare<(u32, Fx)>,
     pools: &mut Pools,
     step: Step,
     state: &[i128],
@@ -142,7 +152,7 @@ pub(crate) fn step_back<R: Threads, V: Solver>(
         node: step.node,
         state,
     };
-    let (found, cut) = made_at(rt, alloc, &here)?;
+    let (found, cut) = made_at(rt, alloc, spare, &here)?;
     pools.reserve(step.node)?;
     entry.steps.push(EntryStep {
         node: step.node,

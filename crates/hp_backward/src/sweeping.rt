@@ -18,10 +18,10 @@ use crate::fault::SweepFault;
 use crate::steps_back::{Training, step_back};
 use hp_cut::{Entry, EntryStep, Pools};
 use hp_lp::Starts;
-use hp_num::List;
+use hp_num::{List, Spare};
 use hp_problem::Problem;
 use hp_sampler::{Step, Walk};
-use hp_solver::Solver;
+use hp_solver::{Fx, Solver};
 use std::alloc::Global;
 use std::thread::Threads;
 
@@ -44,6 +44,7 @@ fn go_back<R: Threads, V: Solver>(
     rt: &R,
     alloc: Global,
     training: &Training<V>,
+    spare: &mut Spare<(u32, Fx)>,
     pools: &mut Pools,
     path: &[Step],
     states: &[List<i128>],
@@ -71,7 +72,7 @@ fn go_back<R: Threads, V: Solver>(
     while left > 0 {
         left -= 1;
         let state = states[left].as_slice();
-        step_back(rt, alloc, training, pools, path[left], state, entry)?;
+        step_back(rt, alloc, training, spare, pools, path[left], state, entry)?;
     }
     Ok(())
 }
@@ -129,7 +130,10 @@ pub fn sweep<R: Threads, V: Solver>(
         steps: List::new(alloc),
     };
     let states = walk.states.as_slice();
-    match go_back(rt, alloc, &training, pools, path, states, &mut entry) {
+    let mut spare = Spare::new(alloc);
+    match go_back(
+        rt, alloc, &training, &mut spare, pools, path, states, &mut entry,
+    ) {
         Ok(()) => Ok(entry),
         Err(fault) => {
             take_back(pools, entry.steps.as_slice());

@@ -1,5 +1,5 @@
 -- What holds of walks, from what holds of each step.
-use Rattle.std.proofs.Common.{◌≡◌, ◌∙◌, ℕ, suc, ◌+◌, ◌<◌, ◌≤◌, ℤ, Bool, true, false, List, [], ◌∷◌, ◌++◌, length, get_or, drop, drop_of_length-le, zip, All, Contains, Result, Ok, Err, refl, sym, ap, subst, arith}
+use Rattle.std.proofs.Common.{◌≡◌, ◌∙◌, ℕ, suc, ◌+◌, ◌<◌, ◌≤◌, ℤ, Bool, true, false, List, [], ◌∷◌, ◌++◌, length, get_or, drop, drop_of_length-le, zip, All, Contains, Result, Ok, Err, IfOk, refl, sym, ap, subst, arith}
 use Rattle.std.proofs.lemmas.List.{append_assoc, append-nil, drop_more}
 use Rattle.std.proofs.lemmas.List.Elements.{All-nil, All-cons}
 use Rattle.hp_num.proofs.Sums.{All_head, All_tail}
@@ -18,10 +18,11 @@ use Rattle.hp_sampler.specs.Drawn.{Follows, IsInRange, IsPath}
 use Rattle.hp_sampler.proofs.Draws.{root_counted}
 use Rattle.hp_forward.specs.declared.deciding.Decided.{Decided}
 use Rattle.hp_forward.specs.Deciding.{decide_of}
-use Rattle.hp_forward.specs.Given.{IsStateAt, Refutes}
+use Rattle.hp_forward.specs.declared.deciding.StageFault.{StageFault}
+use Rattle.hp_forward.specs.Given.{Gives, IsStateAt, OnNoStage, Refutes}
 use Rattle.hp_forward.specs.Walking.{AreInside, AreWalks, IsWalk, decide_step, no_walk, one_if, values_of, walk_of, walks_of, step_on, walk_on, walked}
 use Rattle.hp_forward.proofs.Arcs.{start-sealed}
-use Rattle.hp_forward.proofs.ByAnswers.{next_by, refutes_judged}
+use Rattle.hp_forward.proofs.ByAnswers.{if_given, next_by, on_no_stage, refutes_judged}
 use Rattle.hp_forward.proofs.EachOf.{each_holds, each_refuses}
 
 -- a state that has come to the first of these steps
@@ -183,3 +184,10 @@ module _ {Start Chain : Type 0} (v : Solving Start Chain) (p : Sealed) (pools : 
 
   pub walks_die : (paths : List (List Step)) (dead : Dead) → All (IsPath p) paths → walks_of v p pools run paths ≡ Err dead → Refutes p dead
   walks_die paths dead h is = each_refuses (walk_of v p pools run) (IsPath p) (Refutes p) (λ path d i e. walk_dies path d i e) paths dead h is
+
+  -- and of what is given in their place
+  pub given_walks : (paths : List (List Step)) (r : Result (List Walk) StageFault) → All (IsPath p) paths → Gives r (walks_of v p pools run paths) → IfOk r (AreWalks p paths)
+  given_walks paths r h given = if_given r (walks_of v p pools run paths) (AreWalks p paths) (λ walks is. walks_are paths walks h is) given
+
+  pub given_dead : (paths : List (List Step)) (r : Result (List Walk) StageFault) → All (IsPath p) paths → Gives r (walks_of v p pools run paths) → OnNoStage r (Refutes p)
+  given_dead paths r h given = on_no_stage r (walks_of v p pools run paths) (Refutes p) (λ dead is. walks_die paths dead h is) given

@@ -19,8 +19,8 @@ ghost use Rattle.hp_forward.specs.Given.{Gives, IsStateAt, OnNoStage, Refutes};
 ghost use Rattle.hp_forward.specs.declared.deciding.StageFault.TheVariants as faults;
 
 use hp_cut::Pools;
-use hp_lp::{Starts, answered};
-use hp_num::{List, Memory, floor_div};
+use hp_lp::{Starts, answered_with};
+use hp_num::{List, Memory, Spare, floor_div};
 use hp_problem::{Decision, Problem, Subproblem};
 use hp_settle::{Dead, Judged, judge};
 use hp_solver::fixed::ONE;
@@ -214,7 +214,6 @@ fn decide_by(
 ///
 /// NoStage exactly where the answer is judged dead: then no decisions exist there, in any fraction of a unit. Memory
 /// where memory was refused.
-#[tactic(auto, unfolding(crate::specs::Deciding::decide_of))]
 pub fn decide<V: Solver>(
     alloc: Global,
     problem: &Problem,
@@ -238,8 +237,42 @@ pub fn decide<V: Solver>(
         → IsStateAt problem.now m d.next) }
     ensures dead { OnNoStage result (Refutes problem.now) }
 {
+    let mut spare = Spare::new(alloc);
+    decide_with(
+        alloc, &mut spare, problem, pools, solver, starts, run, node, values, state,
+    )
+}
+
+/// What [`decide`] decides, the terms of the stage problem's rows in lists that are spare, and are so again afterwards.
+#[tactic(auto, unfolding(crate::specs::Deciding::decide_of))]
+pub(crate) fn decide_with<V: Solver>(
+    alloc: Global,
+    spare: &mut Spare<(u32, Fx)>,
+    problem: &Problem,
+    pools: &Pools,
+    solver: &V,
+    starts: &Starts<V>,
+    run: u32,
+    node: u32,
+    values: &[i64],
+    state: &[i128],
+) -> Result<Decided, StageFault>
+    requires known { node < length problem.now.raw.nodes }
+    requires fit { Fit (problem_of problem.now) (length problem.now.raw.nodes) pools.now.lists }
+    requires values { are_values (subproblem_of problem.now node) values.now ≡ true }
+    requires state { IsStateAt problem.now node state.now }
+    requires ready { AreReady (V.started solver.now) (V.suits solver.now) problem.now starts.now.items }
+    ensures value { Gives result (decide_of (solving (V.started solver.now) (V.begun solver.now) (V.next solver.now)) problem.now pools.now.lists run node values.now state.now) }
+    ensures inside { let n = node_at (problem_of problem.now) node in
+        IfOk result (λ d. InBox S n.decision_low n.decision_high d.decisions) }
+    ensures next { IfOk result (λ d. (m : ℕ) → Contains (successors_at problem.now.raw node) m
+        → IsStateAt problem.now m d.next) }
+    ensures dead { OnNoStage result (Refutes problem.now) }
+{
     let _ = problem.raw();
-    let answer = answered(alloc, problem, pools, solver, starts, node, values, state)?;
+    let answer = answered_with(
+        alloc, spare, problem, pools, solver, starts, node, values, state,
+    )?;
     let judged = judge(alloc, problem, node, values, state, &answer)?;
     decide_by(alloc, problem, run, node, values, state, &answer, judged)
 }

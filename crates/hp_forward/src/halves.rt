@@ -110,29 +110,6 @@ fn states_beside<R: Threads + Sync, V: Solver>(
     in_turn(first, rest)
 }
 
-/// The walks along paths. One path alone is walked on no other thread.
-fn states_of<R: Threads + Sync, V: Solver>(
-    rt: &R,
-    alloc: Global,
-    problem: &Problem,
-    pools: &Pools,
-    solver: &V,
-    starts: &Starts<V>,
-    run: u32,
-    paths: &[List<Step>],
-) -> Result<List<Walk>, StageFault>
-    requires paths { All (IsPath problem.now) paths.now }
-    requires fit { Fit (problem_of problem.now) (length problem.now.raw.nodes) pools.now.lists }
-    requires ready { AreReady (V.started solver.now) (V.suits solver.now) problem.now starts.now.items }
-    ensures { Gives result (walks_of (solving (V.started solver.now) (V.begun solver.now) (V.next solver.now)) problem.now pools.now.lists run paths.now) }
-{
-    if paths.len() < 2 {
-        states_each(alloc, problem, pools, solver, starts, run, paths)
-    } else {
-        states_beside(rt, alloc, problem, pools, solver, starts, run, paths)
-    }
-}
-
 /// The walks of [`states`] along each of these paths, in their order. The first half of the paths, rounded down, and the
 /// rest are walked beside each other, one path alone on no other thread; the answer is that of one path after another.
 ///
@@ -157,5 +134,8 @@ pub fn states_all<R: Threads + Sync, V: Solver>(
     ensures dead { OnNoStage result (Refutes problem.now) }
 {
     let _ = problem.raw();
-    states_of(rt, alloc, problem, pools, solver, starts, run, paths)
+    if paths.len() < 2 {
+        return states_each(alloc, problem, pools, solver, starts, run, paths);
+    }
+    states_beside(rt, alloc, problem, pools, solver, starts, run, paths)
 }

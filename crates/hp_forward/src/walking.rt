@@ -16,13 +16,13 @@ ghost use Rattle.hp_forward.specs.Given.{Gives, GivesSeen, IsStateAt, OnNoStage,
 ghost use Rattle.hp_lp.specs.Chained.{solving};
 ghost use Rattle.hp_forward.specs.Walking.{AreInside, decide_step, step_on, values_of, walk_of};
 
-use crate::deciding::{StageFault, decide, scaled};
+use crate::deciding::{StageFault, decide_with, scaled};
 use hp_cut::Pools;
 use hp_lp::Starts;
-use hp_num::{List, Memory};
+use hp_num::{List, Memory, Spare};
 use hp_problem::Problem;
 use hp_sampler::{Step, Walk};
-use hp_solver::Solver;
+use hp_solver::{Fx, Solver};
 use std::alloc::Global;
 
 /// The values of a step's realization.
@@ -54,9 +54,11 @@ fn initial_state(alloc: Global, problem: &Problem) -> Result<List<i128>, Memory>
     scaled_all(alloc, problem.initial())
 }
 
-/// Adds a step to a walk that has come to a state, and gives the state that leaves the step's node.
+/// Adds a step to a walk that has come to a state, and gives the state that leaves the step's node. The terms of the stage
+/// problem's rows are in lists that are spare, and are so again afterwards.
 fn step_on<V: Solver>(
     alloc: Global,
+    spare: &mut Spare<(u32, Fx)>,
     problem: &Problem,
     pools: &Pools,
     solver: &V,
@@ -77,8 +79,9 @@ fn step_on<V: Solver>(
     ensures dead { OnNoStage result (Refutes problem.now) }
 {
     let values = values_of(problem, step);
-    let decided = decide(
+    let decided = decide_with(
         alloc,
+        spare,
         problem,
         pools,
         solver,
@@ -125,9 +128,10 @@ pub fn states<V: Solver>(
         unsettled: 0,
     };
     let mut state = initial_state(alloc, problem)?;
+    let mut spare = Spare::new(alloc);
     for step in path {
         state = step_on(
-            alloc, problem, pools, solver, starts, run, &mut walk, state, *step,
+            alloc, &mut spare, problem, pools, solver, starts, run, &mut walk, state, *step,
         )?;
     }
     Ok(walk)

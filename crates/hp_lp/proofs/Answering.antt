@@ -1,13 +1,13 @@
 -- What a chain of one answers, by what is known of its parts.
-use Rattle.std.proofs.Common.{◌≡◌, ℕ, ◌<◌, ℤ, List, length, Option, Some, slice_get, ap, ap₂, sym, ◌∙◌, subst}
+use Rattle.std.proofs.Common.{◌≡◌, ℕ, ◌<◌, ℤ, List, length, Option, Some, ap, ap₂, sym, ◌∙◌, subst}
 use Rattle.hp_num.proofs.Tests.{some_of}
 use Rattle.hp_problem.specs.Sealed.{Sealed}
 use Rattle.hp_theory.specs.declared.cut.Cut.{Cut}
 use Rattle.hp_solver.specs.declared.stage_lp.StageLp.{StageLp}
 use Rattle.hp_solver.specs.declared.stage_lp.Answer.{Answer}
 use Rattle.hp_lp.specs.Nodes.{stage_in, reference_in}
-use Rattle.hp_lp.specs.Chained.{Solving, program_of, begun_at, answered}
-use Rattle.hp_lp.specs.Ready.{IsReady, AreReady}
+use Rattle.hp_lp.specs.Chained.{Solving, program_of, answered}
+use Rattle.hp_lp.specs.Ready.{AreReady}
 
 -- the reference program that is ready at a node
 pub ready_program : {Start : Type 0} {started : StageLp → Start} {suits : Start → StageLp → Type 0} {p : Sealed} {starts : List Start} → AreReady started suits p starts → (m : ℕ) → m < length p.raw.nodes

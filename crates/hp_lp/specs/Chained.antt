@@ -1,5 +1,5 @@
 -- Chains of a node's stage problems, solved one after another.
-use Rattle.std.specs.Prelude.{ℕ, ℤ, List, [], map, Option, Some, None}
+use Rattle.std.specs.Prelude.{ℕ, ℤ, List, [], Option, Some, None}
 use Rattle.hp_problem.specs.Sealed.{Sealed}
 use Rattle.hp_theory.specs.declared.cut.Cut.{Cut}
 use Rattle.hp_solver.specs.declared.stage_lp.StageLp.{StageLp}

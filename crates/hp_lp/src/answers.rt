@@ -9,12 +9,12 @@ ghost use Rattle.hp_theory.specs.View.{problem_of};
 ghost use Rattle.hp_lp.specs.Chained.{Solving, answered};
 ghost use Rattle.hp_lp.specs.Ready.{AreReady};
 
-use crate::stages::stage;
+use crate::stages::{give_back, stage_with};
 use crate::starts::Starts;
 use hp_cut::Pools;
-use hp_num::Memory;
+use hp_num::{Memory, Spare};
 use hp_problem::Problem;
-use hp_solver::{Answer, Solver};
+use hp_solver::{Answer, Fx, Solver};
 use std::alloc::Global;
 
 /// The answer to the stage problem of a node at values and a state, solved in a chain of its own. What is asked of
@@ -37,7 +37,35 @@ pub fn answered<V: Solver>(
     requires ready { AreReady (V.started solver.now) (V.suits solver.now) problem.now starts.now.items }
     ensures { IfOk result (λ a. a ≡ answered (record { started = V.started solver.now; begun = V.begun solver.now; next = V.next solver.now }) problem.now pools.now.lists node values.now state.now) }
 {
-    let lp = stage(alloc, problem, pools, node, values, state)?;
+    let mut spare = Spare::new(alloc);
+    answered_with(
+        alloc, &mut spare, problem, pools, solver, starts, node, values, state,
+    )
+}
+
+/// The answer that [`answered`] gives, the terms of the stage problem's rows in lists that are spare, and are so again
+/// after the solve.
+pub fn answered_with<V: Solver>(
+    alloc: Global,
+    spare: &mut Spare<(u32, Fx)>,
+    problem: &Problem,
+    pools: &Pools,
+    solver: &V,
+    starts: &Starts<V>,
+    node: u32,
+    values: &[i64],
+    state: &[i128],
+) -> Result<Answer, Memory>
+    requires known { node < length problem.now.raw.nodes }
+    requires fit { Fit (problem_of problem.now) (length problem.now.raw.nodes) pools.now.lists }
+    requires values { are_values (subproblem_of problem.now node) values.now ≡ true }
+    requires state { InBox S (node_at (problem_of problem.now) node).low (node_at (problem_of problem.now) node).high state.now }
+    requires ready { AreReady (V.started solver.now) (V.suits solver.now) problem.now starts.now.items }
+    ensures { IfOk result (λ a. a ≡ answered (record { started = V.started solver.now; begun = V.begun solver.now; next = V.next solver.now }) problem.now pools.now.lists node values.now state.now) }
+{
+    let lp = stage_with(alloc, spare, problem, pools, node, values, state)?;
     let mut chain = starts.begin(alloc, problem, solver, node, &lp)?;
-    solver.solve(alloc, &mut chain, &lp)
+    let answer = solver.solve(alloc, &mut chain, &lp);
+    give_back(lp, spare);
+    answer
 }

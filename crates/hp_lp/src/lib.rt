@@ -8,12 +8,13 @@ pub mod laws;
 mod own_rows;
 pub mod references;
 mod scales;
+mod spare_terms;
 pub mod stages;
 pub mod starts;
 
-pub use answers::answered;
+pub use answers::{answered, answered_with};
 pub use references::reference;
-pub use stages::{restate, stage};
+pub use stages::{give_back, restate, stage, stage_with};
 pub use starts::Starts;
 
 #[cfg(test)]

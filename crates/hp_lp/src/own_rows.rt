@@ -9,7 +9,8 @@ ghost use Rattle.hp_lp.specs.Stage.{whole, side_at, own_row};
 ghost use Rattle.hp_lp.specs.Given.{AreGiven, IsOver};
 
 use crate::scales::{CUT_SCALE, sum, whole};
-use hp_num::{List, Memory};
+use crate::spare_terms::room_for;
+use hp_num::{List, Memory, Spare};
 use hp_problem::Row;
 use hp_solver::fixed::ONE;
 use hp_solver::{Fx, LpRow};
@@ -136,29 +137,40 @@ fn sides_at(row: &Row, values: &[i64], state: &[i128]) -> Sides
 }
 
 // The terms of a row, over the decisions' columns.
-fn own_terms(alloc: Global, terms: &[(u32, i64)]) -> Result<List<(u32, Fx)>, Memory>
+fn own_terms(
+    alloc: Global,
+    spare: &mut Spare<(u32, Fx)>,
+    terms: &[(u32, i64)],
+) -> Result<List<(u32, Fx)>, Memory>
     ensures { IfOk result (λ found. found ≡ map (λ (t : ℕ × ℤ). (t.0, whole t.1)) terms.now) }
 {
-    let mut found = List::new(alloc);
+    let mut found = room_for(alloc, spare, terms.len())?;
     for (variable, factor) in terms {
         found.push((*variable, whole(*factor)))?;
     }
     Ok(found)
 }
 
-fn own_row(alloc: Global, row: &Row, values: &[i64], state: &[i128]) -> Result<LpRow, Memory>
+fn own_row(
+    alloc: Global,
+    spare: &mut Spare<(u32, Fx)>,
+    row: &Row,
+    values: &[i64],
+    state: &[i128],
+) -> Result<LpRow, Memory>
     requires given { AreGiven values.now state.now }
     requires over { IsOver (length state.now) (length values.now) row.now }
     ensures { IfOk result (λ found. found ≡ own_row values.now state.now row.now) }
 {
-    let terms = own_terms(alloc, row.decisions.as_slice())?;
+    let terms = own_terms(alloc, spare, row.decisions.as_slice())?;
     let Sides { low, high } = sides_at(row, values, state);
     Ok(LpRow { low, high, terms })
 }
 
-/// The rows at the values and the state.
+/// The rows at the values and the state, their terms in lists that are spare.
 pub(crate) fn own_rows(
     alloc: Global,
+    spare: &mut Spare<(u32, Fx)>,
     rows: &[Row],
     values: &[i64],
     state: &[i128],
@@ -169,7 +181,7 @@ pub(crate) fn own_rows(
 {
     let mut found = List::new(alloc);
     for row in rows {
-        found.push(own_row(alloc, row, values, state)?)?;
+        found.push(own_row(alloc, spare, row, values, state)?)?;
     }
     Ok(found)
 }

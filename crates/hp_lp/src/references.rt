@@ -9,7 +9,7 @@ ghost use Rattle.hp_lp.specs.Given.{HasReference};
 use crate::columns::decision_columns;
 use crate::own_rows::own_rows;
 use crate::stages::StageNode;
-use hp_num::{List, Memory};
+use hp_num::{List, Memory, Spare};
 use hp_problem::Problem;
 use hp_solver::{Column, Fx, LpRow, StageLp};
 use std::alloc::Global;
@@ -67,8 +67,10 @@ fn reference_rows(
     ensures { IfOk result (λ found. found ≡ map (own_row (get_or stage.now.node.now.values 0 []) (quarters low.now high.now)) stage.now.subproblem.now.rows) }
 {
     let state = quarters(alloc, low, high)?;
+    let mut spare = Spare::new(alloc);
     own_rows(
         alloc,
+        &mut spare,
         stage.subproblem.rows.as_slice(),
         first_values(stage),
         state.as_slice(),

@@ -17,9 +17,9 @@ use crate::columns::{decision_columns, push_future_columns};
 use crate::cut_rows::push_cut_rows;
 use crate::own_rows::{own_rows, restate_rows};
 use hp_cut::Pools;
-use hp_num::{List, Memory};
+use hp_num::{List, Memory, Spare};
 use hp_problem::{Node, Problem, Subproblem};
-use hp_solver::{Column, LpRow, StageLp};
+use hp_solver::{Column, Fx, LpRow, StageLp};
 use std::alloc::Global;
 
 /// A node with its subproblem.
@@ -66,6 +66,7 @@ fn columns(alloc: Global, stage: &StageNode, pools: &Pools) -> Result<List<Colum
 // The node's own rows, and then the successors' cuts.
 fn rows(
     alloc: Global,
+    spare: &mut Spare<(u32, Fx)>,
     stage: &StageNode,
     pools: &Pools,
     values: &[i64],
@@ -76,9 +77,16 @@ fn rows(
     ensures { IfOk result (λ found. found ≡ map (own_row values.now state.now) stage.now.subproblem.now.rows
         ++ cut_rows stage.now.subproblem.now pools.now.lists (length stage.now.subproblem.now.decisions) stage.now.node.now.links) }
 {
-    let mut found = own_rows(alloc, stage.subproblem.rows.as_slice(), values, state)?;
+    let mut found = own_rows(
+        alloc,
+        spare,
+        stage.subproblem.rows.as_slice(),
+        values,
+        state,
+    )?;
     push_cut_rows(
         alloc,
+        spare,
         &mut found,
         stage.subproblem,
         pools,
@@ -91,6 +99,7 @@ fn rows(
 #[tactic(auto, unfolding(crate::specs::Stage::stage_of))]
 fn stage_of(
     alloc: Global,
+    spare: &mut Spare<(u32, Fx)>,
     stage: &StageNode,
     pools: &Pools,
     values: &[i64],
@@ -103,7 +112,7 @@ fn stage_of(
 {
     Ok(StageLp {
         columns: columns(alloc, stage, pools)?,
-        rows: rows(alloc, stage, pools, values, state)?,
+        rows: rows(alloc, spare, stage, pools, values, state)?,
         decisions: stage.subproblem.decisions.len() as u32,
         own: stage.subproblem.rows.len() as u32,
     })
@@ -129,7 +138,38 @@ pub fn stage(
     ensures value { IfOk result (λ lp. stage_in problem.now pools.now.lists node values.now state.now ≡ Some lp) }
     ensures proper { IfOk result IsProper }
 {
-    stage_of(alloc, &StageNode::of(problem, node), pools, values, state)
+    let mut spare = Spare::new(alloc);
+    stage_with(alloc, &mut spare, problem, pools, node, values, state)
+}
+
+/// The stage problem of a node, as [`stage`] makes it, the terms of its rows in lists that are spare.
+pub fn stage_with(
+    alloc: Global,
+    spare: &mut Spare<(u32, Fx)>,
+    problem: &Problem,
+    pools: &Pools,
+    node: u32,
+    values: &[i64],
+    state: &[i128],
+) -> Result<StageLp, Memory>
+    requires known { node < length problem.now.raw.nodes }
+    requires fit { Fit (problem_of problem.now) (length problem.now.raw.nodes) pools.now.lists }
+    requires values { are_values (subproblem_of problem.now node) values.now ≡ true }
+    requires state { InBox S (node_at (problem_of problem.now) node).low (node_at (problem_of problem.now) node).high state.now }
+    ensures value { IfOk result (λ lp. stage_in problem.now pools.now.lists node values.now state.now ≡ Some lp) }
+    ensures proper { IfOk result IsProper }
+{
+    let stage = StageNode::of(problem, node);
+    stage_of(alloc, spare, &stage, pools, values, state)
+}
+
+/// Gives the lists of terms of a stage problem that is done with to those that are spare.
+pub fn give_back(lp: StageLp, spare: &mut Spare<(u32, Fx)>) {
+    let mut rows = lp.rows.into_vec();
+    // The first row's last, so that each row of the next stage problem finds the list of the same row.
+    while let Some(row) = rows.pop() {
+        spare.give(row.terms);
+    }
 }
 
 /// Gives a stage problem of a node the sides of other values and another state: it is then the stage problem of these,

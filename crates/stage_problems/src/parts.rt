@@ -12,11 +12,11 @@ use crate::moments::{Moment, first, last};
 use crate::texts::{push_certificate, push_program};
 use hp_cut::Pools;
 use hp_dual::base;
-use hp_lp::{restate, stage};
-use hp_num::Memory;
+use hp_lp::{give_back, restate, stage_with};
+use hp_num::{Memory, Spare};
 use hp_problem::Problem;
 use hp_settle::settle;
-use hp_solver::{Answer, StageLp};
+use hp_solver::{Answer, Fx, StageLp};
 use hp_theory::Certificate;
 use std::alloc::Global;
 
@@ -32,9 +32,10 @@ pub struct Counts {
 /// The node whose stage problem is measured.
 const NODE: u32 = 0;
 
-/// The stage problem at a moment.
+/// The stage problem at a moment, the terms of its rows in lists that are spare.
 fn stage_at(
     alloc: Global,
+    spare: &mut Spare<(u32, Fx)>,
     problem: &Problem,
     pools: &Pools,
     moment: &Moment,
@@ -43,8 +44,9 @@ fn stage_at(
     requires moment { MayStand problem.now 0 moment.now.values.now moment.now.state }
     ensures { IfOk result (IsStageAt problem.now 0) }
 {
-    stage(
+    stage_with(
         alloc,
+        spare,
         problem,
         pools,
         NODE,
@@ -53,7 +55,8 @@ fn stage_at(
     )
 }
 
-/// The stage problem, built so many times and once.
+/// The stage problem, built so many times and once, each time in the lists of the one before, as along a path of
+/// training.
 fn built(
     alloc: Global,
     problem: &Problem,
@@ -65,10 +68,12 @@ fn built(
     requires moment { MayStand problem.now 0 moment.now.values.now moment.now.state }
     ensures { IfOk result (IsStageAt problem.now 0) }
 {
+    let mut spare = Spare::new(alloc);
     for _ in 0..builds {
-        stage_at(alloc, problem, pools, moment)?;
+        let lp = stage_at(alloc, &mut spare, problem, pools, moment)?;
+        give_back(lp, &mut spare);
     }
-    stage_at(alloc, problem, pools, moment)
+    stage_at(alloc, &mut spare, problem, pools, moment)
 }
 
 /// Gives the stage problem the sides of a moment.

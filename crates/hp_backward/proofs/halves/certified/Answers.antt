@@ -13,8 +13,8 @@ returns-clause-value g c =
     let here = c.args.here.now in
     let v = solving (g.V.Solver.started here.solver.now) (g.V.Solver.begun here.solver.now) (g.V.Solver.next here.solver.now) in
     let half : List (List ℤ) → Result Certified SweepFault = in_chain v here.problem.now here.pools.now.lists here.iteration here.node here.state.now in
-    subst (λ (r : Result Certified SweepFault). GivesOr Stops (λ found. found) c.in_two_chains.result r)
+    subst (λ (r : Result Certified SweepFault). GivesOr Stops (λ found. found) c.in_two_chains-found.result r)
     (ap₂ (λ (one other : List (List ℤ)). in_order (half one) (half other))
     (c.halves.ensures.first ∙ ap first_half c.values_of-values.ensures.value) (c.halves.ensures.second ∙ ap second_half c.values_of-values.ensures.value)
     ∙ sym (in_halves v here.problem.now here.pools.now.lists here.iteration here.node here.state.now))
-    c.in_two_chains.ensures.value
+    c.in_two_chains-found.ensures.value

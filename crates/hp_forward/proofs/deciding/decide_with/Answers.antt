@@ -11,7 +11,7 @@ use Rattle.hp_forward.specs.declared.deciding.Decided.{Decided}
 use Rattle.hp_forward.specs.Deciding.{decide_by}
 use Rattle.hp_forward.specs.Given.{IsStateAt, Gives, Refutes}
 use Rattle.hp_forward.proofs.ByAnswers.{if_given, on_no_stage, inside_by, next_by, refutes_judged}
-use Rattle.hp_forward.proofs.deciding.decide.Goals as goal
+use Rattle.hp_forward.proofs.deciding.decide_with.Goals as goal
 
 pub returns-clause-inside : goal.returns-clause-inside
 returns-clause-inside g c =
