@@ -70,6 +70,10 @@ pub(crate) fn settled_rows(alloc: Global, rows: &[Row], duals: &[Fx]) -> Result<
 fn cut_multiplier(dual: i128) -> u128
     ensures { result ≡ cut_multiplier dual }
 {
+    // Most cuts have none.
+    if dual == 0 {
+        return 0;
+    }
     u128::try_from(rescaled(dual)).unwrap_or(0)
 }
 
@@ -92,7 +96,7 @@ fn within_target(alloc: Global, target: u64, count: usize, duals: &[Fx]) -> Resu
     ensures multipliers { IfOk result (λ found. found.multipliers ≡ capped target (cut_multipliers duals.now 0 count)) }
     ensures missing { IfOk result (λ found. found.missing ≡ missing target (cut_multipliers duals.now 0 count)) }
 {
-    let mut multipliers = List::new(alloc);
+    let mut multipliers = List::from_vec(Vec::with_capacity(alloc, count)?);
     let mut missing = target;
     for k in 0..count {
         let multiplier = share(cut_multiplier(dual_at(duals, k)), missing);
