@@ -1,6 +1,7 @@
 pub mod Binding
 pub mod Once
 pub mod CutsKept
+pub mod Raising
 pub mod Adding
 pub mod Recorded
 pub mod Reaching

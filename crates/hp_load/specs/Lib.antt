@@ -1,5 +1,6 @@
 pub mod Refusals
 pub mod Cuts
+pub mod RootValues
 pub mod Records
 pub mod Load
 pub mod Accepted

@@ -1,5 +1,5 @@
 // The cuts of the steps of entries.
-ghost use Rattle.std.specs.Prelude.{◌≡◌, ◌≢◌, ◌<◌, ◌≤◌, ◌+◌, ◌^◌, ℕ, IfOk, IfErr, length, All};
+ghost use Rattle.std.specs.Prelude.{◌≡◌, ◌≢◌, ◌<◌, ◌≤◌, ◌+◌, ◌^◌, ℕ, IfOk, IfErr, OnOk, length, All};
 ghost use Rattle.std.specs.List.{AllByRecursion};
 ghost use Rattle.hp_theory.specs.Fit.{Fit};
 ghost use Rattle.hp_theory.specs.Pools.{pool};
@@ -9,8 +9,10 @@ ghost use Rattle.hp_record.specs.Shape.{Writable};
 ghost use Rattle.hp_load.specs.declared.refusal.LoadFault.TheVariants as faults;
 ghost use Rattle.hp_load.specs.Refusals.{Gives};
 ghost use Rattle.hp_load.specs.Cuts.{step_added, steps_added, entries_added};
+ghost use Rattle.hp_load.specs.RootValues.{root_values};
 
 use crate::refusal::{JournalRefusal, LoadFault};
+use crate::values::push_cut;
 use hp_cut::{Cut, Entry, EntryStep, Pools};
 use hp_dual::accept_into;
 use hp_num::{List, Memory};
@@ -33,13 +35,16 @@ fn add_cut(
     alloc: Global,
     problem: &Problem,
     pools: &mut Pools,
+    values: &mut List<i128>,
     iteration: u32,
     step: &EntryStep,
 ) -> Result<(), LoadFault>
     requires known { step.now.node < length problem.now.raw.nodes }
     requires fit { Fit (problem_of problem.now) (length problem.now.raw.nodes) pools.old.lists }
     requires few { length (pool pools.old.lists step.now.node) < 2 ^ 24 }
+    requires values { values.old ≡ root_values problem.now pools.old.lists }
     ensures value { Gives (λ _. pools.new.lists) result (step_added problem.now iteration pools.old.lists step.now) }
+    ensures values { OnOk result (values.new ≡ root_values problem.now pools.new.lists) }
     ensures own { IfErr result (λ fault. fault ≢ faults.DiskFault) }
 {
     let mut cut = no_slopes(alloc, problem.raw().states.len())?;
@@ -51,7 +56,7 @@ fn add_cut(
             fault,
         }));
     }
-    pools.push(step.node, cut)?;
+    push_cut(problem, pools, values, step.node, cut)?;
     Ok(())
 }
 
@@ -60,33 +65,40 @@ fn add_steps(
     alloc: Global,
     problem: &Problem,
     pools: &mut Pools,
+    values: &mut List<i128>,
     iteration: u32,
     steps: &[EntryStep],
 ) -> Result<(), LoadFault>
     requires known { All (λ (s : EntryStep). s.node < length problem.now.raw.nodes) steps.now }
     requires fit { Fit (problem_of problem.now) (length problem.now.raw.nodes) pools.old.lists }
     requires few { (m : ℕ) → length (pool pools.old.lists m) + length steps.now ≤ 2 ^ 24 }
+    requires values { values.old ≡ root_values problem.now pools.old.lists }
     ensures value { Gives (λ _. pools.new.lists) result (steps_added problem.now iteration pools.old.lists steps.now) }
+    ensures values { OnOk result (values.new ≡ root_values problem.now pools.new.lists) }
     ensures own { IfErr result (λ fault. fault ≢ faults.DiskFault) }
 {
     let _ = problem.raw();
     for step in steps {
-        add_cut(alloc, problem, pools, iteration, step)?;
+        add_cut(alloc, problem, pools, values, iteration, step)?;
     }
     Ok(())
 }
 
-/// Appends the cuts of entries, one after the other, each over the cuts of those before it.
+/// Appends the cuts of entries, one after the other, each over the cuts of those before it, and keeps up the values of the
+/// root's successors.
 pub(crate) fn add_entries(
     alloc: Global,
     problem: &Problem,
     pools: &mut Pools,
+    values: &mut List<i128>,
     entries: &[Entry],
 ) -> Result<(), LoadFault>
     requires writable { AllByRecursion (Writable problem.now) entries.now }
     requires fit { Fit (problem_of problem.now) (length problem.now.raw.nodes) pools.old.lists }
     requires few { (m : ℕ) → length (pool pools.old.lists m) + length entries.now ≤ 2 ^ 23 }
+    requires values { values.old ≡ root_values problem.now pools.old.lists }
     ensures value { Gives (λ _. pools.new.lists) result (entries_added problem.now pools.old.lists entries.now) }
+    ensures values { OnOk result (values.new ≡ root_values problem.now pools.new.lists) }
     ensures own { IfErr result (λ fault. fault ≢ faults.DiskFault) }
 {
     let _ = problem.raw();
@@ -95,6 +107,7 @@ pub(crate) fn add_entries(
             alloc,
             problem,
             pools,
+            values,
             entry.iteration,
             entry.steps.as_slice(),
         )?;

@@ -5,33 +5,35 @@ ghost use Rattle.hp_cut.specs.declared.entry.Entry.{Entry};
 
 use hp_cut::Entry;
 use hp_num::{List, Memory};
+use hp_record::Spares;
 
-/// Keeps the entries of each record, or drops them.
+/// Keeps the entries of each record, or lets them go.
 pub(crate) trait Keeper {
     /// The entries of each record so far, where they are kept.
     ghost kept: { Self → Option (List (List Entry)) };
 
-    /// Takes the entries of one record more.
-    fn keep(&mut self, entries: List<Entry>) -> Result<(), Memory>
+    /// Takes the entries of one record more. Where they are not kept, the spares take their memory.
+    fn keep(&mut self, entries: List<Entry>, spares: &mut Spares) -> Result<(), Memory>
         ensures { OnOk result (kept self.new ≡ option_map (λ lists. lists ++ entries ∷ []) (kept self.old)) };
 }
 
 impl Keeper for List<List<Entry>> {
     ghost kept = { λ lists. Some lists };
 
-    fn keep(&mut self, entries: List<Entry>) -> Result<(), Memory> {
+    fn keep(&mut self, entries: List<Entry>, _spares: &mut Spares) -> Result<(), Memory> {
         self.push(entries)
     }
 }
 
-/// Drops the entries.
+/// Lets the entries go: their memory serves those of later records.
 #[derive(Drop)]
 pub(crate) struct Dropping;
 
 impl Keeper for Dropping {
     ghost kept = { λ _. None };
 
-    fn keep(&mut self, _entries: List<Entry>) -> Result<(), Memory> {
+    fn keep(&mut self, entries: List<Entry>, spares: &mut Spares) -> Result<(), Memory> {
+        spares.give_back(entries);
         Ok(())
     }
 }

@@ -8,6 +8,7 @@ mod loading;
 mod records;
 mod refusal;
 mod title;
+mod values;
 pub mod worked;
 
 pub use loaded::Loaded;

@@ -16,6 +16,7 @@ use crate::loaded::Loaded;
 use crate::records::{Gathered, read_records};
 use crate::refusal::LoadFault;
 use crate::title::check_title;
+use crate::values::root_values;
 use hp_cut::{Entry, Pools};
 use hp_journal::{Head, read_head};
 use hp_num::List;
@@ -86,15 +87,19 @@ fn load_born<D: Disk, K: Keeper>(
     ensures stays { Stays (D.store disk.old) (D.store disk.new) }
     ensures cause { DiskCause (D.faults disk.old) (D.faults disk.new) (result ≡ Err faults.DiskFault) }
 {
+    let _ = problem.raw();
     let first = first_gate(version);
+    let values = root_values(alloc, problem, &base)?;
     let mut found = Gathered {
         pools: base,
+        values,
         bounds: List::new(alloc),
         unsettled: 0,
     };
     let end = read_records(alloc, problem, disk, batch, first, &mut found, keep)?;
     let Gathered {
         pools,
+        values: _,
         bounds,
         unsettled,
     } = found;
@@ -155,7 +160,8 @@ fn load_with<D: Disk, K: Keeper>(
 /// payload, `BadRecord`, and `BadCertificate` at the first step that is not accepted. `DiskFault` comes only where the
 /// disk's count of faults rose. `base` is dropped after a refusal.
 ///
-/// The disk is only read, and not behind the shut gate. One buffer serves all payloads.
+/// The disk is only read, and not behind the shut gate. One buffer serves all payloads, and the memory of a record's
+/// entries serves those of later ones.
 pub fn load<D: Disk>(
     alloc: Global,
     problem: &Problem,

@@ -15,18 +15,20 @@ ghost use Rattle.hp_journal.specs.Causes.{DiskCause};
 ghost use Rattle.hp_journal.specs.Gates.{payload_of};
 ghost use Rattle.hp_load.specs.declared.refusal.LoadFault.TheVariants as faults;
 ghost use Rattle.hp_load.specs.Refusals.{Gives, of_payload, of_entries, with_fault, within};
+ghost use Rattle.hp_load.specs.RootValues.{root_values};
 ghost use Rattle.hp_load.specs.Records.{Found, fresh, found_of, IsKept, EndsAs, record_added, entries_at, record_at, rest_at, records_at};
 ghost use Rattle.hp_load.specs.Accepted.{IsSound, Accepted};
 
 use crate::cuts::add_entries;
 use crate::keeping::Keeper;
 use crate::refusal::{JournalRefusal, LoadFault, of_entries, of_payload};
+use crate::values::bound;
 use hp_cut::{Entry, Pools};
 use hp_journal::{Gate, payload, read_gate};
 use hp_num::List;
 use hp_outside::Disk;
 use hp_problem::{MOST_ITERATIONS, Problem};
-use hp_record::{EntryFault, decode_batch};
+use hp_record::{EntryFault, Spares, decode_batch_with};
 use std::alloc::Global;
 
 /// What records have given.
@@ -34,6 +36,8 @@ use std::alloc::Global;
 pub(crate) struct Gathered {
     /// The base cuts, and the cuts of the records.
     pub(crate) pools: Pools,
+    /// The values of the root's successors at the initial state, by all of these cuts.
+    pub(crate) values: List<i128>,
     /// The bound after each record.
     pub(crate) bounds: List<i128>,
     /// The sum of the unsettled solves that the entries state.
@@ -87,6 +91,7 @@ fn read_payload<D: Disk>(
 // The entries of an iteration that a payload spells.
 fn decode(
     alloc: Global,
+    spares: &mut Spares,
     problem: &Problem,
     iteration: u32,
     batch: u16,
@@ -98,7 +103,7 @@ fn decode(
     ensures batch { IfOk result (λ list. IsBatch problem.now iteration batch list) }
     ensures own { IfErr result (λ fault. fault ≢ faults.DiskFault) }
 {
-    match decode_batch(alloc, problem, iteration, batch, payload) {
+    match decode_batch_with(alloc, spares, problem, iteration, batch, payload) {
         Ok(entries) => Ok(entries),
         Err(fault) => Err(of_entries(iteration, fault)),
     }
@@ -107,6 +112,7 @@ fn decode(
 // The entries of the record whose open gate stands at a place, and the place of the next gate.
 fn entries_behind<D: Disk>(
     alloc: Global,
+    spares: &mut Spares,
     problem: &Problem,
     disk: &mut D,
     batch: u16,
@@ -127,7 +133,7 @@ fn entries_behind<D: Disk>(
 {
     check_formulas(problem, iteration, batch)?;
     let next = read_payload(disk, iteration, at, buffer)?;
-    let entries = decode(alloc, problem, iteration, batch, buffer.as_slice())?;
+    let entries = decode(alloc, spares, problem, iteration, batch, buffer.as_slice())?;
     Ok((entries, next))
 }
 
@@ -157,19 +163,23 @@ fn add_record(
     requires fit { Fit (problem_of problem.now) (length problem.now.raw.nodes) found.old.pools.lists }
     requires cuts { (m : ℕ) → length (pool found.old.pools.lists m) ≤ 2 ^ 22 }
     requires unsettled { found.old.unsettled ≤ 2 ^ 50 }
+    requires values { found.old.values ≡ root_values problem.now found.old.pools.lists }
     ensures value { Gives (λ _. found_of found.new) result (record_added problem.now (found_of found.old) entries.now) }
+    ensures values { OnOk result (found.new.values ≡ root_values problem.now found.new.pools.lists) }
     ensures own { IfErr result (λ fault. fault ≢ faults.DiskFault) }
 {
     let _ = problem.raw();
-    add_entries(alloc, problem, &mut found.pools, entries)?;
+    add_entries(alloc, problem, &mut found.pools, &mut found.values, entries)?;
     found.unsettled += unsettled(entries);
-    found.bounds.push(found.pools.bound(problem))?;
+    let bound = bound(problem, &found.pools, found.values.as_slice());
+    found.bounds.push(bound)?;
     Ok(())
 }
 
 // Reads the record whose open gate stands at a place, and adds it; answers its entries and the place of the next gate.
 fn read_record<D: Disk>(
     alloc: Global,
+    spares: &mut Spares,
     problem: &Problem,
     disk: &mut D,
     batch: u16,
@@ -184,16 +194,20 @@ fn read_record<D: Disk>(
     requires fit { Fit (problem_of problem.now) (length problem.now.raw.nodes) found.old.pools.lists }
     requires cuts { (m : ℕ) → length (pool found.old.pools.lists m) ≤ 2 ^ 22 }
     requires unsettled { found.old.unsettled ≤ 2 ^ 50 }
+    requires values { found.old.values ≡ root_values problem.now found.old.pools.lists }
     ensures value { IfSome (D.store disk.old).reads (λ bytes.
         Gives (λ x. (x.0, x.1, found_of found.new)) result (record_at problem.now batch bytes at (found_of found.old))) }
     ensures batch { IfOk result (λ x. IsBatch problem.now (suc (length found.old.bounds)) batch x.0) }
     ensures added { IfOk result (λ x. record_added problem.now (found_of found.old) x.0 ≡ Ok (found_of found.new)) }
+    ensures values { OnOk result (found.new.values ≡ root_values problem.now found.new.pools.lists) }
     ensures next { IfOk result (λ x. x.1 ≤ at + 5 + 2 ^ 26) }
     ensures stays { Stays (D.store disk.old) (D.store disk.new) }
     ensures cause { DiskCause (D.faults disk.old) (D.faults disk.new) (result ≡ Err faults.DiskFault) }
 {
     let iteration = found.bounds.len() as u32 + 1;
-    let (entries, next) = entries_behind(alloc, problem, disk, batch, iteration, at, buffer)?;
+    let (entries, next) = entries_behind(
+        alloc, spares, problem, disk, batch, iteration, at, buffer,
+    )?;
     add_record(alloc, problem, entries.as_slice(), found)?;
     Ok((entries, next))
 }
@@ -225,6 +239,7 @@ pub(crate) fn read_records<D: Disk, K: Keeper>(
     requires some { 1 ≤ batch }
     requires batch { batch ≤ 64 }
     requires base { based problem.now ≡ Ok found.old.pools.lists }
+    requires values { found.old.values ≡ root_values problem.now found.old.pools.lists }
     requires fresh { found_of found.old ≡ fresh found.old.pools.lists }
     requires empty { IsKept (K.kept keep.old) [] }
     ensures value { IfSome (D.store disk.old).reads (λ bytes.
@@ -237,13 +252,23 @@ pub(crate) fn read_records<D: Disk, K: Keeper>(
 {
     let _ = problem.raw();
     let mut buffer = Vec::new(alloc);
+    let mut spares = Spares::new(alloc);
     let mut at = first;
     for _ in 0..MOST_ITERATIONS {
         if let Some(rest) = rest_at(disk, at)? {
             return Ok(End { end: at, rest });
         }
-        let (entries, next) = read_record(alloc, problem, disk, batch, at, &mut buffer, found)?;
-        keep.keep(entries)?;
+        let (entries, next) = read_record(
+            alloc,
+            &mut spares,
+            problem,
+            disk,
+            batch,
+            at,
+            &mut buffer,
+            found,
+        )?;
+        keep.keep(entries, &mut spares)?;
         at = next;
     }
     match rest_at(disk, at)? {

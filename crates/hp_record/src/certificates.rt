@@ -4,14 +4,21 @@ ghost use Rattle.hp_record.specs.Reading.{Gives, many, row_at, pair_at, pairs_at
 use crate::fault::ReadFault;
 use crate::numbers::{pair_at, row_at, u32_at};
 use crate::sizes::Sizes;
+use crate::spares::Spares;
 use hp_cut::Certificate;
 use hp_num::List;
 use std::alloc::Global;
 
-fn rows(alloc: Global, count: usize, bytes: &[u8]) -> Result<(List<i64>, &[u8]), ReadFault>
+fn rows<'a>(
+    alloc: Global,
+    spares: &mut Spares,
+    count: usize,
+    bytes: &'a [u8],
+) -> Result<(List<i64>, &'a [u8]), ReadFault>
     ensures { Gives (λ x. (x.0, x.1.now)) result (many row_at count bytes.now) }
 {
-    let mut found = Vec::with_capacity(alloc, count.min(bytes.len() / 8))?;
+    let mut found = spares.rows.take(alloc).into_vec();
+    found.reserve_exact(count.min(bytes.len() / 8))?;
     let mut rest = bytes;
     for _ in 0..count {
         let (row, after) = row_at(rest)?;
@@ -21,14 +28,16 @@ fn rows(alloc: Global, count: usize, bytes: &[u8]) -> Result<(List<i64>, &[u8]),
     Ok((List::from_vec(found), rest))
 }
 
-fn counted_pairs(
+fn counted_pairs<'a>(
     alloc: Global,
+    spares: &mut Spares,
     count: usize,
-    bytes: &[u8],
-) -> Result<(List<(u32, u64)>, &[u8]), ReadFault>
+    bytes: &'a [u8],
+) -> Result<(List<(u32, u64)>, &'a [u8]), ReadFault>
     ensures { Gives (λ x. (x.0, x.1.now)) result (many pair_at count bytes.now) }
 {
-    let mut found = Vec::with_capacity(alloc, count.min(bytes.len() / 12))?;
+    let mut found = spares.pairs.take(alloc).into_vec();
+    found.reserve_exact(count.min(bytes.len() / 12))?;
     let mut rest = bytes;
     for _ in 0..count {
         let (pair, after) = pair_at(rest)?;
@@ -39,24 +48,30 @@ fn counted_pairs(
 }
 
 #[tactic(auto, unfolding(crate::specs::Reading::pairs_at))]
-fn pairs(alloc: Global, bytes: &[u8]) -> Result<(List<(u32, u64)>, &[u8]), ReadFault>
+fn pairs<'a>(
+    alloc: Global,
+    spares: &mut Spares,
+    bytes: &'a [u8],
+) -> Result<(List<(u32, u64)>, &'a [u8]), ReadFault>
     ensures { Gives (λ x. (x.0, x.1.now)) result (pairs_at bytes.now) }
 {
     let (count, rest) = u32_at(bytes)?;
-    counted_pairs(alloc, count as usize, rest)
+    counted_pairs(alloc, spares, count as usize, rest)
 }
 
-fn cuts(
+fn cuts<'a>(
     alloc: Global,
+    spares: &mut Spares,
     count: usize,
-    bytes: &[u8],
-) -> Result<(List<List<(u32, u64)>>, &[u8]), ReadFault>
+    bytes: &'a [u8],
+) -> Result<(List<List<(u32, u64)>>, &'a [u8]), ReadFault>
     ensures { Gives (λ x. (x.0, x.1.now)) result (many pairs_at count bytes.now) }
 {
-    let mut found = Vec::with_capacity(alloc, count.min(bytes.len() / 4))?;
+    let mut found = spares.cuts.take(alloc).into_vec();
+    found.reserve_exact(count.min(bytes.len() / 4))?;
     let mut rest = bytes;
     for _ in 0..count {
-        let (pairs, after) = pairs(alloc, rest)?;
+        let (pairs, after) = pairs(alloc, spares, rest)?;
         found.push(pairs)?;
         rest = after;
     }
@@ -64,26 +79,33 @@ fn cuts(
 }
 
 #[tactic(auto, unfolding(crate::specs::Reading::certificate_at))]
-fn certificate(alloc: Global, sizes: Sizes, bytes: &[u8]) -> Result<(Certificate, &[u8]), ReadFault>
+fn certificate<'a>(
+    alloc: Global,
+    spares: &mut Spares,
+    sizes: Sizes,
+    bytes: &'a [u8],
+) -> Result<(Certificate, &'a [u8]), ReadFault>
     ensures { Gives (λ x. (x.0, x.1.now)) result (certificate_at sizes bytes.now) }
 {
-    let (rows, rest) = rows(alloc, sizes.rows, bytes)?;
-    let (cuts, rest) = cuts(alloc, sizes.successors, rest)?;
+    let (rows, rest) = rows(alloc, spares, sizes.rows, bytes)?;
+    let (cuts, rest) = cuts(alloc, spares, sizes.successors, rest)?;
     Ok((Certificate { rows, cuts }, rest))
 }
 
 // One certificate per realization.
-pub(crate) fn certificates(
+pub(crate) fn certificates<'a>(
     alloc: Global,
+    spares: &mut Spares,
     sizes: Sizes,
-    bytes: &[u8],
-) -> Result<(List<Certificate>, &[u8]), ReadFault>
+    bytes: &'a [u8],
+) -> Result<(List<Certificate>, &'a [u8]), ReadFault>
     ensures { Gives (λ x. (x.0, x.1.now)) result (many (certificate_at sizes) sizes.realizations bytes.now) }
 {
-    let mut found = Vec::with_capacity(alloc, sizes.realizations)?;
+    let mut found = spares.certificates.take(alloc).into_vec();
+    found.reserve_exact(sizes.realizations)?;
     let mut rest = bytes;
     for _ in 0..sizes.realizations {
-        let (certificate, after) = certificate(alloc, sizes, rest)?;
+        let (certificate, after) = certificate(alloc, spares, sizes, rest)?;
         found.push(certificate)?;
         rest = after;
     }

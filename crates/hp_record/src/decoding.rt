@@ -9,6 +9,7 @@ ghost use Rattle.hp_record.specs.Reading.{Gives, Answers, IsNoText, OnBad, many,
 use crate::fault::{EntryFault, ReadFault};
 use crate::numbers::{u16_at, u32_at};
 use crate::sizes::sealed;
+use crate::spares::Spares;
 use crate::steps::steps;
 use hp_cut::Entry;
 use hp_num::List;
@@ -42,6 +43,7 @@ fn count_at<'a>(problem: &Problem, bytes: &'a [u8]) -> Result<(u16, &'a [u8]), R
 #[tactic(auto, unfolding(crate::specs::Reading::entry_at))]
 fn entry<'a>(
     alloc: Global,
+    spares: &mut Spares,
     problem: &Problem,
     wanted: u32,
     bytes: &'a [u8],
@@ -51,7 +53,7 @@ fn entry<'a>(
     let (iteration, rest) = iteration_at(wanted, bytes)?;
     let (unsettled, rest) = u32_at(rest)?;
     let (count, rest) = count_at(problem, rest)?;
-    let (steps, rest) = steps(alloc, problem, count as usize, rest)?;
+    let (steps, rest) = steps(alloc, spares, problem, count as usize, rest)?;
     let entry = Entry {
         iteration,
         unsettled,
@@ -62,6 +64,7 @@ fn entry<'a>(
 
 fn counted_entries<'a>(
     alloc: Global,
+    spares: &mut Spares,
     problem: &Problem,
     wanted: u32,
     count: u16,
@@ -72,7 +75,7 @@ fn counted_entries<'a>(
     let mut found = Vec::with_capacity(alloc, (count as usize).min(bytes.len() / 10))?;
     let mut rest = bytes;
     for _ in 0..count {
-        let (entry, after) = entry(alloc, problem, wanted, rest)?;
+        let (entry, after) = entry(alloc, spares, problem, wanted, rest)?;
         found.push(entry)?;
         rest = after;
     }
@@ -82,6 +85,7 @@ fn counted_entries<'a>(
 #[tactic(auto, unfolding(crate::specs::Reading::entries_at))]
 fn entries(
     alloc: Global,
+    spares: &mut Spares,
     problem: &Problem,
     wanted: u32,
     count: u16,
@@ -89,7 +93,7 @@ fn entries(
 ) -> Result<List<Entry>, ReadFault>
     ensures { Gives (λ x. x) result (entries_at problem.now wanted count bytes.now) }
 {
-    let (entries, rest) = counted_entries(alloc, problem, wanted, count, bytes)?;
+    let (entries, rest) = counted_entries(alloc, spares, problem, wanted, count, bytes)?;
     if !rest.is_empty() {
         return Err(ReadFault::Bad { left: rest.len() });
     }
@@ -100,6 +104,7 @@ fn entries(
 #[tactic(auto, unfolding(crate::specs::Reading::read_batch))]
 fn placed(
     alloc: Global,
+    spares: &mut Spares,
     problem: &Problem,
     iteration: u32,
     batch: u16,
@@ -108,7 +113,7 @@ fn placed(
     requires { length payload.now ≤ 2 ^ 26 }
     ensures { Answers (λ x. x) result (read_batch problem.now iteration batch payload.now) }
 {
-    match entries(alloc, problem, iteration, batch, payload) {
+    match entries(alloc, spares, problem, iteration, batch, payload) {
         Ok(entries) => Ok(entries),
         Err(ReadFault::Bad { left }) => {
             let place = payload.len().saturating_sub(left) as u32;
@@ -140,8 +145,27 @@ pub fn decode_batch(
     // Which place it is.
     ensures exact { Answers (λ x. x) result (read_batch problem.now iteration batch payload.now) }
 {
+    let mut spares = Spares::new(alloc);
+    decode_batch_with(alloc, &mut spares, problem, iteration, batch, payload)
+}
+
+/// The same as [`decode_batch`] reads, where the lists of certificates take the memory of entries that are done with.
+pub fn decode_batch_with(
+    alloc: Global,
+    spares: &mut Spares,
+    problem: &Problem,
+    iteration: u32,
+    batch: u16,
+    payload: &[u8],
+) -> Result<List<Entry>, EntryFault>
+    requires { length payload.now ≤ 2 ^ 26 }
+    ensures spelled { IfOk result (λ list. IsBatch problem.now iteration batch list × (payload.now ≡ spell list)) }
+    ensures again { (list : List Entry) → IsBatch problem.now iteration batch list → payload.now ≡ spell list → Answers (λ x. x) result (Ok list) }
+    ensures bad { OnBad result (IsNoText problem.now iteration batch payload.now) }
+    ensures exact { Answers (λ x. x) result (read_batch problem.now iteration batch payload.now) }
+{
     sealed(problem);
-    placed(alloc, problem, iteration, batch, payload)
+    placed(alloc, spares, problem, iteration, batch, payload)
 }
 
 /// The one entry of a payload, as [`decode_batch`] reads it.

@@ -7,6 +7,7 @@ use crate::certificates::certificates;
 use crate::fault::ReadFault;
 use crate::numbers::u16_at;
 use crate::sizes::sizes_of;
+use crate::spares::Spares;
 use hp_cut::EntryStep;
 use hp_num::List;
 use hp_problem::Problem;
@@ -53,6 +54,7 @@ fn node_at<'a>(
 #[tactic(auto, unfolding(crate::specs::Reading::step_at))]
 fn step<'a>(
     alloc: Global,
+    spares: &mut Spares,
     problem: &Problem,
     before: Option<u32>,
     last: bool,
@@ -61,24 +63,26 @@ fn step<'a>(
     ensures { Gives (λ x. (x.0, x.1.now)) result (step_at problem.now before last bytes.now) }
 {
     let (node, rest) = node_at(problem, before, last, bytes)?;
-    let (list, rest) = certificates(alloc, sizes_of(problem, node), rest)?;
+    let (list, rest) = certificates(alloc, spares, sizes_of(problem, node), rest)?;
     Ok((EntryStep { node, list }, rest))
 }
 
 // So many steps, of which the last one's node is a successor of the root.
 pub(crate) fn steps<'a>(
     alloc: Global,
+    spares: &mut Spares,
     problem: &Problem,
     count: usize,
     bytes: &'a [u8],
 ) -> Result<(List<EntryStep>, &'a [u8]), ReadFault>
     ensures { Gives (λ x. (x.0, x.1.now)) result (steps_at problem.now None count bytes.now) }
 {
-    let mut found = Vec::with_capacity(alloc, count.min(bytes.len() / 2))?;
+    let mut found = spares.steps.take(alloc).into_vec();
+    found.reserve_exact(count.min(bytes.len() / 2))?;
     let mut before = None;
     let mut rest = bytes;
     for i in 0..count {
-        let (step, after) = step(alloc, problem, before, i + 1 == count, rest)?;
+        let (step, after) = step(alloc, spares, problem, before, i + 1 == count, rest)?;
         before = Some(step.node);
         found.push(step)?;
         rest = after;

@@ -168,11 +168,29 @@ fn come_again(alloc: Global, problem: &Problem) -> bool {
     }
 }
 
+// The second reading finds the memory of what the first one read.
+fn come_again_in_its_memory(alloc: Global, problem: &Problem) -> bool {
+    let payload = twice();
+    let mut spares = Spares::new(alloc);
+    let Ok(first) = decode_batch_with(alloc, &mut spares, problem, 1, 2, &payload) else {
+        return false;
+    };
+    spares.give_back(first);
+    let Ok(list) = decode_batch_with(alloc, &mut spares, problem, 1, 2, &payload) else {
+        return false;
+    };
+    match encode_batch(alloc, problem, list.as_slice()) {
+        Ok(bytes) => bytes.as_slice() == payload.as_slice(),
+        Err(_) => false,
+    }
+}
+
 #[test]
 fn reads_and_writes(rt: HostRuntime) -> Result<(), Fail> {
     let problem = problem(rt.alloc())?;
     assert!(rt; comes_again(rt.alloc(), &problem));
     assert!(rt; come_again(rt.alloc(), &problem));
+    assert!(rt; come_again_in_its_memory(rt.alloc(), &problem));
     Ok(())
 }
 

@@ -1,5 +1,6 @@
 use Rattle.std.proofs.Common.{[], Ok, true, refl}
 use Rattle.std.proofs.lemmas.Result.{err_from_is_err_and}
+use Rattle.hp_theory.proofs.Based.{fit-based}
 use Rattle.hp_load.specs.declared.loaded.Loaded.{Loaded}
 use Rattle.hp_load.specs.Refusals.{Fails}
 use Rattle.hp_load.specs.Records.{EndsAs, fresh, found_of, records_at}
@@ -7,9 +8,12 @@ use Rattle.hp_load.proofs.Told.{told, known}
 use Rattle.hp_load.proofs.Outcomes.{born_fails, born_loads}
 use Rattle.hp_load.proofs.loading.load_born.Goals as goal
 
+pub root_values-requires : goal.root_values-requires
+root_values-requires g c = fit-based c.args.problem.now c.args.base.lists c.raw.ensures.sealed c.requires.base
+
 pub returns-in_err-end-clause-value : goal.returns-in_err-end-clause-value
 returns-in_err-end-clause-value g c =
-    let e = err_from_is_err_and c.from_residual.result c.from_residual.ensures.1 in
+    let e = err_from_is_err_and c.from_residual-in_err-end.result c.from_residual-in_err-end.ensures.1 in
     let f = c.in_err-end.field-0.0 in
     let p = c.args.problem.now in
     let base = c.args.base.lists in

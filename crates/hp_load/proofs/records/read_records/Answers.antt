@@ -15,6 +15,7 @@ loop-init g c =
       subst (λ (f : Found). Reached p base c.args.batch c.args.first r kept 0 c.args.first f) (sym c.requires.fresh) (reached_none p base c.args.batch c.args.first r kept c.raw.ensures.sealed c.requires.base c.requires.near c.requires.empty),
       stays_same (g.D.Disk.store c.args.disk.now),
       omega arith,
+      c.requires.values,
     )
 
 pub returns-in_err-rest-clause-value : goal.returns-in_err-rest-clause-value
@@ -60,6 +61,7 @@ loop-preserved g c =
           c.in_ok-entries.ensures.batch c.in_ok-entries.ensures.added c.in_ok-entries.ensures.next c.in_ok-keep.ensures,
       stays_on (g.D.Disk.store c.args.disk.now) (g.D.Disk.store l.disk) (g.D.Disk.store c.read_record.new.disk) l.invariant.1 (stays_on (g.D.Disk.store l.disk) (g.D.Disk.store c.rest_at.new.disk) (g.D.Disk.store c.read_record.new.disk) c.rest_at.ensures.stays c.read_record.ensures.stays),
       omega (arith, l.invariant.2, c.rest_at.ensures.cause.later, c.read_record.ensures.cause.later),
+      c.in_ok-entries.ensures.values,
     )
 
 pub returns-in_err-rest-2-clause-value : goal.returns-in_err-rest-2-clause-value

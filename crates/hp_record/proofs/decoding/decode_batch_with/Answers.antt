@@ -1,6 +1,6 @@
 use Rattle.std.proofs.Common.{arith}
 use Rattle.hp_record.proofs.Whole.{is_spelled, is_read, is_bad}
-use Rattle.hp_record.proofs.decoding.decode_batch.Goals as goal
+use Rattle.hp_record.proofs.decoding.decode_batch_with.Goals as goal
 
 pub returns-clause-spelled : goal.returns-clause-spelled
 returns-clause-spelled c = is_spelled c.args.problem.now c.args.iteration c.args.batch c.args.payload.now c.placed.result (λ i. omega (arith, c.type_inv.payload i)) c.placed.ensures
