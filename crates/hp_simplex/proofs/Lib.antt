@@ -1,4 +1,5 @@
 pub mod Each
+pub mod Flat
 pub mod Rows
 pub mod Stages
 pub mod Worked

@@ -4,8 +4,10 @@ use Rattle.std.specs.Option.{option_map, option_and_then}
 use Rattle.std.proofs.lemmas.List.{take-append-drop, length-drop, length-take-le}
 use Rattle.hp_solver.specs.declared.fixed.Fx.{Fx}
 use Rattle.hp_simplex.specs.Each.{each_from}
-use Rattle.hp_simplex.specs.Pivot.{Grid, grid, rows_of, Pivots, turned_row, moved_row, others, new_row, pivot_of}
-use Rattle.hp_simplex.proofs.Rows.{row_is, rows_split, rows_count, table_rows, inside_is}
+use Rattle.hp_simplex.specs.Pivot.{Grid, grid, Pivots, turned_row, moved_row, others, new_row, pivot_of}
+use Rattle.hp_simplex.specs.Rows.{rows_of}
+use Rattle.hp_simplex.proofs.Flat.{row_is, rows_split, rows_count, inside_is}
+use Rattle.hp_simplex.proofs.Rows.{table_rows}
 
 abbrev pub made : List Fx → List (List Fx) → List (List Fx) → List Fx → Grid
 made r above below costs = record { rows = above ++ r ∷ below; costs = costs }

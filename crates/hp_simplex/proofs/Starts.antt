@@ -10,8 +10,9 @@ use Rattle.hp_simplex.specs.declared.dictionary.Nonbasic.{Nonbasic}
 use Rattle.hp_simplex.specs.declared.dictionary.Tableau.{Tableau}
 use Rattle.hp_simplex.specs.Dictionary.{Dictionary, dense, slacks_from, nonbasic_from, start_of}
 use Rattle.hp_simplex.specs.Whole.{dictionary_of}
-use Rattle.hp_simplex.specs.Pivot.{rows_of, grid_of}
-use Rattle.hp_simplex.proofs.Rows.{front_row}
+use Rattle.hp_simplex.specs.Pivot.{grid_of}
+use Rattle.hp_simplex.specs.Rows.{rows_of}
+use Rattle.hp_simplex.proofs.Flat.{front_row}
 
 slacks_drop : (v i : ℕ) (rows : List LpRow) → i < length rows → slacks_from v (drop i rows) ≡ v ∷ slacks_from (suc v) (drop (suc i) rows)
 slacks_drop v i [] h = absurd (omega arith)

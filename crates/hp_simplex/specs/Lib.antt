@@ -4,6 +4,7 @@ pub mod Each
 pub mod Entering
 pub mod Leaving
 pub mod Pivot
+pub mod Rows
 pub mod Solve
 pub mod Steps
 pub mod Whole

@@ -1,10 +1,11 @@
 -- A pivot of the dual simplex method: the table and the reduced costs after two variables change places (Lemke, 1954).
-use Rattle.std.specs.Prelude.{◌≡◌, ℕ, zero, suc, Bool, true, false, List, [], ◌∷◌, ◌++◌, get_or, take, drop, Option, Some, None, ◌==◌, if◌then◌else◌}
+use Rattle.std.specs.Prelude.{◌≡◌, ℕ, Bool, true, false, List, [], get_or, Option, Some, None, ◌==◌, if◌then◌else◌}
 use Rattle.std.specs.Option.{option_map, option_and_then}
 use Rattle.hp_solver.specs.declared.fixed.Fx.{Fx}
 use Rattle.hp_simplex.specs.declared.table.Table.{Table}
 use Rattle.hp_solver.specs.Numbers.{zero_fx, one, plus, minus, times, over}
 use Rattle.hp_simplex.specs.Each.{each_from}
+use Rattle.hp_simplex.specs.Rows.{rows_of}
 
 -- rows of a table, and the row of reduced costs
 pub record Grid : Type 0 where
@@ -47,15 +48,6 @@ new_row i e r k row = if k == i then Some r else moved_row e r row
 unfoldable pub pivot_of : ℕ → ℕ → Grid → Option Grid
 pivot_of i e g =
     option_and_then (λ r. option_and_then (λ rows. option_map (λ costs. record { rows = rows; costs = costs }) (moved_row e r g.costs)) (each_from (new_row i e r) 0 g.rows)) (turned_row e (row_at g.rows i))
-
--- m rows of n entries each, one after the other
-abbrev pub rows_of : ℕ → ℕ → List Fx → List (List Fx)
-rows_of zero n xs = []
-rows_of (suc m) n xs = take n xs ∷ rows_of m n (drop n xs)
-
--- xs with r in the place of the n numbers from j on
-abbrev pub put : ℕ → ℕ → List Fx → List Fx → List Fx
-put n j xs r = take j xs ++ (r ++ drop n (drop j xs))
 
 -- the table of m rows of n entries each that a list of cells stands for, with its reduced costs
 abbrev pub grid : ℕ → ℕ → List Fx → List Fx → Grid

@@ -2,7 +2,8 @@
 ghost use Rattle.std.specs.Prelude.{◌≡◌, ◌+◌, ◌*◌, ◌<◌, ◌≤◌, length, take, drop, get_or};
 ghost use Rattle.std.specs.Option.{option_map};
 ghost use Rattle.hp_simplex.specs.Each.{each_from};
-ghost use Rattle.hp_simplex.specs.Pivot.{Pivots, at, turned, moved, turned_row, moved_row, put, rows_of, others, pivot_of, grid, grid_of, row_at};
+ghost use Rattle.hp_simplex.specs.Pivot.{Pivots, at, turned, moved, turned_row, moved_row, others, pivot_of, grid, grid_of, row_at};
+ghost use Rattle.hp_simplex.specs.Rows.{put, rows_of};
 
 use crate::numbers::negated;
 use hp_solver::Fx;

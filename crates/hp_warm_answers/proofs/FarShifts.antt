@@ -3,7 +3,8 @@ use Rattle.std.proofs.Common.{◌≡◌, ℕ, zero, suc, ◌^◌, ◌<◌, ◌�
 use Rattle.std.proofs.lemmas.Int.{ints}
 use Rattle.std.proofs.Math.IntN.{zero-*ℤ}
 use mir.Syntax.{w128}
-use Rattle.hp_warm_table.specs.Numbers.{held, shift_up, shift_down, shift_of}
+use Rattle.hp_solver.specs.Numbers.{held}
+use Rattle.hp_warm_table.specs.Numbers.{shift_up, shift_down, shift_of}
 use Rattle.hp_warm_table.proofs.Shifts.{up_absent, down_to_none, down_to_one}
 
 far_up : (v : ℤ) (k : ℕ) → FitsSigned w128 v → 1000 ≤ k → shift_up v 1000 ≡ shift_up v k

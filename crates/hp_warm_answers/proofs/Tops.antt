@@ -9,8 +9,9 @@ use Rattle.std.proofs.Math.IntN.{zero-*ℤ}
 use mir.Syntax.{w128}
 use Rattle.hp_num.specs.Sums.{entry}
 use Rattle.hp_warm_table.specs.declared.table.Table.{Table}
-use Rattle.hp_warm_table.specs.Numbers.{bits_of, held, shift_up, shift_of}
-use Rattle.hp_warm_table.proofs.Holding.{fits-true}
+use Rattle.hp_solver.specs.Numbers.{held}
+use Rattle.hp_warm_table.specs.Numbers.{bits_of, shift_up, shift_of}
+use Rattle.hp_solver.proofs.Numbers.{fits-true}
 use Rattle.hp_warm_table.proofs.Powers.{power_more}
 use Rattle.hp_warm_answers.specs.Ray.{greater, with_digits, greatest_from, or_zero, factor_at, top_of}
 

@@ -5,7 +5,7 @@ use Rattle.hp_num.specs.Sums.{Term, entry, floor_over}
 use Rattle.hp_warm_table.specs.declared.table.Table.{Table}
 use Rattle.hp_warm_table.specs.declared.table.Bounds.{Bounds}
 use Rattle.hp_warm_table.specs.Numbers.{down_of, cell_of}
-use Rattle.hp_warm_table.specs.Each.{each_from}
+use Rattle.hp_simplex.specs.Each.{each_from}
 use Rattle.hp_warm_answers.specs.Enter.{magnitude}
 
 -- whether a variable has the bound that a cost of this sign speaks of: the lower one of a positive cost
@@ -106,18 +106,7 @@ new_costs t qs j [] = []
 new_costs t qs j (v ∷ vs) = new_cost t qs v (entry t.reduced j) ∷ new_costs t qs (suc j) vs
 
 abbrev pub finished : Table → List ℤ → Table
-finished t qs =
-    record {
-      scales = t.scales;
-      rows = t.rows;
-      costs = t.costs;
-      bounds = t.bounds;
-      basis = t.basis;
-      reduced = new_costs t qs 0 t.basis.nonbasic;
-      lines = t.lines;
-      values = t.values;
-      weak = is_weak t qs;
-    }
+finished t qs = record t { reduced = new_costs t qs 0 t.basis.nonbasic; weak = is_weak t qs }
 
 -- none where a reduced cost is no cell
 unfoldable pub finish_of : Table → Option Table

@@ -8,10 +8,10 @@ use Rattle.hp_solver.specs.declared.stage_lp.LpRow.{LpRow}
 use Rattle.hp_solver.specs.declared.stage_lp.StageLp.{StageLp}
 use Rattle.hp_solver.specs.declared.stage_lp.Answer.{Answer}
 use Rattle.hp_solver.specs.declared.stage_lp.Kind.TheVariants as kinds
-use Rattle.hp_solver.specs.Numbers.{number, zero_fx}
+use Rattle.hp_solver.specs.Numbers.{number, zero_fx, held}
 use Rattle.hp_warm_table.specs.declared.table.Table.{Table}
-use Rattle.hp_warm_table.specs.Numbers.{held, shift_of}
-use Rattle.hp_warm_table.specs.Each.{each_from}
+use Rattle.hp_warm_table.specs.Numbers.{shift_of}
+use Rattle.hp_simplex.specs.Each.{each_from}
 
 -- the place of a variable, none where it is basic
 abbrev pub place_of : Table → ℕ → Option ℕ

@@ -11,7 +11,7 @@ use Rattle.hp_solver.specs.Numbers.{number}
 use Rattle.hp_solver.specs.Answers.{lows_of}
 use Rattle.hp_warm_table.specs.declared.table.Table.{Table}
 use Rattle.hp_warm_table.specs.Numbers.{bits_of, shift_of}
-use Rattle.hp_warm_table.specs.Each.{each_from}
+use Rattle.hp_simplex.specs.Each.{each_from}
 use Rattle.hp_warm_answers.specs.Found.{place_of}
 use Rattle.hp_warm_answers.specs.Proves.{clipped, proves}
 

@@ -2,7 +2,7 @@
 ghost use Rattle.std.specs.Prelude.{◌≡◌, ◌<◌, ◌≤◌, ◌+◌, ◌*◌, ◌^◌, ◌+ℤ◌, ◌-ℤ◌, pos, nat_abs, ℕ, length, All, IfOk, OnOk, OnErr, IfSome};
 ghost use Rattle.hp_num.specs.Sums.{floor_over};
 ghost use Rattle.hp_warm_table.specs.Shape.{IsTable, AreRising, variables};
-ghost use Rattle.hp_warm_table.specs.Each.{each_from};
+ghost use Rattle.hp_simplex.specs.Each.{each_from};
 ghost use Rattle.hp_warm_answers.specs.Folds.{ReachesOrKeeps};
 ghost use Rattle.hp_warm_answers.specs.Finish.{has_side, dual_of, is_column, terms_of, less_term, less_terms, less_place, less_places, whole_costs, rests_of, cell_at, costs_of, products_from, bound_by, plus_bound, columns_from, plus_side, sides_from, least_cost, is_apart, is_weak, new_cost, new_costs, finish_of};
 ghost use Rattle.hp_warm_answers.specs.Enter.{magnitude};

@@ -2,8 +2,8 @@
 ghost use Rattle.std.specs.Prelude.{◌≡◌, ◌<◌, ◌+◌, ◌-ℤ◌, pos, length, map, IfOk, IfSome, false};
 ghost use Rattle.hp_num.specs.Sums.{entry};
 ghost use Rattle.hp_warm_table.specs.Shape.{IsTable, variables};
-ghost use Rattle.hp_warm_table.specs.Numbers.{held};
-ghost use Rattle.hp_warm_table.specs.Each.{each_from};
+ghost use Rattle.hp_solver.specs.Numbers.{held};
+ghost use Rattle.hp_simplex.specs.Each.{each_from};
 ghost use Rattle.hp_warm_answers.specs.Found.{place_of, rounded, clamped, basic_point, bound_point, point_by, point_at, slack_dual, dual_by, dual_at, found_with, found_of};
 
 use crate::shifting::shift_by;

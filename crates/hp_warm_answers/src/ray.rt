@@ -4,7 +4,7 @@ ghost use Rattle.std.specs.Option.{IsSome};
 ghost use Rattle.hp_num.specs.Sums.{entry};
 ghost use Rattle.hp_warm_table.specs.Shape.{IsTable, variables};
 ghost use Rattle.hp_warm_table.specs.Numbers.{bits_of, shift_of};
-ghost use Rattle.hp_warm_table.specs.Each.{each_from};
+ghost use Rattle.hp_simplex.specs.Each.{each_from};
 ghost use Rattle.hp_warm_answers.specs.Ray.{own_factor, turned, factor_by, factor_at, greater, with_digits, greatest_from, or_zero, top_of, ray_dual, ray_with, where_proved, ray_of};
 
 use crate::found::{place_of, slack_of};

@@ -1,9 +1,9 @@
 // Sums and products that may leave 128 bits.
 ghost use Rattle.std.specs.Prelude.{◌≡◌, ◌+ℤ◌, ◌*ℤ◌};
-ghost use Rattle.hp_warm_table.specs.Numbers.{held};
+ghost use Rattle.hp_solver.specs.Numbers.{held};
 
 // The sum. None exactly where 128 bits do not hold it.
-#[tactic(auto, using(hp_warm_table::proofs::Holding::is_held))]
+#[tactic(auto, using(hp_solver::proofs::Numbers::is_held))]
 pub(crate) fn sum(x: i128, y: i128) -> Option<i128>
     ensures { result ≡ held (x +ℤ y) }
 {
@@ -11,7 +11,7 @@ pub(crate) fn sum(x: i128, y: i128) -> Option<i128>
 }
 
 // The product. None exactly where 128 bits do not hold it.
-#[tactic(auto, using(hp_warm_table::proofs::Holding::is_held))]
+#[tactic(auto, using(hp_solver::proofs::Numbers::is_held))]
 pub(crate) fn whole_product(x: i128, y: i128) -> Option<i128>
     ensures { result ≡ held (x *ℤ y) }
 {

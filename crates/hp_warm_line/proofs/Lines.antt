@@ -2,8 +2,8 @@
 use Rattle.std.proofs.Common.{◌≡◌, ◌∙◌, ◌+◌, ◌<◌, ℕ, ℤ, List, [], length, get_or, slice_set, take, drop, Option, Some, None, ap}
 use Rattle.std.specs.Option.{option_map}
 use Rattle.std.proofs.lemmas.List.{set-get_or}
-use Rattle.hp_warm_table.specs.Each.{each_from}
-use Rattle.hp_warm_table.proofs.Each.{behind, each_step, each_absent, map_some, map_none}
+use Rattle.hp_simplex.specs.Each.{each_from}
+use Rattle.hp_simplex.proofs.Each.{behind, each_step, each_absent, map_some, map_none}
 
 -- a line that stays
 pub kept_line : (lines : List (List ℤ)) (k : ℕ) → slice_set lines k (get_or lines k []) ≡ lines

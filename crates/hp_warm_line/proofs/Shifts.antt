@@ -8,12 +8,12 @@ use Rattle.std.proofs.lemmas.List.{drop_more, append-nil}
 use Rattle.std.proofs.Math.ListN.{drop_of_length-le}
 use lib.IntN.{*ℤ_comm, *ℤ-zero, zero-*ℤ, +ℤ_idl}
 use Rattle.hp_num.specs.Sums.{entry, dot, at_terms}
-use Rattle.hp_warm_table.specs.Each.{each_from}
+use Rattle.hp_simplex.specs.Each.{each_from}
 use Rattle.hp_warm_table.specs.Numbers.{down_of, value_of}
 use Rattle.hp_warm_table.specs.declared.table.Table.{Table}
 use Rattle.hp_warm_table.specs.Shape.{IsTable}
 use Rattle.hp_warm_table.specs.Updates.{Gives}
-use Rattle.hp_warm_table.proofs.Each.{each_length, map_some}
+use Rattle.hp_simplex.proofs.Each.{each_length, map_some}
 use Rattle.hp_warm_line.specs.Refine.{shift_at, shifts_of, moved_value, moved_values, stood_table, refined}
 use Rattle.hp_warm_table.specs.Sparse.{sparse}
 use Rattle.hp_warm_table.proofs.Stepping.{sparse_inside, one_kept}

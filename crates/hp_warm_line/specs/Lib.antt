@@ -1,5 +1,4 @@
 pub mod Activity
-pub mod Kept
 pub mod Line
 pub mod Pivot
 pub mod Refine

@@ -4,11 +4,11 @@ use Rattle.std.specs.Option.{option_map, option_and_then}
 use Rattle.std.specs.Ordering.{int_eq}
 use Rattle.hp_num.specs.Sums.{entry, floor_over}
 use Rattle.hp_warm_table.specs.Numbers.{cell_of, bits_of, quotient_of}
-use Rattle.hp_warm_table.specs.Each.{each_from}
+use Rattle.hp_simplex.specs.Each.{each_from}
 use Rattle.hp_warm_table.specs.Updates.{moved_row}
 use Rattle.hp_warm_table.specs.declared.table.Basis.{Basis}
 use Rattle.hp_warm_table.specs.declared.table.Table.{Table}
-use Rattle.hp_warm_line.specs.Kept.{with_basis}
+use Rattle.hp_warm_table.specs.Kept.{with_basis}
 
 -- -2^40, which stands for -1
 abbrev pub minus_one : ℤ

@@ -3,12 +3,12 @@ use Rattle.std.specs.Prelude.{◌≡◌, ℕ, suc, ◌-◌, ℤ, pos, ◌+ℤ◌
 use Rattle.std.specs.Option.{option_and_then, unwrap_or}
 use Rattle.hp_num.specs.Sums.{dot}
 use Rattle.hp_warm_table.specs.Numbers.{down_of, value_of}
-use Rattle.hp_warm_table.specs.Each.{each_from}
+use Rattle.hp_simplex.specs.Each.{each_from}
 use Rattle.hp_warm_table.specs.Bounding.{low_of, up_of}
 use Rattle.hp_warm_table.specs.declared.table.Bounds.{Bounds}
 use Rattle.hp_warm_table.specs.declared.table.Table.{Table}
 use Rattle.hp_warm_line.specs.Activity.{activity_of}
-use Rattle.hp_warm_line.specs.Kept.{with_values}
+use Rattle.hp_warm_table.specs.Kept.{with_values}
 
 -- as many upper bounds and signs that there are bounds as lower bounds
 pub record IsWhole (b : Bounds) : Type 0 where

@@ -3,9 +3,9 @@ ghost use Rattle.std.specs.Prelude.{◌≡◌, ◌^◌, ◌+◌, ◌-◌, ◌<�
 ghost use Rattle.std.specs.Option.{option_map};
 ghost use Rattle.hp_num.specs.Sums.{entry, floor_over};
 ghost use Rattle.hp_warm_table.specs.Numbers.{bits_of, quotient_of, cell_of};
-ghost use Rattle.hp_warm_table.specs.Each.{each_from};
+ghost use Rattle.hp_simplex.specs.Each.{each_from};
 ghost use Rattle.hp_warm_table.specs.Shape.{IsTable, variables};
-ghost use Rattle.hp_warm_line.specs.Kept.{with_basis};
+ghost use Rattle.hp_warm_table.specs.Kept.{with_basis};
 ghost use Rattle.hp_warm_table.specs.Updates.{Gives, moved_row};
 ghost use Rattle.hp_warm_table.specs.Sparse.{sparse};
 ghost use Rattle.hp_warm_line.specs.Pivot.{minus_one, inverse_of, turned, turned_line, moved_or_kept, entered, flipped, exchanged, eliminated, replaced, pivoted};
@@ -161,6 +161,16 @@ fn turn(line: &mut [Cell], place: usize) -> bool
     let pivot = line[place];
     line[place] = Cell::minus_one();
     turn_all(line, inverse(pivot), digits(pivot) + 16)
+}
+
+// The same in a list.
+fn turn_line(line: &mut List<Cell>, place: usize) -> bool
+    requires place { place < length line.old }
+    requires pivot { 0 < nat_abs (entry line.old place) }
+    ensures width { length line.new ≡ length line.old }
+    ensures turned { Gives result (turned_line place line.old) line.new }
+{
+    turn(line.as_mut_slice(), place)
 }
 
 // The line of column k after the pivot.
@@ -348,48 +358,12 @@ fn replace(
     exchange(&mut table.basis, leaving, above, place, flips);
 }
 
-// The pivot over a slice.
-#[tactic(auto, unfolding(crate::specs::Pivot::pivoted, crate::specs::Pivot::replaced))]
-fn pivot_over(
-    table: &mut Table,
-    line: &mut [Cell],
-    steps: &mut List<(usize, Cell)>,
-    leaving: usize,
-    above: bool,
-    place: usize,
-    flips: &[usize],
-) -> bool
-    requires sized { IsTable table.old }
-    requires width { length line.old ≡ length table.old.costs }
-    requires steps { length steps.old ≡ length table.old.costs }
-    requires there { leaving < variables table.old }
-    requires place { place < length table.old.costs }
-    requires pivot { 0 < nat_abs (entry line.old place) }
-    requires flips { All (λ j. j < length table.old.costs) flips.now }
-    ensures sized { IsTable table.new }
-    ensures width { length line.new ≡ length line.old }
-    ensures steps { length steps.new ≡ length steps.old }
-    ensures kept { table.new
-        ≡ with_basis table.old table.new.basis table.new.reduced table.new.lines }
-    ensures stopped { result ≡ false → table.new.basis ≡ table.old.basis }
-    ensures pivoted { Gives result (pivoted table.old line.old leaving above place flips.now)
-        table.new }
-{
-    if !turn(line, place) {
-        return false;
-    }
-    if !eliminate(table, line, steps, leaving, place) {
-        return false;
-    }
-    replace(table, line, leaving, above, place, flips);
-    true
-}
-
 /// The pivot: a basic variable, with its line, leaves for the variable at a place, and stands at its
 /// upper bound where it was above that. The variables at some more places, the flips, change their
 /// bounds. `line` is for work after that, and `steps`, as many places with cells as columns, too. The answer is false exactly where a number of it has an
 /// absolute value of 2^60 or more: the basis is then as before, and nothing is promised of the
 /// reduced costs and of the lines. All else of the table stays.
+#[tactic(auto, unfolding(crate::specs::Pivot::pivoted, crate::specs::Pivot::replaced))]
 pub fn pivot(
     table: &mut Table,
     line: &mut List<Cell>,
@@ -415,13 +389,12 @@ pub fn pivot(
     ensures pivoted { Gives result (pivoted table.old line.old leaving above place flips.now)
         table.new }
 {
-    pivot_over(
-        table,
-        line.as_mut_slice(),
-        steps,
-        leaving,
-        above,
-        place,
-        flips,
-    )
+    if !turn_line(line, place) {
+        return false;
+    }
+    if !eliminate(table, line.as_slice(), steps, leaving, place) {
+        return false;
+    }
+    replace(table, line.as_slice(), leaving, above, place, flips);
+    true
 }

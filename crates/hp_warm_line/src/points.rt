@@ -1,11 +1,11 @@
 // The point of a basis.
 ghost use Rattle.std.specs.Prelude.{◌≡◌, ◌^◌, ◌+◌, ◌<◌, ◌≤◌, ◌+ℤ◌, [], ◌∷◌, ◌++◌, length, take, nat_abs, All, IfSome};
 ghost use Rattle.std.specs.Option.{option_map};
-ghost use Rattle.hp_warm_table.specs.Each.{each_from};
+ghost use Rattle.hp_simplex.specs.Each.{each_from};
 ghost use Rattle.hp_warm_table.specs.Shape.{IsTable, variables};
 ghost use Rattle.hp_warm_table.specs.Updates.{Gives};
 ghost use Rattle.hp_warm_table.specs.Numbers.{down_of, value_of};
-ghost use Rattle.hp_warm_line.specs.Kept.{with_values};
+ghost use Rattle.hp_warm_table.specs.Kept.{with_values};
 ghost use Rattle.hp_warm_line.specs.Refine.{IsWhole, stand_of, placed, stood, off, shift_at, shifts_of, stood_table, refined};
 ghost use Rattle.hp_warm_table.specs.Sparse.{sparse};
 ghost use Rattle.hp_warm_line.specs.Sparse.{moved_by};

@@ -2,10 +2,10 @@
 use Rattle.std.proofs.Common.{◌≡◌, ◌∙◌, ℤ, List, refl, ap, sym, subst}
 use Rattle.hp_warm_table.specs.declared.table.Table.{Table}
 use Rattle.hp_warm_table.specs.declared.table.Basis.{Basis}
-use Rattle.hp_warm_line.specs.Kept.{with_basis}
+use Rattle.hp_warm_table.specs.Kept.{with_basis}
 use Rattle.hp_warm_rebuild.specs.Clean.{clean_of}
 use Rattle.hp_warm_rebuild.specs.Standings.{stood_up}
-use Rattle.hp_warm_rebuild.specs.Kept.{with_work, KeepsProgram}
+use Rattle.hp_warm_table.specs.Kept.{with_work, KeepsProgram}
 
 pub keeps_same : (t u : Table) → u ≡ t → KeepsProgram t u
 keeps_same t u h = subst (λ (s : Table). KeepsProgram t s) (sym h) refl

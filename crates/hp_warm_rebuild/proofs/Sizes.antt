@@ -7,6 +7,7 @@ use Rattle.std.proofs.lemmas.Bool.Decides.{nat_tests}
 use Rattle.hp_warm_table.specs.declared.table.Table.{Table}
 use Rattle.hp_warm_table.specs.declared.table.Basis.{Basis}
 use Rattle.hp_warm_table.specs.Shape.{IsTable, variables}
+use Rattle.hp_warm_table.proofs.Shapes.{scales_of, bounds_of, other_highs, same_shape}
 use Rattle.hp_warm_rebuild.specs.Clean.{first_place, slack_basis, clean_of}
 use Rattle.hp_warm_rebuild.specs.Standings.{map_from, standing_at, stood_up}
 
@@ -33,43 +34,16 @@ place_inside columns v = by (nat_lt v columns) refl
 pub sized_clean : (t : Table) → IsTable t → IsTable (clean_of t)
 unfolding clean_of slack_basis
 sized_clean t s =
-    record {
-      few = s.few;
-      row_scales = s.row_scales;
-      column_scales = s.column_scales;
-      lows = s.lows;
-      ups = s.ups;
-      has_low = s.has_low;
-      has_up = s.has_up;
+    same_shape t (clean_of t) s (scales_of t s) (bounds_of t s)
+    (record {
       nonbasic = length-map-range_with_len (λ j. j) 0 (length t.costs);
       places = length-map-range_with_len (first_place (length t.costs)) 0 (length t.costs + length t.rows);
       high = length-replicate (length t.costs) false;
-      reduced = refl;
-      lines = s.lines;
-      values = length-replicate (length t.costs) (pos 0);
       numbers = each_number (λ (v : ℕ). v < variables t) (λ j. j) (length t.costs) (λ k h. omega (arith, h));
       inside = each_number (λ p. IfSome p (λ j. j < length t.costs)) (first_place (length t.costs)) (length t.costs + length t.rows) (λ k h. place_inside (length t.costs) k);
-      terms = s.terms;
-    }
+    }) refl s.lines (length-replicate (length t.costs) (pos 0))
 
 pub sized_stood : (b : Basis) (t : Table) → IsTable t → IsTable (stood_up b t)
 unfolding stood_up
 sized_stood b t s =
-    record {
-      few = s.few;
-      row_scales = s.row_scales;
-      column_scales = s.column_scales;
-      lows = s.lows;
-      ups = s.ups;
-      has_low = s.has_low;
-      has_up = s.has_up;
-      nonbasic = s.nonbasic;
-      places = s.places;
-      high = map_length (standing_at b t.basis.nonbasic t.reduced) 0 t.basis.high ∙ s.high;
-      reduced = s.reduced;
-      lines = s.lines;
-      values = s.values;
-      numbers = s.numbers;
-      inside = s.inside;
-      terms = s.terms;
-    }
+    same_shape t (stood_up b t) s (scales_of t s) (bounds_of t s) (other_highs t (map_from (standing_at b t.basis.nonbasic t.reduced) 0 t.basis.high) s (map_length (standing_at b t.basis.nonbasic t.reduced) 0 t.basis.high ∙ s.high)) s.reduced s.lines s.values

@@ -1,8 +1,8 @@
 -- Lists that are changed in place, each entry by its number.
 use Rattle.std.proofs.Common.{◌≡◌, ◌+◌, ◌<◌, ◌≤◌, ℕ, suc, List, [], ◌∷◌, length, get_or, slice_set, take, drop, Some, refl, ap, sym}
 use Rattle.std.specs.Option.{option_map}
-use Rattle.hp_warm_table.specs.Each.{each_from}
-use Rattle.hp_warm_table.proofs.Each.{behind, each_step, each_done, some_same}
+use Rattle.hp_simplex.specs.Each.{each_from}
+use Rattle.hp_simplex.proofs.Each.{behind, each_step, each_done, some_same}
 use Rattle.hp_warm_rebuild.specs.Standings.{map_from}
 
 pub each_some : {A B : Type 0} (f : ℕ → A → B) (j : ℕ) (xs : List A) → each_from (λ j x. Some (f j x)) j xs ≡ Some (map_from f j xs)

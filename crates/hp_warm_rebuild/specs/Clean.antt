@@ -20,15 +20,4 @@ slack_basis columns rows = record { nonbasic = numbers columns; places = first_p
 
 -- the table of that basis; its lines, of which no column needs one, are those that were there
 unfoldable pub clean_of : Table → Table
-clean_of t =
-    record {
-      scales = t.scales;
-      rows = t.rows;
-      costs = t.costs;
-      bounds = t.bounds;
-      basis = slack_basis (length t.costs) (length t.rows);
-      reduced = t.costs;
-      lines = t.lines;
-      values = replicate (length t.costs) (pos 0);
-      weak = false;
-    }
+clean_of t = record t { basis = slack_basis (length t.costs) (length t.rows); reduced = t.costs; values = replicate (length t.costs) (pos 0); weak = false }

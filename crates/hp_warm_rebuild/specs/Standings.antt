@@ -4,7 +4,7 @@ use Rattle.std.specs.Option.{option_map}
 use Rattle.hp_num.specs.Sums.{entry}
 use Rattle.hp_warm_table.specs.declared.table.Basis.{Basis}
 use Rattle.hp_warm_table.specs.declared.table.Table.{Table}
-use Rattle.hp_warm_line.specs.Kept.{with_basis}
+use Rattle.hp_warm_table.specs.Kept.{with_basis}
 use Rattle.hp_warm_rebuild.specs.Clean.{clean_of}
 use Rattle.hp_warm_rebuild.specs.Tighten.{was_high, tightened}
 

@@ -2,7 +2,7 @@
 ghost use Rattle.std.specs.Prelude.{◌≡◌, length, IfOk, OnErr};
 ghost use Rattle.hp_warm_table.specs.Shape.{IsTable};
 ghost use Rattle.hp_warm_table.specs.Updates.{Gives};
-ghost use Rattle.hp_warm_rebuild.specs.Kept.{KeepsProgram};
+ghost use Rattle.hp_warm_table.specs.Kept.{KeepsProgram};
 ghost use Rattle.hp_warm_rebuild.specs.Standings.{rebuilt_of};
 
 use crate::clean::clean;

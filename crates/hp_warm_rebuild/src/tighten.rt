@@ -3,7 +3,7 @@ ghost use Rattle.std.specs.Prelude.{◌≡◌, ◌+◌, ◌-◌, ◌^◌, ◌<�
 ghost use Rattle.hp_num.specs.Sums.{entry};
 ghost use Rattle.hp_warm_table.specs.Shape.{IsTable, variables};
 ghost use Rattle.hp_warm_table.specs.Updates.{Gives};
-ghost use Rattle.hp_warm_line.specs.Kept.{with_basis};
+ghost use Rattle.hp_warm_table.specs.Kept.{with_basis};
 ghost use Rattle.hp_warm_rebuild.specs.Tighten.{was_basic, is_greater, better_place, place_from, large_enough, best_place, by_place, left, tight, tightened};
 
 use crate::standings::was_high;
@@ -108,39 +108,8 @@ fn best_place(basis: &Basis, nonbasic: &[usize], line: &[Cell]) -> Option<usize>
     large_enough(line, place_of(basis, nonbasic, line))
 }
 
-// A slack leaves, where a place is found for it.
-#[tactic(auto, unfolding(crate::specs::Tighten::left), using(crate::proofs::Sizes::numbers_inside))]
-fn leave(
-    table: &mut Table,
-    line: &mut List<Cell>,
-    steps: &mut List<(usize, Cell)>,
-    was: &Basis,
-    slack: usize,
-) -> bool
-    requires sized { IsTable table.old }
-    requires width { length line.old ≡ length table.old.costs }
-    requires steps { length steps.old ≡ length table.old.costs }
-    requires there { slack < variables table.old }
-    requires places { length was.now.places ≡ variables table.old }
-    requires inside { All (λ p. IfSome p (λ j. j < length was.now.high)) was.now.places }
-    ensures sized { IsTable table.new }
-    ensures width { length line.new ≡ length line.old }
-    ensures steps { length steps.new ≡ length steps.old }
-    ensures kept { table.new
-        ≡ with_basis table.old table.new.basis table.new.reduced table.new.lines }
-    ensures left { Gives result (left was.now table.old slack) table.new }
-{
-    if !write_line(table, slack, line) {
-        return false;
-    }
-    match best_place(was, table.basis.nonbasic.as_slice(), line.as_slice()) {
-        None => true,
-        Some(place) => pivot(table, line, steps, slack, was_high(was, slack), place, &[]),
-    }
-}
-
-// A slack leaves, where it was not basic.
-#[tactic(auto, unfolding(crate::specs::Tighten::tight))]
+// A slack leaves, where it was not basic and a place is found for it.
+#[tactic(auto, unfolding(crate::specs::Tighten::tight, crate::specs::Tighten::left), using(crate::proofs::Sizes::numbers_inside))]
 fn tighten(
     table: &mut Table,
     line: &mut List<Cell>,
@@ -162,9 +131,14 @@ fn tighten(
     ensures tight { Gives result (tight was.now table.old slack) table.new }
 {
     if was.places.as_slice()[slack].is_none() {
-        true
-    } else {
-        leave(table, line, steps, was, slack)
+        return true;
+    }
+    if !write_line(table, slack, line) {
+        return false;
+    }
+    match best_place(was, table.basis.nonbasic.as_slice(), line.as_slice()) {
+        None => true,
+        Some(place) => pivot(table, line, steps, slack, was_high(was, slack), place, &[]),
     }
 }
 

@@ -8,7 +8,7 @@ use Rattle.std.specs.Option.{option_and_then}
 use mir.Syntax.{w128}
 use Rattle.hp_num.specs.Sums.{floor_over}
 use Rattle.hp_warm_table.specs.Numbers.{bits_of, coefficient_of, cell_of, shift_of, shift_up, shift_down}
-use Rattle.hp_warm_table.proofs.Holding.{fits-true}
+use Rattle.hp_solver.proofs.Numbers.{fits-true}
 use Rattle.hp_warm_table.proofs.Powers.{power_more}
 
 below_bits : (v : ℤ) → nat_abs v < 2 ^ 128 → nat_abs v < 2 ^ bits_of v

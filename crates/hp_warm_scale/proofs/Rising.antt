@@ -3,7 +3,7 @@ use Rattle.std.proofs.Common.{◌≡◌, ℕ, suc, ◌<◌, ◌≤◌, ℤ, List
 use Rattle.std.specs.Option.{option_map, option_and_then}
 use Rattle.hp_solver.specs.Proper as program
 use Rattle.hp_warm_table.specs.Shape.{AreRising}
-use Rattle.hp_warm_table.specs.Each.{each_from}
+use Rattle.hp_simplex.specs.Each.{each_from}
 use Rattle.hp_warm_scale.specs.Exponents.{Term}
 use Rattle.hp_warm_scale.specs.Appending.{scaled_term, scaled_terms}
 

@@ -1,11 +1,12 @@
 -- Tables stay tables.
-use Rattle.std.proofs.Common.{◌≡◌, Result, Ok, Err, IfOk, OnOk, negsuc, ◌≤ℤ◌, ℕ, zero, suc, ◌+◌, ◌<◌, ◌≤◌, ℤ, pos, true, false, Bool, List, [], ◌∷◌, ◌++◌, length, length-set, length-append, replicate, Option, Some, None, IfSome, All, arith, refl, ap, sym, subst, ◌∙◌}
+use Rattle.std.proofs.Common.{◌≡◌, Result, Ok, Err, IfOk, OnOk, negsuc, ◌≤ℤ◌, ℕ, zero, suc, ◌+◌, ◌<◌, ◌≤◌, ℤ, pos, true, false, Bool, List, [], ◌∷◌, ◌++◌, length, length-set, length-append, map, replicate, Option, Some, None, IfSome, All, arith, refl, ap, sym, subst, ◌∙◌}
 use Rattle.std.proofs.lemmas.List.{length-map, length-replicate}
 use Rattle.std.proofs.lemmas.List.Elements.{All-weaker, All-push, All-nil, All-cons, All-map}
 use Rattle.hp_warm_table.specs.declared.table.Scales.{Scales}
 use Rattle.hp_warm_table.specs.declared.table.Bounds.{Bounds}
 use Rattle.hp_warm_table.specs.declared.table.Table.{Table}
 use Rattle.hp_warm_table.specs.Shape.{IsTable, AreRising}
+use Rattle.hp_warm_table.proofs.Shapes.{scales_of, bounds_of, basis_of, other_highs, same_shape}
 use Rattle.hp_warm_scale.specs.declared.sides.Sides.{Sides}
 use Rattle.hp_warm_scale.specs.declared.scaling.ScaledColumn.{ScaledColumn}
 use Rattle.hp_warm_scale.specs.Walks.{count_from, Gives}
@@ -40,44 +41,10 @@ column_table j s t w =
     }
 
 pub stood_table : (t : Table) → IsTable t → IsTable (stood t)
-stood_table t w = record {
-  few = w.few;
-  row_scales = w.row_scales;
-  column_scales = w.column_scales;
-  lows = w.lows;
-  ups = w.ups;
-  has_low = w.has_low;
-  has_up = w.has_up;
-  nonbasic = w.nonbasic;
-  places = w.places;
-  high = length-map t.reduced is_negative ∙ w.reduced;
-  reduced = w.reduced;
-  lines = w.lines;
-  values = w.values;
-  numbers = w.numbers;
-  inside = w.inside;
-  terms = w.terms;
-}
+stood_table t w = same_shape t (stood t) w (scales_of t w) (bounds_of t w) (other_highs t (map is_negative t.reduced) w (length-map t.reduced is_negative ∙ w.reduced)) w.reduced w.lines w.values
 
 pub bounds_table : (b : Bounds) (t : Table) → length b.lows ≡ length t.bounds.lows → length b.ups ≡ length t.bounds.ups → length b.has_low ≡ length t.bounds.has_low → length b.has_up ≡ length t.bounds.has_up → IsTable t → IsTable (with_bounds b t)
-bounds_table b t l u hl hu w = record {
-  few = w.few;
-  row_scales = w.row_scales;
-  column_scales = w.column_scales;
-  lows = l ∙ w.lows;
-  ups = u ∙ w.ups;
-  has_low = hl ∙ w.has_low;
-  has_up = hu ∙ w.has_up;
-  nonbasic = w.nonbasic;
-  places = w.places;
-  high = w.high;
-  reduced = w.reduced;
-  lines = w.lines;
-  values = w.values;
-  numbers = w.numbers;
-  inside = w.inside;
-  terms = w.terms;
-}
+bounds_table b t l u hl hu w = same_shape t (with_bounds b t) w (scales_of t w) (record { lows = l ∙ w.lows; ups = u ∙ w.ups; has_low = hl ∙ w.has_low; has_up = hu ∙ w.has_up }) (basis_of t w) w.reduced w.lines w.values
 
 -- one entry more, in two lists
 one_more : {A B : Type 0} (xs : List A) (ys : List B) (x : A) (y : B) (n : ℕ) → length xs ≡ n + length ys → length (xs ++ x ∷ []) ≡ n + length (ys ++ y ∷ [])
@@ -177,24 +144,7 @@ gives_true true o x e g = g
 gives_true false o x e g = absurd (cc)
 
 pub scales_table : (fs : List ℤ) (t : Table) → length fs ≡ length t.scales.columns → IsTable t → IsTable (with_scales fs t)
-scales_table fs t n w = record {
-  few = w.few;
-  row_scales = w.row_scales;
-  column_scales = n ∙ w.column_scales;
-  lows = w.lows;
-  ups = w.ups;
-  has_low = w.has_low;
-  has_up = w.has_up;
-  nonbasic = w.nonbasic;
-  places = w.places;
-  high = w.high;
-  reduced = w.reduced;
-  lines = w.lines;
-  values = w.values;
-  numbers = w.numbers;
-  inside = w.inside;
-  terms = w.terms;
-}
+scales_table fs t n w = same_shape t (with_scales fs t) w (record { row_scales = w.row_scales; column_scales = n ∙ w.column_scales }) (bounds_of t w) (basis_of t w) w.reduced w.lines w.values
 
 pub scales_small : (k m : ℕ) (fs : List ℤ) (t : Table) → AreUpTo m fs → AreSmall k t.scales → AreSmall m (with_scales fs t).scales
 scales_small k m fs t f w = record {

@@ -6,7 +6,7 @@ use Rattle.hp_solver.specs.declared.fixed.Fx.{Fx}
 use Rattle.hp_solver.specs.declared.stage_lp.LpRow.{LpRow}
 use Rattle.hp_warm_table.specs.declared.table.Bounds.{Bounds}
 use Rattle.hp_warm_table.specs.declared.table.Table.{Table}
-use Rattle.hp_warm_table.specs.Each.{each_from}
+use Rattle.hp_simplex.specs.Each.{each_from}
 use Rattle.hp_warm_scale.specs.declared.sides.Sides.{Sides}
 use Rattle.hp_warm_scale.specs.Walks.{run}
 use Rattle.hp_warm_scale.specs.Spans.{span_of}

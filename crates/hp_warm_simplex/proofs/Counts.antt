@@ -6,7 +6,7 @@ use Rattle.hp_solver.specs.declared.stage_lp.Column.{Column}
 use Rattle.hp_solver.specs.declared.stage_lp.LpRow.{LpRow}
 use Rattle.hp_solver.specs.declared.stage_lp.StageLp.{StageLp}
 use Rattle.hp_warm_table.specs.declared.table.Table.{Table}
-use Rattle.hp_warm_table.proofs.Each.{map_some, some_same}
+use Rattle.hp_simplex.proofs.Each.{map_some, some_same}
 use Rattle.hp_warm_scale.specs.Walks.{run}
 use Rattle.hp_warm_scale.specs.Scaling.{with_column, column_step, blank_of, stood, columns_table}
 use Rattle.hp_warm_scale.specs.Appending.{scaled_sides, scaled_terms, row_scale, with_row, appended_row, appended}

@@ -3,12 +3,13 @@ use Rattle.std.proofs.Common.{◌≡◌, Bool, true, false, Option, Some, None, 
 use Rattle.hp_solver.specs.declared.stage_lp.StageLp.{StageLp}
 use Rattle.hp_solver.specs.declared.stage_lp.Answer.{Answer}
 use Rattle.hp_warm_table.specs.declared.table.Table.{Table}
-use Rattle.hp_warm_table.proofs.Each.{map_some}
+use Rattle.hp_simplex.proofs.Each.{map_some}
 use Rattle.hp_warm_answers.specs.Folds.{ReachesOrKeeps}
 use Rattle.hp_warm_answers.specs.Finish.{costs_of, finished, finish_of}
 use Rattle.hp_warm_answers.specs.Found.{found_of}
 use Rattle.hp_warm_table.specs.Shape.{IsTable}
-use Rattle.hp_warm_simplex.specs.Fitting.{Fits, IsHeld, IsWorked}
+use Rattle.hp_warm_table.specs.Kept.{KeepsProgram}
+use Rattle.hp_warm_simplex.specs.Fitting.{Fits, IsHeld}
 use Rattle.hp_warm_simplex.specs.Turns.{Went, went, by_found, by_finish, finishing}
 use Rattle.hp_warm_simplex.specs.Steps.{Ends}
 use Rattle.hp_warm_simplex.proofs.Fitting.{still_fits}
@@ -16,7 +17,7 @@ use Rattle.hp_warm_simplex.proofs.Fitting.{still_fits}
 pub held_itself : (t : Table) → IsHeld t t
 held_itself t = refl
 
-pub held_worked : (t u : Table) → IsHeld t u → IsWorked t u
+pub held_worked : (t u : Table) → IsHeld t u → KeepsProgram t u
 held_worked t u h = h ∙ sym (ap (λ (s : Table). record { scales = t.scales; rows = t.rows; costs = t.costs; bounds = t.bounds; basis = s.basis; reduced = u.reduced; lines = u.lines; values = u.values; weak = u.weak }) h)
 
 finish_held : (t u : Table) → finish_of t ≡ Some u → IsHeld t u

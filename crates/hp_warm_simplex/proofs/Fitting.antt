@@ -4,9 +4,10 @@ use Rattle.hp_solver.specs.declared.stage_lp.StageLp.{StageLp}
 use Rattle.hp_warm_table.specs.declared.table.Table.{Table}
 use Rattle.hp_warm_table.specs.Shape.{IsTable}
 use Rattle.hp_warm_scale.specs.Scaling.{AreSmall}
-use Rattle.hp_warm_simplex.specs.Fitting.{Fits, IsWorked}
+use Rattle.hp_warm_table.specs.Kept.{KeepsProgram}
+use Rattle.hp_warm_simplex.specs.Fitting.{Fits}
 
-pub still_fits : (old new : Table) (lp : StageLp) → Fits old lp → IsTable new → IsWorked old new → Fits new lp
+pub still_fits : (old new : Table) (lp : StageLp) → Fits old lp → IsTable new → KeepsProgram old new → Fits new lp
 still_fits old new lp f s w = record {
   table = s;
   small = subst (AreSmall 1000) (sym (ap (λ (t : Table). t.scales) w)) f.small;

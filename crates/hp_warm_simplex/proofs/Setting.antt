@@ -5,54 +5,21 @@ use Rattle.hp_solver.specs.declared.stage_lp.StageLp.{StageLp}
 use Rattle.hp_solver.specs.declared.stage_lp.Answer.{Answer}
 use Rattle.hp_warm_table.specs.declared.table.Table.{Table}
 use Rattle.hp_warm_table.specs.Shape.{IsTable}
+use Rattle.hp_warm_table.proofs.Shapes.{scales_of, bounds_of, basis_of, same_shape}
 use Rattle.hp_warm_scale.specs.Scaling.{AreSmall}
 use Rattle.hp_warm_scale.specs.Appending.{sided, with_bounds}
-use Rattle.hp_warm_rebuild.specs.Kept.{KeepsProgram}
-use Rattle.hp_warm_simplex.specs.Fitting.{Fits, IsWorked}
+use Rattle.hp_warm_table.specs.Kept.{KeepsProgram}
+use Rattle.hp_warm_simplex.specs.Fitting.{Fits}
 use Rattle.hp_warm_simplex.specs.Turns.{Went, went, turns}
 use Rattle.hp_warm_simplex.specs.Going.{trusted, by_sides, go_of, cleared}
 use Rattle.hp_warm_simplex.specs.Steps.{Ends}
 use Rattle.hp_warm_simplex.proofs.Ending.{ends_none}
 
 pub trusted_table : (t : Table) → IsTable t → IsTable (trusted t)
-trusted_table t s = record {
-  few = s.few;
-  row_scales = s.row_scales;
-  column_scales = s.column_scales;
-  lows = s.lows;
-  ups = s.ups;
-  has_low = s.has_low;
-  has_up = s.has_up;
-  nonbasic = s.nonbasic;
-  places = s.places;
-  high = s.high;
-  reduced = s.reduced;
-  lines = s.lines;
-  values = s.values;
-  numbers = s.numbers;
-  inside = s.inside;
-  terms = s.terms;
-}
+trusted_table t s = same_shape t (trusted t) s (scales_of t s) (bounds_of t s) (basis_of t s) s.reduced s.lines s.values
 
 pub cleared_table : (t : Table) → IsTable t → IsTable (cleared t)
-cleared_table t s = record {
-  few = s.few;
-  row_scales = s.row_scales;
-  column_scales = s.column_scales;
-  lows = s.lows;
-  ups = s.ups;
-  has_low = s.has_low;
-  has_up = s.has_up;
-  nonbasic = s.nonbasic;
-  places = s.places;
-  high = s.high;
-  reduced = s.reduced;
-  lines = length-replicate (length t.costs) (replicate (length t.costs) (pos 0));
-  values = s.values;
-  numbers = s.numbers;
-  inside = s.inside;
-  terms = s.terms;
-}
+cleared_table t s = same_shape t (cleared t) s (scales_of t s) (bounds_of t s) (basis_of t s) s.reduced (length-replicate (length t.costs) (replicate (length t.costs) (pos 0))) s.values
 
 -- other bounds change neither the columns nor the rows
 pub prepared_fits : (old new : Table) (lp : StageLp) → Fits old lp → IsTable new → new ≡ with_bounds (sided (trusted old) lp.rows).1 (trusted old) → Fits new lp
@@ -71,7 +38,7 @@ restored_fits old mid new lp f c s k = record {
   rows = f.rows ∙ sym (ap (λ (t : Table). length t.rows) k ∙ ap (λ (t : Table). length t.rows) c);
 }
 
-pub worked_scales : (old new : Table) → IsWorked old new → new.scales ≡ old.scales
+pub worked_scales : (old new : Table) → KeepsProgram old new → new.scales ≡ old.scales
 worked_scales old new h = ap (λ (t : Table). t.scales) h
 
 -- where a side is out of range

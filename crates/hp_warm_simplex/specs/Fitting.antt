@@ -1,9 +1,9 @@
 -- Tables that a program fits, and what turns leave as it was.
-use Rattle.std.specs.Prelude.{◌≡◌, ℤ, Bool, List, length}
+use Rattle.std.specs.Prelude.{◌≡◌, length}
 use Rattle.hp_solver.specs.declared.stage_lp.StageLp.{StageLp}
-use Rattle.hp_warm_table.specs.declared.table.Basis.{Basis}
 use Rattle.hp_warm_table.specs.declared.table.Table.{Table}
 use Rattle.hp_warm_table.specs.Shape.{IsTable}
+use Rattle.hp_warm_table.specs.Kept.{with_work}
 use Rattle.hp_warm_scale.specs.Scaling.{AreSmall}
 use Rattle.hp_warm_simplex.specs.declared.turns.Room.{Room}
 
@@ -13,25 +13,6 @@ pub record Fits (t : Table) (lp : StageLp) : Type 0 where
   pub small : AreSmall 1000 t.scales
   pub columns : length lp.columns ≡ length t.costs
   pub rows : length lp.rows ≡ length t.rows
-
--- the program of a table, with another basis and other numbers that follow from it
-abbrev pub with_work : Table → Basis → List ℤ → List (List ℤ) → List ℤ → Bool → Table
-with_work t basis reduced lines values weak =
-    record {
-      scales = t.scales;
-      rows = t.rows;
-      costs = t.costs;
-      bounds = t.bounds;
-      basis = basis;
-      reduced = reduced;
-      lines = lines;
-      values = values;
-      weak = weak;
-    }
-
--- the program of the table is as it was
-abbrev pub IsWorked : Table → Table → Type 0
-IsWorked old new = new ≡ with_work old new.basis new.reduced new.lines new.values new.weak
 
 -- the program of the table is as it was, and its basis
 abbrev pub IsHeld : Table → Table → Type 0

@@ -4,7 +4,7 @@ use Rattle.hp_solver.specs.declared.stage_lp.StageLp.{StageLp}
 use Rattle.hp_warm_table.specs.declared.table.Table.{Table}
 use Rattle.hp_warm_scale.specs.Appending.{sided, with_bounds}
 use Rattle.hp_warm_rebuild.specs.Standings.{rebuilt_of}
-use Rattle.hp_warm_simplex.specs.Fitting.{with_work}
+use Rattle.hp_warm_table.specs.Kept.{with_work}
 use Rattle.hp_warm_simplex.specs.Turns.{Went, went, turns}
 
 -- nothing is known yet of the answer that will be found

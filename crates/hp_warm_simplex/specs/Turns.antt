@@ -3,7 +3,7 @@ use Rattle.std.specs.Prelude.{ℕ, zero, suc, ℤ, Bool, true, false, List, leng
 use Rattle.hp_solver.specs.declared.stage_lp.StageLp.{StageLp}
 use Rattle.hp_solver.specs.declared.stage_lp.Answer.{Answer}
 use Rattle.hp_warm_table.specs.declared.table.Table.{Table}
-use Rattle.hp_warm_line.specs.Kept.{with_values}
+use Rattle.hp_warm_table.specs.Kept.{with_values}
 use Rattle.hp_warm_line.specs.Refine.{refined}
 use Rattle.hp_warm_line.specs.Line.{line_of}
 use Rattle.hp_warm_line.specs.Pivot.{pivoted}

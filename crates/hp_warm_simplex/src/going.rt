@@ -3,7 +3,8 @@ ghost use Rattle.std.specs.Prelude.{◌≡◌, ◌+◌, ◌*◌, true, false, le
 ghost use Rattle.hp_warm_table.specs.Shape.{IsTable};
 ghost use Rattle.hp_warm_table.specs.Updates.{Gives};
 ghost use Rattle.hp_warm_scale.specs.Appending.{sided, with_bounds};
-ghost use Rattle.hp_warm_simplex.specs.Fitting.{Fits, IsRoomy, IsWorked, with_work};
+ghost use Rattle.hp_warm_table.specs.Kept.{KeepsProgram, with_work};
+ghost use Rattle.hp_warm_simplex.specs.Fitting.{Fits, IsRoomy};
 ghost use Rattle.hp_warm_simplex.specs.Turns.{turns};
 ghost use Rattle.hp_warm_simplex.specs.Going.{trusted, cleared, go_of, restored_of};
 ghost use Rattle.hp_warm_simplex.specs.Steps.{Ends};
@@ -66,7 +67,7 @@ fn take_all_turns(
     requires room { IsRoomy room.old table.old }
     ensures fits { Fits table.new lp.now }
     ensures room { IsRoomy room.new table.new }
-    ensures worked { IsWorked table.old table.new }
+    ensures worked { KeepsProgram table.old table.new }
     ensures went { IfOk result (λ answer. Ends answer (turns lp.now (20 * length table.old.costs + 100) false table.old) table.new) }
 {
     let limit = 20 * table.costs.len() + 100;

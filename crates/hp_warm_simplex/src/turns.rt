@@ -4,7 +4,8 @@ ghost use Rattle.hp_num.specs.Sums.{entry};
 ghost use Rattle.hp_warm_table.specs.Shape.{IsTable};
 ghost use Rattle.hp_warm_line.specs.Pivot.{pivoted};
 ghost use Rattle.hp_warm_simplex.specs.Violations.{IsThere};
-ghost use Rattle.hp_warm_simplex.specs.Fitting.{Fits, IsWorked, IsHeld, IsRoomy};
+ghost use Rattle.hp_warm_table.specs.Kept.{KeepsProgram};
+ghost use Rattle.hp_warm_simplex.specs.Fitting.{Fits, IsHeld, IsRoomy};
 ghost use Rattle.hp_warm_simplex.specs.Turns.{by_pivot, by_look, look_of, turn_of, finishing, turns};
 ghost use Rattle.hp_warm_simplex.specs.Steps.{Enters, Takes, Ends};
 
@@ -53,7 +54,7 @@ fn exchange(table: &mut Table, room: &mut Room, violation: Violation, place: usi
     requires enters { Enters table.old room.old.line room.old.flips place }
     ensures sized { IsTable table.new }
     ensures room { IsRoomy room.new table.new }
-    ensures worked { IsWorked table.old table.new }
+    ensures worked { KeepsProgram table.old table.new }
     ensures turn { Takes result (by_pivot (pivoted table.old room.old.line violation.variable violation.above place room.old.flips)) table.old table.new }
 {
     if pivot(
@@ -78,7 +79,7 @@ fn mend(alloc: Global, lp: &StageLp, table: &mut Table, room: &mut Room) -> Resu
     requires room { IsRoomy room.old table.old }
     ensures fits { Fits table.new lp.now }
     ensures room { IsRoomy room.new table.new }
-    ensures worked { IsWorked table.old table.new }
+    ensures worked { KeepsProgram table.old table.new }
     ensures turn { IfOk result (λ turn. Takes turn (by_look table.old (look_of lp.now table.old)) table.old table.new) }
 {
     if !violations(table, &mut room.violations)? {
@@ -105,7 +106,7 @@ fn take_turn(
     requires room { IsRoomy room.old table.old }
     ensures fits { Fits table.new lp.now }
     ensures room { IsRoomy room.new table.new }
-    ensures worked { IsWorked table.old table.new }
+    ensures worked { KeepsProgram table.old table.new }
     ensures turn { IfOk result (λ turn. Takes turn (turn_of lp.now table.old) table.old table.new) }
 {
     if !refine(table, &mut room.shifts) {
@@ -119,7 +120,7 @@ fn take_turn(
 fn finishing(alloc: Global, lp: &StageLp, table: &mut Table) -> Result<Option<Answer>, Memory>
     requires fits { Fits table.old lp.now }
     ensures fits { Fits table.new lp.now }
-    ensures worked { IsWorked table.old table.new }
+    ensures worked { KeepsProgram table.old table.new }
     ensures went { IfOk result (λ answer. Ends answer (finishing lp.now table.old) table.new) }
 {
     if !finish(alloc, table)? {
@@ -140,7 +141,7 @@ pub(crate) fn take_turns(
     requires room { IsRoomy room.old table.old }
     ensures fits { Fits table.new lp.now }
     ensures room { IsRoomy room.new table.new }
-    ensures worked { IsWorked table.old table.new }
+    ensures worked { KeepsProgram table.old table.new }
     ensures went { IfOk result (λ answer. Ends answer (turns lp.now limit false table.old) table.new) }
 {
     let mut idle = false;

@@ -1,6 +1,6 @@
 -- Rows of several lengths that stand one after the other in one list.
 use Rattle.std.proofs.Common.{◌≡◌, ℕ, zero, suc, ◌+◌, ◌-◌, ◌<◌, ◌≤◌, List, [], ◌∷◌, ◌++◌, length, get_or, take, drop, arith, refl, ap, ap₂, sym, ◌∙◌, subst}
-use Rattle.std.proofs.lemmas.List.{length-append, append-nil, append_assoc, take_at, drop_at, length-drop, length-take-le, take-append-drop, drop-drop}
+use Rattle.std.proofs.lemmas.List.{length-drop}
 use Rattle.hp_warm_table.specs.Ends.{rows_by, AreEnds, begins_at}
 
 pub rows_count : {A : Type 0} (at : ℕ) (xs : List A) (ends : List ℕ) → length (rows_by at xs ends) ≡ length ends

@@ -1,10 +1,9 @@
 pub mod ByEnds
-pub mod Each
-pub mod Flat
-pub mod Holding
 pub mod Moves
 pub mod Near
 pub mod Powers
+pub mod Shapes
 pub mod Shifts
 pub mod Skips
+pub mod Squares
 pub mod Stepping

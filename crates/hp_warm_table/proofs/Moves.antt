@@ -4,10 +4,11 @@ use Rattle.std.specs.Option.{option_map}
 use Rattle.std.specs.Ordering.{int_eq}
 use Rattle.std.proofs.lemmas.List.{take_at, length-drop, length-take-le}
 use Rattle.hp_num.specs.Sums.{entry}
-use Rattle.hp_warm_table.specs.Squares.{rows_of, put}
+use Rattle.hp_simplex.specs.Rows.{rows_of, put}
 use Rattle.hp_warm_table.specs.Updates.{Gives, moved, added_row, moved_row, moved_at}
-use Rattle.hp_warm_table.proofs.Each.{each_length, some_same}
-use Rattle.hp_warm_table.proofs.Flat.{inside, row_is, rows_set}
+use Rattle.hp_simplex.proofs.Each.{each_length, some_same}
+use Rattle.hp_simplex.proofs.Flat.{row_is, rows_set}
+use Rattle.hp_warm_table.proofs.Squares.{inside}
 
 pub added_length : (q : ℤ) (ns row ys : List ℤ) → added_row q ns row ≡ Some ys → length ys ≡ length row
 unfolding added_row

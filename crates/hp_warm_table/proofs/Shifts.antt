@@ -3,8 +3,9 @@ use Rattle.std.proofs.Common.{◌≡◌, ℕ, zero, suc, ◌^◌, ◌-◌, ◌*�
 use Rattle.std.proofs.lemmas.Int.{ints}
 use Rattle.std.proofs.Math.Nat.{div-eq_of_lt}
 use mir.Syntax.{w128}
-use Rattle.hp_warm_table.specs.Numbers.{shift_up, shift_down, fits, held}
-use Rattle.hp_warm_table.proofs.Holding.{fits-fact}
+use Rattle.hp_solver.specs.Numbers.{fits, held}
+use Rattle.hp_warm_table.specs.Numbers.{shift_up, shift_down}
+use Rattle.hp_solver.proofs.Numbers.{fits-fact}
 use Rattle.hp_warm_table.proofs.Powers.{power_more}
 
 pub down_to_none : (v : ℤ) (k : ℕ) → FitsSigned w128 v → 127 ≤ k → pos 0 ≤ℤ v → pos 0 ≡ shift_down v k

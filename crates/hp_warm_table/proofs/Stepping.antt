@@ -5,11 +5,11 @@ use Rattle.std.specs.Ordering.{int_eq}
 use Rattle.std.proofs.lemmas.List.{drop_more, append_assoc, append-nil}
 use Rattle.std.proofs.Math.ListN.{drop_of_length-le}
 use Rattle.hp_num.specs.Sums.{entry}
-use Rattle.hp_warm_table.specs.Each.{each_from}
+use Rattle.hp_simplex.specs.Each.{each_from}
 use Rattle.hp_warm_table.specs.Numbers.{down_of, cell_of}
 use Rattle.hp_warm_table.specs.Updates.{moved, added_row}
 use Rattle.hp_warm_table.specs.Sparse.{sparse, added_at}
-use Rattle.hp_warm_table.proofs.Each.{behind, behind_one}
+use Rattle.hp_simplex.proofs.Each.{behind, behind_one}
 
 none_inside : (n : ℕ) → All (λ (s : ℕ × ℤ). s.0 < n) []
 none_inside n k d p = absurd (omega arith)

@@ -1,8 +1,7 @@
 pub mod Numbers
-pub mod Each
 pub mod Ends
-pub mod Squares
 pub mod Bounding
 pub mod Shape
+pub mod Kept
 pub mod Updates
 pub mod Sparse

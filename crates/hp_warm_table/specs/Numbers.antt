@@ -1,8 +1,9 @@
 -- Scaled numbers.
-use Rattle.std.specs.Prelude.{ℕ, suc, ◌^◌, ◌-◌, ℤ, pos, negsuc, ◌+ℤ◌, ◌*ℤ◌, Bool, nat_lt, nat_le, nat_abs, Option, Some, None, if◌then◌else◌}
+use Rattle.std.specs.Prelude.{ℕ, suc, ◌^◌, ◌-◌, ℤ, pos, negsuc, ◌+ℤ◌, ◌*ℤ◌, nat_lt, nat_le, nat_abs, Option, Some, None, if◌then◌else◌}
 use Rattle.std.specs.Int.Count.{count_leading_zeros}
 use Rattle.std.specs.Int.Signed.{quot_z}
 use Rattle.hp_num.specs.Sums.{floor_over}
+use Rattle.hp_solver.specs.Numbers.{held}
 
 -- s / 2^40, rounded to the nearest, halves up
 abbrev pub down_of : ℤ → ℤ
@@ -31,15 +32,6 @@ bits_of v = 128 - count_leading_zeros 128 (nat_abs v)
 -- a / b, rounded towards zero
 abbrev pub quotient_of : ℤ → ℤ → ℤ
 quotient_of a b = quot_z a b
-
--- from -2^127 to 2^127 - 1; negsuc n is -(n + 1)
-abbrev pub fits : ℤ → Bool
-fits (pos n) = nat_lt n (2 ^ 127)
-fits (negsuc n) = nat_lt n (2 ^ 127)
-
--- the number where 128 bits hold it
-abbrev pub held : ℤ → Option ℤ
-held z = if fits z then Some z else None
 
 -- v 2^k, where 128 bits hold it
 unfoldable pub shift_up : ℤ → ℕ → Option ℤ

@@ -4,7 +4,7 @@ use Rattle.std.specs.Option.{option_map}
 use Rattle.std.specs.Ordering.{int_eq}
 use Rattle.hp_num.specs.Sums.{entry}
 use Rattle.hp_warm_table.specs.Numbers.{down_of, cell_of}
-use Rattle.hp_warm_table.specs.Each.{each_from}
+use Rattle.hp_simplex.specs.Each.{each_from}
 
 -- the cell t with q n added; as it was where n is 0
 unfoldable pub moved : ℤ → ℤ → ℤ → Option ℤ

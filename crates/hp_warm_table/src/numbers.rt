@@ -1,6 +1,7 @@
 // Scaled numbers.
 ghost use Rattle.std.specs.Prelude.{◌≡◌, ◌^◌, ◌<◌, ◌≤◌, pos, ◌*ℤ◌, nat_abs};
-ghost use Rattle.hp_warm_table.specs.Numbers.{down_of, bits_of, quotient_of, held, shift_up, shift_down, shift_of};
+ghost use Rattle.hp_solver.specs.Numbers.{held};
+ghost use Rattle.hp_warm_table.specs.Numbers.{down_of, bits_of, quotient_of, shift_up, shift_down, shift_of};
 
 use hp_num::floor_div;
 
@@ -54,7 +55,7 @@ pub fn power(k: u32) -> i128
     1 << k
 }
 
-#[tactic(auto, using(crate::proofs::Holding::is_held))]
+#[tactic(auto, using(hp_solver::proofs::Numbers::is_held))]
 fn whole_product(x: i128, y: i128) -> Option<i128>
     ensures { result ≡ held (x *ℤ y) }
 {

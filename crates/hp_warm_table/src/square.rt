@@ -1,7 +1,7 @@
 // As many rows as columns.
 ghost use Rattle.std.specs.Prelude.{◌≡◌, ◌+◌, ◌*◌, ◌^◌, ◌<◌, ◌≤◌, [], pos, length, get_or, slice_set, take, drop, replicate, IfOk};
 ghost use Rattle.std.specs.Option.{option_map};
-ghost use Rattle.hp_warm_table.specs.Squares.{rows_of, put};
+ghost use Rattle.hp_simplex.specs.Rows.{rows_of, put};
 ghost use Rattle.hp_warm_table.specs.Updates.{Gives, moved_row, moved_at};
 ghost use Rattle.hp_warm_table.specs.Sparse.{sparse};
 
@@ -21,7 +21,7 @@ pub struct Square {
 
 impl Model for Square {
     ghost use Rattle.std.specs.Prelude.{List, ℤ, ◌≡◌, ◌*◌, length};
-    ghost use Rattle.hp_warm_table.specs.Squares.{rows_of};
+    ghost use Rattle.hp_simplex.specs.Rows.{rows_of};
 
     ghost Value = { List (List ℤ) };
 
@@ -32,7 +32,7 @@ impl Model for Square {
 
 impl Square {
     /// Rows of zeros. [`Memory`] where memory was refused.
-    #[tactic(auto, using(crate::proofs::Flat::zero_rows))]
+    #[tactic(auto, using(hp_simplex::proofs::Flat::same_rows))]
     pub fn new(alloc: Global, size: usize) -> Result<Square, Memory>
         requires few { size < 2 ^ 31 }
         ensures { IfOk result (λ square. square ≡ replicate size (replicate size (pos 0))) }
@@ -44,7 +44,7 @@ impl Square {
     }
 
     /// The number of rows, and of cells in each of them.
-    #[tactic(auto, using(crate::proofs::Flat::rows_count))]
+    #[tactic(auto, using(hp_simplex::proofs::Flat::rows_count))]
     pub fn size(&self) -> usize
         ensures { result ≡ length self.now }
     {
@@ -52,7 +52,7 @@ impl Square {
     }
 
     /// Row v.
-    #[tactic(auto, using(crate::proofs::Flat::rows_count))]
+    #[tactic(auto, using(hp_simplex::proofs::Flat::rows_count))]
     pub fn row(&self, v: usize) -> &[Cell]
         requires { v < length self.now }
         ensures row { result.now ≡ get_or self.now v [] }
@@ -62,7 +62,7 @@ impl Square {
     }
 
     /// Puts other cells in the place of row v.
-    #[tactic(auto, using(crate::proofs::Flat::rows_count))]
+    #[tactic(auto, using(hp_simplex::proofs::Flat::rows_count))]
     pub fn set_row(&mut self, v: usize, row: &[Cell])
         requires there { v < length self.old }
         requires width { length row.now ≡ length self.old }
@@ -75,7 +75,7 @@ impl Square {
     /// stay. The answer is false exactly where a result leaves the range of cells: nothing but
     /// their number is promised of the rows then. `steps` are the addend's cells that are not 0,
     /// each with its place.
-    #[tactic(auto, using(crate::proofs::Flat::rows_count))]
+    #[tactic(auto, using(hp_simplex::proofs::Flat::rows_count))]
     pub fn move_row(
         &mut self,
         v: usize,

@@ -1,6 +1,7 @@
 use Rattle.std.proofs.Common.{◌≡◌, length, take, drop}
 use Rattle.hp_simplex.specs.Each.{each_from}
-use Rattle.hp_simplex.specs.Pivot.{moved_row, rows_of, others}
+use Rattle.hp_simplex.specs.Pivot.{moved_row, others}
+use Rattle.hp_simplex.specs.Rows.{rows_of}
 use Rattle.hp_simplex.proofs.Each.{behind}
 use Rattle.hp_simplex.proofs.table.move_rows.Given as goal
 

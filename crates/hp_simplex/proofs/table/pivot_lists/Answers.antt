@@ -1,5 +1,5 @@
 use Rattle.std.proofs.Common.{◌≡◌, ◌-◌, ◌*◌, ℕ, length, arith, ap, sym, ◌∙◌}
-use Rattle.hp_simplex.proofs.Rows.{inside_is}
+use Rattle.hp_simplex.proofs.Flat.{inside_is}
 use Rattle.hp_simplex.proofs.Stages.{in_parts, none_turned, turned_is, none_above, above_is, none_below, below_is, costs_end}
 use Rattle.hp_simplex.proofs.table.pivot_lists.Goals as goal
 

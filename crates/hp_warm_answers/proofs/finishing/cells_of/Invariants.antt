@@ -1,6 +1,6 @@
 use Rattle.std.proofs.Common.{◌≡◌, length, drop}
-use Rattle.hp_warm_table.specs.Each.{each_from}
-use Rattle.hp_warm_table.proofs.Each.{behind}
+use Rattle.hp_simplex.specs.Each.{each_from}
+use Rattle.hp_simplex.proofs.Each.{behind}
 use Rattle.hp_warm_answers.specs.Finish.{cell_at}
 use Rattle.hp_warm_answers.proofs.finishing.cells_of.Given as goal
 

@@ -1,6 +1,6 @@
 use Rattle.std.proofs.Common.{◌≡◌, drop}
-use Rattle.hp_warm_table.specs.Each.{each_from}
-use Rattle.hp_warm_table.proofs.Each.{behind}
+use Rattle.hp_simplex.specs.Each.{each_from}
+use Rattle.hp_simplex.proofs.Each.{behind}
 use Rattle.hp_warm_answers.specs.Found.{dual_at}
 use Rattle.hp_warm_answers.proofs.found.duals.Given as goal
 

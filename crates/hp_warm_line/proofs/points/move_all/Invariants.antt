@@ -1,6 +1,6 @@
 use Rattle.std.proofs.Common.{◌≡◌, length, take, drop}
-use Rattle.hp_warm_table.specs.Each.{each_from}
-use Rattle.hp_warm_table.proofs.Each.{behind}
+use Rattle.hp_simplex.specs.Each.{each_from}
+use Rattle.hp_simplex.proofs.Each.{behind}
 use Rattle.hp_warm_line.specs.Sparse.{moved_by}
 use Rattle.hp_warm_line.proofs.points.move_all.Given as goal
 

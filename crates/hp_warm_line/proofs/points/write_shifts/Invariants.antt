@@ -1,6 +1,6 @@
 use Rattle.std.proofs.Common.{◌≡◌, ◌≤◌, length, take, drop}
 use Rattle.std.specs.Option.{option_map}
-use Rattle.hp_warm_table.specs.Each.{each_from}
+use Rattle.hp_simplex.specs.Each.{each_from}
 use Rattle.hp_warm_line.specs.Refine.{shift_at, shifts_of}
 use Rattle.hp_warm_table.specs.Sparse.{sparse}
 use Rattle.hp_warm_line.proofs.Shifts.{kept}

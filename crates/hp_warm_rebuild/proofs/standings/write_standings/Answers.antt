@@ -1,5 +1,5 @@
 use Rattle.std.proofs.Common.{[], ap, refl, sym}
-use Rattle.hp_warm_table.proofs.Each.{behind}
+use Rattle.hp_simplex.proofs.Each.{behind}
 use Rattle.hp_warm_rebuild.specs.Standings.{standing_at}
 use Rattle.hp_warm_rebuild.proofs.Standing.{each_some}
 use Rattle.hp_warm_rebuild.proofs.standings.write_standings.Goals as goal

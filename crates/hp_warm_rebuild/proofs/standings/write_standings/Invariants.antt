@@ -1,6 +1,6 @@
 use Rattle.std.proofs.Common.{◌≡◌, length, take, drop, Some}
-use Rattle.hp_warm_table.specs.Each.{each_from}
-use Rattle.hp_warm_table.proofs.Each.{behind}
+use Rattle.hp_simplex.specs.Each.{each_from}
+use Rattle.hp_simplex.proofs.Each.{behind}
 use Rattle.hp_warm_rebuild.specs.Standings.{map_from, standing_at}
 use Rattle.hp_warm_rebuild.proofs.standings.write_standings.Given as goal
 

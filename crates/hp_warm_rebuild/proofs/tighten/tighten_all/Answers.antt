@@ -1,7 +1,7 @@
 use Rattle.std.proofs.Common.{◌≡◌, ◌∙◌, ◌+◌, ◌-◌, ℕ, length, arith, refl, ap, sym}
 use Rattle.hp_warm_table.specs.declared.table.Table.{Table}
 use Rattle.hp_warm_table.specs.Shape.{variables}
-use Rattle.hp_warm_line.specs.Kept.{with_basis}
+use Rattle.hp_warm_table.specs.Kept.{with_basis}
 use Rattle.hp_warm_rebuild.specs.Tighten.{tightened}
 use Rattle.hp_warm_rebuild.proofs.Tightening.{tight_step, tight_absent, tight_done}
 use Rattle.hp_warm_rebuild.proofs.tighten.tighten_all.Goals as goal

@@ -1,6 +1,6 @@
 use Rattle.std.proofs.Common.{◌≡◌, ◌-◌, length}
 use Rattle.hp_warm_table.specs.Shape.{IsTable, variables}
-use Rattle.hp_warm_line.specs.Kept.{with_basis}
+use Rattle.hp_warm_table.specs.Kept.{with_basis}
 use Rattle.hp_warm_rebuild.specs.Tighten.{tightened}
 use Rattle.hp_warm_rebuild.proofs.tighten.tighten_all.Given as goal
 

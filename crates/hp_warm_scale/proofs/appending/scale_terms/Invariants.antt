@@ -1,6 +1,6 @@
 use Rattle.std.proofs.Common.{◌≡◌, drop}
-use Rattle.hp_warm_table.specs.Each.{each_from}
-use Rattle.hp_warm_table.proofs.Each.{behind}
+use Rattle.hp_simplex.specs.Each.{each_from}
+use Rattle.hp_simplex.proofs.Each.{behind}
 use Rattle.hp_warm_scale.specs.Appending.{scaled_term, scaled_terms}
 use Rattle.hp_warm_scale.proofs.appending.scale_terms.Given as goal
 

@@ -1,8 +1,8 @@
 use Rattle.std.proofs.Common.{◌*◌, List, ℤ, length, arith, ap, ◌∙◌, subst, take, drop}
 use Rattle.std.specs.Option.{option_map}
-use Rattle.hp_warm_table.proofs.Flat.{inside}
+use Rattle.hp_warm_table.proofs.Squares.{inside}
 use Rattle.hp_warm_table.proofs.Moves.{moved_rows, written}
-use Rattle.hp_warm_table.specs.Squares.{put}
+use Rattle.hp_simplex.specs.Rows.{put}
 use Rattle.hp_warm_table.specs.Updates.{Gives, moved_row}
 use Rattle.hp_warm_table.proofs.square.move_row_of.Goals as goal
 

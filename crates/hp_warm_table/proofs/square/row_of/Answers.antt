@@ -1,5 +1,5 @@
 use Rattle.std.proofs.Common.{◌≡◌, ◌+◌, ◌-◌, ◌*◌, ℕ, take, drop, arith, ap, sym, ◌∙◌}
-use Rattle.hp_warm_table.proofs.Flat.{row_is}
+use Rattle.hp_simplex.proofs.Flat.{row_is}
 use Rattle.hp_warm_table.proofs.square.row_of.Goals as goal
 
 pub returns-clause-row : goal.returns-clause-row

@@ -1,6 +1,6 @@
 use Rattle.std.proofs.Common.{◌*◌, List, ℤ, length, arith, ap, ◌∙◌}
-use Rattle.hp_warm_table.proofs.Flat.{inside, over_long, over_rows}
-use Rattle.hp_warm_table.specs.Squares.{put}
+use Rattle.hp_warm_table.proofs.Squares.{inside, over_long, over_rows}
+use Rattle.hp_simplex.specs.Rows.{put}
 use Rattle.hp_warm_table.proofs.square.set_row_of.Goals as goal
 
 pub put_row-requires : goal.put_row-requires

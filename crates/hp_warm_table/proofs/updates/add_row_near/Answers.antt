@@ -3,7 +3,7 @@ use Rattle.std.proofs.lemmas.List.{get_or_default}
 use Rattle.std.proofs.lemmas.Int.{to_z-of_z}
 use Rattle.hp_num.specs.Sums.{entry}
 use Rattle.hp_warm_table.specs.Updates.{moved}
-use Rattle.hp_warm_table.proofs.Each.{each_step}
+use Rattle.hp_simplex.proofs.Each.{each_step}
 use Rattle.hp_warm_table.proofs.updates.add_row_near.Goals as goal
 
 pub loop-j-preserved : goal.loop-j-preserved

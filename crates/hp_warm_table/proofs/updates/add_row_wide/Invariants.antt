@@ -1,8 +1,8 @@
 use Rattle.std.proofs.Common.{◌≡◌, length, take, drop}
-use Rattle.hp_warm_table.specs.Each.{each_from}
+use Rattle.hp_simplex.specs.Each.{each_from}
 use Rattle.hp_num.specs.Sums.{entry}
 use Rattle.hp_warm_table.specs.Updates.{moved, added_row}
-use Rattle.hp_warm_table.proofs.Each.{behind}
+use Rattle.hp_simplex.proofs.Each.{behind}
 use Rattle.hp_warm_table.proofs.updates.add_row_wide.Given as goal
 
 abbrev pub invariant-loop-j : goal.invariant-loop-j

@@ -2,11 +2,11 @@ use Rattle.std.proofs.Common.{◌<◌, length, sym, subst}
 use Rattle.hp_warm_table.specs.declared.table.Table.{Table}
 use Rattle.hp_warm_table.specs.Shape.{IsTable, variables}
 use Rattle.hp_warm_line.proofs.Sized.{sized_replaced}
-use Rattle.hp_warm_line.proofs.pivots.pivot_over.Goals as goal
+use Rattle.hp_warm_line.proofs.pivots.pivot.Goals as goal
 
 pub returns-clause-sized : goal.returns-clause-sized
 returns-clause-sized c =
     subst IsTable (sym c.replace.ensures.replaced)
-    (sized_replaced c.eliminate.new.table c.turn.new.line c.args.leaving c.args.above c.args.place c.args.flips.now c.eliminate.ensures.sized
+    (sized_replaced c.eliminate.new.table c.as_slice-2.result.now c.args.leaving c.args.above c.args.place c.args.flips.now c.eliminate.ensures.sized
     (subst (λ (t : Table). c.args.leaving < variables t) (sym c.eliminate.ensures.kept) c.requires.there)
     (subst (λ (t : Table). c.args.place < length t.costs) (sym c.eliminate.ensures.kept) c.requires.place))
