@@ -1,5 +1,5 @@
 -- One step more.
-use Rattle.std.proofs.Common.{◌≡◌, ℕ, suc, ◌+◌, List, [], ◌∷◌, ◌++◌, map, refl, sym, ap, ◌∙◌, append_assoc, append-nil}
+use Rattle.std.proofs.Common.{◌≡◌, ℕ, suc, ◌+◌, List, [], ◌∷◌, ◌++◌, map, refl, sym, ap, ap₂, ◌∙◌, append_assoc, append-nil}
 use Rattle.std.specs.List.{flat_map}
 use Rattle.std.proofs.lemmas.List.{map-append}
 use Rattle.std.proofs.lemmas.Grind.{flat_map-append}
@@ -26,3 +26,12 @@ pub map_parts : {A B C D : Type 0} (seen : C → D) (f : A → C) (g : B → C) 
 map_parts seen f g [] [] = refl
 map_parts seen f g [] (y ∷ ys) = ap (λ l. seen (g y) ∷ l) (map_parts seen f g [] ys)
 map_parts seen f g (x ∷ xs) ys = ap (λ l. seen (f x) ∷ l) (map_parts seen f g xs ys)
+
+one_each : {A B : Type 0} (f : A → B) (xs : List A) → flat_map (λ x. f x ∷ []) xs ≡ map f xs
+one_each f [] = refl
+one_each f (x ∷ xs) = ap (λ l. f x ∷ l) (one_each f xs)
+
+-- the same, where each gives a list of one
+pub single_parts : {A B C D : Type 0} (seen : C → D) (f : A → C) (g : B → C) (xs : List A) (ys : List B) → map seen (map f xs ++ map g ys) ≡ map seen (flat_map (λ x. f x ∷ []) xs) ++ map seen (flat_map (λ y. g y ∷ []) ys)
+single_parts {A} {B} {C} seen f g xs ys =
+    map-append seen (map f xs) (map g ys) ∙ ap₂ (λ (a b : List C). map seen a ++ map seen b) (sym (one_each f xs)) (sym (one_each g ys))

@@ -7,7 +7,9 @@ pub mod PlanCost
 pub mod Trees
 pub mod Columns
 pub mod Seen
+pub mod Chances
 pub mod Stage
+pub mod Parts
 pub mod Nodes
 pub mod Text
 pub mod Examples

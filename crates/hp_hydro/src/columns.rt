@@ -41,6 +41,15 @@ pub(crate) enum Column {
     Deficit(usize),
 }
 
+/// What is not known before a stage.
+#[derive(Clone, Copy)]
+pub(crate) enum Random {
+    /// What flows into the reservoirs.
+    Inflow,
+    /// What is asked for at the buses.
+    Demand,
+}
+
 // The water that is so many stages away from a reservoir whose water travels so far.
 fn push_way(list: &mut Vec<Store>, plants: &Plants, away: u32, j: usize) -> Result<(), AllocError>
     ensures { OnOk result (map store_of list.new.items

@@ -2,9 +2,9 @@
 ghost use Rattle.std.specs.Prelude.{◌≡◌, ◌<◌, IfOk, string_bytes};
 ghost use Rattle.hp_hydro.specs.Layout.{inflow_of, demand_of};
 ghost use Rattle.hp_hydro.specs.Columns.{named, staged, state_name, before_name, after_name, column_name, chance_name, variable_name};
-ghost use Rattle.hp_hydro.specs.Seen.{store_of, column_of};
+ghost use Rattle.hp_hydro.specs.Seen.{store_of, column_of, chance_of};
 
-use crate::columns::{Column, Store};
+use crate::columns::{Column, Random, Store};
 use crate::plants::{bus_name, line_name, reservoir_name, thermal_name};
 use hp_forms::{digit, text_of};
 use hp_plants::Plants;
@@ -81,6 +81,21 @@ pub(crate) fn demand_name(alloc: Global, plants: &Plants, b: usize) -> Result<St
     ensures { IfOk result (λ s. string_bytes s ≡ chance_name plants.now (demand_of b)) }
 {
     named(alloc, "d", bus_name(plants, b))
+}
+
+/// What is not known of a reservoir or of a bus.
+pub(crate) fn random_name(
+    alloc: Global,
+    plants: &Plants,
+    random: Random,
+    at: usize,
+) -> Result<String, AllocError>
+    ensures { IfOk result (λ s. string_bytes s ≡ chance_name plants.now (chance_of random at)) }
+{
+    match random {
+        Random::Inflow => inflow_name(alloc, plants, at),
+        Random::Demand => demand_name(alloc, plants, at),
+    }
 }
 
 /// The name of a variable.

@@ -3,13 +3,15 @@ ghost use Rattle.std.specs.Prelude.{◌≡◌, ◌≤◌, ◌<◌, length, map, 
 ghost use Rattle.serde_json.specs.Data.{put};
 ghost use Rattle.serde_json.specs.View.{view, members_view};
 ghost use Rattle.hp_num.specs.Sums.{entry};
+ghost use Rattle.hp_paths.specs.Paths.{numbers};
 ghost use Rattle.hp_forms.specs.Listed.{put_by, integer};
 ghost use Rattle.hp_plants.specs.Described.{IsPlants, IsStage};
-ghost use Rattle.hp_hydro.specs.Layout.{inflow_of, demand_of, all_reservoirs, all_buses};
 ghost use Rattle.hp_hydro.specs.Columns.{chance_name};
 ghost use Rattle.hp_hydro.specs.Nodes.{node_name, support, realization, link_to, node, nodes};
+ghost use Rattle.hp_hydro.specs.Seen.{chance_of};
 
-use crate::names::{demand_name, inflow_name};
+use crate::columns::Random;
+use crate::names::random_name;
 use hp_forms::{digit, put_whole, text_of};
 use hp_plants::{Inflow, Plants, Stage};
 use serde_json::{Map, Value};
@@ -34,68 +36,36 @@ fn number(numbers: &[i64], at: usize) -> i64
     numbers[at]
 }
 
-// What is asked for at a bus.
-fn put_demand(
+// The value of a random variable.
+fn put_value(
     alloc: Global,
     plants: &Plants,
-    demand: &[i64],
-    b: usize,
+    random: Random,
+    values: &[i64],
+    at: usize,
     map: &mut Map<String, Value>,
 ) -> Result<(), AllocError>
-    requires { b < length demand.now }
-    ensures { OnOk result (members_view map.new.entries ≡ put (chance_name plants.now (demand_of b))
-        (integer (entry demand.now b)) (members_view map.old.entries)) }
+    requires { at < length values.now }
+    ensures { OnOk result (members_view map.new.entries ≡ put (chance_name plants.now (chance_of random at))
+        (integer (entry values.now at)) (members_view map.old.entries)) }
 {
-    let name = demand_name(alloc, plants, b)?;
-    put_whole(alloc, map, name.as_str(), number(demand, b))
+    let name = random_name(alloc, plants, random, at)?;
+    put_whole(alloc, map, name.as_str(), number(values, at))
 }
 
-// What is asked for at each bus.
-fn put_demands(
+// The values of all random variables of a kind.
+fn put_values(
     alloc: Global,
     plants: &Plants,
-    demand: &[i64],
+    random: Random,
+    values: &[i64],
     map: &mut Map<String, Value>,
 ) -> Result<(), AllocError>
-    requires { length demand.now ≡ length plants.now.buses }
     ensures { OnOk result (members_view map.new.entries
-        ≡ put_by (λ b. chance_name plants.now (demand_of b)) (λ b. integer (entry demand.now b)) (all_buses plants.now) (members_view map.old.entries)) }
+        ≡ put_by (λ n. chance_name plants.now (chance_of random n)) (λ n. integer (entry values.now n)) (numbers (length values.now)) (members_view map.old.entries)) }
 {
-    for b in 0..plants.buses.len() {
-        put_demand(alloc, plants, demand, b, map)?;
-    }
-    Ok(())
-}
-
-// What flows into a reservoir.
-fn put_inflow(
-    alloc: Global,
-    plants: &Plants,
-    water: &[i64],
-    j: usize,
-    map: &mut Map<String, Value>,
-) -> Result<(), AllocError>
-    requires { j < length water.now }
-    ensures { OnOk result (members_view map.new.entries ≡ put (chance_name plants.now (inflow_of j))
-        (integer (entry water.now j)) (members_view map.old.entries)) }
-{
-    let name = inflow_name(alloc, plants, j)?;
-    put_whole(alloc, map, name.as_str(), number(water, j))
-}
-
-// What flows into each reservoir.
-fn put_inflows(
-    alloc: Global,
-    plants: &Plants,
-    water: &[i64],
-    map: &mut Map<String, Value>,
-) -> Result<(), AllocError>
-    requires { length water.now ≡ length plants.now.reservoirs }
-    ensures { OnOk result (members_view map.new.entries
-        ≡ put_by (λ j. chance_name plants.now (inflow_of j)) (λ j. integer (entry water.now j)) (all_reservoirs plants.now) (members_view map.old.entries)) }
-{
-    for j in 0..plants.reservoirs.len() {
-        put_inflow(alloc, plants, water, j, map)?;
+    for at in 0..values.len() {
+        put_value(alloc, plants, random, values, at, map)?;
     }
     Ok(())
 }
@@ -113,8 +83,8 @@ fn support(
     ensures { IfOk result (λ m. members_view m.entries ≡ support plants.now demand.now water.now) }
 {
     let mut map = Map::new(alloc);
-    put_demands(alloc, plants, demand, &mut map)?;
-    put_inflows(alloc, plants, water, &mut map)?;
+    put_values(alloc, plants, Random::Demand, demand, &mut map)?;
+    put_values(alloc, plants, Random::Inflow, water, &mut map)?;
     Ok(map)
 }
 

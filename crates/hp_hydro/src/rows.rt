@@ -1,9 +1,8 @@
 // The rows of a stage and its objective: each variable with its factor.
-ghost use Rattle.std.specs.Prelude.{◌≡◌, ◌<◌, [], ◌∷◌, ◌++◌, length, map, IfOk, OnOk};
-ghost use Rattle.std.specs.List.{flat_map};
+ghost use Rattle.std.specs.Prelude.{◌≡◌, ◌<◌, [], ◌∷◌, ◌++◌, length, map, IfOk, OnOk, if◌then◌else◌};
 ghost use Rattle.serde_json.specs.View.{view};
-ghost use Rattle.hp_hydro.specs.Layout.{all_reservoirs, all_thermals, all_lines, all_buses};
-ghost use Rattle.hp_hydro.specs.Stage.{term_of, coming, water_sum, way_source, way_sum, turbined_at, burned_at, arriving_at, leaving_at, bus_sum, thermal_cost, deficit_cost, cost_sum, zero_row};
+ghost use Rattle.hp_hydro.specs.Stage.{term_of, coming, water_sum, way_source, way_sum, bus_sum, cost_sum, zero_row};
+ghost use Rattle.hp_hydro.specs.Parts.{count_of, sum_at, part_sum};
 ghost use Rattle.hp_hydro.specs.Seen.{column_of};
 
 use crate::columns::{Column, Store};
@@ -29,7 +28,56 @@ fn push(
     push_term(alloc, list, coefficient, name.as_str())
 }
 
-// ---- water of a reservoir
+// One more term, where there is one.
+fn push_where(
+    alloc: Global,
+    plants: &Plants,
+    list: &mut Vec<Value>,
+    there: bool,
+    coefficient: i64,
+    column: Column,
+) -> Result<(), AllocError>
+    ensures { OnOk result (map view list.new.items ≡ map view list.old.items
+        ++ map (term_of plants.now) (if there then (coefficient, column_of column) ∷ [] else [])) }
+{
+    if !there {
+        return Ok(());
+    }
+    push(alloc, plants, list, coefficient, column)
+}
+
+// ---- what stands in a sum for each plant of a kind
+
+// A part of a sum, with the number of the reservoir or of the bus whose sum it is.
+#[derive(Clone, Copy)]
+enum Part {
+    // What comes to a reservoir, from each reservoir.
+    Coming(usize),
+    // What each reservoir's turbine gives to a bus.
+    Turbined(usize),
+    // What each thermal gives to a bus.
+    Burned(usize),
+    // What each line brings to a bus.
+    Arriving(usize),
+    // What each line takes from a bus.
+    Leaving(usize),
+    // What the energy of each thermal costs.
+    ThermalCost,
+    // What the energy that is missing at each bus costs.
+    DeficitCost,
+}
+
+// How many plants there are of the kind.
+fn count(plants: &Plants, part: Part) -> usize
+    ensures { result ≡ count_of plants.now part }
+{
+    match part {
+        Part::Coming(_) | Part::Turbined(_) => plants.reservoirs.len(),
+        Part::Burned(_) | Part::ThermalCost => plants.thermals.len(),
+        Part::Arriving(_) | Part::Leaving(_) => plants.lines.len(),
+        Part::DeficitCost => plants.buses.len(),
+    }
+}
 
 // What comes to reservoir `j` from reservoir `i`.
 #[tactic(auto, unfolding(crate::specs::Stage::coming))]
@@ -57,21 +105,65 @@ fn push_coming(
     push(alloc, plants, list, -1, Column::Spill(i))
 }
 
-// What comes to a reservoir from all.
-fn push_all_coming(
+// What stands for one plant.
+#[tactic(auto, unfolding(crate::specs::Stage::turbined_at, crate::specs::Stage::burned_at, crate::specs::Stage::arriving_at, crate::specs::Stage::leaving_at))]
+fn push_part(
     alloc: Global,
     plants: &Plants,
     list: &mut Vec<Value>,
-    j: usize,
+    part: Part,
+    at: usize,
 ) -> Result<(), AllocError>
-    ensures { OnOk result (map view list.new.items ≡ map view list.old.items
-        ++ map (term_of plants.now) (flat_map (coming plants.now j) (all_reservoirs plants.now))) }
+    requires { at < count_of plants.now part }
+    ensures { OnOk result (map view list.new.items ≡ map view list.old.items ++ map (term_of plants.now) (sum_at plants.now part at)) }
 {
-    for i in 0..plants.reservoirs.len() {
-        push_coming(alloc, plants, list, j, i)?;
+    match part {
+        Part::Coming(j) => push_coming(alloc, plants, list, j, at),
+        Part::Turbined(b) => {
+            let from = reservoir(plants, at);
+            let here = from.bus as usize == b;
+            push_where(alloc, plants, list, here, from.factor, Column::Turbine(at))
+        }
+        Part::Burned(b) => {
+            let here = thermal(plants, at).bus as usize == b;
+            push_where(alloc, plants, list, here, 1, Column::Thermal(at))
+        }
+        Part::Arriving(b) => {
+            let here = line(plants, at).target as usize == b;
+            push_where(alloc, plants, list, here, 1, Column::Line(at))
+        }
+        Part::Leaving(b) => {
+            let here = line(plants, at).source as usize == b;
+            push_where(alloc, plants, list, here, -1, Column::Line(at))
+        }
+        Part::ThermalCost => {
+            let cost = thermal(plants, at).cost;
+            push(alloc, plants, list, cost, Column::Thermal(at))
+        }
+        Part::DeficitCost => {
+            let cost = bus(plants, at).deficit_cost;
+            push(alloc, plants, list, cost, Column::Deficit(at))
+        }
+    }
+}
+
+// What stands for all plants of the kind.
+fn push_all(
+    alloc: Global,
+    plants: &Plants,
+    list: &mut Vec<Value>,
+    part: Part,
+) -> Result<(), AllocError>
+    ensures { OnOk result (map view list.new.items
+        ≡ map view list.old.items ++ map (term_of plants.now) (part_sum plants.now part)) }
+{
+    for at in 0..count(plants, part) {
+        push_part(alloc, plants, list, part, at)?;
     }
     Ok(())
 }
+
+// ---- water of a reservoir
 
 #[tactic(auto, unfolding(crate::specs::Stage::water_sum))]
 fn water_terms(alloc: Global, plants: &Plants, j: usize) -> Result<Vec<Value>, AllocError>
@@ -90,7 +182,7 @@ fn water_terms(alloc: Global, plants: &Plants, j: usize) -> Result<Vec<Value>, A
         Column::Before(Store::Volume(j)),
     )?;
     push(alloc, plants, &mut list, -1, Column::Inflow(j))?;
-    push_all_coming(alloc, plants, &mut list, j)?;
+    push_all(alloc, plants, &mut list, Part::Coming(j))?;
     Ok(list)
 }
 
@@ -165,149 +257,16 @@ pub(crate) fn way_row(
 
 // ---- energy at a bus
 
-#[tactic(auto, unfolding(crate::specs::Stage::turbined_at))]
-fn push_turbined(
-    alloc: Global,
-    plants: &Plants,
-    list: &mut Vec<Value>,
-    b: usize,
-    j: usize,
-) -> Result<(), AllocError>
-    requires { j < length plants.now.reservoirs }
-    ensures { OnOk result (map view list.new.items
-        ≡ map view list.old.items ++ map (term_of plants.now) (turbined_at plants.now b j)) }
-{
-    let reservoir = reservoir(plants, j);
-    if reservoir.bus as usize != b {
-        return Ok(());
-    }
-    push(alloc, plants, list, reservoir.factor, Column::Turbine(j))
-}
-
-fn push_all_turbined(
-    alloc: Global,
-    plants: &Plants,
-    list: &mut Vec<Value>,
-    b: usize,
-) -> Result<(), AllocError>
-    ensures { OnOk result (map view list.new.items ≡ map view list.old.items
-        ++ map (term_of plants.now) (flat_map (turbined_at plants.now b) (all_reservoirs plants.now))) }
-{
-    for j in 0..plants.reservoirs.len() {
-        push_turbined(alloc, plants, list, b, j)?;
-    }
-    Ok(())
-}
-
-#[tactic(auto, unfolding(crate::specs::Stage::burned_at))]
-fn push_burned(
-    alloc: Global,
-    plants: &Plants,
-    list: &mut Vec<Value>,
-    b: usize,
-    i: usize,
-) -> Result<(), AllocError>
-    requires { i < length plants.now.thermals }
-    ensures { OnOk result (map view list.new.items
-        ≡ map view list.old.items ++ map (term_of plants.now) (burned_at plants.now b i)) }
-{
-    if thermal(plants, i).bus as usize != b {
-        return Ok(());
-    }
-    push(alloc, plants, list, 1, Column::Thermal(i))
-}
-
-fn push_all_burned(
-    alloc: Global,
-    plants: &Plants,
-    list: &mut Vec<Value>,
-    b: usize,
-) -> Result<(), AllocError>
-    ensures { OnOk result (map view list.new.items ≡ map view list.old.items
-        ++ map (term_of plants.now) (flat_map (burned_at plants.now b) (all_thermals plants.now))) }
-{
-    for i in 0..plants.thermals.len() {
-        push_burned(alloc, plants, list, b, i)?;
-    }
-    Ok(())
-}
-
-#[tactic(auto, unfolding(crate::specs::Stage::arriving_at))]
-fn push_arriving(
-    alloc: Global,
-    plants: &Plants,
-    list: &mut Vec<Value>,
-    b: usize,
-    l: usize,
-) -> Result<(), AllocError>
-    requires { l < length plants.now.lines }
-    ensures { OnOk result (map view list.new.items
-        ≡ map view list.old.items ++ map (term_of plants.now) (arriving_at plants.now b l)) }
-{
-    if line(plants, l).target as usize != b {
-        return Ok(());
-    }
-    push(alloc, plants, list, 1, Column::Line(l))
-}
-
-fn push_all_arriving(
-    alloc: Global,
-    plants: &Plants,
-    list: &mut Vec<Value>,
-    b: usize,
-) -> Result<(), AllocError>
-    ensures { OnOk result (map view list.new.items ≡ map view list.old.items
-        ++ map (term_of plants.now) (flat_map (arriving_at plants.now b) (all_lines plants.now))) }
-{
-    for l in 0..plants.lines.len() {
-        push_arriving(alloc, plants, list, b, l)?;
-    }
-    Ok(())
-}
-
-#[tactic(auto, unfolding(crate::specs::Stage::leaving_at))]
-fn push_leaving(
-    alloc: Global,
-    plants: &Plants,
-    list: &mut Vec<Value>,
-    b: usize,
-    l: usize,
-) -> Result<(), AllocError>
-    requires { l < length plants.now.lines }
-    ensures { OnOk result (map view list.new.items
-        ≡ map view list.old.items ++ map (term_of plants.now) (leaving_at plants.now b l)) }
-{
-    if line(plants, l).source as usize != b {
-        return Ok(());
-    }
-    push(alloc, plants, list, -1, Column::Line(l))
-}
-
-fn push_all_leaving(
-    alloc: Global,
-    plants: &Plants,
-    list: &mut Vec<Value>,
-    b: usize,
-) -> Result<(), AllocError>
-    ensures { OnOk result (map view list.new.items ≡ map view list.old.items
-        ++ map (term_of plants.now) (flat_map (leaving_at plants.now b) (all_lines plants.now))) }
-{
-    for l in 0..plants.lines.len() {
-        push_leaving(alloc, plants, list, b, l)?;
-    }
-    Ok(())
-}
-
 #[tactic(auto, unfolding(crate::specs::Stage::bus_sum))]
 fn bus_terms(alloc: Global, plants: &Plants, b: usize) -> Result<Vec<Value>, AllocError>
     ensures { IfOk result (λ list. map view list.items
         ≡ map (term_of plants.now) (bus_sum plants.now b)) }
 {
     let mut list = Vec::new(alloc);
-    push_all_turbined(alloc, plants, &mut list, b)?;
-    push_all_burned(alloc, plants, &mut list, b)?;
-    push_all_arriving(alloc, plants, &mut list, b)?;
-    push_all_leaving(alloc, plants, &mut list, b)?;
+    push_all(alloc, plants, &mut list, Part::Turbined(b))?;
+    push_all(alloc, plants, &mut list, Part::Burned(b))?;
+    push_all(alloc, plants, &mut list, Part::Arriving(b))?;
+    push_all(alloc, plants, &mut list, Part::Leaving(b))?;
     push(alloc, plants, &mut list, 1, Column::Deficit(b))?;
     push(alloc, plants, &mut list, -1, Column::Demand(b))?;
     Ok(list)
@@ -324,67 +283,6 @@ pub(crate) fn bus_row(alloc: Global, plants: &Plants, b: usize) -> Result<Value,
 
 // ---- costs
 
-fn push_thermal_cost(
-    alloc: Global,
-    plants: &Plants,
-    list: &mut Vec<Value>,
-    i: usize,
-) -> Result<(), AllocError>
-    requires { i < length plants.now.thermals }
-    ensures { OnOk result (map view list.new.items
-        ≡ map view list.old.items ++ term_of plants.now (thermal_cost plants.now i) ∷ []) }
-{
-    push(
-        alloc,
-        plants,
-        list,
-        thermal(plants, i).cost,
-        Column::Thermal(i),
-    )
-}
-
-fn push_thermal_costs(
-    alloc: Global,
-    plants: &Plants,
-    list: &mut Vec<Value>,
-) -> Result<(), AllocError>
-    ensures { OnOk result (map view list.new.items ≡ map view list.old.items
-        ++ map (λ i. term_of plants.now (thermal_cost plants.now i)) (all_thermals plants.now)) }
-{
-    for i in 0..plants.thermals.len() {
-        push_thermal_cost(alloc, plants, list, i)?;
-    }
-    Ok(())
-}
-
-fn push_deficit_cost(
-    alloc: Global,
-    plants: &Plants,
-    list: &mut Vec<Value>,
-    b: usize,
-) -> Result<(), AllocError>
-    requires { b < length plants.now.buses }
-    ensures { OnOk result (map view list.new.items
-        ≡ map view list.old.items ++ term_of plants.now (deficit_cost plants.now b) ∷ []) }
-{
-    let cost = bus(plants, b).deficit_cost;
-    push(alloc, plants, list, cost, Column::Deficit(b))
-}
-
-fn push_deficit_costs(
-    alloc: Global,
-    plants: &Plants,
-    list: &mut Vec<Value>,
-) -> Result<(), AllocError>
-    ensures { OnOk result (map view list.new.items ≡ map view list.old.items
-        ++ map (λ b. term_of plants.now (deficit_cost plants.now b)) (all_buses plants.now)) }
-{
-    for b in 0..plants.buses.len() {
-        push_deficit_cost(alloc, plants, list, b)?;
-    }
-    Ok(())
-}
-
 /// The costs of thermals and of deficits.
 #[tactic(auto, unfolding(crate::specs::Stage::cost_sum))]
 pub(crate) fn cost_terms(alloc: Global, plants: &Plants) -> Result<Vec<Value>, AllocError>
@@ -392,7 +290,7 @@ pub(crate) fn cost_terms(alloc: Global, plants: &Plants) -> Result<Vec<Value>, A
         ≡ map (term_of plants.now) (cost_sum plants.now)) }
 {
     let mut list = Vec::new(alloc);
-    push_thermal_costs(alloc, plants, &mut list)?;
-    push_deficit_costs(alloc, plants, &mut list)?;
+    push_all(alloc, plants, &mut list, Part::ThermalCost)?;
+    push_all(alloc, plants, &mut list, Part::DeficitCost)?;
     Ok(list)
 }

@@ -4,15 +4,17 @@ ghost use Rattle.std.specs.List.{flat_map};
 ghost use Rattle.serde_json.specs.Data.{string, no_members, put};
 ghost use Rattle.serde_json.specs.View.{view, members_view};
 ghost use Rattle.hp_forms.specs.Listed.{put_by};
+ghost use Rattle.hp_paths.specs.Paths.{numbers};
 ghost use Rattle.hp_plants.specs.Described.{IsPlants};
-ghost use Rattle.hp_hydro.specs.Layout.{inflow_of, demand_of, all_reservoirs, all_buses, travel, stores};
+ghost use Rattle.hp_hydro.specs.Layout.{all_reservoirs, all_buses, travel, stores};
 ghost use Rattle.hp_hydro.specs.Columns.{state_name, chance_name, columns};
 ghost use Rattle.hp_hydro.specs.Stage.{water_sum, bus_sum, zero_row, way_rows, rows, constraints, objective, variable_of, state, states, random_variables, program, subproblem};
-ghost use Rattle.hp_hydro.specs.Seen.{store_of, column_of};
+ghost use Rattle.hp_hydro.specs.Chances.{chance_count};
+ghost use Rattle.hp_hydro.specs.Seen.{store_of, column_of, chance_of};
 
 use crate::bounds::push_bounds;
-use crate::columns::{Column, Store, columns, stores};
-use crate::names::{after_name, before_name, column_name, demand_name, inflow_name, state_name};
+use crate::columns::{Column, Random, Store, columns, stores};
+use crate::names::{after_name, before_name, column_name, random_name, state_name};
 use crate::plants::travel;
 use crate::rows::{bus_row, cost_terms, water_row, way_row};
 use hp_forms::{least_sum, push_text, push_variable, state_between};
@@ -181,23 +183,28 @@ fn states(alloc: Global, plants: &Plants) -> Result<Map<String, Value>, AllocErr
     Ok(map)
 }
 
-fn push_inflows(alloc: Global, plants: &Plants, list: &mut Vec<Value>) -> Result<(), AllocError>
-    ensures { OnOk result (map view list.new.items ≡ map view list.old.items
-        ++ map (λ j. string (chance_name plants.now (inflow_of j))) (all_reservoirs plants.now)) }
+// How many random variables of a kind there are.
+fn random_count(plants: &Plants, random: Random) -> usize
+    ensures { result ≡ chance_count plants.now random }
 {
-    for j in 0..plants.reservoirs.len() {
-        let name = inflow_name(alloc, plants, j)?;
-        push_text(list, name)?;
+    match random {
+        Random::Inflow => plants.reservoirs.len(),
+        Random::Demand => plants.buses.len(),
     }
-    Ok(())
 }
 
-fn push_demands(alloc: Global, plants: &Plants, list: &mut Vec<Value>) -> Result<(), AllocError>
+// The names of the random variables of a kind.
+fn push_names(
+    alloc: Global,
+    plants: &Plants,
+    list: &mut Vec<Value>,
+    random: Random,
+) -> Result<(), AllocError>
     ensures { OnOk result (map view list.new.items ≡ map view list.old.items
-        ++ map (λ b. string (chance_name plants.now (demand_of b))) (all_buses plants.now)) }
+        ++ map (λ n. string (chance_name plants.now (chance_of random n))) (numbers (chance_count plants.now random))) }
 {
-    for b in 0..plants.buses.len() {
-        let name = demand_name(alloc, plants, b)?;
+    for at in 0..random_count(plants, random) {
+        let name = random_name(alloc, plants, random, at)?;
         push_text(list, name)?;
     }
     Ok(())
@@ -208,8 +215,8 @@ fn random_variables(alloc: Global, plants: &Plants) -> Result<Vec<Value>, AllocE
     ensures { IfOk result (λ list. map view list.items ≡ random_variables plants.now) }
 {
     let mut list = Vec::new(alloc);
-    push_inflows(alloc, plants, &mut list)?;
-    push_demands(alloc, plants, &mut list)?;
+    push_names(alloc, plants, &mut list, Random::Inflow)?;
+    push_names(alloc, plants, &mut list, Random::Demand)?;
     Ok(list)
 }
 

@@ -11,5 +11,5 @@ pub returns : goal.returns
 unfolding stage.random_variables
 returns c =
     let h = c.args.plants.now in
-    c.in_ok-push_demands.ensures ∙ ap (λ l. l ++ map (λ b. string (chance_name h (demand_of b))) (all_buses h)) (c.in_ok-push_inflows.ensures ∙ ap (λ xs. map view xs ++ map (λ j. string (chance_name h (inflow_of j))) (all_reservoirs h)) c.new-list.ensures.items)
+    c.in_ok-push_names-2.ensures ∙ ap (λ l. l ++ map (λ b. string (chance_name h (demand_of b))) (all_buses h)) (c.in_ok-push_names.ensures ∙ ap (λ xs. map view xs ++ map (λ j. string (chance_name h (inflow_of j))) (all_reservoirs h)) c.new-list.ensures.items)
     ∙ sym (map_parts (λ c. string (chance_name h c)) inflow_of demand_of (all_reservoirs h) (all_buses h))

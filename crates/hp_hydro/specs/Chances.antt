@@ -1,0 +1,10 @@
+-- How many random variables of a kind there are.
+use Rattle.std.specs.Prelude.{ℕ, length}
+use Rattle.hp_plants.specs.declared.plants.Plants.{Plants}
+use Rattle.hp_hydro.specs.declared.columns.Random.{Random}
+use Rattle.hp_hydro.specs.declared.columns.Random.TheVariants as random_variable
+
+-- one of each reservoir, and one of each bus
+abbrev pub chance_count : Plants → Random → ℕ
+chance_count h random_variable.Inflow = length h.reservoirs
+chance_count h random_variable.Demand = length h.buses

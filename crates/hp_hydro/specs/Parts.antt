@@ -1,0 +1,32 @@
+-- What stands in a sum for each plant of a kind.
+use Rattle.std.specs.Prelude.{ℕ, [], ◌∷◌, length}
+use Rattle.std.specs.List.{flat_map}
+use Rattle.hp_paths.specs.Paths.{numbers}
+use Rattle.hp_plants.specs.declared.plants.Plants.{Plants}
+use Rattle.hp_hydro.specs.declared.rows.Part.{Part}
+use Rattle.hp_hydro.specs.declared.rows.Part.TheVariants as part
+use Rattle.hp_hydro.specs.Stage.{Sum, coming, turbined_at, burned_at, arriving_at, leaving_at, thermal_cost, deficit_cost}
+
+-- how many plants there are of the kind
+abbrev pub count_of : Plants → Part → ℕ
+count_of h (part.Coming j) = length h.reservoirs
+count_of h (part.Turbined b) = length h.reservoirs
+count_of h (part.Burned b) = length h.thermals
+count_of h (part.Arriving b) = length h.lines
+count_of h (part.Leaving b) = length h.lines
+count_of h part.ThermalCost = length h.thermals
+count_of h part.DeficitCost = length h.buses
+
+-- what stands for plant i
+abbrev pub sum_at : Plants → Part → ℕ → Sum
+sum_at h (part.Coming j) i = coming h j i
+sum_at h (part.Turbined b) i = turbined_at h b i
+sum_at h (part.Burned b) i = burned_at h b i
+sum_at h (part.Arriving b) i = arriving_at h b i
+sum_at h (part.Leaving b) i = leaving_at h b i
+sum_at h part.ThermalCost i = thermal_cost h i ∷ []
+sum_at h part.DeficitCost i = deficit_cost h i ∷ []
+
+-- what stands for all of them
+abbrev pub part_sum : Plants → Part → Sum
+part_sum h p = flat_map (sum_at h p) (numbers (count_of h p))
