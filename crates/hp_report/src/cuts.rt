@@ -1,5 +1,6 @@
 // Lines of cuts and bounds.
-ghost use Rattle.std.specs.Prelude.{◌≡◌, ◌++◌, OnOk};
+ghost use Rattle.std.specs.Prelude.{◌≡◌, ◌++◌, OnErr, OnOk};
+ghost use Rattle.std.specs.Io.{StartsWith};
 ghost use Rattle.std.specs.List.{flat_map};
 ghost use Rattle.hp_report.specs.Lines.{numbered};
 ghost use Rattle.hp_report.specs.Report.{word, cut_words, cut_line, node_cuts, cut_lines, bound_line};
@@ -8,17 +9,21 @@ use hp_cut::{Cut, Pools};
 use hp_num::Memory;
 use hp_text::{push_bytes, push_whole};
 
-/// Appends a space and the number.
-pub(crate) fn push_word(out: &mut Vec<u8>, number: i128) -> Result<(), Memory>
-    ensures { OnOk result (out.new.items ≡ out.old.items ++ word number) }
+/// Appends a space and the number, in decimal.
+///
+/// After `Memory` a first part of it may stand in `out`, behind what stood there before.
+pub fn push_word(out: &mut Vec<u8>, number: i128) -> Result<(), Memory>
+    ensures ok { OnOk result (out.new.items ≡ out.old.items ++ word number) }
+    ensures err { OnErr result (StartsWith out.new.items out.old.items) }
 {
     push_bytes(out, b" ")?;
     push_whole(out, number)
 }
 
-/// Appends a space and the number.
-pub(crate) fn push_words(out: &mut Vec<u8>, numbers: &[i128]) -> Result<(), Memory>
-    ensures { OnOk result (out.new.items ≡ out.old.items ++ flat_map word numbers.now) }
+// Appends a space and the number, for each number.
+fn push_words(out: &mut Vec<u8>, numbers: &[i128]) -> Result<(), Memory>
+    ensures ok { OnOk result (out.new.items ≡ out.old.items ++ flat_map word numbers.now) }
+    ensures err { OnErr result (StartsWith out.new.items out.old.items) }
 {
     for number in numbers {
         push_word(out, *number)?;
@@ -36,8 +41,12 @@ fn push_cut(out: &mut Vec<u8>, node: usize, place: usize, cut: &Cut) -> Result<(
     push_bytes(out, b"\n")
 }
 
-fn push_cut_words(out: &mut Vec<u8>, cut: &Cut) -> Result<(), Memory>
-    ensures { OnOk result (out.new.items ≡ out.old.items ++ cut_words cut.now) }
+/// Appends the numbers of a cut, each behind a space and at scale 2^24: alpha, then a slope per state.
+///
+/// After `Memory` a first part of it may stand in `out`, behind what stood there before.
+pub fn push_cut_words(out: &mut Vec<u8>, cut: &Cut) -> Result<(), Memory>
+    ensures ok { OnOk result (out.new.items ≡ out.old.items ++ cut_words cut.now) }
+    ensures err { OnErr result (StartsWith out.new.items out.old.items) }
 {
     push_word(out, cut.alpha)?;
     push_words(out, cut.beta.as_slice())
@@ -62,9 +71,12 @@ pub(crate) fn push_cuts(out: &mut Vec<u8>, pools: &Pools) -> Result<(), Memory>
     Ok(())
 }
 
-/// Appends the line of a bound, at scale 2^24.
-pub(crate) fn push_bound(out: &mut Vec<u8>, bound: i128) -> Result<(), Memory>
-    ensures { OnOk result (out.new.items ≡ out.old.items ++ bound_line bound) }
+/// Appends the line of a bound, which is at scale 2^24.
+///
+/// After `Memory` a first part of it may stand in `out`, behind what stood there before.
+pub fn push_bound(out: &mut Vec<u8>, bound: i128) -> Result<(), Memory>
+    ensures ok { OnOk result (out.new.items ≡ out.old.items ++ bound_line bound) }
+    ensures err { OnErr result (StartsWith out.new.items out.old.items) }
 {
     push_bytes(out, b"bound")?;
     push_word(out, bound)?;

@@ -1,5 +1,6 @@
 // What stands above every report.
-ghost use Rattle.std.specs.Prelude.{◌≡◌, ◌++◌, OnOk, codes};
+ghost use Rattle.std.specs.Prelude.{◌≡◌, ◌++◌, OnErr, OnOk, codes};
+ghost use Rattle.std.specs.Io.{StartsWith};
 ghost use Rattle.hp_report.specs.Lines.{numbered};
 ghost use Rattle.hp_report.specs.Report.{title, state_line, node_line, head_text};
 
@@ -7,10 +8,14 @@ use hp_num::{List, Memory};
 use hp_problem::{Node, Raw, State};
 use hp_text::{push_bytes, push_name, push_whole};
 
-/// Appends the version, the scale, the states and the nodes.
+/// Appends what stands above every report: the version, the scale of cuts and bounds, and a line for each state and each
+/// node with its number, from 0 on, and its name as a JSON string.
+///
+/// After `Memory` a first part of it may stand in `out`, behind what stood there before.
 #[tactic(auto, unfolding(crate::specs::Report::head_text))]
-pub(crate) fn push_head(out: &mut Vec<u8>, raw: &Raw) -> Result<(), Memory>
-    ensures { OnOk result (out.new.items ≡ out.old.items ++ head_text raw.now) }
+pub fn push_head(out: &mut Vec<u8>, raw: &Raw) -> Result<(), Memory>
+    ensures ok { OnOk result (out.new.items ≡ out.old.items ++ head_text raw.now) }
+    ensures err { OnErr result (StartsWith out.new.items out.old.items) }
 {
     push_title(out)?;
     push_states(out, &raw.states)?;
@@ -19,13 +24,15 @@ pub(crate) fn push_head(out: &mut Vec<u8>, raw: &Raw) -> Result<(), Memory>
 
 #[tactic(auto, unfolding(crate::specs::Report::title))]
 fn push_title(out: &mut Vec<u8>) -> Result<(), Memory>
-    ensures { OnOk result (out.new.items ≡ out.old.items ++ title) }
+    ensures ok { OnOk result (out.new.items ≡ out.old.items ++ title) }
+    ensures err { OnErr result (StartsWith out.new.items out.old.items) }
 {
     push_bytes(out, b"hydroplan 1\nscale 16777216\n")
 }
 
 fn push_states(out: &mut Vec<u8>, states: &List<State>) -> Result<(), Memory>
-    ensures { OnOk result (out.new.items ≡ out.old.items ++ numbered state_line 0 states.now) }
+    ensures ok { OnOk result (out.new.items ≡ out.old.items ++ numbered state_line 0 states.now) }
+    ensures err { OnErr result (StartsWith out.new.items out.old.items) }
 {
     for (i, state) in states.as_slice().iter().enumerate() {
         push_state(out, i, state)?;
@@ -34,7 +41,8 @@ fn push_states(out: &mut Vec<u8>, states: &List<State>) -> Result<(), Memory>
 }
 
 fn push_nodes(out: &mut Vec<u8>, nodes: &List<Node>) -> Result<(), Memory>
-    ensures { OnOk result (out.new.items ≡ out.old.items ++ numbered node_line 0 nodes.now) }
+    ensures ok { OnOk result (out.new.items ≡ out.old.items ++ numbered node_line 0 nodes.now) }
+    ensures err { OnErr result (StartsWith out.new.items out.old.items) }
 {
     for (i, node) in nodes.as_slice().iter().enumerate() {
         push_node(out, i, node)?;
@@ -43,7 +51,8 @@ fn push_nodes(out: &mut Vec<u8>, nodes: &List<Node>) -> Result<(), Memory>
 }
 
 fn push_state(out: &mut Vec<u8>, i: usize, state: &State) -> Result<(), Memory>
-    ensures { OnOk result (out.new.items ≡ out.old.items ++ state_line i state.now) }
+    ensures ok { OnOk result (out.new.items ≡ out.old.items ++ state_line i state.now) }
+    ensures err { OnErr result (StartsWith out.new.items out.old.items) }
 {
     push_bytes(out, b"state ")?;
     push_whole(out, i as i128)?;
@@ -53,7 +62,8 @@ fn push_state(out: &mut Vec<u8>, i: usize, state: &State) -> Result<(), Memory>
 }
 
 fn push_node(out: &mut Vec<u8>, i: usize, node: &Node) -> Result<(), Memory>
-    ensures { OnOk result (out.new.items ≡ out.old.items ++ node_line i node.now) }
+    ensures ok { OnOk result (out.new.items ≡ out.old.items ++ node_line i node.now) }
+    ensures err { OnErr result (StartsWith out.new.items out.old.items) }
 {
     push_bytes(out, b"node ")?;
     push_whole(out, i as i128)?;

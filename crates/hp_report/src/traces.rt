@@ -1,5 +1,6 @@
 // The report of traces.
-ghost use Rattle.std.specs.Prelude.{◌≡◌, ◌<◌, ◌++◌, codes, pos, All, IfOk, OnOk, length};
+ghost use Rattle.std.specs.Prelude.{◌≡◌, ◌<◌, ◌++◌, codes, pos, All, IfOk, OnErr, OnOk, length};
+ghost use Rattle.std.specs.Io.{StartsWith};
 ghost use Rattle.hp_problem.specs.Sealed.{subproblem_of};
 ghost use Rattle.hp_report.specs.Lines.{numbered};
 ghost use Rattle.hp_report.specs.Report.{word};
@@ -65,8 +66,12 @@ fn push_decisions(out: &mut Vec<u8>, decisions: &[Decision], numbers: &[i128]) -
     Ok(())
 }
 
-fn push_row(out: &mut Vec<u8>, row: usize, residual: i128) -> Result<(), Memory>
-    ensures { OnOk result (out.new.items ≡ out.old.items ++ row_line row residual) }
+/// Appends the line of a row, with its number from 0 on, and of its residual, which is at scale 2^24.
+///
+/// After `Memory` a first part of it may stand in `out`, behind what stood there before.
+pub fn push_row(out: &mut Vec<u8>, row: usize, residual: i128) -> Result<(), Memory>
+    ensures ok { OnOk result (out.new.items ≡ out.old.items ++ row_line row residual) }
+    ensures err { OnErr result (StartsWith out.new.items out.old.items) }
 {
     push_bytes(out, b"row")?;
     push_word(out, row as i128)?;

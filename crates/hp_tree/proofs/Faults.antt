@@ -57,11 +57,18 @@ module _ (decide : Deciding) (go : List ℤ → ℕ → ℕ → Result Walked St
   pub branch_done : (d : Decided) (w : Walked) → decide decided s values x ≡ Ok d → behind_it d ≡ Ok w → branch_cost decide go n decided s values x ≡ Ok (add_stage (successor_weight n) (stage_cost_of n d.decisions x values) w)
   branch_done d w e h = ap (λ (r : Result Decided Stop). r >>= λ d. behind_it d >>= whole d) e ∙ ap (λ (r : Result Walked Stop). r >>= whole d) h
 
-  pub branch_undecided : (t : Stop) → decide decided s values x ≡ Err t → branch_cost decide go n decided s values x ≡ Err t
+  branch_undecided : (t : Stop) → decide decided s values x ≡ Err t → branch_cost decide go n decided s values x ≡ Err t
   branch_undecided t e = ap (λ (r : Result Decided Stop). r >>= λ d. behind_it d >>= whole d) e
 
-  pub branch_behind : (d : Decided) (t : Stop) → decide decided s values x ≡ Ok d → behind_it d ≡ Err t → branch_cost decide go n decided s values x ≡ Err t
+  branch_behind : (d : Decided) (t : Stop) → decide decided s values x ≡ Ok d → behind_it d ≡ Err t → branch_cost decide go n decided s values x ≡ Err t
   branch_behind d t e h = ap (λ (r : Result Decided Stop). r >>= λ d. behind_it d >>= whole d) e ∙ ap (λ (r : Result Walked Stop). r >>= whole d) h
+
+  -- what stops the decision or the walk behind it stops the branch
+  pub undecided_fault : (f : Fault) → Stops f (decide decided s values x) → Stops f (branch_cost decide go n decided s values x)
+  undecided_fault f h = stops_on f (decide decided s values x) (branch_cost decide go n decided s values x) branch_undecided h
+
+  pub behind_fault : (d : Decided) (f : Fault) → decide decided s values x ≡ Ok d → Stops f (behind_it d) → Stops f (branch_cost decide go n decided s values x)
+  behind_fault d f e h = stops_on f (behind_it d) (branch_cost decide go n decided s values x) (λ t h. branch_behind d t e h) h
 
 -- a tree, by its branches
 module _ (decide : Deciding) (p : Problem) (n k : ℕ) (x : List ℤ) (decided m : ℕ) where
@@ -74,8 +81,11 @@ module _ (decide : Deciding) (p : Problem) (n k : ℕ) (x : List ℤ) (decided m
   pub tree_done : n ≡ suc k → (w : Walked) → branches_there ≡ Ok w → tree_cost decide p n x decided m ≡ Ok (share (realization_weight (node_at p m)) w)
   tree_done e w h = ap (λ (n : ℕ). tree_cost decide p n x decided m) e ∙ ap (λ (r : Result Walked Stop). r >>= shared) h
 
-  pub tree_stops : n ≡ suc k → (t : Stop) → branches_there ≡ Err t → tree_cost decide p n x decided m ≡ Err t
+  tree_stops : n ≡ suc k → (t : Stop) → branches_there ≡ Err t → tree_cost decide p n x decided m ≡ Err t
   tree_stops e t h = ap (λ (n : ℕ). tree_cost decide p n x decided m) e ∙ ap (λ (r : Result Walked Stop). r >>= shared) h
+
+  pub tree_fault : n ≡ suc k → (f : Fault) → Stops f branches_there → Stops f (tree_cost decide p n x decided m)
+  tree_fault e f h = stops_on f branches_there (tree_cost decide p n x decided m) (tree_stops e) h
 
   pub tree_none : n ≡ zero → tree_cost decide p n x decided m ≡ Ok (no_cost decided)
   tree_none e = ap (λ (n : ℕ). tree_cost decide p n x decided m) e

@@ -16,6 +16,7 @@ pub mod StageSizes
 pub mod Whole
 pub mod Seen
 pub mod Behind
+pub mod Trees
 pub mod Steps
 pub mod Rooted
 pub mod Faults

@@ -22,7 +22,7 @@ use Rattle.hp_tree.proofs.Adding.{LinksGo, link_adds, link_next, link_small, lin
 use Rattle.hp_tree.proofs.Branching.{BranchesGo, branch_next, branch_small_here, branch_stops, branch_weighted, branch_whole, branches_last}
 use Rattle.hp_tree.proofs.Faults.{stops_on}
 use Rattle.hp_tree.proofs.Positive.{dens, dens_some}
-use Rattle.hp_tree.proofs.Seen.{Read, Seen, link_here, realization_here}
+use Rattle.hp_tree.proofs.Seen.{Read, Seen, length-realizations_of, link_here, realization_here}
 
 less : (m n : ℕ) → nat_lt m n ≡ true → m < n
 less m n e = grind (arith, nat_tests)
@@ -124,8 +124,17 @@ module _ (p : Sealed) (n U j k : ℕ) (decide : Deciding) (go : List ℤ → ℕ
   pub adds_fault : (f : Fault) → Stops f (branch_cost decide go node total.decided (record { node = m; realization = i }) v x) → Stops f (branch_costs decide go node m (no_cost k) 0 node.realizations x)
   adds_fault f e = stops_on f (branch_cost decide go node total.decided (record { node = m; realization = i }) v x) (branch_costs decide go node m (no_cost k) 0 node.realizations x) adds_stops e
 
-pub branches_end : (p : Sealed) (n U j k : ℕ) (decide : Deciding) (go : List ℤ → ℕ → ℕ → Result Walked Stop) (node : Node) (m : ℕ) (x : List ℤ) (i : ℕ) (total : Walked) → 0 < i → length node.realizations ≤ i → BranchesGo p n U j k decide go node m x node.realizations (drop i node.realizations) i total
+branches_end : (p : Sealed) (n U j k : ℕ) (decide : Deciding) (go : List ℤ → ℕ → ℕ → Result Walked Stop) (node : Node) (m : ℕ) (x : List ℤ) (i : ℕ) (total : Walked) → 0 < i → length node.realizations ≤ i → BranchesGo p n U j k decide go node m x node.realizations (drop i node.realizations) i total
     → (branch_costs decide go node m (no_cost k) 0 node.realizations x ≡ Ok total) × IsCost p n U (weight_of_realizations node.realizations) (k + length node.realizations * j) total
 branches_end p n U j k decide go node m x i total some past h =
     let all : BranchesGo p n U j k decide go node m x node.realizations [] i total = subst (λ (rs : List Realization). BranchesGo p n U j k decide go node m x node.realizations rs i total) (drop_of_length-le node.realizations past) h in
     (sym all.value, branches_last p n U j k decide go node m x node.realizations i total some all)
+
+-- the end of the loop through branches, by the weights that code reads
+pub branches_ended : (p : Sealed) (n U j k : ℕ) (decide : Deciding) (go : List ℤ → ℕ → ℕ → Result Walked Stop) (m : ℕ) (x : List ℤ) (own : nodes.Node) (ws : List ℕ) (i : ℕ) (total : Walked) → Seen p m own → ws ≡ own.weights → length ws ≤ i
+    → BranchesGo p n U j k decide go (node_at (problem_of p) m) m x (node_at (problem_of p) m).realizations (drop i (node_at (problem_of p) m).realizations) i total
+    → (branch_costs decide go (node_at (problem_of p) m) m (no_cost k) 0 (node_at (problem_of p) m).realizations x ≡ Ok total) × IsCost p n U (realization_weight (node_at (problem_of p) m)) (k + length (node_at (problem_of p) m).realizations * j) total
+branches_ended p n U j k decide go m x own ws i total q weights past h =
+    let long : length (node_at (problem_of p) m).realizations ≡ length own.weights = ap (λ (rs : List Realization). length rs) q.realizations ∙ length-realizations_of own.weights own.values q.valued in
+    let read : length ws ≡ length own.weights = ap (λ (ks : List ℕ). length ks) weights in
+    branches_end p n U j k decide go (node_at (problem_of p) m) m x i total (omega (arith, past, read, q.some)) (omega (arith, past, read, long)) h

@@ -24,6 +24,15 @@ use hp_sampler::Step;
 use hp_solver::Solver;
 use std::alloc::Global;
 
+/// What a walk goes by: the problem, its pools, and the solver with what it made ready.
+#[derive(Drop)]
+pub(crate) struct Course<'a, V: Solver> {
+    pub(crate) problem: &'a Problem,
+    pub(crate) pools: &'a Pools,
+    pub(crate) solver: &'a V,
+    pub(crate) starts: &'a Starts<V>,
+}
+
 /// The number of rows of a node.
 fn row_count(problem: &Problem, node: u32) -> u32
     requires { node < length problem.now.raw.nodes }
@@ -83,29 +92,35 @@ fn unless_missed(
 #[tactic(auto, unfolding(crate::specs::PolicyTree::decide_branch))]
 pub(crate) fn decide_branch<V: Solver>(
     alloc: Global,
-    problem: &Problem,
-    pools: &Pools,
-    solver: &V,
-    starts: &Starts<V>,
+    course: &Course<V>,
     run: u32,
     step: Step,
     values: &[i64],
     state: &[i128],
 ) -> Result<Decided, Fault>
-    requires known { step.node < length problem.now.raw.nodes }
-    requires values { are_values (subproblem_of problem.now step.node) values.now ≡ true }
-    requires state { IsStateAt problem.now step.node state.now }
-    requires fit { Fit (problem_of problem.now) (length problem.now.raw.nodes) pools.now.lists }
-    requires ready { AreReady (V.started solver.now) (V.suits solver.now) problem.now starts.now.items }
-    ensures value { GivesWalk result (decide_branch (solving (V.started solver.now) (V.begun solver.now) (V.next solver.now)) problem.now pools.now.lists run step values.now state.now) }
-    ensures inside { let n = node_at (problem_of problem.now) step.node in
+    requires known { step.node < length course.now.problem.now.raw.nodes }
+    requires values { are_values (subproblem_of course.now.problem.now step.node) values.now ≡ true }
+    requires state { IsStateAt course.now.problem.now step.node state.now }
+    requires fit { Fit (problem_of course.now.problem.now) (length course.now.problem.now.raw.nodes) course.now.pools.now.lists }
+    requires ready { AreReady (V.started course.now.solver.now) (V.suits course.now.solver.now) course.now.problem.now course.now.starts.now.items }
+    ensures value { GivesWalk result (decide_branch (solving (V.started course.now.solver.now) (V.begun course.now.solver.now) (V.next course.now.solver.now)) course.now.problem.now course.now.pools.now.lists run step values.now state.now) }
+    ensures inside { let n = node_at (problem_of course.now.problem.now) step.node in
         IfOk result (λ d. InBox S n.decision_low n.decision_high d.decisions) }
-    ensures next { IfOk result (λ d. (m : ℕ) → Contains (successors_at problem.now.raw step.node) m
-        → IsStateAt problem.now m d.next) }
-    ensures dead { OnDead result (Refutes problem.now) }
+    ensures next { IfOk result (λ d. (m : ℕ) → Contains (successors_at course.now.problem.now.raw step.node) m
+        → IsStateAt course.now.problem.now m d.next) }
+    ensures dead { OnDead result (Refutes course.now.problem.now) }
 {
+    let problem = course.problem;
     let decided = decide(
-        alloc, problem, pools, solver, starts, run, step.node, values, state,
+        alloc,
+        problem,
+        course.pools,
+        course.solver,
+        course.starts,
+        run,
+        step.node,
+        values,
+        state,
     )?;
     let missed = first_missed(
         problem,

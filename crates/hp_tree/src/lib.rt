@@ -13,6 +13,7 @@ mod report;
 mod stage_sizes;
 mod table_sums;
 mod tree;
+mod tree_numbers;
 mod verdict;
 mod walking;
 pub mod worked;

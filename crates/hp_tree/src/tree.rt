@@ -24,14 +24,12 @@ ghost use Rattle.hp_tree.specs.Small.{IsCost, IsSmall, link_branches, link_denom
 ghost use Rattle.hp_tree.specs.TooBig.{branches, denominator};
 ghost use Rattle.hp_tree.specs.Verdicts.{GivesWalk, OnDead};
 
-use crate::branches::decide_branch;
+use crate::branches::{Course, decide_branch};
 use crate::costs::{Walked, add_branch, add_cost, add_stage, no_cost, share};
 use crate::walking::{Fault, Missed};
-use hp_cut::Pools;
 use hp_forward::stage_cost;
-use hp_lp::Starts;
 use hp_num::List;
-use hp_problem::{Problem, total};
+use hp_problem::total;
 use hp_sampler::Step;
 use hp_solver::Solver;
 use std::alloc::Global;
@@ -61,43 +59,30 @@ fn behind(step: Step, walked: Result<Walked, Fault>) -> Result<Walked, Fault>
 #[cycle(walk)]
 pub(crate) fn link_costs<V: Solver>(
     alloc: Global,
-    problem: &Problem,
-    pools: &Pools,
-    solver: &V,
-    starts: &Starts<V>,
+    course: &Course<V>,
     stages: u32,
     decided: u32,
     links: &[u32],
     weights: &[u32],
     state: &[i128],
 ) -> Result<Walked, Fault>
-    requires known { list_all (λ m. nat_lt m (length problem.now.raw.nodes)) links.now ≡ true }
+    requires known { list_all (λ m. nat_lt m (length course.now.problem.now.raw.nodes)) links.now ≡ true }
     requires counted { length weights.now ≡ length links.now }
-    requires state { (m : ℕ) → Contains links.now m → IsStateAt problem.now m state.now }
-    requires fit { Fit (problem_of problem.now) (length problem.now.raw.nodes) pools.now.lists }
-    requires ready { AreReady (V.started solver.now) (V.suits solver.now) problem.now starts.now.items }
+    requires state { (m : ℕ) → Contains links.now m → IsStateAt course.now.problem.now m state.now }
+    requires fit { Fit (problem_of course.now.problem.now) (length course.now.problem.now.raw.nodes) course.now.pools.now.lists }
+    requires ready { AreReady (V.started course.now.solver.now) (V.suits course.now.solver.now) course.now.problem.now course.now.starts.now.items }
     requires small { let ls = links_of links.now weights.now in
-        IsSmall problem.now stages (link_denominator problem.now stages ls) (sum (link_weights ls)) decided (link_branches problem.now stages ls) }
+        IsSmall course.now.problem.now stages (link_denominator course.now.problem.now stages ls) (sum (link_weights ls)) decided (link_branches course.now.problem.now stages ls) }
     ensures value { let ls = links_of links.now weights.now in
-        GivesWalk result (link_costs (tree_cost (decide_branch (solving (V.started solver.now) (V.begun solver.now) (V.next solver.now)) problem.now pools.now.lists) (problem_of problem.now) stages state.now) (no_cost decided) ls) }
+        GivesWalk result (link_costs (tree_cost (decide_branch (solving (V.started course.now.solver.now) (V.begun course.now.solver.now) (V.next course.now.solver.now)) course.now.problem.now course.now.pools.now.lists) (problem_of course.now.problem.now) stages state.now) (no_cost decided) ls) }
     ensures cost { let ls = links_of links.now weights.now in
-        IfOk result (IsCost problem.now stages (link_denominator problem.now stages ls) (sum (link_weights ls)) (decided + link_branches problem.now stages ls)) }
-    ensures dead { OnDead result (Refutes problem.now) }
+        IfOk result (IsCost course.now.problem.now stages (link_denominator course.now.problem.now stages ls) (sum (link_weights ls)) (decided + link_branches course.now.problem.now stages ls)) }
+    ensures dead { OnDead result (Refutes course.now.problem.now) }
 {
-    let _ = problem.raw();
+    let _ = course.problem.raw();
     let mut sum = no_cost(decided);
     for i in 0..links.len() {
-        let cost = tree_cost(
-            alloc,
-            problem,
-            pools,
-            solver,
-            starts,
-            stages,
-            links[i],
-            sum.decided,
-            state,
-        )?;
+        let cost = tree_cost(alloc, course, stages, links[i], sum.decided, state)?;
         sum = add_cost(sum, weights[i], cost);
     }
     Ok(sum)
@@ -107,43 +92,36 @@ pub(crate) fn link_costs<V: Solver>(
 #[cycle(walk)]
 fn branch_cost<V: Solver>(
     alloc: Global,
-    problem: &Problem,
-    pools: &Pools,
-    solver: &V,
-    starts: &Starts<V>,
+    course: &Course<V>,
     stages: u32,
     decided: u32,
     step: Step,
     values: &[i64],
     state: &[i128],
 ) -> Result<Walked, Fault>
-    requires known { step.node < length problem.now.raw.nodes }
-    requires values { are_values (subproblem_of problem.now step.node) values.now ≡ true }
-    requires stage { (u : List ℤ) → InBox S (node_at (problem_of problem.now) step.node).decision_low (node_at (problem_of problem.now) step.node).decision_high u
-        → nat_abs (stage_cost_of (node_at (problem_of problem.now) step.node) u state.now values.now) ≤ most_cost problem.now 1 }
-    requires state { IsStateAt problem.now step.node state.now }
-    requires fit { Fit (problem_of problem.now) (length problem.now.raw.nodes) pools.now.lists }
-    requires ready { AreReady (V.started solver.now) (V.suits solver.now) problem.now starts.now.items }
-    requires small { let n = node_at (problem_of problem.now) step.node in
-        IsSmall problem.now (suc stages) (successor_weight n * link_denominator problem.now stages n.links) 1 decided (1 + link_branches problem.now stages n.links) }
-    ensures value { let n = node_at (problem_of problem.now) step.node in
-        let decide = decide_branch (solving (V.started solver.now) (V.begun solver.now) (V.next solver.now)) problem.now pools.now.lists in
-        GivesWalk result (branch_cost decide (tree_cost decide (problem_of problem.now) stages) n decided step values.now state.now) }
-    ensures cost { let n = node_at (problem_of problem.now) step.node in
-        IfOk result (IsCost problem.now (suc stages) (successor_weight n * link_denominator problem.now stages n.links) 1 (decided + (1 + link_branches problem.now stages n.links))) }
-    ensures dead { OnDead result (Refutes problem.now) }
+    requires known { step.node < length course.now.problem.now.raw.nodes }
+    requires values { are_values (subproblem_of course.now.problem.now step.node) values.now ≡ true }
+    requires stage { (u : List ℤ) → InBox S (node_at (problem_of course.now.problem.now) step.node).decision_low (node_at (problem_of course.now.problem.now) step.node).decision_high u
+        → nat_abs (stage_cost_of (node_at (problem_of course.now.problem.now) step.node) u state.now values.now) ≤ most_cost course.now.problem.now 1 }
+    requires state { IsStateAt course.now.problem.now step.node state.now }
+    requires fit { Fit (problem_of course.now.problem.now) (length course.now.problem.now.raw.nodes) course.now.pools.now.lists }
+    requires ready { AreReady (V.started course.now.solver.now) (V.suits course.now.solver.now) course.now.problem.now course.now.starts.now.items }
+    requires small { let n = node_at (problem_of course.now.problem.now) step.node in
+        IsSmall course.now.problem.now (suc stages) (successor_weight n * link_denominator course.now.problem.now stages n.links) 1 decided (1 + link_branches course.now.problem.now stages n.links) }
+    ensures value { let n = node_at (problem_of course.now.problem.now) step.node in
+        let decide = decide_branch (solving (V.started course.now.solver.now) (V.begun course.now.solver.now) (V.next course.now.solver.now)) course.now.problem.now course.now.pools.now.lists in
+        GivesWalk result (branch_cost decide (tree_cost decide (problem_of course.now.problem.now) stages) n decided step values.now state.now) }
+    ensures cost { let n = node_at (problem_of course.now.problem.now) step.node in
+        IfOk result (IsCost course.now.problem.now (suc stages) (successor_weight n * link_denominator course.now.problem.now stages n.links) 1 (decided + (1 + link_branches course.now.problem.now stages n.links))) }
+    ensures dead { OnDead result (Refutes course.now.problem.now) }
 {
-    let _ = problem.raw();
-    let found = decide_branch(
-        alloc, problem, pools, solver, starts, decided, step, values, state,
-    )?;
+    let _ = course.problem.raw();
+    let found = decide_branch(alloc, course, decided, step, values, state)?;
+    let problem = course.problem;
     let node = problem.node(step.node);
     let costs = link_costs(
         alloc,
-        problem,
-        pools,
-        solver,
-        starts,
+        course,
         stages,
         decided + 1,
         node.links.as_slice(),
@@ -160,39 +138,34 @@ fn branch_cost<V: Solver>(
 #[cycle(walk)]
 fn branch_costs<V: Solver>(
     alloc: Global,
-    problem: &Problem,
-    pools: &Pools,
-    solver: &V,
-    starts: &Starts<V>,
+    course: &Course<V>,
     stages: u32,
     decided: u32,
     node: u32,
     state: &[i128],
 ) -> Result<Walked, Fault>
-    requires known { node < length problem.now.raw.nodes }
-    requires state { IsStateAt problem.now node state.now }
-    requires fit { Fit (problem_of problem.now) (length problem.now.raw.nodes) pools.now.lists }
-    requires ready { AreReady (V.started solver.now) (V.suits solver.now) problem.now starts.now.items }
-    requires small { let n = node_at (problem_of problem.now) node in
-        IsSmall problem.now (suc stages) (successor_weight n * link_denominator problem.now stages n.links) (realization_weight n) decided (length n.realizations * (1 + link_branches problem.now stages n.links)) }
-    ensures value { let n = node_at (problem_of problem.now) node in
-        let decide = decide_branch (solving (V.started solver.now) (V.begun solver.now) (V.next solver.now)) problem.now pools.now.lists in
-        GivesWalk result (branch_costs decide (tree_cost decide (problem_of problem.now) stages) n node (no_cost decided) 0 n.realizations state.now) }
-    ensures cost { let n = node_at (problem_of problem.now) node in
-        IfOk result (IsCost problem.now (suc stages) (successor_weight n * link_denominator problem.now stages n.links) (realization_weight n) (decided + length n.realizations * (1 + link_branches problem.now stages n.links))) }
-    ensures dead { OnDead result (Refutes problem.now) }
+    requires known { node < length course.now.problem.now.raw.nodes }
+    requires state { IsStateAt course.now.problem.now node state.now }
+    requires fit { Fit (problem_of course.now.problem.now) (length course.now.problem.now.raw.nodes) course.now.pools.now.lists }
+    requires ready { AreReady (V.started course.now.solver.now) (V.suits course.now.solver.now) course.now.problem.now course.now.starts.now.items }
+    requires small { let n = node_at (problem_of course.now.problem.now) node in
+        IsSmall course.now.problem.now (suc stages) (successor_weight n * link_denominator course.now.problem.now stages n.links) (realization_weight n) decided (length n.realizations * (1 + link_branches course.now.problem.now stages n.links)) }
+    ensures value { let n = node_at (problem_of course.now.problem.now) node in
+        let decide = decide_branch (solving (V.started course.now.solver.now) (V.begun course.now.solver.now) (V.next course.now.solver.now)) course.now.problem.now course.now.pools.now.lists in
+        GivesWalk result (branch_costs decide (tree_cost decide (problem_of course.now.problem.now) stages) n node (no_cost decided) 0 n.realizations state.now) }
+    ensures cost { let n = node_at (problem_of course.now.problem.now) node in
+        IfOk result (IsCost course.now.problem.now (suc stages) (successor_weight n * link_denominator course.now.problem.now stages n.links) (realization_weight n) (decided + length n.realizations * (1 + link_branches course.now.problem.now stages n.links))) }
+    ensures dead { OnDead result (Refutes course.now.problem.now) }
 {
-    let _ = problem.raw();
+    let _ = course.problem.raw();
+    let problem = course.problem;
     let weights = problem.node(node).weights.as_slice();
     let values = problem.node(node).values.as_slice();
     let mut sum = no_cost(decided);
     for realization in 0..weights.len() as u32 {
         let cost = branch_cost(
             alloc,
-            problem,
-            pools,
-            solver,
-            starts,
+            course,
             stages,
             sum.decided,
             Step { node, realization },
@@ -208,38 +181,25 @@ fn branch_costs<V: Solver>(
 #[cycle(walk)]
 fn tree_cost<V: Solver>(
     alloc: Global,
-    problem: &Problem,
-    pools: &Pools,
-    solver: &V,
-    starts: &Starts<V>,
+    course: &Course<V>,
     stages: u32,
     node: u32,
     decided: u32,
     state: &[i128],
 ) -> Result<Walked, Fault>
-    requires known { node < length problem.now.raw.nodes }
-    requires state { IsStateAt problem.now node state.now }
-    requires fit { Fit (problem_of problem.now) (length problem.now.raw.nodes) pools.now.lists }
-    requires ready { AreReady (V.started solver.now) (V.suits solver.now) problem.now starts.now.items }
-    requires small { IsSmall problem.now stages (denominator (problem_of problem.now) stages node) 1 decided (branches (problem_of problem.now) stages node) }
-    ensures value { GivesWalk result (tree_cost (decide_branch (solving (V.started solver.now) (V.begun solver.now) (V.next solver.now)) problem.now pools.now.lists) (problem_of problem.now) stages state.now decided node) }
-    ensures cost { IfOk result (IsCost problem.now stages (denominator (problem_of problem.now) stages node) 1 (decided + branches (problem_of problem.now) stages node)) }
-    ensures dead { OnDead result (Refutes problem.now) }
+    requires known { node < length course.now.problem.now.raw.nodes }
+    requires state { IsStateAt course.now.problem.now node state.now }
+    requires fit { Fit (problem_of course.now.problem.now) (length course.now.problem.now.raw.nodes) course.now.pools.now.lists }
+    requires ready { AreReady (V.started course.now.solver.now) (V.suits course.now.solver.now) course.now.problem.now course.now.starts.now.items }
+    requires small { IsSmall course.now.problem.now stages (denominator (problem_of course.now.problem.now) stages node) 1 decided (branches (problem_of course.now.problem.now) stages node) }
+    ensures value { GivesWalk result (tree_cost (decide_branch (solving (V.started course.now.solver.now) (V.begun course.now.solver.now) (V.next course.now.solver.now)) course.now.problem.now course.now.pools.now.lists) (problem_of course.now.problem.now) stages state.now decided node) }
+    ensures cost { IfOk result (IsCost course.now.problem.now stages (denominator (problem_of course.now.problem.now) stages node) 1 (decided + branches (problem_of course.now.problem.now) stages node)) }
+    ensures dead { OnDead result (Refutes course.now.problem.now) }
 {
-    let _ = problem.raw();
+    let _ = course.problem.raw();
     if stages == 0 {
         return Ok(no_cost(decided));
     }
-    let sum = branch_costs(
-        alloc,
-        problem,
-        pools,
-        solver,
-        starts,
-        stages - 1,
-        decided,
-        node,
-        state,
-    )?;
-    Ok(share(total(problem.node(node).weights.as_slice()), sum))
+    let sum = branch_costs(alloc, course, stages - 1, decided, node, state)?;
+    Ok(share(total(course.problem.node(node).weights.as_slice()), sum))
 }

@@ -17,6 +17,7 @@ ghost use Rattle.hp_tree.specs.Upper.{IsUpper, ceiling_over};
 ghost use Rattle.hp_tree.specs.Verdicts.{GivesWalk, OnCost, OnDead, rounded};
 ghost use Rattle.hp_tree.specs.declared.costs.Walked.{Walked};
 
+use crate::branches::Course;
 use crate::costs::{Walked, share};
 use crate::tree::link_costs;
 use crate::walking::{Fault, Verdict};
@@ -113,12 +114,15 @@ fn whole_cost<V: Solver>(
 {
     let raw = problem.raw();
     let state = initial_state(alloc, problem)?;
-    let sum = link_costs(
-        alloc,
+    let course = Course {
         problem,
         pools,
         solver,
         starts,
+    };
+    let sum = link_costs(
+        alloc,
+        &course,
         problem.longest(),
         0,
         raw.root.as_slice(),

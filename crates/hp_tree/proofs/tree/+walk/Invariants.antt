@@ -22,11 +22,11 @@ abbrev pub decreases-branch_costs : goal.decreases-branch_costs
 decreases-branch_costs g l = 4 * l.stages + 3
 
 abbrev pub invariant-link_costs-loop-i : goal.invariant-link_costs-loop-i
-invariant-link_costs-loop-i g l = LinksGo l.problem l.fn.stages l.fn.decided (tree_cost (decide_branch (solving (g.V.Solver.started l.solver) (g.V.Solver.begun l.solver) (g.V.Solver.next l.solver)) l.problem l.pools.lists) (problem_of l.problem) l.fn.stages l.state) (links_of l.links l.weights) (drop l.i (links_of l.links l.weights)) l.sum
+invariant-link_costs-loop-i g l = LinksGo l.course.problem.now l.fn.stages l.fn.decided (tree_cost (decide_branch (solving (g.V.Solver.started l.course.solver.now) (g.V.Solver.begun l.course.solver.now) (g.V.Solver.next l.course.solver.now)) l.course.problem.now l.course.pools.now.lists) (problem_of l.course.problem.now) l.fn.stages l.state) (links_of l.links l.weights) (drop l.i (links_of l.links l.weights)) l.sum
 
 abbrev pub invariant-branch_costs-loop-realization : goal.invariant-branch_costs-loop-realization
 invariant-branch_costs-loop-realization g l =
-    let p = l.problem in
+    let p = l.course.problem.now in
     let n = node_at (problem_of p) l.fn.node in
-    let decide = decide_branch (solving (g.V.Solver.started l.solver) (g.V.Solver.begun l.solver) (g.V.Solver.next l.solver)) p l.pools.lists in
+    let decide = decide_branch (solving (g.V.Solver.started l.course.solver.now) (g.V.Solver.begun l.course.solver.now) (g.V.Solver.next l.course.solver.now)) p l.course.pools.now.lists in
     BranchesGo p (suc l.fn.stages) (successor_weight n * link_denominator p l.fn.stages n.links) (1 + link_branches p l.fn.stages n.links) l.fn.decided decide (tree_cost decide (problem_of p) l.fn.stages) n l.fn.node l.state n.realizations (drop l.realization n.realizations) l.realization l.sum

@@ -2,7 +2,7 @@ use Rattle.std.proofs.Common.{◌≡◌, ◌∙◌, ℕ, ◌+◌, ◌*◌, min, 
 use Rattle.hp_paths.specs.Paths.{are_known}
 use Rattle.hp_tree.proofs.Seen.{seen}
 use Rattle.hp_tree.proofs.Standing.{branches_stand}
-use Rattle.hp_tree.proofs.branch_counts.node_branches.Goals as goal
+use Rattle.hp_tree.proofs.branch_counts.BranchCountTreeNumber.at_node.Goals as goal
 
 pub sum_at-behind-requires : goal.sum_at-behind-requires
 sum_at-behind-requires c =

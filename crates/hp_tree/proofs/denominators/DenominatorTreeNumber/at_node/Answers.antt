@@ -7,7 +7,7 @@ use Rattle.hp_tree.specs.Multiples.{lcm_all}
 use Rattle.hp_tree.proofs.Ordered.{led_there}
 use Rattle.hp_tree.proofs.Seen.{links_there, seen}
 use Rattle.hp_tree.proofs.Standing.{denominators_stand, stands_some}
-use Rattle.hp_tree.proofs.denominators.node_denominator.Goals as goal
+use Rattle.hp_tree.proofs.denominators.DenominatorTreeNumber.at_node.Goals as goal
 
 pub multiple_at-common-requires-clause-known : goal.multiple_at-common-requires-clause-known
 multiple_at-common-requires-clause-known c =

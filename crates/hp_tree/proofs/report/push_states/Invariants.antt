@@ -1,7 +1,0 @@
-use Rattle.std.proofs.Common.{◌≡◌, ◌++◌, drop}
-use Rattle.hp_report.specs.Lines.{numbered}
-use Rattle.hp_report.specs.Report.{state_line}
-use Rattle.hp_tree.proofs.report.push_states.Given as goal
-
-abbrev pub invariant-loop-i : goal.invariant-loop-i
-invariant-loop-i l = l.out.items ++ numbered state_line l.i (drop l.i l.state-items) ≡ l.initial.out.items ++ numbered state_line 0 l.state-items

@@ -1,0 +1,44 @@
+// Tables with a number of each node's trees, which is made of those of its successors.
+ghost use Rattle.std.specs.Prelude.{◌≡◌, ℕ, ◌<◌, Contains, IfOk, get_or, length};
+ghost use Rattle.hp_problem.specs.Parts.{successors_at};
+ghost use Rattle.hp_problem.specs.Sealed.{Sealed};
+ghost use Rattle.hp_tree.specs.Tables.{IsTable, Stands};
+
+use crate::table_sums::zeros;
+use hp_num::{List, Memory};
+use hp_problem::Problem;
+use std::alloc::Global;
+
+/// A number of each node's trees.
+pub(crate) trait TreeNumber {
+    /// That of the trees of a node, of at most so many stages.
+    ghost number_of: { Self → Sealed → ℕ → ℕ → ℕ };
+
+    /// That of a node, from those of its successors in a table, and the cap where it is above that.
+    fn at_node(&self, problem: &Problem, table: &[u64], node: u32, cap: u64) -> u64
+        requires known { node < length problem.now.raw.nodes }
+        requires counted { length table.now ≡ length problem.now.raw.nodes }
+        requires cap { 0 < cap }
+        requires behind { (m : ℕ) → Contains (successors_at problem.now.raw node) m
+            → Stands problem.now (number_of self.now problem.now) cap m (get_or table.now m 0) }
+        ensures { Stands problem.now (number_of self.now problem.now) cap node result };
+}
+
+/// The number of each node's trees, one per node, and the cap where it is above that.
+pub(crate) fn tree_table<N: TreeNumber>(
+    alloc: Global,
+    problem: &Problem,
+    number: &N,
+    cap: u64,
+) -> Result<List<u64>, Memory>
+    requires { 0 < cap }
+    ensures { IfOk result (IsTable problem.now (N.number_of number.now problem.now) cap) }
+{
+    let order = problem.order();
+    let mut table = zeros(alloc, problem.raw().nodes.len())?;
+    for node in order {
+        let value = number.at_node(problem, table.as_slice(), *node, cap);
+        table.set(*node as usize, value);
+    }
+    Ok(table)
+}
