@@ -5,6 +5,7 @@ pub mod Growing
 pub mod Forwards
 pub mod Placed
 pub mod Grows
+pub mod OneMore
 pub mod Opened
 pub mod Bodies
 pub mod Written

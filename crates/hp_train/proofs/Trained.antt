@@ -12,7 +12,7 @@ use Rattle.hp_journal.specs.Mine.{GrownFrom}
 use Rattle.hp_journal.proofs.Told.{told, known, mapped}
 use Rattle.hp_load.specs.Load.{Outcome}
 use Rattle.hp_lp.specs.Chained.{Solving}
-use Rattle.hp_train.specs.Continuing.{continued}
+use Rattle.hp_train.specs.Continuing.{Continued, continued}
 use Rattle.hp_train.specs.Iterating.{EndsShut, behind}
 use Rattle.hp_train.specs.Training.{GoOnWith, MineFrom, StandsIn, WhenWhole, grown_journal, iterations, last_gate, loaded_front, opened, title_of}
 use Rattle.hp_train.specs.declared.fault.TrainFault.{TrainFault}
@@ -20,7 +20,7 @@ use Rattle.hp_train.specs.declared.fault.TrainFault.TheVariants as faults
 use Rattle.hp_train.proofs.Opened.{behind_front, front_ends, front_length, front_stands, grown_mine}
 
 -- the iterations behind what was loaded, once the end is ready
-pub same_iterations : {Start Chain : Type 0} (v : Solving Start Chain) (p : Sealed) (seed count : ℕ) (o m : Outcome) (left : ℕ) → m ≡ opened o → left ≡ count - length m.bounds → continued v p m.pools seed m.batch (length m.bounds) left ≡ iterations v p seed count o
+same_iterations : {Start Chain : Type 0} (v : Solving Start Chain) (p : Sealed) (seed count : ℕ) (o m : Outcome) (left : ℕ) → m ≡ opened o → left ≡ count - length m.bounds → continued v p m.pools seed m.batch (length m.bounds) left ≡ iterations v p seed count o
 same_iterations v p seed count o m left is so = subst (λ (x : Outcome). left ≡ count - length x.bounds → continued v p x.pools seed x.batch (length x.bounds) left ≡ iterations v p seed count o) (sym is) (λ h. ap (λ (n : ℕ). continued v p o.pools seed o.batch (length o.bounds) n) h) so
 
 pub when_also : {A : Type 0} (r : Result A TrainFault) (P Q : Type 0) → WhenWhole r P → (P → Q) → WhenWhole r Q
@@ -52,13 +52,13 @@ module _ (digest : List ℕ) (seed : ℕ) (o : Outcome) (title : IsTitle (title_
       (some_map r ready (EndsShut (last_gate o)) (told r (λ bytes there. front_ends digest seed o bytes (long r shut bytes there)))))
 
   -- the records behind it
-  pub ready_grows : (r now : Option (List ℕ)) (end : ℕ) (lists : List (List Entry)) → (o.born ≡ true → IfSome r (IsShutAt o.end)) → now ≡ option_map ready r → end ≡ last_gate o → option_map (behind end lists) now ≡ option_map (λ b. grown_journal digest seed o b lists) r
+  ready_grows : (r now : Option (List ℕ)) (end : ℕ) (lists : List (List Entry)) → (o.born ≡ true → IfSome r (IsShutAt o.end)) → now ≡ option_map ready r → end ≡ last_gate o → option_map (behind end lists) now ≡ option_map (λ b. grown_journal digest seed o b lists) r
   ready_grows r now end lists shut reads is =
       ap (λ (x : Option (List ℕ)). option_map (behind end lists) x) reads ∙ ap (λ (n : ℕ). option_map (behind n lists) (option_map ready r)) is
       ∙ map_map r ready (behind (last_gate o) lists) (λ b. grown_journal digest seed o b lists) (told r (λ bytes there. behind_front digest seed o bytes lists (long r shut bytes there)))
 
   -- what a crash leaves
-  pub all_moments : (old mid new : Store) (lists : List (List Entry)) → mid.reads ≡ option_map ready old.reads
+  all_moments : (old mid new : Store) (lists : List (List Entry)) → mid.reads ≡ option_map ready old.reads
       → IfSome old.reads (λ bytes. (ps : List (List ℕ)) (j : ℕ) → StandsIn (title_of digest seed o) o ps j bytes → LeavesOnly old mid (MineFrom (title_of digest seed o) ps j))
       → IfSome mid.reads (λ bytes. (t : Title) (ps : List (List ℕ)) (j : ℕ) → bytes ≡ journal t (take j ps) 0 [] → GoOnWith j ps lists → LeavesOnly mid new (GrownFrom t ps j))
       → IfSome old.reads (λ bytes. (ps : List (List ℕ)) (j : ℕ) → StandsIn (title_of digest seed o) o ps j bytes → GoOnWith j ps lists → LeavesOnly old new (MineFrom (title_of digest seed o) ps j))
@@ -75,3 +75,27 @@ pub first_moments : (digest : List ℕ) (seed : ℕ) (o : Outcome) (old mid : St
     → IfSome old.reads (λ bytes. (ps : List (List ℕ)) (j : ℕ) → StandsIn (title_of digest seed o) o ps j bytes → LeavesOnly old mid (MineFrom (title_of digest seed o) ps j))
     → IfSome old.reads (λ bytes. (ps : List (List ℕ)) (j : ℕ) → StandsIn (title_of digest seed o) o ps j bytes → GoOnWith j ps lists → LeavesOnly old mid (MineFrom (title_of digest seed o) ps j))
 first_moments digest seed o old mid lists first = told old.reads (λ bytes there ps j stands goes. known (λ b. (ps : List (List ℕ)) (j : ℕ) → StandsIn (title_of digest seed o) o ps j b → LeavesOnly old mid (MineFrom (title_of digest seed o) ps j)) old.reads bytes there first ps j stands)
+
+-- training, once the end is ready: the iterations behind what was loaded leave the same journal as all of them
+module _ {Start Chain : Type 0} (v : Solving Start Chain) (p : Sealed) (digest : List ℕ) (seed count : ℕ) (o m : Outcome) (left : ℕ) (opens : m ≡ opened o) (rest : left ≡ count - length m.bounds) (title : IsTitle (title_of digest seed o)) (old mid new : Store)
+    (reads : mid.reads ≡ option_map (λ b. loaded_front digest seed o b ++ 0 ∷ []) old.reads) where
+  abbrev going : Continued
+  going = continued v p m.pools seed m.batch (length m.bounds) left
+
+  abbrev lists : List (List Entry)
+  lists = (iterations v p seed count o).lists
+
+  same : going ≡ iterations v p seed count o
+  same = same_iterations v p seed count o m left opens rest
+
+  pub trained_reads : (o.born ≡ true → IfSome old.reads (IsShutAt o.end)) → new.reads ≡ option_map (behind m.end going.lists) mid.reads → new.reads ≡ option_map (λ b. grown_journal digest seed o b lists) old.reads
+  trained_reads shut is =
+      is ∙ ap (λ (x : Continued). option_map (behind m.end x.lists) mid.reads) same
+      ∙ ready_grows digest seed o title old.reads mid.reads m.end lists shut reads (ap (λ (x : Outcome). x.end) opens)
+
+  pub trained_moments : IfSome old.reads (λ bytes. (ps : List (List ℕ)) (j : ℕ) → StandsIn (title_of digest seed o) o ps j bytes → LeavesOnly old mid (MineFrom (title_of digest seed o) ps j))
+      → IfSome mid.reads (λ bytes. (t : Title) (ps : List (List ℕ)) (j : ℕ) → bytes ≡ journal t (take j ps) 0 [] → GoOnWith j ps going.lists → LeavesOnly mid new (GrownFrom t ps j))
+      → IfSome old.reads (λ bytes. (ps : List (List ℕ)) (j : ℕ) → StandsIn (title_of digest seed o) o ps j bytes → GoOnWith j ps lists → LeavesOnly old new (MineFrom (title_of digest seed o) ps j))
+  trained_moments first then =
+      all_moments digest seed o title old mid new lists reads first
+      (subst (λ (x : Continued). IfSome mid.reads (λ bytes. (t : Title) (ps : List (List ℕ)) (j : ℕ) → bytes ≡ journal t (take j ps) 0 [] → GoOnWith j ps x.lists → LeavesOnly mid new (GrownFrom t ps j))) same then)
