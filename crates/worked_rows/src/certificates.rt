@@ -3,7 +3,6 @@ ghost use Rattle.std.specs.Prelude.{◌≤◌, length, sum, All};
 ghost use Rattle.hp_theory.specs.Fit.{Fit};
 ghost use Rattle.hp_theory.specs.View.{problem_of};
 
-use crate::fault::RowFault;
 use hp_cut::{Certificate, Cut, Pools};
 use hp_dual::{CertFault, accept, accept_into, accept_with, base, make_into, make_with};
 use hp_num::List;
@@ -11,6 +10,7 @@ use hp_problem::Problem;
 use hp_sof::read_problem;
 use serde_json::Value;
 use std::alloc::Global;
+use worked_faults::RowFault;
 
 /// The whole numbers of an array.
 fn multipliers(alloc: Global, value: &Value) -> Result<List<i64>, RowFault> {

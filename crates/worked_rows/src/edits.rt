@@ -1,6 +1,6 @@
 // Texts that differ from another in some places.
-use crate::fault::RowFault;
 use std::alloc::Global;
+use worked_faults::RowFault;
 
 /// The text, with its first `<UNIT*TIMES>` written out.
 fn repeated(alloc: Global, text: &str) -> Result<String, RowFault> {

@@ -1,8 +1,8 @@
 // The formulas that bound what a problem's training and simulation take.
-use crate::fault::RowFault;
 use hp_problem::{Problem, TooMuch};
 use hp_sof::read_problem;
 use std::alloc::Global;
+use worked_faults::RowFault;
 
 fn number(text: &str) -> Result<u32, RowFault> {
     text.parse::<u32>().map_err(|_| RowFault::Form)

@@ -1,9 +1,9 @@
 // What the check of a journal writes.
-use crate::fault::RowFault;
 use crate::reports::{Devices, report_over};
 use hp_outside::MemDisk;
 use std::alloc::Global;
 use std::thread::Threads;
+use worked_faults::RowFault;
 
 /// A journal that is checked.
 #[derive(Clone, Copy)]

@@ -5,7 +5,6 @@
 
 mod certificates;
 mod edits;
-mod fault;
 mod formulas;
 mod journals;
 mod parts;

@@ -1,9 +1,9 @@
 // The parts of a problem, written out.
-use crate::fault::RowFault;
 use hp_problem::{Moment, Node, Problem, Raw, Row, Subproblem};
 use hp_sof::read_problem;
 use std::alloc::{AllocError, Global};
 use std::fmt::Write;
+use worked_faults::RowFault;
 
 fn push_rows(text: &mut String, rows: &[Row]) -> Result<(), AllocError> {
     for row in rows {

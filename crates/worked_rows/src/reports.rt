@@ -1,9 +1,9 @@
 // What the program writes of a problem.
-use crate::fault::RowFault;
 use hp_outside::{Disk, FaultlessDisk, FaultlessSink, FaultlessSource, MemSink, MemSource};
 use hp_run::{number, run, run_safe, status_line};
 use std::alloc::Global;
 use std::thread::Threads;
+use worked_faults::RowFault;
 
 const ROOM: usize = 1 << 20;
 

@@ -1,5 +1,4 @@
 // One row.
-use crate::fault::RowFault;
 use crate::parts::parts;
 use crate::reports::{FAULTLESS, report, safe};
 use crate::tables::{Question, compared};
@@ -7,6 +6,7 @@ use std::alloc::{AllocError, Global};
 use std::fs;
 use std::rt::Files;
 use std::thread::Threads;
+use worked_faults::RowFault;
 
 /// A line of the index.
 #[derive(Clone, Copy)]

@@ -1,13 +1,13 @@
 // Tables of one problem: what comes of each line.
 use crate::certificates::cut_or_fault;
 use crate::edits::edited;
-use crate::fault::RowFault;
 use crate::formulas::exceeded;
 use crate::journals::{last_line_of_check, whole_check};
 use crate::reports::{interrupted, last_line};
 use std::alloc::{AllocError, Global};
 use std::fmt::Write;
 use std::thread::Threads;
+use worked_faults::RowFault;
 
 /// What the lines of a table ask of their problem.
 #[derive(Clone, Copy, Debug)]

@@ -5,7 +5,6 @@ ghost use Rattle.hp_theory.specs.Fit.{Fit};
 ghost use Rattle.hp_theory.specs.Pools.{pool};
 ghost use Rattle.hp_theory.specs.View.{problem_of};
 
-use crate::fault::RowFault;
 use crate::lines::{push_cuts, push_dead, push_entries, push_sums};
 use crate::threaded::Threaded;
 use crate::twice::Twice;
@@ -22,6 +21,7 @@ use hp_warm_simplex::WarmSimplex;
 use std::alloc::Global;
 use std::fmt::Write;
 use std::thread::Threads;
+use worked_faults::RowFault;
 
 /// How the two halves of `Meeting` look for each other: at most so many looks.
 const LOOKS: u64 = 1 << 30;

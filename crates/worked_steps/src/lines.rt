@@ -1,8 +1,8 @@
 // Lines that show entries and cuts.
-use crate::fault::RowFault;
 use hp_cut::{Certificate, Cut, Entry, EntryStep, Pools};
 use hp_settle::Dead;
 use std::fmt::Write;
+use worked_faults::RowFault;
 
 fn push_certificate(text: &mut String, certificate: &Certificate) -> Result<(), RowFault> {
     write!(text, " rows {:?}", certificate.rows.as_slice())?;

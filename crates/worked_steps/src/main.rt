@@ -4,7 +4,6 @@
 //! explains.
 #![tactic(auto)]
 
-mod fault;
 mod iterations;
 mod lines;
 mod rows;

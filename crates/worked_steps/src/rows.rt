@@ -1,5 +1,4 @@
 // One row.
-use crate::fault::RowFault;
 use crate::iterations::{Plan, Told, trained_by};
 use hp_sof::read_problem;
 use std::alloc::Global;
@@ -7,6 +6,7 @@ use std::fs;
 use std::rt::Files;
 use std::str::SplitWhitespace;
 use std::thread::Threads;
+use worked_faults::RowFault;
 
 fn word<'a>(words: &mut SplitWhitespace<'a>) -> Result<&'a str, RowFault> {
     words.next().ok_or(RowFault::Form)

@@ -5,7 +5,6 @@ ghost use Rattle.hp_theory.specs.Fit.{Fit};
 ghost use Rattle.hp_theory.specs.Pools.{pool};
 ghost use Rattle.hp_theory.specs.View.{problem_of};
 
-use crate::fault::RowFault;
 use hp_backward::sweep;
 use hp_cut::Pools;
 use hp_forward::{StageFault, states};
@@ -15,6 +14,7 @@ use hp_sampler::path;
 use hp_solver::Solver;
 use std::alloc::Global;
 use std::thread::Threads;
+use worked_faults::RowFault;
 
 /// No node has more than 2^23 cuts.
 fn has_room(pools: &Pools) -> bool

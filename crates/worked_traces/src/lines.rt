@@ -1,9 +1,9 @@
 // Lines of what stops a simulation.
-use crate::fault::RowFault;
 use hp_problem::TooMuch;
 use hp_settle::Dead;
 use std::alloc::Global;
 use std::fmt::Write;
+use worked_faults::RowFault;
 
 /// A node without decisions, and the multipliers that show it.
 pub fn dead_text(alloc: Global, dead: &Dead) -> Result<String, RowFault> {

@@ -3,7 +3,6 @@
 //! A row is a line of `rows.txt`, which `data/README` explains.
 #![tactic(auto)]
 
-mod fault;
 mod iterations;
 mod lines;
 mod rows;

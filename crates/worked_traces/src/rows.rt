@@ -5,7 +5,6 @@ ghost use Rattle.hp_report.specs.Traces.{AreKnown};
 ghost use Rattle.hp_theory.specs.Fit.{Fit};
 ghost use Rattle.hp_theory.specs.View.{problem_of};
 
-use crate::fault::RowFault;
 use crate::iterations::train;
 use crate::lines::{dead_text, much_text};
 use hp_cut::Pools;
@@ -24,6 +23,7 @@ use std::fs;
 use std::rt::Files;
 use std::str::{SplitWhitespace, from_utf8};
 use std::thread::Threads;
+use worked_faults::RowFault;
 
 /// What is simulated.
 #[derive(Clone, Copy)]

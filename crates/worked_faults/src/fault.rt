@@ -1,8 +1,10 @@
 // Why a row gives no text.
 use hp_backward::SweepFault;
 use hp_dual::BaseFault;
+use hp_forward::StageFault;
 use hp_num::Memory;
 use hp_sof::{ReadRefusal, Refusal};
+use serde_json::Error;
 use std::alloc::{AllocError, AllocFailed};
 use std::io;
 use std::str::Utf8Error;
@@ -14,11 +16,13 @@ pub enum RowFault {
     File,
     /// A line is not in the form of its kind of row, or what was written is no text.
     Form,
+    /// The text that an edit replaces does not stand in the problem.
+    Edit,
     /// The problem is refused.
     Refused(Refusal),
-    /// The size of a node's certificates passes its range.
+    /// The size of a base cut, or of a node's certificates, passes its range.
     Range,
-    /// A node without decisions in training.
+    /// A node without decisions.
     NoStage,
     /// Memory was refused.
     Memory,
@@ -48,6 +52,12 @@ impl From<io::Error> for RowFault {
     }
 }
 
+impl From<Error> for RowFault {
+    fn from(_: Error) -> Self {
+        RowFault::Form
+    }
+}
+
 impl From<Utf8Error> for RowFault {
     fn from(_: Utf8Error) -> Self {
         RowFault::Form
@@ -68,6 +78,15 @@ impl From<BaseFault> for RowFault {
         match fault {
             BaseFault::Range { .. } => RowFault::Range,
             BaseFault::Memory => RowFault::Memory,
+        }
+    }
+}
+
+impl From<StageFault> for RowFault {
+    fn from(fault: StageFault) -> Self {
+        match fault {
+            StageFault::NoStage(_) => RowFault::NoStage,
+            StageFault::Memory => RowFault::Memory,
         }
     }
 }
