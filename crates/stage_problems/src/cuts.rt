@@ -7,7 +7,7 @@ ghost use Rattle.hp_theory.specs.View.{problem_of};
 use crate::answers::answer;
 use crate::fault::PartFault;
 use hp_cut::{Cut, Pools};
-use hp_dual::{accept, make_into};
+use hp_dual::{accept_into, no_slopes};
 use hp_num::{List, Memory};
 use hp_problem::Problem;
 use hp_settle::settle;
@@ -37,16 +37,6 @@ fn certificates(
     Ok(list)
 }
 
-/// A cut of so many slopes, all 0.
-fn flat(alloc: Global, states: usize) -> Result<Cut, Memory>
-    ensures { IfOk result (λ cut. length cut.beta ≡ states) }
-{
-    Ok(Cut {
-        alpha: 0,
-        beta: List::from_vec(vec![in alloc; 0i128; states]?),
-    })
-}
-
 /// The cut of such certificates.
 fn made(
     alloc: Global,
@@ -60,12 +50,9 @@ fn made(
     ensures { IfOk result (CutFits (node_at (problem_of problem.now) node)) }
 {
     let list = certificates(alloc, problem, pools, node, turn)?;
-    let mut cut = flat(alloc, problem.raw().states.len())?;
-    match accept(problem, pools, node, list.as_slice()) {
-        Ok(()) => {
-            make_into(problem, pools, node, list.as_slice(), &mut cut);
-            Ok(cut)
-        }
+    let mut cut = no_slopes(alloc, problem.raw().states.len())?;
+    match accept_into(problem, pools, node, list.as_slice(), &mut cut) {
+        Ok(()) => Ok(cut),
         Err(_) => Err(PartFault::Range),
     }
 }
