@@ -7,5 +7,6 @@ pub mod SettledNode
 pub mod SettledPairs
 pub mod SettledRight
 pub mod SettledSteps
+pub mod ToppedPairs
 pub mod Viewed
 pub mod WorkedRefutation

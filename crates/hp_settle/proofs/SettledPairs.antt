@@ -1,13 +1,14 @@
 -- The pairs of a successor: their places rise, their multipliers are positive and sum to the target.
 use Rattle.std.proofs.Common.{◌≡◌, ◌∙◌, ℕ, zero, suc, ◌+◌, ◌-◌, ◌*◌, ◌<◌, ◌≤◌, min, Bool, true, false, List, [], ◌∷◌, length, get_or, replicate, nat_lt, if◌then◌else◌, All, refl, ap, ap₂, arith}
-use Rattle.std.proofs.lemmas.List.{length-set}
+use Rattle.std.proofs.lemmas.List.{length-set, get_or_past}
 use Rattle.std.proofs.lemmas.List.Elements.{All-nil, All-cons, All-head, All-weaker}
 use Rattle.hp_theory.specs.declared.cut.Cut.{Cut}
 use Rattle.hp_theory.specs.Problem.{S, Link}
 use Rattle.hp_theory.specs.Pools.{pool}
 use Rattle.hp_theory.specs.Certificates.{Rising, multipliers, PairsRight}
 use Rattle.hp_solver.specs.declared.fixed.Fx.{Fx}
-use Rattle.hp_settle.specs.Settling.{cut_multipliers, capped, missing, greatest_from, place_of_greatest, raised, shared, pairs_from, settled_pairs}
+use Rattle.hp_solver.specs.Numbers.{zero_fx}
+use Rattle.hp_settle.specs.Settling.{cut_multiplier, cut_multipliers, capped, missing, greatest_from, place_of_greatest, raised, shared, pairs_from, settled_pairs}
 
 -- lengths
 pub length-cut_multipliers : (duals : List Fx) (k count : ℕ) → length (cut_multipliers duals k count) ≡ count
@@ -66,15 +67,6 @@ total-shared target vs h =
     total-raised (capped target vs) (place_of_greatest (capped target vs)) (missing target vs) (place-inside (capped target vs) (omega (arith, length-capped target vs)))
     ∙ total-capped target vs
 
--- one entry and what is missing are at most the target
-entry_at_most : (vs : List ℕ) (k : ℕ) → get_or vs k 0 ≤ total vs
-entry_at_most [] k = omega arith
-entry_at_most (v ∷ vs) zero = omega arith
-entry_at_most (v ∷ vs) (suc k) = omega (arith, entry_at_most vs k)
-
-pub raised_at_most : (target : ℕ) (vs : List ℕ) (k : ℕ) → get_or (capped target vs) k 0 + missing target vs ≤ target
-raised_at_most target vs k = omega (arith, entry_at_most (capped target vs) k, total-capped target vs)
-
 -- pairs
 abbrev From : ℕ → ℕ × ℕ → Type 0
 From k s = k ≤ s.0
@@ -100,6 +92,11 @@ all_positive k [] = All-nil Positive
 all_positive k (zero ∷ vs) = all_positive (suc k) vs
 all_positive k (suc v ∷ vs) = All-cons Positive (k, suc v) (pairs_from (suc k) vs) (omega arith) (all_positive (suc k) vs)
 
+-- a positive multiplier in front
+pub positive_first : (k v : ℕ) (vs : List ℕ) → 0 < v → pairs_from k (v ∷ vs) ≡ (k, v) ∷ pairs_from (suc k) vs
+positive_first k zero vs h = absurd (omega arith)
+positive_first k (suc v) vs h = refl
+
 rising-cons : (s : ℕ × ℕ) (ss : List (ℕ × ℕ)) → All (From (suc s.0)) ss → Rising ss → Rising (s ∷ ss)
 rising-cons s [] a h = tt
 rising-cons s (n ∷ ss) a h = (All-head (From (suc s.0)) n ss a, h)
@@ -109,7 +106,7 @@ rising k [] = tt
 rising k (zero ∷ vs) = rising (suc k) vs
 rising k (suc v ∷ vs) = rising-cons (k, suc v) (pairs_from (suc k) vs) (all_from (suc k) vs) (rising (suc k) vs)
 
-multipliers-pairs_from : (k : ℕ) (vs : List ℕ) → multipliers (pairs_from k vs) ≡ total vs
+pub multipliers-pairs_from : (k : ℕ) (vs : List ℕ) → multipliers (pairs_from k vs) ≡ total vs
 multipliers-pairs_from k [] = refl
 multipliers-pairs_from k (zero ∷ vs) = omega (arith, multipliers-pairs_from (suc k) vs)
 multipliers-pairs_from k (suc v ∷ vs) = ap (λ n. suc v + n) (multipliers-pairs_from (suc k) vs)
@@ -128,19 +125,21 @@ pairs_right pools l duals h =
       sum = multipliers-pairs_from 0 ws ∙ total-shared (S * l.weight) vs (omega (arith, length-cut_multipliers duals 0 count));
     }
 
--- without duals the first cut takes all
-zero_multipliers : (k count : ℕ) → cut_multipliers [] k count ≡ replicate count 0
-zero_multipliers k zero = refl
-zero_multipliers k (suc count) = ap (λ (vs : List ℕ). 0 ∷ vs) (zero_multipliers (suc k) count)
+-- cuts whose duals are missing
+pub zero_multipliers : (duals : List Fx) (k count : ℕ) → (0 < count → length duals ≤ k) → cut_multipliers duals k count ≡ replicate count 0
+zero_multipliers duals k zero h = refl
+zero_multipliers duals k (suc count) h =
+    let none : get_or duals k zero_fx ≡ zero_fx = get_or_past duals k zero_fx (h (omega arith)) in
+    ap₂ (λ (v : ℕ) (vs : List ℕ). v ∷ vs) (ap (λ (f : Fx). cut_multiplier f.0) none) (zero_multipliers duals (suc k) count (λ i. omega (arith, h (omega arith))))
 
-capped-zeros : (left count : ℕ) → capped left (replicate count 0) ≡ replicate count 0
+pub capped-zeros : (left count : ℕ) → capped left (replicate count 0) ≡ replicate count 0
 capped-zeros left zero = refl
 capped-zeros left (suc count) =
     let same : left - 0 ≡ left = omega arith in
     let none : min 0 left ≡ 0 = omega arith in
     rw (same, none) (ap (λ (vs : List ℕ). 0 ∷ vs) (capped-zeros left count))
 
-missing-zeros : (left count : ℕ) → missing left (replicate count 0) ≡ left
+pub missing-zeros : (left count : ℕ) → missing left (replicate count 0) ≡ left
 missing-zeros left zero = refl
 missing-zeros left (suc count) =
     let same : left - 0 ≡ left = omega arith in
@@ -150,13 +149,9 @@ greatest-zeros : (best k count : ℕ) → greatest_from best 0 k (replicate coun
 greatest-zeros best k zero = refl
 greatest-zeros best k (suc count) = greatest-zeros best (suc k) count
 
-pairs-zeros : (k count : ℕ) → pairs_from k (replicate count 0) ≡ []
+pub pairs-zeros : (k count : ℕ) → pairs_from k (replicate count 0) ≡ []
 pairs-zeros k zero = refl
 pairs-zeros k (suc count) = pairs-zeros (suc k) count
-
-first_takes_all : (k target : ℕ) (vs : List ℕ) → 0 < target → pairs_from k (target ∷ vs) ≡ (k, target) ∷ pairs_from (suc k) vs
-first_takes_all k zero vs h = absurd (omega arith)
-first_takes_all k (suc target) vs h = refl
 
 shared-zeros : (target count : ℕ) → shared target (replicate (suc count) 0) ≡ target ∷ replicate count 0
 shared-zeros target count =
@@ -165,8 +160,9 @@ shared-zeros target count =
     ap₂ (λ (vs : List ℕ) (more : ℕ). raised vs (place_of_greatest vs) more) (capped-zeros target (suc count)) (missing-zeros target (suc count))
     ∙ ap (λ (place : ℕ). raised zeros place target) (greatest-zeros 0 0 (suc count)) ∙ ap (λ (n : ℕ). n ∷ replicate count 0) same
 
+-- without duals the first cut takes all
 pub no_duals-pairs : (target count : ℕ) → 0 < target → 0 < count → settled_pairs target count [] ≡ (0, target) ∷ []
 no_duals-pairs target zero h i = absurd (omega arith)
 no_duals-pairs target (suc count) h i =
-    ap (λ (vs : List ℕ). pairs_from 0 (shared target vs)) (zero_multipliers 0 (suc count)) ∙ ap (pairs_from 0) (shared-zeros target count)
-    ∙ first_takes_all 0 target (replicate count 0) h ∙ ap (λ (ss : List (ℕ × ℕ)). (0, target) ∷ ss) (pairs-zeros 1 count)
+    ap (λ (vs : List ℕ). pairs_from 0 (shared target vs)) (zero_multipliers [] 0 (suc count) (λ i. omega arith)) ∙ ap (pairs_from 0) (shared-zeros target count)
+    ∙ positive_first 0 target (replicate count 0) h ∙ ap (λ (ss : List (ℕ × ℕ)). (0, target) ∷ ss) (pairs-zeros 1 count)

@@ -1,6 +1,6 @@
 -- Certificates from the duals of a solver's answer, which need not be right.
 -- A solver's numbers stand over 2^32, multipliers over 2^24.
-use Rattle.std.specs.Prelude.{ℕ, zero, suc, ◌+◌, ◌-◌, ◌*◌, ◌/◌, ◌^◌, min, ℤ, pos, negsuc, List, [], ◌∷◌, length, get_or, drop, set, nat_lt, if◌then◌else◌}
+use Rattle.std.specs.Prelude.{ℕ, zero, suc, ◌+◌, ◌-◌, ◌*◌, ◌/◌, ◌^◌, min, ℤ, pos, negsuc, List, [], ◌∷◌, length, get_or, map, drop, set, nat_lt, if◌then◌else◌}
 use Rattle.std.specs.Int.{int_min, int_max}
 use Rattle.hp_num.specs.Sums.{floor_over}
 use Rattle.hp_problem.specs.declared.raw.Row.{Row}
@@ -85,6 +85,15 @@ abbrev pub pairs_from : ℕ → List ℕ → List (ℕ × ℕ)
 pairs_from k [] = []
 pairs_from k (zero ∷ vs) = pairs_from (suc k) vs
 pairs_from k (suc v ∷ vs) = (k, suc v) ∷ pairs_from (suc k) vs
+
+-- pairs, with so much more at the one of this number
+abbrev pub raised_pair : List (ℕ × ℕ) → ℕ → ℕ → List (ℕ × ℕ)
+raised_pair ss i more = set ss i ((get_or ss i (0, 0)).0, (get_or ss i (0, 0)).1 + more)
+
+-- pairs with so much more at the greatest of their multipliers; where there is none, the first cut has it
+abbrev pub topped : List (ℕ × ℕ) → ℕ → List (ℕ × ℕ)
+topped [] more = pairs_from 0 (more ∷ [])
+topped (s ∷ ss) more = raised_pair (s ∷ ss) (place_of_greatest (map (λ (t : ℕ × ℕ). t.1) (s ∷ ss))) more
 
 -- the pairs of a successor with so many cuts, whose duals come first
 abbrev pub settled_pairs : ℕ → ℕ → List Fx → List (ℕ × ℕ)

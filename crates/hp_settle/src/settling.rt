@@ -1,11 +1,11 @@
 // Certificates from the duals of a solver's answer, which need not be right.
-ghost use Rattle.std.specs.Prelude.{◌≡◌, ◌+◌, ◌*◌, ◌<◌, ◌≤◌, ◌^◌, [], ◌∷◌, ◌++◌, length, get_or, min, drop, All, IfOk, OnOk};
+ghost use Rattle.std.specs.Prelude.{◌≡◌, ◌+◌, ◌*◌, ◌<◌, ◌^◌, [], ◌∷◌, ◌++◌, length, map, min, take, drop, All, IfOk, OnOk};
 ghost use Rattle.hp_theory.specs.Problem.{S, node_at};
 ghost use Rattle.hp_theory.specs.Pools.{pool};
 ghost use Rattle.hp_theory.specs.Fit.{Fit};
 ghost use Rattle.hp_theory.specs.View.{links_of, problem_of};
-ghost use Rattle.hp_theory.specs.Certificates.{RightAt};
-ghost use Rattle.hp_settle.specs.Settling.{dual_at, rescaled, clamped, settled_row, settled_rows, cut_multiplier, cut_multipliers, capped, missing, place_of_greatest, raised, shared, pairs_from, settled_pairs, settled_links, used_duals, settled_of};
+ghost use Rattle.hp_theory.specs.Certificates.{multipliers, RightAt};
+ghost use Rattle.hp_settle.specs.Settling.{dual_at, rescaled, clamped, settled_row, settled_rows, cut_multiplier, cut_multipliers, capped, missing, place_of_greatest, pairs_from, raised_pair, topped, settled_pairs, settled_links, used_duals, settled_of};
 
 use hp_cut::Pools;
 use hp_dual::is_sign;
@@ -70,10 +70,6 @@ pub(crate) fn settled_rows(alloc: Global, rows: &[Row], duals: &[Fx]) -> Result<
 fn cut_multiplier(dual: i128) -> u128
     ensures { result ≡ cut_multiplier dual }
 {
-    // Most cuts have none.
-    if dual == 0 {
-        return 0;
-    }
     u128::try_from(rescaled(dual)).unwrap_or(0)
 }
 
@@ -82,71 +78,6 @@ fn share(multiplier: u128, left: u64) -> u64
     ensures { result ≡ min multiplier left }
 {
     multiplier.min(u128::from(left)) as u64
-}
-
-/// The multipliers of a successor's cuts within its target, and what is missing to it.
-#[derive(Drop)]
-struct Shares {
-    multipliers: List<u64>,
-    missing: u64,
-}
-
-/// In order each cut keeps at most what the target leaves.
-fn within_target(alloc: Global, target: u64, count: usize, duals: &[Fx]) -> Result<Shares, Memory>
-    ensures multipliers { IfOk result (λ found. found.multipliers ≡ capped target (cut_multipliers duals.now 0 count)) }
-    ensures missing { IfOk result (λ found. found.missing ≡ missing target (cut_multipliers duals.now 0 count)) }
-{
-    let mut multipliers = List::from_vec(Vec::with_capacity(alloc, count)?);
-    let mut missing = target;
-    for k in 0..count {
-        let multiplier = share(cut_multiplier(dual_at(duals, k)), missing);
-        multipliers.push(multiplier)?;
-        missing -= multiplier;
-    }
-    Ok(Shares {
-        multipliers,
-        missing,
-    })
-}
-
-/// The least place of the greatest.
-fn place_of_greatest(multipliers: &[u64]) -> usize
-    ensures { result ≡ place_of_greatest multipliers.now }
-{
-    let mut best = 0;
-    let mut most = 0;
-    for (k, multiplier) in multipliers.iter().enumerate() {
-        if *multiplier > most {
-            best = k;
-            most = *multiplier;
-        }
-    }
-    best
-}
-
-/// Adds so much at a place.
-fn raise(multipliers: &mut List<u64>, place: usize, more: u64)
-    requires there { place < length multipliers.old }
-    requires room { get_or multipliers.old place 0 + more < 2 ^ 64 }
-    ensures { multipliers.new ≡ raised multipliers.old place more }
-{
-    let multiplier = multipliers.as_slice()[place];
-    multipliers.set(place, multiplier + more);
-}
-
-/// The target shared out among some cuts: in order each keeps at most what is left, and what is missing then goes to
-/// the greatest.
-fn shared(alloc: Global, target: u64, count: usize, duals: &[Fx]) -> Result<List<u64>, Memory>
-    requires { 0 < count }
-    ensures { IfOk result (λ found. found ≡ shared target (cut_multipliers duals.now 0 count)) }
-{
-    let Shares {
-        mut multipliers,
-        missing,
-    } = within_target(alloc, target, count, duals)?;
-    let place = place_of_greatest(multipliers.as_slice());
-    raise(&mut multipliers, place, missing);
-    Ok(multipliers)
 }
 
 /// Puts a pair behind the others, unless its multiplier is 0.
@@ -159,31 +90,83 @@ fn push_pair(pairs: &mut List<(u32, u64)>, place: u32, multiplier: u64) -> Resul
     Ok(())
 }
 
-/// The places whose multiplier is not 0.
-fn positive_pairs(alloc: Global, multipliers: &[u64]) -> Result<List<(u32, u64)>, Memory>
-    requires { length multipliers.now ≤ 2 ^ 24 }
-    ensures { IfOk result (λ found. found ≡ pairs_from 0 multipliers.now) }
-{
-    let mut found = List::new(alloc);
-    for (k, multiplier) in multipliers.iter().enumerate() {
-        push_pair(&mut found, k as u32, *multiplier)?;
-    }
-    Ok(found)
+/// The pairs of a successor's cuts within its target, and what is missing to it.
+#[derive(Drop)]
+struct Shares {
+    pairs: List<(u32, u64)>,
+    missing: u64,
 }
 
-/// The pairs of a successor with so many cuts, whose duals come first.
+/// In order each cut keeps at most what the target leaves; one that keeps nothing has no pair.
+fn within_target(alloc: Global, target: u64, count: u32, duals: &[Fx]) -> Result<Shares, Memory>
+    ensures pairs { IfOk result (λ found. found.pairs ≡ pairs_from 0 (capped target (cut_multipliers duals.now 0 count))) }
+    ensures missing { IfOk result (λ found. found.missing ≡ missing target (cut_multipliers duals.now 0 count)) }
+{
+    let mut pairs = List::new(alloc);
+    let mut missing = target;
+    for (k, dual) in front(duals, count as usize).iter().enumerate() {
+        // The duals of most cuts are 0.
+        if dual.0 != 0 {
+            let multiplier = share(cut_multiplier(dual.0), missing);
+            push_pair(&mut pairs, k as u32, multiplier)?;
+            missing -= multiplier;
+        }
+    }
+    Ok(Shares { pairs, missing })
+}
+
+/// The number of the pair with the greatest multiplier, the first of equals.
+fn greatest_pair(pairs: &[(u32, u64)]) -> usize
+    ensures { result ≡ place_of_greatest (map (λ s. s.1) pairs.now) }
+{
+    let mut best = 0;
+    let mut most = 0;
+    for (i, pair) in pairs.iter().enumerate() {
+        if pair.1 > most {
+            best = i;
+            most = pair.1;
+        }
+    }
+    best
+}
+
+/// Adds so much to the multiplier of a pair.
+fn raise_pair(pairs: &mut List<(u32, u64)>, at: usize, more: u64)
+    requires there { at < length pairs.old }
+    requires room { multipliers pairs.old + more < 2 ^ 64 }
+    ensures { pairs.new ≡ raised_pair pairs.old at more }
+{
+    let (place, multiplier) = pairs.as_slice()[at];
+    pairs.set(at, (place, multiplier + more));
+}
+
+/// Adds what is missing to the greatest of a successor's multipliers; where all are 0 it goes to the first cut.
+fn top_up(pairs: &mut List<(u32, u64)>, missing: u64) -> Result<(), Memory>
+    requires { multipliers pairs.old + missing < 2 ^ 64 }
+    ensures { OnOk result (pairs.new ≡ topped pairs.old missing) }
+{
+    if pairs.is_empty() {
+        return push_pair(pairs, 0, missing);
+    }
+    let at = greatest_pair(pairs.as_slice());
+    raise_pair(pairs, at, missing);
+    Ok(())
+}
+
+/// The pairs of a successor with so many cuts, whose duals come first: in order each cut keeps at most what the target
+/// leaves, and what is missing then goes to the greatest.
 fn settled_pairs(
     alloc: Global,
     target: u64,
     count: u32,
     duals: &[Fx],
 ) -> Result<List<(u32, u64)>, Memory>
-    requires some { 0 < count }
-    requires few { count ≤ 2 ^ 24 }
+    requires { 0 < count }
     ensures { IfOk result (λ found. found ≡ settled_pairs target count duals.now) }
 {
-    let multipliers = shared(alloc, target, count as usize, duals)?;
-    positive_pairs(alloc, multipliers.as_slice())
+    let Shares { mut pairs, missing } = within_target(alloc, target, count, duals)?;
+    top_up(&mut pairs, missing)?;
+    Ok(pairs)
 }
 
 /// All of a successor's weight.
@@ -192,6 +175,17 @@ fn target(weight: u32) -> u64
     ensures { result ≡ S * weight }
 {
     u64::from(SCALE) * u64::from(weight)
+}
+
+/// The first so many duals, all where there are fewer.
+fn front(duals: &[Fx], count: usize) -> &[Fx]
+    ensures { result.now ≡ take count duals.now }
+{
+    if count < duals.len() {
+        &duals[..count]
+    } else {
+        duals
+    }
 }
 
 /// The duals behind so many.

@@ -1,0 +1,83 @@
+-- What goes to the greatest of some multipliers goes to the greatest of their pairs.
+use Rattle.std.proofs.Common.{◌≡◌, ◌∙◌, ℕ, zero, suc, ◌+◌, ◌<◌, ◌≤◌, ◌^◌, Bool, true, false, List, [], ◌∷◌, ◌++◌, length, get_or, map, nat_lt, if◌then◌else◌, refl, ap, sym, arith}
+use Rattle.std.proofs.lemmas.Bool.Decides.{nat_tests}
+use Rattle.std.proofs.lemmas.List.{append-nil, length-map}
+use Rattle.hp_theory.specs.Certificates.{multipliers}
+use Rattle.hp_settle.specs.Settling.{greatest_from, place_of_greatest, raised, pairs_from, raised_pair, topped}
+use Rattle.hp_settle.proofs.SettledPairs.{place-inside, positive_first}
+
+abbrev seconds : List (ℕ × ℕ) → List ℕ
+seconds ss = map (λ (s : ℕ × ℕ). s.1) ss
+
+-- the place of the greatest of multipliers from the place k on, and the number of that of their pairs, from j on: each is
+-- that of the best before them, or that of the same multiplier behind k and j
+data Alike (place number best first most k j : ℕ) (vs : List ℕ) : Type 0 where
+  before : place ≡ best → number ≡ first → (most ≡ 0 → pairs_from k vs ≡ []) → Alike place number best first most k j vs
+  behind : (p q : ℕ) → place ≡ k + p → number ≡ j + q → q < length (pairs_from k vs) → ((more : ℕ) → pairs_from k (raised vs p more) ≡ raised_pair (pairs_from k vs) q more) → Alike place number best first most k j vs
+
+-- one multiplier of 0 in front
+zero_in_front : (place number best first most k j : ℕ) (vs : List ℕ) → Alike place number best first most (suc k) j vs → Alike place number best first most k j (zero ∷ vs)
+zero_in_front place number best first most k j vs (before e f none) = before e f none
+zero_in_front place number best first most k j vs (behind p q e f inside same) = behind (suc p) q (omega (arith, e)) f inside same
+
+-- one positive multiplier in front that is not above the best before it
+less_in_front : (place number best first most k j v : ℕ) (vs : List ℕ) → 0 < most → Alike place number best first most (suc k) (suc j) vs → Alike place number best first most k j (suc v ∷ vs)
+less_in_front place number best first most k j v vs h (before e f none) = before e f (λ z. absurd (omega (arith, h, z)))
+less_in_front place number best first most k j v vs h (behind p q e f inside same) = behind (suc p) (suc q) (omega (arith, e)) (omega (arith, f)) (omega (arith, inside)) (λ more. ap (λ (ss : List (ℕ × ℕ)). (k, suc v) ∷ ss) (same more))
+
+-- one that is above it
+more_in_front : (place number best first most k j v : ℕ) (vs : List ℕ) → Alike place number k j (suc v) (suc k) (suc j) vs → Alike place number best first most k j (suc v ∷ vs)
+more_in_front place number best first most k j v vs (before e f none) = behind 0 0 (omega (arith, e)) (omega (arith, f)) (omega arith) (λ more. positive_first k (suc v + more) vs (omega arith))
+more_in_front place number best first most k j v vs (behind p q e f inside same) = behind (suc p) (suc q) (omega (arith, e)) (omega (arith, f)) (omega (arith, inside)) (λ more. ap (λ (ss : List (ℕ × ℕ)). (k, suc v) ∷ ss) (same more))
+
+alike : (best first most k j : ℕ) (vs : List ℕ) → Alike (greatest_from best most k vs) (greatest_from first most j (seconds (pairs_from k vs))) best first most k j vs
+alike best first most k j [] = before refl refl (λ z. refl)
+alike best first most k j (zero ∷ vs) =
+    let none : nat_lt most 0 ≡ false = grind (arith, nat_tests) in
+    rw none
+    (zero_in_front (greatest_from best most (suc k) vs) (greatest_from first most j (seconds (pairs_from (suc k) vs))) best first most k j vs (alike best first most (suc k) j vs))
+alike best first most k j (suc v ∷ vs) = by (nat_lt most (suc v)) refl (alike k j (suc v) (suc k) (suc j) vs) (alike best first most (suc k) (suc j) vs)
+  where
+    by : (t : Bool) → nat_lt most (suc v) ≡ t → Alike (greatest_from k (suc v) (suc k) vs) (greatest_from j (suc v) (suc j) (seconds (pairs_from (suc k) vs))) k j (suc v) (suc k) (suc j) vs
+        → Alike (greatest_from best most (suc k) vs) (greatest_from first most (suc j) (seconds (pairs_from (suc k) vs))) best first most (suc k) (suc j) vs
+        → Alike (if t then greatest_from k (suc v) (suc k) vs else greatest_from best most (suc k) vs) (if t then greatest_from j (suc v) (suc j) (seconds (pairs_from (suc k) vs)) else greatest_from first most (suc j) (seconds (pairs_from (suc k) vs))) best first most k j (suc v ∷ vs)
+    by true e more less = more_in_front (greatest_from k (suc v) (suc k) vs) (greatest_from j (suc v) (suc j) (seconds (pairs_from (suc k) vs))) best first most k j v vs more
+    by false e more less = less_in_front (greatest_from best most (suc k) vs) (greatest_from first most (suc j) (seconds (pairs_from (suc k) vs))) best first most k j v vs (grind (arith, nat_tests)) less
+
+-- the first pair apart
+pub pairs_from-cons : (k v : ℕ) (vs : List ℕ) → pairs_from k (v ∷ vs) ≡ pairs_from k (v ∷ []) ++ pairs_from (suc k) vs
+pairs_from-cons k zero vs = refl
+pairs_from-cons k (suc v) vs = refl
+
+-- where all are 0 the first has what is missing
+first_has_all : (vs : List ℕ) (more : ℕ) → 0 < length vs → pairs_from 0 vs ≡ [] → pairs_from 0 (raised vs 0 more) ≡ pairs_from 0 (more ∷ [])
+first_has_all [] more h e = absurd (omega arith)
+first_has_all (zero ∷ vs) more h e = ap (λ (n : ℕ). pairs_from 0 (n ∷ vs)) (omega arith) ∙ pairs_from-cons 0 more vs ∙ ap (λ (ss : List (ℕ × ℕ)). pairs_from 0 (more ∷ []) ++ ss) e ∙ append-nil (pairs_from 0 (more ∷ []))
+first_has_all (suc v ∷ vs) more h e = absurd cc
+
+some_pair : (ss : List (ℕ × ℕ)) (more : ℕ) → 0 < length ss → topped ss more ≡ raised_pair ss (place_of_greatest (seconds ss)) more
+some_pair [] more h = absurd (omega arith)
+some_pair (s ∷ ss) more h = refl
+
+pub topped-pairs : (vs : List ℕ) (more : ℕ) → 0 < length vs → pairs_from 0 (raised vs (place_of_greatest vs) more) ≡ topped (pairs_from 0 vs) more
+topped-pairs vs more h = by (alike 0 0 0 0 0 vs)
+  where
+    by : Alike (place_of_greatest vs) (place_of_greatest (seconds (pairs_from 0 vs))) 0 0 0 0 0 vs → pairs_from 0 (raised vs (place_of_greatest vs) more) ≡ topped (pairs_from 0 vs) more
+    by (before e f none) = ap (λ (i : ℕ). pairs_from 0 (raised vs i more)) e ∙ first_has_all vs more h (none refl) ∙ sym (ap (λ (ss : List (ℕ × ℕ)). topped ss more) (none refl))
+    by (behind p q e f inside same) =
+        ap (λ (i : ℕ). pairs_from 0 (raised vs i more)) (omega (arith, e)) ∙ same more
+        ∙ sym (some_pair (pairs_from 0 vs) more (omega (arith, inside)) ∙ ap (λ (i : ℕ). raised_pair (pairs_from 0 vs) i more) (omega (arith, f)))
+
+-- the greatest is there, and there is room for what is missing to a target of 64 bits
+pub greatest_there : (ss slice : List (ℕ × ℕ)) (i : ℕ) → 0 < length ss → slice ≡ ss → i ≡ place_of_greatest (seconds slice) → i < length ss
+greatest_there ss slice i h is at =
+    let many : length (seconds ss) ≡ length ss = length-map ss (λ (s : ℕ × ℕ). s.1) in
+    rw (at, is) (omega (arith, many, place-inside (seconds ss) (omega (arith, h, many))))
+
+pair_at_most : (ss : List (ℕ × ℕ)) (i : ℕ) → (get_or ss i (0, 0)).1 ≤ multipliers ss
+pair_at_most [] i = omega arith
+pair_at_most (s ∷ ss) zero = omega arith
+pair_at_most (s ∷ ss) (suc i) = omega (arith, pair_at_most ss i)
+
+pub room_at : (ss slice : List (ℕ × ℕ)) (i more : ℕ) → slice ≡ ss → multipliers ss + more < 2 ^ 64 → (get_or slice i (0, 0)).1 + more < 2 ^ 64
+room_at ss slice i more is h = rw is (omega (arith, h, pair_at_most ss i))
