@@ -12,11 +12,11 @@ ghost use Rattle.hp_backward.specs.Given.{CanVisit, IsStageOver};
 
 use crate::fault::SweepFault;
 use hp_cut::Pools;
-use hp_lp::{Starts, stage_with};
-use hp_num::{List, Memory, Spare};
+use hp_lp::{SpareRows, Starts, stage_with};
+use hp_num::{List, Memory};
 use hp_problem::Problem;
 use hp_settle::{Dead, Judged, judge, settle};
-use hp_solver::{Answer, Fx, Solver, StageLp};
+use hp_solver::{Answer, Solver, StageLp};
 use hp_theory::Certificate;
 use std::alloc::Global;
 
@@ -65,11 +65,11 @@ fn copied<T: Copy + Drop>(alloc: Global, items: &[T]) -> Result<List<T>, Memory>
 }
 
 impl<'a, V: Solver> Visit<'a, V> {
-    /// The stage problem of the node at these values, the terms of its rows in lists that are spare.
+    /// The stage problem of the node at these values, in the memory of rows that are spare.
     pub(crate) fn stage(
         &self,
         alloc: Global,
-        spare: &mut Spare<(u32, Fx)>,
+        spare: &mut SpareRows,
         values: &[i64],
     ) -> Result<StageLp, Memory>
         requires visit { CanVisit (V.started self.now.solver.now) (V.suits self.now.solver.now) self.now.problem.now self.now.starts.now.items self.now.pools.now.lists self.now.node self.now.state.now }

@@ -1,8 +1,8 @@
 // Realizations of a node, solved one after another in a chain.
-ghost use Rattle.std.specs.Prelude.{◌≡◌, ◌+◌, ◌<◌, ◌≤◌, ◌^◌, ℤ, true, List, length, map, get_or, All, IfOk, OnOk};
+ghost use Rattle.std.specs.Prelude.{◌≡◌, ◌<◌, ◌≤◌, ℤ, true, List, length, map, All, IfOk, OnOk};
 ghost use Rattle.hp_num.specs.Steps.{GivesOr};
 ghost use Rattle.hp_problem.specs.Limits.{are_values};
-ghost use Rattle.hp_problem.specs.Sealed.{is_sealed, subproblem_of};
+ghost use Rattle.hp_problem.specs.Sealed.{subproblem_of};
 ghost use Rattle.hp_theory.specs.Problem.{node_at};
 ghost use Rattle.hp_theory.specs.View.{problem_of};
 ghost use Rattle.hp_solver.specs.declared.stage_lp.StageLp.{StageLp};
@@ -16,8 +16,8 @@ ghost use Rattle.hp_backward.specs.Given.{CanVisit, IsStageOver};
 use crate::certified::{Certified, Visit};
 use crate::fault::SweepFault;
 use hp_cut::Pools;
-use hp_lp::{Starts, restate};
-use hp_num::{List, Spare};
+use hp_lp::{SpareRows, Starts, restate};
+use hp_num::List;
 use hp_problem::Problem;
 use hp_solver::{Solver, StageLp};
 use std::alloc::Global;
@@ -109,7 +109,7 @@ pub(crate) fn certify_each<V: Solver>(
         node,
         state,
     };
-    let mut spare = Spare::new(alloc);
+    let mut spare = SpareRows::new(alloc);
     let mut lp = here.stage(alloc, &mut spare, first.as_slice())?;
     certify_over(alloc, &here, values, &mut lp)
 }

@@ -1,5 +1,5 @@
 // The realizations of a node in two chains beside each other.
-ghost use Rattle.std.specs.Prelude.{◌≡◌, ◌+◌, ◌<◌, ◌≤◌, ◌++◌, true, length, All, Result, IfOk};
+ghost use Rattle.std.specs.Prelude.{◌≡◌, ◌+◌, ◌<◌, ◌≤◌, true, length, All, Result, IfOk};
 ghost use Rattle.hp_backward.specs.declared.certified.Certified.{Certified};
 ghost use Rattle.hp_backward.specs.declared.fault.SweepFault.{SweepFault};
 ghost use Rattle.hp_num.specs.Steps.{GivesOr};
@@ -13,10 +13,10 @@ ghost use Rattle.hp_lp.specs.Chained.{solving};
 use crate::certified::{Certified, Visit};
 use crate::chains::{certify_each, certify_over};
 use crate::fault::SweepFault;
-use hp_lp::give_back;
-use hp_num::{List, Memory, Spare};
+use hp_lp::SpareRows;
+use hp_num::{List, Memory};
 use hp_problem::Problem;
-use hp_solver::{Fx, Solver, StageLp};
+use hp_solver::{Solver, StageLp};
 use std::alloc::Global;
 use std::thread::{Threads, join};
 
@@ -169,12 +169,12 @@ fn in_two_chains<R: Threads, V: Solver>(
 }
 
 /// The certificates of a node's realizations: the first half in one chain, the rest in another. The chains go beside each
-/// other where that is worth a thread; the answer is the same. The lists of terms of the node's stage problem are taken
-/// from those that are spare, and given back.
+/// other where that is worth a thread; the answer is the same. The stage problem is in the memory of rows that
+/// are spare, and are so again afterwards.
 pub(crate) fn certified<R: Threads, V: Solver>(
     rt: &R,
     alloc: Global,
-    spare: &mut Spare<(u32, Fx)>,
+    spare: &mut SpareRows,
     here: &Visit<V>,
 ) -> Result<Certified, SweepFault>
     requires { CanVisit (V.started here.now.solver.now) (V.suits here.now.solver.now) here.now.problem.now here.now.starts.now.items here.now.pools.now.lists here.now.node here.now.state.now }
@@ -186,6 +186,6 @@ pub(crate) fn certified<R: Threads, V: Solver>(
     let (left, right) = halves(values);
     let mut lp = here.stage(alloc, spare, values[0].as_slice())?;
     let found = in_two_chains(rt, alloc, here, left, right, &mut lp);
-    give_back(lp, spare);
+    spare.give_back(lp);
     found
 }

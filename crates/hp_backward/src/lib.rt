@@ -9,4 +9,4 @@ mod steps_back;
 pub mod sweeping;
 
 pub use fault::SweepFault;
-pub use sweeping::sweep;
+pub use sweeping::{sweep, sweep_with};

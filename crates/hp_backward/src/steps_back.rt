@@ -18,11 +18,11 @@ use crate::fault::SweepFault;
 use crate::halves::certified;
 use hp_cut::{Cut, Entry, EntryStep, Pools};
 use hp_dual::{CertFault, accept_into};
-use hp_lp::Starts;
-use hp_num::{List, Memory, Spare};
+use hp_lp::{SpareRows, Starts};
+use hp_num::{List, Memory};
 use hp_problem::Problem;
 use hp_sampler::Step;
-use hp_solver::{Fx, Solver};
+use hp_solver::Solver;
 use hp_theory::Certificate;
 use std::alloc::Global;
 use std::thread::Threads;
@@ -89,7 +89,7 @@ fn cut_of<V: Solver>(
 fn made_at<R: Threads, V: Solver>(
     rt: &R,
     alloc: Global,
-    spare: &mut Spare<(u32, Fx)>,
+    spare: &mut SpareRows,
     here: &Visit<V>,
 ) -> Result<(Certified, Cut), SweepFault>
     requires { CanVisit (V.started here.now.solver.now) (V.suits here.now.solver.now) here.now.problem.now here.now.starts.now.items here.now.pools.now.lists here.now.node here.now.state.now }
@@ -115,14 +115,14 @@ pub(crate) struct Training<'a, V: Solver> {
 }
 
 /// One step back along a path: the cut of the step's node at its incoming state is appended to the pools, and its
-/// certificates to the entry. The terms of the stage problem's rows are in lists that are spare, and are so again
+/// certificates to the entry. The stage problem is in the memory of rows that are spare, and are so again
 /// afterwards.
 #[tactic(auto, unfolding(crate::specs::Sweeping::step_back))]
 pub(crate) fn step_back<R: Threads, V: Solver>(
     rt: &R,
     alloc: Global,
     training: &Training<V>,
-    spare: &mut Spare<(u32, Fx)>,
+    spare: &mut SpareRows,
     pools: &mut Pools,
     step: Step,
     state: &[i128],

@@ -1,10 +1,8 @@
 // Cuts along a path, from its last node to its first.
-ghost use Rattle.std.specs.Prelude.{◌≡◌, ◌≢◌, ℕ, ◌+◌, ◌<◌, ◌≤◌, ◌^◌, ℤ, [], List, length, zip, All, IfOk, IfErr, OnOk, OnErr};
+ghost use Rattle.std.specs.Prelude.{◌≡◌, ◌≢◌, ℕ, ◌+◌, ◌<◌, ◌≤◌, ◌^◌, [], List, length, zip, All, IfOk, IfErr, OnOk, OnErr};
 ghost use Rattle.hp_num.specs.Steps.{GivesOr};
 ghost use Rattle.hp_theory.specs.Fit.{Fit};
 ghost use Rattle.hp_theory.specs.Pools.{pool, Sound};
-ghost use Rattle.hp_theory.specs.Problem.{S, node_at};
-ghost use Rattle.hp_theory.specs.Tree.{InBox};
 ghost use Rattle.hp_theory.specs.View.{problem_of};
 ghost use Rattle.hp_cut.specs.declared.entry.EntryStep.{EntryStep};
 ghost use Rattle.hp_lp.specs.Ready.{AreReady};
@@ -17,11 +15,11 @@ ghost use Rattle.hp_backward.specs.Sweeping.{backwards, seen, step_back, swept, 
 use crate::fault::SweepFault;
 use crate::steps_back::{Training, step_back};
 use hp_cut::{Entry, EntryStep, Pools};
-use hp_lp::Starts;
-use hp_num::{List, Spare};
+use hp_lp::{SpareRows, Starts};
+use hp_num::List;
 use hp_problem::Problem;
 use hp_sampler::{Step, Walk};
-use hp_solver::{Fx, Solver};
+use hp_solver::Solver;
 use std::alloc::Global;
 use std::thread::Threads;
 
@@ -44,7 +42,7 @@ fn go_back<R: Threads, V: Solver>(
     rt: &R,
     alloc: Global,
     training: &Training<V>,
-    spare: &mut Spare<(u32, Fx)>,
+    spare: &mut SpareRows,
     pools: &mut Pools,
     path: &[Step],
     states: &[List<i128>],
@@ -118,6 +116,43 @@ pub fn sweep<R: Threads, V: Solver>(
     ensures fit { Fit (problem_of problem.now) (length problem.now.raw.nodes) pools.new.lists }
     ensures sound { Sound (problem_of problem.now) pools.old.lists → Sound (problem_of problem.now) pools.new.lists }
 {
+    let mut spare = SpareRows::new(alloc);
+    sweep_with(
+        rt, alloc, &mut spare, problem, pools, solver, starts, iteration, path, walk,
+    )
+}
+
+/// The entry that [`sweep`] gives, the stage problems in the memory of rows that are spare. Its faults are those of
+/// [`sweep`].
+pub fn sweep_with<R: Threads, V: Solver>(
+    rt: &R,
+    alloc: Global,
+    spare: &mut SpareRows,
+    problem: &Problem,
+    pools: &mut Pools,
+    solver: &V,
+    starts: &Starts<V>,
+    iteration: u32,
+    path: &[Step],
+    walk: &Walk,
+) -> Result<Entry, SweepFault>
+    requires fit { Fit (problem_of problem.now) (length problem.now.raw.nodes) pools.old.lists }
+    requires path { IsPath problem.now path.now }
+    requires few { All (λ (s : Step). length (pool pools.old.lists s.node) < 2 ^ 24) path.now }
+    requires states { length walk.now.states ≡ length path.now }
+    requires inside { All (IsInside problem.now) (zip path.now walk.now.states) }
+    requires unsettled { walk.now.unsettled ≤ 1000 }
+    requires ready { AreReady (V.started solver.now) (V.suits solver.now) problem.now starts.now.items }
+    ensures value { GivesOr Stops (seen pools.new.lists) result
+        (swept (solving (V.started solver.now) (V.begun solver.now) (V.next solver.now)) problem.now pools.old.lists iteration path.now walk.now.states walk.now.unsettled) }
+    ensures iteration { IfOk result (λ entry. entry.iteration ≡ iteration) }
+    ensures kept { OnErr result (pools.new.lists ≡ pools.old.lists) }
+    ensures grown { (m : ℕ) → length (pool pools.new.lists m) ≤ length (pool pools.old.lists m) + 1 }
+    ensures others { (m : ℕ) → All (λ (s : Step). s.node ≢ m) path.now → pool pools.new.lists m ≡ pool pools.old.lists m }
+    ensures dead { IfErr result (IsDead problem.now) }
+    ensures fit { Fit (problem_of problem.now) (length problem.now.raw.nodes) pools.new.lists }
+    ensures sound { Sound (problem_of problem.now) pools.old.lists → Sound (problem_of problem.now) pools.new.lists }
+{
     let _ = problem.raw();
     let training = Training {
         problem,
@@ -130,10 +165,7 @@ pub fn sweep<R: Threads, V: Solver>(
         steps: List::new(alloc),
     };
     let states = walk.states.as_slice();
-    let mut spare = Spare::new(alloc);
-    match go_back(
-        rt, alloc, &training, &mut spare, pools, path, states, &mut entry,
-    ) {
+    match go_back(rt, alloc, &training, spare, pools, path, states, &mut entry) {
         Ok(()) => Ok(entry),
         Err(fault) => {
             take_back(pools, entry.steps.as_slice());

@@ -10,17 +10,16 @@ ghost use Rattle.hp_theory.specs.Problem.{S, node_at};
 ghost use Rattle.hp_theory.specs.Tree.{InBox, next_state};
 ghost use Rattle.hp_theory.specs.View.{problem_of};
 ghost use Rattle.hp_settle.specs.declared.judging.Judged.{Judged};
-ghost use Rattle.hp_settle.specs.Judging.{judge_of};
 ghost use Rattle.hp_lp.specs.Stage.{whole};
-ghost use Rattle.hp_lp.specs.Chained.{answered, solving};
+ghost use Rattle.hp_lp.specs.Chained.{solving};
 ghost use Rattle.hp_lp.specs.Ready.{AreReady};
-ghost use Rattle.hp_forward.specs.Deciding.{boxed, decide_by, decide_of, decided_of, decision_at, is_unsettled, rescaled};
+ghost use Rattle.hp_forward.specs.Deciding.{boxed, decide_by, decide_of, decided_of, decision_at, rescaled};
 ghost use Rattle.hp_forward.specs.Given.{Gives, IsStateAt, OnNoStage, Refutes};
 ghost use Rattle.hp_forward.specs.declared.deciding.StageFault.TheVariants as faults;
 
 use hp_cut::Pools;
-use hp_lp::{Starts, answered_with};
-use hp_num::{List, Memory, Spare, floor_div};
+use hp_lp::{SpareRows, Starts, answered_with};
+use hp_num::{List, Memory, floor_div};
 use hp_problem::{Decision, Problem, Subproblem};
 use hp_settle::{Dead, Judged, judge};
 use hp_solver::fixed::ONE;
@@ -237,17 +236,18 @@ pub fn decide<V: Solver>(
         → IsStateAt problem.now m d.next) }
     ensures dead { OnNoStage result (Refutes problem.now) }
 {
-    let mut spare = Spare::new(alloc);
+    let mut spare = SpareRows::new(alloc);
     decide_with(
         alloc, &mut spare, problem, pools, solver, starts, run, node, values, state,
     )
 }
 
-/// What [`decide`] decides, the terms of the stage problem's rows in lists that are spare, and are so again afterwards.
+/// What [`decide`] decides, the stage problem in the memory of rows that are spare, and are so again afterwards. Its faults
+/// are those of [`decide`].
 #[tactic(auto, unfolding(crate::specs::Deciding::decide_of))]
-pub(crate) fn decide_with<V: Solver>(
+pub fn decide_with<V: Solver>(
     alloc: Global,
-    spare: &mut Spare<(u32, Fx)>,
+    spare: &mut SpareRows,
     problem: &Problem,
     pools: &Pools,
     solver: &V,

@@ -9,12 +9,12 @@ ghost use Rattle.hp_sampler.specs.declared.steps.Walk.{Walk};
 ghost use Rattle.hp_sampler.specs.Drawn.{IsPath};
 ghost use Rattle.hp_forward.specs.Given.{Gives, OnNoStage, Refutes};
 ghost use Rattle.hp_lp.specs.Chained.{solving};
-ghost use Rattle.hp_forward.specs.Walking.{AreWalks, in_turn, walk_of, walks_of};
+ghost use Rattle.hp_forward.specs.Walking.{AreWalks, in_turn, walks_of};
 
 use crate::deciding::StageFault;
-use crate::walking::states;
+use crate::walking::states_with;
 use hp_cut::Pools;
-use hp_lp::Starts;
+use hp_lp::{SpareRows, Starts};
 use hp_num::{List, Memory};
 use hp_problem::Problem;
 use hp_sampler::{Step, Walk};
@@ -25,6 +25,7 @@ use std::thread::{Threads, join};
 /// The walks along paths, one after another.
 fn states_each<V: Solver>(
     alloc: Global,
+    spare: &mut SpareRows,
     problem: &Problem,
     pools: &Pools,
     solver: &V,
@@ -39,7 +40,8 @@ fn states_each<V: Solver>(
 {
     let mut walks = List::new(alloc);
     for path in paths {
-        walks.push(states(alloc, problem, pools, solver, starts, run, path.as_slice())?)?;
+        let steps = path.as_slice();
+        walks.push(states_with(alloc, spare, problem, pools, solver, starts, run, steps)?)?;
     }
     Ok(walks)
 }
@@ -99,23 +101,31 @@ fn states_beside<R: Threads + Sync, V: Solver>(
             requires fit { Fit (problem_of problem.now) (length problem.now.raw.nodes) pools.now.lists }
             requires ready { AreReady (V.started solver.now) (V.suits solver.now) problem.now starts.now.items }
             ensures { Gives result (walks_of (solving (V.started solver.entry.now) (V.begun solver.entry.now) (V.next solver.entry.now)) problem.entry.now pools.entry.now.lists run front.entry.now) }
-        { states_each(alloc, problem, pools, solver, starts, run, front) },
+        {
+            let mut spare = SpareRows::new(alloc);
+            states_each(
+                alloc, &mut spare, problem, pools, solver, starts, run, front,
+            )
+        },
         || -> Result<List<Walk>, StageFault>
             requires paths { All (IsPath problem.now) back.now }
             requires fit { Fit (problem_of problem.now) (length problem.now.raw.nodes) pools.now.lists }
             requires ready { AreReady (V.started solver.now) (V.suits solver.now) problem.now starts.now.items }
             ensures { Gives result (walks_of (solving (V.started solver.entry.now) (V.begun solver.entry.now) (V.next solver.entry.now)) problem.entry.now pools.entry.now.lists run back.entry.now) }
-        { states_each(alloc, problem, pools, solver, starts, run, back) },
+        {
+            let mut spare = SpareRows::new(alloc);
+            states_each(alloc, &mut spare, problem, pools, solver, starts, run, back)
+        },
     );
     in_turn(first, rest)
 }
 
-/// The walks of [`states`] along each of these paths, in their order. The first half of the paths, rounded down, and the
+/// The walks of [`states`](crate::states) along each of these paths, in their order. The first half of the paths, rounded down, and the
 /// rest are walked beside each other, one path alone on no other thread; the answer is that of one path after another.
 ///
 /// Each path is one of the problem's graph, and what is ready was made for this problem and this solver.
 ///
-/// NoStage is that of the first path for which [`states`] gives it; Memory where memory was refused.
+/// NoStage is that of the first path for which [`states`](crate::states) gives it; Memory where memory was refused.
 pub fn states_all<R: Threads + Sync, V: Solver>(
     rt: &R,
     alloc: Global,
@@ -133,9 +143,35 @@ pub fn states_all<R: Threads + Sync, V: Solver>(
     ensures walks { IfOk result (AreWalks problem.now paths.now) }
     ensures dead { OnNoStage result (Refutes problem.now) }
 {
+    let mut spare = SpareRows::new(alloc);
+    states_all_with(
+        rt, alloc, &mut spare, problem, pools, solver, starts, run, paths,
+    )
+}
+
+/// The walks that [`states_all`] gives; where all are walked on one thread, the stage problems are in the memory of rows that
+/// are spare. Its faults are those of [`states_all`].
+pub fn states_all_with<R: Threads + Sync, V: Solver>(
+    rt: &R,
+    alloc: Global,
+    spare: &mut SpareRows,
+    problem: &Problem,
+    pools: &Pools,
+    solver: &V,
+    starts: &Starts<V>,
+    run: u32,
+    paths: &[List<Step>],
+) -> Result<List<Walk>, StageFault>
+    requires paths { All (IsPath problem.now) paths.now }
+    requires fit { Fit (problem_of problem.now) (length problem.now.raw.nodes) pools.now.lists }
+    requires ready { AreReady (V.started solver.now) (V.suits solver.now) problem.now starts.now.items }
+    ensures value { Gives result (walks_of (solving (V.started solver.now) (V.begun solver.now) (V.next solver.now)) problem.now pools.now.lists run paths.now) }
+    ensures walks { IfOk result (AreWalks problem.now paths.now) }
+    ensures dead { OnNoStage result (Refutes problem.now) }
+{
     let _ = problem.raw();
     if paths.len() < 2 {
-        return states_each(alloc, problem, pools, solver, starts, run, paths);
+        return states_each(alloc, spare, problem, pools, solver, starts, run, paths);
     }
     states_beside(rt, alloc, problem, pools, solver, starts, run, paths)
 }

@@ -11,8 +11,8 @@ pub mod walking;
 pub mod worked;
 
 pub use costing::{residual, stage_cost};
-pub use deciding::{Decided, StageFault, decide};
-pub use halves::states_all;
+pub use deciding::{Decided, StageFault, decide, decide_with};
+pub use halves::{states_all, states_all_with};
 pub use hp_sampler::Walk;
 pub use traces::{Trace, TraceStep};
 pub use walking::states;

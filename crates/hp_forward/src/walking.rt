@@ -1,8 +1,8 @@
 // Walks along paths, by what is decided at each step.
-ghost use Rattle.std.specs.Prelude.{◌≡◌, ◌<◌, ◌≤◌, ◌+◌, ◌-◌, ◌^◌, ℕ, ℤ, List, Ok, length, map, get_or, true, Contains, IfOk};
+ghost use Rattle.std.specs.Prelude.{◌≡◌, ◌<◌, ◌≤◌, ◌+◌, ◌-◌, ◌^◌, ℕ, List, Ok, length, true, Contains, IfOk};
 ghost use Rattle.hp_problem.specs.Limits.{are_values};
 ghost use Rattle.hp_problem.specs.Parts.{successors_at};
-ghost use Rattle.hp_problem.specs.Sealed.{is_sealed, subproblem_of};
+ghost use Rattle.hp_problem.specs.Sealed.{subproblem_of};
 ghost use Rattle.hp_theory.specs.Fit.{Fit};
 ghost use Rattle.hp_theory.specs.Problem.{S};
 ghost use Rattle.hp_theory.specs.Tree.{times_all};
@@ -10,19 +10,17 @@ ghost use Rattle.hp_theory.specs.View.{problem_of};
 ghost use Rattle.hp_lp.specs.Ready.{AreReady};
 ghost use Rattle.hp_sampler.specs.declared.steps.Walk.{Walk};
 ghost use Rattle.hp_sampler.specs.Drawn.{IsInRange, IsPath};
-ghost use Rattle.hp_forward.specs.declared.deciding.Decided.{Decided};
-ghost use Rattle.hp_forward.specs.Deciding.{decide_of};
 ghost use Rattle.hp_forward.specs.Given.{Gives, GivesSeen, IsStateAt, OnNoStage, Refutes};
 ghost use Rattle.hp_lp.specs.Chained.{solving};
 ghost use Rattle.hp_forward.specs.Walking.{AreInside, decide_step, step_on, values_of, walk_of};
 
 use crate::deciding::{StageFault, decide_with, scaled};
 use hp_cut::Pools;
-use hp_lp::Starts;
-use hp_num::{List, Memory, Spare};
+use hp_lp::{SpareRows, Starts};
+use hp_num::{List, Memory};
 use hp_problem::Problem;
 use hp_sampler::{Step, Walk};
-use hp_solver::{Fx, Solver};
+use hp_solver::Solver;
 use std::alloc::Global;
 
 /// The values of a step's realization.
@@ -54,11 +52,11 @@ fn initial_state(alloc: Global, problem: &Problem) -> Result<List<i128>, Memory>
     scaled_all(alloc, problem.initial())
 }
 
-/// Adds a step to a walk that has come to a state, and gives the state that leaves the step's node. The terms of the stage
-/// problem's rows are in lists that are spare, and are so again afterwards.
+/// Adds a step to a walk that has come to a state, and gives the state that leaves the step's node. The stage problem is in
+/// the memory of rows that are spare, and are so again afterwards.
 fn step_on<V: Solver>(
     alloc: Global,
-    spare: &mut Spare<(u32, Fx)>,
+    spare: &mut SpareRows,
     problem: &Problem,
     pools: &Pools,
     solver: &V,
@@ -103,9 +101,33 @@ fn step_on<V: Solver>(
 /// in the box of its step's node.
 ///
 /// NoStage exactly at the first step where [`decide`] gives it; Memory where memory was refused.
-#[tactic(auto, unfolding(crate::specs::Walking::walk_of))]
 pub fn states<V: Solver>(
     alloc: Global,
+    problem: &Problem,
+    pools: &Pools,
+    solver: &V,
+    starts: &Starts<V>,
+    run: u32,
+    path: &[Step],
+) -> Result<Walk, StageFault>
+    requires path { IsPath problem.now path.now }
+    requires fit { Fit (problem_of problem.now) (length problem.now.raw.nodes) pools.now.lists }
+    requires ready { AreReady (V.started solver.now) (V.suits solver.now) problem.now starts.now.items }
+    ensures value { Gives result (walk_of (solving (V.started solver.now) (V.begun solver.now) (V.next solver.now)) problem.now pools.now.lists run path.now) }
+    ensures count { IfOk result (λ walk. length walk.states ≡ length path.now) }
+    ensures inside { IfOk result (λ walk. AreInside problem.now path.now walk.states) }
+    ensures unsettled { IfOk result (λ walk. walk.unsettled ≤ length path.now) }
+    ensures dead { OnNoStage result (Refutes problem.now) }
+{
+    let mut spare = SpareRows::new(alloc);
+    states_with(alloc, &mut spare, problem, pools, solver, starts, run, path)
+}
+
+/// The walk that [`states`] gives, the stage problems in the memory of rows that are spare.
+#[tactic(auto, unfolding(crate::specs::Walking::walk_of))]
+pub(crate) fn states_with<V: Solver>(
+    alloc: Global,
+    spare: &mut SpareRows,
     problem: &Problem,
     pools: &Pools,
     solver: &V,
@@ -128,10 +150,9 @@ pub fn states<V: Solver>(
         unsettled: 0,
     };
     let mut state = initial_state(alloc, problem)?;
-    let mut spare = Spare::new(alloc);
     for step in path {
         state = step_on(
-            alloc, &mut spare, problem, pools, solver, starts, run, &mut walk, state, *step,
+            alloc, spare, problem, pools, solver, starts, run, &mut walk, state, *step,
         )?;
     }
     Ok(walk)

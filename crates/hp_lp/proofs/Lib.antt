@@ -6,5 +6,6 @@ pub mod OutSlopes
 pub mod ProperStages
 pub mod SealedStages
 pub mod Alike
+pub mod OutBoxes
 pub mod EachReady
 pub mod Answering

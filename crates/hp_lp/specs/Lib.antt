@@ -1,4 +1,5 @@
 pub mod Stage
+pub mod OutBoxes
 pub mod Spans
 pub mod Given
 pub mod Outs

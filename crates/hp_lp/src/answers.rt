@@ -6,15 +6,16 @@ ghost use Rattle.hp_theory.specs.Fit.{Fit};
 ghost use Rattle.hp_theory.specs.Problem.{S, node_at};
 ghost use Rattle.hp_theory.specs.Tree.{InBox};
 ghost use Rattle.hp_theory.specs.View.{problem_of};
-ghost use Rattle.hp_lp.specs.Chained.{Solving, answered};
+ghost use Rattle.hp_lp.specs.Chained.{answered};
 ghost use Rattle.hp_lp.specs.Ready.{AreReady};
 
-use crate::stages::{give_back, stage_with};
+use crate::spare_rows::SpareRows;
+use crate::stages::stage_with;
 use crate::starts::Starts;
 use hp_cut::Pools;
-use hp_num::{Memory, Spare};
+use hp_num::Memory;
 use hp_problem::Problem;
-use hp_solver::{Answer, Fx, Solver};
+use hp_solver::{Answer, Solver};
 use std::alloc::Global;
 
 /// The answer to the stage problem of a node at values and a state, solved in a chain of its own. What is asked of
@@ -37,17 +38,17 @@ pub fn answered<V: Solver>(
     requires ready { AreReady (V.started solver.now) (V.suits solver.now) problem.now starts.now.items }
     ensures { IfOk result (λ a. a ≡ answered (record { started = V.started solver.now; begun = V.begun solver.now; next = V.next solver.now }) problem.now pools.now.lists node values.now state.now) }
 {
-    let mut spare = Spare::new(alloc);
+    let mut spare = SpareRows::new(alloc);
     answered_with(
         alloc, &mut spare, problem, pools, solver, starts, node, values, state,
     )
 }
 
-/// The answer that [`answered`] gives, the terms of the stage problem's rows in lists that are spare, and are so again
-/// after the solve.
+/// The answer that [`answered`] gives, the stage problem in the memory of rows that are spare, and are so again afterwards.
+/// [`Memory`] where memory was refused.
 pub fn answered_with<V: Solver>(
     alloc: Global,
-    spare: &mut Spare<(u32, Fx)>,
+    spare: &mut SpareRows,
     problem: &Problem,
     pools: &Pools,
     solver: &V,
@@ -66,6 +67,6 @@ pub fn answered_with<V: Solver>(
     let lp = stage_with(alloc, spare, problem, pools, node, values, state)?;
     let mut chain = starts.begin(alloc, problem, solver, node, &lp)?;
     let answer = solver.solve(alloc, &mut chain, &lp);
-    give_back(lp, spare);
+    spare.give_back(lp);
     answer
 }

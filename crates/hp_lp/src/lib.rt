@@ -4,17 +4,21 @@
 pub mod answers;
 mod columns;
 mod cut_rows;
+mod cut_values;
 pub mod laws;
+mod out_boxes;
 mod own_rows;
 pub mod references;
 mod scales;
-mod spare_terms;
+pub mod spare_rows;
 pub mod stages;
 pub mod starts;
+mod written_rows;
 
 pub use answers::{answered, answered_with};
 pub use references::reference;
-pub use stages::{give_back, restate, stage, stage_with};
+pub use spare_rows::SpareRows;
+pub use stages::{restate, stage, stage_with};
 pub use starts::Starts;
 
 #[cfg(test)]

@@ -1,5 +1,5 @@
 // The node's own rows of a stage problem, whose sides go with the values and the state.
-ghost use Rattle.std.specs.Prelude.{◌≡◌, ◌≤◌, ◌^◌, ◌*◌, ◌++◌, ℕ, ℤ, pos, ◌*ℤ◌, ◌-ℤ◌, List, true, length, map, nat_abs, All, IfOk};
+ghost use Rattle.std.specs.Prelude.{◌≡◌, ◌≤◌, ◌^◌, ◌++◌, ℕ, ℤ, pos, ◌*ℤ◌, ◌-ℤ◌, List, true, length, map, nat_abs, All, IfOk, OnOk};
 ghost use Rattle.std.specs.Option.{option_map};
 ghost use Rattle.hp_num.specs.Sums.{at_terms, entry};
 ghost use Rattle.hp_problem.specs.Limits.{terms_fit};
@@ -9,8 +9,9 @@ ghost use Rattle.hp_lp.specs.Stage.{whole, side_at, own_row};
 ghost use Rattle.hp_lp.specs.Given.{AreGiven, IsOver};
 
 use crate::scales::{CUT_SCALE, sum, whole};
-use crate::spare_terms::room_for;
-use hp_num::{List, Memory, Spare};
+use crate::spare_rows::SpareRows;
+use crate::written_rows::{RowParts, WrittenRows, cleared};
+use hp_num::{List, Memory};
 use hp_problem::Row;
 use hp_solver::fixed::ONE;
 use hp_solver::{Fx, LpRow};
@@ -136,54 +137,54 @@ fn sides_at(row: &Row, values: &[i64], state: &[i128]) -> Sides
     }
 }
 
-// The terms of a row, over the decisions' columns.
-fn own_terms(
-    alloc: Global,
-    spare: &mut Spare<(u32, Fx)>,
-    terms: &[(u32, i64)],
-) -> Result<List<(u32, Fx)>, Memory>
+// The terms of a row, over the decisions' columns, in the memory of a list that is done with.
+fn own_terms(terms: &[(u32, i64)], over: List<(u32, Fx)>) -> Result<List<(u32, Fx)>, Memory>
     ensures { IfOk result (λ found. found ≡ map (λ (t : ℕ × ℤ). (t.0, whole t.1)) terms.now) }
 {
-    let mut found = room_for(alloc, spare, terms.len())?;
+    let mut found = cleared(over, terms.len())?;
     for (variable, factor) in terms {
         found.push((*variable, whole(*factor)))?;
     }
     Ok(found)
 }
 
-fn own_row(
-    alloc: Global,
-    spare: &mut Spare<(u32, Fx)>,
-    row: &Row,
-    values: &[i64],
-    state: &[i128],
-) -> Result<LpRow, Memory>
-    requires given { AreGiven values.now state.now }
-    requires over { IsOver (length state.now) (length values.now) row.now }
-    ensures { IfOk result (λ found. found ≡ own_row values.now state.now row.now) }
-{
-    let terms = own_terms(alloc, spare, row.decisions.as_slice())?;
-    let Sides { low, high } = sides_at(row, values, state);
-    Ok(LpRow { low, high, terms })
+/// A row of the node at values and a state.
+#[derive(Clone, Copy)]
+struct OwnRow<'a> {
+    row: &'a Row,
+    values: &'a [i64],
+    state: &'a [i128],
 }
 
-/// The rows at the values and the state, their terms in lists that are spare.
-pub(crate) fn own_rows(
+impl RowParts for OwnRow<'_> {
+    ghost fit = { λ o. AreGiven o.values.now o.state.now × IsOver (length o.state.now) (length o.values.now) o.row.now };
+
+    ghost made = { λ o. own_row o.values.now o.state.now o.row.now };
+
+    fn make(&self, terms: List<(u32, Fx)>) -> Result<LpRow, Memory> {
+        let terms = own_terms(self.row.decisions.as_slice(), terms)?;
+        let Sides { low, high } = sides_at(self.row, self.values, self.state);
+        Ok(LpRow { low, high, terms })
+    }
+}
+
+/// Writes the rows at the values and the state behind the others.
+pub(crate) fn push_own_rows(
     alloc: Global,
-    spare: &mut Spare<(u32, Fx)>,
+    spare: &mut SpareRows,
+    found: &mut WrittenRows,
     rows: &[Row],
     values: &[i64],
     state: &[i128],
-) -> Result<List<LpRow>, Memory>
+) -> Result<(), Memory>
     requires given { AreGiven values.now state.now }
     requires over { All (IsOver (length state.now) (length values.now)) rows.now }
-    ensures { IfOk result (λ found. found ≡ map (own_row values.now state.now) rows.now) }
+    ensures { OnOk result (found.new ≡ found.old ++ map (own_row values.now state.now) rows.now) }
 {
-    let mut found = List::new(alloc);
     for row in rows {
-        found.push(own_row(alloc, spare, row, values, state)?)?;
+        found.push(alloc, spare, &OwnRow { row, values, state })?;
     }
-    Ok(found)
+    Ok(())
 }
 
 // Gives a row the sides of the values and the state.

@@ -1,5 +1,5 @@
 // The reference programs of the nodes: their stage problems without cuts.
-ghost use Rattle.std.specs.Prelude.{◌≡◌, ◌<◌, ◌≤◌, ◌++◌, ℕ, ℤ, List, [], length, map, get_or, Some, All, IfOk, OnOk};
+ghost use Rattle.std.specs.Prelude.{◌≡◌, ◌<◌, ◌++◌, ℕ, List, [], length, map, get_or, Some, IfOk, OnOk};
 ghost use Rattle.hp_problem.specs.Formulas.{successor_total};
 ghost use Rattle.hp_solver.specs.Proper.{IsProper, IsReference};
 ghost use Rattle.hp_lp.specs.Stage.{own_row};
@@ -7,9 +7,11 @@ ghost use Rattle.hp_lp.specs.Nodes.{idle_column, quarter, quarters, reference_of
 ghost use Rattle.hp_lp.specs.Given.{HasReference};
 
 use crate::columns::decision_columns;
-use crate::own_rows::own_rows;
+use crate::own_rows::push_own_rows;
+use crate::spare_rows::SpareRows;
 use crate::stages::StageNode;
-use hp_num::{List, Memory, Spare};
+use crate::written_rows::WrittenRows;
+use hp_num::{List, Memory};
 use hp_problem::Problem;
 use hp_solver::{Column, Fx, LpRow, StageLp};
 use std::alloc::Global;
@@ -67,14 +69,17 @@ fn reference_rows(
     ensures { IfOk result (λ found. found ≡ map (own_row (get_or stage.now.node.now.values 0 []) (quarters low.now high.now)) stage.now.subproblem.now.rows) }
 {
     let state = quarters(alloc, low, high)?;
-    let mut spare = Spare::new(alloc);
-    own_rows(
+    let mut spare = SpareRows::new(alloc);
+    let mut rows = WrittenRows::new(alloc, &mut spare);
+    push_own_rows(
         alloc,
         &mut spare,
+        &mut rows,
         stage.subproblem.rows.as_slice(),
         first_values(stage),
         state.as_slice(),
-    )
+    )?;
+    Ok(rows.into_list(&mut spare))
 }
 
 // The reference program of the node in a box.

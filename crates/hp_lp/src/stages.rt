@@ -1,8 +1,8 @@
 // The stage problem of a node.
-ghost use Rattle.std.specs.Prelude.{◌≡◌, ◌<◌, ◌++◌, ℤ, true, List, [], length, map, zip, get_or, Some, slice_get, All, IfOk, OnOk};
+ghost use Rattle.std.specs.Prelude.{◌≡◌, ◌<◌, ◌++◌, ℤ, true, List, length, map, Some, IfOk};
 ghost use Rattle.hp_problem.specs.Formulas.{successor_total};
 ghost use Rattle.hp_problem.specs.Limits.{are_values};
-ghost use Rattle.hp_problem.specs.Sealed.{is_sealed, subproblem_of};
+ghost use Rattle.hp_problem.specs.Sealed.{subproblem_of};
 ghost use Rattle.hp_theory.specs.Fit.{Fit};
 ghost use Rattle.hp_theory.specs.Problem.{S, node_at};
 ghost use Rattle.hp_theory.specs.Tree.{InBox};
@@ -15,11 +15,13 @@ ghost use Rattle.hp_lp.specs.Given.{AreOf, AreWithin};
 
 use crate::columns::{decision_columns, push_future_columns};
 use crate::cut_rows::push_cut_rows;
-use crate::own_rows::{own_rows, restate_rows};
+use crate::own_rows::{push_own_rows, restate_rows};
+use crate::spare_rows::SpareRows;
+use crate::written_rows::WrittenRows;
 use hp_cut::Pools;
-use hp_num::{List, Memory, Spare};
+use hp_num::{List, Memory};
 use hp_problem::{Node, Problem, Subproblem};
-use hp_solver::{Column, Fx, LpRow, StageLp};
+use hp_solver::{Column, LpRow, StageLp};
 use std::alloc::Global;
 
 /// A node with its subproblem.
@@ -54,6 +56,7 @@ fn columns(alloc: Global, stage: &StageNode, pools: &Pools) -> Result<List<Colum
 {
     let mut found = decision_columns(alloc, stage.weight, stage.subproblem.decisions.as_slice())?;
     push_future_columns(
+        alloc,
         &mut found,
         stage.subproblem,
         pools,
@@ -66,7 +69,7 @@ fn columns(alloc: Global, stage: &StageNode, pools: &Pools) -> Result<List<Colum
 // The node's own rows, and then the successors' cuts.
 fn rows(
     alloc: Global,
-    spare: &mut Spare<(u32, Fx)>,
+    spare: &mut SpareRows,
     stage: &StageNode,
     pools: &Pools,
     values: &[i64],
@@ -77,9 +80,11 @@ fn rows(
     ensures { IfOk result (λ found. found ≡ map (own_row values.now state.now) stage.now.subproblem.now.rows
         ++ cut_rows stage.now.subproblem.now pools.now.lists (length stage.now.subproblem.now.decisions) stage.now.node.now.links) }
 {
-    let mut found = own_rows(
+    let mut found = WrittenRows::new(alloc, spare);
+    push_own_rows(
         alloc,
         spare,
+        &mut found,
         stage.subproblem.rows.as_slice(),
         values,
         state,
@@ -92,14 +97,14 @@ fn rows(
         pools,
         stage.node.links.as_slice(),
     )?;
-    Ok(found)
+    Ok(found.into_list(spare))
 }
 
 // The stage problem of the node.
 #[tactic(auto, unfolding(crate::specs::Stage::stage_of))]
 fn stage_of(
     alloc: Global,
-    spare: &mut Spare<(u32, Fx)>,
+    spare: &mut SpareRows,
     stage: &StageNode,
     pools: &Pools,
     values: &[i64],
@@ -138,14 +143,15 @@ pub fn stage(
     ensures value { IfOk result (λ lp. stage_in problem.now pools.now.lists node values.now state.now ≡ Some lp) }
     ensures proper { IfOk result IsProper }
 {
-    let mut spare = Spare::new(alloc);
+    let mut spare = SpareRows::new(alloc);
     stage_with(alloc, &mut spare, problem, pools, node, values, state)
 }
 
-/// The stage problem of a node, as [`stage`] makes it, the terms of its rows in lists that are spare.
+/// The stage problem of a node, as [`stage`] makes it, in the memory of rows that are spare; [`SpareRows::give_back`] makes
+/// them so again. [`Memory`] where memory was refused.
 pub fn stage_with(
     alloc: Global,
-    spare: &mut Spare<(u32, Fx)>,
+    spare: &mut SpareRows,
     problem: &Problem,
     pools: &Pools,
     node: u32,
@@ -161,15 +167,6 @@ pub fn stage_with(
 {
     let stage = StageNode::of(problem, node);
     stage_of(alloc, spare, &stage, pools, values, state)
-}
-
-/// Gives the lists of terms of a stage problem that is done with to those that are spare.
-pub fn give_back(lp: StageLp, spare: &mut Spare<(u32, Fx)>) {
-    let mut rows = lp.rows.into_vec();
-    // The first row's last, so that each row of the next stage problem finds the list of the same row.
-    while let Some(row) = rows.pop() {
-        spare.give(row.terms);
-    }
 }
 
 /// Gives a stage problem of a node the sides of other values and another state: it is then the stage problem of these,

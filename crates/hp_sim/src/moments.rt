@@ -15,8 +15,8 @@ ghost use Rattle.hp_forward.specs.declared.deciding.Decided.{Decided};
 ghost use Rattle.hp_sim.specs.Tracing.{decide_at, longer, step_on, traced};
 
 use hp_cut::Pools;
-use hp_forward::{Decided, StageFault, Trace, TraceStep, decide, residual, stage_cost};
-use hp_lp::Starts;
+use hp_forward::{Decided, StageFault, Trace, TraceStep, decide_with, residual, stage_cost};
+use hp_lp::{SpareRows, Starts};
 use hp_num::{List, Memory};
 use hp_problem::{Moment, Problem};
 use hp_solver::{Kind, Solver};
@@ -139,9 +139,11 @@ fn add_step(trace: &mut Trace, step: TraceStep) -> Result<(), Memory>
     trace.steps.push(step)
 }
 
-/// Adds a moment to a trace that has come to a state, and gives the state that leaves the moment's node.
+/// Adds a moment to a trace that has come to a state, and gives the state that leaves the moment's node. The stage problem
+/// is in the memory of rows that are spare.
 pub(crate) fn step_on<V: Solver>(
     alloc: Global,
+    spare: &mut SpareRows,
     problem: &Problem,
     pools: &Pools,
     solver: &V,
@@ -163,8 +165,9 @@ pub(crate) fn step_on<V: Solver>(
     ensures small { IfOk result (λ _. nat_abs trace.new.cost ≤ nat_abs trace.old.cost + 2 ^ 115) }
     ensures dead { OnNoStage result (Refutes problem.now) }
 {
-    let decided = decide(
+    let decided = decide_with(
         alloc,
+        spare,
         problem,
         pools,
         solver,

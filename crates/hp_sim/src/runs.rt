@@ -1,5 +1,5 @@
 // The runs of scenarios, and the trace of one run.
-ghost use Rattle.std.specs.Prelude.{◌≡◌, ◌<◌, ◌≤◌, ◌+◌, ◌*◌, ◌^◌, ℤ, pos, ◌*ℤ◌, List, length, map, All, IfOk};
+ghost use Rattle.std.specs.Prelude.{◌≡◌, ◌<◌, ◌+◌, ◌*◌, ℤ, pos, ◌*ℤ◌, List, length, map, All, IfOk};
 ghost use Rattle.hp_theory.specs.Fit.{Fit};
 ghost use Rattle.hp_theory.specs.Problem.{S};
 ghost use Rattle.hp_theory.specs.Tree.{times_all};
@@ -15,7 +15,7 @@ ghost use Rattle.hp_sim.specs.Tracing.{AreKnown, trace_of};
 use crate::moments::{copied, step_on};
 use hp_cut::Pools;
 use hp_forward::{StageFault, Trace};
-use hp_lp::Starts;
+use hp_lp::{SpareRows, Starts};
 use hp_num::{List, Memory};
 use hp_problem::{Moment, Problem};
 use hp_sampler::{Step, path};
@@ -97,10 +97,11 @@ pub(crate) fn drawn(
     moments_of(alloc, problem, path.as_slice())
 }
 
-/// The trace of the run with a number.
+/// The trace of the run with a number, the stage problems in the memory of rows that are spare.
 #[tactic(auto, unfolding(crate::specs::Tracing::trace_of))]
 pub(crate) fn trace_of<V: Solver>(
     alloc: Global,
+    spare: &mut SpareRows,
     problem: &Problem,
     pools: &Pools,
     solver: &V,
@@ -123,7 +124,7 @@ pub(crate) fn trace_of<V: Solver>(
     let mut state = initial_state(alloc, problem)?;
     for moment in moments {
         state = step_on(
-            alloc, problem, pools, solver, starts, run, &mut trace, state, moment,
+            alloc, spare, problem, pools, solver, starts, run, &mut trace, state, moment,
         )?;
     }
     Ok(trace)

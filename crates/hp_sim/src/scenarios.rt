@@ -11,7 +11,7 @@ ghost use Rattle.hp_sim.specs.Tracing.{AreKnown, traces_of};
 use crate::runs::{drawn, trace_of};
 use hp_cut::Pools;
 use hp_forward::{StageFault, Trace};
-use hp_lp::Starts;
+use hp_lp::{SpareRows, Starts};
 use hp_num::List;
 use hp_problem::{Moment, Problem};
 use hp_solver::Solver;
@@ -43,10 +43,12 @@ pub fn simulate<V: Solver>(
     ensures dead { OnNoStage result (Refutes problem.now) }
 {
     let mut traces = List::new(alloc);
+    let mut spare = SpareRows::new(alloc);
     for scenario in 0..count {
         let run = drawn(alloc, problem, seed, scenario)?;
         traces.push(trace_of(
             alloc,
+            &mut spare,
             problem,
             pools,
             solver,
@@ -87,9 +89,12 @@ pub fn validate<V: Solver>(
 {
     let scenarios = stored(problem);
     let mut traces = List::new(alloc);
+    let mut spare = SpareRows::new(alloc);
     for scenario in 0..scenarios.len() as u32 {
         let run = scenarios[scenario as usize].as_slice();
-        traces.push(trace_of(alloc, problem, pools, solver, starts, scenario, run)?)?;
+        traces.push(trace_of(
+            alloc, &mut spare, problem, pools, solver, starts, scenario, run,
+        )?)?;
     }
     Ok(traces)
 }

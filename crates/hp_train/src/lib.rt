@@ -10,5 +10,5 @@ pub mod stepping;
 pub mod training;
 
 pub use fault::TrainFault;
-pub use stepping::batch_once;
+pub use stepping::{batch_once, batch_once_with};
 pub use training::train;

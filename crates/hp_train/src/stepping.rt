@@ -1,5 +1,5 @@
 // One iteration of training.
-ghost use Rattle.std.specs.Prelude.{◌≡◌, ◌<◌, ◌≤◌, ◌^◌, ℕ, [], length, All, IfOk, IfErr, OnOk, OnErr};
+ghost use Rattle.std.specs.Prelude.{◌≡◌, ◌<◌, ◌≤◌, ◌^◌, ℕ, [], length, All, IfOk, IfErr, OnErr};
 ghost use Rattle.hp_num.specs.Steps.{GivesOr};
 ghost use Rattle.hp_theory.specs.Fit.{Fit};
 ghost use Rattle.hp_theory.specs.Pools.{pool, Sound};
@@ -15,10 +15,10 @@ ghost use Rattle.hp_train.specs.Stepping.{along, or_dead, seen, step_of, with_pa
 
 use crate::counts::{counts, cut_back};
 use crate::drawing::{first_stream, paths_from};
-use hp_backward::{SweepFault, sweep};
+use hp_backward::{SweepFault, sweep_with};
 use hp_cut::{Entry, Pools};
-use hp_forward::{StageFault, states_all};
-use hp_lp::Starts;
+use hp_forward::{StageFault, states_all_with};
+use hp_lp::{SpareRows, Starts};
 use hp_num::List;
 use hp_problem::Problem;
 use hp_sampler::{Step, Walk};
@@ -40,6 +40,7 @@ struct Iteration<'a, V: Solver> {
 fn sweep_path<R: Threads + Sync, V: Solver>(
     rt: &R,
     alloc: Global,
+    spare: &mut SpareRows,
     iteration: &Iteration<V>,
     pools: &mut Pools,
     path: &[Step],
@@ -59,9 +60,10 @@ fn sweep_path<R: Threads + Sync, V: Solver>(
     ensures sound { Sound (problem_of iteration.now.problem.now) pools.old.lists → Sound (problem_of iteration.now.problem.now) pools.new.lists }
 {
     let _ = iteration.problem.raw();
-    let entry = sweep(
+    let entry = sweep_with(
         rt,
         alloc,
+        spare,
         iteration.problem,
         pools,
         iteration.solver,
@@ -79,6 +81,7 @@ fn sweep_path<R: Threads + Sync, V: Solver>(
 fn sweep_all<R: Threads + Sync, V: Solver>(
     rt: &R,
     alloc: Global,
+    spare: &mut SpareRows,
     iteration: &Iteration<V>,
     pools: &mut Pools,
     paths: &[List<Step>],
@@ -103,6 +106,7 @@ fn sweep_all<R: Threads + Sync, V: Solver>(
         sweep_path(
             rt,
             alloc,
+            spare,
             iteration,
             pools,
             paths[i].as_slice(),
@@ -117,6 +121,7 @@ fn sweep_all<R: Threads + Sync, V: Solver>(
 fn walked<R: Threads + Sync, V: Solver>(
     rt: &R,
     alloc: Global,
+    spare: &mut SpareRows,
     iteration: &Iteration<V>,
     pools: &Pools,
     paths: &[List<Step>],
@@ -129,9 +134,10 @@ fn walked<R: Threads + Sync, V: Solver>(
     ensures walks { IfOk result (AreWalks iteration.now.problem.now paths.now) }
     ensures dead { IfErr result (IsDead iteration.now.problem.now) }
 {
-    match states_all(
+    match states_all_with(
         rt,
         alloc,
+        spare,
         iteration.problem,
         pools,
         iteration.solver,
@@ -150,6 +156,7 @@ fn walked<R: Threads + Sync, V: Solver>(
 fn go_along<R: Threads + Sync, V: Solver>(
     rt: &R,
     alloc: Global,
+    spare: &mut SpareRows,
     iteration: &Iteration<V>,
     pools: &mut Pools,
     paths: &[List<Step>],
@@ -168,10 +175,11 @@ fn go_along<R: Threads + Sync, V: Solver>(
     ensures fit { Fit (problem_of iteration.now.problem.now) (length iteration.now.problem.now.raw.nodes) pools.new.lists }
     ensures sound { Sound (problem_of iteration.now.problem.now) pools.old.lists → Sound (problem_of iteration.now.problem.now) pools.new.lists }
 {
-    let walks = walked(rt, alloc, iteration, pools, paths)?;
+    let walks = walked(rt, alloc, spare, iteration, pools, paths)?;
     sweep_all(
         rt,
         alloc,
+        spare,
         iteration,
         pools,
         paths,
@@ -216,6 +224,41 @@ pub fn batch_once<R: Threads + Sync, V: Solver>(
     ensures fit { Fit (problem_of problem.now) (length problem.now.raw.nodes) pools.new.lists }
     ensures sound { Sound (problem_of problem.now) pools.old.lists → Sound (problem_of problem.now) pools.new.lists }
 {
+    let mut spare = SpareRows::new(alloc);
+    batch_once_with(
+        rt, alloc, &mut spare, problem, solver, starts, pools, seed, batch, iteration,
+    )
+}
+
+/// The iteration of [`batch_once`], the stage problems in the memory of rows that are spare. Its faults are those of
+/// [`batch_once`].
+pub fn batch_once_with<R: Threads + Sync, V: Solver>(
+    rt: &R,
+    alloc: Global,
+    spare: &mut SpareRows,
+    problem: &Problem,
+    solver: &V,
+    starts: &Starts<V>,
+    pools: &mut Pools,
+    seed: u64,
+    batch: u16,
+    iteration: u32,
+) -> Result<List<Entry>, SweepFault>
+    requires fit { Fit (problem_of problem.now) (length problem.now.raw.nodes) pools.old.lists }
+    requires few { (m : ℕ) → length (pool pools.old.lists m) ≤ 2 ^ 23 }
+    requires ready { AreReady (V.started solver.now) (V.suits solver.now) problem.now starts.now.items }
+    requires first { 1 ≤ iteration }
+    requires last { iteration ≤ 2000 }
+    requires paths { 1 ≤ batch }
+    requires most { batch ≤ 64 }
+    ensures value { GivesOr Stops (seen pools.new.lists) result
+        (step_of (solving (V.started solver.now) (V.begun solver.now) (V.next solver.now)) problem.now pools.old.lists seed batch iteration) }
+    ensures extends { Extends batch pools.old.lists pools.new.lists }
+    ensures kept { OnErr result (pools.new.lists ≡ pools.old.lists) }
+    ensures dead { IfErr result (IsDead problem.now) }
+    ensures fit { Fit (problem_of problem.now) (length problem.now.raw.nodes) pools.new.lists }
+    ensures sound { Sound (problem_of problem.now) pools.old.lists → Sound (problem_of problem.now) pools.new.lists }
+{
     let _ = problem.raw();
     let paths = paths_from(alloc, problem, seed, first_stream(batch, iteration), batch)?;
     let counts = counts(alloc, pools)?;
@@ -226,7 +269,15 @@ pub fn batch_once<R: Threads + Sync, V: Solver>(
         number: iteration,
     };
     let mut entries = List::new(alloc);
-    match go_along(rt, alloc, &iteration, pools, paths.as_slice(), &mut entries) {
+    match go_along(
+        rt,
+        alloc,
+        spare,
+        &iteration,
+        pools,
+        paths.as_slice(),
+        &mut entries,
+    ) {
         Ok(()) => Ok(entries),
         Err(fault) => {
             cut_back(pools, counts.as_slice());

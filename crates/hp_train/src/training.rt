@@ -1,6 +1,6 @@
 // Training: iterations one after another, with a record of each in the journal.
-ghost use Rattle.std.specs.Prelude.{◌≡◌, ◌≢◌, ◌≤◌, ◌+◌, ◌-◌, ◌*◌, ◌^◌, ◌++◌, ◌∷◌, [], ℕ, List, true, false, length, take, is_some, option_map, All, IfOk, IfErr, IfSome, OnOk, None, Err};
-ghost use Rattle.std.specs.List.{AllByRecursion, sum_by};
+ghost use Rattle.std.specs.Prelude.{◌≡◌, ◌≢◌, ◌≤◌, ◌+◌, ◌-◌, ◌*◌, ◌^◌, [], ℕ, List, true, false, length, take, is_some, option_map, All, IfOk, IfErr, IfSome, OnOk, None, Err};
+ghost use Rattle.std.specs.List.{AllByRecursion};
 ghost use Rattle.hp_num.specs.Steps.{GivesOr};
 ghost use Rattle.hp_outside.specs.Since.{Quiet, LeavesOnly};
 ghost use Rattle.hp_problem.specs.Formulas.{too_much};
@@ -15,8 +15,8 @@ ghost use Rattle.hp_journal.specs.Causes.{DiskCause};
 ghost use Rattle.hp_journal.specs.Gates.{IsShutAt};
 ghost use Rattle.hp_journal.specs.Head.{IsUnborn};
 ghost use Rattle.hp_journal.specs.Layout.{IsBody, Title, body_of, journal};
-ghost use Rattle.hp_journal.specs.Mine.{GrownFrom, Mine};
-ghost use Rattle.hp_load.specs.Load.{first_gate, seen};
+ghost use Rattle.hp_journal.specs.Mine.{GrownFrom};
+ghost use Rattle.hp_load.specs.Load.{seen};
 ghost use Rattle.hp_lp.specs.Chained.{solving};
 ghost use Rattle.hp_lp.specs.Ready.{AreReady};
 ghost use Rattle.hp_train.specs.Continuing.{continued};
@@ -28,12 +28,12 @@ ghost use Rattle.hp_train.specs.declared.fault.TrainFault.TheVariants.{DiskFault
 
 use crate::fault::TrainFault;
 use crate::opening::open_end;
-use crate::stepping::batch_once;
+use crate::stepping::batch_once_with;
 use hp_backward::SweepFault;
 use hp_cut::{Entry, Pools};
 use hp_journal::append;
 use hp_load::{Loaded, unsettled};
-use hp_lp::Starts;
+use hp_lp::{SpareRows, Starts};
 use hp_num::{List, Memory};
 use hp_outside::Disk;
 use hp_problem::Problem;
@@ -69,6 +69,7 @@ fn body_of(alloc: Global, problem: &Problem, entries: &[Entry]) -> Result<Vec<u8
 fn stepped<R: Threads + Sync, V: Solver>(
     rt: &R,
     alloc: Global,
+    spare: &mut SpareRows,
     course: &Course<V>,
     pools: &mut Pools,
     batch: u16,
@@ -89,9 +90,10 @@ fn stepped<R: Threads + Sync, V: Solver>(
     ensures fit { Fit (problem_of course.now.problem.now) (length course.now.problem.now.raw.nodes) pools.new.lists }
     ensures sound { Sound (problem_of course.now.problem.now) pools.old.lists → Sound (problem_of course.now.problem.now) pools.new.lists }
 {
-    match batch_once(
+    match batch_once_with(
         rt,
         alloc,
+        spare,
         course.problem,
         course.solver,
         course.starts,
@@ -123,6 +125,7 @@ fn stepped<R: Threads + Sync, V: Solver>(
 fn iterate<R: Threads + Sync, V: Solver>(
     rt: &R,
     alloc: Global,
+    spare: &mut SpareRows,
     course: &Course<V>,
     loaded: &mut Loaded,
     number: u32,
@@ -149,7 +152,7 @@ fn iterate<R: Threads + Sync, V: Solver>(
 {
     let _ = course.problem.raw();
     let batch = loaded.batch;
-    let entries = stepped(rt, alloc, course, &mut loaded.pools, batch, number)?;
+    let entries = stepped(rt, alloc, spare, course, &mut loaded.pools, batch, number)?;
     let body = body_of(alloc, course.problem, entries.as_slice())?;
     loaded.bounds.push(loaded.pools.bound(course.problem))?;
     loaded.unsettled += unsettled(entries.as_slice());
@@ -196,8 +199,9 @@ fn iterate_all<R: Threads + Sync, D: Disk, V: Solver>(
 {
     let _ = course.problem.raw();
     let before = loaded.bounds.len() as u32;
+    let mut spare = SpareRows::new(alloc);
     for done in 0..left {
-        let body = iterate(rt, alloc, course, loaded, before + done + 1)?;
+        let body = iterate(rt, alloc, &mut spare, course, loaded, before + done + 1)?;
         loaded.end = append(disk, loaded.end, body.as_slice())?;
     }
     Ok(())

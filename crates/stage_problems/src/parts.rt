@@ -1,5 +1,5 @@
 // The parts that are measured.
-ghost use Rattle.std.specs.Prelude.{◌≡◌, ◌<◌, length, IfOk};
+ghost use Rattle.std.specs.Prelude.{◌<◌, length, IfOk};
 ghost use Rattle.hp_lp.specs.Nodes.{IsStageAt};
 ghost use Rattle.hp_theory.specs.Fit.{Fit};
 ghost use Rattle.hp_theory.specs.View.{problem_of};
@@ -12,11 +12,11 @@ use crate::moments::{Moment, first, last};
 use crate::texts::{push_certificate, push_program};
 use hp_cut::Pools;
 use hp_dual::base;
-use hp_lp::{give_back, restate, stage_with};
-use hp_num::{Memory, Spare};
+use hp_lp::{SpareRows, restate, stage_with};
+use hp_num::Memory;
 use hp_problem::Problem;
 use hp_settle::settle;
-use hp_solver::{Answer, Fx, StageLp};
+use hp_solver::{Answer, StageLp};
 use hp_theory::Certificate;
 use std::alloc::Global;
 
@@ -32,10 +32,10 @@ pub struct Counts {
 /// The node whose stage problem is measured.
 const NODE: u32 = 0;
 
-/// The stage problem at a moment, the terms of its rows in lists that are spare.
+/// The stage problem at a moment, in the memory of rows that are spare.
 fn stage_at(
     alloc: Global,
-    spare: &mut Spare<(u32, Fx)>,
+    spare: &mut SpareRows,
     problem: &Problem,
     pools: &Pools,
     moment: &Moment,
@@ -55,7 +55,7 @@ fn stage_at(
     )
 }
 
-/// The stage problem, built so many times and once, each time in the lists of the one before, as along a path of
+/// The stage problem, built so many times and once, each time in the memory of the one before, as along a path of
 /// training.
 fn built(
     alloc: Global,
@@ -68,10 +68,10 @@ fn built(
     requires moment { MayStand problem.now 0 moment.now.values.now moment.now.state }
     ensures { IfOk result (IsStageAt problem.now 0) }
 {
-    let mut spare = Spare::new(alloc);
+    let mut spare = SpareRows::new(alloc);
     for _ in 0..builds {
         let lp = stage_at(alloc, &mut spare, problem, pools, moment)?;
-        give_back(lp, &mut spare);
+        spare.give_back(lp);
     }
     stage_at(alloc, &mut spare, problem, pools, moment)
 }

@@ -11,12 +11,12 @@ use crate::twice::Twice;
 use hp_backward::SweepFault;
 use hp_cut::{Entry, Pools};
 use hp_dual::base;
-use hp_lp::Starts;
+use hp_lp::{SpareRows, Starts};
 use hp_num::{List, Memory};
 use hp_problem::Problem;
 use hp_simplex::DualSimplex;
 use hp_solver::{Answer, Fx, Kind, Liar, Meeting, Solver, Zero};
-use hp_train::batch_once;
+use hp_train::batch_once_with;
 use hp_warm_simplex::WarmSimplex;
 use std::alloc::Global;
 use std::fmt::Write;
@@ -70,6 +70,7 @@ fn push_told(text: &mut String, entries: &[Entry], told: Told) -> Result<(), Row
 fn step<R: Threads + Sync, V: Solver>(
     rt: &R,
     alloc: Global,
+    spare: &mut SpareRows,
     problem: &Problem,
     solver: &V,
     starts: &Starts<V>,
@@ -87,8 +88,8 @@ fn step<R: Threads + Sync, V: Solver>(
     if !has_room(pools) {
         return Err(RowFault::Memory);
     }
-    match batch_once(
-        rt, alloc, problem, solver, starts, pools, plan.seed, batch, iteration,
+    match batch_once_with(
+        rt, alloc, spare, problem, solver, starts, pools, plan.seed, batch, iteration,
     ) {
         Ok(entries) => push_told(text, entries.as_slice(), plan.told),
         Err(SweepFault::NoStage(dead)) => push_dead(text, &dead),
@@ -111,10 +112,12 @@ fn steps<R: Threads + Sync, V: Solver>(
     requires ready { AreReady (V.started solver.now) (V.suits solver.now) problem.now starts.now.items }
     ensures fit { Fit (problem_of problem.now) (length problem.now.raw.nodes) pools.new.lists }
 {
+    let mut spare = SpareRows::new(alloc);
     for done in 0..plan.count.min(2000) {
         step(
             rt,
             alloc,
+            &mut spare,
             problem,
             solver,
             starts,

@@ -1,7 +1,0 @@
-use Rattle.std.proofs.Common.{◌≡◌, take}
-use Rattle.std.specs.List.{flat_map}
-use Rattle.hp_lp.specs.Outs.{slope_of}
-use Rattle.hp_lp.proofs.cut_rows.slope_terms.Given as goal
-
-abbrev pub invariant-loop-out : goal.invariant-loop-out
-invariant-loop-out l = l.terms ≡ flat_map (slope_of l.cut) (take l.out-index l.outs)

@@ -1,0 +1,53 @@
+// The boxes of what leaves a stage as states.
+ghost use Rattle.std.specs.Prelude.{◌≡◌, ◌<◌, true, length, nat_lt, IfOk};
+ghost use Rattle.std.specs.List.{list_all};
+ghost use Rattle.hp_num.specs.Sums.{entry};
+ghost use Rattle.hp_problem.specs.Sealed.{out_lows, out_highs};
+ghost use Rattle.hp_lp.specs.OutBoxes.{out_box, out_boxes};
+
+use hp_num::{List, Memory};
+use hp_problem::{Decision, Subproblem};
+use std::alloc::Global;
+
+/// The box of what leaves a stage as a state, in whole units.
+#[derive(Clone, Copy)]
+pub(crate) struct OutBox {
+    /// The lesser end.
+    pub(crate) least: i64,
+    /// The greater end.
+    pub(crate) greatest: i64,
+}
+
+/// The decision that leaves the stage as a state.
+pub(crate) fn out_decision(subproblem: &Subproblem, state: usize) -> &Decision
+    requires there { state < length subproblem.now.outs }
+    requires known { list_all (λ o. nat_lt o (length subproblem.now.decisions)) subproblem.now.outs ≡ true }
+    ensures low { entry (out_lows subproblem.now) state ≡ result.now.low }
+    ensures high { entry (out_highs subproblem.now) state ≡ result.now.high }
+{
+    &subproblem.decisions.as_slice()[subproblem.outs.as_slice()[state] as usize]
+}
+
+fn out_box(subproblem: &Subproblem, state: usize) -> OutBox
+    requires there { state < length subproblem.now.outs }
+    requires known { list_all (λ o. nat_lt o (length subproblem.now.decisions)) subproblem.now.outs ≡ true }
+    ensures { result ≡ out_box subproblem.now state }
+{
+    let out = out_decision(subproblem, state);
+    OutBox {
+        least: out.low.min(out.high),
+        greatest: out.low.max(out.high),
+    }
+}
+
+/// The boxes of what leaves a stage, one for each state. [`Memory`] where memory was refused.
+pub(crate) fn out_boxes(alloc: Global, subproblem: &Subproblem) -> Result<List<OutBox>, Memory>
+    requires known { list_all (λ o. nat_lt o (length subproblem.now.decisions)) subproblem.now.outs ≡ true }
+    ensures { IfOk result (λ found. found ≡ out_boxes subproblem.now) }
+{
+    let mut found = List::from_vec(Vec::with_capacity(alloc, subproblem.outs.len())?);
+    for state in 0..subproblem.outs.len() {
+        found.push(out_box(subproblem, state))?;
+    }
+    Ok(found)
+}

@@ -1,0 +1,52 @@
+// Rows of stage problems whose memory serves again.
+use hp_num::List;
+use hp_solver::{LpRow, StageLp};
+use std::alloc::Global;
+use std::mem;
+
+/// Rows of stage problems that are done with. Those of the next stage problem are written over them; no result depends on
+/// what is kept.
+#[derive(Drop)]
+pub struct SpareRows {
+    /// The rows of the stage problem that came back last.
+    rows: Vec<LpRow>,
+    /// Rows that stage problems with fewer rows had no use for.
+    left_over: Vec<LpRow>,
+}
+
+impl SpareRows {
+    /// Nothing is kept yet.
+    pub fn new(alloc: Global) -> SpareRows {
+        SpareRows {
+            rows: Vec::new(alloc),
+            left_over: Vec::new(alloc),
+        }
+    }
+
+    /// Keeps the rows of a stage problem that is done with, in place of those that came back before.
+    pub fn give_back(&mut self, lp: StageLp) {
+        self.rows = lp.rows.into_vec();
+    }
+
+    /// Takes the rows of the stage problem that came back last, none where they are taken already.
+    pub(crate) fn take_rows(&mut self, alloc: Global) -> Vec<LpRow> {
+        mem::replace(&mut self.rows, Vec::new(alloc))
+    }
+
+    /// Takes a row that is left over, or makes one.
+    pub(crate) fn take_row(&mut self, alloc: Global) -> LpRow {
+        match self.left_over.pop() {
+            Some(row) => row,
+            None => LpRow {
+                low: None,
+                high: None,
+                terms: List::new(alloc),
+            },
+        }
+    }
+
+    /// Keeps a row that is left over. Where memory for keeping it is refused, it is dropped.
+    pub(crate) fn keep(&mut self, row: LpRow) {
+        let _ = self.left_over.push(row);
+    }
+}
