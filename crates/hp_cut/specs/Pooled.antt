@@ -2,6 +2,11 @@
 use Rattle.std.specs.Prelude.{ℕ, List}
 use Rattle.hp_theory.specs.declared.cut.Cut.{Cut}
 
+-- the cuts of a node, and how many more have room
+pub record PooledCuts : Type 0 where
+  pub cuts : List Cut
+  pub spare : ℕ
+
 pub record Pooled : Type 0 where
   -- the cuts of each node
   pub lists : List (List Cut)

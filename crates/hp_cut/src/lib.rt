@@ -3,12 +3,16 @@
 
 mod cut_value;
 pub mod entry;
+mod flat_slopes;
+pub mod peaks;
+mod pool;
 pub mod pools;
 
 pub use cut_value::value_of_cut;
 pub use entry::{Entry, EntryStep};
 pub use hp_theory::{Certificate, Cut};
-pub use pools::Pools;
+pub use peaks::OutBox;
+pub use pools::{Pools, root_weight};
 
 #[cfg(test)]
 mod tests;

@@ -1,6 +1,6 @@
 // Pools of cuts.
 ghost use Rattle.std.specs.Int.{w128};
-ghost use Rattle.std.specs.Prelude.{◌≡◌, ◌≢◌, ◌+◌, ◌-◌, ◌<◌, ◌≤◌, ◌^◌, ◌*◌, ℕ, ℤ, pos, ◌+ℤ◌, ◌*ℤ◌, ◌≤ℤ◌, [], ◌∷◌, ◌++◌, vec_len, vec_capacity, length, sum, true, replicate, get_or, set, take, if◌then◌else◌, is_ok, IfOk, OnOk, IsOk};
+ghost use Rattle.std.specs.Prelude.{◌≡◌, ◌≢◌, ◌+◌, ◌-◌, ◌<◌, ◌≤◌, ◌^◌, ◌*◌, ℕ, ℤ, pos, ◌+ℤ◌, ◌*ℤ◌, ◌≤ℤ◌, [], length, sum, true, replicate, get_or, set, take, if◌then◌else◌, is_ok, IfOk, IfSome, OnOk, IsOk};
 ghost use Rattle.hp_num.specs.Sums.{total};
 ghost use Rattle.hp_problem.specs.Sealed.{is_sealed};
 ghost use Rattle.hp_theory.specs.Problem.{node_at, link_weights};
@@ -10,8 +10,11 @@ ghost use Rattle.hp_theory.specs.Fit.{Fit};
 ghost use Rattle.hp_theory.specs.Pools.{pool, no_cut, push, Sound};
 ghost use Rattle.hp_theory.specs.Bound.{value, weighted_value, bound, Under};
 ghost use Rattle.hp_theory.specs.View.{problem_of, links_of};
+ghost use Rattle.hp_cut.specs.Peaks.{peak_over};
 
 use crate::cut_value::greatest;
+use crate::peaks::OutBox;
+use crate::pool::Pool;
 use hp_num::{Memory, add_product, floor_div};
 use hp_problem::Problem;
 use hp_theory::Cut;
@@ -22,18 +25,16 @@ use std::marker::Model;
 /// 2^24 cuts.
 #[derive(Drop)]
 pub struct Pools {
-    lists: Vec<Vec<Cut>>,
+    lists: Vec<Pool>,
 }
 
 impl Model for Pools {
-    ghost use Rattle.std.specs.Prelude.{◌-◌, ◌≤◌, ◌^◌, All, map, vec_len, vec_capacity};
-    ghost use Rattle.hp_cut.specs.Pooled.{Pooled};
+    ghost use Rattle.std.specs.Prelude.{map};
+    ghost use Rattle.hp_cut.specs.Pooled.{Pooled, PooledCuts};
 
     ghost Value = { Pooled };
 
-    ghost view = { λ p. record { lists = map (λ v. v.items) p.lists.items; spare = map (λ v. vec_capacity v - vec_len v) p.lists.items } };
-
-    ghost invariant = { λ p. All (λ v. vec_len v ≤ 2 ^ 24) p.lists.items };
+    ghost view = { λ p. record { lists = map (λ (v : PooledCuts). v.cuts) p.lists.items; spare = map (λ (v : PooledCuts). v.spare) p.lists.items } };
 }
 
 impl Pools {
@@ -43,7 +44,7 @@ impl Pools {
     {
         let mut lists = Vec::new(alloc);
         for _ in 0..nodes {
-            lists.push(Vec::new(alloc))?;
+            lists.push(Pool::new(alloc))?;
         }
         Ok(Pools { lists })
     }
@@ -69,8 +70,7 @@ impl Pools {
         ensures grown { get_or self.old.spare node 0 ≤ get_or self.new.spare node 0 }
         ensures others { (k : ℕ) → k ≢ node → get_or self.new.spare k 0 ≡ get_or self.old.spare k 0 }
     {
-        self.lists[node as usize].reserve(count as usize)?;
-        Ok(())
+        self.lists[node as usize].reserve(count)
     }
 
     /// Appends a cut to a node's list. [`Memory`] comes only where there was no room, and then the
@@ -83,7 +83,7 @@ impl Pools {
         ensures taken { get_or self.old.spare node 0 ≤ get_or self.new.spare node 0 + 1 }
         ensures others { (k : ℕ) → k ≢ node → get_or self.new.spare k 0 ≡ get_or self.old.spare k 0 }
     {
-        append(&mut self.lists[node as usize], cut)
+        self.lists[node as usize].push(cut)
     }
 
     /// Keeps the first cuts of a node, as many as the count says. The room of those that go is free.
@@ -93,7 +93,7 @@ impl Pools {
         ensures freed { get_or self.old.spare node 0 + (length (pool self.old.lists node) - count) ≡ get_or self.new.spare node 0 }
         ensures others { (k : ℕ) → k ≢ node → get_or self.new.spare k 0 ≡ get_or self.old.spare k 0 }
     {
-        self.lists[node as usize].truncate(count as usize);
+        self.lists[node as usize].truncate(count);
     }
 
     /// The number of nodes.
@@ -109,7 +109,7 @@ impl Pools {
         ensures value { result ≡ length (pool self.now.lists node) }
         ensures few { result ≤ 2 ^ 24 }
     {
-        self.lists[node as usize].len() as u32
+        self.lists[node as usize].count()
     }
 
     /// The cut of a node at a place, from 0.
@@ -126,7 +126,37 @@ impl Pools {
         requires { node < length self.now.lists }
         ensures { result.now ≡ pool self.now.lists node }
     {
-        self.lists[node].as_slice()
+        self.lists[node].cuts()
+    }
+
+    /// Makes a node's cuts ready for stage problems of a predecessor from now on: keeps their slopes side by side, and the
+    /// greatest of their values over what may leave the predecessor, one box per state. It is a matter of time alone, and
+    /// what is kept goes where a node's cuts are cut back. [`Memory`] where memory was refused. The cuts and their room
+    /// stay in either case.
+    pub fn prepare(&mut self, alloc: Global, node: u32, boxes: &[OutBox]) -> Result<(), Memory>
+        requires { node < length self.old.lists }
+        ensures { self.new ≡ self.old }
+    {
+        let pool = &mut self.lists[node as usize];
+        pool.keep_slopes(alloc);
+        pool.keep_peak(alloc, boxes)
+    }
+
+    /// The greatest value of a node's cuts over a box, one entry per state, at scale 2^24, where it is kept.
+    pub fn peak(&self, node: usize, boxes: &[OutBox]) -> Option<i128>
+        requires { node < length self.now.lists }
+        ensures { IfSome result (λ peak. peak ≡ peak_over boxes.now (pool self.now.lists node)) }
+    {
+        self.lists[node].peak(boxes)
+    }
+
+    /// The slopes of the cut of a node at a place, from 0.
+    pub fn slopes(&self, node: usize, place: usize) -> &[i128]
+        requires known { node < length self.now.lists }
+        requires there { place < length (pool self.now.lists node) }
+        ensures { result.now ≡ (get_or (pool self.now.lists node) place no_cut).beta }
+    {
+        self.lists[node].slopes(place)
     }
 
     /// The greatest value of a node's cuts at a whole state inside its box, at scale 2^24.
@@ -170,19 +200,8 @@ impl Pools {
     }
 }
 
-// Appends a cut, or leaves the cuts as they are where memory was refused.
-fn append(cuts: &mut Vec<Cut>, cut: Cut) -> Result<(), Memory>
-    ensures cuts { cuts.new.items ≡ (if is_ok result then cuts.old.items ++ cut ∷ [] else cuts.old.items) }
-    ensures room { vec_len cuts.old < vec_capacity cuts.old → IsOk result }
-    ensures taken { vec_capacity cuts.old - vec_len cuts.old ≤ vec_capacity cuts.new - vec_len cuts.new + 1 }
-{
-    match cuts.push(cut) {
-        Ok(()) => Ok(()),
-        Err(_) => Err(Memory),
-    }
-}
-
-fn root_weight(problem: &Problem) -> i128
+/// The sum of the weights of the root's successors.
+pub fn root_weight(problem: &Problem) -> i128
     ensures value { result ≡ pos (sum (link_weights (problem_of problem.now).root)) }
     ensures some { pos 1 ≤ℤ result }
     ensures sealed { is_sealed problem.now ≡ true }

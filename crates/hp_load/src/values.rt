@@ -1,15 +1,15 @@
 // The values of the root's successors at the initial state, kept up as cuts come, and the bound that is made of them.
-ghost use Rattle.std.specs.Prelude.{◌≡◌, ◌<◌, ◌≤◌, ◌^◌, ℤ, pos, ◌≤ℤ◌, length, get_or, set, sum, if◌then◌else◌, is_ok, IfOk, OnOk};
+ghost use Rattle.std.specs.Prelude.{◌≡◌, ◌<◌, ◌^◌, pos, length, get_or, set, if◌then◌else◌, is_ok, IfOk, OnOk};
 ghost use Rattle.std.specs.Int.{int_max};
 ghost use Rattle.hp_problem.specs.Sealed.{initial_values};
-ghost use Rattle.hp_theory.specs.Problem.{node_at, link_weights};
+ghost use Rattle.hp_theory.specs.Problem.{node_at};
 ghost use Rattle.hp_theory.specs.Fit.{CutFits, Fit};
 ghost use Rattle.hp_theory.specs.Pools.{pool, push};
 ghost use Rattle.hp_theory.specs.Bound.{bound, value_of_cut, weighted_value};
 ghost use Rattle.hp_theory.specs.View.{problem_of};
 ghost use Rattle.hp_load.specs.RootValues.{raised, root_values};
 
-use hp_cut::{Cut, Pools, value_of_cut};
+use hp_cut::{Cut, Pools, root_weight, value_of_cut};
 use hp_num::{List, Memory, add_product, floor_div};
 use hp_problem::Problem;
 use std::alloc::Global;
@@ -89,20 +89,6 @@ fn weighted(problem: &Problem, pools: &Pools, values: &[i128]) -> i128
         sum = add_product(sum, i128::from(weights[i]), values[i]);
     }
     sum
-}
-
-fn total(weights: &[u32]) -> u64
-    requires { length weights.now ≤ 2 ^ 16 }
-    ensures { result ≡ sum weights.now }
-{
-    weights.iter().map(|weight| u64::from(*weight)).sum()
-}
-
-fn root_weight(problem: &Problem) -> i128
-    ensures value { result ≡ pos (sum (link_weights (problem_of problem.now).root)) }
-    ensures some { pos 1 ≤ℤ result }
-{
-    i128::from(total(problem.raw().root_weights.as_slice()))
 }
 
 /// The bound of pools of which these are the values of the root's successors, at scale 2^24.

@@ -1,10 +1,10 @@
 -- Sums and lists that grow by one.
-use Rattle.std.proofs.Common.{◌≡◌, ℕ, ◌+◌, ◌*◌, ◌<◌, ◌≤◌, ◌^◌, ℤ, ◌+ℤ◌, nat_abs, List, [], ◌∷◌, ◌++◌, length, map, take, get_or, add-one, arith, ap, sym, ◌∙◌}
+use Rattle.std.proofs.Common.{◌≡◌, ℕ, ◌+◌, ◌*◌, ◌<◌, ◌≤◌, ◌^◌, ℤ, ◌+ℤ◌, nat_abs, List, [], ◌∷◌, ◌++◌, length, map, take, get_or, arith, ap, sym, ◌∙◌}
 use Rattle.std.proofs.lemmas.Int.{ints}
 use Rattle.std.proofs.lemmas.List.{take_more, map-append, append_assoc}
-use lib.IntN.{+ℤ_assoc}
 use Rattle.hp_num.specs.Sums.{sum_to, total}
-use Rattle.hp_num.proofs.Fronts.{sum_more, total_more}
+use Rattle.hp_num.proofs.Fronts.{total_more}
+use Rattle.hp_cut.proofs.RaisedPeaks.{summand}
 
 -- the range of a sum with one summand more, each at most m
 range_more : (v z r : ℤ) (k m : ℕ) → nat_abs v ≤ k * m → nat_abs z ≤ m → r ≡ v +ℤ z → nat_abs r ≤ (k + 1) * m
@@ -13,7 +13,7 @@ range_more v z r k m h small s = omega (arith, ints, s, small, h)
 -- the sum r of v and one summand more, and its range
 pub summed : (a v z r : ℤ) (k : ℕ) (f : ℕ → ℤ) → v ≡ a +ℤ sum_to k f → nat_abs v ≤ (k + 1) * 2 ^ 104 → z ≡ f k → nat_abs z ≤ 2 ^ 104 → r ≡ v +ℤ z → (r ≡ a +ℤ sum_to (k + 1) f) × (nat_abs r ≤ (k + 1 + 1) * 2 ^ 104)
 summed a v z r k f e h is small s = (
-  rw add-one (s ∙ ap (λ (x : ℤ). x +ℤ z) e ∙ ap (λ (x : ℤ). a +ℤ sum_to k f +ℤ x) is ∙ +ℤ_assoc a (sum_to k f) (f k) ∙ ap (λ (x : ℤ). a +ℤ x) (sym (sum_more k f))),
+  summand a v z r k f e is s,
   range_more v z r (k + 1) (2 ^ 104) h small s,
 )
 

@@ -7,5 +7,6 @@ pub mod ProperStages
 pub mod SealedStages
 pub mod Alike
 pub mod OutBoxes
+pub mod PeaksOfCuts
 pub mod EachReady
 pub mod Answering

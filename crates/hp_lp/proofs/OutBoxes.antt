@@ -1,14 +1,13 @@
 -- The boxes of what leaves a stage, and the greatest products with their ends.
-use Rattle.std.proofs.Common.{◌≡◌, ◌∙◌, ℕ, ◌+◌, ◌<◌, ℤ, pos, negsuc, ◌*ℤ◌, ◌≤ℤ◌, true, false, List, length, get_or, ⊎_elim, arith, ap, sym}
+use Rattle.std.proofs.Common.{◌≡◌, ◌∙◌, ℕ, ◌<◌, ℤ, pos, negsuc, ◌*ℤ◌, true, false, List, length, get_or, arith, ap, sym}
 use Rattle.std.specs.Int.{int_min, int_max}
 use Rattle.std.specs.Int.Signed.{lt_z}
-use Rattle.std.proofs.lemmas.Bool.{cases_lt}
-use Rattle.std.proofs.lemmas.Int.{ints, clamps}
+use Rattle.std.proofs.lemmas.Int.{ints}
 use Rattle.std.proofs.lemmas.List.FromFn.{length-map-range_with_len, get_or-map-range_with_len}
-use borrow.Author.Differences.{up, down, at_most_in}
 use Rattle.hp_num.proofs.Order.{le_scale, le_flip}
+use Rattle.hp_cut.proofs.Ends.{in_order, lesser, later, greater, former}
 use Rattle.hp_problem.specs.declared.raw.Subproblem.{Subproblem}
-use Rattle.hp_lp.specs.declared.out_boxes.OutBox.{OutBox}
+use Rattle.hp_cut.specs.declared.peaks.OutBox.{OutBox}
 use Rattle.hp_lp.specs.OutBoxes.{out_box, out_boxes}
 
 -- one box for each state
@@ -17,22 +16,6 @@ as_many s boxes e = ap (λ (bs : List OutBox). length bs) e ∙ length-map-range
 
 pub box_at : (s : Subproblem) (boxes : List OutBox) (k : ℕ) (d : OutBox) → boxes ≡ out_boxes s → k < length s.outs → get_or boxes k d ≡ out_box s k
 box_at s boxes k d e h = ap (λ (bs : List OutBox). get_or bs k d) e ∙ get_or-map-range_with_len (out_box s) 0 (length s.outs) k k d h (omega arith)
-
--- one of two numbers is at most the other
-in_order : {A : Type 0} (l u : ℤ) → (l ≤ℤ u → A) → (u ≤ℤ l → A) → A
-in_order l u f g = ⊎_elim (λ h. f (at_most_in l u (omega (arith, h)))) (λ h. g (at_most_in u l h)) (cases_lt (up l + down u) (up u + down l))
-
-lesser : (a b : ℤ) → a ≤ℤ b → int_min a b ≡ a
-lesser a b h = omega (arith, ints, clamps)
-
-later : (a b : ℤ) → b ≤ℤ a → int_min a b ≡ b
-later a b h = omega (arith, ints, clamps)
-
-greater : (a b : ℤ) → a ≤ℤ b → int_max a b ≡ b
-greater a b h = omega (arith, ints, clamps)
-
-former : (a b : ℤ) → b ≤ℤ a → int_max a b ≡ a
-former a b h = omega (arith, ints, clamps)
 
 -- the greatest product with a number below 0 is that with the least end, and else that with the greatest
 pub at_least : (d l u : ℤ) → lt_z d (pos 0) ≡ true → d *ℤ int_min l u ≡ int_max (d *ℤ l) (d *ℤ u)

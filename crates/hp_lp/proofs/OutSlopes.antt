@@ -102,15 +102,15 @@ slope_at k (o ∷ os) (b ∷ bs) j e = pick (o == j) (slope_at (suc k) os bs j (
         ∙ later ∙ next_slope k b bs (state_from (suc k) os j) (λ n f. (state_within (suc k) os j n f).0)
 
 -- terms
-term_once : (c : Cut) (j : ℕ) (o : Option ℕ) → flat_map (slope_of c) (outs_at j o) ≡ term_of j (slope_from 0 c.beta o)
+term_once : (c : Cut) (j : ℕ) (o : Option ℕ) → flat_map (slope_of c.beta) (outs_at j o) ≡ term_of j (slope_from 0 c.beta o)
 term_once c j None = refl
 term_once c j (Some k) = let e : k ≡ k - 0 = omega arith in append-nil (term_of j (entry c.beta k)) ∙ ap (λ (i : ℕ). term_of j (entry c.beta i)) e
 
-terms_from : (s : Subproblem) (c : Cut) (a n : ℕ) → outs_differ s ≡ true → flat_map (slope_of c) (flat_map (λ j. outs_at j (state_from 0 s.outs j)) (range_with_len a n)) ≡ flat_map (λ j. term_of j (coefficient (placed s.outs c.beta) j)) (range_with_len a n)
+terms_from : (s : Subproblem) (c : Cut) (a n : ℕ) → outs_differ s ≡ true → flat_map (slope_of c.beta) (flat_map (λ j. outs_at j (state_from 0 s.outs j)) (range_with_len a n)) ≡ flat_map (λ j. term_of j (coefficient (placed s.outs c.beta) j)) (range_with_len a n)
 unfolding outs_differ
 terms_from s c a zero e = refl
 terms_from s c a (suc n) e =
-    flat_map-append (slope_of c) (outs_at a (state_from 0 s.outs a)) (flat_map (λ j. outs_at j (state_from 0 s.outs j)) (range_with_len (a + 1) n))
+    flat_map-append (slope_of c.beta) (outs_at a (state_from 0 s.outs a)) (flat_map (λ j. outs_at j (state_from 0 s.outs j)) (range_with_len (a + 1) n))
     ∙ ap₂ (λ (x y : List (ℕ × Fx)). x ++ y) (term_once c a (state_from 0 s.outs a) ∙ ap (term_of a) (sym (slope_at 0 s.outs c.beta a e))) (terms_from s c (a + 1) n e)
 
 row-cut_row : (s : Subproblem) (column : ℕ) (c : Cut) → outs_differ s ≡ true → row_over (outs_in_order s) column c ≡ cut_row s column c
@@ -130,11 +130,11 @@ outs_all : (P : Out → Type 0) (j : ℕ) (o : Option ℕ) → ((k : ℕ) → o 
 outs_all P j None h = All-nil P
 outs_all P j (Some k) h = All-cons P (record { decision = j; state = k }) [] (h k refl) (All-nil P)
 
-within_from : (s : Subproblem) (c : Cut) (a n : ℕ) → Spans s c → All (IsWithin c) (flat_map (λ j. outs_at j (state_from 0 s.outs j)) (range_with_len a n))
-within_from s c a zero f = All-nil (IsWithin c)
+within_from : (s : Subproblem) (c : Cut) (a n : ℕ) → Spans s c → All (IsWithin c.beta) (flat_map (λ j. outs_at j (state_from 0 s.outs j)) (range_with_len a n))
+within_from s c a zero f = All-nil (IsWithin c.beta)
 within_from s c a (suc n) f =
-    All-append (IsWithin c) (outs_at a (state_from 0 s.outs a)) (flat_map (λ j. outs_at j (state_from 0 s.outs j)) (range_with_len (a + 1) n))
-    (outs_all (IsWithin c) a (state_from 0 s.outs a) (λ k e. let w = state_within 0 s.outs a k e in record { there = omega (arith, w.1, f.slopes); small = f.each k (omega (arith, w.1)) })) (within_from s c (a + 1) n f)
+    All-append (IsWithin c.beta) (outs_at a (state_from 0 s.outs a)) (flat_map (λ j. outs_at j (state_from 0 s.outs j)) (range_with_len (a + 1) n))
+    (outs_all (IsWithin c.beta) a (state_from 0 s.outs a) (λ k e. let w = state_within 0 s.outs a k e in record { there = omega (arith, w.1, f.slopes); small = f.each k (omega (arith, w.1)) })) (within_from s c (a + 1) n f)
 
-pub within-spans : (s : Subproblem) (c : Cut) → Spans s c → All (IsWithin c) (outs_in_order s)
+pub within-spans : (s : Subproblem) (c : Cut) → Spans s c → All (IsWithin c.beta) (outs_in_order s)
 within-spans s c f = within_from s c 0 (length s.decisions) f

@@ -5,7 +5,7 @@ use Rattle.std.specs.List.{range_with_len}
 use Rattle.hp_num.specs.Sums.{entry}
 use Rattle.hp_problem.specs.declared.raw.Subproblem.{Subproblem}
 use Rattle.hp_problem.specs.Sealed.{out_lows, out_highs}
-use Rattle.hp_lp.specs.declared.out_boxes.OutBox.{OutBox}
+use Rattle.hp_cut.specs.declared.peaks.OutBox.{OutBox}
 
 -- the ends of the box of what leaves as the state k, the lesser and the greater
 abbrev pub out_box : Subproblem → ℕ → OutBox

@@ -1,5 +1,5 @@
 -- Cuts whose values over what leaves a stage stay small.
-use Rattle.std.specs.Prelude.{◌≡◌, ℕ, ◌<◌, ◌≤◌, ◌^◌, nat_abs, length}
+use Rattle.std.specs.Prelude.{◌≡◌, ℕ, ◌<◌, ◌≤◌, ◌^◌, ℤ, List, nat_abs, length}
 use Rattle.hp_num.specs.Sums.{entry}
 use Rattle.hp_problem.specs.declared.raw.Subproblem.{Subproblem}
 use Rattle.hp_theory.specs.declared.cut.Cut.{Cut}
@@ -14,7 +14,7 @@ pub record Spans (s : Subproblem) (c : Cut) : Type 0 where
   pub lows : (k : ℕ) → k < length s.outs → nat_abs (at_low s c k) ≤ 2 ^ 104
   pub highs : (k : ℕ) → k < length s.outs → nat_abs (at_high s c k) ≤ 2 ^ 104
 
--- the cut has a slope for the state, of at most 2^104
-pub record IsWithin (c : Cut) (o : Out) : Type 0 where
-  pub there : o.state < length c.beta
-  pub small : nat_abs (entry c.beta o.state) ≤ 2 ^ 104
+-- there is a slope for the state, of at most 2^104
+pub record IsWithin (slopes : List ℤ) (o : Out) : Type 0 where
+  pub there : o.state < length slopes
+  pub small : nat_abs (entry slopes o.state) ≤ 2 ^ 104

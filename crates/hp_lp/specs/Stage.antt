@@ -49,10 +49,14 @@ abbrev pub most_from : Subproblem → ℤ → List Cut → ℤ
 most_from s best [] = best
 most_from s best (c ∷ cs) = most_from s (int_max best (greatest_value s c)) cs
 
+-- the greatest value of some cuts over what may leave the stage
+abbrev pub peak_of : Subproblem → List Cut → ℤ
+peak_of s cuts = most_from s (greatest_value s (get_or cuts 0 no_cut)) cuts
+
 -- the cost of the future at a successor with these cuts: from the base cut's least value to the greatest of all cuts
 abbrev pub future_column : Subproblem → ℕ → List Cut → Column
 future_column s weight cuts =
-    record { low = scaled (least_value s (get_or cuts 0 no_cut)); high = scaled (most_from s (greatest_value s (get_or cuts 0 no_cut)) cuts); cost = whole (pos weight) }
+    record { low = scaled (least_value s (get_or cuts 0 no_cut)); high = scaled (peak_of s cuts); cost = whole (pos weight) }
 
 abbrev pub future_columns : Subproblem → List (List Cut) → List ℕ → List ℕ → List Column
 future_columns s pools links weights = map (λ (q : ℕ × ℕ). future_column s q.1 (pool pools q.0)) (zip links weights)

@@ -1,15 +1,15 @@
 // The columns of a stage problem: its decisions, and the cost of the future at each successor.
-ghost use Rattle.std.specs.Prelude.{◌≡◌, ◌<◌, ◌≤◌, ◌++◌, true, length, map, nat_lt, All, IfOk, OnOk};
+ghost use Rattle.std.specs.Prelude.{◌≡◌, ◌<◌, ◌≤◌, ◌^◌, ◌++◌, true, length, map, nat_lt, nat_abs, All, IfOk, OnOk};
 ghost use Rattle.std.specs.List.{list_all};
 ghost use Rattle.hp_theory.specs.Pools.{pool};
-ghost use Rattle.hp_lp.specs.Stage.{decision_column, future_column, future_columns};
+ghost use Rattle.hp_lp.specs.Stage.{decision_column, future_column, future_columns, peak_of};
 ghost use Rattle.hp_lp.specs.OutBoxes.{out_boxes};
 ghost use Rattle.hp_lp.specs.Spans.{Spans};
 
 use crate::cut_values::{greatest_value, least_value, most_from};
-use crate::out_boxes::{OutBox, out_boxes};
+use crate::out_boxes::out_boxes;
 use crate::scales::{scaled, weighted, whole};
-use hp_cut::{Cut, Pools};
+use hp_cut::{OutBox, Pools};
 use hp_num::{List, Memory};
 use hp_problem::{Decision, Subproblem};
 use hp_solver::Column;
@@ -40,20 +40,45 @@ pub(crate) fn decision_columns(
     Ok(found)
 }
 
-/// The cost of the future at a successor with a weight and cuts.
-fn future_column(subproblem: &Subproblem, boxes: &[OutBox], weight: u32, cuts: &[Cut]) -> Column
-    requires some { 0 < length cuts.now }
-    requires spans { All (Spans subproblem.now) cuts.now }
+/// The greatest value of a successor's cuts over what may leave the stage: the peak that the pools keep, and where they
+/// keep none, what a walk over the cuts gives.
+fn peak(subproblem: &Subproblem, boxes: &[OutBox], pools: &Pools, successor: usize) -> i128
+    requires there { successor < length pools.now.lists }
+    requires some { 0 < length (pool pools.now.lists successor) }
+    requires spans { All (Spans subproblem.now) (pool pools.now.lists successor) }
+    requires few { length subproblem.now.outs ≤ 50 }
+    requires boxes { boxes.now ≡ out_boxes subproblem.now }
+    ensures value { result ≡ peak_of subproblem.now (pool pools.now.lists successor) }
+    ensures small { nat_abs result ≤ 2 ^ 110 }
+{
+    if let Some(peak) = pools.peak(successor, boxes) {
+        return peak;
+    }
+    let cuts = pools.cuts(successor);
+    let first = greatest_value(subproblem, boxes, &cuts[0]);
+    most_from(subproblem, boxes, first, cuts)
+}
+
+/// The cost of the future at a successor with a weight.
+fn future_column(
+    subproblem: &Subproblem,
+    boxes: &[OutBox],
+    weight: u32,
+    pools: &Pools,
+    successor: usize,
+) -> Column
+    requires there { successor < length pools.now.lists }
+    requires some { 0 < length (pool pools.now.lists successor) }
+    requires spans { All (Spans subproblem.now) (pool pools.now.lists successor) }
     requires few { length subproblem.now.outs ≤ 50 }
     requires known { list_all (λ o. nat_lt o (length subproblem.now.decisions)) subproblem.now.outs ≡ true }
     requires boxes { boxes.now ≡ out_boxes subproblem.now }
-    ensures { result ≡ future_column subproblem.now weight cuts.now }
+    ensures { result ≡ future_column subproblem.now weight (pool pools.now.lists successor) }
 {
-    let base = &cuts[0];
-    let first = greatest_value(subproblem, boxes, base);
+    let base = &pools.cuts(successor)[0];
     Column {
         low: scaled(least_value(subproblem, base)),
-        high: scaled(most_from(subproblem, boxes, first, cuts)),
+        high: scaled(peak(subproblem, boxes, pools, successor)),
         cost: whole(i64::from(weight)),
     }
 }
@@ -77,8 +102,9 @@ pub(crate) fn push_future_columns(
 {
     let boxes = out_boxes(alloc, subproblem)?;
     for i in 0..links.len() {
-        let cuts = pools.cuts(links[i] as usize);
-        columns.push(future_column(subproblem, boxes.as_slice(), weights[i], cuts))?;
+        let successor = links[i] as usize;
+        let column = future_column(subproblem, boxes.as_slice(), weights[i], pools, successor);
+        columns.push(column)?;
     }
     Ok(())
 }

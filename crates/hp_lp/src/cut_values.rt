@@ -7,9 +7,9 @@ ghost use Rattle.hp_lp.specs.Stage.{least_value, greatest_value, most_from, at_l
 ghost use Rattle.hp_lp.specs.OutBoxes.{out_box, out_boxes};
 ghost use Rattle.hp_lp.specs.Spans.{Spans};
 
-use crate::out_boxes::{OutBox, out_decision};
+use crate::out_boxes::out_decision;
 use crate::scales::sum;
-use hp_cut::Cut;
+use hp_cut::{Cut, OutBox};
 use hp_problem::Subproblem;
 
 fn product(slope: i128, end: i64) -> i128

@@ -8,6 +8,7 @@ mod cut_values;
 pub mod laws;
 mod out_boxes;
 mod own_rows;
+pub mod preparing;
 pub mod references;
 mod scales;
 pub mod spare_rows;
@@ -16,6 +17,7 @@ pub mod starts;
 mod written_rows;
 
 pub use answers::{answered, answered_with};
+pub use preparing::prepare;
 pub use references::reference;
 pub use spare_rows::SpareRows;
 pub use stages::{restate, stage, stage_with};

@@ -5,18 +5,10 @@ ghost use Rattle.hp_num.specs.Sums.{entry};
 ghost use Rattle.hp_problem.specs.Sealed.{out_lows, out_highs};
 ghost use Rattle.hp_lp.specs.OutBoxes.{out_box, out_boxes};
 
+use hp_cut::OutBox;
 use hp_num::{List, Memory};
 use hp_problem::{Decision, Subproblem};
 use std::alloc::Global;
-
-/// The box of what leaves a stage as a state, in whole units.
-#[derive(Clone, Copy)]
-pub(crate) struct OutBox {
-    /// The lesser end.
-    pub(crate) least: i64,
-    /// The greater end.
-    pub(crate) greatest: i64,
-}
 
 /// The decision that leaves the stage as a state.
 pub(crate) fn out_decision(subproblem: &Subproblem, state: usize) -> &Decision

@@ -1,6 +1,5 @@
-use Rattle.std.proofs.Common.{◌<◌, ◌++◌, ◌∙◌, ℕ, List, length, map, zip, get_or, sym, ap, arith, take_all}
+use Rattle.std.proofs.Common.{◌<◌, ◌++◌, ◌∙◌, ℕ, List, length, map, zip, sym, ap, arith, take_all}
 use Rattle.std.proofs.lemmas.Slice.Zip.{get_or-zip, length-zip}
-use Rattle.hp_theory.specs.declared.cut.Cut.{Cut}
 use Rattle.hp_theory.specs.Pools.{pool}
 use Rattle.hp_solver.specs.declared.stage_lp.Column.{Column}
 use Rattle.hp_lp.specs.Stage.{future_column}
@@ -14,7 +13,7 @@ loop-i-preserved c =
     let i : ℕ = c.loop-i.i in
     let inside : i < length weights = omega (arith, c.requires.counts) in
     let column : ℕ × ℕ → Column = λ (q : ℕ × ℕ). future_column c.args.subproblem.now q.1 (pool c.args.pools.now.lists q.0) in
-    let is = c.future_column.ensures ∙ ap (λ (cs : List Cut). future_column c.args.subproblem.now (get_or weights i 0) cs) c.cuts-cuts.ensures ∙ ap column (sym (get_or-zip links weights i (0, 0) c.loop-i-test.true inside)) in
+    let is = c.future_column-column.ensures ∙ ap column (sym (get_or-zip links weights i (0, 0) c.loop-i-test.true inside)) in
     map_more column (zip links weights) i (0, 0) c.args.columns.now c.loop-i.columns c.push.new.self _ (omega (arith, length-zip links weights)) c.loop-i.invariant is c.in_ok-push.ensures
 
 pub returns : goal.returns

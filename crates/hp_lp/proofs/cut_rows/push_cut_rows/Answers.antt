@@ -12,7 +12,7 @@ pub push_rows_over-requires-clause-within : goal.push_rows_over-requires-clause-
 push_rows_over-requires-clause-within c =
     let pools : List (List Cut) = c.args.pools.now.lists in
     let outs = c.as_slice.ensures ∙ c.in_ok-outs.ensures in
-    subst (λ (os : List Out). All (λ m. All (λ (x : Cut). All (IsWithin x) os) (pool pools m)) c.args.links.now) (sym outs)
+    subst (λ (os : List Out). All (λ m. All (λ (x : Cut). All (IsWithin x.beta) os) (pool pools m)) c.args.links.now) (sym outs)
     (λ i d h k e l. within-spans c.args.subproblem.now _ (c.requires.spans i d h k e l))
 
 pub returns : goal.returns

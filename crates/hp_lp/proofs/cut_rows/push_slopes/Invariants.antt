@@ -4,4 +4,4 @@ use Rattle.hp_lp.specs.Outs.{slope_of}
 use Rattle.hp_lp.proofs.cut_rows.push_slopes.Given as goal
 
 abbrev pub invariant-loop-out : goal.invariant-loop-out
-invariant-loop-out l = l.terms ≡ l.initial.terms ++ flat_map (slope_of l.cut) (take l.out-index l.outs)
+invariant-loop-out l = l.terms ≡ l.initial.terms ++ flat_map (slope_of l.slopes) (take l.out-index l.outs)

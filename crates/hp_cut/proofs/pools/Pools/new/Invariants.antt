@@ -1,5 +1,6 @@
-use Rattle.std.proofs.Common.{◌≡◌, ◌≤◌, ◌^◌, [], map, replicate, All, vec_len}
+use Rattle.std.proofs.Common.{◌≡◌, [], map, replicate}
+use Rattle.hp_cut.specs.Pooled.{PooledCuts}
 use Rattle.hp_cut.proofs.pools.Pools.new.Given as goal
 
 abbrev pub invariant-loop : goal.invariant-loop
-invariant-loop l = (map (λ v. v.items) l.lists.items ≡ replicate l.counter []) × All (λ v. vec_len v ≤ 2 ^ 24) l.lists.items
+invariant-loop l = map (λ (v : PooledCuts). v.cuts) l.lists.items ≡ replicate l.counter []

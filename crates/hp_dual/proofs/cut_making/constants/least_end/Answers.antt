@@ -1,28 +1,11 @@
-use Rattle.std.proofs.Common.{◌≡◌, ◌+◌, ℤ, pos, negsuc, ◌*ℤ◌, ◌≤ℤ◌, ⊎_elim, SFits, w64, true, false, rules, arith, ap, ap₂, sym, subst, ◌∙◌}
+use Rattle.std.proofs.Common.{◌≡◌, ℤ, pos, negsuc, ◌*ℤ◌, SFits, w64, true, false, rules, arith, ap, ap₂, sym, subst, ◌∙◌}
 use mir.Syntax.{w128}
 use Rattle.std.specs.Int.{int_min, int_max}
 use Rattle.std.specs.Int.Signed.{lt_z}
-use Rattle.std.proofs.lemmas.Bool.{cases_lt}
-use Rattle.std.proofs.lemmas.Int.{ints, clamps, to_z-of_z}
-use borrow.Author.Differences.{up, down, at_most_in}
+use Rattle.std.proofs.lemmas.Int.{ints, to_z-of_z}
 use Rattle.hp_num.proofs.Order.{le_scale, le_flip}
+use Rattle.hp_cut.proofs.Ends.{in_order, lesser, later, greater, former}
 use Rattle.hp_dual.proofs.cut_making.constants.least_end.Goals as goal
-
--- one of two numbers is at most the other
-in_order : {A : Type 0} (l u : ℤ) → (l ≤ℤ u → A) → (u ≤ℤ l → A) → A
-in_order l u f g = ⊎_elim (λ h. f (at_most_in l u (omega (arith, h)))) (λ h. g (at_most_in u l h)) (cases_lt (up l + down u) (up u + down l))
-
-lesser : (a b : ℤ) → a ≤ℤ b → int_min a b ≡ a
-lesser a b h = omega (arith, ints, clamps)
-
-later : (a b : ℤ) → b ≤ℤ a → int_min a b ≡ b
-later a b h = omega (arith, ints, clamps)
-
-greater : (a b : ℤ) → a ≤ℤ b → int_max a b ≡ b
-greater a b h = omega (arith, ints, clamps)
-
-former : (a b : ℤ) → b ≤ℤ a → int_max a b ≡ a
-former a b h = omega (arith, ints, clamps)
 
 at_greater : (d l u : ℤ) → lt_z d (pos 0) ≡ true → d *ℤ int_max l u ≡ int_min (d *ℤ l) (d *ℤ u)
 at_greater (pos k) l u h = absurd (omega (arith, ints, h))

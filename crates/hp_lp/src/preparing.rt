@@ -1,0 +1,40 @@
+// Pools that are made ready for the stage problems of all nodes.
+ghost use Rattle.std.specs.Prelude.{◌≡◌, ◌<◌, length};
+ghost use Rattle.hp_theory.specs.Fit.{Fit};
+ghost use Rattle.hp_theory.specs.View.{problem_of};
+
+use crate::out_boxes::out_boxes;
+use crate::stages::StageNode;
+use hp_cut::Pools;
+use hp_num::Memory;
+use hp_problem::Problem;
+use std::alloc::Global;
+
+// Makes the cuts of a node's successors ready for its stage problems.
+fn prepare_at(alloc: Global, problem: &Problem, pools: &mut Pools, node: u32) -> Result<(), Memory>
+    requires known { node < length problem.now.raw.nodes }
+    requires fit { Fit (problem_of problem.now) (length problem.now.raw.nodes) pools.old.lists }
+    ensures { pools.new ≡ pools.old }
+{
+    let stage = StageNode::of(problem, node);
+    let boxes = out_boxes(alloc, stage.subproblem)?;
+    for successor in stage.node.links.as_slice() {
+        pools.prepare(alloc, *successor, boxes.as_slice())?;
+    }
+    Ok(())
+}
+
+/// Makes the pools ready for the stage problems of all nodes from now on, so that these are built in less time: of each
+/// node's cuts the slopes are kept side by side, and for each of its predecessors the greatest of their values over what
+/// may leave the predecessor. Cuts that are appended later come in. [`Memory`] where memory was refused. The cuts and
+/// their room stay in either case.
+pub fn prepare(alloc: Global, problem: &Problem, pools: &mut Pools) -> Result<(), Memory>
+    requires fit { Fit (problem_of problem.now) (length problem.now.raw.nodes) pools.old.lists }
+    ensures { pools.new ≡ pools.old }
+{
+    let nodes = problem.raw().nodes.len() as u32;
+    for node in 0..nodes {
+        prepare_at(alloc, problem, pools, node)?;
+    }
+    Ok(())
+}
