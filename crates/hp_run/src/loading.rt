@@ -1,8 +1,10 @@
 // A journal that is loaded for decisions over its pools.
-ghost use Rattle.std.specs.Prelude.{◌≡◌, None, Ok, Err, IfOk, IfSome};
+ghost use Rattle.std.specs.Prelude.{◌≡◌, length, None, Ok, Err, IfOk, IfSome};
 ghost use Rattle.hp_num.specs.Steps.{GivesOr};
 ghost use Rattle.hp_outside.specs.Disks.{Stays};
+ghost use Rattle.hp_theory.specs.Fit.{Fit};
 ghost use Rattle.hp_theory.specs.Range.{based};
+ghost use Rattle.hp_theory.specs.View.{problem_of};
 ghost use Rattle.hp_journal.specs.Causes.{DiskCause};
 ghost use Rattle.hp_load.specs.Accepted.{IsSafe};
 ghost use Rattle.hp_load.specs.Load.{seen};
@@ -14,9 +16,21 @@ use crate::status::Status;
 use hp_cut::Pools;
 use hp_forward::StageFault;
 use hp_load::{LoadFault, Loaded, load};
+use hp_lp::prepare;
+use hp_num::Memory;
 use hp_outside::Disk;
 use hp_problem::{Problem, TooMuch};
 use std::alloc::Global;
+
+/// What was loaded, with its pools made ready for stage problems. [`Memory`] where memory was refused.
+pub(crate) fn prepared(alloc: Global, problem: &Problem, loaded: Loaded) -> Result<Loaded, Memory>
+    requires { Fit (problem_of problem.now) (length problem.now.raw.nodes) loaded.pools.lists }
+    ensures { IfOk result (λ l. l ≡ loaded) }
+{
+    let mut loaded = loaded;
+    prepare(alloc, problem, &mut loaded.pools)?;
+    Ok(loaded)
+}
 
 /// What was loaded, unless a formula is above its limit.
 fn unless_much(formula: Option<TooMuch>, loaded: Loaded) -> Result<Loaded, LoadFault>
@@ -31,7 +45,8 @@ fn unless_much(formula: Option<TooMuch>, loaded: Loaded) -> Result<Loaded, LoadF
     }
 }
 
-/// The journal, loaded, unless the formula is above its limit; what the formula gives is looked at behind the loading.
+/// The journal, loaded, unless the formula is above its limit; what the formula gives is looked at behind the loading. The
+/// pools are ready for stage problems.
 #[tactic(auto, unfolding(crate::specs::Outcome::loaded_within))]
 pub(crate) fn load_within<D: Disk>(
     alloc: Global,
@@ -50,7 +65,8 @@ pub(crate) fn load_within<D: Disk>(
     ensures cause { DiskCause (D.faults journal.old) (D.faults journal.new) (result ≡ Err faults.DiskFault) }
 {
     let loaded = load(alloc, problem, pools, journal, digest, None, None)?;
-    unless_much(formula, loaded)
+    let loaded = unless_much(formula, loaded)?;
+    Ok(prepared(alloc, problem, loaded)?)
 }
 
 /// How a run ends where decisions stop.

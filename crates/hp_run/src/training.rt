@@ -27,6 +27,7 @@ ghost use Rattle.hp_run.specs.Training.{ComesOfLoading, IsDead, Refuses, StopsAs
 ghost use Rattle.hp_run.specs.declared.status.Status.TheVariants as statuses;
 ghost use Rattle.hp_run.specs.declared.task.Task.TheVariants as tasks;
 
+use crate::loading::prepared;
 use crate::outcome::status_of_fault;
 use crate::status::Status;
 use hp_cut::Pools;
@@ -61,7 +62,7 @@ fn too_much(problem: &Problem, count: u32, loaded: &Loaded) -> Option<TooMuch>
     problem.too_much(count.max(loaded.bounds.len() as u32), loaded.batch)
 }
 
-/// The journal, loaded for training, where the formulas are kept.
+/// The journal, loaded for training, where the formulas are kept. The pools are ready for stage problems.
 #[tactic(auto, unfolding(crate::specs::Outcome::ready_for, crate::specs::Outcome::within_formulas))]
 fn load_for<D: Disk>(
     alloc: Global,
@@ -92,7 +93,10 @@ fn load_for<D: Disk>(
         asked.batch,
     ) {
         Ok(loaded) => match too_much(problem, asked.count, &loaded) {
-            None => Ok(loaded),
+            None => match prepared(alloc, problem, loaded) {
+                Ok(loaded) => Ok(loaded),
+                Err(Memory) => Err(Status::Memory),
+            },
             Some(formula) => Err(Status::TooMuch(formula)),
         },
         Err(fault) => Err(status_of_fault(fault)),

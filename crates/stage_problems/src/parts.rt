@@ -12,7 +12,7 @@ use crate::moments::{Moment, first, last};
 use crate::texts::{push_certificate, push_program};
 use hp_cut::Pools;
 use hp_dual::base;
-use hp_lp::{SpareRows, restate, stage_with};
+use hp_lp::{SpareRows, prepare, restate, stage_with};
 use hp_num::Memory;
 use hp_problem::Problem;
 use hp_settle::settle;
@@ -160,5 +160,6 @@ pub fn measured(alloc: Global, problem: &Problem, counts: Counts) -> Result<Stri
     let node = successor(problem)?;
     let mut pools = base(alloc, problem)?;
     add_cuts(alloc, problem, &mut pools, node, counts.cuts)?;
+    prepare(alloc, problem, &mut pools)?;
     parts(alloc, problem, &pools, counts)
 }

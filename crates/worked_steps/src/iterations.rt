@@ -11,7 +11,7 @@ use crate::twice::Twice;
 use hp_backward::SweepFault;
 use hp_cut::{Entry, Pools};
 use hp_dual::base;
-use hp_lp::{SpareRows, Starts};
+use hp_lp::{SpareRows, Starts, prepare};
 use hp_num::{List, Memory};
 use hp_problem::Problem;
 use hp_simplex::DualSimplex;
@@ -139,6 +139,7 @@ fn trained<R: Threads + Sync, V: Solver>(
     plan: Plan,
 ) -> Result<String, RowFault> {
     let mut pools = base(alloc, problem)?;
+    prepare(alloc, problem, &mut pools)?;
     let starts = Starts::new(alloc, problem, solver)?;
     let mut text = String::new(alloc);
     steps(
