@@ -23,11 +23,11 @@ def parser() -> argparse.ArgumentParser:
     """What the command line may say."""
     found = argparse.ArgumentParser(
         prog="watch", description=DESCRIPTION,
-        epilog="example: tools/watch plan.journal problem.json --program crates/hydroplan/out/hydroplan",
+        epilog="example: tools/watch plan.journal problem.json --until 500",
     )
     found.add_argument("journal", type=Path, help="the journal")
     found.add_argument("problem", type=Path, help="the problem file for which it is made")
-    found.add_argument("--program", type=Path, default=default_program(), help="the built program")
+    found.add_argument("--program", type=Path, default=default_program(), help="the program, or the script that runs it (./hydroplan of this repository)")
     found.add_argument("--every", type=float, default=2.0, help="seconds between two looks, at least (2)")
     found.add_argument("--until", type=int, help="end at so many iterations")
     found.add_argument("--once", action="store_true", help="look once; the status is 1 where the journal is refused")
@@ -37,8 +37,8 @@ def parser() -> argparse.ArgumentParser:
 
 
 def default_program() -> Path:
-    """Where the repository's program is built."""
-    return Path(__file__).resolve().parents[2] / "crates" / "hydroplan" / "out" / "hydroplan"
+    """The repository's script, which runs its program."""
+    return Path(__file__).resolve().parents[2] / "hydroplan"
 
 
 def main(words: Optional[Sequence[str]] = None) -> int:
