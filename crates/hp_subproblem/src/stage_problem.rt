@@ -3,6 +3,8 @@ ghost use Rattle.std.specs.Prelude.{◌≡◌, ◌==◌, ◌<◌, ◌≤◌, len
 ghost use Rattle.serde_json.specs.View.{view, items_view};
 ghost use Rattle.hp_fields.specs.Steps.{Gives, Shows};
 ghost use Rattle.hp_subproblem.specs.Shown.{shown};
+ghost use Rattle.hp_subproblem.specs.Rows.{picked};
+ghost use Rattle.hp_subproblem.specs.Boxes.{lows_of, highs_of};
 ghost use Rattle.hp_subproblem.specs.Subproblem.{variables_at, number_of, outs_of, few_rows_at, subproblem_of, filled_at, subproblem_at};
 
 use crate::boxes::{boxes, highs, lows};
@@ -13,6 +15,7 @@ use crate::objective::objective;
 use crate::randoms::randoms;
 use crate::role::Uses;
 use crate::rows::picked;
+use crate::sides::Sides;
 use crate::stage_parts::{StageParts, read_stage_parts};
 use crate::states::states;
 use crate::variables::{Variables, variable_names};
@@ -82,6 +85,79 @@ fn few_rows(found: Constraints, p: u32) -> Result<Constraints, Refusal>
     Ok(found)
 }
 
+// What a stage problem says of its states and random variables, in lists.
+#[derive(Drop)]
+struct Lists {
+    // The decision that is each state's outgoing variable.
+    outs: List<u32>,
+    // What a unit of each incoming state costs.
+    state_costs: List<i64>,
+    // What a unit of each random variable costs.
+    random_costs: List<i64>,
+    // The given lower bound of each incoming state.
+    low: List<Option<i64>>,
+    // The given upper bound of each incoming state.
+    high: List<Option<i64>>,
+}
+
+// What a unit of each incoming state and of each random variable costs.
+fn given_costs(
+    alloc: Global,
+    uses: &Uses,
+    coefficients: &[i64],
+) -> Result<(List<i64>, List<i64>), Memory>
+    ensures states { IfOk result (λ made. made.0 ≡ picked uses.now.incoming coefficients.now) }
+    ensures randoms { IfOk result (λ made. made.1 ≡ picked uses.now.randoms coefficients.now) }
+{
+    let states = picked(alloc, uses.incoming.as_slice(), coefficients)?;
+    Ok((
+        states,
+        picked(alloc, uses.randoms.as_slice(), coefficients)?,
+    ))
+}
+
+// The given lower and upper bounds of some variables, one entry each per variable that is given.
+fn given_bounds(
+    alloc: Global,
+    bounds: &[Sides],
+    variables: &[usize],
+) -> Result<(List<Option<i64>>, List<Option<i64>>), Memory>
+    ensures low { IfOk result (λ made. made.0 ≡ lows_of bounds.now variables.now) }
+    ensures high { IfOk result (λ made. made.1 ≡ highs_of bounds.now variables.now) }
+{
+    let low = lows(alloc, bounds, variables)?;
+    Ok((low, highs(alloc, bounds, variables)?))
+}
+
+fn listed(
+    alloc: Global,
+    variables: &Variables,
+    coefficients: &[i64],
+    bounds: &[Sides],
+) -> Result<Lists, Memory>
+    ensures outs { IfOk result (λ made. made.outs ≡ outs_of variables.now.decisions variables.now.uses.outgoing) }
+    ensures state_costs { IfOk result (λ made. made.state_costs ≡ picked variables.now.uses.incoming coefficients.now) }
+    ensures random_costs { IfOk result (λ made. made.random_costs ≡ picked variables.now.uses.randoms coefficients.now) }
+    ensures low { IfOk result (λ made. made.low ≡ lows_of bounds.now variables.now.uses.incoming) }
+    ensures high { IfOk result (λ made. made.high ≡ highs_of bounds.now variables.now.uses.incoming) }
+{
+    let uses = &variables.uses;
+    let (state_costs, random_costs) = given_costs(alloc, uses, coefficients)?;
+    let (low, high) = given_bounds(alloc, bounds, uses.incoming.as_slice())?;
+    let outs = outs(
+        alloc,
+        variables.decisions.as_slice(),
+        uses.outgoing.as_slice(),
+    )?;
+    Ok(Lists {
+        outs,
+        state_costs,
+        random_costs,
+        low,
+        high,
+    })
+}
+
 #[tactic(auto, unfolding(crate::specs::Subproblem::subproblem_of))]
 fn assembled(
     alloc: Global,
@@ -93,20 +169,16 @@ fn assembled(
     ensures { IfOk result (λ s. s ≡ subproblem_of variables costs.now found decisions) }
 {
     let coefficients = costs.coefficients.as_slice();
-    let Variables {
-        names: _,
-        uses,
-        decisions: numbers,
-    } = variables;
-    let incoming = uses.incoming.as_slice();
+    let lists = listed(alloc, &variables, coefficients, found.bounds.as_slice())?;
+    let uses = variables.uses;
     Ok(Subproblem {
         decisions,
-        outs: outs(alloc, numbers.as_slice(), uses.outgoing.as_slice())?,
+        outs: lists.outs,
         constant: costs.constant,
-        state_costs: picked(alloc, incoming, coefficients)?,
-        random_costs: picked(alloc, uses.randoms.as_slice(), coefficients)?,
-        low: lows(alloc, found.bounds.as_slice(), incoming)?,
-        high: highs(alloc, found.bounds.as_slice(), incoming)?,
+        state_costs: lists.state_costs,
+        random_costs: lists.random_costs,
+        low: lists.low,
+        high: lists.high,
         rows: found.rows,
         randoms: uses.names,
     })

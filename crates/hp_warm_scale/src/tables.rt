@@ -57,31 +57,55 @@ fn blank_basis(alloc: Global, count: usize) -> Result<Basis, Memory>
     })
 }
 
+// Bounds and basis of a table without rows.
+fn blank_variables(alloc: Global, count: usize) -> Result<(Bounds, Basis), Memory>
+    ensures bounds { IfOk result (λ made. made.0 ≡ blank_bounds_of count) }
+    ensures basis { IfOk result (λ made. made.1 ≡ blank_basis_of count) }
+{
+    let bounds = blank_bounds(alloc, count)?;
+    Ok((bounds, blank_basis(alloc, count)?))
+}
+
+// Zeros, one for each column: costs, reduced costs and values.
+fn zeros(alloc: Global, count: usize) -> Result<(List<Cell>, List<Cell>, List<Quantity>), Memory>
+    ensures costs { IfOk result (λ made. made.0 ≡ replicate count (pos 0)) }
+    ensures reduced { IfOk result (λ made. made.1 ≡ replicate count (pos 0)) }
+    ensures values { IfOk result (λ made. made.2 ≡ replicate count (pos 0)) }
+{
+    let costs = repeated(alloc, count, Cell::zero())?;
+    let reduced = repeated(alloc, count, Cell::zero())?;
+    Ok((costs, reduced, repeated(alloc, count, Quantity::zero())?))
+}
+
 // A table without rows, whose columns are 0, with exponents of columns, costs and values.
 fn blank_with(
     alloc: Global,
     count: usize,
     columns: List<i32>,
-    costs: i32,
-    values: i32,
+    costs_exponent: i32,
+    values_exponent: i32,
 ) -> Result<Table, Memory>
     requires few { count ≤ 1199 }
-    ensures { IfOk result (λ table. table ≡ blank_with count columns costs values) }
+    ensures { IfOk result (λ table. table ≡ blank_with count columns costs_exponent values_exponent) }
 {
+    let (bounds, basis) = blank_variables(alloc, count)?;
+    let (costs, reduced, values) = zeros(alloc, count)?;
+    let lines = Square::new(alloc, count)?;
+    let scales = Scales {
+        rows: List::new(alloc),
+        columns,
+        costs: costs_exponent,
+        values: values_exponent,
+    };
     Ok(Table {
-        scales: Scales {
-            rows: List::new(alloc),
-            columns,
-            costs,
-            values,
-        },
+        scales,
         rows: Rows::new(alloc),
-        costs: repeated(alloc, count, Cell::zero())?,
-        bounds: blank_bounds(alloc, count)?,
-        basis: blank_basis(alloc, count)?,
-        reduced: repeated(alloc, count, Cell::zero())?,
-        lines: Square::new(alloc, count)?,
-        values: repeated(alloc, count, Quantity::zero())?,
+        costs,
+        bounds,
+        basis,
+        reduced,
+        lines,
+        values,
         weak: false,
     })
 }

@@ -148,19 +148,56 @@ pub struct Table {
 }
 
 impl Table {
+    // The scales and the rows, with memory for so many rows more, and the lines.
+    fn copied_rows(&self, alloc: Global, more: usize) -> Result<(Scales, Rows, Square), Memory>
+        ensures scales { IfOk result (λ copied. copied.0 ≡ self.now.scales) }
+        ensures rows { IfOk result (λ copied. copied.1 ≡ self.now.rows) }
+        ensures lines { IfOk result (λ copied. copied.2 ≡ self.now.lines) }
+    {
+        let scales = self.scales.copy(alloc, more)?;
+        let rows = self.rows.copy(alloc, more)?;
+        Ok((scales, rows, self.lines.copy(alloc)?))
+    }
+
+    // The bounds and the basis, with memory for so many rows more.
+    fn copied_variables(&self, alloc: Global, more: usize) -> Result<(Bounds, Basis), Memory>
+        ensures bounds { IfOk result (λ copied. copied.0 ≡ self.now.bounds) }
+        ensures basis { IfOk result (λ copied. copied.1 ≡ self.now.basis) }
+    {
+        let bounds = self.bounds.copy(alloc, more)?;
+        Ok((bounds, self.basis.copy_with_room(alloc, more)?))
+    }
+
+    // The costs, the reduced costs and the values.
+    fn copied_columns(
+        &self,
+        alloc: Global,
+    ) -> Result<(List<Cell>, List<Cell>, List<Quantity>), Memory>
+        ensures costs { IfOk result (λ copied. copied.0 ≡ self.now.costs) }
+        ensures reduced { IfOk result (λ copied. copied.1 ≡ self.now.reduced) }
+        ensures values { IfOk result (λ copied. copied.2 ≡ self.now.values) }
+    {
+        let costs = copied(alloc, self.costs.as_slice())?;
+        let reduced = copied(alloc, self.reduced.as_slice())?;
+        Ok((costs, reduced, copied(alloc, self.values.as_slice())?))
+    }
+
     /// The same table, in memory of its own, with memory for so many rows more. [`Memory`] where memory was refused.
     pub fn copy(&self, alloc: Global, more: usize) -> Result<Table, Memory>
         ensures { IfOk result (λ table. table ≡ self.now) }
     {
+        let (scales, rows, lines) = self.copied_rows(alloc, more)?;
+        let (bounds, basis) = self.copied_variables(alloc, more)?;
+        let (costs, reduced, values) = self.copied_columns(alloc)?;
         Ok(Table {
-            scales: self.scales.copy(alloc, more)?,
-            rows: self.rows.copy(alloc, more)?,
-            costs: copied(alloc, self.costs.as_slice())?,
-            bounds: self.bounds.copy(alloc, more)?,
-            basis: self.basis.copy_with_room(alloc, more)?,
-            reduced: copied(alloc, self.reduced.as_slice())?,
-            lines: self.lines.copy(alloc)?,
-            values: copied(alloc, self.values.as_slice())?,
+            scales,
+            rows,
+            costs,
+            bounds,
+            basis,
+            reduced,
+            lines,
+            values,
             weak: self.weak,
         })
     }
