@@ -1,15 +1,15 @@
 -- Attempts go by what turns leave.
-use Rattle.std.proofs.Common.{◌≡◌, Option, Some, None, ap, sym, ◌∙◌}
+use Rattle.std.proofs.Common.{◌≡◌, Option, Some, None, IfSome, ap, sym, ◌∙◌}
 use Rattle.hp_solver.specs.declared.stage_lp.StageLp.{StageLp}
 use Rattle.hp_solver.specs.declared.stage_lp.Answer.{Answer}
 use Rattle.hp_warm_table.specs.declared.table.Table.{Table}
 use Rattle.hp_warm_rebuild.specs.Clean.{clean_of}
 use Rattle.hp_warm_rebuild.specs.Standings.{rebuilt_of}
-use Rattle.hp_warm_simplex.specs.Fitting.{IsHeld}
+use Rattle.hp_warm_simplex.specs.Fitting.{Fits, IsHeld}
 use Rattle.hp_warm_simplex.specs.Turns.{Went}
 use Rattle.hp_warm_simplex.specs.Going.{restored_of}
 use Rattle.hp_warm_simplex.specs.Steps.{Ends}
-use Rattle.hp_warm_simplex.specs.Chains.{replaced_by, replaced, tried, unless_good, warm_attempt, readied_by, readied}
+use Rattle.hp_warm_simplex.specs.Chains.{replaced_by, replaced, tried, unless_good, warm_attempt, left_by, readied_by, readied}
 
 -- the basis of a table in a clean one depends on its program and its basis alone
 pub held_restored : (old new : Table) → IsHeld old new → restored_of old ≡ restored_of new
@@ -27,3 +27,7 @@ warm_on lp w (Some a) t h = ap (warm_attempt lp) h
 pub readied_on : (t : Table) (w : Went) (a : Option Answer) (u : Table) → Ends a w u → readied t w ≡ readied_by t a u
 readied_on t w None u h = ap (λ (o : Option Answer). readied_by t o w.table) h.0
 readied_on t w (Some a) u h = ap (readied t) h
+
+pub left_fits : (lp : StageLp) (a : Option Answer) (t : Option Table) → IfSome t (λ u. Fits u lp) → IfSome (left_by a t) (λ u. Fits u lp)
+left_fits lp None t h = tt
+left_fits lp (Some a) t h = h

@@ -76,13 +76,18 @@ plainer lp a s = if is_ray s.kind then (if proves lp s.duals then s else a) else
 abbrev pub by_kind : StageLp → Answer → Answer
 by_kind lp a = if is_ray a.kind then plainer lp a (solve_of lp) else a
 
--- the plain method's answer where there is none, and the chain has no table then
-abbrev pub by_answer : StageLp → Option Table → Option Answer → Answer × Option Table
-by_answer lp t None = (solve_of lp, None)
-by_answer lp t (Some a) = (by_kind lp a, t)
+-- the plain method's answer where there is none
+abbrev pub or_plain : StageLp → Option Answer → Answer
+or_plain lp None = solve_of lp
+or_plain lp (Some a) = by_kind lp a
+
+-- a chain has no table where attempts have no answer
+abbrev pub left_by : Option Answer → Option Table → Option Table
+left_by None t = None
+left_by (Some a) t = t
 
 abbrev pub last_resort : StageLp → Attempt → Answer × Option Table
-last_resort lp a = by_answer lp a.table a.answer
+last_resort lp a = (or_plain lp a.answer, left_by a.answer a.table)
 
 -- the answer to a program of a chain that has this table, and the table that it has then
 unfoldable pub next_of : Option Table → StageLp → Answer × Option Table

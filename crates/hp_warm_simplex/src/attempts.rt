@@ -8,7 +8,7 @@ ghost use Rattle.hp_warm_scale.specs.First.{first_of};
 ghost use Rattle.hp_warm_scale.specs.Widening.{widened};
 ghost use Rattle.hp_warm_simplex.specs.Fitting.{Fits, IsRoomy};
 ghost use Rattle.hp_warm_simplex.specs.Going.{go_of, restored_of};
-ghost use Rattle.hp_warm_simplex.specs.Chains.{Suits, is_ray, is_good, replaced, tried, unless_good, warm_attempt, by_chain, new_table, then_anew, plainer, by_kind, last_resort, next_of};
+ghost use Rattle.hp_warm_simplex.specs.Chains.{Suits, is_ray, is_good, replaced, tried, unless_good, warm_attempt, by_chain, new_table, then_anew, plainer, by_kind, or_plain, left_by, last_resort, next_of};
 
 use crate::going::{go, restore};
 use crate::turns::Room;
@@ -283,7 +283,34 @@ fn by_kind(
     plainer(alloc, lp, answer, other)
 }
 
+// The answer of attempts, or the plain method's where they have none or a ray.
+fn or_plain(
+    alloc: Global,
+    lp: &StageLp,
+    answer: Option<Answer>,
+    room: &mut PlainRoom,
+) -> Result<Answer, Memory>
+    requires proper { IsProper lp.now }
+    ensures { IfOk result (λ found. found ≡ or_plain lp.now answer) }
+{
+    match answer {
+        None => plain(alloc, lp, room),
+        Some(answer) => by_kind(alloc, lp, answer, room),
+    }
+}
+
+// The table of attempts with this answer, none where they have none.
+fn left_by(answer: &Option<Answer>, table: Option<Table>) -> Option<Table>
+    ensures { result ≡ left_by answer.now table }
+{
+    match answer {
+        None => None,
+        Some(_) => table,
+    }
+}
+
 // The answer of attempts, or the plain method's where they have none or a ray, and the table of the chain.
+#[tactic(auto, using(crate::proofs::Trying::left_fits))]
 fn with_plain(
     alloc: Global,
     lp: &StageLp,
@@ -300,10 +327,8 @@ fn with_plain(
         good: _,
         table,
     } = attempt;
-    match answer {
-        None => Ok((plain(alloc, lp, room)?, None)),
-        Some(answer) => Ok((by_kind(alloc, lp, answer, room)?, table)),
-    }
+    let table = left_by(&answer, table);
+    Ok((or_plain(alloc, lp, answer, room)?, table))
 }
 
 /// The answer to a program of a chain that has this table, if it has one, and the table that it has then. [`Memory`]
