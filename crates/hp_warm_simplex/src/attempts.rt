@@ -228,6 +228,21 @@ fn try_on(
     }
 }
 
+// Turns on a table from nothing. The answer before stays where they have none.
+fn anew(
+    alloc: Global,
+    lp: &StageLp,
+    before: Option<Answer>,
+    room: &mut Room,
+) -> Result<Attempt, Memory>
+    requires proper { IsProper lp.now }
+    ensures attempt { IfOk result (λ attempt. attempt ≡ tried lp.now before (new_table lp.now)) }
+    ensures fits { IfOk result (λ attempt. IfSome attempt.table (λ t. Fits t lp.now)) }
+{
+    let table = new_table(alloc, lp)?;
+    try_on(alloc, lp, before, table, room)
+}
+
 // Turns on a table from nothing, where nothing good was found.
 fn then_anew(
     alloc: Global,
@@ -243,8 +258,7 @@ fn then_anew(
     if before.good {
         return Ok(before);
     }
-    let table = new_table(alloc, lp)?;
-    try_on(alloc, lp, before.answer, table, room)
+    anew(alloc, lp, before.answer, room)
 }
 
 // The answer of the plain method.
