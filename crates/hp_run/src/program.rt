@@ -89,6 +89,49 @@ fn show<O: Sink>(out: &mut O, text: &[u8]) -> Status {
     }
 }
 
+// The program over the file that the second word names.
+fn over_file<R, I, O, E>(
+    rt: &R,
+    words: &[String],
+    problem: &mut StdSource<I>,
+    out: &mut StdSink<O>,
+    errors: &mut E,
+) -> ExitCode
+where
+    R: Files + Threads + Sync + AllocGlobal,
+    I: Read,
+    O: Write,
+    E: Write,
+{
+    match journal_name(rt.alloc(), words) {
+        Ok(name) => {
+            let mut journal = FileDisk::at(rt, name, writes_journal(words));
+            execute(rt, rt.alloc(), words, problem, &mut journal, out, errors)
+        }
+        Err(_) => ended(rt.alloc(), &Status::Memory, errors),
+    }
+}
+
+// The program on these words, of which those that ask what it is are answered at once.
+fn on_words<R, I, O, E>(
+    rt: &R,
+    words: &[String],
+    problem: &mut StdSource<I>,
+    out: &mut StdSink<O>,
+    errors: &mut E,
+) -> ExitCode
+where
+    R: Files + Threads + Sync + AllocGlobal,
+    I: Read,
+    O: Write,
+    E: Write,
+{
+    match own_text(words) {
+        Some(text) => ended(rt.alloc(), &show(out, text), errors),
+        None => over_file(rt, words, problem, out, errors),
+    }
+}
+
 /// The program: the words of the command line, over these streams and the file that the second word names. The words `--help`
 /// and `--version` alone are answered here, and nothing is read.
 pub fn start<R, I, O, E>(rt: &R, input: I, output: O, errors: &mut E) -> ExitCode
@@ -98,26 +141,10 @@ where
     O: Write + Drop,
     E: Write,
 {
-    let words = match words_given(rt) {
-        Ok(words) => words,
-        Err(status) => return ended(rt.alloc(), &status, errors),
-    };
-    let mut out = StdSink::new(output);
-    if let Some(text) = own_text(words.as_slice()) {
-        return ended(rt.alloc(), &show(&mut out, text), errors);
-    }
-    let Ok(name) = journal_name(rt.alloc(), words.as_slice()) else {
-        return ended(rt.alloc(), &Status::Memory, errors);
-    };
     let mut problem = StdSource::new(input);
-    let mut journal = FileDisk::at(rt, name, writes_journal(words.as_slice()));
-    execute(
-        rt,
-        rt.alloc(),
-        words.as_slice(),
-        &mut problem,
-        &mut journal,
-        &mut out,
-        errors,
-    )
+    let mut out = StdSink::new(output);
+    match words_given(rt) {
+        Ok(words) => on_words(rt, words.as_slice(), &mut problem, &mut out, errors),
+        Err(status) => ended(rt.alloc(), &status, errors),
+    }
 }
