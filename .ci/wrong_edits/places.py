@@ -1,0 +1,85 @@
+"""Where in a source an edit lies: the path by which `rattle check --only` names the function around it."""
+import re
+from typing import List, Optional
+
+FUNCTION = re.compile(r"(?:pub(?:\([^)]*\))? )?(?:const )?fn (\w+)")
+OWNER = re.compile(r"impl\b")
+
+
+def module_of(file: str) -> List[str]:
+    """Returns the names of the module that a file below src/ holds, none for the crate's root."""
+    names = file[len("src/"):-len(".rt")].split("/")
+    return names[:-1] if names[-1] in ("mod", "lib", "main") else names
+
+
+def function_at(text: str, line: int) -> Optional["Found"]:
+    """Returns the function around a line (from 0) of formatted code, or None where no function is around it.
+
+    Formatted code closes what it opens at the same indentation, so going up the function is the first `fn` that stands no
+    deeper than all below it and was not closed on the way.
+    """
+    lines = text.split("\n")
+    level, closed = len(lines[line]) - len(lines[line].lstrip()), set()
+    for at in range(line, -1, -1):
+        row = lines[at].lstrip()
+        depth = len(lines[at]) - len(row)
+        if not row or depth > level:
+            continue
+        level = depth
+        if row == "}" and at != line:
+            closed.add(depth)
+        elif FUNCTION.match(row) and depth not in closed:
+            return Found(FUNCTION.match(row)[1], at, depth)
+        elif FUNCTION.match(row):
+            closed.discard(depth)
+    return None
+
+
+class Found:
+    """A function: its name, and the line and the depth at which its head stands."""
+
+    def __init__(self, name: str, line: int, depth: int) -> None:
+        self.name, self.line, self.depth = name, line, depth
+
+
+def owner_of(text: str, found: Found) -> str:
+    """Returns the name under which rattle lists the methods of the impl around a function, or no text."""
+    if not found.depth:
+        return ""
+    lines = text.split("\n")[:found.line]
+    heads = [at for at, row in enumerate(lines) if len(row) - len(row.lstrip()) < found.depth and OWNER.match(row.lstrip())]
+    if not heads:
+        return ""
+    head = without_brackets(" ".join(text.split("\n")[heads[-1]:found.line]).partition("{")[0])
+    words = re.fullmatch(r"\s*impl\s+(?:(.+?)\s+for\s+)?(.+?)(?:\s+where\b.*)?\s*", head)
+    return last(words[2]) + last(words[1] or "") if words else ""
+
+
+def without_brackets(text: str) -> str:
+    """Returns the text without what stands in < and >."""
+    while "<" in text and re.search(r"<[^<>]*>", text):
+        text = re.sub(r"<[^<>]*>", "", text)
+    return text
+
+
+def last(path: str) -> str:
+    """Returns the last name of a path."""
+    return path.strip().lstrip("&").rpartition("::")[2].strip()
+
+
+def path_at(file: str, text: str, line: int) -> Optional[str]:
+    """Returns the path of the function around a line of a file below src/, or else of the module. None where that is the crate's root."""
+    found = function_at(text, line)
+    names = module_of(file)
+    if found:
+        names = names + [it for it in (owner_of(text, found), found.name) if it]
+    return "::".join(names) or None
+
+
+def in_body(text: str, line: int) -> bool:
+    """Returns whether a line lies in the body of a function, where no contract and no signature stands."""
+    found = function_at(text, line)
+    if not found:
+        return False
+    rows = text.split("\n")[found.line:line]
+    return any(row.endswith("{") and len(row) - len(row.lstrip()) == found.depth for row in rows)

@@ -1,0 +1,100 @@
+"""What rattle's answers say of an edit. The answers here were printed by rattle, and are cut to the lines that matter."""
+import unittest
+
+import support  # noqa: F401  (finds the runner)
+from wrong_edits.trying import rounds_of
+from wrong_edits.verdicts import verdict_among, verdict_of
+
+TOGETHER = """\
+./proofs/dual_simplex/exchange/Answers.antt:8:188: error: `returns-clause-exchanged`: as printed, the two types differ
+note: src/entering.rt:93:1: it is not proved that what the function ensures holds when it returns
+fn hp_simplex::entering::is_better: no proof: expected answers in ./proofs/entering/is_better/Answers.antt; `search` did not prove `returns`
+fn hp_simplex::entering::chosen: no proof: it calls `hp_simplex::entering::is_better`, which is not proved
+fn hp_simplex::entering::is_fixed: proved
+fn hp_simplex::dual_simplex::exchange: not proved; it calls `hp_simplex::table::Table::pivot`, which is not proved
+only=5 proved=1
+"""
+GONE = """\
+./proofs/table/pivot_lists/Answers.antt:36:160: error: `returns-clause`: record `After-cells8` has no field `move_row`
+fn hp_simplex::table::pivot_lists: not proved
+only=1 proved=0
+"""
+UNPARSED = """\
+error: expected an expression, found `;`
+ --> src/table.rt:30:9
+"""
+
+
+class Alone(unittest.TestCase):
+    def verdict(self, status, said, *changed):
+        return verdict_of(status, said, changed or ("src/table.rt",))
+
+    def test_a_goal_that_is_not_proved_refuses(self):
+        self.assertTrue(self.verdict(1, TOGETHER).refused)
+        self.assertTrue(self.verdict(1, TOGETHER.replace("only=5 proved=1", "logic=not-proved")).refused)
+
+    def test_a_proof_refuses_no_wrong_edit(self):
+        verdict = self.verdict(0, "fn hp_simplex::table::pivot_lists: proved\nonly=1 proved=1\n")
+        self.assertFalse(verdict.refused)
+        self.assertIn("NOT REFUSED", verdict.why)
+
+    def test_what_does_not_parse_is_a_bad_edit(self):
+        verdict = self.verdict(1, UNPARSED)
+        self.assertFalse(verdict.refused)
+        self.assertIn("BAD EDIT: it did not reach the prover", verdict.why)
+
+    def test_a_name_that_is_not_in_scope_is_a_bad_edit(self):
+        for line in ("specs/Sums.antt:3:9: error: `twice`: `tow` is not in scope", "src/table.rt:3:9: error: expected a term"):
+            verdict = self.verdict(1, line + "\nlogic=not-proved\n")
+            self.assertFalse(verdict.refused, line)
+            self.assertIn("cannot read the edited text", verdict.why)
+
+    def test_a_false_statement_reads_well(self):
+        self.assertTrue(self.verdict(1, "src/table.rt:3:9: error: `law`: `a` is not `b`\nlogic=not-proved\n").refused)
+
+    def test_no_verdict_is_no_refusal(self):
+        for status in (2, 3, -9):
+            self.assertFalse(self.verdict(status, "rattle: no verdict: it ran out of memory\n").refused)
+
+    def test_says_where_only_a_proof_file_no_longer_fits(self):
+        verdict = self.verdict(1, GONE)
+        self.assertTrue(verdict.refused)
+        self.assertIn("only because a proof file names what the edit took away", verdict.why)
+
+    def test_libraries_of_different_builds_are_a_bad_edit(self):
+        said = "module `Rattle-hp_num-Lib` is another one. Run the lower steps again\nlogic=not-proved\n"
+        self.assertFalse(self.verdict(1, said).refused)
+
+
+class Together(unittest.TestCase):
+    def refused(self, *functions, said=TOGETHER, status=1):
+        return verdict_among(status, said, ("src/entering.rt",), "hp_simplex", functions).refused
+
+    def test_a_function_with_an_open_goal_or_a_refused_answer_is_refused(self):
+        self.assertTrue(self.refused("entering::is_better"))
+        self.assertTrue(self.refused("dual_simplex::exchange"))
+        self.assertTrue(self.refused("entering::is_fixed", "entering::is_better"))
+
+    def test_a_call_of_what_is_not_proved_does_not_tell(self):
+        self.assertFalse(self.refused("entering::chosen"))
+
+    def test_a_proved_function_is_not_refused(self):
+        self.assertFalse(self.refused("entering::is_fixed"))
+
+    def test_an_answer_over_what_was_not_admitted_does_not_tell(self):
+        self.assertFalse(self.refused("a::b", said="proofs/a/b/Answers.antt:1:1: error: `c` was not admitted\nonly=1 proved=0\n"))
+
+    def test_an_answer_of_a_longer_name_is_another_functions(self):
+        self.assertFalse(self.refused("dual_simplex::exch"))
+        self.assertFalse(self.refused("entering::is"))
+
+    def test_nothing_is_told_without_a_verdict(self):
+        self.assertFalse(self.refused("entering::is_better", status=2))
+
+    def test_no_two_edits_of_a_round_change_one_function(self):
+        rounds = rounds_of({"one": ["a"], "two": ["b", "c"], "three": ["a"], "four": ["c", "d"], "five": ["d"]})
+        self.assertEqual(rounds, [["one", "two", "five"], ["three", "four"]])
+
+
+if __name__ == "__main__":
+    unittest.main()
