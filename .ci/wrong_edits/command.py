@@ -79,8 +79,7 @@ def run(root: Path, names: List[str]) -> int:
     crates = kit.crates(root)
     unknown = sorted(set(names) - {it.name for it in crates})
     if unknown:
-        print(f"wrong: no crate is named {unknown[0]}", file=sys.stderr)
-        return 2
+        raise OSError(f"no crate is named {unknown[0]}")
     files, bad, began = files_to_try(root, crates, names), stray(crates, root), time.monotonic()
     for path in bad:
         print(f"wrong: {path}: BAD EDIT: an edit stands right in wrong/, and its name is of letters, digits, _, - and . and ends in .edit")
@@ -102,4 +101,9 @@ def main(words: List[str]) -> int:
     if any(it.startswith("-") for it in words):
         print("usage: .ci/wrong [NAME..], with WRONG=all for the edits of all crates and RT_JOBS=N for N checks at a time", file=sys.stderr)
         return 2
-    return run(Path(__file__).resolve().parents[2], words)
+    try:
+        return run(Path(__file__).resolve().parents[2], words)
+    except (OSError, SystemExit) as error:
+        print(f"wrong: no edit was tried: {error}", file=sys.stderr)
+        print("0 passed, 1 failed")
+        return 2

@@ -70,13 +70,29 @@ def applied(edit: Edit, crate: Path, texts: Optional[Dict[str, str]] = None) -> 
     return made
 
 
+def line_of(text: str, old: str) -> int:
+    """Returns the line, from 0, at which the first word of an old text stands."""
+    return text[:text.find(old) + len(old) - len(old.lstrip())].count("\n")
+
+
 def places_of(edit: Edit, crate: Path) -> Optional[List[str]]:
-    """Returns the paths of the functions whose bodies the edit changes, or None where it changes anything else too."""
+    """Returns the paths of the functions that the edit changes, or None where it changes anything else too."""
     found = []
     for path, old, _ in edit.pairs:
-        text = (crate / path).read_text(encoding="utf-8")
-        line = text[:text.find(old) + len(old) - len(old.lstrip())].count("\n")
-        if not path.startswith("src/") or old not in text or not in_body(text, line):
+        if not path.startswith("src/"):
             return None
-        found.append(path_at(path, text, line))
-    return found
+        text = (crate / path).read_text(encoding="utf-8")
+        place = path_at(path, text, line_of(text, old)) if old in text else None
+        if place is None:
+            return None
+        found.append(place)
+    return list(dict.fromkeys(found))
+
+
+def is_of_bodies(edit: Edit, crate: Path) -> bool:
+    """Returns whether the edit changes bodies of functions alone, so that all others keep what is stated of them."""
+    for path, old, _ in edit.pairs:
+        text = (crate / path).read_text(encoding="utf-8") if path.startswith("src/") else ""
+        if old not in text or not in_body(text, line_of(text, old)):
+            return False
+    return True

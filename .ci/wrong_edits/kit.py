@@ -5,9 +5,13 @@ import importlib.util
 import os
 import subprocess
 import sys
+import threading
 from pathlib import Path
 from types import ModuleType
 from typing import Any, List
+
+
+BUILDING = threading.Lock()
 
 
 @functools.lru_cache(maxsize=None)
@@ -54,9 +58,10 @@ def is_built(crate: Any) -> bool:
 def build_below(crate: Any) -> bool:
     """Builds the libraries below a crate where one is missing or was built of other sources, and returns whether all are there."""
     below = crate.below()
-    if all(is_built(it) for it in below):
-        return True
-    return not any(it.build_rlib(["--jobs", "1"], anew=False) for it in below)
+    with BUILDING:
+        if all(is_built(it) for it in below):
+            return True
+        return not any(it.build_rlib(["--jobs", "1"], anew=False) for it in below)
 
 
 def check(crate: Any, room: str, kept: str, only: List[str]) -> "subprocess.CompletedProcess[str]":

@@ -1,6 +1,6 @@
 """Where in a source an edit lies: the path by which `rattle check --only` names the function around it."""
 import re
-from typing import List, Optional
+from typing import List, NamedTuple, Optional
 
 FUNCTION = re.compile(r"(?:pub(?:\([^)]*\))? )?(?:const )?fn (\w+)")
 OWNER = re.compile(r"impl\b")
@@ -12,7 +12,15 @@ def module_of(file: str) -> List[str]:
     return names[:-1] if names[-1] in ("mod", "lib", "main") else names
 
 
-def function_at(text: str, line: int) -> Optional["Found"]:
+class Found(NamedTuple):
+    """A function: its name, and the line (from 0) and the depth at which its head stands."""
+
+    name: str
+    line: int
+    depth: int
+
+
+def function_at(text: str, line: int) -> Optional[Found]:
     """Returns the function around a line (from 0) of formatted code, or None where no function is around it.
 
     Formatted code closes what it opens at the same indentation, so going up the function is the first `fn` that stands no
@@ -33,13 +41,6 @@ def function_at(text: str, line: int) -> Optional["Found"]:
         elif FUNCTION.match(row):
             closed.discard(depth)
     return None
-
-
-class Found:
-    """A function: its name, and the line and the depth at which its head stands."""
-
-    def __init__(self, name: str, line: int, depth: int) -> None:
-        self.name, self.line, self.depth = name, line, depth
 
 
 def owner_of(text: str, found: Found) -> str:
@@ -68,12 +69,11 @@ def last(path: str) -> str:
 
 
 def path_at(file: str, text: str, line: int) -> Optional[str]:
-    """Returns the path of the function around a line of a file below src/, or else of the module. None where that is the crate's root."""
+    """Returns the path of the function around a line of a file below src/, or None where no function is around it."""
     found = function_at(text, line)
-    names = module_of(file)
-    if found:
-        names = names + [it for it in (owner_of(text, found), found.name) if it]
-    return "::".join(names) or None
+    if not found:
+        return None
+    return "::".join([*module_of(file), *[it for it in (owner_of(text, found), found.name) if it]])
 
 
 def in_body(text: str, line: int) -> bool:

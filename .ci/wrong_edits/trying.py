@@ -3,12 +3,13 @@ import os
 import shutil
 import tempfile
 import time
+from itertools import chain
 from pathlib import Path
 from typing import Any, Dict, List, NamedTuple, Tuple
 
 from wrong_edits import kit
-from wrong_edits.edits import BadEdit, Edit, applied, places_of, read_edit
-from wrong_edits.verdicts import Verdict, verdict_among, verdict_of
+from wrong_edits.edits import BadEdit, Edit, applied, is_of_bodies, places_of, read_edit
+from wrong_edits.verdicts import Verdict, verdict_of, verdict_on_bodies
 
 
 class Tried(NamedTuple):
@@ -65,31 +66,36 @@ class Bench:
     def alone(self, edit: Edit) -> Tried:
         """Tries an edit by itself: over the paths that it names, else over the functions that it changes, else over the whole crate."""
         began, texts = time.monotonic(), applied(edit, self.folder)
-        only = edit.only or places_of(edit, self.folder) or []
-        status, said = self.check(texts, only)
-        return Tried(edit.name, verdict_of(status, said, texts), time.monotonic() - began)
+        places = places_of(edit, self.folder) or []
+        status, said = self.check(texts, edit.only or places)
+        if edit.only or not is_of_bodies(edit, self.folder):
+            verdict = verdict_of(status, said, texts)
+        else:
+            verdict = verdict_on_bodies(status, said, texts, self.crate.name, places)
+        return Tried(edit.name, verdict, time.monotonic() - began)
 
     def together(self, edits: List[Edit]) -> List[Tried]:
-        """Tries edits of different functions' bodies in one check, and by itself each one that this check does not tell of."""
-        began, texts, only = time.monotonic(), {}, []
+        """Tries edits of different functions' bodies in one check, and by itself each one of which this check does not tell."""
+        began, texts, places = time.monotonic(), {}, {it.name: places_of(it, self.folder) or [] for it in edits}
         for edit in edits:
             texts = applied(edit, self.folder, texts)
-            only += places_of(edit, self.folder) or []
-        status, said = self.check(texts, only)
+        everywhere = list(chain(*places.values()))
+        status, said = self.check(texts, everywhere)
         seconds = (time.monotonic() - began) / len(edits)
         tried = []
         for edit in edits:
-            verdict = verdict_among(status, said, texts, self.crate.name, places_of(edit, self.folder) or [])
+            verdict = verdict_on_bodies(status, said, texts, self.crate.name, places[edit.name], everywhere)
             tried.append(Tried(edit.name, verdict, seconds) if verdict.refused else self.alone(edit))
         return tried
 
     def try_all(self, edits: List[Edit]) -> List[Tried]:
         """Tries these edits of the crate, all of which can be applied."""
-        places = {it.name: places_of(it, self.folder) for it in edits if not it.only}
-        named, tried = {it.name: it for it in edits}, []
-        for names in rounds_of({name: found for name, found in places.items() if found}):
-            tried += self.together([named[it] for it in names]) if len(names) > 1 else [self.alone(named[names[0]])]
-        return tried + [self.alone(it) for it in edits if not places.get(it.name)]
+        beside = {it.name: it for it in edits if not it.only and is_of_bodies(it, self.folder)}
+        rounds = rounds_of({name: places_of(it, self.folder) or [] for name, it in beside.items()})
+        tried = [self.alone(it) for it in edits if it.name not in beside]
+        for names in rounds:
+            tried += self.together([beside[it] for it in names]) if len(names) > 1 else [self.alone(beside[names[0]])]
+        return tried
 
 
 def try_edits(crate: Any, files: List[Path]) -> List[Tried]:

@@ -1,6 +1,6 @@
 """What rattle's answer to an edited crate says of the edit."""
 import re
-from typing import Iterable, List, NamedTuple
+from typing import Dict, Iterable, List, NamedTuple
 
 # What is said where a text cannot be read at all, and not where what it states is false.
 UNREAD = re.compile(r"is not in scope|has no field|is no name|operand is missing|expected the end|cannot continue")
@@ -51,21 +51,45 @@ def reason_of(lines: List[str]) -> str:
     return f"refused: {first[:160]}" if first else "refused"
 
 
-def verdict_among(status: int, said: str, changed: Iterable[str], crate: str, functions: Iterable[str]) -> Verdict:
-    """Returns the verdict on an edit of these functions' bodies from a check of edits of other functions beside it.
+def names_of(function: str) -> "re.Pattern[str]":
+    """Returns a pattern of the names under which rattle lists a function and the closures in it."""
+    module, _, name = function.rpartition("::")
+    before = re.escape(module + "::") if module else ""
+    return re.compile(rf"{re.escape(function)}|{before}fn::{re.escape(name)}::.*")
+
+
+def own_failures(lines: Iterable[str], crate: str) -> Dict[str, str]:
+    """Returns the functions with a line that says more against them than that they call what is not proved, each with that line."""
+    found = {}
+    for line in lines:
+        told = re.match(rf"fn {crate}::(\S+): (?:not proved|no proof)(?:[:;] )?(.*)", line)
+        if told and (not told[2].startswith("it calls") or "did not prove" in told[2]):
+            found[told[1]] = line
+    return found
+
+
+def refused_answers(lines: Iterable[str], function: str) -> List[str]:
+    """Returns the errors in a function's own folder of proofs, without those that stem from what another function lacks."""
+    place = re.compile(rf"(\./)?proofs/{re.escape(function.replace('::', '/'))}/\w+\.antt:\d+:\d+: error")
+    return [it for it in lines if place.match(it) and "was not admitted" not in it]
+
+
+def verdict_on_bodies(status: int, said: str, changed: Iterable[str], crate: str, own: List[str], others: Iterable[str] = ()) -> Verdict:
+    """Returns the verdict on an edit of its own functions' bodies, from a check in which edits of others' bodies may stand too.
 
     It is refused where one of its own functions has a goal that is not proved or an answer that is refused. That a function
-    calls another one that is not proved says nothing of it.
+    calls another one that is not proved says nothing of it. Where a function fails that no edit touches, nothing is believed.
     """
     whole = verdict_of(status, said, changed)
     if not whole.refused:
         return whole
     lines = said.split("\n")
-    for function in functions:
-        own = [it for it in lines if re.match(rf"(\./)?proofs/{function.replace('::', '/')}/\w+\.antt:\d+:\d+: error", it)]
-        own = [it for it in own if "was not admitted" not in it]
-        open_goal = re.compile(rf"fn {crate}::{re.escape(function)}: .*did not prove")
-        own += [it for it in lines if open_goal.match(it)]
-        if own:
-            return Verdict(True, reason_of(own))
-    return Verdict(False, "the check of several edits did not tell")
+    failed, edited = own_failures(lines, crate), [names_of(it) for it in [*own, *others]]
+    stray = [name for name in failed if not any(it.fullmatch(name) for it in edited)]
+    if stray:
+        return Verdict(False, f"BAD EDIT: {stray[0]} is not proved, which it does not change: name that by a line 'only:' if it is what the edit breaks")
+    for function in own:
+        why = refused_answers(lines, function) + [line for name, line in failed.items() if names_of(function).fullmatch(name)]
+        if why:
+            return Verdict(True, reason_of(why))
+    return Verdict(False, "NOT REFUSED: the functions that it changes are still proved")

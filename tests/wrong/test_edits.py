@@ -1,7 +1,7 @@
 """Files of edits: how they are read and applied, and which function they change."""
 from support import SOURCE, Crates
 
-from wrong_edits.edits import BadEdit, applied, edits_of, places_of, read_edit
+from wrong_edits.edits import BadEdit, applied, edits_of, is_of_bodies, places_of, read_edit
 from wrong_edits.places import module_of
 
 
@@ -58,25 +58,37 @@ class Reading(Crates):
 
 
 class Places(Crates):
-    def places(self, old):
+    def edit(self, old):
         self.write("src/sums.rt", SOURCE)
-        return places_of(read_edit("an.edit", f"file: src/sums.rt\nold: {old}\nnew: x"), self.folder)
+        return read_edit("an.edit", f"file: src/sums.rt\nold: {old}\nnew: x")
 
-    def test_a_body_is_that_of_its_function(self):
+    def places(self, old):
+        return places_of(self.edit(old), self.folder)
+
+    def test_a_line_lies_in_its_function(self):
         self.assertEqual(self.places("    n + most"), ["sums::twice"])
         self.assertEqual(self.places("let _ = most"), ["sums::twice"])
+        self.assertEqual(self.places("result ≡ n + n"), ["sums::twice"])
 
     def test_a_method_stands_below_its_type_and_trait(self):
         self.assertEqual(self.places("self.bytes"), ["sums::FileDiskDisk::len"])
         self.assertEqual(self.places("self.items.len()"), ["sums::List::size"])
 
-    def test_contracts_heads_and_constants_are_no_bodies(self):
-        for old in ("requires { n < 1000 }", "result ≡ n + n", "pub fn twice", "MOST: u64 = 7", "WIDE: u64 = 9"):
-            self.assertIsNone(self.places(old), old)
+    def test_constants_lie_in_no_function(self):
+        self.assertIsNone(self.places("MOST: u64 = 7"))
+        self.assertIsNone(self.places("WIDE: u64 = 9"))
+
+    def test_contracts_and_heads_are_no_bodies(self):
+        for old in ("requires { n < 1000 }", "result ≡ n + n", "pub fn twice", "MOST: u64 = 7"):
+            self.assertFalse(is_of_bodies(self.edit(old), self.folder), old)
+        for old in ("    n + most", "let _ = most", "self.bytes"):
+            self.assertTrue(is_of_bodies(self.edit(old), self.folder), old)
 
     def test_definitions_are_no_bodies(self):
         self.write("specs/Sums.antt", "twice : ℕ → ℕ\n")
-        self.assertIsNone(places_of(read_edit("an.edit", "file: specs/Sums.antt\nold: twice\nnew: x"), self.folder))
+        edit = read_edit("an.edit", "file: specs/Sums.antt\nold: twice\nnew: x")
+        self.assertIsNone(places_of(edit, self.folder))
+        self.assertFalse(is_of_bodies(edit, self.folder))
 
     def test_modules_by_files(self):
         self.assertEqual(module_of("src/lib.rt"), [])

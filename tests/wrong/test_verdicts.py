@@ -3,7 +3,7 @@ import unittest
 
 import support  # noqa: F401  (finds the runner)
 from wrong_edits.trying import rounds_of
-from wrong_edits.verdicts import verdict_among, verdict_of
+from wrong_edits.verdicts import verdict_on_bodies, verdict_of
 
 TOGETHER = """\
 ./proofs/dual_simplex/exchange/Answers.antt:8:188: error: `returns-clause-exchanged`: as printed, the two types differ
@@ -66,9 +66,14 @@ class Alone(unittest.TestCase):
         self.assertFalse(self.verdict(1, said).refused)
 
 
-class Together(unittest.TestCase):
-    def refused(self, *functions, said=TOGETHER, status=1):
-        return verdict_among(status, said, ("src/entering.rt",), "hp_simplex", functions).refused
+class OfBodies(unittest.TestCase):
+    EDITED = ["entering::is_better", "dual_simplex::exchange", "entering::chosen", "entering::is_fixed"]
+
+    def verdict(self, *functions, said=TOGETHER, status=1):
+        return verdict_on_bodies(status, said, ("src/entering.rt",), "hp_simplex", list(functions), self.EDITED)
+
+    def refused(self, *functions, **how):
+        return self.verdict(*functions, **how).refused
 
     def test_a_function_with_an_open_goal_or_a_refused_answer_is_refused(self):
         self.assertTrue(self.refused("entering::is_better"))
@@ -79,10 +84,19 @@ class Together(unittest.TestCase):
         self.assertFalse(self.refused("entering::chosen"))
 
     def test_a_proved_function_is_not_refused(self):
-        self.assertFalse(self.refused("entering::is_fixed"))
+        self.assertIn("NOT REFUSED", self.verdict("entering::is_fixed").why)
+
+    def test_nothing_is_believed_where_an_untouched_function_fails(self):
+        said = TOGETHER.replace("fn hp_simplex::entering::is_fixed: proved", "fn hp_simplex::bounds::low_of: no proof: `search` did not prove `returns`")
+        self.assertIn("low_of is not proved, which it does not change", self.verdict("entering::is_better", said=said).why)
+
+    def test_a_closure_stands_for_its_function(self):
+        said = "fn hp_simplex::entering::fn::is_fixed::all+FnMut::call_mut: not proved\nonly=1 proved=0\n"
+        self.assertTrue(self.refused("entering::is_fixed", said=said))
 
     def test_an_answer_over_what_was_not_admitted_does_not_tell(self):
-        self.assertFalse(self.refused("a::b", said="proofs/a/b/Answers.antt:1:1: error: `c` was not admitted\nonly=1 proved=0\n"))
+        said = "proofs/a/b/Answers.antt:1:1: error: `c` was not admitted\nonly=1 proved=0\n"
+        self.assertFalse(self.refused("a::b", said=said))
 
     def test_an_answer_of_a_longer_name_is_another_functions(self):
         self.assertFalse(self.refused("dual_simplex::exch"))
