@@ -4,7 +4,7 @@ import re
 from pathlib import Path
 from typing import Dict, List, NamedTuple, Optional, Tuple
 
-from wrong_edits.places import in_body, path_at
+from wrong_edits.places import in_body, paths_at
 
 NAME = re.compile(r"[A-Za-z0-9_-][A-Za-z0-9_.-]*\.edit")
 PARTS = ("src/", "specs/", "proofs/")
@@ -76,16 +76,16 @@ def line_of(text: str, old: str) -> int:
 
 
 def places_of(edit: Edit, crate: Path) -> Optional[List[str]]:
-    """Returns the paths of the functions that the edit changes, or None where it changes anything else too."""
-    found = []
+    """Returns the paths of the functions that the edit changes and of those in a cycle with them, or None where it changes anything else too."""
+    found: List[str] = []
     for path, old, _ in edit.pairs:
         if not path.startswith("src/"):
             return None
         text = (crate / path).read_text(encoding="utf-8")
-        place = path_at(path, text, line_of(text, old)) if old in text else None
-        if place is None:
+        places = paths_at(path, text, line_of(text, old)) if old in text else []
+        if not places:
             return None
-        found.append(place)
+        found += places
     return list(dict.fromkeys(found))
 
 

@@ -68,12 +68,34 @@ def last(path: str) -> str:
     return path.strip().lstrip("&").rpartition("::")[2].strip()
 
 
-def path_at(file: str, text: str, line: int) -> Optional[str]:
-    """Returns the path of the function around a line of a file below src/, or None where no function is around it."""
-    found = function_at(text, line)
-    if not found:
-        return None
+def full_name(file: str, text: str, found: Found) -> str:
+    """Returns the path below the crate under which rattle lists a function of a file below src/."""
     return "::".join([*module_of(file), *[it for it in (owner_of(text, found), found.name) if it]])
+
+
+def cycle_of(text: str, found: Found) -> Optional[str]:
+    """Returns the name of the cycle of calls that the attributes above a function name, or None."""
+    lines = text.split("\n")
+    at = found.line - 1
+    while at >= 0 and lines[at].lstrip().startswith(("#[", "//")):
+        named = re.match(r"\s*#\[cycle\((\w+)\)\]", lines[at])
+        if named:
+            return named[1]
+        at -= 1
+    return None
+
+
+def paths_at(file: str, text: str, line: int) -> List[str]:
+    """Returns the path of the function around a line of a file below src/, none where no function is around it.
+
+    Functions in a cycle of calls have one proof, so it returns those of the file that are in the cycle with it.
+    """
+    found = function_at(text, line)
+    cycle = cycle_of(text, found) if found else None
+    if not found or not cycle:
+        return [full_name(file, text, found)] if found else []
+    heads = [function_at(text, at) for at, row in enumerate(text.split("\n")) if FUNCTION.match(row.lstrip())]
+    return [full_name(file, text, it) for it in heads if it and cycle_of(text, it) == cycle]
 
 
 def in_body(text: str, line: int) -> bool:

@@ -71,7 +71,7 @@ class Bench:
         if edit.only or not is_of_bodies(edit, self.folder):
             verdict = verdict_of(status, said, texts)
         else:
-            verdict = verdict_on_bodies(status, said, texts, self.crate.name, places)
+            verdict = verdict_on_bodies(status, said, texts, self.crate.name, places, [])
         return Tried(edit.name, verdict, time.monotonic() - began)
 
     def together(self, edits: List[Edit]) -> List[Tried]:

@@ -74,8 +74,8 @@ def refused_answers(lines: Iterable[str], function: str) -> List[str]:
     return [it for it in lines if place.match(it) and "was not admitted" not in it]
 
 
-def verdict_on_bodies(status: int, said: str, changed: Iterable[str], crate: str, own: List[str], others: Iterable[str] = ()) -> Verdict:
-    """Returns the verdict on an edit of its own functions' bodies, from a check in which edits of others' bodies may stand too.
+def verdict_on_bodies(status: int, said: str, changed: Iterable[str], crate: str, own: List[str], others: List[str]) -> Verdict:
+    """Returns the verdict on an edit of its own functions' bodies, from a check in which edits of others may stand too.
 
     It is refused where one of its own functions has a goal that is not proved or an answer that is refused. That a function
     calls another one that is not proved says nothing of it. Where a function fails that no edit touches, nothing is believed.
@@ -91,5 +91,5 @@ def verdict_on_bodies(status: int, said: str, changed: Iterable[str], crate: str
     for function in own:
         why = refused_answers(lines, function) + [line for name, line in failed.items() if names_of(function).fullmatch(name)]
         if why:
-            return Verdict(True, reason_of(why))
+            return Verdict(True, reason_of(why) if others else whole.why)
     return Verdict(False, "NOT REFUSED: the functions that it changes are still proved")

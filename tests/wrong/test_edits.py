@@ -74,6 +74,13 @@ class Places(Crates):
         self.assertEqual(self.places("self.bytes"), ["sums::FileDiskDisk::len"])
         self.assertEqual(self.places("self.items.len()"), ["sums::List::size"])
 
+    def test_functions_of_a_cycle_stand_together(self):
+        heads = "#[cycle(walk)]\nfn {0}(n: u64) -> u64 {{\n    {1}(n)\n}}\n"
+        self.write("src/walks.rt", heads.format("down", "up") + "\nfn beside() {\n    go()\n}\n\n// Up again.\n" + heads.format("up", "down"))
+        for old, found in (("    down(n)", ["walks::down", "walks::up"]), ("    go()", ["walks::beside"])):
+            edit = read_edit("an.edit", f"file: src/walks.rt\nold: {old}\nnew: x")
+            self.assertEqual(places_of(edit, self.folder), found)
+
     def test_constants_lie_in_no_function(self):
         self.assertIsNone(self.places("MOST: u64 = 7"))
         self.assertIsNone(self.places("WIDE: u64 = 9"))
