@@ -1,6 +1,6 @@
 """Where in a source an edit lies: the path by which `rattle check --only` names the function around it."""
 import re
-from typing import List, NamedTuple, Optional
+from typing import List, NamedTuple, Optional, Tuple
 
 FUNCTION = re.compile(r"(?:pub(?:\([^)]*\))? )?(?:const )?fn (\w+)")
 OWNER = re.compile(r"impl\b")
@@ -44,28 +44,32 @@ def function_at(text: str, line: int) -> Optional[Found]:
 
 
 def owner_of(text: str, found: Found) -> str:
-    """Returns the name under which rattle lists the methods of the impl around a function, or no text."""
-    if not found.depth:
-        return ""
+    """Returns the name under which rattle lists the methods of the impl around a function, or no text.
+
+    It is made of the type and its trait with what they are applied to, as MemoryFromAllocError, less the impl's own parameters.
+    """
     lines = text.split("\n")[:found.line]
     heads = [at for at, row in enumerate(lines) if len(row) - len(row.lstrip()) < found.depth and OWNER.match(row.lstrip())]
     if not heads:
         return ""
-    head = without_brackets(" ".join(text.split("\n")[heads[-1]:found.line]).partition("{")[0])
-    words = re.fullmatch(r"\s*impl\s+(?:(.+?)\s+for\s+)?(.+?)(?:\s+where\b.*)?\s*", head)
-    return last(words[2]) + last(words[1] or "") if words else ""
+    head = " ".join(lines[heads[-1]:]).partition("{")[0].strip()[len("impl"):]
+    parameters, head = parameters_of(head)
+    words = re.fullmatch(r"\s*(?:(.+?)\s+for\s+)?(.+?)(?:\s+where\b.*)?\s*", head)
+    names = f"{words[2]} {words[1] or ''}" if words else ""
+    plain = re.sub(r"'\w+|\w+::", " ", names)
+    return "".join(it for it in re.findall(r"\w+", plain) if it not in parameters and it != "_")
 
 
-def without_brackets(text: str) -> str:
-    """Returns the text without what stands in < and >."""
-    while "<" in text and re.search(r"<[^<>]*>", text):
-        text = re.sub(r"<[^<>]*>", "", text)
-    return text
-
-
-def last(path: str) -> str:
-    """Returns the last name of a path."""
-    return path.strip().lstrip("&").rpartition("::")[2].strip()
+def parameters_of(head: str) -> Tuple[List[str], str]:
+    """Returns the names of the parameters that a head begins with in < and >, and the rest of the head."""
+    if not head.startswith("<"):
+        return [], head
+    depth = 0
+    for at, sign in enumerate(head):
+        depth += (sign == "<") - (sign == ">")
+        if not depth:
+            return re.findall(r"(?:^|,)\s*(?:const )?(\w+)", re.sub(r"<[^<>]*>", "", head[1:at])), head[at + 1:]
+    return [], head
 
 
 def full_name(file: str, text: str, found: Found) -> str:

@@ -34,7 +34,13 @@ impl Disk for FileDisk<'_> {
     }
 }
 
-impl<T> List<T> {
+impl Keeper<u64> for list::List<ListEntry> {
+    fn keep(&mut self) {
+        self.push()
+    }
+}
+
+impl<'a, T: Copy, const N: usize> List<'a, T, N> {
     pub fn size(&self) -> usize {
         self.items.len()
     }

@@ -73,6 +73,7 @@ class Places(Crates):
     def test_a_method_stands_below_its_type_and_trait(self):
         self.assertEqual(self.places("self.bytes"), ["sums::FileDiskDisk::len"])
         self.assertEqual(self.places("self.items.len()"), ["sums::List::size"])
+        self.assertEqual(self.places("self.push()"), ["sums::ListListEntryKeeperu64::keep"])
 
     def test_functions_of_a_cycle_stand_together(self):
         heads = "#[cycle(walk)]\nfn {0}(n: u64) -> u64 {{\n    {1}(n)\n}}\n"
