@@ -26,7 +26,10 @@ def commit_before(root: Path) -> Optional[str]:
 
 
 def crates_in(rows: str) -> Set[str]:
-    """Returns the crates whose sources or edits the rows of `git diff --name-status` change; that the folder of edits got its name is no change."""
+    """Returns the crates whose sources or edits the rows of `git diff --name-status` change.
+
+    That a crate's folder of edits got its name is no change.
+    """
     found = set()
     for row in rows.splitlines():
         kind, *paths = row.split("\t")
@@ -40,7 +43,7 @@ def crates_in(rows: str) -> Set[str]:
 
 
 def changed_crates(root: Path) -> Optional[Set[str]]:
-    """Returns the crates that differ from what they were three days before HEAD, or None where that is not known, so that all count as changed."""
+    """Returns the crates that differ from what they were three days before HEAD, or None, for all, where that is not known."""
     before = commit_before(root)
     rows = before and git(root, "diff", "--name-status", "-M100%", before, "--", "crates")
     return None if rows is None else crates_in(rows)
@@ -52,7 +55,7 @@ def in_quarter(commit: str, edit: str) -> bool:
 
 
 def chosen(edits: Iterable[str], below: Dict[str, List[str]], changed: Optional[Set[str]], commit: str) -> List[str]:
-    """Returns the edits, `CRATE/NAME`, to try: those of changed crates and of the ones that name a changed crate as their library, and a quarter of the rest."""
+    """Returns the edits, `CRATE/NAME`, to try: those of changed crates and of crates that use one, and a quarter of the rest."""
     if changed is None:
         return list(edits)
     near = changed | {name for name, uses in below.items() if changed & set(uses)}

@@ -82,7 +82,7 @@ def run(root: Path, names: List[str]) -> int:
         raise OSError(f"no crate is named {unknown[0]}")
     files, bad, began = files_to_try(root, crates, names), stray(crates, root), time.monotonic()
     for path in bad:
-        print(f"wrong: {path}: BAD EDIT: an edit stands right in wrong/, and its name is of letters, digits, _, - and . and ends in .edit")
+        print(f"wrong: {path}: BAD EDIT: an edit stands right in wrong/, named of letters, digits, _, - and ., and ends in .edit")
     work = [it for it in crates if it.name in files]
     work.sort(key=lambda it: -it.count(rb"\n") * len(files[it.name]))
     passed, total = 0, len(bad) + sum(map(len, files.values()))
@@ -99,7 +99,7 @@ def run(root: Path, names: List[str]) -> int:
 def main(words: List[str]) -> int:
     """Runs the command over the repository that this file is in."""
     if any(it.startswith("-") for it in words):
-        print("usage: .ci/wrong [NAME..], with WRONG=all for the edits of all crates and RT_JOBS=N for N checks at a time", file=sys.stderr)
+        print("usage: .ci/wrong [NAME..], with WRONG=all for all edits and RT_JOBS=N for N checks at a time", file=sys.stderr)
         return 2
     try:
         return run(Path(__file__).resolve().parents[2], words)

@@ -76,7 +76,7 @@ def line_of(text: str, old: str) -> int:
 
 
 def places_of(edit: Edit, crate: Path) -> Optional[List[str]]:
-    """Returns the paths of the functions that the edit changes and of those in a cycle with them, or None where it changes anything else too."""
+    """Returns the functions that the edit changes, with those in a cycle with them, or None where it changes anything else too."""
     found: List[str] = []
     for path, old, _ in edit.pairs:
         if not path.startswith("src/"):

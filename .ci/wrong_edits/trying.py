@@ -33,8 +33,19 @@ def read_edits(crate: Any, files: List[Path]) -> Tuple[List[Edit], List[Tried]]:
     return good, bad
 
 
+def over_each_other(edits: List[Edit], crate: Path) -> Dict[str, str]:
+    """Returns the texts of the files that all the edits change, none where one writes what another one replaces."""
+    texts: Dict[str, str] = {}
+    try:
+        for edit in edits:
+            texts = applied(edit, crate, texts)
+    except BadEdit:
+        return {}
+    return texts
+
+
 def rounds_of(places: Dict[str, List[str]]) -> List[List[str]]:
-    """Returns the edits in rounds, such that no two of a round change one function. The value of an edit is the functions that it changes."""
+    """Returns the edits in rounds, no two of which change one function. The value of an edit is the functions that it changes."""
     rounds: List[Tuple[List[str], set]] = []
     for name, functions in places.items():
         fitting = next((it for it in rounds if not it[1] & set(functions)), None)
@@ -76,11 +87,10 @@ class Bench:
 
     def together(self, edits: List[Edit]) -> List[Tried]:
         """Tries edits of different functions' bodies in one check, and by itself each one of which this check does not tell."""
-        began, texts, places = time.monotonic(), {}, {it.name: places_of(it, self.folder) or [] for it in edits}
-        for edit in edits:
-            texts = applied(edit, self.folder, texts)
+        began, texts = time.monotonic(), over_each_other(edits, self.folder)
+        places = {it.name: places_of(it, self.folder) or [] for it in edits}
         everywhere = list(chain(*places.values()))
-        status, said = self.check(texts, everywhere)
+        status, said = self.check(texts, everywhere) if texts else (2, "")
         seconds = (time.monotonic() - began) / len(edits)
         tried = []
         for edit in edits:

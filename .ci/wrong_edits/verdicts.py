@@ -6,6 +6,8 @@ from typing import Dict, Iterable, List, NamedTuple
 UNREAD = re.compile(r"is not in scope|has no field|is no name|operand is missing|expected the end|cannot continue")
 STALE = re.compile(r"module .Rattle-(\w+)-.*Run the lower steps again")
 NAMES_WHAT_IS_GONE = re.compile(r"(\./)?proofs/.*(has no field|is not in scope|has no `|was not admitted)")
+ONLY_BY_A_NAME = ("only because a proof file names what the edit took away, so this says little of the contract: "
+                  "change a value and keep the names")
 PLACE = re.compile(r"(note: )?\S+:\d+:\d+:")
 OPEN_GOAL = re.compile(r"fn \S+: .*did not prove")
 SAYS_WHY = re.compile(r": error|^note: |^fn ")
@@ -47,7 +49,7 @@ def reason_of(lines: List[str]) -> str:
     told = [it for it in told if SAYS_WHY.search(it)] or told
     first = next((it for it in told if not NAMES_WHAT_IS_GONE.match(it)), "")
     if told and not first:
-        return f"refused (only because a proof file names what the edit took away, so this says little of the contract: change a value and keep the names): {told[0][:160]}"
+        return f"refused ({ONLY_BY_A_NAME}): {told[0][:160]}"
     return f"refused: {first[:160]}" if first else "refused"
 
 
@@ -87,7 +89,7 @@ def verdict_on_bodies(status: int, said: str, changed: Iterable[str], crate: str
     failed, edited = own_failures(lines, crate), [names_of(it) for it in [*own, *others]]
     stray = [name for name in failed if not any(it.fullmatch(name) for it in edited)]
     if stray:
-        return Verdict(False, f"BAD EDIT: {stray[0]} is not proved, which it does not change: name that by a line 'only:' if it is what the edit breaks")
+        return Verdict(False, f"BAD EDIT: {stray[0]} is not proved, which it does not change: name it by 'only:' if the edit breaks it")
     for function in own:
         why = refused_answers(lines, function) + [line for name, line in failed.items() if names_of(function).fullmatch(name)]
         if why:

@@ -77,7 +77,8 @@ class Places(Crates):
 
     def test_functions_of_a_cycle_stand_together(self):
         heads = "#[cycle(walk)]\nfn {0}(n: u64) -> u64 {{\n    {1}(n)\n}}\n"
-        self.write("src/walks.rt", heads.format("down", "up") + "\nfn beside() {\n    go()\n}\n\n// Up again.\n" + heads.format("up", "down"))
+        beside = "\nfn beside() {\n    go()\n}\n\n// Up again.\n"
+        self.write("src/walks.rt", heads.format("down", "up") + beside + heads.format("up", "down"))
         for old, found in (("    down(n)", ["walks::down", "walks::up"]), ("    go()", ["walks::beside"])):
             edit = read_edit("an.edit", f"file: src/walks.rt\nold: {old}\nnew: x")
             self.assertEqual(places_of(edit, self.folder), found)

@@ -1,8 +1,9 @@
 """What rattle's answers say of an edit. The answers here were printed by rattle, and are cut to the lines that matter."""
 import unittest
 
-import support  # noqa: F401  (finds the runner)
-from wrong_edits.trying import rounds_of
+import support
+from wrong_edits.edits import read_edit
+from wrong_edits.trying import over_each_other, rounds_of
 from wrong_edits.verdicts import verdict_on_bodies, verdict_of
 
 TOGETHER = """\
@@ -87,7 +88,8 @@ class OfBodies(unittest.TestCase):
         self.assertIn("NOT REFUSED", self.verdict("entering::is_fixed").why)
 
     def test_nothing_is_believed_where_an_untouched_function_fails(self):
-        said = TOGETHER.replace("fn hp_simplex::entering::is_fixed: proved", "fn hp_simplex::bounds::low_of: no proof: `search` did not prove `returns`")
+        line = "fn hp_simplex::bounds::low_of: no proof: `search` did not prove `returns`"
+        said = TOGETHER.replace("fn hp_simplex::entering::is_fixed: proved", line)
         self.assertIn("low_of is not proved, which it does not change", self.verdict("entering::is_better", said=said).why)
 
     def test_a_closure_stands_for_its_function(self):
@@ -104,6 +106,15 @@ class OfBodies(unittest.TestCase):
 
     def test_nothing_is_told_without_a_verdict(self):
         self.assertFalse(self.refused("entering::is_better", status=2))
+
+
+class Rounds(support.Crates):
+    def test_edits_of_a_round_lie_over_each_other(self):
+        first, second = (read_edit("an.edit", f"file: src/lib.rt\nold: {it}") for it in ("a\nnew: b", "c\nnew: d"))
+        third = read_edit("an.edit", "file: src/lib.rt\nold: c\nnew: a")
+        self.write("src/lib.rt", "a c e")
+        self.assertEqual(over_each_other([first, second], self.folder), {"src/lib.rt": "b d e"})
+        self.assertEqual(over_each_other([third, first], self.folder), {})
 
     def test_no_two_edits_of_a_round_change_one_function(self):
         rounds = rounds_of({"one": ["a"], "two": ["b", "c"], "three": ["a"], "four": ["c", "d"], "five": ["d"]})
