@@ -27,6 +27,8 @@ def function_at(text: str, line: int) -> Optional[Found]:
     deeper than all below it and was not closed on the way.
     """
     lines = text.split("\n")
+    if line >= len(lines):
+        return None
     level, closed = len(lines[line]) - len(lines[line].lstrip()), set()
     for at in range(line, -1, -1):
         row = lines[at].lstrip()

@@ -2,6 +2,8 @@
 import re
 from typing import Dict, Iterable, List, NamedTuple
 
+from wrong_edits.places import paths_at
+
 # What is said where a text cannot be read at all, and not where what it states is false.
 UNREAD = re.compile(r"is not in scope|has no field|is no name|operand is missing|expected the end|cannot continue")
 STALE = re.compile(r"module .Rattle-(\w+)-.*Run the lower steps again")
@@ -76,13 +78,23 @@ def refused_answers(lines: Iterable[str], function: str) -> List[str]:
     return [it for it in lines if place.match(it) and "was not admitted" not in it]
 
 
-def verdict_on_bodies(status: int, said: str, changed: Iterable[str], crate: str, own: List[str], others: List[str]) -> Verdict:
+def open_goals(lines: Iterable[str], function: str, texts: Dict[str, str]) -> List[str]:
+    """Returns the notes on goals that are not proved in a function, by where they lie in the changed texts."""
+    found = []
+    for line in lines:
+        place = re.match(r"note: (?:\./)?(src/\S+?):(\d+):\d+: it is not proved", line)
+        if place and place[1] in texts and function in paths_at(place[1], texts[place[1]], int(place[2]) - 1):
+            found.append(line)
+    return found
+
+
+def verdict_on_bodies(status: int, said: str, texts: Dict[str, str], crate: str, own: List[str], others: List[str]) -> Verdict:
     """Returns the verdict on an edit of its own functions' bodies, from a check in which edits of others may stand too.
 
     It is refused where one of its own functions has a goal that is not proved or an answer that is refused. That a function
     calls another one that is not proved says nothing of it. Where a function fails that no edit touches, nothing is believed.
     """
-    whole = verdict_of(status, said, changed)
+    whole = verdict_of(status, said, texts)
     if not whole.refused:
         return whole
     lines = said.split("\n")
@@ -93,5 +105,5 @@ def verdict_on_bodies(status: int, said: str, changed: Iterable[str], crate: str
     for function in own:
         why = refused_answers(lines, function) + [line for name, line in failed.items() if names_of(function).fullmatch(name)]
         if why:
-            return Verdict(True, reason_of(why) if others else whole.why)
+            return Verdict(True, reason_of(open_goals(lines, function, texts) + why) if others else whole.why)
     return Verdict(False, "NOT REFUSED: the functions that it changes are still proved")

@@ -71,7 +71,8 @@ class OfBodies(unittest.TestCase):
     EDITED = ["entering::is_better", "dual_simplex::exchange", "entering::chosen", "entering::is_fixed"]
 
     def verdict(self, *functions, said=TOGETHER, status=1):
-        return verdict_on_bodies(status, said, ("src/entering.rt",), "hp_simplex", list(functions), self.EDITED)
+        texts = {"src/entering.rt": "fn is_better() {\n    body\n}\n"}
+        return verdict_on_bodies(status, said, texts, "hp_simplex", list(functions), self.EDITED)
 
     def refused(self, *functions, **how):
         return self.verdict(*functions, **how).refused
@@ -80,6 +81,13 @@ class OfBodies(unittest.TestCase):
         self.assertTrue(self.refused("entering::is_better"))
         self.assertTrue(self.refused("dual_simplex::exchange"))
         self.assertTrue(self.refused("entering::is_fixed", "entering::is_better"))
+
+    def test_an_open_goal_is_the_reason_before_a_name_that_is_gone(self):
+        gone = "proofs/entering/is_better/Answers.antt:8:1: error: `returns`: `Goals` has no field `returns`\n"
+        goal = "note: src/entering.rt:2:5: it is not proved that what the function ensures holds\n"
+        end = "fn hp_simplex::entering::is_better: not proved\nonly=1 proved=0\n"
+        self.assertIn("only because a proof file", self.verdict("entering::is_better", said=gone + end).why)
+        self.assertIn("note: src/entering.rt:2:5", self.verdict("entering::is_better", said=gone + goal + end).why)
 
     def test_a_call_of_what_is_not_proved_does_not_tell(self):
         self.assertFalse(self.refused("entering::chosen"))
