@@ -91,7 +91,8 @@ def run(root: Path, names: List[str]) -> int:
         for done in as_completed(running):
             passed += show(running[done], done.result())
     used = resource.getrusage(resource.RUSAGE_CHILDREN)
-    print(f"wrong: {total} edits of {len(work)} crates in {time.monotonic() - began:.0f} s, {used.ru_utime + used.ru_stime:.0f} s of a processor")
+    seconds = f"{time.monotonic() - began:.0f} s, {used.ru_utime + used.ru_stime:.0f} s of a processor"
+    print(f"wrong: {total} edits of {len(work)} crates in {seconds}")
     print(f"{passed} passed, {total - passed} failed")
     return 0 if passed == total else 1
 
