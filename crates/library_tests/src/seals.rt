@@ -1,0 +1,70 @@
+// What no problem in a file shows: parts that are not sealed.
+use crate::problems::BARE;
+use hp_fields::ReadRefusal;
+use hp_num::{List, Memory};
+use hp_problem::{Node, Problem, Raw, SealFault};
+use hp_sof::read_raw;
+use std::alloc::Global;
+use std::test::Fail;
+
+// Gives a node's first realization this weight, and the node a weight of stopping.
+fn weigh(node: &mut Node, weight: u32) {
+    node.stop = 7;
+    for first in node.weights.as_mut_slice() {
+        *first = weight;
+    }
+}
+
+fn weigh_each(nodes: &mut [Node], weight: u32) {
+    for node in nodes {
+        weigh(node, weight);
+    }
+}
+
+fn one<T: Drop>(alloc: Global, item: T) -> Result<List<T>, Memory> {
+    let mut found = List::new(alloc);
+    found.push(item)?;
+    Ok(found)
+}
+
+// What sealing says of these parts with this weight, with the order, the lows and the highs as they are given.
+fn sealing(
+    alloc: Global,
+    mut raw: Raw,
+    weight: u32,
+    lists: (List<u32>, List<List<i64>>, List<List<i64>>),
+    longest: u32,
+) -> Option<SealFault> {
+    weigh_each(raw.nodes.as_mut_slice(), weight);
+    let (order, lo, hi) = lists;
+    Problem::seal(alloc, raw, order, longest, lo, hi).err()
+}
+
+// The fault of a problem of one node with one realization of this weight.
+fn fault(alloc: Global, weight: u32, longest: u32) -> Result<Option<SealFault>, ReadRefusal> {
+    let order = one(alloc, 0)?;
+    let lo = one(alloc, List::new(alloc))?;
+    let hi = one(alloc, List::new(alloc))?;
+    match read_raw(alloc, BARE) {
+        Ok(raw) => Ok(sealing(alloc, raw, weight, (order, lo, hi), longest)),
+        Err(refusal) => Err(refusal),
+    }
+}
+
+#[test]
+fn seals_what_fits_together(rt: HostRuntime) -> Result<(), Fail> {
+    for (weight, longest, expected) in [
+        (65535, 1, None),
+        (65536, 1, Some(SealFault::NotRaw)),
+        (0, 1, Some(SealFault::NotRaw)),
+        (1, 2, Some(SealFault::NotRaw)),
+    ] {
+        let found = fault(rt.alloc(), weight, longest)?;
+        assert_eq!(rt;
+            found,
+            expected,
+            "weight {weight} and longest path {longest}"
+        );
+    }
+    Ok(())
+}
