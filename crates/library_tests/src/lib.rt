@@ -2,15 +2,11 @@
 #![tactic(auto)]
 
 #[cfg(test)]
-mod commands;
-#[cfg(test)]
 mod draws;
 #[cfg(test)]
 mod made_problems;
 #[cfg(test)]
 mod plants;
-#[cfg(test)]
-mod pools;
 #[cfg(test)]
 mod problems;
 #[cfg(test)]

@@ -18,22 +18,46 @@ fn alpha(pools: &Pools, node: u32, place: u32) -> Option<i128> {
     }
 }
 
+// Whether a node gets a cut of this constant and slope.
+fn pushes(alloc: Global, pools: &mut Pools, node: u32, alpha: i128, slope: i128) -> bool {
+    if (node as usize) < pools.nodes() && pools.count(node) < 1000 {
+        match cut(alloc, alpha, slope) {
+            Ok(cut) => pools.push(node, cut).is_ok(),
+            Err(Memory) => false,
+        }
+    } else {
+        false
+    }
+}
+
 // Whether node 0 has no cut, and node 1 has cuts of these constants.
 fn holds(pools: &Pools, alphas: [Option<i128>; 3]) -> bool {
     let found = [alpha(pools, 1, 0), alpha(pools, 1, 1), alpha(pools, 1, 2)];
     alpha(pools, 0, 0).is_none() && found == alphas
 }
 
+fn makes_room(pools: &mut Pools) -> bool {
+    pools.nodes() == 2 && pools.reserve(1).is_ok() && pools.reserve_many(1, 2).is_ok()
+}
+
+fn keeps_one(pools: &mut Pools, node: u32) {
+    if (node as usize) < pools.nodes() {
+        pools.truncate(node, 1);
+    }
+}
+
+fn holds_cuts(alloc: Global, pools: &mut Pools) -> bool {
+    let pushed = pushes(alloc, pools, 1, -3, 0) && pushes(alloc, pools, 1, 5, 0);
+    let held = pushed && holds(pools, [Some(-3), Some(5), None]);
+    keeps_one(pools, 1);
+    held && holds(pools, [Some(-3), None, None])
+}
+
 #[test]
 fn holds_lists_of_cuts(rt: HostRuntime) -> Result<(), Fail> {
     let mut pools = Pools::new(rt.alloc(), 2)?;
-    pools.reserve(1)?;
-    pools.reserve_many(1, 2)?;
-    pools.push(1, cut(rt.alloc(), -3, 0)?)?;
-    pools.push(1, cut(rt.alloc(), 5, 0)?)?;
-    assert!(rt; pools.nodes() == 2 && holds(&pools, [Some(-3), Some(5), None]));
-    pools.truncate(1, 1);
-    assert!(rt; holds(&pools, [Some(-3), None, None]));
+    assert!(rt; makes_room(&mut pools));
+    assert!(rt; holds_cuts(rt.alloc(), &mut pools));
     Ok(())
 }
 
@@ -55,16 +79,28 @@ fn peak(pools: &Pools, ends: OutBox) -> Option<i128> {
     }
 }
 
+fn prepares(alloc: Global, pools: &mut Pools) -> bool {
+    pools.nodes() > 0 && pools.prepare(alloc, 0, [ENDS].as_slice()).is_ok()
+}
+
 // Over [1, 10] the cut 7 - 2x is greatest at 1, and the cut 4 + x at 10.
+fn keeps_peak(alloc: Global, pools: &mut Pools) -> bool {
+    pushes(alloc, pools, 0, 7, -2)
+        && peak(pools, ENDS).is_none()
+        && prepares(alloc, pools)
+        && peak(pools, ENDS) == Some(5)
+        && peak(pools, OTHER).is_none()
+}
+
+fn peak_follows(alloc: Global, pools: &mut Pools) -> bool {
+    pushes(alloc, pools, 0, 4, 1) && peak(pools, ENDS) == Some(14)
+}
+
 #[test]
 fn keeps_peaks(rt: HostRuntime) -> Result<(), Fail> {
     let mut pools = Pools::new(rt.alloc(), 1)?;
-    pools.push(0, cut(rt.alloc(), 7, -2)?)?;
-    assert_eq!(rt; peak(&pools, ENDS), None);
-    pools.prepare(rt.alloc(), 0, [ENDS].as_slice())?;
-    assert_eq!(rt; (peak(&pools, ENDS), peak(&pools, OTHER)), (Some(5), None));
-    pools.push(0, cut(rt.alloc(), 4, 1)?)?;
-    assert_eq!(rt; peak(&pools, ENDS), Some(14));
+    assert!(rt; keeps_peak(rt.alloc(), &mut pools));
+    assert!(rt; peak_follows(rt.alloc(), &mut pools));
     Ok(())
 }
 
@@ -76,15 +112,20 @@ fn slope(pools: &Pools, place: usize) -> Option<i128> {
     }
 }
 
+fn keeps_two(alloc: Global, pools: &mut Pools) -> bool {
+    pushes(alloc, pools, 0, 7, -2)
+        && prepares(alloc, pools)
+        && pushes(alloc, pools, 0, 4, 1)
+        && slope(pools, 0) == Some(-2)
+        && slope(pools, 1) == Some(1)
+}
+
 #[test]
 fn keeps_slopes(rt: HostRuntime) -> Result<(), Fail> {
     let mut pools = Pools::new(rt.alloc(), 1)?;
-    pools.push(0, cut(rt.alloc(), 7, -2)?)?;
-    pools.prepare(rt.alloc(), 0, [ENDS].as_slice())?;
-    pools.push(0, cut(rt.alloc(), 4, 1)?)?;
-    assert_eq!(rt; (slope(&pools, 0), slope(&pools, 1)), (Some(-2), Some(1)));
-    pools.truncate(0, 1);
-    assert_eq!(rt; (peak(&pools, ENDS), slope(&pools, 0)), (None, Some(-2)));
+    assert!(rt; keeps_two(rt.alloc(), &mut pools));
+    keeps_one(&mut pools, 0);
+    assert!(rt; peak(&pools, ENDS).is_none() && slope(&pools, 0) == Some(-2));
     Ok(())
 }
 

@@ -1,0 +1,169 @@
+// Solvers on programs of one decision: those that solve nothing, and the one on a single table.
+ghost use Rattle.std.specs.Prelude.{◌≤ℤ◌, IfSome, IfOk};
+ghost use Rattle.hp_solver.specs.Proper.{IsProper, IsReference};
+
+use hp_num::{List, Memory};
+use hp_simplex::{DualSimplex, Table};
+use hp_solver::fixed::ONE;
+use hp_solver::{Answer, Column, Fx, Kind, Liar, LpRow, Meeting, Solver, StageLp, Zero};
+use std::alloc::Global;
+use std::test::Fail;
+
+// A program of one decision and one own row, whose only term is the factor.
+#[tactic(auto, using(crate::proofs::Singles::proper_one, crate::proofs::Singles::reference_one))]
+fn single(
+    alloc: Global,
+    column: Column,
+    low: Option<Fx>,
+    high: Option<Fx>,
+    factor: Fx,
+) -> Result<StageLp, Memory>
+    requires column { column.low.0 ≤ℤ column.high.0 }
+    requires row { IfSome low (λ l. IfSome high (λ h. l.0 ≤ℤ h.0)) }
+    ensures proper { IfOk result (λ lp. IsProper lp) }
+    ensures reference { IfOk result (λ lp. IsReference lp) }
+{
+    let mut terms = List::new(alloc);
+    terms.push((0u32, factor))?;
+    let mut columns = List::new(alloc);
+    columns.push(column)?;
+    let mut rows = List::new(alloc);
+    rows.push(LpRow { low, high, terms })?;
+    Ok(StageLp {
+        columns,
+        rows,
+        decisions: 1,
+        own: 1,
+    })
+}
+
+// A column from 0 to 1 at cost 1, three of which are to be 1.
+fn thirds(alloc: Global) -> Result<StageLp, Memory>
+    ensures proper { IfOk result (λ lp. IsProper lp) }
+    ensures reference { IfOk result (λ lp. IsReference lp) }
+{
+    let column = Column {
+        low: Fx(0),
+        high: Fx(ONE),
+        cost: Fx(ONE),
+    };
+    single(alloc, column, Some(Fx(ONE)), Some(Fx(ONE)), Fx(3 * ONE))
+}
+
+// The answer of a chain of one.
+fn alone<V: Solver>(alloc: Global, solver: &V) -> Result<Answer, Memory> {
+    let lp = thirds(alloc)?;
+    let start = solver.start(alloc, &lp)?;
+    let mut chain = solver.begin(alloc, &start, &lp)?;
+    solver.solve(alloc, &mut chain, &lp)
+}
+
+fn says(answer: &Answer, kind: Kind, point: &[Fx], duals: &[Fx]) -> bool {
+    answer.kind == kind && answer.point.as_slice() == point && answer.duals.as_slice() == duals
+}
+
+#[test]
+fn claims_zero(rt: HostRuntime) -> Result<(), Fail> {
+    assert!(rt; says(&alone(rt.alloc(), &Zero)?, Kind::Found, &[Fx(0)], &[Fx(0)]));
+    Ok(())
+}
+
+fn liar(alloc: Global) -> Result<Liar, Memory> {
+    let mut duals = List::new(alloc);
+    duals.push(Fx(7))?;
+    Ok(Liar::new(Answer {
+        kind: Kind::Ray,
+        point: List::new(alloc),
+        duals,
+    }))
+}
+
+#[test]
+fn claims_what_it_is_told(rt: HostRuntime) -> Result<(), Fail> {
+    let claim = alone(rt.alloc(), &liar(rt.alloc())?)?;
+    assert!(rt; says(&claim, Kind::Ray, &[], &[Fx(7)]));
+    Ok(())
+}
+
+// Whether a chain of one is found, and no two threads met.
+fn finds_alone(alloc: Global, meeting: &Meeting) -> Result<bool, Memory> {
+    Ok(alone(alloc, meeting)?.kind == Kind::Found && !meeting.met())
+}
+
+#[test]
+fn one_thread_does_not_meet(rt: HostRuntime) -> Result<(), Fail> {
+    let meeting = Meeting::new(1, 10);
+    for _call in 0..4 {
+        assert!(rt; finds_alone(rt.alloc(), &meeting)?);
+    }
+    Ok(())
+}
+
+// The second answer of a chain that is asked twice.
+fn second(alloc: Global, lp: &StageLp) -> Result<Answer, Memory>
+    requires proper { IsProper lp.now }
+    requires reference { IsReference lp.now }
+{
+    DualSimplex.start(alloc, lp)?;
+    let mut chain = DualSimplex.begin(alloc, &(), lp)?;
+    DualSimplex.solve(alloc, &mut chain, lp)?;
+    DualSimplex.solve(alloc, &mut chain, lp)
+}
+
+#[test]
+fn solves_thirds(rt: HostRuntime) -> Result<(), Fail> {
+    let answer = second(rt.alloc(), &thirds(rt.alloc())?)?;
+    assert!(rt; says(&answer, Kind::Found, &[Fx(1431655765)], &[Fx(1431655765)]));
+    Ok(())
+}
+
+// A column that is 2^100, with a row of 2^100 of it.
+fn large(alloc: Global) -> Result<StageLp, Memory>
+    ensures proper { IfOk result (λ lp. IsProper lp) }
+    ensures reference { IfOk result (λ lp. IsReference lp) }
+{
+    let column = Column {
+        low: Fx(1 << 100),
+        high: Fx(1 << 100),
+        cost: Fx(0),
+    };
+    single(alloc, column, Some(Fx(0)), None, Fx(1 << 100))
+}
+
+#[test]
+fn is_stuck_on_a_product(rt: HostRuntime) -> Result<(), Fail> {
+    let answer = second(rt.alloc(), &large(rt.alloc())?)?;
+    assert!(rt; says(&answer, Kind::Stuck, &[Fx(1 << 100)], &[Fx(0)]));
+    Ok(())
+}
+
+fn holds(table: &Table, cells: &[Fx], costs: &[Fx]) -> bool {
+    table.cells.as_slice() == cells && table.costs.as_slice() == costs
+}
+
+#[test]
+fn pivots_in_place(rt: HostRuntime) -> Result<(), Fail> {
+    let mut table = Table {
+        rows: 2,
+        columns: 2,
+        cells: vec![in rt.alloc(); Fx(2 * ONE), Fx(ONE), Fx(4 * ONE), Fx(3 * ONE)]?,
+        costs: vec![in rt.alloc(); Fx(6 * ONE), Fx(ONE)]?,
+    };
+    assert!(rt; table.pivot(0, 0));
+    let cells = [Fx(ONE / 2), Fx(-ONE / 2), Fx(2 * ONE), Fx(ONE)];
+    assert!(rt; holds(&table, &cells, &[Fx(3 * ONE), Fx(-2 * ONE)]));
+    Ok(())
+}
+
+// A value that threads may send and share.
+fn is_shared<T: Send + Sync>(_value: &T) -> bool {
+    true
+}
+
+#[test]
+fn threads_share_solvers(rt: HostRuntime) -> Result<(), Fail> {
+    assert!(rt; is_shared(&DualSimplex) && is_shared(&Zero));
+    assert!(rt; is_shared(&Meeting::new(0, 0)));
+    assert!(rt; is_shared(&liar(rt.alloc())?));
+    Ok(())
+}
