@@ -13,6 +13,3 @@ pub use entry::{Entry, EntryStep};
 pub use hp_theory::{Certificate, Cut};
 pub use peaks::OutBox;
 pub use pools::{Pools, root_weight};
-
-#[cfg(test)]
-mod tests;

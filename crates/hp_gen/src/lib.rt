@@ -5,8 +5,6 @@ mod generated;
 mod names;
 mod nodes;
 mod stage;
-#[cfg(test)]
-mod tests;
 mod words;
 
 pub use generated::generate;

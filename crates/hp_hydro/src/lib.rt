@@ -9,8 +9,6 @@ mod nodes;
 mod plants;
 mod rows;
 mod stage;
-#[cfg(test)]
-mod tests;
 mod text;
 pub mod worked;
 

@@ -5,4 +5,3 @@ pub mod HeadsRead
 pub mod Newborn
 pub mod Reading
 pub mod Told
-pub mod WorkedBody

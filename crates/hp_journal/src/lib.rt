@@ -14,6 +14,3 @@ pub use gate::{Gate, GateFault, PayloadFault, payload, read_gate};
 pub use growth::{append, recover};
 pub use head::{Head, HeadFault, read_head};
 pub use writing::{cut_to, put};
-
-#[cfg(test)]
-mod tests;

@@ -22,6 +22,3 @@ pub use references::reference;
 pub use spare_rows::SpareRows;
 pub use stages::{restate, stage, stage_with};
 pub use starts::Starts;
-
-#[cfg(test)]
-mod tests;

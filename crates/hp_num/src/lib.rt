@@ -15,6 +15,3 @@ pub use name::Name;
 pub use size::Size;
 pub use spare::Spare;
 pub use whole::{add_product, floor_div};
-
-#[cfg(test)]
-mod worked_values;

@@ -76,6 +76,3 @@ pub trait Disk {
         ensures time { Elapses (store self.old) (store self.new) }
         ensures cause { HasCause (faults self.old) (faults self.new) result };
 }
-
-#[cfg(test)]
-pub(crate) mod tests;

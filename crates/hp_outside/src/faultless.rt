@@ -197,6 +197,3 @@ impl Disk for FaultlessDisk {
         Ok(())
     }
 }
-
-#[cfg(test)]
-mod tests;

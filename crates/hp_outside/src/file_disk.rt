@@ -177,6 +177,3 @@ impl<'a, R: Files> Disk for FileDisk<'a, R> {
         counted(&mut self.faults, outcome)
     }
 }
-
-#[cfg(test)]
-mod tests;

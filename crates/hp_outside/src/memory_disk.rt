@@ -286,6 +286,3 @@ impl Disk for MemDisk {
         Ok(())
     }
 }
-
-#[cfg(test)]
-mod tests;

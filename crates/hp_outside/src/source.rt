@@ -170,6 +170,3 @@ pub(crate) fn copy(buf: &mut [u8], from: &[u8], most: usize) -> usize
     buf[..count].copy_from_slice(&from[..count]);
     count
 }
-
-#[cfg(test)]
-mod tests;

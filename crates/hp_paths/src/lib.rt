@@ -12,8 +12,3 @@ pub mod worked;
 pub use order::{by_rank, predecessors};
 pub use rank::{RankFault, longest_from, ranks};
 pub use reach::first_unreached;
-
-#[cfg(test)]
-mod worked_graphs;
-#[cfg(test)]
-mod worked_ranks;

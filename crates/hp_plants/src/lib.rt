@@ -24,6 +24,3 @@ pub use line_text::{kind_number, push_hydro_refusal};
 pub use plants::{Bus, Inflow, Line, Plants, Reservoir, Stage, Thermal, Travel};
 pub use reading::read_plants;
 pub use refusal::{HydroFault, HydroKind, HydroPart, HydroRefusal};
-
-#[cfg(test)]
-mod tests;

@@ -23,6 +23,3 @@ pub use limits::{
 pub use raw::{Decision, Moment, Node, Raw, Row, State, Subproblem};
 pub use refusal::{Part, Place, Refusal, RefusalKind};
 pub use sealed::{Problem, SealFault};
-
-#[cfg(test)]
-mod tests;

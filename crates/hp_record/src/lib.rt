@@ -16,6 +16,3 @@ pub use decoding::{decode, decode_batch, decode_batch_with};
 pub use encoding::{encode, encode_batch};
 pub use fault::EntryFault;
 pub use spares::Spares;
-
-#[cfg(test)]
-mod tests;

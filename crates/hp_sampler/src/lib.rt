@@ -4,8 +4,6 @@
 pub mod paths;
 pub mod picks;
 pub mod steps;
-#[cfg(test)]
-mod tests;
 mod words;
 
 pub use paths::path;

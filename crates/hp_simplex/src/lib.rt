@@ -13,6 +13,3 @@ pub mod table;
 
 pub use dual_simplex::DualSimplex;
 pub use table::Table;
-
-#[cfg(test)]
-mod tests;

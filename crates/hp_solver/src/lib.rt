@@ -10,6 +10,3 @@ pub use fixed::Fx;
 pub use solver::Solver;
 pub use stage_lp::{Answer, Column, Kind, LpRow, StageLp};
 pub use stand_ins::{Liar, Meeting, Zero};
-
-#[cfg(test)]
-mod tests;

@@ -6,6 +6,3 @@ pub mod push;
 
 pub use numeral::read_u64;
 pub use push::{push_bytes, push_name, push_whole};
-
-#[cfg(test)]
-mod tests;

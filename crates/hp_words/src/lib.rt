@@ -7,6 +7,3 @@ pub mod worked;
 
 pub use command::Command;
 pub use forms::read_words;
-
-#[cfg(test)]
-mod tests;
