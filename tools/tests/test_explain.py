@@ -10,7 +10,7 @@ from hydroplan_tools.places import descend, locate, read_refusal
 from tests.support import EXAMPLES, REPOSITORY, S, cursor, run
 
 TWO = (EXAMPLES / "two_reservoirs.json").read_text(encoding="utf-8")
-WORKED = REPOSITORY / "crates" / "worked_rows" / "data"
+WORKED = REPOSITORY / "crates" / "golden_commands" / "data"
 
 
 def said(text, line):
@@ -132,7 +132,7 @@ class OtherLines(unittest.TestCase):
 def edited_rows():
     """The problems that the worked rows refuse: the name of a row, the text, its edits, and the program's line."""
     for row in (WORKED / "rows.txt").read_text(encoding="utf-8").splitlines():
-        kind, problem, name, *_ = row.split()
+        kind, name, problem, *_ = row.split()
         if kind != "edits" or name.startswith("unlike"):
             continue
         for line in (WORKED / f"{name}.txt").read_text(encoding="utf-8").splitlines():

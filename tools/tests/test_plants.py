@@ -8,7 +8,7 @@ from hydroplan_tools.misspellings import warnings
 from hydroplan_tools.plants import first_fault, is_description
 from tests.support import EXAMPLES, REPOSITORY, cursor, run
 
-WORKED = REPOSITORY / "crates" / "worked_training" / "data"
+ROWS = REPOSITORY / "tests" / "program" / "data"
 CASCADE = (EXAMPLES / "cascade_plants.json").read_text(encoding="utf-8")
 
 
@@ -116,11 +116,10 @@ class Refusals(unittest.TestCase):
             self.assertEqual(refusal_of(json.dumps({**document, "stages": [stage]})), refusal)
         self.assertEqual(refusal_of(json.dumps({**document, "stages": document["stages"] * 17})), "Limit at whole 0 0")
 
-    @unittest.skipUnless((WORKED / "hydro-refusals.json").exists(), "the program's worked rows have no refusals of descriptions")
-    def test_those_of_the_worked_rows(self):
+    def test_those_of_the_program_s_rows(self):
         """One description a line, and one line of the program for each."""
-        texts = (WORKED / "hydro-refusals.json").read_text(encoding="utf-8").rstrip("\n").split("\n")
-        lines = (WORKED / "hydro-refusals.txt").read_text(encoding="utf-8").splitlines()
+        texts = (ROWS / "hydro-refusals.json").read_text(encoding="utf-8").rstrip("\n").split("\n")
+        lines = (ROWS / "hydro-refusals.txt").read_text(encoding="utf-8").splitlines()
         self.assertEqual(len(texts), len(lines))
         for text, line in zip(texts, lines):
             with self.subTest(line=line, text=text[:200]):

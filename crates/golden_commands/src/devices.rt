@@ -1,0 +1,53 @@
+// Objects in memory whose calls fail as a row says.
+use crate::fault::RowFault;
+use hp_outside::{MemDisk, MemSink, MemSource};
+use std::alloc::Global;
+
+/// The space for what is written to a sink.
+const OUTPUT: usize = 1 << 20;
+
+/// The space for what is written to a journal.
+const ROOM: usize = 1 << 12;
+
+/// How many writes, cuts and syncs a journal takes.
+const CHANGES: usize = 1 << 10;
+
+/// How a source and a sink behave: how many bytes a call takes at most, and the calls that fail.
+#[derive(Clone, Copy)]
+pub struct Devices<'a> {
+    pub most_read: usize,
+    pub most_written: usize,
+    pub failing_reads: &'a [u64],
+    pub failing_writes: &'a [u64],
+}
+
+/// Devices that take all at once and never fail.
+pub const FAULTLESS: Devices<'static> = Devices {
+    most_read: usize::MAX,
+    most_written: usize::MAX,
+    failing_reads: &[],
+    failing_writes: &[],
+};
+
+/// A source of a problem's text.
+pub fn source(alloc: Global, devices: Devices<'_>, problem: &str) -> Result<MemSource, RowFault> {
+    let failing = devices.failing_reads.to_vec(alloc)?;
+    let mut source = MemSource::new(problem.as_bytes().to_vec(alloc)?, failing);
+    source.chunk(devices.most_read.max(1));
+    Ok(source)
+}
+
+/// An empty sink.
+pub fn sink(alloc: Global, devices: Devices<'_>) -> Result<MemSink, RowFault> {
+    let failing = devices.failing_writes.to_vec(alloc)?;
+    let mut sink = MemSink::new(alloc, failing, OUTPUT)?;
+    sink.chunk(devices.most_written.max(1));
+    Ok(sink)
+}
+
+/// A journal of these bytes, of whose calls those of these numbers fail.
+pub fn disk(alloc: Global, journal: &[u8], failing: &[u64]) -> Result<MemDisk, RowFault> {
+    let bytes = journal.to_vec(alloc)?;
+    let failing = failing.to_vec(alloc)?;
+    Ok(MemDisk::new(alloc, bytes, failing, ROOM, CHANGES)?)
+}

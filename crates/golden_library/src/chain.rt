@@ -1,0 +1,115 @@
+// Programs solved one after another.
+ghost use Rattle.std.specs.Prelude.{◌≡◌, ◌<◌, length};
+ghost use Rattle.hp_solver.specs.declared.stage_lp.StageLp.{StageLp};
+ghost use Rattle.hp_solver.specs.Proper.{IsProper, IsReference, Extends, IsLike};
+
+use crate::alike::{extends, is_like};
+use crate::fault::RowFault;
+use crate::proper::{is_proper, is_reference};
+use crate::reading::{Extent, program, programs};
+use crate::solvers::{Named, by_name};
+use hp_simplex::DualSimplex;
+use hp_solver::{Answer, Fx, Solver, StageLp};
+use hp_warm_simplex::WarmSimplex;
+use std::alloc::Global;
+use std::fmt::Write;
+
+fn push_numbers(text: &mut String, label: &str, numbers: &[Fx]) -> Result<(), RowFault> {
+    text.push_str(label)?;
+    for number in numbers {
+        write!(text, " {}", number.0)?;
+    }
+    text.push_str("\n")?;
+    Ok(())
+}
+
+fn push_answer(text: &mut String, answer: &Answer) -> Result<(), RowFault> {
+    write!(text, "{:?}\n", answer.kind)?;
+    push_numbers(text, "point", answer.point.as_slice())?;
+    push_numbers(text, "duals", answer.duals.as_slice())
+}
+
+/// Appends the answers of a chain that has begun with a program to it and to the others.
+fn push_answers<V: Solver>(
+    alloc: Global,
+    solver: &V,
+    chain: &mut V::Chain,
+    first: &StageLp,
+    all: &[StageLp],
+    text: &mut String,
+) -> Result<(), RowFault>
+    requires proper { IsProper first.now }
+    requires fits { (other : StageLp) → IsLike first.now other → V.fits solver.now chain.old other }
+{
+    let mut last = first;
+    for lp in all {
+        if !is_like(last, lp) {
+            return Err(RowFault::Unlike);
+        }
+        let answer = solver.solve(alloc, chain, lp)?;
+        push_answer(text, &answer)?;
+        last = lp;
+    }
+    Ok(())
+}
+
+/// Appends the answers of the chain that begins from a start.
+fn push_chain<V: Solver>(
+    alloc: Global,
+    solver: &V,
+    reference: &StageLp,
+    start: &V::Start,
+    all: &[StageLp],
+    text: &mut String,
+) -> Result<(), RowFault>
+    requires proper { IsProper reference.now }
+    requires suits { (other : StageLp) → Extends reference.now other → V.suits solver.now start.now other }
+{
+    let first = all.first().ok_or(RowFault::Form)?;
+    if !extends(reference, first) {
+        return Err(RowFault::Unlike);
+    }
+    let mut chain = solver.begin(alloc, start, first)?;
+    push_answers(alloc, solver, &mut chain, first, all, text)
+}
+
+/// Appends the answers of the chain that begins from the start of a reference program.
+fn push_from<V: Solver>(
+    alloc: Global,
+    solver: &V,
+    reference: &StageLp,
+    file: &str,
+    text: &mut String,
+) -> Result<(), RowFault>
+    requires proper { IsProper reference.now }
+    requires own { IsReference reference.now }
+{
+    let start = solver.start(alloc, reference)?;
+    let all = programs(alloc, file)?;
+    push_chain(alloc, solver, reference, &start, all.as_slice(), text)
+}
+
+/// Appends what a solver answers to the programs of a file, in one chain from the start of the file's own rows.
+fn push_solved<V: Solver>(
+    alloc: Global,
+    solver: &V,
+    file: &str,
+    text: &mut String,
+) -> Result<(), RowFault> {
+    let reference = program(alloc, file, Extent::Own, "")?;
+    if !is_proper(&reference) || !is_reference(&reference) {
+        return Err(RowFault::Improper);
+    }
+    push_from(alloc, solver, &reference, file, text)
+}
+
+/// The answers of the solver of this name to the programs of a file.
+pub fn solved(alloc: Global, file: &str, solver: &str) -> Result<String, RowFault> {
+    let mut text = String::new(alloc);
+    match by_name(solver) {
+        Some(Named::DualSimplex) => push_solved(alloc, &DualSimplex, file, &mut text)?,
+        Some(Named::WarmSimplex) => push_solved(alloc, &WarmSimplex, file, &mut text)?,
+        _ => return Err(RowFault::Form),
+    }
+    Ok(text)
+}

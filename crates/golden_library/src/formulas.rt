@@ -1,0 +1,29 @@
+// The formulas that bound what a problem's training and simulation take.
+use crate::fault::RowFault;
+use hp_problem::{Problem, TooMuch};
+use std::alloc::Global;
+
+fn number(text: &str) -> Result<u32, RowFault> {
+    text.parse::<u32>().map_err(|_| RowFault::Form)
+}
+
+fn too_much(problem: &Problem, iterations: u32, batch: u32) -> Option<TooMuch> {
+    if iterations <= 2001 && 1 <= batch && batch <= 64 {
+        problem.too_much(iterations, batch as u16)
+    } else {
+        None
+    }
+}
+
+/// What is exceeded by `too_much ITERATIONS BATCH` or `too_wide SCENARIOS`, if anything.
+pub fn exceeded(alloc: Global, problem: &Problem, question: &str) -> Result<String, RowFault> {
+    let (formula, numbers) = question.split_once(" ").ok_or(RowFault::Form)?;
+    let found = match (formula, numbers.split_once(" ")) {
+        ("too_much", Some((iterations, batch))) => {
+            too_much(problem, number(iterations)?, number(batch)?)
+        }
+        ("too_wide", None) => problem.too_wide(number(numbers)?),
+        _ => return Err(RowFault::Form),
+    };
+    Ok(format!(in alloc; "{found:?}\n")?)
+}

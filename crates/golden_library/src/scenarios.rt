@@ -1,0 +1,201 @@
+// What the words of a row on simulation give.
+ghost use Rattle.std.specs.Prelude.{length, All, IfOk};
+ghost use Rattle.hp_lp.specs.Ready.{AreReady};
+ghost use Rattle.hp_report.specs.Traces.{AreKnown};
+ghost use Rattle.hp_theory.specs.Fit.{Fit};
+ghost use Rattle.hp_theory.specs.View.{problem_of};
+
+use crate::fault::RowFault;
+use crate::iterations::{Plan, Told, base_pools, steps};
+use crate::lines::push_dead;
+use crate::solvers::{Named, by_name};
+use crate::words::{number, word};
+use hp_cut::Pools;
+use hp_forward::{StageFault, Trace};
+use hp_lp::Starts;
+use hp_num::List;
+use hp_problem::Problem;
+use hp_report::trace_report;
+use hp_sim::{simulate, validate};
+use hp_simplex::DualSimplex;
+use hp_solver::{Solver, Zero};
+use std::alloc::Global;
+use std::fmt::Write;
+use std::str::{SplitWhitespace, from_utf8};
+use std::thread::Threads;
+
+/// What is simulated.
+#[derive(Clone, Copy)]
+struct Course {
+    solver: Named,
+    /// The training before.
+    plan: Plan,
+    /// The seed and the number of the drawn scenarios; without, the stored ones are gone through.
+    drawn: Option<(u64, u32)>,
+}
+
+/// SEED COUNT: at most 2,000 of what is counted.
+fn pair(words: &mut SplitWhitespace<'_>) -> Result<(u64, u32), RowFault> {
+    let seed = number(words)?;
+    let count = number(words)?.min(2000) as u32;
+    Ok((seed, count))
+}
+
+/// TRAINED ITERATIONS, one path each.
+fn plan(words: &mut SplitWhitespace<'_>) -> Result<Plan, RowFault> {
+    let (seed, count) = pair(words)?;
+    Ok(Plan {
+        seed,
+        batch: 1,
+        count,
+        told: Told::Nothing,
+    })
+}
+
+/// The traces of drawn scenarios, or of those that the problem stores.
+fn traced<V: Solver>(
+    alloc: Global,
+    problem: &Problem,
+    pools: &Pools,
+    solver: &V,
+    starts: &Starts<V>,
+    drawn: Option<(u64, u32)>,
+) -> Result<List<Trace>, StageFault>
+    requires fit { Fit (problem_of problem.now) (length problem.now.raw.nodes) pools.now.lists }
+    requires ready { AreReady (V.started solver.now) (V.suits solver.now) problem.now starts.now.items }
+    ensures { IfOk result (All (AreKnown problem.now)) }
+{
+    match drawn {
+        Some((seed, count)) => simulate(alloc, problem, pools, solver, starts, seed, count),
+        None => validate(alloc, problem, pools, solver, starts),
+    }
+}
+
+/// Appends the report of traces, and an empty line.
+fn push_report(
+    alloc: Global,
+    problem: &Problem,
+    pools: &Pools,
+    traces: &[Trace],
+    text: &mut String,
+) -> Result<(), RowFault>
+    requires fit { Fit (problem_of problem.now) (length problem.now.raw.nodes) pools.now.lists }
+    requires known { All (AreKnown problem.now) traces.now }
+{
+    let report = trace_report(alloc, problem, pools, traces)?;
+    let report = from_utf8(report.as_slice()).map_err(|_| RowFault::Form)?;
+    writeln!(text, "{report}")?;
+    Ok(())
+}
+
+/// Appends the report of scenarios over pools, or the node without decisions that stops them.
+fn push_traces<V: Solver>(
+    alloc: Global,
+    problem: &Problem,
+    pools: &Pools,
+    solver: &V,
+    starts: &Starts<V>,
+    drawn: Option<(u64, u32)>,
+    text: &mut String,
+) -> Result<(), RowFault>
+    requires fit { Fit (problem_of problem.now) (length problem.now.raw.nodes) pools.now.lists }
+    requires ready { AreReady (V.started solver.now) (V.suits solver.now) problem.now starts.now.items }
+{
+    match traced(alloc, problem, pools, solver, starts, drawn) {
+        Ok(traces) => push_report(alloc, problem, pools, traces.as_slice(), text),
+        Err(StageFault::NoStage(dead)) => push_dead(text, &dead),
+        Err(StageFault::Memory) => Err(RowFault::Memory),
+    }
+}
+
+/// Appends what comes of scenarios with a solver.
+fn push_followed<R: Threads + Sync, V: Solver>(
+    rt: &R,
+    alloc: Global,
+    problem: &Problem,
+    solver: &V,
+    course: Course,
+    text: &mut String,
+) -> Result<(), RowFault> {
+    let mut pools = base_pools(alloc, problem)?;
+    let starts = Starts::new(alloc, problem, solver)?;
+    let plan = course.plan;
+    steps(rt, alloc, problem, solver, &starts, plan, &mut pools, text)?;
+    push_traces(alloc, problem, &pools, solver, &starts, course.drawn, text)
+}
+
+/// The number of scenarios.
+fn count_of(problem: &Problem, drawn: Option<(u64, u32)>) -> u32 {
+    match drawn {
+        Some((_, count)) => count,
+        None => u32::try_from(problem.raw().scenarios.len()).unwrap_or(u32::MAX),
+    }
+}
+
+/// Appends what comes of scenarios, or the formula that so many exceed.
+fn push_course<R: Threads + Sync>(
+    rt: &R,
+    alloc: Global,
+    problem: &Problem,
+    course: Course,
+    text: &mut String,
+) -> Result<(), RowFault> {
+    if let Some(much) = problem.too_wide(count_of(problem, course.drawn)) {
+        writeln!(text, "{much:?}")?;
+        return Ok(());
+    }
+    match course.solver {
+        Named::DualSimplex => push_followed(rt, alloc, problem, &DualSimplex, course, text),
+        Named::Zero => push_followed(rt, alloc, problem, &Zero, course, text),
+        _ => Err(RowFault::Form),
+    }
+}
+
+fn text_of<R: Threads + Sync>(
+    rt: &R,
+    alloc: Global,
+    problem: &Problem,
+    course: Course,
+) -> Result<String, RowFault> {
+    let mut text = String::new(alloc);
+    push_course(rt, alloc, problem, course, &mut text)?;
+    Ok(text)
+}
+
+/// What SOLVER TRAINED ITERATIONS SEED COUNT give: the report of drawn scenarios.
+pub fn simulated<R: Threads + Sync>(
+    rt: &R,
+    alloc: Global,
+    problem: &Problem,
+    words: &str,
+) -> Result<String, RowFault> {
+    let mut words = words.split_whitespace();
+    let solver = by_name(word(&mut words)?).ok_or(RowFault::Form)?;
+    let plan = plan(&mut words)?;
+    let drawn = Some(pair(&mut words)?);
+    let course = Course {
+        solver,
+        plan,
+        drawn,
+    };
+    text_of(rt, alloc, problem, course)
+}
+
+/// What SOLVER TRAINED ITERATIONS give: the report of the stored scenarios.
+pub fn validated<R: Threads + Sync>(
+    rt: &R,
+    alloc: Global,
+    problem: &Problem,
+    words: &str,
+) -> Result<String, RowFault> {
+    let mut words = words.split_whitespace();
+    let solver = by_name(word(&mut words)?).ok_or(RowFault::Form)?;
+    let plan = plan(&mut words)?;
+    let drawn = None;
+    let course = Course {
+        solver,
+        plan,
+        drawn,
+    };
+    text_of(rt, alloc, problem, course)
+}

@@ -1,0 +1,97 @@
+// Cuts that fit, from answers that no solver gave.
+ghost use Rattle.std.specs.Prelude.{◌≡◌, ◌<◌, ◌^◌, length, IfOk};
+ghost use Rattle.hp_theory.specs.Fit.{CutFits, Fit};
+ghost use Rattle.hp_theory.specs.Problem.{node_at};
+ghost use Rattle.hp_theory.specs.View.{problem_of};
+
+use crate::fault::RowFault;
+use crate::stage_answers::answer;
+use hp_cut::{Cut, Pools};
+use hp_dual::{accept_into, no_slopes};
+use hp_num::{List, Memory};
+use hp_problem::Problem;
+use hp_settle::settle;
+use hp_theory::Certificate;
+use std::alloc::Global;
+
+/// No node gets more cuts.
+const MOST_CUTS: u32 = 1 << 20;
+
+/// The certificates of an answer for each of a node's realizations, with all weight on the first cut of each successor.
+fn certificates(
+    alloc: Global,
+    problem: &Problem,
+    pools: &Pools,
+    node: u32,
+    turn: u32,
+) -> Result<List<Certificate>, Memory>
+    requires known { node < length problem.now.raw.nodes }
+    requires fit { Fit (problem_of problem.now) (length problem.now.raw.nodes) pools.now.lists }
+{
+    let rows = problem.sub(node).rows.len();
+    let answer = answer(alloc, rows, 0, turn)?;
+    let mut list = List::new(alloc);
+    for _ in problem.node(node).weights.as_slice() {
+        list.push(settle(alloc, problem, pools, node, &answer)?)?;
+    }
+    Ok(list)
+}
+
+/// The cut of such certificates.
+fn made(
+    alloc: Global,
+    problem: &Problem,
+    pools: &Pools,
+    node: u32,
+    turn: u32,
+) -> Result<Cut, RowFault>
+    requires known { node < length problem.now.raw.nodes }
+    requires fit { Fit (problem_of problem.now) (length problem.now.raw.nodes) pools.now.lists }
+    ensures { IfOk result (CutFits (node_at (problem_of problem.now) node)) }
+{
+    let list = certificates(alloc, problem, pools, node, turn)?;
+    let mut cut = no_slopes(alloc, problem.raw().states.len())?;
+    match accept_into(problem, pools, node, list.as_slice(), &mut cut) {
+        Ok(()) => Ok(cut),
+        Err(_) => Err(RowFault::Range),
+    }
+}
+
+/// Puts one cut more into the pool of a node.
+#[tactic(auto, using(hp_backward::proofs::Cuts::fit_push))]
+fn add_cut(
+    alloc: Global,
+    problem: &Problem,
+    pools: &mut Pools,
+    node: u32,
+    turn: u32,
+) -> Result<(), RowFault>
+    requires known { node < length problem.now.raw.nodes }
+    requires fit { Fit (problem_of problem.now) (length problem.now.raw.nodes) pools.old.lists }
+    ensures { Fit (problem_of problem.now) (length problem.now.raw.nodes) pools.new.lists }
+{
+    if pools.count(node) >= MOST_CUTS {
+        return Err(RowFault::Memory);
+    }
+    let cut = made(alloc, problem, pools, node, turn)?;
+    pools.push(node, cut)?;
+    Ok(())
+}
+
+/// Puts so many cuts more into the pool of a node.
+pub fn add_cuts(
+    alloc: Global,
+    problem: &Problem,
+    pools: &mut Pools,
+    node: u32,
+    count: u32,
+) -> Result<(), RowFault>
+    requires known { node < length problem.now.raw.nodes }
+    requires fit { Fit (problem_of problem.now) (length problem.now.raw.nodes) pools.old.lists }
+    ensures { Fit (problem_of problem.now) (length problem.now.raw.nodes) pools.new.lists }
+{
+    for turn in 0..count {
+        add_cut(alloc, problem, pools, node, turn)?;
+    }
+    Ok(())
+}

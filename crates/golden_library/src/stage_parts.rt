@@ -1,0 +1,213 @@
+// Parts of a stage problem, each done many times.
+ghost use Rattle.std.specs.Prelude.{◌<◌, length, IfOk};
+ghost use Rattle.hp_lp.specs.Nodes.{IsStageAt};
+ghost use Rattle.hp_theory.specs.Fit.{Fit};
+ghost use Rattle.hp_theory.specs.View.{problem_of};
+ghost use Rattle.golden_library.specs.StageMoments.{MayStand};
+
+use crate::fault::RowFault;
+use crate::iterations::base_pools;
+use crate::stage_answers::answer;
+use crate::stage_cuts::add_cuts;
+use crate::stage_moments::{Moment, first, last};
+use crate::stage_texts::{push_certificate, push_program};
+use crate::words::count;
+use hp_cut::Pools;
+use hp_lp::{SpareRows, restate, stage_with};
+use hp_num::Memory;
+use hp_problem::Problem;
+use hp_settle::settle;
+use hp_solver::{Answer, StageLp};
+use hp_theory::Certificate;
+use std::alloc::Global;
+
+/// How many cuts there are beside the base cut, and how often each part is done beside once.
+#[derive(Clone, Copy)]
+struct Counts {
+    cuts: u32,
+    builds: u32,
+    sides: u32,
+    settles: u32,
+}
+
+/// The node whose stage problem is measured.
+const NODE: u32 = 0;
+
+/// The stage problem at a moment, in the memory of rows that are spare.
+fn stage_at(
+    alloc: Global,
+    spare: &mut SpareRows,
+    problem: &Problem,
+    pools: &Pools,
+    moment: &Moment,
+) -> Result<StageLp, Memory>
+    requires fit { Fit (problem_of problem.now) (length problem.now.raw.nodes) pools.now.lists }
+    requires moment { MayStand problem.now 0 moment.now.values.now moment.now.state }
+    ensures { IfOk result (IsStageAt problem.now 0) }
+{
+    stage_with(
+        alloc,
+        spare,
+        problem,
+        pools,
+        NODE,
+        moment.values,
+        moment.state.as_slice(),
+    )
+}
+
+/// The stage problem, built so many times and once, each time in the memory of the one before, as along a path of
+/// training.
+fn built(
+    alloc: Global,
+    problem: &Problem,
+    pools: &Pools,
+    moment: &Moment,
+    builds: u32,
+) -> Result<StageLp, Memory>
+    requires fit { Fit (problem_of problem.now) (length problem.now.raw.nodes) pools.now.lists }
+    requires moment { MayStand problem.now 0 moment.now.values.now moment.now.state }
+    ensures { IfOk result (IsStageAt problem.now 0) }
+{
+    let mut spare = SpareRows::new(alloc);
+    for _ in 0..builds {
+        let lp = stage_at(alloc, &mut spare, problem, pools, moment)?;
+        spare.give_back(lp);
+    }
+    stage_at(alloc, &mut spare, problem, pools, moment)
+}
+
+/// Gives the stage problem the sides of a moment.
+fn turn_to(problem: &Problem, moment: &Moment, lp: &mut StageLp)
+    requires moment { MayStand problem.now 0 moment.now.values.now moment.now.state }
+    requires stage { IsStageAt problem.now 0 lp.old }
+    ensures { IsStageAt problem.now 0 lp.new }
+{
+    restate(problem, NODE, moment.values, moment.state.as_slice(), lp);
+}
+
+/// Gives the stage problem the sides of one moment and of the other, so many times in turn.
+fn turned(problem: &Problem, first: &Moment, last: &Moment, sides: u32, lp: &mut StageLp)
+    requires first { MayStand problem.now 0 first.now.values.now first.now.state }
+    requires last { MayStand problem.now 0 last.now.values.now last.now.state }
+    requires stage { IsStageAt problem.now 0 lp.old }
+{
+    for turn in 0..sides {
+        if turn % 2 == 0 {
+            turn_to(problem, last, lp);
+        } else {
+            turn_to(problem, first, lp);
+        }
+    }
+}
+
+/// The certificate of an answer, settled so many times and once.
+fn settled(
+    alloc: Global,
+    problem: &Problem,
+    pools: &Pools,
+    answer: &Answer,
+    settles: u32,
+) -> Result<Certificate, Memory>
+    requires known { 0 < length problem.now.raw.nodes }
+    requires fit { Fit (problem_of problem.now) (length problem.now.raw.nodes) pools.now.lists }
+{
+    for _ in 0..settles {
+        settle(alloc, problem, pools, NODE, answer)?;
+    }
+    settle(alloc, problem, pools, NODE, answer)
+}
+
+/// The first successor of the node.
+fn successor(problem: &Problem) -> Result<u32, RowFault>
+    ensures { IfOk result (λ m. m < length problem.now.raw.nodes) }
+{
+    let nodes = problem.raw().nodes.as_slice();
+    let node = nodes.first().ok_or(RowFault::NoSuccessor)?;
+    let link = *node.links.as_slice().first().ok_or(RowFault::NoSuccessor)?;
+    if (link as usize) < nodes.len() {
+        Ok(link)
+    } else {
+        Err(RowFault::NoSuccessor)
+    }
+}
+
+/// Appends what stands in the certificate of an answer for so many own rows of a stage problem with so many rows.
+fn push_settled(
+    alloc: Global,
+    problem: &Problem,
+    pools: &Pools,
+    own: usize,
+    rows: usize,
+    settles: u32,
+    text: &mut String,
+) -> Result<(), RowFault>
+    requires known { 0 < length problem.now.raw.nodes }
+    requires fit { Fit (problem_of problem.now) (length problem.now.raw.nodes) pools.now.lists }
+{
+    let answer = answer(alloc, own, rows.saturating_sub(own), 1)?;
+    let certificate = settled(alloc, problem, pools, &answer, settles)?;
+    push_certificate(text, &certificate)
+}
+
+/// Appends what stands after each part, at two moments.
+fn push_parts(
+    alloc: Global,
+    problem: &Problem,
+    pools: &Pools,
+    first: &Moment,
+    last: &Moment,
+    counts: Counts,
+    text: &mut String,
+) -> Result<(), RowFault>
+    requires known { 0 < length problem.now.raw.nodes }
+    requires fit { Fit (problem_of problem.now) (length problem.now.raw.nodes) pools.now.lists }
+    requires first { MayStand problem.now 0 first.now.values.now first.now.state }
+    requires last { MayStand problem.now 0 last.now.values.now last.now.state }
+{
+    let mut lp = built(alloc, problem, pools, first, counts.builds)?;
+    push_program(text, &lp)?;
+    turned(problem, first, last, counts.sides, &mut lp);
+    push_program(text, &lp)?;
+    let (own, rows) = (lp.own as usize, lp.rows.len());
+    push_settled(alloc, problem, pools, own, rows, counts.settles, text)
+}
+
+/// Appends what stands after each part over pools.
+fn push_stage(
+    alloc: Global,
+    problem: &Problem,
+    pools: &Pools,
+    counts: Counts,
+    text: &mut String,
+) -> Result<(), RowFault>
+    requires known { 0 < length problem.now.raw.nodes }
+    requires fit { Fit (problem_of problem.now) (length problem.now.raw.nodes) pools.now.lists }
+{
+    let first = first(alloc, problem, NODE)?;
+    let last = last(alloc, problem, NODE)?;
+    push_parts(alloc, problem, pools, &first, &last, counts, text)
+}
+
+fn counts_of(words: &str) -> Result<Counts, RowFault> {
+    let mut words = words.split_whitespace();
+    Ok(Counts {
+        cuts: count(&mut words)?,
+        builds: count(&mut words)?,
+        sides: count(&mut words)?,
+        settles: count(&mut words)?,
+    })
+}
+
+/// What CUTS BUILDS SIDES SETTLES give: what stands after each part of the first node's stage problem. So many cuts are put
+/// behind the base cut of the node's first successor; the stage problem is built, is given other sides, and an answer of its
+/// size is settled, each so often and once.
+pub fn measured(alloc: Global, problem: &Problem, words: &str) -> Result<String, RowFault> {
+    let counts = counts_of(words)?;
+    let node = successor(problem)?;
+    let mut pools = base_pools(alloc, problem)?;
+    add_cuts(alloc, problem, &mut pools, node, counts.cuts)?;
+    let mut text = String::new(alloc);
+    push_stage(alloc, problem, &pools, counts, &mut text)?;
+    Ok(text)
+}

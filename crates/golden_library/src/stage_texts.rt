@@ -1,0 +1,64 @@
+// What is said of a stage problem and of a certificate.
+use crate::fault::RowFault;
+use hp_solver::{Fx, LpRow, StageLp};
+use hp_theory::Certificate;
+use std::fmt::Write;
+
+fn terms(rows: &[LpRow]) -> u64 {
+    let mut terms = 0u64;
+    for row in rows {
+        terms = terms.wrapping_add(row.terms.len() as u64);
+    }
+    terms
+}
+
+/// A side, 0 where it is absent.
+fn side(side: Option<Fx>) -> i128 {
+    side.map_or(0, |side| side.0)
+}
+
+/// The sum of all sides, modulo 2^128.
+fn sides(rows: &[LpRow]) -> i128 {
+    let mut sum = 0i128;
+    for row in rows {
+        sum = sum.wrapping_add(side(row.low)).wrapping_add(side(row.high));
+    }
+    sum
+}
+
+/// Appends a line on a stage problem.
+pub fn push_program(text: &mut String, lp: &StageLp) -> Result<(), RowFault> {
+    write!(
+        text,
+        "columns {} rows {} terms {} sides {}\n",
+        lp.columns.len(),
+        lp.rows.len(),
+        terms(lp.rows.as_slice()),
+        sides(lp.rows.as_slice())
+    )?;
+    Ok(())
+}
+
+/// How many multipliers are not 0.
+fn nonzero(multipliers: &[i64]) -> usize {
+    multipliers
+        .iter()
+        .filter(|multiplier| **multiplier != 0)
+        .count()
+}
+
+/// Appends a line on a certificate.
+pub fn push_certificate(text: &mut String, certificate: &Certificate) -> Result<(), RowFault> {
+    let pairs = certificate
+        .cuts
+        .as_slice()
+        .first()
+        .map_or(0, |pairs| pairs.len());
+    write!(
+        text,
+        "multipliers {} pairs {}\n",
+        nonzero(certificate.rows.as_slice()),
+        pairs
+    )?;
+    Ok(())
+}

@@ -1,9 +1,0 @@
-//! The program on a problem that it refuses.
-#![tactic(auto)]
-
-use hp_run::start;
-use std::process::ExitCode;
-
-fn main(rt: HostRuntime) -> ExitCode {
-    start(&rt, rt.stdin(), rt.stdout(), &mut rt.stderr())
-}

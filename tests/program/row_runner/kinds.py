@@ -1,0 +1,43 @@
+"""What is done for a row of each kind."""
+from __future__ import annotations
+
+import tempfile
+from pathlib import Path
+
+from .bounds import between, rising
+from .expectation import difference, expectation
+from .kills import killed
+from .program import NoEnd
+from .rows import BadRow, Row, bytes_of
+from .running import Verdict, journal_before, run_of, streams
+from .tables import each, edits, journals
+
+
+def run(row: Row, program: Path, folder: Path) -> Verdict:
+    """Whether a run ends, says, writes and leaves what is expected."""
+    expected = expectation(row.expected, bytes_of(row.expected))
+    return Verdict(difference(expected, journal_before(row), run_of(row, program, folder)))
+
+
+def kills(row: Row, program: Path, folder: Path) -> Verdict:
+    """Whether a run that is killed and started again, over and over, leaves and prints what an undisturbed one does."""
+    given = streams(row, program, folder)
+    if given.problem is None:
+        raise BadRow("a run that is started again needs a problem")
+    fault, note = killed(program, row.words, given.problem, folder, row.number("kills", 1), row.number("seed", 1))
+    return Verdict(fault, note)
+
+
+KINDS = {"run": run, "between": between, "rising": rising, "each": each, "edits": edits, "journals": journals, "kills": kills}
+
+
+def tried(row: Row, program: Path) -> Verdict:
+    """What comes of a row, in a folder of its own."""
+    kind = KINDS.get(row.kind)
+    if kind is None:
+        return Verdict(f"there is no kind `{row.kind}`")
+    try:
+        with tempfile.TemporaryDirectory(prefix="hydroplan-row-") as folder:
+            return kind(row, program, Path(folder))
+    except (BadRow, NoEnd, OSError, ValueError) as error:
+        return Verdict(str(error) or repr(error))

@@ -1,0 +1,88 @@
+"""The program, run in a folder of its own."""
+from __future__ import annotations
+
+import os
+import subprocess
+from dataclasses import dataclass
+from pathlib import Path
+from typing import Any, Dict, Optional, Sequence
+
+# Seconds after which a run is given up.
+PATIENCE = 120
+
+ENVIRONMENT = {"PATH": "/usr/local/bin:/usr/bin:/bin", "LANG": "C.UTF-8"}
+
+
+class NoEnd(Exception):
+    """A run did not end in time."""
+
+
+@dataclass(frozen=True)
+class Streams:
+    """What a run has in the place of standard input and output, and how much memory."""
+
+    # A file, a folder or a device; None where standard input is closed.
+    problem: Optional[Path]
+    # None where standard output is read, a path, `closed`, or `broken` for a pipe that nobody reads.
+    output: Optional[str] = None
+    # The KiB of memory that the program may map; None for no limit.
+    memory: Optional[int] = None
+    # Whether the problem's bytes come through a pipe.
+    piped: bool = False
+
+
+@dataclass(frozen=True)
+class Ended:
+    """How a run ended. The journal is None where there is no such file."""
+
+    status: int
+    said: bytes
+    written: bytes
+    journal: Optional[bytes]
+
+
+def journal_in(folder: Path) -> Optional[bytes]:
+    """What the journal of a folder holds, or None where there is none."""
+    journal = folder / "J"
+    return journal.read_bytes() if journal.is_file() else None
+
+
+def command(program: Path, words: Sequence[str], streams: Streams) -> Sequence[str]:
+    """A command line that runs the program with these words, under a limit or with streams that are closed."""
+    limit = "" if streams.memory is None else f"ulimit -v {streams.memory}; "
+    closed = (" <&-" if streams.problem is None else "") + (" >&-" if streams.output == "closed" else "")
+    if not limit and not closed:
+        return [str(program), *words]
+    return ["sh", "-c", f'{limit}exec "$@"{closed}', "sh", str(program), *words]
+
+
+def source_of(streams: Streams) -> int:
+    """What the program reads: a file, a folder or a device, opened for reading."""
+    return os.open(streams.problem or os.devnull, os.O_RDONLY)
+
+
+def sink_of(streams: Streams) -> Optional[int]:
+    """What the program writes to; None where what it writes is read."""
+    if streams.output in (None, "closed"):
+        return None
+    if streams.output != "broken":
+        return os.open(str(streams.output), os.O_WRONLY)
+    reader, writer = os.pipe()
+    os.close(reader)
+    return writer
+
+
+def ended(program: Path, words: Sequence[str], streams: Streams, folder: Path) -> Ended:
+    """Runs the program in a folder, where its journal is `J`. NoEnd where it does not end in time."""
+    source, sink = source_of(streams), sink_of(streams)
+    how: Dict[str, Any] = {"stdout": subprocess.PIPE if sink is None else sink, "stderr": subprocess.PIPE}
+    how.update({"input": streams.problem.read_bytes()} if streams.piped and streams.problem else {"stdin": source})
+    try:
+        ran = subprocess.run(command(program, words, streams), cwd=folder, env=ENVIRONMENT, timeout=PATIENCE, **how)
+    except subprocess.TimeoutExpired as error:
+        raise NoEnd(f"does not end within {PATIENCE} seconds") from error
+    finally:
+        for stream in (source, sink):
+            if stream is not None:
+                os.close(stream)
+    return Ended(ran.returncode, ran.stderr, ran.stdout or b"", journal_in(folder))
