@@ -17,6 +17,9 @@ FIRST_MOMENTS = 0.004
 # Seconds between two looks at a journal that grows.
 LOOK = 0.0001
 
+# How often one training is killed before it is let through.
+MOST = 10
+
 
 @dataclass
 class Kills:
@@ -56,26 +59,27 @@ class Kills:
             now = journal.stat().st_size if journal.exists() else -1
             changes, size = (changes - 1, now) if now != size else (changes, size)
 
-    def wait_for_moment(self, process: subprocess.Popen) -> None:
-        """Waits for a moment that is drawn: among the first ones, at any time, or when the journal grows."""
-        how = self.draw.randrange(5)
-        if how == 0:
+    def wait_for_moment(self, process: subprocess.Popen, is_first: bool) -> None:
+        """Waits for a moment that is drawn: among the first ones, where every other training is killed at first; within a
+        quarter of the run's length; or when the journal grows."""
+        if is_first and self.trainings % 2:
             time.sleep(self.draw.uniform(0, FIRST_MOMENTS))
-        elif how < 3:
-            until = time.monotonic() + self.draw.uniform(0, self.length)
+        elif self.draw.randrange(2):
+            until = time.monotonic() + self.draw.uniform(0, self.length / 4)
             while process.poll() is None and time.monotonic() < until:
                 time.sleep(LOOK)
         else:
             self.wait_for_growth(process, self.changes())
 
-    def is_killed(self) -> bool:
-        """Starts the program and kills it at a drawn moment. False where it had ended by then."""
+    def is_killed(self, is_first: bool) -> bool:
+        """Starts the program, for the first time in this training or once more, and kills it at a drawn moment. False where it
+        had ended by then."""
         self.starts += 1
         with self.problem.open("rb") as source:
             how = {"stdin": source, "stdout": subprocess.DEVNULL, "stderr": subprocess.DEVNULL}
             process = subprocess.Popen([str(self.program), *self.words], cwd=self.folder, env=ENVIRONMENT, **how)
         try:
-            self.wait_for_moment(process)
+            self.wait_for_moment(process, is_first)
         finally:
             process.kill()
         return process.wait() < 0
@@ -97,10 +101,11 @@ class Kills:
         return None
 
     def fault_of_training(self, wanted: int) -> Optional[str]:
-        """Trains from nothing, with kills until there are as many as wanted, to the end. What is wrong with what comes of it."""
+        """Trains from nothing to the end, with at most so many kills. What is wrong with what comes of it."""
         (self.folder / "J").unlink(missing_ok=True)
         self.trainings += 1
-        while self.count < wanted and self.is_killed():
+        start = self.count
+        while self.count < start + wanted and self.is_killed(self.count == start):
             self.count += 1
             fault = self.fault_of_check()
             if fault:
@@ -132,5 +137,5 @@ def killed(program: Path, words: Sequence[str], problem: Path, folder: Path, wan
     while fault is None and kills.count < wanted:
         if kills.starts > 5 * wanted:
             raise NoEnd(f"the program is through before most of the kills: {kills.note()}")
-        fault = kills.fault_of_training(wanted)
+        fault = kills.fault_of_training(min(MOST, wanted - kills.count))
     return fault, kills.note()
