@@ -28,7 +28,7 @@ def commit_before(root: Path) -> Optional[str]:
 def crates_in(rows: str) -> Set[str]:
     """Returns the crates whose sources or edits the rows of `git diff --name-status` change.
 
-    That a crate's folder of edits got its name is no change.
+    Moving an edit unchanged from must-fail/ to wrong/ does not count as a change.
     """
     found = set()
     for row in rows.splitlines():

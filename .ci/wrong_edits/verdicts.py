@@ -4,7 +4,7 @@ from typing import Dict, Iterable, List, NamedTuple
 
 from wrong_edits.places import paths_at
 
-# What is said where a text cannot be read at all, and not where what it states is false.
+# Matches the errors of a text that cannot be read, as opposed to one that states something false.
 UNREAD = re.compile(r"is not in scope|has no field|is no name|operand is missing|expected the end|cannot continue")
 STALE = re.compile(r"module .Rattle-(\w+)-.*Run the lower steps again")
 NAMES_WHAT_IS_GONE = re.compile(r"(\./)?proofs/.*(has no field|is not in scope|has no `|was not admitted)")
