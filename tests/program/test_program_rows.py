@@ -125,6 +125,32 @@ class Bounds(InFolder):
         self.assertIn("ends with 12", self.fault(f"printf '{TEXT}'; exit 12", "between 1 9\n", kind="between") or "")
 
 
+class Refuted(InFolder):
+    """no-stage.json: a node whose plants give at most 28, where 40 are asked for."""
+
+    def fault_of(self, line: str, status: int = 9) -> Optional[str]:
+        program = self.program(f"#!/bin/sh\necho 'hydroplan: no stage solution: {line}' >&2\nexit {status}\n")
+        return tried(parsed("refuted 1 problem=no-stage.json : train J 7 1"), program).fault
+
+    def test_multipliers_that_refute(self) -> None:
+        self.assertIsNone(self.fault_of("run 1 node 0 values 1 state 67108864 rows -1 1"))
+
+    def test_multipliers_that_do_not(self) -> None:
+        nothing = "the multipliers refute nothing: 0 is not above 0"
+        self.assertEqual(self.fault_of("run 1 node 0 values 1 state 67108864 rows 0 0"), nothing)
+        self.assertRegex(self.fault_of("run 1 node 0 values 1 state 67108864 rows 1 -1") or "", "refute nothing: -")
+
+    def test_another_place(self) -> None:
+        self.assertEqual(self.fault_of("run 2 node 0 values 1 state 67108864 rows -1 1"), "ends in iteration 2, expected 1")
+        self.assertEqual(self.fault_of("run 1 node 7 values 1 state 67108864 rows -1 1"), "there is no node 7")
+        self.assertEqual(self.fault_of("run 1 node 0 values 3 state 67108864 rows -1 1"), "no realization of node 0 has the values [3]")
+        self.assertEqual(self.fault_of("run 1 node 0 values 1 state 67108864 rows -1"), "there is not one multiplier a row")
+
+    def test_no_such_line(self) -> None:
+        self.assertRegex(self.fault_of("run 1 node 0", 9) or "", "^ends with 9; ")
+        self.assertRegex(self.fault_of("run 1 node 0 values 1 state 67108864 rows -1 1", 0) or "", "^ends with 0; ")
+
+
 class Tables(InFolder):
     """The program prints its problem, or the journal, as its last line."""
 

@@ -1,9 +1,10 @@
 -- The rows of a problem's node, and what is judged dead.
-use Rattle.std.proofs.Common.{◌≡◌, Bool, true, false, ℕ, ◌<◌, ℤ, List, [], get_or, length, slice_get, Option, Some, option_and_then, refl, ap, sym, subst, ◌∙◌}
+use Rattle.std.proofs.Common.{◌≡◌, Bool, true, false, ℕ, zero, suc, ◌+◌, ◌-◌, ◌*◌, ◌<◌, ℤ, List, [], get_or, length, slice_get, if◌then◌else◌, Option, Some, option_and_then, refl, ap, sym, subst, ◌∙◌, arith}
 use Rattle.hp_num.proofs.Tests.{some_of}
 use Rattle.hp_problem.specs.Sealed.{Sealed, subproblem_of}
 use Rattle.hp_problem.specs.declared.raw.Subproblem.{Subproblem}
 use Rattle.hp_problem.specs.declared.raw.Node as nodes
+use Rattle.hp_solver.specs.declared.fixed.Fx.{Fx}
 use Rattle.hp_solver.specs.declared.stage_lp.Answer.{Answer}
 use Rattle.hp_solver.specs.declared.stage_lp.Kind.{Kind}
 use Rattle.hp_solver.specs.declared.stage_lp.Kind.TheVariants as kinds
@@ -12,8 +13,7 @@ use Rattle.hp_theory.specs.View.{problem_of}
 use Rattle.hp_theory.proofs.Views.{node_at-problem_of, rows-node_of}
 use Rattle.hp_settle.specs.declared.judging.Judged.TheVariants.{Found, Unsettled, Dead}
 use Rattle.hp_settle.specs.Refutation.{refutes_of, NoDecision}
-use Rattle.hp_settle.specs.Judging.{dead_by, judged_by, judge_of}
-use Rattle.hp_settle.specs.Settling.{settled_rows}
+use Rattle.hp_settle.specs.Judging.{ray_rows, first_dead, judged_by, judge_of}
 use Rattle.hp_settle.proofs.Refuted.{refuted}
 
 pub rows_at : (p : Sealed) (m : ℕ) (s : Subproblem) → m < length p.raw.nodes → subproblem_of p m ≡ Some s → s.rows ≡ (node_at (problem_of p) m).rows
@@ -29,25 +29,34 @@ not_found : (ys : List ℤ) → Found ≡ Dead ys → ⊥
 not_found ys e = cc
 
 -- an answer that is judged dead leaves no decisions
+dead_first : (n : Node) (values x : List ℤ) (duals : List Fx) (digits more : ℕ) (ys : List ℤ) → first_dead n values x duals digits more ≡ Dead ys → NoDecision n values x
+dead_first n values x duals digits zero ys e = absurd (not_dead ys e)
+dead_first n values x duals digits (suc more) ys e = by (refutes_of n values x (ray_rows n duals digits)) refl (dead_first n values x duals (digits + 4) more ys) e
+  where
+    by : (t : Bool) → refutes_of n values x (ray_rows n duals digits) ≡ t → (first_dead n values x duals (digits + 4) more ≡ Dead ys → NoDecision n values x) → (if t then Dead (ray_rows n duals digits) else first_dead n values x duals (digits + 4) more) ≡ Dead ys → NoDecision n values x
+    by true is next f = refuted n values x (ray_rows n duals digits) is
+    by false is next f = next f
+
 pub judged_dead : (n : Node) (values x : List ℤ) (a : Answer) (ys : List ℤ) → judge_of n values x a ≡ Dead ys → NoDecision n values x
 unfolding judge_of
 judged_dead n values x a ys e = by_kind a.kind e
   where
-    rows : List ℤ
-    rows = settled_rows 0 n.rows a.duals
-
-    by_test : (t : Bool) → refutes_of n values x rows ≡ t → dead_by rows t ≡ Dead ys → NoDecision n values x
-    by_test true is f = refuted n values x rows is
-    by_test false is f = absurd (not_dead ys f)
-
-    by_kind : (k : Kind) → judged_by n values x rows k ≡ Dead ys → NoDecision n values x
+    by_kind : (k : Kind) → judged_by n values x a.duals k ≡ Dead ys → NoDecision n values x
     by_kind kinds.Found f = absurd (not_found ys f)
-    by_kind kinds.Ray f = by_test (refutes_of n values x rows) refl f
+    by_kind kinds.Ray f = dead_first n values x a.duals 0 15 ys f
     by_kind kinds.Stuck f = absurd (not_dead ys f)
 
--- what a test of the rows ys says of the rows zs, which are the same
-pub is_dead : (n : Node) (values x ys zs : List ℤ) (t : Bool) → ys ≡ zs → t ≡ refutes_of n values x ys → t ≡ true → Dead ys ≡ dead_by zs (refutes_of n values x zs)
-is_dead n values x ys zs t e f is = ap Dead e ∙ ap (dead_by zs) (sym is ∙ f ∙ ap (λ (k : List ℤ). refutes_of n values x k) e)
+-- one try of so many: these rows refute, or the next are tried
+module _ (n : Node) (values x ys : List ℤ) (duals : List Fx) (tried : ℕ) (t : Bool) (few : tried < 15) (rows : ys ≡ ray_rows n duals (4 * tried)) (is : t ≡ refutes_of n values x ys) where
+  one_try : first_dead n values x duals (4 * tried) (15 - tried) ≡ (if t then Dead ys else first_dead n values x duals (4 * (tried + 1)) (15 - (tried + 1)))
+  one_try =
+      let left : 15 - tried ≡ suc (15 - (tried + 1)) = omega arith in
+      let next : 4 * tried + 4 ≡ 4 * (tried + 1) = omega arith in
+      let test : refutes_of n values x (ray_rows n duals (4 * tried)) ≡ t = ap (refutes_of n values x) (sym rows) ∙ sym is in
+      rw (left, test, ← next, ← rows) refl
 
-pub is_not_dead : (n : Node) (values x ys zs : List ℤ) (t : Bool) → ys ≡ zs → t ≡ refutes_of n values x ys → t ≡ false → Unsettled ≡ dead_by zs (refutes_of n values x zs)
-is_not_dead n values x ys zs t e f is = ap (dead_by zs) (sym is ∙ f ∙ ap (λ (k : List ℤ). refutes_of n values x k) e)
+  pub this_refutes : t ≡ true → first_dead n values x duals (4 * tried) (15 - tried) ≡ first_dead n values x duals 0 15 → Dead ys ≡ first_dead n values x duals 0 15
+  this_refutes e w = sym (one_try ∙ ap (λ (b : Bool). if b then Dead ys else first_dead n values x duals (4 * (tried + 1)) (15 - (tried + 1))) e) ∙ w
+
+  pub next_tried : t ≡ false → first_dead n values x duals (4 * tried) (15 - tried) ≡ first_dead n values x duals 0 15 → first_dead n values x duals (4 * (tried + 1)) (15 - (tried + 1)) ≡ first_dead n values x duals 0 15
+  next_tried e w = sym (one_try ∙ ap (λ (b : Bool). if b then Dead ys else first_dead n values x duals (4 * (tried + 1)) (15 - (tried + 1))) e) ∙ w

@@ -8,7 +8,7 @@ use Rattle.hp_theory.specs.Pools.{pool}
 use Rattle.hp_theory.specs.Certificates.{Rising, multipliers, PairsRight}
 use Rattle.hp_solver.specs.declared.fixed.Fx.{Fx}
 use Rattle.hp_solver.specs.Numbers.{zero_fx}
-use Rattle.hp_settle.specs.Settling.{cut_multiplier, cut_multipliers, capped, missing, greatest_from, place_of_greatest, raised, shared, pairs_from, settled_pairs}
+use Rattle.hp_settle.specs.Settling.{cut_multiplier, cut_multipliers, capped, missing, greatest_from, place_of_greatest, place_of_missing, raised, shared, pairs_from, settled_pairs}
 
 -- lengths
 pub length-cut_multipliers : (duals : List Fx) (k count : ℕ) → length (cut_multipliers duals k count) ≡ count
@@ -20,7 +20,9 @@ length-capped left [] = refl
 length-capped left (v ∷ vs) = ap suc (length-capped (left - v) vs)
 
 pub length-shared : (target : ℕ) (vs : List ℕ) → length (shared target vs) ≡ length vs
-length-shared target vs = length-set (capped target vs) (place_of_greatest (capped target vs)) (get_or (capped target vs) (place_of_greatest (capped target vs)) 0 + missing target vs) ∙ length-capped target vs
+length-shared target vs =
+    let place = place_of_missing (missing target vs) (capped target vs) in
+    length-set (capped target vs) place (get_or (capped target vs) place 0 + missing target vs) ∙ length-capped target vs
 
 -- sums
 abbrev pub total : List ℕ → ℕ
@@ -62,9 +64,17 @@ greatest-inside best most k (v ∷ vs) h = by (nat_lt most v) (greatest-inside k
 pub place-inside : (vs : List ℕ) → 0 < length vs → place_of_greatest vs < length vs
 place-inside vs h = omega (arith, greatest-inside 0 0 0 vs (omega arith))
 
+-- so is the place of what is missing
+pub missing-inside : (more : ℕ) (vs : List ℕ) → 0 < length vs → place_of_missing more vs < length vs
+missing-inside more vs h = by (nat_lt (length (pairs_from 0 vs)) more)
+  where
+    by : (b : Bool) → (if b then 0 else place_of_greatest vs) < length vs
+    by true = h
+    by false = place-inside vs h
+
 pub total-shared : (target : ℕ) (vs : List ℕ) → 0 < length vs → total (shared target vs) ≡ target
 total-shared target vs h =
-    total-raised (capped target vs) (place_of_greatest (capped target vs)) (missing target vs) (place-inside (capped target vs) (omega (arith, length-capped target vs)))
+    total-raised (capped target vs) (place_of_missing (missing target vs) (capped target vs)) (missing target vs) (missing-inside (missing target vs) (capped target vs) (omega (arith, h, length-capped target vs)))
     ∙ total-capped target vs
 
 -- pairs
@@ -153,12 +163,19 @@ pub pairs-zeros : (k count : ℕ) → pairs_from k (replicate count 0) ≡ []
 pairs-zeros k zero = refl
 pairs-zeros k (suc count) = pairs-zeros (suc k) count
 
+missing_first : (more count : ℕ) → place_of_missing more (replicate (suc count) 0) ≡ 0
+missing_first more count = by (nat_lt (length (pairs_from 0 (replicate (suc count) 0))) more)
+  where
+    by : (b : Bool) → (if b then 0 else place_of_greatest (replicate (suc count) 0)) ≡ 0
+    by true = refl
+    by false = greatest-zeros 0 0 (suc count)
+
 shared-zeros : (target count : ℕ) → shared target (replicate (suc count) 0) ≡ target ∷ replicate count 0
 shared-zeros target count =
     let zeros : List ℕ = replicate (suc count) 0 in
     let same : 0 + target ≡ target = omega arith in
-    ap₂ (λ (vs : List ℕ) (more : ℕ). raised vs (place_of_greatest vs) more) (capped-zeros target (suc count)) (missing-zeros target (suc count))
-    ∙ ap (λ (place : ℕ). raised zeros place target) (greatest-zeros 0 0 (suc count)) ∙ ap (λ (n : ℕ). n ∷ replicate count 0) same
+    ap₂ (λ (vs : List ℕ) (more : ℕ). raised vs (place_of_missing more vs) more) (capped-zeros target (suc count)) (missing-zeros target (suc count))
+    ∙ ap (λ (place : ℕ). raised zeros place target) (missing_first target count) ∙ ap (λ (n : ℕ). n ∷ replicate count 0) same
 
 -- without duals the first cut takes all
 pub no_duals-pairs : (target count : ℕ) → 0 < target → 0 < count → settled_pairs target count [] ≡ (0, target) ∷ []

@@ -16,7 +16,7 @@ use Rattle.hp_solver.specs.declared.stage_lp.Kind.{Kind}
 use Rattle.hp_solver.specs.declared.stage_lp.Kind.TheVariants.{Found, Ray, Stuck}
 use Rattle.hp_dual.specs.Acceptance.{fault_of, range_fault}
 use Rattle.hp_dual.proofs.Faultless.{right-range_fault}
-use Rattle.hp_settle.specs.Settling.{dual_at, clamped, rescaled, signed, settled_row, settled_rows, settled_pairs, settled_links, settled_duals, used_duals, settled_by, settled_of}
+use Rattle.hp_settle.specs.Settling.{dual_at, clamped, rescaled, signed, finer, row_over, settled_rows, settled_pairs, settled_links, settled_duals, used_duals, settled_by, settled_of}
 use Rattle.hp_settle.proofs.SettledPairs.{pairs_right, no_duals-pairs}
 
 -- rows
@@ -46,7 +46,7 @@ length-settled_rows i (row ∷ rows) duals = ap suc (length-settled_rows (suc i)
 
 pub signs : (i : ℕ) (rows : List Row) (duals : List Fx) → All RightSign (zip rows (settled_rows i rows duals))
 signs i [] duals = All-nil RightSign
-signs i (row ∷ rows) duals = All-cons RightSign (row, settled_row row (dual_at duals i)) (zip rows (settled_rows (suc i) rows duals)) (signed_right row (clamped (rescaled (dual_at duals i)))) (signs (suc i) rows duals)
+signs i (row ∷ rows) duals = All-cons RightSign (row, row_over finer row (dual_at duals i)) (zip rows (settled_rows (suc i) rows duals)) (signed_right row (clamped (rescaled (dual_at duals i)))) (signs (suc i) rows duals)
 
 -- successors
 abbrev pub HasCuts : List (List Cut) → Link → Type 0

@@ -1,9 +1,9 @@
--- What goes to the greatest of some multipliers goes to the greatest of their pairs.
+-- What goes to a place of some multipliers goes to that of their pairs.
 use Rattle.std.proofs.Common.{◌≡◌, ◌∙◌, ℕ, zero, suc, ◌+◌, ◌<◌, ◌≤◌, ◌^◌, Bool, true, false, List, [], ◌∷◌, ◌++◌, length, get_or, map, nat_lt, if◌then◌else◌, refl, ap, sym, arith}
 use Rattle.std.proofs.lemmas.Bool.Decides.{nat_tests}
-use Rattle.std.proofs.lemmas.List.{append-nil, length-map}
+use Rattle.std.proofs.lemmas.List.{length-map}
 use Rattle.hp_theory.specs.Certificates.{multipliers}
-use Rattle.hp_settle.specs.Settling.{greatest_from, place_of_greatest, raised, pairs_from, raised_pair, topped}
+use Rattle.hp_settle.specs.Settling.{greatest_from, place_of_greatest, place_of_missing, raised, pairs_from, raised_pair, raised_first, topped}
 use Rattle.hp_settle.proofs.SettledPairs.{place-inside, positive_first}
 
 abbrev seconds : List (ℕ × ℕ) → List ℕ
@@ -49,24 +49,42 @@ pub pairs_from-cons : (k v : ℕ) (vs : List ℕ) → pairs_from k (v ∷ vs) �
 pairs_from-cons k zero vs = refl
 pairs_from-cons k (suc v) vs = refl
 
--- where all are 0 the first has what is missing
-first_has_all : (vs : List ℕ) (more : ℕ) → 0 < length vs → pairs_from 0 vs ≡ [] → pairs_from 0 (raised vs 0 more) ≡ pairs_from 0 (more ∷ [])
-first_has_all [] more h e = absurd (omega arith)
-first_has_all (zero ∷ vs) more h e = ap (λ (n : ℕ). pairs_from 0 (n ∷ vs)) (omega arith) ∙ pairs_from-cons 0 more vs ∙ ap (λ (ss : List (ℕ × ℕ)). pairs_from 0 (more ∷ []) ++ ss) e ∙ append-nil (pairs_from 0 (more ∷ []))
-first_has_all (suc v ∷ vs) more h e = absurd cc
+-- nothing more leaves multipliers of 0 as they are
+none_more : (vs : List ℕ) (more : ℕ) → 0 < length vs → more ≡ 0 → pairs_from 0 vs ≡ [] → pairs_from 0 (raised vs 0 more) ≡ []
+none_more [] more h z e = absurd (omega arith)
+none_more (zero ∷ vs) more h z e = ap (λ (n : ℕ). pairs_from 0 ((0 + n) ∷ vs)) z ∙ e
+none_more (suc v ∷ vs) more h z e = absurd cc
 
-some_pair : (ss : List (ℕ × ℕ)) (more : ℕ) → 0 < length ss → topped ss more ≡ raised_pair ss (place_of_greatest (seconds ss)) more
-some_pair [] more h = absurd (omega arith)
-some_pair (s ∷ ss) more h = refl
-
-pub topped-pairs : (vs : List ℕ) (more : ℕ) → 0 < length vs → pairs_from 0 (raised vs (place_of_greatest vs) more) ≡ topped (pairs_from 0 vs) more
-topped-pairs vs more h = by (alike 0 0 0 0 0 vs)
+-- what goes to the greatest
+raised-greatest : (vs : List ℕ) (more : ℕ) → 0 < length vs → (pairs_from 0 vs ≡ [] → more ≡ 0) → pairs_from 0 (raised vs (place_of_greatest vs) more) ≡ raised_pair (pairs_from 0 vs) (place_of_greatest (seconds (pairs_from 0 vs))) more
+raised-greatest vs more h few = by (alike 0 0 0 0 0 vs)
   where
-    by : Alike (place_of_greatest vs) (place_of_greatest (seconds (pairs_from 0 vs))) 0 0 0 0 0 vs → pairs_from 0 (raised vs (place_of_greatest vs) more) ≡ topped (pairs_from 0 vs) more
-    by (before e f none) = ap (λ (i : ℕ). pairs_from 0 (raised vs i more)) e ∙ first_has_all vs more h (none refl) ∙ sym (ap (λ (ss : List (ℕ × ℕ)). topped ss more) (none refl))
+    by : Alike (place_of_greatest vs) (place_of_greatest (seconds (pairs_from 0 vs))) 0 0 0 0 0 vs → pairs_from 0 (raised vs (place_of_greatest vs) more) ≡ raised_pair (pairs_from 0 vs) (place_of_greatest (seconds (pairs_from 0 vs))) more
+    by (before e f none) =
+        ap (λ (i : ℕ). pairs_from 0 (raised vs i more)) e ∙ none_more vs more h (few (none refl)) (none refl)
+        ∙ sym (ap (λ (ss : List (ℕ × ℕ)). raised_pair ss (place_of_greatest (seconds ss)) more) (none refl))
     by (behind p q e f inside same) =
         ap (λ (i : ℕ). pairs_from 0 (raised vs i more)) (omega (arith, e)) ∙ same more
-        ∙ sym (some_pair (pairs_from 0 vs) more (omega (arith, inside)) ∙ ap (λ (i : ℕ). raised_pair (pairs_from 0 vs) i more) (omega (arith, f)))
+        ∙ ap (λ (i : ℕ). raised_pair (pairs_from 0 vs) i more) (omega (arith, f))
+
+-- what goes to the first cut
+first_in_front : (k more : ℕ) (vs : List ℕ) → raised_first (pairs_from (suc k) vs) more ≡ (0, more) ∷ pairs_from (suc k) vs
+first_in_front k more [] = refl
+first_in_front k more (zero ∷ vs) = first_in_front (suc k) more vs
+first_in_front k more (suc v ∷ vs) = refl
+
+raised-first : (vs : List ℕ) (more : ℕ) → 0 < length vs → 0 < more → pairs_from 0 (raised vs 0 more) ≡ raised_first (pairs_from 0 vs) more
+raised-first [] more h some = absurd (omega arith)
+raised-first (zero ∷ vs) more h some = ap (λ (n : ℕ). pairs_from 0 (n ∷ vs)) (omega arith) ∙ positive_first 0 more vs some ∙ sym (first_in_front 0 more vs)
+raised-first (suc v ∷ vs) more h some = positive_first 0 (suc v + more) vs (omega arith)
+
+pub topped-pairs : (vs : List ℕ) (more : ℕ) → 0 < length vs → pairs_from 0 (raised vs (place_of_missing more vs) more) ≡ topped (pairs_from 0 vs) more
+topped-pairs vs more h = by (nat_lt (length (pairs_from 0 vs)) more) refl
+  where
+    by : (b : Bool) → nat_lt (length (pairs_from 0 vs)) more ≡ b
+        → pairs_from 0 (raised vs (if b then 0 else place_of_greatest vs) more) ≡ (if b then raised_first (pairs_from 0 vs) more else raised_pair (pairs_from 0 vs) (place_of_greatest (seconds (pairs_from 0 vs))) more)
+    by true e = raised-first vs more h (grind (arith, nat_tests))
+    by false e = raised-greatest vs more h (λ none. let few : length (pairs_from 0 vs) ≡ 0 = ap (λ (ss : List (ℕ × ℕ)). length ss) none in grind (arith, nat_tests))
 
 -- the greatest is there, and there is room for what is missing to a target of 64 bits
 pub greatest_there : (ss slice : List (ℕ × ℕ)) (i : ℕ) → 0 < length ss → slice ≡ ss → i ≡ place_of_greatest (seconds slice) → i < length ss

@@ -20,9 +20,13 @@ use Rattle.hp_dual.specs.Acceptance.{is_sign}
 abbrev pub dual_at : List Fx → ℕ → ℤ
 dual_at duals i = (get_or duals i zero_fx).0
 
--- from the scale 2^32 to the scale 2^24, rounded down
+-- how often the scale of multipliers, 2^24, goes into that of duals, 2^32
+abbrev pub finer : ℕ
+finer = 2 ^ 32 / 2 ^ 24
+
+-- at the scale of multipliers, rounded down
 abbrev pub rescaled : ℤ → ℤ
-rescaled z = floor_over z (2 ^ 32 / 2 ^ 24)
+rescaled z = floor_over z finer
 
 -- the nearest number of 64 bits
 abbrev pub clamped : ℤ → ℤ
@@ -32,13 +36,18 @@ clamped z = int_max (negsuc (2 ^ 63 - 1)) (int_min (pos (2 ^ 63 - 1)) z)
 abbrev pub signed : Row → ℤ → ℤ
 signed row y = if is_sign row y then y else pos 0
 
-abbrev pub settled_row : Row → ℤ → ℤ
-settled_row row dual = signed row (clamped (rescaled dual))
+-- a row's multiplier: its dual over a divisor, rounded down
+abbrev pub row_over : ℕ → Row → ℤ → ℤ
+row_over divisor row dual = signed row (clamped (floor_over dual divisor))
 
 -- the multipliers of rows, the first of which has the number i
+abbrev pub rows_over : ℕ → ℕ → List Row → List Fx → List ℤ
+rows_over divisor i [] duals = []
+rows_over divisor i (row ∷ rows) duals = row_over divisor row (dual_at duals i) ∷ rows_over divisor (suc i) rows duals
+
+-- the same at the scale of multipliers
 abbrev pub settled_rows : ℕ → List Row → List Fx → List ℤ
-settled_rows i [] duals = []
-settled_rows i (row ∷ rows) duals = settled_row row (dual_at duals i) ∷ settled_rows (suc i) rows duals
+settled_rows i rows duals = rows_over finer i rows duals
 
 abbrev pub positive_part : ℤ → ℕ
 positive_part (pos n) = n
@@ -75,25 +84,35 @@ place_of_greatest vs = greatest_from 0 0 0 vs
 abbrev pub raised : List ℕ → ℕ → ℕ → List ℕ
 raised vs k more = set vs k (get_or vs k 0 + more)
 
--- the target shared out: each keeps at most what is left, and what is missing then goes to the greatest; where
--- something is missing, each has kept all
-abbrev pub shared : ℕ → List ℕ → List ℕ
-shared target vs = raised (capped target vs) (place_of_greatest (capped target vs)) (missing target vs)
-
 -- the places, from k on, whose multiplier is not 0
 abbrev pub pairs_from : ℕ → List ℕ → List (ℕ × ℕ)
 pairs_from k [] = []
 pairs_from k (zero ∷ vs) = pairs_from (suc k) vs
 pairs_from k (suc v ∷ vs) = (k, suc v) ∷ pairs_from (suc k) vs
 
+-- where so much goes: rounding down takes less than a unit of each multiplier above 0; more than that is the reduced cost of the
+-- successor's cost at its least value, and goes to the first cut, which states that value; else to the greatest
+abbrev pub place_of_missing : ℕ → List ℕ → ℕ
+place_of_missing more vs = if nat_lt (length (pairs_from 0 vs)) more then 0 else place_of_greatest vs
+
+-- the target shared out: each keeps at most what is left, and what is missing then goes to one place; where something is
+-- missing, each has kept all
+abbrev pub shared : ℕ → List ℕ → List ℕ
+shared target vs = raised (capped target vs) (place_of_missing (missing target vs) (capped target vs)) (missing target vs)
+
 -- pairs, with so much more at the one of this number
 abbrev pub raised_pair : List (ℕ × ℕ) → ℕ → ℕ → List (ℕ × ℕ)
 raised_pair ss i more = set ss i ((get_or ss i (0, 0)).0, (get_or ss i (0, 0)).1 + more)
 
--- pairs with so much more at the greatest of their multipliers; where there is none, the first cut has it
+-- pairs with so much more at the first cut
+abbrev pub raised_first : List (ℕ × ℕ) → ℕ → List (ℕ × ℕ)
+raised_first [] more = (0, more) ∷ []
+raised_first ((zero, v) ∷ ss) more = (0, v + more) ∷ ss
+raised_first ((suc k, v) ∷ ss) more = (0, more) ∷ (suc k, v) ∷ ss
+
+-- pairs with what is missing: more than a unit a pair at the first cut, and else at the greatest of their multipliers
 abbrev pub topped : List (ℕ × ℕ) → ℕ → List (ℕ × ℕ)
-topped [] more = pairs_from 0 (more ∷ [])
-topped (s ∷ ss) more = raised_pair (s ∷ ss) (place_of_greatest (map (λ (t : ℕ × ℕ). t.1) (s ∷ ss))) more
+topped ss more = if nat_lt (length ss) more then raised_first ss more else raised_pair ss (place_of_greatest (map (λ (t : ℕ × ℕ). t.1) ss)) more
 
 -- the pairs of a successor with so many cuts, whose duals come first
 abbrev pub settled_pairs : ℕ → ℕ → List Fx → List (ℕ × ℕ)

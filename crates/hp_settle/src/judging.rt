@@ -1,13 +1,11 @@
 // What an answer shows of a node at values and an incoming state.
-ghost use Rattle.std.specs.Prelude.{◌≡◌, ◌<◌, length, IfOk};
+ghost use Rattle.std.specs.Prelude.{◌≡◌, ◌<◌, ◌≤◌, ◌^◌, length, IfOk};
 ghost use Rattle.hp_theory.specs.Problem.{node_at};
 ghost use Rattle.hp_theory.specs.View.{problem_of};
-ghost use Rattle.hp_settle.specs.Judging.{dead_by, judge_of};
-ghost use Rattle.hp_settle.specs.Refutation.{refutes_of};
-ghost use Rattle.hp_settle.specs.Settling.{settled_rows};
+ghost use Rattle.hp_settle.specs.Judging.{ray_rows, first_dead, judge_of};
 
 use crate::refutation::refutes;
-use crate::settling::settled_rows;
+use crate::settling::rows_over;
 use hp_num::{List, Memory};
 use hp_problem::Problem;
 use hp_solver::{Answer, Fx, Kind};
@@ -20,7 +18,7 @@ pub enum Judged {
     Found,
     /// No point was found, and nothing is shown.
     Unsettled,
-    /// No decisions exist there: these multipliers of the node's rows, one per row at scale 2^24, refute it.
+    /// No decisions exist there: these multipliers of the node's rows, one per row at any common scale, refute it.
     Dead(List<i64>),
 }
 
@@ -35,11 +33,39 @@ pub struct Dead {
     pub values: List<i64>,
     /// The incoming state at scale 2^24, one entry per state.
     pub state: List<i128>,
-    /// One multiplier per row, at scale 2^24.
+    /// One multiplier per row, all at one scale.
     pub rows: List<i64>,
 }
 
-/// The settled duals of a ray, where they refute.
+/// 2^digits.
+fn power(digits: u32) -> u64
+    requires { digits ≤ 56 }
+    ensures { result ≡ 2 ^ digits }
+{
+    1 << digits
+}
+
+/// The multipliers that a ray gives a node's rows, without so many of its last binary digits.
+fn ray_rows(
+    alloc: Global,
+    problem: &Problem,
+    node: u32,
+    duals: &[Fx],
+    digits: u32,
+) -> Result<List<i64>, Memory>
+    requires node { node < length problem.now.raw.nodes }
+    requires digits { digits ≤ 56 }
+    ensures { IfOk result (λ found. found ≡ ray_rows (node_at (problem_of problem.now) node) duals.now digits) }
+{
+    rows_over(
+        alloc,
+        problem.sub(node).rows.as_slice(),
+        duals,
+        power(digits),
+    )
+}
+
+/// The multipliers of a ray, without as few of its last digits as let them refute.
 fn judge_ray(
     alloc: Global,
     problem: &Problem,
@@ -49,19 +75,20 @@ fn judge_ray(
     duals: &[Fx],
 ) -> Result<Judged, Memory>
     requires { node < length problem.now.raw.nodes }
-    ensures { let n = node_at (problem_of problem.now) node in
-        IfOk result (λ found. found ≡ dead_by (settled_rows 0 n.rows duals.now) (refutes_of n values.now state.now (settled_rows 0 n.rows duals.now))) }
+    ensures { IfOk result (λ found. found ≡ first_dead (node_at (problem_of problem.now) node) values.now state.now duals.now 0 15) }
 {
-    let rows = settled_rows(alloc, problem.sub(node).rows.as_slice(), duals)?;
-    if refutes(problem, node, values, state, rows.as_slice()) {
-        Ok(Judged::Dead(rows))
-    } else {
-        Ok(Judged::Unsettled)
+    for tried in 0..15 {
+        let rows = ray_rows(alloc, problem, node, duals, 4 * tried)?;
+        if refutes(problem, node, values, state, rows.as_slice()) {
+            return Ok(Judged::Dead(rows));
+        }
     }
+    Ok(Judged::Unsettled)
 }
 
 /// What an answer shows of a node at values of its random variables and an incoming state at scale 2^24: Found for a
-/// found point, Dead with the settled rows exactly where the answer is a ray and these rows refute, and else Unsettled.
+/// found point, Dead exactly where the answer is a ray whose duals of rows refute over 2^0, 2^4, .. or 2^56, with the first
+/// of these that do, and else Unsettled.
 /// [`Memory`] where memory was refused.
 #[tactic(auto, unfolding(crate::specs::Judging::judge_of))]
 pub fn judge(

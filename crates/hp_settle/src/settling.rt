@@ -5,7 +5,7 @@ ghost use Rattle.hp_theory.specs.Pools.{pool};
 ghost use Rattle.hp_theory.specs.Fit.{Fit};
 ghost use Rattle.hp_theory.specs.View.{links_of, problem_of};
 ghost use Rattle.hp_theory.specs.Certificates.{multipliers, RightAt};
-ghost use Rattle.hp_settle.specs.Settling.{dual_at, rescaled, clamped, settled_row, settled_rows, cut_multiplier, cut_multipliers, capped, missing, place_of_greatest, pairs_from, raised_pair, topped, settled_pairs, settled_links, used_duals, settled_of};
+ghost use Rattle.hp_settle.specs.Settling.{dual_at, rescaled, clamped, row_over, rows_over, settled_rows, cut_multiplier, cut_multipliers, capped, missing, place_of_greatest, pairs_from, raised_pair, raised_first, topped, settled_pairs, settled_links, used_duals, settled_of};
 
 use hp_cut::Pools;
 use hp_dual::is_sign;
@@ -17,7 +17,7 @@ use hp_theory::{Certificate, SCALE};
 use std::alloc::Global;
 
 /// How often the scale of multipliers goes into that of duals.
-const FINER: i128 = ONE / SCALE as i128;
+const FINER: u64 = (ONE / SCALE as i128) as u64;
 
 /// The dual of a row, 0 where it is missing.
 fn dual_at(duals: &[Fx], i: usize) -> i128
@@ -33,7 +33,7 @@ fn dual_at(duals: &[Fx], i: usize) -> i128
 fn rescaled(dual: i128) -> i128
     ensures { result ≡ rescaled dual }
 {
-    floor_div(dual, FINER)
+    floor_div(dual, i128::from(FINER))
 }
 
 /// The nearest number of 64 bits.
@@ -43,11 +43,13 @@ fn clamped(number: i128) -> i64
     number.clamp(i128::from(i64::MIN), i128::from(i64::MAX)) as i64
 }
 
-/// The multiplier of a row: its dual at the scale of multipliers, clamped, and 0 without the side that it stands on.
-fn settled_row(row: &Row, dual: i128) -> i64
-    ensures { result ≡ settled_row row.now dual }
+/// The multiplier of a row: its dual over the divisor, rounded down and clamped, and 0 without the side that it stands
+/// on.
+fn row_over(row: &Row, dual: i128, divisor: u64) -> i64
+    requires { 0 < divisor }
+    ensures { result ≡ row_over divisor row.now dual }
 {
-    let multiplier = clamped(rescaled(dual));
+    let multiplier = clamped(floor_div(dual, i128::from(divisor)));
     if is_sign(row, multiplier) {
         multiplier
     } else {
@@ -55,13 +57,19 @@ fn settled_row(row: &Row, dual: i128) -> i64
     }
 }
 
-/// The multipliers of rows. [`Memory`] where memory was refused.
-pub(crate) fn settled_rows(alloc: Global, rows: &[Row], duals: &[Fx]) -> Result<List<i64>, Memory>
-    ensures { IfOk result (λ found. found ≡ settled_rows 0 rows.now duals.now) }
+/// The multipliers of rows: their duals over the divisor, as of one row each. [`Memory`] where memory was refused.
+pub(crate) fn rows_over(
+    alloc: Global,
+    rows: &[Row],
+    duals: &[Fx],
+    divisor: u64,
+) -> Result<List<i64>, Memory>
+    requires { 0 < divisor }
+    ensures { IfOk result (λ found. found ≡ rows_over divisor 0 rows.now duals.now) }
 {
     let mut found = List::new(alloc);
     for (i, row) in rows.iter().enumerate() {
-        found.push(settled_row(row, dual_at(duals, i)))?;
+        found.push(row_over(row, dual_at(duals, i), divisor))?;
     }
     Ok(found)
 }
@@ -140,21 +148,60 @@ fn raise_pair(pairs: &mut List<(u32, u64)>, at: usize, more: u64)
     pairs.set(at, (place, multiplier + more));
 }
 
-/// Adds what is missing to the greatest of a successor's multipliers; where all are 0 it goes to the first cut.
-fn top_up(pairs: &mut List<(u32, u64)>, missing: u64) -> Result<(), Memory>
-    requires { multipliers pairs.old + missing < 2 ^ 64 }
-    ensures { OnOk result (pairs.new ≡ topped pairs.old missing) }
+/// Pairs with one of the first cut in front.
+fn with_first(
+    alloc: Global,
+    pairs: &[(u32, u64)],
+    multiplier: u64,
+) -> Result<List<(u32, u64)>, Memory>
+    ensures { IfOk result (λ found. found ≡ (0, multiplier) ∷ pairs.now) }
 {
-    if pairs.is_empty() {
-        return push_pair(pairs, 0, missing);
+    let mut found = List::new(alloc);
+    found.push((0, multiplier))?;
+    for pair in pairs {
+        found.push(*pair)?;
     }
-    let at = greatest_pair(pairs.as_slice());
-    raise_pair(pairs, at, missing);
-    Ok(())
+    Ok(found)
+}
+
+/// Adds so much to the first cut, which need not have a pair.
+fn raise_first(
+    alloc: Global,
+    mut pairs: List<(u32, u64)>,
+    more: u64,
+) -> Result<List<(u32, u64)>, Memory>
+    requires { multipliers pairs + more < 2 ^ 64 }
+    ensures { IfOk result (λ found. found ≡ raised_first pairs more) }
+{
+    if !pairs.is_empty() && pairs.as_slice()[0].0 == 0 {
+        raise_pair(&mut pairs, 0, more);
+        Ok(pairs)
+    } else {
+        with_first(alloc, pairs.as_slice(), more)
+    }
+}
+
+/// Adds what is missing: more than a unit a pair to the first cut, and else to the greatest.
+fn top_up(
+    alloc: Global,
+    mut pairs: List<(u32, u64)>,
+    missing: u64,
+) -> Result<List<(u32, u64)>, Memory>
+    requires { multipliers pairs + missing < 2 ^ 64 }
+    ensures { IfOk result (λ found. found ≡ topped pairs missing) }
+{
+    if missing > pairs.len() as u64 {
+        return raise_first(alloc, pairs, missing);
+    }
+    if !pairs.is_empty() {
+        let at = greatest_pair(pairs.as_slice());
+        raise_pair(&mut pairs, at, missing);
+    }
+    Ok(pairs)
 }
 
 /// The pairs of a successor with so many cuts, whose duals come first: in order each cut keeps at most what the target
-/// leaves, and what is missing then goes to the greatest.
+/// leaves, and what is missing then goes to the first where it is more than a unit a pair, and else to the greatest.
 fn settled_pairs(
     alloc: Global,
     target: u64,
@@ -164,9 +211,8 @@ fn settled_pairs(
     requires { 0 < count }
     ensures { IfOk result (λ found. found ≡ settled_pairs target count duals.now) }
 {
-    let Shares { mut pairs, missing } = within_target(alloc, target, count, duals)?;
-    top_up(&mut pairs, missing)?;
-    Ok(pairs)
+    let Shares { pairs, missing } = within_target(alloc, target, count, duals)?;
+    top_up(alloc, pairs, missing)
 }
 
 /// All of a successor's weight.
@@ -248,7 +294,7 @@ fn settled_duals(
       cuts = settled_links pools.now.lists (links_of node.now.links node.now.link_weights) (drop (length subproblem.now.rows) duals.now);
     }) }
 {
-    let rows = settled_rows(alloc, subproblem.rows.as_slice(), duals)?;
+    let rows = rows_over(alloc, subproblem.rows.as_slice(), duals, FINER)?;
     let links = node.links.as_slice();
     let weights = node.link_weights.as_slice();
     let rest = behind(duals, subproblem.rows.len());
@@ -260,9 +306,10 @@ fn settled_duals(
 ///
 /// A multiplier is a dual at scale 2^24, rounded down. That of a row is clamped to 64 bits, and 0 where the row lacks
 /// the side that it stands on. Each cut of a successor keeps, in order, at most what is left of 2^24 times the
-/// successor's weight; what is missing then goes to the greatest, the first of equals, and cuts with 0 are left out. A
-/// missing dual counts as 0, and those beyond the rows are ignored. An answer that claims no solution gives the base
-/// certificate. The certificate is right for any answer, of any lengths and numbers.
+/// successor's weight. What is missing then goes to the first cut where it is more than a unit for each multiplier above
+/// 0, and else to the greatest, the first of equals; cuts with 0 are left out. A missing dual counts as 0, and those
+/// beyond the rows are ignored. An answer that claims no solution gives the base certificate. The certificate is right
+/// for any answer, of any lengths and numbers.
 pub fn settle(
     alloc: Global,
     problem: &Problem,

@@ -37,8 +37,9 @@ pub fn settled_shares()
     ensures { (target : ℕ) (vs : List ℕ) → 0 < missing target vs → capped target vs ≡ vs }
 {}
 
-/// Duals -5 and 5; rounded down before they are clamped; without an upper side; 10 shared out among cuts, where some
-/// is missing, where there is too much, and without duals.
+/// Duals -5 and 5; rounded down before they are clamped; without an upper side; 10 shared out among cuts: where a unit a
+/// pair is missing, and where one more is, with a pair of the first cut and without; where there is too much, and without
+/// duals.
 pub fn worked_settling()
     ensures reservoir { settled_duals [] (reservoir 2)
         (map number (negsuc 21474836479 ∷ pos 21474836480 ∷ [])) ≡ reservoir_certificate }
@@ -51,6 +52,12 @@ pub fn worked_settling()
     ensures some_missing { settled_pairs 10 4
         (map number (pos 256 ∷ pos 768 ∷ pos 768 ∷ negsuc 0 ∷ []))
         ≡ (0, 1) ∷ (1, 6) ∷ (2, 3) ∷ [] }
+    ensures more_missing { settled_pairs 10 4
+        (map number (pos 256 ∷ pos 768 ∷ pos 512 ∷ negsuc 0 ∷ []))
+        ≡ (0, 5) ∷ (1, 3) ∷ (2, 2) ∷ [] }
+    ensures first_added { settled_pairs 10 4
+        (map number (negsuc 0 ∷ pos 768 ∷ pos 0 ∷ pos 1024 ∷ []))
+        ≡ (0, 3) ∷ (1, 3) ∷ (3, 4) ∷ [] }
     ensures too_much { settled_pairs 10 3 (map number (pos 1024 ∷ pos 2048 ∷ pos 512 ∷ []))
         ≡ (0, 4) ∷ (1, 6) ∷ [] }
     ensures no_duals { settled_pairs 10 3 [] ≡ (0, 10) ∷ [] }

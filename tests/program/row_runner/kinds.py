@@ -8,6 +8,7 @@ from .bounds import between, rising
 from .expectation import difference, expectation
 from .kills import killed
 from .program import NoEnd
+from .refuted import refuted
 from .rows import BadRow, Row, bytes_of
 from .running import Verdict, journal_before, run_of, streams
 from .tables import each, edits, journals
@@ -28,7 +29,10 @@ def kills(row: Row, program: Path, folder: Path) -> Verdict:
     return Verdict(fault, note)
 
 
-KINDS = {"run": run, "between": between, "rising": rising, "each": each, "edits": edits, "journals": journals, "kills": kills}
+KINDS = {
+    "run": run, "between": between, "rising": rising, "refuted": refuted, "each": each, "edits": edits, "journals": journals,
+    "kills": kills,
+}
 
 
 def tried(row: Row, program: Path) -> Verdict:

@@ -1,24 +1,15 @@
-use Rattle.std.proofs.Common.{◌≡◌, true, false, ℤ, List, rules, ap, ◌∙◌}
-use Rattle.hp_problem.specs.declared.raw.Row.{Row}
+use Rattle.std.proofs.Common.{rules}
 use Rattle.hp_theory.specs.Problem.{node_at}
 use Rattle.hp_theory.specs.View.{problem_of}
-use Rattle.hp_settle.specs.Refutation.{refutes_of}
-use Rattle.hp_settle.specs.Settling.{settled_rows}
-use Rattle.hp_settle.proofs.JudgedDead.{rows_at, is_dead, is_not_dead}
+use Rattle.hp_settle.proofs.JudgedDead.{this_refutes, next_tried}
 use Rattle.hp_settle.proofs.judging.judge_ray.Goals as goal
+
+pub loop-tried-preserved : goal.loop-tried-preserved
+loop-tried-preserved c =
+    let n = node_at (problem_of c.args.problem.now) c.args.node in
+    next_tried n c.args.values.now c.args.state.now c.in_ok-rows.rows c.args.duals.now c.loop-tried.tried c.refutes.result c.loop-tried-test.true c.in_ok-rows.ensures (search rules) c.if-refutes.false c.loop-tried.invariant
 
 pub returns-then-refutes : goal.returns-then-refutes
 returns-then-refutes c =
     let n = node_at (problem_of c.args.problem.now) c.args.node in
-    let refutes : c.refutes.result ≡ true = search rules in
-    is_dead n c.args.values.now c.args.state.now c.in_ok-rows.rows (settled_rows 0 n.rows c.args.duals.now) c.refutes.result
-    (c.in_ok-rows.ensures ∙ ap (λ (rs : List Row). settled_rows 0 rs c.args.duals.now) (c.as_slice.ensures ∙ rows_at c.args.problem.now c.args.node c.sub.result.now c.requires c.sub.ensures))
-    (c.refutes.ensures ∙ ap (λ (ys : List ℤ). refutes_of n c.args.values.now c.args.state.now ys) c.as_slice-2.ensures) refutes
-
-pub returns-else-refutes : goal.returns-else-refutes
-returns-else-refutes c =
-    let n = node_at (problem_of c.args.problem.now) c.args.node in
-    let refutes : c.refutes.result ≡ false = search rules in
-    is_not_dead n c.args.values.now c.args.state.now c.in_ok-rows.rows (settled_rows 0 n.rows c.args.duals.now) c.refutes.result
-    (c.in_ok-rows.ensures ∙ ap (λ (rs : List Row). settled_rows 0 rs c.args.duals.now) (c.as_slice.ensures ∙ rows_at c.args.problem.now c.args.node c.sub.result.now c.requires c.sub.ensures))
-    (c.refutes.ensures ∙ ap (λ (ys : List ℤ). refutes_of n c.args.values.now c.args.state.now ys) c.as_slice-2.ensures) refutes
+    this_refutes n c.args.values.now c.args.state.now c.in_ok-rows.rows c.args.duals.now c.loop-tried.tried c.refutes.result c.loop-tried-test.true c.in_ok-rows.ensures (search rules) (search rules) c.loop-tried.invariant

@@ -5,4 +5,4 @@ use Rattle.hp_settle.proofs.settling.top_up.Goals as goal
 
 pub raise_pair-requires-clause-there : goal.raise_pair-requires-clause-there
 raise_pair-requires-clause-there c =
-    greatest_there c.args.pairs.now c.as_slice.result.now c.greatest_pair-at.result (grind (arith, nat_tests)) (search rules) (search rules)
+    greatest_there c.args.pairs c.as_slice.result.now c.greatest_pair-at.result (grind (arith, nat_tests)) (search rules) (search rules)
