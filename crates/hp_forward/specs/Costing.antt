@@ -1,5 +1,5 @@
 -- What decisions leave open of a row, and what a stage costs, both at scale S.
-use Rattle.std.specs.Prelude.{ℤ, pos, ◌-ℤ◌, ◌*ℤ◌, List, map, Option, Some, None}
+use Rattle.std.specs.Prelude.{ℤ, pos, neg_ℤ, ◌-ℤ◌, ◌*ℤ◌, int_lt, List, map, Option, Some, None, if◌then◌else◌}
 use Rattle.std.specs.Int.{int_max}
 use Rattle.hp_problem.specs.declared.raw.Row.{Row}
 use Rattle.hp_theory.specs.Problem.{S, Node}
@@ -22,9 +22,19 @@ residual_of row u x values =
     let left : ℤ = left_side S values x u row in
     int_max (int_max (below row.low left) (above row.high left)) (pos 0)
 
+-- Miss: by how much a row's left side has to rise to meet it, negative where it has to fall, and 0 where it meets it
+unfoldable pub miss_of : Row → List ℤ → List ℤ → List ℤ → ℤ
+miss_of row u x values =
+    let left : ℤ = left_side S values x u row in
+    if int_lt (pos 0) (below row.low left) then below row.low left else neg_ℤ (int_max (above row.high left) (pos 0))
+
 -- one for each row of a node
 abbrev pub residuals_of : Node → List ℤ → List ℤ → List ℤ → List ℤ
 residuals_of n u x values = map (λ (row : Row). residual_of row u x values) n.rows
+
+-- and what each misses
+abbrev pub misses_of : Node → List ℤ → List ℤ → List ℤ → List ℤ
+misses_of n u x values = map (λ (row : Row). miss_of row u x values) n.rows
 
 -- StageCost: S*constant + S*(f·omega) + c·u + e·x
 unfoldable pub stage_cost_of : Node → List ℤ → List ℤ → List ℤ → ℤ

@@ -7,7 +7,7 @@ ghost use Rattle.hp_theory.specs.Problem.{S, node_at};
 ghost use Rattle.hp_theory.specs.Tree.{InBox, left_side};
 ghost use Rattle.hp_theory.specs.View.{node_of, problem_of};
 ghost use Rattle.hp_forward.specs.Amounts.{AreCosts, AreGiven, IsOver};
-ghost use Rattle.hp_forward.specs.Costing.{above, below, residual_of, residuals_of, stage_cost_of};
+ghost use Rattle.hp_forward.specs.Costing.{above, below, miss_of, misses_of, residual_of, residuals_of, stage_cost_of};
 ghost use Rattle.hp_forward.specs.Given.{IsStateAt};
 
 use crate::amounts::{Costs, Given, Raised, Scaled, products_sum, terms_sum};
@@ -50,7 +50,8 @@ fn left_side(row: &Row, decisions: &[i128], state: &[i128], values: &[i64]) -> i
 /// How far the left side lies below the lower side.
 fn below(low: Option<i64>, left: i128) -> i128
     requires { nat_abs left ≤ 2 ^ 114 }
-    ensures { result ≡ below low left }
+    ensures value { result ≡ below low left }
+    ensures small { nat_abs result ≤ 2 ^ 115 }
 {
     match low {
         Some(low) => scaled(low) - left,
@@ -61,7 +62,8 @@ fn below(low: Option<i64>, left: i128) -> i128
 /// How far the left side lies above the upper side.
 fn above(high: Option<i64>, left: i128) -> i128
     requires { nat_abs left ≤ 2 ^ 114 }
-    ensures { result ≡ above high left }
+    ensures value { result ≡ above high left }
+    ensures small { nat_abs result ≤ 2 ^ 115 }
 {
     match high {
         Some(high) => left - scaled(high),
@@ -103,6 +105,47 @@ pub fn residual(
     let _ = problem.raw();
     let own = &problem.sub(node).rows.as_slice()[row as usize];
     residual_of(own, decisions, state, values)
+}
+
+/// What a row misses.
+#[tactic(auto, unfolding(crate::specs::Costing::miss_of))]
+fn miss_of(row: &Row, decisions: &[i128], state: &[i128], values: &[i64]) -> i128
+    requires given { AreGiven decisions.now state.now values.now }
+    requires over { IsOver decisions.now state.now values.now row.now }
+    ensures value { result ≡ miss_of row.now decisions.now state.now values.now }
+    ensures small { nat_abs result ≤ 2 ^ 115 }
+{
+    let left = left_side(row, decisions, state, values);
+    let rise = below(row.low, left);
+    if rise > 0 {
+        rise
+    } else {
+        -above(row.high, left).max(0)
+    }
+}
+
+/// By how much the left side of a row of a node has to rise at an incoming state and values for the decisions to meet it,
+/// at scale 2^24: negative where it has to fall, and 0 exactly where they meet it. No memory is taken. What is asked of the
+/// decisions, the state and the values is as in [`residual`].
+pub fn miss(
+    problem: &Problem,
+    node: u32,
+    row: u32,
+    decisions: &[i128],
+    state: &[i128],
+    values: &[i64],
+) -> i128
+    requires known { node < length problem.now.raw.nodes }
+    requires row { row < length (node_at (problem_of problem.now) node).rows }
+    requires decisions { InBox S (node_at (problem_of problem.now) node).decision_low (node_at (problem_of problem.now) node).decision_high decisions.now }
+    requires state { IsStateAt problem.now node state.now }
+    requires values { are_values (subproblem_of problem.now node) values.now ≡ true }
+    ensures value { result ≡ get_or (misses_of (node_at (problem_of problem.now) node) decisions.now state.now values.now) row (pos 0) }
+    ensures small { nat_abs result ≤ 2 ^ 115 }
+{
+    let _ = problem.raw();
+    let own = &problem.sub(node).rows.as_slice()[row as usize];
+    miss_of(own, decisions, state, values)
 }
 
 /// What a stage of a subproblem costs.

@@ -72,7 +72,7 @@ fn value_at(point: &[Fx], at: usize, low: i64) -> i128
 
 /// A number at the scale of decisions.
 #[tactic(auto, unfolding(hp_theory::specs::Problem::S))]
-pub(crate) fn scaled(number: i64) -> i128
+pub fn scaled(number: i64) -> i128
     ensures value { result ≡ pos S *ℤ number }
     ensures small { nat_abs result ≤ 2 ^ 87 }
 {

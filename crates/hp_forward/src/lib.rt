@@ -10,8 +10,8 @@ pub mod traces;
 pub mod walking;
 pub mod worked;
 
-pub use costing::{residual, stage_cost};
-pub use deciding::{Decided, StageFault, decide, decide_with};
+pub use costing::{miss, residual, stage_cost};
+pub use deciding::{Decided, StageFault, decide, decide_with, scaled};
 pub use halves::{states_all, states_all_with};
 pub use hp_sampler::Walk;
 pub use traces::{Trace, TraceStep};

@@ -1,1 +1,5 @@
+pub mod Moves
+pub mod Ordered
+pub mod Fixing
 pub mod Mending
+pub mod Stages

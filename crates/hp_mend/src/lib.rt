@@ -1,6 +1,13 @@
 //! Decisions that meet their rows: rounded ones are moved until they do.
 #![tactic(auto)]
 
+mod amounts;
+mod fixing;
+pub mod laws;
 pub mod mending;
+mod moves;
+mod order;
+mod search;
+mod stage;
 
 pub use mending::mended;

@@ -1,18 +1,101 @@
 // Decisions that meet their rows.
-ghost use Rattle.std.specs.Prelude.{◌≡◌, ◌<◌, true, length, IfOk};
+ghost use Rattle.std.specs.Prelude.{◌≡◌, ◌<◌, ◌⊎◌, true, false, pos, length, replicate, All, IfOk};
+ghost use Rattle.hp_problem.specs.declared.raw.Row.{Row};
 ghost use Rattle.hp_problem.specs.Limits.{are_values};
 ghost use Rattle.hp_problem.specs.Sealed.{subproblem_of};
 ghost use Rattle.hp_theory.specs.Problem.{S, node_at};
-ghost use Rattle.hp_theory.specs.Tree.{InBox};
+ghost use Rattle.hp_theory.specs.Tree.{InBox, RowHolds};
 ghost use Rattle.hp_theory.specs.View.{problem_of};
 ghost use Rattle.hp_forward.specs.Given.{IsStateAt};
-ghost use Rattle.hp_mend.specs.Mending.{mended_of};
+ghost use Rattle.hp_mend.specs.Fixing.{all_fixed};
+ghost use Rattle.hp_mend.specs.Mending.{fresh, all_met, mended_of};
+ghost use Rattle.hp_mend.specs.Stages.{stage_node, frame_at, IsStage, AreInside};
 
+use crate::fixing::fix;
+use crate::search::{Search, copied};
+use crate::stage::{Stage, is_met, row_count};
 use hp_num::{List, Memory};
 use hp_problem::Problem;
 use std::alloc::Global;
 
-/// The decisions of a node after mending.
+/// How many moves may be tried for a node's rows.
+const TRIES: u32 = 256;
+
+/// How many levels of rows may be fixed below one another.
+const LEVELS: u32 = 3;
+
+/// So many decisions, none of which is held.
+fn none_held(alloc: Global, count: usize) -> Result<List<bool>, Memory>
+    ensures { IfOk result (λ found. found ≡ replicate count false) }
+{
+    let mut found = List::new(alloc);
+    for _made in 0..count {
+        found.push(false)?;
+    }
+    Ok(found)
+}
+
+/// A search that begins with these decisions.
+fn fresh(alloc: Global, decisions: &[i128]) -> Result<Search, Memory>
+    ensures { IfOk result (λ found. found ≡ fresh decisions.now) }
+{
+    let numbers = copied(alloc, decisions)?;
+    let held = none_held(alloc, decisions.len())?;
+    Ok(Search {
+        numbers,
+        held,
+        tries: TRIES,
+    })
+}
+
+/// Fixes each row in turn, until one cannot be fixed.
+fn fix_all(alloc: Global, stage: &Stage, search: &mut Search) -> Result<bool, Memory>
+    requires stage { IsStage stage.now }
+    requires inside { AreInside stage.now search.old.numbers }
+    ensures value { let f = frame_at stage.now in
+        IfOk result (λ done. (done, search.new) ≡ all_fixed f 0 (length f.rows) search.old) }
+    ensures inside { IfOk result (λ done. AreInside stage.now search.new.numbers) }
+{
+    for row in 0..row_count(stage) {
+        if !fix(alloc, stage, search, row, LEVELS)? {
+            return Ok(false);
+        }
+    }
+    Ok(true)
+}
+
+/// Whether decisions meet all rows.
+fn are_met(stage: &Stage, numbers: &[i128]) -> bool
+    requires stage { IsStage stage.now }
+    requires inside { AreInside stage.now numbers.now }
+    ensures { result ≡ all_met (stage_node stage.now) stage.now.values.now stage.now.state.now numbers.now }
+{
+    for row in 0..row_count(stage) {
+        if !is_met(stage, numbers, row) {
+            return false;
+        }
+    }
+    true
+}
+
+/// What a search comes to.
+fn numbers_of(search: Search) -> List<i128>
+    ensures { result ≡ search.numbers }
+{
+    let Search { numbers, .. } = search;
+    numbers
+}
+
+/// Decisions of a node at values of its random variables and an incoming state at scale 2^24 that meet each of its rows
+/// exactly, where moves of single decisions lead from the given ones there, and else the given ones; one number per
+/// decision, at scale 2^24, in 2^24 times its box. [`Memory`] where memory was refused.
+///
+/// Each row that is missed is fixed in turn: a decision with a term in it moves as far as the row's side or just short of
+/// it, and each row that this harms is fixed the same way, three levels deep. Moves that harm few rows come first, then
+/// those of little cost. 256 moves are tried at most.
+///
+/// There is one value per random variable, each at most 2^40 in absolute value, the state lies in the node's box, and the
+/// given decisions lie in theirs.
 #[tactic(auto, unfolding(crate::specs::Mending::mended_of))]
 pub fn mended(
     alloc: Global,
@@ -29,6 +112,17 @@ pub fn mended(
     ensures value { IfOk result (λ found. found ≡ mended_of (node_at (problem_of problem.now) node) values.now state.now decisions) }
     ensures inside { IfOk result (λ found. InBox S (node_at (problem_of problem.now) node).decision_low (node_at (problem_of problem.now) node).decision_high found) }
 {
-    let _ = problem.raw();
-    Ok(decisions)
+    let stage = Stage {
+        problem,
+        node,
+        values,
+        state,
+    };
+    let mut search = fresh(alloc, decisions.as_slice())?;
+    fix_all(alloc, &stage, &mut search)?;
+    if are_met(&stage, search.numbers.as_slice()) {
+        Ok(numbers_of(search))
+    } else {
+        Ok(decisions)
+    }
 }

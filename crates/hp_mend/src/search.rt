@@ -1,0 +1,46 @@
+// A search for decisions that meet their rows.
+ghost use Rattle.std.specs.Prelude.{◌≡◌, set, IfOk};
+
+use crate::amounts::Amount;
+use hp_num::{List, Memory};
+use std::alloc::Global;
+
+/// A move of one decision.
+#[derive(Clone, Copy, Drop)]
+pub(crate) struct Move {
+    /// The number of the decision.
+    pub(crate) decision: u32,
+    /// By how much it moves, at scale 2^24.
+    pub(crate) amount: Amount,
+    /// How many rows that have to be met are not met afterwards.
+    pub(crate) harm: u32,
+    /// The cost of the decision times the amount.
+    pub(crate) cost: i128,
+}
+
+/// Decisions, which of them are held, and how many tries are left.
+#[derive(Drop)]
+pub(crate) struct Search {
+    /// One number per decision, at scale 2^24.
+    pub(crate) numbers: List<i128>,
+    /// One entry per decision.
+    pub(crate) held: List<bool>,
+    /// How many moves may be tried yet.
+    pub(crate) tries: u32,
+}
+
+/// Puts an item in the place of the one at a number, where there is one.
+pub(crate) fn put<T: Drop>(list: &mut List<T>, at: usize, item: T)
+    ensures { list.new ≡ set list.old at item }
+{
+    if at < list.len() {
+        list.set(at, item);
+    }
+}
+
+/// A copy of numbers.
+pub(crate) fn copied(alloc: Global, numbers: &[i128]) -> Result<List<i128>, Memory>
+    ensures { IfOk result (λ found. found ≡ numbers.now) }
+{
+    Ok(List::from_vec(Vec::from_slice(alloc, numbers)?))
+}

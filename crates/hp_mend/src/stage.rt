@@ -1,0 +1,106 @@
+// The stage that decisions are of.
+ghost use Rattle.std.specs.Prelude.{◌≡◌, ◌<◌, ◌≤◌, ◌^◌, [], length, get_or, nat_abs};
+ghost use Rattle.hp_num.specs.Sums.{entry};
+ghost use Rattle.hp_mend.specs.Moves.{is_met};
+ghost use Rattle.hp_mend.specs.Stages.{no_decision, frame_at, IsStage, AreInside};
+
+use hp_forward::miss;
+use hp_problem::{Decision, Problem};
+
+/// A node at values of its random variables and an incoming state.
+#[derive(Clone, Copy)]
+pub(crate) struct Stage<'a> {
+    pub(crate) problem: &'a Problem,
+    pub(crate) node: u32,
+    /// One value per random variable.
+    pub(crate) values: &'a [i64],
+    /// One number per state, at scale 2^24.
+    pub(crate) state: &'a [i128],
+}
+
+/// The number of rows.
+pub(crate) fn row_count(stage: &Stage) -> u32
+    requires { IsStage stage.now }
+    ensures { result ≡ length (frame_at stage.now).rows }
+{
+    let _ = stage.problem.raw();
+    stage.problem.sub(stage.node).rows.len() as u32
+}
+
+/// The box of a decision, 0 and 0 where there is none.
+fn box_in(decisions: &[Decision], at: u32) -> (i64, i64)
+    ensures low { result.0 ≡ (get_or decisions.now at no_decision).low }
+    ensures high { result.1 ≡ (get_or decisions.now at no_decision).high }
+{
+    match decisions.get(at as usize) {
+        Some(decision) => (decision.low, decision.high),
+        None => (0, 0),
+    }
+}
+
+/// The cost of a decision, 0 where there is none.
+fn cost_in(decisions: &[Decision], at: u32) -> i64
+    ensures { result ≡ (get_or decisions.now at no_decision).cost }
+{
+    match decisions.get(at as usize) {
+        Some(decision) => decision.cost,
+        None => 0,
+    }
+}
+
+/// The box of a decision of a stage.
+pub(crate) fn box_at(stage: &Stage, at: u32) -> (i64, i64)
+    requires { IsStage stage.now }
+    ensures low { result.0 ≡ entry (frame_at stage.now).lows at }
+    ensures high { result.1 ≡ entry (frame_at stage.now).highs at }
+{
+    box_in(stage.problem.sub(stage.node).decisions.as_slice(), at)
+}
+
+/// The cost of a decision of a stage.
+pub(crate) fn cost_at(stage: &Stage, at: u32) -> i64
+    requires { IsStage stage.now }
+    ensures value { result ≡ entry (frame_at stage.now).costs at }
+    ensures small { nat_abs result ≤ 2 ^ 40 }
+{
+    let _ = stage.problem.raw();
+    cost_in(stage.problem.sub(stage.node).decisions.as_slice(), at)
+}
+
+/// The terms of decisions of a row.
+pub(crate) fn terms_at<'a>(stage: &Stage<'a>, row: u32) -> &'a [(u32, i64)]
+    requires stage { IsStage stage.now }
+    requires row { row < length (frame_at stage.now).rows }
+    ensures { result.now ≡ get_or (frame_at stage.now).rows row [] }
+{
+    stage.problem.sub(stage.node).rows.as_slice()[row as usize]
+        .decisions
+        .as_slice()
+}
+
+/// What decisions miss of a row.
+pub(crate) fn miss_at(stage: &Stage, numbers: &[i128], row: u32) -> i128
+    requires stage { IsStage stage.now }
+    requires inside { AreInside stage.now numbers.now }
+    requires row { row < length (frame_at stage.now).rows }
+    ensures value { result ≡ (frame_at stage.now).miss numbers.now row }
+    ensures small { nat_abs result ≤ 2 ^ 115 }
+{
+    let Stage {
+        problem,
+        node,
+        values,
+        state,
+    } = *stage;
+    miss(problem, node, row, numbers, state, values)
+}
+
+/// Whether decisions meet a row.
+pub(crate) fn is_met(stage: &Stage, numbers: &[i128], row: u32) -> bool
+    requires stage { IsStage stage.now }
+    requires inside { AreInside stage.now numbers.now }
+    requires row { row < length (frame_at stage.now).rows }
+    ensures { result ≡ is_met (frame_at stage.now) numbers.now row }
+{
+    miss_at(stage, numbers, row) == 0
+}
