@@ -122,8 +122,9 @@ fn number_at(decisions: &[i128], at: usize) -> i128
     }
 }
 
-/// The decisions that leave a node as states.
-fn next_state(alloc: Global, outs: &[u32], decisions: &[i128]) -> Result<List<i128>, Memory>
+/// The decisions that leave a node as states, one per number in `outs`, in order and at the scale of the decisions; a
+/// number past the last decision gives 0. Memory where memory was refused.
+pub fn next_state(alloc: Global, outs: &[u32], decisions: &[i128]) -> Result<List<i128>, Memory>
     ensures { IfOk result (λ found. found ≡ map (λ o. entry decisions.now o) outs.now) }
 {
     let mut found = List::new(alloc);

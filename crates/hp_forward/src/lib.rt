@@ -11,7 +11,7 @@ pub mod walking;
 pub mod worked;
 
 pub use costing::{miss, residual, stage_cost};
-pub use deciding::{Decided, StageFault, decide, decide_with, scaled};
+pub use deciding::{Decided, StageFault, decide, decide_with, next_state, scaled};
 pub use halves::{states_all, states_all_with};
 pub use hp_sampler::Walk;
 pub use traces::{Trace, TraceStep};

@@ -2,7 +2,9 @@ pub mod AllFixed
 pub mod Allowed
 pub mod Framed
 pub mod Harms
+pub mod Inside
 pub mod Kept
 pub mod Listed
 pub mod Meeting
+pub mod MendedDecisions
 pub mod Rows

@@ -3,3 +3,4 @@ pub mod Ordered
 pub mod Fixing
 pub mod Mending
 pub mod Stages
+pub mod Deciding

@@ -2,6 +2,7 @@
 #![tactic(auto)]
 
 mod amounts;
+pub mod deciding;
 mod fixing;
 pub mod laws;
 pub mod mending;
@@ -10,4 +11,5 @@ mod order;
 mod search;
 mod stage;
 
+pub use deciding::decide_mended;
 pub use mending::mended;

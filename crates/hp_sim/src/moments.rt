@@ -15,8 +15,9 @@ ghost use Rattle.hp_forward.specs.declared.deciding.Decided.{Decided};
 ghost use Rattle.hp_sim.specs.Tracing.{decide_at, longer, step_on, traced};
 
 use hp_cut::Pools;
-use hp_forward::{Decided, StageFault, Trace, TraceStep, decide_with, residual, stage_cost};
+use hp_forward::{Decided, StageFault, Trace, TraceStep, residual, stage_cost};
 use hp_lp::{SpareRows, Starts};
+use hp_mend::decide_mended;
 use hp_num::{List, Memory};
 use hp_problem::{Moment, Problem};
 use hp_solver::{Kind, Solver};
@@ -165,7 +166,7 @@ pub(crate) fn step_on<V: Solver>(
     ensures small { IfOk result (λ _. nat_abs trace.new.cost ≤ nat_abs trace.old.cost + 2 ^ 115) }
     ensures dead { OnNoStage result (Refutes problem.now) }
 {
-    let decided = decide_with(
+    let decided = decide_mended(
         alloc,
         spare,
         problem,

@@ -22,7 +22,9 @@ use std::alloc::Global;
 /// costs. States, decisions, residuals and costs are at scale 2^24, values are whole.
 ///
 /// Scenario i follows the path that the seed and stream 2^32 + i draw, from the initial state, and each step is decided
-/// once, as [`hp_forward::decide`] does it. What is ready was made for this problem and this solver.
+/// once, as [`hp_mend::decide_mended`] does it: by the answer to the stage problem, rounded down and brought into the
+/// boxes, and where that answer is a point, mended to meet the rows as [`hp_mend::mended`] does it. What is ready was made
+/// for this problem and this solver.
 ///
 /// One trace per scenario, with one step per node of its path. NoStage exactly at the first step, in order of
 /// scenarios, where no decisions exist, as the multipliers that it carries show; its `run` is the number of the

@@ -8,34 +8,18 @@ use Rattle.hp_problem.specs.declared.raw.Row.{Row}
 use Rattle.hp_problem.specs.Sealed.{Sealed, is_sealed}
 use Rattle.hp_theory.specs.declared.cut.Cut.{Cut}
 use Rattle.hp_theory.specs.Problem.{S, node_at}
-use Rattle.hp_theory.specs.Tree.{RowHolds, next_state}
+use Rattle.hp_theory.specs.Tree.{RowHolds}
 use Rattle.hp_theory.specs.View.{problem_of}
-use Rattle.hp_solver.specs.declared.stage_lp.Answer.{Answer}
 use Rattle.hp_settle.specs.declared.judging.Dead.{Dead}
-use Rattle.hp_settle.specs.declared.judging.Judged.{Judged}
-use Rattle.hp_settle.specs.declared.judging.Judged.TheVariants as judged
-use Rattle.hp_settle.specs.Judging.{judge_of}
-use Rattle.hp_lp.specs.Chained.{Solving, answered}
+use Rattle.hp_lp.specs.Chained.{Solving}
 use Rattle.hp_sampler.specs.declared.steps.Step.{Step}
 use Rattle.hp_forward.specs.declared.deciding.Decided.{Decided}
 use Rattle.hp_forward.specs.Costing.{residual_of, residuals_of}
-use Rattle.hp_forward.specs.Deciding.{decide_of, decide_by, decided_of}
-use Rattle.hp_forward.proofs.ByAnswers.{inside_by}
 use Rattle.hp_forward.proofs.MetRows.{residual_met}
+use Rattle.hp_mend.specs.Deciding.{decide_mended_of}
+use Rattle.hp_mend.proofs.MendedDecisions.{inside_mended, next_mended}
 use Rattle.hp_tree.specs.PolicyTree.{Stop, dead, missed, or_dead, unless_missed, first_missed, decide_branch}
 use Rattle.hp_tree.proofs.Following.{Lawful}
-
-decided_same : (x y : Decided) (r : Result Decided Dead) → r ≡ Ok x → r ≡ Ok y → x ≡ y
-decided_same x y r e f = cc
-
-no_decided : (x : Decided) (d : Dead) (r : Result Decided Dead) → r ≡ Err d → r ≡ Ok x → ⊥
-no_decided x d r e f = cc
-
--- the state that leaves the node
-pub next_is : (p : Sealed) (run m : ℕ) (values x : List ℤ) (answer : Answer) (known : Judged) (d : Decided) → decide_by p run m values x answer known ≡ Ok d → d.next ≡ next_state (node_at (problem_of p) m) d.decisions
-next_is p run m values x answer judged.Found d e = subst (λ (y : Decided). y.next ≡ next_state (node_at (problem_of p) m) y.decisions) (decided_same (decided_of (node_at (problem_of p) m) answer judged.Found) d (Ok (decided_of (node_at (problem_of p) m) answer judged.Found)) refl e) refl
-next_is p run m values x answer judged.Unsettled d e = subst (λ (y : Decided). y.next ≡ next_state (node_at (problem_of p) m) y.decisions) (decided_same (decided_of (node_at (problem_of p) m) answer judged.Unsettled) d (Ok (decided_of (node_at (problem_of p) m) answer judged.Unsettled)) refl e) refl
-next_is p run m values x answer (judged.Dead ys) d e = absurd (no_decided d (record { run = run; node = m; values = values; state = x; rows = ys }) (Err (record { run = run; node = m; values = values; state = x; rows = ys })) refl e)
 
 -- no row is missed where no residual is found
 row_found : (i : ℕ) (z : ℤ) (rs : List ℤ) (b : Bool) → b ≡ false → (if b then first_missed (suc i) rs else Some (i, z)) ≡ None → ⊥
@@ -81,25 +65,17 @@ taken s (Ok y) rs d e = by (first_missed 0 (rs y)) refl e
     by (Some q) is f = absurd (one_stop (missed (record { branches = s ∷ []; row = q.0; residual = q.1 })) d (unless_missed s (Some q) y) refl f)
 
 module _ {Start Chain : Type 0} (v : Solving Start Chain) (p : Sealed) (pools : List (List Cut)) where
-  branch_decided : (k : ℕ) (s : Step) (values x : List ℤ) (d : Decided) → decide_branch v p pools k s values x ≡ Ok d → IsDecided (decide_of v p pools k s.node values x) (λ d. residuals_of (node_at (problem_of p) s.node) d.decisions x values) d
+  branch_decided : (k : ℕ) (s : Step) (values x : List ℤ) (d : Decided) → decide_branch v p pools k s values x ≡ Ok d → IsDecided (decide_mended_of v p pools k s.node values x) (λ d. residuals_of (node_at (problem_of p) s.node) d.decisions x values) d
   unfolding decide_branch
-  branch_decided k s values x d e = taken s (decide_of v p pools k s.node values x) (λ d. residuals_of (node_at (problem_of p) s.node) d.decisions x values) d e
-
-  by_answer : (k m : ℕ) (values x : List ℤ) (d : Decided) → decide_of v p pools k m values x ≡ Ok d → decide_by p k m values x (answered v p pools m values x) (judge_of (node_at (problem_of p) m) values x (answered v p pools m values x)) ≡ Ok d
-  unfolding decide_of
-  by_answer k m values x d e = e
+  branch_decided k s values x d e = taken s (decide_mended_of v p pools k s.node values x) (λ d. residuals_of (node_at (problem_of p) s.node) d.decisions x values) d e
 
   pub lawful : is_sealed p ≡ true → Lawful (problem_of p) (length p.raw.nodes) (decide_branch v p pools)
   lawful sealed = record {
     decides = λ k s values x d known e.
         let own = branch_decided k s values x d e in
-        let answer : Answer = answered v p pools s.node values x in
         record {
-          box = inside_by p sealed k s.node known values x answer (judge_of (node_at (problem_of p) s.node) values x answer) d (by_answer k s.node values x d own.here);
+          box = inside_mended v p pools k s.node values x sealed known d own.here;
           rows = all_met 0 (node_at (problem_of p) s.node).rows d.decisions x values own.rows;
         };
-    leaves = λ k s values x d e.
-        let own = branch_decided k s values x d e in
-        let answer : Answer = answered v p pools s.node values x in
-        next_is p k s.node values x answer (judge_of (node_at (problem_of p) s.node) values x answer) d (by_answer k s.node values x d own.here);
+    leaves = λ k s values x d e. next_mended v p pools k s.node values x d (branch_decided k s values x d e).here;
   }

@@ -13,7 +13,7 @@ use Rattle.hp_lp.specs.Chained.{Solving}
 use Rattle.hp_sampler.specs.declared.steps.Step.{Step}
 use Rattle.hp_forward.specs.declared.deciding.Decided.{Decided}
 use Rattle.hp_forward.specs.Costing.{residuals_of}
-use Rattle.hp_forward.specs.Deciding.{decide_of}
+use Rattle.hp_mend.specs.Deciding.{decide_mended_of}
 use Rattle.hp_tree.specs.declared.walking.Missed.{Missed}
 use Rattle.hp_tree.specs.declared.walking.Verdict.{Verdict}
 use Rattle.hp_tree.specs.declared.walking.Verdict.TheVariants as verdicts
@@ -41,10 +41,10 @@ unless_missed s (Some q) d = Err (missed (record { branches = s ∷ []; row = q.
 abbrev pub Deciding : Type 0
 Deciding = ℕ → Step → List ℤ → List ℤ → Result Decided Stop
 
--- by the answer to its stage problem; each row is looked at, in order
+-- by the answer to its stage problem, mended where that is a point; each row is looked at, in order
 unfoldable pub decide_branch : {Start Chain : Type 0} → Solving Start Chain → Sealed → List (List Cut) → Deciding
 decide_branch v p pools run s values x =
-    or_dead (decide_of v p pools run s.node values x) >>= λ d. unless_missed s (first_missed 0 (residuals_of (node_at (problem_of p) s.node) d.decisions x values)) d
+    or_dead (decide_mended_of v p pools run s.node values x) >>= λ d. unless_missed s (first_missed 0 (residuals_of (node_at (problem_of p) s.node) d.decisions x values)) d
 
 -- a stop in the trees behind the branch s
 abbrev pub behind : {A : Type 0} → Step → Result A Stop → Result A Stop

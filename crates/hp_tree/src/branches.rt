@@ -16,8 +16,9 @@ ghost use Rattle.hp_tree.specs.Verdicts.{GivesWalk, OnDead};
 
 use crate::walking::{Fault, Missed};
 use hp_cut::Pools;
-use hp_forward::{Decided, StageFault, decide, residual};
-use hp_lp::Starts;
+use hp_forward::{Decided, StageFault, residual};
+use hp_lp::{SpareRows, Starts};
+use hp_mend::decide_mended;
 use hp_num::{List, Memory};
 use hp_problem::Problem;
 use hp_sampler::Step;
@@ -88,7 +89,7 @@ fn unless_missed(
     }
 }
 
-/// What is decided at a branch, after so many others.
+/// What is decided at a branch, after so many others, mended where a point was found.
 #[tactic(auto, unfolding(crate::specs::PolicyTree::decide_branch))]
 pub(crate) fn decide_branch<V: Solver>(
     alloc: Global,
@@ -111,8 +112,10 @@ pub(crate) fn decide_branch<V: Solver>(
     ensures dead { OnDead result (Refutes course.now.problem.now) }
 {
     let problem = course.problem;
-    let decided = decide(
+    let mut spare = SpareRows::new(alloc);
+    let decided = decide_mended(
         alloc,
+        &mut spare,
         problem,
         course.pools,
         course.solver,

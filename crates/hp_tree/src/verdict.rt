@@ -133,8 +133,9 @@ fn whole_cost<V: Solver>(
 }
 
 /// The cost of the whole policy over these pools, at scale 2^24, rounded up once: each node of the graph is decided at
-/// each of its realizations and each state that comes into it, as [`hp_forward::decide`] does it, from the initial state
-/// on. No branch is left out, and no cost is rounded on the way.
+/// each of its realizations and each state that comes into it, as [`hp_mend::decide_mended`] does it, from the initial state
+/// on: by the answer to the stage problem, rounded down and brought into the boxes, and where that answer is a point,
+/// mended to meet the rows as [`hp_mend::mended`] does it. No branch is left out, and no cost is rounded on the way.
 ///
 /// What is ready was made for this problem and this solver, and no formula of the problem is above its limit.
 ///
