@@ -1,0 +1,129 @@
+"""Programs as the solver takes them: columns, the problem's own rows, and for each successor the cuts of its cost."""
+from __future__ import annotations
+
+from dataclasses import dataclass, replace
+from typing import List, Optional, Sequence, Tuple
+
+from .numbers import RAW_DIGITS, bits
+
+UNIT = 1 << RAW_DIGITS
+"""One, in the numbers of a program."""
+
+CUT_UNIT = 1 << 24
+"""One, in the numbers of a cut."""
+
+FINER = UNIT // CUT_UNIT
+"""By how much a number of a program is finer than one of a cut."""
+
+Terms = Tuple[Tuple[int, int], ...]
+"""Columns with their coefficients."""
+
+CutName = Tuple[int, int]
+"""A successor, and the place of one of its cuts."""
+
+
+@dataclass(frozen=True)
+class Column:
+    """A variable between two bounds, and its cost."""
+
+    low: int
+    high: int
+    cost: int
+
+
+@dataclass(frozen=True)
+class Row:
+    """A sum of terms, and the sides between which it is to lie; a side that is None is absent."""
+
+    low: Optional[int]
+    high: Optional[int]
+    terms: Terms
+
+
+@dataclass(frozen=True)
+class Cut:
+    """A lower bound on a successor's cost: alpha and, for each state, a slope times the state."""
+
+    alpha: int
+    slopes: Tuple[int, ...]
+
+
+@dataclass(frozen=True)
+class Program:
+    """A program: the first `decisions` columns are decisions, and one column for each successor follows, for its cost.
+
+    `outs` has for each state the decision that is its next value; `pools` has the cuts of each successor by place.
+    """
+
+    decisions: int
+    columns: Tuple[Column, ...]
+    own: Tuple[Row, ...]
+    outs: Tuple[int, ...]
+    pools: Tuple[Tuple[Cut, ...], ...]
+
+    def cut_names(self) -> List[CutName]:
+        """All cuts, by successor and place, which is the order of their rows in the program."""
+        return [(successor, place) for successor, pool in enumerate(self.pools) for place in range(len(pool))]
+
+    def cut_row(self, name: CutName) -> Row:
+        """The row of a cut: the successor's cost, less slopes times states, is at least alpha."""
+        successor, place = name
+        cut = self.pools[successor][place]
+        sums = {column: 0 for column in sorted(set(self.outs))}
+        for column, slope in zip(self.outs, cut.slopes):
+            sums[column] -= FINER * slope
+        terms = [(column, total) for column, total in sums.items() if total != 0]
+        return Row(FINER * cut.alpha, None, (*terms, (self.decisions + successor, UNIT)))
+
+    def all_rows(self) -> List[Row]:
+        """The own rows, then the rows of all cuts."""
+        return [*self.own, *map(self.cut_row, self.cut_names())]
+
+    def without_cuts(self) -> Program:
+        """The own rows alone, where nothing is to come: no cuts, and bounds and costs of 0 for the successors' columns."""
+        nothing = [Column(0, 0, 0)] * (len(self.columns) - self.decisions)
+        return replace(self, columns=(*self.columns[:self.decisions], *nothing), pools=((),) * len(self.pools))
+
+    def with_sides(self, sides: Sequence[Tuple[Optional[int], Optional[int]]]) -> Program:
+        """The same program with other sides of its own rows."""
+        return replace(self, own=tuple(Row(low, high, row.terms) for row, (low, high) in zip(self.own, sides)))
+
+
+def is_narrow(program: Program, successor: int) -> bool:
+    """Whether the values of a successor's cuts can be compared in 128 bits, so that its cuts can wait until one is asked for.
+
+    Each alpha has at most 100 digits and each slope at most 57, and each bound of a decision that is a state's next value is below
+    2^39 in whole units.
+    """
+    cuts = program.pools[successor]
+    most = UNIT << 39
+    bounds = [bound for out in program.outs for bound in (program.columns[out].low, program.columns[out].high)]
+    return (all(bits(cut.alpha) <= 100 and all(bits(slope) <= 57 for slope in cut.slopes) for cut in cuts)
+            and all(abs(bound) < most for bound in bounds))
+
+
+FOUND, RAY, STUCK = "Found", "Ray", "Stuck"
+
+
+@dataclass(frozen=True)
+class Answer:
+    """What a solve gives: a point with duals, multipliers that show that no point keeps the own rows, or nothing.
+
+    `duals` has one number for each row of the program, cuts among them. `weak`: the point is found, and not to be trusted.
+    """
+
+    kind: str
+    point: Tuple[int, ...]
+    duals: Tuple[int, ...]
+    weak: bool = False
+
+    @property
+    def is_good(self) -> bool:
+        """Whether no other attempt is needed: a ray is proved by its making, and a point is good where it is not weak."""
+        return self.kind == RAY or (self.kind == FOUND and not self.weak)
+
+
+def without_point(program: Program, kind: str, own_duals: Sequence[int]) -> Answer:
+    """An answer that claims no point: all columns at low, and duals for own rows alone."""
+    cuts = len(program.cut_names())
+    return Answer(kind, tuple(column.low for column in program.columns), (*own_duals, *[0] * cuts))
