@@ -1,0 +1,4 @@
+pub mod ByHalves
+pub mod Held
+pub mod Shifts
+pub mod Worked
