@@ -10,7 +10,6 @@ pub mod Branching
 pub mod Agreeing
 pub mod Ceilings
 pub mod Following
-pub mod Rows
 pub mod Lawful
 pub mod StageSizes
 pub mod Whole

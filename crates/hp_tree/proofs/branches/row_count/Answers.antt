@@ -1,5 +1,5 @@
 use Rattle.std.proofs.Common.{◌∙◌, arith}
-use Rattle.hp_tree.proofs.Rows.{few_rows, rows_counted}
+use Rattle.hp_mend.proofs.Rows.{few_rows, rows_counted}
 use Rattle.hp_tree.proofs.branches.row_count.Goals as goal
 
 pub overflow_cast-result : goal.overflow_cast-result
