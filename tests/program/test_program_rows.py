@@ -120,6 +120,12 @@ class Bounds(InFolder):
             fault = self.fault(f"printf '{TEXT}'", f"between {least} {greatest}\n", kind="between")
             self.assertEqual(fault, f"the bound is 3, expected between {least} and {greatest}")
 
+    def test_upper(self) -> None:
+        says = "if [ $1 = evaluate ]; then echo 'upper 30'; else echo 'bound 20'; fi"
+        self.assertIsNone(self.fault(says, "upper 30 31", "upper"))
+        self.assertEqual(self.fault(says, "upper 31 40", "upper"), "the policy costs 30, expected between 31 and 40")
+        self.assertRegex(self.fault("echo 'bound 20'", "upper 1 2", "upper") or "", "without a cost")
+
     def test_no_bound(self) -> None:
         self.assertIn("without a bound", self.fault("", "between 1 2\n", kind="between") or "")
         self.assertIn("ends with 12", self.fault(f"printf '{TEXT}'; exit 12", "between 1 9\n", kind="between") or "")

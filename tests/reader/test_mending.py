@@ -6,7 +6,7 @@ import random
 import unittest
 from typing import Sequence
 
-from second_reading.mending import Mending, mended
+from second_reading.mending import Mending, amounts, mended
 from second_reading.node import UNIT as S
 from second_reading.node import Node, StageRow, decisions_of
 
@@ -82,74 +82,25 @@ class CanNotBeMet(unittest.TestCase):
         self.assertEqual(mended(node, (), (), given), given)
 
 
-class TwoDecisions(unittest.TestCase):
-    def test_amounts(self):
-        """2*u0 + 3*u1 = 13 at 2 and 3, u0 higher by 1 and u1 lower by 1: the miss is 3 - 2 = 1.
+class Amounts(unittest.TestCase):
+    def test_beyond_and_short(self):
+        """2 units of a factor of 2 reach 3, and 1 stops short of it; 2 of 5 reach 10 exactly; 1 of 4 reaches 3, and none stops short."""
+        self.assertEqual(amounts(2, 3), [2, 1])
+        self.assertEqual(amounts(-3, 7), [-3, -2])
+        self.assertEqual(amounts(3, -7), [-3, -2])
+        self.assertEqual(amounts(5, 10), [2])
+        self.assertEqual(amounts(4, 3), [1])
 
-        One decision goes beyond: 2 or 3 for 1. Of 2*s + 3*t = 1 the least s above 0 is 2, with t = -1, and the greatest below is -1,
-        with t = 1. Costs 1 and 1: sums 1 and 0, so -1 and 1. Costs 1 and 5: -3 and 4, so 2 and -1.
-        """
-        rows = [equal(13, (0, 2), (1, 3))]
-        given = fine((2, 1), (3, -1))
-        self.assertEqual(mended(node_of(2, rows, (1, 1)), (), (), given), fine((2, 0), (3, 0)))
-        self.assertEqual(mended(node_of(2, rows, (1, 5)), (), (), given), fine((2, 3), (3, -2)))
+    def test_short_of_the_side(self):
+        """3*u0 + u1 = 10 misses 4. u1 has room for 1, so u0 rises: by 1, short of the side, since that costs less than 2, and u1 by 1."""
+        node = node_of(2, [equal(10, (0, 3), (1, 1))], (1, 0), [(0, 9), (0, 4)])
+        self.assertEqual(mended(node, (), (), fine((2, -1), (4, -1))), fine((2, 0), (4, 0)))
 
-    def test_boxes(self):
-        """The same at 0 and 13/3 rounded down, with u0 at its low: it can't fall, so 2 and -1 stay, whatever they cost.
-
-        13*S = 3*u1 + 1, as 2^24 is 1 modulo 3 and 13 is too.
-        """
-        node = node_of(2, [equal(13, (0, 2), (1, 3))], (9, 1))
-        self.assertEqual(13 * S - 3 * (13 * S // 3), 1)
-        self.assertEqual(mended(node, (), (), [0, 13 * S // 3]), [2, 13 * S // 3 - 1])
-
-    def test_smaller_coefficient_first(self):
-        """5*u0 + 3*u1 at a miss of 1: s is of u1. Of 3*s + 5*t = 1 it is 2, with t = -1, or -3, with t = 2."""
-        mending = Mending(node_of(2, [equal(8, (0, 5), (1, 3))]), (), (), fine((1, 1), (1, -2)))
-        self.assertEqual(mending.miss(0), 1)
-        self.assertEqual(list(mending.double_moves(0, 1)), [((1, 2), (0, -1)), ((1, -3), (0, 2))])
-
-    def test_equal_coefficients(self):
-        """Of u0 - u1 at a miss of 2: s = 1 with t = -1 counts, and s = -1 with t = -3. At a miss of 1, s = 1 leaves t = 0, no move."""
-        mending = Mending(node_of(2, [equal(2, (0, 1), (1, -1))]), (), (), fine((4, 0), (2, 2)))
-        self.assertEqual(list(mending.double_moves(0, 2)), [((0, 1), (1, -1)), ((0, -1), (1, -3))])
-        self.assertEqual(list(mending.double_moves(0, 1)), [((0, -1), (1, -2))])
-
-    def test_65_terms(self):
-        """2*u0 + 3*u1 + 6*(63 others) misses 1. 65 free terms are too many for moves of two; with one held there are 64."""
-        terms = [(0, 2), (1, 3), *((it, 6) for it in range(2, 65))]
-        given = fine((2, 1), (3, -1), *[(0, 0)] * 63)
-        self.assertEqual(mended(node_of(65, [equal(13, *terms)]), (), (), given), given)
-        boxes = [WIDE_BOX] * 64 + [(0, 0)]
-        self.assertNotEqual(mended(node_of(65, [equal(13, *terms)], None, boxes), (), (), given), given)
-
-    def test_least_amounts_by_trial(self):
-        """For drawn rows and places near the ends of boxes, the amounts are those found by trying one after another."""
-        drawn = random.Random(5)
-        for _ in range(400):
-            one, other = (drawn.choice([-1, 1]) * drawn.randint(1, 12) for _ in range(2))
-            given = [drawn.choice([0, S]) + drawn.choice([-1, 1]) * drawn.randint(0, 15) for _ in range(2)]
-            node = node_of(2, [equal(0, (0, one), (1, other))], None, [(0, 1), (0, 1)])
-            mending = Mending(node, (), (), decisions_of(node, [it << 8 for it in given]))
-            miss = drawn.choice([-1, 1]) * drawn.randint(1, 40)
-            with self.subTest(one=one, other=other, decisions=mending.decisions, miss=miss):
-                near = [it for it in mending.double_moves(0, miss) if abs(it[0][1]) <= 300]
-                self.assertEqual(near, tried_moves(mending, (one, other), miss))
-
-
-def tried_moves(mending, coefficients, miss):
-    """The moves of two decisions of one row, found by trying all amounts up to 300 above and below 0."""
-    first, second = sorted((0, 1), key=lambda it: (abs(coefficients[it]), it))
-    found = []
-    for sign in (1, -1):
-        for amount in range(sign, sign * 301, sign):
-            rest, leaves = divmod(miss - coefficients[first] * amount, coefficients[second])
-            after = mending.moved(((first, amount), (second, rest)))
-            if leaves == 0 and all(0 <= it <= S for it in after):
-                if rest != 0:
-                    found.append(((first, amount), (second, rest)))
-                break
-    return found
+    def test_beyond_the_side_and_back(self):
+        """2*u0 + 3*u1 = 13 misses 1. u0 cannot help: 1 goes 1 beyond, and u1 then 2 the other way. u1 rises by 1, 2 beyond, and u0 falls by 1."""
+        node = node_of(2, [equal(13, (0, 2), (1, 3))])
+        self.assertEqual(Mending(node, (), (), fine((2, 1), (3, -1))).miss(0), 1)
+        self.assertEqual(mended(node, (), (), fine((2, 1), (3, -1))), fine((2, 0), (3, 0)))
 
 
 def ladder_of(count):
@@ -174,14 +125,12 @@ class Depth(unittest.TestCase):
         """u0 + u1 = 6 misses 1, and u0 + 2*u1 = 8 is met.
 
         Where u0 rises by 1, the second row asks u1 to fall by 1/2: by 1 it goes beyond. Where u1 rises by 1, the second row asks u0
-        to fall by 2, and then the first is unmet again, with both held. The moves of two have s + t = 1: s = 1 leaves nothing for u1,
-        and -1 with 2 changes the second row by 3. (2 with -1 would meet both, and is no such move.)
+        to fall by 2, and then the first is unmet again, with both held.
         """
         node = node_of(2, [equal(6, (0, 1), (1, 1)), equal(8, (0, 1), (1, 2))])
         given = fine((4, -2), (2, 1))
         self.assertEqual(Mending(node, (), (), given).miss(0), 1)
         self.assertEqual(mended(node, (), (), given), given)
-        self.assertEqual(list(Mending(node, (), (), given).double_moves(0, 1)), [((0, -1), (1, 2))])
 
 
 class Tries(unittest.TestCase):

@@ -1,4 +1,4 @@
-"""Rows of which no text is compared: the bounds of a training, and how many scenarios a simulation has."""
+"""Rows of which no text is compared: the bounds of a training, what its policy costs, and how many scenarios a simulation has."""
 from __future__ import annotations
 
 import re
@@ -13,6 +13,7 @@ from .running import Verdict, run_of, streams
 FOLLOWED = ("simulate", "J", "5", "5")
 
 LAST_BOUND = re.compile(rb"^bound (-?\d+)\n\Z", re.M)
+COST = re.compile(rb"^upper (-?\d+)$", re.M)
 ITERATION = re.compile(rb"^iteration \d+ bound (-?\d+)$", re.M)
 
 
@@ -27,6 +28,21 @@ def between(row: Row, program: Path, folder: Path) -> Verdict:
         return Verdict(f"ends with {found.status} and without a bound; standard error has {found.said!r}")
     if not int(least) <= int(bound[1]) <= int(greatest):
         return Verdict(f"the bound is {int(bound[1])}, expected between {least} and {greatest}")
+    return Verdict(None)
+
+
+def upper(row: Row, program: Path, folder: Path) -> Verdict:
+    """Whether a training and then `evaluate` give a cost of the whole policy, between the numbers of a file `upper LEAST GREATEST`."""
+    word, least, greatest = bytes_of(row.expected).decode("utf-8").split()
+    if word != "upper":
+        raise BadRow(f"{row.expected} is not `upper LEAST GREATEST`")
+    trained = run_of(row, program, folder)
+    followed = ended(program, ("evaluate", "J"), streams(row, program, folder), folder)
+    cost = COST.search(followed.written)
+    if trained.status or followed.status or not cost:
+        return Verdict(f"ends with {trained.status}, and then with {followed.status} and without a cost; standard error has {trained.said + followed.said!r}")
+    if not int(least) <= int(cost[1]) <= int(greatest):
+        return Verdict(f"the policy costs {int(cost[1])}, expected between {least} and {greatest}")
     return Verdict(None)
 
 

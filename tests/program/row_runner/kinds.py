@@ -4,7 +4,7 @@ from __future__ import annotations
 import tempfile
 from pathlib import Path
 
-from .bounds import between, rising
+from .bounds import between, rising, upper
 from .expectation import difference, expectation
 from .kills import killed
 from .program import NoEnd
@@ -30,8 +30,8 @@ def kills(row: Row, program: Path, folder: Path) -> Verdict:
 
 
 KINDS = {
-    "run": run, "between": between, "rising": rising, "refuted": refuted, "each": each, "edits": edits, "journals": journals,
-    "kills": kills,
+    "run": run, "between": between, "upper": upper, "rising": rising, "refuted": refuted, "each": each, "edits": edits,
+    "journals": journals, "kills": kills,
 }
 
 
