@@ -49,7 +49,7 @@ floor_above_half w d h l z p =
     high : (x y v u : ℤ) → y ≡ x +ℤ pos w → y ≤ℤ v → v ≡ u → (x +ℤ pos l) <ℤ u
     high x y v u e g i = omega (arith, ints, e, g, i, p)
 
-power_more : (k m : ℕ) → m ≤ k → 2 ^ m ≤ 2 ^ k
+pub power_more : (k m : ℕ) → m ≤ k → 2 ^ m ≤ 2 ^ k
 power_more k m h = pow-le-pow_right (omega arith) h
 
 pub shifted_away : (a : ℤ) (k : ℕ) → FitsSigned w128 a → 127 < k → pos 0 ≤ℤ a → pos 0 ≡ floor_over a (2 ^ k)

@@ -1,5 +1,8 @@
 -- Whole numbers of 256 bits.
-use Rattle.std.specs.Prelude.{ℕ, ◌^◌, ℤ, pos, negsuc, ◌-ℤ◌, ◌*ℤ◌, nat_abs, Bool, nat_lt, Option, Some, None, if◌then◌else◌}
+use Rattle.std.specs.Prelude.{ℕ, suc, ◌+◌, ◌-◌, ◌^◌, ℤ, pos, negsuc, ◌+ℤ◌, ◌-ℤ◌, ◌*ℤ◌, nat_abs, Bool, nat_lt, nat_le, Option, Some, None, if◌then◌else◌}
+use Rattle.std.specs.Int.Count.{count_leading_zeros}
+use Rattle.std.specs.Int.Signed.{quot_z}
+use Rattle.std.specs.Ordering.{int_eq}
 use Rattle.hp_num.specs.Sums.{floor_over}
 
 -- what a sign and k binary digits hold: from -2^k to 2^k - 1; negsuc n is -(n + 1)
@@ -14,3 +17,32 @@ held k z = if fits k z then Some z else None
 -- what z has above the greatest multiple of d that is at most z
 abbrev pub rest_over : ℤ → ℕ → ℕ
 rest_over z d = nat_abs (z -ℤ pos d *ℤ floor_over z d)
+
+-- s / 2^k, rounded to the nearest, halves up
+abbrev pub nearest_of : ℤ → ℕ → ℤ
+nearest_of s k = floor_over (s +ℤ pos (2 ^ (k - 1))) (2 ^ k)
+
+-- s / 2^80, rounded to the nearest, halves up
+abbrev pub down_of : ℤ → ℤ
+down_of s = nearest_of s 80
+
+-- the number of binary digits of |v|, 0 for 0, for |v| below 2^128
+abbrev pub bits_of : ℤ → ℕ
+bits_of v = 128 - count_leading_zeros 128 (nat_abs v)
+
+-- a / b, rounded towards zero
+abbrev pub quotient_of : ℤ → ℤ → ℤ
+quotient_of a b = quot_z a b
+
+-- 1/p at scale 2^(bits(p) + 124)
+abbrev pub inverse_of : ℤ → ℤ
+inverse_of p = quotient_of (pos (2 ^ (bits_of p + 124))) p
+
+-- v 2^k, where the digits of v and k are at most 250 together; 0 stays 0
+unfoldable pub shift_up : ℤ → ℕ → Option ℤ
+shift_up v k = if int_eq v (pos 0) then Some (pos 0) else if nat_le (bits_of v + k) 250 then Some (v *ℤ pos (2 ^ k)) else None
+
+-- v 2^k, rounded down
+abbrev pub shift_of : ℤ → ℤ → Option ℤ
+shift_of v (pos k) = shift_up v k
+shift_of v (negsuc k) = Some (floor_over v (2 ^ suc k))

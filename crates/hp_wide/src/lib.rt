@@ -2,6 +2,10 @@
 #![tactic(auto)]
 
 mod halves;
+pub mod quotients;
+pub mod scaling;
 pub mod wide;
 
+pub use quotients::{bits, inverse};
+pub use scaling::shift;
 pub use wide::Wide;

@@ -1,8 +1,8 @@
 // Whole numbers of 256 bits, in two halves.
-ghost use Rattle.std.specs.Prelude.{◌≡◌, ◌^◌, pos, neg_ℤ, ◌+ℤ◌, ◌-ℤ◌, ◌*ℤ◌, int_lt};
+ghost use Rattle.std.specs.Prelude.{◌≡◌, ◌<◌, ◌^◌, pos, neg_ℤ, ◌+ℤ◌, ◌-ℤ◌, ◌*ℤ◌, int_lt, nat_abs};
 ghost use Rattle.std.specs.Ordering.{int_eq};
 ghost use Rattle.hp_num.specs.Sums.{floor_over};
-ghost use Rattle.hp_wide.specs.Numbers.{held};
+ghost use Rattle.hp_wide.specs.Numbers.{held, nearest_of, down_of};
 
 use crate::halves::{
     cross_product, high_bits, high_difference, high_product, high_sum, high_total, join, low_bits,
@@ -100,6 +100,17 @@ impl Wide {
         self.plus(Wide::product(a, b))
     }
 
+    /// The sum with a product, where it is known to fit.
+    pub fn add_product(self, a: i128, b: i128) -> Wide
+        requires { nat_abs (self +ℤ a *ℤ b) < 2 ^ 255 }
+        ensures { result ≡ self +ℤ a *ℤ b }
+    {
+        let Some(sum) = self.plus_product(a, b) else {
+            unreachable!()
+        };
+        sum
+    }
+
     /// The number in 128 bits. None exactly where 128 bits do not hold it.
     pub fn narrowed(self) -> Option<i128>
         ensures { result ≡ held 127 self }
@@ -161,5 +172,31 @@ impl Wide {
             let high = shift_up(number, k - 128)?;
             Some(Wide { high, low: 0 })
         }
+    }
+    /// The number over 2^k, rounded to the nearest, halves up. None exactly where 128 bits do not
+    /// hold it.
+    pub fn nearest(self, k: u32) -> Option<i128>
+        requires { 0 < k }
+        ensures { result ≡ held 127 (nearest_of self k) }
+    {
+        let more = self.shift_down(k - 1).plus(Wide::from_i128(1))?;
+        more.shift_down(1).narrowed()
+    }
+
+    /// The number over 2^80, rounded to the nearest, halves up. None exactly where 128 bits do not
+    /// hold it.
+    pub fn down(self) -> Option<i128>
+        ensures { result ≡ held 127 (down_of self) }
+    {
+        self.nearest(80)
+    }
+
+    /// A product over 2^k, rounded to the nearest, halves up. None exactly where 128 bits do not
+    /// hold it.
+    pub fn nearest_product(a: i128, b: i128, k: u32) -> Option<i128>
+        requires { 0 < k }
+        ensures { result ≡ held 127 (nearest_of (a *ℤ b) k) }
+    {
+        Wide::product(a, b).nearest(k)
     }
 }
