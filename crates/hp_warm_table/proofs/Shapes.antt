@@ -39,12 +39,13 @@ basis_of t s = record { nonbasic = s.nonbasic; places = s.places; high = s.high;
 pub other_highs : (t : Table) (high : List Bool) → IsTable t → length high ≡ length t.costs → IsBasis (length t.costs) (variables t) (record t.basis { high = high })
 other_highs t high s e = record { nonbasic = s.nonbasic; places = s.places; high = e; numbers = s.numbers; inside = s.inside }
 
--- a table with the costs and the rows of one, where its other parts fit them
+-- a table with the costs, the rows and the cuts of one, where its other parts fit them
 pub same_shape : (t u : Table) → IsTable t → AreScales (length t.rows) (length t.costs) u.scales → AreBounds (variables t) u.bounds → IsBasis (length t.costs) (variables t) u.basis
-    → length u.reduced ≡ length t.costs → length u.lines ≡ length t.costs → length u.values ≡ length t.costs → IsTable (record u { costs = t.costs; rows = t.rows })
+    → length u.reduced ≡ length t.costs → length u.lines ≡ length t.costs → length u.values ≡ length t.costs → IsTable (record u { costs = t.costs; rows = t.rows; cuts = t.cuts })
 same_shape t u s scales bounds basis reduced lines values =
     record {
       few = s.few;
+      waiting = s.waiting;
       row_scales = scales.row_scales;
       column_scales = scales.column_scales;
       lows = bounds.lows;

@@ -14,6 +14,7 @@ variables t = length t.costs + length t.rows
 pub record IsTable (t : Table) : Type 0 where
   pub few : length t.costs ≤ 1199
   pub row_scales : length t.scales.rows ≡ length t.rows
+  pub waiting : length t.cuts.waiting ≡ length t.costs
   pub column_scales : length t.scales.columns ≡ length t.costs
   pub lows : length t.bounds.lows ≡ variables t
   pub ups : length t.bounds.ups ≡ variables t

@@ -122,14 +122,37 @@ impl Basis {
     }
 }
 
+/// Which cuts have rows in a table, and which wait until a point violates them.
+#[derive(Drop)]
+pub struct Cuts {
+    /// The program's row of each row behind the own ones, in the order in which these came.
+    pub rows: List<usize>,
+    /// Whether each column is that of a successor whose cuts come in only as they are asked for.
+    pub waiting: List<bool>,
+}
+
+impl Cuts {
+    // With memory for so many rows more.
+    fn copy(&self, alloc: Global, more: usize) -> Result<Cuts, Memory>
+        ensures { IfOk result (λ cuts. cuts ≡ self.now) }
+    {
+        Ok(Cuts {
+            rows: copied_with_room(alloc, self.rows.as_slice(), more)?,
+            waiting: copied(alloc, self.waiting.as_slice())?,
+        })
+    }
+}
+
 /// What a chain of solves holds: a program in scaled numbers, with how its basic variables depend
 /// on the nonbasic ones. There are as many places, for nonbasic variables, as columns.
 #[derive(Drop)]
 pub struct Table {
     /// How the numbers are scaled.
     pub scales: Scales,
-    /// The terms of each row.
+    /// The terms of each row: first the program's own rows, then rows of cuts in the order in which they came.
     pub rows: Rows,
+    /// Which cuts these are, and which wait.
+    pub cuts: Cuts,
     /// The cost of each column.
     pub costs: List<Cell>,
     /// The bounds of all variables.
@@ -148,24 +171,30 @@ pub struct Table {
 }
 
 impl Table {
-    // The scales and the rows, with memory for so many rows more, and the lines.
-    fn copied_rows(&self, alloc: Global, more: usize) -> Result<(Scales, Rows, Square), Memory>
+    // The scales, the rows and their cuts, with memory for so many rows more.
+    fn copied_rows(&self, alloc: Global, more: usize) -> Result<(Scales, Rows, Cuts), Memory>
         ensures scales { IfOk result (λ copied. copied.0 ≡ self.now.scales) }
         ensures rows { IfOk result (λ copied. copied.1 ≡ self.now.rows) }
-        ensures lines { IfOk result (λ copied. copied.2 ≡ self.now.lines) }
+        ensures cuts { IfOk result (λ copied. copied.2 ≡ self.now.cuts) }
     {
         let scales = self.scales.copy(alloc, more)?;
         let rows = self.rows.copy(alloc, more)?;
-        Ok((scales, rows, self.lines.copy(alloc)?))
+        Ok((scales, rows, self.cuts.copy(alloc, more)?))
     }
 
-    // The bounds and the basis, with memory for so many rows more.
-    fn copied_variables(&self, alloc: Global, more: usize) -> Result<(Bounds, Basis), Memory>
+    // The bounds and the basis, with memory for so many rows more, and the lines.
+    fn copied_variables(
+        &self,
+        alloc: Global,
+        more: usize,
+    ) -> Result<(Bounds, Basis, Square), Memory>
         ensures bounds { IfOk result (λ copied. copied.0 ≡ self.now.bounds) }
         ensures basis { IfOk result (λ copied. copied.1 ≡ self.now.basis) }
+        ensures lines { IfOk result (λ copied. copied.2 ≡ self.now.lines) }
     {
         let bounds = self.bounds.copy(alloc, more)?;
-        Ok((bounds, self.basis.copy_with_room(alloc, more)?))
+        let basis = self.basis.copy_with_room(alloc, more)?;
+        Ok((bounds, basis, self.lines.copy(alloc)?))
     }
 
     // The costs, the reduced costs and the values.
@@ -186,12 +215,13 @@ impl Table {
     pub fn copy(&self, alloc: Global, more: usize) -> Result<Table, Memory>
         ensures { IfOk result (λ table. table ≡ self.now) }
     {
-        let (scales, rows, lines) = self.copied_rows(alloc, more)?;
-        let (bounds, basis) = self.copied_variables(alloc, more)?;
+        let (scales, rows, cuts) = self.copied_rows(alloc, more)?;
+        let (bounds, basis, lines) = self.copied_variables(alloc, more)?;
         let (costs, reduced, values) = self.copied_columns(alloc)?;
         Ok(Table {
             scales,
             rows,
+            cuts,
             costs,
             bounds,
             basis,
