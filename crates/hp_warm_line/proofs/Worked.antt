@@ -1,8 +1,10 @@
 -- Worked rows, computed.
-use Rattle.std.proofs.Common.{◌≡◌, ℕ, ◌^◌, ◌*◌, ℤ, pos, negsuc, neg_ℤ, Bool, true, false, List, [], ◌∷◌, Option, Some, None, refl}
+use Rattle.std.proofs.Common.{◌≡◌, ℕ, ◌+◌, ◌^◌, ◌*◌, ℤ, pos, negsuc, neg_ℤ, Bool, true, false, List, [], ◌∷◌, Option, Some, None, refl}
 use Rattle.hp_warm_table.specs.declared.table.Table.{Table}
 use Rattle.hp_warm_table.specs.Updates.{moved, added_row, moved_row}
+use Rattle.hp_warm_table.specs.Kept.{with_values}
 use Rattle.hp_warm_line.specs.Line.{line_of}
+use Rattle.hp_warm_line.specs.Move.{length_of, step_of, span_of, span_at, carried, put, reached, arrived, moved_along, moved_of}
 use Rattle.hp_warm_line.specs.Pivot.{inverse_of, turned, turned_line, moved_or_kept, entered, exchanged, eliminated, replaced, pivoted}
 use Rattle.hp_warm_line.specs.Refine.{stand_of, placed, shift_at, moved_value, stood_table, shifts_of, moved_values, refined}
 
@@ -15,6 +17,7 @@ one nonbasic places d cell =
     record {
       scales = record { rows = negsuc 0 ∷ []; columns = pos 0 ∷ []; costs = negsuc 1; values = pos 0 };
       rows = ((0, half) ∷ []) ∷ [];
+      cuts = record { rows = []; waiting = false ∷ [] };
       costs = half ∷ [];
       bounds = record { lows = pos 0 ∷ pos 6442450944 ∷ []; ups = pos 42949672960 ∷ pos 0 ∷ []; has_low = true ∷ true ∷ []; has_up = true ∷ false ∷ [] };
       basis = record { nonbasic = nonbasic; places = places; high = false ∷ [] };
@@ -42,6 +45,7 @@ chain nonbasic places high reduced lines =
     record {
       scales = record { rows = negsuc 0 ∷ negsuc 0 ∷ []; columns = pos 0 ∷ pos 0 ∷ pos 0 ∷ []; costs = negsuc 2; values = pos 0 };
       rows = ((0, half) ∷ (1, half) ∷ []) ∷ ((1, half) ∷ (2, half) ∷ []) ∷ [];
+      cuts = record { rows = []; waiting = false ∷ false ∷ false ∷ [] };
       costs = pos 0 ∷ pos (2 ^ 37) ∷ pos (5 * 2 ^ 37) ∷ [];
       bounds = record {
         lows = pos 0 ∷ pos 0 ∷ pos 0 ∷ pos (5 * 2 ^ 31) ∷ pos (6 * 2 ^ 31) ∷ [];
@@ -83,3 +87,36 @@ second_point : refined (chain (0 ∷ 4 ∷ 3 ∷ []) (Some 0 ∷ None ∷ None �
     ≡ Some (pos 0 ∷ pos (5 * 2 ^ 32) ∷ pos (2 ^ 32) ∷ [])
 unfolding stand_of placed shift_at moved_value stood_table shifts_of moved_values refined
 second_point = refl
+
+-- the slack of the first row goes down to its upper side, and the third column up from 0 to 1; the second goes from 6 to 5
+column_enters : moved_of (with_values chain_first (pos 0 ∷ pos (6 * 2 ^ 32) ∷ pos 0 ∷ [])) (half ∷ pos (2 ^ 40) ∷ neg_ℤ half ∷ []) 3 true 2 (pos (2 ^ 31)) [] ≡ Some (pos 0 ∷ pos (5 * 2 ^ 32) ∷ pos (2 ^ 32) ∷ [])
+unfolding stand_of length_of step_of span_of span_at carried put reached arrived moved_along moved_of
+column_enters = refl
+
+-- the first column at 2, of [0, 2]; the second is 0, of [4, 8], and the third 6
+abbrev spread : Table
+spread =
+    record (chain (0 ∷ 4 ∷ 3 ∷ []) (Some 0 ∷ None ∷ None ∷ Some 2 ∷ Some 1 ∷ []) (true ∷ false ∷ false ∷ []) (pos 0 ∷ pos 0 ∷ half ∷ []) (zeros ∷ (neg_ℤ (pos (2 ^ 40)) ∷ pos 0 ∷ pos (2 ^ 41) ∷ []) ∷ (pos (2 ^ 40) ∷ pos (2 ^ 41) ∷ neg_ℤ (pos (2 ^ 41)) ∷ []) ∷ [])) {
+      bounds = record {
+        lows = pos 0 ∷ pos (4 * 2 ^ 32) ∷ pos 0 ∷ pos (2 ^ 32) ∷ pos (6 * 2 ^ 31) ∷ [];
+        ups = pos (2 * 2 ^ 32) ∷ pos (8 * 2 ^ 32) ∷ pos (20 * 2 ^ 32) ∷ pos (10 * 2 ^ 32) ∷ pos (6 * 2 ^ 31) ∷ [];
+        has_low = true ∷ true ∷ true ∷ true ∷ true ∷ [];
+        has_up = true ∷ true ∷ true ∷ true ∷ true ∷ [];
+      };
+      values = pos (2 * 2 ^ 32) ∷ pos 0 ∷ pos (6 * 2 ^ 32) ∷ [];
+    }
+
+-- the first column flips, and the slack of the first row enters for the second column, which comes to 4; the third comes to 2
+slack_enters : moved_of spread (neg_ℤ (pos (2 ^ 40)) ∷ pos 0 ∷ pos (2 ^ 41) ∷ []) 1 false 2 (pos (2 * 2 ^ 32)) (0 ∷ []) ≡ Some (pos 0 ∷ pos (4 * 2 ^ 32) ∷ pos (2 * 2 ^ 32) ∷ [])
+unfolding stand_of length_of step_of span_of span_at carried put reached arrived moved_along moved_of
+slack_enters = refl
+
+-- what is left over the cell is rounded towards zero; the second column comes down to its upper bound
+rounds_to_zero : moved_of spread (pos 0 ∷ pos 0 ∷ pos (3 * 2 ^ 40 + 1) ∷ []) 1 true 2 (pos (7 * 2 ^ 32)) (0 ∷ []) ≡ Some (pos 0 ∷ pos (8 * 2 ^ 32) ∷ pos 37223049898 ∷ [])
+unfolding stand_of length_of step_of span_of span_at carried put reached arrived moved_along moved_of
+rounds_to_zero = refl
+
+-- 2^20 times 2^35 is no quantity
+goes_too_far : moved_of spread (pos 0 ∷ pos 0 ∷ pos (2 ^ 20) ∷ []) 1 false 2 (pos (2 ^ 35)) [] ≡ None
+unfolding stand_of length_of step_of span_of span_at carried put reached arrived moved_along moved_of
+goes_too_far = refl

@@ -249,9 +249,9 @@ fn flip(high: &mut List<bool>, flips: &[usize])
     }
 }
 
-// A variable takes a place, and the one that was there is basic.
+/// A variable takes a place, and the one that was there is basic.
 #[tactic(auto, unfolding(crate::specs::Pivot::exchanged))]
-fn exchange(basis: &mut Basis, leaving: usize, above: bool, place: usize, flips: &[usize])
+pub fn exchange(basis: &mut Basis, leaving: usize, above: bool, place: usize, flips: &[usize])
     requires leaving { leaving < length basis.old.places }
     requires entering { All (λ v. v < length basis.old.places) basis.old.nonbasic }
     requires place { place < length basis.old.nonbasic }

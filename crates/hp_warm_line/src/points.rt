@@ -1,5 +1,5 @@
 // The point of a basis.
-ghost use Rattle.std.specs.Prelude.{◌≡◌, ◌^◌, ◌+◌, ◌<◌, ◌≤◌, ◌+ℤ◌, [], ◌∷◌, ◌++◌, length, take, nat_abs, All, IfSome};
+ghost use Rattle.std.specs.Prelude.{◌≡◌, ◌^◌, ◌+◌, ◌*◌, ◌<◌, ◌≤◌, ◌+ℤ◌, [], ◌∷◌, ◌++◌, length, take, nat_abs, All, IfSome};
 ghost use Rattle.std.specs.Option.{option_map};
 ghost use Rattle.hp_simplex.specs.Each.{each_from};
 ghost use Rattle.hp_warm_table.specs.Shape.{IsTable, variables};
@@ -10,14 +10,14 @@ ghost use Rattle.hp_warm_line.specs.Refine.{IsWhole, stand_of, placed, stood, of
 ghost use Rattle.hp_warm_table.specs.Sparse.{sparse};
 ghost use Rattle.hp_warm_line.specs.Sparse.{moved_by};
 
-use crate::sums::{activity, shares};
+use crate::shift::Shift;
+use crate::sums::{activity, down_far, shares};
 use hp_num::List;
-use hp_warm_table::numbers::down;
 use hp_warm_table::{Bounds, Quantity, Square, Table};
 
 // The upper or the lower bound of a variable, 0 where it is absent.
 #[tactic(auto, unfolding(crate::specs::Refine::stand_of))]
-fn stand(bounds: &Bounds, high: bool, variable: usize) -> Quantity
+pub(crate) fn stand(bounds: &Bounds, high: bool, variable: usize) -> Quantity
     requires whole { IsWhole bounds.now }
     requires there { variable < length bounds.now.lows }
     ensures { result ≡ stand_of bounds.now high variable }
@@ -93,12 +93,7 @@ fn shift_at(table: &Table, j: usize, variable: usize) -> Option<Quantity>
 }
 
 // Puts the shift at place j behind those that count, where it is not 0. The answer is how many count then.
-fn keep_shift(
-    shifts: &mut List<(usize, Quantity)>,
-    count: usize,
-    j: usize,
-    shift: Quantity,
-) -> usize
+fn keep_shift(shifts: &mut List<(usize, Shift)>, count: usize, j: usize, shift: Quantity) -> usize
     requires room { count < length shifts.old }
     requires fits { count + 1 < 2 ^ 64 }
     ensures lengths { length shifts.new ≡ length shifts.old }
@@ -108,14 +103,14 @@ fn keep_shift(
     if shift.number() == 0 {
         count
     } else {
-        shifts.set(count, (j, shift));
+        shifts.set(count, (j, Shift::by(shift)));
         count + 1
     }
 }
 
 // Writes the shifts that are not 0, each with its place. The answer is how many these are.
 #[tactic(auto, unfolding(crate::specs::Refine::shifts_of))]
-fn write_shifts(table: &Table, shifts: &mut List<(usize, Quantity)>) -> Option<usize>
+fn write_shifts(table: &Table, shifts: &mut List<(usize, Shift)>) -> Option<usize>
     requires sized { IsTable table.now }
     requires count { length shifts.old ≡ length table.now.costs }
     ensures count { length shifts.new ≡ length shifts.old }
@@ -134,11 +129,11 @@ fn write_shifts(table: &Table, shifts: &mut List<(usize, Quantity)>) -> Option<u
 }
 
 // A value with a sum of shares added.
-fn shifted(x: Quantity, sum: i128) -> Option<Quantity>
-    requires { nat_abs sum ≤ 2 ^ 126 }
+pub(crate) fn shifted(x: Quantity, sum: i128) -> Option<Quantity>
+    requires { nat_abs sum ≤ 1199 * 2 ^ 116 }
     ensures { result ≡ value_of (x +ℤ down_of sum) }
 {
-    Quantity::new(i128::from(x.number()) + down(sum))
+    Quantity::new(i128::from(x.number()) + down_far(sum))
 }
 
 // The value of a column after the shifts.
@@ -146,14 +141,14 @@ fn shifted(x: Quantity, sum: i128) -> Option<Quantity>
 fn moved_value(
     places: &[Option<usize>],
     lines: &Square,
-    shifts: &[(usize, Quantity)],
+    shifts: &[(usize, Shift)],
     v: usize,
     x: Quantity,
 ) -> Option<Quantity>
     requires place { v < length places.now }
     requires there { v < length lines.now }
     requires inside { All (λ s. s.0 < length lines.now) shifts.now }
-    requires few { length shifts.now ≤ 2 ^ 11 }
+    requires few { length shifts.now ≤ 1199 }
     ensures { result ≡ moved_by places.now lines.now shifts.now v x }
 {
     if places[v].is_none() {
@@ -168,12 +163,12 @@ fn move_all(
     values: &mut List<Quantity>,
     places: &[Option<usize>],
     lines: &Square,
-    shifts: &[(usize, Quantity)],
+    shifts: &[(usize, Shift)],
 ) -> bool
     requires places { length values.old ≤ length places.now }
     requires there { length values.old ≡ length lines.now }
     requires inside { All (λ s. s.0 < length lines.now) shifts.now }
-    requires few { length shifts.now ≤ 2 ^ 11 }
+    requires few { length shifts.now ≤ 1199 }
     ensures count { length values.new ≡ length values.old }
     ensures moved { Gives result
         (each_from (moved_by places.now lines.now shifts.now) 0 values.old) values.new }
@@ -205,10 +200,10 @@ fn stand_columns(table: &mut Table)
 
 // Moves the values of a table's basic columns by the shifts.
 #[tactic(auto, using(crate::proofs::Sized::sized_values))]
-fn move_columns(table: &mut Table, shifts: &[(usize, Quantity)]) -> bool
+fn move_columns(table: &mut Table, shifts: &[(usize, Shift)]) -> bool
     requires sized { IsTable table.old }
     requires inside { All (λ s. s.0 < length table.old.lines) shifts.now }
-    requires few { length shifts.now ≤ 2 ^ 11 }
+    requires few { length shifts.now ≤ 1199 }
     ensures sized { IsTable table.new }
     ensures kept { table.new ≡ with_values table.old table.new.values }
     ensures moved { Gives result (each_from
@@ -229,7 +224,7 @@ fn move_columns(table: &mut Table, shifts: &[(usize, Quantity)]) -> bool
 /// nothing is promised of the values then. All else of the table stays. `shifts` is for work: as
 /// many places with shifts as columns.
 #[tactic(auto, unfolding(crate::specs::Refine::refined))]
-pub fn refine(table: &mut Table, shifts: &mut List<(usize, Quantity)>) -> bool
+pub fn refine(table: &mut Table, shifts: &mut List<(usize, Shift)>) -> bool
     requires sized { IsTable table.old }
     requires shifts { length shifts.old ≡ length table.old.costs }
     ensures sized { IsTable table.new }

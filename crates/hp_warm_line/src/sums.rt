@@ -1,9 +1,11 @@
 // Sums of products, and the value of a row.
-ghost use Rattle.std.specs.Prelude.{◌≡◌, ◌^◌, ◌+◌, ◌<◌, ◌≤◌, pos, ◌+ℤ◌, ◌*ℤ◌, length, nat_abs, All};
+ghost use Rattle.std.specs.Prelude.{◌≡◌, ◌^◌, ◌+◌, ◌*◌, ◌<◌, ◌≤◌, pos, ◌+ℤ◌, ◌*ℤ◌, length, nat_abs, All};
 ghost use Rattle.hp_num.specs.Sums.{at_terms, entry};
+ghost use Rattle.hp_warm_table.specs.Numbers.{down_of};
 ghost use Rattle.hp_warm_table.specs.Shape.{IsTable};
 ghost use Rattle.hp_warm_line.specs.Activity.{row_value, activity_of};
 
+use crate::shift::Shift;
 use hp_warm_table::numbers::{down, product};
 use hp_warm_table::{Cell, Coefficient, Quantity, Table};
 
@@ -18,17 +20,17 @@ fn term(a: Coefficient, x: Quantity) -> i128
 
 // A shift times a cell.
 #[tactic(auto, using(crate::proofs::Products::share_small))]
-fn share(q: Quantity, t: Cell) -> i128
+fn share(q: Shift, t: Cell) -> i128
     ensures value { result ≡ q *ℤ t }
-    ensures small { nat_abs result ≤ 2 ^ 115 }
+    ensures small { nat_abs result ≤ 2 ^ 116 }
 {
     product(q.number(), t.number())
 }
 
 // A sum.
 pub(crate) fn plus(x: i128, y: i128) -> i128
-    requires left { nat_abs x ≤ 2 ^ 126 }
-    requires right { nat_abs y ≤ 2 ^ 115 }
+    requires left { nat_abs x ≤ 1199 * 2 ^ 116 }
+    requires right { nat_abs y ≤ 2 ^ 116 }
     ensures value { result ≡ x +ℤ y }
     ensures small { nat_abs result ≤ nat_abs x + nat_abs y }
 {
@@ -50,11 +52,11 @@ fn terms_at(terms: &[(u32, Coefficient)], x: &[Quantity]) -> i128
 }
 
 // The sum of shifts, each times the cell at its place.
-pub(crate) fn shares(shifts: &[(usize, Quantity)], line: &[Cell]) -> i128
+pub(crate) fn shares(shifts: &[(usize, Shift)], line: &[Cell]) -> i128
     requires inside { All (λ s. s.0 < length line.now) shifts.now }
-    requires few { length shifts.now ≤ 2 ^ 11 }
+    requires few { length shifts.now ≤ 1199 }
     ensures value { result ≡ at_terms shifts.now (entry line.now) }
-    ensures small { nat_abs result ≤ 2 ^ 126 }
+    ensures small { nat_abs result ≤ 1199 * 2 ^ 116 }
 {
     let mut sum: i128 = 0;
     for k in 0..shifts.len() {
@@ -63,8 +65,17 @@ pub(crate) fn shares(shifts: &[(usize, Quantity)], line: &[Cell]) -> i128
     sum
 }
 
-// The value of a row with these terms, at the values x.
-pub(crate) fn row_value(terms: &[(u32, Coefficient)], x: &[Quantity]) -> Option<Quantity>
+// A sum of shares over 2^40, rounded to the nearest, halves up.
+pub(crate) fn down_far(sum: i128) -> i128
+    requires { nat_abs sum ≤ 1199 * 2 ^ 116 }
+    ensures value { result ≡ down_of sum }
+    ensures small { nat_abs result ≤ 2 ^ 87 }
+{
+    (sum + (1 << 39)) >> 40
+}
+
+/// The value of a row with these terms, at the values x. None exactly where its absolute value is 2^55 or more.
+pub fn row_value(terms: &[(u32, Coefficient)], x: &[Quantity]) -> Option<Quantity>
     requires inside { All (λ t. t.0 < length x.now) terms.now }
     requires few { length terms.now ≤ 2 ^ 11 }
     ensures { result ≡ row_value terms.now x.now }

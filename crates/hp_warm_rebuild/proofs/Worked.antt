@@ -14,6 +14,7 @@ chain nonbasic places high reduced lines values =
     record {
       scales = record { rows = negsuc 0 ∷ negsuc 0 ∷ []; columns = pos 0 ∷ pos 0 ∷ pos 0 ∷ []; costs = negsuc 2; values = pos 0 };
       rows = ((0, pos (2 ^ 39)) ∷ (1, pos (2 ^ 39)) ∷ []) ∷ ((1, pos (2 ^ 39)) ∷ (2, pos (2 ^ 39)) ∷ []) ∷ [];
+      cuts = record { rows = []; waiting = false ∷ false ∷ false ∷ [] };
       costs = pos 0 ∷ pos (2 ^ 37) ∷ pos (5 * 2 ^ 37) ∷ [];
       bounds = record {
         lows = pos 0 ∷ pos 0 ∷ pos 0 ∷ pos (5 * 2 ^ 31) ∷ pos (6 * 2 ^ 31) ∷ [];
