@@ -11,6 +11,9 @@ use Rattle.hp_warm_answers.specs.Enter.{Entry, is_fixed, variable_at, is_towards
 abbrev IsLarge : List ℤ → ℕ → Type 0
 IsLarge line j = 2 ^ 24 ≤ nat_abs (entry line j)
 
+abbrev EntersLarge : List ℤ → Option (ℕ × ℤ) → Type 0
+EntersLarge line o = IfSome o (λ (e : ℕ × ℤ). IsLarge line e.0)
+
 abbrev IsLargeRank : List ℤ → Option Rank → Type 0
 IsLargeRank line o = IfSome o (λ a. IsLarge line a.place)
 
@@ -52,15 +55,15 @@ turn_large : (t : Table) (line : List ℤ) (above : Bool) (last : Option Rank) (
 unfolding turn_of
 turn_large t line above last left = turn_with_large t line left (next_of t line above last) (from_large t line above last 0 None line tt)
 
-by_large : (line : List ℤ) (next : Rank → ℤ → List ℕ → Entry) (flips : List ℕ) (turn : Turn) → IsLargeTurn line turn → ((a : Rank) (left : ℤ) (passed : List ℕ) → IfSome (next a left passed).0 (IsLarge line)) → IfSome (walk_by next flips turn).0 (IsLarge line)
-by_large line next flips turns.Ends h n = tt
-by_large line next flips (turns.Enters j) h n = h
-by_large line next flips (turns.Passes a left) h n = n a left (flips ++ a.place ∷ [])
+by_large : (line : List ℤ) (next : Rank → ℤ → List ℕ → Entry) (left : ℤ) (flips : List ℕ) (turn : Turn) → IsLargeTurn line turn → ((a : Rank) (rest : ℤ) (passed : List ℕ) → EntersLarge line (next a rest passed).0) → EntersLarge line (walk_by next left flips turn).0
+by_large line next left flips turns.Ends h n = tt
+by_large line next left flips (turns.Enters j) h n = h
+by_large line next left flips (turns.Passes a rest) h n = n a rest (flips ++ a.place ∷ [])
 
-walk_large : (t : Table) (line : List ℤ) (above : Bool) (count : ℕ) (last : Option Rank) (left : ℤ) (flips : List ℕ) → IfSome (walk_of t line above count last left flips).0 (IsLarge line)
+walk_large : (t : Table) (line : List ℤ) (above : Bool) (count : ℕ) (last : Option Rank) (left : ℤ) (flips : List ℕ) → EntersLarge line (walk_of t line above count last left flips).0
 walk_large t line above zero last left flips = tt
-walk_large t line above (suc count) last left flips = by_large line (λ a rest passed. walk_of t line above count (Some a) rest passed) flips (turn_of t line above last left) (turn_large t line above last left) (λ a rest passed. walk_large t line above count (Some a) rest passed)
+walk_large t line above (suc count) last left flips = by_large line (λ a rest passed. walk_of t line above count (Some a) rest passed) left flips (turn_of t line above last left) (turn_large t line above last left) (λ a rest passed. walk_large t line above count (Some a) rest passed)
 
 -- the cell of the place that enters is at least 2^24
-pub enters_large : (t : Table) (line : List ℤ) (above : Bool) (violation : ℤ) (e : ℕ) → (enter_of t line above violation).0 ≡ Some e → 2 ^ 24 ≤ nat_abs (entry line e)
-enters_large t line above violation e h = subst (λ (o : Option ℕ). IfSome o (IsLarge line)) h (walk_large t line above (length line) None violation [])
+pub enters_large : (t : Table) (line : List ℤ) (above : Bool) (violation : ℤ) (e : ℕ × ℤ) → (enter_of t line above violation).0 ≡ Some e → 2 ^ 24 ≤ nat_abs (entry line e.0)
+enters_large t line above violation e h = subst (EntersLarge line) h (walk_large t line above (length line) None violation [])

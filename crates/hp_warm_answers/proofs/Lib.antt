@@ -1,6 +1,9 @@
 pub mod Digits
 pub mod FarShifts
+pub mod Flips
 pub mod Large
+pub mod Nexts
+pub mod Scales
 pub mod Small
 pub mod Tops
 pub mod Walks

@@ -1,13 +1,21 @@
--- Worked duals, and what they prove.
-use Rattle.std.proofs.Common.{◌≡◌, ℕ, ◌^◌, ◌*◌, ◌+◌, pos, negsuc, true, false, [], ◌∷◌, Some, None, refl}
+-- Worked multipliers, and what they prove.
+use Rattle.std.proofs.Common.{◌≡◌, ℕ, ◌^◌, ◌*◌, pos, negsuc, true, false, List, [], ◌∷◌, ◌++◌, map, Some, None, refl}
 use Rattle.hp_solver.specs.declared.fixed.Fx.{Fx}
 use Rattle.hp_solver.specs.declared.stage_lp.Column.{Column}
+use Rattle.hp_solver.specs.declared.stage_lp.LpRow.{LpRow}
 use Rattle.hp_solver.specs.declared.stage_lp.StageLp.{StageLp}
-use Rattle.hp_solver.specs.Numbers.{number, zero_fx, one, plus, minus, times}
-use Rattle.hp_warm_answers.specs.Proves.{side_of, clip, lessened, term_step, row_step, weights_of, side_step, box_step, excess_of, proves}
+use Rattle.hp_solver.specs.Numbers.{number, zero_fx, one, plus, minus}
+use Rattle.hp_warm_answers.specs.Proves.{side_of, clipped, lowered, whole_times, lessened, term_step, row_step, weights_of, side_step, box_step, excess_of, proves}
 
 abbrev units : ℕ → Fx
 units n = number (pos (n * 2 ^ 32))
+
+abbrev whole : ℕ → Fx
+whole n = number (pos n)
+
+-- -(n + 1)
+abbrev below_zero : ℕ → Fx
+below_zero n = number (negsuc n)
 
 abbrev box : ℕ → ℕ → Column
 box low high = record { low = units low; high = units high; cost = zero_fx }
@@ -23,44 +31,59 @@ crossed first second =
     }
 
 -- 20 exceeds 5 + 3 * 4
-narrow_boxes : proves (crossed 5 4) (number (pos 2251799813685248) ∷ zero_fx ∷ []) ≡ true
-unfolding plus minus times side_of lessened term_step row_step weights_of side_step box_step excess_of proves
+narrow_boxes : proves (crossed 5 4) (whole 1 ∷ zero_fx ∷ []) ≡ true
+unfolding plus minus side_of lowered whole_times lessened term_step row_step weights_of side_step box_step excess_of proves
 narrow_boxes = refl
 
 -- it does not exceed 50 + 3 * 50
-wide_boxes : proves (crossed 50 50) (number (pos 2251799813685248) ∷ zero_fx ∷ []) ≡ false
-unfolding plus minus times side_of lessened term_step row_step weights_of side_step box_step excess_of proves
+wide_boxes : proves (crossed 50 50) (whole 1 ∷ zero_fx ∷ []) ≡ false
+unfolding plus minus side_of lowered whole_times lessened term_step row_step weights_of side_step box_step excess_of proves
 wide_boxes = refl
 
 -- by both rows, 20 - 3 * 6 > 0
-both_rows : proves (crossed 50 50) (number (pos 750599937895424) ∷ number (negsuc 2251799813685247) ∷ []) ≡ true
-unfolding plus minus times side_of lessened term_step row_step weights_of side_step box_step excess_of proves
+both_rows : proves (crossed 50 50) (whole 1 ∷ below_zero 2 ∷ []) ≡ true
+unfolding plus minus side_of lowered whole_times lessened term_step row_step weights_of side_step box_step excess_of proves
 both_rows = refl
 
-rounded_rows : proves (crossed 50 50) (number (pos 1431655765) ∷ number (negsuc 4294967295) ∷ []) ≡ true
-unfolding plus minus times side_of lessened term_step row_step weights_of side_step box_step excess_of proves
-rounded_rows = refl
+-- 19 * 20 - 45 * 6 - 12 * 50 is below 0, but the multipliers over 16 are 1 and -3
+not_as_they_stand : excess_of (crossed 50 50) (whole 19 ∷ below_zero 44 ∷ []) 0 ≡ Some (below_zero 8220835839)
+unfolding plus minus side_of lowered whole_times lessened term_step row_step weights_of side_step box_step excess_of
+not_as_they_stand = refl
 
--- x0 + x1 = 60; x1 + x2 = 40; 10^6 x0 + x3 >= 7 * 10^7; about 300000 x0 + x3 >= 4 * 10^7
-abbrev pub steep : StageLp
-steep =
-    record {
-      columns = box 0 100 ∷ box 0 30 ∷ box 0 50 ∷ box 0 1000000000 ∷ [];
-      rows =
-          record { low = Some (units 60); high = Some (units 60); terms = (0, one) ∷ (1, one) ∷ [] }
-          ∷ record { low = Some (units 40); high = Some (units 40); terms = (1, one) ∷ (2, one) ∷ [] }
-          ∷ record { low = Some (units 70000000); high = None; terms = (0, units 1000000) ∷ (3, one) ∷ [] }
-          ∷ record { low = Some (units 40000000); high = None; terms = (0, number (pos (300000 * 2 ^ 32 + 1431655765))) ∷ (3, one) ∷ [] }
-          ∷ [];
-      decisions = 4;
-      own = 4;
-    }
+over_16 : excess_of (crossed 50 50) (whole 19 ∷ below_zero 44 ∷ []) 4 ≡ Some (whole 33554432)
+unfolding plus minus side_of lowered whole_times lessened term_step row_step weights_of side_step box_step excess_of
+over_16 = refl
 
-steep_rows : proves steep (number (negsuc 4294967295) ∷ zero_fx ∷ number (pos 4295) ∷ zero_fx ∷ []) ≡ false
-unfolding plus minus times side_of lessened term_step row_step weights_of side_step box_step excess_of proves
-steep_rows = refl
+by_a_scale : proves (crossed 50 50) (whole 19 ∷ below_zero 44 ∷ []) ≡ true
+unfolding plus minus side_of lowered whole_times lessened term_step row_step weights_of side_step box_step excess_of proves
+by_a_scale = refl
 
--- the second dual has no low
-second_clipped : clip (crossed 5 4).rows (one ∷ one ∷ []) ≡ one ∷ zero_fx ∷ []
+-- rows of cuts are not looked at
+abbrev one_own : StageLp
+one_own = record (crossed 50 50) { own = 1 }
+
+first_alone : proves one_own (whole 1 ∷ below_zero 2 ∷ []) ≡ false
+unfolding plus minus side_of lowered whole_times lessened term_step row_step weights_of side_step box_step excess_of proves
+first_alone = refl
+
+-- x >= 2^63, in a box up to 2^62
+abbrev far : StageLp
+far = record { columns = record { low = zero_fx; high = number (pos (2 ^ 94)); cost = zero_fx } ∷ []; rows = record { low = Some (number (pos (2 ^ 95))); high = None; terms = (0, one) ∷ [] } ∷ []; decisions = 1; own = 1 }
+
+-- the product is too long
+too_long : excess_of far (number (pos (2 ^ 59)) ∷ []) 16 ≡ None
+unfolding plus minus side_of lowered whole_times lessened term_step row_step weights_of side_step box_step excess_of
+too_long = refl
+
+-- by a smaller multiplier it is not
+by_a_smaller : proves far (number (pos (2 ^ 59)) ∷ []) ≡ true
+unfolding plus minus side_of lowered whole_times lessened term_step row_step weights_of side_step box_step excess_of proves
+by_a_smaller = refl
+
+-- the second row has no low, the first no high
+abbrev sided : List Fx
+sided = map (λ (r : LpRow). clipped r one) (crossed 5 4).rows ++ map (λ (r : LpRow). clipped r (below_zero 0)) (crossed 5 4).rows
+
+clipped_rows : sided ≡ one ∷ zero_fx ∷ zero_fx ∷ below_zero 0 ∷ []
 unfolding side_of
-second_clipped = refl
+clipped_rows = refl

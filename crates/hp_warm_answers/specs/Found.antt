@@ -1,5 +1,5 @@
 -- The answer by a table in which no bound is violated.
-use Rattle.std.specs.Prelude.{ℕ, ◌^◌, ◌+◌, ℤ, pos, ◌+ℤ◌, ◌-ℤ◌, ◌*ℤ◌, false, List, get_or, length, Option, Some, None, int_lt, if◌then◌else◌}
+use Rattle.std.specs.Prelude.{ℕ, ◌^◌, ◌+◌, ℤ, pos, ◌+ℤ◌, ◌-ℤ◌, ◌*ℤ◌, false, List, get_or, slice_set, length, Option, Some, None, int_lt, if◌then◌else◌}
 use Rattle.std.specs.Option.{option_map, option_and_then}
 use Rattle.hp_num.specs.Sums.{entry, floor_over}
 use Rattle.hp_solver.specs.declared.fixed.Fx.{Fx}
@@ -12,6 +12,9 @@ use Rattle.hp_solver.specs.Numbers.{number, zero_fx, held}
 use Rattle.hp_warm_table.specs.declared.table.Table.{Table}
 use Rattle.hp_warm_table.specs.Numbers.{shift_of}
 use Rattle.hp_simplex.specs.Each.{each_from}
+use Rattle.hp_warm_answers.specs.Folds.{fold_from}
+use Rattle.hp_warm_answers.specs.Padded.{padded}
+use Rattle.hp_warm_answers.specs.Proves.{own_rows}
 
 -- the place of a variable, none where it is basic
 abbrev pub place_of : Table → ℕ → Option ℕ
@@ -49,13 +52,29 @@ abbrev pub dual_by : Table → ℕ → Option ℕ → Option Fx
 dual_by t i None = Some zero_fx
 dual_by t i (Some j) = slack_dual t i j
 
--- the dual of row i, 0 where its slack is basic
-abbrev pub dual_at : Table → ℕ → LpRow → Option Fx
-dual_at t i r = dual_by t i (place_of t (length t.costs + i))
+-- the dual of row i of the table, 0 where its slack is basic
+unfoldable pub dual_at : Table → ℕ → Option Fx
+dual_at t i = dual_by t i (place_of t (length t.costs + i))
+
+-- the value of each column
+unfoldable pub points_of : Table → StageLp → Option (List Fx)
+points_of t lp = each_from (point_at t) 0 lp.columns
+
+-- the duals of the program's own rows
+abbrev pub own_duals : Table → StageLp → Option (List Fx)
+own_duals t lp = each_from (λ i (r : LpRow). dual_at t i) 0 (own_rows lp)
+
+-- the duals, of which that of a row of the program is now the one of row i of the table
+unfoldable pub dual_step : Table → ℕ → List Fx → ℕ → Option (List Fx)
+dual_step t i ys row = option_map (λ y. slice_set ys row y) (dual_at t i)
+
+-- a dual for each row of the program: 0 for a cut without a row in the table
+unfoldable pub duals_of : Table → StageLp → Option (List Fx)
+duals_of t lp = option_and_then (λ ys. fold_from (dual_step t) lp.own (padded (length lp.rows) ys) t.cuts.rows) (own_duals t lp)
 
 abbrev pub found_with : List Fx → List Fx → Answer
 found_with point duals = record { kind = kinds.Found; point = point; duals = duals }
 
 -- none where a number on the way leaves 128 bits
 unfoldable pub found_of : Table → StageLp → Option Answer
-found_of t lp = option_and_then (λ point. option_map (found_with point) (each_from (dual_at t) 0 lp.rows)) (each_from (point_at t) 0 lp.columns)
+found_of t lp = option_and_then (λ point. option_map (found_with point) (duals_of t lp)) (points_of t lp)

@@ -3,6 +3,7 @@ pub mod Enters
 pub mod Finish
 pub mod Folds
 pub mod Found
+pub mod Padded
 pub mod Proves
 pub mod Ray
 pub mod Within

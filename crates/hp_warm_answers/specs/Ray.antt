@@ -1,5 +1,5 @@
 -- The duals of a row that nothing brings back to its bound: a sum of rows, as a ray of the dual program.
-use Rattle.std.specs.Prelude.{ℕ, suc, ◌^◌, ◌+◌, ◌==◌, ℤ, pos, neg_ℤ, ◌+ℤ◌, ◌-ℤ◌, Bool, List, [], ◌∷◌, length, Option, Some, None, int_lt, if◌then◌else◌}
+use Rattle.std.specs.Prelude.{ℕ, suc, ◌^◌, ◌+◌, ◌==◌, ℤ, pos, neg_ℤ, ◌+ℤ◌, ◌-ℤ◌, Bool, List, [], ◌∷◌, length, take, Option, Some, None, int_lt, if◌then◌else◌}
 use Rattle.std.specs.Option.{option_map, option_and_then}
 use Rattle.hp_num.specs.Sums.{entry}
 use Rattle.hp_solver.specs.declared.fixed.Fx.{Fx}
@@ -13,7 +13,8 @@ use Rattle.hp_warm_table.specs.declared.table.Table.{Table}
 use Rattle.hp_warm_table.specs.Numbers.{bits_of, shift_of}
 use Rattle.hp_simplex.specs.Each.{each_from}
 use Rattle.hp_warm_answers.specs.Found.{place_of}
-use Rattle.hp_warm_answers.specs.Proves.{clipped, proves}
+use Rattle.hp_warm_answers.specs.Padded.{padded}
+use Rattle.hp_warm_answers.specs.Proves.{own_rows, clipped, proves}
 
 -- 1, at scale 2^40, of a variable that is below its bound; -1 of one that is above
 abbrev pub own_factor : Bool → ℤ
@@ -44,24 +45,25 @@ abbrev pub greatest_from : Table → List ℤ → ℕ → Bool → ℕ → Optio
 greatest_from t line v above i best [] = best
 greatest_from t line v above i best (e ∷ es) = greatest_from t line v above (suc i) (with_digits best (bits_of (factor_at t line v above i)) e) es
 
-abbrev pub or_zero : Option ℤ → ℤ
-or_zero None = pos 0
-or_zero (Some x) = x
+-- the most binary digits that a factor of one of the own rows has once it is no longer scaled; none where all factors are 0
+unfoldable pub top_of : Table → List ℤ → ℕ → Bool → ℕ → Option ℤ
+top_of t line v above own = greatest_from t line v above 0 None (take own t.scales.rows)
 
--- the most binary digits that a factor has once it is no longer scaled
-unfoldable pub top_of : Table → List ℤ → ℕ → Bool → ℤ
-top_of t line v above = or_zero (greatest_from t line v above 0 None t.scales.rows)
-
--- the dual of row i: its factor, no longer scaled, so that the greatest has 52 digits; clipped
+-- the dual of row i: its factor, no longer scaled, so that the greatest has 60 digits; clipped
 unfoldable pub ray_dual : Table → List ℤ → ℕ → Bool → ℤ → ℕ → LpRow → Option Fx
-ray_dual t line v above top i r = option_map (λ y. clipped r (number y)) (shift_of (factor_at t line v above i) ((entry t.scales.rows i +ℤ pos 52) -ℤ top))
+ray_dual t line v above top i r = option_map (λ y. clipped r (number y)) (shift_of (factor_at t line v above i) ((entry t.scales.rows i +ℤ pos 60) -ℤ top))
 
+-- the duals of the own rows
+abbrev pub ray_duals : Table → List ℤ → ℕ → Bool → StageLp → ℤ → Option (List Fx)
+ray_duals t line v above lp top = each_from (ray_dual t line v above top) 0 (own_rows lp)
+
+-- with 0 for each row of a cut
 abbrev pub ray_with : StageLp → List Fx → Answer
-ray_with lp ys = record { kind = kinds.Ray; point = lows_of lp.columns; duals = ys }
+ray_with lp ys = record { kind = kinds.Ray; point = lows_of lp.columns; duals = padded (length lp.rows) ys }
 
 abbrev pub where_proved : StageLp → List Fx → Option Answer
 where_proved lp ys = if proves lp ys then Some (ray_with lp ys) else None
 
--- the answer by these duals, where they prove that no point keeps all rows
+-- the answer by these duals, where they prove that no point keeps all own rows
 unfoldable pub ray_of : Table → List ℤ → ℕ → Bool → StageLp → Option Answer
-ray_of t line v above lp = option_and_then (where_proved lp) (each_from (ray_dual t line v above (top_of t line v above)) 0 lp.rows)
+ray_of t line v above lp = option_and_then (λ top. option_and_then (where_proved lp) (ray_duals t line v above lp top)) (top_of t line v above lp.own)

@@ -1,11 +1,14 @@
 // The answer by a table in which no bound is violated.
-ghost use Rattle.std.specs.Prelude.{◌≡◌, ◌<◌, ◌+◌, ◌-ℤ◌, pos, length, map, IfOk, IfSome, false};
+ghost use Rattle.std.specs.Prelude.{◌≡◌, ◌<◌, ◌≤◌, ◌+◌, ◌-ℤ◌, pos, length, All, IfOk, IfSome, false};
 ghost use Rattle.hp_num.specs.Sums.{entry};
 ghost use Rattle.hp_warm_table.specs.Shape.{IsTable, variables};
 ghost use Rattle.hp_solver.specs.Numbers.{held};
 ghost use Rattle.hp_simplex.specs.Each.{each_from};
-ghost use Rattle.hp_warm_answers.specs.Found.{place_of, rounded, clamped, basic_point, bound_point, point_by, point_at, slack_dual, dual_by, dual_at, found_with, found_of};
+ghost use Rattle.hp_warm_answers.specs.Folds.{fold_from, Reaches};
+ghost use Rattle.hp_warm_answers.specs.Found.{place_of, rounded, clamped, basic_point, bound_point, point_by, point_at, points_of, slack_dual, dual_by, dual_at, own_duals, dual_step, duals_of, found_with, found_of};
 
+use crate::padding::padded;
+use crate::proving::own_rows;
 use crate::shifting::shift_by;
 use crate::whole::{sum, whole_product};
 use hp_num::{List, Memory, floor_div};
@@ -42,9 +45,9 @@ fn rounded(x: i128) -> Option<i128>
     whole_product(floor_div(raised, 256), 256)
 }
 
-// A number in a column's box.
+/// A number in a column's box.
 #[tactic(auto, unfolding(crate::specs::Found::clamped))]
-fn clamped(column: &Column, x: i128) -> Fx
+pub fn clamped(column: &Column, x: i128) -> Fx
     ensures { result ≡ clamped column.now x }
 {
     if x < column.low.0 {
@@ -109,20 +112,32 @@ fn point_at(table: &Table, number: usize, column: &Column) -> Option<Fx>
     }
 }
 
-// The values of all columns.
-fn point(alloc: Global, table: &Table, columns: &[Column]) -> Result<Option<List<Fx>>, Memory>
+// The values of all columns, put into a list; false where one is absent.
+fn fill(table: &Table, columns: &[Column], found: &mut List<Fx>) -> Result<bool, Memory>
     requires sized { IsTable table.now }
     requires columns { length columns.now ≡ length table.now.costs }
-    ensures { IfOk result (λ found. found ≡ each_from (point_at table.now) 0 columns.now) }
+    ensures { IfOk result (λ there. Reaches there (each_from (point_at table.now) 0 columns.now) found.new) }
 {
-    let mut found = with_room(alloc, columns.len())?;
+    found.clear();
     for j in 0..columns.len() {
         match point_at(table, j, &columns[j]) {
             Some(x) => found.push(x)?,
-            None => return Ok(None),
+            None => return Ok(false),
         }
     }
-    Ok(Some(found))
+    Ok(true)
+}
+
+/// Writes the value of each column, in the program's numbers, into a list; what the list held is dropped. The value of a
+/// column that is not basic is its bound in the program; of a basic one its value in the table, to the nearest multiple
+/// of 2^-24, in its box. False where a number on the way leaves 128 bits. [`Memory`] where memory was refused.
+#[tactic(auto, unfolding(crate::specs::Found::points_of))]
+pub fn points(table: &Table, lp: &StageLp, found: &mut List<Fx>) -> Result<bool, Memory>
+    requires sized { IsTable table.now }
+    requires columns { length lp.now.columns ≡ length table.now.costs }
+    ensures { IfOk result (λ there. Reaches there (points_of table.now lp.now) found.new) }
+{
+    fill(table, lp.columns.as_slice(), found)
 }
 
 // The dual of a row whose slack is at a place.
@@ -137,27 +152,33 @@ fn slack_dual(table: &Table, row: usize, place: usize) -> Option<Fx>
     Some(Fx(shift_by(cost, dual_exponent(&table.scales, row))?))
 }
 
-// The dual of a row.
-fn dual_at(table: &Table, number: usize, row: &LpRow) -> Option<Fx>
+// The dual of a row of the table.
+#[tactic(auto, unfolding(crate::specs::Found::dual_at))]
+fn dual_at(table: &Table, row: usize) -> Option<Fx>
     requires sized { IsTable table.now }
-    requires there { number < length table.now.rows }
-    ensures { result ≡ dual_at table.now number row.now }
+    requires there { row < length table.now.rows }
+    ensures { result ≡ dual_at table.now row }
 {
-    match place_of(table, slack_of(table, number)) {
+    match place_of(table, slack_of(table, row)) {
         None => Some(Fx(0)),
-        Some(place) => slack_dual(table, number, place),
+        Some(place) => slack_dual(table, row, place),
     }
 }
 
-// The duals of all rows.
-fn duals(alloc: Global, table: &Table, rows: &[LpRow]) -> Result<Option<List<Fx>>, Memory>
+// The duals of the program's own rows, in a list with room for so many.
+fn own_duals(
+    alloc: Global,
+    table: &Table,
+    rows: &[LpRow],
+    room: usize,
+) -> Result<Option<List<Fx>>, Memory>
     requires sized { IsTable table.now }
-    requires rows { length rows.now ≡ length table.now.rows }
-    ensures { IfOk result (λ found. found ≡ each_from (dual_at table.now) 0 rows.now) }
+    requires rows { length rows.now ≤ length table.now.rows }
+    ensures { IfOk result (λ found. found ≡ each_from (λ i r. dual_at table.now i) 0 rows.now) }
 {
-    let mut found = with_room(alloc, rows.len())?;
+    let mut found = with_room(alloc, room)?;
     for i in 0..rows.len() {
-        match dual_at(table, i, &rows[i]) {
+        match dual_at(table, i) {
             Some(x) => found.push(x)?,
             None => return Ok(None),
         }
@@ -165,21 +186,81 @@ fn duals(alloc: Global, table: &Table, rows: &[LpRow]) -> Result<Option<List<Fx>
     Ok(Some(found))
 }
 
-/// The answer to a program by a table in which no bound is violated. The value of a column that is
-/// not basic is its bound in the program; of a basic one its value in the table, to the nearest
-/// multiple of 2^-24, in its box. The dual of a row is the reduced cost of its slack, 0 where that
-/// is basic. None where a number on the way leaves 128 bits. [`Memory`] where memory was refused.
+// Sets the dual of a row of the program to that of a row of the table; false where that is absent.
+#[tactic(auto, unfolding(crate::specs::Found::dual_step))]
+fn set_dual(duals: &mut List<Fx>, table: &Table, table_row: usize, row: usize) -> bool
+    requires sized { IsTable table.now }
+    requires there { table_row < length table.now.rows }
+    requires row { row < length duals.old }
+    ensures duals { Reaches result (dual_step table.now table_row duals.old row) duals.new }
+    ensures lengths { length duals.new ≡ length duals.old }
+{
+    match dual_at(table, table_row) {
+        Some(x) => {
+            duals.set(row, x);
+            true
+        }
+        None => false,
+    }
+}
+
+// Sets the duals of the program's rows of cuts that have rows in the table, which are those behind the own ones.
+fn set_duals(duals: &mut List<Fx>, table: &Table, own: usize, rows: &[usize]) -> bool
+    requires sized { IsTable table.now }
+    requires there { length table.now.rows ≡ own + length rows.now }
+    requires rows { All (λ row. row < length duals.old) rows.now }
+    ensures { Reaches result (fold_from (dual_step table.now) own duals.old rows.now) duals.new }
+{
+    for i in own..table.rows.len() {
+        if !set_dual(duals, table, i, rows[i - own]) {
+            return false;
+        }
+    }
+    true
+}
+
+// A dual for each row of a program.
+#[tactic(auto, unfolding(crate::specs::Found::duals_of))]
+fn duals(alloc: Global, table: &Table, lp: &StageLp) -> Result<Option<List<Fx>>, Memory>
+    requires sized { IsTable table.now }
+    requires rows { length table.now.rows ≡ lp.now.own + length table.now.cuts.rows }
+    requires cuts { All (λ row. row < length lp.now.rows) table.now.cuts.rows }
+    ensures { IfOk result (λ found. found ≡ duals_of table.now lp.now) }
+{
+    let count = lp.rows.len();
+    let Some(own) = own_duals(alloc, table, own_rows(lp), count)? else {
+        return Ok(None);
+    };
+    let mut duals = padded(own, count)?;
+    if set_duals(
+        &mut duals,
+        table,
+        lp.own as usize,
+        table.cuts.rows.as_slice(),
+    ) {
+        Ok(Some(duals))
+    } else {
+        Ok(None)
+    }
+}
+
+/// The answer to a program by a table in which no bound is violated: the value of each column as [`points`] writes it,
+/// and the dual of each row. That of an own row, or of a cut that has a row in the table, is the reduced cost of the
+/// row's slack, 0 where that is basic; that of any other cut is 0. None where a number on the way leaves 128 bits.
+/// [`Memory`] where memory was refused.
 #[tactic(auto, unfolding(crate::specs::Found::found_of))]
 pub fn found(alloc: Global, table: &Table, lp: &StageLp) -> Result<Option<Answer>, Memory>
     requires sized { IsTable table.now }
     requires columns { length lp.now.columns ≡ length table.now.costs }
-    requires rows { length lp.now.rows ≡ length table.now.rows }
+    requires rows { length table.now.rows ≡ lp.now.own + length table.now.cuts.rows }
+    requires cuts { All (λ row. row < length lp.now.rows) table.now.cuts.rows }
     ensures { IfOk result (λ answer. answer ≡ found_of table.now lp.now) }
 {
-    let Some(point) = point(alloc, table, lp.columns.as_slice())? else {
+    let mut point = with_room(alloc, lp.columns.len())?;
+    if !points(table, lp, &mut point)? {
         return Ok(None);
-    };
-    let Some(duals) = duals(alloc, table, lp.rows.as_slice())? else {
+    }
+    let Some(duals) = duals(alloc, table, lp)? else {
         return Ok(None);
     };
     Ok(Some(Answer {

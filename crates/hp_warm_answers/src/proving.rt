@@ -1,35 +1,55 @@
-// Whether duals prove that no point in the columns' boxes keeps all rows (Farkas, 1902).
-ghost use Rattle.std.specs.Prelude.{◌≡◌, ◌<◌, ℕ, length, IfOk, IfSome};
+// Whether whole multipliers of own rows prove that no point in the boxes of decisions keeps these rows (Farkas, 1902).
+ghost use Rattle.std.specs.Prelude.{◌≡◌, ◌<◌, ◌≤◌, ◌*◌, take, length, IfOk, IfSome};
 ghost use Rattle.std.specs.Option.{option_and_then};
 ghost use Rattle.hp_solver.specs.Numbers.{zero_fx};
 ghost use Rattle.hp_warm_answers.specs.Folds.{fold_from, Reaches};
-ghost use Rattle.hp_warm_answers.specs.Proves.{side_of, with_side, clipped, number_at, clipped_from, clip, lessened, term_step, is_zero, row_step, no_weights, weights_of, with_product, side_step, lesser, box_step, excess_of, is_above_zero, proves};
+ghost use Rattle.hp_warm_answers.specs.Proves.{own_rows, decisions_of, side_of, with_side, clipped, number_at, lowered, whole_times, multiplier_at, lessened, term_step, is_zero, less_terms, row_step, no_weights, weights_of, with_product, with_row, side_step, lesser, box_step, excess_of, is_above_zero, proves_from, proves};
 
-use hp_num::{List, Memory};
+use crate::whole::whole_product;
+use hp_num::{Memory, floor_div};
 use hp_solver::{Column, Fx, LpRow, StageLp};
-use hp_warm_table::lists::{repeated, with_room};
+use hp_warm_table::lists::repeated;
+use hp_warm_table::numbers::power;
 use std::alloc::Global;
 
-// The side of a row that a dual speaks of.
-#[tactic(auto, unfolding(crate::specs::Proves::side_of))]
-fn side_of(row: &LpRow, dual: Fx) -> Option<Fx>
-    ensures { result ≡ side_of row.now dual }
+// The first items of a list, or all where there are no more.
+pub(crate) fn front<T>(items: &[T], count: usize) -> &[T]
+    ensures { result.now ≡ take count items.now }
 {
-    if 0 < dual.0 {
+    if count < items.len() {
+        &items[..count]
+    } else {
+        items
+    }
+}
+
+// The program's own rows.
+pub(crate) fn own_rows(lp: &StageLp) -> &[LpRow]
+    ensures { result.now ≡ own_rows lp.now }
+{
+    front(lp.rows.as_slice(), lp.own as usize)
+}
+
+// The side of a row that a multiplier speaks of.
+#[tactic(auto, unfolding(crate::specs::Proves::side_of))]
+fn side_of(row: &LpRow, multiplier: Fx) -> Option<Fx>
+    ensures { result ≡ side_of row.now multiplier }
+{
+    if 0 < multiplier.0 {
         row.low
-    } else if dual.0 < 0 {
+    } else if multiplier.0 < 0 {
         row.high
     } else {
         None
     }
 }
 
-// The dual, where the row has the side that it speaks of, else 0.
-pub(crate) fn clipped(row: &LpRow, dual: Fx) -> Fx
-    ensures { result ≡ clipped row.now dual }
+/// The multiplier, where the row has the side that it speaks of, else 0.
+pub fn clipped(row: &LpRow, multiplier: Fx) -> Fx
+    ensures { result ≡ clipped row.now multiplier }
 {
-    match side_of(row, dual) {
-        Some(_) => dual,
+    match side_of(row, multiplier) {
+        Some(_) => multiplier,
         None => Fx(0),
     }
 }
@@ -44,35 +64,48 @@ fn number_at(numbers: &[Fx], at: usize) -> Fx
     }
 }
 
-/// The duals of rows, with 0 for a positive one of a row without a low, and for a negative one of a
-/// row without a high. A missing dual stands for 0. [`Memory`] where memory was refused.
-pub fn clip(alloc: Global, rows: &[LpRow], duals: &[Fx]) -> Result<List<Fx>, Memory>
-    ensures { IfOk result (λ found. found ≡ clip rows.now duals.now) }
+// A number over 2^digits, rounded down.
+#[tactic(auto, unfolding(crate::specs::Proves::lowered))]
+fn lowered(x: Fx, digits: u32) -> Fx
+    requires { digits ≤ 126 }
+    ensures { result ≡ lowered digits x }
 {
-    let mut found = with_room(alloc, rows.len())?;
-    for i in 0..rows.len() {
-        found.push(clipped(&rows[i], number_at(duals, i)))?;
-    }
-    Ok(found)
+    Fx(floor_div(x.0, power(digits)))
 }
 
-// The weight of a term's column, less the term's factor times a dual.
+// The product of two numbers as they stand.
+#[tactic(auto, unfolding(crate::specs::Proves::whole_times))]
+fn whole_times(x: Fx, y: Fx) -> Option<Fx>
+    ensures { result ≡ whole_times x y }
+{
+    Some(Fx(whole_product(x.0, y.0)?))
+}
+
+// The multiplier of a row, made smaller by so many digits and clipped.
+fn multiplier_at(row: &LpRow, multipliers: &[Fx], number: usize, digits: u32) -> Fx
+    requires { digits ≤ 126 }
+    ensures { result ≡ multiplier_at digits multipliers.now number row.now }
+{
+    clipped(row, lowered(number_at(multipliers, number), digits))
+}
+
+// The weight of a term's column, less the term's whole factor times a multiplier.
 #[tactic(auto, unfolding(crate::specs::Proves::lessened))]
-fn lessened(weights: &[Fx], term: (u32, Fx), dual: Fx) -> Option<Fx>
-    ensures value { result ≡ lessened dual weights.now term }
+fn lessened(weights: &[Fx], term: (u32, Fx), multiplier: Fx) -> Option<Fx>
+    ensures value { result ≡ lessened multiplier weights.now term }
     ensures inside { IfSome result (λ w. term.0 < length weights.now) }
 {
-    let product = term.1.mul(dual)?;
+    let product = whole_times(multiplier, lowered(term.1, 32))?;
     let weight = weights.get(term.0 as usize).copied()?;
     weight.sub(product)
 }
 
 // Lessens the weight of a term's column; false where a result is absent.
 #[tactic(auto, unfolding(crate::specs::Proves::term_step))]
-fn lessen(weights: &mut [Fx], term: (u32, Fx), dual: Fx) -> bool
-    ensures { Reaches result (term_step dual weights.old term) weights.new }
+fn lessen(weights: &mut [Fx], term: (u32, Fx), multiplier: Fx) -> bool
+    ensures { Reaches result (term_step multiplier weights.old term) weights.new }
 {
-    match lessened(weights, term, dual) {
+    match lessened(weights, term, multiplier) {
         Some(weight) => {
             weights[term.0 as usize] = weight;
             true
@@ -82,42 +115,54 @@ fn lessen(weights: &mut [Fx], term: (u32, Fx), dual: Fx) -> bool
 }
 
 // Lessens the weights of the columns of some terms, in order.
-fn lessen_all(weights: &mut [Fx], terms: &[(u32, Fx)], dual: Fx) -> bool
-    ensures { Reaches result (fold_from (λ k ws t. term_step dual ws t) 0 weights.old terms.now) weights.new }
+fn lessen_all(weights: &mut [Fx], terms: &[(u32, Fx)], multiplier: Fx) -> bool
+    ensures { Reaches result (fold_from (λ k ws t. term_step multiplier ws t) 0 weights.old terms.now) weights.new }
 {
     for k in 0..terms.len() {
-        if !lessen(weights, terms[k], dual) {
+        if !lessen(weights, terms[k], multiplier) {
             return false;
         }
     }
     true
 }
 
-fn is_zero(dual: Fx) -> bool
-    ensures { result ≡ is_zero dual }
+fn is_zero(multiplier: Fx) -> bool
+    ensures { result ≡ is_zero multiplier }
 {
-    !(0 < dual.0) && !(dual.0 < 0)
+    !(0 < multiplier.0) && !(multiplier.0 < 0)
 }
 
-// Lessens the weights by a row with its dual.
-#[tactic(auto, unfolding(crate::specs::Proves::row_step))]
-fn take_row(weights: &mut [Fx], row: &LpRow, duals: &[Fx], number: usize) -> bool
-    ensures { Reaches result (row_step duals.now number weights.old row.now) weights.new }
+// Lessens the weights by a row with its multiplier.
+fn less_terms(weights: &mut [Fx], row: &LpRow, multiplier: Fx) -> bool
+    ensures { Reaches result (less_terms multiplier weights.old row.now) weights.new }
 {
-    let dual = clipped(row, number_at(duals, number));
-    if is_zero(dual) {
+    if is_zero(multiplier) {
         true
     } else {
-        lessen_all(weights, row.terms.as_slice(), dual)
+        lessen_all(weights, row.terms.as_slice(), multiplier)
     }
 }
 
+// Lessens the weights by row `number`.
+#[tactic(auto, unfolding(crate::specs::Proves::row_step))]
+fn take_row(weights: &mut [Fx], row: &LpRow, multipliers: &[Fx], number: usize, digits: u32) -> bool
+    requires { digits ≤ 126 }
+    ensures { Reaches result (row_step digits multipliers.now number weights.old row.now) weights.new }
+{
+    less_terms(
+        weights,
+        row,
+        multiplier_at(row, multipliers, number, digits),
+    )
+}
+
 // Lessens the weights by all rows, in order.
-fn take_rows(weights: &mut [Fx], rows: &[LpRow], duals: &[Fx]) -> bool
-    ensures { Reaches result (fold_from (row_step duals.now) 0 weights.old rows.now) weights.new }
+fn take_rows(weights: &mut [Fx], rows: &[LpRow], multipliers: &[Fx], digits: u32) -> bool
+    requires { digits ≤ 126 }
+    ensures { Reaches result (fold_from (row_step digits multipliers.now) 0 weights.old rows.now) weights.new }
 {
     for i in 0..rows.len() {
-        if !take_row(weights, &rows[i], duals, i) {
+        if !take_row(weights, &rows[i], multipliers, i, digits) {
             return false;
         }
     }
@@ -125,31 +170,39 @@ fn take_rows(weights: &mut [Fx], rows: &[LpRow], duals: &[Fx]) -> bool
 }
 
 // A sum with one product more.
-fn with_product(sum: Fx, dual: Fx, side: Option<Fx>) -> Option<Fx>
-    ensures { result ≡ with_product sum dual side }
+fn with_product(sum: Fx, multiplier: Fx, side: Option<Fx>) -> Option<Fx>
+    ensures { result ≡ with_product sum multiplier side }
 {
     match side {
         None => Some(sum),
-        Some(side) => sum.add(dual.mul(side)?),
+        Some(side) => sum.add(whole_times(multiplier, lowered(side, 8))?),
     }
 }
 
-// A sum with a dual times the side that it speaks of.
-#[tactic(auto, unfolding(crate::specs::Proves::side_step))]
-fn side_step(sum: Fx, row: &LpRow, duals: &[Fx], number: usize) -> Option<Fx>
-    ensures { result ≡ side_step duals.now number sum row.now }
+// A sum with a multiplier times the side that it speaks of.
+fn with_row(sum: Fx, row: &LpRow, multiplier: Fx) -> Option<Fx>
+    ensures { result ≡ with_row sum multiplier row.now }
 {
-    let dual = number_at(duals, number);
-    with_product(sum, dual, side_of(row, dual))
+    with_product(sum, multiplier, side_of(row, multiplier))
+}
+
+// A sum with the multiplier of row `number` times the side that it speaks of.
+#[tactic(auto, unfolding(crate::specs::Proves::side_step))]
+fn side_step(sum: Fx, row: &LpRow, multipliers: &[Fx], number: usize, digits: u32) -> Option<Fx>
+    requires { digits ≤ 126 }
+    ensures { result ≡ side_step digits multipliers.now number sum row.now }
+{
+    with_row(sum, row, multiplier_at(row, multipliers, number, digits))
 }
 
 // What the rows demand at the least.
-fn demand(rows: &[LpRow], duals: &[Fx]) -> Option<Fx>
-    ensures { result ≡ fold_from (side_step duals.now) 0 zero_fx rows.now }
+fn demand(rows: &[LpRow], multipliers: &[Fx], digits: u32) -> Option<Fx>
+    requires { digits ≤ 126 }
+    ensures { result ≡ fold_from (side_step digits multipliers.now) 0 zero_fx rows.now }
 {
     let mut sum = Fx(0);
     for i in 0..rows.len() {
-        sum = side_step(sum, &rows[i], duals, i)?;
+        sum = side_step(sum, &rows[i], multipliers, i, digits)?;
     }
     Some(sum)
 }
@@ -166,8 +219,8 @@ fn box_step(sum: Fx, column: &Column, weights: &[Fx], number: usize) -> Option<F
     ensures { result ≡ box_step weights.now number sum column.now }
 {
     let weight = number_at(weights, number);
-    let low = weight.mul(column.low)?;
-    let high = weight.mul(column.high)?;
+    let low = whole_times(weight, lowered(column.low, 8))?;
+    let high = whole_times(weight, lowered(column.high, 8))?;
     sum.add(lesser(low, high))
 }
 
@@ -182,12 +235,14 @@ fn with_boxes(sum: Fx, columns: &[Column], weights: &[Fx]) -> Option<Fx>
     Some(sum)
 }
 
-// What the rows demand at the least, less what the columns give at the most.
-fn excess(lp: &StageLp, duals: &[Fx], weights: &[Fx]) -> Option<Fx>
-    ensures { result ≡ option_and_then (λ s. fold_from (box_step weights.now) 0 s lp.now.columns) (fold_from (side_step duals.now) 0 zero_fx lp.now.rows) }
+// What the rows demand at the least, less what the decisions give at the most.
+fn excess(lp: &StageLp, multipliers: &[Fx], weights: &[Fx], digits: u32) -> Option<Fx>
+    requires { digits ≤ 126 }
+    ensures { result ≡ option_and_then (λ s. fold_from (box_step weights.now) 0 s (decisions_of lp.now)) (fold_from (side_step digits multipliers.now) 0 zero_fx (own_rows lp.now)) }
 {
-    let sum = demand(lp.rows.as_slice(), duals)?;
-    with_boxes(sum, lp.columns.as_slice(), weights)
+    let sum = demand(own_rows(lp), multipliers, digits)?;
+    let decisions = front(lp.columns.as_slice(), lp.decisions as usize);
+    with_boxes(sum, decisions, weights)
 }
 
 fn is_above_zero(excess: Option<Fx>) -> bool
@@ -199,16 +254,45 @@ fn is_above_zero(excess: Option<Fx>) -> bool
     }
 }
 
-/// Whether duals, clipped, prove that no point in the columns' boxes keeps all rows (Farkas, 1902): what the rows
-/// demand at the least exceeds what the columns give at the most. False also where a product or a sum on the way
-/// leaves 128 bits. A missing dual stands for 0. [`Memory`] where memory was refused.
-#[tactic(auto, unfolding(crate::specs::Proves::proves, crate::specs::Proves::excess_of, crate::specs::Proves::weights_of))]
-pub fn proves(alloc: Global, lp: &StageLp, duals: &[Fx]) -> Result<bool, Memory>
-    ensures { IfOk result (λ found. found ≡ proves lp.now duals.now) }
+// Whether multipliers, made smaller by so many digits, leave an excess.
+#[tactic(auto, unfolding(crate::specs::Proves::excess_of, crate::specs::Proves::weights_of))]
+fn exceeds(alloc: Global, lp: &StageLp, multipliers: &[Fx], digits: u32) -> Result<bool, Memory>
+    requires { digits ≤ 126 }
+    ensures { IfOk result (λ found. found ≡ is_above_zero (excess_of lp.now multipliers.now digits)) }
 {
     let mut weights = repeated(alloc, lp.columns.len(), Fx(0))?;
-    if !take_rows(weights.as_mut_slice(), lp.rows.as_slice(), duals) {
+    if !take_rows(weights.as_mut_slice(), own_rows(lp), multipliers, digits) {
         return Ok(false);
     }
-    Ok(is_above_zero(excess(lp, duals, weights.as_slice())))
+    Ok(is_above_zero(excess(lp, multipliers, weights.as_slice(), digits)))
+}
+
+// The same for one of so many scales, each 2^4 times the one before.
+fn exceeds_by_one(
+    alloc: Global,
+    lp: &StageLp,
+    multipliers: &[Fx],
+    scales: u32,
+) -> Result<bool, Memory>
+    requires { scales ≤ 31 }
+    ensures { IfOk result (λ found. found ≡ proves_from lp.now multipliers.now 0 scales) }
+{
+    for scale in 0..scales {
+        if exceeds(alloc, lp, multipliers, 4 * scale)? {
+            return Ok(true);
+        }
+    }
+    Ok(false)
+}
+
+/// Whether multipliers of own rows prove that no point in the boxes of decisions keeps these rows (Farkas, 1902): what
+/// the rows demand at the least exceeds what the decisions give at the most. All numbers are taken as whole ones, the
+/// multipliers over 2^k and rounded down, for a k of 0, 4, .., 56. A k where a product or a sum on the way leaves 128
+/// bits does not count. A missing multiplier stands for 0, and so does one of a row without the side that it speaks of.
+/// [`Memory`] where memory was refused.
+#[tactic(auto, unfolding(crate::specs::Proves::proves))]
+pub fn proves(alloc: Global, lp: &StageLp, multipliers: &[Fx]) -> Result<bool, Memory>
+    ensures { IfOk result (λ found. found ≡ proves lp.now multipliers.now) }
+{
+    exceeds_by_one(alloc, lp, multipliers, 15)
 }

@@ -1,14 +1,15 @@
 // The duals of a row that nothing brings back to its bound.
-ghost use Rattle.std.specs.Prelude.{◌≡◌, ◌<◌, ◌≤◌, ◌+◌, ◌^◌, ◌+ℤ◌, ◌-ℤ◌, pos, nat_abs, length, map, IfOk, IfSome, None, OnOk};
+ghost use Rattle.std.specs.Prelude.{◌≡◌, ◌<◌, ◌≤◌, ◌+◌, ◌^◌, ◌+ℤ◌, ◌-ℤ◌, pos, nat_abs, length, IfOk, IfSome, Some, None, OnOk};
 ghost use Rattle.std.specs.Option.{IsSome};
 ghost use Rattle.hp_num.specs.Sums.{entry};
 ghost use Rattle.hp_warm_table.specs.Shape.{IsTable, variables};
 ghost use Rattle.hp_warm_table.specs.Numbers.{bits_of, shift_of};
 ghost use Rattle.hp_simplex.specs.Each.{each_from};
-ghost use Rattle.hp_warm_answers.specs.Ray.{own_factor, turned, factor_by, factor_at, greater, with_digits, greatest_from, or_zero, top_of, ray_dual, ray_with, where_proved, ray_of};
+ghost use Rattle.hp_warm_answers.specs.Ray.{own_factor, turned, factor_by, factor_at, greater, with_digits, greatest_from, top_of, ray_dual, ray_duals, ray_with, where_proved, ray_of};
 
 use crate::found::{place_of, slack_of};
-use crate::proving::{clipped, proves};
+use crate::padding::padded;
+use crate::proving::{clipped, front, own_rows, proves};
 use crate::shifting::shift_by;
 use hp_num::{List, Memory};
 use hp_solver::{Answer, Fx, Kind, LpRow, StageLp};
@@ -86,7 +87,7 @@ fn greatest(
 ) -> Option<i64>
     requires sized { IsTable table.now }
     requires line { length line.now ≡ length table.now.costs }
-    requires rows { length exponents.now ≡ length table.now.rows }
+    requires rows { length exponents.now ≤ length table.now.rows }
     ensures value { result ≡ greatest_from table.now line.now variable above 0 None exponents.now }
     ensures small { IfSome result (λ b. nat_abs b ≤ 2 ^ 32) }
 {
@@ -101,52 +102,49 @@ fn greatest(
     best
 }
 
-fn or_zero(best: Option<i64>) -> i64
-    requires { IfSome best (λ b. nat_abs b ≤ 2 ^ 32) }
-    ensures value { result ≡ or_zero best }
-    ensures small { nat_abs result ≤ 2 ^ 32 }
-{
-    match best {
-        None => 0,
-        Some(best) => best,
-    }
-}
-
-// The most binary digits that a factor has once it is no longer scaled.
+// The most binary digits that a factor of one of the own rows has once it is no longer scaled, if one is not 0.
 #[tactic(auto, unfolding(crate::specs::Ray::top_of))]
-fn top_of(table: &Table, line: &[Cell], variable: usize, above: bool) -> i64
+fn top_of(table: &Table, line: &[Cell], variable: usize, above: bool, own: usize) -> Option<i64>
     requires sized { IsTable table.now }
     requires line { length line.now ≡ length table.now.costs }
-    ensures value { result ≡ top_of table.now line.now variable above }
-    ensures small { nat_abs result ≤ 2 ^ 32 }
+    ensures value { result ≡ top_of table.now line.now variable above own }
+    ensures small { IfSome result (λ top. nat_abs top ≤ 2 ^ 32) }
 {
-    or_zero(greatest(table, line, variable, above, table.scales.rows.as_slice()))
+    greatest(
+        table,
+        line,
+        variable,
+        above,
+        front(table.scales.rows.as_slice(), own),
+    )
 }
 
 // By which power of two the factor of a row is multiplied.
 fn ray_exponent(scales: &Scales, row: usize, top: i64) -> i64
     requires row { row < length scales.now.rows }
     requires small { nat_abs top ≤ 2 ^ 32 }
-    ensures { result ≡ (entry scales.now.rows row +ℤ pos 52) -ℤ top }
+    ensures { result ≡ (entry scales.now.rows row +ℤ pos 60) -ℤ top }
 {
-    i64::from(scales.rows.as_slice()[row]) + 52 - top
+    i64::from(scales.rows.as_slice()[row]) + 60 - top
 }
 
-// The factor of a row, no longer scaled, so that the greatest has 52 digits. It is always there.
+// The factor of a row, no longer scaled, so that the greatest has 60 digits. It is always there.
 fn unscaled(
     table: &Table,
     line: &[Cell],
     variable: usize,
     above: bool,
     top: i64,
+    own: usize,
     row: usize,
 ) -> Option<i128>
     requires sized { IsTable table.now }
     requires line { length line.now ≡ length table.now.costs }
-    requires row { row < length table.now.rows }
-    requires top { top ≡ top_of table.now line.now variable above }
+    requires own { own ≤ length table.now.rows }
+    requires row { row < own }
+    requires top { Some top ≡ top_of table.now line.now variable above own }
     requires small { nat_abs top ≤ 2 ^ 32 }
-    ensures value { result ≡ shift_of (factor_at table.now line.now variable above row) ((entry table.now.scales.rows row +ℤ pos 52) -ℤ top) }
+    ensures value { result ≡ shift_of (factor_at table.now line.now variable above row) ((entry table.now.scales.rows row +ℤ pos 60) -ℤ top) }
     ensures there { IsSome result }
 {
     let factor = i128::from(factor_at(table, line, variable, above, row));
@@ -161,41 +159,46 @@ fn ray_dual(
     variable: usize,
     above: bool,
     top: i64,
+    own: usize,
     number: usize,
     row: &LpRow,
 ) -> Option<Fx>
     requires sized { IsTable table.now }
     requires line { length line.now ≡ length table.now.costs }
-    requires row { number < length table.now.rows }
-    requires top { top ≡ top_of table.now line.now variable above }
+    requires own { own ≤ length table.now.rows }
+    requires row { number < own }
+    requires top { Some top ≡ top_of table.now line.now variable above own }
     requires small { nat_abs top ≤ 2 ^ 32 }
     ensures value { result ≡ ray_dual table.now line.now variable above top number row.now }
     ensures there { IsSome result }
 {
-    let dual = unscaled(table, line, variable, above, top, number)?;
+    let dual = unscaled(table, line, variable, above, top, own, number)?;
     Some(clipped(row, Fx(dual)))
 }
 
-// The duals of all rows.
+// The duals of the own rows, in a list with room for one of each row.
 fn ray_duals(
     alloc: Global,
     table: &Table,
     line: &[Cell],
     variable: usize,
     above: bool,
-    rows: &[LpRow],
+    top: i64,
+    lp: &StageLp,
 ) -> Result<Option<List<Fx>>, Memory>
     requires sized { IsTable table.now }
     requires line { length line.now ≡ length table.now.costs }
-    requires rows { length rows.now ≡ length table.now.rows }
-    ensures value { IfOk result (λ found. found
-        ≡ each_from (ray_dual table.now line.now variable above (top_of table.now line.now variable above)) 0 rows.now) }
+    requires own { lp.now.own ≤ length table.now.rows }
+    requires top { Some top ≡ top_of table.now line.now variable above lp.now.own }
+    requires small { nat_abs top ≤ 2 ^ 32 }
+    ensures value { IfOk result (λ found. found ≡ ray_duals table.now line.now variable above lp.now top) }
     ensures there { IfOk result (λ found. IsSome found) }
 {
-    let top = top_of(table, line, variable, above);
-    let mut found = with_room(alloc, rows.len())?;
+    let own = lp.own as usize;
+    let rows = own_rows(lp);
+    let mut found = with_room(alloc, lp.rows.len())?;
     for i in 0..rows.len() {
-        match ray_dual(table, line, variable, above, top, i, &rows[i]) {
+        match ray_dual(table, line, variable, above, top, own, i, &rows[i]) {
             Some(dual) => found.push(dual)?,
             None => return Ok(None),
         }
@@ -203,7 +206,7 @@ fn ray_duals(
     Ok(Some(found))
 }
 
-// The answer by duals, where they prove that no point keeps all rows.
+// The answer by duals of own rows, where they prove that no point keeps these.
 fn where_proved(alloc: Global, lp: &StageLp, duals: List<Fx>) -> Result<Option<Answer>, Memory>
     ensures { IfOk result (λ answer. answer ≡ where_proved lp.now duals) }
 {
@@ -213,15 +216,15 @@ fn where_proved(alloc: Global, lp: &StageLp, duals: List<Fx>) -> Result<Option<A
     Ok(Some(Answer {
         kind: Kind::Ray,
         point: lp.lows(alloc)?,
-        duals,
+        duals: padded(duals, lp.rows.len())?,
     }))
 }
 
 /// The answer to a program by a variable that violates its lower bound, or its upper one where `above` is true, and
 /// that nothing brings back. The line has the cells by which the variable depends on the nonbasic ones, one for each
-/// place. The duals of the rows are the factors by which a sum of the rows shows that, clipped; the greatest factor has
-/// 52 binary digits, so each of them is there. None where they do not prove that no point keeps all rows. [`Memory`]
-/// where memory was refused.
+/// place. The duals of the own rows are the factors by which a sum of these rows shows that, clipped, as whole numbers;
+/// the greatest factor has 60 binary digits, so each of them is there. The duals of all cuts are 0. None where all
+/// factors are 0, or where they do not prove that no point keeps all own rows. [`Memory`] where memory was refused.
 #[tactic(auto, unfolding(crate::specs::Ray::ray_of))]
 pub fn ray(
     alloc: Global,
@@ -233,11 +236,14 @@ pub fn ray(
 ) -> Result<Option<Answer>, Memory>
     requires sized { IsTable table.now }
     requires line { length line.now ≡ length table.now.costs }
-    requires rows { length lp.now.rows ≡ length table.now.rows }
+    requires own { lp.now.own ≤ length table.now.rows }
     ensures answer { IfOk result (λ answer. answer ≡ ray_of table.now line.now variable above lp.now) }
-    ensures duals { OnOk result (IsSome (each_from (ray_dual table.now line.now variable above (top_of table.now line.now variable above)) 0 lp.now.rows)) }
+    ensures duals { OnOk result (IfSome (top_of table.now line.now variable above lp.now.own) (λ top. IsSome (ray_duals table.now line.now variable above lp.now top))) }
 {
-    match ray_duals(alloc, table, line, variable, above, lp.rows.as_slice())? {
+    let Some(top) = top_of(table, line, variable, above, lp.own as usize) else {
+        return Ok(None);
+    };
+    match ray_duals(alloc, table, line, variable, above, top, lp)? {
         None => Ok(None),
         Some(duals) => where_proved(alloc, lp, duals),
     }

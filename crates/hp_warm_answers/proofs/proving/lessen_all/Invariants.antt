@@ -4,4 +4,4 @@ use Rattle.hp_warm_answers.specs.Proves.{term_step}
 use Rattle.hp_warm_answers.proofs.proving.lessen_all.Given as goal
 
 abbrev pub invariant-loop-k : goal.invariant-loop-k
-invariant-loop-k l = fold_from (λ k ws t. term_step l.dual ws t) 0 l.fn.weights l.terms ≡ fold_from (λ k ws t. term_step l.dual ws t) l.k l.weights (drop l.k l.terms)
+invariant-loop-k l = fold_from (λ k ws t. term_step l.multiplier ws t) 0 l.fn.weights l.terms ≡ fold_from (λ k ws t. term_step l.multiplier ws t) l.k l.weights (drop l.k l.terms)

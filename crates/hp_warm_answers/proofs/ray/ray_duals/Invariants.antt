@@ -1,8 +1,9 @@
 use Rattle.std.proofs.Common.{◌≡◌, drop}
 use Rattle.hp_simplex.specs.Each.{each_from}
 use Rattle.hp_simplex.proofs.Each.{behind}
-use Rattle.hp_warm_answers.specs.Ray.{ray_dual}
+use Rattle.hp_warm_answers.specs.Proves.{own_rows}
+use Rattle.hp_warm_answers.specs.Ray.{ray_dual, ray_duals}
 use Rattle.hp_warm_answers.proofs.ray.ray_duals.Given as goal
 
 abbrev pub invariant-loop-i : goal.invariant-loop-i
-invariant-loop-i l = each_from (ray_dual l.table l.line l.variable l.above l.top) 0 l.rows ≡ behind l.found (each_from (ray_dual l.table l.line l.variable l.above l.top) l.i (drop l.i l.rows))
+invariant-loop-i l = ray_duals l.table l.line l.variable l.above l.lp l.top ≡ behind l.found (each_from (ray_dual l.table l.line l.variable l.above l.top) l.i (drop l.i (own_rows l.lp)))
