@@ -3,7 +3,7 @@ use Rattle.std.proofs.Common.{ℕ, zero, suc, ◌-◌, ◌<◌, ℤ, pos, ◌≤
 use Rattle.std.specs.Option.{option_map}
 use Rattle.hp_solver.specs.Proper.{AreRising}
 use Rattle.hp_warm_scale.specs.Exponents.{Term, AreUpTo}
-use Rattle.hp_warm_scale.specs.Widening.{last_column}
+use Rattle.hp_warm_scale.specs.Waiting.{last_column}
 
 -- a term of rising ones is in a column that is there
 term_inside : (least n k : ℕ) (ts : List Term) → AreRising least n ts → IfSome (slice_get ts k) (λ (t : Term). t.0 < n)

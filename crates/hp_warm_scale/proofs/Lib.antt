@@ -1,6 +1,9 @@
 pub mod Between
 pub mod Coefficients
+pub mod Counts
 pub mod Cuts
+pub mod Fitted
+pub mod Narrow
 pub mod Parts
 pub mod Passes
 pub mod Rising

@@ -24,6 +24,7 @@ column_table j s t w =
     record {
       few = subst (λ (k : ℕ). k ≤ 1199) (sym n) w.few;
       row_scales = w.row_scales;
+      waiting = w.waiting ∙ sym n;
       column_scales = w.column_scales ∙ sym n;
       lows = length-set t.bounds.lows j s.low ∙ w.lows ∙ sym v;
       ups = length-set t.bounds.ups j s.up ∙ w.ups ∙ sym v;
@@ -54,6 +55,7 @@ pub row_table : (e : ℤ) (ts : List (ℕ × ℤ)) (s : Sides) (t : Table) → A
 row_table e ts s t r w = record {
   few = w.few;
   row_scales = omega (arith, w.row_scales, length-append t.scales.rows (e ∷ []), length-append t.rows (ts ∷ []));
+  waiting = w.waiting;
   column_scales = w.column_scales;
   lows = one_more t.bounds.lows t.rows s.low ts (length t.costs) w.lows;
   ups = one_more t.bounds.ups t.rows s.up ts (length t.costs) w.ups;
@@ -86,6 +88,7 @@ blank_table n fs g h few count =
     record {
       few = subst (λ (k : ℕ). k ≤ 1199) (sym zs) few;
       row_scales = refl;
+      waiting = length-replicate n false ∙ sym zs;
       column_scales = count ∙ sym zs;
       lows = omega (arith, zs);
       ups = omega (arith, zs);
@@ -111,6 +114,10 @@ blank_small most n fs g h f a b c d = record {
   values_least = c;
   values_greatest = d;
 }
+
+-- exponents without those of rows
+pub whole_small : (most : ℕ) (es fs : List ℤ) (g h : ℤ) → es ≡ [] → AreUpTo most fs → negsuc 1299 ≤ℤ g → g ≤ℤ pos 1300 → negsuc 1299 ≤ℤ h → h ≤ℤ pos 0 → AreSmall most (record { rows = es; columns = fs; costs = g; values = h })
+whole_small most es fs g h e f a b c d = subst (λ (rs : List ℤ). AreSmall most (record { rows = rs; columns = fs; costs = g; values = h })) (sym e) (blank_small most 0 fs g h f a b c d)
 
 pub small_more : (k m : ℕ) (s : Scales) → k ≤ m → AreSmall k s → AreSmall m s
 small_more k m s l w = record {

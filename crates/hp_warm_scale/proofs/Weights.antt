@@ -40,8 +40,8 @@ costs_give k fs h j c x e = by (int_eq c.cost.0 (pos 0)) e
         let r : (pos 0 ≤ℤ (pos (bits_of c.cost.0) +ℤ entry fs j)) × ((pos (bits_of c.cost.0) +ℤ entry fs j) ≤ℤ pos (k + 128)) = (omega (arith, ints, f.0), omega (arith, ints, b, f.1)) in
         subst (λ (z : ℤ). (pos 0 ≤ℤ z) × (z ≤ℤ pos (k + 128))) (some_is e) r
 
-pub cost_span_between : (fs : List ℤ) (cs : List Column) → AreUpTo 512 fs → AreBetween (negsuc 511) (pos 1128) (span_of (cost_weight fs) cs)
-cost_span_between fs cs h = wider (pos 0) (pos 640) (negsuc 511) (pos 1128) _ (omega (arith, ints)) (omega (arith, ints)) (span_between (pos 0) (pos 640) (cost_weight fs) cs (costs_give 512 fs h))
+pub cost_span_between : (fs : List ℤ) (cs : List Column) → AreUpTo 1000 fs → AreBetween (negsuc 511) (pos 1128) (span_of (cost_weight fs) cs)
+cost_span_between fs cs h = wider (pos 0) (pos 1128) (negsuc 511) (pos 1128) _ (omega (arith, ints)) (omega (arith, ints)) (span_between (pos 0) (pos 1128) (cost_weight fs) cs (costs_give 1000 fs h))
 
 boxes_give : (fs : List ℤ) → AreUpTo 512 fs → GivesBetween (negsuc 511) (pos 1128) (box_weight fs)
 boxes_give fs h j c x e =

@@ -8,9 +8,10 @@ use Rattle.hp_warm_table.specs.declared.table.Table.{Table}
 use Rattle.hp_warm_table.specs.Numbers.{shift_up, shift_down}
 use Rattle.hp_warm_scale.specs.Exponents.{with_row, spans_of, pass_of, columns_of}
 use Rattle.hp_warm_scale.specs.Scaling.{scaled_value, scaled_cell, costs_scale, values_scale, scaled_column, column_step, blank_of, columns_table}
-use Rattle.hp_warm_scale.specs.Appending.{scaled_sides, row_scale, scaled_term, scaled_terms, appended_row}
+use Rattle.hp_warm_scale.specs.Appending.{scaled_sides, row_scale, scaled_term, scaled_terms, appended_row, appended_cut}
 use Rattle.hp_warm_scale.specs.First.{first_of}
-use Rattle.hp_warm_scale.specs.Widening.{top_of, cut_spans, rescaled, widened}
+use Rattle.hp_warm_scale.specs.Waiting.{is_narrow, waiting_of, waits}
+use Rattle.hp_warm_scale.specs.Widening.{top_of, cut_spans, rescaled, widened_columns, widened_by, widened, widened_in_full}
 
 -- x at least 3, at a cost of 2
 abbrev one_row : StageLp
@@ -178,12 +179,12 @@ with_cuts =
       own = 1;
     }
 
-cuts_scales : option_map (λ (t : Table). t.scales) (option_and_then (widened with_cuts) (first_of reference)) ≡ Some (record { rows = negsuc 0 ∷ negsuc 2 ∷ negsuc 2 ∷ []; columns = pos 0 ∷ pos 0 ∷ pos 2 ∷ []; costs = negsuc 1; values = pos 0 })
-unfolding with_row spans_of pass_of columns_of count_leading_zeros scaled_value scaled_cell costs_scale values_scale scaled_column column_step blank_of columns_table scaled_sides row_scale scaled_term scaled_terms appended_row first_of shift_up shift_down top_of cut_spans rescaled widened
+cuts_scales : option_map (λ (t : Table). t.scales) (option_and_then (widened_in_full with_cuts) (first_of reference)) ≡ Some (record { rows = negsuc 0 ∷ negsuc 2 ∷ negsuc 2 ∷ []; columns = pos 0 ∷ pos 0 ∷ pos 2 ∷ []; costs = negsuc 1; values = pos 0 })
+unfolding with_row spans_of pass_of columns_of count_leading_zeros scaled_value scaled_cell costs_scale values_scale scaled_column column_step blank_of columns_table scaled_sides row_scale scaled_term scaled_terms appended_row first_of shift_up shift_down appended_cut waits top_of cut_spans rescaled widened_columns widened_by widened_in_full
 cuts_scales = refl
 
 cuts_costs : option_map (λ (t : Table). t.reduced) (option_and_then (widened with_cuts) (first_of reference)) ≡ Some (pos 0 ∷ pos 824633720832 ∷ pos 1099511627776 ∷ [])
-unfolding with_row spans_of pass_of columns_of count_leading_zeros scaled_value scaled_cell costs_scale values_scale scaled_column column_step blank_of columns_table scaled_sides row_scale scaled_term scaled_terms appended_row first_of shift_up shift_down top_of cut_spans rescaled widened
+unfolding with_row spans_of pass_of columns_of count_leading_zeros scaled_value scaled_cell costs_scale values_scale scaled_column column_step blank_of columns_table scaled_sides row_scale scaled_term scaled_terms appended_row first_of shift_up shift_down appended_cut is_narrow waiting_of waits top_of cut_spans rescaled widened_columns widened_by widened
 cuts_costs = refl
 
 -- rows that are nearly parallel
@@ -224,6 +225,50 @@ two_cuts =
       own = 2;
     }
 
-two_cuts_scales : option_map (λ (t : Table). t.scales) (option_and_then (widened two_cuts) (first_of own_rows)) ≡ Some (record { rows = negsuc 0 ∷ negsuc 0 ∷ negsuc 2 ∷ negsuc 2 ∷ []; columns = pos 0 ∷ pos 0 ∷ pos 0 ∷ pos 2 ∷ []; costs = negsuc 2; values = pos 0 })
-unfolding with_row spans_of pass_of columns_of count_leading_zeros scaled_value scaled_cell costs_scale values_scale scaled_column column_step blank_of columns_table scaled_sides row_scale scaled_term scaled_terms appended_row first_of shift_up shift_down top_of cut_spans rescaled widened
+two_cuts_scales : option_map (λ (t : Table). t.scales) (option_and_then (widened_in_full two_cuts) (first_of own_rows)) ≡ Some (record { rows = negsuc 0 ∷ negsuc 0 ∷ negsuc 2 ∷ negsuc 2 ∷ []; columns = pos 0 ∷ pos 0 ∷ pos 0 ∷ pos 2 ∷ []; costs = negsuc 2; values = pos 0 })
+unfolding with_row spans_of pass_of columns_of count_leading_zeros scaled_value scaled_cell costs_scale values_scale scaled_column column_step blank_of columns_table scaled_sides row_scale scaled_term scaled_terms appended_row first_of shift_up shift_down appended_cut waits top_of cut_spans rescaled widened_columns widened_by widened_in_full
 two_cuts_scales = refl
+
+-- two decisions, and two successors' columns that stand at 0
+abbrev two_idle : StageLp
+two_idle =
+    record {
+      columns = record { low = number (pos 0); high = number (pos 42949672960); cost = number (pos 0) } ∷ record { low = number (pos 0); high = number (pos 42949672960); cost = number (pos 12884901888) } ∷ record { low = number (pos 0); high = number (pos 0); cost = number (pos 0) } ∷ record { low = number (pos 0); high = number (pos 0); cost = number (pos 0) } ∷ [];
+      rows = record { low = Some (number (pos 17179869184)); high = Some (number (pos 17179869184)); terms = (0, number (pos 4294967296)) ∷ (1, number (pos 4294967296)) ∷ [] } ∷ [];
+      decisions = 2;
+      own = 1;
+    }
+
+-- the same with their cuts: those of the first wait, and a slope of 66 binary digits lets both of the second come in
+abbrev two_successors : StageLp
+two_successors =
+    record {
+      columns = record { low = number (pos 0); high = number (pos 42949672960); cost = number (pos 0) } ∷ record { low = number (pos 0); high = number (pos 42949672960); cost = number (pos 12884901888) } ∷ record { low = number (pos 0); high = number (pos 171798691840); cost = number (pos 4294967296) } ∷ record { low = number (pos 0); high = number (pos 171798691840); cost = number (pos 536870912) } ∷ [];
+      rows = record { low = Some (number (pos 17179869184)); high = Some (number (pos 17179869184)); terms = (0, number (pos 4294967296)) ∷ (1, number (pos 4294967296)) ∷ [] } ∷ record { low = Some (number (pos 128849018880)); high = None; terms = (0, number (pos 21474836480)) ∷ (2, number (pos 4294967296)) ∷ [] } ∷ record { low = Some (number (pos 0)); high = None; terms = (2, number (pos 4294967296)) ∷ [] } ∷ record { low = Some (number (pos 85899345920)); high = None; terms = (0, number (pos 4294967296)) ∷ (3, number (pos 4294967296)) ∷ [] } ∷ record { low = Some (number (pos 0)); high = None; terms = (0, number (pos 36893488147419103232)) ∷ (3, number (pos 4294967296)) ∷ [] } ∷ [];
+      decisions = 2;
+      own = 1;
+    }
+
+two_cuts_of : option_map (λ (t : Table). t.cuts) (option_and_then (widened two_successors) (first_of two_idle)) ≡ Some (record { rows = 3 ∷ 4 ∷ []; waiting = false ∷ false ∷ true ∷ false ∷ [] })
+unfolding with_row spans_of pass_of columns_of count_leading_zeros scaled_value scaled_cell costs_scale values_scale scaled_column column_step blank_of columns_table scaled_sides row_scale scaled_term scaled_terms appended_row first_of shift_up shift_down appended_cut is_narrow waiting_of waits top_of cut_spans rescaled widened_columns widened_by widened
+two_cuts_of = refl
+
+two_scales : option_map (λ (t : Table). t.scales) (option_and_then (widened two_successors) (first_of two_idle)) ≡ Some (record { rows = negsuc 0 ∷ negsuc 23 ∷ negsuc 33 ∷ []; columns = pos 0 ∷ pos 0 ∷ pos 2 ∷ pos 23 ∷ []; costs = negsuc 1; values = pos 0 })
+unfolding with_row spans_of pass_of columns_of count_leading_zeros scaled_value scaled_cell costs_scale values_scale scaled_column column_step blank_of columns_table scaled_sides row_scale scaled_term scaled_terms appended_row first_of shift_up shift_down appended_cut is_narrow waiting_of waits top_of cut_spans rescaled widened_columns widened_by widened
+two_scales = refl
+
+two_rows : option_map (λ (t : Table). t.rows) (option_and_then (widened two_successors) (first_of two_idle)) ≡ Some (((0, pos 549755813888) ∷ (1, pos 549755813888) ∷ []) ∷ ((0, pos 65536) ∷ (3, pos 549755813888) ∷ []) ∷ ((0, pos 549755813888) ∷ (3, pos 536870912) ∷ []) ∷ [])
+unfolding with_row spans_of pass_of columns_of count_leading_zeros scaled_value scaled_cell costs_scale values_scale scaled_column column_step blank_of columns_table scaled_sides row_scale scaled_term scaled_terms appended_row first_of shift_up shift_down appended_cut is_narrow waiting_of waits top_of cut_spans rescaled widened_columns widened_by widened
+two_rows = refl
+
+two_bounds : option_map (λ (t : Table). t.bounds.lows) (option_and_then (widened two_successors) (first_of two_idle)) ≡ Some (pos 0 ∷ pos 0 ∷ pos 0 ∷ pos 0 ∷ pos 8589934592 ∷ pos 5120 ∷ pos 0 ∷ [])
+unfolding with_row spans_of pass_of columns_of count_leading_zeros scaled_value scaled_cell costs_scale values_scale scaled_column column_step blank_of columns_table scaled_sides row_scale scaled_term scaled_terms appended_row first_of shift_up shift_down appended_cut is_narrow waiting_of waits top_of cut_spans rescaled widened_columns widened_by widened
+two_bounds = refl
+
+two_full_cuts : option_map (λ (t : Table). t.cuts) (option_and_then (widened_in_full two_successors) (first_of two_idle)) ≡ Some (record { rows = 1 ∷ 2 ∷ 3 ∷ 4 ∷ []; waiting = false ∷ false ∷ false ∷ false ∷ [] })
+unfolding with_row spans_of pass_of columns_of count_leading_zeros scaled_value scaled_cell costs_scale values_scale scaled_column column_step blank_of columns_table scaled_sides row_scale scaled_term scaled_terms appended_row first_of shift_up shift_down appended_cut waits top_of cut_spans rescaled widened_columns widened_by widened_in_full
+two_full_cuts = refl
+
+two_full_scales : option_map (λ (t : Table). t.scales.rows) (option_and_then (widened_in_full two_successors) (first_of two_idle)) ≡ Some (negsuc 0 ∷ negsuc 2 ∷ negsuc 2 ∷ negsuc 23 ∷ negsuc 33 ∷ [])
+unfolding with_row spans_of pass_of columns_of count_leading_zeros scaled_value scaled_cell costs_scale values_scale scaled_column column_step blank_of columns_table scaled_sides row_scale scaled_term scaled_terms appended_row first_of shift_up shift_down appended_cut waits top_of cut_spans rescaled widened_columns widened_by widened_in_full
+two_full_scales = refl

@@ -76,6 +76,14 @@ row_step e r t = option_and_then (λ ts. option_map (λ s. with_row e ts s t) (s
 unfoldable pub appended_row : LpRow → Table → Option Table
 appended_row r t = row_step (row_scale t.scales.columns r.terms) r t
 
+-- with the last row known as that of a cut, which is the program's row i
+abbrev pub with_cut : ℕ → Table → Table
+with_cut i t = record t { cuts = record { rows = t.cuts.rows ++ i ∷ []; waiting = t.cuts.waiting } }
+
+-- with the row of a cut more, which is the program's row i
+unfoldable pub appended_cut : ℕ → LpRow → Table → Option Table
+appended_cut i r t = option_map (with_cut i) (appended_row r t)
+
 -- with some rows more, one after the other
 abbrev pub appended : List LpRow → Table → Option Table
 appended rows t = run (λ i r s. appended_row r s) 0 rows t

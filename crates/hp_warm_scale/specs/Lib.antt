@@ -1,7 +1,10 @@
 pub mod Appending
 pub mod Exponents
 pub mod First
+pub mod Fitting
 pub mod Scaling
 pub mod Spans
+pub mod Waiting
 pub mod Walks
 pub mod Widening
+pub mod Whole

@@ -10,6 +10,7 @@ use Rattle.hp_solver.specs.declared.stage_lp.LpRow.{LpRow}
 use Rattle.hp_warm_table.specs.declared.table.Scales.{Scales}
 use Rattle.hp_warm_table.specs.declared.table.Bounds.{Bounds}
 use Rattle.hp_warm_table.specs.declared.table.Basis.{Basis}
+use Rattle.hp_warm_table.specs.declared.table.Cuts.{Cuts}
 use Rattle.hp_warm_table.specs.declared.table.Table.{Table}
 use Rattle.hp_warm_table.specs.Numbers.{bits_of, cell_of, value_of, shift_of}
 use Rattle.hp_warm_scale.specs.declared.spans.Span.{Span}
@@ -77,11 +78,16 @@ blank_bounds_of n = record { lows = replicate n (pos 0); ups = replicate n (pos 
 abbrev pub blank_basis_of : ℕ → Basis
 blank_basis_of n = record { nonbasic = numbers n; places = map Some (numbers n); high = replicate n false }
 
+-- no rows of cuts, and none that wait
+abbrev pub blank_cuts_of : ℕ → Cuts
+blank_cuts_of n = record { rows = []; waiting = replicate n false }
+
 -- a table without rows, whose columns are 0, by the exponents of columns, costs and values
 abbrev pub blank_with : ℕ → List ℤ → ℤ → ℤ → Table
 blank_with n fs g h = record {
   scales = record { rows = []; columns = fs; costs = g; values = h };
   rows = [];
+  cuts = blank_cuts_of n;
   costs = replicate n (pos 0);
   bounds = blank_bounds_of n;
   basis = blank_basis_of n;

@@ -1,5 +1,5 @@
 -- A table that is widened by a program: the columns of successors get scales, bounds and costs, and the cuts are put behind the rows.
-use Rattle.std.specs.Prelude.{ℕ, ◌-◌, ℤ, pos, negsuc, ◌+ℤ◌, ◌-ℤ◌, List, length, replicate, take, drop, get_or, slice_get, slice_set, Option, Some, None, nat_le, if◌then◌else◌}
+use Rattle.std.specs.Prelude.{ℕ, ℤ, pos, negsuc, ◌+ℤ◌, ◌-ℤ◌, Bool, false, List, length, replicate, drop, get_or, slice_set, Option, Some, None, nat_le, if◌then◌else◌}
 use Rattle.std.specs.Int.{int_max}
 use Rattle.std.specs.Ordering.{int_eq}
 use Rattle.std.specs.Option.{option_map, option_and_then}
@@ -13,11 +13,8 @@ use Rattle.hp_warm_scale.specs.Walks.{walk, run}
 use Rattle.hp_warm_scale.specs.Spans.{grown, span_of}
 use Rattle.hp_warm_scale.specs.Exponents.{Term, reach_of, weight_of}
 use Rattle.hp_warm_scale.specs.Scaling.{column_step}
-use Rattle.hp_warm_scale.specs.Appending.{appended}
-
--- the column of a cut's last term, which is the successor's
-abbrev pub last_column : List Term → Option ℕ
-last_column ts = option_map (λ (t : Term). t.0) (slice_get ts (length ts - 1))
+use Rattle.hp_warm_scale.specs.Appending.{appended_cut}
+use Rattle.hp_warm_scale.specs.Waiting.{last_column, slopes_of, waiting_of, waits}
 
 -- the greatest of a span, none where it is 0
 abbrev pub top : Option Span → Option ℤ
@@ -26,7 +23,7 @@ top (Some s) = if int_eq s.greatest (pos 0) then None else Some s.greatest
 
 -- the most binary digits of a cut's terms but the last; none where these are 0 or there are no such terms
 unfoldable pub top_of : List ℤ → List Term → Option ℤ
-top_of fs ts = top (span_of (λ k t. Some (weight_of fs t)) (take (length ts - 1) ts))
+top_of fs ts = top (span_of (λ k t. Some (weight_of fs t)) (slopes_of ts))
 
 -- the spans of the columns from `decisions` on with one number more, in column j
 abbrev pub with_top : ℕ → List (Option Span) → Option ℤ → Option ℕ → List (Option Span)
@@ -68,9 +65,31 @@ unfoldable pub rescaled : ℕ → List Column → List LpRow → Table → Table
 rescaled decisions successors cuts t =
     with_scales (successor_scales t.scales.values (cut_spans decisions (length t.costs) t.scales.columns cuts) decisions successors t.scales.columns) t
 
--- the table of a program that has successors' columns and cuts, from one of its own part; absent where a number leaves its range
+-- with these columns as those whose cuts wait
+abbrev pub with_waiting : List Bool → Table → Table
+with_waiting ws t = record t { cuts = record { rows = t.cuts.rows; waiting = ws } }
+
+-- with the cut more that is the program's row i, unless it waits
+abbrev pub put_cut : List Bool → ℕ → LpRow → Table → Option Table
+put_cut ws i r t = if waits ws r then Some t else appended_cut i r t
+
+-- with the cuts more that do not wait, of which the first is the program's row i
+abbrev pub put_cuts : List Bool → ℕ → List LpRow → Table → Option Table
+put_cuts ws i cuts t = run (put_cut ws) i cuts t
+
+-- the table with scales, bounds and costs of successors' columns; absent where a number leaves its range
+unfoldable pub widened_columns : StageLp → Table → Option Table
+widened_columns lp t = run column_step lp.decisions (drop lp.decisions lp.columns) (rescaled lp.decisions (drop lp.decisions lp.columns) (drop lp.own lp.rows) t)
+
+-- the table of a program that has successors' columns and cuts, from one of its own part, where the cuts in these columns
+-- wait; absent where a number leaves its range
+unfoldable pub widened_by : List Bool → StageLp → Table → Option Table
+widened_by ws lp t = option_and_then (put_cuts ws lp.own (drop lp.own lp.rows)) (option_map (with_waiting ws) (widened_columns lp t))
+
+-- the same, where the cuts wait of which that can be asked
 unfoldable pub widened : StageLp → Table → Option Table
-widened lp t =
-    let successors = drop lp.decisions lp.columns in
-    let cuts = drop lp.own lp.rows in
-    option_and_then (appended cuts) (run column_step lp.decisions successors (rescaled lp.decisions successors cuts t))
+widened lp t = widened_by (waiting_of lp) lp t
+
+-- the same, where no cut waits
+unfoldable pub widened_in_full : StageLp → Table → Option Table
+widened_in_full lp t = widened_by (replicate (length lp.columns) false) lp t

@@ -1,5 +1,5 @@
 // Rows that are put behind a table.
-ghost use Rattle.std.specs.Prelude.{◌≡◌, ℕ, ◌+◌, ◌+ℤ◌, ◌<◌, ◌≤◌, ◌≤ℤ◌, pos, negsuc, length, All, Some, true, IfOk, OnOk, IfSome};
+ghost use Rattle.std.specs.Prelude.{◌≡◌, ℕ, ◌+◌, ◌+ℤ◌, ◌<◌, ◌≤◌, ◌≤ℤ◌, pos, negsuc, length, All, Some, true, false, IfOk, OnOk, IfSome};
 ghost use Rattle.hp_num.specs.Sums.{entry};
 ghost use Rattle.hp_solver.specs.Proper.{AreRising};
 ghost use Rattle.hp_solver.specs.declared.stage_lp.LpRow.{LpRow};
@@ -11,7 +11,7 @@ ghost use Rattle.hp_warm_table.specs.Numbers.{bits_of, cell_of, coefficient_of, 
 ghost use Rattle.hp_warm_scale.specs.Spans.{span_of, AreBetween};
 ghost use Rattle.hp_warm_scale.specs.Exponents.{weight_of, AreUpTo};
 ghost use Rattle.hp_warm_scale.specs.Scaling.{AreSmall};
-ghost use Rattle.hp_warm_scale.specs.Appending.{row_scale, scaled_term, scaled_terms, with_row, row_step, appended_row, appended, AreBelow};
+ghost use Rattle.hp_warm_scale.specs.Appending.{row_scale, scaled_term, scaled_terms, with_row, row_step, appended_row, appended_cut, appended, AreBelow};
 
 use crate::exponents::{exponent_at, weight};
 use crate::scaling::{power, room};
@@ -35,9 +35,9 @@ pub(crate) fn term_span(exponents: &[i32], terms: &[(u32, Fx)]) -> Option<Span>
     span
 }
 
-// The exponent of a row.
+/// The exponent of a row.
 #[tactic(auto, unfolding(crate::specs::Appending::row_scale))]
-fn row_scale(exponents: &[i32], terms: &[(u32, Fx)]) -> i32
+pub fn row_scale(exponents: &[i32], terms: &[(u32, Fx)]) -> i32
     requires { AreUpTo 1000 exponents.now }
     ensures value { result ≡ row_scale exponents.now terms.now }
     ensures least { negsuc 1299 ≤ℤ result }
@@ -94,9 +94,9 @@ fn scaled_term(exponents: &[i32], exponent: i32, term: (u32, Fx)) -> Option<(u32
     Some((term.0, coefficient(term.1.0, power)?))
 }
 
-// Writes the terms of a row, scaled. False where one is out of range.
+/// Writes the terms of a row, scaled. False exactly where one is out of range. [`Memory`] where memory was refused.
 #[tactic(auto, unfolding(crate::specs::Appending::scaled_terms))]
-fn scale_terms(
+pub fn scale_terms(
     exponents: &[i32],
     exponent: i32,
     terms: &[(u32, Fx)],
@@ -118,8 +118,8 @@ fn scale_terms(
     Ok(true)
 }
 
-// Puts a row behind the others, which makes a table of a table.
-fn put_row(
+/// Puts a row behind the others, which makes a table of a table. [`Memory`] where memory was refused.
+pub fn put_row(
     table: &mut Table,
     exponent: i32,
     terms: &[(u32, Coefficient)],
@@ -137,9 +137,9 @@ fn put_row(
     push_row(table, exponent, terms, sides)
 }
 
-/// Puts a row of a program behind the others: its terms and sides, scaled, and its slack, which is
-/// basic. The answer is false exactly where a number leaves its range: nothing is promised of the
-/// table then. [`Memory`] where memory was refused. `scaled` is for work.
+// Puts a row of a program behind the others: its terms and sides, scaled, and its slack, which is basic. The answer is false
+// exactly where a number leaves its range: the table is then as it was. Nothing is promised of it where memory was refused.
+// `scaled` is for work.
 #[tactic(auto, unfolding(crate::specs::Appending::appended_row))]
 fn append_row(
     table: &mut Table,
@@ -150,6 +150,7 @@ fn append_row(
     requires small { AreSmall 1000 table.old.scales }
     requires rising { AreRising 0 (length table.old.costs) row.now.terms }
     ensures value { IfOk result (λ made. Gives made (appended_row row.now table.old) table.new) }
+    ensures kept { IfOk result (λ made. made ≡ false → table.new ≡ table.old) }
     ensures whole { IfOk result (λ made. made ≡ true → IsTable table.new) }
     ensures small { IfOk result (λ made. made ≡ true → (most : ℕ) → AreSmall most table.old.scales → AreSmall most table.new.scales) }
     ensures count { IfOk result (λ made. made ≡ true → length table.new.costs ≡ length table.old.costs) }
@@ -164,6 +165,32 @@ fn append_row(
         }
         _ => Ok(false),
     }
+}
+
+/// Puts the row of a cut behind the others, which is the program's row i: its terms and sides, scaled, and its slack, which is
+/// basic. The answer is false exactly where a number leaves its range: the table is then as it was. [`Memory`] where memory
+/// was refused: nothing is promised of the table then. `scaled` is for work.
+#[tactic(auto, unfolding(crate::specs::Appending::appended_cut))]
+pub fn append_cut(
+    table: &mut Table,
+    i: usize,
+    row: &LpRow,
+    scaled: &mut List<(u32, Coefficient)>,
+) -> Result<bool, Memory>
+    requires whole { IsTable table.old }
+    requires small { AreSmall 1000 table.old.scales }
+    requires rising { AreRising 0 (length table.old.costs) row.now.terms }
+    ensures value { IfOk result (λ made. Gives made (appended_cut i row.now table.old) table.new) }
+    ensures kept { IfOk result (λ made. made ≡ false → table.new ≡ table.old) }
+    ensures whole { IfOk result (λ made. made ≡ true → IsTable table.new) }
+    ensures small { IfOk result (λ made. made ≡ true → (most : ℕ) → AreSmall most table.old.scales → AreSmall most table.new.scales) }
+    ensures count { IfOk result (λ made. made ≡ true → length table.new.costs ≡ length table.old.costs) }
+{
+    if !append_row(table, row, scaled)? {
+        return Ok(false);
+    }
+    table.cuts.rows.push(i)?;
+    Ok(true)
 }
 
 /// Puts some rows of a program behind the others, one after the other. The answer is false exactly

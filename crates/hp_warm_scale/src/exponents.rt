@@ -21,14 +21,14 @@ pub(crate) fn reach(column: &Column) -> u32
 }
 
 // The number at a place, 0 past the end.
-fn reach_at(reaches: &[u32], at: usize) -> u32
+pub(crate) fn reach_at(reaches: &[u32], at: usize) -> u32
     ensures { result ≡ get_or reaches.now at 0 }
 {
     reaches.get(at).copied().unwrap_or(0)
 }
 
-// The exponent at a place, 0 past the end.
-pub(crate) fn exponent_at(exponents: &[i32], at: usize) -> i32
+/// The exponent at a place, 0 past the end.
+pub fn exponent_at(exponents: &[i32], at: usize) -> i32
     ensures { result ≡ entry exponents.now at }
 {
     exponents.get(at).copied().unwrap_or(0)
@@ -281,7 +281,8 @@ fn passes(
     pass(decisions, reaches, rows, exponents, spans);
 }
 
-fn reaches(alloc: Global, columns: &[Column]) -> Result<List<u32>, Memory>
+// The binary digits of the boxes of columns.
+pub(crate) fn reaches(alloc: Global, columns: &[Column]) -> Result<List<u32>, Memory>
     ensures value { IfOk result (λ found. found ≡ map reach_of columns.now) }
     ensures small { IfOk result (λ found. ReachUpTo 128 found) }
 {

@@ -84,7 +84,7 @@ fn cost_span(exponents: &[i32], decisions: &[Column]) -> Option<Span>
 // The exponent of costs.
 #[tactic(auto, unfolding(crate::specs::Scaling::costs_scale))]
 pub(crate) fn costs_scale(exponents: &[i32], decisions: &[Column]) -> i32
-    requires { AreUpTo 512 exponents.now }
+    requires { AreUpTo 1000 exponents.now }
     ensures value { result ≡ costs_scale exponents.now decisions.now }
     ensures least { negsuc 1299 ≤ℤ result }
     ensures greatest { result ≤ℤ pos 1300 }

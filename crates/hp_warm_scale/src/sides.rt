@@ -1,5 +1,5 @@
 // The sides of rows.
-ghost use Rattle.std.specs.Prelude.{◌≡◌, ◌+◌, ◌<◌, ◌≤◌, ◌≤ℤ◌, pos, negsuc, length};
+ghost use Rattle.std.specs.Prelude.{◌≡◌, ◌+◌, ◌<◌, ◌≤◌, ◌≤ℤ◌, pos, negsuc, length, take};
 ghost use Rattle.hp_num.specs.Sums.{entry};
 ghost use Rattle.hp_warm_table.specs.Shape.{IsTable};
 ghost use Rattle.hp_warm_scale.specs.Scaling.{AreSmall, AreRowScales};
@@ -93,24 +93,26 @@ fn set_all(
     true
 }
 
-/// Sets the sides of all rows to those of a program with as many rows, in order. The answer is false
-/// exactly where a side leaves its range: that row and those after it keep the sides that they had.
+/// Sets the sides of the first rows to those of a program's own rows, in order. The answer is false exactly where a side
+/// leaves its range: that row and those after it keep the sides that they had. Rows of cuts keep theirs.
 #[tactic(auto, unfolding(crate::specs::Appending::sided))]
 pub fn set_sides(table: &mut Table, lp: &StageLp) -> bool
     requires whole { IsTable table.old }
     requires small { AreSmall 1000 table.old.scales }
-    requires rows { length lp.now.rows ≡ length table.old.rows }
-    ensures answer { result ≡ (sided table.old lp.now.rows).0 }
-    ensures value { table.new ≡ with_bounds (sided table.old lp.now.rows).1 table.old }
+    requires own { lp.now.own ≤ length lp.now.rows }
+    requires rows { lp.now.own ≤ length table.old.rows }
+    ensures answer { result ≡ (sided table.old (take lp.now.own lp.now.rows)).0 }
+    ensures value { table.new ≡ with_bounds (sided table.old (take lp.now.own lp.now.rows)).1 table.old }
     ensures scales { table.new.scales ≡ table.old.scales }
     ensures whole { IsTable table.new }
 {
     let first = table.costs.len();
+    let (own, _) = lp.rows.as_slice().split_at(lp.own as usize);
     set_all(
         &mut table.bounds,
         table.scales.rows.as_slice(),
         table.scales.values,
         first,
-        lp.rows.as_slice(),
+        own,
     )
 }

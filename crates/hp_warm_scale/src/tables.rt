@@ -5,7 +5,8 @@ ghost use Rattle.hp_warm_table.specs.Shape.{IsTable};
 ghost use Rattle.hp_warm_scale.specs.Walks.{Gives};
 ghost use Rattle.hp_warm_scale.specs.Walks.{run, count_from};
 ghost use Rattle.hp_warm_scale.specs.First.{first_of};
-ghost use Rattle.hp_warm_scale.specs.Scaling.{column_step, with_column, blank_with, blank_of, blank_bounds_of, blank_basis_of, stood, columns_table, AreSmall, numbers, is_negative};
+ghost use Rattle.hp_warm_scale.specs.Fitting.{Suits};
+ghost use Rattle.hp_warm_scale.specs.Scaling.{column_step, with_column, blank_with, blank_of, blank_bounds_of, blank_basis_of, blank_cuts_of, stood, columns_table, AreSmall, numbers, is_negative};
 
 use crate::appending::append;
 use crate::exponents::columns;
@@ -13,7 +14,7 @@ use crate::scaling::{ScaledColumn, costs_scale, scaled_column, values_scale};
 use hp_num::{List, Memory};
 use hp_solver::{Column, LpRow, StageLp};
 use hp_warm_table::lists::repeated;
-use hp_warm_table::{Basis, Bounds, Cell, Quantity, Rows, Scales, Square, Table};
+use hp_warm_table::{Basis, Bounds, Cell, Cuts, Quantity, Rows, Scales, Square, Table};
 use std::alloc::Global;
 
 fn blank_bounds(alloc: Global, count: usize) -> Result<Bounds, Memory>
@@ -47,7 +48,8 @@ fn counted_places(alloc: Global, count: usize) -> Result<List<Option<usize>>, Me
     Ok(found)
 }
 
-fn blank_basis(alloc: Global, count: usize) -> Result<Basis, Memory>
+/// The basis of so many columns without rows: each is nonbasic, at the place of its number, at its lower bound.
+pub fn blank_basis(alloc: Global, count: usize) -> Result<Basis, Memory>
     ensures { IfOk result (λ basis. basis ≡ blank_basis_of count) }
 {
     Ok(Basis {
@@ -57,13 +59,24 @@ fn blank_basis(alloc: Global, count: usize) -> Result<Basis, Memory>
     })
 }
 
-// Bounds and basis of a table without rows.
-fn blank_variables(alloc: Global, count: usize) -> Result<(Bounds, Basis), Memory>
+fn blank_cuts(alloc: Global, count: usize) -> Result<Cuts, Memory>
+    ensures { IfOk result (λ cuts. cuts ≡ blank_cuts_of count) }
+{
+    Ok(Cuts {
+        rows: List::new(alloc),
+        waiting: repeated(alloc, count, false)?,
+    })
+}
+
+// Bounds, basis and cuts of a table without rows.
+fn blank_variables(alloc: Global, count: usize) -> Result<(Bounds, Basis, Cuts), Memory>
     ensures bounds { IfOk result (λ made. made.0 ≡ blank_bounds_of count) }
     ensures basis { IfOk result (λ made. made.1 ≡ blank_basis_of count) }
+    ensures cuts { IfOk result (λ made. made.2 ≡ blank_cuts_of count) }
 {
     let bounds = blank_bounds(alloc, count)?;
-    Ok((bounds, blank_basis(alloc, count)?))
+    let basis = blank_basis(alloc, count)?;
+    Ok((bounds, basis, blank_cuts(alloc, count)?))
 }
 
 // Zeros, one for each column: costs, reduced costs and values.
@@ -88,7 +101,7 @@ fn blank_with(
     requires few { count ≤ 1199 }
     ensures { IfOk result (λ table. table ≡ blank_with count columns costs_exponent values_exponent) }
 {
-    let (bounds, basis) = blank_variables(alloc, count)?;
+    let (bounds, basis, cuts) = blank_variables(alloc, count)?;
     let (costs, reduced, values) = zeros(alloc, count)?;
     let lines = Square::new(alloc, count)?;
     let scales = Scales {
@@ -100,6 +113,7 @@ fn blank_with(
     Ok(Table {
         scales,
         rows: Rows::new(alloc),
+        cuts,
         costs,
         bounds,
         basis,
@@ -230,6 +244,7 @@ pub fn first(alloc: Global, lp: &StageLp) -> Result<Option<Table>, Memory>
     ensures whole { IfOk result (λ table. IfSome table IsTable) }
     ensures small { IfOk result (λ table. IfSome table (λ t. AreSmall 512 t.scales)) }
     ensures columns { IfOk result (λ table. IfSome table (λ t. length t.costs ≡ length lp.now.columns)) }
+    ensures suits { IfOk result (λ table. IfSome table (λ t. Suits t lp.now)) }
 {
     let count = lp.columns.len();
     if count > 1199 {

@@ -1,5 +1,5 @@
 // A table that is widened by the columns of successors and by cuts.
-ghost use Rattle.std.specs.Prelude.{◌≡◌, ℕ, ◌+◌, ◌+ℤ◌, ◌-ℤ◌, ◌<◌, ◌≤◌, ◌≤ℤ◌, pos, negsuc, length, replicate, true, All, None, OnOk, IfOk, IfSome};
+ghost use Rattle.std.specs.Prelude.{◌≡◌, ◌+◌, ◌+ℤ◌, ◌-ℤ◌, ◌^◌, ◌<◌, ◌≤◌, ◌≤ℤ◌, pos, negsuc, length, replicate, true, All, None, OnOk, IfOk, IfSome};
 ghost use Rattle.hp_num.specs.Sums.{floor_over};
 ghost use Rattle.hp_solver.specs.Proper.{IsProper, AreRising};
 ghost use Rattle.hp_solver.specs.declared.stage_lp.LpRow.{LpRow};
@@ -9,27 +9,19 @@ ghost use Rattle.hp_warm_scale.specs.Spans.{IsBetween, AreBetween};
 ghost use Rattle.std.specs.Int.{int_max};
 ghost use Rattle.hp_warm_scale.specs.Exponents.{AreUpTo, SpansBetween, reach_of};
 ghost use Rattle.hp_warm_scale.specs.Scaling.{AreSmall};
-ghost use Rattle.hp_warm_scale.specs.Widening.{last_column, top, top_of, with_top, cut_spans, tops, cut_lift, successor_scale, with_scale, successor_scales, rescaled, widened};
+ghost use Rattle.hp_warm_scale.specs.Fitting.{Suits, Fits, AreNarrow};
+ghost use Rattle.hp_warm_scale.specs.Widening.{top, top_of, with_top, cut_spans, tops, cut_lift, successor_scale, with_scale, successor_scales, rescaled, widened_columns, put_cut, put_cuts, widened_by, widened, widened_in_full};
 
-use crate::appending::{append, term_span};
+use crate::appending::{append_cut, term_span};
 use crate::exponents::reach;
 use crate::spans::{Span, grow};
 use crate::tables::scale_columns;
-use hp_num::Memory;
+use crate::waiting::{last_column, slopes, waiting, waits};
+use hp_num::{List, Memory};
 use hp_solver::{Column, Fx, LpRow, StageLp};
-use hp_warm_table::Table;
 use hp_warm_table::lists::repeated;
+use hp_warm_table::{Coefficient, Table};
 use std::alloc::Global;
-
-// The column of a cut's last term.
-fn last_column(terms: &[(u32, Fx)]) -> Option<usize>
-    ensures { result ≡ last_column terms.now }
-{
-    match terms.get(terms.len().saturating_sub(1)) {
-        Some(term) => Some(term.0 as usize),
-        None => None,
-    }
-}
 
 // The greatest of a span, none where it is 0.
 fn top(span: Option<Span>) -> Option<i32>
@@ -54,8 +46,7 @@ fn cut_top(exponents: &[i32], terms: &[(u32, Fx)]) -> Option<i32>
     ensures value { result ≡ top_of exponents.now terms.now }
     ensures range { IfSome result (λ x. (pos 0 ≤ℤ x) × (x ≤ℤ pos 640)) }
 {
-    let (front, _) = terms.split_at(terms.len().saturating_sub(1));
-    top(term_span(exponents, front))
+    top(term_span(exponents, slopes(terms)))
 }
 
 // The spans of successors' columns with one number more.
@@ -76,7 +67,12 @@ fn add_top(decisions: usize, spans: &mut [Option<Span>], top: Option<i32>, colum
 
 // For each column of a successor the span of the tops of its cuts.
 #[tactic(auto, unfolding(crate::specs::Widening::cut_spans))]
-fn write_cut_spans(decisions: usize, exponents: &[i32], spans: &mut [Option<Span>], cuts: &[LpRow])
+pub(crate) fn write_cut_spans(
+    decisions: usize,
+    exponents: &[i32],
+    spans: &mut [Option<Span>],
+    cuts: &[LpRow],
+)
     requires exponents { AreUpTo 512 exponents.now }
     requires rising { All (λ (r : LpRow). AreRising 0 (length spans.old) r.terms) cuts.now }
     requires spans { spans.old ≡ replicate (length spans.old) None }
@@ -183,7 +179,7 @@ fn write_scale(
 }
 
 // Writes the exponents of the columns from number `first` on.
-fn write_scales(
+pub(crate) fn write_scales(
     values: i32,
     spans: &[Option<Span>],
     first: usize,
@@ -259,27 +255,112 @@ fn rescale(
     write_successors(alloc, table, decisions, successors, cuts)
 }
 
-/// Widens a table of a program's own part by its other columns, which belong to successors, and by
-/// its cuts: the columns get exponents, bounds, costs and reduced costs, and stay at their lower
-/// bounds, and the cuts are put behind the rows. The answer is false exactly where a number leaves
-/// its range: nothing is promised of the table then. [`Memory`] where memory was refused.
-#[tactic(auto, unfolding(crate::specs::Widening::widened))]
-pub fn widen(alloc: Global, table: &mut Table, lp: &StageLp) -> Result<bool, Memory>
-    requires whole { IsTable table.old }
-    requires small { AreSmall 512 table.old.scales }
+// Scales the columns of successors and gives them bounds and costs. The answer is false exactly where a number leaves its range.
+#[tactic(auto, unfolding(crate::specs::Widening::widened_columns))]
+fn widen_columns(alloc: Global, table: &mut Table, lp: &StageLp) -> Result<bool, Memory>
+    requires suits { Suits table.old lp.now }
     requires proper { IsProper lp.now }
-    requires columns { length lp.now.columns ≡ length table.old.costs }
-    ensures value { IfOk result (λ made. Gives made (widened lp.now table.old) table.new) }
-    ensures whole { IfOk result (λ made. made ≡ true → IsTable table.new) }
-    ensures small { IfOk result (λ made. made ≡ true → AreSmall 1000 table.new.scales) }
-    ensures count { IfOk result (λ made. made ≡ true → length table.new.costs ≡ length table.old.costs) }
+    ensures value { IfOk result (λ made. Gives made (widened_columns lp.now table.old) table.new) }
+    ensures whole { OnOk result (IsTable table.new) }
+    ensures small { OnOk result (AreSmall 1000 table.new.scales) }
+    ensures count { OnOk result (length table.new.costs ≡ length table.old.costs) }
 {
     let decisions = lp.decisions as usize;
     let (_, successors) = lp.columns.as_slice().split_at(decisions);
     let (_, cuts) = lp.rows.as_slice().split_at(lp.own as usize);
     rescale(alloc, table, decisions, successors, cuts)?;
-    if !scale_columns(table, decisions, successors) {
+    Ok(scale_columns(table, decisions, successors))
+}
+
+// Puts the cut behind the rows that is the program's row i, unless it waits.
+fn put_cut(
+    table: &mut Table,
+    i: usize,
+    row: &LpRow,
+    scaled: &mut List<(u32, Coefficient)>,
+) -> Result<bool, Memory>
+    requires whole { IsTable table.old }
+    requires small { AreSmall 1000 table.old.scales }
+    requires rising { AreRising 0 (length table.old.costs) row.now.terms }
+    ensures value { IfOk result (λ made. Gives made (put_cut table.old.cuts.waiting i row.now table.old) table.new) }
+    ensures whole { IfOk result (λ made. made ≡ true → IsTable table.new) }
+    ensures small { IfOk result (λ made. made ≡ true → AreSmall 1000 table.new.scales) }
+    ensures count { IfOk result (λ made. made ≡ true → length table.new.costs ≡ length table.old.costs) }
+    ensures waiting { IfOk result (λ made. made ≡ true → table.new.cuts.waiting ≡ table.old.cuts.waiting) }
+{
+    if waits(table.cuts.waiting.as_slice(), row) {
+        Ok(true)
+    } else {
+        append_cut(table, i, row, scaled)
+    }
+}
+
+// Puts the cuts behind the rows that do not wait, of which the first is the program's row `first`.
+fn put_cuts(alloc: Global, table: &mut Table, first: usize, cuts: &[LpRow]) -> Result<bool, Memory>
+    requires whole { IsTable table.old }
+    requires small { AreSmall 1000 table.old.scales }
+    requires few { first + length cuts.now < 2 ^ 64 }
+    requires rising { All (λ (r : LpRow). AreRising 0 (length table.old.costs) r.terms) cuts.now }
+    ensures value { IfOk result (λ made. Gives made (put_cuts table.old.cuts.waiting first cuts.now table.old) table.new) }
+    ensures whole { IfOk result (λ made. made ≡ true → IsTable table.new) }
+    ensures small { IfOk result (λ made. made ≡ true → AreSmall 1000 table.new.scales) }
+    ensures count { IfOk result (λ made. made ≡ true → length table.new.costs ≡ length table.old.costs) }
+{
+    let mut scaled = List::new(alloc);
+    for k in 0..cuts.len() {
+        if !put_cut(table, first + k, &cuts[k], &mut scaled)? {
+            return Ok(false);
+        }
+    }
+    Ok(true)
+}
+
+// Widens a table by a program, where the cuts in these columns wait.
+#[tactic(auto, unfolding(crate::specs::Widening::widened_by))]
+fn widen_by(
+    alloc: Global,
+    table: &mut Table,
+    lp: &StageLp,
+    waiting: List<bool>,
+) -> Result<bool, Memory>
+    requires suits { Suits table.old lp.now }
+    requires proper { IsProper lp.now }
+    requires count { length waiting ≡ length lp.now.columns }
+    requires narrow { AreNarrow lp.now waiting }
+    ensures value { IfOk result (λ made. Gives made (widened_by waiting lp.now table.old) table.new) }
+    ensures fits { IfOk result (λ made. made ≡ true → Fits table.new lp.now) }
+{
+    if !widen_columns(alloc, table, lp)? {
         return Ok(false);
     }
-    append(alloc, table, cuts)
+    table.cuts.waiting = waiting;
+    let (_, cuts) = lp.rows.as_slice().split_at(lp.own as usize);
+    put_cuts(alloc, table, lp.own as usize, cuts)
+}
+
+/// Widens a table of a program's own part by its other columns, which belong to successors, and by its cuts: the columns get
+/// exponents, bounds, costs and reduced costs, and stay at their lower bounds, and the cuts are put behind the rows, but for
+/// those of successors all of whose cuts are narrow: these wait. The answer is false exactly where a number leaves its range:
+/// nothing is promised of the table then. [`Memory`] where memory was refused.
+#[tactic(auto, unfolding(crate::specs::Widening::widened))]
+pub fn widen(alloc: Global, table: &mut Table, lp: &StageLp) -> Result<bool, Memory>
+    requires suits { Suits table.old lp.now }
+    requires proper { IsProper lp.now }
+    ensures value { IfOk result (λ made. Gives made (widened lp.now table.old) table.new) }
+    ensures fits { IfOk result (λ made. made ≡ true → Fits table.new lp.now) }
+{
+    let waiting = waiting(alloc, lp)?;
+    widen_by(alloc, table, lp, waiting)
+}
+
+/// The same, where no cut waits: all are put behind the rows.
+#[tactic(auto, unfolding(crate::specs::Widening::widened_in_full))]
+pub fn widen_in_full(alloc: Global, table: &mut Table, lp: &StageLp) -> Result<bool, Memory>
+    requires suits { Suits table.old lp.now }
+    requires proper { IsProper lp.now }
+    ensures value { IfOk result (λ made. Gives made (widened_in_full lp.now table.old) table.new) }
+    ensures fits { IfOk result (λ made. made ≡ true → Fits table.new lp.now) }
+{
+    let waiting = repeated(alloc, lp.columns.len(), false)?;
+    widen_by(alloc, table, lp, waiting)
 }

@@ -2,7 +2,8 @@ use Rattle.std.proofs.Common.{◌≡◌, pos, drop, length}
 use Rattle.hp_solver.specs.declared.stage_lp.LpRow.{LpRow}
 use Rattle.hp_warm_scale.specs.Walks.{walk}
 use Rattle.hp_warm_scale.specs.Exponents.{SpansBetween}
-use Rattle.hp_warm_scale.specs.Widening.{cut_spans, with_top, top_of, last_column}
+use Rattle.hp_warm_scale.specs.Waiting.{last_column}
+use Rattle.hp_warm_scale.specs.Widening.{cut_spans, with_top, top_of}
 use Rattle.hp_warm_scale.proofs.widening.write_cut_spans.Given as goal
 
 abbrev pub invariant-loop-i : goal.invariant-loop-i
