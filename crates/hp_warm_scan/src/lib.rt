@@ -1,0 +1,8 @@
+//! The cuts that come in because the point of a table violates them.
+#![tactic(auto)]
+
+pub mod greatest;
+pub mod scanning;
+pub mod values;
+
+pub use scanning::{Room, Scan, scan_cuts};

@@ -1,0 +1,139 @@
+// What cuts say of a point.
+ghost use Rattle.std.specs.Prelude.{◌≡◌, ◌^◌, ◌+◌, ◌<◌, ◌≤◌, pos, neg_ℤ, ◌+ℤ◌, ◌*ℤ◌, map, length, nat_abs, All, IfSome, OnOk, FitsSigned};
+ghost use Rattle.std.specs.Int.{w64};
+ghost use Rattle.hp_num.specs.Sums.{floor_over};
+ghost use Rattle.hp_warm_scale.specs.Walks.{walk};
+ghost use Rattle.hp_warm_scan.specs.Values.{state_of, height_of, slope_of, plus_slope, cut_value, IsPlain, IsWithin};
+
+use hp_num::{List, Memory};
+use hp_solver::{Fx, LpRow};
+use hp_warm_scale::waiting::slopes;
+
+// The number over 2^8, rounded down.
+fn floored(x: i128) -> i128
+    ensures { result ≡ floor_over x (2 ^ 8) }
+{
+    x >> 8
+}
+
+// The number with the other sign.
+fn negated(x: i128) -> i128
+    requires { nat_abs x < 2 ^ 65 }
+    ensures value { result ≡ neg_ℤ x }
+    ensures small { nat_abs result < 2 ^ 65 }
+{
+    -x
+}
+
+// The number in 64 bits.
+fn short(x: i128) -> i64
+    requires { FitsSigned w64 x }
+    ensures { result ≡ x }
+{
+    x as i64
+}
+
+// A slope by the row's term, which has the other sign.
+fn slope(a: Fx) -> i64
+    requires { nat_abs a.0 < 2 ^ 65 }
+    ensures value { result ≡ slope_of a }
+    ensures small { nat_abs result ≤ 2 ^ 57 }
+{
+    short(floored(negated(a.0)))
+}
+
+// A slope times its state.
+fn product(slope: i64, state: i64) -> i128
+    requires { nat_abs slope ≤ 2 ^ 57 }
+    ensures value { result ≡ slope *ℤ state }
+    ensures small { nat_abs result ≤ 2 ^ 120 }
+{
+    i128::from(slope) * i128::from(state)
+}
+
+// A sum.
+fn plus(x: i128, y: i128) -> i128
+    requires left { nat_abs x ≤ 2 ^ 126 + 2 ^ 125 }
+    requires right { nat_abs y ≤ 2 ^ 120 }
+    ensures value { result ≡ x +ℤ y }
+    ensures small { nat_abs result ≤ nat_abs x + 2 ^ 120 }
+{
+    x + y
+}
+
+// The value of a cut with one more slope times its state.
+#[tactic(auto, unfolding(crate::specs::Values::plus_slope))]
+fn plus_slope(sum: i128, states: &[i128], term: (u32, Fx)) -> i128
+    requires sum { nat_abs sum ≤ 2 ^ 126 + 2 ^ 125 }
+    requires plain { IsPlain states.now term }
+    ensures value { result ≡ plus_slope states.now sum term }
+    ensures small { nat_abs result ≤ nat_abs sum + 2 ^ 120 }
+{
+    plus(sum, product(slope(term.1), short(states[term.0 as usize])))
+}
+
+// The value of a cut with all its slopes times their states.
+fn plus_slopes(start: i128, states: &[i128], slopes: &[(u32, Fx)]) -> i128
+    requires start { nat_abs start ≤ 2 ^ 124 }
+    requires few { length slopes.now ≤ 50 }
+    requires plain { All (IsPlain states.now) slopes.now }
+    ensures { result ≡ walk (λ k s t. plus_slope states.now s t) 0 start slopes.now }
+{
+    let mut sum = start;
+    for k in 0..slopes.len() {
+        sum = plus_slope(sum, states, slopes[k]);
+    }
+    sum
+}
+
+// 2^24 times a number.
+fn raised(x: i128) -> i128
+    requires { nat_abs x ≤ 2 ^ 100 }
+    ensures value { result ≡ x *ℤ pos (2 ^ 24) }
+    ensures small { nat_abs result ≤ 2 ^ 124 }
+{
+    x * (1 << 24)
+}
+
+// The value of a cut where all states are 0.
+fn height(low: Option<Fx>) -> i128
+    requires { IfSome low (λ x. nat_abs x.0 < 2 ^ 108) }
+    ensures value { result ≡ height_of low }
+    ensures small { nat_abs result ≤ 2 ^ 100 }
+{
+    match low {
+        None => 0,
+        Some(low) => floored(low.0),
+    }
+}
+
+/// The value of a cut at some states, at the scale 2^48.
+#[tactic(auto, unfolding(crate::specs::Values::cut_value))]
+pub fn cut_value(states: &[i128], row: &LpRow) -> i128
+    requires { IsWithin states.now row.now }
+    ensures { result ≡ cut_value states.now row.now }
+{
+    plus_slopes(
+        raised(height(row.low)),
+        states,
+        slopes(row.terms.as_slice()),
+    )
+}
+
+// A number at the scale of states.
+fn state(x: Fx) -> i128
+    ensures { result ≡ state_of x }
+{
+    floored(x.0)
+}
+
+/// Writes a point at the scale of states. [`Memory`] where memory was refused.
+pub fn write_states(point: &[Fx], states: &mut List<i128>) -> Result<(), Memory>
+    ensures { OnOk result (states.new ≡ map state_of point.now) }
+{
+    states.clear();
+    for x in point {
+        states.push(state(*x))?;
+    }
+    Ok(())
+}
