@@ -1,0 +1,187 @@
+// Rows that are put behind a table.
+ghost use Rattle.std.specs.Prelude.{◌≡◌, ◌≤ℤ◌, ◌+◌, ◌+ℤ◌, pos, negsuc, length, true, All, IfOk, OnOk};
+ghost use Rattle.hp_solver.specs.Proper.{AreRising};
+ghost use Rattle.hp_solver.specs.declared.stage_lp.LpRow.{LpRow};
+ghost use Rattle.hp_warm_table.specs.Shape as shape;
+ghost use Rattle.hp_warm_table.specs.Updates.{Gives};
+ghost use Rattle.hp_warm_scale.specs.Exponents.{AreUpTo};
+ghost use Rattle.hp_wide_table.specs.Shape.{IsTable};
+ghost use Rattle.hp_wide_table.specs.Appending.{scaled_side, scaled_sides, scaled_term, scaled_terms, with_row, row_step, appended_row, appended};
+
+use crate::kept::{Cell, Quantity};
+use crate::scaling::{power, scaled_cell, scaled_value};
+use crate::table::Table;
+use hp_num::{List, Memory};
+use hp_solver::{Fx, LpRow};
+use hp_warm_scale::appending::row_scale;
+use hp_warm_scale::exponents::exponent_at;
+use std::alloc::Global;
+
+/// The sides of a row, scaled.
+#[derive(Clone, Copy)]
+pub struct Sides {
+    /// The lower side, 0 where there is none.
+    pub low: Quantity,
+    /// The upper side, 0 where there is none.
+    pub up: Quantity,
+    /// Whether there is a lower side.
+    pub has_low: bool,
+    /// Whether there is an upper side.
+    pub has_up: bool,
+}
+
+fn scaled_side(exponent: i32, side: Option<Fx>) -> Option<Quantity>
+    ensures { result ≡ scaled_side exponent side }
+{
+    match side {
+        None => Some(Quantity::zero()),
+        Some(side) => scaled_value(side, exponent),
+    }
+}
+
+// The sides of a row times 2^exponent. None where one leaves its range.
+#[tactic(auto, unfolding(crate::specs::Appending::scaled_sides))]
+fn scaled_sides(exponent: i32, row: &LpRow) -> Option<Sides>
+    ensures { result ≡ scaled_sides exponent row.now }
+{
+    let low = scaled_side(exponent, row.low)?;
+    let up = scaled_side(exponent, row.high)?;
+    Some(Sides {
+        low,
+        up,
+        has_low: row.low.is_some(),
+        has_up: row.high.is_some(),
+    })
+}
+
+// A term of a row with an exponent, scaled.
+#[tactic(auto, unfolding(crate::specs::Appending::scaled_term))]
+fn scaled_term(exponents: &[i32], exponent: i32, term: (u32, Fx)) -> Option<(u32, Cell)>
+    requires exponents { AreUpTo 1000 exponents.now }
+    requires least { negsuc 1299 ≤ℤ exponent }
+    requires greatest { exponent ≤ℤ pos 1300 }
+    ensures { result ≡ scaled_term exponents.now exponent term }
+{
+    let power = power(exponent, exponent_at(exponents, term.0 as usize));
+    Some((term.0, scaled_cell(term.1, power)?))
+}
+
+// Writes the terms of a row, scaled. False where one is out of range.
+#[tactic(auto, unfolding(crate::specs::Appending::scaled_terms))]
+fn scale_terms(
+    exponents: &[i32],
+    exponent: i32,
+    terms: &[(u32, Fx)],
+    found: &mut List<(u32, Cell)>,
+) -> Result<bool, Memory>
+    requires exponents { AreUpTo 1000 exponents.now }
+    requires least { negsuc 1299 ≤ℤ exponent }
+    requires greatest { exponent ≤ℤ pos 1300 }
+    ensures { IfOk result (λ made. Gives made (scaled_terms exponents.now exponent terms.now) found.new) }
+{
+    found.clear();
+    for k in 0..terms.len() {
+        match scaled_term(exponents, exponent, terms[k]) {
+            Some(term) => found.push(term)?,
+            None => return Ok(false),
+        }
+    }
+    Ok(true)
+}
+
+// Puts a row behind the others.
+fn push_row(
+    table: &mut Table,
+    exponent: i32,
+    terms: &[(u32, Cell)],
+    sides: Sides,
+) -> Result<(), Memory>
+    ensures { OnOk result (table.new ≡ with_row exponent terms.now sides table.old) }
+{
+    table.scales.rows.push(exponent)?;
+    table.rows.push(terms)?;
+    table.bounds.lows.push(sides.low)?;
+    table.bounds.ups.push(sides.up)?;
+    table.bounds.has_low.push(sides.has_low)?;
+    table.bounds.has_up.push(sides.has_up)?;
+    table.basis.places.push(None)?;
+    Ok(())
+}
+
+// Puts a row behind the others, which makes a table of a table.
+fn put_row(
+    table: &mut Table,
+    exponent: i32,
+    terms: &[(u32, Cell)],
+    sides: Sides,
+) -> Result<(), Memory>
+    requires whole { IsTable table.old }
+    requires rising { shape.AreRising 0 (length table.old.costs) terms.now }
+    requires least { negsuc 1299 ≤ℤ exponent }
+    requires greatest { exponent ≤ℤ pos 1300 }
+    ensures value { OnOk result (table.new ≡ with_row exponent terms.now sides table.old) }
+    ensures whole { OnOk result (IsTable table.new) }
+    ensures count { OnOk result (length table.new.costs ≡ length table.old.costs) }
+    ensures rows { OnOk result (length table.new.rows ≡ length table.old.rows + 1) }
+{
+    push_row(table, exponent, terms, sides)
+}
+
+// By which power of two the sides of a row are scaled.
+fn side_exponent(exponent: i32, values: i32) -> i32
+    requires least { negsuc 1299 ≤ℤ exponent }
+    requires greatest { exponent ≤ℤ pos 1300 }
+    requires values_least { negsuc 1299 ≤ℤ values }
+    requires values_greatest { values ≤ℤ pos 0 }
+    ensures { result ≡ exponent +ℤ values +ℤ pos 32 }
+{
+    exponent + values + 32
+}
+
+// Puts a row of a program behind the others: its terms and sides, scaled, and its slack, which is
+// basic. The answer is false exactly where a number leaves its range: nothing is promised of the
+// table then. [`Memory`] where memory was refused. `scaled` is for work.
+#[tactic(auto, unfolding(crate::specs::Appending::appended_row))]
+fn append_row(
+    table: &mut Table,
+    row: &LpRow,
+    scaled: &mut List<(u32, Cell)>,
+) -> Result<bool, Memory>
+    requires whole { IsTable table.old }
+    requires rising { AreRising 0 (length table.old.costs) row.now.terms }
+    ensures value { IfOk result (λ made. Gives made (appended_row row.now table.old) table.new) }
+    ensures whole { IfOk result (λ made. made ≡ true → IsTable table.new) }
+    ensures count { IfOk result (λ made. made ≡ true → length table.new.costs ≡ length table.old.costs) }
+    ensures rows { IfOk result (λ made. made ≡ true → length table.new.rows ≡ length table.old.rows + 1) }
+{
+    let terms = row.terms.as_slice();
+    let exponent = row_scale(table.scales.columns.as_slice(), terms);
+    let whole = scale_terms(table.scales.columns.as_slice(), exponent, terms, scaled)?;
+    match scaled_sides(side_exponent(exponent, table.scales.values), row) {
+        Some(sides) if whole => {
+            put_row(table, exponent, scaled.as_slice(), sides)?;
+            Ok(true)
+        }
+        _ => Ok(false),
+    }
+}
+
+// Puts some rows of a program behind the others, one after the other. The answer is false exactly
+// where a number leaves its range: nothing is promised of the table then. [`Memory`] where memory
+// was refused.
+pub(crate) fn append(alloc: Global, table: &mut Table, rows: &[LpRow]) -> Result<bool, Memory>
+    requires whole { IsTable table.old }
+    requires rising { All (λ (r : LpRow). AreRising 0 (length table.old.costs) r.terms) rows.now }
+    ensures value { IfOk result (λ made. Gives made (appended rows.now table.old) table.new) }
+    ensures whole { IfOk result (λ made. made ≡ true → IsTable table.new) }
+    ensures count { IfOk result (λ made. made ≡ true → length table.new.costs ≡ length table.old.costs) }
+    ensures rows { IfOk result (λ made. made ≡ true → length table.new.rows ≡ length table.old.rows + length rows.now) }
+{
+    let mut scaled = List::new(alloc);
+    for i in 0..rows.len() {
+        if !append_row(table, &rows[i], &mut scaled)? {
+            return Ok(false);
+        }
+    }
+    Ok(true)
+}

@@ -1,0 +1,146 @@
+// As many rows as columns.
+ghost use Rattle.std.specs.Prelude.{◌≡◌, ◌+◌, ◌*◌, ◌^◌, ◌<◌, ◌≤◌, [], pos, length, get_or, slice_set, take, drop, replicate, IfOk};
+ghost use Rattle.std.specs.Option.{option_map};
+ghost use Rattle.hp_simplex.specs.Rows.{rows_of, put};
+ghost use Rattle.hp_warm_table.specs.Updates.{Gives};
+ghost use Rattle.hp_wide_table.specs.Updates.{moved_row, moved_at};
+
+use crate::kept::Cell;
+use crate::updates::move_row;
+use hp_num::{List, Memory};
+use hp_warm_table::lists::repeated;
+use std::alloc::Global;
+use std::marker::Model;
+
+/// As many rows as columns, of cells.
+#[derive(Drop)]
+pub struct Square {
+    size: u32,
+    cells: List<Cell>,
+}
+
+impl Model for Square {
+    ghost use Rattle.std.specs.Prelude.{List, ℤ, ◌≡◌, ◌*◌, length};
+    ghost use Rattle.hp_simplex.specs.Rows.{rows_of};
+
+    ghost Value = { List (List ℤ) };
+
+    ghost view = { λ s. rows_of s.size s.size s.cells };
+
+    ghost invariant = { λ s. length s.cells ≡ s.size * s.size };
+}
+
+impl Square {
+    /// Rows of zeros. [`Memory`] where memory was refused.
+    #[tactic(auto, using(hp_simplex::proofs::Flat::same_rows))]
+    pub fn new(alloc: Global, size: usize) -> Result<Square, Memory>
+        requires few { size < 2 ^ 31 }
+        ensures { IfOk result (λ square. square ≡ replicate size (replicate size (pos 0))) }
+    {
+        Ok(Square {
+            size: size as u32,
+            cells: repeated(alloc, size * size, Cell::zero())?,
+        })
+    }
+
+    /// The number of rows, and of cells in each of them.
+    #[tactic(auto, using(hp_simplex::proofs::Flat::rows_count))]
+    pub fn size(&self) -> usize
+        ensures { result ≡ length self.now }
+    {
+        self.size as usize
+    }
+
+    /// Row v.
+    #[tactic(auto, using(hp_simplex::proofs::Flat::rows_count))]
+    pub fn row(&self, v: usize) -> &[Cell]
+        requires { v < length self.now }
+        ensures row { result.now ≡ get_or self.now v [] }
+        ensures width { length result.now ≡ length self.now }
+    {
+        row_of(self.cells.as_slice(), self.size, v)
+    }
+
+    /// Puts other cells in the place of row v.
+    #[tactic(auto, using(hp_simplex::proofs::Flat::rows_count))]
+    pub fn set_row(&mut self, v: usize, row: &[Cell])
+        requires there { v < length self.old }
+        requires width { length row.now ≡ length self.old }
+        ensures { self.new ≡ slice_set self.old v row.now }
+    {
+        set_row_of(&mut self.cells, self.size, v, row);
+    }
+
+    /// Row v after the variable at a place is replaced by the sum that the addend is; the other rows
+    /// stay. The answer is false exactly where a result leaves the range of cells: nothing but
+    /// their number is promised of the rows then.
+    #[tactic(auto, using(hp_simplex::proofs::Flat::rows_count))]
+    pub fn move_row(&mut self, v: usize, place: usize, addend: &[Cell]) -> bool
+        requires there { v < length self.old }
+        requires place { place < length self.old }
+        requires width { length addend.now ≡ length self.old }
+        ensures count { length self.new ≡ length self.old }
+        ensures moved { Gives result (moved_at v place addend.now self.old) self.new }
+    {
+        move_row_of(&mut self.cells, self.size, v, place, addend)
+    }
+}
+
+// Row v of as many rows as cells in each.
+fn row_of(cells: &[Cell], size: u32, v: usize) -> &[Cell]
+    requires there { v < size }
+    requires square { length cells.now ≡ size * size }
+    ensures row { result.now ≡ get_or (rows_of size size cells.now) v [] }
+    ensures width { length result.now ≡ size }
+{
+    let width = size as usize;
+    let start = v * width;
+    &cells[start..start + width]
+}
+
+// Writes a row over the cells from a place on.
+fn put_row(cells: &mut [Cell], start: usize, row: &[Cell])
+    requires { start + length row.now ≤ length cells.old }
+    ensures { cells.new ≡ put (length row.now) start cells.old row.now }
+{
+    let (_, rest) = cells.split_at_mut(start);
+    let (place, _) = rest.split_at_mut(row.len());
+    place.copy_from_slice(row);
+}
+
+// Writes row v of as many rows as cells in each.
+fn set_row_of(cells: &mut List<Cell>, size: u32, v: usize, row: &[Cell])
+    requires there { v < size }
+    requires width { length row.now ≡ size }
+    requires square { length cells.old ≡ size * size }
+    ensures square { length cells.new ≡ size * size }
+    ensures rows { rows_of size size cells.new ≡ slice_set (rows_of size size cells.old) v row.now }
+{
+    put_row(cells.as_mut_slice(), v * size as usize, row);
+}
+
+// One row, from the cell `start` on, after the variable at a place is replaced.
+fn move_row_at(cells: &mut [Cell], start: usize, place: usize, addend: &[Cell]) -> bool
+    requires place { place < length addend.now }
+    requires inside { start + length addend.now ≤ length cells.old }
+    ensures lengths { length cells.new ≡ length cells.old }
+    ensures moved { Gives result (option_map (put (length addend.now) start cells.old)
+        (moved_row place addend.now (take (length addend.now) (drop start cells.old)))) cells.new }
+{
+    let (_, rest) = cells.split_at_mut(start);
+    let (row, _) = rest.split_at_mut(addend.len());
+    move_row(row, place, addend)
+}
+
+// Row v of as many rows as cells in each, after the variable at a place is replaced.
+fn move_row_of(cells: &mut List<Cell>, size: u32, v: usize, place: usize, addend: &[Cell]) -> bool
+    requires there { v < size }
+    requires place { place < size }
+    requires width { length addend.now ≡ size }
+    requires square { length cells.old ≡ size * size }
+    ensures square { length cells.new ≡ size * size }
+    ensures moved { Gives result (moved_at v place addend.now (rows_of size size cells.old))
+        (rows_of size size cells.new) }
+{
+    move_row_at(cells.as_mut_slice(), v * size as usize, place, addend)
+}

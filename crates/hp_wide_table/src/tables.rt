@@ -1,0 +1,179 @@
+// The table of a program's columns.
+ghost use Rattle.std.specs.Prelude.{◌≡◌, ◌≤◌, ◌<◌, length, map, replicate, pos, IfOk, IfSome};
+ghost use Rattle.hp_warm_table.specs.Updates.{Gives};
+ghost use Rattle.hp_warm_scale.specs.Walks.{run};
+ghost use Rattle.hp_warm_scale.specs.Scaling.{AreSmall, blank_basis_of, is_negative};
+ghost use Rattle.hp_wide_table.specs.Shape.{IsTable};
+ghost use Rattle.hp_wide_table.specs.Scaling.{column_step, with_column, blank_of, blank_bounds_of, columns_table};
+
+use crate::kept::{Cell, Quantity};
+use crate::rows::Rows;
+use crate::scaling::{ScaledColumn, scaled_column};
+use crate::square::Square;
+use crate::table::{Bounds, Table};
+use hp_num::{List, Memory};
+use hp_solver::Column;
+use hp_warm_scale::tables::blank_basis;
+use hp_warm_table::lists::repeated;
+use hp_warm_table::{Basis, Scales};
+use std::alloc::Global;
+
+fn blank_bounds(alloc: Global, count: usize) -> Result<Bounds, Memory>
+    ensures { IfOk result (λ bounds. bounds ≡ blank_bounds_of count) }
+{
+    Ok(Bounds {
+        lows: repeated(alloc, count, Quantity::zero())?,
+        ups: repeated(alloc, count, Quantity::zero())?,
+        has_low: repeated(alloc, count, true)?,
+        has_up: repeated(alloc, count, true)?,
+    })
+}
+
+// Bounds and basis of a table without rows.
+fn blank_variables(alloc: Global, count: usize) -> Result<(Bounds, Basis), Memory>
+    ensures bounds { IfOk result (λ made. made.0 ≡ blank_bounds_of count) }
+    ensures basis { IfOk result (λ made. made.1 ≡ blank_basis_of count) }
+{
+    let bounds = blank_bounds(alloc, count)?;
+    Ok((bounds, blank_basis(alloc, count)?))
+}
+
+// Zeros, one for each column: costs, reduced costs and values.
+fn zeros(alloc: Global, count: usize) -> Result<(List<Cell>, List<Cell>, List<Quantity>), Memory>
+    ensures costs { IfOk result (λ made. made.0 ≡ replicate count (pos 0)) }
+    ensures reduced { IfOk result (λ made. made.1 ≡ replicate count (pos 0)) }
+    ensures values { IfOk result (λ made. made.2 ≡ replicate count (pos 0)) }
+{
+    let costs = repeated(alloc, count, Cell::zero())?;
+    let reduced = repeated(alloc, count, Cell::zero())?;
+    Ok((costs, reduced, repeated(alloc, count, Quantity::zero())?))
+}
+
+// A table without rows, whose columns are 0, with these exponents.
+fn blank(alloc: Global, count: usize, scales: Scales) -> Result<Table, Memory>
+    requires few { count ≤ 1199 }
+    ensures { IfOk result (λ table. table ≡ blank_of count scales) }
+{
+    let (bounds, basis) = blank_variables(alloc, count)?;
+    let (costs, reduced, values) = zeros(alloc, count)?;
+    let lines = Square::new(alloc, count)?;
+    Ok(Table {
+        scales,
+        rows: Rows::new(alloc),
+        costs,
+        bounds,
+        basis,
+        reduced,
+        lines,
+        values,
+    })
+}
+
+// The same, which is a table.
+fn blank_table(alloc: Global, count: usize, scales: Scales) -> Result<Table, Memory>
+    requires few { count ≤ 1199 }
+    requires small { AreSmall 1000 scales }
+    requires columns { length scales.columns ≡ count }
+    requires rows { length scales.rows ≡ 0 }
+    ensures value { IfOk result (λ table. table ≡ blank_of count scales) }
+    ensures whole { IfOk result IsTable }
+    ensures count { IfOk result (λ table. length table.costs ≡ count) }
+    ensures rows { IfOk result (λ table. length table.rows ≡ 0) }
+{
+    blank(alloc, count, scales)
+}
+
+// Writes the bounds, the cost and the reduced cost of column j, which is nonbasic at place j.
+fn write_column(table: &mut Table, j: usize, column: ScaledColumn)
+    requires costs { j < length table.old.costs }
+    requires reduced { j < length table.old.reduced }
+    requires lows { j < length table.old.bounds.lows }
+    requires ups { j < length table.old.bounds.ups }
+    ensures { table.new ≡ with_column j column table.old }
+{
+    table.costs.set(j, column.cost);
+    table.reduced.set(j, column.cost);
+    table.bounds.lows.set(j, column.low);
+    table.bounds.ups.set(j, column.up);
+}
+
+// Column j of a program, scaled. The answer is false exactly where a number leaves its range: the
+// table is then as before.
+#[tactic(auto, unfolding(crate::specs::Scaling::column_step))]
+fn scale_column(table: &mut Table, j: usize, column: &Column) -> bool
+    requires whole { IsTable table.old }
+    requires there { j < length table.old.costs }
+    ensures value { Gives result (column_step j column.now table.old) table.new }
+    ensures whole { IsTable table.new }
+    ensures count { length table.new.costs ≡ length table.old.costs }
+    ensures rows { table.new.rows ≡ table.old.rows }
+{
+    let exponent = table.scales.columns.as_slice()[j];
+    match scaled_column(column, exponent, table.scales.costs, table.scales.values) {
+        Some(scaled) => {
+            write_column(table, j, scaled);
+            true
+        }
+        None => false,
+    }
+}
+
+// The columns of a program, scaled: their bounds, costs and reduced costs. The answer is false
+// exactly where a number leaves its range.
+fn scale_columns(table: &mut Table, columns: &[Column]) -> bool
+    requires whole { IsTable table.old }
+    requires there { length columns.now ≤ length table.old.costs }
+    ensures value { Gives result (run column_step 0 columns.now table.old) table.new }
+    ensures whole { IsTable table.new }
+    ensures count { length table.new.costs ≡ length table.old.costs }
+    ensures rows { table.new.rows ≡ table.old.rows }
+{
+    for j in 0..columns.len() {
+        if !scale_column(table, j, &columns[j]) {
+            return false;
+        }
+    }
+    true
+}
+
+fn is_negative(cell: Cell) -> bool
+    ensures { result ≡ is_negative cell }
+{
+    cell.number() < 0
+}
+
+// Each column stands at its upper bound where its reduced cost is negative.
+fn stand(high: &mut [bool], reduced: &[Cell])
+    requires { length high.old ≡ length reduced.now }
+    ensures { high.new ≡ map is_negative reduced.now }
+{
+    for j in 0..reduced.len() {
+        high[j] = is_negative(reduced[j]);
+    }
+}
+
+// The table of a program's columns, with these exponents. None where a number leaves its range.
+#[tactic(auto, unfolding(crate::specs::Scaling::columns_table))]
+pub(crate) fn columns_table(
+    alloc: Global,
+    count: usize,
+    scales: Scales,
+    columns: &[Column],
+) -> Result<Option<Table>, Memory>
+    requires few { count ≤ 1199 }
+    requires small { AreSmall 1000 scales }
+    requires exponents { length scales.columns ≡ count }
+    requires rows { length scales.rows ≡ 0 }
+    requires columns { length columns.now ≤ count }
+    ensures value { IfOk result (λ table. table ≡ columns_table count scales columns.now) }
+    ensures whole { IfOk result (λ table. IfSome table IsTable) }
+    ensures count { IfOk result (λ table. IfSome table (λ t. length t.costs ≡ count)) }
+    ensures rows { IfOk result (λ table. IfSome table (λ t. length t.rows ≡ 0)) }
+{
+    let mut table = blank_table(alloc, count, scales)?;
+    if !scale_columns(&mut table, columns) {
+        return Ok(None);
+    }
+    stand(table.basis.high.as_mut_slice(), table.reduced.as_slice());
+    Ok(Some(table))
+}
