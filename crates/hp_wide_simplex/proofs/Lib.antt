@@ -1,0 +1,10 @@
+pub mod Columns
+pub mod Digits
+pub mod Firsts
+pub mod Fitting
+pub mod Inside
+pub mod Sized
+pub mod Steps
+pub mod Terms
+pub mod Violating
+pub mod Walks

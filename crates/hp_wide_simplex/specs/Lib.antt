@@ -1,0 +1,13 @@
+pub mod Activity
+pub mod Refine
+pub mod Line
+pub mod Pivot
+pub mod Enter
+pub mod Enters
+pub mod Finish
+pub mod Found
+pub mod Ray
+pub mod Violations
+pub mod Turns
+pub mod Solve
+pub mod Steps

@@ -1,0 +1,173 @@
+// What ends a run: duals that speak of sides that are there, and the test that the reduced costs that follow are cells.
+ghost use Rattle.std.specs.Prelude.{◌≡◌, ◌<◌, ◌^◌, ◌*ℤ◌, pos, length, All, IfOk};
+ghost use Rattle.std.specs.Option.{is_some};
+ghost use Rattle.hp_simplex.specs.Each.{each_from};
+ghost use Rattle.hp_warm_table.specs.Updates.{Gives};
+ghost use Rattle.hp_wide_table.specs.Shape.{IsTable, variables};
+ghost use Rattle.hp_wide_simplex.specs.Finish.{has_side, dual_of, less_term, less_terms, less_place, less_places, whole_costs, rests_of, cell_at, costs_of};
+
+use hp_num::{List, Memory};
+use hp_warm_table::lists::with_room;
+use hp_wide::Wide;
+use hp_wide_table::numbers::down;
+use hp_wide_table::{Bounds, Cell, Table};
+use std::alloc::Global;
+
+// Whether a variable has the bound that a cost of this sign speaks of.
+fn has_side(bounds: &Bounds, variable: usize, cost: Cell) -> bool
+    requires low { variable < length bounds.now.has_low }
+    requires up { variable < length bounds.now.has_up }
+    ensures { result ≡ has_side bounds.now variable cost }
+{
+    if 0 < cost.number() {
+        bounds.has_low.as_slice()[variable]
+    } else {
+        bounds.has_up.as_slice()[variable]
+    }
+}
+
+// The dual of the row whose slack has this reduced cost.
+#[tactic(auto, unfolding(crate::specs::Finish::dual_of))]
+pub(crate) fn dual_of(table: &Table, variable: usize, cost: Cell) -> Cell
+    requires sized { IsTable table.now }
+    requires there { variable < variables table.now }
+    ensures { result ≡ dual_of table.now variable cost }
+{
+    if has_side(&table.bounds, variable, cost) {
+        cost
+    } else {
+        Cell::zero()
+    }
+}
+
+// Less a dual times a term. False where 256 bits do not hold it.
+#[tactic(auto, unfolding(crate::specs::Finish::less_term))]
+fn less_term(rests: &mut [Wide], term: (u32, Cell), dual: Cell) -> bool
+    requires inside { term.0 < length rests.old }
+    ensures rests { Gives result (less_term dual rests.old term) rests.new }
+    ensures lengths { length rests.new ≡ length rests.old }
+{
+    let at = term.0 as usize;
+    match rests[at].minus(Wide::product(dual.number(), term.1.number())) {
+        Some(rest) => {
+            rests[at] = rest;
+            true
+        }
+        None => false,
+    }
+}
+
+// Less a dual times each of some terms.
+fn less_terms(rests: &mut [Wide], terms: &[(u32, Cell)], dual: Cell) -> bool
+    requires inside { All (λ t. t.0 < length rests.old) terms.now }
+    ensures rests { Gives result (less_terms dual rests.old terms.now) rests.new }
+    ensures lengths { length rests.new ≡ length rests.old }
+{
+    for k in 0..terms.len() {
+        if !less_term(rests, terms[k], dual) {
+            return false;
+        }
+    }
+    true
+}
+
+// Less the terms of the row whose slack stands at a place.
+#[tactic(auto, unfolding(crate::specs::Finish::less_place), using(crate::proofs::Columns::row_within))]
+fn less_place(rests: &mut [Wide], table: &Table, place: usize, variable: usize) -> bool
+    requires sized { IsTable table.now }
+    requires place { place < length table.now.costs }
+    requires there { variable < variables table.now }
+    requires lengths { length rests.old ≡ length table.now.costs }
+    ensures rests { Gives result (less_place table.now place rests.old variable) rests.new }
+    ensures lengths { length rests.new ≡ length rests.old }
+{
+    let columns = table.costs.len();
+    if variable < columns {
+        return true;
+    }
+    let dual = dual_of(table, variable, table.reduced.as_slice()[place]);
+    less_terms(rests, table.rows.row(variable - columns), dual)
+}
+
+// Less the terms of the rows whose slacks stand at the places.
+fn less_places(rests: &mut [Wide], table: &Table, nonbasic: &[usize]) -> bool
+    requires sized { IsTable table.now }
+    requires places { length nonbasic.now ≡ length table.now.costs }
+    requires there { All (λ v. v < variables table.now) nonbasic.now }
+    requires lengths { length rests.old ≡ length table.now.costs }
+    ensures rests { Gives result (less_places table.now 0 rests.old nonbasic.now) rests.new }
+    ensures lengths { length rests.new ≡ length rests.old }
+{
+    for j in 0..nonbasic.len() {
+        if !less_place(rests, table, j, nonbasic[j]) {
+            return false;
+        }
+    }
+    true
+}
+
+// A cost at scale 2^160.
+fn whole_cost(cost: Cell) -> Wide
+    ensures { result ≡ cost *ℤ pos (2 ^ 80) }
+{
+    Wide::product(cost.number(), 1 << 80)
+}
+
+// Costs at scale 2^160.
+fn whole_costs(alloc: Global, costs: &[Cell]) -> Result<List<Wide>, Memory>
+    ensures costs { IfOk result (λ found. found ≡ whole_costs costs.now) }
+    ensures lengths { IfOk result (λ found. length found ≡ length costs.now) }
+{
+    let mut found = with_room(alloc, costs.len())?;
+    for j in 0..costs.len() {
+        found.push(whole_cost(costs[j]))?;
+    }
+    Ok(found)
+}
+
+// What rests of the cost of each column, less the terms of all rows times their duals. None where 256 bits do not hold a
+// rest on the way.
+fn rests_of(alloc: Global, table: &Table) -> Result<Option<List<Wide>>, Memory>
+    requires sized { IsTable table.now }
+    ensures rests { IfOk result (λ found. found ≡ rests_of table.now) }
+{
+    let mut rests = whole_costs(alloc, table.costs.as_slice())?;
+    let nonbasic = table.basis.nonbasic.as_slice();
+    if less_places(rests.as_mut_slice(), table, nonbasic) {
+        Ok(Some(rests))
+    } else {
+        Ok(None)
+    }
+}
+
+// A number at scale 2^160 as a cell.
+fn cell(rest: Wide) -> Option<Cell>
+    ensures { result ≡ cell_at 0 rest }
+{
+    Cell::new(down(rest)?)
+}
+
+// Whether numbers at scale 2^160 are cells.
+fn are_cells(rests: &[Wide]) -> bool
+    ensures { result ≡ is_some (each_from cell_at 0 rests.now) }
+{
+    for v in 0..rests.len() {
+        if cell(rests[v]).is_none() {
+            return false;
+        }
+    }
+    true
+}
+
+/// Whether the reduced costs of all columns, computed afresh from the duals of the rows, are cells. [`Memory`] where memory
+/// was refused.
+#[tactic(auto, unfolding(crate::specs::Finish::costs_of))]
+pub fn has_costs(alloc: Global, table: &Table) -> Result<bool, Memory>
+    requires sized { IsTable table.now }
+    ensures { IfOk result (λ holds. holds ≡ is_some (costs_of table.now)) }
+{
+    match rests_of(alloc, table)? {
+        Some(rests) => Ok(are_cells(rests.as_slice())),
+        None => Ok(false),
+    }
+}

@@ -1,0 +1,157 @@
+// The violations of a table, looked at from the greatest on.
+ghost use Rattle.std.specs.Prelude.{◌≡◌, length, All, None, IfOk, IfSome};
+ghost use Rattle.hp_solver.specs.Proper.{IsProper};
+ghost use Rattle.hp_wide_table.specs.Shape.{Fits};
+ghost use Rattle.hp_wide_simplex.specs.Enter.{enter_of};
+ghost use Rattle.hp_wide_simplex.specs.Ray.{ray_of};
+ghost use Rattle.hp_wide_simplex.specs.Steps.{IsInside};
+ghost use Rattle.hp_wide_simplex.specs.Turns.{by_ray, by_entry, look_at, look_from, look_of};
+ghost use Rattle.hp_wide_simplex.specs.Violations.{IsThere};
+
+use crate::entering::enter;
+use crate::line::line;
+use crate::ray::ray;
+use crate::violations::{Violation, next_violation, violations};
+use hp_num::{List, Memory};
+use hp_solver::{Answer, StageLp};
+use hp_wide_table::{Cell, Table};
+use std::alloc::Global;
+
+/// How a violation is mended.
+#[derive(Drop)]
+pub struct Mend {
+    /// The violation.
+    pub violation: Violation,
+    /// The line of its variable.
+    pub line: List<Cell>,
+    /// The place that enters.
+    pub place: usize,
+    /// The places that flip.
+    pub flips: List<usize>,
+}
+
+/// What one violation or all violations come to.
+pub enum Look {
+    /// None can be mended, and none shows that no point keeps all own rows.
+    Rests,
+    /// One is mended.
+    Mends(Mend),
+    /// No point keeps all own rows.
+    Shows(Answer),
+    /// A number is out of range.
+    Stops,
+}
+
+// The ray of a violation that no place mends.
+fn show(
+    alloc: Global,
+    lp: &StageLp,
+    table: &Table,
+    violation: Violation,
+    line: &[Cell],
+) -> Result<Look, Memory>
+    requires fits { Fits table.now lp.now }
+    requires proper { IsProper lp.now }
+    requires line { length line.now ≡ length table.now.costs }
+    ensures look { IfOk result (λ look. look ≡ by_ray (ray_of table.now line.now violation.variable violation.above lp.now)) }
+    ensures inside { IfOk result (IsInside table.now) }
+{
+    match ray(alloc, table, line, violation.variable, violation.above, lp)? {
+        Some(answer) => Ok(Look::Shows(answer)),
+        None => Ok(Look::Rests),
+    }
+}
+
+// One violation by its line.
+fn enter_or_show(
+    alloc: Global,
+    lp: &StageLp,
+    table: &Table,
+    violation: Violation,
+    line: List<Cell>,
+) -> Result<Look, Memory>
+    requires fits { Fits table.now lp.now }
+    requires proper { IsProper lp.now }
+    requires there { IsThere table.now violation }
+    requires line { length line ≡ length table.now.costs }
+    ensures look { IfOk result (λ look. look ≡ by_entry (ray_of table.now line violation.variable violation.above lp.now) violation line (enter_of table.now line violation.above violation.amount)) }
+    ensures inside { IfOk result (IsInside table.now) }
+{
+    let entry = enter(
+        alloc,
+        table,
+        line.as_slice(),
+        violation.above,
+        violation.amount,
+    )?;
+    let Some(entry) = entry else {
+        return Ok(Look::Stops);
+    };
+    match entry.place {
+        Some(place) => Ok(Look::Mends(Mend {
+            violation,
+            line,
+            place,
+            flips: entry.flips,
+        })),
+        None => show(alloc, lp, table, violation, line.as_slice()),
+    }
+}
+
+// One violation.
+#[tactic(auto, unfolding(crate::specs::Turns::look_at))]
+fn look_at(alloc: Global, lp: &StageLp, table: &Table, violation: Violation) -> Result<Look, Memory>
+    requires fits { Fits table.now lp.now }
+    requires proper { IsProper lp.now }
+    requires there { IsThere table.now violation }
+    ensures look { IfOk result (λ look. look ≡ look_at lp.now table.now violation) }
+    ensures inside { IfOk result (IsInside table.now) }
+{
+    match line(alloc, table, violation.variable)? {
+        Some(line) => enter_or_show(alloc, lp, table, violation, line),
+        None => Ok(Look::Stops),
+    }
+}
+
+// All violations, the greatest first, until one is mended or shows that no point keeps all own rows.
+fn look_at_all(
+    alloc: Global,
+    lp: &StageLp,
+    table: &Table,
+    violations: &[Violation],
+) -> Result<Look, Memory>
+    requires fits { Fits table.now lp.now }
+    requires proper { IsProper lp.now }
+    requires there { All (IsThere table.now) violations.now }
+    ensures look { IfOk result (λ look. look ≡ look_from lp.now table.now violations.now (length violations.now) None) }
+    ensures inside { IfOk result (IsInside table.now) }
+{
+    let mut last = None;
+    for _violation in 0..violations.len() {
+        let Some(violation) = next_violation(last, violations) else {
+            return Ok(Look::Rests);
+        };
+        match look_at(alloc, lp, table, violation)? {
+            Look::Rests => last = Some(violation),
+            Look::Mends(mend) => return Ok(Look::Mends(mend)),
+            Look::Shows(answer) => return Ok(Look::Shows(answer)),
+            Look::Stops => return Ok(Look::Stops),
+        }
+    }
+    Ok(Look::Rests)
+}
+
+/// What the violations of a table come to, the greatest first, until one is mended or shows that no point keeps all own
+/// rows. [`Memory`] where memory was refused.
+#[tactic(auto, unfolding(crate::specs::Turns::look_of))]
+pub fn look_over(alloc: Global, lp: &StageLp, table: &Table) -> Result<Look, Memory>
+    requires fits { Fits table.now lp.now }
+    requires proper { IsProper lp.now }
+    ensures look { IfOk result (λ look. look ≡ look_of lp.now table.now) }
+    ensures inside { IfOk result (IsInside table.now) }
+{
+    match violations(alloc, table)? {
+        Some(all) => look_at_all(alloc, lp, table, all.as_slice()),
+        None => Ok(Look::Stops),
+    }
+}

@@ -1,0 +1,263 @@
+// The multipliers of own rows by which a variable that nothing brings back to its bound shows that no point keeps these rows.
+ghost use Rattle.std.specs.Prelude.{◌≡◌, ◌<◌, ◌≤◌, ◌^◌, ◌≤ℤ◌, ◌+ℤ◌, ◌-ℤ◌, pos, negsuc, nat_abs, length, take, None, IfOk, IfSome};
+ghost use Rattle.std.specs.Option.{option_and_then};
+ghost use Rattle.hp_num.specs.Sums.{entry};
+ghost use Rattle.hp_simplex.specs.Each.{each_from};
+ghost use Rattle.hp_solver.specs.Proper.{IsProper};
+ghost use Rattle.hp_warm_scale.specs.Scaling.{AreSmall, AreRowScales};
+ghost use Rattle.hp_warm_table.specs.Numbers.{bits_of};
+ghost use Rattle.hp_wide.specs.Numbers.{held};
+ghost use Rattle.hp_wide_table.specs.Numbers.{shift_of};
+ghost use Rattle.hp_wide_table.specs.Shape.{Fits, IsTable};
+ghost use Rattle.hp_wide_simplex.specs.Ray.{own_factor, turned, factor_at, greater, with_digits, greatest_from, top_of, ray_dual, ray_duals, where_proved, ray_of};
+
+use crate::found::{place_of, slack_of};
+use hp_num::{List, Memory};
+use hp_solver::{Answer, Fx, Kind, LpRow, StageLp};
+use hp_warm_answers::proving::{clipped, proves};
+use hp_warm_table::Scales;
+use hp_warm_table::lists::with_room;
+use hp_warm_table::numbers::bits;
+use hp_wide_table::numbers::shift;
+use hp_wide_table::{Cell, Table};
+use std::alloc::Global;
+
+// The factor of the violated variable's own row.
+fn own_factor(above: bool) -> i128
+    ensures value { result ≡ own_factor above }
+    ensures small { nat_abs result < 2 ^ 124 }
+{
+    if above { -(1 << 80) } else { 1 << 80 }
+}
+
+// A cell of the line, with the other sign where the variable is below its bound.
+fn turned(above: bool, cell: Cell) -> i128
+    ensures value { result ≡ turned above cell }
+    ensures small { nat_abs result < 2 ^ 124 }
+{
+    if above { cell.number() } else { -cell.number() }
+}
+
+// The scaled factor of a row.
+#[tactic(auto, unfolding(crate::specs::Ray::factor_at))]
+fn factor_at(table: &Table, line: &[Cell], variable: usize, above: bool, row: usize) -> i128
+    requires sized { IsTable table.now }
+    requires line { length line.now ≡ length table.now.costs }
+    requires row { row < length table.now.rows }
+    ensures value { result ≡ factor_at table.now line.now variable above row }
+    ensures small { nat_abs result < 2 ^ 124 }
+{
+    let slack = slack_of(table, row);
+    if slack == variable {
+        return own_factor(above);
+    }
+    match place_of(table, slack) {
+        None => 0,
+        Some(place) => turned(above, line[place]),
+    }
+}
+
+// The greater of the greatest so far, if there is one, and a number.
+fn greater(best: Option<i32>, x: i32) -> i32
+    requires best { IfSome best (λ b. nat_abs b ≤ 2000) }
+    requires small { nat_abs x ≤ 2000 }
+    ensures value { result ≡ greater best x }
+    ensures small { nat_abs result ≤ 2000 }
+{
+    match best {
+        None => x,
+        Some(best) => { if best < x { x } else { best } }
+    }
+}
+
+// The digits of a number and an exponent, together.
+fn together(number: i128, exponent: i32) -> i32
+    requires least { negsuc 1299 ≤ℤ exponent }
+    requires greatest { exponent ≤ℤ pos 1300 }
+    ensures value { result ≡ pos (bits_of number) +ℤ exponent }
+    ensures small { nat_abs result ≤ 2000 }
+{
+    bits(number) as i32 + exponent
+}
+
+// The greatest so far of digits and exponent, and those of a factor other than 0.
+fn with_digits(best: Option<i32>, factor: i128, exponent: i32) -> Option<i32>
+    requires least { negsuc 1299 ≤ℤ exponent }
+    requires greatest { exponent ≤ℤ pos 1300 }
+    requires small { IfSome best (λ b. nat_abs b ≤ 2000) }
+    ensures value { result ≡ with_digits best (bits_of factor) exponent }
+    ensures small { IfSome result (λ b. nat_abs b ≤ 2000) }
+{
+    if bits(factor) == 0 {
+        best
+    } else {
+        Some(greater(best, together(factor, exponent)))
+    }
+}
+
+// The greatest digits and exponent of all factors other than 0 of the first rows, which have these exponents.
+fn greatest(
+    table: &Table,
+    line: &[Cell],
+    variable: usize,
+    above: bool,
+    exponents: &[i32],
+) -> Option<i32>
+    requires sized { IsTable table.now }
+    requires line { length line.now ≡ length table.now.costs }
+    requires rows { length exponents.now ≤ length table.now.rows }
+    requires small { AreRowScales exponents.now }
+    ensures value { result ≡ greatest_from table.now line.now variable above 0 None exponents.now }
+    ensures small { IfSome result (λ b. nat_abs b ≤ 2000) }
+{
+    let mut best = None;
+    for i in 0..exponents.len() {
+        best = with_digits(
+            best,
+            factor_at(table, line, variable, above, i),
+            exponents[i],
+        );
+    }
+    best
+}
+
+// The most binary digits that a factor of the first `own` rows has once it is no longer scaled.
+#[tactic(auto, unfolding(crate::specs::Ray::top_of))]
+fn top_of(table: &Table, line: &[Cell], variable: usize, above: bool, own: usize) -> Option<i32>
+    requires sized { IsTable table.now }
+    requires line { length line.now ≡ length table.now.costs }
+    requires own { own ≤ length table.now.rows }
+    ensures value { result ≡ top_of table.now line.now variable above own }
+    ensures small { IfSome result (λ b. nat_abs b ≤ 2000) }
+{
+    let (exponents, _) = table.scales.rows.as_slice().split_at(own);
+    greatest(table, line, variable, above, exponents)
+}
+
+// By which power of two the factor of a row is multiplied.
+fn ray_exponent(scales: &Scales, row: usize, top: i32) -> i32
+    requires scales { AreSmall 1000 scales.now }
+    requires row { row < length scales.now.rows }
+    requires small { nat_abs top ≤ 2000 }
+    ensures { result ≡ entry scales.now.rows row +ℤ pos 60 -ℤ top }
+{
+    scales.rows.as_slice()[row] + 60 - top
+}
+
+// A number times 2^exponent, where 128 bits hold it.
+fn narrow_shift(number: i128, exponent: i32) -> Option<i128>
+    ensures { result ≡ option_and_then (held 127) (shift_of number exponent) }
+{
+    shift(number, exponent)?.narrowed()
+}
+
+// The multiplier of a row.
+#[tactic(auto, unfolding(crate::specs::Ray::ray_dual))]
+fn ray_dual(
+    table: &Table,
+    line: &[Cell],
+    variable: usize,
+    above: bool,
+    top: i32,
+    number: usize,
+    row: &LpRow,
+) -> Option<Fx>
+    requires sized { IsTable table.now }
+    requires line { length line.now ≡ length table.now.costs }
+    requires row { number < length table.now.rows }
+    requires small { nat_abs top ≤ 2000 }
+    ensures { result ≡ ray_dual table.now line.now variable above top number row.now }
+{
+    let factor = factor_at(table, line, variable, above, number);
+    let exponent = ray_exponent(&table.scales, number, top);
+    Some(clipped(row, Fx(narrow_shift(factor, exponent)?)))
+}
+
+// The multipliers of some rows, which are the first ones. None where 128 bits do not hold one.
+fn row_duals(
+    alloc: Global,
+    table: &Table,
+    line: &[Cell],
+    variable: usize,
+    above: bool,
+    top: i32,
+    rows: &[LpRow],
+) -> Result<Option<List<Fx>>, Memory>
+    requires sized { IsTable table.now }
+    requires line { length line.now ≡ length table.now.costs }
+    requires rows { length rows.now ≤ length table.now.rows }
+    requires small { nat_abs top ≤ 2000 }
+    ensures { IfOk result (λ found. found ≡ each_from (ray_dual table.now line.now variable above top) 0 rows.now) }
+{
+    let mut found = with_room(alloc, rows.len())?;
+    for i in 0..rows.len() {
+        match ray_dual(table, line, variable, above, top, i, &rows[i]) {
+            Some(dual) => found.push(dual)?,
+            None => return Ok(None),
+        }
+    }
+    Ok(Some(found))
+}
+
+// The multipliers of all own rows.
+#[tactic(auto, unfolding(crate::specs::Ray::ray_duals))]
+fn ray_duals(
+    alloc: Global,
+    table: &Table,
+    line: &[Cell],
+    variable: usize,
+    above: bool,
+    lp: &StageLp,
+    top: i32,
+) -> Result<Option<List<Fx>>, Memory>
+    requires fits { Fits table.now lp.now }
+    requires proper { IsProper lp.now }
+    requires line { length line.now ≡ length table.now.costs }
+    requires small { nat_abs top ≤ 2000 }
+    ensures { IfOk result (λ found. found ≡ ray_duals table.now line.now variable above lp.now top) }
+{
+    let (own, _) = lp.rows.as_slice().split_at(lp.own as usize);
+    row_duals(alloc, table, line, variable, above, top, own)
+}
+
+// The answer by multipliers, where they prove that no point keeps all own rows.
+fn where_proved(alloc: Global, lp: &StageLp, duals: List<Fx>) -> Result<Option<Answer>, Memory>
+    ensures { IfOk result (λ answer. answer ≡ where_proved lp.now duals) }
+{
+    if !proves(alloc, lp, duals.as_slice())? {
+        return Ok(None);
+    }
+    Ok(Some(Answer {
+        kind: Kind::Ray,
+        point: lp.lows(alloc)?,
+        duals,
+    }))
+}
+
+/// The answer to a program by a variable that violates its lower bound, or its upper one where `above` is true, and
+/// that nothing brings back. The line has the cells by which the variable depends on the nonbasic ones, one for each
+/// place. The duals of the own rows are whole multipliers of these, the factors by which a sum of the rows shows that,
+/// clipped; the greatest factor has 60 binary digits. None where they do not prove that no point keeps all own rows.
+/// [`Memory`] where memory was refused.
+#[tactic(auto, unfolding(crate::specs::Ray::ray_of))]
+pub fn ray(
+    alloc: Global,
+    table: &Table,
+    line: &[Cell],
+    variable: usize,
+    above: bool,
+    lp: &StageLp,
+) -> Result<Option<Answer>, Memory>
+    requires fits { Fits table.now lp.now }
+    requires proper { IsProper lp.now }
+    requires line { length line.now ≡ length table.now.costs }
+    ensures { IfOk result (λ answer. answer ≡ ray_of table.now line.now variable above lp.now) }
+{
+    let Some(top) = top_of(table, line, variable, above, lp.own as usize) else {
+        return Ok(None);
+    };
+    match ray_duals(alloc, table, line, variable, above, lp, top)? {
+        None => Ok(None),
+        Some(duals) => where_proved(alloc, lp, duals),
+    }
+}

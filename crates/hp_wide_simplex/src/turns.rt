@@ -1,0 +1,113 @@
+// Turns of the bounded dual simplex method on a table in place.
+ghost use Rattle.std.specs.Prelude.{◌≡◌, false, IfOk};
+ghost use Rattle.hp_solver.specs.Proper.{IsProper};
+ghost use Rattle.hp_wide_table.specs.Shape.{Fits};
+ghost use Rattle.hp_wide_simplex.specs.Steps.{Mends, Takes};
+ghost use Rattle.hp_wide_simplex.specs.Turns.{by_pivot, mended, by_look, look_of, turn_of, turns};
+
+use crate::found::finish;
+use crate::looking::{Look, Mend, look_over};
+use crate::pivots::pivot;
+use crate::points::refine;
+use hp_num::Memory;
+use hp_solver::{Answer, StageLp};
+use hp_wide_table::Table;
+use std::alloc::Global;
+
+/// What a turn comes to.
+pub enum Turn {
+    /// Two variables changed places.
+    Pivots,
+    /// Nothing was mended.
+    Idles,
+    /// No point keeps all own rows.
+    Ends(Answer),
+    /// A number is out of range.
+    Stops,
+}
+
+// The pivot that mends a violation.
+#[tactic(auto, unfolding(crate::specs::Turns::mended), using(crate::proofs::Fitting::still_fits))]
+fn exchange(lp: &StageLp, table: &mut Table, mend: Mend) -> Turn
+    requires fits { Fits table.old lp.now }
+    requires mends { Mends table.old mend }
+    ensures fits { Fits table.new lp.now }
+    ensures turn { Takes result (by_pivot (mended table.old mend)) table.new }
+{
+    let Mend {
+        violation,
+        mut line,
+        place,
+        flips,
+    } = mend;
+    if pivot(
+        table,
+        &mut line,
+        violation.variable,
+        violation.above,
+        place,
+        flips.as_slice(),
+    ) {
+        Turn::Pivots
+    } else {
+        Turn::Stops
+    }
+}
+
+// What the violations of a table with the values of its basis come to.
+fn mend_table(alloc: Global, lp: &StageLp, table: &mut Table) -> Result<Turn, Memory>
+    requires fits { Fits table.old lp.now }
+    requires proper { IsProper lp.now }
+    ensures fits { Fits table.new lp.now }
+    ensures turn { IfOk result (λ turn. Takes turn (by_look table.old (look_of lp.now table.old)) table.new) }
+{
+    match look_over(alloc, lp, table)? {
+        Look::Rests => Ok(Turn::Idles),
+        Look::Mends(mend) => Ok(exchange(lp, table, mend)),
+        Look::Shows(answer) => Ok(Turn::Ends(answer)),
+        Look::Stops => Ok(Turn::Stops),
+    }
+}
+
+// One turn.
+#[tactic(auto, unfolding(crate::specs::Turns::turn_of), using(crate::proofs::Fitting::still_fits))]
+fn take_turn(alloc: Global, lp: &StageLp, table: &mut Table) -> Result<Turn, Memory>
+    requires fits { Fits table.old lp.now }
+    requires proper { IsProper lp.now }
+    ensures fits { Fits table.new lp.now }
+    ensures turn { IfOk result (λ turn. Takes turn (turn_of lp.now table.old) table.new) }
+{
+    if !refine(alloc, table)? {
+        return Ok(Turn::Stops);
+    }
+    mend_table(alloc, lp, table)
+}
+
+/// At most so many turns on a table, until there is an answer. None where a number is out of range, or where all are used
+/// up. [`Memory`] where memory was refused.
+pub fn take_turns(
+    alloc: Global,
+    lp: &StageLp,
+    table: &mut Table,
+    limit: usize,
+) -> Result<Option<Answer>, Memory>
+    requires fits { Fits table.old lp.now }
+    requires proper { IsProper lp.now }
+    ensures { IfOk result (λ answer. answer ≡ turns lp.now limit false table.old) }
+{
+    let mut idle = false;
+    for _turn in 0..limit {
+        match take_turn(alloc, lp, table)? {
+            Turn::Pivots => idle = false,
+            Turn::Idles => {
+                if idle {
+                    return finish(alloc, table, lp);
+                }
+                idle = true;
+            }
+            Turn::Ends(answer) => return Ok(Some(answer)),
+            Turn::Stops => return Ok(None),
+        }
+    }
+    Ok(None)
+}
