@@ -1,24 +1,24 @@
 -- How turns end, in place.
-use Rattle.std.proofs.Common.{◌≡◌, Bool, true, false, Option, Some, None, Result, Ok, Err, IfOk, refl, ap, sym, subst, ◌∙◌}
+use Rattle.std.proofs.Common.{◌≡◌, Bool, true, false, None, Some, refl, ap, sym, subst, ◌∙◌}
 use Rattle.hp_solver.specs.declared.stage_lp.StageLp.{StageLp}
-use Rattle.hp_solver.specs.declared.stage_lp.Answer.{Answer}
 use Rattle.hp_warm_table.specs.declared.table.Table.{Table}
 use Rattle.hp_simplex.proofs.Each.{map_some}
 use Rattle.hp_warm_answers.specs.Folds.{ReachesOrKeeps}
 use Rattle.hp_warm_answers.specs.Finish.{costs_of, finished, finish_of}
-use Rattle.hp_warm_answers.specs.Found.{found_of}
 use Rattle.hp_warm_table.specs.Shape.{IsTable}
-use Rattle.hp_warm_table.specs.Kept.{KeepsProgram}
-use Rattle.hp_warm_simplex.specs.Fitting.{Fits, IsHeld}
-use Rattle.hp_warm_simplex.specs.Turns.{Went, went, by_found, by_finish, finishing}
-use Rattle.hp_warm_simplex.specs.Steps.{Ends}
+use Rattle.hp_warm_table.specs.Kept.{KeepsProgram, with_work}
+use Rattle.hp_warm_table.proofs.Shapes.{scales_of, bounds_of, basis_of, same_shape}
+use Rattle.hp_warm_scale.specs.Fitting.{Fits}
+use Rattle.hp_warm_simplex.specs.Fitting.{IsHeld}
+use Rattle.hp_warm_simplex.specs.Turns.{Went, went, Turn, ends}
+use Rattle.hp_warm_simplex.specs.Steps.{Halts, Ends}
 use Rattle.hp_warm_simplex.proofs.Fitting.{still_fits}
 
 pub held_itself : (t : Table) → IsHeld t t
 held_itself t = refl
 
 pub held_worked : (t u : Table) → IsHeld t u → KeepsProgram t u
-held_worked t u h = h ∙ sym (ap (λ (s : Table). record { scales = t.scales; rows = t.rows; costs = t.costs; bounds = t.bounds; basis = s.basis; reduced = u.reduced; lines = u.lines; values = u.values; weak = u.weak }) h)
+held_worked t u h = h ∙ sym (ap (λ (s : Table). record { scales = t.scales; rows = t.rows; cuts = t.cuts; costs = t.costs; bounds = t.bounds; basis = s.basis; reduced = u.reduced; lines = u.lines; values = u.values; weak = u.weak }) h)
 
 finish_held : (t u : Table) → finish_of t ≡ Some u → IsHeld t u
 unfolding finish_of
@@ -28,25 +28,26 @@ pub finished_held : (t u : Table) (done : Bool) → ReachesOrKeeps done (finish_
 finished_held t u true h = finish_held t u h
 finished_held t u false h = subst (IsHeld t) (sym h.1) refl
 
+-- a turn that ends without an answer, on a table with the same program and the same basis
+pub halts : (turn : Turn) (t u : Table) → turn ≡ ends None t → IsHeld t u → Halts turn u
+halts turn t u e h = subst (λ (x : Turn). Halts x u) (sym e) h
+
 -- turns that come to nothing leave the basis
 pub ends_none : (w : Went) (t u : Table) → w ≡ went None t → IsHeld t u → Ends None w u
 ends_none w t u e h = (ap (λ (x : Went). x.answer) e, subst (λ (s : Table). IsHeld s u) (sym (ap (λ (x : Went). x.table) e)) h)
 
-by_found_ends : (w : Went) (t u : Table) (a : Option Answer) → w ≡ by_found t u a → IsHeld t u → Ends a w u
-by_found_ends w t u None e h = ends_none w t u e h
-by_found_ends w t u (Some a) e h = e
+pub ends_like : (w v : Went) (u : Table) → w ≡ v → Ends None v u → Ends None w u
+ends_like w v u e h = subst (λ (x : Went). Ends None x u) (sym e) h
 
-pub finishing_ends : (lp : StageLp) (t u : Table) (a : Option Answer) → finish_of t ≡ Some u → a ≡ found_of u lp → Ends a (finishing lp t) u
-unfolding finishing
-finishing_ends lp t u a f e = by_found_ends (by_finish lp t (finish_of t)) t u a (ap (by_finish lp t) f ∙ ap (by_found t u) (sym e)) (finish_held t u f)
+weak_table : (t : Table) (weak : Bool) → IsTable t → IsTable (record t { weak = weak })
+weak_table t weak s = same_shape t (record t { weak = weak }) s (scales_of t s) (bounds_of t s) (basis_of t s) s.reduced s.lines s.values
 
-pub finishing_fails : (lp : StageLp) (t u : Table) → finish_of t ≡ None → u ≡ t → Ends None (finishing lp t) u
-unfolding finishing
-finishing_fails lp t u f e = ends_none (by_finish lp t (finish_of t)) t u (ap (by_finish lp t) f) (subst (IsHeld t) (sym e) refl)
+pub held_fits : (t u : Table) (lp : StageLp) → Fits t lp → IsTable u → IsHeld t u → Fits u lp
+held_fits t u lp f s h = still_fits t u lp f s (held_worked t u h)
 
-pub finished_fits : (t u : Table) (lp : StageLp) (done : Bool) → Fits t lp → IsTable u → ReachesOrKeeps done (finish_of t) t u → Fits u lp
-finished_fits t u lp done f s h = still_fits t u lp f s (held_worked t u (finished_held t u done h))
+-- whether an answer is to be trusted is no part of what is held
+pub weak_held : (t u : Table) (weak : Bool) → IsHeld t u → IsHeld t (record u { weak = weak })
+weak_held t u weak h = ap (λ (s : Table). with_work s s.basis s.reduced s.lines s.values weak) h
 
-pub finishing_went : {E : Type 0} (lp : StageLp) (t u : Table) (r : Result (Option Answer) E) → finish_of t ≡ Some u → IfOk r (λ a. a ≡ found_of u lp) → IfOk r (λ a. Ends a (finishing lp t) u)
-finishing_went lp t u (Ok a) f e = finishing_ends lp t u a f e
-finishing_went lp t u (Err e) f h = tt
+pub weak_fits : (t u : Table) (lp : StageLp) (weak : Bool) → Fits t lp → IsTable u → IsHeld t u → Fits (record u { weak = weak }) lp
+weak_fits t u lp weak f s h = held_fits t (record u { weak = weak }) lp f (weak_table u weak s) (weak_held t u weak h)

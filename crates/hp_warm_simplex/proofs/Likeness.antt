@@ -1,21 +1,20 @@
 -- Tables that suit or fit a program suit or fit others.
-use Rattle.std.proofs.Common.{◌≡◌, List, length, Option, Some, None, Result, Ok, Err, IfOk, IfSome, arith, ap, sym, subst, ◌∙◌}
+use Rattle.std.proofs.Common.{◌≡◌, ◌<◌, ◌≤◌, ◌+◌, ℕ, Bool, true, List, [], ◌∷◌, map, drop, drop_of_length-le, length, All, Option, Some, None, Result, Ok, Err, IfOk, IfSome, arith, refl, ap, sym, subst, ◌∙◌}
 use Rattle.std.proofs.lemmas.List.{length-map}
+use Rattle.std.proofs.lemmas.List.Elements.{All-nil, All-head}
+use Rattle.hp_solver.specs.declared.stage_lp.Column.{Column}
 use Rattle.hp_solver.specs.declared.stage_lp.LpRow.{LpRow}
 use Rattle.hp_solver.specs.declared.stage_lp.StageLp.{StageLp}
-use Rattle.hp_solver.specs.Proper.{IsProper, IsReference, Extends, IsLike, terms_of}
+use Rattle.hp_solver.specs.Proper.{IsReference, Extends, IsLike, terms_of}
 use Rattle.hp_warm_table.specs.declared.table.Table.{Table}
-use Rattle.hp_warm_table.specs.Shape.{IsTable}
+use Rattle.hp_warm_scale.specs.Exponents.{reach_of}
 use Rattle.hp_warm_scale.specs.Scaling.{AreSmall}
-use Rattle.hp_warm_scale.specs.First.{first_of}
-use Rattle.hp_warm_scale.specs.Widening.{widened}
+use Rattle.hp_warm_scale.specs.Waiting.{is_narrow, waits}
+use Rattle.hp_warm_scale.specs.Fitting.{Suits, AreNarrow, Fits}
 use Rattle.hp_warm_scale.proofs.Shapes.{small_more}
-use Rattle.hp_warm_simplex.specs.Fitting.{Fits}
-use Rattle.hp_warm_simplex.specs.Chains.{Suits}
-use Rattle.hp_warm_simplex.proofs.Counts.{first_rows, widened_rows}
 
 suits_more : (t : Table) (lp other : StageLp) → Suits t lp → Extends lp other → Suits t other
-suits_more t lp other s e = record { table = s.table; small = s.small; columns = e.count ∙ s.columns; rows = e.own ∙ s.rows }
+suits_more t lp other s e = record { table = s.table; small = s.small; columns = e.count ∙ s.columns; rows = e.own ∙ s.rows; cuts = s.cuts }
 
 pub suits_others : (start : Option Table) (lp other : StageLp) → IfSome start (λ t. Suits t lp) → Extends lp other → IfSome start (λ t. Suits t other)
 suits_others None lp other s e = tt
@@ -28,30 +27,56 @@ start_suits (Err e) lp s = tt
 rows_like : (xs ys : List LpRow) → terms_of xs ≡ terms_of ys → length xs ≡ length ys
 rows_like xs ys h = sym (length-map xs (λ (r : LpRow). r.terms)) ∙ ap length h ∙ length-map ys (λ (r : LpRow). r.terms)
 
+-- cuts that can be compared in columns
+abbrev CanWait : List Column → List Bool → List LpRow → Type 0
+CanWait columns ws cuts = All (λ (r : LpRow). waits ws r ≡ true → is_narrow (map reach_of columns) r ≡ true) cuts
+
+narrow_like : (lp other : StageLp) (ws : List Bool) → IsLike lp other → AreNarrow lp ws → AreNarrow other ws
+narrow_like lp other ws e n = subst (CanWait other.columns ws) e.cuts (subst (λ (cs : List Column). CanWait cs ws (drop lp.own lp.rows)) e.columns n)
+
 fits_more : (t : Table) (lp other : StageLp) → Fits t lp → IsLike lp other → Fits t other
-fits_more t lp other f e = record { table = f.table; small = f.small; columns = sym (ap length e.columns) ∙ f.columns; rows = sym (rows_like lp.rows other.rows e.terms) ∙ f.rows }
+fits_more t lp other f e = record {
+  table = f.table;
+  small = f.small;
+  columns = sym (ap length e.columns) ∙ f.columns;
+  rows = f.rows ∙ ap (λ (n : ℕ). n + length t.cuts.rows) e.own;
+  cuts = subst (λ (n : ℕ). All (λ (i : ℕ). (n ≤ i) × (i < length other.rows)) t.cuts.rows) e.own (subst (λ (m : ℕ). All (λ (i : ℕ). (lp.own ≤ i) × (i < m)) t.cuts.rows) (rows_like lp.rows other.rows e.terms) f.cuts);
+  narrow = narrow_like lp other t.cuts.waiting e f.narrow;
+}
 
 pub fits_others : (chain : Option Table) (lp other : StageLp) → IfSome chain (λ t. Fits t lp) → IsLike lp other → IfSome chain (λ t. Fits t other)
 fits_others None lp other f e = tt
 fits_others (Some t) lp other f e = fits_more t lp other f e
 
-first_suits_one : (lp : StageLp) (o : Option Table) → IsProper lp → o ≡ first_of lp → IfSome o IsTable → IfSome o (λ t. AreSmall 512 t.scales) → IfSome o (λ t. length t.costs ≡ length lp.columns) → IfSome o (λ t. Suits t lp)
-first_suits_one lp None p v w s c = tt
-first_suits_one lp (Some t) p v w s c = record { table = w; small = s; columns = sym c; rows = first_rows lp t (sym v) p.own }
-
--- the first table suits its program
-pub first_suits : {E : Type 0} (r : Result (Option Table) E) (lp : StageLp) → IsProper lp → IfOk r (λ o. o ≡ first_of lp) → IfOk r (λ o. IfSome o IsTable) → IfOk r (λ o. IfSome o (λ t. AreSmall 512 t.scales)) → IfOk r (λ o. IfSome o (λ t. length t.costs ≡ length lp.columns)) → IfOk r (λ o. IfSome o (λ t. Suits t lp))
-first_suits (Ok o) lp p v w s c = first_suits_one lp o p v w s c
-first_suits (Err e) lp p v w s c = tt
-
--- the widened one fits it
-pub widened_fits : (lp : StageLp) (old new : Table) → IsProper lp → Suits old lp → widened lp old ≡ Some new → IsTable new → AreSmall 1000 new.scales → length new.costs ≡ length old.costs → Fits new lp
-widened_fits lp old new p s v w m c = record { table = w; small = m; columns = s.columns ∙ sym c; rows = widened_rows lp old new v p.own s.rows }
+-- a program without cuts has none that wait
+pub no_cuts : (lp : StageLp) → lp.own ≡ length lp.rows → drop lp.own lp.rows ≡ []
+no_cuts lp h = drop_of_length-le lp.rows (omega (arith, h))
 
 -- a program of own rows alone
 pub reference_fits : (lp : StageLp) (t : Table) → IsReference lp → Suits t lp → Fits t lp
-reference_fits lp t r s = record { table = s.table; small = small_more 512 1000 t.scales (omega arith) s.small; columns = s.columns; rows = sym r.own ∙ s.rows }
+reference_fits lp t r s = record {
+  table = s.table;
+  small = small_more 512 1000 t.scales (omega arith) s.small;
+  columns = s.columns;
+  rows = omega (arith, s.rows, ap length s.cuts);
+  cuts = subst (All (λ (i : ℕ). (lp.own ≤ i) × (i < length lp.rows))) (sym s.cuts) (All-nil (λ (i : ℕ). (lp.own ≤ i) × (i < length lp.rows)));
+  narrow = subst (CanWait lp.columns t.cuts.waiting) (sym (no_cuts lp r.own)) (All-nil (λ (c : LpRow). waits t.cuts.waiting c ≡ true → is_narrow (map reach_of lp.columns) c ≡ true));
+}
+
+none_between : (low high : ℕ) (xs : List ℕ) → low ≡ high → All (λ (i : ℕ). (low ≤ i) × (i < high)) xs → xs ≡ []
+none_between low high [] e h = refl
+none_between low high (x ∷ xs) e h = let a = All-head (λ (i : ℕ). (low ≤ i) × (i < high)) x xs h in absurd (omega (arith, a.0, a.1, e))
+
+-- a table that fits a program of own rows alone has rows of no cuts
+pub no_rows_in : (lp : StageLp) (t : Table) → lp.own ≡ length lp.rows → Fits t lp → t.cuts.rows ≡ []
+no_rows_in lp t r f = none_between lp.own (length lp.rows) t.cuts.rows r f.cuts
 
 -- turns keep the scales
-pub ready_suits : (lp : StageLp) (old new : Table) → Suits old lp → Fits new lp → new.scales ≡ old.scales → new.rows ≡ old.rows → Suits new lp
-ready_suits lp old new s f e r = record { table = f.table; small = subst (AreSmall 512) (sym e) s.small; columns = f.columns; rows = s.rows ∙ sym (ap length r) }
+pub ready_suits : (lp : StageLp) (old new : Table) → IsReference lp → Suits old lp → Fits new lp → new.scales ≡ old.scales → Suits new lp
+ready_suits lp old new r s f e = record {
+  table = f.table;
+  small = subst (AreSmall 512) (sym e) s.small;
+  columns = f.columns;
+  rows = omega (arith, f.rows, ap length (no_rows_in lp new r.own f));
+  cuts = no_rows_in lp new r.own f;
+}

@@ -1,19 +1,19 @@
 -- Turns on a table with the sides of a program.
-use Rattle.std.proofs.Common.{◌≡◌, ◌+◌, ◌*◌, pos, true, false, length, replicate, Option, None, Result, IfOk, refl, ap, sym, subst, ◌∙◌}
+use Rattle.std.proofs.Common.{◌≡◌, pos, true, false, length, replicate, take, Option, None, Result, IfOk, refl, ap, sym, subst, ◌∙◌}
 use Rattle.std.proofs.lemmas.List.{length-replicate}
 use Rattle.hp_solver.specs.declared.stage_lp.StageLp.{StageLp}
 use Rattle.hp_solver.specs.declared.stage_lp.Answer.{Answer}
 use Rattle.hp_warm_table.specs.declared.table.Table.{Table}
 use Rattle.hp_warm_table.specs.Shape.{IsTable}
-use Rattle.hp_warm_table.proofs.Shapes.{scales_of, bounds_of, basis_of, same_shape}
-use Rattle.hp_warm_scale.specs.Scaling.{AreSmall}
-use Rattle.hp_warm_scale.specs.Appending.{sided, with_bounds}
 use Rattle.hp_warm_table.specs.Kept.{KeepsProgram}
-use Rattle.hp_warm_simplex.specs.Fitting.{Fits}
-use Rattle.hp_warm_simplex.specs.Turns.{Went, went, turns}
-use Rattle.hp_warm_simplex.specs.Going.{trusted, by_sides, go_of, cleared}
+use Rattle.hp_warm_table.proofs.Shapes.{scales_of, bounds_of, basis_of, same_shape}
+use Rattle.hp_warm_scale.specs.Appending.{sided, with_bounds}
+use Rattle.hp_warm_scale.specs.Fitting.{Fits}
+use Rattle.hp_warm_simplex.specs.Turns.{Went, went}
+use Rattle.hp_warm_simplex.specs.Going.{trusted, gone_on, by_sides, go_of, cleared}
 use Rattle.hp_warm_simplex.specs.Steps.{Ends}
 use Rattle.hp_warm_simplex.proofs.Ending.{ends_none}
+use Rattle.hp_warm_simplex.proofs.Fitting.{same_fits}
 
 pub trusted_table : (t : Table) → IsTable t → IsTable (trusted t)
 trusted_table t s = same_shape t (trusted t) s (scales_of t s) (bounds_of t s) (basis_of t s) s.reduced s.lines s.values
@@ -22,34 +22,26 @@ pub cleared_table : (t : Table) → IsTable t → IsTable (cleared t)
 cleared_table t s = same_shape t (cleared t) s (scales_of t s) (bounds_of t s) (basis_of t s) s.reduced (length-replicate (length t.costs) (replicate (length t.costs) (pos 0))) s.values
 
 -- other bounds change neither the columns nor the rows
-pub prepared_fits : (old new : Table) (lp : StageLp) → Fits old lp → IsTable new → new ≡ with_bounds (sided (trusted old) lp.rows).1 (trusted old) → Fits new lp
-prepared_fits old new lp f s e = record {
-  table = s;
-  small = subst (AreSmall 1000) (sym (ap (λ (t : Table). t.scales) e)) f.small;
-  columns = f.columns ∙ sym (ap (λ (t : Table). length t.costs) e);
-  rows = f.rows ∙ sym (ap (λ (t : Table). length t.rows) e);
-}
+pub prepared_fits : (old new : Table) (lp : StageLp) → Fits old lp → IsTable new → new ≡ with_bounds (sided (trusted old) (take lp.own lp.rows)).1 (trusted old) → Fits new lp
+prepared_fits old new lp f s e = same_fits old new lp f s (ap (λ (t : Table). t.scales) e) (ap (λ (t : Table). length t.costs) e) (ap (λ (t : Table). length t.rows) e) (ap (λ (t : Table). t.cuts) e)
 
 pub restored_fits : (old mid new : Table) (lp : StageLp) → Fits old lp → mid ≡ cleared old → IsTable new → KeepsProgram mid new → Fits new lp
-restored_fits old mid new lp f c s k = record {
-  table = s;
-  small = subst (AreSmall 1000) (sym (ap (λ (t : Table). t.scales) k ∙ ap (λ (t : Table). t.scales) c)) f.small;
-  columns = f.columns ∙ sym (ap (λ (t : Table). length t.costs) k ∙ ap (λ (t : Table). length t.costs) c);
-  rows = f.rows ∙ sym (ap (λ (t : Table). length t.rows) k ∙ ap (λ (t : Table). length t.rows) c);
-}
-
-pub worked_scales : (old new : Table) → KeepsProgram old new → new.scales ≡ old.scales
-worked_scales old new h = ap (λ (t : Table). t.scales) h
+restored_fits old mid new lp f c s k =
+    same_fits old new lp f s
+    (ap (λ (t : Table). t.scales) k ∙ ap (λ (t : Table). t.scales) c)
+    (ap (λ (t : Table). length t.costs) k ∙ ap (λ (t : Table). length t.costs) c)
+    (ap (λ (t : Table). length t.rows) k ∙ ap (λ (t : Table). length t.rows) c)
+    (ap (λ (t : Table). t.cuts) k ∙ ap (λ (t : Table). t.cuts) c)
 
 -- where a side is out of range
-pub go_fails : (lp : StageLp) (old new : Table) → false ≡ (sided (trusted old) lp.rows).0 → new ≡ with_bounds (sided (trusted old) lp.rows).1 (trusted old) → Ends None (go_of lp old) new
+pub go_fails : (lp : StageLp) (old new : Table) → false ≡ (sided (trusted old) (take lp.own lp.rows)).0 → new ≡ with_bounds (sided (trusted old) (take lp.own lp.rows)).1 (trusted old) → Ends None (go_of lp old) new
 unfolding go_of
-go_fails lp old new e p = ends_none (go_of lp old) new new (ap (by_sides lp (with_bounds (sided (trusted old) lp.rows).1 (trusted old))) (sym e) ∙ ap (went None) (sym p)) refl
+go_fails lp old new e p = ends_none (go_of lp old) new new (ap (by_sides lp (with_bounds (sided (trusted old) (take lp.own lp.rows)).1 (trusted old))) (sym e) ∙ ap (went None) (sym p)) refl
 
 -- else turns
-pub go_turns : (lp : StageLp) (old new : Table) → true ≡ (sided (trusted old) lp.rows).0 → new ≡ with_bounds (sided (trusted old) lp.rows).1 (trusted old) → turns lp (20 * length new.costs + 100) false new ≡ go_of lp old
+pub go_turns : (lp : StageLp) (old new : Table) → true ≡ (sided (trusted old) (take lp.own lp.rows)).0 → new ≡ with_bounds (sided (trusted old) (take lp.own lp.rows)).1 (trusted old) → gone_on lp new ≡ go_of lp old
 unfolding go_of
-go_turns lp old new e p = ap (λ (t : Table). turns lp (20 * length t.costs + 100) false t) p ∙ ap (by_sides lp (with_bounds (sided (trusted old) lp.rows).1 (trusted old))) e
+go_turns lp old new e p = ap (gone_on lp) p ∙ ap (by_sides lp (with_bounds (sided (trusted old) (take lp.own lp.rows)).1 (trusted old))) e
 
 pub ends_on : {E : Type 0} (r : Result (Option Answer) E) (v w : Went) (t : Table) → v ≡ w → IfOk r (λ a. Ends a v t) → IfOk r (λ a. Ends a w t)
 ends_on r v w t e h = subst (λ (x : Went). IfOk r (λ a. Ends a x t)) e h

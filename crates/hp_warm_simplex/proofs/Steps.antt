@@ -1,13 +1,15 @@
 -- Steps of loops.
-use Rattle.std.proofs.Common.{◌≡◌, ℕ, ℤ, suc, ◌+◌, ◌-◌, ◌<◌, ◌≤◌, Bool, true, false, List, Option, Some, None, arith, ap, sym, subst, ◌∙◌}
-use Rattle.std.specs.Option.{option_and_then}
+use Rattle.std.proofs.Common.{◌≡◌, ℕ, ℤ, suc, ◌+◌, ◌-◌, ◌<◌, ◌≤◌, Bool, true, List, Option, Some, None, arith, refl, ap, sym, subst, ◌∙◌}
+use Rattle.std.specs.Option.{option_and_then, is_some}
 use Rattle.hp_warm_table.specs.declared.table.Table.{Table}
 use Rattle.hp_warm_table.specs.Updates.{Gives}
+use Rattle.hp_warm_line.specs.declared.moves.Swap.{Swap}
 use Rattle.hp_warm_simplex.specs.declared.violations.Violation.{Violation}
 use Rattle.hp_solver.specs.declared.stage_lp.StageLp.{StageLp}
 use Rattle.hp_solver.specs.declared.stage_lp.Answer.{Answer}
 use Rattle.hp_warm_simplex.specs.Violations.{violations_step, violations_from, next_violation}
-use Rattle.hp_warm_simplex.specs.Turns.{Glance, passes, mends, shows, stops, glance_of, Look, rests, takes, finds, fails, by_glance, by_next, look_from, Turn, idles, Went, went, by_turn, turn_of, finishing, turns}
+use Rattle.hp_warm_simplex.specs.Turns.{Glance, passes, mends, shows, stops, glance_of, Look, rests, takes, finds, fails, by_glance, by_next, look_from, Turn, pivots, settles, ends, Went, went, by_turn, turn_of, turns}
+use Rattle.hp_warm_simplex.specs.Steps.{Halts, Ends}
 
 pub violations_on : (t : Table) (vs next : List Violation) (v count : ℕ) (whole : Bool) → v < count → whole ≡ true → Gives whole (violations_step t vs v) next → violations_from t vs v (count - v) ≡ violations_from t next (v + 1) (count - (v + 1))
 violations_on t vs next v count whole h w e =
@@ -20,16 +22,16 @@ violations_on t vs next v count whole h w e =
 
 module _ (lp : StageLp) (t : Table) (vs : List Violation) (whole : Look) (limit i : ℕ) (last : Option Violation) where
   -- the violation that is looked at next, by what it comes to
-  looked : (v : Violation) (g : Glance) → i < limit → Some v ≡ next_violation last vs → glance_of lp t v ≡ g → whole ≡ look_from lp t vs (limit - i) last → whole ≡ by_glance v (look_from lp t vs (limit - (i + 1)) (Some v)) g
+  looked : (v : Violation) (g : Glance) → i < limit → Some v ≡ next_violation last vs → glance_of lp t v ≡ g → whole ≡ look_from lp t vs (limit - i) last → whole ≡ by_glance (look_from lp t vs (limit - (i + 1)) (Some v)) g
   looked v g h e k w =
       let left : limit - i ≡ suc (limit - (i + 1)) = omega arith in
-      w ∙ ap (λ (n : ℕ). look_from lp t vs n last) left ∙ ap (by_next (λ (u : Violation). by_glance u (look_from lp t vs (limit - (i + 1)) (Some u)) (glance_of lp t u))) (sym e) ∙ ap (by_glance v (look_from lp t vs (limit - (i + 1)) (Some v))) k
+      w ∙ ap (λ (n : ℕ). look_from lp t vs n last) left ∙ ap (by_next (λ (u : Violation). by_glance (look_from lp t vs (limit - (i + 1)) (Some u)) (glance_of lp t u)) last) (sym e) ∙ ap (by_glance (look_from lp t vs (limit - (i + 1)) (Some v))) k
 
   pub look_passes : (v : Violation) → i < limit → Some v ≡ next_violation last vs → glance_of lp t v ≡ passes → whole ≡ look_from lp t vs (limit - i) last → whole ≡ look_from lp t vs (limit - (i + 1)) (Some v)
   look_passes v h e k w = looked v passes h e k w
 
-  pub look_takes : (v : Violation) (line : List ℤ) (e : ℕ) (flips : List ℕ) → i < limit → Some v ≡ next_violation last vs → glance_of lp t v ≡ mends line e flips → whole ≡ look_from lp t vs (limit - i) last → whole ≡ takes v line e flips
-  look_takes v line e flips h n k w = looked v (mends line e flips) h n k w
+  pub look_takes : (v : Violation) (swap : Swap) (line : List ℤ) (flips : List ℕ) → i < limit → Some v ≡ next_violation last vs → glance_of lp t v ≡ mends swap line flips → whole ≡ look_from lp t vs (limit - i) last → whole ≡ takes swap line flips
+  look_takes v swap line flips h n k w = looked v (mends swap line flips) h n k w
 
   pub look_finds : (v : Violation) (a : Answer) → i < limit → Some v ≡ next_violation last vs → glance_of lp t v ≡ shows a → whole ≡ look_from lp t vs (limit - i) last → whole ≡ finds a
   look_finds v a h e k w = looked v (shows a) h e k w
@@ -37,28 +39,27 @@ module _ (lp : StageLp) (t : Table) (vs : List Violation) (whole : Look) (limit 
   pub look_fails : (v : Violation) → i < limit → Some v ≡ next_violation last vs → glance_of lp t v ≡ stops → whole ≡ look_from lp t vs (limit - i) last → whole ≡ fails
   look_fails v h e k w = looked v stops h e k w
 
-  pub look_rests : i < limit → None ≡ next_violation last vs → whole ≡ look_from lp t vs (limit - i) last → whole ≡ rests
+  pub look_rests : i < limit → None ≡ next_violation last vs → whole ≡ look_from lp t vs (limit - i) last → whole ≡ rests (is_some last)
   look_rests h e w =
       let left : limit - i ≡ suc (limit - (i + 1)) = omega arith in
-      w ∙ ap (λ (n : ℕ). look_from lp t vs n last) left ∙ ap (by_next (λ (u : Violation). by_glance u (look_from lp t vs (limit - (i + 1)) (Some u)) (glance_of lp t u))) (sym e)
+      w ∙ ap (λ (n : ℕ). look_from lp t vs n last) left ∙ ap (by_next (λ (u : Violation). by_glance (look_from lp t vs (limit - (i + 1)) (Some u)) (glance_of lp t u)) last) (sym e)
 
-  pub look_over : limit ≤ i → whole ≡ look_from lp t vs (limit - i) last → whole ≡ rests
+  pub look_over : limit ≤ i → whole ≡ look_from lp t vs (limit - i) last → whole ≡ rests (is_some last)
   look_over h w = let none : limit - i ≡ 0 = omega arith in w ∙ ap (λ (n : ℕ). look_from lp t vs n last) none
 
 -- one turn of several
-pub turn_on : (lp : StageLp) (whole : Went) (limit i : ℕ) (idle : Bool) (t : Table) (turn : Turn) → i < limit → turn_of lp t ≡ turn → whole ≡ turns lp (limit - i) idle t → whole ≡ by_turn lp (turns lp (limit - (i + 1))) idle t turn
-turn_on lp whole limit i idle t turn h e w =
+pub turn_on : (lp : StageLp) (whole : Went) (limit i : ℕ) (fresh : Bool) (t : Table) (turn : Turn) → i < limit → turn_of lp fresh t ≡ turn → whole ≡ turns lp (limit - i) fresh t → whole ≡ by_turn (turns lp (limit - (i + 1))) turn
+turn_on lp whole limit i fresh t turn h e w =
     let left : limit - i ≡ suc (limit - (i + 1)) = omega arith in
-    w ∙ ap (λ (n : ℕ). turns lp n idle t) left ∙ ap (by_turn lp (turns lp (limit - (i + 1))) idle t) e
-
--- a turn that did nothing
-pub turn_idles : (lp : StageLp) (whole : Went) (limit i : ℕ) (idle : Bool) (t u : Table) → i < limit → idle ≡ false → turn_of lp t ≡ idles u → whole ≡ turns lp (limit - i) idle t → whole ≡ turns lp (limit - (i + 1)) true u
-turn_idles lp whole limit i idle t u h f e w = turn_on lp whole limit i idle t (idles u) h e w ∙ ap (λ (b : Bool). by_turn lp (turns lp (limit - (i + 1))) b t (idles u)) f
-
--- after another that did nothing
-pub turn_finishes : (lp : StageLp) (whole : Went) (limit i : ℕ) (idle : Bool) (t u : Table) → i < limit → idle ≡ true → turn_of lp t ≡ idles u → whole ≡ turns lp (limit - i) idle t → whole ≡ finishing lp u
-turn_finishes lp whole limit i idle t u h f e w = turn_on lp whole limit i idle t (idles u) h e w ∙ ap (λ (b : Bool). by_turn lp (turns lp (limit - (i + 1))) b t (idles u)) f
+    w ∙ ap (λ (n : ℕ). turns lp n fresh t) left ∙ ap (by_turn (turns lp (limit - (i + 1)))) e
 
 -- all turns are used up
-pub turns_over : (lp : StageLp) (whole : Went) (limit i : ℕ) (idle : Bool) (t : Table) → limit ≤ i → whole ≡ turns lp (limit - i) idle t → whole ≡ went None t
-turns_over lp whole limit i idle t h w = let none : limit - i ≡ 0 = omega arith in w ∙ ap (λ (n : ℕ). turns lp n idle t) none
+pub turns_over : (lp : StageLp) (whole : Went) (limit i : ℕ) (fresh : Bool) (t : Table) → limit ≤ i → whole ≡ turns lp (limit - i) fresh t → whole ≡ went None t
+turns_over lp whole limit i fresh t h w = let none : limit - i ≡ 0 = omega arith in w ∙ ap (λ (n : ℕ). turns lp n fresh t) none
+
+-- a turn that halts among several ends them
+pub turn_halts : (next : Bool → Table → Went) (turn : Turn) (u : Table) → Halts turn u → Ends None (by_turn next turn) u
+turn_halts next (pivots t) u h = absurd h
+turn_halts next (settles t) u h = absurd h
+turn_halts next (ends None t) u h = (refl, h)
+turn_halts next (ends (Some a) t) u h = absurd h

@@ -1,11 +1,13 @@
 -- Attempts go by what turns leave.
-use Rattle.std.proofs.Common.{◌≡◌, Option, Some, None, IfSome, ap, sym, ◌∙◌}
+use Rattle.std.proofs.Common.{◌≡◌, Bool, true, false, Option, Some, None, IfSome, if◌then◌else◌, refl, ap, sym, ◌∙◌}
 use Rattle.hp_solver.specs.declared.stage_lp.StageLp.{StageLp}
 use Rattle.hp_solver.specs.declared.stage_lp.Answer.{Answer}
 use Rattle.hp_warm_table.specs.declared.table.Table.{Table}
 use Rattle.hp_warm_rebuild.specs.Clean.{clean_of}
 use Rattle.hp_warm_rebuild.specs.Standings.{rebuilt_of}
-use Rattle.hp_warm_simplex.specs.Fitting.{Fits, IsHeld}
+use Rattle.hp_warm_scale.specs.Walks.{Gives}
+use Rattle.hp_warm_scale.specs.Fitting.{Fits}
+use Rattle.hp_warm_simplex.specs.Fitting.{IsHeld}
 use Rattle.hp_warm_simplex.specs.Turns.{Went}
 use Rattle.hp_warm_simplex.specs.Going.{restored_of}
 use Rattle.hp_warm_simplex.specs.Steps.{Ends}
@@ -28,6 +30,16 @@ pub readied_on : (t : Table) (w : Went) (a : Option Answer) (u : Table) → Ends
 readied_on t w None u h = ap (λ (o : Option Answer). readied_by t o w.table) h.0
 readied_on t w (Some a) u h = ap (readied t) h
 
-pub left_fits : (lp : StageLp) (a : Option Answer) (t : Option Table) → IfSome t (λ u. Fits u lp) → IfSome (left_by a t) (λ u. Fits u lp)
-left_fits lp None t h = tt
-left_fits lp (Some a) t h = h
+pub left_fits : (lp : StageLp) (wide answer : Option Answer) (t : Option Table) → IfSome t (λ u. Fits u lp) → IfSome (left_by wide answer t) (λ u. Fits u lp)
+left_fits lp (Some b) answer t h = tt
+left_fits lp None (Some a) t h = h
+left_fits lp None None t h = tt
+
+-- a table that is made, and else none
+pub made_is : (made : Bool) (o : Option Table) (t : Table) → Gives made o t → (if made then Some t else None) ≡ o
+made_is true o t h = sym h
+made_is false o t h = sym h
+
+pub made_fits : (lp : StageLp) (made : Bool) (t : Table) → (made ≡ true → Fits t lp) → IfSome (if made then Some t else None) (λ u. Fits u lp)
+made_fits lp true t h = h refl
+made_fits lp false t h = tt

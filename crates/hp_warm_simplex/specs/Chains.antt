@@ -1,27 +1,18 @@
 -- Answers along a chain: each program goes on from the table that the one before it left.
-use Rattle.std.specs.Prelude.{◌≡◌, Bool, true, false, not, length, Option, Some, None, if◌then◌else◌}
+use Rattle.std.specs.Prelude.{Bool, true, false, not, Option, Some, None, if◌then◌else◌}
 use Rattle.std.specs.Option.{option_map, option_and_then}
 use Rattle.hp_solver.specs.declared.stage_lp.StageLp.{StageLp}
 use Rattle.hp_solver.specs.declared.stage_lp.Answer.{Answer}
 use Rattle.hp_solver.specs.declared.stage_lp.Kind.{Kind}
 use Rattle.hp_solver.specs.declared.stage_lp.Kind.TheVariants as kinds
-use Rattle.hp_simplex.specs.Solve.{solve_of}
+use Rattle.hp_solver.specs.Answers.{lows_of, zeros_of}
 use Rattle.hp_warm_table.specs.declared.table.Table.{Table}
-use Rattle.hp_warm_table.specs.Shape.{IsTable}
-use Rattle.hp_warm_scale.specs.Scaling.{AreSmall}
 use Rattle.hp_warm_scale.specs.First.{first_of}
-use Rattle.hp_warm_scale.specs.Widening.{widened}
-use Rattle.hp_warm_answers.specs.Proves.{proves}
+use Rattle.hp_warm_scale.specs.Widening.{widened, widened_in_full}
+use Rattle.hp_wide_simplex.specs.Solve.{wide_of}
 use Rattle.hp_warm_simplex.specs.declared.attempts.Attempt.{Attempt}
 use Rattle.hp_warm_simplex.specs.Turns.{Went}
 use Rattle.hp_warm_simplex.specs.Going.{go_of, restored_of}
-
--- a table of the own part of a program, and of its columns
-pub record Suits (t : Table) (lp : StageLp) : Type 0 where
-  pub table : IsTable t
-  pub small : AreSmall 512 t.scales
-  pub columns : length lp.columns ≡ length t.costs
-  pub rows : lp.own ≡ length t.rows
 
 abbrev pub attempt : Option Answer → Bool → Option Table → Attempt
 attempt a good t = record { answer = a; good = good; table = t }
@@ -31,7 +22,7 @@ is_ray kinds.Found = false
 is_ray kinds.Ray = true
 is_ray kinds.Stuck = false
 
--- a ray is good, and a point where it is to be trusted
+-- a ray is good, since it proves what it says, and a point where it is to be trusted
 abbrev pub is_good : Option Answer → Bool → Bool
 is_good None weak = false
 is_good (Some a) weak = if is_ray a.kind then true else not weak
@@ -61,33 +52,39 @@ abbrev pub by_chain : StageLp → Option Table → Attempt
 by_chain lp None = attempt None false None
 by_chain lp (Some t) = warm_attempt lp (go_of lp t)
 
--- the table of a program from nothing
+-- the table of a program from nothing, with the rows of all cuts
 unfoldable pub new_table : StageLp → Option Table
-new_table lp = option_and_then (widened lp) (first_of lp)
+new_table lp = option_and_then (widened_in_full lp) (first_of lp)
 
 -- where nothing good was found, turns on a table from nothing
 abbrev pub then_anew : StageLp → Attempt → Attempt
 then_anew lp a = if a.good then a else tried lp a.answer (new_table lp)
 
--- a ray of the plain method takes the place of one of the warm one, where it proves
-abbrev pub plainer : StageLp → Answer → Answer → Answer
-plainer lp a s = if is_ray s.kind then (if proves lp s.duals then s else a) else a
+-- where there is no answer
+unfoldable pub stuck_of : StageLp → Answer
+stuck_of lp = record { kind = kinds.Stuck; point = lows_of lp.columns; duals = zeros_of lp.rows }
 
-abbrev pub by_kind : StageLp → Answer → Answer
-by_kind lp a = if is_ray a.kind then plainer lp a (solve_of lp) else a
+-- the answer in wide numbers, which is asked for where nothing good was found
+abbrev pub wide_unless : Bool → StageLp → Option Answer
+wide_unless good lp = if good then None else wide_of lp
 
--- the plain method's answer where there is none
-abbrev pub or_plain : StageLp → Option Answer → Answer
-or_plain lp None = solve_of lp
-or_plain lp (Some a) = by_kind lp a
+-- the answer in wide numbers, else that of attempts
+abbrev pub or_stuck : StageLp → Option Answer → Option Answer → Answer
+or_stuck lp (Some b) a = b
+or_stuck lp None (Some a) = a
+or_stuck lp None None = stuck_of lp
 
--- a chain has no table where attempts have no answer
-abbrev pub left_by : Option Answer → Option Table → Option Table
-left_by None t = None
-left_by (Some a) t = t
+-- a chain has the table of attempts where their answer stays, else none
+abbrev pub left_by : Option Answer → Option Answer → Option Table → Option Table
+left_by (Some b) a t = None
+left_by None (Some a) t = t
+left_by None None t = None
+
+abbrev pub with_wide : StageLp → Attempt → Option Answer → Answer × Option Table
+with_wide lp a wide = (or_stuck lp wide a.answer, left_by wide a.answer a.table)
 
 abbrev pub last_resort : StageLp → Attempt → Answer × Option Table
-last_resort lp a = (or_plain lp a.answer, left_by a.answer a.table)
+last_resort lp a = with_wide lp a (wide_unless a.good lp)
 
 -- the answer to a program of a chain that has this table, and the table that it has then
 unfoldable pub next_of : Option Table → StageLp → Answer × Option Table

@@ -1,24 +1,34 @@
 -- Turns on a table with the sides of a program.
-use Rattle.std.specs.Prelude.{◌+◌, ◌*◌, pos, Bool, true, false, length, replicate, Option, None}
+use Rattle.std.specs.Prelude.{◌+◌, ◌*◌, ℤ, pos, Bool, true, false, List, length, replicate, take, Option, Some, None}
 use Rattle.hp_solver.specs.declared.stage_lp.StageLp.{StageLp}
 use Rattle.hp_warm_table.specs.declared.table.Table.{Table}
+use Rattle.hp_warm_table.specs.Kept.{with_values, with_work}
+use Rattle.hp_warm_line.specs.Refine.{refined}
 use Rattle.hp_warm_scale.specs.Appending.{sided, with_bounds}
 use Rattle.hp_warm_rebuild.specs.Standings.{rebuilt_of}
-use Rattle.hp_warm_table.specs.Kept.{with_work}
 use Rattle.hp_warm_simplex.specs.Turns.{Went, went, turns}
 
 -- nothing is known yet of the answer that will be found
 abbrev pub trusted : Table → Table
 trusted t = with_work t t.basis t.reduced t.lines t.values false
 
+-- turns on a table with these values of its basis, which are not fresh
+abbrev pub by_point : StageLp → Table → Option (List ℤ) → Went
+by_point lp t None = went None t
+by_point lp t (Some x) = turns lp (20 * length t.costs + 100) false (with_values t x)
+
+-- turns on a table from the values of its basis on
+unfoldable pub gone_on : StageLp → Table → Went
+gone_on lp t = by_point lp t (refined t)
+
 -- by whether all sides were set
 abbrev pub by_sides : StageLp → Table → Bool → Went
-by_sides lp t true = turns lp (20 * length t.costs + 100) false t
+by_sides lp t true = gone_on lp t
 by_sides lp t false = went None t
 
--- the sides are set to those of a program, and turns are taken until there is an answer
+-- the sides of own rows are set to those of a program, and turns are taken until there is an answer
 unfoldable pub go_of : StageLp → Table → Went
-go_of lp t = by_sides lp (with_bounds (sided (trusted t) lp.rows).1 (trusted t)) (sided (trusted t) lp.rows).0
+go_of lp t = by_sides lp (with_bounds (sided (trusted t) (take lp.own lp.rows)).1 (trusted t)) (sided (trusted t) (take lp.own lp.rows)).0
 
 -- no line is known, as none is needed where all slacks are basic
 abbrev pub cleared : Table → Table

@@ -1,24 +1,29 @@
--- Turns of the bounded dual simplex method (Lemke, 1954; Wagner, 1958), with bound flips (Maros, 2003).
-use Rattle.std.specs.Prelude.{ℕ, zero, suc, ℤ, Bool, true, false, List, length, Option, Some, None, if◌then◌else◌}
+-- Turns of the bounded dual simplex method (Lemke, 1954; Wagner, 1958), with bound flips (Maros, 2003), on a table whose point
+-- goes along and whose cuts come in as they are asked for.
+use Rattle.std.specs.Prelude.{ℕ, zero, suc, ℤ, Bool, true, false, ◌||◌, List, length, Option, Some, None, nat_lt, if◌then◌else◌}
+use Rattle.std.specs.Option.{option_map, is_some}
 use Rattle.hp_solver.specs.declared.stage_lp.StageLp.{StageLp}
 use Rattle.hp_solver.specs.declared.stage_lp.Answer.{Answer}
 use Rattle.hp_warm_table.specs.declared.table.Table.{Table}
-use Rattle.hp_warm_table.specs.Kept.{with_values}
+use Rattle.hp_warm_table.specs.Kept.{with_values, with_work}
+use Rattle.hp_warm_line.specs.declared.moves.Swap.{Swap}
 use Rattle.hp_warm_line.specs.Refine.{refined}
 use Rattle.hp_warm_line.specs.Line.{line_of}
+use Rattle.hp_warm_line.specs.Move.{moved_of}
 use Rattle.hp_warm_line.specs.Pivot.{pivoted}
 use Rattle.hp_warm_answers.specs.Enter.{Entry, enter_of}
 use Rattle.hp_warm_answers.specs.Ray.{ray_of}
 use Rattle.hp_warm_answers.specs.Finish.{finish_of}
 use Rattle.hp_warm_answers.specs.Found.{found_of}
+use Rattle.hp_warm_scan.specs.Scan.{Scanned, scan_of}
 use Rattle.hp_warm_simplex.specs.declared.violations.Violation.{Violation}
 use Rattle.hp_warm_simplex.specs.Violations.{violations_of, next_violation}
 
--- what one violation comes to: nothing can be done; it is mended, by its line, the place that enters and the places that flip; it
+-- what one violation comes to: nothing can be done; it is mended, by what enters for it, its line and the places that flip; it
 -- shows by its ray that no point keeps all bounds; or a number is out of range
 pub data Glance : Type 0 where
   passes : Glance
-  mends : List ℤ → ℕ → List ℕ → Glance
+  mends : Swap → List ℤ → List ℕ → Glance
   shows : Answer → Glance
   stops : Glance
 
@@ -26,43 +31,49 @@ abbrev pub by_ray : Option Answer → Glance
 by_ray None = passes
 by_ray (Some a) = shows a
 
--- a place that enters, else the ray
-abbrev pub by_place : Option Answer → List ℤ → List ℕ → Option ℕ → Glance
-by_place ray line flips None = by_ray ray
-by_place ray line flips (Some e) = mends line e flips
+-- the variable of a violation leaves for the one at a place, with what is left of it there
+abbrev pub swap_at : Violation → ℕ × ℤ → Swap
+swap_at v e = record { leaving = v.variable; above = v.above; place = e.0; rest = e.1 }
 
-abbrev pub by_entry : Option Answer → List ℤ → Entry → Glance
-by_entry ray line entry = by_place ray line entry.1 entry.0
+-- by the place that enters, else by the ray
+abbrev pub by_place : Violation → Option Answer → List ℤ → List ℕ → Option (ℕ × ℤ) → Glance
+by_place v ray line flips None = by_ray ray
+by_place v ray line flips (Some e) = mends (swap_at v e) line flips
+
+abbrev pub by_entry : Violation → Option Answer → List ℤ → Entry → Glance
+by_entry v ray line entry = by_place v ray line entry.1 entry.0
 
 abbrev pub by_line : StageLp → Table → Violation → Option (List ℤ) → Glance
 by_line lp t v None = stops
-by_line lp t v (Some line) = by_entry (ray_of t line v.variable v.above lp) line (enter_of t line v.above v.amount)
+by_line lp t v (Some line) = by_entry v (ray_of t line v.variable v.above lp) line (enter_of t line v.above v.amount)
 
 unfoldable pub glance_of : StageLp → Table → Violation → Glance
 glance_of lp t v = by_line lp t v (line_of t v.variable)
 
--- what all violations come to: none can be mended; this one is; one shows that no point keeps all bounds; or a number is out of range
+-- what all violations come to: none can be mended, and some were passed over or none; this one is; one shows that no point keeps
+-- all bounds; or a number is out of range
 pub data Look : Type 0 where
-  rests : Look
-  takes : Violation → List ℤ → ℕ → List ℕ → Look
+  rests : Bool → Look
+  takes : Swap → List ℤ → List ℕ → Look
   finds : Answer → Look
   fails : Look
 
 -- a violation by its glance, where `after` is what those after it come to
-abbrev pub by_glance : Violation → Look → Glance → Look
-by_glance v after passes = after
-by_glance v after (mends line e flips) = takes v line e flips
-by_glance v after (shows a) = finds a
-by_glance v after stops = fails
+abbrev pub by_glance : Look → Glance → Look
+by_glance after passes = after
+by_glance after (mends swap line flips) = takes swap line flips
+by_glance after (shows a) = finds a
+by_glance after stops = fails
 
-abbrev pub by_next : (Violation → Look) → Option Violation → Look
-by_next go None = rests
-by_next go (Some v) = go v
+-- where none is left, all up to the last one were passed over
+abbrev pub by_next : (Violation → Look) → Option Violation → Option Violation → Look
+by_next go last None = rests (is_some last)
+by_next go last (Some v) = go v
 
 -- the violations behind the last one, at most `count` of them, the greatest first
 abbrev pub look_from : StageLp → Table → List Violation → ℕ → Option Violation → Look
-look_from lp t vs zero last = rests
-look_from lp t vs (suc count) last = by_next (λ v. by_glance v (look_from lp t vs count (Some v)) (glance_of lp t v)) (next_violation last vs)
+look_from lp t vs zero last = rests (is_some last)
+look_from lp t vs (suc count) last = by_next (λ v. by_glance (look_from lp t vs count (Some v)) (glance_of lp t v)) last (next_violation last vs)
 
 abbrev pub by_violations : StageLp → Table → Option (List Violation) → Look
 by_violations lp t None = fails
@@ -71,33 +82,78 @@ by_violations lp t (Some vs) = look_from lp t vs (length vs) None
 unfoldable pub look_of : StageLp → Table → Look
 look_of lp t = by_violations lp t (violations_of t)
 
--- what a turn comes to: a pivot, nothing, a ray, or a number out of range
+-- what a turn comes to: a pivot; a point that is as exact as its table, refined or with rows of cuts more; or the end, with an
+-- answer or without. Of the table of an end without one its program, its rows and its basis count, as it was when the turn began
 pub data Turn : Type 0 where
   pivots : Table → Turn
-  idles : Table → Turn
-  ends : Answer → Table → Turn
-  halts : Turn
+  settles : Table → Turn
+  ends : Option Answer → Table → Turn
 
-abbrev pub by_pivot : Option Table → Turn
-by_pivot None = halts
-by_pivot (Some u) = pivots u
+-- t is the table as the turn began
+abbrev pub by_pivot : Table → Option Table → Turn
+by_pivot t None = ends None t
+by_pivot t (Some u) = pivots u
 
-abbrev pub by_look : Table → Look → Turn
-by_look t rests = idles t
-by_look t (takes v line e flips) = by_pivot (pivoted t line v.variable v.above e flips)
-by_look t (finds a) = ends a t
-by_look t fails = halts
+-- the point has gone along, and then the variables change places
+abbrev pub by_move : Table → Swap → List ℤ → List ℕ → Option (List ℤ) → Turn
+by_move t s line flips None = ends None t
+by_move t s line flips (Some x) = by_pivot t (pivoted (with_values t x) line s.leaving s.above s.place flips)
 
--- on the table with the values of its basis
-abbrev pub by_values : StageLp → Table → Option (List ℤ) → Turn
-by_values lp t None = halts
-by_values lp t (Some x) = by_look (with_values t x) (look_of lp (with_values t x))
+-- what leaves has this line
+abbrev pub swapped : Table → Swap → List ℤ → List ℕ → Turn
+swapped t s line flips = by_move t s line flips (moved_of t line s.leaving s.above s.place s.rest flips)
 
-unfoldable pub turn_of : StageLp → Table → Turn
-turn_of lp t = by_values lp t (refined t)
+-- on with the values of the basis
+abbrev pub by_values : Table → Option (List ℤ) → Turn
+by_values t None = ends None t
+by_values t (Some x) = settles (with_values t x)
 
--- how turns end: with an answer or without, and the table then; of that of a turn in which a number is out of range the basis
--- counts, as it was when the turn began
+-- weak also where a violation was passed over
+abbrev pub with_passed : Bool → Table → Table
+with_passed passed t = with_work t t.basis t.reduced t.lines t.values (t.weak || passed)
+
+-- with reduced costs computed afresh; none where one is no cell
+unfoldable pub closed_of : Bool → Table → Option Table
+closed_of passed t = option_map (with_passed passed) (finish_of t)
+
+abbrev pub by_found : Table → Table → Option Answer → Turn
+by_found t u None = ends None t
+by_found t u (Some a) = ends (Some a) u
+
+abbrev pub by_closed : StageLp → Table → Option Table → Turn
+by_closed lp t None = ends None t
+by_closed lp t (Some u) = by_found t u (found_of u lp)
+
+-- the point and the duals of a table on which nothing is left to do
+unfoldable pub finishing : StageLp → Bool → Table → Turn
+finishing lp passed t = by_closed lp t (closed_of passed t)
+
+-- by whether rows came in, of which there were so many
+abbrev pub by_rows : StageLp → Bool → ℕ → Table → Turn
+by_rows lp passed count t = if nat_lt count (length t.rows) then settles t else finishing lp passed t
+
+-- by the cuts that were asked for, where there were so many rows
+abbrev pub by_scan : StageLp → Bool → ℕ → Scanned → Turn
+by_scan lp passed count s = if s.stopped then ends None s.table else by_rows lp passed count s.table
+
+unfoldable pub asked : StageLp → Bool → Table → Turn
+asked lp passed t = by_scan lp passed (length t.rows) (scan_of lp t)
+
+-- where no violation can be mended: the point is refined, and once that is so, cuts are asked for
+abbrev pub at_rest : StageLp → Bool → Bool → Table → Turn
+at_rest lp fresh passed t = if fresh then asked lp passed t else by_values t (refined t)
+
+abbrev pub by_look : StageLp → Bool → Table → Look → Turn
+by_look lp fresh t (rests passed) = at_rest lp fresh passed t
+by_look lp fresh t (takes swap line flips) = swapped t swap line flips
+by_look lp fresh t (finds a) = ends (Some a) t
+by_look lp fresh t fails = ends None t
+
+-- one turn on a table whose point is fresh, that is refined since the last pivot, or not
+unfoldable pub turn_of : StageLp → Bool → Table → Turn
+turn_of lp fresh t = by_look lp fresh t (look_of lp t)
+
+-- how turns end: with an answer or without, and the table then
 pub record Went : Type 0 where
   pub answer : Option Answer
   pub table : Table
@@ -105,26 +161,13 @@ pub record Went : Type 0 where
 abbrev pub went : Option Answer → Table → Went
 went a t = record { answer = a; table = t }
 
-abbrev pub by_found : Table → Table → Option Answer → Went
-by_found t u None = went None t
-by_found t u (Some a) = went (Some a) u
+-- after a turn, by what follows it
+abbrev pub by_turn : (Bool → Table → Went) → Turn → Went
+by_turn next (pivots u) = next false u
+by_turn next (settles u) = next true u
+by_turn next (ends a u) = went a u
 
-abbrev pub by_finish : StageLp → Table → Option Table → Went
-by_finish lp t None = went None t
-by_finish lp t (Some u) = by_found t u (found_of u lp)
-
--- the point and the duals of a table on which two turns, one after the other, did nothing
-unfoldable pub finishing : StageLp → Table → Went
-finishing lp t = by_finish lp t (finish_of t)
-
--- after a turn, by what follows it and by whether the turn before did nothing
-abbrev pub by_turn : StageLp → (Bool → Table → Went) → Bool → Table → Turn → Went
-by_turn lp next idle t (pivots u) = next false u
-by_turn lp next idle t (idles u) = if idle then finishing lp u else next true u
-by_turn lp next idle t (ends a u) = went (Some a) u
-by_turn lp next idle t halts = went None t
-
--- at most so many turns, after one that did nothing or not
+-- at most so many turns
 abbrev pub turns : StageLp → ℕ → Bool → Table → Went
-turns lp zero idle t = went None t
-turns lp (suc count) idle t = by_turn lp (turns lp count) idle t (turn_of lp t)
+turns lp zero fresh t = went None t
+turns lp (suc count) fresh t = by_turn (turns lp count) (turn_of lp fresh t)

@@ -1,24 +1,20 @@
-// Attempts at an answer: on the table of a chain, on its basis in a clean table, on a table from nothing, and by the
-// plain method.
-ghost use Rattle.std.specs.Prelude.{◌≡◌, length, Option, Some, None, IfOk, IfSome, OnOk};
+// Attempts at an answer: on the table of a chain, on its basis in a clean table, on a table from nothing, and in wide
+// numbers.
+ghost use Rattle.std.specs.Prelude.{◌≡◌, Option, Some, None, IfOk, IfSome, OnOk, if◌then◌else◌};
 ghost use Rattle.hp_solver.specs.Proper.{IsProper};
-ghost use Rattle.hp_simplex.specs.Solve.{solve_of};
-ghost use Rattle.hp_warm_table.specs.declared.table.Table.{Table};
-ghost use Rattle.hp_warm_scale.specs.First.{first_of};
-ghost use Rattle.hp_warm_scale.specs.Widening.{widened};
-ghost use Rattle.hp_warm_simplex.specs.Fitting.{Fits, IsRoomy};
+ghost use Rattle.hp_warm_scale.specs.Widening.{widened, widened_in_full};
+ghost use Rattle.hp_warm_scale.specs.Fitting.{Suits, Fits};
+ghost use Rattle.hp_warm_simplex.specs.Fitting.{IsRoomy};
 ghost use Rattle.hp_warm_simplex.specs.Going.{go_of, restored_of};
-ghost use Rattle.hp_warm_simplex.specs.Chains.{Suits, is_ray, is_good, replaced, tried, unless_good, warm_attempt, by_chain, new_table, then_anew, plainer, by_kind, or_plain, left_by, last_resort, next_of};
+ghost use Rattle.hp_warm_simplex.specs.Chains.{is_ray, is_good, replaced, tried, unless_good, warm_attempt, by_chain, new_table, then_anew, stuck_of, wide_unless, or_stuck, left_by, last_resort, next_of};
 
 use crate::going::{go, restore};
 use crate::turns::Room;
 use hp_num::Memory;
-use hp_simplex::DualSimplex;
-use hp_simplex::dual_simplex::Room as PlainRoom;
-use hp_solver::{Answer, Kind, Solver, StageLp};
-use hp_warm_answers::proving::proves;
-use hp_warm_scale::{first, widen};
+use hp_solver::{Answer, Kind, StageLp};
+use hp_warm_scale::{first, widen, widen_in_full};
 use hp_warm_table::Table;
+use hp_wide_simplex::wide;
 use std::alloc::Global;
 
 // What attempts came to.
@@ -61,6 +57,7 @@ fn go_on(
     mut table: Table,
     room: &mut Room,
 ) -> Result<Attempt, Memory>
+    requires proper { IsProper lp.now }
     requires fits { Fits table lp.now }
     ensures attempt { IfOk result (λ attempt. attempt ≡ replaced before (go_of lp.now table)) }
     ensures fits { IfOk result (λ attempt. IfSome attempt.table (λ t. Fits t lp.now)) }
@@ -89,6 +86,7 @@ fn go_restored(
     mut table: Table,
     room: &mut Room,
 ) -> Result<Attempt, Memory>
+    requires proper { IsProper lp.now }
     requires fits { Fits table lp.now }
     requires room { IsRoomy room.old table }
     ensures attempt { IfOk result (λ attempt. attempt ≡ tried lp.now before (restored_of table)) }
@@ -112,6 +110,7 @@ fn unless_good(
     table: Table,
     room: &mut Room,
 ) -> Result<Attempt, Memory>
+    requires proper { IsProper lp.now }
     requires fits { Fits table lp.now }
     requires room { IsRoomy room.old table }
     ensures attempt { IfOk result (λ attempt. attempt ≡ unless_good lp.now answer table) }
@@ -135,6 +134,7 @@ fn go_warm(
     mut table: Table,
     room: &mut Room,
 ) -> Result<Attempt, Memory>
+    requires proper { IsProper lp.now }
     requires fits { Fits table lp.now }
     ensures attempt { IfOk result (λ attempt. attempt ≡ warm_attempt lp.now (go_of lp.now table)) }
     ensures fits { IfOk result (λ attempt. IfSome attempt.table (λ t. Fits t lp.now)) }
@@ -150,6 +150,7 @@ fn by_chain(
     table: Option<Table>,
     room: &mut Room,
 ) -> Result<Attempt, Memory>
+    requires proper { IsProper lp.now }
     requires fits { IfSome table (λ t. Fits t lp.now) }
     ensures attempt { IfOk result (λ attempt. attempt ≡ by_chain lp.now table) }
     ensures fits { IfOk result (λ attempt. IfSome attempt.table (λ t. Fits t lp.now)) }
@@ -164,8 +165,16 @@ fn by_chain(
     }
 }
 
-// A table of the own part of a program, widened by the program. None where a number is out of range.
-#[tactic(auto, using(crate::proofs::Likeness::widened_fits))]
+// The table, where it is made.
+fn where_made(made: bool, table: Table) -> Option<Table>
+    ensures { result ≡ (if made then Some table else None) }
+{
+    if made { Some(table) } else { None }
+}
+
+// A table of the own part of a program, widened by the program, whose cuts wait where they may. None where a number is out of
+// range.
+#[tactic(auto, using(crate::proofs::Trying::made_is, crate::proofs::Trying::made_fits))]
 pub(crate) fn widened(
     alloc: Global,
     mut table: Table,
@@ -176,33 +185,32 @@ pub(crate) fn widened(
     ensures table { IfOk result (λ wide. wide ≡ widened lp.now table) }
     ensures fits { IfOk result (λ wide. IfSome wide (λ t. Fits t lp.now)) }
 {
-    if widen(alloc, &mut table, lp)? {
-        Ok(Some(table))
-    } else {
-        Ok(None)
-    }
+    let made = widen(alloc, &mut table, lp)?;
+    Ok(where_made(made, table))
 }
 
-// The first table of a program's own part. None where a number is out of range.
-#[tactic(auto, using(crate::proofs::Likeness::first_suits))]
-pub(crate) fn first_table(alloc: Global, lp: &StageLp) -> Result<Option<Table>, Memory>
+// The same, where no cut waits.
+#[tactic(auto, using(crate::proofs::Trying::made_is, crate::proofs::Trying::made_fits))]
+fn widened_in_full(alloc: Global, mut table: Table, lp: &StageLp) -> Result<Option<Table>, Memory>
     requires proper { IsProper lp.now }
-    ensures table { IfOk result (λ table. table ≡ first_of lp.now) }
-    ensures suits { IfOk result (λ table. IfSome table (λ t. Suits t lp.now)) }
+    requires suits { Suits table lp.now }
+    ensures table { IfOk result (λ wide. wide ≡ widened_in_full lp.now table) }
+    ensures fits { IfOk result (λ wide. IfSome wide (λ t. Fits t lp.now)) }
 {
-    first(alloc, lp)
+    let made = widen_in_full(alloc, &mut table, lp)?;
+    Ok(where_made(made, table))
 }
 
-// The table of a program from nothing.
+// The table of a program from nothing, with the rows of all cuts.
 #[tactic(auto, unfolding(crate::specs::Chains::new_table))]
 fn new_table(alloc: Global, lp: &StageLp) -> Result<Option<Table>, Memory>
     requires proper { IsProper lp.now }
     ensures table { IfOk result (λ table. table ≡ new_table lp.now) }
     ensures fits { IfOk result (λ table. IfSome table (λ t. Fits t lp.now)) }
 {
-    match first_table(alloc, lp)? {
+    match first(alloc, lp)? {
         None => Ok(None),
-        Some(table) => widened(alloc, table, lp),
+        Some(table) => widened_in_full(alloc, table, lp),
     }
 }
 
@@ -214,6 +222,7 @@ fn try_on(
     table: Option<Table>,
     room: &mut Room,
 ) -> Result<Attempt, Memory>
+    requires proper { IsProper lp.now }
     requires fits { IfSome table (λ t. Fits t lp.now) }
     ensures attempt { IfOk result (λ attempt. attempt ≡ tried lp.now before table) }
     ensures fits { IfOk result (λ attempt. IfSome attempt.table (λ t. Fits t lp.now)) }
@@ -261,88 +270,80 @@ fn then_anew(
     anew(alloc, lp, before.answer, room)
 }
 
-// The answer of the plain method.
-fn plain(alloc: Global, lp: &StageLp, room: &mut PlainRoom) -> Result<Answer, Memory>
+// The answer where nothing was found out.
+#[tactic(auto, unfolding(crate::specs::Chains::stuck_of))]
+fn stuck(alloc: Global, lp: &StageLp) -> Result<Answer, Memory>
+    ensures { IfOk result (λ answer. answer ≡ stuck_of lp.now) }
+{
+    let point = lp.lows(alloc)?;
+    Ok(Answer {
+        kind: Kind::Stuck,
+        point,
+        duals: lp.zeros(alloc)?,
+    })
+}
+
+// The answer in wide numbers, which is asked for where nothing good was found.
+fn wide_unless(alloc: Global, lp: &StageLp, good: bool) -> Result<Option<Answer>, Memory>
     requires proper { IsProper lp.now }
-    ensures { IfOk result (λ answer. answer ≡ solve_of lp.now) }
+    ensures { IfOk result (λ answer. answer ≡ wide_unless good lp.now) }
 {
-    DualSimplex.solve(alloc, room, lp)
-}
-
-// The answer of the plain method where that is a ray which proves, else the one before.
-fn plainer(alloc: Global, lp: &StageLp, before: Answer, plain: Answer) -> Result<Answer, Memory>
-    ensures { IfOk result (λ answer. answer ≡ plainer lp.now before plain) }
-{
-    if is_ray(plain.kind) && proves(alloc, lp, plain.duals.as_slice())? {
-        Ok(plain)
-    } else {
-        Ok(before)
+    if good {
+        return Ok(None);
     }
+    wide(alloc, lp)
 }
 
-// An answer, or the plain method's in place of a ray.
-fn by_kind(
+// The answer in wide numbers, else that of attempts.
+fn or_stuck(
     alloc: Global,
     lp: &StageLp,
-    answer: Answer,
-    room: &mut PlainRoom,
-) -> Result<Answer, Memory>
-    requires proper { IsProper lp.now }
-    ensures { IfOk result (λ found. found ≡ by_kind lp.now answer) }
-{
-    if !is_ray(answer.kind) {
-        return Ok(answer);
-    }
-    let other = plain(alloc, lp, room)?;
-    plainer(alloc, lp, answer, other)
-}
-
-// The answer of attempts, or the plain method's where they have none or a ray.
-fn or_plain(
-    alloc: Global,
-    lp: &StageLp,
+    wide: Option<Answer>,
     answer: Option<Answer>,
-    room: &mut PlainRoom,
 ) -> Result<Answer, Memory>
-    requires proper { IsProper lp.now }
-    ensures { IfOk result (λ found. found ≡ or_plain lp.now answer) }
+    ensures { IfOk result (λ found. found ≡ or_stuck lp.now wide answer) }
 {
-    match answer {
-        None => plain(alloc, lp, room),
-        Some(answer) => by_kind(alloc, lp, answer, room),
+    match wide.or(answer) {
+        Some(answer) => Ok(answer),
+        None => stuck(alloc, lp),
     }
 }
 
-// The table of attempts with this answer, none where they have none.
-fn left_by(answer: &Option<Answer>, table: Option<Table>) -> Option<Table>
-    ensures { result ≡ left_by answer.now table }
+// Lets go of the table of attempts, but where their answer stays.
+fn leave(attempt: &mut Attempt, wide: &Option<Answer>)
+    ensures { attempt.new ≡ record attempt.old { table = left_by wide.now attempt.old.answer attempt.old.table } }
 {
-    match answer {
-        None => None,
-        Some(_) => table,
+    if wide.is_some() || attempt.answer.is_none() {
+        attempt.table = None;
     }
 }
 
-// The answer of attempts, or the plain method's where they have none or a ray, and the table of the chain.
+// The answer of attempts, or the one in wide numbers where they came to nothing good. The table that is left is the chain's.
 #[tactic(auto, using(crate::proofs::Trying::left_fits))]
-fn with_plain(
+fn resort(alloc: Global, lp: &StageLp, attempt: &mut Attempt) -> Result<Answer, Memory>
+    requires proper { IsProper lp.now }
+    requires fits { IfSome attempt.old.table (λ t. Fits t lp.now) }
+    ensures answer { IfOk result (λ found. (found, attempt.new.table) ≡ last_resort lp.now attempt.old) }
+    ensures fits { OnOk result (IfSome attempt.new.table (λ t. Fits t lp.now)) }
+{
+    let wide = wide_unless(alloc, lp, attempt.good)?;
+    leave(attempt, &wide);
+    or_stuck(alloc, lp, wide, attempt.answer.take())
+}
+
+// The same, with that table.
+fn resorted(
     alloc: Global,
     lp: &StageLp,
-    attempt: Attempt,
-    room: &mut PlainRoom,
+    mut attempt: Attempt,
 ) -> Result<(Answer, Option<Table>), Memory>
     requires proper { IsProper lp.now }
     requires fits { IfSome attempt.table (λ t. Fits t lp.now) }
     ensures answer { IfOk result (λ found. found ≡ last_resort lp.now attempt) }
     ensures fits { IfOk result (λ found. IfSome found.1 (λ t. Fits t lp.now)) }
 {
-    let Attempt {
-        answer,
-        good: _,
-        table,
-    } = attempt;
-    let table = left_by(&answer, table);
-    Ok((or_plain(alloc, lp, answer, room)?, table))
+    let answer = resort(alloc, lp, &mut attempt)?;
+    Ok((answer, attempt.table))
 }
 
 /// The answer to a program of a chain that has this table, if it has one, and the table that it has then. [`Memory`]
@@ -353,7 +354,6 @@ pub(crate) fn next_answer(
     lp: &StageLp,
     table: Option<Table>,
     room: &mut Room,
-    plain: &mut PlainRoom,
 ) -> Result<(Answer, Option<Table>), Memory>
     requires proper { IsProper lp.now }
     requires fits { IfSome table (λ t. Fits t lp.now) }
@@ -362,5 +362,5 @@ pub(crate) fn next_answer(
 {
     let warm = by_chain(alloc, lp, table, room)?;
     let found = then_anew(alloc, lp, warm, room)?;
-    with_plain(alloc, lp, found, plain)
+    resorted(alloc, lp, found)
 }

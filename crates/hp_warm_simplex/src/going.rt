@@ -1,21 +1,22 @@
 // Turns on a table with the sides of a program, and its basis in a clean table.
-ghost use Rattle.std.specs.Prelude.{◌≡◌, ◌+◌, ◌*◌, true, false, length, IfOk, OnOk};
+ghost use Rattle.std.specs.Prelude.{◌≡◌, length, take, IfOk, OnOk};
+ghost use Rattle.hp_solver.specs.Proper.{IsProper};
 ghost use Rattle.hp_warm_table.specs.Shape.{IsTable};
 ghost use Rattle.hp_warm_table.specs.Updates.{Gives};
 ghost use Rattle.hp_warm_scale.specs.Appending.{sided, with_bounds};
-ghost use Rattle.hp_warm_table.specs.Kept.{KeepsProgram, with_work};
-ghost use Rattle.hp_warm_simplex.specs.Fitting.{Fits, IsRoomy};
-ghost use Rattle.hp_warm_simplex.specs.Turns.{turns};
-ghost use Rattle.hp_warm_simplex.specs.Going.{trusted, cleared, go_of, restored_of};
+ghost use Rattle.hp_warm_scale.specs.Fitting.{Fits};
+ghost use Rattle.hp_warm_simplex.specs.Fitting.{KeepsOwn, IsRoomy};
+ghost use Rattle.hp_warm_simplex.specs.Going.{trusted, gone_on, cleared, go_of, restored_of};
 ghost use Rattle.hp_warm_simplex.specs.Steps.{Ends};
 
 use crate::turns::{Room, take_turns};
 use hp_num::{List, Memory};
 use hp_solver::{Answer, StageLp};
+use hp_warm_line::{Shift, refine};
 use hp_warm_rebuild::rebuild;
 use hp_warm_scale::set_sides;
 use hp_warm_table::lists::repeated;
-use hp_warm_table::{Cell, Quantity, Square, Table};
+use hp_warm_table::{Cell, Square, Table};
 use std::alloc::Global;
 
 // Makes a list so long, where it is not. What it then holds counts for nothing.
@@ -40,42 +41,48 @@ fn make_room(alloc: Global, room: &mut Room, table: &Table) -> Result<(), Memory
     let columns = table.costs.len();
     fit(alloc, &mut room.line, columns, Cell::zero())?;
     fit(alloc, &mut room.steps, columns, (0, Cell::zero()))?;
-    fit(alloc, &mut room.shifts, columns, (0, Quantity::zero()))
+    fit(alloc, &mut room.shifts, columns, (0, Shift::zero()))
 }
 
-// Sets the sides, and forgets what was known of the last answer. False where a side is out of range.
+// Sets the sides of own rows, and forgets what was known of the last answer. False where a side is out of range.
 #[tactic(auto, using(crate::proofs::Setting::prepared_fits))]
 fn prepare(lp: &StageLp, table: &mut Table) -> bool
+    requires proper { IsProper lp.now }
     requires fits { Fits table.old lp.now }
     ensures fits { Fits table.new lp.now }
-    ensures scales { table.new.scales ≡ table.old.scales }
-    ensures sides { result ≡ (sided (trusted table.old) lp.now.rows).0 }
-    ensures table { table.new ≡ with_bounds (sided (trusted table.old) lp.now.rows).1 (trusted table.old) }
+    ensures sides { result ≡ (sided (trusted table.old) (take lp.now.own lp.now.rows)).0 }
+    ensures table { table.new ≡ with_bounds (sided (trusted table.old) (take lp.now.own lp.now.rows)).1 (trusted table.old) }
 {
     table.weak = false;
     set_sides(table, lp)
 }
 
-// As many turns as there may be.
+// Turns from the values of a table's basis on, as many as there may be.
+#[tactic(auto, unfolding(crate::specs::Going::gone_on), using(crate::proofs::Fitting::still_fits))]
 fn take_all_turns(
     alloc: Global,
     lp: &StageLp,
     table: &mut Table,
     room: &mut Room,
 ) -> Result<Option<Answer>, Memory>
+    requires proper { IsProper lp.now }
     requires fits { Fits table.old lp.now }
     requires room { IsRoomy room.old table.old }
-    ensures fits { Fits table.new lp.now }
-    ensures room { IsRoomy room.new table.new }
-    ensures worked { KeepsProgram table.old table.new }
-    ensures went { IfOk result (λ answer. Ends answer (turns lp.now (20 * length table.old.costs + 100) false table.old) table.new) }
+    ensures fits { OnOk result (Fits table.new lp.now) }
+    ensures room { OnOk result (IsRoomy room.new table.new) }
+    ensures own { OnOk result (KeepsOwn lp.now table.old table.new) }
+    ensures went { IfOk result (λ answer. Ends answer (gone_on lp.now table.old) table.new) }
 {
+    if !refine(table, &mut room.shifts) {
+        return Ok(None);
+    }
     let limit = 20 * table.costs.len() + 100;
     take_turns(alloc, lp, table, room, limit)
 }
 
 /// Turns on a table with the sides of a program, until there is an answer. None where a number is out of range, or where
-/// all turns are used up: of the table its program and its basis count then. [`Memory`] where memory was refused.
+/// all turns are used up: of the table its program, its rows and its basis count then. Of a program without cuts no rows come
+/// in. [`Memory`] where memory was refused.
 #[tactic(auto, unfolding(crate::specs::Going::go_of))]
 pub(crate) fn go(
     alloc: Global,
@@ -83,11 +90,11 @@ pub(crate) fn go(
     table: &mut Table,
     room: &mut Room,
 ) -> Result<Option<Answer>, Memory>
+    requires proper { IsProper lp.now }
     requires fits { Fits table.old lp.now }
-    ensures fits { Fits table.new lp.now }
-    ensures scales { table.new.scales ≡ table.old.scales }
-    ensures rows { table.new.rows ≡ table.old.rows }
+    ensures fits { OnOk result (Fits table.new lp.now) }
     ensures room { OnOk result (IsRoomy room.new table.new) }
+    ensures scales { OnOk result (lp.now.own ≡ length lp.now.rows → table.new.scales ≡ table.old.scales) }
     ensures went { IfOk result (λ answer. Ends answer (go_of lp.now table.old) table.new) }
 {
     make_room(alloc, room, table)?;

@@ -1,7 +1,7 @@
 // The violations of a table, looked at from the greatest on.
 ghost use Rattle.std.specs.Prelude.{◌≡◌, length, All, None, IfOk, OnOk};
+ghost use Rattle.hp_warm_scale.specs.Fitting.{Fits};
 ghost use Rattle.hp_warm_simplex.specs.Violations.{IsThere};
-ghost use Rattle.hp_warm_simplex.specs.Fitting.{Fits};
 ghost use Rattle.hp_warm_simplex.specs.Turns.{glance_of, by_entry, look_from};
 ghost use Rattle.hp_warm_simplex.specs.Steps.{Glances, GlancesInside, Looks, LooksInside};
 ghost use Rattle.hp_warm_answers.specs.Enter.{enter_of};
@@ -12,7 +12,7 @@ use hp_num::{List, Memory};
 use hp_solver::{Answer, StageLp};
 use hp_warm_answers::entering::enter;
 use hp_warm_answers::ray::ray;
-use hp_warm_line::write_line;
+use hp_warm_line::{Swap, write_line};
 use hp_warm_table::{Cell, Table};
 use std::alloc::Global;
 
@@ -20,8 +20,8 @@ use std::alloc::Global;
 pub(crate) enum Glance {
     // Nothing mends it, and nothing shows that no point keeps all bounds.
     Passes,
-    // The variable at this place enters.
-    Mends(usize),
+    // A variable enters for its own.
+    Mends(Swap),
     // No point keeps all bounds.
     Shows(Answer),
     // A number is out of range.
@@ -30,10 +30,10 @@ pub(crate) enum Glance {
 
 // What all violations come to.
 pub(crate) enum Look {
-    // None of them can be mended.
-    Rests,
-    // This one is mended by the variable at a place.
-    Mends(Violation, usize),
+    // None of them can be mended; whether there were any.
+    Rests(bool),
+    // One is mended.
+    Mends(Swap),
     // No point keeps all bounds.
     Shows(Answer),
     // A number is out of range.
@@ -52,12 +52,17 @@ fn enter_or_show(
     requires fits { Fits table.now lp.now }
     requires there { IsThere table.now violation }
     requires line { length line.now ≡ length table.now.costs }
-    ensures glance { IfOk result (λ glance. Glances glance (by_entry (ray_of table.now line.now violation.variable violation.above lp.now) line.now (enter_of table.now line.now violation.above violation.amount)) line.now flips.new) }
+    ensures glance { IfOk result (λ glance. Glances glance (by_entry violation (ray_of table.now line.now violation.variable violation.above lp.now) line.now (enter_of table.now line.now violation.above violation.amount)) line.now flips.new) }
     ensures inside { IfOk result (λ glance. GlancesInside glance table.now line.now flips.new) }
 {
     let amount = i128::from(violation.amount);
-    if let Some(place) = enter(table, line, violation.above, amount, flips)? {
-        return Ok(Glance::Mends(place));
+    if let Some((place, rest)) = enter(table, line, violation.above, amount, flips)? {
+        return Ok(Glance::Mends(Swap {
+            leaving: violation.variable,
+            above: violation.above,
+            place,
+            rest,
+        }));
     }
     match ray(alloc, table, line, violation.variable, violation.above, lp)? {
         Some(answer) => Ok(Glance::Shows(answer)),
@@ -107,14 +112,14 @@ pub(crate) fn inspect_all(
     let mut last = None;
     for _violation in 0..violations.len() {
         let Some(violation) = next_violation(last, violations) else {
-            return Ok(Look::Rests);
+            return Ok(Look::Rests(last.is_some()));
         };
         match inspect(alloc, lp, table, violation, line, flips)? {
             Glance::Passes => last = Some(violation),
-            Glance::Mends(place) => return Ok(Look::Mends(violation, place)),
+            Glance::Mends(swap) => return Ok(Look::Mends(swap)),
             Glance::Shows(answer) => return Ok(Look::Shows(answer)),
             Glance::Stops => return Ok(Look::Stops),
         }
     }
-    Ok(Look::Rests)
+    Ok(Look::Rests(last.is_some()))
 }

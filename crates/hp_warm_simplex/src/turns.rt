@@ -1,12 +1,13 @@
 // Turns of the bounded dual simplex method on a table in place.
-ghost use Rattle.std.specs.Prelude.{◌≡◌, ◌<◌, ◌≤◌, ◌^◌, false, length, nat_abs, IfOk, OnOk};
-ghost use Rattle.hp_num.specs.Sums.{entry};
+ghost use Rattle.std.specs.Prelude.{◌≡◌, false, length, IfOk, OnOk};
+ghost use Rattle.hp_solver.specs.Proper.{IsProper};
 ghost use Rattle.hp_warm_table.specs.Shape.{IsTable};
-ghost use Rattle.hp_warm_line.specs.Pivot.{pivoted};
-ghost use Rattle.hp_warm_simplex.specs.Violations.{IsThere};
 ghost use Rattle.hp_warm_table.specs.Kept.{KeepsProgram};
-ghost use Rattle.hp_warm_simplex.specs.Fitting.{Fits, IsHeld, IsRoomy};
-ghost use Rattle.hp_warm_simplex.specs.Turns.{by_pivot, by_look, look_of, turn_of, finishing, turns};
+ghost use Rattle.hp_warm_table.specs.Updates.{Gives};
+ghost use Rattle.hp_warm_line.specs.Refine.{refined};
+ghost use Rattle.hp_warm_scale.specs.Fitting.{Fits};
+ghost use Rattle.hp_warm_simplex.specs.Fitting.{IsHeld, KeepsOwn, IsRoomy};
+ghost use Rattle.hp_warm_simplex.specs.Turns.{swapped, by_values, closed_of, finishing, asked, at_rest, turn_of, turns};
 ghost use Rattle.hp_warm_simplex.specs.Steps.{Enters, Takes, Ends};
 
 use crate::looking::{Look, inspect_all};
@@ -15,8 +16,9 @@ use hp_num::{List, Memory};
 use hp_solver::{Answer, StageLp};
 use hp_warm_answers::finishing::finish;
 use hp_warm_answers::found::found;
-use hp_warm_line::{pivot, refine};
-use hp_warm_table::{Cell, Quantity, Table};
+use hp_warm_line::{Shift, Swap, move_point, pivot, refine};
+use hp_warm_scan::{Room as ScanRoom, Scan, scan_cuts};
+use hp_warm_table::{Cell, Table};
 use std::alloc::Global;
 
 // Lists for work. No answer depends on what they hold.
@@ -29,104 +31,176 @@ pub struct Room {
     // Its cells that are not 0, with their places; room for as many as there are places.
     pub(crate) steps: List<(usize, Cell)>,
     // Places with their shifts, as many as there are places.
-    pub(crate) shifts: List<(usize, Quantity)>,
+    pub(crate) shifts: List<(usize, Shift)>,
     // The places that flip.
     pub(crate) flips: List<usize>,
+    // Lists of scans.
+    pub(crate) scan: ScanRoom,
 }
 
 // What a turn comes to.
 pub(crate) enum Turn {
     // Two variables changed places.
     Pivots,
-    // Nothing was mended.
-    Idles,
-    // No point keeps all bounds.
+    // The point is as exact as the table: it was refined, or rows of cuts came in.
+    Settles,
+    // A point is found, or no point keeps all bounds.
     Ends(Answer),
     // A number is out of range.
     Stops,
 }
 
-// The pivot of a violation at a place.
-fn exchange(table: &mut Table, room: &mut Room, violation: Violation, place: usize) -> Turn
+// The point goes along the line of what leaves, and then the variables change places.
+fn exchange(table: &mut Table, room: &mut Room, swap: Swap) -> Turn
     requires sized { IsTable table.old }
     requires room { IsRoomy room.old table.old }
-    requires there { IsThere table.old violation }
-    requires enters { Enters table.old room.old.line room.old.flips place }
+    requires enters { Enters table.old room.old.line room.old.flips swap }
     ensures sized { IsTable table.new }
     ensures room { IsRoomy room.new table.new }
     ensures worked { KeepsProgram table.old table.new }
-    ensures turn { Takes result (by_pivot (pivoted table.old room.old.line violation.variable violation.above place room.old.flips)) table.old table.new }
+    ensures turn { Takes result (swapped table.old swap room.old.line room.old.flips) table.new }
 {
-    if pivot(
+    let flips = room.flips.as_slice();
+    if !move_point(table, room.line.as_slice(), &mut room.shifts, swap, flips) {
+        return Turn::Stops;
+    }
+    if !pivot(
         table,
         &mut room.line,
         &mut room.steps,
-        violation.variable,
-        violation.above,
-        place,
-        room.flips.as_slice(),
+        swap.leaving,
+        swap.above,
+        swap.place,
+        flips,
     ) {
-        Turn::Pivots
+        return Turn::Stops;
+    }
+    Turn::Pivots
+}
+
+// The point of a table afresh.
+fn settle(table: &mut Table, shifts: &mut List<(usize, Shift)>) -> Turn
+    requires sized { IsTable table.old }
+    requires shifts { length shifts.old ≡ length table.old.costs }
+    ensures sized { IsTable table.new }
+    ensures shifts { length shifts.new ≡ length shifts.old }
+    ensures worked { KeepsProgram table.old table.new }
+    ensures turn { Takes result (by_values table.old (refined table.old)) table.new }
+{
+    if refine(table, shifts) {
+        Turn::Settles
     } else {
         Turn::Stops
     }
 }
 
-// What the violations of a table with the values of its basis come to.
-#[tactic(auto, unfolding(crate::specs::Turns::look_of), using(crate::proofs::Fitting::still_fits))]
-fn mend(alloc: Global, lp: &StageLp, table: &mut Table, room: &mut Room) -> Result<Turn, Memory>
+// Reduced costs computed afresh. What is found is not to be trusted where a violation was passed over.
+#[tactic(auto, unfolding(crate::specs::Turns::closed_of))]
+fn close(alloc: Global, lp: &StageLp, table: &mut Table, passed: bool) -> Result<bool, Memory>
+    requires fits { Fits table.old lp.now }
+    ensures fits { OnOk result (Fits table.new lp.now) }
+    ensures held { OnOk result (IsHeld table.old table.new) }
+    ensures closed { IfOk result (λ done. Gives done (closed_of passed table.old) table.new) }
+{
+    if !finish(alloc, table)? {
+        return Ok(false);
+    }
+    table.weak = table.weak || passed;
+    Ok(true)
+}
+
+// The answer by a table on which nothing is left to do.
+#[tactic(auto, unfolding(crate::specs::Turns::finishing), using(crate::proofs::Fitting::cuts_inside, crate::proofs::Ending::held_worked))]
+fn finishing(alloc: Global, lp: &StageLp, table: &mut Table, passed: bool) -> Result<Turn, Memory>
+    requires fits { Fits table.old lp.now }
+    ensures fits { OnOk result (Fits table.new lp.now) }
+    ensures worked { OnOk result (KeepsProgram table.old table.new) }
+    ensures turn { IfOk result (λ turn. Takes turn (finishing lp.now passed table.old) table.new) }
+{
+    if !close(alloc, lp, table, passed)? {
+        return Ok(Turn::Stops);
+    }
+    match found(alloc, table, lp)? {
+        Some(answer) => Ok(Turn::Ends(answer)),
+        None => Ok(Turn::Stops),
+    }
+}
+
+// Asks for cuts that the point of a table violates. Where none come in there is an answer.
+#[tactic(auto, unfolding(crate::specs::Turns::asked))]
+fn ask(
+    alloc: Global,
+    lp: &StageLp,
+    table: &mut Table,
+    room: &mut Room,
+    passed: bool,
+) -> Result<Turn, Memory>
+    requires proper { IsProper lp.now }
     requires fits { Fits table.old lp.now }
     requires room { IsRoomy room.old table.old }
-    ensures fits { Fits table.new lp.now }
-    ensures room { IsRoomy room.new table.new }
-    ensures worked { KeepsProgram table.old table.new }
-    ensures turn { IfOk result (λ turn. Takes turn (by_look table.old (look_of lp.now table.old)) table.old table.new) }
+    ensures fits { OnOk result (Fits table.new lp.now) }
+    ensures room { OnOk result (IsRoomy room.new table.new) }
+    ensures own { OnOk result (KeepsOwn lp.now table.old table.new) }
+    ensures turn { IfOk result (λ turn. Takes turn (asked lp.now passed table.old) table.new) }
+{
+    match scan_cuts(lp, table, &mut room.scan)? {
+        Scan::Adds => Ok(Turn::Settles),
+        Scan::Rests => finishing(alloc, lp, table, passed),
+        Scan::Stops => Ok(Turn::Stops),
+    }
+}
+
+// A turn in which no violation is mended: the point is refined, and once that is so, cuts are asked for.
+#[tactic(auto, using(crate::proofs::Fitting::still_fits))]
+fn rest(
+    alloc: Global,
+    lp: &StageLp,
+    table: &mut Table,
+    room: &mut Room,
+    fresh: bool,
+    passed: bool,
+) -> Result<Turn, Memory>
+    requires proper { IsProper lp.now }
+    requires fits { Fits table.old lp.now }
+    requires room { IsRoomy room.old table.old }
+    ensures fits { OnOk result (Fits table.new lp.now) }
+    ensures room { OnOk result (IsRoomy room.new table.new) }
+    ensures own { OnOk result (KeepsOwn lp.now table.old table.new) }
+    ensures turn { IfOk result (λ turn. Takes turn (at_rest lp.now fresh passed table.old) table.new) }
+{
+    if fresh {
+        return ask(alloc, lp, table, room, passed);
+    }
+    Ok(settle(table, &mut room.shifts))
+}
+
+// One turn, on a table whose point is fresh, that is refined since the last pivot, or not.
+#[tactic(auto, unfolding(crate::specs::Turns::turn_of, crate::specs::Turns::look_of), using(crate::proofs::Fitting::still_fits))]
+fn take_turn(
+    alloc: Global,
+    lp: &StageLp,
+    table: &mut Table,
+    room: &mut Room,
+    fresh: bool,
+) -> Result<Turn, Memory>
+    requires proper { IsProper lp.now }
+    requires fits { Fits table.old lp.now }
+    requires room { IsRoomy room.old table.old }
+    ensures fits { OnOk result (Fits table.new lp.now) }
+    ensures room { OnOk result (IsRoomy room.new table.new) }
+    ensures own { OnOk result (KeepsOwn lp.now table.old table.new) }
+    ensures turn { IfOk result (λ turn. Takes turn (turn_of lp.now fresh table.old) table.new) }
 {
     if !violations(table, &mut room.violations)? {
         return Ok(Turn::Stops);
     }
     let all = room.violations.as_slice();
     match inspect_all(alloc, lp, table, all, &mut room.line, &mut room.flips)? {
-        Look::Rests => Ok(Turn::Idles),
-        Look::Mends(violation, place) => Ok(exchange(table, room, violation, place)),
+        Look::Rests(passed) => rest(alloc, lp, table, room, fresh, passed),
+        Look::Mends(swap) => Ok(exchange(table, room, swap)),
         Look::Shows(answer) => Ok(Turn::Ends(answer)),
         Look::Stops => Ok(Turn::Stops),
     }
-}
-
-// One turn.
-#[tactic(auto, unfolding(crate::specs::Turns::turn_of), using(crate::proofs::Fitting::still_fits))]
-fn take_turn(
-    alloc: Global,
-    lp: &StageLp,
-    table: &mut Table,
-    room: &mut Room,
-) -> Result<Turn, Memory>
-    requires fits { Fits table.old lp.now }
-    requires room { IsRoomy room.old table.old }
-    ensures fits { Fits table.new lp.now }
-    ensures room { IsRoomy room.new table.new }
-    ensures worked { KeepsProgram table.old table.new }
-    ensures turn { IfOk result (λ turn. Takes turn (turn_of lp.now table.old) table.old table.new) }
-{
-    if !refine(table, &mut room.shifts) {
-        return Ok(Turn::Stops);
-    }
-    mend(alloc, lp, table, room)
-}
-
-// The answer by a table on which two turns, one after the other, did nothing.
-#[tactic(auto, unfolding(crate::specs::Turns::finishing), using(crate::proofs::Fitting::still_fits))]
-fn finishing(alloc: Global, lp: &StageLp, table: &mut Table) -> Result<Option<Answer>, Memory>
-    requires fits { Fits table.old lp.now }
-    ensures fits { Fits table.new lp.now }
-    ensures worked { KeepsProgram table.old table.new }
-    ensures went { IfOk result (λ answer. Ends answer (finishing lp.now table.old) table.new) }
-{
-    if !finish(alloc, table)? {
-        return Ok(None);
-    }
-    found(alloc, table, lp)
 }
 
 // At most so many turns. None where a number is out of range, or where all are used up.
@@ -137,23 +211,19 @@ pub(crate) fn take_turns(
     room: &mut Room,
     limit: usize,
 ) -> Result<Option<Answer>, Memory>
+    requires proper { IsProper lp.now }
     requires fits { Fits table.old lp.now }
     requires room { IsRoomy room.old table.old }
-    ensures fits { Fits table.new lp.now }
-    ensures room { IsRoomy room.new table.new }
-    ensures worked { KeepsProgram table.old table.new }
+    ensures fits { OnOk result (Fits table.new lp.now) }
+    ensures room { OnOk result (IsRoomy room.new table.new) }
+    ensures own { OnOk result (KeepsOwn lp.now table.old table.new) }
     ensures went { IfOk result (λ answer. Ends answer (turns lp.now limit false table.old) table.new) }
 {
-    let mut idle = false;
+    let mut fresh = false;
     for _turn in 0..limit {
-        match take_turn(alloc, lp, table, room)? {
-            Turn::Pivots => idle = false,
-            Turn::Idles => {
-                if idle {
-                    return finishing(alloc, lp, table);
-                }
-                idle = true;
-            }
+        match take_turn(alloc, lp, table, room, fresh)? {
+            Turn::Pivots => fresh = false,
+            Turn::Settles => fresh = true,
             Turn::Ends(answer) => return Ok(Some(answer)),
             Turn::Stops => return Ok(None),
         }

@@ -4,17 +4,17 @@ ghost use Rattle.hp_solver.specs.declared.stage_lp.StageLp.{StageLp};
 ghost use Rattle.hp_solver.specs.declared.stage_lp.Answer.{Answer};
 ghost use Rattle.hp_solver.specs.Proper.{IsProper, IsReference, Extends, IsLike};
 ghost use Rattle.hp_warm_scale.specs.First.{first_of};
-ghost use Rattle.hp_warm_simplex.specs.Fitting.{Fits};
+ghost use Rattle.hp_warm_scale.specs.Fitting.{Suits, Fits};
 ghost use Rattle.hp_warm_simplex.specs.Going.{go_of};
-ghost use Rattle.hp_warm_simplex.specs.Chains.{Suits, readied, started_of, begun_of, next_of};
+ghost use Rattle.hp_warm_simplex.specs.Chains.{readied, started_of, begun_of, next_of};
 
-use crate::attempts::{first_table, is_good, next_answer, widened};
+use crate::attempts::{is_good, next_answer, widened};
 use crate::going::go;
 use crate::turns::Room;
 use hp_num::{List, Memory};
-use hp_simplex::DualSimplex;
-use hp_simplex::dual_simplex::Room as PlainRoom;
 use hp_solver::{Answer, Solver, StageLp};
+use hp_warm_scale::first;
+use hp_warm_scan::Room as ScanRoom;
 use hp_warm_table::Table;
 use std::alloc::Global;
 use std::marker::Model;
@@ -23,9 +23,13 @@ use std::marker::Model;
 // solve take some 3 ns (measured), so this is some 3 ms, where a thread with memory of its own takes some 0.1 ms.
 const LEAST_WORK: usize = 1 << 20;
 
+// So many cuts have rows in a table, by and large.
+const FEW_CUTS: usize = 8;
+
 /// The bounded dual simplex method (Lemke, 1954; Wagner, 1958) with bound flips (Maros, 2003), on a table of 64-bit
-/// numbers that is scaled by powers of two and refined on the program's own rows. A chain goes on from the table that the
-/// program before it left, and begins from one that belongs to the node alone. Its last resort is [`DualSimplex`].
+/// numbers that is scaled by powers of two and refined on the program's own rows, with rows only of the cuts that were asked
+/// for. A chain goes on from the table that the program before it left, and begins from one that belongs to the node alone.
+/// Its last resort is the same method in [`wide`](hp_wide_simplex::wide) numbers.
 pub struct WarmSimplex;
 
 /// What a chain holds: the table that its last program left, if there is one, and lists for work, on which no answer
@@ -34,7 +38,6 @@ pub struct WarmSimplex;
 pub struct Chain {
     table: Option<Table>,
     room: Room,
-    plain: PlainRoom,
 }
 
 impl Model for Chain {
@@ -47,13 +50,12 @@ impl Model for Chain {
 }
 
 impl Chain {
-    fn new(alloc: Global, table: Option<Table>, plain: PlainRoom) -> Chain
+    fn new(alloc: Global, table: Option<Table>) -> Chain
         ensures { result ≡ table }
     {
         Chain {
             table,
             room: new_room(alloc),
-            plain,
         }
     }
 }
@@ -65,6 +67,7 @@ fn new_room(alloc: Global) -> Room {
         steps: List::new(alloc),
         shifts: List::new(alloc),
         flips: List::new(alloc),
+        scan: ScanRoom::new(alloc),
     }
 }
 
@@ -73,6 +76,7 @@ fn new_room(alloc: Global) -> Room {
 fn ready(alloc: Global, lp: &StageLp, mut table: Table) -> Result<Option<Table>, Memory>
     requires proper { IsProper lp.now }
     requires suits { Suits table lp.now }
+    requires reference { IsReference lp.now }
     requires fits { Fits table lp.now }
     requires first { first_of lp.now ≡ Some table }
     ensures table { IfOk result (λ found. found ≡ Some (readied table (go_of lp.now table))) }
@@ -83,7 +87,7 @@ fn ready(alloc: Global, lp: &StageLp, mut table: Table) -> Result<Option<Table>,
     if is_good(&answer, table.weak) {
         Ok(Some(table))
     } else {
-        first_table(alloc, lp)
+        first(alloc, lp)
     }
 }
 
@@ -95,7 +99,7 @@ fn started(alloc: Global, lp: &StageLp) -> Result<Option<Table>, Memory>
     ensures table { IfOk result (λ table. table ≡ started_of lp.now) }
     ensures suits { IfOk result (λ table. IfSome table (λ t. Suits t lp.now)) }
 {
-    match first_table(alloc, lp)? {
+    match first(alloc, lp)? {
         None => Ok(None),
         Some(table) => ready(alloc, lp, table),
     }
@@ -111,10 +115,7 @@ fn begun(alloc: Global, start: &Option<Table>, lp: &StageLp) -> Result<Option<Ta
 {
     match start {
         None => Ok(None),
-        Some(table) => {
-            let cuts = lp.rows.len().saturating_sub(table.rows.len());
-            widened(alloc, table.copy(alloc, cuts)?, lp)
-        }
+        Some(table) => widened(alloc, table.copy(alloc, FEW_CUTS)?, lp),
     }
 }
 
@@ -138,20 +139,24 @@ impl Solver for WarmSimplex {
     }
 
     fn begin(&self, alloc: Global, start: &Option<Table>, lp: &StageLp) -> Result<Chain, Memory> {
-        let plain = DualSimplex.begin(alloc, &(), lp)?;
-        Ok(Chain::new(alloc, begun(alloc, start, lp)?, plain))
+        Ok(Chain::new(alloc, begun(alloc, start, lp)?))
     }
 
     fn solve(&self, alloc: Global, chain: &mut Chain, lp: &StageLp) -> Result<Answer, Memory> {
         let table = chain.table.take();
-        let (answer, table) = next_answer(alloc, lp, table, &mut chain.room, &mut chain.plain)?;
+        let (answer, table) = next_answer(alloc, lp, table, &mut chain.room)?;
         chain.table = table;
         Ok(answer)
     }
 
-    // By the number of cells of the programs, all together.
+    // By the number of cells of the tables and of cuts that are looked up, all together.
     fn worth_a_thread(&self, lp: &StageLp, solves: usize) -> bool {
-        let cells = lp.columns.len().saturating_mul(lp.rows.len());
-        cells.saturating_mul(solves) >= LEAST_WORK
+        let own = lp.own as usize;
+        let cells = lp
+            .columns
+            .len()
+            .saturating_mul(own.saturating_add(FEW_CUTS));
+        let cuts = lp.rows.len().saturating_sub(own).saturating_mul(2);
+        cells.saturating_add(cuts).saturating_mul(solves) >= LEAST_WORK
     }
 }

@@ -1,6 +1,6 @@
 use Rattle.std.proofs.Common.{◌≡◌, ◌-◌, false}
-use Rattle.hp_warm_table.specs.Kept.{KeepsProgram}
-use Rattle.hp_warm_simplex.specs.Fitting.{Fits, IsRoomy}
+use Rattle.hp_warm_scale.specs.Fitting.{Fits}
+use Rattle.hp_warm_simplex.specs.Fitting.{KeepsOwn, IsRoomy}
 use Rattle.hp_warm_simplex.specs.Turns.{turns}
 use Rattle.hp_warm_simplex.proofs.turns.take_turns.Given as goal
 
@@ -8,6 +8,6 @@ abbrev pub invariant-loop-turn : goal.invariant-loop-turn
 invariant-loop-turn l = record {
   fits : Fits l.table l.lp;
   room : IsRoomy l.room l.table;
-  worked : KeepsProgram l.fn.table l.table;
-  left : turns l.lp l.limit false l.fn.table ≡ turns l.lp (l.limit - l._turn) l.idle l.table;
+  own : KeepsOwn l.lp l.fn.table l.table;
+  left : turns l.lp l.limit false l.fn.table ≡ turns l.lp (l.limit - l._turn) l.fresh l.table;
 }

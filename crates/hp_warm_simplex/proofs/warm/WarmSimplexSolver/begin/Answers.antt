@@ -1,6 +1,6 @@
 use Rattle.std.proofs.Common.{Option, IfSome, sym, subst}
 use Rattle.hp_warm_table.specs.declared.table.Table.{Table}
-use Rattle.hp_warm_simplex.specs.Fitting.{Fits}
+use Rattle.hp_warm_scale.specs.Fitting.{Fits}
 use Rattle.hp_warm_simplex.proofs.Likeness.{fits_others}
 use Rattle.hp_warm_simplex.proofs.warm.WarmSimplexSolver.begin.Goals as goal
 
