@@ -49,16 +49,23 @@ class Limits(unittest.TestCase):
 
 class Programs(unittest.TestCase):
     def test_narrow(self):
-        """An alpha of 100 digits, slopes of 57, and bounds below 2^39 are the most."""
+        """An alpha of 100 digits, slopes of 57, and bounds below 2^39 are the most. Bounds in which no cut has a slope don't count."""
         rows = [
             ((1 << 100) - 1, (1 << 57) - 1, (1 << 39) * UNIT - 1, True), (1 << 100, 0, UNIT, False), (0, 1 << 57, UNIT, False),
-            (-(1 << 100) + 1, -(1 << 57) + 1, 0, True), (0, 0, (1 << 39) * UNIT, False),
+            (-(1 << 100) + 1, -(1 << 57) + 1, 0, True), (0, 1, (1 << 39) * UNIT, False), (0, 0, (1 << 39) * UNIT, True),
         ]
         for alpha, slope, bound, narrow in rows:
             with self.subTest(alpha=alpha, slope=slope, bound=bound):
                 columns = (Column(-bound, 0, 0), Column(0, UNIT, UNIT))
                 program = Program(1, columns, (), (0,), ((Cut(0, (0,)), Cut(alpha, (slope,))),))
                 self.assertEqual(is_narrow(program, 0), narrow)
+
+    def test_narrow_by_terms(self):
+        """A cut of 50 slopes beside the successor's cost, and of 51."""
+        for count, narrow in ((50, True), (51, False)):
+            columns = (Column(0, UNIT, 0),) * count + (Column(0, UNIT, UNIT),)
+            program = Program(count, columns, (), tuple(range(count)), ((Cut(0, (1,) * count),),))
+            self.assertEqual(is_narrow(program, 0), narrow)
 
     def test_two_states_of_one_decision(self):
         """Their slopes are added in the cut's row, and a sum of 0 leaves no term."""

@@ -2,7 +2,8 @@
 from __future__ import annotations
 
 from dataclasses import dataclass, replace
-from typing import List, Optional, Sequence, Tuple
+from functools import cached_property
+from typing import Dict, List, Mapping, Optional, Sequence, Tuple
 
 from .numbers import RAW_DIGITS, bits
 
@@ -65,10 +66,24 @@ class Program:
         """All cuts, by successor and place, which is the order of their rows in the program."""
         return [(successor, place) for successor, pool in enumerate(self.pools) for place in range(len(pool))]
 
+    @cached_property
+    def cut_rows(self) -> Dict[CutName, Row]:
+        """The rows of all cuts."""
+        return {name: self.row_of(name[0], self.pools[name[0]][name[1]]) for name in self.cut_names()}
+
+    @cached_property
+    def narrow(self) -> Tuple[bool, ...]:
+        """Of each successor, whether the rows of all its cuts are narrow."""
+        names = self.cut_names()
+        wide = {successor for successor, place in names if not is_narrow_row(self, self.cut_row((successor, place)))}
+        return tuple(successor not in wide for successor in range(len(self.pools)))
+
     def cut_row(self, name: CutName) -> Row:
-        """The row of a cut: the successor's cost, less slopes times states, is at least alpha."""
-        successor, place = name
-        cut = self.pools[successor][place]
+        """The row of a cut."""
+        return self.cut_rows[name]
+
+    def row_of(self, successor: int, cut: Cut) -> Row:
+        """What a cut asks: the successor's cost, less slopes times states, is at least alpha."""
         sums = {column: 0 for column in sorted(set(self.outs))}
         for column, slope in zip(self.outs, cut.slopes):
             sums[column] -= FINER * slope
@@ -85,21 +100,31 @@ class Program:
         return replace(self, columns=(*self.columns[:self.decisions], *nothing), pools=((),) * len(self.pools))
 
     def with_sides(self, sides: Sequence[Tuple[Optional[int], Optional[int]]]) -> Program:
-        """The same program with other sides of its own rows."""
-        return replace(self, own=tuple(Row(low, high, row.terms) for row, (low, high) in zip(self.own, sides)))
+        """The same program with other sides of its own rows. What is known of its cuts stays known."""
+        other = replace(self, own=tuple(Row(low, high, row.terms) for row, (low, high) in zip(self.own, sides)))
+        vars(other).update(cut_rows=self.cut_rows, narrow=self.narrow)
+        return other
+
+
+def is_narrow_row(program: Program, row: Row) -> bool:
+    """Whether the values of a cut's row can be compared in 128 bits.
+
+    Its low has at most 108 digits, it has at most 51 terms, and each but the last, which is the successor's cost, has a coefficient of at
+    most 65 digits in a column whose bounds have at most 71 each.
+    """
+    columns = program.columns
+    return (bits(row.low) <= 108 and len(row.terms) <= 51
+            and all(bits(term) <= 65 and max(bits(columns[it].low), bits(columns[it].high)) <= 71 for it, term in row.terms[:-1]))
 
 
 def is_narrow(program: Program, successor: int) -> bool:
-    """Whether the values of a successor's cuts can be compared in 128 bits, so that its cuts can wait until one is asked for.
+    """Whether the rows of all cuts of a successor are narrow, so that these can wait until one is asked for."""
+    return program.narrow[successor]
 
-    Each alpha has at most 100 digits and each slope at most 57, and each bound of a decision that is a state's next value is below
-    2^39 in whole units.
-    """
-    cuts = program.pools[successor]
-    most = UNIT << 39
-    bounds = [bound for out in program.outs for bound in (program.columns[out].low, program.columns[out].high)]
-    return (all(bits(cut.alpha) <= 100 and all(bits(slope) <= 57 for slope in cut.slopes) for cut in cuts)
-            and all(abs(bound) < most for bound in bounds))
+
+def value_at(row: Row, states: Mapping[int, int]) -> int:
+    """The value of a cut's row, at 2^48 for one, where columns have these numbers at 2^24 for one."""
+    return CUT_UNIT * (row.low // FINER) + sum((-term // FINER) * states[column] for column, term in row.terms[:-1])
 
 
 FOUND, RAY, STUCK = "Found", "Ray", "Stuck"

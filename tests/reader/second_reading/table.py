@@ -1,8 +1,7 @@
 """The table that goes from one program of a chain to the next: scaled rows, a basis, and lines of the basic columns."""
 from __future__ import annotations
 
-import copy
-from dataclasses import dataclass, field
+from dataclasses import dataclass, field, replace
 from typing import Dict, List, Optional, Tuple
 
 from .numbers import Numbers
@@ -94,5 +93,6 @@ class Table:
         self.nonbasic, self.at_high = list(basis[0]), list(basis[1])
 
     def copy(self) -> Table:
-        """A table of its own, equal to this one."""
-        return copy.deepcopy(self)
+        """A table of its own, equal to this one. A row's terms never change, so both have the same."""
+        lists = {name: list(it) for name, it in vars(self).items() if isinstance(it, list)}
+        return replace(self, lines={column: list(line) for column, line in self.lines.items()}, **lists)

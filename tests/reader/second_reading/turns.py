@@ -2,10 +2,10 @@
 from __future__ import annotations
 
 from dataclasses import dataclass
-from typing import List, Optional, Sequence, Tuple
+from typing import List, Mapping, Optional, Tuple
 
 from .numbers import Stop
-from .program import CUT_UNIT, FINER, RAY, Answer, CutName, Program, is_narrow, without_point
+from .program import FINER, RAY, Answer, CutName, Program, is_narrow, value_at, without_point
 from .rays import ray
 from .simplex import (Entering, Violation, append, column_point, drop_last, enter, finish, found, line_of, move, pivot, refine,
                       set_sides)
@@ -66,13 +66,10 @@ def step(table: Table, taken: Taken, trace: Trace) -> None:
     pivot(table, violation.variable, violation.sign, taken.line, entering.place, entering.flips)
 
 
-def greatest_cut(program: Program, successor: int, states: Sequence[int]) -> int:
+def greatest_cut(program: Program, successor: int, states: Mapping[int, int]) -> int:
     """The place of a successor's cut of the greatest value at some states, ties to the least place."""
-    def value(place: int) -> int:
-        """A cut's value at 2^48 for one."""
-        cut = program.pools[successor][place]
-        return CUT_UNIT * cut.alpha + sum(slope * state for slope, state in zip(cut.slopes, states))
-    return max(range(len(program.pools[successor])), key=lambda place: (value(place), -place))
+    places = range(len(program.pools[successor]))
+    return max(places, key=lambda place: (value_at(program.cut_row((successor, place)), states), -place))
 
 
 def scan(table: Table, program: Program, trace: Trace) -> bool:
@@ -82,7 +79,7 @@ def scan(table: Table, program: Program, trace: Trace) -> bool:
     """
     if len(table.cuts) == len(program.cut_names()):
         return False
-    states = [column_point(table, program, out) // FINER for out in program.outs]
+    states = {out: column_point(table, program, out) // FINER for out in program.outs}
     added = False
     for successor, pool in enumerate(program.pools):
         if not pool or not is_narrow(program, successor):
