@@ -1,5 +1,6 @@
-// Whole numbers: sums of sizes, quotients, products, and numbers in bytes.
+// Whole numbers: sums of sizes, quotients, products, numbers of 256 bits, and numbers in bytes.
 use hp_num::{Size, add_product, big_endian, floor_div};
+use hp_wide::{Wide, inverse, shift};
 
 #[test]
 fn adds_sizes(rt: HostRuntime) {
@@ -41,6 +42,14 @@ fn divides_and_adds(rt: HostRuntime) {
         }
     }
     assert_eq!(rt; add_product(5, -3, 4), -7);
+}
+
+#[test]
+fn rounds_wide_numbers(rt: HostRuntime) {
+    assert_eq!(rt; inverse(-5), -34028236692093846346337460743176821145);
+    assert_eq!(rt; Wide::product(1 << 40, -(1 << 39)).down(), Some(0));
+    assert_eq!(rt; Wide::nearest_product(7, -1, 1), Some(-3));
+    assert_eq!(rt; shift(-5, 248).is_none(), true);
 }
 
 #[test]
