@@ -2,7 +2,7 @@
 use Rattle.std.proofs.Common.{◌≡◌, ℕ, suc, ◌+◌, ◌<◌, ◌≤◌, Bool, true, false, cond, List, [], ◌∷◌, length, Option, Some, None, IfSome, arith, refl, sym, subst}
 use Rattle.std.specs.Option.{option_map, option_and_then}
 use Rattle.hp_solver.specs.declared.fixed.Fx.{Fx}
-use Rattle.hp_solver.specs.declared.stage_lp.StageLp.{StageLp}
+use Rattle.hp_solver.specs.declared.programs.Program.{Program}
 use Rattle.hp_simplex.specs.declared.dictionary.Nonbasic.{Nonbasic}
 use Rattle.hp_simplex.specs.declared.dictionary.Leaving.{Leaving}
 use Rattle.hp_simplex.specs.declared.dictionary.Entering.{Entering}
@@ -31,14 +31,14 @@ chosen_row : (m i v : ℕ) (side : Option Bool) (best : Option Leaving) → i < 
 chosen_row m i v None best h b = b
 chosen_row m i v (Some above) best h b = one_row m i v above (leaving.is_less v best) best h b
 
-step_row : (m : ℕ) (lp : StageLp) (ps : List Nonbasic) (best next : Option Leaving) (i v : ℕ) (row : List Fx) → i < m → IsRow m best → leaving.leaving_step lp ps best i v row ≡ Some next → IsRow m next
+step_row : (m : ℕ) (lp : Program) (ps : List Nonbasic) (best next : Option Leaving) (i v : ℕ) (row : List Fx) → i < m → IsRow m best → leaving.leaving_step lp ps best i v row ≡ Some next → IsRow m next
 unfolding leaving.leaving_step
 step_row m lp ps best next i v row h b e =
     let x = then_some _ (row_value lp ps row) next e in
     let s = map_some (leaving.chosen best i v) (leaving.violated lp v x.0) next x.2 in
     subst (IsRow m) s.2 (chosen_row m i v s.0 best h b)
 
-pub leaving_inside : (m : ℕ) (lp : StageLp) (ps : List Nonbasic) (best next : Option Leaving) (i : ℕ) (vs : List ℕ) (rows : List (List Fx)) → i + length vs ≤ m → IsRow m best → leaving.leaving_from lp ps best i vs rows ≡ Some next → IsRow m next
+pub leaving_inside : (m : ℕ) (lp : Program) (ps : List Nonbasic) (best next : Option Leaving) (i : ℕ) (vs : List ℕ) (rows : List (List Fx)) → i + length vs ≤ m → IsRow m best → leaving.leaving_from lp ps best i vs rows ≡ Some next → IsRow m next
 leaving_inside m lp ps best next i [] rows h b e = subst (IsRow m) (some_same e) b
 leaving_inside m lp ps best next i (v ∷ vs) [] h b e = subst (IsRow m) (some_same e) b
 leaving_inside m lp ps best next i (v ∷ vs) (row ∷ rows) h b e =
@@ -55,11 +55,11 @@ eligible_column m j t d p true best next h b e =
     subst (IsColumn m) s.2 (one_column m j p.variable s.0 (entering.is_better p.variable s.0 best) best h b)
 eligible_column m j t d p false best next h b e = subst (IsColumn m) (some_same e) b
 
-step_column : (m : ℕ) (lp : StageLp) (above : Bool) (best next : Option Entering) (j : ℕ) (t d : Fx) (p : Nonbasic) → j < m → IsColumn m best → entering.entering_step lp above best j t p d ≡ Some next → IsColumn m next
+step_column : (m : ℕ) (lp : Program) (above : Bool) (best next : Option Entering) (j : ℕ) (t d : Fx) (p : Nonbasic) → j < m → IsColumn m best → entering.entering_step lp above best j t p d ≡ Some next → IsColumn m next
 unfolding entering.entering_step
 step_column m lp above best next j t d p h b e = eligible_column m j t d p (entering.is_eligible lp above t p) best next h b e
 
-pub entering_inside : (m : ℕ) (lp : StageLp) (above : Bool) (best next : Option Entering) (j : ℕ) (ts : List Fx) (ps : List Nonbasic) (ds : List Fx) → j + length ts ≤ m → IsColumn m best → entering.entering_from lp above best j ts ps ds ≡ Some next → IsColumn m next
+pub entering_inside : (m : ℕ) (lp : Program) (above : Bool) (best next : Option Entering) (j : ℕ) (ts : List Fx) (ps : List Nonbasic) (ds : List Fx) → j + length ts ≤ m → IsColumn m best → entering.entering_from lp above best j ts ps ds ≡ Some next → IsColumn m next
 entering_inside m lp above best next j [] ps ds h b e = subst (IsColumn m) (some_same e) b
 entering_inside m lp above best next j (t ∷ ts) [] ds h b e = subst (IsColumn m) (some_same e) b
 entering_inside m lp above best next j (t ∷ ts) (p ∷ ps) [] h b e = subst (IsColumn m) (some_same e) b
@@ -67,12 +67,12 @@ entering_inside m lp above best next j (t ∷ ts) (p ∷ ps) (d ∷ ds) h b e =
     let s = then_some _ (entering.entering_step lp above best j t p d) next e in
     entering_inside m lp above s.0 next (suc j) ts ps ds (omega arith) (step_column m lp above best s.0 j t d p (omega arith) b s.1) s.2
 
-pub leaving_row : (m : ℕ) (lp : StageLp) (ps : List Nonbasic) (vs : List ℕ) (rows : List (List Fx)) (found : Option (Option Leaving)) → length vs ≤ m → found ≡ leaving.leaving_from lp ps None 0 vs rows → IfSome found (λ best. IfSome best (λ l. l.row < m))
+pub leaving_row : (m : ℕ) (lp : Program) (ps : List Nonbasic) (vs : List ℕ) (rows : List (List Fx)) (found : Option (Option Leaving)) → length vs ≤ m → found ≡ leaving.leaving_from lp ps None 0 vs rows → IfSome found (λ best. IfSome best (λ l. l.row < m))
 leaving_row m lp ps vs rows None h e = tt
 leaving_row m lp ps vs rows (Some None) h e = tt
 leaving_row m lp ps vs rows (Some (Some l)) h e = leaving_inside m lp ps None (Some l) 0 vs rows (omega (arith, h)) (λ k n. absurd (cc)) (sym e) l refl
 
-pub entering_column : (m : ℕ) (lp : StageLp) (above : Bool) (ts : List Fx) (ps : List Nonbasic) (ds : List Fx) (found : Option (Option Entering)) → length ts ≤ m → found ≡ entering.entering_from lp above None 0 ts ps ds → IfSome found (λ best. IfSome best (λ e. e.column < m))
+pub entering_column : (m : ℕ) (lp : Program) (above : Bool) (ts : List Fx) (ps : List Nonbasic) (ds : List Fx) (found : Option (Option Entering)) → length ts ≤ m → found ≡ entering.entering_from lp above None 0 ts ps ds → IfSome found (λ best. IfSome best (λ e. e.column < m))
 entering_column m lp above ts ps ds None h e = tt
 entering_column m lp above ts ps ds (Some None) h e = tt
 entering_column m lp above ts ps ds (Some (Some l)) h e = entering_inside m lp above None (Some l) 0 ts ps ds (omega (arith, h)) (λ k n. absurd (cc)) (sym e) l refl

@@ -4,8 +4,8 @@ use Rattle.std.specs.Option.{option_map, option_and_then}
 use Rattle.std.proofs.lemmas.List.{drop_more, append_assoc}
 use Rattle.std.proofs.lemmas.Bool.Decides.{nat_tests}
 use Rattle.hp_solver.specs.declared.fixed.Fx.{Fx}
-use Rattle.hp_solver.specs.declared.stage_lp.LpRow.{LpRow}
-use Rattle.hp_solver.specs.declared.stage_lp.StageLp.{StageLp}
+use Rattle.hp_solver.specs.declared.programs.LpRow.{LpRow}
+use Rattle.hp_solver.specs.declared.programs.Program.{Program}
 use Rattle.hp_simplex.specs.declared.dictionary.Nonbasic.{Nonbasic}
 use Rattle.hp_simplex.specs.Each.{each_from}
 use Rattle.hp_simplex.specs.declared.dictionary.Tableau.{Tableau}
@@ -31,7 +31,7 @@ factor_next above v j ps ts p t h l e w =
     w ∙ ap₂ (factor_at above v) (drop_more ps j p h) (drop_more ts j t (omega (arith, h, l)))
     ∙ ap (λ (b : Bool). cond b (cond above (Some (get_or ts j t)) (negated (get_or ts j t))) (factor_at above v (drop (j + 1) ps) (drop (j + 1) ts))) (same_false (get_or ps j p).variable v e)
 
-module _ {whole : Option Fx} (lp : StageLp) (ps : List Nonbasic) (v i : ℕ) (basic : List ℕ) (rows : List (List Fx)) (h : i < length basic) (k : i < length rows) (w : whole ≡ basic_value lp ps v (drop i basic) (drop i rows)) where
+module _ {whole : Option Fx} (lp : Program) (ps : List Nonbasic) (v i : ℕ) (basic : List ℕ) (rows : List (List Fx)) (h : i < length basic) (k : i < length rows) (w : whole ≡ basic_value lp ps v (drop i basic) (drop i rows)) where
   pub basic_split : whole ≡ cond (get_or basic i 0 == v) (row_value lp ps (get_or rows i [])) (basic_value lp ps v (drop (i + 1) basic) (drop (i + 1) rows))
   basic_split = w ∙ ap₂ (basic_value lp ps v) (drop_more basic i 0 h) (drop_more rows i [] k)
 

@@ -2,10 +2,10 @@
 use Rattle.std.proofs.Common.{◌≡◌, ℕ, zero, suc, ◌+◌, ◌-◌, ◌*◌, ◌<◌, Bool, true, false, cond, ◌==◌, List, [], ◌∷◌, ◌++◌, length, map, drop, flat_map, arith, refl, ap, ap₂, add-one, sym, ◌∙◌}
 use Rattle.std.proofs.lemmas.List.{append_assoc, length-append}
 use Rattle.hp_solver.specs.declared.fixed.Fx.{Fx}
-use Rattle.hp_solver.specs.declared.stage_lp.Column.{Column}
-use Rattle.hp_solver.specs.declared.stage_lp.LpRow.{LpRow}
+use Rattle.hp_solver.specs.declared.programs.Column.{Column}
+use Rattle.hp_solver.specs.declared.programs.LpRow.{LpRow}
 use Rattle.hp_solver.specs.Numbers.{zero_fx}
-use Rattle.hp_solver.specs.declared.stage_lp.StageLp.{StageLp}
+use Rattle.hp_solver.specs.declared.programs.Program.{Program}
 use Rattle.hp_simplex.specs.declared.dictionary.Nonbasic.{Nonbasic}
 use Rattle.hp_simplex.specs.declared.dictionary.Tableau.{Tableau}
 use Rattle.hp_simplex.specs.Dictionary.{Dictionary, dense, slacks_from, nonbasic_from, start_of}
@@ -72,7 +72,7 @@ parts_same {b} {c} {p} {q} {r} {s} {x} {y} e f g h =
     ∙ ap₂ (λ (r : List (List Fx)) (x : List Fx). record { basic = c; nonbasic = q; grid = record { rows = r; costs = x } }) g h
 
 -- a dictionary with the parts of the first one is the first one
-pub made_start : (lp : StageLp) (cs : List Column) (rs : List LpRow) (d : Tableau) → cs ≡ lp.columns → rs ≡ lp.rows → d.basic ≡ slacks_from (length cs) rs → d.nonbasic ≡ nonbasic_from 0 cs → d.table.rows ≡ length rs → d.table.columns ≡ length cs → d.table.cells.items ≡ flat_map (factors (length cs)) rs → d.table.costs.items ≡ map (λ (c : Column). c.cost) cs → dictionary_of d ≡ start_of lp
+pub made_start : (lp : Program) (cs : List Column) (rs : List LpRow) (d : Tableau) → cs ≡ lp.columns → rs ≡ lp.rows → d.basic ≡ slacks_from (length cs) rs → d.nonbasic ≡ nonbasic_from 0 cs → d.table.rows ≡ length rs → d.table.columns ≡ length cs → d.table.cells.items ≡ flat_map (factors (length cs)) rs → d.table.costs.items ≡ map (λ (c : Column). c.cost) cs → dictionary_of d ≡ start_of lp
 unfolding dictionary_of grid_of start_of
 made_start lp cs rs d a b basic nonbasic m n cells costs =
     parts_same basic nonbasic (ap₂ (λ (i : ℕ) (j : ℕ). rows_of i j d.table.cells.items) m n ∙ ap (rows_of (length rs) (length cs)) cells ∙ flat_rows (length cs) rs) costs

@@ -1,8 +1,8 @@
 -- Worked rows, computed.
 use Rattle.std.proofs.Common.{◌≡◌, ℕ, ◌^◌, ◌*◌, pos, negsuc, [], ◌∷◌, Some, None, refl}
 use Rattle.hp_solver.specs.declared.fixed.Fx.{Fx}
-use Rattle.hp_solver.specs.declared.stage_lp.StageLp.{StageLp}
-use Rattle.hp_solver.specs.declared.stage_lp.Kind.TheVariants as kinds
+use Rattle.hp_solver.specs.declared.programs.Program.{Program}
+use Rattle.hp_solver.specs.declared.programs.Kind.TheVariants as kinds
 use Rattle.hp_solver.specs.Numbers.{number, zero_fx, one, plus, minus, times, over}
 use Rattle.hp_simplex.specs.Pivot.{turned, moved, turned_row, moved_row, pivot_of}
 use Rattle.hp_simplex.specs.Dictionary.{low_of, high_of, value_at, sum_step, row_value, start_of}
@@ -12,7 +12,7 @@ use Rattle.hp_simplex.specs.Answers.{stuck_of, clamped, point_at, found_of, ray_
 use Rattle.hp_simplex.specs.Solve.{exchanged, turn_of, solve_of}
 
 -- one column in [0, 1] with cost 1, and 3 of it have to be 1
-abbrev thirds : StageLp
+abbrev thirds : Program
 thirds =
     record {
       columns = record { low = zero_fx; high = one; cost = one } ∷ [];
@@ -29,7 +29,7 @@ abbrev units : ℕ → Fx
 units n = number (pos (n * 2 ^ 32))
 
 -- a reservoir that may keep 10, a turbine of 8, a plant of 20 at cost 5; 5 of water, and a load of 9
-abbrev small : StageLp
+abbrev small : Program
 small =
     record {
       columns = record { low = zero_fx; high = units 10; cost = zero_fx } ∷ record { low = zero_fx; high = units 8; cost = zero_fx } ∷ record { low = zero_fx; high = units 20; cost = units 5 } ∷ [];
@@ -43,7 +43,7 @@ unfolding plus minus times over turned moved turned_row moved_row pivot_of low_o
 small_found = refl
 
 -- a product that leaves 128 bits
-abbrev large : StageLp
+abbrev large : Program
 large =
     record {
       columns = record { low = number (pos (2 ^ 100)); high = number (pos (2 ^ 100)); cost = zero_fx } ∷ [];

@@ -3,9 +3,9 @@
 use Rattle.std.specs.Prelude.{ℕ, zero, suc, ◌-◌, pos, List, [], ◌∷◌, length, map, Option, Some, slice_get, int_lt, ◌==◌, nat_lt, if◌then◌else◌}
 use Rattle.std.specs.Option.{option_map, option_and_then}
 use Rattle.hp_solver.specs.declared.fixed.Fx.{Fx}
-use Rattle.hp_solver.specs.declared.stage_lp.Column.{Column}
-use Rattle.hp_solver.specs.declared.stage_lp.LpRow.{LpRow}
-use Rattle.hp_solver.specs.declared.stage_lp.StageLp.{StageLp}
+use Rattle.hp_solver.specs.declared.programs.Column.{Column}
+use Rattle.hp_solver.specs.declared.programs.LpRow.{LpRow}
+use Rattle.hp_solver.specs.declared.programs.Program.{Program}
 use Rattle.hp_simplex.specs.declared.dictionary.Nonbasic.{Nonbasic}
 use Rattle.hp_solver.specs.Numbers.{zero_fx, plus, times}
 use Rattle.hp_simplex.specs.Pivot.{Grid}
@@ -17,29 +17,29 @@ pub record Dictionary : Type 0 where
   pub grid : Grid
 
 -- the lower bound of a variable
-unfoldable pub low_of : StageLp → ℕ → Option Fx
+unfoldable pub low_of : Program → ℕ → Option Fx
 low_of lp v = if nat_lt v (length lp.columns) then option_map (λ (c : Column). c.low) (slice_get lp.columns v) else option_and_then (λ (r : LpRow). r.low) (slice_get lp.rows (v - length lp.columns))
 
 -- the upper bound of a variable
-unfoldable pub high_of : StageLp → ℕ → Option Fx
+unfoldable pub high_of : Program → ℕ → Option Fx
 high_of lp v = if nat_lt v (length lp.columns) then option_map (λ (c : Column). c.high) (slice_get lp.columns v) else option_and_then (λ (r : LpRow). r.high) (slice_get lp.rows (v - length lp.columns))
 
 -- a nonbasic variable has the value of the bound at which it stands
-unfoldable pub value_at : StageLp → Nonbasic → Option Fx
+unfoldable pub value_at : Program → Nonbasic → Option Fx
 value_at lp p = if p.high then high_of lp p.variable else low_of lp p.variable
 
 -- s + t times the variable
-unfoldable pub sum_step : StageLp → Fx → Fx → Nonbasic → Option Fx
+unfoldable pub sum_step : Program → Fx → Fx → Nonbasic → Option Fx
 sum_step lp s t p = option_and_then (λ x. option_and_then (plus s) (times t x)) (value_at lp p)
 
 -- s and the terms of a row, in rising order
-abbrev pub sum_from : StageLp → Fx → List Fx → List Nonbasic → Option Fx
+abbrev pub sum_from : Program → Fx → List Fx → List Nonbasic → Option Fx
 sum_from lp s [] ps = Some s
 sum_from lp s (t ∷ ts) [] = Some s
 sum_from lp s (t ∷ ts) (p ∷ ps) = option_and_then (λ next. sum_from lp next ts ps) (sum_step lp s t p)
 
 -- the value of a basic variable, by its row
-unfoldable pub row_value : StageLp → List Nonbasic → List Fx → Option Fx
+unfoldable pub row_value : Program → List Nonbasic → List Fx → Option Fx
 row_value lp ps row = sum_from lp zero_fx row ps
 
 -- the factors of `count` columns from column j on, by terms that rise
@@ -59,7 +59,7 @@ nonbasic_from j [] = []
 nonbasic_from j (c ∷ cs) = record { variable = j; high = int_lt c.cost.0 (pos 0) } ∷ nonbasic_from (suc j) cs
 
 -- the slacks are basic, the columns are not
-unfoldable pub start_of : StageLp → Dictionary
+unfoldable pub start_of : Program → Dictionary
 start_of lp =
     record {
       basic = slacks_from (length lp.columns) lp.rows;

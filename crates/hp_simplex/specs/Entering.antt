@@ -2,7 +2,7 @@
 use Rattle.std.specs.Prelude.{ℕ, suc, ◌^◌, pos, nat_abs, Bool, true, false, not, ◌&&◌, ◌||◌, List, [], ◌∷◌, Option, Some, None, int_lt, nat_lt, nat_le, if◌then◌else◌}
 use Rattle.std.specs.Option.{option_map, option_and_then}
 use Rattle.hp_solver.specs.declared.fixed.Fx.{Fx}
-use Rattle.hp_solver.specs.declared.stage_lp.StageLp.{StageLp}
+use Rattle.hp_solver.specs.declared.programs.Program.{Program}
 use Rattle.hp_simplex.specs.declared.dictionary.Nonbasic.{Nonbasic}
 use Rattle.hp_simplex.specs.declared.dictionary.Entering.{Entering}
 use Rattle.hp_solver.specs.Numbers.{zero_fx, over}
@@ -24,7 +24,7 @@ are_equal (Some low) None = false
 are_equal (Some low) (Some high) = is_same low high
 
 -- a variable whose bounds are equal cannot move
-unfoldable pub is_fixed : StageLp → ℕ → Bool
+unfoldable pub is_fixed : Program → ℕ → Bool
 is_fixed lp v = are_equal (low_of lp v) (high_of lp v)
 
 -- whether a variable with the factor t brings the leaving one back when it leaves its bound
@@ -35,7 +35,7 @@ is_towards false true t = is_negative t
 is_towards false false t = is_positive t
 
 -- a factor of at least 2^-12, of the right sign, of a variable that can move
-unfoldable pub is_eligible : StageLp → Bool → Fx → Nonbasic → Bool
+unfoldable pub is_eligible : Program → Bool → Fx → Nonbasic → Bool
 is_eligible lp above t p = not (is_fixed lp p.variable) && nat_le (2 ^ 20) (nat_abs t.0) && is_towards above p.high t
 
 -- |x|
@@ -61,11 +61,11 @@ is_better v r (Some e) = int_lt r.0 e.ratio.0 || (not (int_lt e.ratio.0 r.0) && 
 abbrev pub chosen : Option Entering → ℕ → ℕ → Fx → Option Entering
 chosen best j v r = if is_better v r best then Some (record { column = j; variable = v; ratio = r }) else best
 
-unfoldable pub entering_step : StageLp → Bool → Option Entering → ℕ → Fx → Nonbasic → Fx → Option (Option Entering)
+unfoldable pub entering_step : Program → Bool → Option Entering → ℕ → Fx → Nonbasic → Fx → Option (Option Entering)
 entering_step lp above best j t p d = if is_eligible lp above t p then option_map (chosen best j p.variable) (ratio_of t p d) else Some best
 
 -- the best so far and the columns from column j on; none where a result is absent
-abbrev pub entering_from : StageLp → Bool → Option Entering → ℕ → List Fx → List Nonbasic → List Fx → Option (Option Entering)
+abbrev pub entering_from : Program → Bool → Option Entering → ℕ → List Fx → List Nonbasic → List Fx → Option (Option Entering)
 entering_from lp above best j [] ps ds = Some best
 entering_from lp above best j (t ∷ ts) [] ds = Some best
 entering_from lp above best j (t ∷ ts) (p ∷ ps) [] = Some best

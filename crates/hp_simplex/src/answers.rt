@@ -4,7 +4,7 @@ ghost use Rattle.hp_simplex.specs.Each.{each_from};
 ghost use Rattle.hp_simplex.specs.Pivot.{grid_of, row_at};
 ghost use Rattle.hp_simplex.specs.Whole.{IsWhole, dictionary_of};
 ghost use Rattle.hp_simplex.specs.Answers.{stuck_of, bound_value, basic_value, clamped, point_at, cost_at, duals_from, found_or, found_of, factor_at, ray_dual, ray_or, ray_of};
-ghost use Rattle.hp_solver.specs.declared.stage_lp.LpRow.{LpRow};
+ghost use Rattle.hp_solver.specs.declared.programs.LpRow.{LpRow};
 
 use crate::bounds::{row_value, value_at};
 use crate::dictionary::{Leaving, Nonbasic, Tableau};
@@ -12,12 +12,12 @@ use crate::numbers::negated;
 use crate::table::Table;
 use hp_num::{List, Memory};
 use hp_solver::fixed::ONE;
-use hp_solver::{Answer, Column, Fx, Kind, LpRow, StageLp};
+use hp_solver::{Answer, Column, Fx, Kind, LpRow, Program};
 use std::alloc::Global;
 
 // The answer that nothing was found out.
 #[tactic(auto, unfolding(crate::specs::Answers::stuck_of))]
-pub fn stuck(alloc: Global, lp: &StageLp) -> Result<Answer, Memory>
+pub fn stuck(alloc: Global, lp: &Program) -> Result<Answer, Memory>
     ensures { IfOk result (λ answer. answer ≡ stuck_of lp.now) }
 {
     Ok(Answer {
@@ -28,7 +28,7 @@ pub fn stuck(alloc: Global, lp: &StageLp) -> Result<Answer, Memory>
 }
 
 // The value of a nonbasic variable.
-fn bound_value(lp: &StageLp, variable: usize, nonbasic: &[Nonbasic]) -> Option<Fx>
+fn bound_value(lp: &Program, variable: usize, nonbasic: &[Nonbasic]) -> Option<Fx>
     ensures { result ≡ bound_value lp.now variable nonbasic.now }
 {
     for place in nonbasic {
@@ -42,7 +42,7 @@ fn bound_value(lp: &StageLp, variable: usize, nonbasic: &[Nonbasic]) -> Option<F
 // The value of a variable.
 #[tactic(auto, using(crate::proofs::Rows::table_count))]
 fn basic_value(
-    lp: &StageLp,
+    lp: &Program,
     nonbasic: &[Nonbasic],
     variable: usize,
     basic: &[usize],
@@ -77,7 +77,7 @@ fn clamped(column: &Column, x: Fx) -> Fx
 
 // The value of a column in its box.
 #[tactic(auto, unfolding(crate::specs::Answers::point_at, crate::specs::Whole::dictionary_of))]
-fn point_at(lp: &StageLp, tableau: &Tableau, number: usize, column: &Column) -> Option<Fx>
+fn point_at(lp: &Program, tableau: &Tableau, number: usize, column: &Column) -> Option<Fx>
     requires { IsWhole tableau.now }
     ensures { result ≡ point_at lp.now (dictionary_of tableau.now) number column.now }
 {
@@ -90,7 +90,7 @@ fn point_at(lp: &StageLp, tableau: &Tableau, number: usize, column: &Column) -> 
 // The values of all columns.
 fn point(
     alloc: Global,
-    lp: &StageLp,
+    lp: &Program,
     tableau: &Tableau,
     columns: &[Column],
 ) -> Result<Option<List<Fx>>, Memory>
@@ -141,7 +141,7 @@ fn duals(alloc: Global, tableau: &Tableau, first: usize, rows: &[LpRow]) -> Resu
 
 // The answer of a dictionary without a violated bound.
 #[tactic(auto, unfolding(crate::specs::Answers::found_of))]
-pub fn found(alloc: Global, lp: &StageLp, tableau: &Tableau) -> Result<Answer, Memory>
+pub fn found(alloc: Global, lp: &Program, tableau: &Tableau) -> Result<Answer, Memory>
     requires whole { IsWhole tableau.now }
     requires few { length lp.now.columns + length lp.now.rows < 2 ^ 32 }
     ensures { IfOk result (λ answer. answer ≡ found_of lp.now (dictionary_of tableau.now)) }
@@ -223,7 +223,7 @@ fn ray_duals(
 #[tactic(auto, unfolding(crate::specs::Answers::ray_of))]
 pub fn ray(
     alloc: Global,
-    lp: &StageLp,
+    lp: &Program,
     tableau: &Tableau,
     leaving: Leaving,
 ) -> Result<Answer, Memory>

@@ -4,11 +4,11 @@ ghost use Rattle.hp_solver.specs.Numbers.{zero_fx};
 ghost use Rattle.hp_simplex.specs.Dictionary.{low_of, high_of, value_at, sum_step, sum_from, row_value};
 
 use crate::dictionary::Nonbasic;
-use hp_solver::{Fx, StageLp};
+use hp_solver::{Fx, Program};
 
 // The lower bound of a variable.
 #[tactic(auto, unfolding(crate::specs::Dictionary::low_of))]
-pub fn low_of(lp: &StageLp, variable: usize) -> Option<Fx>
+pub fn low_of(lp: &Program, variable: usize) -> Option<Fx>
     ensures { result ≡ low_of lp.now variable }
 {
     let columns = lp.columns.len();
@@ -21,7 +21,7 @@ pub fn low_of(lp: &StageLp, variable: usize) -> Option<Fx>
 
 // The upper bound of a variable.
 #[tactic(auto, unfolding(crate::specs::Dictionary::high_of))]
-pub fn high_of(lp: &StageLp, variable: usize) -> Option<Fx>
+pub fn high_of(lp: &Program, variable: usize) -> Option<Fx>
     ensures { result ≡ high_of lp.now variable }
 {
     let columns = lp.columns.len();
@@ -34,7 +34,7 @@ pub fn high_of(lp: &StageLp, variable: usize) -> Option<Fx>
 
 // The value of a nonbasic variable.
 #[tactic(auto, unfolding(crate::specs::Dictionary::value_at))]
-pub fn value_at(lp: &StageLp, place: Nonbasic) -> Option<Fx>
+pub fn value_at(lp: &Program, place: Nonbasic) -> Option<Fx>
     ensures { result ≡ value_at lp.now place }
 {
     if place.high {
@@ -46,7 +46,7 @@ pub fn value_at(lp: &StageLp, place: Nonbasic) -> Option<Fx>
 
 // A sum with one term more.
 #[tactic(auto, unfolding(crate::specs::Dictionary::sum_step))]
-fn sum_step(lp: &StageLp, sum: Fx, factor: Fx, place: Nonbasic) -> Option<Fx>
+fn sum_step(lp: &Program, sum: Fx, factor: Fx, place: Nonbasic) -> Option<Fx>
     ensures { result ≡ sum_step lp.now sum factor place }
 {
     let value = value_at(lp, place)?;
@@ -55,7 +55,7 @@ fn sum_step(lp: &StageLp, sum: Fx, factor: Fx, place: Nonbasic) -> Option<Fx>
 
 // The value of a basic variable.
 #[tactic(auto, unfolding(crate::specs::Dictionary::row_value))]
-pub fn row_value(lp: &StageLp, nonbasic: &[Nonbasic], row: &[Fx]) -> Option<Fx>
+pub fn row_value(lp: &Program, nonbasic: &[Nonbasic], row: &[Fx]) -> Option<Fx>
     requires { length row.now ≡ length nonbasic.now }
     ensures { result ≡ row_value lp.now nonbasic.now row.now }
 {

@@ -1,7 +1,7 @@
 // The boxed dual simplex method, on a table that is pivoted in place.
 ghost use Rattle.std.specs.Prelude.{◌≡◌, ◌+◌, ◌*◌, ◌^◌, ◌<◌, ℕ, length, IfOk, OnOk, ⊤};
-ghost use Rattle.hp_solver.specs.declared.stage_lp.StageLp.{StageLp};
-ghost use Rattle.hp_solver.specs.declared.stage_lp.Answer.{Answer};
+ghost use Rattle.hp_solver.specs.declared.programs.Program.{Program};
+ghost use Rattle.hp_solver.specs.declared.programs.Answer.{Answer};
 ghost use Rattle.hp_solver.specs.Proper.{IsProper, IsReference, Extends, IsLike};
 ghost use Rattle.hp_simplex.specs.Whole.{IsWhole, dictionary_of};
 ghost use Rattle.hp_simplex.specs.Solve.{exchanged, brought_back, turn_of, turns, solve_of};
@@ -14,7 +14,7 @@ use crate::leaving::leaving;
 use crate::start::write_start;
 use crate::table::Table;
 use hp_num::{List, Memory};
-use hp_solver::{Answer, Solver, StageLp};
+use hp_solver::{Answer, Program, Solver, StageLp};
 use std::alloc::Global;
 use std::marker::Model;
 
@@ -78,7 +78,7 @@ fn exchange(tableau: &mut Tableau, leaving: Leaving, entering: Entering) -> bool
 
 // The variable that brings a violated one back, if one is eligible.
 #[tactic(auto, unfolding(crate::specs::Whole::dictionary_of))]
-fn bring_back(lp: &StageLp, tableau: &Tableau, leaving: Leaving) -> Choice
+fn bring_back(lp: &Program, tableau: &Tableau, leaving: Leaving) -> Choice
     requires whole { IsWhole tableau.now }
     requires row { leaving.row < tableau.now.table.rows }
     ensures choice { Chooses result (brought_back lp.now (dictionary_of tableau.now) leaving) (dictionary_of tableau.now) }
@@ -96,7 +96,7 @@ fn bring_back(lp: &StageLp, tableau: &Tableau, leaving: Leaving) -> Choice
 
 // The variables that a turn exchanges, or what it comes to without an exchange.
 #[tactic(auto, unfolding(crate::specs::Solve::turn_of, crate::specs::Whole::dictionary_of))]
-fn choose(lp: &StageLp, tableau: &Tableau) -> Choice
+fn choose(lp: &Program, tableau: &Tableau) -> Choice
     requires whole { IsWhole tableau.now }
     ensures choice { Chooses result (turn_of lp.now (dictionary_of tableau.now)) (dictionary_of tableau.now) }
     ensures inside { AreInside result tableau.now }
@@ -110,7 +110,7 @@ fn choose(lp: &StageLp, tableau: &Tableau) -> Choice
 }
 
 // One turn.
-fn turn(lp: &StageLp, tableau: &mut Tableau) -> Step
+fn turn(lp: &Program, tableau: &mut Tableau) -> Step
     requires whole { IsWhole tableau.old }
     ensures rows { tableau.new.table.rows ≡ tableau.old.table.rows }
     ensures whole { IsWhole tableau.new }
@@ -131,7 +131,7 @@ fn turn(lp: &StageLp, tableau: &mut Tableau) -> Step
 }
 
 // The answer of at most so many turns.
-fn run(alloc: Global, lp: &StageLp, tableau: &mut Tableau, limit: u64) -> Result<Answer, Memory>
+fn run(alloc: Global, lp: &Program, tableau: &mut Tableau, limit: u64) -> Result<Answer, Memory>
     requires whole { IsWhole tableau.old }
     requires few { length lp.now.columns + length lp.now.rows < 2 ^ 32 }
     ensures { IfOk result (λ answer. answer ≡ turns limit lp.now (dictionary_of tableau.old)) }
@@ -149,7 +149,7 @@ fn run(alloc: Global, lp: &StageLp, tableau: &mut Tableau, limit: u64) -> Result
 
 // The answer to a program, with a tableau whose content counts for nothing.
 #[tactic(auto, unfolding(crate::specs::Solve::solve_of))]
-fn solve_in(alloc: Global, tableau: &mut Tableau, lp: &StageLp) -> Result<Answer, Memory>
+fn solve_in(alloc: Global, tableau: &mut Tableau, lp: &Program) -> Result<Answer, Memory>
     ensures { IfOk result (λ answer. answer ≡ solve_of lp.now) }
 {
     let columns = lp.columns.len();
@@ -223,6 +223,7 @@ impl Solver for DualSimplex {
     }
 
     fn solve(&self, alloc: Global, chain: &mut Room, lp: &StageLp) -> Result<Answer, Memory> {
-        solve_in(alloc, &mut chain.tableau, lp)
+        let program = lp.program(alloc)?;
+        solve_in(alloc, &mut chain.tableau, &program)
     }
 }

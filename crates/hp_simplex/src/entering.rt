@@ -5,7 +5,7 @@ ghost use Rattle.hp_simplex.specs.Entering.{is_same, are_equal, is_fixed, is_tow
 use crate::bounds::{high_of, low_of};
 use crate::dictionary::{Entering, Nonbasic};
 use crate::numbers::{is_negative, negated};
-use hp_solver::{Fx, StageLp};
+use hp_solver::{Fx, Program};
 
 // 2^-12.
 const LEAST_FACTOR: u128 = 1 << 20;
@@ -22,7 +22,7 @@ fn are_equal(low: Option<Fx>, high: Option<Fx>) -> bool
 
 // Whether a variable's bounds are equal.
 #[tactic(auto, unfolding(crate::specs::Entering::is_fixed))]
-fn is_fixed(lp: &StageLp, variable: usize) -> bool
+fn is_fixed(lp: &Program, variable: usize) -> bool
     ensures { result ≡ is_fixed lp.now variable }
 {
     are_equal(low_of(lp, variable), high_of(lp, variable))
@@ -43,7 +43,7 @@ fn is_towards(above: bool, high: bool, factor: Fx) -> bool
 
 // Whether the variable at a place may enter.
 #[tactic(auto, unfolding(crate::specs::Entering::is_eligible))]
-fn is_eligible(lp: &StageLp, above: bool, factor: Fx, place: Nonbasic) -> bool
+fn is_eligible(lp: &Program, above: bool, factor: Fx, place: Nonbasic) -> bool
     ensures { result ≡ is_eligible lp.now above factor place }
 {
     !is_fixed(lp, place.variable)
@@ -120,7 +120,7 @@ fn chosen(best: Option<Entering>, column: usize, variable: usize, ratio: Fx) -> 
 // The same, where the column may enter at all.
 #[tactic(auto, unfolding(crate::specs::Entering::entering_step))]
 fn entering_step(
-    lp: &StageLp,
+    lp: &Program,
     above: bool,
     best: Option<Entering>,
     column: usize,
@@ -140,7 +140,7 @@ fn entering_step(
 
 // The nonbasic variable that enters, if one is eligible; none where a result is absent.
 pub fn entering(
-    lp: &StageLp,
+    lp: &Program,
     above: bool,
     row: &[Fx],
     nonbasic: &[Nonbasic],

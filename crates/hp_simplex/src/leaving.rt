@@ -6,7 +6,7 @@ ghost use Rattle.hp_simplex.specs.Leaving.{is_below, is_above, violated, is_less
 use crate::bounds::{high_of, low_of, row_value};
 use crate::dictionary::{Leaving, Nonbasic};
 use crate::table::Table;
-use hp_solver::{Fx, StageLp};
+use hp_solver::{Fx, Program};
 
 // 2^-16.
 const TOLERANCE: Fx = Fx(1 << 16);
@@ -41,7 +41,7 @@ fn is_above(bound: Option<Fx>, x: Fx) -> Option<bool>
 
 // The bound that a value violates, if one: true for the upper one.
 #[tactic(auto, unfolding(crate::specs::Leaving::violated))]
-fn violated(lp: &StageLp, variable: usize, x: Fx) -> Option<Option<bool>>
+fn violated(lp: &Program, variable: usize, x: Fx) -> Option<Option<bool>>
     ensures { result ≡ violated lp.now variable x }
 {
     let below = is_below(low_of(lp, variable), x)?;
@@ -88,7 +88,7 @@ fn chosen(best: Option<Leaving>, row: usize, variable: usize, side: Option<bool>
 // The same, of a row with its entries.
 #[tactic(auto, unfolding(crate::specs::Leaving::leaving_step))]
 fn leaving_step(
-    lp: &StageLp,
+    lp: &Program,
     nonbasic: &[Nonbasic],
     best: Option<Leaving>,
     number: usize,
@@ -106,7 +106,7 @@ fn leaving_step(
 // The basic variable that leaves, if one violates a bound; none where a result is absent.
 #[tactic(auto, using(crate::proofs::Rows::table_count))]
 pub fn leaving(
-    lp: &StageLp,
+    lp: &Program,
     basic: &[usize],
     nonbasic: &[Nonbasic],
     table: &Table,

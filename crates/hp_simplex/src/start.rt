@@ -4,13 +4,13 @@ ghost use Rattle.std.specs.List.{flat_map};
 ghost use Rattle.hp_solver.specs.Numbers.{zero_fx};
 ghost use Rattle.hp_simplex.specs.Dictionary.{dense, slacks_from, nonbasic_from, start_of};
 ghost use Rattle.hp_simplex.specs.Whole.{IsWhole, dictionary_of};
-ghost use Rattle.hp_solver.specs.declared.stage_lp.Column.{Column};
-ghost use Rattle.hp_solver.specs.declared.stage_lp.LpRow.{LpRow};
+ghost use Rattle.hp_solver.specs.declared.programs.Column.{Column};
+ghost use Rattle.hp_solver.specs.declared.programs.LpRow.{LpRow};
 
 use crate::dictionary::{Nonbasic, Tableau};
 use crate::numbers::is_negative;
 use hp_num::{List, Memory};
-use hp_solver::{Column, Fx, LpRow, StageLp};
+use hp_solver::{Column, Fx, LpRow, Program};
 
 // Writes the numbers of the slacks, from the first on.
 fn write_slacks(found: &mut List<usize>, first: usize, rows: &[LpRow]) -> Result<(), Memory>
@@ -95,7 +95,7 @@ fn write_cells(found: &mut Vec<Fx>, columns: usize, rows: &[LpRow]) -> Result<()
 
 // Writes the first dictionary of a linear program over another one, in the memory that is there.
 #[tactic(auto, unfolding(crate::specs::Dictionary::start_of, crate::specs::Whole::dictionary_of))]
-pub fn write_start(tableau: &mut Tableau, lp: &StageLp) -> Result<(), Memory>
+pub fn write_start(tableau: &mut Tableau, lp: &Program) -> Result<(), Memory>
     requires { length lp.now.columns + length lp.now.rows < 2 ^ 32 }
     ensures whole { OnOk result (IsWhole tableau.new) }
     ensures start { OnOk result (dictionary_of tableau.new ≡ start_of lp.now) }

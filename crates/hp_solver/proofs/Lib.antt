@@ -1,2 +1,6 @@
 pub mod Numbers
 pub mod WorkedNumbers
+pub mod SideBySide
+pub mod Behind
+pub mod PackedRows
+pub mod AllRows

@@ -1,11 +1,11 @@
 -- Answers without work.
 use Rattle.std.specs.Prelude.{List, map}
 use Rattle.hp_solver.specs.declared.fixed.Fx.{Fx}
-use Rattle.hp_solver.specs.declared.stage_lp.Column.{Column}
-use Rattle.hp_solver.specs.declared.stage_lp.LpRow.{LpRow}
-use Rattle.hp_solver.specs.declared.stage_lp.StageLp.{StageLp}
-use Rattle.hp_solver.specs.declared.stage_lp.Answer.{Answer}
-use Rattle.hp_solver.specs.declared.stage_lp.Kind.TheVariants as kinds
+use Rattle.hp_solver.specs.declared.programs.Column.{Column}
+use Rattle.hp_solver.specs.declared.programs.LpRow.{LpRow}
+use Rattle.hp_solver.specs.declared.programs.Program.{Program}
+use Rattle.hp_solver.specs.declared.programs.Answer.{Answer}
+use Rattle.hp_solver.specs.declared.programs.Kind.TheVariants as kinds
 use Rattle.hp_solver.specs.Numbers.{zero_fx}
 
 -- each column at its lower bound
@@ -16,5 +16,5 @@ abbrev pub zeros_of : List LpRow → List Fx
 zeros_of rs = map (λ (r : LpRow). zero_fx) rs
 
 -- a claim without work: each column at its lower bound, each dual 0
-unfoldable pub zero_of : StageLp → Answer
+unfoldable pub zero_of : Program → Answer
 zero_of lp = record { kind = kinds.Found; point = lows_of lp.columns; duals = zeros_of lp.rows }

@@ -1,9 +1,9 @@
 -- Linear programs that a solver takes, and programs of one node.
 use Rattle.std.specs.Prelude.{◌≡◌, ℕ, suc, ◌<◌, ◌≤◌, ◌≤ℤ◌, pos, List, [], ◌∷◌, length, map, take, drop, All, IfSome, ⊤}
 use Rattle.hp_solver.specs.declared.fixed.Fx.{Fx}
-use Rattle.hp_solver.specs.declared.stage_lp.Column.{Column}
-use Rattle.hp_solver.specs.declared.stage_lp.LpRow.{LpRow}
-use Rattle.hp_solver.specs.declared.stage_lp.StageLp.{StageLp}
+use Rattle.hp_solver.specs.declared.programs.Column.{Column}
+use Rattle.hp_solver.specs.declared.programs.LpRow.{LpRow}
+use Rattle.hp_solver.specs.declared.programs.Program.{Program}
 
 -- column numbers rise from `least` on and are below the number of columns
 abbrev pub AreRising : ℕ → ℕ → List (ℕ × Fx) → Type 0
@@ -11,7 +11,7 @@ AreRising least columns [] = ⊤
 AreRising least columns (t ∷ ts) = (least ≤ t.0) × (t.0 < columns) × AreRising (suc t.0) columns ts
 
 -- no box is empty, terms rise, and decisions and own rows are counted
-pub record IsProper (lp : StageLp) : Type 0 where
+pub record IsProper (lp : Program) : Type 0 where
   pub boxes : All (λ (c : Column). c.low.0 ≤ℤ c.high.0) lp.columns
   pub sides : All (λ (r : LpRow). IfSome r.low (λ low. IfSome r.high (λ high. low.0 ≤ℤ high.0))) lp.rows
   pub terms : All (λ (r : LpRow). AreRising 0 (length lp.columns) r.terms) lp.rows
@@ -28,12 +28,12 @@ pub record IsIdle (c : Column) : Type 0 where
   pub cost : c.cost.0 ≡ pos 0
 
 -- a program of own rows, in which the columns of successors are idle
-pub record IsReference (lp : StageLp) : Type 0 where
+pub record IsReference (lp : Program) : Type 0 where
   pub own : lp.own ≡ length lp.rows
   pub idle : All IsIdle (drop lp.decisions lp.columns)
 
 -- the same decisions, as many columns, and the same own rows but for their sides
-pub record Extends (reference lp : StageLp) : Type 0 where
+pub record Extends (reference lp : Program) : Type 0 where
   pub decisions : lp.decisions ≡ reference.decisions
   pub own : lp.own ≡ reference.own
   pub count : length lp.columns ≡ length reference.columns
@@ -42,7 +42,7 @@ pub record Extends (reference lp : StageLp) : Type 0 where
   pub proper : IsProper lp
 
 -- the same program but for the sides of own rows
-pub record IsLike (lp other : StageLp) : Type 0 where
+pub record IsLike (lp other : Program) : Type 0 where
   pub columns : lp.columns ≡ other.columns
   pub decisions : lp.decisions ≡ other.decisions
   pub own : lp.own ≡ other.own

@@ -2,11 +2,17 @@
 #![tactic(auto)]
 
 pub mod fixed;
+pub mod packed;
+pub mod programs;
+pub mod row_writing;
 pub mod solver;
 pub mod stage_lp;
 pub mod stand_ins;
 
 pub use fixed::Fx;
+pub use packed::{ActiveCuts, CutList, Out, PackedCuts, PackedView, slope_at};
+pub use programs::{Answer, Column, Kind, LpRow, Program};
+pub use row_writing::blank_row;
 pub use solver::Solver;
-pub use stage_lp::{Answer, Column, Kind, LpRow, StageLp};
+pub use stage_lp::{Cuts, StageLp};
 pub use stand_ins::{Liar, Meeting, Zero};

@@ -1,10 +1,11 @@
 // What solves linear programs, one after another.
 ghost use Rattle.std.specs.Prelude.{◌≡◌, IfOk, OnOk};
-ghost use Rattle.hp_solver.specs.declared.stage_lp.StageLp.{StageLp};
-ghost use Rattle.hp_solver.specs.declared.stage_lp.Answer.{Answer};
+ghost use Rattle.hp_solver.specs.declared.programs.Program.{Program};
+ghost use Rattle.hp_solver.specs.declared.programs.Answer.{Answer};
 ghost use Rattle.hp_solver.specs.Proper.{IsProper, IsReference, Extends, IsLike};
 
-use crate::stage_lp::{Answer, StageLp};
+use crate::programs::Answer;
+use crate::stage_lp::StageLp;
 use hp_num::Memory;
 use std::alloc::Global;
 
@@ -18,19 +19,19 @@ pub trait Solver: Sync {
     type Chain: Drop + Send;
 
     /// What is made ready by a program.
-    ghost started: { Self → StageLp → Self.Start };
+    ghost started: { Self → Program → Self.Start };
 
     /// What a chain that begins with a program holds before it.
-    ghost begun: { Self → Self.Start → StageLp → Self.Chain };
+    ghost begun: { Self → Self.Start → Program → Self.Chain };
 
     /// The answer to a program, and what the chain holds after it.
-    ghost next: { Self → Self.Chain → StageLp → Answer × Self.Chain };
+    ghost next: { Self → Self.Chain → Program → Answer × Self.Chain };
 
     /// Whether a chain may begin with a program.
-    ghost suits: { Self → Self.Start → StageLp → Type 0 };
+    ghost suits: { Self → Self.Start → Program → Type 0 };
 
     /// Whether a chain may take a program.
-    ghost fits: { Self → Self.Chain → StageLp → Type 0 };
+    ghost fits: { Self → Self.Chain → Program → Type 0 };
 
     /// Makes ready for a node by its program without cuts. A chain may begin with each program that has the same
     /// decisions, as many columns, and the same own rows but for their sides. [`Memory`] where memory was refused.
@@ -38,7 +39,7 @@ pub trait Solver: Sync {
         requires proper { IsProper lp.now }
         requires reference { IsReference lp.now }
         ensures made { IfOk result (λ made. made ≡ started self.now lp.now) }
-        ensures suits { IfOk result (λ made. (other : StageLp) → Extends lp.now other
+        ensures suits { IfOk result (λ made. (other : Program) → Extends lp.now other
             → suits self.now made other) };
 
     /// Begins a chain with its first program. It may take each program that differs from it in the sides of own rows
@@ -47,7 +48,7 @@ pub trait Solver: Sync {
         requires proper { IsProper lp.now }
         requires suits { suits self.now start.now lp.now }
         ensures made { IfOk result (λ made. made ≡ begun self.now start.now lp.now) }
-        ensures fits { IfOk result (λ made. (other : StageLp) → IsLike lp.now other
+        ensures fits { IfOk result (λ made. (other : Program) → IsLike lp.now other
             → fits self.now made other) };
 
     /// The answer to the next program of a chain. [`Memory`] where memory was refused: the chain holds nothing that
@@ -57,7 +58,7 @@ pub trait Solver: Sync {
         requires fits { fits self.now chain.old lp.now }
         ensures answer { IfOk result (λ found. found ≡ (next self.now chain.old lp.now).0) }
         ensures chain { OnOk result (chain.new ≡ (next self.now chain.old lp.now).1) }
-        ensures fits { OnOk result ((other : StageLp) → IsLike lp.now other
+        ensures fits { OnOk result ((other : Program) → IsLike lp.now other
             → fits self.now chain.new other) };
 
     /// Whether so many solves, of programs like this one, take so long that half of them are worth a thread of their own.

@@ -1,13 +1,14 @@
 // Solvers that solve nothing, for tests.
 ghost use Rattle.std.specs.Prelude.{◌≡◌, IfOk, OnOk, take, ⊤};
-ghost use Rattle.hp_solver.specs.declared.stage_lp.StageLp.{StageLp};
-ghost use Rattle.hp_solver.specs.declared.stage_lp.Answer.{Answer};
+ghost use Rattle.hp_solver.specs.declared.programs.Program.{Program};
+ghost use Rattle.hp_solver.specs.declared.programs.Answer.{Answer};
 ghost use Rattle.hp_solver.specs.Proper.{IsProper, IsReference, Extends, IsLike};
 ghost use Rattle.hp_solver.specs.Answers.{zero_of};
 
 use crate::fixed::Fx;
+use crate::programs::{Answer, Kind};
 use crate::solver::Solver;
-use crate::stage_lp::{Answer, Kind, StageLp};
+use crate::stage_lp::StageLp;
 use hp_num::{List, Memory};
 use std::alloc::Global;
 use std::sync::atomic::{AtomicBool, AtomicU64, Ordering};

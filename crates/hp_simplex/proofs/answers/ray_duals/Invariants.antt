@@ -1,5 +1,5 @@
 use Rattle.std.proofs.Common.{◌≡◌, ◌+◌, drop}
-use Rattle.hp_solver.specs.declared.stage_lp.LpRow.{LpRow}
+use Rattle.hp_solver.specs.declared.programs.LpRow.{LpRow}
 use Rattle.hp_simplex.specs.Each.{each_from}
 use Rattle.hp_simplex.specs.Answers.{ray_dual}
 use Rattle.hp_simplex.specs.Whole.{dictionary_of}

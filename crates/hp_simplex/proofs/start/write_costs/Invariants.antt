@@ -1,5 +1,5 @@
 use Rattle.std.proofs.Common.{◌≡◌, map, take}
-use Rattle.hp_solver.specs.declared.stage_lp.Column.{Column}
+use Rattle.hp_solver.specs.declared.programs.Column.{Column}
 use Rattle.hp_simplex.proofs.start.write_costs.Given as goal
 
 abbrev pub invariant-loop-column : goal.invariant-loop-column

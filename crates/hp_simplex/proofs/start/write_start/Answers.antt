@@ -1,6 +1,6 @@
 use Rattle.std.proofs.Common.{length, ap, ◌∙◌, refl}
 use Rattle.std.proofs.lemmas.List.{length-map}
-use Rattle.hp_solver.specs.declared.stage_lp.Column.{Column}
+use Rattle.hp_solver.specs.declared.programs.Column.{Column}
 use Rattle.hp_simplex.proofs.Starts.{slacks_length, nonbasic_length, flat_length, made_start}
 use Rattle.hp_simplex.proofs.start.write_start.Goals as goal
 
