@@ -3,5 +3,9 @@ pub mod Products
 pub mod Reach
 pub mod Weighted
 pub mod RaisedPeaks
-pub mod MoreSlopes
+pub mod MoreCuts
+pub mod ShortSlopes
 pub mod Ends
+pub mod Covered
+pub mod Leads
+pub mod PushedCuts

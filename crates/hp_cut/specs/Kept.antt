@@ -1,13 +1,16 @@
 -- What is kept of a node's cuts.
-use Rattle.std.specs.Prelude.{◌≤◌, ◌^◌, List, length, All}
+use Rattle.std.specs.Prelude.{◌≤◌, ◌^◌, List, length, map, All, Option, IfSome}
 use Rattle.hp_theory.specs.declared.cut.Cut.{Cut}
-use Rattle.hp_cut.specs.declared.flat_slopes.FlatSlopes.{FlatSlopes}
+use Rattle.hp_cut.specs.declared.flat_cuts.FlatCuts.{FlatCuts}
 use Rattle.hp_cut.specs.declared.peaks.Peak.{Peak}
-use Rattle.hp_cut.specs.FlatSlopes.{IsFlat}
+use Rattle.hp_cut.specs.declared.active_cuts.Active.{Active}
+use Rattle.hp_cut.specs.FlatCuts.{packed_cut, IsFlat}
+use Rattle.hp_cut.specs.Active.{IsActive}
 use Rattle.hp_cut.specs.Peaks.{IsPeak}
 
--- at most 2^24 cuts, their slopes, and their peaks over some boxes
-pub record IsKept (cuts : List Cut) (flat : FlatSlopes) (tops : List Peak) : Type 0 where
+-- at most 2^24 cuts, the same side by side, their peaks over some boxes, and those that cover them over a box
+pub record IsKept (cuts : List Cut) (beside : FlatCuts) (tops : List Peak) (chosen : Option Active) : Type 0 where
   pub few : length cuts ≤ 2 ^ 24
-  pub slopes : IsFlat cuts flat
+  pub flat : IsFlat cuts beside
   pub peaks : All (IsPeak cuts) tops
+  pub active : IfSome chosen (IsActive (map packed_cut cuts))

@@ -1,9 +1,10 @@
 //! Cuts, pools of them (one list of cuts per node), and the entries of training that cuts are made from.
 #![tactic(auto)]
 
+mod active_cuts;
 mod cut_value;
 pub mod entry;
-mod flat_slopes;
+mod flat_cuts;
 pub mod peaks;
 mod pool;
 pub mod pools;

@@ -1,15 +1,22 @@
 // The cuts of a node.
-ghost use Rattle.std.specs.Prelude.{◌≡◌, ◌≤◌, ◌<◌, ◌+◌, ◌-◌, ◌^◌, ◌∷◌, ◌++◌, [], List, true, length, take, get_or, is_ok, if◌then◌else◌, All, IsOk, IfSome, OnOk};
-ghost use Rattle.hp_theory.specs.Pools.{no_cut};
+ghost use Rattle.std.specs.Prelude.{◌≡◌, ◌≤◌, ◌<◌, ◌+◌, ◌-◌, ◌^◌, ◌∷◌, ◌++◌, [], List, true, length, map, take, is_ok, if◌then◌else◌, All, IsOk, IfOk, IfSome, OnOk};
 ghost use Rattle.hp_theory.specs.declared.cut.Cut.{Cut};
+ghost use Rattle.hp_cut.specs.FlatCuts.{packed_cut, IsFlat};
+ghost use Rattle.hp_cut.specs.Active.{AreFirst, IsActive};
 ghost use Rattle.hp_cut.specs.Peaks.{peak_over, IsPeak};
 
-use crate::flat_slopes::FlatSlopes;
+use crate::active_cuts::{Active, lent};
+use crate::flat_cuts::FlatCuts;
 use crate::peaks::{OutBox, Peak};
 use hp_num::Memory;
+use hp_solver::PackedCuts;
 use hp_theory::Cut;
 use std::alloc::Global;
 use std::marker::Model;
+
+/// How many cuts are compared with one another at most when those that cover the others are looked for: with so many it takes
+/// some hundredths of a second, and the time grows with the square.
+const MOST_COMPARED: usize = 1 << 12;
 
 /// How many peaks a pool keeps at most. The predecessors of a node mostly share one box.
 const MOST_PEAKS: usize = 8;
@@ -18,9 +25,12 @@ const MOST_PEAKS: usize = 8;
 #[derive(Drop)]
 pub(crate) struct Pool {
     cuts: Vec<Cut>,
-    slopes: FlatSlopes,
+    /// The cuts once more.
+    flat: FlatCuts,
     /// The peaks over some boxes.
     peaks: Vec<Peak>,
+    /// The cuts that cover the others over a box.
+    active: Option<Active>,
 }
 
 impl Model for Pool {
@@ -32,7 +42,7 @@ impl Model for Pool {
 
     ghost view = { λ p. record { cuts = p.cuts.items; spare = vec_capacity p.cuts - vec_len p.cuts } };
 
-    ghost invariant = { λ p. IsKept p.cuts.items p.slopes p.peaks.items };
+    ghost invariant = { λ p. IsKept p.cuts.items p.flat p.peaks.items p.active };
 }
 
 /// Takes one cut more in at each peak. False where a product or a sum leaves i128.
@@ -68,6 +78,45 @@ fn peak_in(peaks: &[Peak], boxes: &[OutBox]) -> Option<i128>
     None
 }
 
+/// Those of the cuts that cover the others over a box. None where the cuts are not side by side or too many, and where the box
+/// has not as many states. [`Memory`] where memory was refused.
+fn active_of(
+    alloc: Global,
+    boxes: &[OutBox],
+    flat: &FlatCuts,
+    cuts: &[Cut],
+) -> Result<Option<Active>, Memory>
+    requires { IsFlat cuts.now flat.now }
+    ensures { IfOk result (λ found. IfSome found (IsActive (map packed_cut cuts.now))) }
+{
+    let _ = cuts;
+    let Some(list) = flat.list() else {
+        return Ok(None);
+    };
+    if list.states() != boxes.len() || list.len() > MOST_COMPARED {
+        return Ok(None);
+    }
+    Ok(Some(Active::of(alloc, boxes, &list)?))
+}
+
+/// Takes the last of the cuts in, where those before it are covered. None where the cuts are not side by side, and where memory
+/// was refused.
+fn renewed(active: Option<Active>, flat: &FlatCuts, cuts: &[Cut]) -> Option<Active>
+    requires flat { IsFlat cuts.now flat.now }
+    requires some { 0 < length cuts.now }
+    requires few { length cuts.now ≤ 2 ^ 24 }
+    requires before { IfSome active (AreFirst (map packed_cut cuts.now) (length cuts.now - 1)) }
+    ensures { IfSome result (IsActive (map packed_cut cuts.now)) }
+{
+    let mut found = active?;
+    let list = flat.list()?;
+    let last = cuts.len() - 1;
+    match found.add(&list, last as u32) {
+        Ok(()) => Some(found),
+        Err(_) => None,
+    }
+}
+
 impl Pool {
     /// No cuts.
     pub(crate) fn new(alloc: Global) -> Pool
@@ -75,8 +124,9 @@ impl Pool {
     {
         Pool {
             cuts: Vec::new(alloc),
-            slopes: FlatSlopes::none(alloc),
+            flat: FlatCuts::none(alloc),
             peaks: Vec::new(alloc),
+            active: None,
         }
     }
 
@@ -100,12 +150,15 @@ impl Pool {
         ensures taken { self.old.spare ≤ self.new.spare + 1 }
     {
         raise_or_clear(&mut self.peaks, &cut);
-        self.slopes.add(&cut);
+        self.flat.add(&cut);
         match self.cuts.push(cut) {
-            Ok(()) => Ok(()),
+            Ok(()) => {
+                self.active = renewed(self.active.take(), &self.flat, self.cuts.as_slice());
+                Ok(())
+            }
             Err(_) => {
                 self.peaks.clear();
-                self.slopes.forget();
+                self.flat.forget();
                 Err(Memory)
             }
         }
@@ -117,7 +170,8 @@ impl Pool {
         ensures freed { self.old.spare + (length self.old.cuts - count) ≡ self.new.spare }
     {
         self.peaks.clear();
-        self.slopes.forget();
+        self.flat.forget();
+        self.active = None;
         self.cuts.truncate(count as usize);
     }
 
@@ -136,18 +190,17 @@ impl Pool {
         self.cuts.as_slice()
     }
 
-    /// Keeps the slopes side by side from now on. The cuts and their room stay.
-    pub(crate) fn keep_slopes(&mut self, alloc: Global)
+    /// Keeps the cuts side by side from now on, where they have few binary digits. The cuts and their room stay.
+    pub(crate) fn keep_flat(&mut self, alloc: Global)
         ensures { self.new ≡ self.old }
     {
-        if !self.slopes.are_kept() {
-            self.slopes = FlatSlopes::of(alloc, self.cuts.as_slice());
+        if !self.flat.are_kept() {
+            self.flat = FlatCuts::of(alloc, self.cuts.as_slice());
         }
     }
 
     /// Keeps the peak over a box from now on; none of no cuts, none where a product or a sum leaves i128, and none behind the
-    /// eighth. [`Memory`] where
-    /// memory was refused. The cuts and their room stay.
+    /// eighth. [`Memory`] where memory was refused. The cuts and their room stay.
     pub(crate) fn keep_peak(&mut self, alloc: Global, boxes: &[OutBox]) -> Result<(), Memory>
         ensures { self.new ≡ self.old }
     {
@@ -161,15 +214,25 @@ impl Pool {
         Ok(())
     }
 
-    /// The slopes of the cut at a place, from 0.
-    pub(crate) fn slopes(&self, place: usize) -> &[i128]
-        requires { place < length self.now.cuts }
-        ensures { result.now ≡ (get_or self.now.cuts place no_cut).beta }
+    /// Keeps the cuts that cover the others over a box from now on; none where some are kept already, where the cuts are not
+    /// side by side, and where the box has not as many states. [`Memory`] where memory was refused. The cuts and their room
+    /// stay.
+    pub(crate) fn keep_active(&mut self, alloc: Global, boxes: &[OutBox]) -> Result<(), Memory>
+        ensures { self.new ≡ self.old }
     {
-        match self.slopes.at(place) {
-            Some(slopes) => slopes,
-            None => self.cuts[place].beta.as_slice(),
+        if self.active.is_some() {
+            return Ok(());
         }
+        self.active = active_of(alloc, boxes, &self.flat, self.cuts.as_slice())?;
+        Ok(())
+    }
+
+    /// The cuts side by side, where they are kept.
+    pub(crate) fn packed(&self) -> Option<PackedCuts<'_>>
+        ensures { IfSome result (λ packed. packed ≡ map packed_cut self.now.cuts) }
+    {
+        let list = self.flat.list()?;
+        Some(PackedCuts::new(list, lent(&self.active)))
     }
 
     /// The greatest value over a box, where it is kept.

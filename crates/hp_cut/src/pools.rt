@@ -1,6 +1,6 @@
 // Pools of cuts.
 ghost use Rattle.std.specs.Int.{w128};
-ghost use Rattle.std.specs.Prelude.{◌≡◌, ◌≢◌, ◌+◌, ◌-◌, ◌<◌, ◌≤◌, ◌^◌, ◌*◌, ℕ, ℤ, pos, ◌+ℤ◌, ◌*ℤ◌, ◌≤ℤ◌, [], length, sum, true, replicate, get_or, set, take, if◌then◌else◌, is_ok, IfOk, IfSome, OnOk, IsOk};
+ghost use Rattle.std.specs.Prelude.{◌≡◌, ◌≢◌, ◌+◌, ◌-◌, ◌<◌, ◌≤◌, ◌^◌, ◌*◌, ℕ, ℤ, pos, ◌+ℤ◌, ◌*ℤ◌, ◌≤ℤ◌, [], length, map, sum, true, replicate, get_or, set, take, if◌then◌else◌, is_ok, IfOk, IfSome, OnOk, IsOk};
 ghost use Rattle.hp_num.specs.Sums.{total};
 ghost use Rattle.hp_problem.specs.Sealed.{is_sealed};
 ghost use Rattle.hp_theory.specs.Problem.{node_at, link_weights};
@@ -10,6 +10,7 @@ ghost use Rattle.hp_theory.specs.Fit.{Fit};
 ghost use Rattle.hp_theory.specs.Pools.{pool, no_cut, push, Sound};
 ghost use Rattle.hp_theory.specs.Bound.{value, weighted_value, bound, Under};
 ghost use Rattle.hp_theory.specs.View.{problem_of, links_of};
+ghost use Rattle.hp_cut.specs.FlatCuts.{packed_cut};
 ghost use Rattle.hp_cut.specs.Peaks.{peak_over};
 
 use crate::cut_value::greatest;
@@ -17,6 +18,7 @@ use crate::peaks::OutBox;
 use crate::pool::Pool;
 use hp_num::{Memory, add_product, floor_div};
 use hp_problem::Problem;
+use hp_solver::PackedCuts;
 use hp_theory::Cut;
 use std::alloc::Global;
 use std::marker::Model;
@@ -129,16 +131,17 @@ impl Pools {
         self.lists[node].cuts()
     }
 
-    /// Makes a node's cuts ready for stage problems of a predecessor from now on: keeps their slopes side by side, and the
-    /// greatest of their values over what may leave the predecessor, one box per state. It is a matter of time alone, and
-    /// what is kept goes where a node's cuts are cut back. [`Memory`] where memory was refused. The cuts and their room
-    /// stay in either case.
+    /// Makes a node's cuts ready for stage problems of a predecessor from now on. Keeps them side by side once more, where
+    /// they have few binary digits. Keeps those by which all are covered over what may leave the predecessor, one box per
+    /// state, and the greatest of their values there. It is a matter of time alone, and what is kept goes where a node's cuts
+    /// are cut back. [`Memory`] where memory was refused. The cuts and their room stay in either case.
     pub fn prepare(&mut self, alloc: Global, node: u32, boxes: &[OutBox]) -> Result<(), Memory>
         requires { node < length self.old.lists }
         ensures { self.new ≡ self.old }
     {
         let pool = &mut self.lists[node as usize];
-        pool.keep_slopes(alloc);
+        pool.keep_flat(alloc);
+        pool.keep_active(alloc, boxes)?;
         pool.keep_peak(alloc, boxes)
     }
 
@@ -150,13 +153,12 @@ impl Pools {
         self.lists[node].peak(boxes)
     }
 
-    /// The slopes of the cut of a node at a place, from 0.
-    pub fn slopes(&self, node: usize, place: usize) -> &[i128]
-        requires known { node < length self.now.lists }
-        requires there { place < length (pool self.now.lists node) }
-        ensures { result.now ≡ (get_or (pool self.now.lists node) place no_cut).beta }
+    /// The cuts of a node side by side, where they are kept.
+    pub fn packed(&self, node: usize) -> Option<PackedCuts<'_>>
+        requires { node < length self.now.lists }
+        ensures { IfSome result (λ packed. packed ≡ map packed_cut (pool self.now.lists node)) }
     {
-        self.lists[node].slopes(place)
+        self.lists[node].packed()
     }
 
     /// The greatest value of a node's cuts at a whole state inside its box, at scale 2^24.

@@ -1,0 +1,178 @@
+-- Cuts that cover others.
+use Rattle.std.proofs.Common.{◌≡◌, ◌∙◌, ℕ, zero, suc, ◌+◌, ◌<◌, ◌≤◌, ℤ, List, [], ◌∷◌, ◌++◌, length, get_or, ◌⊎◌, inl, inr, add-one, refl, ap, sym, subst, arith}
+use Rattle.std.proofs.Math.ListN.{get_or-append}
+use Rattle.std.proofs.lemmas.List.{get_or_default}
+use Rattle.std.proofs.Math.Seq.{get_or-append_seam}
+use Rattle.std.proofs.lemmas.List.{length-append}
+use Rattle.std.proofs.lemmas.Int.{ints}
+use Rattle.hp_solver.specs.PackedCut.{PackedCut, no_packed_cut}
+use Rattle.hp_solver.specs.Covering.{value_of, cut_at, IsBefore, Covers, IsCovered, AreRisingPlaces, CoverAll}
+use Rattle.hp_cut.specs.Active.{CoverFirst, IsLeft}
+
+-- a place is below where they end
+pub place_below : (least count k : ℕ) (ps : List ℕ) → AreRisingPlaces least count ps → k < length ps → get_or ps k 0 < count
+place_below least count k [] r h = absurd (omega (arith, h))
+place_below least count zero (p ∷ ps) r h = r.1
+place_below least count (suc k) (p ∷ ps) r h = place_below (suc p) count k ps r.2 (omega (arith, h))
+
+-- a later end
+pub rising_up : (least count more : ℕ) (ps : List ℕ) → AreRisingPlaces least count ps → count ≤ more → AreRisingPlaces least more ps
+rising_up least count more [] r h = tt
+rising_up least count more (p ∷ ps) r h = (r.0, omega (arith, r.1, h), rising_up (suc p) count more ps r.2 h)
+
+-- one place more
+pub rising_more : (least p : ℕ) (ps : List ℕ) → AreRisingPlaces least p ps → least ≤ p → AreRisingPlaces least (suc p) (ps ++ p ∷ [])
+rising_more least p [] r h = (h, omega arith, tt)
+rising_more least p (q ∷ ps) r h = (r.0, omega (arith, r.1), rising_more (suc q) p ps r.2 (omega (arith, r.1)))
+
+-- a place and the next, or where they end
+pub rising_next : (least count k : ℕ) (ps : List ℕ) → AreRisingPlaces least count ps → k < length ps → suc (get_or ps k 0) ≤ get_or ps (suc k) count
+rising_next least count k [] r h = absurd (omega (arith, h))
+rising_next least count zero (p ∷ []) r h = omega (arith, r.1)
+rising_next least count zero (p ∷ q ∷ ps) r h = r.2.0
+rising_next least count (suc k) (p ∷ ps) r h = rising_next (suc p) count k ps r.2 (omega (arith, h))
+
+before_refl : (i : ℕ) (x : ℤ) → IsBefore i x i x
+before_refl i x = inr (omega (arith, ints), omega arith)
+
+before_trans : (i j k : ℕ) (x y z : ℤ) → IsBefore i x j y → IsBefore j y k z → IsBefore i x k z
+before_trans i j k x y z (inl h) (inl g) = inl (omega (arith, ints, h, g))
+before_trans i j k x y z (inl h) (inr g) = inl (omega (arith, ints, h, g.0))
+before_trans i j k x y z (inr h) (inl g) = inl (omega (arith, ints, h.0, g))
+before_trans i j k x y z (inr h) (inr g) = inr (omega (arith, ints, h.0, g.0), omega (arith, h.1, g.1))
+
+covers_refl : (all : List PackedCut) (lows highs : List ℤ) (i : ℕ) → Covers all lows highs i i
+covers_refl all lows highs i = λ xs inside. before_refl i (value_of (cut_at all i) xs)
+
+covers_trans : (all : List PackedCut) (lows highs : List ℤ) (i j k : ℕ) → Covers all lows highs i j → Covers all lows highs j k → Covers all lows highs i k
+covers_trans all lows highs i j k a b = λ xs inside. before_trans i j k (value_of (cut_at all i) xs) (value_of (cut_at all j) xs) (value_of (cut_at all k) xs) (a xs inside) (b xs inside)
+
+-- what is covered stays so with more places
+pub covered_more : (all : List PackedCut) (lows highs : List ℤ) (ps qs : List ℕ) (j : ℕ) → IsCovered all lows highs ps j → IsCovered all lows highs (ps ++ qs) j
+covered_more all lows highs ps qs j c = record {
+  by = c.by;
+  there = omega (arith, c.there, length-append ps qs);
+  covers = subst (λ (i : ℕ). Covers all lows highs i j) (sym (get_or-append ps qs 0 c.by c.there)) c.covers;
+}
+
+-- the last place covers
+pub covered_last : (all : List PackedCut) (lows highs : List ℤ) (ps : List ℕ) (p j : ℕ) → Covers all lows highs p j → IsCovered all lows highs (ps ++ p ∷ []) j
+covered_last all lows highs ps p j c = record {
+  by = length ps;
+  there = omega (arith, length-append ps (p ∷ []));
+  covers = subst (λ (i : ℕ). Covers all lows highs i j) (sym (get_or-append_seam ps p [] 0)) c;
+}
+
+-- the last place is covered
+pub covered_own : (all : List PackedCut) (lows highs : List ℤ) (ps : List ℕ) (p : ℕ) → IsCovered all lows highs (ps ++ p ∷ []) p
+covered_own all lows highs ps p = covered_last all lows highs ps p p (covers_refl all lows highs p)
+
+-- what is covered by what is covered
+pub covered_on : (all : List PackedCut) (lows highs : List ℤ) (ps : List ℕ) (i j : ℕ) → IsCovered all lows highs ps i → Covers all lows highs i j → IsCovered all lows highs ps j
+covered_on all lows highs ps i j c d = record {
+  by = c.by;
+  there = c.there;
+  covers = covers_trans all lows highs (get_or ps c.by 0) i j c.covers d;
+}
+
+-- the last of some numbers or one before it
+last_or_before : (j k : ℕ) → j < suc k → (j < k) ⊎ (j ≡ k)
+last_or_before zero zero h = inr refl
+last_or_before zero (suc k) h = inl (omega arith)
+last_or_before (suc j) zero h = absurd (omega (arith, h))
+last_or_before (suc j) (suc k) h = further (last_or_before j k (omega (arith, h)))
+  where
+    further : ((j < k) ⊎ (j ≡ k)) → (suc j < suc k) ⊎ (suc j ≡ suc k)
+    further (inl a) = inl (omega (arith, a))
+    further (inr e) = inr (ap suc e)
+
+-- one place more is gone through, and it goes
+pub rising_dropped : (ps room : List ℕ) (p k : ℕ) → AreRisingPlaces 0 p ps → k < length ps → AreRisingPlaces 0 (get_or ps k p) room → AreRisingPlaces 0 (get_or ps (k + 1) p) room
+rising_dropped ps room p k r h s =
+    let next : suc (get_or ps k 0) ≤ get_or ps (suc k) p = rising_next 0 p k ps r h in
+    let same : get_or ps k p ≡ get_or ps k 0 = get_or_default ps k p 0 h in
+    rw add-one (rising_up 0 (get_or ps k p) (get_or ps (suc k) p) room s (omega (arith, next, same)))
+
+-- one place more is gone through, and it stays
+pub rising_kept : (ps room new : List ℕ) (p k q : ℕ) → AreRisingPlaces 0 p ps → k < length ps → q ≡ get_or ps k 0 → new ≡ room ++ q ∷ [] → AreRisingPlaces 0 (get_or ps k p) room → AreRisingPlaces 0 (get_or ps (k + 1) p) new
+rising_kept ps room new p k q r h e put s =
+    let next : suc (get_or ps k 0) ≤ get_or ps (suc k) p = rising_next 0 p k ps r h in
+    let same : get_or ps k p ≡ q = get_or_default ps k p 0 h ∙ sym e in
+    let more : AreRisingPlaces 0 (suc q) (room ++ q ∷ []) = rising_more 0 q room (subst (λ (b : ℕ). AreRisingPlaces 0 b room) same s) (omega arith) in
+    rw (add-one, put) (rising_up 0 (suc q) (get_or ps (suc k) p) (room ++ q ∷ []) more (omega (arith, next, e)))
+
+pub left_dropped : (all : List PackedCut) (lows highs : List ℤ) (ps room : List ℕ) (p k : ℕ) → Covers all lows highs p (get_or ps k 0) → ((j : ℕ) → j < k → IsLeft all lows highs p room (get_or ps j 0)) → (j : ℕ) → j < k + 1 → IsLeft all lows highs p room (get_or ps j 0)
+left_dropped all lows highs ps room p k c left = λ j h. here j (last_or_before j k (omega (arith, h)))
+  where
+    here : (j : ℕ) → ((j < k) ⊎ (j ≡ k)) → IsLeft all lows highs p room (get_or ps j 0)
+    here j (inl a) = left j a
+    here j (inr e) = subst (λ (i : ℕ). IsLeft all lows highs p room (get_or ps i 0)) (sym e) (inr c)
+
+left_more : (all : List PackedCut) (lows highs : List ℤ) (room : List ℕ) (p q j : ℕ) → IsLeft all lows highs p room j → IsLeft all lows highs p (room ++ q ∷ []) j
+left_more all lows highs room p q j (inl a) = inl (covered_more all lows highs room (q ∷ []) j a)
+left_more all lows highs room p q j (inr b) = inr b
+
+pub left_kept : (all : List PackedCut) (lows highs : List ℤ) (ps room new : List ℕ) (p k q : ℕ) → q ≡ get_or ps k 0 → new ≡ room ++ q ∷ [] → ((j : ℕ) → j < k → IsLeft all lows highs p room (get_or ps j 0)) → (j : ℕ) → j < k + 1 → IsLeft all lows highs p new (get_or ps j 0)
+left_kept all lows highs ps room new p k q e put left = λ j h. subst (λ (rs : List ℕ). IsLeft all lows highs p rs (get_or ps j 0)) (sym put) (here j (last_or_before j k (omega (arith, h))))
+  where
+    here : (j : ℕ) → ((j < k) ⊎ (j ≡ k)) → IsLeft all lows highs p (room ++ q ∷ []) (get_or ps j 0)
+    here j (inl a) = left_more all lows highs room p q (get_or ps j 0) (left j a)
+    here j (inr i) = inl (subst (λ (n : ℕ). IsCovered all lows highs (room ++ q ∷ []) n) (e ∙ ap (λ (n : ℕ). get_or ps n 0) (sym i)) (covered_own all lows highs room q))
+
+-- with those that are left and the new one the first cuts and the new one are covered
+pub covered_with : (all : List PackedCut) (lows highs : List ℤ) (room : List ℕ) (p q j : ℕ) → IsLeft all lows highs p room q → Covers all lows highs q j → IsCovered all lows highs (room ++ p ∷ []) j
+covered_with all lows highs room p q j (inl a) c = covered_on all lows highs (room ++ p ∷ []) q j (covered_more all lows highs room (p ∷ []) q a) c
+covered_with all lows highs room p q j (inr b) c = covered_on all lows highs (room ++ p ∷ []) q j (covered_last all lows highs room p q b) c
+
+pub first_with : (all : List PackedCut) (lows highs : List ℤ) (ps room new : List ℕ) (p : ℕ) → CoverFirst all p ps lows highs → AreRisingPlaces 0 p room → ((k : ℕ) → k < length ps → IsLeft all lows highs p room (get_or ps k 0)) → new ≡ room ++ p ∷ [] → CoverFirst all (p + 1) new lows highs
+first_with all lows highs ps room new p before rising left put = rw (add-one, put) (record {
+  rising = rising_more 0 p room rising (omega arith);
+  covered = λ j h. here j (last_or_before j p h);
+})
+  where
+    here : (j : ℕ) → ((j < p) ⊎ (j ≡ p)) → IsCovered all lows highs (room ++ p ∷ []) j
+    here j (inl a) = let c = before.covered j a in covered_with all lows highs room p (get_or ps c.by 0) j (left c.by c.there) c.covers
+    here j (inr e) = subst (λ (n : ℕ). IsCovered all lows highs (room ++ p ∷ []) n) (sym e) (covered_own all lows highs room p)
+
+-- the new one is covered already
+pub first_covered : (all : List PackedCut) (lows highs : List ℤ) (ps : List ℕ) (p : ℕ) → CoverFirst all p ps lows highs → IsCovered all lows highs ps p → CoverFirst all (p + 1) ps lows highs
+first_covered all lows highs ps p before own = rw add-one (record {
+  rising = rising_up 0 p (suc p) ps before.rising (omega arith);
+  covered = λ j h. here j (last_or_before j p h);
+})
+  where
+    here : (j : ℕ) → ((j < p) ⊎ (j ≡ p)) → IsCovered all lows highs ps j
+    here j (inl a) = before.covered j a
+    here j (inr e) = subst (λ (n : ℕ). IsCovered all lows highs ps n) (sym e) own
+
+-- those that cover the first cuts cover all where there are no more
+pub all_first : (all : List PackedCut) (lows highs : List ℤ) (ps : List ℕ) (n : ℕ) → CoverFirst all n ps lows highs → n ≡ length all → CoverAll all ps lows highs
+all_first all lows highs ps n first e = record {
+  rising = subst (λ (m : ℕ). AreRisingPlaces 0 m ps) e first.rising;
+  covered = λ j h. first.covered j (omega (arith, h, e));
+}
+
+-- those that cover all cuts cover these among more
+same_cut : (all : List PackedCut) (c : PackedCut) (i : ℕ) → i < length all → cut_at all i ≡ cut_at (all ++ c ∷ []) i
+same_cut all c i h = sym (get_or-append all (c ∷ []) no_packed_cut i h)
+
+pub first_more : (all : List PackedCut) (c : PackedCut) (lows highs : List ℤ) (ps : List ℕ) → CoverAll all ps lows highs → CoverFirst (all ++ c ∷ []) (length all) ps lows highs
+first_more all c lows highs ps whole = record {
+  rising = whole.rising;
+  covered = λ j h. more j h (whole.covered j h);
+}
+  where
+    more : (j : ℕ) → j < length all → IsCovered all lows highs ps j → IsCovered (all ++ c ∷ []) lows highs ps j
+    more j h own = record {
+      by = own.by;
+      there = own.there;
+      covers = λ xs inside. subst (λ (d : PackedCut). IsBefore (get_or ps own.by 0) (value_of (cut_at (all ++ c ∷ []) (get_or ps own.by 0)) xs) j (value_of d xs)) (same_cut all c j h)
+          (subst (λ (d : PackedCut). IsBefore (get_or ps own.by 0) (value_of d xs) j (value_of (cut_at all j) xs)) (same_cut all c (get_or ps own.by 0) (place_below 0 (length all) own.by ps whole.rising own.there)) (own.covers xs inside));
+    }
+
+-- the same of what is read
+pub covered_read : (all : List PackedCut) (lows highs los his : List ℤ) (ps qs : List ℕ) (p : ℕ) → los ≡ lows → his ≡ highs → qs ≡ ps → CoverFirst all p ps lows highs → IsCovered all los his qs p → CoverFirst all (p + 1) ps lows highs
+covered_read all lows highs los his ps qs p el eh eq before own = first_covered all lows highs ps p before (rw (el, eh, eq) at own)
+
+pub with_read : (all : List PackedCut) (lows highs los his : List ℤ) (ps qs room new : List ℕ) (p : ℕ) → los ≡ lows → his ≡ highs → qs ≡ ps → CoverFirst all p ps lows highs → AreRisingPlaces 0 p room → ((k : ℕ) → k < length qs → IsLeft all los his p room (get_or qs k 0)) → new ≡ room ++ p ∷ [] → CoverFirst all (p + 1) new lows highs
+with_read all lows highs los his ps qs room new p el eh eq before rising left put = first_with all lows highs ps room new p before rising (rw (el, eh, eq) at left) put

@@ -1,0 +1,32 @@
+-- Cuts that cover the first cuts of a list.
+use Rattle.std.specs.Prelude.{ℕ, ◌<◌, ◌^◌, ℤ, pos, ◌+ℤ◌, ◌-ℤ◌, ◌*ℤ◌, ◌≤ℤ◌, List, ◌⊎◌}
+use Rattle.std.specs.Int.{int_min}
+use Rattle.hp_num.specs.Sums.{entry}
+use Rattle.hp_solver.specs.PackedCut.{PackedCut}
+use Rattle.hp_solver.specs.Covering.{value_of, AreInside, Covers, IsCovered, AreRisingPlaces, CoverAll}
+use Rattle.hp_cut.specs.declared.active_cuts.Active.{Active}
+
+-- the lesser product of a difference of slopes with an end of the box of the state k
+abbrev pub lesser_over : List ℤ → List ℤ → List ℤ → List ℤ → ℕ → ℤ
+lesser_over lows highs xs ys k = int_min ((entry xs k -ℤ entry ys k) *ℤ entry lows k) ((entry xs k -ℤ entry ys k) *ℤ entry highs k)
+
+-- at each state of a box the value of the first cut is greater by this at least, at the scale 2^24
+abbrev pub IsLead : List ℤ → List ℤ → PackedCut → PackedCut → ℤ → Type 0
+IsLead lows highs a b v = (xs : List ℤ) → AreInside lows highs xs → (v *ℤ pos (2 ^ 24) +ℤ value_of b xs) ≤ℤ value_of a xs
+
+-- rising places below a number, by one of which each cut before it is covered
+pub record CoverFirst (all : List PackedCut) (count : ℕ) (places : List ℕ) (lows highs : List ℤ) : Type 0 where
+  pub rising : AreRisingPlaces 0 count places
+  pub covered : (j : ℕ) → j < count → IsCovered all lows highs places j
+
+-- the cut at the place q is covered by one of these or by the one at p
+abbrev pub IsLeft : List PackedCut → List ℤ → List ℤ → ℕ → List ℕ → ℕ → Type 0
+IsLeft all lows highs p places q = IsCovered all lows highs places q ⊎ Covers all lows highs p q
+
+-- these cover the first cuts of a list
+abbrev pub AreFirst : List PackedCut → ℕ → Active → Type 0
+AreFirst all count a = CoverFirst all count a.places.items a.lows.items a.highs.items
+
+-- these cover all cuts of a list
+abbrev pub IsActive : List PackedCut → Active → Type 0
+IsActive all a = CoverAll all a.places.items a.lows.items a.highs.items

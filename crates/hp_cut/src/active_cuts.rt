@@ -1,0 +1,310 @@
+// The cuts of a node that cover the others over a box of states.
+ghost use Rattle.std.specs.Prelude.{◌≡◌, ◌<◌, ◌+◌, ℕ, ◌+ℤ◌, ◌-ℤ◌, ◌*ℤ◌, List, length, get_or, true, IfOk, IfSome, OnOk};
+ghost use Rattle.std.specs.Int.{int_min};
+ghost use Rattle.hp_num.specs.Sums.{sum_to};
+ghost use Rattle.hp_solver.specs.PackedCut.{PackedCut};
+ghost use Rattle.hp_solver.specs.Covering.{cut_at, AreRisingPlaces, IsCovered, Covers, AreActive};
+ghost use Rattle.hp_cut.specs.Active.{lesser_over, IsLead, IsLeft, AreFirst, IsActive};
+
+use crate::peaks::OutBox;
+use hp_num::Memory;
+use hp_solver::{ActiveCuts, CutList};
+use std::alloc::Global;
+
+/// The cuts of a node by which all its cuts are covered over a box: at every state of the box some of these is the greater,
+/// or it is not the lesser and does not stand behind.
+#[derive(Drop)]
+pub(crate) struct Active {
+    /// The least end of the box of each state, in whole units.
+    lows: Vec<i64>,
+    /// The greatest end of the box of each state, in whole units.
+    highs: Vec<i64>,
+    /// The places of the cuts, which rise.
+    places: Vec<u32>,
+    /// Room for the places that are left when a cut is taken in.
+    room: Vec<u32>,
+    /// The values of each cut that was taken in, at corners of the box.
+    corners: Vec<Corners>,
+}
+
+/// The values of a cut where all states are at their least ends, and where all are at their greatest, at scale 2^24. They only
+/// save time.
+#[derive(Clone, Copy)]
+struct Corners {
+    least: i128,
+    greatest: i128,
+}
+
+/// A product, which is always in range.
+fn product(a: i64, b: i64) -> i128
+    ensures { result ≡ a *ℤ b }
+{
+    i128::from(a) * i128::from(b)
+}
+
+/// The value of a cut at these ends, wrapped into i128.
+fn value_at(height: i128, slopes: &[i64], ends: &[i64]) -> i128 {
+    let mut value = height;
+    for (slope, end) in slopes.iter().zip(ends.iter()) {
+        value = value.wrapping_add(product(*slope, *end));
+    }
+    value
+}
+
+/// Keeps the values of the cut at a place too. [`Memory`] where memory was refused.
+fn push_corners(
+    corners: &mut Vec<Corners>,
+    lows: &[i64],
+    highs: &[i64],
+    cuts: &CutList,
+    place: u32,
+) -> Result<(), Memory>
+    requires { place < length cuts.now }
+{
+    let height = cuts.height(place as usize);
+    let slopes = cuts.slopes(place as usize);
+    corners.push(Corners {
+        least: value_at(height, slopes, lows),
+        greatest: value_at(height, slopes, highs),
+    })?;
+    Ok(())
+}
+
+/// The first of two cuts is the lesser at one of the corners.
+fn is_lesser(corners: &[Corners], first: u32, second: u32) -> bool {
+    match (corners.get(first as usize), corners.get(second as usize)) {
+        (Some(a), Some(b)) => a.least < b.least || a.greatest < b.greatest,
+        _ => false,
+    }
+}
+
+/// The lesser product of a difference of slopes with an end of a box, none where the difference leaves i64.
+fn lesser_product(slope: i64, other: i64, low: i64, high: i64) -> Option<i128>
+    ensures { IfSome result (λ lesser. lesser ≡ int_min ((slope -ℤ other) *ℤ low) ((slope -ℤ other) *ℤ high)) }
+{
+    let difference = slope.checked_sub(other)?;
+    Some(product(difference, low).min(product(difference, high)))
+}
+
+/// The difference, none where it leaves i128.
+fn difference(a: i128, b: i128) -> Option<i128>
+    ensures { IfSome result (λ found. found ≡ a -ℤ b) }
+{
+    a.checked_sub(b)
+}
+
+/// The sum, none where it leaves i128.
+fn sum(a: i128, b: i128) -> Option<i128>
+    ensures { IfSome result (λ found. found ≡ a +ℤ b) }
+{
+    a.checked_add(b)
+}
+
+/// A difference of heights with the lesser products of the differences of slopes, none where a sum leaves i128.
+fn sum_over(
+    lows: &[i64],
+    highs: &[i64],
+    height: i128,
+    slopes: &[i64],
+    others: &[i64],
+) -> Option<i128>
+    requires others { length others.now ≡ length slopes.now }
+    requires lows { length lows.now ≡ length slopes.now }
+    requires highs { length highs.now ≡ length slopes.now }
+    ensures { IfSome result (λ least. least ≡ height +ℤ sum_to (length slopes.now) (lesser_over lows.now highs.now slopes.now others.now)) }
+{
+    let mut least = height;
+    for k in 0..slopes.len() {
+        let lesser = lesser_product(slopes[k], others[k], lows[k], highs[k])?;
+        least = sum(least, lesser)?;
+    }
+    Some(least)
+}
+
+/// By how much the first of two cuts is the greater at least, over a box. None where the box has not as many states as the
+/// cuts, and where a difference or a sum leaves its type.
+fn lead(lows: &[i64], highs: &[i64], cuts: &CutList, first: u32, second: u32) -> Option<i128>
+    requires first { first < length cuts.now }
+    requires second { second < length cuts.now }
+    ensures { IfSome result (IsLead lows.now highs.now (cut_at cuts.now first) (cut_at cuts.now second)) }
+{
+    let slopes = cuts.slopes(first as usize);
+    let others = cuts.slopes(second as usize);
+    if others.len() != slopes.len() || lows.len() != slopes.len() || highs.len() != slopes.len() {
+        return None;
+    }
+    let height = difference(cuts.height(first as usize), cuts.height(second as usize))?;
+    sum_over(lows, highs, height, slopes, others)
+}
+
+/// The first of two cuts is nowhere the lesser over a box.
+fn is_over(
+    corners: &[Corners],
+    lows: &[i64],
+    highs: &[i64],
+    cuts: &CutList,
+    first: u32,
+    second: u32,
+) -> bool
+    requires there { second < length cuts.now }
+    requires before { first < second }
+    ensures { result ≡ true → Covers cuts.now lows.now highs.now first second }
+{
+    if is_lesser(corners, first, second) {
+        return false;
+    }
+    match lead(lows, highs, cuts, first, second) {
+        Some(least) => 0 <= least,
+        None => false,
+    }
+}
+
+/// The first of two cuts is everywhere the greater over a box.
+fn is_above(
+    corners: &[Corners],
+    lows: &[i64],
+    highs: &[i64],
+    cuts: &CutList,
+    first: u32,
+    second: u32,
+) -> bool
+    requires first { first < length cuts.now }
+    requires second { second < length cuts.now }
+    ensures { result ≡ true → Covers cuts.now lows.now highs.now first second }
+{
+    if is_lesser(corners, first, second) {
+        return false;
+    }
+    match lead(lows, highs, cuts, first, second) {
+        Some(least) => 0 < least,
+        None => false,
+    }
+}
+
+/// One of the cuts covers the one at a place behind them.
+fn are_over(
+    corners: &[Corners],
+    lows: &[i64],
+    highs: &[i64],
+    cuts: &CutList,
+    places: &[u32],
+    place: u32,
+) -> bool
+    requires there { place < length cuts.now }
+    requires rising { AreRisingPlaces 0 place places.now }
+    ensures { result ≡ true → IsCovered cuts.now lows.now highs.now places.now place }
+{
+    for k in 0..places.len() {
+        if is_over(corners, lows, highs, cuts, places[k], place) {
+            return true;
+        }
+    }
+    false
+}
+
+/// Puts those into the room that the cut at a place behind them is not everywhere above. [`Memory`] where memory was refused.
+fn keep_rest(
+    corners: &[Corners],
+    lows: &[i64],
+    highs: &[i64],
+    cuts: &CutList,
+    places: &[u32],
+    place: u32,
+    room: &mut Vec<u32>,
+) -> Result<(), Memory>
+    requires there { place < length cuts.now }
+    requires rising { AreRisingPlaces 0 place places.now }
+    ensures rising { OnOk result (AreRisingPlaces 0 place room.new.items) }
+    ensures left { OnOk result ((k : ℕ) → k < length places.now → IsLeft cuts.now lows.now highs.now place room.new.items (get_or places.now k 0)) }
+{
+    room.clear();
+    for k in 0..places.len() {
+        let other = places[k];
+        if !is_above(corners, lows, highs, cuts, place, other) {
+            room.push(other)?;
+        }
+    }
+    Ok(())
+}
+
+impl Active {
+    /// None yet, over a box. [`Memory`] where memory was refused.
+    fn new(alloc: Global, boxes: &[OutBox]) -> Result<Active, Memory>
+        ensures { IfOk result (λ a. (all : List PackedCut) → AreFirst all 0 a) }
+    {
+        let mut lows = Vec::new(alloc);
+        let mut highs = Vec::new(alloc);
+        for ends in boxes {
+            lows.push(ends.least)?;
+            highs.push(ends.greatest)?;
+        }
+        Ok(Active {
+            lows,
+            highs,
+            places: Vec::new(alloc),
+            room: Vec::new(alloc),
+            corners: Vec::new(alloc),
+        })
+    }
+
+    /// Those by which some cuts are covered over a box. [`Memory`] where memory was refused.
+    pub(crate) fn of(alloc: Global, boxes: &[OutBox], cuts: &CutList) -> Result<Active, Memory>
+        ensures { IfOk result (IsActive cuts.now) }
+    {
+        let mut found = Active::new(alloc, boxes)?;
+        for place in 0..cuts.len() as u32 {
+            found.add(cuts, place)?;
+        }
+        Ok(found)
+    }
+
+    /// Takes the cut at a place in, where all before it are covered. [`Memory`] where memory was refused.
+    pub(crate) fn add(&mut self, cuts: &CutList, place: u32) -> Result<(), Memory>
+        requires there { place < length cuts.now }
+        requires before { AreFirst cuts.now place self.old }
+        ensures { OnOk result (AreFirst cuts.now (place + 1) self.new) }
+    {
+        let lows = self.lows.as_slice();
+        let highs = self.highs.as_slice();
+        push_corners(&mut self.corners, lows, highs, cuts, place)?;
+        let corners = self.corners.as_slice();
+        if are_over(corners, lows, highs, cuts, self.places.as_slice(), place) {
+            return Ok(());
+        }
+        keep_rest(
+            corners,
+            lows,
+            highs,
+            cuts,
+            self.places.as_slice(),
+            place,
+            &mut self.room,
+        )?;
+        self.room.push(place)?;
+        std::mem::swap(&mut self.places, &mut self.room);
+        Ok(())
+    }
+
+    /// Lends them.
+    pub(crate) fn lent(&self) -> ActiveCuts<'_>
+        ensures places { result.places.now ≡ self.now.places.items }
+        ensures lows { result.lows.now ≡ self.now.lows.items }
+        ensures highs { result.highs.now ≡ self.now.highs.items }
+    {
+        ActiveCuts {
+            places: self.places.as_slice(),
+            lows: self.lows.as_slice(),
+            highs: self.highs.as_slice(),
+        }
+    }
+}
+
+/// Lends them, where there are some.
+pub(crate) fn lent(active: &Option<Active>) -> Option<ActiveCuts<'_>>
+    ensures { (all : List PackedCut) → IfSome active.now (IsActive all) → IfSome result (AreActive all) }
+{
+    match active {
+        Some(found) => Some(found.lent()),
+        None => None,
+    }
+}
