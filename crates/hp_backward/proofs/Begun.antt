@@ -3,7 +3,7 @@ use Rattle.std.proofs.Common.{◌≡◌, ℕ, ℤ, List, [], ◌∷◌, map, Opt
 use Rattle.std.specs.Prelude.{unwrap_or}
 use Rattle.hp_problem.specs.Sealed.{Sealed}
 use Rattle.hp_theory.specs.declared.cut.Cut.{Cut}
-use Rattle.hp_solver.specs.declared.stage_lp.StageLp.{StageLp}
+use Rattle.hp_solver.specs.declared.programs.Program.{Program}
 use Rattle.hp_solver.specs.Chains.{answers}
 use Rattle.hp_lp.specs.Nodes.{stage_in, reference_in}
 use Rattle.hp_lp.specs.Chained.{Solving, program_of, stage_at, chain_answers}
@@ -12,7 +12,7 @@ use Rattle.hp_backward.specs.Certifying.{answers_to}
 no_first : (own : List ℤ) → None ≡ Some own → ⊥
 no_first own e = cc
 
-pub begins : {Start Chain : Type 0} (v : Solving Start Chain) (p : Sealed) (pools : List (List Cut)) (m : ℕ) (state : List ℤ) (values : List (List ℤ)) (own : List ℤ) (lp program : StageLp) (chain : Chain)
+pub begins : {Start Chain : Type 0} (v : Solving Start Chain) (p : Sealed) (pools : List (List Cut)) (m : ℕ) (state : List ℤ) (values : List (List ℤ)) (own : List ℤ) (lp program : Program) (chain : Chain)
     → slice_get values 0 ≡ Some own → stage_in p pools m own state ≡ Some lp → reference_in p m ≡ Some program → chain ≡ v.begun (v.started program) lp
     → answers v.next chain (map (λ (o : List ℤ). stage_at p pools m o state) values) ≡ answers_to v p pools m state values
 unfolding chain_answers
@@ -21,4 +21,4 @@ begins v p pools m state (x ∷ xs) own lp program chain is stage reference begu
     let first : x ≡ own = ap (λ (o : Option (List ℤ)). unwrap_or o own) is in
     let same : stage_at p pools m x state ≡ lp = ap (λ (y : List ℤ). stage_at p pools m y state) first ∙ ap program_of stage in
     ap (λ c. answers v.next c (map (λ (o : List ℤ). stage_at p pools m o state) (x ∷ xs)))
-    (begun ∙ sym (ap₂ (λ (r l : StageLp). v.begun (v.started r) l) (ap program_of reference) same))
+    (begun ∙ sym (ap₂ (λ (r l : Program). v.begun (v.started r) l) (ap program_of reference) same))

@@ -7,8 +7,8 @@ use Rattle.hp_theory.specs.declared.cut.Certificate.{Certificate}
 use Rattle.hp_theory.specs.Problem.{Node, node_at}
 use Rattle.hp_theory.specs.View.{problem_of}
 use Rattle.hp_problem.specs.Sealed.{Sealed}
-use Rattle.hp_solver.specs.declared.stage_lp.StageLp.{StageLp}
-use Rattle.hp_solver.specs.declared.stage_lp.Answer.{Answer}
+use Rattle.hp_solver.specs.declared.programs.Program.{Program}
+use Rattle.hp_solver.specs.declared.programs.Answer.{Answer}
 use Rattle.hp_solver.specs.Chains.{answers}
 use Rattle.hp_settle.specs.declared.judging.Judged.{Judged}
 use Rattle.hp_settle.specs.declared.judging.Judged.TheVariants as judged
@@ -36,7 +36,7 @@ no_err : {A E : Type 0} (x : A) (y : E) → ◌≡◌ {A = Result A E} (Ok x) (E
 no_err x y e = cc
 
 -- as many answers as programs
-counted_answers : {C : Type 0} (next : C → StageLp → Answer × C) (c : C) (lps : List StageLp) → length (answers next c lps) ≡ length lps
+counted_answers : {C : Type 0} (next : C → Program → Answer × C) (c : C) (lps : List Program) → length (answers next c lps) ≡ length lps
 counted_answers next c [] = refl
 counted_answers next c (lp ∷ lps) = ap suc (counted_answers next (next c lp).1 lps)
 

@@ -13,7 +13,7 @@ use Rattle.hp_theory.specs.View.{problem_of}
 use Rattle.hp_theory.specs.Fit.{CutFits, Fit}
 use Rattle.hp_theory.specs.Pools.{pool, push}
 use Rattle.hp_theory.proofs.Appending.{push_at, kept_some}
-use Rattle.hp_solver.specs.declared.stage_lp.Answer.{Answer}
+use Rattle.hp_solver.specs.declared.programs.Answer.{Answer}
 use Rattle.hp_dual.specs.declared.fault.CertFault.{CertFault}
 use Rattle.hp_dual.specs.declared.fault.CertFault.TheVariants as faults
 use Rattle.hp_dual.specs.Acceptance.{fault_of, range_fault}

@@ -8,7 +8,7 @@ use Rattle.hp_theory.specs.declared.cut.Cut.{Cut}
 use Rattle.hp_theory.specs.declared.cut.Certificate.{Certificate}
 use Rattle.hp_theory.specs.Problem.{Node, node_at}
 use Rattle.hp_theory.specs.View.{problem_of}
-use Rattle.hp_solver.specs.declared.stage_lp.Answer.{Answer}
+use Rattle.hp_solver.specs.declared.programs.Answer.{Answer}
 use Rattle.hp_settle.specs.declared.judging.Judged.{Judged}
 use Rattle.hp_settle.specs.declared.judging.Judged.TheVariants as judged
 use Rattle.hp_settle.specs.Judging.{judge_of}

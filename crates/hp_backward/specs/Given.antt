@@ -6,20 +6,20 @@ use Rattle.hp_theory.specs.Problem.{S, node_at}
 use Rattle.hp_theory.specs.Fit.{Fit}
 use Rattle.hp_theory.specs.Tree.{InBox}
 use Rattle.hp_theory.specs.View.{problem_of}
-use Rattle.hp_solver.specs.declared.stage_lp.StageLp.{StageLp}
+use Rattle.hp_solver.specs.declared.programs.Program.{Program}
 use Rattle.hp_lp.specs.Ready.{AreReady}
 use Rattle.hp_sampler.specs.declared.steps.Step.{Step}
 use Rattle.hp_lp.specs.Nodes.{stage_in}
 
 -- a node of the problem, a state in its box, pools that fit, and what the solver made ready
-pub record CanVisit {Start : Type 0} (started : StageLp → Start) (suits : Start → StageLp → Type 0) (p : Sealed) (starts : List Start) (pools : List (List Cut)) (m : ℕ) (state : List ℤ) : Type 0 where
+pub record CanVisit {Start : Type 0} (started : Program → Start) (suits : Start → Program → Type 0) (p : Sealed) (starts : List Start) (pools : List (List Cut)) (m : ℕ) (state : List ℤ) : Type 0 where
   pub known : m < length p.raw.nodes
   pub fit : Fit (problem_of p) (length p.raw.nodes) pools
   pub inside : InBox S (node_at (problem_of p) m).low (node_at (problem_of p) m).high state
   pub ready : AreReady started suits p starts
 
 -- a stage problem of the node m over these pools, at some values and state
-pub record IsStageOver (p : Sealed) (pools : List (List Cut)) (m : ℕ) (lp : StageLp) : Type 0 where
+pub record IsStageOver (p : Sealed) (pools : List (List Cut)) (m : ℕ) (lp : Program) : Type 0 where
   pub values : List ℤ
   pub state : List ℤ
   pub is : stage_in p pools m values state ≡ Some lp

@@ -71,7 +71,7 @@ impl<'a, V: Solver> Visit<'a, V> {
         alloc: Global,
         spare: &mut SpareRows,
         values: &[i64],
-    ) -> Result<StageLp, Memory>
+    ) -> Result<StageLp<'a>, Memory>
         requires visit { CanVisit (V.started self.now.solver.now) (V.suits self.now.solver.now) self.now.problem.now self.now.starts.now.items self.now.pools.now.lists self.now.node self.now.state.now }
         requires values { are_values (subproblem_of self.now.problem.now self.now.node) values.now ≡ true }
         ensures stage { IfOk result (IsStageOver self.now.problem.now self.now.pools.now.lists self.now.node) }

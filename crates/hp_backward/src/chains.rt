@@ -5,7 +5,7 @@ ghost use Rattle.hp_problem.specs.Limits.{are_values};
 ghost use Rattle.hp_problem.specs.Sealed.{subproblem_of};
 ghost use Rattle.hp_theory.specs.Problem.{node_at};
 ghost use Rattle.hp_theory.specs.View.{problem_of};
-ghost use Rattle.hp_solver.specs.declared.stage_lp.StageLp.{StageLp};
+ghost use Rattle.hp_solver.specs.declared.programs.Program.{Program};
 ghost use Rattle.hp_solver.specs.Proper.{IsLike};
 ghost use Rattle.hp_solver.specs.Chains.{answers};
 ghost use Rattle.hp_lp.specs.Chained.{stage_at, solving};
@@ -34,7 +34,7 @@ fn certify_in_chain<V: Solver>(
     requires values { All (λ own. are_values (subproblem_of here.now.problem.now here.now.node) own ≡ true) values.now }
     requires few { length values.now ≤ 100 }
     requires stage { IsStageOver here.now.problem.now here.now.pools.now.lists here.now.node lp.old }
-    requires fits { (other : StageLp) → IsLike lp.old other → V.fits here.now.solver.now chain other }
+    requires fits { (other : Program) → IsLike lp.old other → V.fits here.now.solver.now chain other }
     ensures stage { OnOk result (IsStageOver here.now.problem.now here.now.pools.now.lists here.now.node lp.new) }
     ensures value { GivesOr Stops (λ found. found) result
         (certify_all (certify here.now.pools.now.lists (node_at (problem_of here.now.problem.now) here.now.node) here.now.iteration here.now.node here.now.state.now) nothing values.now

@@ -18,9 +18,9 @@ use Rattle.hp_theory.specs.declared.cut.Cut.{Cut}
 use Rattle.hp_theory.specs.Pools.{pool}
 use Rattle.hp_theory.proofs.SealedParts.{parts, linked}
 use Rattle.hp_solver.specs.declared.fixed.Fx.{Fx}
-use Rattle.hp_solver.specs.declared.stage_lp.Column.{Column}
-use Rattle.hp_solver.specs.declared.stage_lp.LpRow.{LpRow}
-use Rattle.hp_solver.specs.declared.stage_lp.StageLp.{StageLp}
+use Rattle.hp_solver.specs.declared.programs.Column.{Column}
+use Rattle.hp_solver.specs.declared.programs.LpRow.{LpRow}
+use Rattle.hp_solver.specs.declared.programs.Program.{Program}
 use Rattle.hp_solver.specs.Proper.{IsProper, IsIdle, IsReference, Extends, IsLike, terms_of}
 use Rattle.hp_lp.specs.Stage.{decision_column, future_column, future_columns, own_row, cut_rows, stage_of}
 use Rattle.hp_lp.specs.Nodes.{Stands, stage_in, idle_column, quarters, reference_of, reference_in}
@@ -32,8 +32,8 @@ pub if_ok : {A E : Type 0} (r : Result A E) (P Q : A → Type 0) → ((x : A) �
 if_ok (Ok x) P Q f h = f x h
 if_ok (Err e) P Q f h = h
 
-pub some_same : (x y : StageLp) → Some x ≡ Some y → x ≡ y
-some_same x y e = ap (λ (o : Option StageLp). unwrap_or o x) e
+pub some_same : (x y : Program) → Some x ≡ Some y → x ≡ y
+some_same x y e = ap (λ (o : Option Program). unwrap_or o x) e
 
 -- the fronts and the ends of lists
 front : {A B : Type 0} (f : A → B) (xs : List A) (rest : List B) → take (length xs) (map f xs ++ rest) ≡ map f xs
@@ -128,7 +128,7 @@ module _ {p : Sealed} {m : ℕ} {n : Node} {s : Subproblem} (t : Stands p m n s)
       ap (λ (o : Option Node). option_and_then (λ (k : Node). option_map (λ (u : Subproblem). stage_of pools k u v x) (slice_get p.raw.subs k.sub)) o) t.the_node
       ∙ ap (λ (o : Option Subproblem). option_map (λ (u : Subproblem). stage_of pools n u v x) o) subproblem_there
 
-  pub stage_is : (pools : List (List Cut)) (v x : List ℤ) (lp : StageLp) → stage_in p pools m v x ≡ Some lp → lp ≡ stage_of pools n s v x
+  pub stage_is : (pools : List (List Cut)) (v x : List ℤ) (lp : Program) → stage_in p pools m v x ≡ Some lp → lp ≡ stage_of pools n s v x
   stage_is pools v x lp is = some_same lp (stage_of pools n s v x) (sym is ∙ stage_in-is pools v x)
 
   pub proper-stage : (pools : List (List Cut)) (v x : List ℤ) → IsProper (stage_of pools n s v x)
@@ -147,29 +147,33 @@ module _ {p : Sealed} {m : ℕ} {n : Node} {s : Subproblem} (t : Stands p m n s)
       ap (λ (o : Option Node). option_and_then (λ (k : Node). option_map (λ (u : Subproblem). reference_of k u (get_or p.lo m []) (get_or p.hi m [])) (slice_get p.raw.subs k.sub)) o) t.the_node
       ∙ ap (λ (o : Option Subproblem). option_map (λ (u : Subproblem). reference_of n u (get_or p.lo m []) (get_or p.hi m [])) o) subproblem_there
 
-  pub reference_is : (lp : StageLp) → reference_in p m ≡ Some lp → lp ≡ reference_of n s (get_or p.lo m []) (get_or p.hi m [])
+  pub reference_is : (lp : Program) → reference_in p m ≡ Some lp → lp ≡ reference_of n s (get_or p.lo m []) (get_or p.hi m [])
   reference_is lp is = some_same lp (reference_of n s (get_or p.lo m []) (get_or p.hi m [])) (sym is ∙ reference_in-is)
 
-  pub like-stages : (pools : List (List Cut)) (v x w y : List ℤ) (lp other : StageLp) → stage_in p pools m v x ≡ Some lp → stage_in p pools m w y ≡ Some other → IsLike lp other
+  pub like-stages : (pools : List (List Cut)) (v x w y : List ℤ) (lp other : Program) → stage_in p pools m v x ≡ Some lp → stage_in p pools m w y ≡ Some other → IsLike lp other
   like-stages pools v x w y lp other f g =
-      subst (λ (a : StageLp). IsLike a other) (sym (stage_is pools v x lp f)) (subst (λ (b : StageLp). IsLike (stage_of pools n s v x) b) (sym (stage_is pools w y other g)) (like-stage_of pools n s v x w y (proper-stage pools w y)))
+      subst (λ (a : Program). IsLike a other) (sym (stage_is pools v x lp f)) (subst (λ (b : Program). IsLike (stage_of pools n s v x) b) (sym (stage_is pools w y other g)) (like-stage_of pools n s v x w y (proper-stage pools w y)))
 
-  pub extends-stage : (pools : List (List Cut)) (v x : List ℤ) (lp r : StageLp) → reference_in p m ≡ Some r → stage_in p pools m v x ≡ Some lp → Extends r lp
+  pub extends-stage : (pools : List (List Cut)) (v x : List ℤ) (lp r : Program) → reference_in p m ≡ Some r → stage_in p pools m v x ≡ Some lp → Extends r lp
   extends-stage pools v x lp r f g =
       let b = boxed t in
-      subst (λ (a : StageLp). Extends a lp) (sym (reference_is r f))
-      (subst (λ (c : StageLp). Extends (reference_of n s (get_or p.lo m []) (get_or p.hi m [])) c) (sym (stage_is pools v x lp g))
+      subst (λ (a : Program). Extends a lp) (sym (reference_is r f))
+      (subst (λ (c : Program). Extends (reference_of n s (get_or p.lo m []) (get_or p.hi m [])) c) (sym (stage_is pools v x lp g))
       (extends-stage_of pools n s (get_or p.lo m []) (get_or p.hi m []) v x (linked n (length p.raw.nodes) b.fit.links).1 (proper-stage pools v x)))
 
 -- a stage problem with the sides of other values and another state
-pub restated : (pools : List (List Cut)) (n : Node) (s : Subproblem) (v x w y : List ℤ) (old : StageLp) (rows : List LpRow) → old ≡ stage_of pools n s v x → rows ≡ map (own_row w y) s.rows ++ cut_rows s pools (length s.decisions) n.links
+pub restated : (pools : List (List Cut)) (n : Node) (s : Subproblem) (v x w y : List ℤ) (old : Program) (rows : List LpRow) → old ≡ stage_of pools n s v x → rows ≡ map (own_row w y) s.rows ++ cut_rows s pools (length s.decisions) n.links
     → record { columns = old.columns; rows = rows; decisions = old.decisions; own = old.own } ≡ stage_of pools n s w y
 unfolding stage_of
-restated pools n s v x w y old rows e f = ap₂ (λ (lp : StageLp) (rs : List LpRow). record { columns = lp.columns; rows = rs; decisions = lp.decisions; own = lp.own }) e f
+restated pools n s v x w y old rows e f = ap₂ (λ (lp : Program) (rs : List LpRow). record { columns = lp.columns; rows = rs; decisions = lp.decisions; own = lp.own }) e f
 
-pub rows-stage_of : (pools : List (List Cut)) (n : Node) (s : Subproblem) (v x : List ℤ) (old : StageLp) → old ≡ stage_of pools n s v x → old.rows ≡ map (own_row v x) s.rows ++ cut_rows s pools (length s.decisions) n.links
+pub rows-stage_of : (pools : List (List Cut)) (n : Node) (s : Subproblem) (v x : List ℤ) (old : Program) → old ≡ stage_of pools n s v x → old.rows ≡ map (own_row v x) s.rows ++ cut_rows s pools (length s.decisions) n.links
 unfolding stage_of
-rows-stage_of pools n s v x old e = ap (λ (lp : StageLp). lp.rows) e
+rows-stage_of pools n s v x old e = ap (λ (lp : Program). lp.rows) e
+
+pub own-stage_of : (pools : List (List Cut)) (n : Node) (s : Subproblem) (v x : List ℤ) (old : Program) → old ≡ stage_of pools n s v x → old.own ≡ length s.rows
+unfolding stage_of
+own-stage_of pools n s v x old e = ap (λ (lp : Program). lp.own) e
 
 -- the same of a node by its number
 record There (p : Sealed) (m : ℕ) : Type 0 where
@@ -186,13 +190,13 @@ there p m e h =
       stands = record { sealed = e; known = h; the_node = q.fit.the_node; the_subproblem = ap (λ (o : Option Node). option_and_then (λ (k : Node). slice_get p.raw.subs k.sub) o) q.fit.the_node ∙ q.fit.the_subproblem };
     }
 
-pub proper_sealed : (p : Sealed) → is_sealed p ≡ true → (m : ℕ) → m < length p.raw.nodes → (pools : List (List Cut)) (values state : List ℤ) (lp : StageLp) → stage_in p pools m values state ≡ Some lp → IsProper lp
+pub proper_sealed : (p : Sealed) → is_sealed p ≡ true → (m : ℕ) → m < length p.raw.nodes → (pools : List (List Cut)) (values state : List ℤ) (lp : Program) → stage_in p pools m values state ≡ Some lp → IsProper lp
 proper_sealed p e m h pools v x lp is =
     let t = (there p m e h).stands in
     subst IsProper (sym (stage_is t pools v x lp is)) (proper-stage t pools v x)
 
-pub like_sealed : (p : Sealed) → is_sealed p ≡ true → (m : ℕ) → m < length p.raw.nodes → (pools : List (List Cut)) (values state others next : List ℤ) (lp other : StageLp) → stage_in p pools m values state ≡ Some lp → stage_in p pools m others next ≡ Some other → IsLike lp other
+pub like_sealed : (p : Sealed) → is_sealed p ≡ true → (m : ℕ) → m < length p.raw.nodes → (pools : List (List Cut)) (values state others next : List ℤ) (lp other : Program) → stage_in p pools m values state ≡ Some lp → stage_in p pools m others next ≡ Some other → IsLike lp other
 like_sealed p e m h pools v x w y lp other f g = like-stages (there p m e h).stands pools v x w y lp other f g
 
-pub extends_sealed : (p : Sealed) → is_sealed p ≡ true → (m : ℕ) → m < length p.raw.nodes → (pools : List (List Cut)) (values state : List ℤ) (lp program : StageLp) → reference_in p m ≡ Some program → stage_in p pools m values state ≡ Some lp → Extends program lp
+pub extends_sealed : (p : Sealed) → is_sealed p ≡ true → (m : ℕ) → m < length p.raw.nodes → (pools : List (List Cut)) (values state : List ℤ) (lp program : Program) → reference_in p m ≡ Some program → stage_in p pools m values state ≡ Some lp → Extends program lp
 extends_sealed p e m h pools v x lp program f g = extends-stage (there p m e h).stands pools v x lp program f g

@@ -2,7 +2,9 @@ pub mod Worked
 pub mod Growing
 pub mod Terms
 pub mod Seams
+pub mod Restating
 pub mod OutSlopes
+pub mod ViewRows
 pub mod ProperStages
 pub mod SealedStages
 pub mod Alike

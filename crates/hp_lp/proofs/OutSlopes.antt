@@ -14,8 +14,8 @@ use Rattle.hp_problem.specs.Limits.{outs_differ}
 use Rattle.hp_theory.specs.declared.cut.Cut.{Cut}
 use Rattle.hp_theory.specs.Pools.{pool}
 use Rattle.hp_solver.specs.declared.fixed.Fx.{Fx}
-use Rattle.hp_solver.specs.declared.stage_lp.LpRow.{LpRow}
-use Rattle.hp_lp.specs.declared.cut_rows.Out.{Out}
+use Rattle.hp_solver.specs.declared.programs.LpRow.{LpRow}
+use Rattle.hp_solver.specs.declared.packed.Out.{Out}
 use Rattle.hp_lp.specs.Stage.{whole, scaled, term_of, cut_row, cut_rows}
 use Rattle.hp_lp.specs.Outs.{state_from, outs_at, outs_in_order, slope_of, row_over, rows_over}
 use Rattle.hp_lp.specs.Spans.{Spans, IsWithin}

@@ -22,8 +22,8 @@ use Rattle.hp_problem.specs.Limits.{decision_fits, sides_fit, term_fits, terms_f
 use Rattle.hp_theory.specs.declared.cut.Cut.{Cut}
 use Rattle.hp_theory.specs.Pools.{pool, no_cut}
 use Rattle.hp_solver.specs.declared.fixed.Fx.{Fx}
-use Rattle.hp_solver.specs.declared.stage_lp.Column.{Column}
-use Rattle.hp_solver.specs.declared.stage_lp.LpRow.{LpRow}
+use Rattle.hp_solver.specs.declared.programs.Column.{Column}
+use Rattle.hp_solver.specs.declared.programs.LpRow.{LpRow}
 use Rattle.hp_solver.specs.Proper.{AreRising, IsProper}
 use Rattle.hp_lp.specs.Stage.{whole, scaled, decision_column, at_low, at_high, least_value, greatest_value, most_from, future_column, future_columns, side_at, own_row, term_of, cut_row, cut_rows, stage_of}
 use Rattle.hp_lp.proofs.Terms.{term_facts}

@@ -1,5 +1,5 @@
 -- Lists whose front was made anew, one element after another.
-use Rattle.std.proofs.Common.{◌≡◌, ℕ, zero, suc, ◌<◌, List, [], ◌∷◌, ◌++◌, length, map, take, drop, get_or, set, refl, ap, sym, ◌∙◌, arith}
+use Rattle.std.proofs.Common.{◌≡◌, ℕ, zero, suc, ◌<◌, List, [], ◌∷◌, ◌++◌, length, map, take, drop, get_or, set, refl, ap, arith}
 
 module _ {A B : Type 0} (f g : A → B) where
   -- the next element, made anew
@@ -13,11 +13,3 @@ module _ {A B : Type 0} (f g : A → B) where
   next_is [] i d e rest h = absurd (omega arith)
   next_is (x ∷ xs) zero d e rest h = refl
   next_is (x ∷ xs) (suc i) d e rest h = next_is xs i d e rest (omega arith)
-
--- a list that was lent whole and written over by as many
-pub written : {A : Type 0} (old items : List A) → length items ≡ length old → take (length old) (items ++ drop (length items) old) ≡ items
-written old items e = ap (λ (n : ℕ). take (length old) (items ++ drop n old)) e ∙ ap (λ (n : ℕ). take n (items ++ drop (length old) old)) (sym e) ∙ start items (drop (length old) old)
-  where
-    start : {A : Type 0} (xs ys : List A) → take (length xs) (xs ++ ys) ≡ xs
-    start [] ys = refl
-    start (x ∷ xs) ys = ap (λ zs. x ∷ zs) (start xs ys)

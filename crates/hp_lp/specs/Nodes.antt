@@ -6,8 +6,8 @@ use Rattle.hp_problem.specs.declared.raw.Subproblem.{Subproblem}
 use Rattle.hp_problem.specs.Formulas.{successor_total}
 use Rattle.hp_problem.specs.Sealed.{Sealed, is_sealed, subproblem_of}
 use Rattle.hp_theory.specs.declared.cut.Cut.{Cut}
-use Rattle.hp_solver.specs.declared.stage_lp.Column.{Column}
-use Rattle.hp_solver.specs.declared.stage_lp.StageLp.{StageLp}
+use Rattle.hp_solver.specs.declared.programs.Column.{Column}
+use Rattle.hp_solver.specs.declared.programs.Program.{Program}
 use Rattle.hp_solver.specs.Numbers.{zero_fx}
 use Rattle.hp_lp.specs.Stage.{decision_column, own_row, stage_of}
 
@@ -19,15 +19,15 @@ pub record Stands (p : Sealed) (m : ℕ) (n : Node) (s : Subproblem) : Type 0 wh
   pub the_subproblem : subproblem_of p m ≡ Some s
 
 -- what is made of the node m and its subproblem
-abbrev pub at_node : Sealed → ℕ → (Node → Subproblem → StageLp) → Option StageLp
+abbrev pub at_node : Sealed → ℕ → (Node → Subproblem → Program) → Option Program
 at_node p m f = option_and_then (λ (n : Node). option_map (f n) (slice_get p.raw.subs n.sub)) (slice_get p.raw.nodes m)
 
 -- the stage problem of the node m over these pools, at these values and this state
-unfoldable pub stage_in : Sealed → List (List Cut) → ℕ → List ℤ → List ℤ → Option StageLp
+unfoldable pub stage_in : Sealed → List (List Cut) → ℕ → List ℤ → List ℤ → Option Program
 stage_in p pools m values state = at_node p m (λ n s. stage_of pools n s values state)
 
 -- a stage problem of the node m, over some pools at some values and state
-pub record IsStageAt (p : Sealed) (m : ℕ) (lp : StageLp) : Type 0 where
+pub record IsStageAt (p : Sealed) (m : ℕ) (lp : Program) : Type 0 where
   pub pools : List (List Cut)
   pub values : List ℤ
   pub state : List ℤ
@@ -45,7 +45,7 @@ abbrev pub quarters : List ℤ → List ℤ → List ℤ
 quarters low high = map quarter (zip low high)
 
 -- Reference: the stage problem without cuts, at the first realization's values and a state inside the box; the successors' columns stand idle
-unfoldable pub reference_of : Node → Subproblem → List ℤ → List ℤ → StageLp
+unfoldable pub reference_of : Node → Subproblem → List ℤ → List ℤ → Program
 reference_of n s low high = record {
   columns = map (decision_column (successor_total n.stop n.link_weights)) s.decisions ++ map (λ (m : ℕ). idle_column) n.links;
   rows = map (own_row (get_or n.values 0 []) (quarters low high)) s.rows;
@@ -54,5 +54,5 @@ reference_of n s low high = record {
 }
 
 -- the reference program of the node m
-unfoldable pub reference_in : Sealed → ℕ → Option StageLp
+unfoldable pub reference_in : Sealed → ℕ → Option Program
 reference_in p m = at_node p m (λ n s. reference_of n s (get_or p.lo m []) (get_or p.hi m []))

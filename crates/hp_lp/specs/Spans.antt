@@ -3,7 +3,7 @@ use Rattle.std.specs.Prelude.{◌≡◌, ℕ, ◌<◌, ◌≤◌, ◌^◌, ℤ, 
 use Rattle.hp_num.specs.Sums.{entry}
 use Rattle.hp_problem.specs.declared.raw.Subproblem.{Subproblem}
 use Rattle.hp_theory.specs.declared.cut.Cut.{Cut}
-use Rattle.hp_lp.specs.declared.cut_rows.Out.{Out}
+use Rattle.hp_solver.specs.declared.packed.Out.{Out}
 use Rattle.hp_lp.specs.Stage.{at_low, at_high}
 
 -- one slope per state, and no number nor product with an end of the box above 2^104

@@ -14,9 +14,9 @@ use Rattle.hp_problem.specs.Formulas.{successor_total}
 use Rattle.hp_theory.specs.declared.cut.Cut.{Cut}
 use Rattle.hp_theory.specs.Pools.{pool, no_cut}
 use Rattle.hp_solver.specs.declared.fixed.Fx.{Fx}
-use Rattle.hp_solver.specs.declared.stage_lp.Column.{Column}
-use Rattle.hp_solver.specs.declared.stage_lp.LpRow.{LpRow}
-use Rattle.hp_solver.specs.declared.stage_lp.StageLp.{StageLp}
+use Rattle.hp_solver.specs.declared.programs.Column.{Column}
+use Rattle.hp_solver.specs.declared.programs.LpRow.{LpRow}
+use Rattle.hp_solver.specs.declared.programs.Program.{Program}
 use Rattle.hp_solver.specs.Numbers.{number}
 
 -- a whole number, and a number at the scale of cuts
@@ -87,8 +87,8 @@ abbrev pub cut_rows : Subproblem → List (List Cut) → ℕ → List ℕ → Li
 cut_rows s pools column [] = []
 cut_rows s pools column (m ∷ ms) = map (cut_row s column) (pool pools m) ++ cut_rows s pools (suc column) ms
 
--- StageLp: the stage problem of a node with its subproblem, over these pools, at these values and this state
-unfoldable pub stage_of : List (List Cut) → Node → Subproblem → List ℤ → List ℤ → StageLp
+-- Program: the stage problem of a node with its subproblem, over these pools, at these values and this state
+unfoldable pub stage_of : List (List Cut) → Node → Subproblem → List ℤ → List ℤ → Program
 stage_of pools n s values state =
     record {
       columns = map (decision_column (successor_total n.stop n.link_weights)) s.decisions ++ future_columns s pools n.links n.link_weights;

@@ -33,7 +33,7 @@ pub(crate) fn decision_columns(
 ) -> Result<List<Column>, Memory>
     ensures { IfOk result (λ found. found ≡ map (decision_column weight) decisions.now) }
 {
-    let mut found = List::new(alloc);
+    let mut found = List::from_vec(Vec::with_capacity(alloc, decisions.len())?);
     for decision in decisions {
         found.push(decision_column(weight, decision))?;
     }

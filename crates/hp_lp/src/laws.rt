@@ -2,7 +2,7 @@
 ghost use Rattle.std.specs.Prelude.{◌≡◌, ◌<◌, ℕ, ℤ, true, List, length, Some};
 ghost use Rattle.hp_problem.specs.Sealed.{Sealed, is_sealed};
 ghost use Rattle.hp_theory.specs.declared.cut.Cut.{Cut};
-ghost use Rattle.hp_solver.specs.declared.stage_lp.StageLp.{StageLp};
+ghost use Rattle.hp_solver.specs.declared.programs.Program.{Program};
 ghost use Rattle.hp_solver.specs.Proper.{IsProper, Extends, IsLike};
 ghost use Rattle.hp_lp.specs.Nodes.{stage_in, reference_in};
 
@@ -11,14 +11,14 @@ ghost use Rattle.hp_lp.specs.Nodes.{stage_in, reference_in};
 /// the node's reference program.
 pub fn stages_of_a_node()
     ensures proper { (p : Sealed) → is_sealed p ≡ true → (m : ℕ) → m < length p.raw.nodes
-        → (pools : List (List Cut)) → (values state : List ℤ) → (lp : StageLp)
+        → (pools : List (List Cut)) → (values state : List ℤ) → (lp : Program)
         → stage_in p pools m values state ≡ Some lp → IsProper lp }
     ensures like { (p : Sealed) → is_sealed p ≡ true → (m : ℕ) → m < length p.raw.nodes
-        → (pools : List (List Cut)) → (values state others next : List ℤ) → (lp other : StageLp)
+        → (pools : List (List Cut)) → (values state others next : List ℤ) → (lp other : Program)
         → stage_in p pools m values state ≡ Some lp → stage_in p pools m others next ≡ Some other
         → IsLike lp other }
     ensures extends { (p : Sealed) → is_sealed p ≡ true → (m : ℕ) → m < length p.raw.nodes
-        → (pools : List (List Cut)) → (values state : List ℤ) → (lp program : StageLp)
+        → (pools : List (List Cut)) → (values state : List ℤ) → (lp program : Program)
         → reference_in p m ≡ Some program → stage_in p pools m values state ≡ Some lp
         → Extends program lp }
 {}

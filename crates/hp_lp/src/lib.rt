@@ -8,6 +8,7 @@ mod cut_values;
 pub mod laws;
 mod out_boxes;
 mod own_rows;
+mod packed_views;
 pub mod preparing;
 pub mod references;
 mod scales;

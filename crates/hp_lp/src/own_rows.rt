@@ -1,10 +1,11 @@
 // The node's own rows of a stage problem, whose sides go with the values and the state.
-ghost use Rattle.std.specs.Prelude.{◌≡◌, ◌≤◌, ◌^◌, ◌++◌, ℕ, ℤ, pos, ◌*ℤ◌, ◌-ℤ◌, List, true, length, map, nat_abs, All, IfOk, OnOk};
+ghost use Rattle.std.specs.Prelude.{◌≡◌, ◌<◌, ◌≤◌, ◌^◌, ◌++◌, ℕ, ℤ, pos, ◌*ℤ◌, ◌-ℤ◌, List, true, length, map, nat_abs, All, IfOk, OnOk};
 ghost use Rattle.std.specs.Option.{option_map};
 ghost use Rattle.hp_num.specs.Sums.{at_terms, entry};
 ghost use Rattle.hp_problem.specs.Limits.{terms_fit};
-ghost use Rattle.hp_solver.specs.declared.stage_lp.LpRow.{LpRow};
+ghost use Rattle.hp_solver.specs.declared.programs.LpRow.{LpRow};
 ghost use Rattle.hp_solver.specs.Numbers.{number};
+ghost use Rattle.hp_solver.specs.StageLps.{with_sides};
 ghost use Rattle.hp_lp.specs.Stage.{whole, side_at, own_row};
 ghost use Rattle.hp_lp.specs.Given.{AreGiven, IsOver};
 
@@ -14,7 +15,7 @@ use crate::written_rows::{RowParts, WrittenRows, cleared};
 use hp_num::{List, Memory};
 use hp_problem::Row;
 use hp_solver::fixed::ONE;
-use hp_solver::{Fx, LpRow};
+use hp_solver::{Fx, LpRow, StageLp};
 use std::alloc::Global;
 
 // The product of a factor and a number of a state.
@@ -187,27 +188,29 @@ pub(crate) fn push_own_rows(
     Ok(())
 }
 
-// Gives a row the sides of the values and the state.
-fn restate_row(row: &Row, values: &[i64], state: &[i128], found: &mut LpRow)
+// Gives own row i the sides of the values and the state.
+fn restate_row(row: &Row, values: &[i64], state: &[i128], i: usize, lp: &mut StageLp)
     requires given { AreGiven values.now state.now }
     requires over { IsOver (length state.now) (length values.now) row.now }
-    ensures { found.new ≡ record { low = option_map (side_at values.now state.now row.now) row.now.low; high = option_map (side_at values.now state.now row.now) row.now.high; terms = found.old.terms } }
+    requires own { i < lp.old.own }
+    ensures { lp.new ≡ with_sides i (option_map (side_at values.now state.now row.now) row.now.low) (option_map (side_at values.now state.now row.now) row.now.high) lp.old }
 {
     let Sides { low, high } = sides_at(row, values, state);
-    found.low = low;
-    found.high = high;
+    lp.set_sides(i, low, high);
 }
 
-/// Gives the first rows the sides of the values and the state; the others stay.
-pub(crate) fn restate_rows(rows: &[Row], values: &[i64], state: &[i128], found: &mut [LpRow])
+/// Gives the own rows of a stage problem the sides of the values and the state.
+pub(crate) fn restate_rows(rows: &[Row], values: &[i64], state: &[i128], lp: &mut StageLp)
     requires given { AreGiven values.now state.now }
     requires over { All (IsOver (length state.now) (length values.now)) rows.now }
-    requires count { length rows.now ≤ length found.old }
-    ensures count { length found.new ≡ length found.old }
-    ensures value { (before now : List ℤ) → (cuts : List LpRow) → found.old ≡ map (own_row before now) rows.now ++ cuts
-        → found.new ≡ map (own_row values.now state.now) rows.now ++ cuts }
+    requires own { length rows.now ≡ lp.old.own }
+    requires count { length rows.now ≤ length lp.old.rows }
+    ensures rest { lp.new ≡ record lp.old { rows = lp.new.rows } }
+    ensures count { length lp.new.rows ≡ length lp.old.rows }
+    ensures value { (before now : List ℤ) → (cuts : List LpRow) → lp.old.rows ≡ map (own_row before now) rows.now ++ cuts
+        → lp.new.rows ≡ map (own_row values.now state.now) rows.now ++ cuts }
 {
     for i in 0..rows.len() {
-        restate_row(&rows[i], values, state, &mut found[i]);
+        restate_row(&rows[i], values, state, i, lp);
     }
 }

@@ -13,7 +13,7 @@ use crate::stages::StageNode;
 use crate::written_rows::WrittenRows;
 use hp_num::{List, Memory};
 use hp_problem::Problem;
-use hp_solver::{Column, Fx, LpRow, StageLp};
+use hp_solver::{Column, Fx, LpRow, Program, StageLp};
 use std::alloc::Global;
 
 /// A quarter of the scale of states.
@@ -84,30 +84,30 @@ fn reference_rows(
 
 // The reference program of the node in a box.
 #[tactic(auto, unfolding(crate::specs::Nodes::reference_of))]
-fn reference_of(
+fn reference_of<'a>(
     alloc: Global,
     stage: &StageNode,
     low: &[i64],
     high: &[i64],
-) -> Result<StageLp, Memory>
+) -> Result<StageLp<'a>, Memory>
     requires weight { stage.now.weight ≡ successor_total stage.now.node.now.stop stage.now.node.now.link_weights }
     requires parts { HasReference stage.now.node.now stage.now.subproblem.now low.now high.now }
     ensures { IfOk result (λ lp. lp ≡ reference_of stage.now.node.now stage.now.subproblem.now low.now high.now) }
 {
     let mut columns = decision_columns(alloc, stage.weight, stage.subproblem.decisions.as_slice())?;
     push_idle_columns(&mut columns, stage.node.links.as_slice())?;
-    Ok(StageLp {
+    Ok(StageLp::of(Program {
         columns,
         rows: reference_rows(alloc, stage, low, high)?,
         decisions: stage.subproblem.decisions.len() as u32,
         own: stage.subproblem.rows.len() as u32,
-    })
+    }))
 }
 
 /// The reference program of a node, by which a solver makes ready for it: its stage problem without cuts, at the values
 /// of its first realization and the state a quarter of the way up its box. The columns of the successors stand at 0 and
 /// cost nothing. [`Memory`] where memory was refused.
-pub fn reference(alloc: Global, problem: &Problem, node: u32) -> Result<StageLp, Memory>
+pub fn reference<'a>(alloc: Global, problem: &Problem, node: u32) -> Result<StageLp<'a>, Memory>
     requires { node < length problem.now.raw.nodes }
     ensures value { IfOk result (λ lp. reference_in problem.now node ≡ Some lp) }
     ensures proper { IfOk result IsProper }

@@ -25,7 +25,7 @@ impl SpareRows {
 
     /// Keeps the rows of a stage problem that is done with, in place of those that came back before.
     pub fn give_back(&mut self, lp: StageLp) {
-        self.rows = lp.rows.into_vec();
+        self.rows = lp.into_rows().into_vec();
     }
 
     /// Takes the rows of the stage problem that came back last, none where they are taken already.

@@ -1,5 +1,5 @@
 // The stage problem of a node.
-ghost use Rattle.std.specs.Prelude.{◌≡◌, ◌<◌, ◌++◌, ℤ, true, List, length, map, Some, IfOk};
+ghost use Rattle.std.specs.Prelude.{◌≡◌, ◌<◌, ◌≤◌, ◌++◌, ℤ, true, List, length, map, Some, IfOk};
 ghost use Rattle.hp_problem.specs.Formulas.{successor_total};
 ghost use Rattle.hp_problem.specs.Limits.{are_values};
 ghost use Rattle.hp_problem.specs.Sealed.{subproblem_of};
@@ -8,6 +8,7 @@ ghost use Rattle.hp_theory.specs.Problem.{S, node_at};
 ghost use Rattle.hp_theory.specs.Tree.{InBox};
 ghost use Rattle.hp_theory.specs.View.{problem_of};
 ghost use Rattle.hp_theory.specs.declared.cut.Cut.{Cut};
+ghost use Rattle.hp_solver.specs.Packed.{rows_of, IsView};
 ghost use Rattle.hp_solver.specs.Proper.{IsProper, IsLike};
 ghost use Rattle.hp_lp.specs.Stage.{decision_column, future_columns, own_row, cut_rows, stage_of};
 ghost use Rattle.hp_lp.specs.Nodes.{Stands, stage_in, IsStageAt};
@@ -16,12 +17,13 @@ ghost use Rattle.hp_lp.specs.Given.{AreOf, AreWithin};
 use crate::columns::{decision_columns, push_future_columns};
 use crate::cut_rows::push_cut_rows;
 use crate::own_rows::{push_own_rows, restate_rows};
+use crate::packed_views::packed_view;
 use crate::spare_rows::SpareRows;
 use crate::written_rows::WrittenRows;
 use hp_cut::Pools;
 use hp_num::{List, Memory};
 use hp_problem::{Node, Problem, Subproblem};
-use hp_solver::{Column, LpRow, StageLp};
+use hp_solver::{Column, LpRow, PackedView, Program, StageLp};
 use std::alloc::Global;
 
 /// A node with its subproblem.
@@ -66,6 +68,29 @@ fn columns(alloc: Global, stage: &StageNode, pools: &Pools) -> Result<List<Colum
     Ok(found)
 }
 
+// The node's own rows.
+fn own_rows(
+    alloc: Global,
+    spare: &mut SpareRows,
+    stage: &StageNode,
+    values: &[i64],
+    state: &[i128],
+) -> Result<List<LpRow>, Memory>
+    requires { AreOf stage.now.subproblem.now values.now state.now }
+    ensures { IfOk result (λ found. found ≡ map (own_row values.now state.now) stage.now.subproblem.now.rows) }
+{
+    let mut found = WrittenRows::new(alloc, spare);
+    push_own_rows(
+        alloc,
+        spare,
+        &mut found,
+        stage.subproblem.rows.as_slice(),
+        values,
+        state,
+    )?;
+    Ok(found.into_list(spare))
+}
+
 // The node's own rows, and then the successors' cuts.
 fn rows(
     alloc: Global,
@@ -100,27 +125,81 @@ fn rows(
     Ok(found.into_list(spare))
 }
 
-// The stage problem of the node.
+// The columns with some rows, of which the first are the node's own.
+fn program(stage: &StageNode, columns: List<Column>, rows: List<LpRow>) -> Program
+    requires decisions { length stage.now.subproblem.now.decisions ≤ 200 }
+    requires own { length stage.now.subproblem.now.rows ≤ 200 }
+    ensures { result ≡ record { columns = columns; rows = rows; decisions = length stage.now.subproblem.now.decisions; own = length stage.now.subproblem.now.rows } }
+{
+    Program {
+        columns,
+        rows,
+        decisions: stage.subproblem.decisions.len() as u32,
+        own: stage.subproblem.rows.len() as u32,
+    }
+}
+
+// The stage problem of the node with its cuts as rows.
 #[tactic(auto, unfolding(crate::specs::Stage::stage_of))]
-fn stage_of(
+fn listed_stage<'a>(
     alloc: Global,
     spare: &mut SpareRows,
     stage: &StageNode,
     pools: &Pools,
     values: &[i64],
     state: &[i128],
-) -> Result<StageLp, Memory>
+) -> Result<StageLp<'a>, Memory>
     requires weight { stage.now.weight ≡ successor_total stage.now.node.now.stop stage.now.node.now.link_weights }
     requires within { AreWithin pools.now.lists stage.now.node.now stage.now.subproblem.now }
     requires given { AreOf stage.now.subproblem.now values.now state.now }
     ensures { IfOk result (λ lp. lp ≡ stage_of pools.now.lists stage.now.node.now stage.now.subproblem.now values.now state.now) }
 {
-    Ok(StageLp {
-        columns: columns(alloc, stage, pools)?,
-        rows: rows(alloc, spare, stage, pools, values, state)?,
-        decisions: stage.subproblem.decisions.len() as u32,
-        own: stage.subproblem.rows.len() as u32,
-    })
+    let columns = columns(alloc, stage, pools)?;
+    let rows = rows(alloc, spare, stage, pools, values, state)?;
+    Ok(StageLp::of(program(stage, columns, rows)))
+}
+
+// The stage problem of the node with its cuts side by side.
+#[tactic(auto, unfolding(crate::specs::Stage::stage_of))]
+fn packed_stage<'a>(
+    alloc: Global,
+    spare: &mut SpareRows,
+    stage: &StageNode,
+    pools: &Pools,
+    cuts: PackedView<'a>,
+    values: &[i64],
+    state: &[i128],
+) -> Result<StageLp<'a>, Memory>
+    requires weight { stage.now.weight ≡ successor_total stage.now.node.now.stop stage.now.node.now.link_weights }
+    requires within { AreWithin pools.now.lists stage.now.node.now stage.now.subproblem.now }
+    requires given { AreOf stage.now.subproblem.now values.now state.now }
+    requires cuts { rows_of cuts ≡ cut_rows stage.now.subproblem.now pools.now.lists (length stage.now.subproblem.now.decisions) stage.now.node.now.links }
+    requires view { IsView cuts }
+    ensures { IfOk result (λ lp. lp ≡ stage_of pools.now.lists stage.now.node.now stage.now.subproblem.now values.now state.now) }
+{
+    let columns = columns(alloc, stage, pools)?;
+    let rows = own_rows(alloc, spare, stage, values, state)?;
+    Ok(StageLp::with_cuts(program(stage, columns, rows), cuts))
+}
+
+// The stage problem of the node.
+fn stage_of<'a>(
+    alloc: Global,
+    spare: &mut SpareRows,
+    stage: &StageNode,
+    pools: &'a Pools,
+    values: &[i64],
+    state: &[i128],
+) -> Result<StageLp<'a>, Memory>
+    requires weight { stage.now.weight ≡ successor_total stage.now.node.now.stop stage.now.node.now.link_weights }
+    requires within { AreWithin pools.now.lists stage.now.node.now stage.now.subproblem.now }
+    requires given { AreOf stage.now.subproblem.now values.now state.now }
+    ensures { IfOk result (λ lp. lp ≡ stage_of pools.now.lists stage.now.node.now stage.now.subproblem.now values.now state.now) }
+{
+    match packed_view(alloc, stage, pools)? {
+        Some(cuts) => packed_stage(alloc, spare, stage, pools, cuts, values, state),
+        None => listed_stage(alloc, spare, stage, pools, values, state),
+    }
 }
 
 /// The stage problem of a node (Pereira and Pinto 1991): the cheapest decisions at these values and this state, with the
@@ -128,14 +207,14 @@ fn stage_of(
 ///
 /// There is one value per random variable of the node's subproblem, each at most 2^40 in absolute value, and the state,
 /// at scale 2^24, lies in the node's box.
-pub fn stage(
+pub fn stage<'a>(
     alloc: Global,
     problem: &Problem,
-    pools: &Pools,
+    pools: &'a Pools,
     node: u32,
     values: &[i64],
     state: &[i128],
-) -> Result<StageLp, Memory>
+) -> Result<StageLp<'a>, Memory>
     requires known { node < length problem.now.raw.nodes }
     requires fit { Fit (problem_of problem.now) (length problem.now.raw.nodes) pools.now.lists }
     requires values { are_values (subproblem_of problem.now node) values.now ≡ true }
@@ -149,15 +228,15 @@ pub fn stage(
 
 /// The stage problem of a node, as [`stage`] makes it, in the memory of rows that are spare; [`SpareRows::give_back`] makes
 /// them so again. [`Memory`] where memory was refused.
-pub fn stage_with(
+pub fn stage_with<'a>(
     alloc: Global,
     spare: &mut SpareRows,
     problem: &Problem,
-    pools: &Pools,
+    pools: &'a Pools,
     node: u32,
     values: &[i64],
     state: &[i128],
-) -> Result<StageLp, Memory>
+) -> Result<StageLp<'a>, Memory>
     requires known { node < length problem.now.raw.nodes }
     requires fit { Fit (problem_of problem.now) (length problem.now.raw.nodes) pools.now.lists }
     requires values { are_values (subproblem_of problem.now node) values.now ≡ true }
@@ -181,10 +260,5 @@ pub fn restate(problem: &Problem, node: u32, values: &[i64], state: &[i128], lp:
     ensures like { IsLike lp.old lp.new }
 {
     let stage = StageNode::of(problem, node);
-    restate_rows(
-        stage.subproblem.rows.as_slice(),
-        values,
-        state,
-        lp.rows.as_mut_slice(),
-    );
+    restate_rows(stage.subproblem.rows.as_slice(), values, state, lp);
 }

@@ -1,6 +1,6 @@
 // What a solver makes ready for the nodes of a problem.
 ghost use Rattle.std.specs.Prelude.{◌≡◌, ◌<◌, length, IfOk, Some, slice_get};
-ghost use Rattle.hp_solver.specs.declared.stage_lp.StageLp.{StageLp};
+ghost use Rattle.hp_solver.specs.declared.programs.Program.{Program};
 ghost use Rattle.hp_solver.specs.Proper.{IsLike};
 ghost use Rattle.hp_lp.specs.Nodes.{IsStageAt, reference_in};
 ghost use Rattle.hp_lp.specs.Ready.{AreReady};
@@ -51,9 +51,9 @@ impl<V: Solver> Starts<V> {
         requires known { node < length problem.now.raw.nodes }
         requires ready { AreReady (V.started solver.now) (V.suits solver.now) problem.now self.now.items }
         requires stage { IsStageAt problem.now node lp.now }
-        ensures made { (program : StageLp) → reference_in problem.now node ≡ Some program
+        ensures made { (program : Program) → reference_in problem.now node ≡ Some program
             → IfOk result (λ chain. chain ≡ V.begun solver.now (V.started solver.now program) lp.now) }
-        ensures fits { IfOk result (λ chain. (other : StageLp) → IsLike lp.now other → V.fits solver.now chain other) }
+        ensures fits { IfOk result (λ chain. (other : Program) → IsLike lp.now other → V.fits solver.now chain other) }
     {
         let _ = problem.raw();
         solver.begin(alloc, self.at(node), lp)

@@ -1,6 +1,6 @@
 // Rows that are written over those that are done with.
 ghost use Rattle.std.specs.Prelude.{◌≡◌, ◌≤◌, ◌∷◌, ◌++◌, [], length, take, IfOk, OnOk};
-ghost use Rattle.hp_solver.specs.declared.stage_lp.LpRow.{LpRow};
+ghost use Rattle.hp_solver.specs.declared.programs.LpRow.{LpRow};
 
 use crate::spare_rows::SpareRows;
 use hp_num::{List, Memory};
@@ -20,7 +20,7 @@ pub(crate) struct WrittenRows {
 
 impl Model for WrittenRows {
     ghost use Rattle.std.specs.Prelude.{List, length, take, ◌≤◌};
-    ghost use Rattle.hp_solver.specs.declared.stage_lp.LpRow.{LpRow};
+    ghost use Rattle.hp_solver.specs.declared.programs.LpRow.{LpRow};
 
     ghost Value = { List LpRow };
 

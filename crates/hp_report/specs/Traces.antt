@@ -8,8 +8,8 @@ use Rattle.hp_text.specs.Texts.{json_string}
 use Rattle.hp_theory.specs.declared.cut.Cut.{Cut}
 use Rattle.hp_theory.specs.Bound.{bound}
 use Rattle.hp_theory.specs.View.{problem_of}
-use Rattle.hp_solver.specs.declared.stage_lp.Kind.{Kind}
-use Rattle.hp_solver.specs.declared.stage_lp.Kind.TheVariants.{Found, Ray, Stuck}
+use Rattle.hp_solver.specs.declared.programs.Kind.{Kind}
+use Rattle.hp_solver.specs.declared.programs.Kind.TheVariants.{Found, Ray, Stuck}
 use Rattle.hp_forward.specs.declared.traces.Trace.{Trace}
 use Rattle.hp_forward.specs.declared.traces.TraceStep.{TraceStep}
 use Rattle.hp_report.specs.Lines.{numbered}

@@ -5,9 +5,9 @@ use Rattle.hp_problem.specs.Sealed.{Sealed, subproblem_of}
 use Rattle.hp_problem.specs.declared.raw.Subproblem.{Subproblem}
 use Rattle.hp_problem.specs.declared.raw.Node as nodes
 use Rattle.hp_solver.specs.declared.fixed.Fx.{Fx}
-use Rattle.hp_solver.specs.declared.stage_lp.Answer.{Answer}
-use Rattle.hp_solver.specs.declared.stage_lp.Kind.{Kind}
-use Rattle.hp_solver.specs.declared.stage_lp.Kind.TheVariants as kinds
+use Rattle.hp_solver.specs.declared.programs.Answer.{Answer}
+use Rattle.hp_solver.specs.declared.programs.Kind.{Kind}
+use Rattle.hp_solver.specs.declared.programs.Kind.TheVariants as kinds
 use Rattle.hp_theory.specs.Problem.{Node, node_at}
 use Rattle.hp_theory.specs.View.{problem_of}
 use Rattle.hp_theory.proofs.Views.{node_at-problem_of, rows-node_of}

@@ -17,7 +17,7 @@ use Rattle.hp_theory.specs.Certificates.{RightAt}
 use Rattle.hp_theory.proofs.SealedParts.{PartsFit, Parts, parts, parts_given, linked, links_known}
 use Rattle.hp_theory.proofs.SealedPremises.{leads-sealed, links-sealed}
 use Rattle.hp_solver.specs.declared.fixed.Fx.{Fx}
-use Rattle.hp_solver.specs.declared.stage_lp.Answer.{Answer}
+use Rattle.hp_solver.specs.declared.programs.Answer.{Answer}
 use Rattle.hp_dual.specs.Acceptance.{fault_of, range_fault}
 use Rattle.hp_settle.specs.Settling.{settled_rows, settled_links, settled_duals, used_duals, settled_of}
 use Rattle.hp_settle.proofs.SettledRight.{HasCuts, settled_used, settled_right, settled_fault}

@@ -11,9 +11,9 @@ use Rattle.hp_theory.specs.Pools.{pool}
 use Rattle.hp_theory.specs.Certificates.{SignRight, PairsRight, RightAt, Right}
 use Rattle.hp_theory.specs.Base.{base_certificate}
 use Rattle.hp_solver.specs.declared.fixed.Fx.{Fx}
-use Rattle.hp_solver.specs.declared.stage_lp.Answer.{Answer}
-use Rattle.hp_solver.specs.declared.stage_lp.Kind.{Kind}
-use Rattle.hp_solver.specs.declared.stage_lp.Kind.TheVariants.{Found, Ray, Stuck}
+use Rattle.hp_solver.specs.declared.programs.Answer.{Answer}
+use Rattle.hp_solver.specs.declared.programs.Kind.{Kind}
+use Rattle.hp_solver.specs.declared.programs.Kind.TheVariants.{Found, Ray, Stuck}
 use Rattle.hp_dual.specs.Acceptance.{fault_of, range_fault}
 use Rattle.hp_dual.proofs.Faultless.{right-range_fault}
 use Rattle.hp_settle.specs.Settling.{dual_at, clamped, rescaled, signed, finer, row_over, settled_rows, settled_pairs, settled_links, settled_duals, used_duals, settled_by, settled_of}

@@ -10,9 +10,9 @@ use Rattle.hp_theory.specs.Problem.{S, Link, Node}
 use Rattle.hp_theory.specs.Pools.{pool}
 use Rattle.hp_theory.specs.Base.{base_certificate}
 use Rattle.hp_solver.specs.declared.fixed.Fx.{Fx}
-use Rattle.hp_solver.specs.declared.stage_lp.Answer.{Answer}
-use Rattle.hp_solver.specs.declared.stage_lp.Kind.{Kind}
-use Rattle.hp_solver.specs.declared.stage_lp.Kind.TheVariants.{Found, Ray, Stuck}
+use Rattle.hp_solver.specs.declared.programs.Answer.{Answer}
+use Rattle.hp_solver.specs.declared.programs.Kind.{Kind}
+use Rattle.hp_solver.specs.declared.programs.Kind.TheVariants.{Found, Ray, Stuck}
 use Rattle.hp_solver.specs.Numbers.{zero_fx}
 use Rattle.hp_dual.specs.Acceptance.{is_sign}
 

@@ -1,6 +1,6 @@
 // The laws over the definitions. Each is the contract of a function with an empty body.
 ghost use Rattle.std.specs.Prelude.{◌≡◌, ◌<◌, true, ℕ, ℤ, List};
-ghost use Rattle.hp_solver.specs.declared.stage_lp.Answer.{Answer};
+ghost use Rattle.hp_solver.specs.declared.programs.Answer.{Answer};
 ghost use Rattle.hp_theory.specs.Problem.{Node};
 ghost use Rattle.hp_settle.specs.declared.judging.Judged.TheVariants.{Dead};
 ghost use Rattle.hp_settle.specs.Judging.{judge_of};

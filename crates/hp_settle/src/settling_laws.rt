@@ -1,7 +1,7 @@
 // What settled certificates are, whatever the answers, and settled duals that were worked out by hand.
 ghost use Rattle.std.specs.Prelude.{◌≡◌, ◌-◌, ◌^◌, ◌<◌, pos, negsuc, ℕ, true, List, [], ◌∷◌, length, map, All};
 ghost use Rattle.hp_solver.specs.Numbers.{number};
-ghost use Rattle.hp_solver.specs.declared.stage_lp.Answer.{Answer};
+ghost use Rattle.hp_solver.specs.declared.programs.Answer.{Answer};
 ghost use Rattle.hp_theory.specs.Problem.{Link, Node, node_at};
 ghost use Rattle.hp_theory.specs.View.{problem_of};
 ghost use Rattle.hp_theory.specs.Fit.{Fit};

@@ -18,7 +18,7 @@ use Rattle.hp_theory.specs.Pools.{pool}
 use Rattle.hp_theory.specs.View.{problem_of, links_of, realizations_of}
 use Rattle.hp_theory.proofs.SealedParts.{Parts, parts, linked, weighty}
 use Rattle.hp_theory.proofs.Views.{All-links_of, length-links_of, links-node_of, rows-node_of, realizations-node_of}
-use Rattle.hp_solver.specs.declared.stage_lp.Answer.{Answer}
+use Rattle.hp_solver.specs.declared.programs.Answer.{Answer}
 use Rattle.hp_settle.specs.declared.judging.Judged.{Judged}
 use Rattle.hp_settle.specs.declared.judging.Judged.TheVariants as judged
 use Rattle.hp_settle.specs.Judging.{judge_of}

@@ -12,7 +12,7 @@ use Rattle.hp_theory.specs.Problem.{S, Link, Node}
 use Rattle.hp_theory.specs.Pools.{pool}
 use Rattle.hp_theory.specs.Certificates.{Rising, multipliers, PairsRight, RightAt}
 use Rattle.hp_solver.specs.declared.fixed.Fx.{Fx}
-use Rattle.hp_solver.specs.declared.stage_lp.Answer.{Answer}
+use Rattle.hp_solver.specs.declared.programs.Answer.{Answer}
 use Rattle.hp_dual.specs.Acceptance.{is_sign}
 use Rattle.hp_settle.specs.Settling.{dual_at, clamped, rescaled, signed, settled_rows, settled_duals, used_duals, settled_of}
 use Rattle.hp_settle.proofs.SettledRight.{HasCuts, duals_right, settled_used}

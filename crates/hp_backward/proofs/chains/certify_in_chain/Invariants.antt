@@ -1,7 +1,7 @@
 use Rattle.std.proofs.Common.{◌≡◌, ◌≤◌, ℤ, List, map, drop}
 use Rattle.hp_theory.specs.Problem.{node_at}
 use Rattle.hp_theory.specs.View.{problem_of}
-use Rattle.hp_solver.specs.declared.stage_lp.StageLp.{StageLp}
+use Rattle.hp_solver.specs.declared.programs.Program.{Program}
 use Rattle.hp_solver.specs.Proper.{IsLike}
 use Rattle.hp_solver.specs.Chains.{answers}
 use Rattle.hp_lp.specs.Chained.{stage_at}
@@ -17,5 +17,5 @@ invariant-loop-own g l = record {
       (answers (g.V.Solver.next l.here.solver.now) l.fn.chain (map (λ (own : List ℤ). stage_at l.here.problem.now l.here.pools.now.lists l.here.node own l.here.state.now) l.values));
   few : l.found.unsettled ≤ l.own-index;
   stage : IsStageOver l.here.problem.now l.here.pools.now.lists l.here.node l.lp;
-  fits : (other : StageLp) → IsLike l.lp other → g.V.Solver.fits l.here.solver.now l.chain other;
+  fits : (other : Program) → IsLike l.lp other → g.V.Solver.fits l.here.solver.now l.chain other;
 }

@@ -2,7 +2,7 @@ use Rattle.std.proofs.Common.{◌∙◌, List, Some, ap, sym, subst}
 use Rattle.hp_num.specs.Steps.{GivesOr}
 use Rattle.hp_theory.specs.Problem.{node_at}
 use Rattle.hp_theory.specs.View.{problem_of}
-use Rattle.hp_solver.specs.declared.stage_lp.Answer.{Answer}
+use Rattle.hp_solver.specs.declared.programs.Answer.{Answer}
 use Rattle.hp_lp.proofs.Answering.{ready_program}
 use Rattle.hp_backward.specs.Certifying.{certify, certify_all, nothing}
 use Rattle.hp_backward.specs.Sweeping.{Stops}

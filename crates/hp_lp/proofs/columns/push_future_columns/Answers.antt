@@ -1,7 +1,7 @@
 use Rattle.std.proofs.Common.{◌<◌, ◌++◌, ◌∙◌, ℕ, List, length, map, zip, sym, ap, arith, take_all}
 use Rattle.std.proofs.lemmas.Slice.Zip.{get_or-zip, length-zip}
 use Rattle.hp_theory.specs.Pools.{pool}
-use Rattle.hp_solver.specs.declared.stage_lp.Column.{Column}
+use Rattle.hp_solver.specs.declared.programs.Column.{Column}
 use Rattle.hp_lp.specs.Stage.{future_column}
 use Rattle.hp_lp.proofs.Growing.{map_more}
 use Rattle.hp_lp.proofs.columns.push_future_columns.Goals as goal

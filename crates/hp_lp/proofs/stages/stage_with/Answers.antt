@@ -1,6 +1,6 @@
 use Rattle.std.proofs.Common.{◌≡◌, ◌∙◌, Some, List, ap, sym, subst}
 use Rattle.hp_theory.specs.declared.cut.Cut.{Cut}
-use Rattle.hp_solver.specs.declared.stage_lp.StageLp.{StageLp}
+use Rattle.hp_solver.specs.declared.programs.Program.{Program}
 use Rattle.hp_solver.specs.Proper.{IsProper}
 use Rattle.hp_lp.specs.Stage.{stage_of}
 use Rattle.hp_lp.specs.Nodes.{stage_in}
@@ -17,11 +17,11 @@ stage_of-requires-clause-given c = of-sealed c.args.values.now c.args.state.now 
 pub returns-clause-value : goal.returns-clause-value
 returns-clause-value c =
     let pools : List (List Cut) = c.args.pools.now.lists in
-    if_ok c.stage_of.result (λ (lp : StageLp). lp ≡ stage_of pools c.of-stage.result.node.now c.of-stage.result.subproblem.now c.args.values.now c.args.state.now) (λ (lp : StageLp). stage_in c.args.problem.now pools c.args.node c.args.values.now c.args.state.now ≡ Some lp)
+    if_ok c.stage_of.result (λ (lp : Program). lp ≡ stage_of pools c.of-stage.result.node.now c.of-stage.result.subproblem.now c.args.values.now c.args.state.now) (λ (lp : Program). stage_in c.args.problem.now pools c.args.node c.args.values.now c.args.state.now ≡ Some lp)
     (λ lp is. stage_in-is c.of-stage.ensures.stands pools c.args.values.now c.args.state.now ∙ ap Some (sym is)) c.stage_of.ensures
 
 pub returns-clause-proper : goal.returns-clause-proper
 returns-clause-proper c =
     let pools : List (List Cut) = c.args.pools.now.lists in
-    if_ok c.stage_of.result (λ (lp : StageLp). lp ≡ stage_of pools c.of-stage.result.node.now c.of-stage.result.subproblem.now c.args.values.now c.args.state.now) IsProper
+    if_ok c.stage_of.result (λ (lp : Program). lp ≡ stage_of pools c.of-stage.result.node.now c.of-stage.result.subproblem.now c.args.values.now c.args.state.now) IsProper
     (λ lp is. subst IsProper (sym is) (proper-stage c.of-stage.ensures.stands pools c.args.values.now c.args.state.now)) c.stage_of.ensures

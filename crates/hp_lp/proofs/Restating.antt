@@ -1,0 +1,42 @@
+-- Stage problems whose own rows get other sides, one after another.
+use Rattle.std.proofs.Common.{◌≡◌, ◌∙◌, ℕ, suc, ◌+◌, ◌<◌, ℤ, Option, List, ◌++◌, length, map, take, drop, get_or, set, ap, sym, arith}
+use Rattle.std.specs.Option.{option_map}
+use Rattle.std.proofs.lemmas.List.{length-set}
+use Rattle.hp_problem.specs.declared.raw.Row.{Row}
+use Rattle.hp_solver.specs.declared.fixed.Fx.{Fx}
+use Rattle.hp_solver.specs.declared.programs.LpRow.{LpRow}
+use Rattle.hp_solver.specs.declared.programs.Program.{Program}
+use Rattle.hp_solver.specs.StageLps.{no_row, with_sides}
+use Rattle.hp_lp.specs.Stage.{side_at, own_row}
+use Rattle.hp_lp.proofs.Seams.{set_next, next_is}
+
+module _ (lp new : Program) (i : ℕ) (low high : Option Fx) (is : new ≡ with_sides i low high lp) where
+  -- all but the rows stays
+  pub rest_stays : (first : Program) → lp ≡ record first { rows = lp.rows } → new ≡ record first { rows = new.rows }
+  rest_stays first e =
+      let rows : List LpRow = (with_sides i low high lp).rows in
+      is
+      ∙ ap (λ (p : Program). record p { rows = rows }) e
+      ∙ ap (λ (rs : List LpRow). record first { rows = rs }) (sym (ap (λ (p : Program). p.rows) is))
+
+  -- there are as many rows
+  pub count_stays : (first : Program) → length lp.rows ≡ length first.rows → length new.rows ≡ length first.rows
+  count_stays first e = ap (λ (p : Program). length p.rows) is ∙ length-set lp.rows i (record (get_or lp.rows i no_row) { low = low; high = high }) ∙ e
+
+-- one row more has its sides
+pub next_restated : (values state before now : List ℤ) (rows : List Row) (i : ℕ) (row : Row) (lp new : Program) (cuts : List LpRow) → i < length rows → row ≡ get_or rows i row
+    → new ≡ with_sides i (option_map (side_at values state row) row.low) (option_map (side_at values state row) row.high) lp
+    → lp.rows ≡ map (own_row values state) (take i rows) ++ (map (own_row before now) (drop i rows) ++ cuts)
+    → new.rows ≡ map (own_row values state) (take (i + 1) rows) ++ (map (own_row before now) (drop (i + 1) rows) ++ cuts)
+next_restated values state before now rows i row lp new cuts inside here is stood =
+    let former : List LpRow = map (own_row values state) (take i rows) ++ (map (own_row before now) (drop i rows) ++ cuts) in
+    let low : Option Fx = option_map (side_at values state row) row.low in
+    let high : Option Fx = option_map (side_at values state row) row.high in
+    let stands : get_or former i no_row ≡ own_row before now row = next_is (own_row values state) (own_row before now) rows i row no_row cuts inside ∙ ap (own_row before now) (sym here) in
+    let next : suc i ≡ i + 1 = omega arith in
+    ap (λ (p : Program). p.rows) is
+    ∙ ap (λ (rs : List LpRow). set rs i (record (get_or rs i no_row) { low = low; high = high })) stood
+    ∙ ap (λ (r : LpRow). set former i (record r { low = low; high = high })) stands
+    ∙ ap (λ (r : Row). set former i (own_row values state r)) here
+    ∙ set_next (own_row values state) (own_row before now) rows i row cuts inside
+    ∙ ap (λ (k : ℕ). map (own_row values state) (take k rows) ++ (map (own_row before now) (drop k rows) ++ cuts)) next

@@ -1,0 +1,54 @@
+// The cuts of a node's successors, side by side, as a stage problem sees them.
+ghost use Rattle.std.specs.Prelude.{◌≡◌, ◌<◌, ◌≤◌, length, map, All, IfOk, IfSome};
+ghost use Rattle.hp_theory.specs.Pools.{pool};
+ghost use Rattle.hp_cut.specs.FlatCuts.{packed_cut};
+ghost use Rattle.hp_solver.specs.Packed.{rows_of, IsView};
+ghost use Rattle.hp_lp.specs.Stage.{cut_rows};
+ghost use Rattle.hp_lp.specs.Given.{AreWithin};
+
+use crate::cut_rows::outs_in_order;
+use crate::stages::StageNode;
+use hp_cut::Pools;
+use hp_num::{List, Memory};
+use hp_solver::{PackedCuts, PackedView};
+use std::alloc::Global;
+
+// The cuts of some nodes side by side; none where the pools do not keep all of them.
+fn packed_cuts<'a>(
+    alloc: Global,
+    pools: &'a Pools,
+    links: &[u32],
+) -> Result<Option<List<PackedCuts<'a>>>, Memory>
+    requires { All (λ m. m < length pools.now.lists) links.now }
+    ensures { IfOk result (λ found. IfSome found (λ cuts. cuts ≡ map (λ m. map packed_cut (pool pools.now.lists m)) links.now)) }
+{
+    let mut found = List::from_vec(Vec::with_capacity(alloc, links.len())?);
+    for link in links {
+        match pools.packed(*link as usize) {
+            Some(cuts) => found.push(cuts)?,
+            None => return Ok(None),
+        }
+    }
+    Ok(Some(found))
+}
+
+/// The cuts of a node's successors side by side; none where the pools do not keep all of them. [`Memory`] where memory was
+/// refused.
+pub(crate) fn packed_view<'a>(
+    alloc: Global,
+    stage: &StageNode,
+    pools: &'a Pools,
+) -> Result<Option<PackedView<'a>>, Memory>
+    requires { AreWithin pools.now.lists stage.now.node.now stage.now.subproblem.now }
+    ensures cuts { IfOk result (λ found. IfSome found (λ v. rows_of v ≡ cut_rows stage.now.subproblem.now pools.now.lists (length stage.now.subproblem.now.decisions) stage.now.node.now.links)) }
+    ensures view { IfOk result (λ found. IfSome found IsView) }
+{
+    let Some(cuts) = packed_cuts(alloc, pools, stage.node.links.as_slice())? else {
+        return Ok(None);
+    };
+    Ok(Some(PackedView {
+        outs: outs_in_order(alloc, stage.subproblem)?,
+        first: stage.subproblem.decisions.len() as u32,
+        cuts,
+    }))
+}
