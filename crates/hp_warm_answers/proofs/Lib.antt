@@ -1,3 +1,4 @@
+pub mod Candidates
 pub mod Digits
 pub mod FarShifts
 pub mod Flips

@@ -1,12 +1,11 @@
 -- One step of a loop over results in order, of a fold, and of a list that is filled up.
-use Rattle.std.proofs.Common.{◌≡◌, ℕ, suc, ◌+◌, ◌-◌, ◌<◌, List, [], ◌∷◌, ◌++◌, length, get_or, drop, replicate, Option, Some, None, arith, ap, ap₂, add-one, sym, ◌∙◌}
+use Rattle.std.proofs.Common.{◌≡◌, ℕ, suc, ◌+◌, ◌-◌, ◌<◌, List, [], ◌∷◌, ◌++◌, length, get_or, drop, replicate, Option, Some, None, arith, ap, add-one, sym, ◌∙◌}
 use Rattle.std.specs.Option.{option_map, option_and_then}
 use Rattle.std.proofs.lemmas.List.{drop_more, append_assoc, length-append}
 use Rattle.hp_solver.specs.declared.fixed.Fx.{Fx}
 use Rattle.hp_solver.specs.Numbers.{zero_fx}
 use Rattle.hp_simplex.specs.Each.{each_from}
 use Rattle.hp_simplex.proofs.Each.{behind, behind_one}
-use Rattle.hp_warm_answers.specs.Folds.{fold_from}
 use Rattle.hp_warm_answers.specs.Padded.{padded}
 
 module _ {A B : Type 0} (f : ℕ → A → Option B) (whole : Option (List B)) (done : List B) (xs : List A) (k : ℕ) (d : A) where

@@ -1,9 +1,9 @@
 -- Worked tables, and what is answered by them.
 use Rattle.std.proofs.Common.{◌≡◌, ℕ, ◌^◌, ◌*◌, ℤ, pos, negsuc, neg_ℤ, Bool, true, false, List, [], ◌∷◌, replicate, Option, Some, None, refl}
 use lib.Count.{count_leading_zeros}
-use Rattle.hp_solver.specs.declared.stage_lp.Column.{Column}
-use Rattle.hp_solver.specs.declared.stage_lp.StageLp.{StageLp}
-use Rattle.hp_solver.specs.declared.stage_lp.Kind.TheVariants as kinds
+use Rattle.hp_solver.specs.declared.programs.Column.{Column}
+use Rattle.hp_solver.specs.declared.programs.Program.{Program}
+use Rattle.hp_solver.specs.declared.programs.Kind.TheVariants as kinds
 use Rattle.hp_solver.specs.Numbers.{number, zero_fx, one, plus, minus}
 use Rattle.hp_warm_table.specs.declared.table.Table.{Table}
 use Rattle.hp_warm_table.specs.Numbers.{shift_up, shift_down}
@@ -31,7 +31,7 @@ abbrev column : ℤ → ℤ → ℕ → Column
 column low high c = record { low = number low; high = number high; cost = number (units c) }
 
 -- boxes and costs [0, 3] 1; [0, 4] 2; [0, 9] 7; [-5, 5] 9; x0 + 2 x1 + x2 + x3 >= 12
-abbrev flips : StageLp
+abbrev flips : Program
 flips =
     record {
       columns = column (pos 0) (units 3) 1 ∷ column (pos 0) (units 4) 2 ∷ column (pos 0) (units 9) 7 ∷ column (minus_units 5) (units 5) 9 ∷ [];
@@ -152,7 +152,7 @@ unfolding plus minus side_of lowered whole_times lessened term_step row_step wei
 no_factor = refl
 
 -- x in [0, 3] and theta in [0, 100]; x >= 5; the cuts theta - x >= 1 and theta + x >= 2
-abbrev cut_off : StageLp
+abbrev cut_off : Program
 cut_off =
     record {
       columns = column (pos 0) (units 3) 0 ∷ column (pos 0) (units 100) 1 ∷ [];

@@ -1,9 +1,9 @@
 -- Worked multipliers, and what they prove.
 use Rattle.std.proofs.Common.{◌≡◌, ℕ, ◌^◌, ◌*◌, pos, negsuc, true, false, List, [], ◌∷◌, ◌++◌, map, Some, None, refl}
 use Rattle.hp_solver.specs.declared.fixed.Fx.{Fx}
-use Rattle.hp_solver.specs.declared.stage_lp.Column.{Column}
-use Rattle.hp_solver.specs.declared.stage_lp.LpRow.{LpRow}
-use Rattle.hp_solver.specs.declared.stage_lp.StageLp.{StageLp}
+use Rattle.hp_solver.specs.declared.programs.Column.{Column}
+use Rattle.hp_solver.specs.declared.programs.LpRow.{LpRow}
+use Rattle.hp_solver.specs.declared.programs.Program.{Program}
 use Rattle.hp_solver.specs.Numbers.{number, zero_fx, one, plus, minus}
 use Rattle.hp_warm_answers.specs.Proves.{side_of, clipped, lowered, whole_times, lessened, term_step, row_step, weights_of, side_step, box_step, excess_of, proves}
 
@@ -21,7 +21,7 @@ abbrev box : ℕ → ℕ → Column
 box low high = record { low = units low; high = units high; cost = zero_fx }
 
 -- boxes [0, top]; x0 + 3 x1 >= 20 and x0 + x1 <= 6
-abbrev pub crossed : ℕ → ℕ → StageLp
+abbrev pub crossed : ℕ → ℕ → Program
 crossed first second =
     record {
       columns = box 0 first ∷ box 0 second ∷ [];
@@ -59,7 +59,7 @@ unfolding plus minus side_of lowered whole_times lessened term_step row_step wei
 by_a_scale = refl
 
 -- rows of cuts are not looked at
-abbrev one_own : StageLp
+abbrev one_own : Program
 one_own = record (crossed 50 50) { own = 1 }
 
 first_alone : proves one_own (whole 1 ∷ below_zero 2 ∷ []) ≡ false
@@ -67,7 +67,7 @@ unfolding plus minus side_of lowered whole_times lessened term_step row_step wei
 first_alone = refl
 
 -- x >= 2^63, in a box up to 2^62
-abbrev far : StageLp
+abbrev far : Program
 far = record { columns = record { low = zero_fx; high = number (pos (2 ^ 94)); cost = zero_fx } ∷ []; rows = record { low = Some (number (pos (2 ^ 95))); high = None; terms = (0, one) ∷ [] } ∷ []; decisions = 1; own = 1 }
 
 -- the product is too long

@@ -3,11 +3,11 @@ use Rattle.std.specs.Prelude.{ℕ, ◌^◌, ◌+◌, ℤ, pos, ◌+ℤ◌, ◌-�
 use Rattle.std.specs.Option.{option_map, option_and_then}
 use Rattle.hp_num.specs.Sums.{entry, floor_over}
 use Rattle.hp_solver.specs.declared.fixed.Fx.{Fx}
-use Rattle.hp_solver.specs.declared.stage_lp.Column.{Column}
-use Rattle.hp_solver.specs.declared.stage_lp.LpRow.{LpRow}
-use Rattle.hp_solver.specs.declared.stage_lp.StageLp.{StageLp}
-use Rattle.hp_solver.specs.declared.stage_lp.Answer.{Answer}
-use Rattle.hp_solver.specs.declared.stage_lp.Kind.TheVariants as kinds
+use Rattle.hp_solver.specs.declared.programs.Column.{Column}
+use Rattle.hp_solver.specs.declared.programs.LpRow.{LpRow}
+use Rattle.hp_solver.specs.declared.programs.Program.{Program}
+use Rattle.hp_solver.specs.declared.programs.Answer.{Answer}
+use Rattle.hp_solver.specs.declared.programs.Kind.TheVariants as kinds
 use Rattle.hp_solver.specs.Numbers.{number, zero_fx, held}
 use Rattle.hp_warm_table.specs.declared.table.Table.{Table}
 use Rattle.hp_warm_table.specs.Numbers.{shift_of}
@@ -57,11 +57,11 @@ unfoldable pub dual_at : Table → ℕ → Option Fx
 dual_at t i = dual_by t i (place_of t (length t.costs + i))
 
 -- the value of each column
-unfoldable pub points_of : Table → StageLp → Option (List Fx)
+unfoldable pub points_of : Table → Program → Option (List Fx)
 points_of t lp = each_from (point_at t) 0 lp.columns
 
 -- the duals of the program's own rows
-abbrev pub own_duals : Table → StageLp → Option (List Fx)
+abbrev pub own_duals : Table → Program → Option (List Fx)
 own_duals t lp = each_from (λ i (r : LpRow). dual_at t i) 0 (own_rows lp)
 
 -- the duals, of which that of a row of the program is now the one of row i of the table
@@ -69,12 +69,12 @@ unfoldable pub dual_step : Table → ℕ → List Fx → ℕ → Option (List Fx
 dual_step t i ys row = option_map (λ y. slice_set ys row y) (dual_at t i)
 
 -- a dual for each row of the program: 0 for a cut without a row in the table
-unfoldable pub duals_of : Table → StageLp → Option (List Fx)
+unfoldable pub duals_of : Table → Program → Option (List Fx)
 duals_of t lp = option_and_then (λ ys. fold_from (dual_step t) lp.own (padded (length lp.rows) ys) t.cuts.rows) (own_duals t lp)
 
 abbrev pub found_with : List Fx → List Fx → Answer
 found_with point duals = record { kind = kinds.Found; point = point; duals = duals }
 
 -- none where a number on the way leaves 128 bits
-unfoldable pub found_of : Table → StageLp → Option Answer
+unfoldable pub found_of : Table → Program → Option Answer
 found_of t lp = option_and_then (λ point. option_map (found_with point) (duals_of t lp)) (points_of t lp)

@@ -1,3 +1,4 @@
+pub mod Candidates
 pub mod Enter
 pub mod Enters
 pub mod Finish

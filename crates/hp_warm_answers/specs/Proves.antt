@@ -1,18 +1,18 @@
--- What whole multipliers of own rows prove: that no point in the boxes of decisions keeps these rows (Farkas, 1902).
-use Rattle.std.specs.Prelude.{ℕ, zero, suc, ◌^◌, ◌*◌, ℤ, pos, ◌*ℤ◌, Bool, false, not, ◌&&◌, ◌||◌, List, length, take, replicate, get_or, slice_get, slice_set, Option, Some, None, int_lt, if◌then◌else◌}
+-- Tell what whole multipliers of own rows prove: that no point in the boxes of decisions keeps these rows (Farkas, 1902).
+use Rattle.std.specs.Prelude.{ℕ, zero, suc, ◌^◌, ◌*◌, pos, ◌*ℤ◌, Bool, false, not, ◌&&◌, ◌||◌, List, length, take, replicate, get_or, slice_get, slice_set, Option, Some, None, int_lt, if◌then◌else◌}
 use Rattle.std.specs.Option.{option_map, option_and_then}
 use Rattle.hp_num.specs.Sums.{floor_over}
 use Rattle.hp_solver.specs.declared.fixed.Fx.{Fx}
-use Rattle.hp_solver.specs.declared.stage_lp.Column.{Column}
-use Rattle.hp_solver.specs.declared.stage_lp.LpRow.{LpRow}
-use Rattle.hp_solver.specs.declared.stage_lp.StageLp.{StageLp}
+use Rattle.hp_solver.specs.declared.programs.Column.{Column}
+use Rattle.hp_solver.specs.declared.programs.LpRow.{LpRow}
+use Rattle.hp_solver.specs.declared.programs.Program.{Program}
 use Rattle.hp_solver.specs.Numbers.{number, zero_fx, held, plus, minus}
 use Rattle.hp_warm_answers.specs.Folds.{fold_from}
 
-abbrev pub own_rows : StageLp → List LpRow
+abbrev pub own_rows : Program → List LpRow
 own_rows lp = take lp.own lp.rows
 
-abbrev pub decisions_of : StageLp → List Column
+abbrev pub decisions_of : Program → List Column
 decisions_of lp = take lp.decisions lp.columns
 
 -- the side of a row that a multiplier speaks of: the low of a positive one, the high of a negative one
@@ -67,7 +67,7 @@ abbrev pub no_weights : List Column → List Fx
 no_weights columns = replicate (length columns) zero_fx
 
 -- w_j = - (the sum of the terms a_ij z_i), one subtraction at a time
-unfoldable pub weights_of : StageLp → List Fx → ℕ → Option (List Fx)
+unfoldable pub weights_of : Program → List Fx → ℕ → Option (List Fx)
 weights_of lp ys k = fold_from (row_step k ys) 0 (no_weights lp.columns) (own_rows lp)
 
 abbrev pub with_product : Fx → Fx → Option Fx → Option Fx
@@ -89,18 +89,18 @@ unfoldable pub box_step : List Fx → ℕ → Fx → Column → Option Fx
 box_step ws j s c = option_and_then (λ low. option_and_then (λ high. plus s (lesser low high)) (whole_times (number_at ws j) (lowered 8 c.high))) (whole_times (number_at ws j) (lowered 8 c.low))
 
 -- W: what the rows demand at the least, less what the decisions give at the most
-unfoldable pub excess_of : StageLp → List Fx → ℕ → Option Fx
+unfoldable pub excess_of : Program → List Fx → ℕ → Option Fx
 excess_of lp ys k = option_and_then (λ ws. option_and_then (λ s. fold_from (box_step ws) 0 s (decisions_of lp)) (fold_from (side_step k ys) 0 zero_fx (own_rows lp))) (weights_of lp ys k)
 
 abbrev pub is_above_zero : Option Fx → Bool
 is_above_zero None = false
 is_above_zero (Some w) = int_lt (pos 0) w.0
 
--- whether W is above 0 by one of so many scales, the first of which is 2^(4 n), and each 2^4 times the one before
-abbrev pub proves_from : StageLp → List Fx → ℕ → ℕ → Bool
+-- tell whether W is above 0 by one of so many scales, the first of which is 2^(4 n), and each 2^4 times the one before
+abbrev pub proves_from : Program → List Fx → ℕ → ℕ → Bool
 proves_from lp ys n zero = false
 proves_from lp ys n (suc count) = is_above_zero (excess_of lp ys (4 * n)) || proves_from lp ys (suc n) count
 
--- whether W is above 0 for a k of 0, 4, .., 56; not where a product or a sum on the way leaves 128 bits
-unfoldable pub proves : StageLp → List Fx → Bool
+-- tell whether W is above 0 for a k of 0, 4, .., 56; not where a product or a sum on the way leaves 128 bits
+unfoldable pub proves : Program → List Fx → Bool
 proves lp ys = proves_from lp ys 0 15

@@ -3,10 +3,10 @@ use Rattle.std.specs.Prelude.{ℕ, suc, ◌^◌, ◌+◌, ◌==◌, ℤ, pos, ne
 use Rattle.std.specs.Option.{option_map, option_and_then}
 use Rattle.hp_num.specs.Sums.{entry}
 use Rattle.hp_solver.specs.declared.fixed.Fx.{Fx}
-use Rattle.hp_solver.specs.declared.stage_lp.LpRow.{LpRow}
-use Rattle.hp_solver.specs.declared.stage_lp.StageLp.{StageLp}
-use Rattle.hp_solver.specs.declared.stage_lp.Answer.{Answer}
-use Rattle.hp_solver.specs.declared.stage_lp.Kind.TheVariants as kinds
+use Rattle.hp_solver.specs.declared.programs.LpRow.{LpRow}
+use Rattle.hp_solver.specs.declared.programs.Program.{Program}
+use Rattle.hp_solver.specs.declared.programs.Answer.{Answer}
+use Rattle.hp_solver.specs.declared.programs.Kind.TheVariants as kinds
 use Rattle.hp_solver.specs.Numbers.{number}
 use Rattle.hp_solver.specs.Answers.{lows_of}
 use Rattle.hp_warm_table.specs.declared.table.Table.{Table}
@@ -54,16 +54,16 @@ unfoldable pub ray_dual : Table → List ℤ → ℕ → Bool → ℤ → ℕ �
 ray_dual t line v above top i r = option_map (λ y. clipped r (number y)) (shift_of (factor_at t line v above i) ((entry t.scales.rows i +ℤ pos 60) -ℤ top))
 
 -- the duals of the own rows
-abbrev pub ray_duals : Table → List ℤ → ℕ → Bool → StageLp → ℤ → Option (List Fx)
+abbrev pub ray_duals : Table → List ℤ → ℕ → Bool → Program → ℤ → Option (List Fx)
 ray_duals t line v above lp top = each_from (ray_dual t line v above top) 0 (own_rows lp)
 
 -- with 0 for each row of a cut
-abbrev pub ray_with : StageLp → List Fx → Answer
+abbrev pub ray_with : Program → List Fx → Answer
 ray_with lp ys = record { kind = kinds.Ray; point = lows_of lp.columns; duals = padded (length lp.rows) ys }
 
-abbrev pub where_proved : StageLp → List Fx → Option Answer
+abbrev pub where_proved : Program → List Fx → Option Answer
 where_proved lp ys = if proves lp ys then Some (ray_with lp ys) else None
 
 -- the answer by these duals, where they prove that no point keeps all own rows
-unfoldable pub ray_of : Table → List ℤ → ℕ → Bool → StageLp → Option Answer
+unfoldable pub ray_of : Table → List ℤ → ℕ → Bool → Program → Option Answer
 ray_of t line v above lp = option_and_then (λ top. option_and_then (where_proved lp) (ray_duals t line v above lp top)) (top_of t line v above lp.own)

@@ -1,6 +1,6 @@
 // The answer by a table in which no bound is violated.
-ghost use Rattle.std.specs.Prelude.{◌≡◌, ◌<◌, ◌≤◌, ◌+◌, ◌-ℤ◌, pos, length, All, IfOk, IfSome, false};
-ghost use Rattle.hp_num.specs.Sums.{entry};
+ghost use Rattle.std.specs.Prelude.{◌≡◌, ◌<◌, ◌≤◌, ◌+◌, ◌^◌, ◌-ℤ◌, ◌*ℤ◌, pos, length, All, Some, IfOk, IfSome, false};
+ghost use Rattle.hp_num.specs.Sums.{entry, floor_over};
 ghost use Rattle.hp_warm_table.specs.Shape.{IsTable, variables};
 ghost use Rattle.hp_solver.specs.Numbers.{held};
 ghost use Rattle.hp_simplex.specs.Each.{each_from};
@@ -10,8 +10,8 @@ ghost use Rattle.hp_warm_answers.specs.Found.{place_of, rounded, clamped, basic_
 use crate::padding::padded;
 use crate::proving::own_rows;
 use crate::shifting::shift_by;
-use crate::whole::{sum, whole_product};
-use hp_num::{List, Memory, floor_div};
+use crate::whole::sum;
+use hp_num::{List, Memory};
 use hp_solver::{Answer, Column, Fx, Kind, LpRow, StageLp};
 use hp_warm_table::lists::with_room;
 use hp_warm_table::{Scales, Table};
@@ -36,13 +36,20 @@ pub(crate) fn slack_of(table: &Table, row: usize) -> usize
     table.basis.places.len() - table.rows.len() + row
 }
 
+// The greatest multiple of 2^8 that is not above a number: 128 bits hold it.
+fn multiple_below(x: i128) -> i128
+    ensures { held (floor_over x (2 ^ 8) *ℤ pos (2 ^ 8)) ≡ Some result }
+{
+    (x >> 8) * 256
+}
+
 // The nearest multiple of 2^8.
 #[tactic(auto, unfolding(crate::specs::Found::rounded))]
 fn rounded(x: i128) -> Option<i128>
     ensures { result ≡ rounded x }
 {
     let raised = sum(x, 128)?;
-    whole_product(floor_div(raised, 256), 256)
+    Some(multiple_below(raised))
 }
 
 /// A number in a column's box.
@@ -137,7 +144,7 @@ pub fn points(table: &Table, lp: &StageLp, found: &mut List<Fx>) -> Result<bool,
     requires columns { length lp.now.columns ≡ length table.now.costs }
     ensures { IfOk result (λ there. Reaches there (points_of table.now lp.now) found.new) }
 {
-    fill(table, lp.columns.as_slice(), found)
+    fill(table, lp.columns(), found)
 }
 
 // The dual of a row whose slack is at a place.
@@ -227,17 +234,12 @@ fn duals(alloc: Global, table: &Table, lp: &StageLp) -> Result<Option<List<Fx>>,
     requires cuts { All (λ row. row < length lp.now.rows) table.now.cuts.rows }
     ensures { IfOk result (λ found. found ≡ duals_of table.now lp.now) }
 {
-    let count = lp.rows.len();
+    let count = lp.row_count();
     let Some(own) = own_duals(alloc, table, own_rows(lp), count)? else {
         return Ok(None);
     };
     let mut duals = padded(own, count)?;
-    if set_duals(
-        &mut duals,
-        table,
-        lp.own as usize,
-        table.cuts.rows.as_slice(),
-    ) {
+    if set_duals(&mut duals, table, lp.own(), table.cuts.rows.as_slice()) {
         Ok(Some(duals))
     } else {
         Ok(None)
@@ -256,7 +258,7 @@ pub fn found(alloc: Global, table: &Table, lp: &StageLp) -> Result<Option<Answer
     requires cuts { All (λ row. row < length lp.now.rows) table.now.cuts.rows }
     ensures { IfOk result (λ answer. answer ≡ found_of table.now lp.now) }
 {
-    let mut point = with_room(alloc, lp.columns.len())?;
+    let mut point = with_room(alloc, lp.columns().len())?;
     if !points(table, lp, &mut point)? {
         return Ok(None);
     }

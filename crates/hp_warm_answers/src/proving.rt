@@ -1,4 +1,4 @@
-// Whether whole multipliers of own rows prove that no point in the boxes of decisions keeps these rows (Farkas, 1902).
+// Tell whether whole multipliers of own rows prove that no point in the boxes of decisions keeps these rows (Farkas, 1902).
 ghost use Rattle.std.specs.Prelude.{◌≡◌, ◌<◌, ◌≤◌, ◌*◌, take, length, IfOk, IfSome};
 ghost use Rattle.std.specs.Option.{option_and_then};
 ghost use Rattle.hp_solver.specs.Numbers.{zero_fx};
@@ -24,10 +24,10 @@ pub(crate) fn front<T>(items: &[T], count: usize) -> &[T]
 }
 
 // The program's own rows.
-pub(crate) fn own_rows(lp: &StageLp) -> &[LpRow]
+pub(crate) fn own_rows<'b>(lp: &'b StageLp) -> &'b [LpRow]
     ensures { result.now ≡ own_rows lp.now }
 {
-    front(lp.rows.as_slice(), lp.own as usize)
+    lp.own_rows()
 }
 
 // The side of a row that a multiplier speaks of.
@@ -195,7 +195,7 @@ fn side_step(sum: Fx, row: &LpRow, multipliers: &[Fx], number: usize, digits: u3
     with_row(sum, row, multiplier_at(row, multipliers, number, digits))
 }
 
-// What the rows demand at the least.
+// Finds what the rows demand at the least.
 fn demand(rows: &[LpRow], multipliers: &[Fx], digits: u32) -> Option<Fx>
     requires { digits ≤ 126 }
     ensures { result ≡ fold_from (side_step digits multipliers.now) 0 zero_fx rows.now }
@@ -235,13 +235,13 @@ fn with_boxes(sum: Fx, columns: &[Column], weights: &[Fx]) -> Option<Fx>
     Some(sum)
 }
 
-// What the rows demand at the least, less what the decisions give at the most.
+// Finds what the rows demand at the least, less what the decisions give at the most.
 fn excess(lp: &StageLp, multipliers: &[Fx], weights: &[Fx], digits: u32) -> Option<Fx>
     requires { digits ≤ 126 }
     ensures { result ≡ option_and_then (λ s. fold_from (box_step weights.now) 0 s (decisions_of lp.now)) (fold_from (side_step digits multipliers.now) 0 zero_fx (own_rows lp.now)) }
 {
     let sum = demand(own_rows(lp), multipliers, digits)?;
-    let decisions = front(lp.columns.as_slice(), lp.decisions as usize);
+    let decisions = front(lp.columns(), lp.decisions());
     with_boxes(sum, decisions, weights)
 }
 
@@ -254,13 +254,13 @@ fn is_above_zero(excess: Option<Fx>) -> bool
     }
 }
 
-// Whether multipliers, made smaller by so many digits, leave an excess.
+// Tells whether multipliers, made smaller by so many digits, leave an excess.
 #[tactic(auto, unfolding(crate::specs::Proves::excess_of, crate::specs::Proves::weights_of))]
 fn exceeds(alloc: Global, lp: &StageLp, multipliers: &[Fx], digits: u32) -> Result<bool, Memory>
     requires { digits ≤ 126 }
     ensures { IfOk result (λ found. found ≡ is_above_zero (excess_of lp.now multipliers.now digits)) }
 {
-    let mut weights = repeated(alloc, lp.columns.len(), Fx(0))?;
+    let mut weights = repeated(alloc, lp.columns().len(), Fx(0))?;
     if !take_rows(weights.as_mut_slice(), own_rows(lp), multipliers, digits) {
         return Ok(false);
     }
@@ -285,8 +285,8 @@ fn exceeds_by_one(
     Ok(false)
 }
 
-/// Whether multipliers of own rows prove that no point in the boxes of decisions keeps these rows (Farkas, 1902): what
-/// the rows demand at the least exceeds what the decisions give at the most. All numbers are taken as whole ones, the
+/// Tells whether multipliers of own rows prove that no point in the boxes of decisions keeps these rows (Farkas, 1902):
+/// what the rows demand at the least exceeds what the decisions give at the most. All numbers are taken as whole ones, the
 /// multipliers over 2^k and rounded down, for a k of 0, 4, .., 56. A k where a product or a sum on the way leaves 128
 /// bits does not count. A missing multiplier stands for 0, and so does one of a row without the side that it speaks of.
 /// [`Memory`] where memory was refused.

@@ -194,9 +194,9 @@ fn ray_duals(
     ensures value { IfOk result (λ found. found ≡ ray_duals table.now line.now variable above lp.now top) }
     ensures there { IfOk result (λ found. IsSome found) }
 {
-    let own = lp.own as usize;
+    let own = lp.own();
     let rows = own_rows(lp);
-    let mut found = with_room(alloc, lp.rows.len())?;
+    let mut found = with_room(alloc, lp.row_count())?;
     for i in 0..rows.len() {
         match ray_dual(table, line, variable, above, top, own, i, &rows[i]) {
             Some(dual) => found.push(dual)?,
@@ -216,7 +216,7 @@ fn where_proved(alloc: Global, lp: &StageLp, duals: List<Fx>) -> Result<Option<A
     Ok(Some(Answer {
         kind: Kind::Ray,
         point: lp.lows(alloc)?,
-        duals: padded(duals, lp.rows.len())?,
+        duals: padded(duals, lp.row_count())?,
     }))
 }
 
@@ -240,7 +240,7 @@ pub fn ray(
     ensures answer { IfOk result (λ answer. answer ≡ ray_of table.now line.now variable above lp.now) }
     ensures duals { OnOk result (IfSome (top_of table.now line.now variable above lp.now.own) (λ top. IsSome (ray_duals table.now line.now variable above lp.now top))) }
 {
-    let Some(top) = top_of(table, line, variable, above, lp.own as usize) else {
+    let Some(top) = top_of(table, line, variable, above, lp.own()) else {
         return Ok(None);
     };
     match ray_duals(alloc, table, line, variable, above, top, lp)? {

@@ -1,9 +1,9 @@
 -- The rows of tables, and the cuts that they are of.
 use Rattle.std.proofs.Common.{◌≡◌, ℕ, suc, ◌+◌, ℤ, ◌+ℤ◌, List, [], ◌∷◌, ◌++◌, length, length-append, drop, Option, Some, None, arith, refl, ap, sym, ◌∙◌}
 use Rattle.std.specs.Option.{option_map, option_and_then}
-use Rattle.hp_solver.specs.declared.stage_lp.Column.{Column}
-use Rattle.hp_solver.specs.declared.stage_lp.LpRow.{LpRow}
-use Rattle.hp_solver.specs.declared.stage_lp.StageLp.{StageLp}
+use Rattle.hp_solver.specs.declared.programs.Column.{Column}
+use Rattle.hp_solver.specs.declared.programs.LpRow.{LpRow}
+use Rattle.hp_solver.specs.declared.programs.Program.{Program}
 use Rattle.hp_warm_table.specs.declared.table.Cuts.{Cuts}
 use Rattle.hp_warm_table.specs.declared.table.Table.{Table}
 use Rattle.hp_simplex.proofs.Each.{map_some, some_same}
@@ -76,7 +76,7 @@ columns_rows (c ∷ cs) j t u h =
     let rest = columns_rows cs (suc j) a.0 u a.2 in
     record { rows = rest.rows ∙ one.rows; cuts = rest.cuts ∙ one.cuts }
 
-pub widened_rows : (lp : StageLp) (t u : Table) → widened_columns lp t ≡ Some u → HasRows t u
+pub widened_rows : (lp : Program) (t u : Table) → widened_columns lp t ≡ Some u → HasRows t u
 unfolding widened_columns rescaled
 widened_rows lp t u h =
     let successors : List Column = drop lp.decisions lp.columns in

@@ -1,7 +1,11 @@
 -- The columns and the exponents of cuts.
-use Rattle.std.proofs.Common.{ℕ, zero, suc, ◌-◌, ◌<◌, ℤ, pos, ◌≤ℤ◌, List, [], ◌∷◌, length, slice_get, slice_set, Option, Some, None, IfSome}
+use Rattle.std.proofs.Common.{◌≡◌, ℕ, zero, suc, ◌-◌, ◌<◌, ℤ, pos, ◌≤ℤ◌, List, [], ◌∷◌, length, take, slice_get, slice_set, Option, Some, None, IfSome, All, ap, sym, subst, ◌∙◌}
 use Rattle.std.specs.Option.{option_map}
-use Rattle.hp_solver.specs.Proper.{AreRising}
+use Rattle.std.proofs.lemmas.List.{length-take-le}
+use Rattle.std.proofs.lemmas.List.Elements.{All-take}
+use Rattle.hp_solver.specs.declared.programs.LpRow.{LpRow}
+use Rattle.hp_solver.specs.declared.programs.Program.{Program}
+use Rattle.hp_solver.specs.Proper.{AreRising, IsProper}
 use Rattle.hp_warm_scale.specs.Exponents.{Term, AreUpTo}
 use Rattle.hp_warm_scale.specs.Waiting.{last_column}
 
@@ -25,3 +29,12 @@ set_up_to most (f ∷ fs) zero x a b h zero = (a, b)
 set_up_to most (f ∷ fs) zero x a b h (suc j) = h (suc j)
 set_up_to most (f ∷ fs) (suc i) x a b h zero = h 0
 set_up_to most (f ∷ fs) (suc i) x a b h (suc j) = set_up_to most fs i x a b (λ k. h (suc k)) j
+
+-- the own rows of a program
+pub own_rising : (lp : Program) (own : List LpRow) (n : ℕ) → own ≡ take lp.own lp.rows → n ≡ length lp.columns → IsProper lp → All (λ (r : LpRow). AreRising 0 n r.terms) own
+own_rising lp own n e m p =
+    subst (λ (k : ℕ). All (λ (r : LpRow). AreRising 0 k r.terms) own) (sym m)
+    (subst (All (λ (r : LpRow). AreRising 0 (length lp.columns) r.terms)) (sym e) (All-take (λ (r : LpRow). AreRising 0 (length lp.columns) r.terms) lp.own lp.rows p.terms))
+
+pub own_count : (lp : Program) (own : List LpRow) → own ≡ take lp.own lp.rows → IsProper lp → length own ≡ lp.own
+own_count lp own e p = ap length e ∙ length-take-le lp.own lp.rows p.own

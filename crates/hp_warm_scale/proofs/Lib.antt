@@ -2,12 +2,15 @@ pub mod Between
 pub mod Coefficients
 pub mod Counts
 pub mod Cuts
+pub mod Digits
 pub mod Fitted
 pub mod Narrow
 pub mod Parts
 pub mod Passes
 pub mod Rising
 pub mod Shapes
+pub mod Standing
+pub mod Waits
 pub mod Walking
 pub mod Weights
 pub mod Worked

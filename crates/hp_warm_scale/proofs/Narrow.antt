@@ -1,8 +1,8 @@
 -- Cuts that wait are narrow.
 use Rattle.std.proofs.Common.{◌≡◌, ℕ, zero, suc, Bool, true, false, cond, List, [], ◌∷◌, map, drop, length, replicate, get_or, slice_set, Option, Some, None, All, refl}
 use Rattle.std.proofs.lemmas.List.Elements.{All-nil, All-cons}
-use Rattle.hp_solver.specs.declared.stage_lp.LpRow.{LpRow}
-use Rattle.hp_solver.specs.declared.stage_lp.StageLp.{StageLp}
+use Rattle.hp_solver.specs.declared.programs.LpRow.{LpRow}
+use Rattle.hp_solver.specs.declared.programs.Program.{Program}
 use Rattle.hp_warm_scale.specs.Walks.{walk}
 use Rattle.hp_warm_scale.specs.Exponents.{reach_of}
 use Rattle.hp_warm_scale.specs.Waiting.{last_column, is_narrow, closed, closed_by, successors_of, waiting_of, waits_in, waits}
@@ -51,7 +51,7 @@ narrow_all rs i ws (r ∷ cuts) =
     (narrow_one (is_narrow rs r) rs (suc i) ws cuts (last_column r.terms))
     (narrow_all rs (suc i) (closed_by rs ws r) cuts)
 
-pub waiting_narrow : (lp : StageLp) → AreNarrow lp (waiting_of lp)
+pub waiting_narrow : (lp : Program) → AreNarrow lp (waiting_of lp)
 unfolding waiting_of
 waiting_narrow lp = narrow_all (map reach_of lp.columns) 0 (successors_of lp.decisions (length lp.columns)) (drop lp.own lp.rows)
 
@@ -73,5 +73,5 @@ none_narrow n rs (r ∷ cuts) =
     (none_narrow n rs cuts)
 
 -- where no cut waits
-pub full_narrow : (lp : StageLp) (n : ℕ) → AreNarrow lp (replicate n false)
+pub full_narrow : (lp : Program) (n : ℕ) → AreNarrow lp (replicate n false)
 full_narrow lp n = none_narrow n (map reach_of lp.columns) (drop lp.own lp.rows)

@@ -2,9 +2,9 @@
 use Rattle.std.proofs.Common.{◌≡◌, ℕ, ◌≤◌, List, ◌++◌, length, length-append, take, take_all, drop, map, Option, None, cond, nat_lt, arith, ap, ap₂, ◌∙◌}
 use Rattle.std.specs.Option.{option_and_then}
 use Rattle.std.proofs.lemmas.List.{take_at, length-take-le, length-drop, length-map}
-use Rattle.hp_solver.specs.declared.stage_lp.Column.{Column}
-use Rattle.hp_solver.specs.declared.stage_lp.LpRow.{LpRow}
-use Rattle.hp_solver.specs.declared.stage_lp.StageLp.{StageLp}
+use Rattle.hp_solver.specs.declared.programs.Column.{Column}
+use Rattle.hp_solver.specs.declared.programs.LpRow.{LpRow}
+use Rattle.hp_solver.specs.declared.programs.Program.{Program}
 use Rattle.hp_warm_table.specs.declared.table.Table.{Table}
 use Rattle.hp_warm_scale.specs.Scaling.{columns_table}
 use Rattle.hp_warm_scale.specs.Appending.{appended}
@@ -13,7 +13,7 @@ use Rattle.hp_warm_scale.specs.First.{first_of, own_part, idle}
 abbrev by_parts : ℕ → List Column → List LpRow → Option Table
 by_parts n decisions rows = cond (nat_lt 1199 n) None (option_and_then (appended rows) (columns_table n decisions rows))
 
-pub first_of_own_part : (lp : StageLp) → lp.decisions ≤ length lp.columns → lp.own ≤ length lp.rows → first_of (own_part lp) ≡ first_of lp
+pub first_of_own_part : (lp : Program) → lp.decisions ≤ length lp.columns → lp.own ≤ length lp.rows → first_of (own_part lp) ≡ first_of lp
 unfolding first_of
 first_of_own_part lp d o =
     let front = take lp.decisions lp.columns in

@@ -2,8 +2,8 @@
 use Rattle.std.proofs.Common.{◌≡◌, ℕ, zero, suc, ◌+◌, ◌≤◌, ℤ, pos, ◌+ℤ◌, ◌-ℤ◌, ◌≤ℤ◌, Bool, true, false, cond, ◌&&◌, nat_lt, nat_le, List, [], ◌∷◌, map, get_or, slice_set, replicate, length, Option, Some, None, arith, refl, ap, ap₂, ◌∙◌, sym, subst}
 use Rattle.std.proofs.lemmas.Int.{ints, clamps}
 use Rattle.std.proofs.Math.ListN.{get_or-map}
-use Rattle.hp_solver.specs.declared.stage_lp.Column.{Column}
-use Rattle.hp_solver.specs.declared.stage_lp.LpRow.{LpRow}
+use Rattle.hp_solver.specs.declared.programs.Column.{Column}
+use Rattle.hp_solver.specs.declared.programs.LpRow.{LpRow}
 use Rattle.hp_warm_scale.specs.declared.spans.Span.{Span}
 use Rattle.hp_warm_table.specs.Numbers.{bits_of}
 use Rattle.hp_warm_scale.specs.Spans.{grown, span_of, AreBetween}

@@ -6,7 +6,7 @@ use Rattle.std.proofs.lemmas.List.Elements.{All-nil, All-cons, All-weaker}
 use Rattle.std.proofs.lemmas.Int.{ints, clamps, to_z-of_z}
 use mir.Syntax.{w32}
 use Rattle.hp_num.specs.Sums.{entry}
-use Rattle.hp_solver.specs.declared.stage_lp.Column.{Column}
+use Rattle.hp_solver.specs.declared.programs.Column.{Column}
 use Rattle.hp_warm_table.specs.Numbers.{bits_of}
 use Rattle.hp_warm_scale.specs.declared.spans.Span.{Span}
 use Rattle.hp_warm_scale.specs.Walks.{walk, count_from}

@@ -2,7 +2,7 @@
 use Rattle.std.proofs.Common.{◌≡◌, pos, negsuc, [], ◌∷◌, Some, None, true, false, refl}
 use Rattle.std.specs.Option.{option_map, option_and_then}
 use lib.Count.{count_leading_zeros}
-use Rattle.hp_solver.specs.declared.stage_lp.StageLp.{StageLp}
+use Rattle.hp_solver.specs.declared.programs.Program.{Program}
 use Rattle.hp_solver.specs.Numbers.{number}
 use Rattle.hp_warm_table.specs.declared.table.Table.{Table}
 use Rattle.hp_warm_table.specs.Numbers.{shift_up, shift_down}
@@ -14,7 +14,7 @@ use Rattle.hp_warm_scale.specs.Waiting.{is_narrow, waiting_of, waits}
 use Rattle.hp_warm_scale.specs.Widening.{top_of, cut_spans, rescaled, widened_columns, widened_by, widened, widened_in_full}
 
 -- x at least 3, at a cost of 2
-abbrev one_row : StageLp
+abbrev one_row : Program
 one_row =
     record {
       columns = record { low = number (pos 0); high = number (pos 42949672960); cost = number (pos 8589934592) } ∷ [];
@@ -36,7 +36,7 @@ unfolding with_row spans_of pass_of columns_of count_leading_zeros scaled_value 
 one_row_costs = refl
 
 -- a reservoir, a turbine and a plant
-abbrev stage : StageLp
+abbrev stage : Program
 stage =
     record {
       columns = record { low = number (pos 0); high = number (pos 42949672960); cost = number (pos 0) } ∷ record { low = number (pos 0); high = number (pos 34359738368); cost = number (pos 0) } ∷ record { low = number (pos 0); high = number (pos 85899345920); cost = number (pos 21474836480) } ∷ [];
@@ -54,7 +54,7 @@ unfolding with_row spans_of pass_of columns_of count_leading_zeros scaled_value 
 stage_costs = refl
 
 -- four columns in one row
-abbrev flips : StageLp
+abbrev flips : Program
 flips =
     record {
       columns = record { low = number (pos 0); high = number (pos 12884901888); cost = number (pos 4294967296) } ∷ record { low = number (pos 0); high = number (pos 17179869184); cost = number (pos 8589934592) } ∷ record { low = number (pos 0); high = number (pos 38654705664); cost = number (pos 30064771072) } ∷ record { low = number (negsuc 21474836479); high = number (pos 21474836480); cost = number (pos 38654705664) } ∷ [];
@@ -72,7 +72,7 @@ unfolding with_row spans_of pass_of columns_of count_leading_zeros scaled_value 
 flips_terms = refl
 
 -- a factor of 3
-abbrev thirds : StageLp
+abbrev thirds : Program
 thirds =
     record {
       columns = record { low = number (pos 0); high = number (pos 4294967296); cost = number (pos 4294967296) } ∷ [];
@@ -86,7 +86,7 @@ unfolding with_row spans_of pass_of columns_of count_leading_zeros scaled_value 
 thirds_terms = refl
 
 -- columns and rows of very different size
-abbrev steep : StageLp
+abbrev steep : Program
 steep =
     record {
       columns = record { low = number (pos 0); high = number (pos 429496729600); cost = number (pos 0) } ∷ record { low = number (pos 0); high = number (pos 128849018880); cost = number (pos 0) } ∷ record { low = number (pos 0); high = number (pos 214748364800); cost = number (pos 85899345920000) } ∷ record { low = number (pos 0); high = number (pos 4294967296000000000); cost = number (pos 4294967296) } ∷ [];
@@ -100,7 +100,7 @@ unfolding with_row spans_of pass_of columns_of count_leading_zeros scaled_value 
 steep_scales = refl
 
 -- a box that is wider than values may be
-abbrev tall : StageLp
+abbrev tall : Program
 tall =
     record {
       columns = record { low = number (pos 0); high = number (pos 4722366482869645213696); cost = number (pos 4294967296) } ∷ record { low = number (pos 0); high = number (pos 12884901888); cost = number (pos 21474836480) } ∷ [];
@@ -114,7 +114,7 @@ unfolding with_row spans_of pass_of columns_of count_leading_zeros scaled_value 
 tall_values = refl
 
 -- factors, bounds and costs below 0
-abbrev interval : StageLp
+abbrev interval : Program
 interval =
     record {
       columns = record { low = number (negsuc 30064771071); high = number (negsuc 8589934591); cost = number (pos 12884901888) } ∷ record { low = number (negsuc 42949672959); high = number (pos 42949672960); cost = number (negsuc 4294967295) } ∷ record { low = number (pos 0); high = number (pos 171798691840); cost = number (pos 21474836480) } ∷ [];
@@ -128,7 +128,7 @@ unfolding with_row spans_of pass_of columns_of count_leading_zeros scaled_value 
 interval_stands = refl
 
 -- exponents above 0
-abbrev runaway : StageLp
+abbrev runaway : Program
 runaway =
     record {
       columns = record { low = number (pos 920701512557196); high = number (pos 117507942678290262); cost = number (pos 245511287151066) } ∷ record { low = number (pos 335007449088); high = number (pos 4913442586624); cost = number (pos 0) } ∷ record { low = number (pos 8589934592); high = number (pos 357555071019325646); cost = number (pos 38376909770) } ∷ [];
@@ -142,7 +142,7 @@ unfolding with_row spans_of pass_of columns_of count_leading_zeros scaled_value 
 runaway_scales = refl
 
 -- a side that leaves the range of values
-abbrev too_large : StageLp
+abbrev too_large : Program
 too_large =
     record {
       columns = record { low = number (pos 0); high = number (pos 4294967296); cost = number (pos 4294967296) } ∷ record { low = number (pos 0); high = number (pos 4722366482869645213696); cost = number (pos 0) } ∷ [];
@@ -156,7 +156,7 @@ unfolding with_row spans_of pass_of columns_of count_leading_zeros scaled_value 
 no_table = refl
 
 -- two decisions, and a successor's column that stands at 0
-abbrev reference : StageLp
+abbrev reference : Program
 reference =
     record {
       columns = record { low = number (pos 0); high = number (pos 42949672960); cost = number (pos 0) } ∷ record { low = number (pos 0); high = number (pos 42949672960); cost = number (pos 12884901888) } ∷ record { low = number (pos 0); high = number (pos 0); cost = number (pos 0) } ∷ [];
@@ -170,7 +170,7 @@ unfolding with_row spans_of pass_of columns_of count_leading_zeros scaled_value 
 reference_scales = refl
 
 -- the same with its successor's cuts
-abbrev with_cuts : StageLp
+abbrev with_cuts : Program
 with_cuts =
     record {
       columns = record { low = number (pos 0); high = number (pos 42949672960); cost = number (pos 0) } ∷ record { low = number (pos 0); high = number (pos 42949672960); cost = number (pos 12884901888) } ∷ record { low = number (pos 0); high = number (pos 171798691840); cost = number (pos 4294967296) } ∷ [];
@@ -188,7 +188,7 @@ unfolding with_row spans_of pass_of columns_of count_leading_zeros scaled_value 
 cuts_costs = refl
 
 -- rows that are nearly parallel
-abbrev parallel : StageLp
+abbrev parallel : Program
 parallel =
     record {
       columns = record { low = number (negsuc 9223372036854775807); high = number (pos 9223372036854775808); cost = number (pos 4294967296) } ∷ record { low = number (negsuc 9223372036854775807); high = number (pos 9223372036854775808); cost = number (pos 4294967296) } ∷ record { low = number (negsuc 9223372036854775807); high = number (pos 9223372036854775808); cost = number (pos 4294967296) } ∷ record { low = number (negsuc 9223372036854775807); high = number (pos 9223372036854775808); cost = number (pos 4294967296) } ∷ [];
@@ -206,7 +206,7 @@ unfolding with_row spans_of pass_of columns_of count_leading_zeros scaled_value 
 parallel_values = refl
 
 -- a reservoir, a turbine and a plant, and a successor's column that stands at 0
-abbrev own_rows : StageLp
+abbrev own_rows : Program
 own_rows =
     record {
       columns = record { low = number (pos 0); high = number (pos 42949672960); cost = number (pos 0) } ∷ record { low = number (pos 0); high = number (pos 34359738368); cost = number (pos 0) } ∷ record { low = number (pos 0); high = number (pos 85899345920); cost = number (pos 21474836480) } ∷ record { low = number (pos 0); high = number (pos 0); cost = number (pos 0) } ∷ [];
@@ -216,7 +216,7 @@ own_rows =
     }
 
 -- the same with two cuts, of which one has no other term
-abbrev two_cuts : StageLp
+abbrev two_cuts : Program
 two_cuts =
     record {
       columns = record { low = number (pos 0); high = number (pos 42949672960); cost = number (pos 0) } ∷ record { low = number (pos 0); high = number (pos 34359738368); cost = number (pos 0) } ∷ record { low = number (pos 0); high = number (pos 85899345920); cost = number (pos 21474836480) } ∷ record { low = number (negsuc 214748364799); high = number (pos 429496729600); cost = number (pos 4294967296) } ∷ [];
@@ -230,7 +230,7 @@ unfolding with_row spans_of pass_of columns_of count_leading_zeros scaled_value 
 two_cuts_scales = refl
 
 -- two decisions, and two successors' columns that stand at 0
-abbrev two_idle : StageLp
+abbrev two_idle : Program
 two_idle =
     record {
       columns = record { low = number (pos 0); high = number (pos 42949672960); cost = number (pos 0) } ∷ record { low = number (pos 0); high = number (pos 42949672960); cost = number (pos 12884901888) } ∷ record { low = number (pos 0); high = number (pos 0); cost = number (pos 0) } ∷ record { low = number (pos 0); high = number (pos 0); cost = number (pos 0) } ∷ [];
@@ -240,7 +240,7 @@ two_idle =
     }
 
 -- the same with their cuts: those of the first wait, and a slope of 66 binary digits lets both of the second come in
-abbrev two_successors : StageLp
+abbrev two_successors : Program
 two_successors =
     record {
       columns = record { low = number (pos 0); high = number (pos 42949672960); cost = number (pos 0) } ∷ record { low = number (pos 0); high = number (pos 42949672960); cost = number (pos 12884901888) } ∷ record { low = number (pos 0); high = number (pos 171798691840); cost = number (pos 4294967296) } ∷ record { low = number (pos 0); high = number (pos 171798691840); cost = number (pos 536870912) } ∷ [];

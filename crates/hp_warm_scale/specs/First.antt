@@ -1,8 +1,8 @@
 -- The first table of a program.
 use Rattle.std.specs.Prelude.{◌++◌, length, map, take, drop, Option, None, nat_lt, if◌then◌else◌}
 use Rattle.std.specs.Option.{option_and_then}
-use Rattle.hp_solver.specs.declared.stage_lp.Column.{Column}
-use Rattle.hp_solver.specs.declared.stage_lp.StageLp.{StageLp}
+use Rattle.hp_solver.specs.declared.programs.Column.{Column}
+use Rattle.hp_solver.specs.declared.programs.Program.{Program}
 use Rattle.hp_solver.specs.Numbers.{zero_fx}
 use Rattle.hp_warm_table.specs.declared.table.Table.{Table}
 use Rattle.hp_warm_scale.specs.Scaling.{columns_table}
@@ -13,7 +13,7 @@ abbrev pub idle : Column → Column
 idle c = record { low = zero_fx; high = zero_fx; cost = zero_fx }
 
 -- a program without its cuts, whose columns from `decisions` on are idle
-abbrev pub own_part : StageLp → StageLp
+abbrev pub own_part : Program → Program
 own_part lp = record {
   columns = take lp.decisions lp.columns ++ map idle (drop lp.decisions lp.columns);
   rows = take lp.own lp.rows;
@@ -23,6 +23,6 @@ own_part lp = record {
 
 -- the first table of a program's own part: of its own rows, with its decisions, where the other columns stand at 0 and cost
 -- nothing. Absent where there are more than 1,199 columns, or where a number leaves its range
-unfoldable pub first_of : StageLp → Option Table
+unfoldable pub first_of : Program → Option Table
 first_of lp =
     if nat_lt 1199 (length lp.columns) then None else option_and_then (appended (take lp.own lp.rows)) (columns_table (length lp.columns) (take lp.decisions lp.columns) (take lp.own lp.rows))

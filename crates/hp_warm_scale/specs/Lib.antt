@@ -5,6 +5,7 @@ pub mod Fitting
 pub mod Scaling
 pub mod Spans
 pub mod Waiting
+pub mod Packed
 pub mod Walks
 pub mod Widening
 pub mod Whole

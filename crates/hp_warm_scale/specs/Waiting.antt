@@ -3,8 +3,8 @@ use Rattle.std.specs.Prelude.{ℕ, ◌-◌, Bool, true, false, ◌&&◌, List, �
 use Rattle.std.specs.List.{list_all}
 use Rattle.std.specs.Option.{option_map}
 use Rattle.hp_solver.specs.declared.fixed.Fx.{Fx}
-use Rattle.hp_solver.specs.declared.stage_lp.LpRow.{LpRow}
-use Rattle.hp_solver.specs.declared.stage_lp.StageLp.{StageLp}
+use Rattle.hp_solver.specs.declared.programs.LpRow.{LpRow}
+use Rattle.hp_solver.specs.declared.programs.Program.{Program}
 use Rattle.hp_warm_table.specs.Numbers.{bits_of}
 use Rattle.hp_warm_scale.specs.Walks.{walk}
 use Rattle.hp_warm_scale.specs.Exponents.{Term, reach_of}
@@ -47,7 +47,7 @@ abbrev pub successors_of : ℕ → ℕ → List Bool
 successors_of decisions n = replicate decisions false ++ replicate (n - decisions) true
 
 -- for each column whether it is a successor's, all of whose cuts are narrow
-unfoldable pub waiting_of : StageLp → List Bool
+unfoldable pub waiting_of : Program → List Bool
 waiting_of lp = all_closed (map reach_of lp.columns) (successors_of lp.decisions (length lp.columns)) (drop lp.own lp.rows)
 
 abbrev pub waits_in : List Bool → Option ℕ → Bool

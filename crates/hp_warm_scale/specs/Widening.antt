@@ -4,9 +4,9 @@ use Rattle.std.specs.Int.{int_max}
 use Rattle.std.specs.Ordering.{int_eq}
 use Rattle.std.specs.Option.{option_map, option_and_then}
 use Rattle.hp_num.specs.Sums.{floor_over}
-use Rattle.hp_solver.specs.declared.stage_lp.Column.{Column}
-use Rattle.hp_solver.specs.declared.stage_lp.LpRow.{LpRow}
-use Rattle.hp_solver.specs.declared.stage_lp.StageLp.{StageLp}
+use Rattle.hp_solver.specs.declared.programs.Column.{Column}
+use Rattle.hp_solver.specs.declared.programs.LpRow.{LpRow}
+use Rattle.hp_solver.specs.declared.programs.Program.{Program}
 use Rattle.hp_warm_table.specs.declared.table.Table.{Table}
 use Rattle.hp_warm_scale.specs.declared.spans.Span.{Span}
 use Rattle.hp_warm_scale.specs.Walks.{walk, run}
@@ -78,18 +78,18 @@ abbrev pub put_cuts : List Bool → ℕ → List LpRow → Table → Option Tabl
 put_cuts ws i cuts t = run (put_cut ws) i cuts t
 
 -- the table with scales, bounds and costs of successors' columns; absent where a number leaves its range
-unfoldable pub widened_columns : StageLp → Table → Option Table
+unfoldable pub widened_columns : Program → Table → Option Table
 widened_columns lp t = run column_step lp.decisions (drop lp.decisions lp.columns) (rescaled lp.decisions (drop lp.decisions lp.columns) (drop lp.own lp.rows) t)
 
 -- the table of a program that has successors' columns and cuts, from one of its own part, where the cuts in these columns
 -- wait; absent where a number leaves its range
-unfoldable pub widened_by : List Bool → StageLp → Table → Option Table
+unfoldable pub widened_by : List Bool → Program → Table → Option Table
 widened_by ws lp t = option_and_then (put_cuts ws lp.own (drop lp.own lp.rows)) (option_map (with_waiting ws) (widened_columns lp t))
 
 -- the same, where the cuts wait of which that can be asked
-unfoldable pub widened : StageLp → Table → Option Table
+unfoldable pub widened : Program → Table → Option Table
 widened lp t = widened_by (waiting_of lp) lp t
 
 -- the same, where no cut waits
-unfoldable pub widened_in_full : StageLp → Table → Option Table
+unfoldable pub widened_in_full : Program → Table → Option Table
 widened_in_full lp t = widened_by (replicate (length lp.columns) false) lp t

@@ -2,7 +2,7 @@
 ghost use Rattle.std.specs.Prelude.{◌≡◌, ℕ, ◌+◌, ◌+ℤ◌, ◌<◌, ◌≤◌, ◌≤ℤ◌, pos, negsuc, length, All, Some, true, false, IfOk, OnOk, IfSome};
 ghost use Rattle.hp_num.specs.Sums.{entry};
 ghost use Rattle.hp_solver.specs.Proper.{AreRising};
-ghost use Rattle.hp_solver.specs.declared.stage_lp.LpRow.{LpRow};
+ghost use Rattle.hp_solver.specs.declared.programs.LpRow.{LpRow};
 ghost use Rattle.hp_warm_table.specs.Shape.{IsTable};
 ghost use Rattle.hp_warm_table.specs.Shape as shape;
 ghost use Rattle.hp_warm_scale.specs.Walks.{Gives};

@@ -1,6 +1,6 @@
 // Exponents of two that bring the terms of rows near each other.
 ghost use Rattle.std.specs.Prelude.{◌≡◌, ◌+◌, ◌≤◌, ◌≤ℤ◌, ℕ, pos, negsuc, length, slice_index_or as get_or, map, replicate, IfOk, None};
-ghost use Rattle.hp_solver.specs.declared.stage_lp.Column.{Column};
+ghost use Rattle.hp_solver.specs.declared.programs.Column.{Column};
 ghost use Rattle.hp_num.specs.Sums.{entry};
 ghost use Rattle.hp_warm_scale.specs.Spans.{AreBetween, span_of};
 ghost use Rattle.hp_warm_scale.specs.Exponents.{reach_of, size_of, border_of, weight_of, row_weight_of, counted_weight, row_lift, with_term, with_terms, with_row, columns_of, spans_of, column_lift, pass_of, passes_of, AreUpTo, ReachUpTo, SpansBetween};
@@ -286,7 +286,7 @@ pub(crate) fn reaches(alloc: Global, columns: &[Column]) -> Result<List<u32>, Me
     ensures value { IfOk result (λ found. found ≡ map reach_of columns.now) }
     ensures small { IfOk result (λ found. ReachUpTo 128 found) }
 {
-    let mut found = List::new(alloc);
+    let mut found = List::from_vec(Vec::with_capacity(alloc, columns.len())?);
     for column in columns {
         found.push(reach(column))?;
     }

@@ -1,11 +1,11 @@
 // What the first table rests on.
 ghost use Rattle.std.specs.Prelude.{◌≡◌};
-ghost use Rattle.hp_solver.specs.declared.stage_lp.StageLp.{StageLp};
+ghost use Rattle.hp_solver.specs.declared.programs.Program.{Program};
 ghost use Rattle.hp_solver.specs.Proper.{IsProper};
 ghost use Rattle.hp_warm_scale.specs.First.{first_of, own_part};
 
 /// The first table of a program is that of the program without its cuts, in which the columns that
 /// belong to successors stand at 0 and cost nothing.
 pub fn first_of_own_part()
-    ensures { (lp : StageLp) → IsProper lp → first_of (own_part lp) ≡ first_of lp }
+    ensures { (lp : Program) → IsProper lp → first_of (own_part lp) ≡ first_of lp }
 {}

@@ -4,6 +4,7 @@
 pub mod appending;
 pub mod exponents;
 pub mod laws;
+pub mod packed;
 pub mod scaling;
 pub mod sides;
 pub mod spans;

@@ -107,7 +107,7 @@ pub fn set_sides(table: &mut Table, lp: &StageLp) -> bool
     ensures whole { IsTable table.new }
 {
     let first = table.costs.len();
-    let (own, _) = lp.rows.as_slice().split_at(lp.own as usize);
+    let own = lp.own_rows();
     set_all(
         &mut table.bounds,
         table.scales.rows.as_slice(),

@@ -246,12 +246,12 @@ pub fn first(alloc: Global, lp: &StageLp) -> Result<Option<Table>, Memory>
     ensures columns { IfOk result (λ table. IfSome table (λ t. length t.costs ≡ length lp.now.columns)) }
     ensures suits { IfOk result (λ table. IfSome table (λ t. Suits t lp.now)) }
 {
-    let count = lp.columns.len();
+    let count = lp.columns().len();
     if count > 1199 {
         return Ok(None);
     }
-    let (decisions, _) = lp.columns.as_slice().split_at(lp.decisions as usize);
-    let (own, _) = lp.rows.as_slice().split_at(lp.own as usize);
+    let (decisions, _) = lp.columns().split_at(lp.decisions());
+    let own = lp.own_rows();
     let Some(mut table) = columns_table(alloc, count, decisions, own)? else {
         return Ok(None);
     };

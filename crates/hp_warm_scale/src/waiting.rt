@@ -1,13 +1,15 @@
 // Cuts that wait until a point violates them.
-ghost use Rattle.std.specs.Prelude.{◌≡◌, ◌<◌, ◌≤◌, length, All, IfOk, IfSome};
+ghost use Rattle.std.specs.Prelude.{◌≡◌, ◌<◌, ◌≤◌, length, drop, All, IfOk, IfSome, OnOk};
 ghost use Rattle.std.specs.List.{list_all};
+ghost use Rattle.hp_solver.specs.Packed.{rows_of, IsView};
 ghost use Rattle.hp_solver.specs.Proper.{IsProper, AreRising};
-ghost use Rattle.hp_solver.specs.declared.stage_lp.LpRow.{LpRow};
+ghost use Rattle.hp_solver.specs.declared.programs.LpRow.{LpRow};
 ghost use Rattle.hp_warm_scale.specs.Waiting.{last_column, slopes_of, is_short, is_short_side, is_narrow, closed, closed_by, all_closed, successors_of, waiting_of, waits};
 
 use crate::exponents::{reach_at, reaches};
+use crate::packed::are_narrow;
 use hp_num::{List, Memory};
-use hp_solver::{Fx, LpRow, StageLp};
+use hp_solver::{Cuts, Fx, LpRow, PackedView, StageLp};
 use hp_warm_table::numbers::bits;
 use std::alloc::Global;
 
@@ -93,6 +95,51 @@ fn close_all(reaches: &[u32], waiting: &mut [bool], cuts: &[LpRow])
     }
 }
 
+// Where a cut is not narrow its successor's cuts do not wait; those that stand side by side are narrow in short columns.
+fn close_packed(
+    alloc: Global,
+    reaches: &[u32],
+    waiting: &mut [bool],
+    lp: &StageLp,
+    view: &PackedView,
+) -> Result<(), Memory>
+    requires proper { IsProper lp.now }
+    requires count { length waiting.old ≡ length lp.now.columns }
+    requires cuts { rows_of view.now ≡ drop lp.now.own lp.now.rows }
+    requires view { IsView view.now }
+    ensures value { OnOk result (waiting.new ≡ all_closed reaches.now waiting.old (drop lp.now.own lp.now.rows)) }
+    ensures count { length waiting.new ≡ length waiting.old }
+{
+    if are_narrow(reaches, view) {
+        return Ok(());
+    }
+    let program = lp.program(alloc)?;
+    let (_, cuts) = program.rows.as_slice().split_at(program.own as usize);
+    close_all(reaches, waiting, cuts);
+    Ok(())
+}
+
+// Where a cut of a program is not narrow its successor's cuts do not wait.
+fn close_by_cuts(
+    alloc: Global,
+    reaches: &[u32],
+    waiting: &mut [bool],
+    lp: &StageLp,
+) -> Result<(), Memory>
+    requires proper { IsProper lp.now }
+    requires count { length waiting.old ≡ length lp.now.columns }
+    ensures value { OnOk result (waiting.new ≡ all_closed reaches.now waiting.old (drop lp.now.own lp.now.rows)) }
+    ensures count { length waiting.new ≡ length waiting.old }
+{
+    match lp.cuts() {
+        Cuts::Listed(cuts) => {
+            close_all(reaches, waiting, cuts);
+            Ok(())
+        }
+        Cuts::Packed(view) => close_packed(alloc, reaches, waiting, lp, view),
+    }
+}
+
 // For each column whether it is a successor's.
 fn successors(alloc: Global, decisions: usize, count: usize) -> Result<List<bool>, Memory>
     requires { decisions ≤ count }
@@ -112,10 +159,9 @@ pub fn waiting(alloc: Global, lp: &StageLp) -> Result<List<bool>, Memory>
     ensures value { IfOk result (λ found. found ≡ waiting_of lp.now) }
     ensures count { IfOk result (λ found. length found ≡ length lp.now.columns) }
 {
-    let (_, cuts) = lp.rows.as_slice().split_at(lp.own as usize);
-    let reaches = reaches(alloc, lp.columns.as_slice())?;
-    let mut found = successors(alloc, lp.decisions as usize, lp.columns.len())?;
-    close_all(reaches.as_slice(), found.as_mut_slice(), cuts);
+    let reaches = reaches(alloc, lp.columns())?;
+    let mut found = successors(alloc, lp.decisions(), lp.columns().len())?;
+    close_by_cuts(alloc, reaches.as_slice(), found.as_mut_slice(), lp)?;
     Ok(found)
 }
 

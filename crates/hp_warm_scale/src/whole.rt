@@ -7,7 +7,7 @@ ghost use Rattle.hp_warm_scale.specs.Whole.{own_scales, all_scales, whole_scales
 
 use crate::exponents::columns;
 use crate::scaling::{costs_scale, values_scale};
-use crate::widening::{write_cut_spans, write_scales};
+use crate::widening::{write_scales, write_spans};
 use hp_num::{List, Memory};
 use hp_solver::StageLp;
 use hp_warm_table::Scales;
@@ -30,11 +30,10 @@ fn write_successors(
     ensures range { OnOk result (AreUpTo 1000 exponents.new) }
     ensures count { length exponents.new ≡ length exponents.old }
 {
-    let decisions = lp.decisions as usize;
-    let (_, successors) = lp.columns.as_slice().split_at(decisions);
-    let (_, cuts) = lp.rows.as_slice().split_at(lp.own as usize);
+    let decisions = lp.decisions();
+    let (_, successors) = lp.columns().split_at(decisions);
     let mut spans = repeated(alloc, exponents.len(), None)?;
-    write_cut_spans(decisions, exponents, spans.as_mut_slice(), cuts);
+    write_spans(alloc, exponents, spans.as_mut_slice(), lp)?;
     write_scales(values, spans.as_slice(), decisions, successors, exponents);
     Ok(())
 }
@@ -65,9 +64,9 @@ fn own_scales(alloc: Global, lp: &StageLp) -> Result<List<i32>, Memory>
     ensures range { IfOk result (AreUpTo 512) }
     ensures count { IfOk result (λ exponents. length exponents ≡ length lp.now.columns) }
 {
-    let (decisions, _) = lp.columns.as_slice().split_at(lp.decisions as usize);
-    let (own, _) = lp.rows.as_slice().split_at(lp.own as usize);
-    columns(alloc, lp.columns.len(), decisions, own)
+    let (decisions, _) = lp.columns().split_at(lp.decisions());
+    let own = lp.own_rows();
+    columns(alloc, lp.columns().len(), decisions, own)
 }
 
 // The exponent of values, by those of decisions.
@@ -78,7 +77,7 @@ fn own_values(lp: &StageLp, exponents: &[i32]) -> i32
     ensures least { negsuc 1299 ≤ℤ result }
     ensures greatest { result ≤ℤ pos 0 }
 {
-    let (decisions, _) = lp.columns.as_slice().split_at(lp.decisions as usize);
+    let (decisions, _) = lp.columns().split_at(lp.decisions());
     values_scale(exponents, decisions)
 }
 
@@ -96,7 +95,7 @@ pub fn whole_scales(alloc: Global, lp: &StageLp) -> Result<Scales, Memory>
     let mut columns = own_scales(alloc, lp)?;
     let values = own_values(lp, columns.as_slice());
     write_all(alloc, lp, values, &mut columns)?;
-    let costs = costs_scale(columns.as_slice(), lp.columns.as_slice());
+    let costs = costs_scale(columns.as_slice(), lp.columns());
     Ok(Scales {
         rows: List::new(alloc),
         columns,

@@ -1,8 +1,9 @@
 // A table that is widened by the columns of successors and by cuts.
-ghost use Rattle.std.specs.Prelude.{◌≡◌, ◌+◌, ◌+ℤ◌, ◌-ℤ◌, ◌^◌, ◌<◌, ◌≤◌, ◌≤ℤ◌, pos, negsuc, length, replicate, true, All, None, OnOk, IfOk, IfSome};
+ghost use Rattle.std.specs.Prelude.{◌≡◌, ◌+◌, ◌+ℤ◌, ◌-ℤ◌, ◌^◌, ◌<◌, ◌≤◌, ◌≤ℤ◌, pos, negsuc, length, replicate, drop, true, All, None, OnOk, IfOk, IfSome};
 ghost use Rattle.hp_num.specs.Sums.{floor_over};
+ghost use Rattle.hp_solver.specs.Packed.{rows_of, IsView};
 ghost use Rattle.hp_solver.specs.Proper.{IsProper, AreRising};
-ghost use Rattle.hp_solver.specs.declared.stage_lp.LpRow.{LpRow};
+ghost use Rattle.hp_solver.specs.declared.programs.LpRow.{LpRow};
 ghost use Rattle.hp_warm_table.specs.Shape.{IsTable};
 ghost use Rattle.hp_warm_scale.specs.Walks.{Gives};
 ghost use Rattle.hp_warm_scale.specs.Spans.{IsBetween, AreBetween};
@@ -14,11 +15,12 @@ ghost use Rattle.hp_warm_scale.specs.Widening.{top, top_of, with_top, cut_spans,
 
 use crate::appending::{append_cut, term_span};
 use crate::exponents::reach;
+use crate::packed::{do_all_wait, write_packed_spans};
 use crate::spans::{Span, grow};
 use crate::tables::scale_columns;
 use crate::waiting::{last_column, slopes, waiting, waits};
 use hp_num::{List, Memory};
-use hp_solver::{Column, Fx, LpRow, StageLp};
+use hp_solver::{Column, Cuts, Fx, LpRow, PackedView, StageLp};
 use hp_warm_table::lists::repeated;
 use hp_warm_table::{Coefficient, Table};
 use std::alloc::Global;
@@ -67,12 +69,7 @@ fn add_top(decisions: usize, spans: &mut [Option<Span>], top: Option<i32>, colum
 
 // For each column of a successor the span of the tops of its cuts.
 #[tactic(auto, unfolding(crate::specs::Widening::cut_spans))]
-pub(crate) fn write_cut_spans(
-    decisions: usize,
-    exponents: &[i32],
-    spans: &mut [Option<Span>],
-    cuts: &[LpRow],
-)
+fn write_cut_spans(decisions: usize, exponents: &[i32], spans: &mut [Option<Span>], cuts: &[LpRow])
     requires exponents { AreUpTo 512 exponents.now }
     requires rising { All (λ (r : LpRow). AreRising 0 (length spans.old) r.terms) cuts.now }
     requires spans { spans.old ≡ replicate (length spans.old) None }
@@ -88,6 +85,30 @@ pub(crate) fn write_cut_spans(
             cut_top(exponents, terms),
             last_column(terms),
         );
+    }
+}
+
+/// For each column of a successor the span of the tops of a program's cuts.
+pub(crate) fn write_spans(
+    alloc: Global,
+    exponents: &[i32],
+    spans: &mut [Option<Span>],
+    lp: &StageLp,
+) -> Result<(), Memory>
+    requires proper { IsProper lp.now }
+    requires exponents { AreUpTo 512 exponents.now }
+    requires columns { length spans.old ≡ length lp.now.columns }
+    requires spans { spans.old ≡ replicate (length spans.old) None }
+    ensures value { OnOk result (spans.new ≡ cut_spans lp.now.decisions (length spans.old) exponents.now (drop lp.now.own lp.now.rows)) }
+    ensures count { length spans.new ≡ length spans.old }
+    ensures spans { OnOk result (SpansBetween (pos 0) (pos 640) spans.new) }
+{
+    match lp.cuts() {
+        Cuts::Listed(cuts) => {
+            write_cut_spans(lp.decisions(), exponents, spans, cuts);
+            Ok(())
+        }
+        Cuts::Packed(view) => write_packed_spans(alloc, lp.decisions(), exponents, spans, view),
     }
 }
 
@@ -203,28 +224,24 @@ pub(crate) fn write_scales(
 
 // Writes the exponents of successors' columns, from number `decisions` on, by their cuts.
 #[tactic(auto, unfolding(crate::specs::Widening::rescaled))]
-fn write_successors(
-    alloc: Global,
-    table: &mut Table,
-    decisions: usize,
-    successors: &[Column],
-    cuts: &[LpRow],
-) -> Result<(), Memory>
+fn write_successors(alloc: Global, table: &mut Table, lp: &StageLp) -> Result<(), Memory>
     requires whole { IsTable table.old }
     requires small { AreSmall 512 table.old.scales }
-    requires there { decisions + length successors.now ≤ length table.old.costs }
-    requires rising { All (λ (r : LpRow). AreRising 0 (length table.old.costs) r.terms) cuts.now }
-    ensures value { OnOk result (table.new ≡ rescaled decisions successors.now cuts.now table.old) }
+    requires proper { IsProper lp.now }
+    requires there { length lp.now.columns ≡ length table.old.costs }
+    ensures value { OnOk result (table.new ≡ rescaled lp.now.decisions (drop lp.now.decisions lp.now.columns) (drop lp.now.own lp.now.rows) table.old) }
     ensures columns { OnOk result (AreUpTo 1000 table.new.scales.columns) }
     ensures count { OnOk result (length table.new.scales.columns ≡ length table.old.scales.columns) }
 {
+    let decisions = lp.decisions();
+    let (_, successors) = lp.columns().split_at(decisions);
     let mut spans = repeated(alloc, table.costs.len(), None)?;
-    write_cut_spans(
-        decisions,
+    write_spans(
+        alloc,
         table.scales.columns.as_slice(),
         spans.as_mut_slice(),
-        cuts,
-    );
+        lp,
+    )?;
     write_scales(
         table.scales.values,
         spans.as_slice(),
@@ -236,23 +253,17 @@ fn write_successors(
 }
 
 // Scales the columns of successors, from number `decisions` on, which makes a table of a table.
-fn rescale(
-    alloc: Global,
-    table: &mut Table,
-    decisions: usize,
-    successors: &[Column],
-    cuts: &[LpRow],
-) -> Result<(), Memory>
+fn rescale(alloc: Global, table: &mut Table, lp: &StageLp) -> Result<(), Memory>
     requires whole { IsTable table.old }
     requires small { AreSmall 512 table.old.scales }
-    requires there { decisions + length successors.now ≤ length table.old.costs }
-    requires rising { All (λ (r : LpRow). AreRising 0 (length table.old.costs) r.terms) cuts.now }
-    ensures value { OnOk result (table.new ≡ rescaled decisions successors.now cuts.now table.old) }
+    requires proper { IsProper lp.now }
+    requires there { length lp.now.columns ≡ length table.old.costs }
+    ensures value { OnOk result (table.new ≡ rescaled lp.now.decisions (drop lp.now.decisions lp.now.columns) (drop lp.now.own lp.now.rows) table.old) }
     ensures whole { OnOk result (IsTable table.new) }
     ensures small { OnOk result (AreSmall 1000 table.new.scales) }
     ensures count { OnOk result (length table.new.costs ≡ length table.old.costs) }
 {
-    write_successors(alloc, table, decisions, successors, cuts)
+    write_successors(alloc, table, lp)
 }
 
 // Scales the columns of successors and gives them bounds and costs. The answer is false exactly where a number leaves its range.
@@ -265,10 +276,9 @@ fn widen_columns(alloc: Global, table: &mut Table, lp: &StageLp) -> Result<bool,
     ensures small { OnOk result (AreSmall 1000 table.new.scales) }
     ensures count { OnOk result (length table.new.costs ≡ length table.old.costs) }
 {
-    let decisions = lp.decisions as usize;
-    let (_, successors) = lp.columns.as_slice().split_at(decisions);
-    let (_, cuts) = lp.rows.as_slice().split_at(lp.own as usize);
-    rescale(alloc, table, decisions, successors, cuts)?;
+    let decisions = lp.decisions();
+    let (_, successors) = lp.columns().split_at(decisions);
+    rescale(alloc, table, lp)?;
     Ok(scale_columns(table, decisions, successors))
 }
 
@@ -315,6 +325,70 @@ fn put_cuts(alloc: Global, table: &mut Table, first: usize, cuts: &[LpRow]) -> R
     Ok(true)
 }
 
+// Puts the cuts of a program behind the rows that are listed and do not wait.
+fn put_listed(
+    alloc: Global,
+    table: &mut Table,
+    lp: &StageLp,
+    cuts: &[LpRow],
+) -> Result<bool, Memory>
+    requires whole { IsTable table.old }
+    requires small { AreSmall 1000 table.old.scales }
+    requires proper { IsProper lp.now }
+    requires columns { length lp.now.columns ≡ length table.old.costs }
+    requires cuts { cuts.now ≡ drop lp.now.own lp.now.rows }
+    ensures value { IfOk result (λ made. Gives made (put_cuts table.old.cuts.waiting lp.now.own cuts.now table.old) table.new) }
+    ensures whole { IfOk result (λ made. made ≡ true → IsTable table.new) }
+    ensures small { IfOk result (λ made. made ≡ true → AreSmall 1000 table.new.scales) }
+    ensures count { IfOk result (λ made. made ≡ true → length table.new.costs ≡ length table.old.costs) }
+{
+    let first = lp.row_count() - cuts.len();
+    put_cuts(alloc, table, first, cuts)
+}
+
+// Puts the cuts of a program behind the rows that stand side by side and do not wait.
+fn put_packed(
+    alloc: Global,
+    table: &mut Table,
+    lp: &StageLp,
+    view: &PackedView,
+) -> Result<bool, Memory>
+    requires whole { IsTable table.old }
+    requires small { AreSmall 1000 table.old.scales }
+    requires proper { IsProper lp.now }
+    requires columns { length lp.now.columns ≡ length table.old.costs }
+    requires cuts { rows_of view.now ≡ drop lp.now.own lp.now.rows }
+    requires view { IsView view.now }
+    ensures value { IfOk result (λ made. Gives made (put_cuts table.old.cuts.waiting lp.now.own (drop lp.now.own lp.now.rows) table.old) table.new) }
+    ensures whole { IfOk result (λ made. made ≡ true → IsTable table.new) }
+    ensures small { IfOk result (λ made. made ≡ true → AreSmall 1000 table.new.scales) }
+    ensures count { IfOk result (λ made. made ≡ true → length table.new.costs ≡ length table.old.costs) }
+{
+    if do_all_wait(table.cuts.waiting.as_slice(), view) {
+        return Ok(true);
+    }
+    let program = lp.program(alloc)?;
+    let (_, cuts) = program.rows.as_slice().split_at(program.own as usize);
+    put_cuts(alloc, table, program.own as usize, cuts)
+}
+
+// Puts the cuts of a program behind the rows that do not wait.
+fn put_program_cuts(alloc: Global, table: &mut Table, lp: &StageLp) -> Result<bool, Memory>
+    requires whole { IsTable table.old }
+    requires small { AreSmall 1000 table.old.scales }
+    requires proper { IsProper lp.now }
+    requires columns { length lp.now.columns ≡ length table.old.costs }
+    ensures value { IfOk result (λ made. Gives made (put_cuts table.old.cuts.waiting lp.now.own (drop lp.now.own lp.now.rows) table.old) table.new) }
+    ensures whole { IfOk result (λ made. made ≡ true → IsTable table.new) }
+    ensures small { IfOk result (λ made. made ≡ true → AreSmall 1000 table.new.scales) }
+    ensures count { IfOk result (λ made. made ≡ true → length table.new.costs ≡ length table.old.costs) }
+{
+    match lp.cuts() {
+        Cuts::Listed(cuts) => put_listed(alloc, table, lp, cuts),
+        Cuts::Packed(view) => put_packed(alloc, table, lp, view),
+    }
+}
+
 // Widens a table by a program, where the cuts in these columns wait.
 #[tactic(auto, unfolding(crate::specs::Widening::widened_by))]
 fn widen_by(
@@ -334,8 +408,7 @@ fn widen_by(
         return Ok(false);
     }
     table.cuts.waiting = waiting;
-    let (_, cuts) = lp.rows.as_slice().split_at(lp.own as usize);
-    put_cuts(alloc, table, lp.own as usize, cuts)
+    put_program_cuts(alloc, table, lp)
 }
 
 /// Widens a table of a program's own part by its other columns, which belong to successors, and by its cuts: the columns get
@@ -361,6 +434,6 @@ pub fn widen_in_full(alloc: Global, table: &mut Table, lp: &StageLp) -> Result<b
     ensures value { IfOk result (λ made. Gives made (widened_in_full lp.now table.old) table.new) }
     ensures fits { IfOk result (λ made. made ≡ true → Fits table.new lp.now) }
 {
-    let waiting = repeated(alloc, lp.columns.len(), false)?;
+    let waiting = repeated(alloc, lp.columns().len(), false)?;
     widen_by(alloc, table, lp, waiting)
 }

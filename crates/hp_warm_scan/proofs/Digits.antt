@@ -8,7 +8,7 @@ use Rattle.std.specs.Int.{w64}
 use Rattle.std.specs.Int.Count.{count_leading_zeros}
 use Rattle.hp_num.specs.Sums.{floor_over}
 use Rattle.hp_solver.specs.declared.fixed.Fx.{Fx}
-use Rattle.hp_solver.specs.declared.stage_lp.Column.{Column}
+use Rattle.hp_solver.specs.declared.programs.Column.{Column}
 use Rattle.hp_warm_table.specs.Numbers.{bits_of}
 use Rattle.hp_warm_table.proofs.Powers.{power_more}
 use Rattle.hp_warm_scale.specs.Exponents.{reach_of}

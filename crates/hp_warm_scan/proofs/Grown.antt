@@ -3,7 +3,7 @@ use Rattle.std.proofs.Common.{◌≡◌, ◌∙◌, ℕ, zero, suc, ◌+◌, ◌
 use Rattle.std.proofs.Math.Seq.{take-length, get_or-append_seam}
 use Rattle.std.proofs.lemmas.List.{length-take, take-take}
 use Rattle.std.proofs.lemmas.List.Elements.{All-push}
-use Rattle.hp_solver.specs.declared.stage_lp.StageLp.{StageLp}
+use Rattle.hp_solver.specs.declared.programs.Program.{Program}
 use Rattle.hp_warm_table.specs.declared.table.Table.{Table}
 use Rattle.hp_warm_table.specs.Shape.{IsTable, AreRising}
 use Rattle.hp_warm_line.specs.Activity.{row_value}
@@ -50,7 +50,7 @@ cut_table t i w = record {
 }
 
 -- a table that a program fits fits it with the row of one of its cuts more
-cut_fits : (lp : StageLp) (i : ℕ) (e : ℤ) (ts : List (ℕ × ℤ)) (s : Sides) (t : Table) → IsCut lp i → Fits t lp → IsTable (with_row e ts s t) → AreSmall 1000 (with_row e ts s t).scales → Fits (with_cut i (with_row e ts s t)) lp
+cut_fits : (lp : Program) (i : ℕ) (e : ℤ) (ts : List (ℕ × ℤ)) (s : Sides) (t : Table) → IsCut lp i → Fits t lp → IsTable (with_row e ts s t) → AreSmall 1000 (with_row e ts s t).scales → Fits (with_cut i (with_row e ts s t)) lp
 cut_fits lp i e ts s t c f w m = record {
   table = cut_table (with_row e ts s t) i w;
   small = m;
@@ -60,7 +60,7 @@ cut_fits lp i e ts s t c f w m = record {
   narrow = f.narrow;
 }
 
-pub put_fits : (lp : StageLp) (i : ℕ) (e : ℤ) (ts : List (ℕ × ℤ)) (s : Sides) (t u : Table) (cuts : List ℕ) → u ≡ with_row e ts s t → cuts ≡ u.cuts.rows ++ i ∷ [] → IsCut lp i → Fits t lp → IsTable u → AreSmall 1000 u.scales → Fits (record u { cuts = record u.cuts { rows = cuts } }) lp
+pub put_fits : (lp : Program) (i : ℕ) (e : ℤ) (ts : List (ℕ × ℤ)) (s : Sides) (t u : Table) (cuts : List ℕ) → u ≡ with_row e ts s t → cuts ≡ u.cuts.rows ++ i ∷ [] → IsCut lp i → Fits t lp → IsTable u → AreSmall 1000 u.scales → Fits (record u { cuts = record u.cuts { rows = cuts } }) lp
 put_fits lp i e ts s t u cuts h g c f w m =
     subst (λ (ks : List ℕ). Fits (record u { cuts = record u.cuts { rows = ks } }) lp) (sym g)
     (subst (λ (v : Table). Fits (with_cut i v) lp) (sym h) (cut_fits lp i e ts s t c f (subst IsTable h w) (subst (λ (v : Table). AreSmall 1000 v.scales) h m)))

@@ -9,9 +9,9 @@ use Rattle.std.proofs.lemmas.List.Elements.{All-take, All-drop}
 use Rattle.std.proofs.lemmas.List.Sums.{AllPass-from_list_all}
 use Rattle.hp_num.specs.Sums.{entry}
 use Rattle.hp_solver.specs.declared.fixed.Fx.{Fx}
-use Rattle.hp_solver.specs.declared.stage_lp.Column.{Column}
-use Rattle.hp_solver.specs.declared.stage_lp.LpRow.{LpRow}
-use Rattle.hp_solver.specs.declared.stage_lp.StageLp.{StageLp}
+use Rattle.hp_solver.specs.declared.programs.Column.{Column}
+use Rattle.hp_solver.specs.declared.programs.LpRow.{LpRow}
+use Rattle.hp_solver.specs.declared.programs.Program.{Program}
 use Rattle.hp_solver.specs.Proper.{IsProper, AreRising}
 use Rattle.hp_simplex.specs.Each.{each_from}
 use Rattle.hp_simplex.proofs.Each.{map_some, some_same, each_length}
@@ -64,7 +64,7 @@ abbrev zero_column : Column
 zero_column = record { low = record { 0 = pos 0 }; high = record { 0 = pos 0 }; cost = record { 0 = pos 0 } }
 
 -- a state that a slope of a narrow cut meets
-state_small : (t : Table) (lp : StageLp) (ps : List Fx) (j : ℕ) → points_of t lp ≡ Some ps → j < length lp.columns → get_or (map reach_of lp.columns) j 0 ≤ 71 → FitsSigned w64 (entry (map state_of ps) j)
+state_small : (t : Table) (lp : Program) (ps : List Fx) (j : ℕ) → points_of t lp ≡ Some ps → j < length lp.columns → get_or (map reach_of lp.columns) j 0 ≤ 71 → FitsSigned w64 (entry (map state_of ps) j)
 unfolding points_of
 state_small t lp ps j h l r =
     let zero_fx : Fx = record { 0 = pos 0 } in
@@ -89,7 +89,7 @@ and_parts : (a b : Bool) → (a && b) ≡ true → (a ≡ true) × (b ≡ true)
 and_parts true b h = (refl, h)
 and_parts false b h = absurd (cc)
 
-row_within : (t : Table) (lp : StageLp) (ps : List Fx) (r : LpRow) → points_of t lp ≡ Some ps → AreRising 0 (length lp.columns) r.terms → is_narrow (map reach_of lp.columns) r ≡ true → length ps ≡ length lp.columns → IsWithin (map state_of ps) r
+row_within : (t : Table) (lp : Program) (ps : List Fx) (r : LpRow) → points_of t lp ≡ Some ps → AreRising 0 (length lp.columns) r.terms → is_narrow (map reach_of lp.columns) r ≡ true → length ps ≡ length lp.columns → IsWithin (map state_of ps) r
 unfolding is_narrow
 row_within t lp ps r h rising narrow n =
     let rs : List ℕ = map reach_of lp.columns in
@@ -113,7 +113,7 @@ row_within t lp ps r h rising narrow n =
           };
     }
 
-pub rows_within : (t : Table) (lp : StageLp) (ps : List Fx) (ws : List Bool) → points_of t lp ≡ Some ps → IsProper lp → AreNarrow lp ws → AreWithin ws (map state_of ps) lp
+pub rows_within : (t : Table) (lp : Program) (ps : List Fx) (ws : List Bool) → points_of t lp ≡ Some ps → IsProper lp → AreNarrow lp ws → AreWithin ws (map state_of ps) lp
 unfolding points_of
 rows_within t lp ps ws h proper narrow k d l w =
     let rising = All-drop (λ (r : LpRow). AreRising 0 (length lp.columns) r.terms) lp.own lp.rows proper.terms in

@@ -1,7 +1,8 @@
 -- Worked scans, computed; the numbers are those of the second reading of the same rules.
 use Rattle.std.proofs.Common.{◌≡◌, pos, negsuc, true, false, [], ◌∷◌, Some, None, refl}
 use lib.Count.{count_leading_zeros}
-use Rattle.hp_solver.specs.declared.stage_lp.StageLp.{StageLp}
+use Rattle.hp_solver.specs.declared.programs.Program.{Program}
+use Rattle.hp_solver.specs.Covering.{value_of}
 use Rattle.hp_solver.specs.Numbers.{number}
 use Rattle.hp_warm_table.specs.declared.table.Table.{Table}
 use Rattle.hp_warm_table.specs.Numbers.{shift_up, shift_down}
@@ -21,9 +22,13 @@ value_1 : cut_value (pos 167772160 ∷ pos 0 ∷ pos 0 ∷ []) (record { low = S
 unfolding plus_slope cut_value
 value_1 = refl
 
+-- the latter cut, where it stands side by side with others
+packed_1 : value_of (record { height = pos 335544320; slopes = negsuc 16777215 ∷ [] }) (pos 167772160 ∷ []) ≡ pos 2814749767106560
+packed_1 = refl
+
 -- a state of 10: of the first successor's cuts the second is 15 there, and so is the third; the second successor's greatest
 -- cut is violated by as much as may be passed
-abbrev first_of_equals_program : StageLp
+abbrev first_of_equals_program : Program
 first_of_equals_program =
     record {
       columns = record { low = number (pos 0); high = number (pos 42949672960); cost = number (negsuc 4294967295) } ∷ record { low = number (pos 0); high = number (pos 4294967296000); cost = number (pos 4294967296) } ∷ record { low = number (pos 0); high = number (pos 4294967296000); cost = number (pos 4294967296) } ∷ [];
@@ -67,7 +72,7 @@ unfolding scan_of states_of points_of basic_point rounded clamped waits greatest
 first_of_equals = refl
 
 -- a state of 7/3
-abbrev basic_state_program : StageLp
+abbrev basic_state_program : Program
 basic_state_program =
     record {
       columns = record { low = number (negsuc 17179869183); high = number (pos 42949672960); cost = number (pos 0) } ∷ record { low = number (pos 0); high = number (pos 34359738368); cost = number (pos 4294967296) } ∷ record { low = number (pos 0); high = number (pos 4294967296000); cost = number (pos 4294967296) } ∷ record { low = number (negsuc 4294967295999); high = number (pos 4294967296000); cost = number (pos 4294967296) } ∷ [];
@@ -111,7 +116,7 @@ unfolding scan_of states_of points_of basic_point rounded clamped waits greatest
 basic_state = refl
 
 -- the second successor's cut leaves the range of sides; what came in before it stays
-abbrev stops_program : StageLp
+abbrev stops_program : Program
 stops_program =
     record {
       columns = record { low = number (pos 0); high = number (pos 42949672960); cost = number (negsuc 4294967295) } ∷ record { low = number (pos 0); high = number (pos 4294967296000); cost = number (pos 4294967296) } ∷ record { low = number (pos 0); high = number (pos 4294967296000); cost = number (pos 4294967296) } ∷ [];

@@ -3,7 +3,7 @@ use Rattle.std.specs.Prelude.{ℕ, ◌+◌, ◌-◌, ◌^◌, ◌==◌, ℤ, pos
 use Rattle.std.specs.List.{list_any}
 use Rattle.std.specs.Option.{option_and_then}
 use Rattle.hp_num.specs.Sums.{entry}
-use Rattle.hp_solver.specs.declared.stage_lp.StageLp.{StageLp}
+use Rattle.hp_solver.specs.declared.programs.Program.{Program}
 use Rattle.hp_warm_table.specs.declared.table.Table.{Table}
 use Rattle.hp_warm_line.specs.Activity.{activity_of}
 use Rattle.hp_warm_scale.specs.Appending.{appended_cut}
@@ -32,11 +32,11 @@ where_violated t None = None
 where_violated t (Some u) = if violates_last u then Some u else Some t
 
 -- with the cut that is row i, where it is not in yet and the point violates it; absent where a number leaves its range
-unfoldable pub with_asked : StageLp → ℕ → Table → Option Table
+unfoldable pub with_asked : Program → ℕ → Table → Option Table
 with_asked lp i t =
     if list_any (λ k. k == i) t.cuts.rows then Some t else option_and_then (λ r. where_violated t (appended_cut i r t)) (slice_get lp.rows i)
 
-abbrev pub asked_by : StageLp → Option Valued → Table → Option Table
+abbrev pub asked_by : Program → Option Valued → Table → Option Table
 asked_by lp None t = Some t
 asked_by lp (Some v) t = with_asked lp v.0 t
 
@@ -45,18 +45,18 @@ on_with next t None = scanned true t
 on_with next t (Some u) = next u
 
 -- with the cuts asked for, one after the other, until a number leaves its range
-abbrev pub asked_for : StageLp → List (Option Valued) → Table → Scanned
+abbrev pub asked_for : Program → List (Option Valued) → Table → Scanned
 asked_for lp [] t = scanned false t
 asked_for lp (b ∷ bs) t = on_with (asked_for lp bs) t (asked_by lp b t)
 
-abbrev pub by_states : StageLp → Table → Option (List ℤ) → Scanned
+abbrev pub by_states : Program → Table → Option (List ℤ) → Scanned
 by_states lp t None = scanned true t
 by_states lp t (Some xs) = asked_for lp (greatest_cuts lp t.cuts.waiting xs) t
 
 -- whether each cut of the program has a row
-abbrev pub is_full : StageLp → Table → Bool
+abbrev pub is_full : Program → Table → Bool
 is_full lp t = length t.rows == length lp.rows
 
 -- the greatest waiting cut of each successor at the point of a table comes in, where the point violates it
-unfoldable pub scan_of : StageLp → Table → Scanned
+unfoldable pub scan_of : Program → Table → Scanned
 scan_of lp t = if is_full lp t then scanned false t else by_states lp t (states_of t lp)

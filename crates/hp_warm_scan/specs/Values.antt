@@ -4,8 +4,8 @@ use Rattle.std.specs.Int.{w64}
 use Rattle.std.specs.Option.{option_map}
 use Rattle.hp_num.specs.Sums.{entry, floor_over}
 use Rattle.hp_solver.specs.declared.fixed.Fx.{Fx}
-use Rattle.hp_solver.specs.declared.stage_lp.LpRow.{LpRow}
-use Rattle.hp_solver.specs.declared.stage_lp.StageLp.{StageLp}
+use Rattle.hp_solver.specs.declared.programs.LpRow.{LpRow}
+use Rattle.hp_solver.specs.declared.programs.Program.{Program}
 use Rattle.hp_warm_table.specs.declared.table.Table.{Table}
 use Rattle.hp_warm_scale.specs.Walks.{walk}
 use Rattle.hp_warm_scale.specs.Exponents.{Term}
@@ -17,7 +17,7 @@ abbrev pub state_of : Fx → ℤ
 state_of x = floor_over x.0 (2 ^ 8)
 
 -- the point of a table at the scale of states; none where a number on the way leaves 128 bits
-unfoldable pub states_of : Table → StageLp → Option (List ℤ)
+unfoldable pub states_of : Table → Program → Option (List ℤ)
 states_of t lp = option_map (map state_of) (points_of t lp)
 
 -- the cut's value where all states are 0, at the scale of cuts, 2^24
@@ -71,18 +71,18 @@ unfoldable pub greatest_step : List Bool → List ℤ → ℕ → List (Option V
 greatest_step ws xs i bests r = if waits ws r then greatest_in bests (last_column r.terms) (i, cut_value xs r) else bests
 
 -- for each column the row of the greatest of its cuts that wait, and its value
-unfoldable pub greatest_cuts : StageLp → List Bool → List ℤ → List (Option Valued)
+unfoldable pub greatest_cuts : Program → List Bool → List ℤ → List (Option Valued)
 greatest_cuts lp ws xs = walk (λ i bests (r : LpRow). greatest_step ws xs i bests r) lp.own (replicate (length lp.columns) None) (drop lp.own lp.rows)
 
 -- the row of a cut
-pub record IsCut (lp : StageLp) (i : ℕ) : Type 0 where
+pub record IsCut (lp : Program) (i : ℕ) : Type 0 where
   pub behind : lp.own ≤ i
   pub there : i < length lp.rows
 
 -- each is none or that of a cut
-abbrev pub AreCuts : StageLp → List (Option Valued) → Type 0
+abbrev pub AreCuts : Program → List (Option Valued) → Type 0
 AreCuts lp bests = All (λ b. IfSome b (λ v. IsCut lp v.0)) bests
 
 -- the values of cuts that wait are sums in 128 bits
-abbrev pub AreWithin : List Bool → List ℤ → StageLp → Type 0
+abbrev pub AreWithin : List Bool → List ℤ → Program → Type 0
 AreWithin ws xs lp = All (λ (r : LpRow). waits ws r ≡ true → IsWithin xs r) (drop lp.own lp.rows)

@@ -1,16 +1,20 @@
-// Of each successor's cuts that wait the greatest at a point.
-ghost use Rattle.std.specs.Prelude.{◌≡◌, ◌<◌, true, length, replicate, None, IfSome, OnOk};
+// Find the greatest at a point of each successor's cuts that wait.
+ghost use Rattle.std.specs.Prelude.{◌≡◌, ◌<◌, ◌+◌, ◌^◌, true, length, drop, replicate, All, None, IfSome, OnOk};
+ghost use Rattle.hp_solver.specs.Packed.{rows_of, IsView};
 ghost use Rattle.hp_solver.specs.Proper.{IsProper};
+ghost use Rattle.hp_solver.specs.declared.programs.LpRow.{LpRow};
+ghost use Rattle.hp_warm_scale.specs.Walks.{walk};
 ghost use Rattle.hp_warm_scale.specs.Waiting.{last_column, waits};
 ghost use Rattle.hp_warm_scan.specs.Values.{is_greater, greatest_step, greatest_cuts, AreWithin, AreCuts, IsWithin};
 
+use crate::packed::{take_packed, write_leaving};
 use crate::values::cut_value;
 use hp_num::{List, Memory};
-use hp_solver::{LpRow, StageLp};
+use hp_solver::{Cuts, LpRow, PackedView, StageLp};
 use hp_warm_scale::waiting::last_column;
 
-// Whether a value is above the greatest so far.
-fn is_greater(best: &Option<(usize, i128)>, value: i128) -> bool
+// Tells whether a value is above the greatest so far.
+pub(crate) fn is_greater(best: &Option<(usize, i128)>, value: i128) -> bool
     ensures { result ≡ is_greater best.now value }
 {
     match best {
@@ -44,23 +48,111 @@ fn take_row(
     }
 }
 
-// Looks at all cuts.
-#[tactic(auto, unfolding(crate::specs::Values::greatest_cuts))]
+// Looks at cuts that are listed. The first is the program's row `first`.
 fn take_rows(
     greatest: &mut [Option<(usize, i128)>],
     waiting: &[bool],
     states: &[i128],
-    lp: &StageLp,
+    first: usize,
+    cuts: &[LpRow],
 )
+    requires few { first + length cuts.now < 2 ^ 64 }
+    requires columns { All (λ (r : LpRow). IfSome (last_column r.terms) (λ j. j < length greatest.old)) cuts.now }
+    requires waiting { length waiting.now ≡ length greatest.old }
+    requires within { All (λ (r : LpRow). waits waiting.now r ≡ true → IsWithin states.now r) cuts.now }
+    ensures value { greatest.new ≡ walk (λ i bests (r : LpRow). greatest_step waiting.now states.now i bests r) first greatest.old cuts.now }
+    ensures count { length greatest.new ≡ length greatest.old }
+{
+    for k in 0..cuts.len() {
+        take_row(greatest, waiting, states, first + k, &cuts[k]);
+    }
+}
+
+// Counts the rows before the cuts.
+fn rows_before(lp: &StageLp) -> usize
+    requires { IsProper lp.now }
+    ensures value { result ≡ lp.now.own }
+    ensures few { result + length (drop lp.now.own lp.now.rows) < 2 ^ 64 }
+{
+    lp.own().min(lp.row_count())
+}
+
+// Looks at all cuts, of which each is written as a row first.
+fn take_written(
+    greatest: &mut [Option<(usize, i128)>],
+    waiting: &[bool],
+    states: &[i128],
+    first: usize,
+    lp: &StageLp,
+    row: &mut LpRow,
+) -> Result<(), Memory>
+    requires columns { All (λ (r : LpRow). IfSome (last_column r.terms) (λ j. j < length greatest.old)) (drop first lp.now.rows) }
+    requires waiting { length waiting.now ≡ length greatest.old }
+    requires within { All (λ (r : LpRow). waits waiting.now r ≡ true → IsWithin states.now r) (drop first lp.now.rows) }
+    ensures value { OnOk result (greatest.new ≡ walk (λ i bests (r : LpRow). greatest_step waiting.now states.now i bests r) first greatest.old (drop first lp.now.rows)) }
+    ensures count { length greatest.new ≡ length greatest.old }
+{
+    for i in first..lp.row_count() {
+        lp.write_row(i, row)?;
+        take_row(greatest, waiting, states, i, row);
+    }
+    Ok(())
+}
+
+// Looks at all cuts, where these stand side by side. The first is the program's row `first`.
+fn take_view(
+    greatest: &mut [Option<(usize, i128)>],
+    waiting: &[bool],
+    states: &[i128],
+    first: usize,
+    lp: &StageLp,
+    view: &PackedView,
+    leaving: &mut List<i64>,
+    row: &mut LpRow,
+) -> Result<(), Memory>
+    requires view { IsView view.now }
+    requires cuts { rows_of view.now ≡ drop first lp.now.rows }
+    requires rows { first + length (rows_of view.now) < 2 ^ 64 }
+    requires columns { All (λ (r : LpRow). IfSome (last_column r.terms) (λ j. j < length greatest.old)) (drop first lp.now.rows) }
+    requires waiting { length waiting.now ≡ length greatest.old }
+    requires within { All (λ (r : LpRow). waits waiting.now r ≡ true → IsWithin states.now r) (drop first lp.now.rows) }
+    ensures value { OnOk result (greatest.new ≡ walk (λ i bests (r : LpRow). greatest_step waiting.now states.now i bests r) first greatest.old (drop first lp.now.rows)) }
+    ensures count { length greatest.new ≡ length greatest.old }
+{
+    if write_leaving(states, view.outs.as_slice(), leaving)? {
+        take_packed(greatest, waiting, states, leaving.as_slice(), first, view);
+        Ok(())
+    } else {
+        take_written(greatest, waiting, states, first, lp, row)
+    }
+}
+
+// Looks at all cuts.
+#[tactic(auto, unfolding(crate::specs::Values::greatest_cuts))]
+fn take_all(
+    greatest: &mut [Option<(usize, i128)>],
+    waiting: &[bool],
+    states: &[i128],
+    lp: &StageLp,
+    leaving: &mut List<i64>,
+    row: &mut LpRow,
+) -> Result<(), Memory>
     requires proper { IsProper lp.now }
     requires blank { greatest.old ≡ replicate (length lp.now.columns) None }
     requires waiting { length waiting.now ≡ length lp.now.columns }
     requires within { AreWithin waiting.now states.now lp.now }
-    ensures { greatest.new ≡ greatest_cuts lp.now waiting.now states.now }
+    ensures value { OnOk result (greatest.new ≡ greatest_cuts lp.now waiting.now states.now) }
+    ensures count { length greatest.new ≡ length greatest.old }
 {
-    let rows = lp.rows.as_slice();
-    for i in lp.own as usize..rows.len() {
-        take_row(greatest, waiting, states, i, &rows[i]);
+    let first = rows_before(lp);
+    match lp.cuts() {
+        Cuts::Listed(cuts) => {
+            take_rows(greatest, waiting, states, first, cuts);
+            Ok(())
+        }
+        Cuts::Packed(view) => {
+            take_view(greatest, waiting, states, first, lp, view, leaving, row)
+        }
     }
 }
 
@@ -75,13 +167,15 @@ fn clear(greatest: &mut List<Option<(usize, i128)>>, count: usize) -> Result<(),
     Ok(())
 }
 
-/// Writes for each column the row of the greatest of its cuts that wait, and its value, at some states. [`Memory`] where
-/// memory was refused.
+/// Writes for each column the row of the greatest of its cuts that wait, and its value, at some states. Writes beside it
+/// what leaves the stage, where cuts stand side by side, and may write a row. [`Memory`] where memory was refused.
 pub fn write_greatest(
     greatest: &mut List<Option<(usize, i128)>>,
     waiting: &[bool],
     states: &[i128],
     lp: &StageLp,
+    leaving: &mut List<i64>,
+    row: &mut LpRow,
 ) -> Result<(), Memory>
     requires proper { IsProper lp.now }
     requires waiting { length waiting.now ≡ length lp.now.columns }
@@ -89,7 +183,6 @@ pub fn write_greatest(
     ensures value { OnOk result (greatest.new ≡ greatest_cuts lp.now waiting.now states.now) }
     ensures cuts { OnOk result (AreCuts lp.now greatest.new) }
 {
-    clear(greatest, lp.columns.len())?;
-    take_rows(greatest.as_mut_slice(), waiting, states, lp);
-    Ok(())
+    clear(greatest, lp.columns().len())?;
+    take_all(greatest.as_mut_slice(), waiting, states, lp, leaving, row)
 }

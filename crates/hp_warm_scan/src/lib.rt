@@ -2,6 +2,7 @@
 #![tactic(auto)]
 
 pub mod greatest;
+pub mod packed;
 pub mod scanning;
 pub mod values;
 

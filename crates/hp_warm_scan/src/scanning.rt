@@ -16,7 +16,7 @@ ghost use Rattle.hp_warm_scan.specs.Steps.{Grows, Asks, Scans};
 use crate::greatest::write_greatest;
 use crate::values::write_states;
 use hp_num::{List, Memory};
-use hp_solver::{Fx, LpRow, StageLp};
+use hp_solver::{Fx, LpRow, StageLp, blank_row};
 use hp_warm_answers::found::points;
 use hp_warm_line::sums::row_value;
 use hp_warm_scale::appending::{put_row, row_scale, scale_terms};
@@ -41,7 +41,15 @@ pub enum Scan {
 pub struct Room {
     point: List<Fx>,
     states: List<i128>,
+    leaving: List<i64>,
     greatest: List<Option<(usize, i128)>>,
+    added: AddedRow,
+}
+
+// A row that may come in, and its scaled terms.
+#[derive(Drop)]
+struct AddedRow {
+    row: LpRow,
     scaled: List<(u32, Coefficient)>,
 }
 
@@ -59,8 +67,12 @@ impl Room {
         Room {
             point: List::new(alloc),
             states: List::new(alloc),
+            leaving: List::new(alloc),
             greatest: List::new(alloc),
-            scaled: List::new(alloc),
+            added: AddedRow {
+                row: blank_row(alloc),
+                scaled: List::new(alloc),
+            },
         }
     }
 }
@@ -184,12 +196,7 @@ fn add_violated(
 
 // Brings in the cut that is the program's row i, where it is not in yet and the point violates it.
 #[tactic(auto, unfolding(crate::specs::Scan::with_asked))]
-fn ask_for(
-    lp: &StageLp,
-    table: &mut Table,
-    i: usize,
-    scaled: &mut List<(u32, Coefficient)>,
-) -> Result<bool, Memory>
+fn ask_for(lp: &StageLp, table: &mut Table, i: usize, added: &mut AddedRow) -> Result<bool, Memory>
     requires proper { IsProper lp.now }
     requires fits { Fits table.old lp.now }
     requires cut { IsCut lp.now i }
@@ -200,7 +207,8 @@ fn ask_for(
     if is_in(table.cuts.rows.as_slice(), i) {
         Ok(true)
     } else {
-        add_violated(lp, table, i, &lp.rows.as_slice()[i], scaled)
+        lp.write_row(i, &mut added.row)?;
+        add_violated(lp, table, i, &added.row, &mut added.scaled)
     }
 }
 
@@ -209,7 +217,7 @@ fn ask(
     lp: &StageLp,
     table: &mut Table,
     best: Option<(usize, i128)>,
-    scaled: &mut List<(u32, Coefficient)>,
+    added: &mut AddedRow,
 ) -> Result<bool, Memory>
     requires proper { IsProper lp.now }
     requires fits { Fits table.old lp.now }
@@ -220,7 +228,7 @@ fn ask(
 {
     match best {
         None => Ok(true),
-        Some(best) => ask_for(lp, table, best.0, scaled),
+        Some(best) => ask_for(lp, table, best.0, added),
     }
 }
 
@@ -229,7 +237,7 @@ fn ask_all(
     lp: &StageLp,
     table: &mut Table,
     greatest: &[Option<(usize, i128)>],
-    scaled: &mut List<(u32, Coefficient)>,
+    added: &mut AddedRow,
 ) -> Result<bool, Memory>
     requires proper { IsProper lp.now }
     requires fits { Fits table.old lp.now }
@@ -239,7 +247,7 @@ fn ask_all(
     ensures grows { OnOk result (Grows table.old table.new) }
 {
     for k in 0..greatest.len() {
-        if !ask(lp, table, greatest[k], scaled)? {
+        if !ask(lp, table, greatest[k], added)? {
             return Ok(false);
         }
     }
@@ -251,7 +259,7 @@ fn bring_in(
     lp: &StageLp,
     table: &mut Table,
     greatest: &[Option<(usize, i128)>],
-    scaled: &mut List<(u32, Coefficient)>,
+    added: &mut AddedRow,
 ) -> Result<Scan, Memory>
     requires proper { IsProper lp.now }
     requires fits { Fits table.old lp.now }
@@ -261,7 +269,7 @@ fn bring_in(
     ensures grows { OnOk result (Grows table.old table.new) }
 {
     let before = table.rows.len();
-    if !ask_all(lp, table, greatest, scaled)? {
+    if !ask_all(lp, table, greatest, added)? {
         return Ok(Scan::Stops);
     }
     if before < table.rows.len() {
@@ -278,7 +286,9 @@ fn look_up(
     table: &Table,
     point: &mut List<Fx>,
     states: &mut List<i128>,
+    leaving: &mut List<i64>,
     greatest: &mut List<Option<(usize, i128)>>,
+    row: &mut LpRow,
 ) -> Result<bool, Memory>
     requires proper { IsProper lp.now }
     requires fits { Fits table.now lp.now }
@@ -294,6 +304,8 @@ fn look_up(
         table.cuts.waiting.as_slice(),
         states.as_slice(),
         lp,
+        leaving,
+        row,
     )?;
     Ok(true)
 }
@@ -305,8 +317,9 @@ fn scan_with(
     table: &mut Table,
     point: &mut List<Fx>,
     states: &mut List<i128>,
+    leaving: &mut List<i64>,
     greatest: &mut List<Option<(usize, i128)>>,
-    scaled: &mut List<(u32, Coefficient)>,
+    added: &mut AddedRow,
 ) -> Result<Scan, Memory>
     requires proper { IsProper lp.now }
     requires fits { Fits table.old lp.now }
@@ -314,13 +327,13 @@ fn scan_with(
     ensures fits { OnOk result (Fits table.new lp.now) }
     ensures grows { OnOk result (Grows table.old table.new) }
 {
-    if table.rows.len() == lp.rows.len() {
+    if table.rows.len() == lp.row_count() {
         return Ok(Scan::Rests);
     }
-    if !look_up(lp, table, point, states, greatest)? {
+    if !look_up(lp, table, point, states, leaving, greatest, &mut added.row)? {
         return Ok(Scan::Stops);
     }
-    bring_in(lp, table, greatest.as_slice(), scaled)
+    bring_in(lp, table, greatest.as_slice(), added)
 }
 
 /// Brings in the greatest waiting cut of each successor at the point of a table, where it is not in yet and the point
@@ -337,7 +350,8 @@ pub fn scan_cuts(lp: &StageLp, table: &mut Table, room: &mut Room) -> Result<Sca
         table,
         &mut room.point,
         &mut room.states,
+        &mut room.leaving,
         &mut room.greatest,
-        &mut room.scaled,
+        &mut room.added,
     )
 }

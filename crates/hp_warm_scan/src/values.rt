@@ -43,7 +43,7 @@ fn slope(a: Fx) -> i64
 }
 
 // A slope times its state.
-fn product(slope: i64, state: i64) -> i128
+pub(crate) fn product(slope: i64, state: i64) -> i128
     requires { nat_abs slope ≤ 2 ^ 57 }
     ensures value { result ≡ slope *ℤ state }
     ensures small { nat_abs result ≤ 2 ^ 120 }
@@ -52,7 +52,7 @@ fn product(slope: i64, state: i64) -> i128
 }
 
 // A sum.
-fn plus(x: i128, y: i128) -> i128
+pub(crate) fn plus(x: i128, y: i128) -> i128
     requires left { nat_abs x ≤ 2 ^ 126 + 2 ^ 125 }
     requires right { nat_abs y ≤ 2 ^ 120 }
     ensures value { result ≡ x +ℤ y }
@@ -87,7 +87,7 @@ fn plus_slopes(start: i128, states: &[i128], slopes: &[(u32, Fx)]) -> i128
 }
 
 // 2^24 times a number.
-fn raised(x: i128) -> i128
+pub(crate) fn raised(x: i128) -> i128
     requires { nat_abs x ≤ 2 ^ 100 }
     ensures value { result ≡ x *ℤ pos (2 ^ 24) }
     ensures small { nat_abs result ≤ 2 ^ 124 }

@@ -1,6 +1,6 @@
 -- How turns end, in place.
 use Rattle.std.proofs.Common.{◌≡◌, Bool, true, false, None, Some, refl, ap, sym, subst, ◌∙◌}
-use Rattle.hp_solver.specs.declared.stage_lp.StageLp.{StageLp}
+use Rattle.hp_solver.specs.declared.programs.Program.{Program}
 use Rattle.hp_warm_table.specs.declared.table.Table.{Table}
 use Rattle.hp_simplex.proofs.Each.{map_some}
 use Rattle.hp_warm_answers.specs.Folds.{ReachesOrKeeps}
@@ -42,12 +42,12 @@ ends_like w v u e h = subst (λ (x : Went). Ends None x u) (sym e) h
 weak_table : (t : Table) (weak : Bool) → IsTable t → IsTable (record t { weak = weak })
 weak_table t weak s = same_shape t (record t { weak = weak }) s (scales_of t s) (bounds_of t s) (basis_of t s) s.reduced s.lines s.values
 
-pub held_fits : (t u : Table) (lp : StageLp) → Fits t lp → IsTable u → IsHeld t u → Fits u lp
+pub held_fits : (t u : Table) (lp : Program) → Fits t lp → IsTable u → IsHeld t u → Fits u lp
 held_fits t u lp f s h = still_fits t u lp f s (held_worked t u h)
 
 -- whether an answer is to be trusted is no part of what is held
 pub weak_held : (t u : Table) (weak : Bool) → IsHeld t u → IsHeld t (record u { weak = weak })
 weak_held t u weak h = ap (λ (s : Table). with_work s s.basis s.reduced s.lines s.values weak) h
 
-pub weak_fits : (t u : Table) (lp : StageLp) (weak : Bool) → Fits t lp → IsTable u → IsHeld t u → Fits (record u { weak = weak }) lp
+pub weak_fits : (t u : Table) (lp : Program) (weak : Bool) → Fits t lp → IsTable u → IsHeld t u → Fits (record u { weak = weak }) lp
 weak_fits t u lp weak f s h = held_fits t (record u { weak = weak }) lp f (weak_table u weak s) (weak_held t u weak h)

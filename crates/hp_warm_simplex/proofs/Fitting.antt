@@ -1,7 +1,7 @@
 -- A program that fits a table fits it on.
 use Rattle.std.proofs.Common.{◌≡◌, ◌<◌, ◌≤◌, ◌+◌, ℕ, length, All, arith, ap, sym, subst, ◌∙◌}
 use Rattle.std.proofs.lemmas.List.Elements.{All-weaker}
-use Rattle.hp_solver.specs.declared.stage_lp.StageLp.{StageLp}
+use Rattle.hp_solver.specs.declared.programs.Program.{Program}
 use Rattle.hp_warm_table.specs.declared.table.Cuts.{Cuts}
 use Rattle.hp_warm_table.specs.declared.table.Table.{Table}
 use Rattle.hp_warm_table.specs.Shape.{IsTable}
@@ -10,7 +10,7 @@ use Rattle.hp_warm_scale.specs.Scaling.{AreSmall}
 use Rattle.hp_warm_scale.specs.Fitting.{AreNarrow, Fits}
 
 -- a table of the same shape, with the same scales and the rows of the same cuts
-pub same_fits : (old new : Table) (lp : StageLp) → Fits old lp → IsTable new → new.scales ≡ old.scales → length new.costs ≡ length old.costs → length new.rows ≡ length old.rows → new.cuts ≡ old.cuts → Fits new lp
+pub same_fits : (old new : Table) (lp : Program) → Fits old lp → IsTable new → new.scales ≡ old.scales → length new.costs ≡ length old.costs → length new.rows ≡ length old.rows → new.cuts ≡ old.cuts → Fits new lp
 same_fits old new lp f s e c r k = record {
   table = s;
   small = subst (AreSmall 1000) (sym e) f.small;
@@ -20,13 +20,13 @@ same_fits old new lp f s e c r k = record {
   narrow = subst (λ (x : Cuts). AreNarrow lp x.waiting) (sym k) f.narrow;
 }
 
-pub still_fits : (old new : Table) (lp : StageLp) → Fits old lp → IsTable new → KeepsProgram old new → Fits new lp
+pub still_fits : (old new : Table) (lp : Program) → Fits old lp → IsTable new → KeepsProgram old new → Fits new lp
 still_fits old new lp f s w = same_fits old new lp f s (ap (λ (t : Table). t.scales) w) (ap (λ (t : Table). length t.costs) w) (ap (λ (t : Table). length t.rows) w) (ap (λ (t : Table). t.cuts) w)
 
 -- each cut in the table is a row of the program
-pub cuts_inside : (t : Table) (lp : StageLp) → Fits t lp → All (λ (i : ℕ). i < length lp.rows) t.cuts.rows
+pub cuts_inside : (t : Table) (lp : Program) → Fits t lp → All (λ (i : ℕ). i < length lp.rows) t.cuts.rows
 cuts_inside t lp f = All-weaker (λ (i : ℕ). (lp.own ≤ i) × (i < length lp.rows)) (λ (i : ℕ). i < length lp.rows) (λ i h. h.1) t.cuts.rows f.cuts
 
 -- there is a row for each own row
-pub own_inside : (t : Table) (lp : StageLp) → Fits t lp → lp.own ≤ length t.rows
+pub own_inside : (t : Table) (lp : Program) → Fits t lp → lp.own ≤ length t.rows
 own_inside t lp f = omega (arith, f.rows)

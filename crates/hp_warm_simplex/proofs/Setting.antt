@@ -1,8 +1,8 @@
 -- Turns on a table with the sides of a program.
 use Rattle.std.proofs.Common.{◌≡◌, pos, true, false, length, replicate, take, Option, None, Result, IfOk, refl, ap, sym, subst, ◌∙◌}
 use Rattle.std.proofs.lemmas.List.{length-replicate}
-use Rattle.hp_solver.specs.declared.stage_lp.StageLp.{StageLp}
-use Rattle.hp_solver.specs.declared.stage_lp.Answer.{Answer}
+use Rattle.hp_solver.specs.declared.programs.Program.{Program}
+use Rattle.hp_solver.specs.declared.programs.Answer.{Answer}
 use Rattle.hp_warm_table.specs.declared.table.Table.{Table}
 use Rattle.hp_warm_table.specs.Shape.{IsTable}
 use Rattle.hp_warm_table.specs.Kept.{KeepsProgram}
@@ -22,10 +22,10 @@ pub cleared_table : (t : Table) → IsTable t → IsTable (cleared t)
 cleared_table t s = same_shape t (cleared t) s (scales_of t s) (bounds_of t s) (basis_of t s) s.reduced (length-replicate (length t.costs) (replicate (length t.costs) (pos 0))) s.values
 
 -- other bounds change neither the columns nor the rows
-pub prepared_fits : (old new : Table) (lp : StageLp) → Fits old lp → IsTable new → new ≡ with_bounds (sided (trusted old) (take lp.own lp.rows)).1 (trusted old) → Fits new lp
+pub prepared_fits : (old new : Table) (lp : Program) → Fits old lp → IsTable new → new ≡ with_bounds (sided (trusted old) (take lp.own lp.rows)).1 (trusted old) → Fits new lp
 prepared_fits old new lp f s e = same_fits old new lp f s (ap (λ (t : Table). t.scales) e) (ap (λ (t : Table). length t.costs) e) (ap (λ (t : Table). length t.rows) e) (ap (λ (t : Table). t.cuts) e)
 
-pub restored_fits : (old mid new : Table) (lp : StageLp) → Fits old lp → mid ≡ cleared old → IsTable new → KeepsProgram mid new → Fits new lp
+pub restored_fits : (old mid new : Table) (lp : Program) → Fits old lp → mid ≡ cleared old → IsTable new → KeepsProgram mid new → Fits new lp
 restored_fits old mid new lp f c s k =
     same_fits old new lp f s
     (ap (λ (t : Table). t.scales) k ∙ ap (λ (t : Table). t.scales) c)
@@ -34,12 +34,12 @@ restored_fits old mid new lp f c s k =
     (ap (λ (t : Table). t.cuts) k ∙ ap (λ (t : Table). t.cuts) c)
 
 -- where a side is out of range
-pub go_fails : (lp : StageLp) (old new : Table) → false ≡ (sided (trusted old) (take lp.own lp.rows)).0 → new ≡ with_bounds (sided (trusted old) (take lp.own lp.rows)).1 (trusted old) → Ends None (go_of lp old) new
+pub go_fails : (lp : Program) (old new : Table) → false ≡ (sided (trusted old) (take lp.own lp.rows)).0 → new ≡ with_bounds (sided (trusted old) (take lp.own lp.rows)).1 (trusted old) → Ends None (go_of lp old) new
 unfolding go_of
 go_fails lp old new e p = ends_none (go_of lp old) new new (ap (by_sides lp (with_bounds (sided (trusted old) (take lp.own lp.rows)).1 (trusted old))) (sym e) ∙ ap (went None) (sym p)) refl
 
 -- else turns
-pub go_turns : (lp : StageLp) (old new : Table) → true ≡ (sided (trusted old) (take lp.own lp.rows)).0 → new ≡ with_bounds (sided (trusted old) (take lp.own lp.rows)).1 (trusted old) → gone_on lp new ≡ go_of lp old
+pub go_turns : (lp : Program) (old new : Table) → true ≡ (sided (trusted old) (take lp.own lp.rows)).0 → new ≡ with_bounds (sided (trusted old) (take lp.own lp.rows)).1 (trusted old) → gone_on lp new ≡ go_of lp old
 unfolding go_of
 go_turns lp old new e p = ap (gone_on lp) p ∙ ap (by_sides lp (with_bounds (sided (trusted old) (take lp.own lp.rows)).1 (trusted old))) e
 

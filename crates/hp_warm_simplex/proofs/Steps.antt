@@ -5,8 +5,8 @@ use Rattle.hp_warm_table.specs.declared.table.Table.{Table}
 use Rattle.hp_warm_table.specs.Updates.{Gives}
 use Rattle.hp_warm_line.specs.declared.moves.Swap.{Swap}
 use Rattle.hp_warm_simplex.specs.declared.violations.Violation.{Violation}
-use Rattle.hp_solver.specs.declared.stage_lp.StageLp.{StageLp}
-use Rattle.hp_solver.specs.declared.stage_lp.Answer.{Answer}
+use Rattle.hp_solver.specs.declared.programs.Program.{Program}
+use Rattle.hp_solver.specs.declared.programs.Answer.{Answer}
 use Rattle.hp_warm_simplex.specs.Violations.{violations_step, violations_from, next_violation}
 use Rattle.hp_warm_simplex.specs.Turns.{Glance, passes, mends, shows, stops, glance_of, Look, rests, takes, finds, fails, by_glance, by_next, look_from, Turn, pivots, settles, ends, Went, went, by_turn, turn_of, turns}
 use Rattle.hp_warm_simplex.specs.Steps.{Halts, Ends}
@@ -20,7 +20,7 @@ violations_on t vs next v count whole h w e =
     ∙ ap (option_and_then (λ (n : List Violation). violations_from t n (suc v) (count - (v + 1)))) is
     ∙ ap (λ (k : ℕ). violations_from t next k (count - (v + 1))) up
 
-module _ (lp : StageLp) (t : Table) (vs : List Violation) (whole : Look) (limit i : ℕ) (last : Option Violation) where
+module _ (lp : Program) (t : Table) (vs : List Violation) (whole : Look) (limit i : ℕ) (last : Option Violation) where
   -- the violation that is looked at next, by what it comes to
   looked : (v : Violation) (g : Glance) → i < limit → Some v ≡ next_violation last vs → glance_of lp t v ≡ g → whole ≡ look_from lp t vs (limit - i) last → whole ≡ by_glance (look_from lp t vs (limit - (i + 1)) (Some v)) g
   looked v g h e k w =
@@ -48,13 +48,13 @@ module _ (lp : StageLp) (t : Table) (vs : List Violation) (whole : Look) (limit 
   look_over h w = let none : limit - i ≡ 0 = omega arith in w ∙ ap (λ (n : ℕ). look_from lp t vs n last) none
 
 -- one turn of several
-pub turn_on : (lp : StageLp) (whole : Went) (limit i : ℕ) (fresh : Bool) (t : Table) (turn : Turn) → i < limit → turn_of lp fresh t ≡ turn → whole ≡ turns lp (limit - i) fresh t → whole ≡ by_turn (turns lp (limit - (i + 1))) turn
+pub turn_on : (lp : Program) (whole : Went) (limit i : ℕ) (fresh : Bool) (t : Table) (turn : Turn) → i < limit → turn_of lp fresh t ≡ turn → whole ≡ turns lp (limit - i) fresh t → whole ≡ by_turn (turns lp (limit - (i + 1))) turn
 turn_on lp whole limit i fresh t turn h e w =
     let left : limit - i ≡ suc (limit - (i + 1)) = omega arith in
     w ∙ ap (λ (n : ℕ). turns lp n fresh t) left ∙ ap (by_turn (turns lp (limit - (i + 1)))) e
 
 -- all turns are used up
-pub turns_over : (lp : StageLp) (whole : Went) (limit i : ℕ) (fresh : Bool) (t : Table) → limit ≤ i → whole ≡ turns lp (limit - i) fresh t → whole ≡ went None t
+pub turns_over : (lp : Program) (whole : Went) (limit i : ℕ) (fresh : Bool) (t : Table) → limit ≤ i → whole ≡ turns lp (limit - i) fresh t → whole ≡ went None t
 turns_over lp whole limit i fresh t h w = let none : limit - i ≡ 0 = omega arith in w ∙ ap (λ (n : ℕ). turns lp n fresh t) none
 
 -- a turn that halts among several ends them

@@ -1,7 +1,7 @@
 -- Attempts go by what turns leave.
 use Rattle.std.proofs.Common.{◌≡◌, Bool, true, false, Option, Some, None, IfSome, if◌then◌else◌, refl, ap, sym, ◌∙◌}
-use Rattle.hp_solver.specs.declared.stage_lp.StageLp.{StageLp}
-use Rattle.hp_solver.specs.declared.stage_lp.Answer.{Answer}
+use Rattle.hp_solver.specs.declared.programs.Program.{Program}
+use Rattle.hp_solver.specs.declared.programs.Answer.{Answer}
 use Rattle.hp_warm_table.specs.declared.table.Table.{Table}
 use Rattle.hp_warm_rebuild.specs.Clean.{clean_of}
 use Rattle.hp_warm_rebuild.specs.Standings.{rebuilt_of}
@@ -22,7 +22,7 @@ pub replaced_on : (before : Option Answer) (w : Went) (a : Option Answer) (t : T
 replaced_on before w None t h = ap (replaced_by before w.table) h.0
 replaced_on before w (Some a) t h = ap (replaced before) h
 
-pub warm_on : (lp : StageLp) (w : Went) (a : Option Answer) (t : Table) → Ends a w t → warm_attempt lp w ≡ unless_good lp a t
+pub warm_on : (lp : Program) (w : Went) (a : Option Answer) (t : Table) → Ends a w t → warm_attempt lp w ≡ unless_good lp a t
 warm_on lp w None t h = ap (λ (o : Option Answer). unless_good lp o w.table) h.0 ∙ ap (tried lp None) (held_restored w.table t h.1)
 warm_on lp w (Some a) t h = ap (warm_attempt lp) h
 
@@ -30,7 +30,7 @@ pub readied_on : (t : Table) (w : Went) (a : Option Answer) (u : Table) → Ends
 readied_on t w None u h = ap (λ (o : Option Answer). readied_by t o w.table) h.0
 readied_on t w (Some a) u h = ap (readied t) h
 
-pub left_fits : (lp : StageLp) (wide answer : Option Answer) (t : Option Table) → IfSome t (λ u. Fits u lp) → IfSome (left_by wide answer t) (λ u. Fits u lp)
+pub left_fits : (lp : Program) (wide answer : Option Answer) (t : Option Table) → IfSome t (λ u. Fits u lp) → IfSome (left_by wide answer t) (λ u. Fits u lp)
 left_fits lp (Some b) answer t h = tt
 left_fits lp None (Some a) t h = h
 left_fits lp None None t h = tt
@@ -40,6 +40,6 @@ pub made_is : (made : Bool) (o : Option Table) (t : Table) → Gives made o t �
 made_is true o t h = sym h
 made_is false o t h = sym h
 
-pub made_fits : (lp : StageLp) (made : Bool) (t : Table) → (made ≡ true → Fits t lp) → IfSome (if made then Some t else None) (λ u. Fits u lp)
+pub made_fits : (lp : Program) (made : Bool) (t : Table) → (made ≡ true → Fits t lp) → IfSome (if made then Some t else None) (λ u. Fits u lp)
 made_fits lp true t h = h refl
 made_fits lp false t h = tt

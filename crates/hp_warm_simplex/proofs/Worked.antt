@@ -2,11 +2,11 @@
 use Rattle.std.proofs.Common.{◌≡◌, ◌^◌, ℕ, ℤ, pos, neg_ℤ, ◌*ℤ◌, List, [], ◌∷◌, map, Option, Some, None, refl}
 use Rattle.std.specs.Option.{option_map}
 use Rattle.hp_solver.specs.declared.fixed.Fx.{Fx}
-use Rattle.hp_solver.specs.declared.stage_lp.Column.{Column}
-use Rattle.hp_solver.specs.declared.stage_lp.LpRow.{LpRow}
-use Rattle.hp_solver.specs.declared.stage_lp.StageLp.{StageLp}
-use Rattle.hp_solver.specs.declared.stage_lp.Answer.{Answer}
-use Rattle.hp_solver.specs.declared.stage_lp.Kind.TheVariants as kinds
+use Rattle.hp_solver.specs.declared.programs.Column.{Column}
+use Rattle.hp_solver.specs.declared.programs.LpRow.{LpRow}
+use Rattle.hp_solver.specs.declared.programs.Program.{Program}
+use Rattle.hp_solver.specs.declared.programs.Answer.{Answer}
+use Rattle.hp_solver.specs.declared.programs.Kind.TheVariants as kinds
 use Rattle.hp_solver.specs.Numbers.{number}
 use Rattle.hp_warm_table.specs.declared.table.Table.{Table}
 use Rattle.hp_warm_simplex.specs.Chains.{started_of, begun_of, next_of}
@@ -55,20 +55,20 @@ abbrev ray : List ℤ → List ℤ → Answer
 ray point duals = record { kind = kinds.Ray; point = map number point; duals = map number duals }
 
 -- what is seen of each table along a chain that has this one
-abbrev along : {A : Type 0} → (Table → A) → Option Table → List StageLp → List (Option A)
+abbrev along : {A : Type 0} → (Table → A) → Option Table → List Program → List (Option A)
 along seen chain [] = []
 along seen chain (lp ∷ lps) = option_map seen (next_of chain lp).1 ∷ along seen (next_of chain lp).1 lps
 
 -- the answers along it
-abbrev answers : Option Table → List StageLp → List Answer
+abbrev answers : Option Table → List Program → List Answer
 answers chain [] = []
 answers chain (lp ∷ lps) = (next_of chain lp).0 ∷ answers (next_of chain lp).1 lps
 
 -- the answer of a chain that has none
-abbrev answer : StageLp → Answer
+abbrev answer : Program → Answer
 answer lp = (next_of None lp).0
 
-abbrev flips : StageLp
+abbrev flips : Program
 flips =
     record {
       columns = column (pos 0) (pos 3) (pos 1) ∷ column (pos 0) (pos 4) (pos 2) ∷ column (pos 0) (pos 9) (pos 7) ∷ column (neg_ℤ (pos 5)) (pos 5) (pos 9) ∷ [];
@@ -77,7 +77,7 @@ flips =
       own = 1;
     }
 
-abbrev two_rays : StageLp
+abbrev two_rays : Program
 two_rays =
     record {
       columns = column (pos 0) (pos 50) (pos 1) ∷ column (pos 0) (pos 50) (pos 2) ∷ [];
@@ -86,7 +86,7 @@ two_rays =
       own = 2;
     }
 
-abbrev chain_first : StageLp
+abbrev chain_first : Program
 chain_first =
     record {
       columns = column (pos 0) (pos 10) (pos 0) ∷ column (pos 0) (pos 8) (pos 1) ∷ column (pos 0) (pos 20) (pos 5) ∷ [];
@@ -95,7 +95,7 @@ chain_first =
       own = 2;
     }
 
-abbrev chain_second : StageLp
+abbrev chain_second : Program
 chain_second =
     record {
       columns = column (pos 0) (pos 10) (pos 0) ∷ column (pos 0) (pos 8) (pos 1) ∷ column (pos 0) (pos 20) (pos 5) ∷ [];
@@ -104,7 +104,7 @@ chain_second =
       own = 2;
     }
 
-abbrev chain_third : StageLp
+abbrev chain_third : Program
 chain_third =
     record {
       columns = column (pos 0) (pos 10) (pos 0) ∷ column (pos 0) (pos 8) (pos 1) ∷ column (pos 0) (pos 20) (pos 5) ∷ [];
@@ -114,7 +114,7 @@ chain_third =
     }
 
 -- a reservoir into which at most 8 units can be bought, where the future costs at least 20 less 4 times its content, 9 less it, and 2
-abbrev reservoir : ℤ → List LpRow → ℤ → ℤ → StageLp
+abbrev reservoir : ℤ → List LpRow → ℤ → ℤ → Program
 reservoir content cuts future cost =
     record {
       columns = column (pos 0) (pos 8) (pos 3) ∷ column (pos 0) (pos 10) (pos 0) ∷ column (neg_ℤ future) future cost ∷ [];
@@ -130,14 +130,14 @@ cuts =
     ∷ row (Some (units (pos 2))) None ((2, units (pos 1)) ∷ [])
     ∷ []
 
-abbrev with_content : ℤ → StageLp
+abbrev with_content : ℤ → Program
 with_content content = reservoir content cuts (pos 100) (pos 1)
 
 -- a chain that begins with a start
 abbrev begun : Option Table
 begun = begun_of (started_of (reservoir (pos 4) [] (pos 0) (pos 0))) (with_content (pos 4))
 
-abbrev contents : List StageLp
+abbrev contents : List Program
 contents = with_content (pos 4) ∷ with_content (pos 1) ∷ with_content (pos 7) ∷ []
 
 -- places flip

@@ -1,10 +1,10 @@
 -- Answers along a chain: each program goes on from the table that the one before it left.
 use Rattle.std.specs.Prelude.{Bool, true, false, not, Option, Some, None, if◌then◌else◌}
 use Rattle.std.specs.Option.{option_map, option_and_then}
-use Rattle.hp_solver.specs.declared.stage_lp.StageLp.{StageLp}
-use Rattle.hp_solver.specs.declared.stage_lp.Answer.{Answer}
-use Rattle.hp_solver.specs.declared.stage_lp.Kind.{Kind}
-use Rattle.hp_solver.specs.declared.stage_lp.Kind.TheVariants as kinds
+use Rattle.hp_solver.specs.declared.programs.Program.{Program}
+use Rattle.hp_solver.specs.declared.programs.Answer.{Answer}
+use Rattle.hp_solver.specs.declared.programs.Kind.{Kind}
+use Rattle.hp_solver.specs.declared.programs.Kind.TheVariants as kinds
 use Rattle.hp_solver.specs.Answers.{lows_of, zeros_of}
 use Rattle.hp_warm_table.specs.declared.table.Table.{Table}
 use Rattle.hp_warm_scale.specs.First.{first_of}
@@ -36,40 +36,40 @@ abbrev pub replaced : Option Answer → Went → Attempt
 replaced before w = replaced_by before w.table w.answer
 
 -- turns on another table, where there is one
-abbrev pub tried : StageLp → Option Answer → Option Table → Attempt
+abbrev pub tried : Program → Option Answer → Option Table → Attempt
 tried lp before None = attempt before false None
 tried lp before (Some t) = replaced before (go_of lp t)
 
 -- where turns came to nothing good, turns on the same basis in a clean table
-abbrev pub unless_good : StageLp → Option Answer → Table → Attempt
+abbrev pub unless_good : Program → Option Answer → Table → Attempt
 unless_good lp a t = if is_good a t.weak then attempt a true (Some t) else tried lp a (restored_of t)
 
-abbrev pub warm_attempt : StageLp → Went → Attempt
+abbrev pub warm_attempt : Program → Went → Attempt
 warm_attempt lp w = unless_good lp w.answer w.table
 
 -- by the table that a chain has
-abbrev pub by_chain : StageLp → Option Table → Attempt
+abbrev pub by_chain : Program → Option Table → Attempt
 by_chain lp None = attempt None false None
 by_chain lp (Some t) = warm_attempt lp (go_of lp t)
 
 -- the table of a program from nothing, with the rows of all cuts
-unfoldable pub new_table : StageLp → Option Table
+unfoldable pub new_table : Program → Option Table
 new_table lp = option_and_then (widened_in_full lp) (first_of lp)
 
 -- where nothing good was found, turns on a table from nothing
-abbrev pub then_anew : StageLp → Attempt → Attempt
+abbrev pub then_anew : Program → Attempt → Attempt
 then_anew lp a = if a.good then a else tried lp a.answer (new_table lp)
 
 -- where there is no answer
-unfoldable pub stuck_of : StageLp → Answer
+unfoldable pub stuck_of : Program → Answer
 stuck_of lp = record { kind = kinds.Stuck; point = lows_of lp.columns; duals = zeros_of lp.rows }
 
 -- the answer in wide numbers, which is asked for where nothing good was found
-abbrev pub wide_unless : Bool → StageLp → Option Answer
+abbrev pub wide_unless : Bool → Program → Option Answer
 wide_unless good lp = if good then None else wide_of lp
 
 -- the answer in wide numbers, else that of attempts
-abbrev pub or_stuck : StageLp → Option Answer → Option Answer → Answer
+abbrev pub or_stuck : Program → Option Answer → Option Answer → Answer
 or_stuck lp (Some b) a = b
 or_stuck lp None (Some a) = a
 or_stuck lp None None = stuck_of lp
@@ -80,14 +80,14 @@ left_by (Some b) a t = None
 left_by None (Some a) t = t
 left_by None None t = None
 
-abbrev pub with_wide : StageLp → Attempt → Option Answer → Answer × Option Table
+abbrev pub with_wide : Program → Attempt → Option Answer → Answer × Option Table
 with_wide lp a wide = (or_stuck lp wide a.answer, left_by wide a.answer a.table)
 
-abbrev pub last_resort : StageLp → Attempt → Answer × Option Table
+abbrev pub last_resort : Program → Attempt → Answer × Option Table
 last_resort lp a = with_wide lp a (wide_unless a.good lp)
 
 -- the answer to a program of a chain that has this table, and the table that it has then
-unfoldable pub next_of : Option Table → StageLp → Answer × Option Table
+unfoldable pub next_of : Option Table → Program → Answer × Option Table
 next_of chain lp = last_resort lp (then_anew lp (by_chain lp chain))
 
 -- the table after turns that came to something good, else as it was before them
@@ -98,9 +98,9 @@ abbrev pub readied : Table → Went → Table
 readied t w = readied_by t w.answer w.table
 
 -- what is made ready by a program of own rows
-unfoldable pub started_of : StageLp → Option Table
+unfoldable pub started_of : Program → Option Table
 started_of lp = option_map (λ t. readied t (go_of lp t)) (first_of lp)
 
 -- the table of a chain that begins with a program
-unfoldable pub begun_of : Option Table → StageLp → Option Table
+unfoldable pub begun_of : Option Table → Program → Option Table
 begun_of start lp = option_and_then (widened lp) start

@@ -1,6 +1,6 @@
 -- What turns leave of a table as it was.
 use Rattle.std.specs.Prelude.{◌≡◌, length}
-use Rattle.hp_solver.specs.declared.stage_lp.StageLp.{StageLp}
+use Rattle.hp_solver.specs.declared.programs.Program.{Program}
 use Rattle.hp_warm_table.specs.declared.table.Table.{Table}
 use Rattle.hp_warm_table.specs.Kept.{KeepsProgram, with_work}
 use Rattle.hp_warm_simplex.specs.declared.turns.Room.{Room}
@@ -10,7 +10,7 @@ abbrev pub IsHeld : Table → Table → Type 0
 IsHeld old new = new ≡ with_work old old.basis new.reduced new.lines new.values new.weak
 
 -- of a program without cuts no rows come in
-abbrev pub KeepsOwn : StageLp → Table → Table → Type 0
+abbrev pub KeepsOwn : Program → Table → Table → Type 0
 KeepsOwn lp old new = lp.own ≡ length lp.rows → KeepsProgram old new
 
 -- lists for work are as long as the table asks

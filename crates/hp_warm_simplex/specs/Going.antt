@@ -1,6 +1,6 @@
 -- Turns on a table with the sides of a program.
 use Rattle.std.specs.Prelude.{◌+◌, ◌*◌, ℤ, pos, Bool, true, false, List, length, replicate, take, Option, Some, None}
-use Rattle.hp_solver.specs.declared.stage_lp.StageLp.{StageLp}
+use Rattle.hp_solver.specs.declared.programs.Program.{Program}
 use Rattle.hp_warm_table.specs.declared.table.Table.{Table}
 use Rattle.hp_warm_table.specs.Kept.{with_values, with_work}
 use Rattle.hp_warm_line.specs.Refine.{refined}
@@ -13,21 +13,21 @@ abbrev pub trusted : Table → Table
 trusted t = with_work t t.basis t.reduced t.lines t.values false
 
 -- turns on a table with these values of its basis, which are not fresh
-abbrev pub by_point : StageLp → Table → Option (List ℤ) → Went
+abbrev pub by_point : Program → Table → Option (List ℤ) → Went
 by_point lp t None = went None t
 by_point lp t (Some x) = turns lp (20 * length t.costs + 100) false (with_values t x)
 
 -- turns on a table from the values of its basis on
-unfoldable pub gone_on : StageLp → Table → Went
+unfoldable pub gone_on : Program → Table → Went
 gone_on lp t = by_point lp t (refined t)
 
 -- by whether all sides were set
-abbrev pub by_sides : StageLp → Table → Bool → Went
+abbrev pub by_sides : Program → Table → Bool → Went
 by_sides lp t true = gone_on lp t
 by_sides lp t false = went None t
 
 -- the sides of own rows are set to those of a program, and turns are taken until there is an answer
-unfoldable pub go_of : StageLp → Table → Went
+unfoldable pub go_of : Program → Table → Went
 go_of lp t = by_sides lp (with_bounds (sided (trusted t) (take lp.own lp.rows)).1 (trusted t)) (sided (trusted t) (take lp.own lp.rows)).0
 
 -- no line is known, as none is needed where all slacks are basic

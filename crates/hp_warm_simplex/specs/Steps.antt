@@ -1,7 +1,7 @@
 -- What a step in place comes to.
 use Rattle.std.specs.Prelude.{◌≡◌, ◌<◌, ◌≤◌, ◌^◌, ℕ, ℤ, nat_abs, List, length, Option, Some, None, ⊤}
 use Rattle.hp_num.specs.Sums.{entry}
-use Rattle.hp_solver.specs.declared.stage_lp.Answer.{Answer}
+use Rattle.hp_solver.specs.declared.programs.Answer.{Answer}
 use Rattle.hp_warm_table.specs.declared.table.Table.{Table}
 use Rattle.hp_warm_table.specs.Shape.{variables}
 use Rattle.hp_warm_line.specs.declared.moves.Swap.{Swap}

@@ -2,8 +2,8 @@
 -- goes along and whose cuts come in as they are asked for.
 use Rattle.std.specs.Prelude.{ℕ, zero, suc, ℤ, Bool, true, false, ◌||◌, List, length, Option, Some, None, nat_lt, if◌then◌else◌}
 use Rattle.std.specs.Option.{option_map, is_some}
-use Rattle.hp_solver.specs.declared.stage_lp.StageLp.{StageLp}
-use Rattle.hp_solver.specs.declared.stage_lp.Answer.{Answer}
+use Rattle.hp_solver.specs.declared.programs.Program.{Program}
+use Rattle.hp_solver.specs.declared.programs.Answer.{Answer}
 use Rattle.hp_warm_table.specs.declared.table.Table.{Table}
 use Rattle.hp_warm_table.specs.Kept.{with_values, with_work}
 use Rattle.hp_warm_line.specs.declared.moves.Swap.{Swap}
@@ -43,11 +43,11 @@ by_place v ray line flips (Some e) = mends (swap_at v e) line flips
 abbrev pub by_entry : Violation → Option Answer → List ℤ → Entry → Glance
 by_entry v ray line entry = by_place v ray line entry.1 entry.0
 
-abbrev pub by_line : StageLp → Table → Violation → Option (List ℤ) → Glance
+abbrev pub by_line : Program → Table → Violation → Option (List ℤ) → Glance
 by_line lp t v None = stops
 by_line lp t v (Some line) = by_entry v (ray_of t line v.variable v.above lp) line (enter_of t line v.above v.amount)
 
-unfoldable pub glance_of : StageLp → Table → Violation → Glance
+unfoldable pub glance_of : Program → Table → Violation → Glance
 glance_of lp t v = by_line lp t v (line_of t v.variable)
 
 -- what all violations come to: none can be mended, and some were passed over or none; this one is; one shows that no point keeps
@@ -71,15 +71,15 @@ by_next go last None = rests (is_some last)
 by_next go last (Some v) = go v
 
 -- the violations behind the last one, at most `count` of them, the greatest first
-abbrev pub look_from : StageLp → Table → List Violation → ℕ → Option Violation → Look
+abbrev pub look_from : Program → Table → List Violation → ℕ → Option Violation → Look
 look_from lp t vs zero last = rests (is_some last)
 look_from lp t vs (suc count) last = by_next (λ v. by_glance (look_from lp t vs count (Some v)) (glance_of lp t v)) last (next_violation last vs)
 
-abbrev pub by_violations : StageLp → Table → Option (List Violation) → Look
+abbrev pub by_violations : Program → Table → Option (List Violation) → Look
 by_violations lp t None = fails
 by_violations lp t (Some vs) = look_from lp t vs (length vs) None
 
-unfoldable pub look_of : StageLp → Table → Look
+unfoldable pub look_of : Program → Table → Look
 look_of lp t = by_violations lp t (violations_of t)
 
 -- what a turn comes to: a pivot; a point that is as exact as its table, refined or with rows of cuts more; or the end, with an
@@ -120,37 +120,37 @@ abbrev pub by_found : Table → Table → Option Answer → Turn
 by_found t u None = ends None t
 by_found t u (Some a) = ends (Some a) u
 
-abbrev pub by_closed : StageLp → Table → Option Table → Turn
+abbrev pub by_closed : Program → Table → Option Table → Turn
 by_closed lp t None = ends None t
 by_closed lp t (Some u) = by_found t u (found_of u lp)
 
 -- the point and the duals of a table on which nothing is left to do
-unfoldable pub finishing : StageLp → Bool → Table → Turn
+unfoldable pub finishing : Program → Bool → Table → Turn
 finishing lp passed t = by_closed lp t (closed_of passed t)
 
 -- by whether rows came in, of which there were so many
-abbrev pub by_rows : StageLp → Bool → ℕ → Table → Turn
+abbrev pub by_rows : Program → Bool → ℕ → Table → Turn
 by_rows lp passed count t = if nat_lt count (length t.rows) then settles t else finishing lp passed t
 
 -- by the cuts that were asked for, where there were so many rows
-abbrev pub by_scan : StageLp → Bool → ℕ → Scanned → Turn
+abbrev pub by_scan : Program → Bool → ℕ → Scanned → Turn
 by_scan lp passed count s = if s.stopped then ends None s.table else by_rows lp passed count s.table
 
-unfoldable pub asked : StageLp → Bool → Table → Turn
+unfoldable pub asked : Program → Bool → Table → Turn
 asked lp passed t = by_scan lp passed (length t.rows) (scan_of lp t)
 
 -- where no violation can be mended: the point is refined, and once that is so, cuts are asked for
-abbrev pub at_rest : StageLp → Bool → Bool → Table → Turn
+abbrev pub at_rest : Program → Bool → Bool → Table → Turn
 at_rest lp fresh passed t = if fresh then asked lp passed t else by_values t (refined t)
 
-abbrev pub by_look : StageLp → Bool → Table → Look → Turn
+abbrev pub by_look : Program → Bool → Table → Look → Turn
 by_look lp fresh t (rests passed) = at_rest lp fresh passed t
 by_look lp fresh t (takes swap line flips) = swapped t swap line flips
 by_look lp fresh t (finds a) = ends (Some a) t
 by_look lp fresh t fails = ends None t
 
 -- one turn on a table whose point is fresh, that is refined since the last pivot, or not
-unfoldable pub turn_of : StageLp → Bool → Table → Turn
+unfoldable pub turn_of : Program → Bool → Table → Turn
 turn_of lp fresh t = by_look lp fresh t (look_of lp t)
 
 -- how turns end: with an answer or without, and the table then
@@ -168,6 +168,6 @@ by_turn next (settles u) = next true u
 by_turn next (ends a u) = went a u
 
 -- at most so many turns
-abbrev pub turns : StageLp → ℕ → Bool → Table → Went
+abbrev pub turns : Program → ℕ → Bool → Table → Went
 turns lp zero fresh t = went None t
 turns lp (suc count) fresh t = by_turn (turns lp count) (turn_of lp fresh t)

@@ -10,7 +10,7 @@ ghost use Rattle.hp_warm_answers.specs.Ray.{ray_of};
 use crate::violations::{Violation, next_violation};
 use hp_num::{List, Memory};
 use hp_solver::{Answer, StageLp};
-use hp_warm_answers::entering::enter;
+use hp_warm_answers::entering::{Rank, enter};
 use hp_warm_answers::ray::ray;
 use hp_warm_line::{Swap, write_line};
 use hp_warm_table::{Cell, Table};
@@ -48,6 +48,7 @@ fn enter_or_show(
     violation: Violation,
     line: &[Cell],
     flips: &mut List<usize>,
+    candidates: &mut List<Rank>,
 ) -> Result<Glance, Memory>
     requires fits { Fits table.now lp.now }
     requires there { IsThere table.now violation }
@@ -56,7 +57,7 @@ fn enter_or_show(
     ensures inside { IfOk result (λ glance. GlancesInside glance table.now line.now flips.new) }
 {
     let amount = i128::from(violation.amount);
-    if let Some((place, rest)) = enter(table, line, violation.above, amount, flips)? {
+    if let Some((place, rest)) = enter(table, line, violation.above, amount, flips, candidates)? {
         return Ok(Glance::Mends(Swap {
             leaving: violation.variable,
             above: violation.above,
@@ -79,6 +80,7 @@ fn inspect(
     violation: Violation,
     line: &mut List<Cell>,
     flips: &mut List<usize>,
+    candidates: &mut List<Rank>,
 ) -> Result<Glance, Memory>
     requires fits { Fits table.now lp.now }
     requires there { IsThere table.now violation }
@@ -90,7 +92,15 @@ fn inspect(
     if !write_line(table, violation.variable, line) {
         return Ok(Glance::Stops);
     }
-    enter_or_show(alloc, lp, table, violation, line.as_slice(), flips)
+    enter_or_show(
+        alloc,
+        lp,
+        table,
+        violation,
+        line.as_slice(),
+        flips,
+        candidates,
+    )
 }
 
 // All violations, the greatest first, until one is mended or shows that no point keeps all bounds.
@@ -101,6 +111,7 @@ pub(crate) fn inspect_all(
     violations: &[Violation],
     line: &mut List<Cell>,
     flips: &mut List<usize>,
+    candidates: &mut List<Rank>,
 ) -> Result<Look, Memory>
     requires fits { Fits table.now lp.now }
     requires there { All (IsThere table.now) violations.now }
@@ -114,7 +125,7 @@ pub(crate) fn inspect_all(
         let Some(violation) = next_violation(last, violations) else {
             return Ok(Look::Rests(last.is_some()));
         };
-        match inspect(alloc, lp, table, violation, line, flips)? {
+        match inspect(alloc, lp, table, violation, line, flips, candidates)? {
             Glance::Passes => last = Some(violation),
             Glance::Mends(swap) => return Ok(Look::Mends(swap)),
             Glance::Shows(answer) => return Ok(Look::Shows(answer)),

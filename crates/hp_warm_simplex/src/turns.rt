@@ -14,6 +14,7 @@ use crate::looking::{Look, inspect_all};
 use crate::violations::{Violation, violations};
 use hp_num::{List, Memory};
 use hp_solver::{Answer, StageLp};
+use hp_warm_answers::entering::Rank;
 use hp_warm_answers::finishing::finish;
 use hp_warm_answers::found::found;
 use hp_warm_line::{Shift, Swap, move_point, pivot, refine};
@@ -34,6 +35,8 @@ pub struct Room {
     pub(crate) shifts: List<(usize, Shift)>,
     // The places that flip.
     pub(crate) flips: List<usize>,
+    // The places that may enter, with what their order goes by.
+    pub(crate) candidates: List<Rank>,
     // Lists of scans.
     pub(crate) scan: ScanRoom,
 }
@@ -195,7 +198,15 @@ fn take_turn(
         return Ok(Turn::Stops);
     }
     let all = room.violations.as_slice();
-    match inspect_all(alloc, lp, table, all, &mut room.line, &mut room.flips)? {
+    match inspect_all(
+        alloc,
+        lp,
+        table,
+        all,
+        &mut room.line,
+        &mut room.flips,
+        &mut room.candidates,
+    )? {
         Look::Rests(passed) => rest(alloc, lp, table, room, fresh, passed),
         Look::Mends(swap) => Ok(exchange(table, room, swap)),
         Look::Shows(answer) => Ok(Turn::Ends(answer)),

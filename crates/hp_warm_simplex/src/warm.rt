@@ -1,7 +1,7 @@
 // The warm simplex, as a solver of one program after another.
 ghost use Rattle.std.specs.Prelude.{◌≡◌, Option, Some, IfOk, IfSome, OnOk};
-ghost use Rattle.hp_solver.specs.declared.stage_lp.StageLp.{StageLp};
-ghost use Rattle.hp_solver.specs.declared.stage_lp.Answer.{Answer};
+ghost use Rattle.hp_solver.specs.declared.programs.Program.{Program};
+ghost use Rattle.hp_solver.specs.declared.programs.Answer.{Answer};
 ghost use Rattle.hp_solver.specs.Proper.{IsProper, IsReference, Extends, IsLike};
 ghost use Rattle.hp_warm_scale.specs.First.{first_of};
 ghost use Rattle.hp_warm_scale.specs.Fitting.{Suits, Fits};
@@ -67,6 +67,7 @@ fn new_room(alloc: Global) -> Room {
         steps: List::new(alloc),
         shifts: List::new(alloc),
         flips: List::new(alloc),
+        candidates: List::new(alloc),
         scan: ScanRoom::new(alloc),
     }
 }
@@ -151,12 +152,12 @@ impl Solver for WarmSimplex {
 
     // By the number of cells of the tables and of cuts that are looked up, all together.
     fn worth_a_thread(&self, lp: &StageLp, solves: usize) -> bool {
-        let own = lp.own as usize;
+        let own = lp.own();
         let cells = lp
-            .columns
+            .columns()
             .len()
             .saturating_mul(own.saturating_add(FEW_CUTS));
-        let cuts = lp.rows.len().saturating_sub(own).saturating_mul(2);
+        let cuts = lp.row_count().saturating_sub(own).saturating_mul(2);
         cells.saturating_add(cuts).saturating_mul(solves) >= LEAST_WORK
     }
 }

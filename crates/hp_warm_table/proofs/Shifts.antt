@@ -1,11 +1,11 @@
 -- Shifts by many places.
-use Rattle.std.proofs.Common.{◌≡◌, ℕ, zero, suc, ◌^◌, ◌-◌, ◌*◌, ◌<◌, ◌≤◌, ℤ, pos, negsuc, neg_ℤ, of_z, ⊎_elim, ◌⊎◌, true, ◌<ℤ◌, ◌≤ℤ◌, ◌*ℤ◌, FitsSigned, Some, None, Bool, false, cond, arith, refl, ap, sym}
+use Rattle.std.proofs.Common.{◌≡◌, ℕ, zero, suc, ◌^◌, ◌-◌, ◌*◌, ◌<◌, ◌≤◌, ℤ, pos, negsuc, neg_ℤ, nat_abs, of_z, ⊎_elim, ◌⊎◌, true, ◌<ℤ◌, ◌≤ℤ◌, ◌*ℤ◌, FitsSigned, Some, None, Bool, false, cond, arith, refl, ap, sym}
 use Rattle.std.proofs.lemmas.Int.{ints}
 use Rattle.std.proofs.Math.Nat.{div-eq_of_lt}
 use mir.Syntax.{w128}
 use Rattle.hp_solver.specs.Numbers.{fits, held}
 use Rattle.hp_warm_table.specs.Numbers.{shift_up, shift_down}
-use Rattle.hp_solver.proofs.Numbers.{fits-fact}
+use Rattle.hp_solver.proofs.Numbers.{fits-true, fits-fact}
 use Rattle.hp_warm_table.proofs.Powers.{power_more}
 
 pub down_to_none : (v : ℤ) (k : ℕ) → FitsSigned w128 v → 127 ≤ k → pos 0 ≤ℤ v → pos 0 ≡ shift_down v k
@@ -44,3 +44,8 @@ up_absent (pos zero) k h a b = absurd (a refl)
 up_absent (pos (suc n)) k h a b = rw (pos_times (suc n) (2 ^ k)) (absent_from (pos (suc n * 2 ^ k)) (too_great (suc n * 2 ^ k) (omega (arith, power_more k 127 h))))
 up_absent (negsuc zero) k h a b = ⊎_elim (λ (p : (k ≡ 127) × (of_z w128 (negsuc zero) ≡ 2 ^ 128 - 1 → ⊥)). absurd (p.1 refl)) (λ (p : k ≡ 127 → ⊥). rw (neg_times 0 (2 ^ k)) (absent_from (neg_ℤ (pos (suc 0 * 2 ^ k))) (too_small (suc 0 * 2 ^ k) (omega (arith, power_more k 128 (omega (arith, p))))))) b
 up_absent (negsuc (suc n)) k h a b = rw (neg_times (suc n) (2 ^ k)) (absent_from (neg_ℤ (pos (suc (suc n) * 2 ^ k))) (too_small (suc (suc n) * 2 ^ k) (omega (arith, power_more k 127 h))))
+
+-- 128 bits hold what has at most 126
+pub small_held : (z : ℤ) → nat_abs z ≤ 2 ^ 126 → held z ≡ Some z
+small_held (pos n) h = rw (fits-true (pos n) (record { sfits = omega (arith, h) })) refl
+small_held (negsuc n) h = rw (fits-true (negsuc n) (record { sfits = omega (arith, h) })) refl

@@ -1,9 +1,7 @@
 // Scaled numbers.
-ghost use Rattle.std.specs.Prelude.{◌≡◌, ◌^◌, ◌<◌, ◌≤◌, pos, ◌*ℤ◌, nat_abs};
+ghost use Rattle.std.specs.Prelude.{◌≡◌, ◌^◌, ◌<◌, ◌≤◌, pos, ◌*ℤ◌, nat_abs, Some, IfSome};
 ghost use Rattle.hp_solver.specs.Numbers.{held};
 ghost use Rattle.hp_warm_table.specs.Numbers.{down_of, bits_of, quotient_of, shift_up, shift_down, shift_of};
-
-use hp_num::floor_div;
 
 /// A product.
 pub fn product(x: i64, y: i64) -> i128
@@ -62,8 +60,40 @@ fn whole_product(x: i128, y: i128) -> Option<i128>
     x.checked_mul(y)
 }
 
+// 2^k in 64 bits.
+fn short_power(k: u32) -> i64
+    requires { k ≤ 62 }
+    ensures { result ≡ pos (2 ^ k) }
+{
+    1 << k
+}
+
+// The number times 2^k, where both have few digits: one product of 64 bits, and nothing to test. None elsewhere.
+#[tactic(auto, using(crate::proofs::Shifts::small_held))]
+fn short_shift_up(v: i128, k: u32) -> Option<i128>
+    ensures { IfSome result (λ x. held (v *ℤ pos (2 ^ k)) ≡ Some x) }
+{
+    if k > 62 {
+        return None;
+    }
+    match i64::try_from(v) {
+        Ok(short) => Some(product(short, short_power(k))),
+        Err(_) => None,
+    }
+}
+
 #[tactic(auto, unfolding(crate::specs::Numbers::shift_up))]
 fn shift_up(v: i128, k: u32) -> Option<i128>
+    ensures { result ≡ shift_up v k }
+{
+    match short_shift_up(v, k) {
+        Some(shifted) => Some(shifted),
+        None => long_shift_up(v, k),
+    }
+}
+
+#[tactic(auto, unfolding(crate::specs::Numbers::shift_up))]
+fn long_shift_up(v: i128, k: u32) -> Option<i128>
     ensures { result ≡ shift_up v k }
 {
     if k <= 126 {
@@ -82,7 +112,7 @@ fn shift_down(v: i128, k: u32) -> i128
     ensures { result ≡ shift_down v k }
 {
     if k <= 126 {
-        floor_div(v, power(k))
+        v >> k
     } else if v < 0 {
         -1
     } else {

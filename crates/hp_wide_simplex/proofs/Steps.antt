@@ -1,7 +1,7 @@
 -- One step of the loop over violations.
 use Rattle.std.proofs.Common.{◌≡◌, ℕ, suc, ◌+◌, ◌-◌, ◌<◌, List, Option, Some, arith, ap, sym, ◌∙◌}
-use Rattle.hp_solver.specs.declared.stage_lp.StageLp.{StageLp}
-use Rattle.hp_solver.specs.declared.stage_lp.Answer.{Answer}
+use Rattle.hp_solver.specs.declared.programs.Program.{Program}
+use Rattle.hp_solver.specs.declared.programs.Answer.{Answer}
 use Rattle.hp_wide_table.specs.declared.table.Table.{Table}
 use Rattle.hp_wide_simplex.specs.declared.violations.Violation.{Violation}
 use Rattle.hp_wide_simplex.specs.declared.looking.Mend.{Mend}
@@ -10,7 +10,7 @@ use Rattle.hp_wide_simplex.specs.declared.looking.Look.TheVariants as looks
 use Rattle.hp_wide_simplex.specs.Violations.{next_violation}
 use Rattle.hp_wide_simplex.specs.Turns.{look_at, or_after, by_next, look_from}
 
-module _ (lp : StageLp) (t : Table) (vs : List Violation) (whole : Look) (limit i : ℕ) (last : Option Violation) where
+module _ (lp : Program) (t : Table) (vs : List Violation) (whole : Look) (limit i : ℕ) (last : Option Violation) where
   -- the violation that is looked at next, by what it comes to
   looked : (v : Violation) (g : Look) → i < limit → Some v ≡ next_violation last vs → g ≡ look_at lp t v → whole ≡ look_from lp t vs (limit - i) last → whole ≡ or_after (look_from lp t vs (limit - (i + 1)) (Some v)) g
   looked v g h e k w =

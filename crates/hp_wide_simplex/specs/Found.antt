@@ -3,11 +3,11 @@ use Rattle.std.specs.Prelude.{ℕ, ◌^◌, ◌+◌, ℤ, pos, ◌-ℤ◌, ◌*�
 use Rattle.std.specs.Option.{option_map, option_and_then}
 use Rattle.hp_num.specs.Sums.{entry, floor_over}
 use Rattle.hp_solver.specs.declared.fixed.Fx.{Fx}
-use Rattle.hp_solver.specs.declared.stage_lp.Column.{Column}
-use Rattle.hp_solver.specs.declared.stage_lp.LpRow.{LpRow}
-use Rattle.hp_solver.specs.declared.stage_lp.StageLp.{StageLp}
-use Rattle.hp_solver.specs.declared.stage_lp.Answer.{Answer}
-use Rattle.hp_solver.specs.declared.stage_lp.Kind.TheVariants as kinds
+use Rattle.hp_solver.specs.declared.programs.Column.{Column}
+use Rattle.hp_solver.specs.declared.programs.LpRow.{LpRow}
+use Rattle.hp_solver.specs.declared.programs.Program.{Program}
+use Rattle.hp_solver.specs.declared.programs.Answer.{Answer}
+use Rattle.hp_solver.specs.declared.programs.Kind.TheVariants as kinds
 use Rattle.hp_solver.specs.Numbers.{number, zero_fx}
 use Rattle.hp_simplex.specs.Each.{each_from}
 use Rattle.hp_wide.specs.Numbers.{held}
@@ -56,9 +56,9 @@ abbrev pub found_with : List Fx → List Fx → Answer
 found_with point duals = record { kind = kinds.Found; point = point; duals = duals }
 
 -- none where a number on the way leaves 128 bits
-unfoldable pub found_of : Table → StageLp → Option Answer
+unfoldable pub found_of : Table → Program → Option Answer
 found_of t lp = option_and_then (λ point. option_map (found_with point) (each_from (dual_at t) 0 lp.rows)) (each_from (point_at t) 0 lp.columns)
 
 -- the same, none where a reduced cost is no cell
-unfoldable pub finished_of : Table → StageLp → Option Answer
+unfoldable pub finished_of : Table → Program → Option Answer
 finished_of t lp = option_and_then (λ costs. found_of t lp) (costs_of t)

@@ -1,16 +1,16 @@
 -- The answer to a program in wide numbers, from nothing.
 use Rattle.std.specs.Prelude.{◌+◌, ◌*◌, false, length, Option}
 use Rattle.std.specs.Option.{option_and_then}
-use Rattle.hp_solver.specs.declared.stage_lp.StageLp.{StageLp}
-use Rattle.hp_solver.specs.declared.stage_lp.Answer.{Answer}
+use Rattle.hp_solver.specs.declared.programs.Program.{Program}
+use Rattle.hp_solver.specs.declared.programs.Answer.{Answer}
 use Rattle.hp_wide_table.specs.declared.table.Table.{Table}
 use Rattle.hp_wide_table.specs.Making.{table_of}
 use Rattle.hp_wide_simplex.specs.Turns.{turns}
 
 -- by the table of the whole program
-abbrev pub solved : StageLp → Table → Option Answer
+abbrev pub solved : Program → Table → Option Answer
 solved lp t = turns lp (20 * length t.costs + 100) false t
 
 -- a point or a proved ray; none where a number leaves its range, where the turns run out, or with more than 1,199 columns
-unfoldable pub wide_of : StageLp → Option Answer
+unfoldable pub wide_of : Program → Option Answer
 wide_of lp = option_and_then (solved lp) (table_of lp)

@@ -1,7 +1,7 @@
 -- Turns of the bounded dual simplex method (Lemke, 1954; Wagner, 1958), with bound flips (Maros, 2003).
 use Rattle.std.specs.Prelude.{ℕ, zero, suc, ℤ, Bool, true, false, List, length, Option, Some, None, if◌then◌else◌}
-use Rattle.hp_solver.specs.declared.stage_lp.StageLp.{StageLp}
-use Rattle.hp_solver.specs.declared.stage_lp.Answer.{Answer}
+use Rattle.hp_solver.specs.declared.programs.Program.{Program}
+use Rattle.hp_solver.specs.declared.programs.Answer.{Answer}
 use Rattle.hp_wide_table.specs.declared.table.Table.{Table}
 use Rattle.hp_wide_table.specs.Kept.{with_values}
 use Rattle.hp_wide_simplex.specs.declared.entering.Entry.{Entry}
@@ -33,13 +33,13 @@ abbrev pub by_entry : Option Answer → Violation → List ℤ → Option Entry 
 by_entry ray v line None = looks.Stops
 by_entry ray v line (Some e) = by_place ray v line e.flips e.place
 
-abbrev pub by_line : StageLp → Table → Violation → Option (List ℤ) → Look
+abbrev pub by_line : Program → Table → Violation → Option (List ℤ) → Look
 by_line lp t v None = looks.Stops
 by_line lp t v (Some line) = by_entry (ray_of t line v.variable v.above lp) v line (enter_of t line v.above v.amount)
 
 -- what one violation comes to: nothing can be done; it is mended; it shows by its ray that no point keeps all bounds; or a number
 -- is out of range
-unfoldable pub look_at : StageLp → Table → Violation → Look
+unfoldable pub look_at : Program → Table → Violation → Look
 look_at lp t v = by_line lp t v (line_of t v.variable)
 
 -- where nothing can be done, what `after` says
@@ -54,16 +54,16 @@ by_next go None = looks.Rests
 by_next go (Some v) = go v
 
 -- the violations behind the last one, at most `count` of them, the greatest first
-abbrev pub look_from : StageLp → Table → List Violation → ℕ → Option Violation → Look
+abbrev pub look_from : Program → Table → List Violation → ℕ → Option Violation → Look
 look_from lp t vs zero last = looks.Rests
 look_from lp t vs (suc count) last = by_next (λ v. or_after (look_from lp t vs count (Some v)) (look_at lp t v)) (next_violation last vs)
 
-abbrev pub by_violations : StageLp → Table → Option (List Violation) → Look
+abbrev pub by_violations : Program → Table → Option (List Violation) → Look
 by_violations lp t None = looks.Stops
 by_violations lp t (Some vs) = look_from lp t vs (length vs) None
 
 -- what all violations come to
-unfoldable pub look_of : StageLp → Table → Look
+unfoldable pub look_of : Program → Table → Look
 look_of lp t = by_violations lp t (violations_of t)
 
 -- what a turn comes to: a pivot, nothing, a ray, or a number out of range
@@ -87,21 +87,21 @@ by_look t (looks.Shows a) = ends a
 by_look t looks.Stops = halts
 
 -- on the table with the values of its basis
-abbrev pub by_values : StageLp → Table → Option (List ℤ) → Turn
+abbrev pub by_values : Program → Table → Option (List ℤ) → Turn
 by_values lp t None = halts
 by_values lp t (Some x) = by_look (with_values t x) (look_of lp (with_values t x))
 
-unfoldable pub turn_of : StageLp → Table → Turn
+unfoldable pub turn_of : Program → Table → Turn
 turn_of lp t = by_values lp t (refined t)
 
 -- after a turn, by what follows it and by whether the turn before did nothing
-abbrev pub by_turn : StageLp → (Bool → Table → Option Answer) → Bool → Turn → Option Answer
+abbrev pub by_turn : Program → (Bool → Table → Option Answer) → Bool → Turn → Option Answer
 by_turn lp next idle (pivots u) = next false u
 by_turn lp next idle (idles u) = if idle then finished_of u lp else next true u
 by_turn lp next idle (ends a) = Some a
 by_turn lp next idle halts = None
 
 -- at most so many turns, after one that did nothing or not; none where all are used up
-abbrev pub turns : StageLp → ℕ → Bool → Table → Option Answer
+abbrev pub turns : Program → ℕ → Bool → Table → Option Answer
 turns lp zero idle t = None
 turns lp (suc count) idle t = by_turn lp (turns lp count) idle (turn_of lp t)

@@ -190,10 +190,11 @@ fn found(alloc: Global, table: &Table, lp: &StageLp) -> Result<Option<Answer>, M
     requires fits { Fits table.now lp.now }
     ensures { IfOk result (λ answer. answer ≡ found_of table.now lp.now) }
 {
-    let Some(point) = point(alloc, table, lp.columns.as_slice())? else {
+    let Some(point) = point(alloc, table, lp.columns())? else {
         return Ok(None);
     };
-    let Some(duals) = duals(alloc, table, lp.rows.as_slice())? else {
+    let program = lp.program(alloc)?;
+    let Some(duals) = duals(alloc, table, program.rows.as_slice())? else {
         return Ok(None);
     };
     Ok(Some(Answer {

@@ -216,7 +216,7 @@ fn ray_duals(
     requires small { nat_abs top ≤ 2000 }
     ensures { IfOk result (λ found. found ≡ ray_duals table.now line.now variable above lp.now top) }
 {
-    let (own, _) = lp.rows.as_slice().split_at(lp.own as usize);
+    let own = lp.own_rows();
     row_duals(alloc, table, line, variable, above, top, own)
 }
 
@@ -253,7 +253,7 @@ pub fn ray(
     requires line { length line.now ≡ length table.now.costs }
     ensures { IfOk result (λ answer. answer ≡ ray_of table.now line.now variable above lp.now) }
 {
-    let Some(top) = top_of(table, line, variable, above, lp.own as usize) else {
+    let Some(top) = top_of(table, line, variable, above, lp.own()) else {
         return Ok(None);
     };
     match ray_duals(alloc, table, line, variable, above, lp, top)? {

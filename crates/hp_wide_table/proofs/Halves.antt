@@ -1,5 +1,5 @@
 -- Powers of 2 are held.
-use Rattle.std.proofs.Common.{◌≡◌, ◌^◌, ◌-◌, ◌*◌, ◌<◌, ◌≤◌, ℕ, ℤ, pos, ◌*ℤ◌, nat_lt, Bool, true, Option, Some, None, cond, arith, ap, sym, ◌∙◌}
+use Rattle.std.proofs.Common.{◌≡◌, ◌^◌, ◌-◌, ◌*◌, ◌≤◌, ℕ, ℤ, pos, ◌*ℤ◌, nat_lt, Bool, true, Option, Some, None, cond, arith, ap, ◌∙◌}
 use Rattle.std.proofs.lemmas.Bool.Decides.{nat_tests}
 use Rattle.hp_warm_table.proofs.Powers.{power_more}
 use Rattle.hp_wide.specs.Numbers.{held}

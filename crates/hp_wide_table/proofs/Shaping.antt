@@ -13,7 +13,7 @@ use Rattle.hp_wide_table.specs.declared.appending.Sides.{Sides}
 use Rattle.hp_wide_table.specs.Shape.{IsTable}
 use Rattle.hp_wide_table.specs.Scaling.{blank_of, with_column, stood}
 use Rattle.hp_wide_table.specs.Appending.{with_row}
-use Rattle.hp_wide_table.proofs.Shapes.{scales_of, bounds_of, basis_of, other_highs, same_shape}
+use Rattle.hp_wide_table.proofs.Shapes.{scales_of, bounds_of, other_highs, same_shape}
 
 pub column_table : (j : ℕ) (s : ScaledColumn) (t : Table) → IsTable t → IsTable (with_column j s t)
 column_table j s t w =

@@ -2,9 +2,9 @@
 use Rattle.std.proofs.Common.{◌≡◌, ℕ, ℤ, pos, neg_ℤ, List, [], ◌∷◌, Option, Some, None, true, false, refl}
 use Rattle.std.specs.Option.{option_map}
 use Rattle.hp_solver.specs.declared.fixed.Fx.{Fx}
-use Rattle.hp_solver.specs.declared.stage_lp.Column.{Column}
-use Rattle.hp_solver.specs.declared.stage_lp.LpRow.{LpRow}
-use Rattle.hp_solver.specs.declared.stage_lp.StageLp.{StageLp}
+use Rattle.hp_solver.specs.declared.programs.Column.{Column}
+use Rattle.hp_solver.specs.declared.programs.LpRow.{LpRow}
+use Rattle.hp_solver.specs.declared.programs.Program.{Program}
 use Rattle.hp_solver.specs.Numbers.{number}
 use Rattle.hp_wide_table.specs.declared.table.Table.{Table}
 use Rattle.hp_wide_table.specs.Making.{table_of}
@@ -25,7 +25,7 @@ abbrev row : Option Fx → Option Fx → List (ℕ × Fx) → LpRow
 row low high terms = record { low = low; high = high; terms = terms }
 
 -- a reservoir, a turbine, a plant and what is to come, with two cuts
-abbrev with_cuts : StageLp
+abbrev with_cuts : Program
 with_cuts =
     record {
       columns = column (pos 0) (pos 42949672960) (pos 0) ∷ column (pos 0) (pos 34359738368) (pos 4294967296) ∷ column (pos 0) (pos 85899345920) (pos 21474836480) ∷ column (pos 0) (pos 4294967296000) (pos 4294967296) ∷ [];

@@ -3,7 +3,7 @@ use Rattle.std.specs.Prelude.{ℕ, ℤ, pos, ◌+ℤ◌, List, [], ◌∷◌, �
 use Rattle.std.specs.Option.{option_map, option_and_then, is_some}
 use Rattle.hp_num.specs.Sums.{entry}
 use Rattle.hp_solver.specs.declared.fixed.Fx.{Fx}
-use Rattle.hp_solver.specs.declared.stage_lp.LpRow.{LpRow}
+use Rattle.hp_solver.specs.declared.programs.LpRow.{LpRow}
 use Rattle.hp_simplex.specs.Each.{each_from}
 use Rattle.hp_warm_scale.specs.Walks.{run}
 use Rattle.hp_warm_scale.specs.Exponents.{Term}

@@ -1,7 +1,7 @@
 -- The table of a whole program.
 use Rattle.std.specs.Prelude.{length, Option, None, nat_lt, if◌then◌else◌}
 use Rattle.std.specs.Option.{option_and_then}
-use Rattle.hp_solver.specs.declared.stage_lp.StageLp.{StageLp}
+use Rattle.hp_solver.specs.declared.programs.Program.{Program}
 use Rattle.hp_warm_scale.specs.Whole.{whole_scales}
 use Rattle.hp_wide_table.specs.Scaling.{columns_table}
 use Rattle.hp_wide_table.specs.Appending.{appended}
@@ -9,6 +9,6 @@ use Rattle.hp_wide_table.specs.declared.table.Table.{Table}
 
 -- all columns and all rows of a program, with all slacks basic. Absent where there are more than 1,199 columns, or where a number
 -- leaves its range
-unfoldable pub table_of : StageLp → Option Table
+unfoldable pub table_of : Program → Option Table
 table_of lp =
     if nat_lt 1199 (length lp.columns) then None else option_and_then (appended lp.rows) (columns_table (length lp.columns) (whole_scales lp) lp.columns)

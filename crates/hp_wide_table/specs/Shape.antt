@@ -1,6 +1,6 @@
 -- Tables whose lists are as long as they have to be, and whose numbers of variables and places are there.
 use Rattle.std.specs.Prelude.{◌≡◌, ℕ, ◌+◌, ◌<◌, ◌≤◌, length, All, IfSome}
-use Rattle.hp_solver.specs.declared.stage_lp.StageLp.{StageLp}
+use Rattle.hp_solver.specs.declared.programs.Program.{Program}
 use Rattle.hp_warm_table.specs.Shape.{AreRising}
 use Rattle.hp_warm_scale.specs.Scaling.{AreSmall}
 use Rattle.hp_wide_table.specs.declared.table.Table.{Table}
@@ -29,7 +29,7 @@ pub record IsTable (t : Table) : Type 0 where
   pub terms : All (AreRising 0 (length t.costs)) t.rows
 
 -- a table that has a column for each column of the program, and a row for each row
-pub record Fits (t : Table) (lp : StageLp) : Type 0 where
+pub record Fits (t : Table) (lp : Program) : Type 0 where
   pub table : IsTable t
   pub columns : length lp.columns ≡ length t.costs
   pub rows : length lp.rows ≡ length t.rows

@@ -1,7 +1,7 @@
 // Rows that are put behind a table.
 ghost use Rattle.std.specs.Prelude.{◌≡◌, ◌≤ℤ◌, ◌+◌, ◌+ℤ◌, pos, negsuc, length, true, All, IfOk, OnOk};
 ghost use Rattle.hp_solver.specs.Proper.{AreRising};
-ghost use Rattle.hp_solver.specs.declared.stage_lp.LpRow.{LpRow};
+ghost use Rattle.hp_solver.specs.declared.programs.LpRow.{LpRow};
 ghost use Rattle.hp_warm_table.specs.Shape as shape;
 ghost use Rattle.hp_warm_table.specs.Updates.{Gives};
 ghost use Rattle.hp_warm_scale.specs.Exponents.{AreUpTo};

@@ -20,15 +20,16 @@ pub fn whole_table(alloc: Global, lp: &StageLp) -> Result<Option<Table>, Memory>
     ensures value { IfOk result (λ table. table ≡ table_of lp.now) }
     ensures fits { IfOk result (λ table. IfSome table (λ t. Fits t lp.now)) }
 {
-    let count = lp.columns.len();
+    let count = lp.columns().len();
     if count > 1199 {
         return Ok(None);
     }
     let scales = whole_scales(alloc, lp)?;
-    let Some(mut table) = columns_table(alloc, count, scales, lp.columns.as_slice())? else {
+    let Some(mut table) = columns_table(alloc, count, scales, lp.columns())? else {
         return Ok(None);
     };
-    if append(alloc, &mut table, lp.rows.as_slice())? {
+    let program = lp.program(alloc)?;
+    if append(alloc, &mut table, program.rows.as_slice())? {
         Ok(Some(table))
     } else {
         Ok(None)

@@ -1,4 +1,4 @@
-use Rattle.std.proofs.Common.{get_or, sym}
+use Rattle.std.proofs.Common.{sym}
 use Rattle.hp_warm_answers.specs.Found.{point_at}
 use Rattle.hp_warm_answers.proofs.Nexts.{each_stops}
 use Rattle.hp_warm_answers.proofs.found.fill.Goals as goal

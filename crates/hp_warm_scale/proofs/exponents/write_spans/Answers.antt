@@ -1,6 +1,6 @@
 use Rattle.std.proofs.Common.{ℕ, pos, negsuc, ap, subst, sym, ◌∙◌, List, Option, length, replicate, None}
 use Rattle.std.proofs.lemmas.List.{length-replicate}
-use Rattle.hp_solver.specs.declared.stage_lp.LpRow.{LpRow}
+use Rattle.hp_solver.specs.declared.programs.LpRow.{LpRow}
 use Rattle.hp_warm_scale.specs.declared.spans.Span.{Span}
 use Rattle.hp_warm_scale.specs.Walks.{walk}
 use Rattle.hp_warm_scale.specs.Exponents.{with_row, spans_of, SpansBetween}

@@ -1,5 +1,5 @@
 use Rattle.std.proofs.Common.{◌≡◌, pos, negsuc, drop, length}
-use Rattle.hp_solver.specs.declared.stage_lp.LpRow.{LpRow}
+use Rattle.hp_solver.specs.declared.programs.LpRow.{LpRow}
 use Rattle.hp_warm_scale.specs.Walks.{walk}
 use Rattle.hp_warm_scale.specs.Exponents.{with_row, spans_of, SpansBetween}
 use Rattle.hp_warm_scale.proofs.exponents.write_spans.Given as goal

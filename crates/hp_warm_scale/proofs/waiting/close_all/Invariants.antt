@@ -1,5 +1,5 @@
 use Rattle.std.proofs.Common.{◌≡◌, drop, length}
-use Rattle.hp_solver.specs.declared.stage_lp.LpRow.{LpRow}
+use Rattle.hp_solver.specs.declared.programs.LpRow.{LpRow}
 use Rattle.hp_warm_scale.specs.Walks.{walk}
 use Rattle.hp_warm_scale.specs.Waiting.{closed_by, all_closed}
 use Rattle.hp_warm_scale.proofs.waiting.close_all.Given as goal

@@ -1,6 +1,6 @@
 use Rattle.std.proofs.Common.{◌<◌, ℕ, Option, IfSome, length, sym, subst}
 use Rattle.std.proofs.lemmas.List.Elements.{All-get_or}
-use Rattle.hp_solver.specs.declared.stage_lp.LpRow.{LpRow}
+use Rattle.hp_solver.specs.declared.programs.LpRow.{LpRow}
 use Rattle.hp_solver.specs.Proper.{AreRising}
 use Rattle.hp_warm_scale.proofs.Cuts.{last_inside}
 use Rattle.hp_warm_scale.proofs.widening.write_cut_spans.Goals as goal

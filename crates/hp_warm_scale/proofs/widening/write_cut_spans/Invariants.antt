@@ -1,5 +1,5 @@
 use Rattle.std.proofs.Common.{◌≡◌, pos, drop, length}
-use Rattle.hp_solver.specs.declared.stage_lp.LpRow.{LpRow}
+use Rattle.hp_solver.specs.declared.programs.LpRow.{LpRow}
 use Rattle.hp_warm_scale.specs.Walks.{walk}
 use Rattle.hp_warm_scale.specs.Exponents.{SpansBetween}
 use Rattle.hp_warm_scale.specs.Waiting.{last_column}

@@ -1,11 +1,11 @@
-use Rattle.std.proofs.Common.{◌≡◌, drop, length}
-use Rattle.hp_solver.specs.declared.stage_lp.LpRow.{LpRow}
+use Rattle.std.proofs.Common.{◌≡◌, ◌+◌, drop, length}
+use Rattle.hp_solver.specs.declared.programs.LpRow.{LpRow}
 use Rattle.hp_warm_scale.specs.Walks.{walk}
-use Rattle.hp_warm_scan.specs.Values.{greatest_step, greatest_cuts}
+use Rattle.hp_warm_scan.specs.Values.{greatest_step}
 use Rattle.hp_warm_scan.proofs.greatest.take_rows.Given as goal
 
-abbrev pub invariant-loop-i : goal.invariant-loop-i
-invariant-loop-i l = record {
-  value : greatest_cuts l.lp l.waiting l.states ≡ walk (λ i bests (r : LpRow). greatest_step l.waiting l.states i bests r) l.i l.greatest (drop l.i l.lp.rows);
-  count : length l.greatest ≡ length l.lp.columns;
+abbrev pub invariant-loop-k : goal.invariant-loop-k
+invariant-loop-k l = record {
+  value : walk (λ i bests (r : LpRow). greatest_step l.waiting l.states i bests r) l.first l.fn.greatest l.cuts ≡ walk (λ i bests (r : LpRow). greatest_step l.waiting l.states i bests r) (l.first + l.k) l.greatest (drop l.k l.cuts);
+  count : length l.greatest ≡ length l.fn.greatest;
 }

@@ -1,5 +1,5 @@
 use Rattle.std.proofs.Common.{◌≡◌, ℕ, ◌+◌, ◌*◌, false, Option, IfOk, subst}
-use Rattle.hp_solver.specs.declared.stage_lp.Answer.{Answer}
+use Rattle.hp_solver.specs.declared.programs.Answer.{Answer}
 use Rattle.hp_wide_simplex.specs.Turns.{turns}
 use Rattle.hp_wide_simplex.proofs.solve.solved.Goals as goal
 

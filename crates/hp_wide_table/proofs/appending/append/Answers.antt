@@ -1,6 +1,6 @@
 use Rattle.std.proofs.Common.{◌≡◌, rules, true, ap, sym, ◌∙◌, arith}
 use Rattle.std.proofs.lemmas.Bool.Decides.{nat_tests}
-use Rattle.hp_solver.specs.declared.stage_lp.LpRow.{LpRow}
+use Rattle.hp_solver.specs.declared.programs.LpRow.{LpRow}
 use Rattle.hp_wide_table.specs.Appending.{appended_row}
 use Rattle.hp_wide_table.proofs.Giving.{gives_true}
 use Rattle.hp_warm_scale.proofs.Walking.{run_next}

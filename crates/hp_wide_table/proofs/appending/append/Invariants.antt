@@ -1,5 +1,5 @@
 use Rattle.std.proofs.Common.{◌≡◌, ◌+◌, drop, length}
-use Rattle.hp_solver.specs.declared.stage_lp.LpRow.{LpRow}
+use Rattle.hp_solver.specs.declared.programs.LpRow.{LpRow}
 use Rattle.hp_wide_table.specs.Shape.{IsTable}
 use Rattle.hp_warm_scale.specs.Walks.{run}
 use Rattle.hp_wide_table.specs.Appending.{appended, appended_row}

@@ -1,4 +1,4 @@
-use Rattle.std.proofs.Common.{◌≡◌, pos, length}
+use Rattle.std.proofs.Common.{◌≡◌, length}
 use Rattle.std.proofs.lemmas.List.{length-replicate}
 use Rattle.hp_warm_scale.proofs.Shapes.{if_ok}
 use Rattle.hp_wide_table.specs.declared.table.Table.{Table}

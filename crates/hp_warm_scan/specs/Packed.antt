@@ -1,0 +1,22 @@
+-- Tell what cuts that stand side by side say of a point.
+use Rattle.std.specs.Prelude.{ℕ, ◌^◌, ℤ, pos, negsuc, ◌+ℤ◌, List, replicate, slice_set, nat_lt, if◌then◌else◌}
+use Rattle.hp_num.specs.Sums.{entry}
+use Rattle.hp_solver.specs.declared.packed.Out.{Out}
+use Rattle.hp_warm_scale.specs.Walks.{walk}
+
+-- give the number, or 0 where 64 bits do not hold it
+abbrev pub short_or_zero : ℤ → ℤ
+short_or_zero (pos n) = if nat_lt n (2 ^ 63) then pos n else pos 0
+short_or_zero (negsuc n) = if nat_lt n (2 ^ 63) then negsuc n else pos 0
+
+-- add a number at a place, where that is one of the list's
+abbrev pub added : ℕ → ℤ → List ℤ → List ℤ
+added s v ls = slice_set ls s (entry ls s +ℤ v)
+
+-- add what leaves the stage as a state
+abbrev pub with_leaving : List ℤ → List ℤ → Out → List ℤ
+with_leaving xs ls o = added o.state (short_or_zero (entry xs o.decision)) ls
+
+-- sum for each of 50 states what leaves the stage as it
+unfoldable pub leaving_of : List ℤ → List Out → List ℤ
+leaving_of xs outs = walk (λ k ls (o : Out). with_leaving xs ls o) 0 (replicate 50 (pos 0)) outs

@@ -1,0 +1,321 @@
+// Find the greatest at a point of each successor's cuts that wait, where cuts stand side by side.
+ghost use Rattle.std.specs.Prelude.{ℕ, Some, drop, ◌≡◌, ◌<◌, ◌≤◌, ◌^◌, ◌+◌, ◌+ℤ◌, ◌*ℤ◌, ◌≤ℤ◌, pos, true, false, length, map, take, replicate, nat_abs, get_or, All, IfOk, OnOk};
+ghost use Rattle.hp_num.specs.Sums.{entry, dot};
+ghost use Rattle.hp_solver.specs.PackedCut.{PackedCut};
+ghost use Rattle.hp_solver.specs.Packed.{packed_row, rows_of, IsView};
+ghost use Rattle.hp_solver.specs.Covering.{value_of, cut_at, AreInside};
+ghost use Rattle.hp_solver.specs.declared.packed.Out.{Out};
+ghost use Rattle.hp_solver.specs.declared.programs.LpRow.{LpRow};
+ghost use Rattle.hp_warm_scale.specs.Walks.{walk};
+ghost use Rattle.hp_warm_scale.specs.Waiting.{waits};
+ghost use Rattle.hp_warm_scan.specs.Values.{greater, greatest_step, IsWithin};
+ghost use Rattle.hp_warm_scan.specs.Packed.{short_or_zero, added, with_leaving, leaving_of};
+
+use crate::greatest::is_greater;
+use crate::values::{plus, product, raised};
+use hp_num::{List, Memory};
+use hp_solver::{Out, PackedCuts, PackedView};
+
+// Gives the number, or 0 where 64 bits do not hold it.
+fn short_or_zero(number: i128) -> i64
+    ensures { result ≡ short_or_zero number }
+{
+    match i64::try_from(number) {
+        Ok(number) => number,
+        Err(_) => 0,
+    }
+}
+
+// Gives what leaves the stage by a decision.
+fn leaving(states: &[i128], out: Out) -> i64
+    ensures { result ≡ short_or_zero (entry states.now out.decision) }
+{
+    match states.get(out.decision as usize) {
+        Some(number) => short_or_zero(*number),
+        None => 0,
+    }
+}
+
+// Adds to what leaves as a state, where the state has a place. False where 64 bits do not hold the sum.
+fn add(found: &mut [i64], state: usize, value: i64) -> bool
+    ensures value { result ≡ true → found.new ≡ added state value found.old }
+    ensures count { length found.new ≡ length found.old }
+{
+    if found.len() <= state {
+        return true;
+    }
+    match found[state].checked_add(value) {
+        Some(sum) => {
+            found[state] = sum;
+            true
+        }
+        None => false,
+    }
+}
+
+// Adds what leaves the stage as a state. False where 64 bits do not hold the sum.
+fn add_out(found: &mut [i64], states: &[i128], out: Out) -> bool
+    ensures value { result ≡ true → found.new ≡ with_leaving states.now found.old out }
+    ensures count { length found.new ≡ length found.old }
+{
+    add(found, out.state as usize, leaving(states, out))
+}
+
+// Adds all that leaves the stage. False where 64 bits do not hold a sum.
+fn add_all(found: &mut [i64], states: &[i128], outs: &[Out]) -> bool
+    ensures value { result ≡ true → found.new ≡ walk (λ k ls (o : Out). with_leaving states.now ls o) 0 found.old outs.now }
+    ensures count { length found.new ≡ length found.old }
+{
+    for k in 0..outs.len() {
+        if !add_out(found, states, outs[k]) {
+            return false;
+        }
+    }
+    true
+}
+
+// Writes 0 for each of 50 states.
+fn write_zeros(found: &mut List<i64>) -> Result<(), Memory>
+    ensures { OnOk result (found.new ≡ replicate 50 (pos 0)) }
+{
+    found.clear();
+    for _state in 0..50usize {
+        found.push(0)?;
+    }
+    Ok(())
+}
+
+/// Writes for each of 50 states what leaves the stage as it. False where 64 bits do not hold a sum. [`Memory`] where memory
+/// was refused.
+#[tactic(auto, unfolding(crate::specs::Packed::leaving_of))]
+pub(crate) fn write_leaving(
+    states: &[i128],
+    outs: &[Out],
+    found: &mut List<i64>,
+) -> Result<bool, Memory>
+    ensures value { IfOk result (λ whole. whole ≡ true → found.new ≡ leaving_of states.now outs.now) }
+    ensures count { OnOk result (length found.new ≡ 50) }
+{
+    write_zeros(found)?;
+    Ok(add_all(found.as_mut_slice(), states, outs))
+}
+
+// Finds the value of a cut at what leaves the stage, at the scale 2^48.
+fn packed_value(height: i128, slopes: &[i64], leaving: &[i64]) -> i128
+    requires height { nat_abs height < 2 ^ 100 }
+    requires slopes { All (λ s. nat_abs s < 2 ^ 57) slopes.now }
+    requires few { length slopes.now ≤ 50 }
+    requires count { length slopes.now ≡ length leaving.now }
+    ensures { result ≡ height *ℤ pos (2 ^ 24) +ℤ dot slopes.now leaving.now }
+{
+    let mut sum = raised(height);
+    for k in 0..slopes.len() {
+        sum = plus(sum, product(slopes[k], leaving[k]));
+    }
+    sum
+}
+
+// Finds the value of a cut of a list.
+fn value_at(cuts: &PackedCuts, place: usize, leaving: &[i64]) -> i128
+    requires there { place < length cuts.now }
+    requires counts { All (λ (c : PackedCut). length c.slopes ≡ length leaving.now) cuts.now }
+    ensures { result ≡ value_of (cut_at cuts.now place) leaving.now }
+{
+    packed_value(cuts.height(place), cuts.slopes(place), leaving)
+}
+
+// Keeps the greater of the greatest so far and the value of a row, of equals the former.
+fn greater(best: Option<(usize, i128)>, row: usize, value: i128) -> Option<(usize, i128)>
+    ensures { result ≡ greater best (row, value) }
+{
+    if is_greater(&best, value) {
+        Some((row, value))
+    } else {
+        best
+    }
+}
+
+// Finds the greatest of a successor's cuts and of the greatest so far. The first cut is the program's row `first`.
+fn take_cuts(
+    best: Option<(usize, i128)>,
+    first: usize,
+    cuts: &PackedCuts,
+    leaving: &[i64],
+) -> Option<(usize, i128)>
+    requires rows { first + length cuts.now < 2 ^ 64 }
+    requires counts { All (λ (c : PackedCut). length c.slopes ≡ length leaving.now) cuts.now }
+    ensures { result ≡ walk (λ i b (c : PackedCut). greater b (i, value_of c leaving.now)) first best cuts.now }
+{
+    let mut best = best;
+    for place in 0..cuts.len() {
+        best = greater(best, first + place, value_at(cuts, place, leaving));
+    }
+    best
+}
+
+// Keeps the greater of a row with its value and another, of equals the former.
+fn greater_of(best: (usize, i128), row: usize, value: i128) -> (usize, i128)
+    ensures { Some result ≡ greater (Some best) (row, value) }
+{
+    if best.1 < value { (row, value) } else { best }
+}
+
+// Finds the greatest of a row with its value and of the cuts at the places from number `from` on.
+fn take_from(
+    best: (usize, i128),
+    first: usize,
+    cuts: &PackedCuts,
+    places: &[u32],
+    from: usize,
+    leaving: &[i64],
+) -> (usize, i128)
+    requires rows { first + length cuts.now < 2 ^ 64 }
+    requires there { All (λ (p : ℕ). p < length cuts.now) places.now }
+    requires counts { All (λ (c : PackedCut). length c.slopes ≡ length leaving.now) cuts.now }
+    requires from { from ≤ length places.now }
+    ensures { Some result ≡ walk (λ k b (p : ℕ). greater b (first + p, value_of (cut_at cuts.now p) leaving.now)) from (Some best) (drop from places.now) }
+{
+    let mut best = best;
+    for k in from..places.len() {
+        let place = places[k] as usize;
+        let row = first + place;
+        best = greater_of(best, row, value_at(cuts, place, leaving));
+    }
+    best
+}
+
+// Finds the greatest of the cuts at some places and of the greatest so far. The first cut is the program's row `first`.
+fn take_active(
+    best: Option<(usize, i128)>,
+    first: usize,
+    cuts: &PackedCuts,
+    places: &[u32],
+    leaving: &[i64],
+) -> Option<(usize, i128)>
+    requires rows { first + length cuts.now < 2 ^ 64 }
+    requires there { All (λ (p : ℕ). p < length cuts.now) places.now }
+    requires counts { All (λ (c : PackedCut). length c.slopes ≡ length leaving.now) cuts.now }
+    ensures { result ≡ walk (λ k b (p : ℕ). greater b (first + p, value_of (cut_at cuts.now p) leaving.now)) 0 best places.now }
+{
+    if let Some(best) = best {
+        return Some(take_from(best, first, cuts, places, 0, leaving));
+    }
+    if places.is_empty() {
+        return None;
+    }
+    let place = places[0] as usize;
+    let one = (first + place, value_at(cuts, place, leaving));
+    Some(take_from(one, first, cuts, places, 1, leaving))
+}
+
+// Tells whether a state lies between two ends.
+fn is_between(low: i64, high: i64, state: i64) -> bool
+    ensures above { result ≡ true → (low *ℤ pos (2 ^ 24)) ≤ℤ state }
+    ensures below { result ≡ true → state ≤ℤ (high *ℤ pos (2 ^ 24)) }
+{
+    let state = i128::from(state);
+    raised(i128::from(low)) <= state && state <= raised(i128::from(high))
+}
+
+// Tells whether all states lie in a box.
+fn are_inside(lows: &[i64], highs: &[i64], states: &[i64]) -> bool
+    ensures { result ≡ true → AreInside lows.now highs.now states.now }
+{
+    if lows.len() != states.len() || highs.len() != states.len() {
+        return false;
+    }
+    for k in 0..states.len() {
+        if !is_between(lows[k], highs[k], states[k]) {
+            return false;
+        }
+    }
+    true
+}
+
+// Finds the greatest of a successor's cuts and of the greatest so far. Looks only at those that cover the others, where they do.
+fn take_best(
+    best: Option<(usize, i128)>,
+    first: usize,
+    cuts: &PackedCuts,
+    leaving: &[i64],
+) -> Option<(usize, i128)>
+    requires rows { first + length cuts.now < 2 ^ 64 }
+    requires counts { All (λ (c : PackedCut). length c.slopes ≡ length leaving.now) cuts.now }
+    ensures { result ≡ walk (λ i b (c : PackedCut). greater b (i, value_of c leaving.now)) first best cuts.now }
+{
+    if let Some(active) = cuts.active() {
+        if are_inside(active.lows, active.highs, leaving) {
+            return take_active(best, first, cuts, active.places, leaving);
+        }
+    }
+    take_cuts(best, first, cuts, leaving)
+}
+
+// Tells whether the cuts in a column wait.
+fn is_waiting(waiting: &[bool], column: usize) -> bool
+    ensures { result ≡ get_or waiting.now column false }
+{
+    waiting.get(column).copied().unwrap_or(false)
+}
+
+// Gives the first numbers of a list.
+fn front(leaving: &[i64], count: usize) -> &[i64]
+    requires { count ≤ length leaving.now }
+    ensures { result.now ≡ take count leaving.now }
+{
+    &leaving[..count]
+}
+
+// Looks at a successor's cuts, where these wait.
+fn take_successor(
+    greatest: &mut [Option<(usize, i128)>],
+    waiting: &[bool],
+    states: &[i128],
+    leaving: &[i64],
+    first: usize,
+    outs: &[Out],
+    column: usize,
+    cuts: &PackedCuts,
+)
+    requires count { length leaving.now ≡ 50 }
+    requires rows { first + length cuts.now < 2 ^ 64 }
+    requires leaving { leaving.now ≡ leaving_of states.now outs.now }
+    requires waiting { length waiting.now ≡ length greatest.old }
+    requires within { All (λ (r : LpRow). waits waiting.now r ≡ true → IsWithin states.now r) (map (packed_row outs.now column) cuts.now) }
+    ensures value { greatest.new ≡ walk (λ i bests (r : LpRow). greatest_step waiting.now states.now i bests r) first greatest.old (map (packed_row outs.now column) cuts.now) }
+    ensures count { length greatest.new ≡ length greatest.old }
+{
+    if is_waiting(waiting, column) {
+        let leaving = front(leaving, cuts.states());
+        greatest[column] = take_best(greatest[column], first, cuts, leaving);
+    }
+}
+
+/// Looks at all cuts that stand side by side. The first is the program's row `first`.
+pub(crate) fn take_packed(
+    greatest: &mut [Option<(usize, i128)>],
+    waiting: &[bool],
+    states: &[i128],
+    leaving: &[i64],
+    first: usize,
+    view: &PackedView,
+)
+    requires view { IsView view.now }
+    requires rows { first + length (rows_of view.now) < 2 ^ 64 }
+    requires count { length leaving.now ≡ 50 }
+    requires leaving { leaving.now ≡ leaving_of states.now view.now.outs }
+    requires waiting { length waiting.now ≡ length greatest.old }
+    requires within { All (λ (r : LpRow). waits waiting.now r ≡ true → IsWithin states.now r) (rows_of view.now) }
+    ensures value { greatest.new ≡ walk (λ i bests (r : LpRow). greatest_step waiting.now states.now i bests r) first greatest.old (rows_of view.now) }
+    ensures count { length greatest.new ≡ length greatest.old }
+{
+    let outs = view.outs.as_slice();
+    let cuts = view.cuts.as_slice();
+    let mut row = first;
+    for k in 0..cuts.len() {
+        let column = view.first as usize + k;
+        let cuts = &cuts[k];
+        take_successor(greatest, waiting, states, leaving, row, outs, column, cuts);
+        row += cuts.len();
+    }
+}
