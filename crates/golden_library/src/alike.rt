@@ -3,7 +3,7 @@ ghost use Rattle.std.specs.Prelude.{◌≡◌, true};
 ghost use Rattle.hp_solver.specs.Proper.{IsProper, Extends, IsLike, terms_of};
 
 use crate::proper::is_proper;
-use hp_solver::{Column, Fx, LpRow, StageLp};
+use hp_solver::{Column, Fx, LpRow, Program};
 
 fn is_same_column(a: &Column, b: &Column) -> bool
     ensures { result ≡ true → a.now ≡ b.now }
@@ -94,7 +94,7 @@ fn are_same_rows(a: &[LpRow], b: &[LpRow]) -> bool
 }
 
 /// Whether two programs have as many columns and rows of each sort.
-fn are_counted_alike(a: &StageLp, b: &StageLp) -> bool
+fn are_counted_alike(a: &Program, b: &Program) -> bool
     ensures decisions { result ≡ true → a.now.decisions ≡ b.now.decisions }
     ensures own { result ≡ true → a.now.own ≡ b.now.own }
 {
@@ -102,7 +102,7 @@ fn are_counted_alike(a: &StageLp, b: &StageLp) -> bool
 }
 
 /// Whether a chain may begin with a program after a start by a reference.
-pub fn extends(reference: &StageLp, lp: &StageLp) -> bool
+pub fn extends(reference: &Program, lp: &Program) -> bool
     requires reference { IsProper reference.now }
     ensures { result ≡ true → Extends reference.now lp.now }
 {
@@ -122,7 +122,7 @@ pub fn extends(reference: &StageLp, lp: &StageLp) -> bool
 }
 
 /// Whether a chain may take a program after another.
-pub fn is_like(lp: &StageLp, other: &StageLp) -> bool
+pub fn is_like(lp: &Program, other: &Program) -> bool
     requires { IsProper lp.now }
     ensures { result ≡ true → IsLike lp.now other.now }
 {

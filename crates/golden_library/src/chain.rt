@@ -1,6 +1,6 @@
 // Programs solved one after another.
-ghost use Rattle.std.specs.Prelude.{◌≡◌, ◌<◌, length};
-ghost use Rattle.hp_solver.specs.declared.stage_lp.StageLp.{StageLp};
+ghost use Rattle.std.specs.Prelude.{◌≡◌, ◌<◌, true, length, IfOk};
+ghost use Rattle.hp_solver.specs.declared.programs.Program.{Program};
 ghost use Rattle.hp_solver.specs.Proper.{IsProper, IsReference, Extends, IsLike};
 
 use crate::alike::{extends, is_like};
@@ -8,6 +8,7 @@ use crate::fault::RowFault;
 use crate::proper::{is_proper, is_reference};
 use crate::reading::{Extent, program, programs};
 use crate::solvers::{Named, by_name};
+use hp_num::Memory;
 use hp_simplex::DualSimplex;
 use hp_solver::{Answer, Fx, Solver, StageLp};
 use hp_warm_simplex::WarmSimplex;
@@ -29,21 +30,41 @@ fn push_answer(text: &mut String, answer: &Answer) -> Result<(), RowFault> {
     push_numbers(text, "duals", answer.duals.as_slice())
 }
 
+/// Whether a chain may take a program after another. [`Memory`] where memory was refused.
+fn comes_after(alloc: Global, last: &StageLp, lp: &StageLp) -> Result<bool, Memory>
+    requires { IsProper last.now }
+    ensures { IfOk result (λ found. found ≡ true → IsLike last.now lp.now) }
+{
+    let before = last.program(alloc)?;
+    let program = lp.program(alloc)?;
+    Ok(is_like(&before, &program))
+}
+
+/// Whether a chain may begin with a program after a start by a reference. [`Memory`] where memory was refused.
+fn may_begin(alloc: Global, reference: &StageLp, lp: &StageLp) -> Result<bool, Memory>
+    requires { IsProper reference.now }
+    ensures { IfOk result (λ found. found ≡ true → Extends reference.now lp.now) }
+{
+    let own = reference.program(alloc)?;
+    let program = lp.program(alloc)?;
+    Ok(extends(&own, &program))
+}
+
 /// Appends the answers of a chain that has begun with a program to it and to the others.
-fn push_answers<V: Solver>(
+fn push_answers<'b, 'a, V: Solver>(
     alloc: Global,
     solver: &V,
     chain: &mut V::Chain,
-    first: &StageLp,
-    all: &[StageLp],
+    first: &'b StageLp<'a>,
+    all: &'b [StageLp<'a>],
     text: &mut String,
 ) -> Result<(), RowFault>
     requires proper { IsProper first.now }
-    requires fits { (other : StageLp) → IsLike first.now other → V.fits solver.now chain.old other }
+    requires fits { (other : Program) → IsLike first.now other → V.fits solver.now chain.old other }
 {
     let mut last = first;
     for lp in all {
-        if !is_like(last, lp) {
+        if !comes_after(alloc, last, lp)? {
             return Err(RowFault::Unlike);
         }
         let answer = solver.solve(alloc, chain, lp)?;
@@ -63,10 +84,10 @@ fn push_chain<V: Solver>(
     text: &mut String,
 ) -> Result<(), RowFault>
     requires proper { IsProper reference.now }
-    requires suits { (other : StageLp) → Extends reference.now other → V.suits solver.now start.now other }
+    requires suits { (other : Program) → Extends reference.now other → V.suits solver.now start.now other }
 {
     let first = all.first().ok_or(RowFault::Form)?;
-    if !extends(reference, first) {
+    if !may_begin(alloc, reference, first)? {
         return Err(RowFault::Unlike);
     }
     let mut chain = solver.begin(alloc, start, first)?;
@@ -100,7 +121,7 @@ fn push_solved<V: Solver>(
     if !is_proper(&reference) || !is_reference(&reference) {
         return Err(RowFault::Improper);
     }
-    push_from(alloc, solver, &reference, file, text)
+    push_from(alloc, solver, &StageLp::of(reference), file, text)
 }
 
 /// The answers of the solver of this name to the programs of a file.

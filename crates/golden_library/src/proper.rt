@@ -1,11 +1,11 @@
 // Whether a program is one that a solver takes.
 ghost use Rattle.std.specs.Prelude.{◌≡◌, ◌≤ℤ◌, ℕ, true, length, All, IfSome};
 ghost use Rattle.hp_solver.specs.declared.fixed.Fx.{Fx};
-ghost use Rattle.hp_solver.specs.declared.stage_lp.Column.{Column};
-ghost use Rattle.hp_solver.specs.declared.stage_lp.LpRow.{LpRow};
+ghost use Rattle.hp_solver.specs.declared.programs.Column.{Column};
+ghost use Rattle.hp_solver.specs.declared.programs.LpRow.{LpRow};
 ghost use Rattle.hp_solver.specs.Proper.{IsProper, IsReference, IsIdle, AreRising};
 
-use hp_solver::{Column, Fx, LpRow, StageLp};
+use hp_solver::{Column, Fx, LpRow, Program};
 
 /// Whether some value is in the box.
 fn has_box(column: &Column) -> bool
@@ -88,7 +88,7 @@ fn are_idle(columns: &[Column]) -> bool
 }
 
 /// Whether a program is proper.
-pub fn is_proper(lp: &StageLp) -> bool
+pub fn is_proper(lp: &Program) -> bool
     ensures { result ≡ true → IsProper lp.now }
 {
     let columns = lp.columns.as_slice();
@@ -101,7 +101,7 @@ pub fn is_proper(lp: &StageLp) -> bool
 }
 
 /// Whether a program has own rows alone, and idle columns of successors.
-pub fn is_reference(lp: &StageLp) -> bool
+pub fn is_reference(lp: &Program) -> bool
     ensures { result ≡ true → IsReference lp.now }
 {
     let columns = lp.columns.as_slice();

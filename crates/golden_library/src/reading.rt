@@ -3,7 +3,7 @@ use crate::fault::RowFault;
 use crate::numerals::{number, side, term};
 use crate::words::{count, word};
 use hp_num::List;
-use hp_solver::{Column, Fx, LpRow, StageLp};
+use hp_solver::{Column, Fx, LpRow, Program, StageLp};
 use std::alloc::Global;
 use std::str::SplitWhitespace;
 
@@ -55,7 +55,7 @@ fn row(
 }
 
 fn push_column(
-    lp: &mut StageLp,
+    lp: &mut Program,
     extent: Extent,
     words: &mut SplitWhitespace<'_>,
 ) -> Result<(), RowFault> {
@@ -69,7 +69,7 @@ fn push_column(
 
 fn push_row(
     alloc: Global,
-    lp: &mut StageLp,
+    lp: &mut Program,
     extent: Extent,
     words: &mut SplitWhitespace<'_>,
     sides: &mut SplitWhitespace<'_>,
@@ -84,7 +84,7 @@ fn push_row(
 
 fn read_line(
     alloc: Global,
-    lp: &mut StageLp,
+    lp: &mut Program,
     extent: Extent,
     line: &str,
     sides: &mut SplitWhitespace<'_>,
@@ -107,9 +107,9 @@ pub fn program(
     text: &str,
     extent: Extent,
     sides: &str,
-) -> Result<StageLp, RowFault> {
+) -> Result<Program, RowFault> {
     let mut sides = sides.split_whitespace();
-    let mut lp = StageLp {
+    let mut lp = Program {
         columns: List::new(alloc),
         rows: List::new(alloc),
         decisions: 0,
@@ -121,12 +121,21 @@ pub fn program(
     Ok(lp)
 }
 
+/// A program whose rows are listed, where it has its own ones.
+fn listed<'a>(program: Program) -> Result<StageLp<'a>, RowFault> {
+    if program.own as usize <= program.rows.len() {
+        Ok(StageLp::of(program))
+    } else {
+        Err(RowFault::Form)
+    }
+}
+
 /// The programs of a file's lines `solve SIDE..`, in this order.
-pub fn programs(alloc: Global, text: &str) -> Result<List<StageLp>, RowFault> {
+pub fn programs<'a>(alloc: Global, text: &str) -> Result<List<StageLp<'a>>, RowFault> {
     let mut found = List::new(alloc);
     for line in text.lines() {
         if let Some(("", sides)) = line.split_once("solve") {
-            found.push(program(alloc, text, Extent::Whole, sides)?)?;
+            found.push(listed(program(alloc, text, Extent::Whole, sides)?)?)?;
         }
     }
     Ok(found)

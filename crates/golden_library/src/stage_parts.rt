@@ -34,13 +34,13 @@ struct Counts {
 const NODE: u32 = 0;
 
 /// The stage problem at a moment, in the memory of rows that are spare.
-fn stage_at(
+fn stage_at<'a>(
     alloc: Global,
     spare: &mut SpareRows,
     problem: &Problem,
-    pools: &Pools,
+    pools: &'a Pools,
     moment: &Moment,
-) -> Result<StageLp, Memory>
+) -> Result<StageLp<'a>, Memory>
     requires fit { Fit (problem_of problem.now) (length problem.now.raw.nodes) pools.now.lists }
     requires moment { MayStand problem.now 0 moment.now.values.now moment.now.state }
     ensures { IfOk result (IsStageAt problem.now 0) }
@@ -58,13 +58,13 @@ fn stage_at(
 
 /// The stage problem, built so many times and once, each time in the memory of the one before, as along a path of
 /// training.
-fn built(
+fn built<'a>(
     alloc: Global,
     problem: &Problem,
-    pools: &Pools,
+    pools: &'a Pools,
     moment: &Moment,
     builds: u32,
-) -> Result<StageLp, Memory>
+) -> Result<StageLp<'a>, Memory>
     requires fit { Fit (problem_of problem.now) (length problem.now.raw.nodes) pools.now.lists }
     requires moment { MayStand problem.now 0 moment.now.values.now moment.now.state }
     ensures { IfOk result (IsStageAt problem.now 0) }
@@ -166,10 +166,10 @@ fn push_parts(
     requires last { MayStand problem.now 0 last.now.values.now last.now.state }
 {
     let mut lp = built(alloc, problem, pools, first, counts.builds)?;
-    push_program(text, &lp)?;
+    push_program(alloc, text, &lp)?;
     turned(problem, first, last, counts.sides, &mut lp);
-    push_program(text, &lp)?;
-    let (own, rows) = (lp.own as usize, lp.rows.len());
+    push_program(alloc, text, &lp)?;
+    let (own, rows) = (lp.own(), lp.row_count());
     push_settled(alloc, problem, pools, own, rows, counts.settles, text)
 }
 

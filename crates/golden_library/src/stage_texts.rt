@@ -2,6 +2,7 @@
 use crate::fault::RowFault;
 use hp_solver::{Fx, LpRow, StageLp};
 use hp_theory::Certificate;
+use std::alloc::Global;
 use std::fmt::Write;
 
 fn terms(rows: &[LpRow]) -> u64 {
@@ -27,14 +28,15 @@ fn sides(rows: &[LpRow]) -> i128 {
 }
 
 /// Appends a line on a stage problem.
-pub fn push_program(text: &mut String, lp: &StageLp) -> Result<(), RowFault> {
+pub fn push_program(alloc: Global, text: &mut String, lp: &StageLp) -> Result<(), RowFault> {
+    let program = lp.program(alloc)?;
     write!(
         text,
         "columns {} rows {} terms {} sides {}\n",
-        lp.columns.len(),
-        lp.rows.len(),
-        terms(lp.rows.as_slice()),
-        sides(lp.rows.as_slice())
+        program.columns.len(),
+        program.rows.len(),
+        terms(program.rows.as_slice()),
+        sides(program.rows.as_slice())
     )?;
     Ok(())
 }

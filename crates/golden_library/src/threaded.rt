@@ -1,7 +1,7 @@
 // A solver on as many threads as are asked for.
 ghost use Rattle.std.specs.Prelude.{◌≡◌, IfOk, OnOk};
-ghost use Rattle.hp_solver.specs.declared.stage_lp.StageLp.{StageLp};
-ghost use Rattle.hp_solver.specs.declared.stage_lp.Answer.{Answer};
+ghost use Rattle.hp_solver.specs.declared.programs.Program.{Program};
+ghost use Rattle.hp_solver.specs.declared.programs.Answer.{Answer};
 ghost use Rattle.hp_solver.specs.Proper.{IsProper, IsReference, Extends, IsLike};
 
 use hp_num::Memory;

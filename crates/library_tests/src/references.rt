@@ -24,8 +24,8 @@ fn is_ready(alloc: Global, problem: &Problem) -> Result<bool, Memory> {
         return Ok(false);
     }
     let program = reference(alloc, problem, 0)?;
-    let columns = program.columns.as_slice().iter().all(is_kept);
-    let rows = program.rows.as_slice().iter().all(is_balance);
+    let columns = program.columns().iter().all(is_kept);
+    let rows = program.own_rows().iter().all(is_balance);
     Ok(columns && rows && *starts.at(0) == ())
 }
 

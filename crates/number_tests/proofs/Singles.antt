@@ -2,13 +2,13 @@
 use Rattle.std.proofs.Common.{◌≤ℤ◌, [], ◌∷◌, Option, IfSome, arith, refl}
 use Rattle.std.proofs.lemmas.List.Elements.{All-cons, All-nil}
 use Rattle.hp_solver.specs.declared.fixed.Fx.{Fx}
-use Rattle.hp_solver.specs.declared.stage_lp.Column.{Column}
-use Rattle.hp_solver.specs.declared.stage_lp.LpRow.{LpRow}
-use Rattle.hp_solver.specs.declared.stage_lp.StageLp.{StageLp}
+use Rattle.hp_solver.specs.declared.programs.Column.{Column}
+use Rattle.hp_solver.specs.declared.programs.LpRow.{LpRow}
+use Rattle.hp_solver.specs.declared.programs.Program.{Program}
 use Rattle.hp_solver.specs.Proper.{IsProper, IsReference, IsIdle, AreRising}
 
 -- a decision, and a row with a factor of it
-abbrev pub single : Column → Option Fx → Option Fx → Fx → StageLp
+abbrev pub single : Column → Option Fx → Option Fx → Fx → Program
 single c low high factor = record { columns = c ∷ []; rows = record { low = low; high = high; terms = (0, factor) ∷ [] } ∷ []; decisions = 1; own = 1 }
 
 pub proper_one : (c : Column) (low high : Option Fx) (factor : Fx) → c.low.0 ≤ℤ c.high.0 → IfSome low (λ l. IfSome high (λ h. l.0 ≤ℤ h.0)) → IsProper (single c low high factor)

@@ -1,6 +1,7 @@
 // Pools of cuts, and what they keep for stage problems.
 use hp_cut::{Certificate, Cut, Entry, OutBox, Pools};
 use hp_num::{List, Memory};
+use hp_solver::PackedCuts;
 use std::alloc::Global;
 use std::test::Fail;
 
@@ -104,9 +105,21 @@ fn keeps_peaks(rt: HostRuntime) -> Result<(), Fail> {
     Ok(())
 }
 
-fn slope(pools: &Pools, place: usize) -> Option<i128> {
-    if pools.nodes() > 0 && place < pools.cuts(0).len() {
-        pools.slopes(0, place).first().copied()
+// The value of a cut where all states are 0, and its first slope.
+fn numbers_of(cuts: &PackedCuts, place: usize) -> Option<(i128, i64)> {
+    if place < cuts.len() {
+        let slope = cuts.slopes(place).first().copied()?;
+        Some((cuts.height(place), slope))
+    } else {
+        None
+    }
+}
+
+// The same of a cut that node 0 keeps side by side.
+fn kept(pools: &Pools, place: usize) -> Option<(i128, i64)> {
+    if pools.nodes() > 0 {
+        let cuts = pools.packed(0)?;
+        numbers_of(&cuts, place)
     } else {
         None
     }
@@ -114,18 +127,57 @@ fn slope(pools: &Pools, place: usize) -> Option<i128> {
 
 fn keeps_two(alloc: Global, pools: &mut Pools) -> bool {
     pushes(alloc, pools, 0, 7, -2)
+        && kept(pools, 0).is_none()
         && prepares(alloc, pools)
         && pushes(alloc, pools, 0, 4, 1)
-        && slope(pools, 0) == Some(-2)
-        && slope(pools, 1) == Some(1)
+        && kept(pools, 0) == Some((7, -2))
+        && kept(pools, 1) == Some((4, 1))
+}
+
+// A cut with a slope of 58 binary digits ends what is kept.
+fn keeps_few_digits(alloc: Global, pools: &mut Pools) -> bool {
+    pushes(alloc, pools, 0, 4, 1 << 57) && kept(pools, 0).is_none()
 }
 
 #[test]
-fn keeps_slopes(rt: HostRuntime) -> Result<(), Fail> {
+fn keeps_cuts_side_by_side(rt: HostRuntime) -> Result<(), Fail> {
     let mut pools = Pools::new(rt.alloc(), 1)?;
     assert!(rt; keeps_two(rt.alloc(), &mut pools));
+    assert!(rt; keeps_few_digits(rt.alloc(), &mut pools));
     keeps_one(&mut pools, 0);
-    assert!(rt; peak(&pools, ENDS).is_none() && slope(&pools, 0) == Some(-2));
+    assert!(rt; peak(&pools, ENDS).is_none() && kept(&pools, 0).is_none());
+    Ok(())
+}
+
+// Whether these places are those by which all cuts of node 0 are covered.
+fn are_covering(pools: &Pools, places: &[u32]) -> bool {
+    if pools.nodes() == 0 {
+        return false;
+    }
+    match pools.packed(0) {
+        Some(cuts) => match cuts.active() {
+            Some(active) => active.places == places,
+            None => false,
+        },
+        None => false,
+    }
+}
+
+// Over [1, 10] the cut 3 + x is covered by 4 + x, and that one by 5 + x.
+fn keeps_covering(alloc: Global, pools: &mut Pools) -> bool {
+    pushes(alloc, pools, 0, 9, -2)
+        && prepares(alloc, pools)
+        && pushes(alloc, pools, 0, 4, 1)
+        && pushes(alloc, pools, 0, 3, 1)
+        && are_covering(pools, [0, 1].as_slice())
+        && pushes(alloc, pools, 0, 5, 1)
+        && are_covering(pools, [0, 3].as_slice())
+}
+
+#[test]
+fn keeps_the_places_of_covering_cuts(rt: HostRuntime) -> Result<(), Fail> {
+    let mut pools = Pools::new(rt.alloc(), 1)?;
+    assert!(rt; keeps_covering(rt.alloc(), &mut pools));
     Ok(())
 }
 

@@ -5,19 +5,19 @@ ghost use Rattle.hp_solver.specs.Proper.{IsProper, IsReference};
 use hp_num::{List, Memory};
 use hp_simplex::{DualSimplex, Table};
 use hp_solver::fixed::ONE;
-use hp_solver::{Answer, Column, Fx, Kind, Liar, LpRow, Meeting, Solver, StageLp, Zero};
+use hp_solver::{Answer, Column, Fx, Kind, Liar, LpRow, Meeting, Program, Solver, StageLp, Zero};
 use std::alloc::Global;
 use std::test::Fail;
 
 // A program of one decision and one own row, whose only term is the factor.
 #[tactic(auto, using(crate::proofs::Singles::proper_one, crate::proofs::Singles::reference_one))]
-fn single(
+fn single<'a>(
     alloc: Global,
     column: Column,
     low: Option<Fx>,
     high: Option<Fx>,
     factor: Fx,
-) -> Result<StageLp, Memory>
+) -> Result<StageLp<'a>, Memory>
     requires column { column.low.0 ≤ℤ column.high.0 }
     requires row { IfSome low (λ l. IfSome high (λ h. l.0 ≤ℤ h.0)) }
     ensures proper { IfOk result (λ lp. IsProper lp) }
@@ -29,16 +29,16 @@ fn single(
     columns.push(column)?;
     let mut rows = List::new(alloc);
     rows.push(LpRow { low, high, terms })?;
-    Ok(StageLp {
+    Ok(StageLp::of(Program {
         columns,
         rows,
         decisions: 1,
         own: 1,
-    })
+    }))
 }
 
 // A column from 0 to 1 at cost 1, three of which are to be 1.
-fn thirds(alloc: Global) -> Result<StageLp, Memory>
+fn thirds<'a>(alloc: Global) -> Result<StageLp<'a>, Memory>
     ensures proper { IfOk result (λ lp. IsProper lp) }
     ensures reference { IfOk result (λ lp. IsReference lp) }
 {
@@ -118,7 +118,7 @@ fn solves_thirds(rt: HostRuntime) -> Result<(), Fail> {
 }
 
 // A column that is 2^100, with a row of 2^100 of it.
-fn large(alloc: Global) -> Result<StageLp, Memory>
+fn large<'a>(alloc: Global) -> Result<StageLp<'a>, Memory>
     ensures proper { IfOk result (λ lp. IsProper lp) }
     ensures reference { IfOk result (λ lp. IsReference lp) }
 {

@@ -1,7 +1,7 @@
 use Rattle.std.proofs.Common.{◌≤ℤ◌, List, All, subst}
 use Rattle.std.proofs.lemmas.List.{take_all}
 use Rattle.std.proofs.lemmas.List.Elements.{All-more}
-use Rattle.hp_solver.specs.declared.stage_lp.Column.{Column}
+use Rattle.hp_solver.specs.declared.programs.Column.{Column}
 use Rattle.golden_library.proofs.proper.have_boxes.Goals as goal
 
 -- src/proper.rt:22:5

@@ -1,5 +1,5 @@
 use Rattle.std.proofs.Common.{◌≤ℤ◌, take, All}
-use Rattle.hp_solver.specs.declared.stage_lp.Column.{Column}
+use Rattle.hp_solver.specs.declared.programs.Column.{Column}
 use Rattle.golden_library.proofs.proper.have_boxes.Given as goal
 
 abbrev pub invariant-loop-column : goal.invariant-loop-column

@@ -1,5 +1,5 @@
 use Rattle.std.proofs.Common.{◌≤ℤ◌, take, All, IfSome}
-use Rattle.hp_solver.specs.declared.stage_lp.LpRow.{LpRow}
+use Rattle.hp_solver.specs.declared.programs.LpRow.{LpRow}
 use Rattle.golden_library.proofs.proper.have_values.Given as goal
 
 abbrev pub invariant-loop-row : goal.invariant-loop-row

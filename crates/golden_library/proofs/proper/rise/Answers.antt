@@ -2,7 +2,7 @@ use Rattle.std.proofs.Common.{ℕ, List, All, subst}
 use Rattle.std.proofs.lemmas.List.{take_all}
 use Rattle.std.proofs.lemmas.List.Elements.{All-more}
 use Rattle.hp_solver.specs.declared.fixed.Fx.{Fx}
-use Rattle.hp_solver.specs.declared.stage_lp.LpRow.{LpRow}
+use Rattle.hp_solver.specs.declared.programs.LpRow.{LpRow}
 use Rattle.hp_solver.specs.Proper.{AreRising}
 use Rattle.golden_library.proofs.proper.rise.Goals as goal
 
