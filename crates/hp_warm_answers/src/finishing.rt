@@ -1,4 +1,4 @@
-// What ends a run: reduced costs computed afresh from the duals of the rows, and whether they are to be trusted.
+// The end of a run: reduced costs computed afresh from the duals of the rows, and whether they are to be trusted.
 ghost use Rattle.std.specs.Prelude.{◌≡◌, ◌<◌, ◌≤◌, ◌+◌, ◌*◌, ◌^◌, ◌+ℤ◌, ◌-ℤ◌, pos, nat_abs, ℕ, length, All, IfOk, OnOk, OnErr, IfSome};
 ghost use Rattle.hp_num.specs.Sums.{floor_over};
 ghost use Rattle.hp_warm_table.specs.Shape.{IsTable, AreRising, variables};
@@ -14,7 +14,7 @@ use hp_warm_table::lists::with_room;
 use hp_warm_table::{Bounds, Cell, Coefficient, Quantity, Table};
 use std::alloc::Global;
 
-// Whether a variable has the bound that a cost of this sign speaks of.
+// Tells whether a variable has the bound that a cost of this sign speaks of.
 fn has_side(bounds: &Bounds, variable: usize, cost: Cell) -> bool
     requires low { variable < length bounds.now.has_low }
     requires up { variable < length bounds.now.has_up }
@@ -116,7 +116,7 @@ fn whole_costs(alloc: Global, costs: &[Cell]) -> Result<List<Wide>, Memory>
     Ok(found)
 }
 
-// What rests of the cost of each column, less the terms of all rows times their duals.
+// Writes what rests of the cost of each column, less the terms of all rows times their duals.
 fn rests_of(alloc: Global, table: &Table) -> Result<List<Wide>, Memory>
     requires sized { IsTable table.now }
     ensures rests { IfOk result (λ found. found ≡ rests_of table.now) }
@@ -192,7 +192,7 @@ fn plus_bound(table: &Table, sum: Wide, variable: usize, cost: Cell) -> Wide
     sum.plus(cost, bound_by(&table.bounds, variable, cost))
 }
 
-// What the columns cost at the least.
+// Computes what the columns cost at the least.
 fn columns_cost(table: &Table, costs: &[Cell]) -> Wide
     requires sized { IsTable table.now }
     requires lengths { length costs.now ≡ length table.now.costs }
@@ -258,7 +258,7 @@ fn size_of(cost: i128, least: i128) -> i128
     magnitude(cost) + magnitude(least)
 }
 
-// By how much costs of this size may differ.
+// Computes by how much costs of this size may differ.
 fn tolerance(size: i128) -> i128
     requires small { nat_abs size ≤ 3597 * 2 ^ 115 }
     ensures { result ≡ floor_over size (2 ^ 18) +ℤ pos (2 ^ 56) }
@@ -266,7 +266,7 @@ fn tolerance(size: i128) -> i128
     floor_div(size, 1 << 18) + (1 << 56)
 }
 
-// By how much a cost exceeds the least one.
+// Computes by how much a cost exceeds the least one.
 fn gap(cost: i128, least: i128) -> i128
     requires cost { nat_abs cost ≤ 1199 * 2 ^ 115 }
     requires least { nat_abs least ≤ 2398 * 2 ^ 115 }
@@ -275,7 +275,7 @@ fn gap(cost: i128, least: i128) -> i128
     cost - least
 }
 
-// Whether the cost of a point exceeds the least one by too much.
+// Tells whether the cost of a point exceeds the least one by too much.
 fn is_apart(cost: i128, least: i128) -> bool
     requires cost { nat_abs cost ≤ 1199 * 2 ^ 115 }
     requires least { nat_abs least ≤ 2398 * 2 ^ 115 }
@@ -284,7 +284,7 @@ fn is_apart(cost: i128, least: i128) -> bool
     tolerance(size_of(cost, least)) < gap(cost, least)
 }
 
-// Whether the reduced costs are not to be trusted.
+// Tells whether the reduced costs are not to be trusted.
 fn is_weak(table: &Table, costs: &[Cell]) -> bool
     requires sized { IsTable table.now }
     requires lengths { length costs.now ≡ length table.now.costs }

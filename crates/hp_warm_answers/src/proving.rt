@@ -267,7 +267,7 @@ fn exceeds(alloc: Global, lp: &StageLp, multipliers: &[Fx], digits: u32) -> Resu
     Ok(is_above_zero(excess(lp, multipliers, weights.as_slice(), digits)))
 }
 
-// The same for one of so many scales, each 2^4 times the one before.
+// Tells the same for one of so many scales, each 2^4 times the one before.
 fn exceeds_by_one(
     alloc: Global,
     lp: &StageLp,

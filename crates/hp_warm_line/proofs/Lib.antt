@@ -6,4 +6,5 @@ pub mod Products
 pub mod Shifts
 pub mod Sized
 pub mod Terms
+pub mod Values
 pub mod Worked

@@ -1,10 +1,11 @@
 // The point where a variable leaves for another.
-ghost use Rattle.std.specs.Prelude.{◌≡◌, ◌^◌, ◌+◌, ◌<◌, ◌≤◌, pos, ◌+ℤ◌, ◌*ℤ◌, ◌∷◌, length, take, map, not, get_or, false, nat_abs, All};
-ghost use Rattle.hp_num.specs.Sums.{entry};
+ghost use Rattle.std.specs.Prelude.{◌≡◌, ◌^◌, ◌+◌, ◌<◌, ◌≤◌, pos, ◌+ℤ◌, ◌*ℤ◌, ◌∷◌, length, take, map, not, get_or, slice_set, false, nat_abs, All};
+ghost use Rattle.std.specs.Option.{option_map};
+ghost use Rattle.hp_num.specs.Sums.{at_terms, entry};
 ghost use Rattle.hp_simplex.specs.Each.{each_from};
 ghost use Rattle.hp_warm_table.specs.Shape.{IsTable, variables};
 ghost use Rattle.hp_warm_table.specs.Updates.{Gives};
-ghost use Rattle.hp_warm_table.specs.Numbers.{value_of};
+ghost use Rattle.hp_warm_table.specs.Numbers.{down_of, value_of};
 ghost use Rattle.hp_warm_table.specs.Kept.{with_values};
 ghost use Rattle.hp_warm_line.specs.Refine.{IsWhole, stand_of};
 ghost use Rattle.hp_warm_line.specs.Move.{length_of, step_of, span_of, span_at, steps_of, carried, put, passed, reached, arrived, moved_along, moved_of};
@@ -119,30 +120,75 @@ fn write_steps(
     }
 }
 
-// The value of a column after the steps.
-#[tactic(auto, unfolding(crate::specs::Move::carried))]
-fn carried(
+// Moves a value by the steps, whose shares at its line are given. False where the value is no quantity then.
+fn carry_by(values: &mut [Quantity], line: &[Cell], steps: &[(usize, Shift)], k: usize) -> bool
+    requires place { k < length values.old }
+    requires inside { All (λ s. s.0 < length line.now) steps.now }
+    requires few { length steps.now ≤ 1199 }
+    ensures count { length values.new ≡ length values.old }
+    ensures moved { Gives result (option_map (slice_set values.old k)
+        (value_of (entry values.old k +ℤ down_of (at_terms steps.now (entry line.now))))) values.new }
+{
+    match shifted(values[k], shares(steps, line)) {
+        Some(x) => {
+            values[k] = x;
+            true
+        }
+        None => false,
+    }
+}
+
+// Moves the value of a column by the steps, where it is basic and does not leave.
+#[tactic(auto, unfolding(crate::specs::Move::carried), using(crate::proofs::Values::kept_value))]
+fn carry(
+    values: &mut [Quantity],
     places: &[Option<usize>],
     lines: &Square,
     leaving: usize,
     steps: &[(usize, Shift)],
     k: usize,
-    x: Quantity,
-) -> Option<Quantity>
+) -> bool
+    requires value { k < length values.old }
     requires place { k < length places.now }
     requires there { k < length lines.now }
     requires inside { All (λ s. s.0 < length lines.now) steps.now }
     requires few { length steps.now ≤ 1199 }
-    ensures { result ≡ carried places.now lines.now leaving steps.now k x }
+    ensures count { length values.new ≡ length values.old }
+    ensures moved { Gives result (option_map (slice_set values.old k)
+        (carried places.now lines.now leaving steps.now k (entry values.old k))) values.new }
 {
     if places[k].is_none() && k != leaving {
-        shifted(x, shares(steps, lines.row(k)))
+        carry_by(values, lines.row(k), steps, k)
     } else {
-        Some(x)
+        true
     }
 }
 
 // Moves the values of the basic columns but the one that leaves by the steps.
+fn carry_each(
+    values: &mut [Quantity],
+    places: &[Option<usize>],
+    lines: &Square,
+    leaving: usize,
+    steps: &[(usize, Shift)],
+) -> bool
+    requires places { length values.old ≤ length places.now }
+    requires there { length values.old ≡ length lines.now }
+    requires inside { All (λ s. s.0 < length lines.now) steps.now }
+    requires few { length steps.now ≤ 1199 }
+    ensures count { length values.new ≡ length values.old }
+    ensures moved { Gives result
+        (each_from (carried places.now lines.now leaving steps.now) 0 values.old) values.new }
+{
+    for k in 0..values.len() {
+        if !carry(values, places, lines, leaving, steps, k) {
+            return false;
+        }
+    }
+    true
+}
+
+// Moves the values of the basic columns, in a list, but the one that leaves by the steps.
 fn carry_all(
     values: &mut List<Quantity>,
     places: &[Option<usize>],
@@ -158,13 +204,7 @@ fn carry_all(
     ensures moved { Gives result
         (each_from (carried places.now lines.now leaving steps.now) 0 values.old) values.new }
 {
-    for k in 0..values.len() {
-        match carried(places, lines, leaving, steps, k, values.as_slice()[k]) {
-            Some(x) => values.set(k, x),
-            None => return false,
-        }
-    }
-    true
+    carry_each(values.as_mut_slice(), places, lines, leaving, steps)
 }
 
 // Moves the values of a table's basic columns but the one that leaves by the steps.

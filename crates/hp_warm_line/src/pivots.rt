@@ -118,22 +118,43 @@ fn turned_product(inverse: i64, k: u32, x: Cell) -> Option<Cell>
     Cell::new(turned_down(product(x.number(), inverse), k))
 }
 
-// The same, but that 0 stays 0.
-#[tactic(auto, unfolding(crate::specs::Pivot::turned))]
-fn turned(inverse: i64, k: u32, x: Cell) -> Option<Cell>
+// Turns a cell by the inverse of the pivot. False where it is no cell then.
+fn turn_by(line: &mut [Cell], inverse: i64, k: u32, j: usize) -> bool
     requires inverse { nat_abs inverse ≤ 2 ^ 57 }
     requires places { k ≤ 76 }
     requires some { 1 ≤ k }
-    ensures { result ≡ turned inverse k x }
+    requires there { j < length line.old }
+    ensures width { length line.new ≡ length line.old }
+    ensures turned { Gives result (option_map (slice_set line.old j)
+        (cell_of (neg_ℤ (floor_over (entry line.old j *ℤ inverse +ℤ pos (2 ^ (k - 1))) (2 ^ k))))) line.new }
 {
-    if x.number() == 0 {
-        Some(Cell::zero())
-    } else {
-        turned_product(inverse, k, x)
+    match turned_product(inverse, k, line[j]) {
+        Some(x) => {
+            line[j] = x;
+            true
+        }
+        None => false,
     }
 }
 
-// All cells of a line times the inverse of the pivot, with the other sign.
+// Turns a cell by the inverse of the pivot, but that 0 stays 0: most cells of a line are 0, and nothing is written there.
+#[tactic(auto, unfolding(crate::specs::Pivot::turned), using(crate::proofs::Values::kept_zero))]
+fn turn_at(line: &mut [Cell], inverse: i64, k: u32, j: usize) -> bool
+    requires inverse { nat_abs inverse ≤ 2 ^ 57 }
+    requires places { k ≤ 76 }
+    requires some { 1 ≤ k }
+    requires there { j < length line.old }
+    ensures width { length line.new ≡ length line.old }
+    ensures turned { Gives result (option_map (slice_set line.old j) (turned inverse k (entry line.old j))) line.new }
+{
+    if line[j].number() == 0 {
+        true
+    } else {
+        turn_by(line, inverse, k, j)
+    }
+}
+
+// Turns all cells of a line by the inverse of the pivot.
 fn turn_all(line: &mut [Cell], inverse: i64, k: u32) -> bool
     requires inverse { nat_abs inverse ≤ 2 ^ 57 }
     requires places { k ≤ 76 }
@@ -142,9 +163,8 @@ fn turn_all(line: &mut [Cell], inverse: i64, k: u32) -> bool
     ensures turned { Gives result (each_from (λ j x. turned inverse k x) 0 line.old) line.new }
 {
     for j in 0..line.len() {
-        match turned(inverse, k, line[j]) {
-            Some(x) => line[j] = x,
-            None => return false,
+        if !turn_at(line, inverse, k, j) {
+            return false;
         }
     }
     true

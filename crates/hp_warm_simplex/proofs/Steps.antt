@@ -1,13 +1,15 @@
 -- Steps of loops.
-use Rattle.std.proofs.Common.{◌≡◌, ℕ, ℤ, suc, ◌+◌, ◌-◌, ◌<◌, ◌≤◌, Bool, true, List, Option, Some, None, arith, refl, ap, sym, subst, ◌∙◌}
-use Rattle.std.specs.Option.{option_and_then, is_some}
+use Rattle.std.proofs.Common.{◌≡◌, ℕ, ℤ, get_or, suc, ◌+◌, ◌-◌, ◌<◌, ◌≤◌, Bool, true, false, List, Option, Some, None, arith, refl, ap, sym, subst, ◌∙◌}
+use Rattle.std.specs.Option.{option_map, option_and_then, is_some}
+use Rattle.hp_simplex.proofs.Each.{some_same}
 use Rattle.hp_warm_table.specs.declared.table.Table.{Table}
+use Rattle.hp_warm_table.specs.Shape.{variables}
 use Rattle.hp_warm_table.specs.Updates.{Gives}
 use Rattle.hp_warm_line.specs.declared.moves.Swap.{Swap}
 use Rattle.hp_warm_simplex.specs.declared.violations.Violation.{Violation}
 use Rattle.hp_solver.specs.declared.programs.Program.{Program}
 use Rattle.hp_solver.specs.declared.programs.Answer.{Answer}
-use Rattle.hp_warm_simplex.specs.Violations.{violations_step, violations_from, next_violation}
+use Rattle.hp_warm_simplex.specs.Violations.{Rests, PassesOver, violation_of, value_at, by_place, joined, violations_step, violations_from, next_violation}
 use Rattle.hp_warm_simplex.specs.Turns.{Glance, passes, mends, shows, stops, glance_of, Look, rests, takes, finds, fails, by_glance, by_next, look_from, Turn, pivots, settles, ends, Went, went, by_turn, turn_of, turns}
 use Rattle.hp_warm_simplex.specs.Steps.{Halts, Ends}
 
@@ -19,6 +21,40 @@ violations_on t vs next v count whole h w e =
     ap (violations_from t vs v) left
     ∙ ap (option_and_then (λ (n : List Violation). violations_from t n (suc v) (count - (v + 1)))) is
     ∙ ap (λ (k : ℕ). violations_from t next k (count - (v + 1))) up
+
+-- one variable, and more behind it of which nothing is to be found
+pub violations_past : (t : Table) (vs next : List Violation) (v w : ℕ) (whole : Bool) → v < variables t → whole ≡ true → Gives whole (violations_step t vs v) next → PassesOver t (v + 1) w → violations_from t vs v (variables t - v) ≡ violations_from t next w (variables t - w)
+violations_past t vs next v w whole h e g p = violations_on t vs next v (variables t) whole h e g ∙ p next
+
+-- a variable whose value is out of range
+pub violations_lost : (t : Table) (vs next : List Violation) (v : ℕ) (whole : Bool) → v < variables t → whole ≡ false → Gives whole (violations_step t vs v) next → violations_from t vs v (variables t - v) ≡ None
+violations_lost t vs next v whole h w e =
+    let left : variables t - v ≡ suc (variables t - (v + 1)) = omega arith in
+    let is : violations_step t vs v ≡ None = subst (λ (b : Bool). Gives b (violations_step t vs v) next) w e in
+    ap (violations_from t vs v) left ∙ ap (option_and_then (λ (n : List Violation). violations_from t n (suc v) (variables t - (v + 1)))) is
+
+-- no variable is left
+pub violations_end : (t : Table) (vs : List Violation) (v : ℕ) → variables t ≤ v → violations_from t vs v (variables t - v) ≡ Some vs
+violations_end t vs v h = let none : variables t - v ≡ 0 = omega arith in ap (violations_from t vs v) none
+
+-- one variable more of which nothing is to be found
+pub passes_on : (t : Table) (from v : ℕ) → v < variables t → Rests t v → PassesOver t from v → PassesOver t from (v + 1)
+passes_on t from v h r p vs = p vs ∙ violations_on t vs vs v (variables t) true h refl (r vs)
+
+-- a variable with a place
+pub placed_step : (t : Table) (v j : ℕ) → get_or t.basis.places v None ≡ Some j → Rests t v
+unfolding violations_step
+placed_step t v j e vs = ap (by_place t vs v) e
+
+-- a value that keeps both bounds
+joined_none : (t : Table) (vs : List Violation) (v : ℕ) (x : Option ℤ) → option_map (violation_of t v) x ≡ Some None → option_map (λ (z : ℤ). joined vs (violation_of t v z)) x ≡ Some vs
+joined_none t vs v None k = absurd (cc)
+joined_none t vs v (Some x) k = let none : violation_of t v x ≡ None = some_same k in ap (λ (o : Option Violation). Some (joined vs o)) none
+
+-- a basic variable whose value keeps both bounds
+pub kept_step : (t : Table) (v : ℕ) → get_or t.basis.places v None ≡ None → option_map (violation_of t v) (value_at t v) ≡ Some None → Rests t v
+unfolding violations_step
+kept_step t v e k vs = ap (by_place t vs v) e ∙ joined_none t vs v (value_at t v) k
 
 module _ (lp : Program) (t : Table) (vs : List Violation) (whole : Look) (limit i : ℕ) (last : Option Violation) where
   -- the violation that is looked at next, by what it comes to

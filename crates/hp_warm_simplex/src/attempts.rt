@@ -17,12 +17,12 @@ use hp_warm_table::Table;
 use hp_wide_simplex::wide;
 use std::alloc::Global;
 
-// What attempts came to.
+// The outcome of attempts.
 #[derive(Drop)]
 pub(crate) struct Attempt {
     // An answer, if there is one.
     pub(crate) answer: Option<Answer>,
-    // Whether it is a ray, or a point that is to be trusted.
+    // True for a ray, or a point that is to be trusted.
     pub(crate) good: bool,
     // The table that the chain goes on with, if there is one.
     pub(crate) table: Option<Table>,
@@ -38,7 +38,7 @@ fn is_ray(kind: Kind) -> bool
     }
 }
 
-// Whether there is an answer that is a ray, or a point that is to be trusted.
+// Tells whether there is an answer that is a ray, or a point that is to be trusted.
 pub(crate) fn is_good(answer: &Option<Answer>, weak: bool) -> bool
     ensures { result ≡ is_good answer.now weak }
 {
@@ -189,7 +189,7 @@ pub(crate) fn widened(
     Ok(where_made(made, table))
 }
 
-// The same, where no cut waits.
+// Widens the table where no cut waits.
 #[tactic(auto, using(crate::proofs::Trying::made_is, crate::proofs::Trying::made_fits))]
 fn widened_in_full(alloc: Global, mut table: Table, lp: &StageLp) -> Result<Option<Table>, Memory>
     requires proper { IsProper lp.now }
@@ -331,7 +331,7 @@ fn resort(alloc: Global, lp: &StageLp, attempt: &mut Attempt) -> Result<Answer, 
     or_stuck(alloc, lp, wide, attempt.answer.take())
 }
 
-// The same, with that table.
+// Gives that answer, with that table.
 fn resorted(
     alloc: Global,
     lp: &StageLp,

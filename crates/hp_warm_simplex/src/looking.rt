@@ -16,7 +16,7 @@ use hp_warm_line::{Swap, write_line};
 use hp_warm_table::{Cell, Table};
 use std::alloc::Global;
 
-// What one violation comes to.
+// The outcome of one violation.
 pub(crate) enum Glance {
     // Nothing mends it, and nothing shows that no point keeps all bounds.
     Passes,
@@ -28,7 +28,7 @@ pub(crate) enum Glance {
     Stops,
 }
 
-// What all violations come to.
+// The outcome of all violations.
 pub(crate) enum Look {
     // None of them can be mended; whether there were any.
     Rests(bool),

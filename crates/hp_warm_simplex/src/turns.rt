@@ -41,7 +41,7 @@ pub struct Room {
     pub(crate) scan: ScanRoom,
 }
 
-// What a turn comes to.
+// The outcome of a turn.
 pub(crate) enum Turn {
     // Two variables changed places.
     Pivots,

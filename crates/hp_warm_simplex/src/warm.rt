@@ -23,7 +23,7 @@ use std::marker::Model;
 // solve take some 3 ns (measured), so this is some 3 ms, where a thread with memory of its own takes some 0.1 ms.
 const LEAST_WORK: usize = 1 << 20;
 
-// So many cuts have rows in a table, by and large.
+// The number of cuts that have rows in a table, by and large.
 const FEW_CUTS: usize = 8;
 
 /// The bounded dual simplex method (Lemke, 1954; Wagner, 1958) with bound flips (Maros, 2003), on a table of 64-bit
@@ -32,7 +32,7 @@ const FEW_CUTS: usize = 8;
 /// Its last resort is the same method in [`wide`](hp_wide_simplex::wide) numbers.
 pub struct WarmSimplex;
 
-/// What a chain holds: the table that its last program left, if there is one, and lists for work, on which no answer
+/// The memory of a chain: the table that its last program left, if there is one, and lists for work, on which no answer
 /// depends.
 #[derive(Drop)]
 pub struct Chain {

@@ -2,7 +2,7 @@ use Rattle.std.proofs.Common.{◌≡◌, length, take, drop}
 use Rattle.hp_simplex.specs.Each.{each_from}
 use Rattle.hp_simplex.proofs.Each.{behind}
 use Rattle.hp_warm_line.specs.Move.{carried}
-use Rattle.hp_warm_line.proofs.moves.carry_all.Given as goal
+use Rattle.hp_warm_line.proofs.moves.carry_each.Given as goal
 
 abbrev pub invariant-loop-k : goal.invariant-loop-k
 invariant-loop-k l = record {
