@@ -9,7 +9,7 @@ use Rattle.hp_warm_table.specs.Numbers.{bits_of}
 use Rattle.hp_warm_table.proofs.Powers.{power_more}
 
 -- a power that is at most a number is below each power that is above it
-below_power : (a j k : ℕ) → 2 ^ j ≤ a → a < 2 ^ k → j < k
+pub below_power : (a j k : ℕ) → 2 ^ j ≤ a → a < 2 ^ k → j < k
 below_power a j k h l = by (nat_le k j) refl
   where
     by : (b : Bool) → nat_le k j ≡ b → j < k

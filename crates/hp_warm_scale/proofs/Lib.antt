@@ -3,6 +3,7 @@ pub mod Coefficients
 pub mod Counts
 pub mod Cuts
 pub mod Digits
+pub mod Fencing
 pub mod Fitted
 pub mod Narrow
 pub mod Parts

@@ -104,7 +104,7 @@ same_test s = by (int_eq s (pos 0)) (nat_abs s == 0) refl refl
 abbrev spanned : List ℤ → ℕ → Option Span → List Term → Option Span
 spanned fs i s ts = walk (λ j s t. joined s (Some (weight_of fs t))) i s ts
 
-abbrev greatest_from : List ℤ → ℕ → ℤ → List (ℕ × ℤ) → ℤ
+abbrev pub greatest_from : List ℤ → ℕ → ℤ → List (ℕ × ℤ) → ℤ
 greatest_from slopes k m ls = walk (λ k most (l : ℕ × ℤ). greater_digits most l.1 (entry slopes l.0)) k m ls
 
 -- one term more, unless the slope is 0

@@ -1,5 +1,6 @@
 pub mod Appending
 pub mod Exponents
+pub mod Fences
 pub mod First
 pub mod Fitting
 pub mod Scaling

@@ -43,7 +43,7 @@ fn size(reaches: &[u32], term: (u32, Fx)) -> u32
     bits(term.1.0) + reach_at(reaches, term.0 as usize)
 }
 
-// What a term of a row counts from.
+// Finds the size that a term of a row counts from.
 fn border(reaches: &[u32], terms: &[(u32, Fx)]) -> u32
     requires { ReachUpTo 128 reaches.now }
     ensures { result ≡ border_of reaches.now terms.now }
@@ -135,7 +135,7 @@ fn add_term(
     }
 }
 
-// The same with some terms more.
+// Adds some terms to the spans of the columns.
 fn add_terms(
     decisions: usize,
     border: u32,
@@ -158,7 +158,7 @@ fn add_terms(
     }
 }
 
-// The same with the terms of one row more.
+// Adds the terms of one row to the spans of the columns.
 #[tactic(auto, unfolding(crate::specs::Exponents::with_row))]
 fn add_row(
     decisions: usize,

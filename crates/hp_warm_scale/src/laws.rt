@@ -1,4 +1,4 @@
-// What the first table rests on.
+// The law that the first table rests on.
 ghost use Rattle.std.specs.Prelude.{◌≡◌};
 ghost use Rattle.hp_solver.specs.declared.programs.Program.{Program};
 ghost use Rattle.hp_solver.specs.Proper.{IsProper};

@@ -3,10 +3,12 @@
 
 pub mod appending;
 pub mod exponents;
+pub mod fences;
 pub mod laws;
 pub mod packed;
 pub mod scaling;
 pub mod sides;
+pub mod slope_digits;
 pub mod spans;
 pub mod tables;
 pub mod waiting;

@@ -1,7 +1,6 @@
-// What cuts that stand side by side ask of a table: the digits of their slopes, and whether they wait.
-ghost use Rattle.std.specs.Prelude.{◌≡◌, ◌≤◌, ◌<◌, ◌^◌, ◌≤ℤ◌, ◌+ℤ◌, ℤ, pos, List, true, false, length, map, replicate, nat_abs, nat_le, get_or, All, None, IfOk, OnOk};
+// Cuts that stand side by side: the spans of their slopes' digits, and whether they wait.
+ghost use Rattle.std.specs.Prelude.{◌≡◌, ◌≤◌, ◌<◌, ◌^◌, ◌≤ℤ◌, ℤ, pos, List, true, false, length, map, replicate, nat_abs, nat_le, get_or, All, None, IfOk, OnOk};
 ghost use Rattle.std.specs.List.{list_all};
-ghost use Rattle.std.specs.Int.{int_max};
 ghost use Rattle.hp_solver.specs.PackedCut.{PackedCut, IsSmallCut, no_packed_cut};
 ghost use Rattle.hp_solver.specs.Packed.{packed_row, rows_of, IsView};
 ghost use Rattle.hp_solver.specs.declared.packed.Out.{Out};
@@ -11,16 +10,21 @@ ghost use Rattle.hp_warm_scale.specs.Spans.{AreBetween};
 ghost use Rattle.hp_warm_scale.specs.Exponents.{AreUpTo, SpansBetween};
 ghost use Rattle.hp_warm_scale.specs.Waiting.{last_column, is_narrow, waits};
 ghost use Rattle.hp_warm_scale.specs.Widening.{top_of, with_top, cut_spans};
-ghost use Rattle.hp_warm_scale.specs.Packed.{lift_of, greater_digits, most_digits, grown_above_zero, AreLifts};
-ghost use Rattle.hp_warm_table.specs.Numbers.{bits_of};
+ghost use Rattle.hp_warm_scale.specs.Packed.{lift_of, most_digits, grown_above_zero, AreLifts};
+ghost use Rattle.hp_warm_scale.specs.Fences.{Keeps};
 
 use crate::exponents::{exponent_at, reach_at};
+use crate::fences::{Lead, fence, is_kept, no_lead};
+use crate::slope_digits::most_digits;
 use crate::spans::{Span, grow};
 use hp_num::{List, Memory};
-use hp_solver::{Out, PackedCuts, PackedView, slope_at};
+use hp_solver::{Out, PackedCuts, PackedView};
 use std::alloc::Global;
 
-// Whether the bounds of all decisions that leave as states have few binary digits, by the reaches of the columns.
+// The greatest number of states.
+const MOST_STATES: usize = 50;
+
+// Tells whether the bounds of all decisions that leave as states have few binary digits, by the reaches of the columns.
 fn are_outs_short(reaches: &[u32], outs: &[Out]) -> bool
     ensures { result ≡ list_all (λ o. nat_le (get_or reaches.now o.decision 0) 71) outs.now }
 {
@@ -28,7 +32,7 @@ fn are_outs_short(reaches: &[u32], outs: &[Out]) -> bool
         .all(|out| reach_at(reaches, out.decision as usize) <= 71)
 }
 
-// The exponent of a state's column with the binary digits of the scale of terms, which is 256 times that of slopes.
+// Finds the exponent of a state's column with the binary digits of the scale of terms, which is 256 times that of slopes.
 fn lift(exponents: &[i32], out: Out) -> (u32, i32)
     requires { AreUpTo 512 exponents.now }
     ensures { result ≡ lift_of exponents.now out }
@@ -36,7 +40,7 @@ fn lift(exponents: &[i32], out: Out) -> (u32, i32)
     (out.state, exponent_at(exponents, out.decision as usize) + 8)
 }
 
-// One for each state.
+// Finds those of all states.
 fn lifts(alloc: Global, exponents: &[i32], outs: &[Out]) -> Result<List<(u32, i32)>, Memory>
     requires { AreUpTo 512 exponents.now }
     ensures { IfOk result (λ found. found ≡ map (lift_of exponents.now) outs.now) }
@@ -48,65 +52,7 @@ fn lifts(alloc: Global, exponents: &[i32], outs: &[Out]) -> Result<List<(u32, i3
     Ok(found)
 }
 
-// The binary digits of a slope.
-fn digits(slope: i64) -> i32
-    requires { nat_abs slope < 2 ^ 57 }
-    ensures value { result ≡ pos (bits_of slope) }
-    ensures some { pos 0 ≤ℤ result }
-    ensures few { result ≤ℤ pos 57 }
-{
-    (64 - slope.unsigned_abs().leading_zeros()) as i32
-}
-
-// The greater of a number and some binary digits with a lift.
-fn greater_with(most: i32, lift: i32, digits: i32) -> i32
-    requires least { pos 0 ≤ℤ most }
-    requires greatest { most ≤ℤ pos 640 }
-    requires lift_least { pos 0 ≤ℤ lift }
-    requires lift_greatest { lift ≤ℤ pos 520 }
-    requires some { pos 0 ≤ℤ digits }
-    requires few { digits ≤ℤ pos 57 }
-    ensures value { result ≡ int_max most (lift +ℤ digits) }
-    ensures least { pos 0 ≤ℤ result }
-    ensures greatest { result ≤ℤ pos 640 }
-{
-    most.max(lift + digits)
-}
-
-// The greater of a number and a slope's binary digits with a lift, unless the slope is 0.
-fn greater(most: i32, lift: i32, slope: i64) -> i32
-    requires least { pos 0 ≤ℤ most }
-    requires greatest { most ≤ℤ pos 640 }
-    requires lift_least { pos 0 ≤ℤ lift }
-    requires lift_greatest { lift ≤ℤ pos 520 }
-    requires slope { nat_abs slope < 2 ^ 57 }
-    ensures value { result ≡ greater_digits most lift slope }
-    ensures least { pos 0 ≤ℤ result }
-    ensures greatest { result ≤ℤ pos 640 }
-{
-    if slope == 0 {
-        most
-    } else {
-        greater_with(most, lift, digits(slope))
-    }
-}
-
-// The most binary digits of a cut's slopes, 0 where all are 0.
-fn most_digits(lifts: &[(u32, i32)], slopes: &[i64]) -> i32
-    requires lifts { AreLifts lifts.now }
-    requires small { All (λ s. nat_abs s < 2 ^ 57) slopes.now }
-    ensures value { result ≡ most_digits lifts.now slopes.now }
-    ensures least { pos 0 ≤ℤ result }
-    ensures greatest { result ≤ℤ pos 640 }
-{
-    let mut most = 0;
-    for (state, lift) in lifts {
-        most = greater(most, *lift, slope_at(slopes, *state as usize));
-    }
-    most
-}
-
-// The span with one number more, unless that is 0.
+// Puts a number to a span, unless it is 0.
 fn grow_above_zero(span: Option<Span>, number: i32) -> Option<Span>
     ensures { result ≡ grown_above_zero span number }
 {
@@ -117,34 +63,138 @@ fn grow_above_zero(span: Option<Span>, number: i32) -> Option<Span>
     }
 }
 
-// The span of the tops of a successor's cuts, from a span on.
-fn grow_by_cuts(span: Option<Span>, lifts: &[(u32, i32)], cuts: &PackedCuts) -> Option<Span>
+// Tells whether a cut's top, where it is not 0, is within a span.
+fn is_within(span: Option<Span>, top: i32) -> bool
+    ensures { result ≡ true → grown_above_zero span top ≡ span }
+{
+    if top == 0 {
+        return true;
+    }
+    match span {
+        None => false,
+        Some(span) => span.least <= top && top <= span.greatest,
+    }
+}
+
+// Puts a cut's top, which is not within the span, to a span, and writes the limits and the lead of what comes of it.
+fn grow_by_top(
+    span: Option<Span>,
+    lead: Lead,
+    limits: &mut [u64],
+    lifts: &[(u32, i32)],
+    slopes: &[i64],
+    top: i32,
+) -> (Option<Span>, Lead)
     requires lifts { AreLifts lifts.now }
     requires span { AreBetween (pos 0) (pos 640) span }
+    requires small { All (λ s. nat_abs s < 2 ^ 57) slopes.now }
+    requires count { length slopes.now ≤ length limits.old }
+    requires least { pos 0 ≤ℤ top }
+    requires greatest { top ≤ℤ pos 640 }
+    ensures value { result.0 ≡ grown_above_zero span top }
+    ensures span { AreBetween (pos 0) (pos 640) result.0 }
+    ensures count { length limits.new ≡ length limits.old }
+    ensures keeps { Keeps lifts.now result.0 limits.new result.1.state result.1.size }
+{
+    match grow_above_zero(span, top) {
+        None => (None, no_lead()),
+        Some(grown) => {
+            let led = fence(limits, lead, lifts, grown, slopes, top);
+            (Some(grown), led)
+        }
+    }
+}
+
+// Puts a cut's top to a span that it need not be within.
+fn grow_by_cut(
+    span: Option<Span>,
+    lead: Lead,
+    limits: &mut [u64],
+    lifts: &[(u32, i32)],
+    slopes: &[i64],
+) -> (Option<Span>, Lead)
+    requires lifts { AreLifts lifts.now }
+    requires span { AreBetween (pos 0) (pos 640) span }
+    requires small { All (λ s. nat_abs s < 2 ^ 57) slopes.now }
+    requires count { length slopes.now ≤ length limits.old }
+    requires keeps { Keeps lifts.now span limits.old lead.state lead.size }
+    ensures value { result.0 ≡ grown_above_zero span (most_digits lifts.now slopes.now) }
+    ensures span { AreBetween (pos 0) (pos 640) result.0 }
+    ensures count { length limits.new ≡ length limits.old }
+    ensures keeps { Keeps lifts.now result.0 limits.new result.1.state result.1.size }
+{
+    let top = most_digits(lifts, slopes);
+    if is_within(span, top) {
+        return (span, lead);
+    }
+    grow_by_top(span, lead, limits, lifts, slopes, top)
+}
+
+// Puts a cut's top to a span: most cuts are known at a glance to leave it as it is.
+fn with_cut(
+    span: Option<Span>,
+    lead: Lead,
+    limits: &mut [u64],
+    lifts: &[(u32, i32)],
+    slopes: &[i64],
+) -> (Option<Span>, Lead)
+    requires lifts { AreLifts lifts.now }
+    requires span { AreBetween (pos 0) (pos 640) span }
+    requires small { All (λ s. nat_abs s < 2 ^ 57) slopes.now }
+    requires count { length slopes.now ≤ length limits.old }
+    requires keeps { Keeps lifts.now span limits.old lead.state lead.size }
+    ensures value { result.0 ≡ grown_above_zero span (most_digits lifts.now slopes.now) }
+    ensures span { AreBetween (pos 0) (pos 640) result.0 }
+    ensures count { length limits.new ≡ length limits.old }
+    ensures keeps { Keeps lifts.now result.0 limits.new result.1.state result.1.size }
+{
+    if is_kept(limits, lead, slopes) {
+        return (span, lead);
+    }
+    grow_by_cut(span, lead, limits, lifts, slopes)
+}
+
+// Finds the span of the tops of a successor's cuts, from a span on.
+fn grow_by_cuts(
+    span: Option<Span>,
+    limits: &mut [u64],
+    lifts: &[(u32, i32)],
+    cuts: &PackedCuts,
+) -> Option<Span>
+    requires lifts { AreLifts lifts.now }
+    requires span { AreBetween (pos 0) (pos 640) span }
+    requires limits { 50 ≤ length limits.old }
     ensures value { result ≡ walk (λ i s (c : PackedCut). grown_above_zero s (most_digits lifts.now c.slopes)) 0 span cuts.now }
     ensures span { AreBetween (pos 0) (pos 640) result }
     ensures small { All (λ (c : PackedCut). All (λ s. nat_abs s < 2 ^ 57) c.slopes) cuts.now }
+    ensures limits { length limits.new ≡ length limits.old }
 {
     let mut span = span;
+    let mut lead = no_lead();
     for place in 0..cuts.len() {
-        span = grow_above_zero(span, most_digits(lifts, cuts.slopes(place)));
+        let (grown, led) = with_cut(span, lead, limits, lifts, cuts.slopes(place));
+        span = grown;
+        lead = led;
     }
     span
 }
 
-// The spans of successors' columns with the tops of the cuts in one column.
+// Puts the tops of the cuts in one column to the spans of successors' columns.
 fn write_span(
     decisions: usize,
     spans: &mut [Option<Span>],
+    limits: &mut [u64],
     lifts: &[(u32, i32)],
     column: usize,
     cuts: &PackedCuts,
 )
     requires lifts { AreLifts lifts.now }
+    requires limits { 50 ≤ length limits.old }
     requires spans { SpansBetween (pos 0) (pos 640) spans.old }
     ensures value { (exponents : List ℤ) → (outs : List Out) → lifts.now ≡ map (lift_of exponents) outs
         → spans.new ≡ walk (λ i ss (r : LpRow). with_top decisions ss (top_of exponents r.terms) (last_column r.terms)) 0 spans.old (map (packed_row outs column) cuts.now) }
     ensures count { length spans.new ≡ length spans.old }
+    ensures limits { length limits.new ≡ length limits.old }
     ensures spans { SpansBetween (pos 0) (pos 640) spans.new }
 {
     if column < decisions {
@@ -153,17 +203,19 @@ fn write_span(
     if spans.len() <= column {
         return;
     }
-    spans[column] = grow_by_cuts(spans[column], lifts, cuts);
+    spans[column] = grow_by_cuts(spans[column], limits, lifts, cuts);
 }
 
-// For each column of a successor the span of the tops of its cuts, by the lifts of all states.
+// Writes for each column of a successor the span of the tops of its cuts, by the lifts of all states.
 fn write_lifted_spans(
     decisions: usize,
     spans: &mut [Option<Span>],
+    limits: &mut [u64],
     lifts: &[(u32, i32)],
     view: &PackedView,
 )
     requires lifts { AreLifts lifts.now }
+    requires limits { 50 ≤ length limits.old }
     requires view { IsView view.now }
     requires spans { SpansBetween (pos 0) (pos 640) spans.old }
     ensures value { (exponents : List ℤ) → lifts.now ≡ map (lift_of exponents) view.now.outs
@@ -174,11 +226,11 @@ fn write_lifted_spans(
     let cuts = view.cuts.as_slice();
     for k in 0..cuts.len() {
         let column = view.first as usize + k;
-        write_span(decisions, spans, lifts, column, &cuts[k]);
+        write_span(decisions, spans, limits, lifts, column, &cuts[k]);
     }
 }
 
-/// For each column of a successor the span of the tops of its cuts. [`Memory`] where memory was refused.
+/// Writes for each column of a successor the span of the tops of its cuts. [`Memory`] where memory was refused.
 #[tactic(auto, unfolding(crate::specs::Widening::cut_spans))]
 pub(crate) fn write_packed_spans(
     alloc: Global,
@@ -195,7 +247,8 @@ pub(crate) fn write_packed_spans(
     ensures spans { OnOk result (SpansBetween (pos 0) (pos 640) spans.new) }
 {
     let lifts = lifts(alloc, exponents, view.outs.as_slice())?;
-    write_lifted_spans(decisions, spans, lifts.as_slice(), view);
+    let mut limits: [u64; MOST_STATES] = [0; MOST_STATES];
+    write_lifted_spans(decisions, spans, &mut limits, lifts.as_slice(), view);
     Ok(())
 }
 
@@ -209,7 +262,7 @@ fn read_all(view: &PackedView)
     }
 }
 
-/// Whether the columns of states are short, by the reaches of the columns; where it is true, all cuts are narrow.
+/// Tells whether the columns of states are short, by the reaches of the columns; where it is true, all cuts are narrow.
 pub(crate) fn are_narrow(reaches: &[u32], view: &PackedView) -> bool
     requires { IsView view.now }
     ensures { result ≡ true → All (λ (r : LpRow). is_narrow reaches.now r ≡ true) (rows_of view.now) }
@@ -218,14 +271,14 @@ pub(crate) fn are_narrow(reaches: &[u32], view: &PackedView) -> bool
     are_outs_short(reaches, view.outs.as_slice())
 }
 
-// Whether cuts in a column wait.
+// Tells whether cuts in a column wait.
 fn waits_at(waiting: &[bool], column: usize) -> bool
     ensures { result ≡ get_or waiting.now column false }
 {
     waiting.get(column).copied().unwrap_or(false)
 }
 
-/// Whether all of these cuts wait; where it is true, they do.
+/// Tells whether all of these cuts wait; where it is true, they do.
 pub(crate) fn do_all_wait(waiting: &[bool], view: &PackedView) -> bool
     requires { IsView view.now }
     ensures { result ≡ true → All (λ (r : LpRow). waits waiting.now r ≡ true) (rows_of view.now) }

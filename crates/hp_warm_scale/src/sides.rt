@@ -17,9 +17,9 @@ pub struct Sides {
     pub low: Quantity,
     /// The upper side, 0 where there is none.
     pub up: Quantity,
-    /// Whether there is a lower side.
+    /// True where there is a lower side.
     pub has_low: bool,
-    /// Whether there is an upper side.
+    /// True where there is an upper side.
     pub has_up: bool,
 }
 

@@ -124,7 +124,7 @@ fn blank_with(
     })
 }
 
-// The same by the exponents for some decisions and rows.
+// Makes a table without rows, by the exponents for some decisions and rows.
 #[tactic(auto, unfolding(crate::specs::Scaling::blank_of))]
 fn blank(alloc: Global, count: usize, decisions: &[Column], rows: &[LpRow]) -> Result<Table, Memory>
     requires few { count ≤ 1199 }

@@ -31,7 +31,7 @@ pub fn slopes(terms: &[(u32, Fx)]) -> &[(u32, Fx)]
     front
 }
 
-// Whether a slope and the bounds of its column have few binary digits, by the reaches of the columns.
+// Tells whether a slope and the bounds of its column have few binary digits, by the reaches of the columns.
 fn is_short(reaches: &[u32], term: (u32, Fx)) -> bool
     ensures { result ≡ is_short reaches.now term }
 {
@@ -44,7 +44,7 @@ fn are_short(reaches: &[u32], slopes: &[(u32, Fx)]) -> bool
     slopes.iter().all(|term| is_short(reaches, *term))
 }
 
-// Whether a side is there, and has few binary digits.
+// Tells whether a side is there, and has few binary digits.
 fn is_short_side(side: Option<Fx>) -> bool
     ensures { result ≡ is_short_side side }
 {
@@ -54,7 +54,7 @@ fn is_short_side(side: Option<Fx>) -> bool
     }
 }
 
-// Whether a cut's value at a point is a sum in 128 bits.
+// Tells whether a cut's value at a point is a sum in 128 bits.
 #[tactic(auto, unfolding(crate::specs::Waiting::is_narrow))]
 fn is_narrow(reaches: &[u32], row: &LpRow) -> bool
     ensures { result ≡ is_narrow reaches.now row.now }
@@ -84,7 +84,7 @@ fn close_by(reaches: &[u32], waiting: &mut [bool], row: &LpRow)
     }
 }
 
-// The same with some rows.
+// Closes the columns of all successors that have a row that is not narrow.
 fn close_all(reaches: &[u32], waiting: &mut [bool], cuts: &[LpRow])
     requires { All (λ (r : LpRow). AreRising 0 (length waiting.old) r.terms) cuts.now }
     ensures value { waiting.new ≡ all_closed reaches.now waiting.old cuts.now }
@@ -165,7 +165,7 @@ pub fn waiting(alloc: Global, lp: &StageLp) -> Result<List<bool>, Memory>
     Ok(found)
 }
 
-/// Whether a cut waits.
+/// Tells whether a cut waits.
 #[tactic(auto, unfolding(crate::specs::Waiting::waits))]
 pub fn waits(waiting: &[bool], row: &LpRow) -> bool
     ensures { result ≡ waits waiting.now row.now }

@@ -38,7 +38,7 @@ fn write_successors(
     Ok(())
 }
 
-// The same in a list.
+// Writes the exponents of all columns into a list, by those of the decisions.
 fn write_all(
     alloc: Global,
     lp: &StageLp,

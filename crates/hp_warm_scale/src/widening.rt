@@ -145,7 +145,7 @@ fn cut_lift(span: Option<Span>) -> i32
     }
 }
 
-// What the box of a successor's column asks of its exponent.
+// Finds the exponent that the box of a successor's column asks for.
 fn box_lift(values: i32, column: &Column) -> i32
     requires least { negsuc 1299 ≤ℤ values }
     requires greatest { values ≤ℤ pos 0 }
@@ -426,7 +426,7 @@ pub fn widen(alloc: Global, table: &mut Table, lp: &StageLp) -> Result<bool, Mem
     widen_by(alloc, table, lp, waiting)
 }
 
-/// The same, where no cut waits: all are put behind the rows.
+/// Widens a table by a program as [`widen`] does, where no cut waits: all are put behind the rows.
 #[tactic(auto, unfolding(crate::specs::Widening::widened_in_full))]
 pub fn widen_in_full(alloc: Global, table: &mut Table, lp: &StageLp) -> Result<bool, Memory>
     requires suits { Suits table.old lp.now }

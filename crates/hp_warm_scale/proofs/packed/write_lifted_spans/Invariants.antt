@@ -7,6 +7,7 @@ use Rattle.hp_warm_scale.proofs.packed.write_lifted_spans.Given as goal
 
 abbrev pub invariant-loop-k : goal.invariant-loop-k
 invariant-loop-k l = record {
+  limits : length l.limits ≡ length l.fn.limits;
   count : length l.spans ≡ length l.fn.spans;
   between : SpansBetween (pos 0) (pos 640) l.spans;
   value : (exponents : List ℤ) → l.lifts ≡ map (lift_of exponents) l.view.outs → steps (top_step l.decisions exponents) 0 l.fn.spans (rows_of l.view) ≡ steps (top_step l.decisions exponents) 0 l.spans (packed_rows l.view.outs (l.view.first + l.k) (drop l.k l.view.cuts));

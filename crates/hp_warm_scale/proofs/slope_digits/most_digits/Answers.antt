@@ -2,7 +2,7 @@ use Rattle.std.proofs.Common.{ℤ, pos, ◌≤ℤ◌, get_or, refl, sym, subst, 
 use Rattle.std.proofs.lemmas.Int.{to_z-of_z}
 use mir.Syntax.{w32, w64}
 use Rattle.hp_warm_scale.proofs.Standing.{by_state, lift_fits}
-use Rattle.hp_warm_scale.proofs.packed.most_digits.Goals as goal
+use Rattle.hp_warm_scale.proofs.slope_digits.most_digits.Goals as goal
 
 pub loop-state-preserved : goal.loop-state-preserved
 loop-state-preserved c =

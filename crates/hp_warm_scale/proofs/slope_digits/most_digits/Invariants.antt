@@ -2,7 +2,7 @@ use Rattle.std.proofs.Common.{◌≡◌, ◌≤ℤ◌, ℕ, ℤ, pos, drop}
 use Rattle.hp_num.specs.Sums.{entry}
 use Rattle.hp_warm_scale.specs.Walks.{walk}
 use Rattle.hp_warm_scale.specs.Packed.{greater_digits, most_digits}
-use Rattle.hp_warm_scale.proofs.packed.most_digits.Given as goal
+use Rattle.hp_warm_scale.proofs.slope_digits.most_digits.Given as goal
 
 abbrev pub invariant-loop-state : goal.invariant-loop-state
 invariant-loop-state l = record {

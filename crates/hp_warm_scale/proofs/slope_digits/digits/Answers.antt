@@ -2,7 +2,7 @@ use Rattle.std.proofs.Common.{nat_abs, ap, ◌∙◌}
 use Rattle.std.proofs.lemmas.Int.{to_z-of_z}
 use mir.Syntax.{w64}
 use Rattle.hp_warm_scale.proofs.Digits.{digits_read, digits_some, digits_few}
-use Rattle.hp_warm_scale.proofs.packed.digits.Goals as goal
+use Rattle.hp_warm_scale.proofs.slope_digits.digits.Goals as goal
 
 pub returns-clause-value : goal.returns-clause-value
 returns-clause-value c = digits_read c.args.slope c.unsigned_abs.result (c.unsigned_abs.ensures.value ∙ ap nat_abs (to_z-of_z w64 c.args.slope c.ranges.slope)) c.requires
