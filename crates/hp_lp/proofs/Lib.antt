@@ -3,6 +3,7 @@ pub mod Growing
 pub mod Terms
 pub mod Seams
 pub mod Restating
+pub mod MarkedStates
 pub mod OutSlopes
 pub mod ViewRows
 pub mod ProperStages

@@ -17,7 +17,8 @@ use Rattle.hp_solver.specs.declared.fixed.Fx.{Fx}
 use Rattle.hp_solver.specs.declared.programs.LpRow.{LpRow}
 use Rattle.hp_solver.specs.declared.packed.Out.{Out}
 use Rattle.hp_lp.specs.Stage.{whole, scaled, term_of, cut_row, cut_rows}
-use Rattle.hp_lp.specs.Outs.{state_from, outs_at, outs_in_order, slope_of, row_over, rows_over}
+use Rattle.hp_lp.specs.Outs.{state_from, outs_at, outs_in_order, row_over, rows_over}
+use Rattle.hp_solver.specs.Packed.{slope_term}
 use Rattle.hp_lp.specs.Spans.{Spans, IsWithin}
 
 -- places
@@ -31,10 +32,10 @@ place_apart zero (suc j) h = refl
 place_apart (suc i) zero h = refl
 place_apart (suc i) (suc j) h = place_apart i j (λ e. h (ap suc e))
 
-same_is : (i j : ℕ) → (i == j) ≡ true → i ≡ j
+pub same_is : (i j : ℕ) → (i == j) ≡ true → i ≡ j
 same_is i j e = grind (arith, nat_tests)
 
-apart_is : (i j : ℕ) → (i == j) ≡ false → i ≢ j
+pub apart_is : (i j : ℕ) → (i == j) ≡ false → i ≢ j
 apart_is i j e h = grind (arith, nat_tests)
 
 -- which state a decision leaves as
@@ -102,15 +103,15 @@ slope_at k (o ∷ os) (b ∷ bs) j e = pick (o == j) (slope_at (suc k) os bs j (
         ∙ later ∙ next_slope k b bs (state_from (suc k) os j) (λ n f. (state_within (suc k) os j n f).0)
 
 -- terms
-term_once : (c : Cut) (j : ℕ) (o : Option ℕ) → flat_map (slope_of c.beta) (outs_at j o) ≡ term_of j (slope_from 0 c.beta o)
+term_once : (c : Cut) (j : ℕ) (o : Option ℕ) → flat_map (slope_term c.beta) (outs_at j o) ≡ term_of j (slope_from 0 c.beta o)
 term_once c j None = refl
 term_once c j (Some k) = let e : k ≡ k - 0 = omega arith in append-nil (term_of j (entry c.beta k)) ∙ ap (λ (i : ℕ). term_of j (entry c.beta i)) e
 
-terms_from : (s : Subproblem) (c : Cut) (a n : ℕ) → outs_differ s ≡ true → flat_map (slope_of c.beta) (flat_map (λ j. outs_at j (state_from 0 s.outs j)) (range_with_len a n)) ≡ flat_map (λ j. term_of j (coefficient (placed s.outs c.beta) j)) (range_with_len a n)
+terms_from : (s : Subproblem) (c : Cut) (a n : ℕ) → outs_differ s ≡ true → flat_map (slope_term c.beta) (flat_map (λ j. outs_at j (state_from 0 s.outs j)) (range_with_len a n)) ≡ flat_map (λ j. term_of j (coefficient (placed s.outs c.beta) j)) (range_with_len a n)
 unfolding outs_differ
 terms_from s c a zero e = refl
 terms_from s c a (suc n) e =
-    flat_map-append (slope_of c.beta) (outs_at a (state_from 0 s.outs a)) (flat_map (λ j. outs_at j (state_from 0 s.outs j)) (range_with_len (a + 1) n))
+    flat_map-append (slope_term c.beta) (outs_at a (state_from 0 s.outs a)) (flat_map (λ j. outs_at j (state_from 0 s.outs j)) (range_with_len (a + 1) n))
     ∙ ap₂ (λ (x y : List (ℕ × Fx)). x ++ y) (term_once c a (state_from 0 s.outs a) ∙ ap (term_of a) (sym (slope_at 0 s.outs c.beta a e))) (terms_from s c (a + 1) n e)
 
 row-cut_row : (s : Subproblem) (column : ℕ) (c : Cut) → outs_differ s ≡ true → row_over (outs_in_order s) column c ≡ cut_row s column c

@@ -1,4 +1,4 @@
-// What the stage problems of a node share.
+// Laws on the stage problems of a node.
 ghost use Rattle.std.specs.Prelude.{◌≡◌, ◌<◌, ℕ, ℤ, true, List, length, Some};
 ghost use Rattle.hp_problem.specs.Sealed.{Sealed, is_sealed};
 ghost use Rattle.hp_theory.specs.declared.cut.Cut.{Cut};

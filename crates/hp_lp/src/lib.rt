@@ -7,6 +7,7 @@ mod cut_rows;
 mod cut_values;
 pub mod laws;
 mod out_boxes;
+mod outs;
 mod own_rows;
 mod packed_views;
 pub mod preparing;

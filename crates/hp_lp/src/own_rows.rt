@@ -95,7 +95,7 @@ fn less(a: i128, b: i128) -> i128
     a - b
 }
 
-// What a side is when the parts of the state and of the random variables stand on the other side.
+// Brings the parts of the state and of the random variables to the other side of a row, against this side.
 fn side_less(side: i64, of_state: i128, of_values: i128) -> Fx
     requires state { nat_abs of_state ≤ 2 ^ 110 }
     requires values { nat_abs of_values ≤ 2 ^ 86 }

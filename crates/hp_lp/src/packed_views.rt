@@ -6,7 +6,7 @@ ghost use Rattle.hp_solver.specs.Packed.{rows_of, IsView};
 ghost use Rattle.hp_lp.specs.Stage.{cut_rows};
 ghost use Rattle.hp_lp.specs.Given.{AreWithin};
 
-use crate::cut_rows::outs_in_order;
+use crate::outs::outs_in_order;
 use crate::stages::StageNode;
 use hp_cut::Pools;
 use hp_num::{List, Memory};

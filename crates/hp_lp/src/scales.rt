@@ -5,7 +5,7 @@ ghost use Rattle.hp_lp.specs.Stage.{whole, scaled};
 use hp_solver::Fx;
 use hp_solver::fixed::ONE;
 
-/// What stands for 1 at the scale of cuts and states, at the scale of linear programs.
+/// The number for 1 at the scale of cuts and states, at the scale of linear programs.
 pub(crate) const CUT_SCALE: i128 = 256;
 
 /// A whole number.

@@ -1,6 +1,5 @@
 // Rows of stage problems whose memory serves again.
-use hp_num::List;
-use hp_solver::{LpRow, StageLp};
+use hp_solver::{LpRow, StageLp, blank_row};
 use std::alloc::Global;
 use std::mem;
 
@@ -15,7 +14,7 @@ pub struct SpareRows {
 }
 
 impl SpareRows {
-    /// Nothing is kept yet.
+    /// Starts with nothing kept.
     pub fn new(alloc: Global) -> SpareRows {
         SpareRows {
             rows: Vec::new(alloc),
@@ -37,11 +36,7 @@ impl SpareRows {
     pub(crate) fn take_row(&mut self, alloc: Global) -> LpRow {
         match self.left_over.pop() {
             Some(row) => row,
-            None => LpRow {
-                low: None,
-                high: None,
-                terms: List::new(alloc),
-            },
+            None => blank_row(alloc),
         }
     }
 

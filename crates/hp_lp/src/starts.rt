@@ -1,4 +1,4 @@
-// What a solver makes ready for the nodes of a problem.
+// The starts that a solver makes ready for the nodes of a problem.
 ghost use Rattle.std.specs.Prelude.{◌≡◌, ◌<◌, length, IfOk, Some, slice_get};
 ghost use Rattle.hp_solver.specs.declared.programs.Program.{Program};
 ghost use Rattle.hp_solver.specs.Proper.{IsLike};
@@ -11,15 +11,15 @@ use hp_problem::Problem;
 use hp_solver::{Solver, StageLp};
 use std::alloc::Global;
 
-/// What a solver makes ready for each node of a problem, before any solve.
+/// The starts that a solver makes ready for each node of a problem, before any solve.
 #[derive(Drop)]
 pub struct Starts<V: Solver> {
     items: List<V::Start>,
 }
 
 impl<V: Solver> Starts<V> {
-    /// What the solver makes ready by each node's reference program. A chain may begin from there with each stage problem
-    /// of the node. [`Memory`] where memory was refused.
+    /// Has the solver make ready a start by each node's reference program. A chain may begin from there with each stage
+    /// problem of the node. [`Memory`] where memory was refused.
     pub fn new(alloc: Global, problem: &Problem, solver: &V) -> Result<Starts<V>, Memory>
         ensures { IfOk result (λ made. AreReady (V.started solver.now) (V.suits solver.now) problem.now made.items) }
     {
@@ -28,7 +28,7 @@ impl<V: Solver> Starts<V> {
         })
     }
 
-    /// What is ready for a node.
+    /// Lends the start that is ready for a node.
     pub fn at(&self, node: u32) -> &V::Start
         requires { node < length self.now.items }
         ensures { slice_get self.now.items node ≡ Some result.now }
@@ -39,7 +39,7 @@ impl<V: Solver> Starts<V> {
     /// Begins a chain of a node with one of its stage problems, by what is ready for the node. The chain may take this
     /// stage problem and each that [`restate`](crate::restate) makes of it. [`Memory`] where memory was refused.
     ///
-    /// What is ready was made for this problem and this solver.
+    /// Asks that the starts were made for this problem and this solver.
     pub fn begin(
         &self,
         alloc: Global,
@@ -60,7 +60,7 @@ impl<V: Solver> Starts<V> {
     }
 }
 
-// What the solver makes ready for each node.
+// Has the solver make ready a start for each node.
 fn started<V: Solver>(
     alloc: Global,
     problem: &Problem,

@@ -29,9 +29,9 @@ impl Model for WrittenRows {
     ghost invariant = { λ r. r.count ≤ length r.rows.items };
 }
 
-/// What a row is made of.
+/// The parts that a row is made of.
 pub(crate) trait RowParts {
-    /// What is asked of the parts.
+    /// The conditions on the parts.
     ghost fit: { Self → Type 0 };
 
     /// The row.
@@ -67,7 +67,7 @@ pub(crate) fn cleared(terms: List<(u32, Fx)>, count: usize) -> Result<List<(u32,
 }
 
 impl WrittenRows {
-    /// No rows yet; those that are spare may be written over.
+    /// Starts with no rows; those that are spare may be written over.
     pub(crate) fn new(alloc: Global, spare: &mut SpareRows) -> WrittenRows
         ensures { result ≡ [] }
     {
