@@ -1,5 +1,5 @@
 -- Cuts that cover others.
-use Rattle.std.proofs.Common.{◌≡◌, ◌∙◌, ℕ, zero, suc, ◌+◌, ◌<◌, ◌≤◌, ℤ, List, [], ◌∷◌, ◌++◌, length, get_or, ◌⊎◌, inl, inr, add-one, refl, ap, sym, subst, arith}
+use Rattle.std.proofs.Common.{◌≡◌, ◌∙◌, ℕ, zero, suc, ◌+◌, ◌<◌, ◌≤◌, ℤ, List, [], ◌∷◌, ◌++◌, length, map, get_or, All, ◌⊎◌, inl, inr, add-one, refl, ap, ap₂, sym, subst, arith}
 use Rattle.std.proofs.Math.ListN.{get_or-append}
 use Rattle.std.proofs.lemmas.List.{get_or_default}
 use Rattle.std.proofs.Math.Seq.{get_or-append_seam}
@@ -7,7 +7,8 @@ use Rattle.std.proofs.lemmas.List.{length-append}
 use Rattle.std.proofs.lemmas.Int.{ints}
 use Rattle.hp_solver.specs.PackedCut.{PackedCut, no_packed_cut}
 use Rattle.hp_solver.specs.Covering.{value_of, cut_at, IsBefore, Covers, IsCovered, AreRisingPlaces, CoverAll}
-use Rattle.hp_cut.specs.Active.{CoverFirst, IsLeft}
+use Rattle.hp_cut.specs.Active.{CoverFirst, IsLeft, AreFirst, IsActive}
+use Rattle.hp_cut.specs.declared.active_cuts.Active.{Active}
 
 -- a place is below where they end
 pub place_below : (least count k : ℕ) (ps : List ℕ) → AreRisingPlaces least count ps → k < length ps → get_or ps k 0 < count
@@ -176,3 +177,25 @@ covered_read all lows highs los his ps qs p el eh eq before own = first_covered 
 
 pub with_read : (all : List PackedCut) (lows highs los his : List ℤ) (ps qs room new : List ℕ) (p : ℕ) → los ≡ lows → his ≡ highs → qs ≡ ps → CoverFirst all p ps lows highs → AreRisingPlaces 0 p room → ((k : ℕ) → k < length qs → IsLeft all los his p room (get_or qs k 0)) → new ≡ room ++ p ∷ [] → CoverFirst all (p + 1) new lows highs
 with_read all lows highs los his ps qs room new p el eh eq before rising left put = first_with all lows highs ps room new p before rising (rw (el, eh, eq) at left) put
+
+-- the cuts at places are the same among more cuts
+pub same_cuts : (all : List PackedCut) (c : PackedCut) (least : ℕ) (ps : List ℕ) → AreRisingPlaces least (length all) ps → map (cut_at all) ps ≡ map (cut_at (all ++ c ∷ [])) ps
+same_cuts all c least [] r = refl
+same_cuts all c least (p ∷ ps) r = ap₂ (λ (x : PackedCut) (xs : List PackedCut). x ∷ xs) (same_cut all c p r.1) (same_cuts all c (suc p) ps r.2)
+
+-- rising places are below where they end
+pub all_below : (least count : ℕ) (ps : List ℕ) → AreRisingPlaces least count ps → All (λ (p : ℕ). p < count) ps
+all_below least count [] r k d l = absurd (omega (arith, l))
+all_below least count (p ∷ ps) r zero d l = r.1
+all_below least count (p ∷ ps) r (suc k) d l = all_below (suc p) count ps r.2 k d (omega (arith, l))
+
+-- and so with one place more
+pub below_with : (count p : ℕ) (ps new : List ℕ) → AreRisingPlaces 0 p ps → p < count → new ≡ ps ++ p ∷ [] → All (λ (q : ℕ). q < count) new
+below_with count p ps new r h put = rw put (all_below 0 count (ps ++ p ∷ []) (rising_up 0 (suc p) count (ps ++ p ∷ []) (rising_more 0 p ps r (omega arith)) (omega (arith, h))))
+
+-- with as many as there are they cover all
+pub are_active : (all : List PackedCut) (n : ℕ) (a : Active) → AreFirst all n a → n ≡ length all → IsActive all a
+are_active all n a first e = record {
+  cover = all_first all a.lows.items a.highs.items a.places.items n first.cover e;
+  same = first.same;
+}

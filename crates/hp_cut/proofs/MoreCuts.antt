@@ -8,7 +8,7 @@ use Rattle.hp_cut.specs.FlatCuts.{packed_cut, IsFlat}
 use Rattle.hp_cut.specs.declared.flat_cuts.FlatCuts.{FlatCuts}
 
 -- the last of the cuts
-cuts_of_more : (n : ℕ) (hs bs : List ℤ) (h : ℤ) (own : List ℤ) → length bs ≡ length hs * n → length own ≡ n → cuts_of n (hs ++ h ∷ []) (bs ++ own) ≡ cuts_of n hs bs ++ record { height = h; slopes = own } ∷ []
+pub cuts_of_more : (n : ℕ) (hs bs : List ℤ) (h : ℤ) (own : List ℤ) → length bs ≡ length hs * n → length own ≡ n → cuts_of n (hs ++ h ∷ []) (bs ++ own) ≡ cuts_of n hs bs ++ record { height = h; slopes = own } ∷ []
 cuts_of_more n [] [] h own e is = ap (λ (ss : List ℤ). record { height = h; slopes = ss } ∷ []) (take_all n own (omega (arith, is)))
 cuts_of_more n [] (b ∷ bs) h own e is = absurd (omega (arith, e))
 cuts_of_more n (g ∷ hs) bs h own e is =
@@ -19,7 +19,7 @@ cuts_of_more n (g ∷ hs) bs h own e is =
     (take-append-le n bs own fits)
     (ap (cuts_of n (hs ++ h ∷ [])) (drop-append-le n bs own fits) ∙ cuts_of_more n hs (drop n bs) h own left is)
 
-packed_more : (n : ℕ) (hs bs : List ℤ) (h : ℤ) (own : List ℤ) → ArePacked n hs bs → length hs < 2 ^ 24 → nat_abs h < 2 ^ 100 → length own ≡ n → All (λ s. nat_abs s < 2 ^ 57) own → ArePacked n (hs ++ h ∷ []) (bs ++ own)
+pub packed_more : (n : ℕ) (hs bs : List ℤ) (h : ℤ) (own : List ℤ) → ArePacked n hs bs → length hs < 2 ^ 24 → nat_abs h < 2 ^ 100 → length own ≡ n → All (λ s. nat_abs s < 2 ^ 57) own → ArePacked n (hs ++ h ∷ []) (bs ++ own)
 packed_more n hs bs h own p room short is small =
     let next : (length hs + 1) * n ≡ length hs * n + n = omega arith in
     record {
@@ -36,3 +36,13 @@ more cs c old new flat kept own short room heights slopes small states = record 
   packed = λ _. rw (heights, slopes, states) (packed_more old.states old.heights.items old.slopes.items c.alpha c.beta (flat.packed kept) room short own small);
   same = λ _. rw (heights, slopes, states) (cuts_of_more old.states old.heights.items old.slopes.items c.alpha c.beta (flat.packed kept).count own ∙ ap (λ (ps : List PackedCut). ps ++ packed_cut c ∷ []) (flat.same kept) ∙ sym (map-append packed_cut cs (c ∷ [])));
 }
+
+-- lists with one cut more
+pub packed_with : (n : ℕ) (hs bs gs ss : List ℤ) (h : ℤ) (own : List ℤ) → ArePacked n hs bs → length hs < 2 ^ 24 → nat_abs h < 2 ^ 100 → length own ≡ n → All (λ s. nat_abs s < 2 ^ 57) own → gs ≡ hs ++ h ∷ [] → ss ≡ bs ++ own → ArePacked n gs ss
+packed_with n hs bs gs ss h own p room short is small heights slopes = rw (heights, slopes) (packed_more n hs bs h own p room short is small)
+
+-- what contracts see of them
+pub seen_with : (n : ℕ) (hs bs gs ss : List ℤ) (h : ℤ) (own : List ℤ) (old : List PackedCut) (c : PackedCut) → length bs ≡ length hs * n → length own ≡ n → gs ≡ hs ++ h ∷ [] → ss ≡ bs ++ own → cuts_of n hs bs ≡ old → h ≡ c.height → own ≡ c.slopes → cuts_of n gs ss ≡ old ++ c ∷ []
+seen_with n hs bs gs ss h own old c count is heights slopes same eh es =
+    let last : record { height = h; slopes = own } ≡ c = ap₂ (λ (x : ℤ) (xs : List ℤ). record { height = x; slopes = xs }) eh es in
+    rw (heights, slopes) (cuts_of_more n hs bs h own count is ∙ ap₂ (λ (cs : List PackedCut) (d : PackedCut). cs ++ d ∷ []) same last)

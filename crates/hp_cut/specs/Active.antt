@@ -1,9 +1,9 @@
 -- Cuts that cover the first cuts of a list.
-use Rattle.std.specs.Prelude.{ℕ, ◌<◌, ◌^◌, ℤ, pos, ◌+ℤ◌, ◌-ℤ◌, ◌*ℤ◌, ◌≤ℤ◌, List, ◌⊎◌}
+use Rattle.std.specs.Prelude.{◌≡◌, ℕ, ◌<◌, ◌^◌, ℤ, pos, ◌+ℤ◌, ◌-ℤ◌, ◌*ℤ◌, ◌≤ℤ◌, List, map, ◌⊎◌}
 use Rattle.std.specs.Int.{int_min}
 use Rattle.hp_num.specs.Sums.{entry}
 use Rattle.hp_solver.specs.PackedCut.{PackedCut}
-use Rattle.hp_solver.specs.Covering.{value_of, AreInside, Covers, IsCovered, AreRisingPlaces, CoverAll}
+use Rattle.hp_solver.specs.Covering.{value_of, cut_at, AreInside, Covers, IsCovered, AreRisingPlaces, CoverAll}
 use Rattle.hp_cut.specs.declared.active_cuts.Active.{Active}
 
 -- the lesser product of a difference of slopes with an end of the box of the state k
@@ -23,10 +23,12 @@ pub record CoverFirst (all : List PackedCut) (count : ℕ) (places : List ℕ) (
 abbrev pub IsLeft : List PackedCut → List ℤ → List ℤ → ℕ → List ℕ → ℕ → Type 0
 IsLeft all lows highs p places q = IsCovered all lows highs places q ⊎ Covers all lows highs p q
 
--- these cover the first cuts of a list
-abbrev pub AreFirst : List PackedCut → ℕ → Active → Type 0
-AreFirst all count a = CoverFirst all count a.places.items a.lows.items a.highs.items
+-- these cover the first cuts of a list, and stand side by side once more
+pub record AreFirst (all : List PackedCut) (count : ℕ) (a : Active) : Type 0 where
+  pub cover : CoverFirst all count a.places.items a.lows.items a.highs.items
+  pub same : a.copies ≡ map (cut_at all) a.places.items
 
--- these cover all cuts of a list
-abbrev pub IsActive : List PackedCut → Active → Type 0
-IsActive all a = CoverAll all a.places.items a.lows.items a.highs.items
+-- these cover all cuts of a list, and stand side by side once more
+pub record IsActive (all : List PackedCut) (a : Active) : Type 0 where
+  pub cover : CoverAll all a.places.items a.lows.items a.highs.items
+  pub same : a.copies ≡ map (cut_at all) a.places.items

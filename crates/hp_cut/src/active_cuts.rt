@@ -6,7 +6,8 @@ ghost use Rattle.hp_solver.specs.PackedCut.{PackedCut};
 ghost use Rattle.hp_solver.specs.Covering.{cut_at, AreRisingPlaces, IsCovered, Covers, AreActive};
 ghost use Rattle.hp_cut.specs.Active.{lesser_over, IsLead, IsLeft, AreFirst, IsActive};
 
-use crate::peaks::OutBox;
+use crate::copies::Copies;
+use crate::peaks::{OutBox, sum};
 use hp_num::Memory;
 use hp_solver::{ActiveCuts, CutList};
 use std::alloc::Global;
@@ -25,6 +26,8 @@ pub(crate) struct Active {
     room: Vec<u32>,
     /// The values of each cut that was taken in, at corners of the box.
     corners: Vec<Corners>,
+    /// The cuts at the places once more, side by side.
+    copies: Copies,
 }
 
 /// The values of a cut where all states are at their least ends, and where all are at their greatest, at scale 2^24. They only
@@ -35,14 +38,14 @@ struct Corners {
     greatest: i128,
 }
 
-/// A product, which is always in range.
+/// Multiplies two numbers, always in range.
 fn product(a: i64, b: i64) -> i128
     ensures { result ≡ a *ℤ b }
 {
     i128::from(a) * i128::from(b)
 }
 
-/// The value of a cut at these ends, wrapped into i128.
+/// Finds the value of a cut at these ends, wrapped into i128.
 fn value_at(height: i128, slopes: &[i64], ends: &[i64]) -> i128 {
     let mut value = height;
     for (slope, end) in slopes.iter().zip(ends.iter()) {
@@ -70,7 +73,7 @@ fn push_corners(
     Ok(())
 }
 
-/// The first of two cuts is the lesser at one of the corners.
+/// Tells whether the first of two cuts is the lesser at one of the corners.
 fn is_lesser(corners: &[Corners], first: u32, second: u32) -> bool {
     match (corners.get(first as usize), corners.get(second as usize)) {
         (Some(a), Some(b)) => a.least < b.least || a.greatest < b.greatest,
@@ -78,7 +81,7 @@ fn is_lesser(corners: &[Corners], first: u32, second: u32) -> bool {
     }
 }
 
-/// The lesser product of a difference of slopes with an end of a box, none where the difference leaves i64.
+/// Finds the lesser product of a difference of slopes with an end of a box, none where the difference leaves i64.
 fn lesser_product(slope: i64, other: i64, low: i64, high: i64) -> Option<i128>
     ensures { IfSome result (λ lesser. lesser ≡ int_min ((slope -ℤ other) *ℤ low) ((slope -ℤ other) *ℤ high)) }
 {
@@ -86,21 +89,14 @@ fn lesser_product(slope: i64, other: i64, low: i64, high: i64) -> Option<i128>
     Some(product(difference, low).min(product(difference, high)))
 }
 
-/// The difference, none where it leaves i128.
+/// Subtracts, none where it leaves i128.
 fn difference(a: i128, b: i128) -> Option<i128>
     ensures { IfSome result (λ found. found ≡ a -ℤ b) }
 {
     a.checked_sub(b)
 }
 
-/// The sum, none where it leaves i128.
-fn sum(a: i128, b: i128) -> Option<i128>
-    ensures { IfSome result (λ found. found ≡ a +ℤ b) }
-{
-    a.checked_add(b)
-}
-
-/// A difference of heights with the lesser products of the differences of slopes, none where a sum leaves i128.
+/// Adds the lesser products of the differences of slopes to a difference of heights, none where a sum leaves i128.
 fn sum_over(
     lows: &[i64],
     highs: &[i64],
@@ -121,8 +117,8 @@ fn sum_over(
     Some(least)
 }
 
-/// By how much the first of two cuts is the greater at least, over a box. None where the box has not as many states as the
-/// cuts, and where a difference or a sum leaves its type.
+/// Finds a number by which the first of two cuts is the greater at least, over a box. None where the box has not as many states
+/// as the cuts, and where a difference or a sum leaves its type.
 fn lead(lows: &[i64], highs: &[i64], cuts: &CutList, first: u32, second: u32) -> Option<i128>
     requires first { first < length cuts.now }
     requires second { second < length cuts.now }
@@ -137,7 +133,7 @@ fn lead(lows: &[i64], highs: &[i64], cuts: &CutList, first: u32, second: u32) ->
     sum_over(lows, highs, height, slopes, others)
 }
 
-/// The first of two cuts is nowhere the lesser over a box.
+/// Tells whether the first of two cuts is nowhere the lesser over a box.
 fn is_over(
     corners: &[Corners],
     lows: &[i64],
@@ -159,7 +155,7 @@ fn is_over(
     }
 }
 
-/// The first of two cuts is everywhere the greater over a box.
+/// Tells whether the first of two cuts is everywhere the greater over a box.
 fn is_above(
     corners: &[Corners],
     lows: &[i64],
@@ -181,7 +177,7 @@ fn is_above(
     }
 }
 
-/// One of the cuts covers the one at a place behind them.
+/// Tells whether one of the cuts covers the one at a place behind them.
 fn are_over(
     corners: &[Corners],
     lows: &[i64],
@@ -228,9 +224,9 @@ fn keep_rest(
 }
 
 impl Active {
-    /// None yet, over a box. [`Memory`] where memory was refused.
-    fn new(alloc: Global, boxes: &[OutBox]) -> Result<Active, Memory>
-        ensures { IfOk result (λ a. (all : List PackedCut) → AreFirst all 0 a) }
+    /// Makes room for the cuts of a list that cover the others over a box. [`Memory`] where memory was refused.
+    fn new(alloc: Global, boxes: &[OutBox], cuts: &CutList) -> Result<Active, Memory>
+        ensures { IfOk result (AreFirst cuts.now 0) }
     {
         let mut lows = Vec::new(alloc);
         let mut highs = Vec::new(alloc);
@@ -244,21 +240,23 @@ impl Active {
             places: Vec::new(alloc),
             room: Vec::new(alloc),
             corners: Vec::new(alloc),
+            copies: Copies::none(alloc, cuts),
         })
     }
 
-    /// Those by which some cuts are covered over a box. [`Memory`] where memory was refused.
+    /// Finds the cuts of a list by which all are covered over a box. [`Memory`] where memory was refused.
     pub(crate) fn of(alloc: Global, boxes: &[OutBox], cuts: &CutList) -> Result<Active, Memory>
         ensures { IfOk result (IsActive cuts.now) }
     {
-        let mut found = Active::new(alloc, boxes)?;
+        let mut found = Active::new(alloc, boxes, cuts)?;
         for place in 0..cuts.len() as u32 {
             found.add(cuts, place)?;
         }
         Ok(found)
     }
 
-    /// Takes the cut at a place in, where all before it are covered. [`Memory`] where memory was refused.
+    /// Takes the cut at a place in, where all before it are covered. [`Memory`] where memory was refused, and where it has more
+    /// or fewer slopes than the others.
     pub(crate) fn add(&mut self, cuts: &CutList, place: u32) -> Result<(), Memory>
         requires there { place < length cuts.now }
         requires before { AreFirst cuts.now place self.old }
@@ -281,6 +279,7 @@ impl Active {
             &mut self.room,
         )?;
         self.room.push(place)?;
+        self.copies.fill(cuts, self.room.as_slice())?;
         std::mem::swap(&mut self.places, &mut self.room);
         Ok(())
     }
@@ -290,11 +289,13 @@ impl Active {
         ensures places { result.places.now ≡ self.now.places.items }
         ensures lows { result.lows.now ≡ self.now.lows.items }
         ensures highs { result.highs.now ≡ self.now.highs.items }
+        ensures cuts { result.cuts ≡ self.now.copies }
     {
         ActiveCuts {
             places: self.places.as_slice(),
             lows: self.lows.as_slice(),
             highs: self.highs.as_slice(),
+            cuts: self.copies.list(),
         }
     }
 }

@@ -1,8 +1,8 @@
-// What one iteration of training adds along one path.
+// The certificates that one iteration of training adds along one path.
 use hp_num::List;
 use hp_theory::Certificate;
 
-/// The certificates of one cut: what one node of a path adds.
+/// The certificates of one cut, which one node of a path adds.
 #[derive(Drop)]
 pub struct EntryStep {
     /// The number of the node.
@@ -11,7 +11,7 @@ pub struct EntryStep {
     pub list: List<Certificate>,
 }
 
-/// What one path of an iteration adds: one step per node of the path, from its last node back to its first.
+/// The steps that one path of an iteration adds: one step per node of the path, from its last node back to its first.
 #[derive(Drop)]
 pub struct Entry {
     /// The number of the iteration, from 1.

@@ -2,6 +2,7 @@
 #![tactic(auto)]
 
 mod active_cuts;
+mod copies;
 mod cut_value;
 pub mod entry;
 mod flat_cuts;

@@ -27,7 +27,7 @@ pub(crate) struct Peak {
     value: i128,
 }
 
-/// The greater product of a slope with an end of a box, none where a product leaves i128.
+/// Finds the greater product of a slope with an end of a box, none where a product leaves i128.
 fn greatest_product(slope: i128, ends: OutBox) -> Option<i128>
     ensures { IfSome result (λ product. product ≡ int_max (slope *ℤ ends.least) (slope *ℤ ends.greatest)) }
 {
@@ -36,14 +36,14 @@ fn greatest_product(slope: i128, ends: OutBox) -> Option<i128>
     Some(least.max(greatest))
 }
 
-/// The sum, none where it leaves i128.
-fn sum(a: i128, b: i128) -> Option<i128>
+/// Adds two numbers, none where the sum leaves i128.
+pub(crate) fn sum(a: i128, b: i128) -> Option<i128>
     ensures { IfSome result (λ found. found ≡ a +ℤ b) }
 {
     a.checked_add(b)
 }
 
-/// The slope of a state, 0 where there is none.
+/// Gives the slope of a state, 0 where there is none.
 fn slope_at(slopes: &[i128], state: usize) -> i128
     ensures { result ≡ entry slopes.now state }
 {
@@ -53,7 +53,7 @@ fn slope_at(slopes: &[i128], state: usize) -> i128
     }
 }
 
-/// The greatest value of a cut over a box, none where a product or a sum leaves i128.
+/// Finds the greatest value of a cut over a box, none where a product or a sum leaves i128.
 fn greatest_over(boxes: &[OutBox], cut: &Cut) -> Option<i128>
     ensures { IfSome result (λ value. value ≡ greatest_over boxes.now cut.now) }
 {
@@ -66,7 +66,7 @@ fn greatest_over(boxes: &[OutBox], cut: &Cut) -> Option<i128>
     Some(value)
 }
 
-/// Both boxes are the same.
+/// Tells whether both boxes are the same.
 fn are_same(a: &[OutBox], b: &[OutBox]) -> bool
     ensures { result ≡ true → a.now ≡ b.now }
 {
@@ -81,7 +81,7 @@ fn are_same(a: &[OutBox], b: &[OutBox]) -> bool
     true
 }
 
-/// The greatest value of some cuts over a box, none of no cuts, and where a product or a sum leaves i128.
+/// Finds the greatest value of some cuts over a box, none of no cuts, and where a product or a sum leaves i128.
 fn peak_over(boxes: &[OutBox], cuts: &[Cut]) -> Option<i128>
     ensures some { IfSome result (λ _. 0 < length cuts.now) }
     ensures value { IfSome result (λ value. value ≡ peak_over boxes.now cuts.now) }
@@ -94,7 +94,7 @@ fn peak_over(boxes: &[OutBox], cuts: &[Cut]) -> Option<i128>
 }
 
 impl Peak {
-    /// The peak of some cuts over a box, none of no cuts, and where a product or a sum leaves i128. [`Memory`] where memory
+    /// Finds the peak of some cuts over a box, none of no cuts, and where a product or a sum leaves i128. [`Memory`] where memory
     /// was refused.
     pub(crate) fn of(alloc: Global, boxes: &[OutBox], cuts: &[Cut]) -> Result<Option<Peak>, Memory>
         ensures { IfOk result (λ found. IfSome found (IsPeak cuts.now)) }
@@ -106,7 +106,7 @@ impl Peak {
         Ok(Some(Peak { boxes, value }))
     }
 
-    /// The greatest value over a box, none where the peak is over another.
+    /// Gives the greatest value over a box, none where the peak is over another.
     pub(crate) fn over(&self, boxes: &[OutBox]) -> Option<i128>
         ensures { IfSome result (λ value. (cuts : List Cut) → IsPeak cuts self.now → value ≡ peak_over boxes.now cuts) }
     {

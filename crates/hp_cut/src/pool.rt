@@ -57,7 +57,7 @@ fn raise_all(peaks: &mut [Peak], cut: &Cut) -> bool
     true
 }
 
-/// Takes one cut more in at each peak; none are kept any more where a product or a sum leaves i128.
+/// Takes one cut more in at each peak; keeps none any more where a product or a sum leaves i128.
 fn raise_or_clear(peaks: &mut Vec<Peak>, cut: &Cut)
     ensures { (cuts : List Cut) → All (IsPeak cuts) peaks.old.items → All (IsPeak (cuts ++ cut.now ∷ [])) peaks.new.items }
 {
@@ -66,7 +66,7 @@ fn raise_or_clear(peaks: &mut Vec<Peak>, cut: &Cut)
     }
 }
 
-/// The greatest value over a box, where one of the peaks is over it.
+/// Finds the greatest value over a box, where one of the peaks is over it.
 fn peak_in(peaks: &[Peak], boxes: &[OutBox]) -> Option<i128>
     ensures { IfSome result (λ peak. (cuts : List Cut) → All (IsPeak cuts) peaks.now → peak ≡ peak_over boxes.now cuts) }
 {
@@ -78,7 +78,7 @@ fn peak_in(peaks: &[Peak], boxes: &[OutBox]) -> Option<i128>
     None
 }
 
-/// Those of the cuts that cover the others over a box. None where the cuts are not side by side or too many, and where the box
+/// Finds those of the cuts that cover the others over a box. None where the cuts are not side by side or too many, and where the box
 /// has not as many states. [`Memory`] where memory was refused.
 fn active_of(
     alloc: Global,
@@ -118,7 +118,7 @@ fn renewed(active: Option<Active>, flat: &FlatCuts, cuts: &[Cut]) -> Option<Acti
 }
 
 impl Pool {
-    /// No cuts.
+    /// Makes a pool without cuts.
     pub(crate) fn new(alloc: Global) -> Pool
         ensures { result.cuts ≡ [] }
     {
@@ -175,7 +175,7 @@ impl Pool {
         self.cuts.truncate(count as usize);
     }
 
-    /// The number of cuts.
+    /// Gives the number of cuts.
     pub(crate) fn count(&self) -> u32
         ensures value { result ≡ length self.now.cuts }
         ensures few { result ≤ 2 ^ 24 }
@@ -183,7 +183,7 @@ impl Pool {
         self.cuts.len() as u32
     }
 
-    /// The cuts.
+    /// Lends the cuts.
     pub(crate) fn cuts(&self) -> &[Cut]
         ensures { result.now ≡ self.now.cuts }
     {
@@ -227,7 +227,7 @@ impl Pool {
         Ok(())
     }
 
-    /// The cuts side by side, where they are kept.
+    /// Lends the cuts side by side, where they are kept.
     pub(crate) fn packed(&self) -> Option<PackedCuts<'_>>
         ensures { IfSome result (λ packed. packed ≡ map packed_cut self.now.cuts) }
     {
@@ -235,7 +235,7 @@ impl Pool {
         Some(PackedCuts::new(list, lent(&self.active)))
     }
 
-    /// The greatest value over a box, where it is kept.
+    /// Gives the greatest value over a box, where it is kept.
     pub(crate) fn peak(&self, boxes: &[OutBox]) -> Option<i128>
         ensures { IfSome result (λ peak. peak ≡ peak_over boxes.now self.now.cuts) }
     {

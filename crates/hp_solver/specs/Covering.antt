@@ -1,5 +1,5 @@
 -- Cuts that are covered by others at every state of a box.
-use Rattle.std.specs.Prelude.{◌≡◌, ℕ, suc, ◌<◌, ◌≤◌, ◌^◌, ℤ, pos, ◌+ℤ◌, ◌*ℤ◌, ◌≤ℤ◌, ◌<ℤ◌, List, [], ◌∷◌, length, get_or, ⊤, ◌⊎◌}
+use Rattle.std.specs.Prelude.{◌≡◌, ℕ, suc, ◌<◌, ◌≤◌, ◌^◌, ℤ, pos, ◌+ℤ◌, ◌*ℤ◌, ◌≤ℤ◌, ◌<ℤ◌, List, [], ◌∷◌, length, map, get_or, ⊤, ◌⊎◌}
 use Rattle.hp_num.specs.Sums.{entry, dot}
 use Rattle.hp_solver.specs.PackedCut.{PackedCut, no_packed_cut}
 use Rattle.hp_solver.specs.declared.packed.ActiveCuts.{ActiveCuts}
@@ -42,5 +42,7 @@ pub record CoverAll (all : List PackedCut) (places : List ℕ) (lows highs : Lis
   pub rising : AreRisingPlaces 0 (length all) places
   pub covered : (j : ℕ) → j < length all → IsCovered all lows highs places j
 
-abbrev pub AreActive : List PackedCut → ActiveCuts → Type 0
-AreActive all a = CoverAll all a.places.now a.lows.now a.highs.now
+-- some cuts cover all, and stand side by side once more
+pub record AreActive (all : List PackedCut) (a : ActiveCuts) : Type 0 where
+  pub cover : CoverAll all a.places.now a.lows.now a.highs.now
+  pub same : a.cuts ≡ map (cut_at all) a.places.now

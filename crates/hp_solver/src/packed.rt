@@ -37,7 +37,7 @@ impl<'a> Model for CutList<'a> {
 }
 
 impl<'a> CutList<'a> {
-    /// The cuts with these values where all states are 0, and these slopes, so many for each cut.
+    /// Joins these values where all states are 0 and these slopes, so many for each cut, to a list of cuts.
     pub fn new(heights: &'a [i128], slopes: &'a [i64], states: usize) -> CutList<'a>
         requires { ArePacked states heights.now slopes.now }
         ensures { result ≡ cuts_of states heights.now slopes.now }
@@ -49,7 +49,7 @@ impl<'a> CutList<'a> {
         }
     }
 
-    /// The number of cuts.
+    /// Gives the number of cuts.
     pub fn len(&self) -> usize
         ensures value { result ≡ length self.now }
         ensures few { result ≤ 2 ^ 24 }
@@ -57,7 +57,7 @@ impl<'a> CutList<'a> {
         self.heights.len()
     }
 
-    /// The value of a cut where all states are 0.
+    /// Gives the value of a cut where all states are 0.
     pub fn height(&self, place: usize) -> i128
         requires { place < length self.now }
         ensures value { result ≡ (get_or self.now place no_packed_cut).height }
@@ -67,7 +67,7 @@ impl<'a> CutList<'a> {
         heights[place]
     }
 
-    /// The slopes of a cut, one for each state.
+    /// Gives the slopes of a cut, one for each state.
     pub fn slopes(&self, place: usize) -> &'a [i64]
         requires { place < length self.now }
         ensures value { result.now ≡ (get_or self.now place no_packed_cut).slopes }
@@ -77,7 +77,7 @@ impl<'a> CutList<'a> {
         part(self.slopes, place * self.states, self.states)
     }
 
-    /// The number of states, of each of which every cut has a slope.
+    /// Gives the number of states, of each of which every cut has a slope.
     pub fn states(&self) -> usize
         ensures slopes { All (λ c. length c.slopes ≡ result) self.now }
         ensures small { All IsSmallCut self.now }
@@ -97,6 +97,8 @@ pub struct ActiveCuts<'a> {
     pub lows: &'a [i64],
     /// The greatest end of the box of each state, in whole units.
     pub highs: &'a [i64],
+    /// The cuts at these places, side by side in their order.
+    pub cuts: CutList<'a>,
 }
 
 /// Cuts of one node, side by side, at scale 2^24. Contracts see them as a list of cuts.
@@ -119,7 +121,7 @@ impl<'a> Model for PackedCuts<'a> {
 }
 
 impl<'a> PackedCuts<'a> {
-    /// The cuts of a list, with those that cover the others, where these are known.
+    /// Joins the cuts of a list with those that cover the others, where these are known.
     pub fn new(all: CutList<'a>, active: Option<ActiveCuts<'a>>) -> PackedCuts<'a>
         requires { IfSome active (AreActive all) }
         ensures { result ≡ all.entry }
@@ -127,7 +129,7 @@ impl<'a> PackedCuts<'a> {
         PackedCuts { all, active }
     }
 
-    /// The number of cuts.
+    /// Gives the number of cuts.
     pub fn len(&self) -> usize
         ensures value { result ≡ length self.now }
         ensures few { result ≤ 2 ^ 24 }
@@ -135,7 +137,7 @@ impl<'a> PackedCuts<'a> {
         self.all.len()
     }
 
-    /// The value of a cut where all states are 0.
+    /// Gives the value of a cut where all states are 0.
     pub fn height(&self, place: usize) -> i128
         requires { place < length self.now }
         ensures value { result ≡ (get_or self.now place no_packed_cut).height }
@@ -144,7 +146,7 @@ impl<'a> PackedCuts<'a> {
         self.all.height(place)
     }
 
-    /// The slopes of a cut, one for each state.
+    /// Gives the slopes of a cut, one for each state.
     pub fn slopes(&self, place: usize) -> &'a [i64]
         requires { place < length self.now }
         ensures value { result.now ≡ (get_or self.now place no_packed_cut).slopes }
@@ -154,7 +156,7 @@ impl<'a> PackedCuts<'a> {
         self.all.slopes(place)
     }
 
-    /// The number of states, of each of which every cut has a slope.
+    /// Gives the number of states, of each of which every cut has a slope.
     pub fn states(&self) -> usize
         ensures slopes { All (λ c. length c.slopes ≡ result) self.now }
         ensures small { All IsSmallCut self.now }
@@ -163,7 +165,14 @@ impl<'a> PackedCuts<'a> {
         self.all.states()
     }
 
-    /// The cuts that cover the others, where these are known.
+    /// Lends the list of all cuts.
+    pub fn list(&self) -> &CutList<'a>
+        ensures { result.now ≡ self.now }
+    {
+        &self.all
+    }
+
+    /// Lends the cuts that cover the others, where these are known.
     pub fn active(&self) -> Option<&ActiveCuts<'a>>
         ensures { IfSome result (λ a. AreActive self.now a.now) }
     {
@@ -171,7 +180,7 @@ impl<'a> PackedCuts<'a> {
     }
 }
 
-// So many slopes from a number on.
+// Gives some slopes, as many as the count says, from a number on.
 fn part<'a>(slopes: &'a [i64], from: usize, count: usize) -> &'a [i64]
     requires { from + count ≤ length slopes.now }
     ensures { result.now ≡ take count (drop from slopes.now) }
@@ -190,7 +199,7 @@ pub struct PackedView<'a> {
     pub cuts: List<PackedCuts<'a>>,
 }
 
-/// The slope of a state, 0 where there is none.
+/// Gives the slope of a state, 0 where there is none.
 pub fn slope_at(slopes: &[i64], state: usize) -> i64
     requires { All (λ s. nat_abs s < 2 ^ 57) slopes.now }
     ensures value { result ≡ entry slopes.now state }
@@ -202,7 +211,7 @@ pub fn slope_at(slopes: &[i64], state: usize) -> i64
     }
 }
 
-/// The number of all cuts.
+/// Counts all cuts.
 pub(crate) fn cut_count(view: &PackedView) -> usize
     requires { IsView view.now }
     ensures value { result ≡ length (rows_of view.now) }

@@ -15,10 +15,10 @@ for_more P k h p j l = ⊎_elim (λ (a : j < k). h j a) (λ (a : k ≤ j). let e
 pub both : (P : ℤ → ℤ → Type 0) (a b c d : ℤ) → a ≡ b → c ≡ d → P a c → P b d
 both P a b c d e g h = subst (λ (x : ℤ). P x d) e (subst (P a) g h)
 
-above : (x y : ℤ) → int_lt x y ≡ true → x <ℤ y
+pub above : (x y : ℤ) → int_lt x y ≡ true → x <ℤ y
 above x y e = grind (arith, ints, common_steps, e)
 
-not_above : (x y : ℤ) → int_lt x y ≡ false → y ≤ℤ x
+pub not_above : (x y : ℤ) → int_lt x y ≡ false → y ≤ℤ x
 not_above x y e = grind (arith, ints, common_steps, e)
 
 -- find the greatest so far of the values at some places

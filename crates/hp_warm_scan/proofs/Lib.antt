@@ -3,6 +3,7 @@ pub mod Covered
 pub mod Digits
 pub mod Grown
 pub mod Narrow
+pub mod Numbered
 pub mod PackedValues
 pub mod PackedWalks
 pub mod Worked

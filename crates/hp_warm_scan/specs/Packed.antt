@@ -1,8 +1,9 @@
 -- Tell what cuts that stand side by side say of a point.
-use Rattle.std.specs.Prelude.{ℕ, ◌^◌, ℤ, pos, negsuc, ◌+ℤ◌, List, replicate, slice_set, nat_lt, if◌then◌else◌}
+use Rattle.std.specs.Prelude.{ℕ, ◌+◌, ◌^◌, ℤ, pos, negsuc, ◌+ℤ◌, List, replicate, get_or, slice_set, Option, Some, None, nat_lt, if◌then◌else◌}
 use Rattle.hp_num.specs.Sums.{entry}
 use Rattle.hp_solver.specs.declared.packed.Out.{Out}
 use Rattle.hp_warm_scale.specs.Walks.{walk}
+use Rattle.hp_warm_scan.specs.Values.{Valued, greater}
 
 -- give the number, or 0 where 64 bits do not hold it
 abbrev pub short_or_zero : ℤ → ℤ
@@ -20,3 +21,12 @@ with_leaving xs ls o = added o.state (short_or_zero (entry xs o.decision)) ls
 -- sum for each of 50 states what leaves the stage as it
 unfoldable pub leaving_of : List ℤ → List Out → List ℤ
 leaving_of xs outs = walk (λ k ls (o : Out). with_leaving xs ls o) 0 (replicate 50 (pos 0)) outs
+
+-- by a cut's number give the program's row of the place with that number in a list
+abbrev pub with_row : ℕ → List ℕ → Valued → Valued
+with_row first places v = (first + get_or places v.0 0, v.1)
+
+-- keep the greater of the greatest so far and another, where there is one
+abbrev pub greater_or : Option Valued → Option Valued → Option Valued
+greater_or best None = best
+greater_or best (Some v) = greater best v

@@ -1,5 +1,6 @@
 // Find the greatest at a point of each successor's cuts that wait, where cuts stand side by side.
-ghost use Rattle.std.specs.Prelude.{ℕ, Some, drop, ◌≡◌, ◌<◌, ◌≤◌, ◌^◌, ◌+◌, ◌+ℤ◌, ◌*ℤ◌, ◌≤ℤ◌, pos, true, false, length, map, take, replicate, nat_abs, get_or, All, IfOk, OnOk};
+ghost use Rattle.std.specs.Prelude.{ℕ, Some, None, drop, ◌≡◌, ◌<◌, ◌≤◌, ◌^◌, ◌+◌, ◌+ℤ◌, ◌*ℤ◌, ◌≤ℤ◌, pos, true, false, length, map, take, replicate, nat_abs, get_or, All, IfOk, OnOk};
+ghost use Rattle.std.specs.Option.{option_map};
 ghost use Rattle.hp_num.specs.Sums.{entry, dot};
 ghost use Rattle.hp_solver.specs.PackedCut.{PackedCut};
 ghost use Rattle.hp_solver.specs.Packed.{packed_row, rows_of, IsView};
@@ -9,12 +10,12 @@ ghost use Rattle.hp_solver.specs.declared.programs.LpRow.{LpRow};
 ghost use Rattle.hp_warm_scale.specs.Walks.{walk};
 ghost use Rattle.hp_warm_scale.specs.Waiting.{waits};
 ghost use Rattle.hp_warm_scan.specs.Values.{greater, greatest_step, IsWithin};
-ghost use Rattle.hp_warm_scan.specs.Packed.{short_or_zero, added, with_leaving, leaving_of};
+ghost use Rattle.hp_warm_scan.specs.Packed.{short_or_zero, added, with_leaving, leaving_of, with_row, greater_or};
 
 use crate::greatest::is_greater;
 use crate::values::{plus, product, raised};
 use hp_num::{List, Memory};
-use hp_solver::{Out, PackedCuts, PackedView};
+use hp_solver::{CutList, Out, PackedCuts, PackedView};
 
 // Gives the number, or 0 where 64 bits do not hold it.
 fn short_or_zero(number: i128) -> i64
@@ -116,7 +117,7 @@ fn packed_value(height: i128, slopes: &[i64], leaving: &[i64]) -> i128
 }
 
 // Finds the value of a cut of a list.
-fn value_at(cuts: &PackedCuts, place: usize, leaving: &[i64]) -> i128
+fn value_at(cuts: &CutList, place: usize, leaving: &[i64]) -> i128
     requires there { place < length cuts.now }
     requires counts { All (λ (c : PackedCut). length c.slopes ≡ length leaving.now) cuts.now }
     ensures { result ≡ value_of (cut_at cuts.now place) leaving.now }
@@ -139,7 +140,7 @@ fn greater(best: Option<(usize, i128)>, row: usize, value: i128) -> Option<(usiz
 fn take_cuts(
     best: Option<(usize, i128)>,
     first: usize,
-    cuts: &PackedCuts,
+    cuts: &CutList,
     leaving: &[i64],
 ) -> Option<(usize, i128)>
     requires rows { first + length cuts.now < 2 ^ 64 }
@@ -153,59 +154,69 @@ fn take_cuts(
     best
 }
 
-// Keeps the greater of a row with its value and another, of equals the former.
-fn greater_of(best: (usize, i128), row: usize, value: i128) -> (usize, i128)
-    ensures { Some result ≡ greater (Some best) (row, value) }
+// Keeps the greater of a cut's number with its value and another, of equals the former.
+fn greater_of(best: (usize, i128), number: usize, value: i128) -> (usize, i128)
+    ensures { Some result ≡ greater (Some best) (number, value) }
 {
-    if best.1 < value { (row, value) } else { best }
+    if best.1 < value {
+        (number, value)
+    } else {
+        best
+    }
 }
 
-// Finds the greatest of a row with its value and of the cuts at the places from number `from` on.
-fn take_from(
-    best: (usize, i128),
-    first: usize,
-    cuts: &PackedCuts,
-    places: &[u32],
-    from: usize,
-    leaving: &[i64],
-) -> (usize, i128)
-    requires rows { first + length cuts.now < 2 ^ 64 }
-    requires there { All (λ (p : ℕ). p < length cuts.now) places.now }
+// Finds the greatest of a cut's number with its value and of the cuts from number `from` on.
+fn greatest_from(best: (usize, i128), from: usize, cuts: &CutList, leaving: &[i64]) -> (usize, i128)
     requires counts { All (λ (c : PackedCut). length c.slopes ≡ length leaving.now) cuts.now }
-    requires from { from ≤ length places.now }
-    ensures { Some result ≡ walk (λ k b (p : ℕ). greater b (first + p, value_of (cut_at cuts.now p) leaving.now)) from (Some best) (drop from places.now) }
+    ensures { Some result ≡ walk (λ i b (c : PackedCut). greater b (i, value_of c leaving.now)) from (Some best) (drop from cuts.now) }
 {
     let mut best = best;
-    for k in from..places.len() {
-        let place = places[k] as usize;
-        let row = first + place;
-        best = greater_of(best, row, value_at(cuts, place, leaving));
+    for k in from..cuts.len() {
+        best = greater_of(best, k, value_at(cuts, k, leaving));
     }
     best
 }
 
-// Finds the greatest of the cuts at some places and of the greatest so far. The first cut is the program's row `first`.
+// Finds the number and the value of the greatest of some cuts.
+fn greatest_of(cuts: &CutList, leaving: &[i64]) -> Option<(usize, i128)>
+    requires counts { All (λ (c : PackedCut). length c.slopes ≡ length leaving.now) cuts.now }
+    ensures { result ≡ walk (λ i b (c : PackedCut). greater b (i, value_of c leaving.now)) 0 None cuts.now }
+{
+    if cuts.len() == 0 {
+        return None;
+    }
+    let one = (0, value_at(cuts, 0, leaving));
+    Some(greatest_from(one, 1, cuts, leaving))
+}
+
+// Gives the program's row of the cut whose place has a number in a list. The first cut is the program's row `first`.
+fn row_of(first: usize, places: &[u32], number: usize) -> usize
+    requires rows { All (λ (p : ℕ). first + p < 2 ^ 64) places.now }
+    ensures { result ≡ first + get_or places.now number 0 }
+{
+    if number < places.len() {
+        first + places[number] as usize
+    } else {
+        first
+    }
+}
+
+// Finds the greatest of the cuts that stand at some places and of the greatest so far. The first cut is the program's row `first`.
 fn take_active(
     best: Option<(usize, i128)>,
     first: usize,
-    cuts: &PackedCuts,
+    cuts: &CutList,
     places: &[u32],
     leaving: &[i64],
 ) -> Option<(usize, i128)>
-    requires rows { first + length cuts.now < 2 ^ 64 }
-    requires there { All (λ (p : ℕ). p < length cuts.now) places.now }
+    requires rows { All (λ (p : ℕ). first + p < 2 ^ 64) places.now }
     requires counts { All (λ (c : PackedCut). length c.slopes ≡ length leaving.now) cuts.now }
-    ensures { result ≡ walk (λ k b (p : ℕ). greater b (first + p, value_of (cut_at cuts.now p) leaving.now)) 0 best places.now }
+    ensures { result ≡ greater_or best (option_map (with_row first places.now) (walk (λ i b (c : PackedCut). greater b (i, value_of c leaving.now)) 0 None cuts.now)) }
 {
-    if let Some(best) = best {
-        return Some(take_from(best, first, cuts, places, 0, leaving));
+    match greatest_of(cuts, leaving) {
+        Some((number, value)) => greater(best, row_of(first, places, number), value),
+        None => best,
     }
-    if places.is_empty() {
-        return None;
-    }
-    let place = places[0] as usize;
-    let one = (first + place, value_at(cuts, place, leaving));
-    Some(take_from(one, first, cuts, places, 1, leaving))
 }
 
 // Tells whether a state lies between two ends.
@@ -245,10 +256,10 @@ fn take_best(
 {
     if let Some(active) = cuts.active() {
         if are_inside(active.lows, active.highs, leaving) {
-            return take_active(best, first, cuts, active.places, leaving);
+            return take_active(best, first, &active.cuts, active.places, leaving);
         }
     }
-    take_cuts(best, first, cuts, leaving)
+    take_cuts(best, first, cuts.list(), leaving)
 }
 
 // Tells whether the cuts in a column wait.

@@ -25,7 +25,7 @@ use hp_warm_table::{Coefficient, Quantity, Table};
 use std::alloc::Global;
 use std::marker::Model;
 
-/// What a scan came to.
+/// The outcome of a scan.
 #[derive(Clone, Copy)]
 pub enum Scan {
     /// Rows came in.
@@ -62,7 +62,7 @@ impl Model for Room {
 }
 
 impl Room {
-    /// Lists that hold nothing.
+    /// Makes lists that hold nothing.
     pub fn new(alloc: Global) -> Room {
         Room {
             point: List::new(alloc),
@@ -77,14 +77,14 @@ impl Room {
     }
 }
 
-// Whether a row has a place among some rows.
+// Tells whether a row has a place among some rows.
 fn is_in(rows: &[usize], row: usize) -> bool
     ensures { result ≡ list_any (λ k. k == row) rows.now }
 {
     rows.iter().any(|k| *k == row)
 }
 
-// Whether the value of a row is below its lower side by more than may be passed. It is not where the value is no quantity.
+// Tells whether the value of a row is below its lower side by more than may be passed. It is not where the value is no quantity.
 fn is_below(low: Quantity, value: Option<Quantity>) -> bool
     ensures { result ≡ is_below low value }
 {
@@ -142,7 +142,7 @@ fn put_violated(
     }
 }
 
-// The exponent and the sides of a row of a program, whose terms are written scaled. None where a number leaves its range.
+// Finds the exponent and the sides of a row of a program, whose terms are written scaled. None where a number leaves its range.
 #[tactic(auto, unfolding(hp_warm_scale::specs::Appending::appended_row))]
 fn scale_row(
     table: &Table,
@@ -212,7 +212,7 @@ fn ask_for(lp: &StageLp, table: &mut Table, i: usize, added: &mut AddedRow) -> R
     }
 }
 
-// The same for the greatest cut of a column, where there is one.
+// Adds the greatest cut of a column, where there is one and the point violates it.
 fn ask(
     lp: &StageLp,
     table: &mut Table,
@@ -232,7 +232,7 @@ fn ask(
     }
 }
 
-// The same for the greatest cuts of all columns, one after the other, until a number leaves its range.
+// Adds the greatest cuts of all columns, where the point violates them, one after the other, until a number leaves its range.
 fn ask_all(
     lp: &StageLp,
     table: &mut Table,
@@ -310,7 +310,7 @@ fn look_up(
     Ok(true)
 }
 
-// The same as `scan_cuts`, over lists for the work.
+// Scans the cuts as `scan_cuts` does, over lists for the work.
 #[tactic(auto, unfolding(crate::specs::Scan::scan_of))]
 fn scan_with(
     lp: &StageLp,

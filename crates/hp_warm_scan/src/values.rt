@@ -1,4 +1,4 @@
-// What cuts say of a point.
+// Find the values of cuts at a point.
 ghost use Rattle.std.specs.Prelude.{◌≡◌, ◌^◌, ◌+◌, ◌<◌, ◌≤◌, pos, neg_ℤ, ◌+ℤ◌, ◌*ℤ◌, map, length, nat_abs, All, IfSome, OnOk, FitsSigned};
 ghost use Rattle.std.specs.Int.{w64};
 ghost use Rattle.hp_num.specs.Sums.{floor_over};
@@ -9,14 +9,14 @@ use hp_num::{List, Memory};
 use hp_solver::{Fx, LpRow};
 use hp_warm_scale::waiting::slopes;
 
-// The number over 2^8, rounded down.
+// Divides a number by 2^8, rounded down.
 fn floored(x: i128) -> i128
     ensures { result ≡ floor_over x (2 ^ 8) }
 {
     x >> 8
 }
 
-// The number with the other sign.
+// Gives the number with the other sign.
 fn negated(x: i128) -> i128
     requires { nat_abs x < 2 ^ 65 }
     ensures value { result ≡ neg_ℤ x }
@@ -25,7 +25,7 @@ fn negated(x: i128) -> i128
     -x
 }
 
-// The number in 64 bits.
+// Gives the number in 64 bits.
 fn short(x: i128) -> i64
     requires { FitsSigned w64 x }
     ensures { result ≡ x }
@@ -33,7 +33,7 @@ fn short(x: i128) -> i64
     x as i64
 }
 
-// A slope by the row's term, which has the other sign.
+// Gives a slope by the row's term, which has the other sign.
 fn slope(a: Fx) -> i64
     requires { nat_abs a.0 < 2 ^ 65 }
     ensures value { result ≡ slope_of a }
@@ -42,7 +42,7 @@ fn slope(a: Fx) -> i64
     short(floored(negated(a.0)))
 }
 
-// A slope times its state.
+// Multiplies a slope by its state.
 pub(crate) fn product(slope: i64, state: i64) -> i128
     requires { nat_abs slope ≤ 2 ^ 57 }
     ensures value { result ≡ slope *ℤ state }
@@ -51,7 +51,7 @@ pub(crate) fn product(slope: i64, state: i64) -> i128
     i128::from(slope) * i128::from(state)
 }
 
-// A sum.
+// Adds two numbers.
 pub(crate) fn plus(x: i128, y: i128) -> i128
     requires left { nat_abs x ≤ 2 ^ 126 + 2 ^ 125 }
     requires right { nat_abs y ≤ 2 ^ 120 }
@@ -61,7 +61,7 @@ pub(crate) fn plus(x: i128, y: i128) -> i128
     x + y
 }
 
-// The value of a cut with one more slope times its state.
+// Finds the value of a cut with one more slope times its state.
 #[tactic(auto, unfolding(crate::specs::Values::plus_slope))]
 fn plus_slope(sum: i128, states: &[i128], term: (u32, Fx)) -> i128
     requires sum { nat_abs sum ≤ 2 ^ 126 + 2 ^ 125 }
@@ -72,7 +72,7 @@ fn plus_slope(sum: i128, states: &[i128], term: (u32, Fx)) -> i128
     plus(sum, product(slope(term.1), short(states[term.0 as usize])))
 }
 
-// The value of a cut with all its slopes times their states.
+// Finds the value of a cut with all its slopes times their states.
 fn plus_slopes(start: i128, states: &[i128], slopes: &[(u32, Fx)]) -> i128
     requires start { nat_abs start ≤ 2 ^ 124 }
     requires few { length slopes.now ≤ 50 }
@@ -95,7 +95,7 @@ pub(crate) fn raised(x: i128) -> i128
     x * (1 << 24)
 }
 
-// The value of a cut where all states are 0.
+// Gives the value of a cut where all states are 0.
 fn height(low: Option<Fx>) -> i128
     requires { IfSome low (λ x. nat_abs x.0 < 2 ^ 108) }
     ensures value { result ≡ height_of low }
@@ -107,7 +107,7 @@ fn height(low: Option<Fx>) -> i128
     }
 }
 
-/// The value of a cut at some states, at the scale 2^48.
+/// Finds the value of a cut at some states, at the scale 2^48.
 #[tactic(auto, unfolding(crate::specs::Values::cut_value))]
 pub fn cut_value(states: &[i128], row: &LpRow) -> i128
     requires { IsWithin states.now row.now }
@@ -120,7 +120,7 @@ pub fn cut_value(states: &[i128], row: &LpRow) -> i128
     )
 }
 
-// A number at the scale of states.
+// Brings a number to the scale of states.
 fn state(x: Fx) -> i128
     ensures { result ≡ state_of x }
 {

@@ -1,0 +1,109 @@
+// Copies of some cuts of a node, side by side in memory.
+ghost use Rattle.std.specs.Prelude.{◌≡◌, ◌∷◌, ◌++◌, ◌<◌, ℕ, [], length, map, All, OnOk};
+ghost use Rattle.hp_solver.specs.Covering.{cut_at};
+
+use hp_num::Memory;
+use hp_solver::CutList;
+use std::alloc::Global;
+use std::marker::Model;
+
+/// How many cuts are copied at most.
+const MOST_CUTS: usize = 1 << 24;
+
+/// Copies of some cuts, all heights in one list and all slopes in another, so that a walk over these cuts reads memory in order.
+/// Contracts see them as a list of cuts.
+#[derive(Drop)]
+pub(crate) struct Copies {
+    heights: Vec<i128>,
+    slopes: Vec<i64>,
+    /// How many slopes each cut has.
+    states: usize,
+}
+
+impl Model for Copies {
+    ghost use Rattle.std.specs.Prelude.{List};
+    ghost use Rattle.hp_solver.specs.PackedCut.{PackedCut, cuts_of, ArePacked};
+
+    ghost Value = { List PackedCut };
+
+    ghost view = { λ c. cuts_of c.states c.heights.items c.slopes.items };
+
+    ghost invariant = { λ c. ArePacked c.states c.heights.items c.slopes.items };
+}
+
+/// Puts the height and the slopes of a cut behind those of others. [`Memory`] where memory was refused.
+fn push_cut(
+    heights: &mut Vec<i128>,
+    slopes: &mut Vec<i64>,
+    height: i128,
+    own: &[i64],
+) -> Result<(), Memory>
+    ensures heights { OnOk result (heights.new.items ≡ heights.old.items ++ height ∷ []) }
+    ensures slopes { OnOk result (slopes.new.items ≡ slopes.old.items ++ own.now) }
+{
+    heights.push(height)?;
+    slopes.extend_from_slice(own)?;
+    Ok(())
+}
+
+impl Copies {
+    /// Makes room for cuts with as many slopes as those of a list.
+    pub(crate) fn none(alloc: Global, cuts: &CutList) -> Copies
+        ensures { result ≡ [] }
+    {
+        Copies {
+            heights: Vec::new(alloc),
+            slopes: Vec::new(alloc),
+            states: cuts.states(),
+        }
+    }
+
+    /// Drops all copies.
+    fn clear(&mut self)
+        ensures { self.new ≡ [] }
+    {
+        self.heights.clear();
+        self.slopes.clear();
+    }
+
+    /// Copies the cut at a place of a list behind the others. [`Memory`] where memory was refused, where the cut has more or
+    /// fewer slopes than the others, and where there are too many.
+    fn push(&mut self, cuts: &CutList, place: u32) -> Result<(), Memory>
+        requires { place < length cuts.now }
+        ensures { OnOk result (self.new ≡ self.old ++ cut_at cuts.now place ∷ []) }
+    {
+        let height = cuts.height(place as usize);
+        let own = cuts.slopes(place as usize);
+        if own.len() != self.states || self.heights.len() >= MOST_CUTS {
+            return Err(Memory);
+        }
+        match push_cut(&mut self.heights, &mut self.slopes, height, own) {
+            Ok(()) => Ok(()),
+            Err(_) => {
+                self.heights.clear();
+                self.slopes.clear();
+                Err(Memory)
+            }
+        }
+    }
+
+    /// Copies the cuts at some places of a list, in place of those that were copied. [`Memory`] where memory was refused, and
+    /// where a cut has more or fewer slopes than the others.
+    pub(crate) fn fill(&mut self, cuts: &CutList, places: &[u32]) -> Result<(), Memory>
+        requires { All (λ (p : ℕ). p < length cuts.now) places.now }
+        ensures { OnOk result (self.new ≡ map (cut_at cuts.now) places.now) }
+    {
+        self.clear();
+        for k in 0..places.len() {
+            self.push(cuts, places[k])?;
+        }
+        Ok(())
+    }
+
+    /// Lends the copies.
+    pub(crate) fn list(&self) -> CutList<'_>
+        ensures { result ≡ self.now }
+    {
+        CutList::new(self.heights.as_slice(), self.slopes.as_slice(), self.states)
+    }
+}
