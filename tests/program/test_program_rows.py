@@ -107,9 +107,22 @@ class Runs(InFolder):
         writes = "trap '' PIPE; echo x 2> /dev/null || { echo 'hydroplan: output failed' >&2; exit 11; }"
         for output in ("closed", "broken", "/dev/full"):
             self.assertIsNone(self.fault(writes, "hydroplan: output failed\n", options=f"output={output}"))
+        self.assertIsNone(self.fault("echo lost >&2 || :", "", options="errors=closed"))
+        self.assertIsNone(self.fault("echo 'hydroplan: memory' >&2; exit 12", "hydroplan: memory\n", options="errors=open"))
+        self.assertEqual(self.fault("exit 12", "hydroplan: memory\n", options="errors=closed"), None)
         self.assertIsNone(self.fault("wc -c", "10\n", options="padded=10"))
         self.assertIsNone(self.fault("test -p /dev/stdin && cat", "{}", options="piped=yes"))
         self.assertIsNone(self.fault("ulimit -v", "5000\n", options="memory=5000"))
+
+
+class Journals(InFolder):
+    def test_held(self) -> None:
+        program = "flock -n J true && exit 0; echo 'hydroplan: journal device failed' >&2; exit 10"
+        self.assertIsNone(self.fault(program, "hydroplan: journal device failed\n", options="journal=empty held=yes"))
+        self.assertIsNone(self.fault(program, "", options="journal=empty"))
+
+    def test_pipe(self) -> None:
+        self.assertIsNone(self.fault("test -p J", "", options="journal=pipe"))
 
 
 class Bounds(InFolder):
@@ -235,7 +248,7 @@ class Index(unittest.TestCase):
         usage = bytes_of("usage.txt").decode("utf-8").partition("usage: ")[2]
         commands = {"--help", "--version", *(command.split()[0] for command in usage.split(", "))}
         runs = [row for row in map(parsed, lines_of(FOLDER / "rows.txt")) if row.kind == "run"]
-        ends = [(row.words, status_of(expectation(row.expected, bytes_of(row.expected)).line)) for row in runs]
+        ends = [(row.words, status_of(expectation(row.expected, bytes_of(row.expected)).lines)) for row in runs]
         self.assertEqual({0, *STATUSES.values()}, {status for _, status in ends})
         self.assertLessEqual(commands, {words[0] for words, status in ends if status == 0})
 
@@ -248,7 +261,10 @@ class Index(unittest.TestCase):
 
     def test_an_expectation(self) -> None:
         found = expectation("x", b"hydroplan: memory\nand journal 1\njournal 0aff\n")
-        self.assertEqual((found.line, found.text, found.journal), (b"hydroplan: memory\n", b"and journal 1\n", b"\n\xff"))
+        self.assertEqual((found.lines, found.text, found.journal), (b"hydroplan: memory\n", b"and journal 1\n", b"\n\xff"))
+        found = expectation("x", b"hydroplan: memory\nhydroplan: of all kinds\nbound 3\n")
+        self.assertEqual((found.lines, found.text), (b"hydroplan: memory\nhydroplan: of all kinds\n", b"bound 3\n"))
+        self.assertEqual(expectation("x", b"hydroplan 1\n").lines, b"")
         self.assertIsNone(expectation("x", b"a\nb").journal)
 
 

@@ -6,6 +6,7 @@ pub mod disk;
 pub mod faultless;
 mod faults;
 pub mod file_disk;
+pub mod lock;
 pub mod memory;
 pub mod memory_disk;
 pub mod sink;
@@ -15,7 +16,8 @@ mod worked;
 
 pub use disk::Disk;
 pub use faultless::{FaultlessDisk, FaultlessSink, FaultlessSource};
-pub use file_disk::FileDisk;
+pub use file_disk::{FileDisk, Obstacle};
+pub use lock::Lock;
 pub use memory_disk::{Crash, MemDisk};
 pub use sink::{MemSink, Sink};
 pub use source::{MemSource, Source};

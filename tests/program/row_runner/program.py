@@ -29,6 +29,8 @@ class Streams:
     memory: Optional[int] = None
     # Whether the problem's bytes come through a pipe.
     piped: bool = False
+    # Whether standard error is closed.
+    mute: bool = False
 
 
 @dataclass(frozen=True)
@@ -50,7 +52,7 @@ def journal_in(folder: Path) -> Optional[bytes]:
 def command(program: Path, words: Sequence[str], streams: Streams) -> Sequence[str]:
     """A command line that runs the program with these words, under a limit or with streams that are closed."""
     limit = "" if streams.memory is None else f"ulimit -v {streams.memory}; "
-    closed = (" <&-" if streams.problem is None else "") + (" >&-" if streams.output == "closed" else "")
+    closed = (" <&-" if streams.problem is None else "") + (" >&-" if streams.output == "closed" else "") + (" 2>&-" if streams.mute else "")
     if not limit and not closed:
         return [str(program), *words]
     return ["sh", "-c", f'{limit}exec "$@"{closed}', "sh", str(program), *words]

@@ -1,10 +1,13 @@
 """The run that a row asks for, with its files and streams."""
 from __future__ import annotations
 
+import fcntl
+import os
 import shlex
+from contextlib import contextmanager
 from dataclasses import dataclass
 from pathlib import Path
-from typing import Optional
+from typing import Iterator, Optional
 
 from .program import Ended, Streams, ended
 from .rows import BadRow, Row, bytes_of, place_of, unhexed
@@ -21,7 +24,7 @@ class Verdict:
 def journal_before(row: Row) -> Optional[bytes]:
     """What the journal holds at first; None where the row has none. BadRow where the row's file is not in its form."""
     name = row.options.get("journal")
-    if name is None:
+    if name in (None, "pipe"):
         return None
     return b"" if name == "empty" else unhexed(name, bytes_of(name))
 
@@ -54,12 +57,32 @@ def streams(row: Row, program: Path, folder: Path) -> Streams:
         raise BadRow(f"{name} is not there")
     problem = padded(row, folder, made(row, program, folder, problem))
     memory = row.number("memory", 0) if "memory" in row.options else None
-    return Streams(problem, row.options.get("output"), memory, "piped" in row.options)
+    return Streams(problem, row.options.get("output"), memory, "piped" in row.options, row.options.get("errors") == "closed")
+
+
+def place_journal(row: Row, journal: Path) -> None:
+    """Makes what a row has in the place of its journal: a file, a pipe that nobody writes to, or nothing."""
+    held = journal_before(row)
+    if held is not None:
+        journal.write_bytes(held)
+    elif "journal" in row.options:
+        os.mkfifo(journal)
+
+
+@contextmanager
+def lock(row: Row, journal: Path) -> Iterator[None]:
+    """Holds the lock of a row's journal, where the row says so."""
+    if "held" not in row.options:
+        yield
+        return
+    with journal.open("rb") as file:
+        fcntl.flock(file, fcntl.LOCK_EX)
+        yield
 
 
 def run_of(row: Row, program: Path, folder: Path) -> Ended:
     """The run of a row, in a folder in which its journal is `J`."""
-    journal = journal_before(row)
-    if journal is not None:
-        (folder / "J").write_bytes(journal)
-    return ended(program, row.words, streams(row, program, folder), folder)
+    journal = folder / "J"
+    place_journal(row, journal)
+    with lock(row, journal):
+        return ended(program, row.words, streams(row, program, folder), folder)
