@@ -240,7 +240,7 @@ impl<'a> Files for OneFile<'a> {
     }
 }
 
-// What the file system counted.
+// Counts of the syncs of a file and of its folder, and of the bytes that were written.
 #[derive(Drop)]
 struct Counts {
     file_syncs: Cell<u64>,

@@ -17,7 +17,7 @@ use std::rt::Files;
 /// Why a file was not opened, where more is known than that its opening was refused.
 #[derive(Clone, Copy, Debug, PartialEq, Eq)]
 pub enum Obstacle {
-    /// What stands there is no regular file.
+    /// A folder, a pipe or a device stands there.
     NoFile,
     /// Its folder could not be opened, which is synced once the file is made.
     Folder,

@@ -29,7 +29,7 @@ class Streams:
     memory: Optional[int] = None
     # Whether the problem's bytes come through a pipe.
     piped: bool = False
-    # Whether standard error is closed.
+    # True where standard error is closed.
     mute: bool = False
 
 
