@@ -4,3 +4,5 @@ pub mod SideBySide
 pub mod Behind
 pub mod PackedRows
 pub mod AllRows
+pub mod SpreadDuals
+pub mod KeptDuals

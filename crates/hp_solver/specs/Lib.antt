@@ -1,4 +1,5 @@
 pub mod Numbers
+pub mod Duals
 pub mod PackedCut
 pub mod Covering
 pub mod Packed

@@ -1,6 +1,7 @@
 //! Linear programs in fixed point, and what a solver of them is known by. Nothing here says that an answer is right.
 #![tactic(auto)]
 
+pub mod duals;
 pub mod fixed;
 pub mod packed;
 pub mod programs;
@@ -9,6 +10,7 @@ pub mod solver;
 pub mod stage_lp;
 pub mod stand_ins;
 
+pub use duals::Duals;
 pub use fixed::Fx;
 pub use packed::{ActiveCuts, CutList, Out, PackedCuts, PackedView, slope_at};
 pub use programs::{Answer, Column, Kind, LpRow, Program};

@@ -2,6 +2,7 @@
 ghost use Rattle.std.specs.Prelude.{◌≡◌, IfOk};
 ghost use Rattle.hp_solver.specs.Answers.{lows_of, zeros_of};
 
+use crate::duals::Duals;
 use crate::fixed::Fx;
 use hp_num::{List, Memory};
 use std::alloc::Global;
@@ -60,7 +61,7 @@ pub struct Answer {
     /// A value for each column. A missing one stands for the column's least value.
     pub point: List<Fx>,
     /// A dual for each row. A missing one stands for 0.
-    pub duals: List<Fx>,
+    pub duals: Duals,
 }
 
 /// The least value of each column. [`Memory`] where memory was refused.
@@ -74,16 +75,6 @@ pub(crate) fn least_values(alloc: Global, columns: &[Column]) -> Result<List<Fx>
     Ok(found)
 }
 
-fn zeros_of(alloc: Global, rows: &[LpRow]) -> Result<List<Fx>, Memory>
-    ensures { IfOk result (λ found. found ≡ zeros_of rows.now) }
-{
-    let mut found = List::new(alloc);
-    for _row in rows {
-        found.push(Fx(0))?;
-    }
-    Ok(found)
-}
-
 impl Program {
     /// The least value of each column. [`Memory`] where memory was refused.
     pub fn lows(&self, alloc: Global) -> Result<List<Fx>, Memory>
@@ -92,10 +83,10 @@ impl Program {
         least_values(alloc, self.columns.as_slice())
     }
 
-    /// A dual of 0 for each row. [`Memory`] where memory was refused.
-    pub fn zeros(&self, alloc: Global) -> Result<List<Fx>, Memory>
-        ensures { IfOk result (λ found. found ≡ zeros_of self.now.rows) }
+    /// A dual of 0 for each row.
+    pub fn zeros(&self, alloc: Global) -> Duals
+        ensures { result ≡ zeros_of self.now.rows }
     {
-        zeros_of(alloc, self.rows.as_slice())
+        Duals::zeros(alloc, self.rows.len())
     }
 }

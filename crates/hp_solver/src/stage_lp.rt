@@ -1,11 +1,11 @@
 // Linear programs whose cuts are listed as rows, or stand side by side where they were made.
-ghost use Rattle.std.specs.Prelude.{◌≡◌, ◌≤◌, ◌<◌, ◌^◌, length, take, drop, get_or, set, replicate, slice_get, Some, IfOk, OnOk};
+ghost use Rattle.std.specs.Prelude.{◌≡◌, ◌≤◌, ◌<◌, ◌^◌, length, take, drop, get_or, set, slice_get, Some, IfOk, OnOk};
 ghost use Rattle.hp_solver.specs.declared.programs.Program.{Program};
 ghost use Rattle.hp_solver.specs.Answers.{lows_of, zeros_of};
-ghost use Rattle.hp_solver.specs.Numbers.{zero_fx};
 ghost use Rattle.hp_solver.specs.Packed.{rows_of, IsView};
 ghost use Rattle.hp_solver.specs.StageLps.{AreCuts, no_row, with_sides, with_rows};
 
+use crate::duals::Duals;
 use crate::fixed::Fx;
 use crate::packed::{PackedView, cut_count};
 use crate::programs::{Column, LpRow, Program, least_values};
@@ -42,16 +42,6 @@ pub enum Cuts<'b, 'a> {
     Listed(&'b [LpRow]),
     /// Cuts side by side.
     Packed(&'b PackedView<'a>),
-}
-
-fn zeros(alloc: Global, count: usize) -> Result<List<Fx>, Memory>
-    ensures { IfOk result (λ found. found ≡ replicate count zero_fx) }
-{
-    let mut found = List::new(alloc);
-    for _row in 0..count {
-        found.push(Fx(0))?;
-    }
-    Ok(found)
 }
 
 fn copied_columns(alloc: Global, columns: &[Column]) -> Result<List<Column>, Memory>
@@ -223,10 +213,10 @@ impl<'a> StageLp<'a> {
         least_values(alloc, self.columns())
     }
 
-    /// A dual of 0 for each row. [`Memory`] where memory was refused.
-    pub fn zeros(&self, alloc: Global) -> Result<List<Fx>, Memory>
-        ensures { IfOk result (λ found. found ≡ zeros_of self.now.rows) }
+    /// A dual of 0 for each row.
+    pub fn zeros(&self, alloc: Global) -> Duals
+        ensures { result ≡ zeros_of self.now.rows }
     {
-        zeros(alloc, self.count)
+        Duals::zeros(alloc, self.count)
     }
 }

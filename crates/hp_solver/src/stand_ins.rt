@@ -5,6 +5,7 @@ ghost use Rattle.hp_solver.specs.declared.programs.Answer.{Answer};
 ghost use Rattle.hp_solver.specs.Proper.{IsProper, IsReference, Extends, IsLike};
 ghost use Rattle.hp_solver.specs.Answers.{zero_of};
 
+use crate::duals::Duals;
 use crate::fixed::Fx;
 use crate::programs::{Answer, Kind};
 use crate::solver::Solver;
@@ -21,7 +22,7 @@ fn all_zero(alloc: Global, lp: &StageLp) -> Result<Answer, Memory>
     Ok(Answer {
         kind: Kind::Found,
         point: lp.lows(alloc)?,
-        duals: lp.zeros(alloc)?,
+        duals: lp.zeros(alloc),
     })
 }
 
@@ -109,7 +110,7 @@ impl Solver for Liar {
         Ok(Answer {
             kind: self.answer.kind,
             point: copied(alloc, self.answer.point.as_slice())?,
-            duals: copied(alloc, self.answer.duals.as_slice())?,
+            duals: Duals::new(alloc, self.answer.duals.whole(alloc)?),
         })
     }
 }

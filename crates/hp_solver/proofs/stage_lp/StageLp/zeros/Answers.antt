@@ -1,5 +1,4 @@
-use Rattle.std.proofs.Common.{◌≡◌, ◌∙◌, ◌++◌, ℕ, List, IfOk, replicate, subst, ap}
-use Rattle.hp_solver.specs.declared.fixed.Fx.{Fx}
+use Rattle.std.proofs.Common.{◌∙◌, ◌++◌, ℕ, replicate, ap}
 use Rattle.hp_solver.specs.declared.programs.Program.{Program}
 use Rattle.hp_solver.specs.Answers.{zeros_of}
 use Rattle.hp_solver.specs.Numbers.{zero_fx}
@@ -9,6 +8,5 @@ use Rattle.hp_solver.proofs.stage_lp.StageLp.zeros.Goals as goal
 
 pub returns : goal.returns
 returns c =
-    let e : replicate c.self.inside.count zero_fx ≡ zeros_of c.args.self.now.rows =
-    ap (λ (n : ℕ). replicate n zero_fx) c.self.invariant.count ∙ zeros_all (c.self.inside.listed.rows ++ unlisted c.self.inside.packed) ∙ ap (λ (p : Program). zeros_of p.rows) c.self.view_is in
-    subst (λ (fs : List Fx). IfOk c.zeros.result (λ found. found ≡ fs)) e c.zeros.ensures
+    c.zeros.ensures ∙ ap (λ (n : ℕ). replicate n zero_fx) c.self.invariant.count ∙ zeros_all (c.self.inside.listed.rows ++ unlisted c.self.inside.packed)
+    ∙ ap (λ (p : Program). zeros_of p.rows) c.self.view_is

@@ -1,0 +1,15 @@
+use Rattle.std.proofs.Common.{◌∙◌, ℕ, List, ◌++◌, length, take, drop, ap, ap₂}
+use Rattle.hp_solver.specs.declared.fixed.Fx.{Fx}
+use Rattle.hp_solver.specs.Duals.{dual_in, not_zero, all_kept}
+use Rattle.hp_solver.proofs.KeptDuals.{listed_and_kept}
+use Rattle.hp_solver.proofs.duals.Duals.not_zero.Goals as goal
+
+pub returns : goal.returns
+returns c =
+    let d = c.self.inside in
+    let listed = c.in_ok-push_listed.ensures
+    ∙ ap₂ (λ (xs : List (ℕ × Fx)) (fs : List Fx). xs ++ not_zero (dual_in fs) 0 (length fs)) c.new-found.ensures (c.part.ensures ∙ ap (λ (fs : List Fx). take c.args.count (drop c.args.from fs)) c.as_slice.ensures) in
+    c.in_ok-push_all_kept.ensures
+    ∙ ap₂ (λ (xs ps : List (ℕ × Fx)). xs ++ all_kept c.args.from c.args.count ps) listed c.as_slice-2.ensures.value
+    ∙ listed_and_kept d.first d.others.items d.count c.args.from c.args.count c.self.invariant
+    ∙ ap (λ (fs : List Fx). not_zero (dual_in (drop c.args.from fs)) 0 c.args.count) c.self.view_is
