@@ -12,7 +12,7 @@ use crate::numbers::negated;
 use crate::table::Table;
 use hp_num::{List, Memory};
 use hp_solver::fixed::ONE;
-use hp_solver::{Answer, Column, Fx, Kind, LpRow, Program};
+use hp_solver::{Answer, Column, Duals, Fx, Kind, LpRow, Program};
 use std::alloc::Global;
 
 // The answer that nothing was found out.
@@ -23,7 +23,7 @@ pub fn stuck(alloc: Global, lp: &Program) -> Result<Answer, Memory>
     Ok(Answer {
         kind: Kind::Stuck,
         point: lp.lows(alloc)?,
-        duals: lp.zeros(alloc)?,
+        duals: lp.zeros(alloc),
     })
 }
 
@@ -153,7 +153,7 @@ pub fn found(alloc: Global, lp: &Program, tableau: &Tableau) -> Result<Answer, M
         Some(point) => Ok(Answer {
             kind: Kind::Found,
             point,
-            duals: duals(alloc, tableau, columns.len(), rows)?,
+            duals: Duals::new(alloc, duals(alloc, tableau, columns.len(), rows)?),
         }),
     }
 }
@@ -239,7 +239,7 @@ pub fn ray(
         Some(duals) => Ok(Answer {
             kind: Kind::Ray,
             point: lp.lows(alloc)?,
-            duals,
+            duals: Duals::new(alloc, duals),
         }),
     }
 }
