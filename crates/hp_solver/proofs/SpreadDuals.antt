@@ -29,7 +29,7 @@ not_below a b h = grind (arith, nat_tests)
 no : false ≡ true → ⊥
 no e = cc
 
-zero_is : (f : Fx) → is_zero f ≡ true → f ≡ zero_fx
+pub zero_is : (f : Fx) → is_zero f ≡ true → f ≡ zero_fx
 zero_is f h = ap (λ (z : ℤ). record { 0 = z }) (by (int_lt (pos 0) f.0) refl (int_lt f.0 (pos 0)) refl h)
   where
     by : (t : Bool) → int_lt (pos 0) f.0 ≡ t → (s : Bool) → int_lt f.0 (pos 0) ≡ s → (not t && not s) ≡ true → f.0 ≡ pos 0

@@ -186,7 +186,8 @@ impl Duals {
 
     /// These duals of the first rows, and 0 for each other one of so many.
     pub fn padded(alloc: Global, first: List<Fx>, rows: usize) -> Duals
-        ensures { result ≡ first ++ replicate (rows - length first) zero_fx }
+        ensures value { result ≡ first ++ replicate (rows - length first) zero_fx }
+        ensures long { rows ≤ length result }
     {
         let count = rows.max(first.len());
         Duals {

@@ -1,5 +1,5 @@
 // The answer by a table in which no bound is violated.
-ghost use Rattle.std.specs.Prelude.{◌≡◌, ◌<◌, ◌≤◌, ◌+◌, ◌^◌, ◌-ℤ◌, ◌*ℤ◌, pos, length, All, Some, IfOk, IfSome, false};
+ghost use Rattle.std.specs.Prelude.{◌≡◌, ◌<◌, ◌≤◌, ◌+◌, ◌^◌, ◌-ℤ◌, ◌*ℤ◌, pos, length, All, Some, IfOk, IfSome, OnOk, false};
 ghost use Rattle.hp_num.specs.Sums.{entry, floor_over};
 ghost use Rattle.hp_warm_table.specs.Shape.{IsTable, variables};
 ghost use Rattle.hp_solver.specs.Numbers.{held};
@@ -7,12 +7,11 @@ ghost use Rattle.hp_simplex.specs.Each.{each_from};
 ghost use Rattle.hp_warm_answers.specs.Folds.{fold_from, Reaches};
 ghost use Rattle.hp_warm_answers.specs.Found.{place_of, rounded, clamped, basic_point, bound_point, point_by, point_at, points_of, slack_dual, dual_by, dual_at, own_duals, dual_step, duals_of, found_with, found_of};
 
-use crate::padding::padded;
 use crate::proving::own_rows;
 use crate::shifting::shift_by;
 use crate::whole::sum;
 use hp_num::{List, Memory};
-use hp_solver::{Answer, Column, Fx, Kind, LpRow, StageLp};
+use hp_solver::{Answer, Column, Duals, Fx, Kind, LpRow, StageLp};
 use hp_warm_table::lists::with_room;
 use hp_warm_table::{Scales, Table};
 use std::alloc::Global;
@@ -172,18 +171,13 @@ fn dual_at(table: &Table, row: usize) -> Option<Fx>
     }
 }
 
-// The duals of the program's own rows, in a list with room for so many.
-fn own_duals(
-    alloc: Global,
-    table: &Table,
-    rows: &[LpRow],
-    room: usize,
-) -> Result<Option<List<Fx>>, Memory>
+// The duals of the program's own rows.
+fn own_duals(alloc: Global, table: &Table, rows: &[LpRow]) -> Result<Option<List<Fx>>, Memory>
     requires sized { IsTable table.now }
     requires rows { length rows.now ≤ length table.now.rows }
     ensures { IfOk result (λ found. found ≡ each_from (λ i r. dual_at table.now i) 0 rows.now) }
 {
-    let mut found = with_room(alloc, room)?;
+    let mut found = with_room(alloc, rows.len())?;
     for i in 0..rows.len() {
         match dual_at(table, i) {
             Some(x) => found.push(x)?,
@@ -193,53 +187,53 @@ fn own_duals(
     Ok(Some(found))
 }
 
-// Sets the dual of a row of the program to that of a row of the table; false where that is absent.
+// Sets the dual of a row of the program to that of a row of the table; false where that is absent. [`Memory`] where memory
+// was refused.
 #[tactic(auto, unfolding(crate::specs::Found::dual_step))]
-fn set_dual(duals: &mut List<Fx>, table: &Table, table_row: usize, row: usize) -> bool
+fn set_dual(duals: &mut Duals, table: &Table, table_row: usize, row: usize) -> Result<bool, Memory>
     requires sized { IsTable table.now }
     requires there { table_row < length table.now.rows }
     requires row { row < length duals.old }
-    ensures duals { Reaches result (dual_step table.now table_row duals.old row) duals.new }
-    ensures lengths { length duals.new ≡ length duals.old }
+    ensures duals { IfOk result (λ there. Reaches there (dual_step table.now table_row duals.old row) duals.new) }
+    ensures lengths { OnOk result (length duals.new ≡ length duals.old) }
 {
     match dual_at(table, table_row) {
         Some(x) => {
-            duals.set(row, x);
-            true
+            duals.set(row, x)?;
+            Ok(true)
         }
-        None => false,
+        None => Ok(false),
     }
 }
 
 // Sets the duals of the program's rows of cuts that have rows in the table, which are those behind the own ones.
-fn set_duals(duals: &mut List<Fx>, table: &Table, own: usize, rows: &[usize]) -> bool
+fn set_duals(duals: &mut Duals, table: &Table, own: usize, rows: &[usize]) -> Result<bool, Memory>
     requires sized { IsTable table.now }
     requires there { length table.now.rows ≡ own + length rows.now }
     requires rows { All (λ row. row < length duals.old) rows.now }
-    ensures { Reaches result (fold_from (dual_step table.now) own duals.old rows.now) duals.new }
+    ensures { IfOk result (λ there. Reaches there (fold_from (dual_step table.now) own duals.old rows.now) duals.new) }
 {
     for i in own..table.rows.len() {
-        if !set_dual(duals, table, i, rows[i - own]) {
-            return false;
+        if !set_dual(duals, table, i, rows[i - own])? {
+            return Ok(false);
         }
     }
-    true
+    Ok(true)
 }
 
 // A dual for each row of a program.
 #[tactic(auto, unfolding(crate::specs::Found::duals_of))]
-fn duals(alloc: Global, table: &Table, lp: &StageLp) -> Result<Option<List<Fx>>, Memory>
+fn duals(alloc: Global, table: &Table, lp: &StageLp) -> Result<Option<Duals>, Memory>
     requires sized { IsTable table.now }
     requires rows { length table.now.rows ≡ lp.now.own + length table.now.cuts.rows }
     requires cuts { All (λ row. row < length lp.now.rows) table.now.cuts.rows }
     ensures { IfOk result (λ found. found ≡ duals_of table.now lp.now) }
 {
-    let count = lp.row_count();
-    let Some(own) = own_duals(alloc, table, own_rows(lp), count)? else {
+    let Some(own) = own_duals(alloc, table, own_rows(lp))? else {
         return Ok(None);
     };
-    let mut duals = padded(own, count)?;
-    if set_duals(&mut duals, table, lp.own(), table.cuts.rows.as_slice()) {
+    let mut duals = Duals::padded(alloc, own, lp.row_count());
+    if set_duals(&mut duals, table, lp.own(), table.cuts.rows.as_slice())? {
         Ok(Some(duals))
     } else {
         Ok(None)

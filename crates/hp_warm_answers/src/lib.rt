@@ -5,7 +5,6 @@
 pub mod entering;
 pub mod finishing;
 pub mod found;
-mod padding;
 pub mod proving;
 pub mod ray;
 pub mod shifting;

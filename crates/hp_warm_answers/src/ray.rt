@@ -8,11 +8,10 @@ ghost use Rattle.hp_simplex.specs.Each.{each_from};
 ghost use Rattle.hp_warm_answers.specs.Ray.{own_factor, turned, factor_by, factor_at, greater, with_digits, greatest_from, top_of, ray_dual, ray_duals, ray_with, where_proved, ray_of};
 
 use crate::found::{place_of, slack_of};
-use crate::padding::padded;
 use crate::proving::{clipped, front, own_rows, proves};
 use crate::shifting::shift_by;
 use hp_num::{List, Memory};
-use hp_solver::{Answer, Fx, Kind, LpRow, StageLp};
+use hp_solver::{Answer, Duals, Fx, Kind, LpRow, StageLp};
 use hp_warm_table::lists::with_room;
 use hp_warm_table::numbers::bits;
 use hp_warm_table::{Cell, Scales, Table};
@@ -176,7 +175,7 @@ fn ray_dual(
     Some(clipped(row, Fx(dual)))
 }
 
-// The duals of the own rows, in a list with room for one of each row.
+// The duals of the own rows.
 fn ray_duals(
     alloc: Global,
     table: &Table,
@@ -196,7 +195,7 @@ fn ray_duals(
 {
     let own = lp.own();
     let rows = own_rows(lp);
-    let mut found = with_room(alloc, lp.row_count())?;
+    let mut found = with_room(alloc, rows.len())?;
     for i in 0..rows.len() {
         match ray_dual(table, line, variable, above, top, own, i, &rows[i]) {
             Some(dual) => found.push(dual)?,
@@ -216,7 +215,7 @@ fn where_proved(alloc: Global, lp: &StageLp, duals: List<Fx>) -> Result<Option<A
     Ok(Some(Answer {
         kind: Kind::Ray,
         point: lp.lows(alloc)?,
-        duals: padded(duals, lp.row_count())?,
+        duals: Duals::padded(alloc, duals, lp.row_count()),
     }))
 }
 
