@@ -10,15 +10,24 @@ use crate::reading::{Extent, program, programs};
 use crate::solvers::{Named, by_name};
 use hp_num::Memory;
 use hp_simplex::DualSimplex;
-use hp_solver::{Answer, Fx, Solver, StageLp};
+use hp_solver::{Answer, Duals, Fx, Solver, StageLp};
 use hp_warm_simplex::WarmSimplex;
 use std::alloc::Global;
 use std::fmt::Write;
 
-fn push_numbers(text: &mut String, label: &str, numbers: &[Fx]) -> Result<(), RowFault> {
-    text.push_str(label)?;
-    for number in numbers {
+fn push_point(text: &mut String, point: &[Fx]) -> Result<(), RowFault> {
+    text.push_str("point")?;
+    for number in point {
         write!(text, " {}", number.0)?;
+    }
+    text.push_str("\n")?;
+    Ok(())
+}
+
+fn push_duals(text: &mut String, duals: &Duals) -> Result<(), RowFault> {
+    text.push_str("duals")?;
+    for row in 0..duals.len() {
+        write!(text, " {}", duals.get(row).0)?;
     }
     text.push_str("\n")?;
     Ok(())
@@ -26,8 +35,8 @@ fn push_numbers(text: &mut String, label: &str, numbers: &[Fx]) -> Result<(), Ro
 
 fn push_answer(text: &mut String, answer: &Answer) -> Result<(), RowFault> {
     write!(text, "{:?}\n", answer.kind)?;
-    push_numbers(text, "point", answer.point.as_slice())?;
-    push_numbers(text, "duals", answer.duals.as_slice())
+    push_point(text, answer.point.as_slice())?;
+    push_duals(text, &answer.duals)
 }
 
 /// Whether a chain may take a program after another. [`Memory`] where memory was refused.

@@ -1,6 +1,6 @@
 // The solvers that rows name, and answers that are no solver's.
 use hp_num::{List, Memory};
-use hp_solver::{Answer, Fx, Kind};
+use hp_solver::{Answer, Duals, Fx, Kind};
 use std::alloc::Global;
 
 /// The solver of a row.
@@ -49,6 +49,6 @@ pub fn wild(alloc: Global, kind: Kind) -> Result<Answer, Memory> {
     Ok(Answer {
         kind,
         point: List::new(alloc),
-        duals,
+        duals: Duals::new(alloc, duals),
     })
 }

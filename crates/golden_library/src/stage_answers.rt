@@ -2,7 +2,7 @@
 ghost use Rattle.std.specs.Prelude.{◌≤◌, nat_abs};
 
 use hp_num::{List, Memory};
-use hp_solver::{Answer, Fx, Kind};
+use hp_solver::{Answer, Duals, Fx, Kind};
 use std::alloc::Global;
 
 /// A number from -504 to 504 that differs from place to place and from answer to answer.
@@ -37,6 +37,6 @@ pub fn answer(alloc: Global, own: usize, cuts: usize, turn: u32) -> Result<Answe
     Ok(Answer {
         kind: Kind::Found,
         point: List::new(alloc),
-        duals,
+        duals: Duals::new(alloc, duals),
     })
 }

@@ -1,66 +1,77 @@
--- One cut more of those that share out a target, the last of them, and what their pairs come to.
-use Rattle.std.proofs.Common.{◌≡◌, ◌∙◌, ℕ, suc, ◌+◌, ◌-◌, ◌<◌, ◌≤◌, ◌^◌, min, ℤ, pos, List, [], ◌∷◌, ◌++◌, length, get_or, take, replicate, sym, ap, subst, arith}
-use Rattle.std.proofs.lemmas.List.{append_assoc, append-nil, length-take, get_or-take, get_or_default}
+-- Sharing out a target over the duals of cuts, and what the pairs come to.
+use Rattle.std.proofs.Common.{◌≡◌, ◌∙◌, ℕ, zero, suc, ◌+◌, ◌-◌, ◌<◌, ◌≤◌, ◌^◌, min, ℤ, pos, List, [], ◌∷◌, ◌++◌, length, get_or, drop, Bool, true, false, if◌then◌else◌, All, refl, sym, ap, ap₂, arith}
+use Rattle.std.proofs.lemmas.List.{append_assoc, drop_more}
+use Rattle.std.proofs.lemmas.List.Elements.{All-nil, All-cons}
 use Rattle.hp_theory.specs.Certificates.{multipliers}
 use Rattle.hp_solver.specs.declared.fixed.Fx.{Fx}
 use Rattle.hp_solver.specs.Numbers.{zero_fx}
+use Rattle.hp_solver.specs.Duals.{dual_in, not_zero, is_zero}
+use Rattle.hp_solver.proofs.SpreadDuals.{zero_is}
+use Rattle.hp_settle.specs.Kept.{kept_pairs, left_over}
 use Rattle.hp_settle.specs.Settling.{dual_at, cut_multiplier, cut_multipliers, capped, missing, pairs_from, topped, settled_pairs}
 use Rattle.hp_settle.proofs.SettledPairs.{length-cut_multipliers, length-capped, total-capped, multipliers-pairs_from, zero_multipliers, capped-zeros, missing-zeros, pairs-zeros}
 use Rattle.hp_settle.proofs.ToppedPairs.{pairs_from-cons, topped-pairs}
 
-pub one_cut_more : (found new : List (ℕ × ℕ)) (left now share k count : ℕ) (duals : List Fx) (all : List (ℕ × ℕ)) (rest : ℕ) → k < count → share ≡ min (cut_multiplier (dual_at duals k)) left
-    → new ≡ found ++ pairs_from k (share ∷ []) → now ≡ left - share
-    → (found ++ pairs_from k (capped left (cut_multipliers duals k (count - k))) ≡ all) × (missing left (cut_multipliers duals k (count - k)) ≡ rest)
-    → (new ++ pairs_from (k + 1) (capped now (cut_multipliers duals (k + 1) (count - (k + 1)))) ≡ all) × (missing now (cut_multipliers duals (k + 1) (count - (k + 1))) ≡ rest)
-one_cut_more found new left now share k count duals all rest h is e f w =
-    let v = cut_multiplier (dual_at duals k) in
-    let m = count - suc k in
-    let next : k + 1 ≡ suc k = omega arith in
-    let one : count - k ≡ suc m = omega arith in
-    let less : now ≡ left - v = omega (arith, is, f) in
-    let behind : List ℕ = capped (left - v) (cut_multipliers duals (suc k) m) in
-    let was : (found ++ pairs_from k (min v left ∷ behind) ≡ all) × (missing left (cut_multipliers duals k (suc m)) ≡ rest) =
-    subst (λ (n : ℕ). (found ++ pairs_from k (capped left (cut_multipliers duals k n)) ≡ all) × (missing left (cut_multipliers duals k n) ≡ rest)) one w in
-    rw (less, next, e, is) (
-      append_assoc found (pairs_from k (min v left ∷ [])) (pairs_from (suc k) behind)
-          ∙ ap (λ (ss : List (ℕ × ℕ)). found ++ ss) (sym (pairs_from-cons k (min v left) behind)) ∙ was.0,
-      was.1,
+-- sharing out over the duals of all cuts is sharing out over those that are not 0
+module _ (duals : List Fx) where
+  nothing : (f : Fx) → f ≡ zero_fx → cut_multiplier f.0 ≡ 0
+  nothing f e = ap (λ (g : Fx). cut_multiplier g.0) e
+
+  pub kept_shares : (left k n : ℕ) → kept_pairs left (not_zero (dual_in duals) k n) ≡ pairs_from k (capped left (cut_multipliers duals k n))
+  kept_shares left k zero = refl
+  kept_shares left k (suc n) = by (λ (rest : ℕ). kept_shares rest (suc k) n) (is_zero (dual_in duals k)) refl
+    where
+      by : ((rest : ℕ) → kept_pairs rest (not_zero (dual_in duals) (suc k) n) ≡ pairs_from (suc k) (capped rest (cut_multipliers duals (suc k) n)))
+          → (t : Bool) → is_zero (dual_in duals k) ≡ t
+          → kept_pairs left (if t then not_zero (dual_in duals) (suc k) n else (k, dual_in duals k) ∷ not_zero (dual_in duals) (suc k) n)
+          ≡ pairs_from k (min (cut_multiplier (dual_at duals k)) left ∷ capped (left - cut_multiplier (dual_at duals k)) (cut_multipliers duals (suc k) n))
+      by behind true e =
+          let none : cut_multiplier (dual_at duals k) ≡ 0 = nothing (dual_in duals k) (zero_is (dual_in duals k) e) in
+          let least : 0 ≡ min (cut_multiplier (dual_at duals k)) left = omega (arith, none) in
+          let rest : left ≡ left - cut_multiplier (dual_at duals k) = omega (arith, none) in
+          behind left ∙ ap₂ (λ (v r : ℕ). pairs_from k (v ∷ capped r (cut_multipliers duals (suc k) n))) least rest
+      by behind false e =
+          let v : ℕ = cut_multiplier (dual_at duals k) in
+          ap (λ (ss : List (ℕ × ℕ)). pairs_from k (min v left ∷ []) ++ ss) (behind (left - v))
+          ∙ sym (pairs_from-cons k (min v left) (capped (left - v) (cut_multipliers duals (suc k) n)))
+
+  pub left_of_all : (left k n : ℕ) → left_over left (not_zero (dual_in duals) k n) ≡ missing left (cut_multipliers duals k n)
+  left_of_all left k zero = refl
+  left_of_all left k (suc n) = by (λ (rest : ℕ). left_of_all rest (suc k) n) (is_zero (dual_in duals k)) refl
+    where
+      by : ((rest : ℕ) → left_over rest (not_zero (dual_in duals) (suc k) n) ≡ missing rest (cut_multipliers duals (suc k) n))
+          → (t : Bool) → is_zero (dual_in duals k) ≡ t
+          → left_over left (if t then not_zero (dual_in duals) (suc k) n else (k, dual_in duals k) ∷ not_zero (dual_in duals) (suc k) n)
+          ≡ missing (left - cut_multiplier (dual_at duals k)) (cut_multipliers duals (suc k) n)
+      by behind true e =
+          let none : cut_multiplier (dual_at duals k) ≡ 0 = nothing (dual_in duals k) (zero_is (dual_in duals k) e) in
+          let rest : left ≡ left - cut_multiplier (dual_at duals k) = omega (arith, none) in
+          behind left ∙ ap (λ (r : ℕ). missing r (cut_multipliers duals (suc k) n)) rest
+      by behind false e = behind (left - cut_multiplier (dual_at duals k))
+
+-- places of duals are below their count
+pub places_below : (dual : ℕ → Fx) (k n most : ℕ) → k + n ≤ most → All (λ (p : ℕ × Fx). p.0 < most) (not_zero dual k n)
+places_below dual k zero most h = All-nil (λ (p : ℕ × Fx). p.0 < most)
+places_below dual k (suc n) most h = by (places_below dual (suc k) n most (omega (arith, h))) (is_zero (dual k))
+  where
+    by : All (λ (p : ℕ × Fx). p.0 < most) (not_zero dual (suc k) n) → (t : Bool) → All (λ (p : ℕ × Fx). p.0 < most) (if t then not_zero dual (suc k) n else (k, dual k) ∷ not_zero dual (suc k) n)
+    by behind true = behind
+    by behind false = All-cons (λ (p : ℕ × Fx). p.0 < most) (k, dual k) (not_zero dual (suc k) n) (omega (arith, h)) behind
+
+-- one dual more
+pub one_kept : (pairs new : List (ℕ × ℕ)) (left now i : ℕ) (duals : List (ℕ × Fx)) (d : ℕ × Fx) (all : List (ℕ × ℕ)) (rest : ℕ) → i < length duals
+    → new ≡ pairs ++ pairs_from (get_or duals i d).0 (min (cut_multiplier (get_or duals i d).1.0) left ∷ []) → now ≡ left - cut_multiplier (get_or duals i d).1.0
+    → (pairs ++ kept_pairs left (drop i duals) ≡ all) × (left_over left (drop i duals) ≡ rest)
+    → (new ++ kept_pairs now (drop (i + 1) duals) ≡ all) × (left_over now (drop (i + 1) duals) ≡ rest)
+one_kept pairs new left now i duals d all rest h e f w =
+    let p : ℕ × Fx = get_or duals i d in
+    let own : List (ℕ × ℕ) = pairs_from p.0 (min (cut_multiplier p.1.0) left ∷ []) in
+    let more = drop_more duals i d h in
+    let later : List (ℕ × ℕ) = kept_pairs (left - cut_multiplier p.1.0) (drop (i + 1) duals) in (
+      ap₂ (λ (ss : List (ℕ × ℕ)) (n : ℕ). ss ++ kept_pairs n (drop (i + 1) duals)) e f ∙ append_assoc pairs own later
+          ∙ sym (ap (λ (ds : List (ℕ × Fx)). pairs ++ kept_pairs left ds) more) ∙ w.0,
+      ap (λ (n : ℕ). left_over n (drop (i + 1) duals)) f ∙ sym (ap (left_over left) more) ∙ w.1,
     )
-
--- one whose dual is 0
-pub one_zero_more : (found new : List (ℕ × ℕ)) (left now k count : ℕ) (duals : List Fx) (all : List (ℕ × ℕ)) (rest : ℕ) → k < count → dual_at duals k ≡ pos 0 → new ≡ found → now ≡ left
-    → (found ++ pairs_from k (capped left (cut_multipliers duals k (count - k))) ≡ all) × (missing left (cut_multipliers duals k (count - k)) ≡ rest)
-    → (new ++ pairs_from (k + 1) (capped now (cut_multipliers duals (k + 1) (count - (k + 1)))) ≡ all) × (missing now (cut_multipliers duals (k + 1) (count - (k + 1))) ≡ rest)
-one_zero_more found new left now k count duals all rest h none e f =
-    let least : 0 ≡ min 0 left = omega arith in
-    let share : 0 ≡ min (cut_multiplier (dual_at duals k)) left = least ∙ sym (ap (λ (d : ℤ). min (cut_multiplier d) left) none) in
-    one_cut_more found new left now 0 k count duals all rest h share (e ∙ sym (append-nil found)) (omega (arith, f))
-
--- the duals of some cuts, the first of so many
-module _ (count k : ℕ) (duals own : List Fx) (is : own ≡ take count duals) where
-  long : length own ≡ min count (length duals)
-  long = ap (λ (fs : List Fx). length fs) is ∙ length-take count duals
-
-  pub within : k < length own → k < count
-  within h = omega (arith, h, long)
-
-  pub the_dual : (f : Fx) → k < length own → dual_at duals k ≡ (get_or own k f).0
-  the_dual f h =
-      ap (λ (g : Fx). g.0) (sym (get_or-take count duals k zero_fx (within h)) ∙ ap (λ (fs : List Fx). get_or fs k zero_fx) (sym is) ∙ get_or_default own k zero_fx f h)
-
-  -- all of them done
-  module _ (h : length own ≤ k) (i : k ≤ length own) where
-    none_left : cut_multipliers duals k (count - k) ≡ replicate (count - k) 0
-    none_left = zero_multipliers duals k (count - k) (λ more. omega (arith, h, i, more, long))
-
-    pub all_pairs : (found all : List (ℕ × ℕ)) (left : ℕ) → found ++ pairs_from k (capped left (cut_multipliers duals k (count - k))) ≡ all → found ≡ all
-    all_pairs found all left w =
-        let none : pairs_from k (capped left (cut_multipliers duals k (count - k))) ≡ [] =
-        ap (λ (vs : List ℕ). pairs_from k (capped left vs)) none_left ∙ ap (λ (vs : List ℕ). pairs_from k vs) (capped-zeros left (count - k)) ∙ pairs-zeros k (count - k) in
-        sym (append-nil found) ∙ ap (λ (ss : List (ℕ × ℕ)). found ++ ss) (sym none) ∙ w
-
-    pub all_missing : (left rest : ℕ) → missing left (cut_multipliers duals k (count - k)) ≡ rest → left ≡ rest
-    all_missing left rest w = sym (ap (λ (vs : List ℕ). missing left vs) none_left ∙ missing-zeros left (count - k)) ∙ w
 
 module _ (target count : ℕ) (duals : List Fx) (pairs : List (ℕ × ℕ)) (rest : ℕ) (is : pairs ≡ pairs_from 0 (capped target (cut_multipliers duals 0 count))) (left : rest ≡ missing target (cut_multipliers duals 0 count)) where
   pub room_there : target < 2 ^ 64 → multipliers pairs + rest < 2 ^ 64

@@ -2,4 +2,5 @@ pub mod Examples
 pub mod Judging
 pub mod Refutation
 pub mod Settling
+pub mod Kept
 pub mod SizedSums

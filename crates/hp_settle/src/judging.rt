@@ -8,7 +8,7 @@ use crate::refutation::refutes;
 use crate::settling::rows_over;
 use hp_num::{List, Memory};
 use hp_problem::Problem;
-use hp_solver::{Answer, Fx, Kind};
+use hp_solver::{Answer, Duals, Kind};
 use std::alloc::Global;
 
 /// What an answer shows of a node at values and an incoming state.
@@ -50,7 +50,7 @@ fn ray_rows(
     alloc: Global,
     problem: &Problem,
     node: u32,
-    duals: &[Fx],
+    duals: &Duals,
     digits: u32,
 ) -> Result<List<i64>, Memory>
     requires node { node < length problem.now.raw.nodes }
@@ -72,7 +72,7 @@ fn judge_ray(
     node: u32,
     values: &[i64],
     state: &[i128],
-    duals: &[Fx],
+    duals: &Duals,
 ) -> Result<Judged, Memory>
     requires { node < length problem.now.raw.nodes }
     ensures { IfOk result (λ found. found ≡ first_dead (node_at (problem_of problem.now) node) values.now state.now duals.now 0 15) }
@@ -104,7 +104,7 @@ pub fn judge(
 {
     match answer.kind {
         Kind::Found => Ok(Judged::Found),
-        Kind::Ray => judge_ray(alloc, problem, node, values, state, answer.duals.as_slice()),
+        Kind::Ray => judge_ray(alloc, problem, node, values, state, &answer.duals),
         Kind::Stuck => Ok(Judged::Unsettled),
     }
 }

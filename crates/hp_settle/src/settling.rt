@@ -1,10 +1,12 @@
 // Certificates from the duals of a solver's answer, which need not be right.
-ghost use Rattle.std.specs.Prelude.{◌≡◌, ◌+◌, ◌*◌, ◌<◌, ◌^◌, [], ◌∷◌, ◌++◌, length, map, min, take, drop, All, IfOk, OnOk};
+ghost use Rattle.std.specs.Prelude.{◌≡◌, ℕ, ◌+◌, ◌-◌, ◌*◌, ◌<◌, ◌^◌, [], ◌∷◌, ◌++◌, length, map, min, drop, All, IfOk, OnOk};
 ghost use Rattle.hp_theory.specs.Problem.{S, node_at};
 ghost use Rattle.hp_theory.specs.Pools.{pool};
 ghost use Rattle.hp_theory.specs.Fit.{Fit};
 ghost use Rattle.hp_theory.specs.View.{links_of, problem_of};
 ghost use Rattle.hp_theory.specs.Certificates.{multipliers, RightAt};
+ghost use Rattle.hp_solver.specs.declared.fixed.Fx.{Fx};
+ghost use Rattle.hp_settle.specs.Kept.{kept_pairs, left_over};
 ghost use Rattle.hp_settle.specs.Settling.{dual_at, rescaled, clamped, row_over, rows_over, settled_rows, cut_multiplier, cut_multipliers, capped, missing, place_of_greatest, pairs_from, raised_pair, raised_first, topped, settled_pairs, settled_links, used_duals, settled_of};
 
 use hp_cut::Pools;
@@ -12,7 +14,7 @@ use hp_dual::is_sign;
 use hp_num::{List, Memory, floor_div};
 use hp_problem::{Node, Problem, Row, Subproblem};
 use hp_solver::fixed::ONE;
-use hp_solver::{Answer, Fx, Kind};
+use hp_solver::{Answer, Duals, Fx, Kind};
 use hp_theory::{Certificate, SCALE};
 use std::alloc::Global;
 
@@ -20,13 +22,10 @@ use std::alloc::Global;
 const FINER: u64 = (ONE / SCALE as i128) as u64;
 
 /// The dual of a row, 0 where it is missing.
-fn dual_at(duals: &[Fx], i: usize) -> i128
+fn dual_at(duals: &Duals, i: usize) -> i128
     ensures { result ≡ dual_at duals.now i }
 {
-    match duals.get(i) {
-        Some(dual) => dual.0,
-        None => 0,
-    }
+    duals.get(i).0
 }
 
 /// A dual at the scale of multipliers, rounded down.
@@ -61,7 +60,7 @@ fn row_over(row: &Row, dual: i128, divisor: u64) -> i64
 pub(crate) fn rows_over(
     alloc: Global,
     rows: &[Row],
-    duals: &[Fx],
+    duals: &Duals,
     divisor: u64,
 ) -> Result<List<i64>, Memory>
     requires { 0 < divisor }
@@ -105,22 +104,45 @@ struct Shares {
     missing: u64,
 }
 
-/// In order each cut keeps at most what the target leaves; one that keeps nothing has no pair.
-fn within_target(alloc: Global, target: u64, count: u32, duals: &[Fx]) -> Result<Shares, Memory>
-    ensures pairs { IfOk result (λ found. found.pairs ≡ pairs_from 0 (capped target (cut_multipliers duals.now 0 count))) }
-    ensures missing { IfOk result (λ found. found.missing ≡ missing target (cut_multipliers duals.now 0 count)) }
+/// A cut keeps at most what is left, by its place and its dual: what is left then. One that keeps nothing has no pair.
+fn keep(pairs: &mut List<(u32, u64)>, dual: (usize, Fx), left: u64) -> Result<u64, Memory>
+    requires { dual.0 < 2 ^ 32 }
+    ensures pairs { OnOk result (pairs.new ≡ pairs.old ++ pairs_from dual.0 (min (cut_multiplier dual.1.0) left ∷ [])) }
+    ensures left { IfOk result (λ rest. rest ≡ left - cut_multiplier dual.1.0) }
+{
+    let multiplier = share(cut_multiplier(dual.1.0), left);
+    push_pair(pairs, dual.0 as u32, multiplier)?;
+    Ok(left - multiplier)
+}
+
+/// In order each cut with a dual keeps at most what the target leaves.
+fn shares_of(alloc: Global, target: u64, duals: &[(usize, Fx)]) -> Result<Shares, Memory>
+    requires { All (λ (p : ℕ × Fx). p.0 < 2 ^ 32) duals.now }
+    ensures pairs { IfOk result (λ found. found.pairs ≡ kept_pairs target duals.now) }
+    ensures missing { IfOk result (λ found. found.missing ≡ left_over target duals.now) }
 {
     let mut pairs = List::new(alloc);
     let mut missing = target;
-    for (k, dual) in front(duals, count as usize).iter().enumerate() {
-        // The duals of most cuts are 0.
-        if dual.0 != 0 {
-            let multiplier = share(cut_multiplier(dual.0), missing);
-            push_pair(&mut pairs, k as u32, multiplier)?;
-            missing -= multiplier;
-        }
+    for i in 0..duals.len() {
+        missing = keep(&mut pairs, duals[i], missing)?;
     }
     Ok(Shares { pairs, missing })
+}
+
+/// In order each of so many cuts, whose duals begin at a row, keeps at most what the target leaves. The duals of most cuts are
+/// 0, and these keep nothing.
+fn within_target(
+    alloc: Global,
+    target: u64,
+    count: u32,
+    duals: &Duals,
+    from: usize,
+) -> Result<Shares, Memory>
+    ensures pairs { IfOk result (λ found. found.pairs ≡ pairs_from 0 (capped target (cut_multipliers (drop from duals.now) 0 count))) }
+    ensures missing { IfOk result (λ found. found.missing ≡ missing target (cut_multipliers (drop from duals.now) 0 count)) }
+{
+    let kept = duals.not_zero(alloc, from, count as usize)?;
+    shares_of(alloc, target, kept.as_slice())
 }
 
 /// The number of the pair with the greatest multiplier, the first of equals.
@@ -200,18 +222,19 @@ fn top_up(
     Ok(pairs)
 }
 
-/// The pairs of a successor with so many cuts, whose duals come first: in order each cut keeps at most what the target
+/// The pairs of a successor with so many cuts, whose duals begin at a row: in order each cut keeps at most what the target
 /// leaves, and what is missing then goes to the first where it is more than a unit a pair, and else to the greatest.
 fn settled_pairs(
     alloc: Global,
     target: u64,
     count: u32,
-    duals: &[Fx],
+    duals: &Duals,
+    from: usize,
 ) -> Result<List<(u32, u64)>, Memory>
     requires { 0 < count }
-    ensures { IfOk result (λ found. found ≡ settled_pairs target count duals.now) }
+    ensures { IfOk result (λ found. found ≡ settled_pairs target count (drop from duals.now)) }
 {
-    let Shares { pairs, missing } = within_target(alloc, target, count, duals)?;
+    let Shares { pairs, missing } = within_target(alloc, target, count, duals, from)?;
     top_up(alloc, pairs, missing)
 }
 
@@ -223,58 +246,50 @@ fn target(weight: u32) -> u64
     u64::from(SCALE) * u64::from(weight)
 }
 
-/// The first so many duals, all where there are fewer.
-fn front(duals: &[Fx], count: usize) -> &[Fx]
-    ensures { result.now ≡ take count duals.now }
+/// The row so many behind another, or the end of the duals where these are fewer.
+fn behind(duals: &Duals, from: usize, count: usize) -> usize
+    ensures { drop result duals.now ≡ drop count (drop from duals.now) }
 {
-    if count < duals.len() {
-        &duals[..count]
+    let rows = duals.len();
+    if from < rows && count < rows - from {
+        from + count
     } else {
-        duals
+        rows
     }
 }
 
-/// The duals behind so many.
-fn behind(duals: &[Fx], count: usize) -> &[Fx]
-    ensures { result.now ≡ drop count duals.now }
-{
-    if count < duals.len() {
-        &duals[count..]
-    } else {
-        &[]
-    }
-}
-
-/// The pairs of successors, the duals of whose cuts follow one another.
+/// The pairs of successors, the duals of whose cuts follow one another from a row on.
 fn settled_links(
     alloc: Global,
     pools: &Pools,
     links: &[u32],
     weights: &[u32],
-    duals: &[Fx],
+    duals: &Duals,
+    from: usize,
 ) -> Result<List<List<(u32, u64)>>, Memory>
     requires weights { length weights.now ≡ length links.now }
     requires known { All (λ m. m < length pools.now.lists) links.now }
     requires some { All (λ m. 0 < length (pool pools.now.lists m)) links.now }
-    ensures { IfOk result (λ found. found ≡ settled_links pools.now.lists (links_of links.now weights.now) duals.now) }
+    ensures { IfOk result (λ found. found ≡ settled_links pools.now.lists (links_of links.now weights.now) (drop from duals.now)) }
 {
     let mut found = List::new(alloc);
-    let mut rest = duals;
+    let mut at = from;
     for i in 0..links.len() {
         let count = pools.count(links[i]);
-        found.push(settled_pairs(alloc, target(weights[i]), count, rest)?)?;
-        rest = behind(rest, count as usize);
+        found.push(settled_pairs(alloc, target(weights[i]), count, duals, at)?)?;
+        at = behind(duals, at, count as usize);
     }
     Ok(found)
 }
 
-/// The duals that are made use of: those of a claimed solution.
-fn used_duals(answer: &Answer) -> &[Fx]
+/// The duals that are made use of: those of a claimed solution, and else none.
+fn used_duals<'a>(answer: &'a Answer, none: &'a Duals) -> &'a Duals
+    requires { none.now ≡ [] }
     ensures { result.now ≡ used_duals answer.now.kind answer.now.duals }
 {
     match answer.kind {
-        Kind::Found => answer.duals.as_slice(),
-        Kind::Ray | Kind::Stuck => &[],
+        Kind::Found => &answer.duals,
+        Kind::Ray | Kind::Stuck => none,
     }
 }
 
@@ -284,7 +299,7 @@ fn settled_duals(
     pools: &Pools,
     node: &Node,
     subproblem: &Subproblem,
-    duals: &[Fx],
+    duals: &Duals,
 ) -> Result<Certificate, Memory>
     requires weights { length node.now.link_weights ≡ length node.now.links }
     requires known { All (λ m. m < length pools.now.lists) node.now.links }
@@ -297,8 +312,8 @@ fn settled_duals(
     let rows = rows_over(alloc, subproblem.rows.as_slice(), duals, FINER)?;
     let links = node.links.as_slice();
     let weights = node.link_weights.as_slice();
-    let rest = behind(duals, subproblem.rows.len());
-    let cuts = settled_links(alloc, pools, links, weights, rest)?;
+    let own = subproblem.rows.len();
+    let cuts = settled_links(alloc, pools, links, weights, duals, own)?;
     Ok(Certificate { rows, cuts })
 }
 
@@ -324,5 +339,12 @@ pub fn settle(
 {
     let raw = problem.raw();
     let own = &raw.nodes.as_slice()[node as usize];
-    settled_duals(alloc, pools, own, problem.sub(node), used_duals(answer))
+    let none = Duals::new(alloc, List::new(alloc));
+    settled_duals(
+        alloc,
+        pools,
+        own,
+        problem.sub(node),
+        used_duals(answer, &none),
+    )
 }

@@ -279,7 +279,7 @@ fn stuck(alloc: Global, lp: &StageLp) -> Result<Answer, Memory>
     Ok(Answer {
         kind: Kind::Stuck,
         point,
-        duals: lp.zeros(alloc)?,
+        duals: lp.zeros(alloc),
     })
 }
 

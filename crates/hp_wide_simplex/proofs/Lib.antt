@@ -8,3 +8,4 @@ pub mod Steps
 pub mod Terms
 pub mod Violating
 pub mod Walks
+pub mod Ends

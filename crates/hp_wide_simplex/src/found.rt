@@ -12,7 +12,7 @@ ghost use Rattle.hp_wide_simplex.specs.Found.{place_of, rounded, basic_point, bo
 
 use crate::finishing::{dual_of, has_costs};
 use hp_num::{List, Memory, floor_div};
-use hp_solver::{Answer, Column, Fx, Kind, LpRow, StageLp};
+use hp_solver::{Answer, Column, Duals, Fx, Kind, LpRow, StageLp};
 use hp_warm_answers::found::clamped;
 use hp_warm_table::Scales;
 use hp_warm_table::lists::with_room;
@@ -200,7 +200,7 @@ fn found(alloc: Global, table: &Table, lp: &StageLp) -> Result<Option<Answer>, M
     Ok(Some(Answer {
         kind: Kind::Found,
         point,
-        duals,
+        duals: Duals::new(alloc, duals),
     }))
 }
 

@@ -13,7 +13,7 @@ ghost use Rattle.hp_wide_simplex.specs.Ray.{own_factor, turned, factor_at, great
 
 use crate::found::{place_of, slack_of};
 use hp_num::{List, Memory};
-use hp_solver::{Answer, Fx, Kind, LpRow, StageLp};
+use hp_solver::{Answer, Duals, Fx, Kind, LpRow, StageLp};
 use hp_warm_answers::proving::{clipped, proves};
 use hp_warm_table::Scales;
 use hp_warm_table::lists::with_room;
@@ -230,7 +230,7 @@ fn where_proved(alloc: Global, lp: &StageLp, duals: List<Fx>) -> Result<Option<A
     Ok(Some(Answer {
         kind: Kind::Ray,
         point: lp.lows(alloc)?,
-        duals,
+        duals: Duals::new(alloc, duals),
     }))
 }
 

@@ -5,7 +5,7 @@ ghost use Rattle.hp_solver.specs.Proper.{IsProper, IsReference};
 use hp_num::{List, Memory};
 use hp_simplex::{DualSimplex, Table};
 use hp_solver::fixed::ONE;
-use hp_solver::{Answer, Column, Fx, Kind, Liar, LpRow, Meeting, Program, Solver, StageLp, Zero};
+use hp_solver::{Answer, Column, Duals, Fx, Kind, Liar, LpRow, Meeting, Program, Solver, StageLp, Zero};
 use std::alloc::Global;
 use std::test::Fail;
 
@@ -58,8 +58,18 @@ fn alone<V: Solver>(alloc: Global, solver: &V) -> Result<Answer, Memory> {
     solver.solve(alloc, &mut chain, &lp)
 }
 
+// The duals are these numbers.
+fn are(duals: &Duals, numbers: &[Fx]) -> bool {
+    for row in 0..numbers.len() {
+        if duals.get(row) != numbers[row] {
+            return false;
+        }
+    }
+    duals.len() == numbers.len()
+}
+
 fn says(answer: &Answer, kind: Kind, point: &[Fx], duals: &[Fx]) -> bool {
-    answer.kind == kind && answer.point.as_slice() == point && answer.duals.as_slice() == duals
+    answer.kind == kind && answer.point.as_slice() == point && are(&answer.duals, duals)
 }
 
 #[test]
@@ -74,7 +84,7 @@ fn liar(alloc: Global) -> Result<Liar, Memory> {
     Ok(Liar::new(Answer {
         kind: Kind::Ray,
         point: List::new(alloc),
-        duals,
+        duals: Duals::new(alloc, duals),
     }))
 }
 

@@ -1,4 +1,4 @@
-use Rattle.std.proofs.Common.{◌≡◌, ◌∙◌, ℕ, List}
+use Rattle.std.proofs.Common.{◌≡◌, ◌∙◌, ℕ, List, drop}
 use Rattle.hp_settle.specs.Settling.{topped, settled_pairs}
 use Rattle.hp_settle.proofs.SettledNode.{if_ok}
 use Rattle.hp_settle.proofs.SettledSteps.{room_there, all_shared}
@@ -6,10 +6,10 @@ use Rattle.hp_settle.proofs.settling.settled_pairs.Goals as goal
 
 pub top_up-requires : goal.top_up-requires
 top_up-requires c =
-    room_there c.args.target c.args.count c.args.duals.now c.in_ok-pairs.field-0.pairs c.in_ok-pairs.field-0.missing c.in_ok-pairs.ensures.pairs c.in_ok-pairs.ensures.missing c.ranges.target.fits
+    room_there c.args.target c.args.count (drop c.args.from c.args.duals.now) c.in_ok-pairs.field-0.pairs c.in_ok-pairs.field-0.missing c.in_ok-pairs.ensures.pairs c.in_ok-pairs.ensures.missing c.ranges.target.fits
 
 pub returns : goal.returns
 returns c =
-    let shared = all_shared c.args.target c.args.count c.args.duals.now c.in_ok-pairs.field-0.pairs c.in_ok-pairs.field-0.missing c.in_ok-pairs.ensures.pairs c.in_ok-pairs.ensures.missing c.requires in
-    if_ok (λ (found : List (ℕ × ℕ)). found ≡ topped c.in_ok-pairs.field-0.pairs c.in_ok-pairs.field-0.missing) (λ (found : List (ℕ × ℕ)). found ≡ settled_pairs c.args.target c.args.count c.args.duals.now) c.top_up.result
+    let shared = all_shared c.args.target c.args.count (drop c.args.from c.args.duals.now) c.in_ok-pairs.field-0.pairs c.in_ok-pairs.field-0.missing c.in_ok-pairs.ensures.pairs c.in_ok-pairs.ensures.missing c.requires in
+    if_ok (λ (found : List (ℕ × ℕ)). found ≡ topped c.in_ok-pairs.field-0.pairs c.in_ok-pairs.field-0.missing) (λ (found : List (ℕ × ℕ)). found ≡ settled_pairs c.args.target c.args.count (drop c.args.from c.args.duals.now)) c.top_up.result
     (λ found is. is ∙ shared) c.top_up.ensures

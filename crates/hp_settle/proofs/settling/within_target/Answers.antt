@@ -1,34 +1,29 @@
-use Rattle.std.proofs.Common.{◌∙◌, ℕ, min, get_or, SFits, to_z, ap, sym, rules}
-use mir.Syntax.{w128}
-use Rattle.std.proofs.lemmas.Int.{to_z-of_z}
-use Rattle.hp_solver.specs.Numbers.{zero_fx}
-use Rattle.hp_settle.specs.Settling.{cut_multiplier, capped, missing, cut_multipliers, pairs_from}
-use Rattle.hp_settle.proofs.SettledSteps.{one_cut_more, one_zero_more, within, the_dual, all_pairs, all_missing}
+use Rattle.std.proofs.Common.{◌≡◌, ◌∙◌, ℕ, ◌<◌, ◌≤◌, ◌+◌, ◌^◌, List, drop, All, ap, sym, subst, arith}
+use Rattle.hp_solver.specs.declared.fixed.Fx.{Fx}
+use Rattle.hp_solver.specs.Duals.{dual_in, not_zero}
+use Rattle.hp_settle.specs.declared.settling.Shares.{Shares}
+use Rattle.hp_settle.specs.Kept.{kept_pairs, left_over}
+use Rattle.hp_settle.specs.Settling.{cut_multipliers, capped, missing, pairs_from}
+use Rattle.hp_settle.proofs.SettledNode.{if_ok}
+use Rattle.hp_settle.proofs.SettledSteps.{kept_shares, left_of_all, places_below}
 use Rattle.hp_settle.proofs.settling.within_target.Goals as goal
-use Rattle.hp_settle.proofs.settling.within_target.Goals.{then-dual-ne0+in_ok-push_pair, else-dual-ne0}
 
-pub loop-k-preserved : goal.loop-k-preserved
-loop-k-preserved c =
-    let l = c.loop-k in
-    let vs = cut_multipliers c.args.duals.now 0 c.args.count in
-    let all = pairs_from 0 (capped c.args.target vs) in
-    let rest = missing c.args.target vs in
-    let new = c.if-dual-ne0 in
-    let there = within c.args.count l.k c.args.duals.now c.front-dual-items.result.now c.front-dual-items.ensures c.loop-k-test.true in
-    let dual = the_dual c.args.count l.k c.args.duals.now c.front-dual-items.result.now c.front-dual-items.ensures zero_fx c.loop-k-test.true in
-    let fits : SFits w128 (get_or c.front-dual-items.result.now l.k zero_fx).0 = search rules in
-    let whole = to_z-of_z w128 (get_or c.front-dual-items.result.now l.k zero_fx).0 fits in
-    elim new.branch [
-      | then-dual-ne0+in_ok-push_pair w ↦ one_cut_more l.pairs new.pairs l.missing new.missing w.share-multiplier.result l.k c.args.count c.args.duals.now all rest there (w.share-multiplier.ensures ∙ ap (λ (n : ℕ). min n l.missing) (w.cut_multiplier.ensures ∙ ap cut_multiplier (whole ∙ sym dual))) (w.pairs-is ∙ w.in_ok-push_pair.ensures) w.missing-is l.invariant
-      | else-dual-ne0 w ↦ one_zero_more l.pairs new.pairs l.missing new.missing l.k c.args.count c.args.duals.now all rest there (dual ∙ sym whole ∙ ap (to_z w128) w.if-dual-ne0.false) w.pairs-is w.missing-is l.invariant
-    ]
+pub shares_of-requires : goal.shares_of-requires
+shares_of-requires c =
+    let is = c.as_slice.ensures ∙ c.in_ok-kept.ensures in
+    let most : 0 + c.args.count ≤ 2 ^ 32 = omega (arith, c.ranges.count.fits) in
+    subst (λ (ps : List (ℕ × Fx)). All (λ (p : ℕ × Fx). p.0 < 2 ^ 32) ps) (sym is) (places_below (dual_in (drop c.args.from c.args.duals.now)) 0 c.args.count (2 ^ 32) most)
 
 pub returns-clause-pairs : goal.returns-clause-pairs
 returns-clause-pairs c =
-    let l = c.loop-k in
-    all_pairs c.args.count l.k c.args.duals.now c.front-dual-items.result.now c.front-dual-items.ensures c.loop-k-test.false l.auto.k-end l.pairs (pairs_from 0 (capped c.args.target (cut_multipliers c.args.duals.now 0 c.args.count))) l.missing l.invariant.0
+    let is = c.as_slice.ensures ∙ c.in_ok-kept.ensures in
+    let all = ap (kept_pairs c.args.target) is ∙ kept_shares (drop c.args.from c.args.duals.now) c.args.target 0 c.args.count in
+    if_ok (λ (found : Shares). found.pairs ≡ kept_pairs c.args.target c.as_slice.result.now) (λ (found : Shares). found.pairs ≡ pairs_from 0 (capped c.args.target (cut_multipliers (drop c.args.from c.args.duals.now) 0 c.args.count))) c.shares_of.result
+    (λ found made. made ∙ all) c.shares_of.ensures.pairs
 
 pub returns-clause-missing : goal.returns-clause-missing
 returns-clause-missing c =
-    let l = c.loop-k in
-    all_missing c.args.count l.k c.args.duals.now c.front-dual-items.result.now c.front-dual-items.ensures c.loop-k-test.false l.auto.k-end l.missing (missing c.args.target (cut_multipliers c.args.duals.now 0 c.args.count)) l.invariant.1
+    let is = c.as_slice.ensures ∙ c.in_ok-kept.ensures in
+    let all = ap (left_over c.args.target) is ∙ left_of_all (drop c.args.from c.args.duals.now) c.args.target 0 c.args.count in
+    if_ok (λ (found : Shares). found.missing ≡ left_over c.args.target c.as_slice.result.now) (λ (found : Shares). found.missing ≡ missing c.args.target (cut_multipliers (drop c.args.from c.args.duals.now) 0 c.args.count)) c.shares_of.result
+    (λ found made. made ∙ all) c.shares_of.ensures.missing
