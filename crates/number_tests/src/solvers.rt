@@ -5,7 +5,9 @@ ghost use Rattle.hp_solver.specs.Proper.{IsProper, IsReference};
 use hp_num::{List, Memory};
 use hp_simplex::{DualSimplex, Table};
 use hp_solver::fixed::ONE;
-use hp_solver::{Answer, Column, Duals, Fx, Kind, Liar, LpRow, Meeting, Program, Solver, StageLp, Zero};
+use hp_solver::{
+    Answer, Column, Duals, Fx, Kind, Liar, LpRow, Meeting, Program, Solver, StageLp, Zero,
+};
 use std::alloc::Global;
 use std::test::Fail;
 
