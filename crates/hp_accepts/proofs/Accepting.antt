@@ -1,10 +1,15 @@
 -- Read accepts the text of a hydro problem, and gives what the plants mean.
-use Rattle.std.proofs.Common.{◌≡◌, ℕ, List, Result, Ok, IfOk, IsOk, is_ok, sym, ap, subst, arith}
+use Rattle.std.proofs.Common.{◌≡◌, ◌↔◌, ℕ, ℤ, List, Result, Ok, IfOk, IsOk, is_ok, sym, ap, subst, ◌∙◌, arith}
 use Rattle.hp_problem.specs.Sealed.{Sealed}
 use Rattle.hp_problem.specs.declared.refusal.Refusal.{Refusal}
 use Rattle.hp_theory.specs.Range.{based}
 use Rattle.hp_accepts.proofs.Based.{base_form}
 use Rattle.hp_sof.specs.Problem.{problem_at}
+use Rattle.hp_theory.specs.Bound.{Under}
+use Rattle.hp_theory.specs.Cost.{policy_cost}
+use Rattle.hp_theory.specs.Fraction.{Fraction, ◌≤ᶠ◌}
+use Rattle.hp_theory.specs.Problem.{Problem, S}
+use Rattle.hp_theory.specs.Tree.{Forest, Policy}
 use Rattle.hp_theory.specs.View.{problem_of}
 use Rattle.hp_plants.specs.declared.plants.Plants.{Plants}
 use Rattle.hp_plants.specs.Described.{IsPlants}
@@ -12,9 +17,16 @@ use Rattle.hp_plants.specs.Plants.{plants_at}
 use Rattle.hp_plants.proofs.Accepted.{then-Ok, Ok-is}
 use Rattle.hp_plants.proofs.Fits.{plants_at-Ok}
 use Rattle.hp_hydro.specs.Made.{problem_of_plants}
+use Rattle.hp_hydro.specs.Plan.{Workable}
+use Rattle.hp_hydro.specs.PlanCost.{plan_cost}
+use Rattle.hp_hydro.specs.Trees.{plan_of, tree_of}
 use Rattle.hp_hydro.specs.Text.{hydro_data, hydro_text, hydro_at}
+use Rattle.hp_hydro.proofs.Costs.{tree_of_cost}
+use Rattle.hp_hydro.proofs.Described.{short}
+use Rattle.hp_hydro.proofs.Equivalent.{tree_of_plan, workable}
 use Rattle.hp_hydro.proofs.Plain.{hydro_plain}
 use Rattle.hp_fields.specs.Fields.{json_at}
+use Rattle.hp_accepts.specs.Plans.{Means, UnderPlans}
 use Rattle.hp_accepts.proofs.Printed.{text_read}
 use Rattle.hp_accepts.proofs.Written.{hydro_fair}
 use Rattle.hp_accepts.proofs.Raws.{node_form, raw_form, raw_read}
@@ -38,12 +50,47 @@ module _ (h : Plants) (i : IsPlants h) where
   base_fits = subst (λ (r : Result Sealed Refusal). IfOk r (λ s. IsOk (based s))) (sym problem_read) (ap is_ok (base_form h i).1)
 
 -- the text that a description gives
-made_of : (bytes text : List ℕ) → hydro_at bytes ≡ Ok text → (h : Plants) × IsPlants h × (hydro_text h ≡ text)
+made_of : (bytes text : List ℕ) → hydro_at bytes ≡ Ok text → (h : Plants) × (plants_at bytes ≡ Ok h) × IsPlants h × (hydro_text h ≡ text)
 unfolding hydro_at
-made_of bytes text e = then-Ok (plants_at bytes) _ text e (λ h is same. (h, plants_at-Ok bytes h is, Ok-is (hydro_text h) text same))
+made_of bytes text e = then-Ok (plants_at bytes) _ text e (λ h is same. (h, is, plants_at-Ok bytes h is, Ok-is (hydro_text h) text same))
 
 pub made_read : (bytes text : List ℕ) → hydro_at bytes ≡ Ok text → IsOk (problem_at text)
-made_read bytes text e = let m = made_of bytes text e in subst (λ (t : List ℕ). IsOk (problem_at t)) m.2 (ap is_ok (problem_read m.0 m.1))
+made_read bytes text e = let m = made_of bytes text e in subst (λ (t : List ℕ). IsOk (problem_at t)) m.3 (ap is_ok (problem_read m.0 m.2))
 
 pub made_based : (bytes text : List ℕ) → hydro_at bytes ≡ Ok text → IfOk (problem_at text) (λ s. IsOk (based s))
-made_based bytes text e = let m = made_of bytes text e in subst (λ (t : List ℕ). IfOk (problem_at t) (λ s. IsOk (based s))) m.2 (base_fits m.0 m.1)
+made_based bytes text e = let m = made_of bytes text e in subst (λ (t : List ℕ). IfOk (problem_at t) (λ s. IsOk (based s))) m.3 (base_fits m.0 m.2)
+
+-- what plants mean is said of the problem that their text gives
+means_of : (bytes text : List ℕ) (h : Plants) (s : Sealed) → IsPlants h → plants_at bytes ≡ Ok h → problem_at text ≡ Ok s → problem_of s ≡ problem_of_plants h → Means bytes text
+means_of bytes text h s i described read same = record {
+  plants = h;
+  problem = s;
+  described = described;
+  read = read;
+  workable = λ units plan. subst (λ (q : Problem). Workable h units plan ↔ Policy q units (tree_of h units plan)) (sym same) (workable h units (short h i) plan);
+  cost = λ units plan. subst (λ (q : Problem). plan_cost h units plan ≡ policy_cost q units (tree_of h units plan)) (sym same) (sym (tree_of_cost h units plan i.some_stages));
+  policy = λ units forest p. tree_of_plan h units (short h i) forest i.some_stages (subst (λ (q : Problem). Policy q units forest) same p);
+}
+
+pub made_means : (bytes text : List ℕ) → hydro_at bytes ≡ Ok text → Means bytes text
+made_means bytes text e =
+    let m = made_of bytes text e in
+    let a = accepted m.0 m.2 in
+    means_of bytes text m.0 a.0 m.2 m.1 (subst (λ (t : List ℕ). problem_at t ≡ Ok a.0) m.3 a.1) a.2
+
+same_sealed : (x y : Sealed) → ◌≡◌ {A = Result Sealed Refusal} (Ok x) (Ok y) → x ≡ y
+same_sealed x y e = cc
+
+-- a bound on each policy is one on each workable plan
+pub made_bound : (bytes text : List ℕ) (s : Sealed) (b : ℤ) → hydro_at bytes ≡ Ok text → problem_at text ≡ Ok s → Under (problem_of s) b → UnderPlans bytes b
+made_bound bytes text s b e read under = λ plants units plan described some works.
+    let m = made_means bytes text e in
+    let least : Fraction = record { up = b; under = S } in
+    let same : m.plants ≡ plants = Ok-is m.plants plants (sym m.described ∙ described) in
+    let this : m.problem ≡ s = same_sealed m.problem s (sym m.read ∙ read) in
+    let tree : Forest = tree_of m.plants units plan in
+    let policy : Policy (problem_of m.problem) units tree = (m.workable units plan).0 (subst (λ (h : Plants). Workable h units plan) (sym same) works) in
+    let bounded : (p : Sealed) → p ≡ s → Policy (problem_of p) units tree → least ≤ᶠ policy_cost (problem_of p) units tree
+    = λ p is f. subst (λ (q : Sealed). least ≤ᶠ policy_cost (problem_of q) units tree) (sym is) (under units tree some (subst (λ (q : Sealed). Policy (problem_of q) units tree) is f)) in
+    let cost : least ≤ᶠ plan_cost m.plants units plan = subst (λ (c : Fraction). least ≤ᶠ c) (sym (m.cost units plan)) (bounded m.problem this policy) in
+    subst (λ (h : Plants). least ≤ᶠ plan_cost h units plan) same cost

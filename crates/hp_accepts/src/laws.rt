@@ -1,11 +1,12 @@
 // The laws over the definitions. Each is the contract of a function with an empty body.
-ghost use Rattle.std.specs.Prelude.{◌≡◌, ◌≤◌, ℕ, List, [], ◌∷◌, ◌++◌, length, Ok, IfOk, IsOk};
+ghost use Rattle.std.specs.Prelude.{◌≡◌, ◌≤◌, ℕ, ℤ, List, [], ◌∷◌, ◌++◌, length, Ok, IfOk, IsOk};
 ghost use Rattle.serde_json.specs.Data.{Data, depth};
 ghost use Rattle.serde_json.specs.Written.{compact_text};
 ghost use Rattle.hp_problem.specs.Sealed.{Sealed};
 ghost use Rattle.hp_fields.specs.Fields.{json_at};
 ghost use Rattle.hp_sof.specs.Problem.{problem_at};
 ghost use Rattle.hp_theory.specs.Range.{based};
+ghost use Rattle.hp_theory.specs.Bound.{Under};
 ghost use Rattle.hp_theory.specs.View.{problem_of};
 ghost use Rattle.hp_plants.specs.declared.plants.Plants.{Plants};
 ghost use Rattle.hp_plants.specs.Described.{IsPlants};
@@ -14,6 +15,7 @@ ghost use Rattle.hp_hydro.specs.Rows.{all_rows};
 ghost use Rattle.hp_hydro.specs.Made.{problem_of_plants};
 ghost use Rattle.hp_hydro.specs.Text.{hydro_text, hydro_at};
 ghost use Rattle.hp_accepts.specs.Fair.{Fair};
+ghost use Rattle.hp_accepts.specs.Plans.{Means, UnderPlans};
 
 /// The compact text of a value, and a newline, is read as the value.
 pub fn text_read()
@@ -34,6 +36,15 @@ pub fn made_accepted()
     ensures problem { (bytes text : List ℕ) → hydro_at bytes ≡ Ok text → IsOk (problem_at text) }
     ensures base_fits { (bytes text : List ℕ) → hydro_at bytes ≡ Ok text
         → IfOk (problem_at text) (λ s. IsOk (based s)) }
+{}
+
+/// What the text that a description gives means for its plans: they are workable exactly where their trees are policies of the
+/// text's problem, at equal cost; and what is at most the cost of each policy of that problem is at most the cost of each
+/// workable plan.
+pub fn made_means()
+    ensures plans { (bytes text : List ℕ) → hydro_at bytes ≡ Ok text → Means bytes text }
+    ensures bound { (bytes text : List ℕ) (s : Sealed) (b : ℤ)
+        → hydro_at bytes ≡ Ok text → problem_at text ≡ Ok s → Under (problem_of s) b → UnderPlans bytes b }
 {}
 
 /// How much a problem that is made of plants may have, each within what the reader allows.

@@ -18,7 +18,8 @@ use Rattle.hp_load.specs.Accepted.{IsSafe}
 use Rattle.hp_report.specs.Report.{base_text, check_text}
 use Rattle.hp_lp.specs.Chained.{Solving}
 use Rattle.hp_run.specs.Causes.{Lacks}
-use Rattle.hp_run.specs.Outcome.{WithBase, based_at, or_refused, checked, report_by, report_at, Checks, IsSoundReport, Reports, status_of_fault}
+use Rattle.hp_run.specs.Outcome.{WithBase, based_at, or_refused, checked, report_by, report_at, Checks, Reports, status_of_fault}
+use Rattle.hp_run.specs.SoundText.{IsSoundReport}
 use Rattle.hp_run.specs.declared.status.Status.{Status}
 use Rattle.hp_run.specs.declared.task.Task.{Task}
 use Rattle.hp_run.specs.declared.task.Task.TheVariants.{Base, Check}

@@ -22,7 +22,8 @@ use Rattle.hp_tree.specs.TooBig.{too_big_of}
 use Rattle.hp_tree.specs.Upper.{IsUpper}
 use Rattle.hp_tree.specs.Verdicts.{OnCost}
 use Rattle.hp_run.specs.Causes.{Lacks}
-use Rattle.hp_run.specs.Outcome.{IsSoundReport, IsTwoSided, Reports, WithBase, based_at, evaluated_for, loaded_within, or_refused, report_at, report_by, report_judged}
+use Rattle.hp_run.specs.Outcome.{Reports, WithBase, based_at, evaluated_for, loaded_within, or_refused, report_at, report_by, report_judged}
+use Rattle.hp_run.specs.SoundText.{IsSoundReport, IsTwoSided}
 use Rattle.hp_run.specs.Loading.{status_of_stage}
 use Rattle.hp_run.specs.declared.status.Status.{Status}
 use Rattle.hp_run.specs.declared.task.Task.TheVariants.{Evaluate}

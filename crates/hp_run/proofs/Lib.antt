@@ -13,3 +13,5 @@ pub mod Evaluated
 pub mod Listed
 pub mod SoundPlanes
 pub mod SoundVerdict
+pub mod Plans
+pub mod AnyStops

@@ -22,7 +22,8 @@ use Rattle.hp_risk.specs.declared.planes.RobustFault.TheVariants as stops
 use Rattle.hp_risk.specs.Planes.{Stops, planes_of}
 use Rattle.hp_risk.specs.Report.{robust_text}
 use Rattle.hp_run.specs.Causes.{Lacks}
-use Rattle.hp_run.specs.Outcome.{IsSoundReport, IsWorst, Reports, WithBase, based_at, listed_at, or_refused, or_status, report_at, report_by, report_planes, robust_for, status_of_fault, with_alternatives, worst_for}
+use Rattle.hp_run.specs.Outcome.{Reports, WithBase, based_at, listed_at, or_refused, or_status, report_at, report_by, report_planes, robust_for, status_of_fault, with_alternatives, worst_for}
+use Rattle.hp_run.specs.SoundText.{IsSoundReport, IsWorst}
 use Rattle.hp_run.specs.Listing.{status_of_planes}
 use Rattle.hp_run.specs.declared.status.Status.{Status}
 use Rattle.hp_run.specs.declared.status.Status.TheVariants.{ProblemRefused, JournalRefused, TooMuch, Range}

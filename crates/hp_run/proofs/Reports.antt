@@ -16,7 +16,8 @@ use Rattle.hp_report.proofs.SoundTraces.{sound_traces}
 use Rattle.hp_fields.specs.Steps.{◌>>=◌}
 use Rattle.hp_problem.specs.declared.refusal.Refusal.{Refusal}
 use Rattle.hp_lp.specs.Chained.{Solving}
-use Rattle.hp_run.specs.Outcome.{IsRefused, Reports, WithBase, listed_at, with_alternatives, based_at, based_of, with_base, or_refused, report_by, report_at, IsSoundReport, SoundText}
+use Rattle.hp_run.specs.Outcome.{IsRefused, Reports, WithBase, listed_at, with_alternatives, based_at, based_of, with_base, or_refused, report_by, report_at}
+use Rattle.hp_run.specs.SoundText.{IsSoundReport, SoundText}
 use Rattle.hp_run.specs.Causes.{Ends, Explains, ExplainsDescribed, ExplainsProblem, ExplainsTask, IsRefuted, Lacks, ReadAll, status_of, status_of_text, expected, expected_of, Completes}
 use Rattle.hp_run.specs.declared.job.Job.{Job}
 use Rattle.hp_run.specs.declared.job.Job.TheVariants.{Plan, Hydro, Generate}

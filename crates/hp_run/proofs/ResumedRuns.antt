@@ -75,7 +75,7 @@ has_base : (p : Sealed) (r : Result (List (List Cut)) (ℕ × ℕ)) (b : WithBas
 has_base p (Ok pools) b h = let e = same_ok (record { problem = p; pools = pools }) b h in (ap (λ (x : WithBase). x.problem) e, ap (λ (x : WithBase). Ok x.pools) e)
 has_base p (Err at) b h = absurd cc
 
-base_parts : (bytes : List ℕ) (b : WithBase) → based_at bytes ≡ Ok b → (is_sealed b.problem ≡ true) × (based b.problem ≡ Ok b.pools)
+pub base_parts : (bytes : List ℕ) (b : WithBase) → based_at bytes ≡ Ok b → (is_sealed b.problem ≡ true) × (based b.problem ≡ Ok b.pools)
 unfolding based_at based_of
 base_parts bytes b h =
     let r = parts (problem_at bytes) based_of b h in
@@ -100,15 +100,15 @@ pub asked_within : (ws : List (String Global)) → IfSome (asked ws) IsJobWithin
 unfolding asked
 asked_within ws = job_within (command_of (texts ws)) (numbers_within (texts ws))
 
-is_title : (digest : List ℕ) (seed : ℕ) (batch : Option ℕ) → length digest ≡ 32 → seed < 2 ^ 64 → IfSome batch (λ b. (1 ≤ b) × (b ≤ 64)) → IsTitle (new_title digest seed batch)
+pub is_title : (digest : List ℕ) (seed : ℕ) (batch : Option ℕ) → length digest ≡ 32 → seed < 2 ^ 64 → IfSome batch (λ b. (1 ≤ b) × (b ≤ 64)) → IsTitle (new_title digest seed batch)
 is_title digest seed None long small h = record { digest = long; seed = small; version = inl (refl, refl) }
 is_title digest seed (Some b) long small h = record { digest = long; seed = small; version = inr (refl, h.0, h.1) }
 
-title_digest : (digest : List ℕ) (seed : ℕ) (batch : Option ℕ) → (new_title digest seed batch).digest ≡ digest
+pub title_digest : (digest : List ℕ) (seed : ℕ) (batch : Option ℕ) → (new_title digest seed batch).digest ≡ digest
 title_digest digest seed None = refl
 title_digest digest seed (Some b) = refl
 
-title_seed : (digest : List ℕ) (seed : ℕ) (batch : Option ℕ) → (new_title digest seed batch).seed ≡ seed
+pub title_seed : (digest : List ℕ) (seed : ℕ) (batch : Option ℕ) → (new_title digest seed batch).seed ≡ seed
 title_seed digest seed None = refl
 title_seed digest seed (Some b) = refl
 
@@ -148,7 +148,7 @@ module _ {Start Chain : Type 0} (v : Solving Start Chain) where
       pub stop : (iterations v p seed count o).stop ≡ whole.stop
       pub all_bytes : grown_journal (sha256 bytes) seed o kept (iterations v p seed count o).lists ≡ journal t (payloads whole.lists) 0 []
 
-    behind : Resumes v p b.pools t batch count j kept o → IsBehind
+    pub behind : Resumes v p b.pools t batch count j kept o → IsBehind
     behind r =
         let d : t.digest ≡ sha256 bytes = title_digest (sha256 bytes) seed batch in
         let s : t.seed ≡ seed = title_seed (sha256 bytes) seed batch in
@@ -163,7 +163,7 @@ module _ {Start Chain : Type 0} (v : Solving Start Chain) where
               (subst (λ (x : ℕ). grown_journal t.digest x o kept (iterations v p x count o).lists ≡ journal t (payloads whole.lists) 0 []) s r.all_bytes);
         }
 
-    load_is : IsBehind → loaded_for bytes b seed batch kept ≡ Ok o
+    pub load_is : IsBehind → loaded_for bytes b seed batch kept ≡ Ok o
     unfolding loaded_for
     load_is r = ap (λ (x : Result (Outcome × List (List Entry)) _). or_status (outcome_of x)) r.loads
 
@@ -176,7 +176,7 @@ module _ {Start Chain : Type 0} (v : Solving Start Chain) where
         let most : max count (length o.bounds) ≡ count = omega (arith, few r) in
         ap (λ x. unless_much x o) (ap (λ (n : ℕ). too_much p n o.batch) most ∙ ap (λ (n : ℕ). too_much p count n) r.batch_is ∙ room)
 
-    ready : IsBehind → too_much p count t.batch ≡ None → ready_for p b.pools (sha256 bytes) seed count batch kept ≡ Ok o
+    pub ready : IsBehind → too_much p count t.batch ≡ None → ready_for p b.pools (sha256 bytes) seed count batch kept ≡ Ok o
     unfolding ready_for
     ready r room = ap (λ (x : Result (Outcome × List (List Entry)) _). or_status (outcome_of x) >>= within_formulas p count) r.loads ∙ fits r room
 

@@ -17,7 +17,8 @@ use Rattle.hp_forward.specs.Given.{Fails, OnNoStage, Refutes}
 use Rattle.hp_report.specs.Traces.{trace_text}
 use Rattle.hp_sim.specs.Tracing.{traces_of}
 use Rattle.hp_run.specs.Causes.{Lacks}
-use Rattle.hp_run.specs.Outcome.{IsReport, IsSoundReport, Reads, ReadsJournal, Reports, Solves, WithBase, based_at, count_of, loaded_within, or_refused, report_at, report_by, report_traced, runs_of, simulated_for, task_for}
+use Rattle.hp_run.specs.Outcome.{Reads, ReadsJournal, Reports, Solves, WithBase, based_at, count_of, loaded_within, or_refused, report_at, report_by, report_traced, runs_of, simulated_for, task_for}
+use Rattle.hp_run.specs.SoundText.{IsReport, IsSoundReport}
 use Rattle.hp_run.specs.Loading.{status_of_stage}
 use Rattle.hp_run.specs.declared.simulating.Scenarios.{Scenarios}
 use Rattle.hp_run.specs.declared.simulating.Scenarios.TheVariants.{Drawn, Stored}

@@ -33,7 +33,8 @@ use Rattle.hp_train.specs.Continuing.{Continued}
 use Rattle.hp_train.specs.Training.{GoOnWith, MineFrom, StandsIn, grown_journal, iterations, title_of, trained, unsettled_in}
 use Rattle.hp_run.specs.Causes.{Lacks}
 use Rattle.hp_run.specs.Journals.{Leaves, LeavesMine, has_trained, is_refusal, status_of}
-use Rattle.hp_run.specs.Outcome.{IsSoundReport, WithBase, Reports, based_at, loaded_for, or_refused, or_status, ready_for, report_at, report_by, report_trained, status_of_stop, trained_for, unless_much, unless_stopped, within_formulas}
+use Rattle.hp_run.specs.Outcome.{WithBase, Reports, based_at, loaded_for, or_refused, or_status, ready_for, report_at, report_by, report_trained, status_of_stop, trained_for, unless_much, unless_stopped, within_formulas}
+use Rattle.hp_run.specs.SoundText.{IsSoundReport}
 use Rattle.hp_run.specs.Training.{ComesOfLoading, IsDead, Refuses, StopsAs, WhenTrained}
 use Rattle.hp_run.specs.declared.status.Status.{Status}
 use Rattle.hp_run.specs.declared.status.Status.TheVariants.{Done, Usage, ReadFault, TooLong, HydroRefused, ProblemRefused, JournalRefused, TooMuch, Range, NoStage, DiskFault, WriteFault, Memory}

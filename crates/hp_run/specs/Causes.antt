@@ -11,7 +11,8 @@ use Rattle.hp_theory.specs.View.{problem_of}
 use Rattle.hp_lp.specs.Chained.{Solving}
 use Rattle.hp_settle.specs.declared.judging.Dead.{Dead}
 use Rattle.hp_settle.specs.Refutation.{NoDecision}
-use Rattle.hp_run.specs.Outcome.{IsRefused, Makes, Reads, ReadsJournal, Reports, Solves, SoundText, WithBase, based_at, report_at}
+use Rattle.hp_run.specs.Outcome.{IsRefused, Makes, Reads, ReadsJournal, Reports, Solves, WithBase, based_at, report_at}
+use Rattle.hp_run.specs.SoundText.{SoundText}
 use Rattle.hp_run.specs.declared.job.Job.{Job}
 use Rattle.hp_run.specs.declared.job.Job.TheVariants.{Plan, Hydro, Generate}
 use Rattle.hp_run.specs.declared.task.Task.{Task}

@@ -37,6 +37,22 @@ is_refusal DiskFault = false
 is_refusal WriteFault = false
 is_refusal Memory = false
 
+-- the statuses of a run that ended before it came to the journal
+abbrev pub precedes_journal : Status → Bool
+precedes_journal Done = false
+precedes_journal Usage = true
+precedes_journal ReadFault = true
+precedes_journal TooLong = true
+precedes_journal (HydroRefused refusal) = true
+precedes_journal (ProblemRefused r) = true
+precedes_journal (JournalRefused r) = false
+precedes_journal (TooMuch t) = false
+precedes_journal (Range k m r) = false
+precedes_journal (NoStage dead) = false
+precedes_journal DiskFault = false
+precedes_journal WriteFault = false
+precedes_journal Memory = false
+
 -- how a report comes to be written, or why there is none
 abbrev pub status_of : {A : Type 0} → Result A Status → Status
 status_of (Ok x) = Done

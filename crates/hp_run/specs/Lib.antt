@@ -2,6 +2,7 @@ pub mod RefusalLines
 pub mod JournalLines
 pub mod Status
 pub mod Words
+pub mod SoundText
 pub mod Outcome
 pub mod Causes
 pub mod TrainingLines
@@ -10,3 +11,5 @@ pub mod Training
 pub mod Loading
 pub mod Listing
 pub mod OwnSolver
+pub mod Run
+pub mod AnyStops

@@ -56,3 +56,7 @@ status_line_text (NoStage dead) = name ++ status_text (NoStage dead) ++ codes "\
 status_line_text DiskFault = name ++ status_text DiskFault ++ codes "\n"
 status_line_text WriteFault = name ++ status_text WriteFault ++ codes "\n"
 status_line_text Memory = name ++ status_text Memory ++ codes "\n"
+
+-- the line where that of a status finds no memory
+unfoldable pub memory_line : List ℕ
+memory_line = codes "hydroplan: memory\n"

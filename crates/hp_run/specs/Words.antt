@@ -1,6 +1,7 @@
 -- What the words of the command line ask for.
-use Rattle.std.specs.Prelude.{◌≤◌, Bool, true, false, List, String, Option, Some, None, IfSome}
+use Rattle.std.specs.Prelude.{◌≤◌, ℕ, Bool, true, false, ◌||◌, List, [], ◌∷◌, String, codes, Option, Some, None, IfSome}
 use Rattle.std.specs.Option.{option_map}
+use Rattle.std.specs.Str.{bytes_eq}
 use Rattle.std.specs.declared.alloc.Global.{Global}
 use Rattle.hp_words.specs.declared.command.Command.{Command}
 use Rattle.hp_words.specs.declared.command.Command.TheVariants as commands
@@ -55,3 +56,20 @@ IfPlanned None P = ⊥
 IfPlanned (Some (Plan task)) P = P task
 IfPlanned (Some Hydro) P = ⊥
 IfPlanned (Some (Generate seed stages reservoirs)) P = ⊥
+
+-- the name of the journal: the second word, and empty where there are fewer
+abbrev pub journal_name : List (List ℕ) → List ℕ
+journal_name [] = []
+journal_name (word ∷ []) = []
+journal_name (word ∷ (name ∷ ws)) = name
+
+-- the journal is written
+abbrev pub writes_journal : List (List ℕ) → Bool
+writes_journal [] = false
+writes_journal (word ∷ ws) = bytes_eq word (codes "train")
+
+-- the program is asked what it is: by one of these words alone
+abbrev pub asks_itself : List (List ℕ) → Bool
+asks_itself [] = false
+asks_itself (word ∷ []) = bytes_eq word (codes "--help") || bytes_eq word (codes "--version")
+asks_itself (word ∷ (next ∷ ws)) = false

@@ -16,7 +16,8 @@ ghost use Rattle.hp_tree.specs.TooBig.{too_big_of};
 ghost use Rattle.hp_tree.specs.Upper.{IsUpper};
 ghost use Rattle.hp_tree.specs.Verdicts.{OnCost};
 ghost use Rattle.hp_run.specs.Causes.{Lacks};
-ghost use Rattle.hp_run.specs.Outcome.{IsSoundReport, Reports, based_at};
+ghost use Rattle.hp_run.specs.Outcome.{Reports, based_at};
+ghost use Rattle.hp_run.specs.SoundText.{IsSoundReport};
 ghost use Rattle.hp_run.specs.declared.task.Task.TheVariants as tasks;
 
 use crate::loading::{load_within, status_of_stage};

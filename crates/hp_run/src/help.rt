@@ -1,4 +1,7 @@
 // What the program says of itself.
+ghost use Rattle.std.specs.Prelude.{◌≡◌, is_some};
+ghost use Rattle.hp_words.specs.Commands.{texts};
+ghost use Rattle.hp_run.specs.Words.{asks_itself};
 
 /// One screen: each command with what it reads and writes, and the numbers of the statuses.
 const HELP: &[u8] =
@@ -29,14 +32,13 @@ docs/GUIDE.md shows how to write a problem and how to read the reports; docs/FOR
 /// The program's name and the versions of what it reads and writes.
 const VERSION: &[u8] = b"hydroplan 1 (problems 1.0, journals 1 and 2)\n";
 
-/// The text that is asked for where the only word is `--help` or `--version`.
-pub(crate) fn own_text(words: &[String]) -> Option<&'static [u8]> {
-    let [word] = words else {
-        return None;
-    };
-    match word.as_str() {
-        "--help" => Some(HELP),
-        "--version" => Some(VERSION),
+/// The text that is asked for, where the only word is `--help` or `--version`.
+pub(crate) fn own_text(words: &[String]) -> Option<&'static [u8]>
+    ensures { is_some result ≡ asks_itself (texts words.now) }
+{
+    match words {
+        [word] if word.as_str() == "--help" => Some(HELP),
+        [word] if word.as_str() == "--version" => Some(VERSION),
         _ => None,
     }
 }

@@ -7,6 +7,7 @@ mod generating;
 mod help;
 mod job;
 mod journal_lines;
+pub mod laws;
 mod loading;
 mod outcome;
 mod planes;

@@ -1,5 +1,5 @@
 // The reports of the tasks.
-ghost use Rattle.std.specs.Prelude.{◌≡◌, ◌≤◌, List, ℕ, IfOk, IfErr, IfSome, Ok, Err, length};
+ghost use Rattle.std.specs.Prelude.{◌≡◌, ◌≤◌, List, ℕ, IfOk, IfErr, IfSome, Ok, Err, length, true};
 ghost use Rattle.hp_fields.specs.Steps.{Gives};
 ghost use Rattle.hp_journal.specs.Causes.{DiskCause};
 ghost use Rattle.hp_load.specs.declared.refusal.LoadFault.TheVariants as faults;
@@ -13,8 +13,9 @@ ghost use Rattle.hp_theory.specs.View.{problem_of};
 ghost use Rattle.hp_theory.specs.declared.cut.Cut.{Cut};
 ghost use Rattle.hp_lp.specs.Chained.{solving};
 ghost use Rattle.hp_run.specs.Causes.{Lacks};
-ghost use Rattle.hp_run.specs.Journals.{KeepsJournal, Leaves, LeavesMine};
-ghost use Rattle.hp_run.specs.Outcome.{based_at, based_of, checked, Checks, IsSoundReport, ReadsJournal, Reports, SoundText, status_of_fault};
+ghost use Rattle.hp_run.specs.Journals.{KeepsJournal, Leaves, LeavesMine, precedes_journal, status_of};
+ghost use Rattle.hp_run.specs.Outcome.{based_at, based_of, checked, Checks, ReadsJournal, Reports, status_of_fault};
+ghost use Rattle.hp_run.specs.SoundText.{IsSoundReport, SoundText};
 ghost use Rattle.hp_run.specs.Words.{IsWithin};
 ghost use Rattle.hp_run.specs.declared.status.Status.TheVariants as statuses;
 ghost use Rattle.hp_run.specs.declared.task.Task.TheVariants as tasks;
@@ -166,6 +167,7 @@ fn report_by<R: Threads + Sync, D: Disk, V: Solver>(
     ensures grown { IfSome (D.store journal.old).reads (λ kept. Leaves (solving (V.started solver.now) (V.begun solver.now) (V.next solver.now)) result bytes.now kept (D.store journal.new) task) }
     ensures any_moment { IfSome (D.store journal.old).reads (λ kept. LeavesMine (solving (V.started solver.now) (V.begun solver.now) (V.next solver.now)) bytes.now kept (D.store journal.old) (D.store journal.new) task) }
     ensures stays { KeepsJournal task result → Stays (D.store journal.old) (D.store journal.new) }
+    ensures refused { precedes_journal (status_of result) ≡ true → journal.new ≡ journal.old }
     ensures untouched { ¬ (ReadsJournal task) → journal.new ≡ journal.old }
     ensures later { D.faults journal.old ≤ D.faults journal.new }
 {
@@ -205,6 +207,7 @@ pub(crate) fn report_of<R: Threads + Sync, D: Disk, V: Solver>(
     ensures grown { IfSome (D.store journal.old).reads (λ kept. Leaves (solving (V.started solver.now) (V.begun solver.now) (V.next solver.now)) result bytes.now kept (D.store journal.new) task) }
     ensures any_moment { IfSome (D.store journal.old).reads (λ kept. LeavesMine (solving (V.started solver.now) (V.begun solver.now) (V.next solver.now)) bytes.now kept (D.store journal.old) (D.store journal.new) task) }
     ensures stays { KeepsJournal task result → Stays (D.store journal.old) (D.store journal.new) }
+    ensures refused { precedes_journal (status_of result) ≡ true → journal.new ≡ journal.old }
     ensures untouched { ¬ (ReadsJournal task) → journal.new ≡ journal.old }
     ensures later { D.faults journal.old ≤ D.faults journal.new }
 {

@@ -1,12 +1,14 @@
 // The worst of the weights that a problem lists.
-ghost use Rattle.std.specs.Prelude.{◌≡◌, ◌≤◌, List, Ok, IfOk, IfErr};
+ghost use Rattle.std.specs.Prelude.{◌≡◌, ◌≤◌, List, Ok, IfOk, IfErr, true};
 ghost use Rattle.hp_outside.specs.Disks.{Stays};
 ghost use Rattle.hp_sof.specs.Problem.{problem_at};
 ghost use Rattle.hp_theory.specs.Range.{based};
 ghost use Rattle.hp_theory.specs.declared.cut.Cut.{Cut};
 ghost use Rattle.hp_lp.specs.Chained.{solving};
 ghost use Rattle.hp_run.specs.Causes.{Lacks};
-ghost use Rattle.hp_run.specs.Outcome.{IsSoundReport, Reports, based_at};
+ghost use Rattle.hp_run.specs.Journals.{precedes_journal, status_of};
+ghost use Rattle.hp_run.specs.Outcome.{Reports, based_at};
+ghost use Rattle.hp_run.specs.SoundText.{IsSoundReport};
 ghost use Rattle.hp_run.specs.Listing.{status_of_planes};
 ghost use Rattle.hp_run.specs.declared.task.Task.TheVariants as tasks;
 
@@ -56,6 +58,7 @@ pub(crate) fn report_robust<D: Disk, V: Solver>(
     ensures report { IfOk result (λ v. Reports (solving (V.started solver.now) (V.begun solver.now) (V.next solver.now)) tasks.Robust (D.store journal.old).reads bytes.now (Ok v.items)) }
     ensures sound { IfOk result (λ v. (cuts : List (List Cut)) × IsSoundReport tasks.Robust bytes.now problem.now cuts v.items) }
     ensures lacks { IfErr result (λ s. Lacks (solving (V.started solver.now) (V.begun solver.now) (V.next solver.now)) tasks.Robust (D.store journal.old).reads (D.faults journal.old) (D.faults journal.new) bytes.now s) }
+    ensures refused { precedes_journal (status_of result) ≡ true → journal.new ≡ journal.old }
     ensures stays { Stays (D.store journal.old) (D.store journal.new) }
     ensures later { D.faults journal.old ≤ D.faults journal.new }
 {

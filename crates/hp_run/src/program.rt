@@ -1,15 +1,16 @@
 // The program over the objects that stand for the world outside.
-ghost use Rattle.std.specs.Prelude.{◌≡◌};
+ghost use Rattle.std.specs.Prelude.{◌≡◌, ◌⊎◌, IfOk};
 ghost use Rattle.std.specs.Process.{exit_status};
-ghost use Rattle.hp_run.specs.Causes.{Explains, ends};
+ghost use Rattle.hp_words.specs.Commands.{texts};
 ghost use Rattle.hp_run.specs.OwnSolver.{own_solver};
+ghost use Rattle.hp_run.specs.Run.{Answers, IsRun, RunsOver, SaysLine, devices, journal_of, telling};
 ghost use Rattle.hp_run.specs.Status.{number_of};
-ghost use Rattle.hp_run.specs.Words.{asked};
+ghost use Rattle.hp_run.specs.Words.{asked, journal_name, writes_journal};
 
 use crate::help::own_text;
 use crate::status::{Status, number, status_line};
 use crate::top::run;
-use crate::writing::put;
+use crate::writing::{put, put_front};
 use hp_num::{Memory, Name};
 use hp_outside::{Disk, FileDisk, Lock, Obstacle, Sink, Source, StdSink, StdSource};
 use std::alloc::Global;
@@ -22,20 +23,28 @@ use std::thread::Threads;
 
 const MEMORY_LINE: &[u8] = b"hydroplan: memory\n";
 
-/// Writes the line of a status, where it has one; where the line itself finds no memory, the line of `Memory`. Gives the
-/// status's number as the exit status.
-fn ended<E: Write>(alloc: Global, status: &Status, errors: &mut E) -> ExitCode
-    ensures { exit_status result ≡ number_of status.now }
+// Writes the line of a status, where it has one; where the line itself finds no memory, the line of `Memory`.
+#[tactic(auto, unfolding(crate::specs::Status::memory_line))]
+fn write_line<E: Write>(alloc: Global, status: &Status, errors: &mut E)
+    ensures { SaysLine (E.contents errors.old) (E.contents errors.new) status.now }
 {
-    let _ = match status_line(alloc, status) {
-        Ok(line) => errors.write_all(line.as_slice()),
-        Err(_) => errors.write_all(MEMORY_LINE),
-    };
+    match status_line(alloc, status) {
+        Ok(line) => put_front(errors, line.as_slice()),
+        Err(_) => put_front(errors, MEMORY_LINE),
+    }
+}
+
+// Writes the line of a status, and gives its number as the exit status.
+fn ended<E: Write>(alloc: Global, status: &Status, errors: &mut E) -> ExitCode
+    ensures number { exit_status result ≡ number_of status.now }
+    ensures line { SaysLine (E.contents errors.old) (E.contents errors.new) status.now }
+{
+    write_line(alloc, status, errors);
     ExitCode::from(number(status))
 }
 
 /// Does what the words say, as `run`, and writes the line of a status other than Done to `errors`. The exit status is the
-/// number of a status that explains what became of the source, the disk and the sink.
+/// number of the status with which that run ended, and `errors` took a front of its line.
 pub fn execute<R: Threads + Sync, I: Source, D: Disk, O: Sink, E: Write>(
     rt: &R,
     alloc: Global,
@@ -45,7 +54,9 @@ pub fn execute<R: Threads + Sync, I: Source, D: Disk, O: Sink, E: Write>(
     out: &mut O,
     errors: &mut E,
 ) -> ExitCode
-    ensures { (status : Status) × (exit_status result ≡ number_of status) × Explains own_solver (asked words.now) (ends I.left I.faults D.store D.faults O.taken O.faults problem.old problem.new journal.old journal.new out.old out.new) status }
+    ensures { (status : Status) × (exit_status result ≡ number_of status)
+        × IsRun own_solver (asked words.now) (telling I.left I.faults D.store D.faults O.taken O.faults) (devices problem.old journal.old out.old) (devices problem.new journal.new out.new) status
+        × SaysLine (E.contents errors.old) (E.contents errors.new) status }
 {
     let status = run(rt, alloc, words, problem, journal, out);
     ended(alloc, &status, errors)
@@ -66,24 +77,43 @@ fn words_given<R: Env + AllocGlobal>(rt: &R) -> Result<Vec<String>, Status> {
     Ok(words)
 }
 
-/// The second word, or nothing where there are fewer.
-fn journal_name(alloc: Global, words: &[String]) -> Result<Name, Memory> {
-    match words.get(1) {
-        Some(word) => Name::new(alloc, word.as_str()),
-        None => Name::new(alloc, ""),
+// The name of the journal: the second word, and empty where there are fewer.
+fn journal_name(alloc: Global, words: &[String]) -> Result<Name, Memory>
+    ensures { IfOk result (λ name. name ≡ journal_name (texts words.now)) }
+{
+    match words {
+        [_, name, ..] => Name::new(alloc, name.as_str()),
+        _ => Name::new(alloc, ""),
     }
 }
 
-/// Whether the words ask for a journal that is written.
-fn writes_journal(words: &[String]) -> bool {
-    match words.first() {
-        Some(word) => word.as_str() == "train",
-        None => false,
+// Tells whether the journal is written.
+fn writes_journal(words: &[String]) -> bool
+    ensures { result ≡ writes_journal (texts words.now) }
+{
+    match words {
+        [word, ..] => word.as_str() == "train",
+        [] => false,
     }
+}
+
+/// The journal: the file that the second word names, opened for writing exactly where the first word is `train`. [`Memory`]
+/// where memory was refused.
+fn journal_of<'a, R: Files>(
+    rt: &'a R,
+    alloc: Global,
+    words: &[String],
+) -> Result<FileDisk<'a, R>, Memory>
+    ensures { IfOk result (λ disk. disk ≡ journal_of (texts words.now)) }
+{
+    let name = journal_name(alloc, words)?;
+    Ok(FileDisk::at(rt, name, writes_journal(words)))
 }
 
 /// Writes a text of the program's own.
-fn show<O: Sink>(out: &mut O, text: &[u8]) -> Status {
+fn show<O: Sink>(out: &mut O, text: &[u8]) -> Status
+    ensures { (result ≡ Status.Done) ⊎ (result ≡ Status.WriteFault) }
+{
     match put(out, text) {
         Ok(()) => Status::Done,
         Err(_) => Status::WriteFault,
@@ -128,10 +158,11 @@ where
     I: Read,
     O: Write,
     E: Write,
+    ensures { (status : Status) × (exit_status result ≡ number_of status)
+        × ((status ≡ Status.Memory) ⊎ RunsOver words.now problem.old problem.new out.old out.new status) }
 {
-    match journal_name(rt.alloc(), words) {
-        Ok(name) => {
-            let mut journal = FileDisk::at(rt, name, writes_journal(words));
+    match journal_of(rt, rt.alloc(), words) {
+        Ok(mut journal) => {
             let end = execute(rt, rt.alloc(), words, problem, &mut journal, out, errors);
             write_obstacle(journal.obstacle(), errors);
             end
@@ -154,6 +185,7 @@ where
     I: Read,
     O: Write,
     E: Write,
+    ensures { (status : Status) × (exit_status result ≡ number_of status) × Answers words.now problem.old problem.new out.old out.new status }
 {
     match own_text(words) {
         Some(text) => ended(rt.alloc(), &show(out, text), errors),
@@ -171,6 +203,7 @@ where
     I: Read + Drop,
     O: Write + Drop,
     E: Write,
+    ensures { (status : Status) × (exit_status result ≡ number_of status) }
 {
     let Ok(_streams) = with_streams(rt) else {
         return ended(rt.alloc(), &Status::WriteFault, errors);

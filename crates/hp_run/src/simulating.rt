@@ -9,7 +9,8 @@ ghost use Rattle.hp_lp.specs.Chained.{solving};
 ghost use Rattle.hp_forward.specs.Given.{Gives, OnNoStage, Refutes};
 ghost use Rattle.hp_sim.specs.Tracing.{AreKnown, traces_of};
 ghost use Rattle.hp_run.specs.Causes.{Lacks};
-ghost use Rattle.hp_run.specs.Outcome.{IsSoundReport, Reports, based_at, count_of, runs_of, task_for};
+ghost use Rattle.hp_run.specs.Outcome.{Reports, based_at, count_of, runs_of, task_for};
+ghost use Rattle.hp_run.specs.SoundText.{IsSoundReport};
 
 use crate::loading::{load_within, status_of_stage};
 use crate::outcome::status_of_fault;

@@ -3,9 +3,10 @@ ghost use Rattle.std.specs.Prelude.{◌≡◌, Some, IfSome, false, true};
 ghost use Rattle.hp_outside.specs.Disks.{Stays};
 ghost use Rattle.hp_lp.specs.Chained.{solving};
 ghost use Rattle.hp_run.specs.Causes.{Completes, Explains, ExplainsTask, Sounds, ends, writes_nothing};
-ghost use Rattle.hp_run.specs.Journals.{Grows, IsResumed, LeavesMine, OfTask, OnlyReads, TaskOnlyReads};
+ghost use Rattle.hp_run.specs.Journals.{Grows, IsResumed, LeavesMine, OfTask, OnlyReads, TaskOnlyReads, precedes_journal};
 ghost use Rattle.hp_run.specs.Outcome.{ReadsJournal};
 ghost use Rattle.hp_run.specs.OwnSolver.{own_solver};
+ghost use Rattle.hp_run.specs.Run.{Describes, IsRun, devices, telling};
 ghost use Rattle.hp_run.specs.Words.{IfPlanned, IsWithin, asked, reads_problem};
 
 use crate::describing::write_described;
@@ -30,13 +31,8 @@ use std::thread::Threads;
 /// description of hydro plants, and writes the problem that it means. `gen` reads nothing, and writes a generated problem.
 /// Other words are Usage.
 ///
-/// `cause` says what each status tells of the words, the source, the disk and the sink; `complete` which status comes where
-/// no device fails; `sound` that each cut and each bound in what was written hold for every decision tree and every policy,
-/// in any fraction of a unit, over any disk and for every solver, and that the problem of a description is the one that is
-/// defined, and like a generated one accepted; `unwritten`,
-/// `unread`, `journal` and `journal_unread` what is left as it was; `grown` what training leaves of the journal; `any_moment`
-/// what a crash at any moment leaves of it; and `resumed` that training which was stopped and is resumed leaves and prints
-/// what unstopped training does.
+/// `IsRun` has a name and a sentence for each thing that is promised: what each status tells, and which comes; that what was
+/// written is sound; what is left as it was; and what becomes of the journal.
 pub fn run_with<R: Threads + Sync, I: Source, D: Disk, O: Sink, V: Solver>(
     rt: &R,
     alloc: Global,
@@ -46,20 +42,9 @@ pub fn run_with<R: Threads + Sync, I: Source, D: Disk, O: Sink, V: Solver>(
     out: &mut O,
     solver: &V,
 ) -> Status
-    ensures cause { Explains (solving (V.started solver.now) (V.begun solver.now) (V.next solver.now)) (asked words.now) (ends I.left I.faults D.store D.faults O.taken O.faults problem.old problem.new journal.old journal.new out.old out.new) result }
-    ensures complete { Completes (solving (V.started solver.now) (V.begun solver.now) (V.next solver.now)) (asked words.now) (ends I.left I.faults D.store D.faults O.taken O.faults problem.old problem.new journal.old journal.new out.old out.new) result }
-    ensures sound { Sounds (asked words.now) (ends I.left I.faults D.store D.faults O.taken O.faults problem.old problem.new journal.old journal.new out.old out.new) result }
-    ensures unwritten { writes_nothing result ≡ true → out.new ≡ out.old }
-    ensures unread { reads_problem (asked words.now) ≡ false → problem.new ≡ problem.old }
-
-    // The journal.
-    ensures journal { OnlyReads (asked words.now) result → Stays (D.store journal.old) (D.store journal.new) }
-    ensures journal_unread { ¬ (IfPlanned (asked words.now) ReadsJournal) → journal.new ≡ journal.old }
-    ensures grown { OfTask (I.left problem.old) (D.store journal.old).reads (asked words.now) (λ bytes kept. Grows (solving (V.started solver.now) (V.begun solver.now) (V.next solver.now)) result bytes kept (D.store journal.new)) }
-    ensures any_moment { OfTask (I.left problem.old) (D.store journal.old).reads (asked words.now) (λ bytes kept. LeavesMine (solving (V.started solver.now) (V.begun solver.now) (V.next solver.now)) bytes kept (D.store journal.old) (D.store journal.new)) }
-    ensures resumed { OfTask (I.left problem.old) (D.store journal.old).reads (asked words.now) (λ bytes kept. IsResumed (solving (V.started solver.now) (V.begun solver.now) (V.next solver.now)) result bytes kept (D.store journal.new) (O.taken out.old) (O.taken out.new)) }
+    ensures { IsRun (solving (V.started solver.now) (V.begun solver.now) (V.next solver.now)) (asked words.now) (telling I.left I.faults D.store D.faults O.taken O.faults) (devices problem.old journal.old out.old) (devices problem.new journal.new out.new) result }
 {
-    act(rt, alloc, words, problem, journal, out, solver)
+    acted(rt, alloc, words, problem, journal, out, solver)
 }
 
 /// Does what the words say, as [`run_with`] by the warm simplex.
@@ -71,18 +56,7 @@ pub fn run<R: Threads + Sync, I: Source, D: Disk, O: Sink>(
     journal: &mut D,
     out: &mut O,
 ) -> Status
-    ensures cause { Explains own_solver (asked words.now) (ends I.left I.faults D.store D.faults O.taken O.faults problem.old problem.new journal.old journal.new out.old out.new) result }
-    ensures complete { Completes own_solver (asked words.now) (ends I.left I.faults D.store D.faults O.taken O.faults problem.old problem.new journal.old journal.new out.old out.new) result }
-    ensures sound { Sounds (asked words.now) (ends I.left I.faults D.store D.faults O.taken O.faults problem.old problem.new journal.old journal.new out.old out.new) result }
-    ensures unwritten { writes_nothing result ≡ true → out.new ≡ out.old }
-    ensures unread { reads_problem (asked words.now) ≡ false → problem.new ≡ problem.old }
-
-    // The journal.
-    ensures journal { OnlyReads (asked words.now) result → Stays (D.store journal.old) (D.store journal.new) }
-    ensures journal_unread { ¬ (IfPlanned (asked words.now) ReadsJournal) → journal.new ≡ journal.old }
-    ensures grown { OfTask (I.left problem.old) (D.store journal.old).reads (asked words.now) (λ bytes kept. Grows own_solver result bytes kept (D.store journal.new)) }
-    ensures any_moment { OfTask (I.left problem.old) (D.store journal.old).reads (asked words.now) (λ bytes kept. LeavesMine own_solver bytes kept (D.store journal.old) (D.store journal.new)) }
-    ensures resumed { OfTask (I.left problem.old) (D.store journal.old).reads (asked words.now) (λ bytes kept. IsResumed own_solver result bytes kept (D.store journal.new) (O.taken out.old) (O.taken out.new)) }
+    ensures { IsRun own_solver (asked words.now) (telling I.left I.faults D.store D.faults O.taken O.faults) (devices problem.old journal.old out.old) (devices problem.new journal.new out.new) result }
 {
     run_with(rt, alloc, words, problem, journal, out, &WarmSimplex)
 }
@@ -96,21 +70,38 @@ pub fn run_safe<R: Threads + Sync, D: Disk, O: Sink>(
     journal: &mut D,
     out: &mut O,
 ) -> Status
-    ensures cause { Explains own_solver (asked words.now) (ends (λ s. Some s) (λ s. 0) D.store D.faults O.taken O.faults problem.old problem.new journal.old journal.new out.old out.new) result }
-    ensures complete { Completes own_solver (asked words.now) (ends (λ s. Some s) (λ s. 0) D.store D.faults O.taken O.faults problem.old problem.new journal.old journal.new out.old out.new) result }
-    ensures sound { Sounds (asked words.now) (ends (λ s. Some s) (λ s. 0) D.store D.faults O.taken O.faults problem.old problem.new journal.old journal.new out.old out.new) result }
+    ensures run { IsRun own_solver (asked words.now) (telling (λ s. Some s) (λ s. 0) D.store D.faults O.taken O.faults) (devices problem.old journal.old out.old) (devices problem.new journal.new out.new) result }
     ensures safe { ¬ (result ≡ Status.ReadFault) }
+{
+    run(rt, alloc, words, problem, journal, out)
+}
+
+// The same, promise by promise.
+fn acted<R: Threads + Sync, I: Source, D: Disk, O: Sink, V: Solver>(
+    rt: &R,
+    alloc: Global,
+    words: &[String],
+    problem: &mut I,
+    journal: &mut D,
+    out: &mut O,
+    solver: &V,
+) -> Status
+    ensures cause { Explains (solving (V.started solver.now) (V.begun solver.now) (V.next solver.now)) (asked words.now) (ends I.left I.faults D.store D.faults O.taken O.faults problem.old problem.new journal.old journal.new out.old out.new) result }
+    ensures complete { Completes (solving (V.started solver.now) (V.begun solver.now) (V.next solver.now)) (asked words.now) (ends I.left I.faults D.store D.faults O.taken O.faults problem.old problem.new journal.old journal.new out.old out.new) result }
+    ensures sound { Sounds (asked words.now) (ends I.left I.faults D.store D.faults O.taken O.faults problem.old problem.new journal.old journal.new out.old out.new) result }
+    ensures described { Describes (asked words.now) (ends I.left I.faults D.store D.faults O.taken O.faults problem.old problem.new journal.old journal.new out.old out.new) result }
     ensures unwritten { writes_nothing result ≡ true → out.new ≡ out.old }
     ensures unread { reads_problem (asked words.now) ≡ false → problem.new ≡ problem.old }
 
     // The journal.
     ensures journal { OnlyReads (asked words.now) result → Stays (D.store journal.old) (D.store journal.new) }
     ensures journal_unread { ¬ (IfPlanned (asked words.now) ReadsJournal) → journal.new ≡ journal.old }
-    ensures grown { OfTask (Some problem.old) (D.store journal.old).reads (asked words.now) (λ bytes kept. Grows own_solver result bytes kept (D.store journal.new)) }
-    ensures any_moment { OfTask (Some problem.old) (D.store journal.old).reads (asked words.now) (λ bytes kept. LeavesMine own_solver bytes kept (D.store journal.old) (D.store journal.new)) }
-    ensures resumed { OfTask (Some problem.old) (D.store journal.old).reads (asked words.now) (λ bytes kept. IsResumed own_solver result bytes kept (D.store journal.new) (O.taken out.old) (O.taken out.new)) }
+    ensures journal_later { precedes_journal result ≡ true → journal.new ≡ journal.old }
+    ensures grown { OfTask (I.left problem.old) (D.store journal.old).reads (asked words.now) (λ bytes kept. Grows (solving (V.started solver.now) (V.begun solver.now) (V.next solver.now)) result bytes kept (D.store journal.new)) }
+    ensures any_moment { OfTask (I.left problem.old) (D.store journal.old).reads (asked words.now) (λ bytes kept. LeavesMine (solving (V.started solver.now) (V.begun solver.now) (V.next solver.now)) bytes kept (D.store journal.old) (D.store journal.new)) }
+    ensures resumed { OfTask (I.left problem.old) (D.store journal.old).reads (asked words.now) (λ bytes kept. IsResumed (solving (V.started solver.now) (V.begun solver.now) (V.next solver.now)) result bytes kept (D.store journal.new) (O.taken out.old) (O.taken out.new)) }
 {
-    run(rt, alloc, words, problem, journal, out)
+    act(rt, alloc, words, problem, journal, out, solver)
 }
 
 fn act<R: Threads + Sync, I: Source, D: Disk, O: Sink, V: Solver>(
@@ -129,6 +120,7 @@ fn act<R: Threads + Sync, I: Source, D: Disk, O: Sink, V: Solver>(
     // The journal.
     ensures journal { OnlyReads (asked words.now) result → Stays (D.store journal.old) (D.store journal.new) }
     ensures journal_unread { ¬ (IfPlanned (asked words.now) ReadsJournal) → journal.new ≡ journal.old }
+    ensures journal_later { precedes_journal result ≡ true → journal.new ≡ journal.old }
     ensures grown { OfTask (I.left problem.old) (D.store journal.old).reads (asked words.now) (λ bytes kept. Grows (solving (V.started solver.now) (V.begun solver.now) (V.next solver.now)) result bytes kept (D.store journal.new)) }
     ensures any_moment { OfTask (I.left problem.old) (D.store journal.old).reads (asked words.now) (λ bytes kept. LeavesMine (solving (V.started solver.now) (V.begun solver.now) (V.next solver.now)) bytes kept (D.store journal.old) (D.store journal.new)) }
 {
@@ -163,6 +155,7 @@ fn plan<R: Threads + Sync, I: Source, D: Disk, O: Sink, V: Solver>(
     // The journal.
     ensures journal { TaskOnlyReads task result → Stays (D.store journal.old) (D.store journal.new) }
     ensures journal_unread { ¬ (ReadsJournal task) → journal.new ≡ journal.old }
+    ensures journal_later { precedes_journal result ≡ true → journal.new ≡ journal.old }
     ensures grown { IfSome (I.left problem.old) (λ bytes. IfSome (D.store journal.old).reads (λ kept. Grows (solving (V.started solver.now) (V.begun solver.now) (V.next solver.now)) result bytes kept (D.store journal.new) task)) }
     ensures any_moment { IfSome (I.left problem.old) (λ bytes. IfSome (D.store journal.old).reads (λ kept. LeavesMine (solving (V.started solver.now) (V.begun solver.now) (V.next solver.now)) bytes kept (D.store journal.old) (D.store journal.new) task)) }
 {

@@ -22,7 +22,8 @@ ghost use Rattle.hp_train.specs.Training.{CanTrain, GoOnWith, MineFrom, StandsIn
 ghost use Rattle.hp_report.specs.Report.{train_text};
 ghost use Rattle.hp_run.specs.Causes.{Lacks};
 ghost use Rattle.hp_run.specs.Journals.{Grows, LeavesMine, is_refusal};
-ghost use Rattle.hp_run.specs.Outcome.{IsSoundReport, Reports, based_at, loaded_for, ready_for};
+ghost use Rattle.hp_run.specs.Outcome.{Reports, based_at, loaded_for, ready_for};
+ghost use Rattle.hp_run.specs.SoundText.{IsSoundReport};
 ghost use Rattle.hp_run.specs.Training.{ComesOfLoading, IsDead, Refuses, StopsAs, WhenTrained};
 ghost use Rattle.hp_run.specs.declared.status.Status.TheVariants as statuses;
 ghost use Rattle.hp_run.specs.declared.task.Task.TheVariants as tasks;

@@ -69,7 +69,9 @@ module _ (old mid new : Store) (at : ℕ) (lists : List (List Entry)) (es : List
   moment_more leaves = told old.reads (λ bytes reads t ps j same goes.
       let e = known (EndsShut at) old.reads bytes reads ends in
       let k : ℕ = j + length (payloads lists) in
-      let parts = parted [] j ps (payloads lists) (spell es) (payloads rest) goes.0 (goes.1 ∙ payloads-append lists (es ∷ rest)) in
+      let later : List (List ℕ) = goes.1 in
+      let parts = parted [] j ps (payloads lists) (spell es) (payloads rest ++ later) goes.0
+      (goes.2 ∙ ap (λ (qs : List (List ℕ)). qs ++ later) (payloads-append lists (es ∷ rest)) ∙ append_assoc (payloads lists) (payloads (es ∷ rest)) later) in
       let so_far = known (λ b. (t : Title) (ps : List (List ℕ)) (j : ℕ) → b ≡ journal t (take j ps) 0 [] → GoOnWith j ps (lists ++ es ∷ rest) → LeavesOnly old mid (GrownFrom t ps j)) old.reads bytes reads has.moment t ps j same goes in
       let now : mid.reads ≡ Some (behind at lists bytes) = mapped old.reads mid.reads (behind at lists) bytes reads has.reads in
       let run = known (λ b. (t : Title) (ps : List (List ℕ)) (j : ℕ) → j < length ps → b ≡ journal t (take j ps) 0 [] → body ≡ body_of (get_or ps j []) → LeavesOnly mid new (GrownFrom t ps j)) mid.reads (behind at lists bytes) now leaves t ps k parts.below (behind_journal t ps j at bytes lists e same parts.front) (is ∙ ap body_of (sym parts.here)) in

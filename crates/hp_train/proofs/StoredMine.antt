@@ -3,7 +3,7 @@
 use Rattle.std.proofs.Common.{◌≡◌, ◌≢◌, ◌∙◌, ℕ, zero, suc, ◌<◌, ◌≤◌, Bool, true, false, List, [], ◌∷◌, ◌++◌, length, take, drop, get_or, Option, Some, if◌then◌else◌, refl, sym, ap, subst, append_assoc, length-append, arith}
 use Rattle.std.specs.Int.{w32, to_be_bytes}
 use Rattle.std.proofs.lemmas.Bool.Decides.{nat_tests}
-use Rattle.std.proofs.lemmas.List.{drop_at, get_or-take, length-map, length-take}
+use Rattle.std.proofs.lemmas.List.{append-nil, drop_at, get_or-take, length-map, length-take}
 use Rattle.hp_theory.specs.declared.cut.Cut.{Cut}
 use Rattle.hp_cut.specs.declared.entry.Entry.{Entry}
 use Rattle.hp_record.specs.Spelling.{spell}
@@ -179,5 +179,6 @@ more_goes_on lists more =
     let parts : payloads (lists ++ more) ≡ payloads lists ++ payloads more = payloads-append lists more in
     let count : length (payloads lists) ≡ length lists = length-map lists spell in (
       omega (arith, ap (λ (ps : List (List ℕ)). length ps) parts, length-append (payloads lists) (payloads more), count),
-      ap (λ (ps : List (List ℕ)). drop (length lists) ps) parts ∙ drop_at (payloads lists) (payloads more) (length lists) count,
+      [],
+      ap (λ (ps : List (List ℕ)). drop (length lists) ps) parts ∙ drop_at (payloads lists) (payloads more) (length lists) count ∙ sym (append-nil (payloads more)),
     )

@@ -87,9 +87,9 @@ pub data StandsIn (t : Title) (o : Outcome) (ps : List (List ℕ)) (j : ℕ) (by
 abbrev pub MineFrom : Title → List (List ℕ) → ℕ → List ℕ → Type 0
 MineFrom t ps j bytes = (k : ℕ) × (j ≤ k) × Mine t ps k bytes
 
--- from the number j on these payloads are those of the lists
+-- from the number j on these payloads are those of the lists, and perhaps more behind them
 abbrev pub GoOnWith : ℕ → List (List ℕ) → List (List Entry) → Type 0
-GoOnWith j ps lists = (j ≤ length ps) × (drop j ps ≡ payloads lists)
+GoOnWith j ps lists = (j ≤ length ps) × (more : List (List ℕ)) × (drop j ps ≡ payloads lists ++ more)
 
 -- the fault at which the iterations stop, if they do; a fault of the disk and want of memory are free
 abbrev pub StopsAs : {A : Type 0} → Result A TrainFault → Option SweepFault → Type 0

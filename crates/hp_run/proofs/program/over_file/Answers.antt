@@ -1,0 +1,23 @@
+use Rattle.std.proofs.Common.{inl, inr, refl, subst}
+use Rattle.hp_outside.specs.Counted.{CountedFile}
+use Rattle.hp_run.specs.OwnSolver.{own_solver}
+use Rattle.hp_run.specs.Run.{IsRun, devices, telling_counts}
+use Rattle.hp_run.specs.Words.{asked}
+use Rattle.hp_run.specs.declared.status.Status.TheVariants.{Memory}
+use Rattle.hp_run.proofs.program.over_file.Goals as goal
+
+-- the journal that the run began with is the one that the words name
+pub returns-in-Ok : goal.returns-in-Ok
+returns-in-Ok g c =
+    let run = c.execute-end in (
+      run.ensures.0,
+      run.ensures.1,
+      inr (
+        run.new.journal,
+        subst (λ (d : CountedFile). IsRun own_solver (asked c.args.words.now) (telling_counts _ _) (devices c.args.problem.now d c.args.out.now) (devices run.new.problem run.new.journal run.new.out) run.ensures.0)
+            c.in-Ok.ensures run.ensures.2,
+      ),
+    )
+
+pub returns-in-Err : goal.returns-in-Err
+returns-in-Err g c = (Memory, c.ended.ensures.number, inl refl)

@@ -1,0 +1,115 @@
+-- What a run is: one record, with a name for each thing that is promised.
+use Rattle.std.specs.Prelude.{◌≡◌, ◌⊎◌, ℕ, ℤ, true, false, List, String, ◌++◌, codes, take, All, Option, None, Some, IfSome, MatchBool, ⊤}
+use Rattle.std.specs.declared.alloc.Global.{Global}
+use Rattle.std.specs.Io.KnownBytes.{Appends}
+use Rattle.hp_outside.specs.Counted.{Counted, CountedFile}
+use Rattle.hp_outside.specs.Disks.{Store, Stays, untold}
+use Rattle.hp_lp.specs.Chained.{Solving}
+use Rattle.hp_run.specs.Causes.{Completes, Ends, Explains, IfWritten, Sounds, ends, writes_nothing}
+use Rattle.hp_run.specs.Journals.{Grows, IsResumed, LeavesMine, OfTask, OnlyReads, precedes_journal}
+use Rattle.hp_accepts.specs.Plans.{Means, UnderPlans}
+use Rattle.hp_report.specs.Report.{word}
+use Rattle.hp_report.specs.SoundLines.{first_word, lines_of}
+use Rattle.hp_words.specs.Commands.{texts}
+use Rattle.hp_run.specs.OwnSolver.{own_solver}
+use Rattle.hp_run.specs.Outcome.{ReadsJournal}
+use Rattle.hp_run.specs.Status.{memory_line, status_line_text}
+use Rattle.hp_run.specs.Words.{IfPlanned, asked, asks_itself, journal_name, reads_problem, writes_journal}
+use Rattle.hp_run.specs.declared.job.Job.{Job}
+use Rattle.hp_run.specs.declared.job.Job.TheVariants.{Plan, Hydro, Generate}
+use Rattle.hp_run.specs.declared.status.Status.{Status}
+use Rattle.hp_run.specs.declared.status.Status.TheVariants.{Done, Memory, WriteFault}
+
+-- what is known of a source, a disk and a sink in any state of theirs
+pub record Tells (I D O : Type 0) : Type 1 where
+  pub left : I → Option (List ℕ)  -- the bytes that the source has left, where it tells them
+  pub reads : I → ℕ  -- how often it failed
+  pub store : D → Store  -- what the disk tells
+  pub disk : D → ℕ  -- how often it failed
+  pub taken : O → Option (List ℕ)  -- the bytes that the sink has taken, where it tells them
+  pub writes : O → ℕ  -- how often it failed
+
+abbrev pub telling : {I D O : Type 0} → (I → Option (List ℕ)) → (I → ℕ) → (D → Store) → (D → ℕ) → (O → Option (List ℕ)) → (O → ℕ) → Tells I D O
+telling left reads store disk taken writes = record { left = left; reads = reads; store = store; disk = disk; taken = taken; writes = writes }
+
+-- a source, a disk and a sink
+pub record Devices (I D O : Type 0) : Type 0 where
+  pub problem : I
+  pub journal : D
+  pub out : O
+
+abbrev pub devices : {I D O : Type 0} → I → D → O → Devices I D O
+devices problem journal out = record { problem = problem; journal = journal; out = out }
+
+-- what is known of the three before a run and after it
+abbrev pub ends_of : {I D O : Type 0} → Tells I D O → Devices I D O → Devices I D O → Ends
+ends_of t old new = ends t.left t.reads t.store t.disk t.taken t.writes old.problem new.problem old.journal new.journal old.out new.out
+
+-- what `hydro` writes means what the description in the source says
+abbrev pub Describes : Option Job → Ends → Status → Type 0
+Describes None e status = ⊤
+Describes (Some (Plan task)) e status = ⊤
+Describes (Some Hydro) e status = IfSome e.left (λ bytes. IfWritten (Means bytes) e status)
+Describes (Some (Generate seed stages reservoirs)) e status = ⊤
+
+-- A run of what the words ask for, with a solver, from `old` to `new`, that ended with a status.
+pub record IsRun {Start Chain I D O : Type 0} (v : Solving Start Chain) (job : Option Job) (t : Tells I D O) (old new : Devices I D O) (status : Status) : Type 0 where
+  -- what the status tells of the words, the source, the disk and the sink
+  pub cause : Explains v job (ends_of t old new) status
+  -- which status comes where no device fails: the report, the first refusal, or want of memory
+  pub complete : Completes v job (ends_of t old new) status
+  -- each cut and each bound in what was written hold for every decision tree and every policy, in any fraction of a unit, over any disk
+  -- and for every solver; the problem of a description is the one that is defined, and like a generated one accepted
+  pub sound : Sounds job (ends_of t old new) status
+  -- a plan for the plants of a description is workable exactly where its tree is a policy of the problem that was written, at equal cost
+  pub described : Describes job (ends_of t old new) status
+  -- without a report the sink is as it was
+  pub unwritten : writes_nothing status ≡ true → new.out ≡ old.out
+  -- `gen`, and words that are no command, leave the source as it was
+  pub unread : reads_problem job ≡ false → new.problem ≡ old.problem
+  -- commands that do not train, and each refusal, leave all that the journal tells as it was
+  pub journal : OnlyReads job status → Stays (t.store old.journal) (t.store new.journal)
+  -- commands that have no journal leave it as it was
+  pub journal_unread : ¬ (IfPlanned job ReadsJournal) → new.journal ≡ old.journal
+  -- where the words, the problem or the description are refused, nothing was asked of the journal, nor where the source failed
+  pub journal_later : precedes_journal status ≡ true → new.journal ≡ old.journal
+  -- training leaves the records that were loaded as they stood, and those of all iterations of the definition behind them
+  pub grown : OfTask (t.left old.problem) (t.store old.journal).reads job (λ bytes kept. Grows v status bytes kept (t.store new.journal))
+  -- a crash at any moment leaves at least the records that were there, and the first of those that are added
+  pub any_moment : OfTask (t.left old.problem) (t.store old.journal).reads job (λ bytes kept. LeavesMine v bytes kept (t.store old.journal) (t.store new.journal))
+  -- training that was stopped and is resumed leaves and prints what unstopped training does
+  pub resumed : OfTask (t.left old.problem) (t.store old.journal).reads job (λ bytes kept. IsResumed v status bytes kept (t.store new.journal) (t.taken old.out) (t.taken new.out))
+
+-- a stream of errors that tells its bytes took a front of the line of the status, or of that of want of memory
+abbrev pub SaysLine : Option (List ℕ) → Option (List ℕ) → Status → Type 0
+SaysLine errors errors_now status = (n : ℕ) × (Appends errors errors_now (take n (status_line_text status)) ⊎ Appends errors errors_now (take n memory_line))
+
+-- the journal of the program: the file that the second word names, opened for writing exactly where the first word is `train`
+abbrev pub journal_of : List (List ℕ) → CountedFile
+journal_of words = record { name = journal_name words; write = writes_journal words; faults = 0 }
+
+-- what is known of a reader and a writer of std and of a file: how often each failed
+abbrev pub telling_counts : (I O : Type 0) → Tells (Counted I) CountedFile (Counted O)
+telling_counts I O = telling (λ (s : Counted I). None) (λ (s : Counted I). s.faults) (λ (d : CountedFile). untold) (λ (d : CountedFile). d.faults) (λ (s : Counted O). None) (λ (s : Counted O). s.faults)
+
+-- a run of the program's solver over a reader, the file that the words name, and a writer
+abbrev pub RunsOver : {I O : Type 0} → List (String Global) → Counted I → Counted I → Counted O → Counted O → Status → Type 0
+RunsOver {I} {O} words problem problem_now out out_now status = (journal_now : CountedFile)
+    × IsRun own_solver (asked words) (telling_counts I O) (devices problem (journal_of (texts words)) out) (devices problem_now journal_now out_now) status
+
+-- What the program does on its words: the words that ask what it is are answered, and nothing is read; others are run, unless there is
+-- no memory for the name of the journal.
+abbrev pub Answers : {I O : Type 0} → List (String Global) → Counted I → Counted I → Counted O → Counted O → Status → Type 0
+Answers words problem problem_now out out_now status = MatchBool (asks_itself (texts words))
+    ((problem_now ≡ problem) × ((status ≡ Done) ⊎ (status ≡ WriteFault)))
+    ((status ≡ Memory) ⊎ RunsOver words problem problem_now out out_now status)
+
+-- the line is of a bound that is at most the cost of each workable plan for what is described
+pub record PlanLine (description line : List ℕ) : Type 0 where
+  pub bound : ℤ
+  pub is : line ≡ codes "bound" ++ word bound
+  pub under : UnderPlans description bound
+
+-- so is each line of a bound in a text
+abbrev pub PlanLines : List ℕ → List ℕ → Type 0
+PlanLines description text = All (λ line. first_word line ≡ codes "bound" → PlanLine description line) (lines_of text)

@@ -1,0 +1,69 @@
+-- When the text of a report is sound: what a reader has to believe of it, apart from the solver and from training.
+use Rattle.std.specs.Prelude.{◌≡◌, ℕ, ℤ, ◌≤ℤ◌, List, All, Ok, ⊤}
+use Rattle.hp_problem.specs.Sealed.{Sealed}
+use Rattle.hp_sof.specs.Problem.{problem_at}
+use Rattle.hp_theory.specs.declared.cut.Cut.{Cut}
+use Rattle.hp_theory.specs.Pools.{Sound}
+use Rattle.hp_theory.specs.Bound.{bound, Under}
+use Rattle.hp_theory.specs.Problem.{S, Problem}
+use Rattle.hp_theory.specs.Tree.{Forest, Policy}
+use Rattle.hp_theory.specs.View.{problem_of}
+use Rattle.hp_forward.specs.declared.traces.Trace.{Trace}
+use Rattle.hp_report.specs.Report.{base_text, check_text, train_text}
+use Rattle.hp_report.specs.SoundLines.{SoundLines}
+use Rattle.hp_report.specs.Traces.{trace_text}
+use Rattle.hp_tree.specs.declared.walking.Verdict.{Verdict}
+use Rattle.hp_tree.specs.declared.walking.Verdict.TheVariants.{Cost, Missed}
+use Rattle.hp_tree.specs.Report.{verdict_text}
+use Rattle.hp_tree.specs.Upper.{IsUpper}
+use Rattle.hp_risk.specs.declared.alternatives.Alternatives.{Alternatives}
+use Rattle.hp_risk.specs.Alternatives.{alternatives_of}
+use Rattle.hp_risk.specs.RiskCost.{RiskSound, RiskUnder}
+use Rattle.hp_risk.specs.Report.{robust_text}
+use Rattle.hp_run.specs.declared.task.Task.{Task}
+use Rattle.hp_run.specs.declared.task.Task.TheVariants.{Base, Train, Check, Simulate, Validate, Evaluate, Robust}
+
+-- each plane holds, and the bound over them is under the cost of each policy, where each node weighs by the worst of its lists
+pub record IsWorst (p : Problem) (x : Alternatives) (planes : List (List Cut)) : Type 0 where
+  pub holds : RiskSound p x.lists planes
+  pub under : RiskUnder p x.lists (bound p planes)
+
+-- a policy costs this much, rounded up once to the scale of states, and the bound over the pools is not above it
+pub record CostsAtMost (p : Problem) (pools : List (List Cut)) (upper : ℤ) : Type 0 where
+  pub forest : Forest
+  pub policy : Policy p S forest
+  pub cost : IsUpper p forest upper
+  pub bound : bound p pools ≤ℤ upper
+
+-- what a verdict says over the bound
+abbrev pub IsTwoSided : Problem → List (List Cut) → Verdict → Type 0
+IsTwoSided p pools (Cost upper) = CostsAtMost p pools upper
+IsTwoSided p pools (Missed branches row residual) = ⊤
+
+-- the text is the report of these pools
+abbrev pub IsReport : Task → List ℕ → Sealed → List (List Cut) → List ℕ → Type 0
+IsReport Base bytes p pools text = text ≡ base_text p pools
+IsReport (Train seed count batch) bytes p pools text = (bounds : List ℤ) × (unsettled : ℕ) × (text ≡ train_text p pools bounds unsettled) × All (Under (problem_of p)) bounds
+IsReport Check bytes p pools text = (bounds : List ℤ) × (unsettled : ℕ) × (rest : ℕ) × (text ≡ check_text p pools bounds unsettled rest) × All (Under (problem_of p)) bounds
+IsReport (Simulate seed count) bytes p pools text = (traces : List Trace) × (text ≡ trace_text p pools traces)
+IsReport Validate bytes p pools text = (traces : List Trace) × (text ≡ trace_text p pools traces)
+IsReport Evaluate bytes p pools text = (verdict : Verdict) × (text ≡ verdict_text p pools verdict) × IsTwoSided (problem_of p) pools verdict
+IsReport Robust bytes p pools text = (x : Alternatives) × (planes : List (List Cut)) × (alternatives_of p bytes ≡ Ok x) × (text ≡ robust_text p planes) × IsWorst (problem_of p) x planes
+
+-- the text is the report of pools whose cuts hold, and whose bound is under the cost of each policy
+pub record IsSoundReport (task : Task) (bytes : List ℕ) (p : Sealed) (pools : List (List Cut)) (text : List ℕ) : Type 0 where
+  pub is : IsReport task bytes p pools text
+  pub cuts : Sound (problem_of p) pools
+  pub bound : Under (problem_of p) (bound (problem_of p) pools)
+
+-- The text is a report of the problem that the bytes give, and each line of it is sound: a line of a cut is of one that holds at its node,
+-- and the number in a line of a bound or of an iteration is under the cost of each policy. So are the cuts and the bound of the pools that
+-- it is the report of.
+pub record SoundText (task : Task) (bytes text : List ℕ) : Type 0 where
+  pub problem : Sealed
+  pub pools : List (List Cut)
+  pub read : problem_at bytes ≡ Ok problem
+  pub is : IsReport task bytes problem pools text
+  pub cuts : Sound (problem_of problem) pools
+  pub bound : Under (problem_of problem) (bound (problem_of problem) pools)
+  pub lines : SoundLines (problem_of problem) text

@@ -1,0 +1,50 @@
+// What follows over two runs. A law is the contract of a function with an empty body.
+ghost use Rattle.std.specs.Prelude.{◌≡◌, ◌≤◌, ◌++◌, ℕ, List, Option, Ok};
+ghost use Rattle.sha2.specs.Sha256.{sha256};
+ghost use Rattle.hp_cut.specs.declared.entry.Entry.{Entry};
+ghost use Rattle.hp_hydro.specs.Text.{hydro_at};
+ghost use Rattle.hp_journal.specs.Layout.{new_title};
+ghost use Rattle.hp_journal.specs.Mine.{Mine};
+ghost use Rattle.hp_lp.specs.Chained.{solving};
+ghost use Rattle.hp_train.specs.Training.{payloads};
+ghost use Rattle.hp_run.specs.AnyStops.{EndsAlike, IsAsked, Reachable, Trains, whole};
+ghost use Rattle.hp_run.specs.Outcome.{WithBase};
+ghost use Rattle.hp_run.specs.Run.{Devices, PlanLines, telling};
+ghost use Rattle.hp_run.specs.SoundText.{SoundText};
+ghost use Rattle.hp_run.specs.declared.status.Status.{Status};
+ghost use Rattle.hp_run.specs.declared.task.Task.{Task};
+
+use hp_outside::{Disk, Sink, Source};
+use hp_solver::Solver;
+
+/// Where the problem of a sound text is the one that `hydro` writes for a description, each bound in a line of the text is at
+/// most the cost of each workable plan for what is described.
+pub fn bounds_of_plans()
+    ensures { (task : Task) (description problem text : List ℕ)
+        → hydro_at description ≡ Ok problem → SoundText task problem text → PlanLines description text }
+{}
+
+/// Training that is stopped any number of times, each time at any moment, and begun again by the same words, ends as the
+/// run from nothing does, whatever the solver: with its status, its journal and its text.
+///
+/// Of an accepted problem and words within their ranges let bytes be what runs of `train` left that were begun one after
+/// another with any COUNT up to this one, the first on a journal that is not born. Then they stand for the first records
+/// of what this COUNT gives, and a run from them ends alike.
+pub fn any_stops<V: Solver, I: Source, D: Disk, O: Sink>(solver: &V)
+    ensures stands { (bytes content : List ℕ) (b : WithBase) (seed count : ℕ) (batch : Option ℕ)
+        → IsAsked bytes b seed batch count
+        → Reachable (solving (V.started solver.now) (V.begun solver.now) (V.next solver.now)) (telling I.left I.faults D.store D.faults O.taken O.faults) bytes seed batch count content
+        → (j : ℕ) × Mine (new_title (sha256 bytes) seed batch) (payloads (whole (solving (V.started solver.now) (V.begun solver.now) (V.next solver.now)) bytes b seed batch count).lists) j content }
+    ensures ends { (bytes kept : List ℕ) (b : WithBase) (seed count : ℕ) (batch : Option ℕ) (old new : Devices I D O) (status : Status)
+        → IsAsked bytes b seed batch count
+        → Reachable (solving (V.started solver.now) (V.begun solver.now) (V.next solver.now)) (telling I.left I.faults D.store D.faults O.taken O.faults) bytes seed batch count kept
+        → Trains (solving (V.started solver.now) (V.begun solver.now) (V.next solver.now)) (telling I.left I.faults D.store D.faults O.taken O.faults) bytes seed batch count kept old new status
+        → EndsAlike (solving (V.started solver.now) (V.begun solver.now) (V.next solver.now)) (telling I.left I.faults D.store D.faults O.taken O.faults) bytes b seed batch count old new status }
+{}
+
+/// Of fewer iterations the lists of entries are the first of those of more.
+pub fn first_lists<V: Solver>(solver: &V)
+    ensures { (bytes : List ℕ) (b : WithBase) (seed fewer count : ℕ) (batch : Option ℕ) → fewer ≤ count
+        → (rest : List (List Entry)) × ((whole (solving (V.started solver.now) (V.begun solver.now) (V.next solver.now)) bytes b seed batch count).lists
+        ≡ (whole (solving (V.started solver.now) (V.begun solver.now) (V.next solver.now)) bytes b seed batch fewer).lists ++ rest) }
+{}
