@@ -14,11 +14,14 @@ from .back import BadReport
 from .cursor import Cursor, Refused
 from .decimals import decimal_text
 from .located_json import NotJson, parse
-from .reports import read_file
+from .reports import Report, read_file
+from .shown_names import shown_name
 from .series import (
-    SHARES, Fan, Point, policy_cost, residuals, stages_of, storage, water_values_along, water_values_at,
+    SHARES, Fan, Point, policy_cost, residuals, same_units, stages_of, storage, water_values_along, water_values_at,
 )
 
+WITHOUT_LIBRARY = f"""{sys.executable} has no matplotlib, which drawings need: sudo apt-get install python3-matplotlib installs it for
+/usr/bin/python3; without --output the numbers are written as a table""".replace("\n", " ")
 DESCRIPTION = """Reads reports of hydroplan, as they are or as `convert back` writes them, and draws PREFIX.png and
 PREFIX.svg (--output, needs matplotlib) or writes the numbers as a table (no --output). Nothing here is proved."""
 
@@ -55,11 +58,11 @@ def main(words: Optional[Sequence[str]] = None) -> int:
     try:
         drawing, rows = COMMANDS[chosen.command](chosen)
         if chosen.output is None:
-            sys.stdout.writelines("\t".join(row) + "\n" for row in rows)
+            sys.stdout.writelines("\t".join(map(shown_name, row)) + "\n" for row in rows)
             return 0
         return _draw(drawing, chosen.output)
     except (BadReport, Refused, NotJson, ValueError, OSError) as fault:
-        print(f"plot: {fault}", file=sys.stderr)
+        print(shown_name(f"plot: {fault}"), file=sys.stderr)
     return 1
 
 
@@ -67,7 +70,7 @@ def _draw(drawing: Callable, prefix: Path) -> int:
     try:
         from . import drawing as pictures
     except ImportError:
-        print("plot: drawings need matplotlib; without --output the numbers are written as a table", file=sys.stderr)
+        print(f"plot: {WITHOUT_LIBRARY}", file=sys.stderr)
         return 1
     for path in pictures.save(drawing(pictures), prefix):
         print(path)
@@ -79,8 +82,12 @@ def _bounds(chosen: argparse.Namespace) -> tuple[Callable, Iterator[list[str]]]:
     series = [(name, report.iterations) for name, report in reports]
     if not any(bounds for _, bounds in series):
         raise ValueError("no report has iterations: `train` and `check` write them")
-    cost = policy_cost(read_file(chosen.cost)) if chosen.cost else None
-    word = "no policy earns more" if reports[0][1].maximises else "no policy costs less"
+    told = read_file(chosen.cost, ()) if chosen.cost else None
+    same_units(reports if told is None else [*reports, (chosen.cost.stem, told)])
+    cost = None if told is None else policy_cost(told)
+    one = reports[0][1]
+    word = "bound: no policy earns more\n[earnings" if one.maximises else "bound: no policy costs less\n[cost"
+    word = f"{word}, {one.units()}]"
     rows = [["report", "iteration", "bound"]]
     rows += [[name, str(number), _text(bound)] for name, bounds in series for number, bound in bounds]
     if cost is not None:
@@ -95,11 +102,17 @@ def _water_values(chosen: argparse.Namespace) -> tuple[Callable, Iterator[list[s
     if (chosen.at is None) == (not chosen.state):
         raise ValueError("give either --at or --state")
     if chosen.at is not None:
-        fans = water_values_along(report, read_file(chosen.at))
-        return lambda pictures: pictures.draw_fans(fans, "water value", chosen.title), _fan_rows(fans)
+        simulation = read_file(chosen.at, ("in",))
+        same_units([(chosen.report.stem, report), (chosen.at.stem, simulation)])
+        fans = water_values_along(report, simulation)
+        return lambda pictures: pictures.draw_fans(fans, _water_value(report), chosen.title), _fan_rows(fans)
     stages = stages_of(_problem(chosen.problem)) if chosen.problem else {}
     points = water_values_at(report, _state(chosen.state), stages)
-    return lambda pictures: pictures.draw_points(points, bool(stages), chosen.title), _point_rows(points)
+    return lambda pictures: pictures.draw_points(points, _water_value(report), bool(stages), chosen.title), _point_rows(points)
+
+
+def _water_value(report: Report) -> str:
+    return f"water value\n[{'earnings' if report.maximises else 'cost'} per unit, {report.units()}]"
 
 
 def _problem(path: Path) -> Cursor:
@@ -118,17 +131,19 @@ def _state(words: Sequence[str]) -> dict[str, Fraction]:
 
 
 def _storage(chosen: argparse.Namespace) -> tuple[Callable, Iterator[list[str]]]:
-    fans = storage(_with_scenarios(chosen.report))
-    return lambda pictures: pictures.draw_fans(fans, "incoming", chosen.title), _fan_rows(fans)
+    report = _with_scenarios(chosen.report, "in")
+    fans = storage(report)
+    return lambda pictures: pictures.draw_fans(fans, f"incoming state\n[{report.units()}]", chosen.title), _fan_rows(fans)
 
 
 def _residuals(chosen: argparse.Namespace) -> tuple[Callable, Iterator[list[str]]]:
-    fans = residuals(_with_scenarios(chosen.report))
-    return lambda pictures: pictures.draw_fans(fans, "residual", chosen.title, True), _fan_rows(fans)
+    report = _with_scenarios(chosen.report, "row")
+    fans = residuals(report)
+    return lambda pictures: pictures.draw_fans(fans, f"residual\n[{report.units()} of the row]", chosen.title, True), _fan_rows(fans)
 
 
-def _with_scenarios(path: Path):
-    report = read_file(path)
+def _with_scenarios(path: Path, word: str) -> Report:
+    report = read_file(path, (word,))
     if not report.scenarios:
         raise ValueError("the report has no scenarios: `simulate` and `validate` write them")
     return report

@@ -1,16 +1,20 @@
 """Reports of hydroplan as values: cuts, bounds and traces, in the problem's units or in the user's.
 
 Outside the proved core. It reads what the program prints (head `hydroplan 1`) and what `convert back` makes of it (head
-`hydroplan-user 1`); numbers are exact.
+`hydroplan-user 1`). Numbers are exact: those that come by the million stand as whole numbers of 1/unit. Random values and decisions of
+a trace are passed over, since nothing is drawn of them.
 """
 from __future__ import annotations
 
 from dataclasses import dataclass, field
 from fractions import Fraction
 from pathlib import Path
-from typing import Iterable, Optional
+from typing import Iterable, Optional, Sequence, Union
 
 from .back import HEAD, USER_HEAD, BadReport, split_name
+
+# a number of a report times its unit; a fraction where a report has exact fractions, whose unit is 1
+Raw = Union[int, Fraction]
 
 
 @dataclass(frozen=True)
@@ -19,26 +23,21 @@ class Cut:
 
     node: int
     place: int
-    alpha: Fraction
-    slopes: tuple[Fraction, ...]
-
-    def value(self, state: tuple[Fraction, ...]) -> Fraction:
-        """The cut's value at a state."""
-        return self.alpha + sum((slope * x for slope, x in zip(self.slopes, state)), Fraction(0))
+    alpha: Raw
+    slopes: tuple[Raw, ...]
 
 
-@dataclass
 class Stage:
-    """A step of a trace."""
+    """A step of a trace: its number, node and answer, the incoming state, and the greatest residual in absolute value."""
 
-    number: int
-    node: int
-    kind: str
-    incoming: dict[str, Fraction] = field(default_factory=dict)
-    randoms: dict[str, Fraction] = field(default_factory=dict)
-    values: dict[str, Fraction] = field(default_factory=dict)
-    residuals: list[Fraction] = field(default_factory=list)
-    cost: Fraction = Fraction(0)
+    __slots__ = ("number", "node", "kind", "incoming", "residual")
+
+    def __init__(self, number: int, node: int, kind: str) -> None:
+        self.number = number
+        self.node = node
+        self.kind = kind
+        self.incoming: dict[str, Raw] = {}
+        self.residual: Raw = 0
 
 
 @dataclass
@@ -52,7 +51,7 @@ class Scenario:
 
 @dataclass
 class Report:
-    """What a report holds; what it does not have is empty or none."""
+    """What a report holds; what it does not have is empty or none. Cuts and traces stand as multiples of 1/unit."""
 
     states: list[str] = field(default_factory=list)
     nodes: list[str] = field(default_factory=list)
@@ -64,81 +63,161 @@ class Report:
     rest: Optional[int] = None
     scenarios: list[Scenario] = field(default_factory=list)
     maximises: bool = False
-    scale: int = 1
+    is_users: bool = False
+    unit: int = 1
+    digits: Optional[int] = None
+    names: dict[str, str] = field(default_factory=dict)
 
     def number(self, text: str) -> Fraction:
-        """A number of the report that stands at its scale."""
-        return Fraction(text) / self.scale
+        """A number of the report in its own units."""
+        return self.value(self.raw(text))
+
+    def value(self, raw: Raw) -> Fraction:
+        """What a multiple of 1/unit stands for."""
+        return Fraction(raw) / self.unit
+
+    def raw(self, text: str) -> Raw:
+        """A number of the report as a multiple of 1/unit."""
+        if not self.is_users:
+            return int(text)
+        if self.digits is None:
+            return Fraction(text)
+        front, _, behind = text.partition(".")
+        if len(behind) > self.digits:
+            raise ValueError(f"more than {self.digits} digits behind the point")
+        return int(front + behind.ljust(self.digits, "0"))
+
+    def units(self) -> str:
+        """The units in words."""
+        return "your units" if self.is_users else "units of the problem file"
+
+    def name(self, text: str) -> str:
+        """The name that a JSON string spells; each is read once."""
+        found = self.names.get(text)
+        if found is None:
+            found = self.names[text] = split_name(text)[0]
+        return found
 
 
-def read_file(path: Path) -> Report:
-    """The report in a file, or BadReport."""
+OF_STEPS = ("in", "row", "cost")
+
+
+def read_file(path: Path, of_steps: Sequence[str] = OF_STEPS) -> Report:
+    """The report in a file, or BadReport. Of the lines of a trace's steps those with these words are read."""
     with path.open(encoding="utf-8", newline="\n") as lines:
-        return read_report(lines)
+        return read_report(lines, of_steps)
 
 
-def read_report(lines: Iterable[str]) -> Report:
-    """The report of these lines, or BadReport."""
+def read_report(lines: Iterable[str], of_steps: Sequence[str] = OF_STEPS) -> Report:
+    """The report of these lines, or BadReport. Of the lines of a trace's steps those with these words are read."""
     report = Report()
+    passed_over = tuple(f"{word} " for word in ("value", "random", *OF_STEPS) if word not in of_steps)
     for number, line in enumerate(lines, 1):
+        if line.startswith(passed_over) and report.scenarios:
+            continue
         line = line.rstrip("\n")
         if number == 1 and line not in (HEAD, USER_HEAD):
             raise BadReport(f"line 1: a report begins with `{HEAD}`, not with `{line[:60]}`")
         word, _, rest = line.partition(" ")
         try:
-            _line(report, word, rest)
+            LINES[word](report, rest)
         except (ValueError, KeyError, IndexError, ZeroDivisionError) as fault:
-            raise BadReport(f"line {number} ({line[:60]}): {fault!r}") from None
+            reason = "no line of a report that is read here" if word not in LINES else repr(fault)
+            raise BadReport(f"line {number} ({line[:60]}): {reason}") from None
     if not report.nodes:
         raise BadReport("the report has no nodes")
     return report
 
 
-def _line(report: Report, word: str, rest: str) -> None:
-    if word in ("stage", "in", "random", "value", "row", "cost", "end", "scenario"):
-        _trace_line(report, word, rest)
-    elif word == "scale":
-        report.scale = int(rest)
-    elif word == "state":
-        report.states.append(split_name(rest.partition(" ")[2])[0])
-    elif word == "node":
-        report.nodes.append(split_name(rest.partition(" ")[2])[0])
-    elif word == "cut":
-        node, place, alpha, *slopes = rest.split()
-        if len(slopes) != len(report.states):
-            raise ValueError("not one slope per state")
-        report.cuts.append(Cut(int(node), int(place), report.number(alpha), tuple(map(report.number, slopes))))
-    elif word == "iteration":
-        number, _, bound = rest.split()
-        report.iterations.append((int(number), report.number(bound)))
-    elif word == "total":
-        report.unsettled = int(rest.split()[3])
-    elif word == "sense":
-        report.maximises = rest == "max"
-    elif word in ("bound", "upper"):
-        setattr(report, word, report.number(rest))
-    elif word == "rest":
-        report.rest = int(rest)
-    elif word not in ("hydroplan", "hydroplan-user", "digits", "exact"):
-        raise ValueError("no line of a report that is read here")
+def _users(report: Report, rest: str) -> None:
+    report.is_users = True
 
 
-def _trace_line(report: Report, word: str, rest: str) -> None:
-    if word == "scenario":
-        report.scenarios.append(Scenario(int(rest)))
-        return
-    scenario = report.scenarios[-1]
-    if word == "stage":
-        number, _, node, kind = rest.split()
-        scenario.stages.append(Stage(int(number), int(node), kind))
-    elif word == "end":
-        scenario.total = report.number(rest)
-    elif word == "cost":
-        scenario.stages[-1].cost = report.number(rest)
-    elif word == "row":
-        scenario.stages[-1].residuals.append(report.number(rest.split()[2]))
-    else:
-        name, number = split_name(rest)
-        table = {"in": "incoming", "random": "randoms", "value": "values"}[word]
-        value = Fraction(number) if word == "random" else report.number(number)
-        getattr(scenario.stages[-1], table)[name] = value
+def _scale(report: Report, rest: str) -> None:
+    report.unit = int(rest)
+
+
+def _digits(report: Report, rest: str) -> None:
+    report.digits = int(rest)
+    report.unit = 10**report.digits
+
+
+def _sense(report: Report, rest: str) -> None:
+    report.maximises = rest == "max"
+
+
+def _state(report: Report, rest: str) -> None:
+    report.states.append(split_name(rest.partition(" ")[2])[0])
+
+
+def _node(report: Report, rest: str) -> None:
+    report.nodes.append(split_name(rest.partition(" ")[2])[0])
+
+
+def _cut(report: Report, rest: str) -> None:
+    node, place, alpha, *slopes = rest.split()
+    if len(slopes) != len(report.states):
+        raise ValueError("not one slope per state")
+    report.cuts.append(Cut(int(node), int(place), report.raw(alpha), tuple(map(report.raw, slopes))))
+
+
+def _iteration(report: Report, rest: str) -> None:
+    number, _, bound = rest.split()
+    report.iterations.append((int(number), report.number(bound)))
+
+
+def _total(report: Report, rest: str) -> None:
+    report.unsettled = int(rest.split()[3])
+
+
+def _bound(report: Report, rest: str) -> None:
+    report.bound = report.number(rest)
+
+
+def _upper(report: Report, rest: str) -> None:
+    report.upper = report.number(rest)
+
+
+def _rest(report: Report, rest: str) -> None:
+    report.rest = int(rest)
+
+
+def _scenario(report: Report, rest: str) -> None:
+    report.scenarios.append(Scenario(int(rest)))
+
+
+def _stage(report: Report, rest: str) -> None:
+    number, _, node, kind = rest.split()
+    report.scenarios[-1].stages.append(Stage(int(number), int(node), kind))
+
+
+def _in(report: Report, rest: str) -> None:
+    name, _, number = rest.rpartition(" ")
+    report.scenarios[-1].stages[-1].incoming[report.name(name)] = report.raw(number)
+
+
+def _row(report: Report, rest: str) -> None:
+    number = abs(report.raw(rest.rpartition(" ")[2]))
+    stage = report.scenarios[-1].stages[-1]
+    if number > stage.residual:
+        stage.residual = number
+
+
+def _cost(report: Report, rest: str) -> None:
+    report.raw(rest)
+    report.scenarios[-1].stages[-1]
+
+
+def _end(report: Report, rest: str) -> None:
+    report.scenarios[-1].total = report.number(rest)
+
+
+def _nothing(report: Report, rest: str) -> None:
+    return
+
+
+LINES = {
+    "hydroplan": _nothing, "hydroplan-user": _users, "scale": _scale, "digits": _digits, "exact": _nothing, "sense": _sense,
+    "state": _state, "node": _node, "cut": _cut, "iteration": _iteration, "total": _total, "bound": _bound, "upper": _upper,
+    "rest": _rest, "scenario": _scenario, "stage": _stage, "in": _in, "row": _row, "cost": _cost, "end": _end,
+}

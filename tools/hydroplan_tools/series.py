@@ -7,11 +7,12 @@ from __future__ import annotations
 import math
 from dataclasses import dataclass
 from fractions import Fraction
-from typing import Iterable, Optional, Sequence
+from operator import mul
+from typing import Callable, Iterable, Optional, Sequence
 
 from .cursor import Cursor
 from .located_json import byte_order
-from .reports import Cut, Report, Stage
+from .reports import Cut, Raw, Report, Stage
 
 SHARES = (Fraction(0), Fraction(1, 10), Fraction(1, 4), Fraction(1, 2), Fraction(3, 4), Fraction(9, 10), Fraction(1))
 
@@ -42,16 +43,36 @@ class PolicyCost:
     value: Fraction
 
 
-def quantile(values: Sequence[Fraction], share: Fraction) -> Fraction:
-    """The least value that at least this share of the values does not exceed (nearest rank); the least for share 0."""
-    ranked = sorted(values)
-    return ranked[max(0, math.ceil(share * len(ranked)) - 1)]
+def ranked(values: Sequence[Raw]) -> list[Raw]:
+    """For each of SHARES the least value that at least this share of the values does not exceed (nearest rank); the least for 0."""
+    rising = sorted(values)
+    return [rising[max(0, math.ceil(share * len(rising)) - 1)] for share in SHARES]
 
 
-def fan(name: str, by_stage: dict[int, list[Fraction]]) -> Fan:
-    """The fan of a quantity whose values are given for each stage."""
+def fan(report: Report, name: str, by_stage: dict[int, list[Raw]]) -> Fan:
+    """The fan of a quantity whose values are given for each stage, as the report has numbers."""
     stages = tuple(sorted(by_stage))
-    return Fan(name, stages, tuple(tuple(quantile(by_stage[at], share) for share in SHARES) for at in stages))
+    return Fan(name, stages, tuple(tuple(map(report.value, ranked(by_stage[at]))) for at in stages))
+
+
+def same_units(reports: Sequence[tuple[str, Report]]) -> None:
+    """ValueError where reports that come into one picture have not the same units, or not the same sense."""
+    (first, one), *others = reports
+    for name, other in others:
+        if one.is_users != other.is_users:
+            raise ValueError(f"{first} is in {one.units()} and {name} in {other.units()}: turn all or none of them by `convert back`")
+        if one.maximises != other.maximises:
+            raise ValueError(f"of {first} and {name} one has costs and the other earnings")
+
+
+def converging(bounds: Sequence[tuple[int, Fraction]]) -> Sequence[tuple[int, Fraction]]:
+    """The bounds from where at most a twentieth of the whole rise (of earnings: of the whole fall) is left; empty where they stand still."""
+    if not bounds:
+        return []
+    last = bounds[-1][1]
+    left = abs(last - bounds[0][1]) / 20
+    at = next(at for at, (_, bound) in enumerate(bounds) if abs(last - bound) <= left)
+    return bounds[at:] if bounds[at][1] != last else []
 
 
 def policy_cost(report: Report) -> Optional[PolicyCost]:
@@ -67,30 +88,40 @@ def policy_cost(report: Report) -> Optional[PolicyCost]:
 
 def storage(report: Report) -> list[Fan]:
     """A fan of the incoming state at each stage, one for each state."""
-    return [fan(name, _by_stage(report, lambda stage: [stage.incoming[name]])) for name in report.states]
+    return [fan(report, name, _by_stage(report, lambda stage: stage.incoming[name])) for name in report.states]
 
 
 def residuals(report: Report) -> list[Fan]:
     """A fan of the greatest residual, in absolute value, of a step's rows."""
-    return [fan("greatest residual of a step", _by_stage(report, lambda stage: [_greatest(stage)]))]
+    return [fan(report, "greatest residual of a step", _by_stage(report, lambda stage: stage.residual))]
 
 
-def _greatest(stage: Stage) -> Fraction:
-    return max((abs(it) for it in stage.residuals), default=Fraction(0))
-
-
-def _by_stage(report: Report, values) -> dict[int, list[Fraction]]:
-    found: dict[int, list[Fraction]] = {}
+def _by_stage(report: Report, value: Callable[[Stage], Raw]) -> dict[int, list[Raw]]:
+    found: dict[int, list[Raw]] = {}
     for scenario in report.scenarios:
         for stage in scenario.stages:
-            found.setdefault(stage.number, []).extend(values(stage))
+            found.setdefault(stage.number, []).append(value(stage))
     return found
 
 
-def active_cut(cuts: Iterable[Cut], state: tuple[Fraction, ...], maximises: bool = False) -> Cut:
-    """The cut of greatest value at a state, or of least value where cuts bound earnings; the first of several."""
-    sign = -1 if maximises else 1
-    return max(cuts, key=lambda cut: (sign * cut.value(state), -cut.place))
+@dataclass(frozen=True)
+class Active:
+    """The cuts of a node, ready to be asked which is active at a state whose numbers are multiples of 1/unit."""
+
+    slopes: tuple[tuple[Raw, ...], ...]
+    starts: tuple[Raw, ...]
+    best: Callable
+
+    @staticmethod
+    def of(cuts: Iterable[Cut], maximises: bool = False, unit: int = 1) -> Active:
+        """The cuts of a node; costs are at least each of them, earnings at most."""
+        own = sorted(cuts, key=lambda cut: cut.place)
+        return Active(tuple(cut.slopes for cut in own), tuple(cut.alpha * unit for cut in own), min if maximises else max)
+
+    def at(self, state: tuple[Raw, ...]) -> tuple[Raw, ...]:
+        """The slopes of the cut of greatest value at a state, or of least value of earnings; of the first of several."""
+        values = [start + sum(map(mul, slopes, state)) for start, slopes in zip(self.starts, self.slopes)]
+        return self.slopes[values.index(self.best(values))]
 
 
 def cuts_by_node(report: Report) -> list[list[Cut]]:
@@ -105,18 +136,16 @@ def water_values_along(report: Report, simulation: Report) -> list[Fan]:
     """For each state a fan of its water value: what a unit more of it saves at a step, by the active cut there."""
     if simulation.states != report.states or simulation.nodes != report.nodes:
         raise ValueError("the two reports are of different problems")
-    cuts = cuts_by_node(report)
-    by_state: list[dict[int, list[Fraction]]] = [{} for _ in report.states]
-    for scenario in simulation.scenarios:
-        for stage in scenario.stages:
-            state = tuple(stage.incoming[name] for name in report.states)
-            slopes = active_cut(cuts[stage.node], state, report.maximises).slopes
-            for at, slope in enumerate(slopes):
-                by_state[at].setdefault(stage.number, []).append(_saved(report, slope))
-    return [fan(name, found) for name, found in zip(report.states, by_state)]
+    cuts = [Active.of(own, report.maximises, simulation.unit) for own in cuts_by_node(report)]
+    by_state: list[dict[int, list[Raw]]] = [{} for _ in report.states]
+    for stage in (it for scenario in simulation.scenarios for it in scenario.stages):
+        state = tuple(stage.incoming[name] for name in report.states)
+        for found, slope in zip(by_state, cuts[stage.node].at(state)):
+            found.setdefault(stage.number, []).append(_saved(report, slope))
+    return [fan(report, name, found) for name, found in zip(report.states, by_state)]
 
 
-def _saved(report: Report, slope: Fraction) -> Fraction:
+def _saved(report: Report, slope: Raw) -> Raw:
     """What a unit more of a state is worth: costs that fall, or, where the costs are earnings, earnings that rise."""
     return slope if report.maximises else -slope
 
@@ -131,8 +160,8 @@ def water_values_at(report: Report, state: dict[str, Fraction], stages: dict[str
     found: dict[str, list[Point]] = {name: [] for name in report.states}
     for number, cuts in enumerate(cuts_by_node(report)):
         node = report.nodes[number]
-        for name, slope in zip(report.states, active_cut(cuts, at, report.maximises).slopes):
-            found[name].append(Point(stages.get(node, number), node, _saved(report, slope)))
+        for name, slope in zip(report.states, Active.of(cuts, report.maximises).at(at)):
+            found[name].append(Point(stages.get(node, number), node, report.value(_saved(report, slope))))
     return found
 
 

@@ -1,7 +1,9 @@
 """Reports as values, the series that are drawn of them, and the command `plot`. Expected values are worked out by hand."""
 import importlib.util
 import io
+import sys
 import tempfile
+import time
 import unittest
 from fractions import Fraction as F
 from pathlib import Path
@@ -10,7 +12,7 @@ from hydroplan_tools.back import BadReport
 from hydroplan_tools.plot_command import main
 from hydroplan_tools.reports import Cut, read_report
 from hydroplan_tools.series import (
-    SHARES, active_cut, policy_cost, quantile, residuals, stages_of, storage, water_values_along, water_values_at,
+    SHARES, Active, converging, policy_cost, ranked, residuals, stages_of, storage, water_values_along, water_values_at,
 )
 from tests.support import EXAMPLES, S, cursor, run
 
@@ -59,7 +61,7 @@ class Reading(unittest.TestCase):
     def test_a_report_of_check(self):
         found = report(CHECK)
         self.assertEqual((found.states, found.nodes), (["v"], ["a b", "c"]))
-        self.assertEqual(found.cuts[1], Cut(0, 1, F(20), (F(-5),)))
+        self.assertEqual((found.cuts[1], found.unit), (Cut(0, 1, 20 * S, (-5 * S,)), S))
         self.assertEqual(found.iterations, [(1, F(5, 2)), (2, F(3))])
         self.assertEqual((found.unsettled, found.bound, found.rest), (4, 3, 7))
 
@@ -67,9 +69,8 @@ class Reading(unittest.TestCase):
         found = report(SIMULATION)
         self.assertEqual([it.total for it in found.scenarios], [20, 40, 120])
         stage = found.scenarios[1].stages[0]
-        self.assertEqual((stage.number, stage.node, stage.kind, stage.cost), (0, 0, "found", 20))
-        self.assertEqual((stage.incoming, stage.randoms, stage.values), ({"v": 6}, {"w": -3}, {"o": 1}))
-        self.assertEqual(stage.residuals, [1, -2])
+        self.assertEqual((stage.number, stage.node, stage.kind), (0, 0, "found"))
+        self.assertEqual((stage.incoming, stage.residual), ({"v": 6 * S}, 2 * S))
         self.assertEqual(found.scenarios[0].stages[1].kind, "stuck")
 
     def test_texts_that_are_no_reports(self):
@@ -85,16 +86,30 @@ class Reading(unittest.TestCase):
                 self.assertIn(part, str(caught.exception))
 
 
+    def test_numbers_in_the_users_units(self):
+        head = 'hydroplan-user 1\ndigits 3\nstate 0 "v"\nnode 0 "n"\n'
+        found = report(head + 'cut 0 0 -0.5 1.25\niteration 1 bound 7\nscenario 0\nstage 0 node 0 found\nin "v" 2.5\nrow 0 residual 0.001\nend 3\n')
+        self.assertEqual((found.unit, found.cuts, found.iterations), (1000, [Cut(0, 0, -500, (1250,))], [(1, 7)]))
+        stage = found.scenarios[0].stages[0]
+        self.assertEqual((stage.incoming, stage.residual, found.scenarios[0].total), ({"v": 2500}, 1, 3))
+        exact = report('hydroplan-user 1\nexact\nstate 0 "v"\nnode 0 "n"\ncut 0 0 -1/3 2/7\nbound 5/3\n')
+        self.assertEqual((exact.cuts, exact.bound), ([Cut(0, 0, F(-1, 3), (F(2, 7),))], F(5, 3)))
+        with self.assertRaises(BadReport):
+            report(head + "bound 1.0001\n")
+
+
 class Series(unittest.TestCase):
     def test_quantiles_by_nearest_rank(self):
-        values = [F(it) for it in (40, 10, 30, 20)]
-        self.assertEqual([quantile(values, share) for share in (F(0), F(1, 4), F(26, 100), F(1, 2), F(3, 4), F(1))], [10, 10, 20, 20, 30, 40])
-        self.assertEqual(quantile([F(7)], F(1, 2)), 7)
+        # shares 0, 1/10, 1/4, 1/2, 3/4, 9/10, 1
+        self.assertEqual(ranked([40, 10, 30, 20]), [10, 10, 10, 20, 30, 40, 40])
+        self.assertEqual(ranked([5, 4, 3, 2, F(1, 2)]), [F(1, 2), F(1, 2), 2, 3, 4, 5, 5])
+        self.assertEqual(ranked([7]), [7] * 7)
 
     def test_active_cuts(self):
         cuts = report(CHECK).cuts[:2]
-        self.assertEqual([active_cut(cuts, (F(at),)).place for at in (0, 3, 4, 5)], [1, 1, 0, 0])
-        self.assertEqual([active_cut(cuts, (F(at),), True).place for at in (3, 5)], [0, 1])
+        for unit in (1, 10):
+            self.assertEqual([Active.of(cuts, False, unit).at((at * unit,)) for at in (0, 3, 4, 5)], [(-5 * S,), (-5 * S,), (0,), (0,)])
+            self.assertEqual([Active.of(cuts, True, unit).at((at * unit,)) for at in (3, 5)], [(0,), (-5 * S,)])
 
     def test_storage(self):
         (found,) = storage(report(SIMULATION))
@@ -112,6 +127,14 @@ class Series(unittest.TestCase):
         self.assertIn("mean of 3", policy_cost(report(SIMULATION)).label)
         self.assertEqual(policy_cost(report(CHECK + f"upper {7 * S}\n")).value, 7)
         self.assertIsNone(policy_cost(report(CHECK)))
+
+    def test_the_part_that_converges(self):
+        # of a rise of 100 a twentieth is left from 95 on
+        rising = [(at, F(bound)) for at, bound in enumerate((0, 50, 94, 95, 99, 99, 100), 1)]
+        self.assertEqual(converging(rising), rising[3:])
+        self.assertEqual(converging([(at, -bound) for at, bound in rising]), [(at, -bound) for at, bound in rising[3:]])
+        for still in ([], [(1, F(3))], [(1, F(0)), (2, F(8)), (3, F(8))]):
+            self.assertEqual(converging(still), [])
 
     def test_water_values_along_a_simulation(self):
         (found,) = water_values_along(report(CHECK), report(SIMULATION))
@@ -178,6 +201,67 @@ class Plot(unittest.TestCase):
                 self.assertEqual((status, out), (1, ""))
                 self.assertIn(part, err)
 
+    def test_units_are_not_mixed(self):
+        users = self.folder / "users.txt"
+        users.write_text('hydroplan-user 1\ndigits 6\nstate 0 "v"\nnode 0 "a b"\nnode 1 "c"\ncut 0 0 1 1\niteration 1 bound 2.5\n', encoding="utf-8")
+        earnings = self.folder / "earnings.txt"
+        earnings.write_text(users.read_text(encoding="utf-8").replace("digits", "sense max\ndigits"), encoding="utf-8")
+        mixed = "is in units of the problem file and users in your units: turn all or none of them by `convert back`"
+        rows = [
+            (("bounds", self.check, users), f"check {mixed}"), (("bounds", users, earnings), "one has costs and the other earnings"),
+            (("bounds", users, "--cost", self.simulation), "users is in your units and simulation in units of the problem file"),
+            (("water-values", users, "--at", self.simulation), "users is in your units and simulation in units of the problem file"),
+        ]
+        for words, part in rows:
+            with self.subTest(words=words):
+                status, out, err = run(main, *words)
+                self.assertEqual((status, out), (1, ""))
+                self.assertIn(part, err)
+
+    def test_names_forge_no_line_of_a_table(self):
+        name = '"v\\n\\tv\u202e\u2028\u0085\u061c"'
+        for file in (self.check, self.simulation):
+            file.write_text(file.read_text(encoding="utf-8").replace('"v"', name).replace('"a b"', '"a\\r\u2069"'), encoding="utf-8")
+        shown = "v\\u{000A}\\u{0009}v\\u{202E}\\u{2028}\\u{0085}\\u{061C}"
+        for words, first in ((("storage", self.simulation), f"{shown}\t0\t2"), (("water-values", self.check, "--at", self.simulation), f"{shown}\t0\t0")):
+            status, out, err = run(main, *words)
+            self.assertEqual((status, err, len(out.split("\n"))), (0, "", 4))
+            self.assertTrue(out.split("\n")[1].startswith(first))
+        status, out, _ = run(main, "water-values", self.check, "--state", 'v\n\tv\u202e\u2028\u0085\u061c=3')
+        self.assertEqual(out.split("\n")[1], f"{shown}\t0\ta\\u{{000D}}\\u{{2069}}\t5")
+        _, _, err = run(main, "water-values", self.check, "--state", "w=3")
+        self.assertEqual(err, f"plot: the states are {shown}: give each of them, and no other\n")
+
+    def test_a_thousand_scenarios_of_36_stages_take_five_seconds_at_most(self):
+        stage = "".join(f'in "v{at}" {3 * S + at}\n' for at in range(8)) + "".join(f'random "w{at}" 1\n' for at in range(11))
+        stage += "".join(f'value "q{at}" {at * S}\n' for at in range(38)) + "".join(f"row {at} residual 0\n" for at in range(11)) + f"cost {S}\n"
+        scenario = "".join(f"stage {at} node {at} found\n{stage}" for at in range(36)) + f"end {S}\n"
+        head = HEAD.split("state")[0] + "".join(f'state {at} "v{at}"\n' for at in range(8)) + "".join(f'node {at} "n{at}"\n' for at in range(36))
+        with self.simulation.open("w", encoding="utf-8") as file:
+            file.write(head)
+            for number in range(1000):
+                file.write(f"scenario {number}\n{scenario}")
+        drawn = ["--output", self.folder / "drawing"] if importlib.util.find_spec("matplotlib") else []
+        begun = time.process_time()
+        status, _, _ = run(main, "storage", self.simulation, *drawn)
+        self.assertEqual(status, 0)
+        self.assertLess(time.process_time() - begun, 5)
+
+    @unittest.skipUnless(importlib.util.find_spec("matplotlib"), "matplotlib is not there")
+    def test_axes(self):
+        from hydroplan_tools import drawing
+
+        bounds = [(at, F(bound)) for at, bound in enumerate((0, 50, 94, 95, 99, 99, 100), 1)]
+        whole, closer = drawing.draw_bounds([("_a$b\u202e", bounds)], None, "bound\n[cost]", "a\nb").axes
+        self.assertEqual((closer.get_xlim(), closer.get_xlabel(), closer.get_ylabel()), ((4, 7), "iteration [number]", "bound\n[cost]"))
+        self.assertEqual(closer.get_ylim(), (95 - 0.25, 100 + 0.25))
+        self.assertEqual((whole.get_title(), whole.get_legend_handles_labels()[1]), ("a\\u{000A}b", ["\u200b_a\\$b\\u{202E}"]))
+        self.assertEqual(len(drawing.draw_bounds([("a", bounds[:1])], None, "", "").axes), 1)
+        (panel,) = drawing.draw_fans(storage(report(SIMULATION.replace('"v"', '"v$\u2028"'))), "incoming state\n[units]", "t").axes
+        self.assertEqual((panel.get_ylabel(), panel.get_xlabel()), ("v\\$\\u{2028}: incoming state\n[units]", "stage [number, from 0]"))
+        (panel,) = drawing.draw_points(water_values_at(report(CHECK), {"v": F(3)}, {}), "water value\n[cost]", False, "t").axes
+        self.assertEqual((panel.get_ylabel(), panel.get_xlabel()), ("v: water value\n[cost]", "node [number]"))
+
     @unittest.skipUnless(importlib.util.find_spec("matplotlib"), "matplotlib is not there")
     def test_drawings(self):
         for number, words in enumerate(self.commands()):
@@ -193,7 +277,7 @@ class Plot(unittest.TestCase):
     def test_without_matplotlib_a_drawing_is_refused_and_said_why(self):
         status, out, err = run(main, "storage", self.simulation, "--output", self.folder / "drawing")
         self.assertEqual((status, out), (1, ""))
-        self.assertIn("matplotlib", err)
+        self.assertIn(f"{sys.executable} has no matplotlib, which drawings need: sudo apt-get install python3-matplotlib", err)
 
 
 if __name__ == "__main__":
