@@ -1,6 +1,7 @@
 """A report of the program in the user's units, line by line, by the scales that the converter wrote.
 
-Outside the proved core. Bounds are rounded to the side on which they stay bounds; all other numbers to the nearest.
+Outside the proved core. Bounds are rounded to the side on which they stay bounds; all other numbers to the nearest. Names stay JSON
+strings; characters in them that could forge a line or turn its order are escaped as JSON escapes them.
 """
 from __future__ import annotations
 
@@ -12,6 +13,7 @@ from typing import Callable, Iterable, Iterator, Optional
 from .decimals import Direction, decimal_text, exact_text
 from .profile import SCALE
 from .scales import Scales
+from .shown_names import shown_in_json
 
 HEAD = "hydroplan 1"
 USER_HEAD = "hydroplan-user 1"
@@ -88,14 +90,14 @@ class Back:
         self.states.append(split_name(name)[0])
         if int(number) != len(self.states) - 1 or self.states[-1] not in self.scales.states:
             raise ValueError("the scales are those of another problem")
-        return rest
+        return shown_in_json(rest)
 
     def _node(self, rest: str) -> str:
         number, _, name = rest.partition(" ")
         self.nodes.append(split_name(name)[0])
         if int(number) != len(self.nodes) - 1 or self.nodes[-1] not in self.scales.nodes:
             raise ValueError("the scales are those of another problem")
-        return rest
+        return shown_in_json(rest)
 
     def _stage(self, rest: str) -> str:
         self.node = self.nodes[int(rest.split()[2])]
@@ -135,7 +137,7 @@ class Back:
         return self._named(name, Fraction(int(number), SCALE) / self._variable_scale(name))
 
     def _named(self, name: str, value: Fraction) -> str:
-        return f"{json.dumps(name, ensure_ascii=False)} {self._text(value)}"
+        return f"{shown_in_json(json.dumps(name, ensure_ascii=False))} {self._text(value)}"
 
     def _variable_scale(self, name: str) -> Fraction:
         own = self.scales.subproblems[self.scales.nodes[self.node]]

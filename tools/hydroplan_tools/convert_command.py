@@ -19,6 +19,7 @@ from .located_json import NotJson, parse
 from .model import Quantity, quantity
 from .profile import MOST_FILE_BYTES
 from .scales import Scales, complete, read_scales, write_scales
+from .shown_names import shown_name
 from .stochopt import read_model
 
 Read = TypeVar("Read")
@@ -62,9 +63,9 @@ def main(words: Optional[Sequence[str]] = None) -> int:
     try:
         return _problem(chosen) if chosen.command == "problem" else _back(chosen)
     except NotJson as fault:
-        print(f"convert: NotJson: {fault}", file=sys.stderr)
+        print(shown_name(f"convert: NotJson: {fault}"), file=sys.stderr)
     except (Refused, BadReport, ValueError, OSError) as fault:
-        print(f"convert: {fault}", file=sys.stderr)
+        print(shown_name(f"convert: {fault}"), file=sys.stderr)
     return 1
 
 
@@ -107,7 +108,7 @@ def _problem(chosen: argparse.Namespace) -> int:
     _write(chosen.write_scales, write_scales(found), sys.stdout)
     lines = [*ledger.notes, *(it.line() for it in ledger.roundings)]
     lines.append(f"{len(ledger.roundings)} numbers were rounded")
-    _write(chosen.ledger, "".join(line + "\n" for line in lines), sys.stderr)
+    _write(chosen.ledger, "".join(shown_name(line) + "\n" for line in lines), sys.stderr)
     return 0
 
 

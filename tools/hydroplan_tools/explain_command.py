@@ -18,11 +18,13 @@ from .misspellings import random_names, warnings
 from .places import MEANINGS, culprit, descend, key_at, locate, node_path, read_refusal, rows_of, states_of
 from .plants import MEANINGS as HYDRO_MEANINGS, Place, first_fault, place_of
 from .profile import SCALE
+from .shown_names import shown_name
+from .status_lines import explain_status
 
 DESCRIPTION = """Reads the problem file, or the description of hydro plants, and, on standard input, what hydroplan wrote on
 standard error. Writes on standard output for each line of hydroplan what it means, with names, the JSON path, line and
-column; and warns of keys that hydroplan ignores and that look like one it knows, and of keys that come twice. Nothing
-here is proved."""
+column; and warns of keys that hydroplan ignores and that look like one it knows (of a description: of all that it
+ignores), and of keys that come twice. Nothing here is proved."""
 
 HYDRO = re.compile(r"hydro refused: (\w+) at (\w+) (\d+) (\d+)")
 RANGE = re.compile(r"range: iteration (\d+) node (\d+) realization (\d+)")
@@ -57,11 +59,11 @@ def main(words: Optional[Sequence[str]] = None) -> int:
     try:
         data = chosen.problem.read_bytes()
     except OSError as fault:
-        print(f"explain: {fault}", file=sys.stderr)
+        print(shown_name(f"explain: {fault}"), file=sys.stderr)
         return 1
     lines = [] if chosen.keys else chosen.line or [line for line in sys.stdin if line.startswith("hydroplan:")]
     for line in explain(data, lines):
-        print(line)
+        print(shown_name(line))
     return 0
 
 
@@ -96,7 +98,8 @@ def explain_line(root: Cursor, line: str) -> list[str]:
         found = form.search(line)
         if found is not None:
             return reader(root, found)
-    return ["this line names no place of the problem; the README says what each status means"]
+    said = explain_status(root, line)
+    return said if said is not None else ["this line names no place of the problem; the README says what each status means"]
 
 
 def _refusal(root: Cursor, line: str) -> list[str]:

@@ -1,6 +1,8 @@
-"""Keys of a problem file or a description that the program ignores and that look like known ones, and keys that come twice.
+"""Keys of a problem file that the program ignores and that look like known ones, all keys of a description that it ignores, and keys
+that come twice.
 
-Outside the proved core.
+Outside the proved core. A problem may be written by other tools, which have keys of their own; a description is written for the program
+alone, so each key that does not count is told.
 """
 from __future__ import annotations
 
@@ -30,18 +32,20 @@ def warnings(root: Cursor) -> list[str]:
     found: list[str] = []
     described = is_description(root)
     for keys in described_objects(root) if described else objects(root):
-        found.extend(_suspicious(keys))
+        found.extend(_ignored(keys, described))
         found.extend(_twice(keys.cursor))
     return [*found, *_unread_travels(root)] if described else found
 
 
-def _suspicious(keys: Keys) -> Iterator[str]:
+def _ignored(keys: Keys, all_of_them: bool) -> Iterator[str]:
     for key in keys.cursor.value.content:
         if key in keys.known or key in keys.harmless:
             continue
         like = nearest(key, keys.known)
         if like is not None:
             yield f"{_place_of(keys.cursor, key)}: the key `{key}` is ignored, and looks like `{like}`"
+        elif all_of_them:
+            yield f"{_place_of(keys.cursor, key)}: the key `{key}` is ignored"
 
 
 def _twice(cursor: Cursor) -> Iterator[str]:
@@ -84,10 +88,10 @@ def objects(root: Cursor) -> Iterator[Keys]:
 
 def described_objects(root: Cursor) -> Iterator[Keys]:
     """All objects of a description whose keys are known, as far as it has its form."""
-    yield from _one(root, (*(table for table, *_ in TABLES), STAGES[0]), OF_OTHER_TOOLS)
+    yield from _one(root, (*(table for table, *_ in TABLES), STAGES[0]))
     for table, part, *_ in TABLES:
         known = tuple(key for key, _ in MEMBERS[part])
-        yield from _one(root.find(table), ())
+        yield from _twice_alone(root.find(table))
         for at in _members(root.find(table)):
             yield from _one(at, (*known, "downstream", "travel") if part == "reservoir" else known)
     for stage in _items(root.find(STAGES[0])):
@@ -119,6 +123,12 @@ def _items(cursor: Optional[Cursor]) -> list[Cursor]:
 def _one(cursor: Optional[Cursor], known: tuple[str, ...], harmless: tuple[str, ...] = ()) -> Iterator[Keys]:
     if cursor is not None and cursor.is_object():
         yield Keys(cursor, known, harmless)
+
+
+def _twice_alone(cursor: Optional[Cursor]) -> Iterator[Keys]:
+    """A table whose keys are names of its own, all of which count."""
+    if cursor is not None and cursor.is_object():
+        yield Keys(cursor, tuple(cursor.keys()))
 
 
 def _node(cursor: Cursor, root: Cursor) -> Iterator[Keys]:

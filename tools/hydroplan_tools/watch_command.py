@@ -12,6 +12,7 @@ from typing import Optional, Sequence
 
 from .convert_command import read_with
 from .scales import read_scales
+from .shown_names import shown_name
 from .watching import Units, Watch, run_check
 
 DESCRIPTION = """Follows a journal that `hydroplan train` writes: runs `hydroplan check JOURNAL` on the problem file
@@ -53,7 +54,7 @@ def main(words: Optional[Sequence[str]] = None) -> int:
     except KeyboardInterrupt:
         return 0
     except (ValueError, OSError) as fault:
-        print(f"watch: {fault}", file=sys.stderr)
+        print(shown_name(f"watch: {fault}"), file=sys.stderr)
     return 1
 
 
@@ -76,8 +77,9 @@ def _watch(chosen: argparse.Namespace, units: Units) -> Watch:
             return None
         return found.st_size, found.st_mtime_ns
 
-    def show(row: str) -> None:
-        print(("\r\x1b[K" if on_terminal else "") + row, flush=True)
+    def show(rows: str) -> None:
+        for row in rows.split("\n"):
+            print(("\r\x1b[K" if on_terminal else "") + shown_name(row), flush=True)
 
     def wait(text: str) -> None:
         if on_terminal:

@@ -1,5 +1,6 @@
 """Reports back to the user's units, by the newsvendor's scales: costs times 40 and negated, u times 4, d times 2."""
 import io
+import json
 import unittest
 from fractions import Fraction as F
 
@@ -93,9 +94,29 @@ class Turning(unittest.TestCase):
     def test_what_was_turned_is_read_as_a_report(self):
         report = read_report(io.StringIO(EXPECTED))
         self.assertTrue(report.maximises)
-        self.assertEqual((report.cuts[0].alpha, report.cuts[0].slopes), (2, (F(-3, 2),)))
+        self.assertEqual((report.value(report.cuts[0].alpha), report.value(report.cuts[0].slopes[0])), (2, F(-3, 2)))
         stage = report.scenarios[0].stages[0]
-        self.assertEqual((stage.randoms["d"], stage.values["u"], stage.residuals), (F(29, 2), F(15, 2), [0, F(-1, 2)]))
+        self.assertEqual((report.value(stage.incoming["x"]), report.value(stage.residual)), (F(5, 2), F(1, 2)))
+
+
+class Names(unittest.TestCase):
+    def test_forge_no_line_and_are_read_again(self):
+        name, shown = "x\u202e\u2028\x85\x07", '"x\\u202e\\u2028\\u0085\\u0007"'
+        own = scales()
+        own.states = {name: F(1)}
+        second = own.subproblems[own.nodes["second_stage"]]
+        second.outgoing["x_out"] = name
+        written = REPORT.replace('"x"', json.dumps(name, ensure_ascii=False))
+        lines = turned(written, own)
+        self.assertEqual("".join(lines), EXPECTED.replace('"x"', shown))
+        self.assertEqual(read_report(io.StringIO("".join(lines))).states, [name])
+
+    def test_in_refusals(self):
+        status, _, err = run(main, "back", "--scales", DATA / "newsvendor.bounds.json", typed="x\n")
+        self.assertEqual(status, 1)
+        status, _, err = run(main, "problem", "no\nsuch\u202efile", "--write-scales", "none")
+        self.assertEqual((status, len(err.splitlines())), (1, 1))
+        self.assertNotIn("\u202e", err)
 
 
 class Solved(unittest.TestCase):

@@ -1,7 +1,10 @@
 """Refusals as names and places, and suspicious keys. Places in the examples were counted with awk."""
+import hashlib
 import json
 import re
+import tempfile
 import unittest
+from pathlib import Path
 
 from hydroplan_tools.explain_command import explain, main, ring_through
 from hydroplan_tools.likeness import distance, nearest
@@ -116,7 +119,66 @@ class OtherLines(unittest.TestCase):
         self.assertIn("constraints[2]", said(TWO, "hydroplan: journal refused: BadCertificate iteration 2 node 1 Sign 0 2"))
 
     def test_lines_without_a_place(self):
-        self.assertIn("names no place", said(TWO, "hydroplan: too much: formula 1 gives 7"))
+        self.assertIn("names no place", said(TWO, "hydroplan: cannot open x.json: No such file or directory"))
+
+    def test_words_and_streams(self):
+        text = said(TWO, "hydroplan: usage: base, train JOURNAL SEED COUNT [BATCH], ..")
+        for part in ("form: train JOURNAL SEED COUNT [BATCH] < PROBLEM\n", "form: gen SEED STAGES RESERVOIRS\n", "range: COUNT of simulate, 0 to 1000\n"):
+            self.assertIn(f"  {part}", text)
+        self.assertNotIn("form: prove", text)
+        rows = {
+            "journal device failed": "its permissions", "the journal is no regular file": "a folder, a pipe or a device",
+            "the journal's folder cannot be opened": "make it", "another run writes this journal": "`check` may read it",
+            "problem could not be read": "--problem FILE", "problem is longer than 16777216 bytes": "16,777,216", "output failed": "its disk",
+            "memory": "free some",
+        }
+        for line, part in rows.items():
+            self.assertIn(part, said(TWO, f"hydroplan: {line}"))
+
+    def test_too_much(self):
+        # three nodes at most on a path, two states: 2^24 / 9 paths in all, 1,864,135, so 29,127 of a batch of 64
+        text = said(TWO, f"hydroplan: too much: formula 1 gives {3 * 3 * 2000 * 64}")
+        self.assertIn("the states along the paths of all iterations: 1,152,000, limit 16,777,216\n", text)
+        chain = (REPOSITORY / "tests/program/data/chain.json").read_text(encoding="utf-8")
+        # 200 nodes and 50 states: 2^24 / (200 * 51) is 1644, a batch of 8 has an eighth of that
+        text = said(chain, "hydroplan: too much: formula 1 gives 20400000")
+        self.assertIn("  fits: with BATCH 1 at most 1,644 iterations\n", text)
+        self.assertIn("  fits: with BATCH 8 at most 205 iterations\n", text)
+        text = said(chain, "hydroplan: too much: formula 4 gives 20800000\nhydroplan: too much: a report")
+        self.assertIn("a report of 20,800,000 numbers, limit 4,194,304\n  fits: at most 201 scenarios", text)
+        self.assertIn("`simulate`", said(TWO, "hydroplan: too much: formula 5 gives 168420"))
+        self.assertIn("not told", said('{"buses": {}}', "hydroplan: too much: formula 3 gives 1"))
+        self.assertEqual(said(chain, "hydroplan: too much: a record of 5 bytes"), "hydroplan: too much: a record of 5 bytes")
+
+    def test_journals_that_are_refused(self):
+        rows = {
+            "NotAJournal": "does not begin", "OtherVersion 3": "version 3", "BadBatch 65": "65 paths", "Short at 45": "byte 45", "TooMany": "2,000 records",
+            "BadLength iteration 4 length 67108865": "iteration 4 says that it has 67108865 bytes", "BadRecord iteration 2 at 14": "from byte 14",
+            "OtherSeed kept 7 asked 8": "SEED 7, and 8 was asked for", "OtherBatch kept 2 asked 3": "BATCH 2, and 3 was asked for",
+            "SomethingElse 5": "not known here",
+        }
+        for line, part in rows.items():
+            self.assertIn(part, said(TWO, f"hydroplan: journal refused: {line}"))
+
+    def test_the_other_problem(self):
+        digest = lambda text: hashlib.sha256(text.encode("utf-8")).hexdigest()  # noqa: E731
+        own, windows = digest(TWO), digest(TWO.replace("\n", "\r\n"))
+        rows = [
+            (own, "1" * 64, "is the one that the journal was made for"), ("1" * 64, own, "is the one on standard input"),
+            ("1" * 64, "a" * 64, f"is neither, its SHA-256 is {own}"), (digest(TWO.rstrip()), own, "for this file without a newline at its end"),
+            (windows, own, "for this file with a newline at its end and with lines that end with a carriage return"),
+        ]
+        for kept, asked, part in rows:
+            self.assertIn(part, said(TWO, f"hydroplan: journal refused: OtherProblem kept {kept} asked {asked}"))
+
+    def test_names_forge_no_line(self):
+        with tempfile.TemporaryDirectory() as folder:
+            file = Path(folder) / "problem.json"
+            name = json.dumps("summer\nwarning: all is well\u202e\u2028\x07", ensure_ascii=False)[1:-1]
+            file.write_text(TWO.replace("summer dry", name), encoding="utf-8")
+            status, out, _ = run(main, file, "--line", "hydroplan: problem refused: Weight at node 2 0 0")
+        self.assertEqual((status, len(out.split("\n"))), (0, 5))
+        self.assertIn('where: node "summer\\u{000A}warning: all is well\\u{202E}\\u{2028}\\u{0007}"\n', out)
 
     def test_the_command_reads_the_program_s_lines_alone(self):
         typed = "something else\nhydroplan: problem refused: Version at whole 0 0 0\n"

@@ -190,6 +190,20 @@ class Keys(unittest.TestCase):
                 self.assertEqual(len(found), 1, found)
                 self.assertIn(part, found[0])
 
+    def test_each_key_that_is_ignored_is_told(self):
+        rows = [
+            ('{\n  "buses"', '{\n  "name": "valley",\n  "buses"', "$.name (line 2, column 3): the key `name` is ignored"),
+            ('"spill": 120', '"spill": 120, "owner": "x"', "$.reservoirs.cliff.owner"), ('"weight": 64', '"weight": 64, "year": 1981', "inflows[0].year"),
+            ('"demand": {"north"', '"demand": {"west": 5, "north"', "$.stages[0].demand.west"), ('"inflow": {"alp": 2,', '"inflow": {"lake": 1, "alp": 2,', "inflow.lake"),
+            ('"demand": {', '"month": 1, "demand": {', "$.stages[0].month"),
+        ]
+        for old, new, part in rows:
+            with self.subTest(new=new):
+                found = warnings(cursor(edited((old, new))))
+                self.assertEqual(len(found), 1, found)
+                self.assertIn(part, found[0])
+                self.assertTrue(found[0].endswith("` is ignored"))
+
     def test_a_misspelt_downstream(self):
         found = warnings(cursor(edited(('"downstream"', '"downstraem"'))))
         self.assertEqual(len(found), 2, found)

@@ -125,6 +125,13 @@ class Command(unittest.TestCase):
         status, out, _ = self.watch("--once")
         self.assertEqual((status, out.splitlines()[-1]), (1, "hydroplan: journal refused: NotAJournal"))
 
+    def test_what_is_said_forges_no_row(self):
+        program = self.folder / "program"
+        program.write_text(PROGRAM.replace("NotAJournal", "NotAJournal\\nhydroplan: so\u202e\\r"), encoding="utf-8")
+        self.journal.write_bytes(b"x")
+        status, out, _ = self.watch("--once")
+        self.assertEqual(out.split("\n")[-3:], ["hydroplan: journal refused: NotAJournal", "hydroplan: so\\u{202E}", ""])
+
     def test_scales(self):
         self.journal.write_bytes(b"o")
         scales = self.folder / "scales.json"
