@@ -30,10 +30,6 @@ class Command:
         """The command line: `train JOURNAL SEED COUNT [BATCH] < PROBLEM`."""
         return " ".join([self.name, *self.words]) + (f" < {self.source}" if self.source else "")
 
-    def summary(self) -> str:
-        """The first sentence of what it does, without the point at its end."""
-        return re.split(r"(?<=[a-z`)])[.:;] ", " ".join(self.text), maxsplit=1)[0].rstrip(".")
-
     def is_of_the_program(self) -> bool:
         """Whether the proved program reads it, and neither the script nor a tool does."""
         return self.name not in (*TOOLS, *OF_THE_SCRIPT)
@@ -41,7 +37,7 @@ class Command:
 
 @dataclass(frozen=True)
 class Word:
-    """A word of a form: for which command (empty for all), what it may be, and what it does."""
+    """A word of a form: for which command (empty for all), what it may be, and what it does; or a status and what it means."""
 
     name: str
     command: str
@@ -65,6 +61,10 @@ class Table:
         """The command of this name."""
         return next((it for it in self.commands if it.name == name), None)
 
+    def statuses(self) -> list[tuple[int, str]]:
+        """The numbers with which the script and the program end, and what each means."""
+        return [(int(it.name.split()[1]), it.allowed) for it in self.words if it.name.startswith("status ")]
+
     def word(self, name: str, command: str) -> Optional[Word]:
         """What a word may be behind a command."""
         return next((it for it in self.words if it.name == name and it.command in ("", command)), None)
@@ -86,6 +86,6 @@ def read_table(path: Path = FILE) -> Table:
 
 
 def _entries(text: str) -> Iterator[tuple[str, tuple[str, ...]]]:
-    for entry in text.strip().split("\n\n"):
-        head, *rest = entry.split("\n")
+    for entry in re.split(r"\n(?=[^\s])", text.strip()):
+        head, *rest = entry.strip().split("\n")
         yield head, tuple(line.strip() for line in rest)
