@@ -15,8 +15,8 @@ MOST_SIMULATIONS = 1_000
 # the greatest value of each formula
 GREATEST = {1: 1 << 24, 2: 1 << 22, 3: 1 << 26, 4: 1 << 22, 5: 1 << 16, 6: 1 << 40, 7: 1 << 60}
 MEANINGS = {
-    1: "the states along the paths of all iterations: {value:,}, limit {greatest:,}",
-    2: "the table of a node's program: {value:,} numbers, limit {greatest:,}",
+    1: "cuts of {value:,} numbers, limit {greatest:,}",
+    2: "a table of {value:,} numbers for a node's program, limit {greatest:,}",
     3: "a record of {value:,} bytes, limit {greatest:,}",
     4: "a report of {value:,} numbers, limit {greatest:,}",
     5: "a policy of {value:,} branches, limit {greatest:,}",

@@ -26,7 +26,11 @@ PLAIN = {
 }
 TOO_MUCH = re.compile(r"too much: formula (\d) gives (\d+)")
 REFUSED = re.compile(r"journal refused: (\w+)((?: \w+)*)")
-IN_WORDS = re.compile(r"hydroplan: (too much: (?!formula)|with COUNT |what would fit |waiting for |training cuts )")
+# lines of the script, which say in words what they mean
+IN_WORDS = re.compile(
+    r"hydroplan: (too much: (?!formula)|with COUNT |what would fit |waiting for |training cuts |warning: |cannot open |there is no |"
+    r"(base|train|check|simulate|validate|evaluate|robust|hydro|gen): )"
+)
 
 # what each refusal of a journal means; {0} and so on are the numbers or digests of its line
 JOURNALS = {
@@ -129,8 +133,10 @@ def variants(data: bytes) -> Iterator[tuple[str, bytes]]:
     """The same text as editors and copies leave it."""
     plain = data.replace(b"\r\n", b"\n")
     windows = plain.replace(b"\n", b"\r\n")
-    for how, text in (("", plain), (" with lines that end with a carriage return", windows)):
-        end = b"\r\n" if text is windows else b"\n"
-        yield f"without a newline at its end{how and ' and' + how}", text.rstrip(b"\r\n")
-        yield f"with a newline at its end{how and ' and' + how}", text.rstrip(b"\r\n") + end
-        yield f"with other ends of lines{how and ':' + how}", text
+    for how, text, end in (("", plain, b"\n"), ("with a carriage return at the end of each line", windows, b"\r\n")):
+        if not how and plain != data:
+            how = "without carriage returns"
+        behind = how and f", {how}"
+        yield f"without a newline at its end{behind}", text.rstrip(b"\r\n")
+        yield f"with one newline at its end{behind}", text.rstrip(b"\r\n") + end
+        yield how, text

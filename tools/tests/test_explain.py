@@ -119,7 +119,9 @@ class OtherLines(unittest.TestCase):
         self.assertIn("constraints[2]", said(TWO, "hydroplan: journal refused: BadCertificate iteration 2 node 1 Sign 0 2"))
 
     def test_lines_without_a_place(self):
-        self.assertIn("names no place", said(TWO, "hydroplan: cannot open x.json: No such file or directory"))
+        self.assertIn("names no place", said(TWO, "hydroplan: something new"))
+        for line in ("cannot open x.json: No such file or directory", "train: JOURNAL is missing", "there is no command `bases`; `base` is the nearest"):
+            self.assertEqual(said(TWO, f"hydroplan: {line}"), f"hydroplan: {line}")
 
     def test_words_and_streams(self):
         text = said(TWO, "hydroplan: usage: base, train JOURNAL SEED COUNT [BATCH], ..")
@@ -138,7 +140,7 @@ class OtherLines(unittest.TestCase):
     def test_too_much(self):
         # three nodes at most on a path, two states: 2^24 / 9 paths in all, 1,864,135, so 29,127 of a batch of 64
         text = said(TWO, f"hydroplan: too much: formula 1 gives {3 * 3 * 2000 * 64}")
-        self.assertIn("the states along the paths of all iterations: 1,152,000, limit 16,777,216\n", text)
+        self.assertIn("cuts of 1,152,000 numbers, limit 16,777,216\n", text)
         chain = (REPOSITORY / "tests/program/data/chain.json").read_text(encoding="utf-8")
         # 200 nodes and 50 states: 2^24 / (200 * 51) is 1644, a batch of 8 has an eighth of that
         text = said(chain, "hydroplan: too much: formula 1 gives 20400000")
@@ -166,10 +168,14 @@ class OtherLines(unittest.TestCase):
         rows = [
             (own, "1" * 64, "is the one that the journal was made for"), ("1" * 64, own, "is the one on standard input"),
             ("1" * 64, "a" * 64, f"is neither, its SHA-256 is {own}"), (digest(TWO.rstrip()), own, "for this file without a newline at its end"),
-            (windows, own, "for this file with a newline at its end and with lines that end with a carriage return"),
+            (windows, own, "for this file with one newline at its end, with a carriage return at the end of each line"),
         ]
         for kept, asked, part in rows:
             self.assertIn(part, said(TWO, f"hydroplan: journal refused: OtherProblem kept {kept} asked {asked}"))
+        text = said(TWO.replace("\n", "\r\n"), f"hydroplan: journal refused: OtherProblem kept {own} asked {windows}")
+        self.assertIn("for this file with one newline at its end, without carriage returns", text)
+        text = said(TWO.replace("\n", "\r\n") + "\r\n", f"hydroplan: journal refused: OtherProblem kept {digest(TWO + chr(10))} asked {'1' * 64}")
+        self.assertIn("for this file without carriage returns", text)
 
     def test_names_forge_no_line(self):
         with tempfile.TemporaryDirectory() as folder:
