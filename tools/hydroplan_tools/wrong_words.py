@@ -24,18 +24,24 @@ def main(*words: str) -> int:
 
 
 def lines_on(words: Sequence[str], table: Table) -> list[str]:
-    """The lines on a wrong command line: what is wrong first, and then what the command takes."""
+    """The lines on a wrong command line: what is wrong first, and then what the command takes, or the one that is nearest."""
     rest, fault = without_option(words)
-    command = table.command(rest[0]) if rest else None
     if rest and rest[0] in ("help", "-h", "--help") and len(rest) > 1:
         return [f"hydroplan: {_wrong_help(rest, table)}", HINT]
+    command = table.command(rest[0]) if rest else None
     if command is None or not command.is_of_the_program():
-        return [f"hydroplan: {fault or _no_command(rest, table)}", HINT]
+        like = None if command is not None or not rest else nearest(rest[0], tuple(it.name for it in table.commands))
+        return [f"hydroplan: {fault or _no_command(rest, table, like)}", *_told(like and table.command(like)), HINT]
     fault = fault or _wrong_source(words, command) or wrong_word(command, rest[1:], table)
-    said = [f"hydroplan: {command.name}: {fault}", f"usage: ./hydroplan {command.form()}"]
-    if command.source:
-        said.append(f"{command.source} comes on standard input (< FILE), or as a file by {OPTION} FILE")
-    return [*said, f"./hydroplan help {command.name} says what it takes and prints"]
+    return [f"hydroplan: {command.name}: {fault}", *_told(command), f"./hydroplan help {command.name} says what it takes and prints"]
+
+
+def _told(command: Optional[Command]) -> list[str]:
+    """The form of a command of the program, and where its problem comes from."""
+    if command is None or not command.is_of_the_program():
+        return []
+    usage = f"usage: ./hydroplan {command.form()}"
+    return [usage, f"{command.source} comes on standard input (< FILE), or as a file by {OPTION} FILE"] if command.source else [usage]
 
 
 HINT = "./hydroplan help lists the commands, and ./hydroplan help COMMAND says what one takes and prints"
@@ -61,13 +67,11 @@ def _wrong_source(words: Sequence[str], command: Command) -> Optional[str]:
     return f"it reads nothing, so {OPTION} has no use" if given and not command.source else None
 
 
-def _no_command(rest: Sequence[str], table: Table) -> str:
+def _no_command(rest: Sequence[str], table: Table, like: Optional[str]) -> str:
     if not rest:
         return "a command is missing"
-    names = tuple(it.name for it in table.commands)
     if table.command(rest[0]) is not None or rest[0] in ("-h", "--help", "-V", "--version"):
         return f"`{rest[0]}` is not followed by other words" if len(rest) > 1 else f"`{rest[0]}` is no command by itself"
-    like = nearest(rest[0], names)
     kind = "option" if rest[0].startswith("-") else "command"
     return f"there is no {kind} `{rest[0]}`" + ("" if like is None else f"; `{like}` is the nearest")
 
