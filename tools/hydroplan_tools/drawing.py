@@ -95,7 +95,7 @@ def draw_fans(fans: Sequence[Fan], word: str, title: str, logarithmic: bool = Fa
         if logarithmic and any(float(row[-1]) > 0 for row in it.quantiles):
             axes.set_yscale("symlog", linthresh=1e-7)
     panels[0].set_title(shown(title))
-    panels[0].legend(fontsize="small")
+    panels[0].legend(fontsize="small", title="shares of the scenarios", title_fontsize="small")
     panels[-1].set_xlabel("stage [number, from 0]")
     return figure
 

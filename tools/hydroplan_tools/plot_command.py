@@ -139,7 +139,7 @@ def _storage(chosen: argparse.Namespace) -> tuple[Callable, Iterator[list[str]]]
 def _residuals(chosen: argparse.Namespace) -> tuple[Callable, Iterator[list[str]]]:
     report = _with_scenarios(chosen.report, "row")
     fans = residuals(report)
-    return lambda pictures: pictures.draw_fans(fans, f"residual\n[{report.units()} of the row]", chosen.title, True), _fan_rows(fans)
+    return lambda pictures: pictures.draw_fans(fans, f"residual\n[{report.units()}, of each row]", chosen.title, True), _fan_rows(fans)
 
 
 def _with_scenarios(path: Path, word: str) -> Report:

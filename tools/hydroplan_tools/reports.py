@@ -8,8 +8,9 @@ from __future__ import annotations
 
 from dataclasses import dataclass, field
 from fractions import Fraction
+from functools import partial
 from pathlib import Path
-from typing import Iterable, Optional, Sequence, Union
+from typing import Callable, Iterable, Optional, Sequence, Union
 
 from .back import HEAD, USER_HEAD, BadReport, split_name
 
@@ -65,7 +66,8 @@ class Report:
     maximises: bool = False
     is_users: bool = False
     unit: int = 1
-    digits: Optional[int] = None
+    # how a number of the report is read, as a multiple of 1/unit
+    raw: Callable[[str], Raw] = int
     names: dict[str, str] = field(default_factory=dict)
 
     def number(self, text: str) -> Fraction:
@@ -75,17 +77,6 @@ class Report:
     def value(self, raw: Raw) -> Fraction:
         """What a multiple of 1/unit stands for."""
         return Fraction(raw) / self.unit
-
-    def raw(self, text: str) -> Raw:
-        """A number of the report as a multiple of 1/unit."""
-        if not self.is_users:
-            return int(text)
-        if self.digits is None:
-            return Fraction(text)
-        front, _, behind = text.partition(".")
-        if len(behind) > self.digits:
-            raise ValueError(f"more than {self.digits} digits behind the point")
-        return int(front + behind.ljust(self.digits, "0"))
 
     def units(self) -> str:
         """The units in words."""
@@ -115,22 +106,30 @@ def read_report(lines: Iterable[str], of_steps: Sequence[str] = OF_STEPS) -> Rep
     for number, line in enumerate(lines, 1):
         if line.startswith(passed_over) and report.scenarios:
             continue
-        line = line.rstrip("\n")
-        if number == 1 and line not in (HEAD, USER_HEAD):
-            raise BadReport(f"line 1: a report begins with `{HEAD}`, not with `{line[:60]}`")
-        word, _, rest = line.partition(" ")
+        word, _, rest = line.rstrip("\n").partition(" ")
+        if number == 1 and line.rstrip("\n") not in (HEAD, USER_HEAD):
+            raise BadReport(f"line 1: a report begins with `{HEAD}`, not with `{line.rstrip()[:60]}`")
         try:
             LINES[word](report, rest)
         except (ValueError, KeyError, IndexError, ZeroDivisionError) as fault:
             reason = "no line of a report that is read here" if word not in LINES else repr(fault)
-            raise BadReport(f"line {number} ({line[:60]}): {reason}") from None
+            raise BadReport(f"line {number} ({line.strip()[:60]}): {reason}") from None
     if not report.nodes:
         raise BadReport("the report has no nodes")
     return report
 
 
+def decimal(digits: int, text: str) -> int:
+    """A decimal number with at most so many digits behind the point, times 10^digits."""
+    front, _, behind = text.partition(".")
+    if len(behind) > digits:
+        raise ValueError(f"more than {digits} digits behind the point")
+    return int(front + behind.ljust(digits, "0"))
+
+
 def _users(report: Report, rest: str) -> None:
     report.is_users = True
+    report.raw = Fraction
 
 
 def _scale(report: Report, rest: str) -> None:
@@ -138,8 +137,8 @@ def _scale(report: Report, rest: str) -> None:
 
 
 def _digits(report: Report, rest: str) -> None:
-    report.digits = int(rest)
-    report.unit = 10**report.digits
+    digits = int(rest)
+    report.unit, report.raw = 10**digits, partial(decimal, digits)
 
 
 def _sense(report: Report, rest: str) -> None:
@@ -193,7 +192,7 @@ def _stage(report: Report, rest: str) -> None:
 
 def _in(report: Report, rest: str) -> None:
     name, _, number = rest.rpartition(" ")
-    report.scenarios[-1].stages[-1].incoming[report.name(name)] = report.raw(number)
+    report.scenarios[-1].stages[-1].incoming[report.names.get(name) or report.name(name)] = report.raw(number)
 
 
 def _row(report: Report, rest: str) -> None:
