@@ -6,6 +6,7 @@ a trace are passed over, since nothing is drawn of them.
 """
 from __future__ import annotations
 
+import re
 from dataclasses import dataclass, field
 from fractions import Fraction
 from functools import partial
@@ -91,29 +92,35 @@ class Report:
 
 
 OF_STEPS = ("in", "row", "cost")
+PASSED_OVER = ("value", "random")
 
 
 def read_file(path: Path, of_steps: Sequence[str] = OF_STEPS) -> Report:
     """The report in a file, or BadReport. Of the lines of a trace's steps those with these words are read."""
-    with path.open(encoding="utf-8", newline="\n") as lines:
-        return read_report(lines, of_steps)
+    with path.open(encoding="utf-8", newline="\n") as file:
+        text = file.read().removesuffix("\n")
+    passed_over = "|".join(word for word in (*PASSED_OVER, *OF_STEPS) if word not in of_steps)
+    try:
+        # most lines of a long trace are passed over, and are never cut out of the text
+        return read_report(re.findall(f"\n(?!(?:{passed_over}) )([^\n]*)", "\n" + text))
+    except BadReport:
+        return read_report(text.split("\n"))  # all lines, so that the place is told
 
 
-def read_report(lines: Iterable[str], of_steps: Sequence[str] = OF_STEPS) -> Report:
-    """The report of these lines, or BadReport. Of the lines of a trace's steps those with these words are read."""
+def read_report(lines: Iterable[str]) -> Report:
+    """The report of these lines, or BadReport. Random values and decisions of a trace are passed over."""
     report = Report()
-    passed_over = tuple(f"{word} " for word in ("value", "random", *OF_STEPS) if word not in of_steps)
     for number, line in enumerate(lines, 1):
-        if line.startswith(passed_over) and report.scenarios:
-            continue
-        word, _, rest = line.rstrip("\n").partition(" ")
-        if number == 1 and line.rstrip("\n") not in (HEAD, USER_HEAD):
-            raise BadReport(f"line 1: a report begins with `{HEAD}`, not with `{line.rstrip()[:60]}`")
+        line = line.rstrip("\n")
+        if number == 1 and line not in (HEAD, USER_HEAD):
+            raise BadReport(f"line 1: a report begins with `{HEAD}`, not with `{line[:60]}`")
+        word, _, rest = line.partition(" ")
         try:
-            LINES[word](report, rest)
+            if word not in PASSED_OVER or not report.scenarios:
+                LINES[word](report, rest)
         except (ValueError, KeyError, IndexError, ZeroDivisionError) as fault:
             reason = "no line of a report that is read here" if word not in LINES else repr(fault)
-            raise BadReport(f"line {number} ({line.strip()[:60]}): {reason}") from None
+            raise BadReport(f"line {number} ({line[:60]}): {reason}") from None
     if not report.nodes:
         raise BadReport("the report has no nodes")
     return report
