@@ -143,6 +143,7 @@ def keep(descriptor: int, journal: str) -> str:
         try:
             with os.fdopen(made, "wb") as copy:
                 fill(descriptor, copy)
+            sync_folder(name)
         except OSError:
             os.unlink(name)
             raise
@@ -162,6 +163,15 @@ def fill(descriptor: int, copy) -> None:
     copy.flush()
     os.fchmod(copy.fileno(), stat.S_IMODE(os.fstat(descriptor).st_mode))
     os.fsync(copy.fileno())
+
+
+def sync_folder(name: str) -> None:
+    """Brings the name of a new file to the disk."""
+    folder = os.open(os.path.dirname(name) or ".", os.O_RDONLY)
+    try:
+        os.fsync(folder)
+    finally:
+        os.close(folder)
 
 
 def say(text: str) -> None:

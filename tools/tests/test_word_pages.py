@@ -37,9 +37,9 @@ class Table(unittest.TestCase):
             for word in command.words:
                 self.assertIsNotNone(TABLE.word(word.strip("[]"), command.name), word)
             self.assertIn(command.source, ("", "PROBLEM", "DESCRIPTION"))
-        readme = (REPOSITORY / "README.md").read_text(encoding="utf-8")
-        told = [int(number) for number in re.findall(r"^\| (\d+) \| (?:`|\(none\))", readme, re.M)]
-        self.assertEqual(sorted({*told, 1}), [number for number, _ in TABLE.statuses()])
+        rows = (REPOSITORY / "tests/program/row_runner/expectation.py").read_text(encoding="utf-8")
+        told = [int(number) for number in re.findall(r'^    "[a-z].*": (\d+),$', rows, re.M)]
+        self.assertEqual(sorted({0, 1, *told}), [number for number, _ in TABLE.statuses()])
 
 
 class Pages(unittest.TestCase):
