@@ -73,14 +73,18 @@ def explain(data: bytes, lines: Iterable[str]) -> list[str]:
         document = parse(data)
     except NotJson as fault:
         said = [f"no JSON at line {fault.line}, column {fault.column}: {fault.reason}"]
-        return [*(line.strip() for line in lines), *said]
+        return [it for line in lines for it in _under(line, explain_status(data, line) or [])] + said
     root = Cursor(document, document.root)
     found: list[str] = []
     for line in lines:
-        found.append(line.strip())
-        found.extend("  " + it for it in _explained(root, line))
+        found.extend(_under(line, _explained(root, line)))
     found.extend(f"warning: {it}" for it in warnings(root))
     return found or ["nothing to explain: no line of hydroplan, and no suspicious keys"]
+
+
+def _under(line: str, said: list[str]) -> list[str]:
+    """A line with what is said of it."""
+    return [line.strip(), *("  " + it for it in said)]
 
 
 def _explained(root: Cursor, line: str) -> list[str]:
@@ -98,7 +102,7 @@ def explain_line(root: Cursor, line: str) -> list[str]:
         found = form.search(line)
         if found is not None:
             return reader(root, found)
-    said = explain_status(root, line)
+    said = explain_status(root.document.text.encode("utf-8"), line)
     return said if said is not None else ["this line names no place of the problem; the README says what each status means"]
 
 

@@ -9,7 +9,6 @@ import json
 import re
 from typing import Callable, Iterator, Optional
 
-from .cursor import Cursor
 from .limits import GREATEST, MEANINGS, Extent, extent_of
 from .word_table import read_table
 
@@ -47,8 +46,8 @@ JOURNALS = {
 }
 
 
-def explain_status(root: Cursor, line: str) -> Optional[list[str]]:
-    """What a line means that names no place; none where it is no such line."""
+def explain_status(data: bytes, line: str) -> Optional[list[str]]:
+    """What a line means that names no place, beside the bytes of a problem; none where it is no such line."""
     if IN_WORDS.match(line):
         return []
     if "hydroplan: usage: " in line:
@@ -56,7 +55,7 @@ def explain_status(root: Cursor, line: str) -> Optional[list[str]]:
     for form, reader in ((TOO_MUCH, too_much), (REFUSED, refused)):
         found = form.search(line)
         if found is not None:
-            return reader(root, found)
+            return reader(data, found)
     text = line.partition("hydroplan: ")[2]
     return next(([f"what: {meaning}"] for start, meaning in PLAIN.items() if text.startswith(start)), None)
 
@@ -70,14 +69,14 @@ def usage() -> list[str]:
     return [*said, "numbers are digits alone, without a sign and without a leading zero"]
 
 
-def too_much(root: Cursor, found: re.Match) -> list[str]:
+def too_much(data: bytes, found: re.Match) -> list[str]:
     """What is too much, and what would fit of the problem at hand."""
     formula, value = int(found[1]), int(found[2])
     if formula not in MEANINGS:
         return ["what: a formula that is not known here"]
     said = ["what: " + MEANINGS[formula].format(value=value, greatest=GREATEST[formula])]
     try:
-        extent = extent_of(json.loads(root.document.text))
+        extent = extent_of(json.loads(data))
     except (KeyError, TypeError, AttributeError, ValueError, RecursionError):
         return [*said, "fits: not told, since this file is no problem"]
     return [*said, *(f"fits: {it}" for it in FITS[formula](extent))]
@@ -109,14 +108,14 @@ FITS: dict[int, Callable[[Extent], Iterator[str]]] = {
 }
 
 
-def refused(root: Cursor, found: re.Match) -> list[str]:
+def refused(data: bytes, found: re.Match) -> list[str]:
     """Why a journal is refused."""
     kind = found[1]
     if kind not in JOURNALS:
         return ["what: a refusal that is not known here"]
     told = [word for word in found[2].split() if not word.isalpha() or len(word) == 64]
     said = ["what: " + JOURNALS[kind].format(*told, "?", "?")]
-    return [*said, *other_problem(root.document.text.encode("utf-8"), *told)] if kind == "OtherProblem" and len(told) == 2 else said
+    return [*said, *other_problem(data, *told)] if kind == "OtherProblem" and len(told) == 2 else said
 
 
 def other_problem(data: bytes, kept: str, asked: str) -> list[str]:

@@ -137,6 +137,14 @@ class OtherLines(unittest.TestCase):
         for line, part in rows.items():
             self.assertIn(part, said(TWO, f"hydroplan: {line}"))
 
+    def test_beside_a_file_that_is_no_json(self):
+        text = said("no json", "hydroplan: another run writes this journal")
+        self.assertIn("`check` may read it", text)
+        self.assertIn("no JSON at line 1, column 1", text)
+        digest = hashlib.sha256(b"\xff").hexdigest()
+        text = "\n".join(explain(b"\xff", [f"hydroplan: journal refused: OtherProblem kept {'1' * 64} asked {digest}"]))
+        self.assertIn("is the one on standard input", text)
+
     def test_too_much(self):
         # three nodes at most on a path, two states: 2^24 / 9 paths in all, 1,864,135, so 29,127 of a batch of 64
         text = said(TWO, f"hydroplan: too much: formula 1 gives {3 * 3 * 2000 * 64}")
