@@ -238,7 +238,8 @@ class Kills(InFolder):
 
 class Index(unittest.TestCase):
     def test_statuses_are_those_of_the_table(self) -> None:
-        table = (TOP / "README.md").read_text(encoding="utf-8")
+        page = (TOP / "docs" / "FORMAT.md").read_text(encoding="utf-8")
+        table = page.partition("\n# Statuses\n")[2].partition("\n# ")[0]
         lines = {text: int(number) for number, text in re.findall(r"^\| (\d+) \| `([^`]*)` \|", table, re.M)}
         self.assertEqual(sorted(lines.values()), sorted(STATUSES.values()))
         for text, number in lines.items():

@@ -103,7 +103,7 @@ def explain_line(root: Cursor, line: str) -> list[str]:
         if found is not None:
             return reader(root, found)
     said = explain_status(root.document.text.encode("utf-8"), line)
-    return said if said is not None else ["this line names no place of the problem; the README says what each status means"]
+    return said if said is not None else ["this line names no place of the problem; docs/FORMAT.md says what each status means"]
 
 
 def _refusal(root: Cursor, line: str) -> list[str]:
