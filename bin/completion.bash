@@ -27,7 +27,7 @@ _hydroplan_words() {
     "gen 1 "*) reply="" ;;
     "gen 2 "*) reply="" ;;
     "gen 3 "*) reply="" ;;
-    "convert "*" problem") reply="FILE -h --help --output --write-scales --scales --bounds --negate-max --normalise --largest --tolerance --ledger" ;;
+    "convert "*" problem") reply="FILE -h --help --output --write-scales --scales --bounds --negate-max --normalise --largest --tolerance --successor-total --ledger" ;;
     "convert "*" back") reply="FILE -h --help --scales --digits --exact" ;;
     "convert "*) reply="problem back -h --help" ;;
     "explain "*) reply="FILE -h --help --line --keys" ;;

@@ -6,19 +6,19 @@ problem that was written, so the ledger of what was rounded belongs to them.
 from __future__ import annotations
 
 import argparse
-import json
 import sys
 from fractions import Fraction
 from pathlib import Path
 from typing import Callable, Optional, Sequence, TextIO, TypeVar
 
 from .back import BadReport, Back
-from .converting import Bounds, Ledger, Writer, as_minimum, with_bounds, without_fixings, without_nothing
+from .compiling import Options, compile_model, ledger_lines, problem_text
+from .converting import Bounds, Ledger
 from .cursor import Cursor, Refused
 from .located_json import NotJson, parse
 from .model import Quantity, quantity
 from .profile import MOST_FILE_BYTES
-from .scales import Scales, complete, read_scales, write_scales
+from .scales import Scales, read_scales, write_scales
 from .shown_names import shown_name
 from .stochopt import read_model
 
@@ -48,6 +48,7 @@ def parser() -> argparse.ArgumentParser:
     add("--normalise", action="store_true", help="take probabilities that do not sum to 1 as parts of their sum")
     add("--largest", type=int, default=10**9, help="no found scale makes a greater number (10^9)")
     add("--tolerance", type=Fraction, default=Fraction(1, 1000), help="refuse what is rounded by more than this part (0.001)")
+    add("--successor-total", type=int, default=1, help="weights of a node's successors add up to this at least (1); 256 makes cuts finer")
     add("--ledger", type=Path, help="where the lines on roundings are written")
     back = commands.add_parser("back", description=BACK, help="a report of hydroplan to your units")
     back.add_argument("report", type=Path, nargs="?", help="the report (default: standard input)")
@@ -85,30 +86,17 @@ def read_with(path: Path, reader: Callable[[Cursor], Read]) -> Read:
 
 def convert(source: Cursor, chosen: Scales, bounds: Bounds, options: argparse.Namespace) -> tuple[dict, Scales, Ledger]:
     """The problem in whole numbers, its scales, and what was rounded and left out."""
-    ledger = Ledger(options.tolerance)
-    model = read_model(source)
-    ledger.notes.extend(model.notes)
-    model = without_fixings(without_nothing(model, ledger), ledger)
-    model = with_bounds(model, bounds, ledger)
-    chosen.negated = as_minimum(model, options.negate_max)
-    if chosen.negated:
-        ledger.notes.append("sense: max was turned into min, all costs are negated")
-    scales = complete(model, chosen, options.largest)
-    return Writer(model, scales, ledger, options.normalise).problem(), scales, ledger
+    wanted = Options(options.negate_max, options.normalise, options.largest, options.tolerance, options.successor_total)
+    return compile_model(read_model(source), chosen, bounds, wanted)
 
 
 def _problem(chosen: argparse.Namespace) -> int:
     scales = read_with(chosen.scales, read_scales) if chosen.scales else Scales()
     bounds = read_with(chosen.bounds, read_bounds) if chosen.bounds else Bounds({}, {})
     problem, found, ledger = convert(load(chosen.input), scales, bounds, chosen)
-    text = json.dumps(problem, ensure_ascii=False, separators=(",", ":")) + "\n"
-    if len(text.encode("utf-8")) > MOST_FILE_BYTES:
-        raise ValueError(f"the problem would have more than {MOST_FILE_BYTES} bytes")
-    _write(chosen.output, text, sys.stdout)
+    _write(chosen.output, problem_text(problem, MOST_FILE_BYTES), sys.stdout)
     _write(chosen.write_scales, write_scales(found), sys.stdout)
-    lines = [*ledger.notes, *(it.line() for it in ledger.roundings)]
-    lines.append(f"{len(ledger.roundings)} numbers were rounded")
-    _write(chosen.ledger, "".join(shown_name(line) + "\n" for line in lines), sys.stderr)
+    _write(chosen.ledger, "".join(shown_name(line) + "\n" for line in ledger_lines(ledger)), sys.stderr)
     return 0
 
 

@@ -13,7 +13,7 @@ from .decimals import decimal_text
 from .model import Constraint, Function, Model, Node, Quantity, Step, Subproblem, Term, refuse_at
 from . import profile
 from .scales import Scales, bounds_of, rows_of
-from .weights import SUM_TOLERANCE, full_weights, stopping_weights
+from .weights import SUM_TOLERANCE, finer, full_weights, stopping_weights
 
 
 @dataclass(frozen=True)
@@ -189,7 +189,9 @@ def without_nothing(model: Model, ledger: Ledger) -> Model:
         for it in node.realizations:
             if it.probability.value == 0:
                 ledger.notes.append(f"left out: {it.probability.place}: a realization of probability 0")
-        nodes[name] = replace(node, realizations=kept, successors=_positive(node.successors, ledger))
+        nodes[name] = replace(
+            node, realizations=kept, successors=_positive(node.successors, ledger), alternatives=_alternatives(node),
+        )
     reached = _reached(root_successors, nodes)
     for name in nodes:
         if name not in reached:
@@ -201,6 +203,16 @@ def without_nothing(model: Model, ledger: Ledger) -> Model:
         count = len(model.scenarios) - len(kept_scenarios)
         ledger.notes.append(f"left out: {count} stored scenarios that do not follow the graph")
     return replace(model, scenarios=kept_scenarios)
+
+
+def _alternatives(node: Node) -> tuple[tuple[Quantity, ...], ...]:
+    """The alternatives without the realizations of probability 0; the others of a list have to sum to 1."""
+    kept = [at for at, it in enumerate(node.realizations) if it.probability.value > 0]
+    found = tuple(tuple(alternative[at] for at in kept) for alternative in node.alternatives)
+    nothing = next((it for alternative in found for it in alternative if it.value == 0), None)
+    if nothing is not None:
+        raise refuse_at(nothing.place, "Probability", "an alternative has probability 0, and weights are at least 1")
+    return found
 
 
 def _positive(successors: dict[str, Quantity], ledger: Ledger) -> dict[str, Quantity]:
@@ -238,6 +250,7 @@ class Writer:
     scales: Scales
     ledger: Ledger
     may_differ: bool
+    successor_total: int = 1
 
     def problem(self) -> dict:
         """The problem as a JSON value of whole numbers."""
@@ -278,10 +291,12 @@ class Writer:
                 {"probability": weight, "support": self._support(node.subproblem, it.support)}
                 for weight, it in zip(weights, node.realizations)
             ]
+        if node.alternatives:
+            written["alternatives"] = [list(self._full_weights(list(it), place)) for it in node.alternatives]
         if not node.successors:
             return written
         given = list(node.successors.values())
-        *weights, stop = stopping_weights(given, place)
+        *weights, stop = finer(stopping_weights(given, place), self.successor_total)
         self.ledger.shares(given, (*weights, stop))
         written["successors"] = dict(zip(node.successors, weights))
         if stop:

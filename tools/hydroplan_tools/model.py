@@ -87,12 +87,13 @@ class Realization:
 
 @dataclass(frozen=True)
 class Node:
-    """A node of the policy graph."""
+    """A node of the policy graph; `alternatives` are further lists of probabilities of its realizations."""
 
     subproblem: str
     realizations: tuple[Realization, ...]
     successors: dict[str, Quantity]
     cursor: Cursor
+    alternatives: tuple[tuple[Quantity, ...], ...] = ()
 
 
 @dataclass(frozen=True)

@@ -53,7 +53,10 @@ class Scenario:
 
 @dataclass
 class Report:
-    """What a report holds; what it does not have is empty or none. Cuts and traces stand as multiples of 1/unit."""
+    """What a report holds; what it does not have is empty or none. Cuts, planes and traces stand as multiples of 1/unit.
+
+    `branches` leads from the root to the first branch whose decisions miss a row, and `missed` is that row and by how much.
+    """
 
     states: list[str] = field(default_factory=list)
     nodes: list[str] = field(default_factory=list)
@@ -64,6 +67,10 @@ class Report:
     upper: Optional[Fraction] = None
     rest: Optional[int] = None
     scenarios: list[Scenario] = field(default_factory=list)
+    planes: list[Cut] = field(default_factory=list)
+    worst: Optional[Fraction] = None
+    branches: list[tuple[int, int]] = field(default_factory=list)
+    missed: Optional[tuple[int, Fraction]] = None
     maximises: bool = False
     is_users: bool = False
     unit: int = 1
@@ -161,10 +168,23 @@ def _node(report: Report, rest: str) -> None:
 
 
 def _cut(report: Report, rest: str) -> None:
+    report.cuts.append(_cut_of(report, rest))
+
+
+def _plane(report: Report, rest: str) -> None:
+    report.planes.append(_cut_of(report, rest))
+
+
+def _cut_of(report: Report, rest: str) -> Cut:
     node, place, alpha, *slopes = rest.split()
     if len(slopes) != len(report.states):
         raise ValueError("not one slope per state")
-    report.cuts.append(Cut(int(node), int(place), report.raw(alpha), tuple(map(report.raw, slopes))))
+    return Cut(int(node), int(place), report.raw(alpha), tuple(map(report.raw, slopes)))
+
+
+def _branch(report: Report, rest: str) -> None:
+    node, realization = rest.split()
+    report.branches.append((int(node), int(realization)))
 
 
 def _iteration(report: Report, rest: str) -> None:
@@ -182,6 +202,10 @@ def _bound(report: Report, rest: str) -> None:
 
 def _upper(report: Report, rest: str) -> None:
     report.upper = report.number(rest)
+
+
+def _worst(report: Report, rest: str) -> None:
+    report.worst = report.number(rest)
 
 
 def _rest(report: Report, rest: str) -> None:
@@ -203,6 +227,10 @@ def _in(report: Report, rest: str) -> None:
 
 
 def _row(report: Report, rest: str) -> None:
+    if report.branches:
+        row, _, residual = rest.split()
+        report.missed = (int(row), report.number(residual))
+        return
     number = abs(report.raw(rest.rpartition(" ")[2]))
     stage = report.scenarios[-1].stages[-1]
     if number > stage.residual:
@@ -224,6 +252,7 @@ def _nothing(report: Report, rest: str) -> None:
 
 LINES = {
     "hydroplan": _nothing, "hydroplan-user": _users, "scale": _scale, "digits": _digits, "exact": _nothing, "sense": _sense,
-    "state": _state, "node": _node, "cut": _cut, "iteration": _iteration, "total": _total, "bound": _bound, "upper": _upper,
-    "rest": _rest, "scenario": _scenario, "stage": _stage, "in": _in, "row": _row, "cost": _cost, "end": _end,
+    "state": _state, "node": _node, "cut": _cut, "plane": _plane, "branch": _branch, "iteration": _iteration, "total": _total,
+    "bound": _bound, "upper": _upper, "worst": _worst, "rest": _rest, "scenario": _scenario, "stage": _stage, "in": _in, "row": _row,
+    "cost": _cost, "end": _end,
 }

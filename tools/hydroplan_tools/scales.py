@@ -72,13 +72,13 @@ def complete(model: Model, chosen: Scales, largest: int) -> Scales:
     _known(model, chosen)
     found = Scales(nodes={name: node.subproblem for name, node in model.nodes.items()}, negated=chosen.negated)
     for state in model.states:
-        found.states[state] = _choose(chosen.states.get(state), chosen.values, _state_numbers(model, state), largest)
+        found.states[state] = _choose(chosen.states.get(state), chosen.values, numbers_of_state(model, state), largest)
     for name, subproblem in model.subproblems.items():
         own = chosen.subproblems.get(name, SubproblemScales())
         outgoing = {variable: state for state, variable in subproblem.outgoing.items()}
         found.subproblems[name] = SubproblemScales(rows=rows_of(subproblem), outgoing=outgoing)
         for variable in _free_variables(subproblem):
-            numbers = _variable_numbers(model, name, variable)
+            numbers = numbers_of_variable(model, name, variable)
             scale = _choose(own.variables.get(variable), chosen.values, numbers, largest)
             found.subproblems[name].variables[variable] = scale
         _complete_rows(found, name, subproblem, own, largest)
@@ -118,7 +118,8 @@ def bounds_of(subproblem: Subproblem, variable: str) -> Iterator[Quantity]:
             yield from (side for side in (it.lower, it.upper) if side is not None)
 
 
-def _state_numbers(model: Model, state: str) -> list[Fraction]:
+def numbers_of_state(model: Model, state: str) -> list[Fraction]:
+    """The numbers that a state's scale has to make whole: its initial value and its bounds in all subproblems."""
     found = [model.states[state].value]
     for subproblem in model.subproblems.values():
         for variable in (subproblem.incoming[state], subproblem.outgoing[state]):
@@ -126,7 +127,8 @@ def _state_numbers(model: Model, state: str) -> list[Fraction]:
     return found
 
 
-def _variable_numbers(model: Model, name: str, variable: str) -> list[Fraction]:
+def numbers_of_variable(model: Model, name: str, variable: str) -> list[Fraction]:
+    """The numbers that the scale of a subproblem's variable has to make whole: its bounds, or its outcomes."""
     subproblem = model.subproblems[name]
     if variable not in subproblem.randoms:
         return [it.value for it in bounds_of(subproblem, variable)]

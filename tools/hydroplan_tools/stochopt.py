@@ -94,7 +94,16 @@ def _node(cursor: Cursor, edges: Optional[dict[str, Cursor]], subproblems: dict[
     realizations = tuple(_realization(item, subproblem) for item in _array(cursor, "realizations"))
     if subproblem.randoms and not realizations:
         raise cursor.refuse("Shape", "its subproblem has random variables, and it has no realizations")
-    return Node(at.name(), realizations, _successors(cursor, edges), cursor)
+    alternatives = tuple(_alternative(item, len(realizations)) for item in _array(cursor, "alternatives"))
+    return Node(at.name(), realizations, _successors(cursor, edges), cursor, alternatives)
+
+
+def _alternative(cursor: Cursor, count: int) -> tuple[Quantity, ...]:
+    """Other probabilities of a node's realizations, which the program's `robust` reads. StochOptFormat has none."""
+    items = cursor.items()
+    if len(items) != count:
+        raise cursor.refuse("Shape", f"{len(items)} probabilities for {count} realizations")
+    return tuple(map(_probability, items))
 
 
 def _realization(cursor: Cursor, subproblem: Subproblem) -> Realization:

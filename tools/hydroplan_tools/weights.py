@@ -40,6 +40,17 @@ def stopping_weights(given: Sequence[Quantity], place: str) -> tuple[int, ...]:
     return _shares([*(it.value for it in given), 1 - total], [*simple, 1 - sum(simple)])
 
 
+def finer(weights: Sequence[int], least: int) -> tuple[int, ...]:
+    """The same shares in weights whose total is at least `least`, as far as the total allows it.
+
+    The multipliers of a cut are whole at a scale with the total of a node's successor weights as a factor, so a greater
+    total rounds them finer.
+    """
+    total = sum(weights)
+    factor = max(1, min(-(-least // total), MOST_WEIGHT // total))
+    return tuple(factor * weight for weight in weights)
+
+
 def _simplest(given: Sequence[Quantity]) -> list[Fraction]:
     """For each number the simplest fraction that it may be the decimal of: 1/3 for 0.3333."""
     found = []
