@@ -6,9 +6,22 @@ from __future__ import annotations
 
 from dataclasses import dataclass, field
 from fractions import Fraction
-from typing import Optional
+from typing import Optional, Protocol
 
 from .cursor import Cursor, Refused
+
+
+class Origin(Protocol):
+    """Where a part of a model comes from: a value of a file, or a line of a user's code."""
+
+    def place(self) -> str:
+        """The place in words."""
+
+    def refuse(self, kind: str, reason: str) -> Refused:
+        """A refusal at this place, to be raised."""
+
+    def member(self, *keys: str) -> Origin:
+        """The place of a member."""
 
 
 @dataclass(frozen=True)
@@ -60,7 +73,7 @@ class Subproblem:
     sense: str
     objective: Function
     constraints: tuple[Constraint, ...]
-    cursor: Cursor
+    cursor: Origin
 
     def states_of(self) -> dict[str, str]:
         """The state of each variable that is an incoming or outgoing state."""
@@ -92,7 +105,7 @@ class Node:
     subproblem: str
     realizations: tuple[Realization, ...]
     successors: dict[str, Quantity]
-    cursor: Cursor
+    cursor: Origin
     alternatives: tuple[tuple[Quantity, ...], ...] = ()
 
 
@@ -110,7 +123,7 @@ class Model:
 
     states: dict[str, Quantity]
     root_successors: dict[str, Quantity]
-    root: Cursor
+    root: Origin
     nodes: dict[str, Node]
     subproblems: dict[str, Subproblem]
     scenarios: tuple[tuple[Step, ...], ...]

@@ -1,0 +1,7 @@
+"""Models of multistage stochastic programs in Python, and runs of hydroplan on them.
+
+`hydroplan.model` makes models and compiles them to problems in whole numbers; `hydroplan.runs` trains, checks, simulates and
+evaluates policies by the program. All of it stands outside the proved core: a bound is proved of the problem that was
+compiled, and its ledger says what was rounded.
+"""
+from . import _tools as _tools  # noqa: F401  (first of all: it makes the shared tools importable)
