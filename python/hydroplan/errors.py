@@ -30,6 +30,10 @@ class ModelRefused(ModelError):
         self.place = place
 
 
+class RuleError(HydroplanError, ValueError):
+    """A rule of when to stop whose numbers make no sense."""
+
+
 class MissingPackage(HydroplanError, ImportError):
     """A table or an array was asked for, and pandas or numpy is not there."""
 

@@ -108,6 +108,7 @@ def _by_stage(report: Report, value: Callable[[Stage], Raw]) -> dict[int, list[R
 class Active:
     """The cuts of a node, ready to be asked which is active at a state whose numbers are multiples of 1/unit."""
 
+    cuts: tuple[Cut, ...]
     slopes: tuple[tuple[Raw, ...], ...]
     starts: tuple[Raw, ...]
     best: Callable
@@ -116,12 +117,18 @@ class Active:
     def of(cuts: Iterable[Cut], maximises: bool = False, unit: int = 1) -> Active:
         """The cuts of a node; costs are at least each of them, earnings at most."""
         own = sorted(cuts, key=lambda cut: cut.place)
-        return Active(tuple(cut.slopes for cut in own), tuple(cut.alpha * unit for cut in own), min if maximises else max)
+        slopes, starts = tuple(cut.slopes for cut in own), tuple(cut.alpha * unit for cut in own)
+        return Active(tuple(own), slopes, starts, min if maximises else max)
+
+    def cut_at(self, state: tuple[Raw, ...]) -> tuple[Cut, Raw]:
+        """The cut of greatest value at a state, or of least value of earnings, the first of several; and that value times unit."""
+        values = [start + sum(map(mul, slopes, state)) for start, slopes in zip(self.starts, self.slopes)]
+        found = self.best(values)
+        return self.cuts[values.index(found)], found
 
     def at(self, state: tuple[Raw, ...]) -> tuple[Raw, ...]:
-        """The slopes of the cut of greatest value at a state, or of least value of earnings; of the first of several."""
-        values = [start + sum(map(mul, slopes, state)) for start, slopes in zip(self.starts, self.slopes)]
-        return self.slopes[values.index(self.best(values))]
+        """The slopes of the cut that is active at a state."""
+        return self.cut_at(state)[0].slopes
 
 
 def cuts_by_node(report: Report) -> list[list[Cut]]:

@@ -1,0 +1,90 @@
+"""The program: where it is found, and how it is run on a compiled problem."""
+from __future__ import annotations
+
+import os
+import shutil
+import subprocess
+import tempfile
+from dataclasses import dataclass
+from pathlib import Path
+from types import TracebackType
+from typing import Optional, Sequence, Type, Union
+
+from ._tools import TOP
+from .errors import ProgramMissing
+
+Place = Union[str, "os.PathLike[str]"]
+
+
+@dataclass(frozen=True)
+class Ended:
+    """How a run ended: its status (below 0: the signal that ended it), its report, and what it wrote on standard error."""
+
+    status: int
+    output: str
+    errors: str
+
+
+def find_program(given: Optional[Place] = None) -> Path:
+    """The program: the one that is given, else the repository's script `hydroplan`, else the command of that name.
+
+    The script runs the program that was built of these sources, where there is one, else the one in `bin`.
+    """
+    if given is not None:
+        found = Path(given).resolve()
+        if not found.is_file():
+            raise ProgramMissing(f"the program {given} is not there")
+        return found
+    front_door = TOP / "hydroplan"
+    if front_door.is_file() and os.access(front_door, os.X_OK):
+        return front_door
+    command = shutil.which("hydroplan")
+    if command is None:
+        raise ProgramMissing("hydroplan is not found: name the program, as in train(.., program='bin/hydroplan-x86_64-linux')")
+    return Path(command).resolve()
+
+
+class Running:
+    """A run of the program on a problem, in a folder of its own; leaving the context ends it."""
+
+    def __init__(self, program: Path, words: Sequence[str], problem: bytes) -> None:
+        self._folder = tempfile.TemporaryDirectory(prefix="hydroplan-")
+        folder = Path(self._folder.name)
+        self.problem = folder / "problem.json"
+        self.problem.write_bytes(problem)
+        self._output, self._errors = folder / "output", folder / "errors"
+        with self.problem.open("rb") as source, self._output.open("wb") as output, self._errors.open("wb") as errors:
+            self._process = subprocess.Popen([str(program), *words], stdin=source, stdout=output, stderr=errors)
+
+    def __enter__(self) -> Running:
+        return self
+
+    def __exit__(self, kind: Optional[Type[BaseException]], fault: Optional[BaseException], trace: Optional[TracebackType]) -> None:
+        self.end()
+        self._folder.cleanup()
+
+    def wait(self, seconds: Optional[float] = None) -> bool:
+        """Waits for so many seconds at most; whether the run has ended."""
+        try:
+            self._process.wait(seconds)
+            return True
+        except subprocess.TimeoutExpired:
+            return False
+
+    def end(self) -> None:
+        """Ends the run where it still goes on. A journal is whole at every moment, up to its last whole iteration."""
+        if self._process.poll() is None:
+            self._process.kill()
+        self._process.wait()
+
+    def ended(self) -> Ended:
+        """How the run ended; it has to be over."""
+        output, errors = (path.read_bytes().decode("utf-8", "replace") for path in (self._output, self._errors))
+        return Ended(self._process.returncode, output, errors)
+
+
+def run(program: Path, words: Sequence[str], problem: bytes) -> Ended:
+    """Runs the program to its end."""
+    with Running(program, words, problem) as running:
+        running.wait()
+        return running.ended()
