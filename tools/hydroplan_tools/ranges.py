@@ -12,7 +12,7 @@ from typing import Iterator
 
 from .decimals import decimal_text
 from .model import Model
-from .scales import Scales, SubproblemScales, bounds_of, complete, numbers_of_state, numbers_of_variable, rows_of
+from .scales import CLOSE, Scales, SubproblemScales, bounds_of, complete, numbers_of_state, numbers_of_variable, rows_of
 
 SPREAD = 10**5
 MOST_DECADES = 12
@@ -39,18 +39,23 @@ def spread(sizes: Sizes) -> Fraction:
     return max(sizes.values()) / min(sizes.values()) if sizes else Fraction(1)
 
 
+def is_wide(sizes: Sizes) -> bool:
+    """Whether sizes stand more than 10^5 apart."""
+    return _excess(sizes) > 0
+
+
 def complete_in_range(model: Model, chosen: Scales, largest: int) -> tuple[Scales, list[str]]:
     """All scales of a model, and a line for each row that is wider than 10^5."""
     scales = complete(model, chosen, largest)
     rows = list(_rows(model, scales))
-    wide = [row for row in rows if spread(row.sizes) > SPREAD]
+    wide = [row for row in rows if is_wide(row.sizes)]
     if wide and chosen.values is None:
         room = _Room(model, chosen, scales, largest)
         shifts = _shifts(rows, wide, room)
         wanted = complete(model, _shifted(chosen, scales, shifts), largest)
         if shifts and _unwhole(model, wanted) <= _unwhole(model, scales):
             scales = wanted
-    return scales, [_note(row) for row in _rows(model, scales) if spread(row.sizes) > SPREAD]
+    return scales, [_note(row) for row in _rows(model, scales) if is_wide(row.sizes)]
 
 
 def _note(row: Row) -> str:
@@ -96,7 +101,7 @@ class _Room:
         if not is_free:
             return 0, 0
         up = next(at for at in range(MOST_DECADES, -1, -1) if at == 0 or all(it * 10**at <= self.largest for it in values))
-        down = next(at for at in range(MOST_DECADES, -1, -1) if at == 0 or all((it / 10**at).denominator == 1 for it in values))
+        down = next(at for at in range(MOST_DECADES, -1, -1) if at == 0 or all(_is_whole(it / 10**at) for it in values))
         return -down, up
 
 
@@ -138,9 +143,9 @@ def _lowered(row: Row, shifts: dict[Key, int], spans: dict[Key, tuple[int, int]]
 
 
 def _decades(ratio: Fraction) -> int:
-    """The least number of tens whose product is at least a ratio."""
+    """The least number of tens whose product is at least a ratio, but for its last digits."""
     found = 0
-    while 10**found < ratio:
+    while 10**found * (1 + CLOSE) < ratio:
         found += 1
     return found
 
@@ -174,7 +179,12 @@ def _shifted(chosen: Scales, scales: Scales, shifts: dict[Key, int]) -> Scales:
 
 def _unwhole(model: Model, scales: Scales) -> int:
     """How many numbers of bounds, rows and costs are not whole at these scales."""
-    return sum(number.denominator != 1 for number in _scaled(model, scales))
+    return sum(not _is_whole(number) for number in _scaled(model, scales))
+
+
+def _is_whole(number: Fraction) -> bool:
+    """Whether a number is whole, or misses that by so little that its last digits were cut off, as those of a third are."""
+    return abs(number - round(number)) <= CLOSE
 
 
 def _scaled(model: Model, scales: Scales) -> Iterator[Fraction]:

@@ -1,8 +1,8 @@
 """Scales: by what each quantity, each constraint and all costs are multiplied to be whole numbers.
 
 Outside the proved core. A scale is chosen by the user, or found: the least one that makes all numbers whole, where
-these stay small enough; else the least one that makes whole the simplest fractions within one part in 10^9 of them, so
-0.3 for 0.30000000000000004 and 1/3 for 0.3333333333; else the greatest power of ten that keeps them small enough. Numbers
+these stay small enough, fractions being read from 40 digits or more; else the least one that makes whole the simplest
+fractions within one part in 10^9 of them, so 0.3 for 0.30000000000000004 and 1/3 for 0.3333333333; else the greatest power of ten that keeps them small enough. Numbers
 are then rounded, and the converter says which.
 """
 from __future__ import annotations
@@ -18,6 +18,7 @@ from .decimals import simplest_between
 from .model import Constraint, Model, Quantity, Subproblem
 
 CLOSE = Fraction(1, 10**9)
+SAME = Fraction(1, 10**40)
 
 
 @dataclass
@@ -57,7 +58,8 @@ def found_scale(numbers: Iterable[Fraction], largest: int) -> Fraction:
     if all(value.denominator == 1 for value in values):
         return Fraction(1)
     greatest = max(values)
-    for near in (values, [simplest_between(value * (1 - CLOSE), value * (1 + CLOSE)) for value in values]):
+    for apart in (Fraction(0), SAME, CLOSE):
+        near = [simplest_between(value * (1 - apart), value * (1 + apart)) for value in values]
         unit = math.lcm(*(value.denominator for value in near))
         if greatest * unit <= largest:
             return Fraction(unit)
