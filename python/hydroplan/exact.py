@@ -9,6 +9,7 @@ from fractions import Fraction
 from typing import SupportsIndex, Union
 
 from hydroplan_tools.decimals import decimal_text
+from hydroplan_tools.profile import MOST_WEIGHT
 
 from .errors import ModelError
 
@@ -30,6 +31,21 @@ def exact(number: object, what: str = "a number") -> Fraction:
         raise ModelError(f"{what} has to be a number, and is {number!r}")
     if max(len(str(abs(found.numerator))), len(str(found.denominator))) > MOST_DIGITS:
         raise ModelError(f"{what} has more than {MOST_DIGITS} digits")
+    return found
+
+
+def exact_weight(number: object, what: str) -> Fraction:
+    """The value of a weight or a probability, exactly; ModelError where it is below 0 or no number.
+
+    A float stands for the fraction with a denominator of at most 65,535 that rounds to it, where there is one, so 1/6 for
+    0.16666666666666666, and else for its shortest text.
+    """
+    found = exact(number, what)
+    if found < 0:
+        raise ModelError(f"{what} is below 0: {number}")
+    if isinstance(number, float):
+        simple = Fraction(number).limit_denominator(MOST_WEIGHT)
+        return simple if float(simple) == number else found
     return found
 
 
@@ -62,6 +78,8 @@ def _of_text(text: str) -> Union[Fraction, None]:
 
 def text_of(value: Fraction) -> str:
     """A value as a decimal: exactly where it has an end, else with 60 digits."""
+    if value.denominator == 1:
+        return str(value.numerator)
     rest, twos, fives = value.denominator, 0, 0
     while rest % 2 == 0:
         rest, twos = rest // 2, twos + 1

@@ -7,11 +7,11 @@ from __future__ import annotations
 
 from dataclasses import dataclass, field
 from fractions import Fraction
-from typing import Any, Dict, List, Mapping, Optional, Sequence, Tuple
+from typing import Any, Dict, Iterator, List, Mapping, Optional, Sequence, Tuple
 
 from .code_places import users_line
 from .errors import ModelError
-from .exact import Number, exact
+from .exact import Number, exact, exact_weight
 
 Matrix = Sequence[Sequence[Number]]
 
@@ -71,19 +71,26 @@ class PolicyGraph:
             raise ModelError(f"a graph has at least one stage, and each stage a node ({users_line()})")
         _fits("transitions", len(transitions), len(layers) - 1, "steps from stage to stage")
         names = _names(layers, labels)
+        steps: List[Matrix] = [*transitions, [[] for _ in layers[-1]]]
         nodes: List[GraphNode] = []
         for at, layer in enumerate(layers):
             following = names[at + 1] if at + 1 < len(layers) else []
-            rows = transitions[at] if following else [[] for _ in layer]
-            _fits(f"transitions[{at}]", len(rows), len(layer), "nodes of the stage")
-            for state, value in enumerate(layer):
-                _fits(f"transitions[{at}][{state}]", len(rows[state]), len(following), "nodes of the next stage")
-                successors, stop = _discounted(following, rows[state], discount)
-                label = labels[state] if labels else ""
-                nodes.append(GraphNode(names[at][state], at + 1, state, label, value, successors, stop))
+            _fits(f"transitions[{at}]", len(steps[at]), len(layer), "nodes of the stage")
+            nodes.extend(_layer(at, layer, names[at], following, steps[at], discount, labels))
         weights = initial if initial is not None else [1] * len(layers[0])
         _fits("initial", len(weights), len(layers[0]), "nodes of the first stage")
         return cls(tuple(nodes), dict(zip(names[0], weights)))
+
+
+def _layer(
+    at: int, values: Sequence[Any], names: Sequence[str], following: Sequence[str], matrix: Matrix, discount: Number,
+    labels: Optional[Sequence[str]],
+) -> Iterator[GraphNode]:
+    """The nodes of a stage, with their ways to those of the next."""
+    for state, value in enumerate(values):
+        _fits(f"transitions[{at}][{state}]", len(matrix[state]), len(following), "nodes of the next stage")
+        successors, stop = _discounted(following, matrix[state], discount)
+        yield GraphNode(names[state], at + 1, state, labels[state] if labels else "", value, successors, stop)
 
 
 def _names(layers: Sequence[Sequence[Any]], labels: Optional[Sequence[str]]) -> List[List[str]]:
@@ -103,7 +110,7 @@ def _discounted(names: Sequence[str], weights: Sequence[Number], discount: Numbe
     part = exact(discount, f"the discount ({users_line()})")
     if not 0 < part <= 1:
         raise ModelError(f"a discount is above 0 and at most 1, not {discount} ({users_line()})")
-    shares = {name: exact(weight, f"a weight of a transition ({users_line()})") * part for name, weight in zip(names, weights)}
+    shares = {name: exact_weight(weight, f"a weight of a transition ({users_line()})") * part for name, weight in zip(names, weights)}
     total = sum(shares.values(), Fraction(0))
     return dict(shares), total / part - total
 

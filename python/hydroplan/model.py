@@ -11,7 +11,7 @@ from typing import Callable, Dict, List, Mapping, Optional, Sequence, Tuple, Uni
 
 from .code_places import CodePlace, users_line
 from .errors import ModelError, NotLinear
-from .exact import Number, exact
+from .exact import Number, exact, exact_weight
 from .expressions import Expression, Relation, Variable, between
 from .graphs import GraphNode, PolicyGraph
 from .programs import Compiled, Program, Resolution, read_stochopt
@@ -23,7 +23,7 @@ __all__ = [
     "Realization", "Relation", "Stage", "State", "Variable", "between", "equally", "read_stochopt",
 ]
 
-Values = Mapping[Union[str, Variable], Number]
+Values = Union[Mapping[str, Number], Mapping[Variable, Number]]
 Realization = Tuple[Number, Values]
 Builder = Callable[[Stage, GraphNode], Optional[Sequence[Realization]]]
 
@@ -140,15 +140,14 @@ class Model:
 
 
 def _weight(number: Number, what: str) -> Fraction:
-    found = exact(number, f"the weight of {what}")
-    if found < 0:
-        raise ModelError(f"the weight of {what} is below 0: {number}")
-    return found
+    return exact_weight(number, f"the weight of {what}")
 
 
 def _values(stage: Stage, values: Values, called: str) -> Dict[str, Fraction]:
     """A value for each random variable of a stage, in their order."""
-    given = {key.name if isinstance(key, Variable) else key: value for key, value in values.items()}
+    given: Dict[str, Number] = {}
+    for key, value in values.items():
+        given[key.name if isinstance(key, Variable) else key] = value
     randoms = [it.name for it in stage.randoms()]
     unknown = next((name for name in given if name not in randoms), None)
     if unknown is not None:

@@ -2,7 +2,7 @@
 from __future__ import annotations
 
 from fractions import Fraction
-from typing import Dict, List, Sequence, Tuple
+from typing import Dict, List, Optional, Sequence, Tuple
 
 from hydroplan_tools.back import Back
 from hydroplan_tools.profile import SCALE
@@ -99,7 +99,7 @@ def evaluation_of(compiled: Compiled, output: str) -> Evaluation:
     return Evaluation(upper, report.upper, bound_float(compiled, bound), bound, _missed(compiled, report), compiled.maximizes)
 
 
-def _missed(compiled: Compiled, report: Report) -> "MissedRow | None":
+def _missed(compiled: Compiled, report: Report) -> Optional[MissedRow]:
     if report.missed is None:
         return None
     branch = tuple((report.nodes[node], realization) for node, realization in report.branches)

@@ -51,6 +51,13 @@ class Compiling(unittest.TestCase):
         node = json.loads(model.compile(successor_total=256).problem)["nodes"]["a"]
         self.assertEqual((node["successors"], node["stop"]), ({"b": 171, "c": 114}, 15))
 
+    def test_floats_as_weights(self):
+        model = Model()
+        stage = model.stage("s")
+        stage.minimize(stage.variable("x", 0, 1))
+        model.node("n", stage, [(1 / 6, {}), (1 / 3, {}), (0.5, {})])
+        self.assertEqual([it["probability"] for it in json.loads(model.compile().problem)["nodes"]["n"]["realizations"]], [1, 2, 3])
+
     def test_resolution(self):
         model = newsvendor()
         compiled = model.compile(resolution={"x": 0.5, "u": "0.1", "cost": "0.0001"}, tolerance="0.01")

@@ -5,7 +5,7 @@ from fractions import Fraction as F
 
 from model_support import HERE, needs_numpy
 from hydroplan.errors import ModelError, NotLinear
-from hydroplan.exact import at_least, at_most, exact, text_of
+from hydroplan.exact import at_least, at_most, exact, exact_weight, text_of
 from hydroplan.model import Model, between
 
 FILE = __file__
@@ -25,6 +25,12 @@ class Numbers(unittest.TestCase):
                 exact(given, "the bound")
         with self.assertRaisesRegex(ModelError, "more than 300 digits"):
             exact("1e301")
+
+    def test_weights(self):
+        for given, value in ((1 / 6, F(1, 6)), (0.1, F(1, 10)), (0.3333, F(3333, 10000)), (0.123456789, F("0.123456789")), ("2/3", F(2, 3)), (5, F(5))):
+            self.assertEqual(exact_weight(given, "the weight"), value)
+        with self.assertRaisesRegex(ModelError, "the weight is below 0: -1"):
+            exact_weight(-1, "the weight")
 
     def test_texts(self):
         self.assertEqual([text_of(it) for it in (F(5), F(-1, 8), F(1, 10), F(0))], ["5", "-0.125", "0.1", "0"])

@@ -6,6 +6,7 @@ from __future__ import annotations
 
 from dataclasses import dataclass, field
 from fractions import Fraction
+from functools import cached_property
 from typing import Optional, Protocol
 
 from .cursor import Cursor, Refused
@@ -77,6 +78,10 @@ class Subproblem:
 
     def states_of(self) -> dict[str, str]:
         """The state of each variable that is an incoming or outgoing state."""
+        return self._states
+
+    @cached_property
+    def _states(self) -> dict[str, str]:
         pairs = [(name, state) for state, name in self.incoming.items()]
         return dict(pairs + [(name, state) for state, name in self.outgoing.items()])
 

@@ -49,12 +49,12 @@ def complete_in_range(model: Model, chosen: Scales, largest: int) -> tuple[Scale
     scales = complete(model, chosen, largest)
     rows = list(_rows(model, scales))
     wide = [row for row in rows if is_wide(row.sizes)]
-    if wide and chosen.values is None:
-        room = _Room(model, chosen, scales, largest)
-        shifts = _shifts(rows, wide, room)
-        wanted = complete(model, _shifted(chosen, scales, shifts), largest)
-        if shifts and _unwhole(model, wanted) <= _unwhole(model, scales):
-            scales = wanted
+    if not wide or chosen.values is not None:
+        return scales, [_note(row) for row in wide]
+    shifts = _shifts(rows, wide, _Room(model, chosen, scales, largest))
+    wanted = complete(model, _shifted(chosen, scales, shifts), largest)
+    if _unwhole(model, wanted) <= _unwhole(model, scales):
+        scales = wanted
     return scales, [_note(row) for row in _rows(model, scales) if is_wide(row.sizes)]
 
 
@@ -107,21 +107,34 @@ class _Room:
 
 def _shifts(rows: list[Row], wide: list[Row], room: _Room) -> dict[Key, int]:
     """Shifts that lower the tens by which rows are too wide, one wide row after the other, while they do."""
-    touching: dict[Key, list[Row]] = {}
-    for row in rows:
-        for key in row.sizes:
-            touching.setdefault(key, []).append(row)
+    touching = _touching(rows)
     spans = {key: room.span(key) for row in wide for key in row.sizes}
     shifts: dict[Key, int] = {}
     for _ in range(ROUNDS):
-        improved = False
+        before = shifts
         for row in wide:
-            for candidate in (_raised(row, shifts, spans), _lowered(row, shifts, spans)):
-                if _gain(candidate, shifts, touching) > 0:
-                    shifts, improved = candidate, True
-        if not improved:
+            shifts = _improved(row, shifts, spans, touching)
+        if shifts == before:
             break
     return {key: shift for key, shift in shifts.items() if shift}
+
+
+def _touching(rows: list[Row]) -> dict[Key, list[Row]]:
+    """The rows in which each variable stands."""
+    found: dict[Key, list[Row]] = {}
+    for key, row in ((key, row) for row in rows for key in row.sizes):
+        found.setdefault(key, []).append(row)
+    return found
+
+
+def _improved(
+    row: Row, shifts: dict[Key, int], spans: dict[Key, tuple[int, int]], touching: dict[Key, list[Row]],
+) -> dict[Key, int]:
+    """Shifts with which all rows together are less wide, found in one of them; the same where none are."""
+    for candidate in (_raised(row, shifts, spans), _lowered(row, shifts, spans)):
+        if _gain(candidate, shifts, touching) > 0:
+            shifts = candidate
+    return shifts
 
 
 def _raised(row: Row, shifts: dict[Key, int], spans: dict[Key, tuple[int, int]]) -> dict[Key, int]:

@@ -59,7 +59,7 @@ def found_scale(numbers: Iterable[Fraction], largest: int) -> Fraction:
         return Fraction(1)
     greatest = max(values)
     for apart in (Fraction(0), SAME, CLOSE):
-        near = [simplest_between(value * (1 - apart), value * (1 + apart)) for value in values]
+        near = [simplest_between(it * (1 - apart), it * (1 + apart)) for it in values] if apart else values
         unit = math.lcm(*(value.denominator for value in near))
         if greatest * unit <= largest:
             return Fraction(unit)
