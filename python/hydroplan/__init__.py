@@ -5,9 +5,10 @@ evaluates policies by the program. All of it stands outside the proved core: a b
 compiled, and its ledger says what was rounded.
 """
 from . import _tools as _tools  # noqa: F401  (first of all: it makes the shared tools importable)
-from .model import Model, PolicyGraph, between, equally, read_stochopt
+from .model import Model, PolicyGraph, between, equally, read_stochopt, total
 from .runs import check, evaluate, robust, simulate, train, validate
 
 __all__ = [
-    "Model", "PolicyGraph", "between", "check", "equally", "evaluate", "read_stochopt", "robust", "simulate", "train", "validate",
+    "Model", "PolicyGraph", "between", "check", "equally", "evaluate", "read_stochopt", "robust", "simulate", "total", "train",
+    "validate",
 ]

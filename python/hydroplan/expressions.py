@@ -3,7 +3,7 @@ from __future__ import annotations
 
 from dataclasses import dataclass
 from fractions import Fraction
-from typing import TYPE_CHECKING, Dict, NoReturn, Optional, Union
+from typing import TYPE_CHECKING, Dict, Iterable, NoReturn, Optional, Union
 
 from .code_places import CodePlace, users_line
 from .errors import ModelError, NotLinear
@@ -155,6 +155,17 @@ def as_linear(value: object) -> Expression:
     if not is_number(value):
         raise ModelError(f"{value!r} is neither a number nor an expression ({users_line()})")
     return Expression({}, exact(value))
+
+
+def total(terms: Iterable[Linear]) -> Expression:
+    """The sum of variables, expressions and numbers: the same as `sum`, but quick for many, and an expression also of none."""
+    found: Dict[Variable, Fraction] = {}
+    constant = Fraction(0)
+    for term in map(as_linear, terms):
+        constant += term.constant
+        for variable, coefficient in term.terms.items():
+            found[variable] = found.get(variable, Fraction(0)) + coefficient
+    return Expression(found, constant)
 
 
 def between(lower: Number, expression: Linear, upper: Number) -> Relation:

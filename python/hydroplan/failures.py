@@ -86,7 +86,7 @@ def _of_the_problem(compiled: Compiled, status: int, line: str, message: str) ->
 def _part(compiled: Compiled, refusal: Refusal) -> Tuple[str, Optional[str]]:
     """The part in the user's names, and where the user made it."""
     words = locate(_root(compiled), refusal).words.replace('subproblem "', 'stage "')
-    shared, first, second = compiled.program.shared, refusal.numbers[0], refusal.numbers[1]
+    shared, first, second = compiled.shared, refusal.numbers[0], refusal.numbers[1]
     if refusal.part in ("node", "realization", "support", "successor", "alternative"):
         names = compiled.node_names
         return words, shared.nodes[names[first]].cursor.place() if first < len(names) else None
@@ -103,7 +103,7 @@ def _no_stage(compiled: Compiled, status: int, line: str, words: List[str], foun
     values, states, rows = ([int(number) for number in text.split()] for text in found.groups()[2:])
     node = compiled.node_names[int(found.group(2))]
     own = compiled.scales.subproblems[compiled.scales.nodes[node]]
-    randoms = compiled.program.shared.subproblems[compiled.scales.nodes[node]].randoms
+    randoms = compiled.shared.subproblems[compiled.scales.nodes[node]].randoms
     by_random = {name: float(value / own.variables[name]) for name, value in zip(randoms, values)}
     by_state = {
         name: float(Fraction(value, SCALE) / compiled.scales.states[name]) for name, value in zip(compiled.state_names, states)

@@ -12,7 +12,7 @@ from typing import Callable, Dict, List, Mapping, Optional, Sequence, Tuple, Uni
 from .code_places import CodePlace, users_line
 from .errors import ModelError, NotLinear
 from .exact import Number, exact, exact_weight
-from .expressions import Expression, Relation, Variable, between
+from .expressions import Expression, Relation, Variable, between, total
 from .graphs import GraphNode, PolicyGraph
 from .programs import Compiled, Program, Resolution, read_stochopt
 from .sharing import shared_model
@@ -20,7 +20,7 @@ from .stages import Constraint, Stage, State
 
 __all__ = [
     "Compiled", "Constraint", "Expression", "GraphNode", "Model", "Node", "NotLinear", "Number", "PolicyGraph", "Program",
-    "Realization", "Relation", "Stage", "State", "Variable", "between", "equally", "read_stochopt",
+    "Realization", "Relation", "Stage", "State", "Variable", "between", "equally", "read_stochopt", "total",
 ]
 
 Values = Union[Mapping[str, Number], Mapping[Variable, Number]]

@@ -32,13 +32,14 @@ class Compiled:
     """A problem in whole numbers.
 
     `problem` is what the program reads on standard input: its bytes belong to a journal. A number of the program divided by
-    its scale in `scales` is in the user's units. `ledger` has a line for whatever was rounded, left out or added.
+    its scale in `scales` is in the user's units. `ledger` has a line for whatever was rounded, left out or added, and
+    `shared` is the model without what was left out.
     """
 
     problem: bytes
     scales: Scales
     ledger: Tuple[str, ...]
-    program: Program = field(repr=False)
+    shared: SharedModel = field(repr=False)
 
     @property
     def warnings(self) -> Tuple[str, ...]:
@@ -63,7 +64,7 @@ class Compiled:
     def row_names(self, node: str) -> List[str]:
         """The names of a node's rows in their order; a number where the user gave none."""
         subproblem = self.scales.nodes[node]
-        constraints = self.program.shared.subproblems[subproblem].constraints
+        constraints = self.shared.subproblems[subproblem].constraints
         rows = self.scales.subproblems[subproblem].rows
         return [constraints[at].name or str(number) for number, at in enumerate(rows)]
 
@@ -94,13 +95,13 @@ class Program:
         """
         options = Options(True, False, largest, exact(tolerance, "the tolerance"), successor_total)
         try:
-            problem, scales, ledger = compile_model(self.shared, self._scales(resolution), _bounds(bounds or {}), options)
-            data = problem_text(problem).encode("utf-8")
+            found = compile_model(self.shared, self._scales(resolution), _bounds(bounds or {}), options)
+            data = problem_text(found.problem).encode("utf-8")
         except Refused as refused:
             raise ModelRefused(refused.kind, refused.reason, refused.place) from None
         except ValueError as fault:
             raise ModelError(str(fault)) from None
-        return Compiled(data, scales, tuple(ledger_lines(ledger)), self)
+        return Compiled(data, found.scales, tuple(ledger_lines(found.ledger)), found.model)
 
     def to_stochopt(self) -> str:
         """The program as a file of StochOptFormat 1.0, which `tools/convert` and other tools read.

@@ -2,11 +2,10 @@
 from __future__ import annotations
 
 import json
-from typing import Any, Dict, List, Optional
+from typing import Any, Dict, List
 
 from hydroplan_tools.model import Constraint, Function, Model, Node, Quantity, Realization, Step, Subproblem
-
-from .errors import ModelError
+from hydroplan_tools.profile import SETS
 
 MATHOPT_VERSION = {"major": 1, "minor": 2}
 
@@ -100,15 +99,5 @@ def _constraint(constraint: Constraint) -> Dict[str, Any]:
 
 
 def _set(constraint: Constraint) -> Dict[str, Any]:
-    keys = {"EqualTo": ("value", None), "GreaterThan": ("lower", None), "LessThan": (None, "upper"), "Interval": ("lower", "upper")}
-    if constraint.set_type not in keys:
-        raise ModelError(f"a set of type {constraint.set_type} is not written")
-    written: Dict[str, Any] = {"type": constraint.set_type}
-    for key, side in zip(keys[constraint.set_type], (constraint.lower, constraint.upper)):
-        if key is not None:
-            written[key] = _side(side)
-    return written
-
-
-def _side(side: Optional[Quantity]) -> Optional[_Text]:
-    return None if side is None else _number(side)
+    sides = {side: constraint.upper if side == "upper" else constraint.lower for side in SETS[constraint.set_type]}
+    return {"type": constraint.set_type, **{name: None if it is None else _number(it) for name, it in sides.items()}}

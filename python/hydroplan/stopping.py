@@ -2,29 +2,33 @@
 from __future__ import annotations
 
 from dataclasses import dataclass
-from typing import Optional, Sequence, Union
+from typing import Optional, Sequence
 
 from .errors import RuleError
 from .limits import MOST_ITERATIONS
 from .results import GapCheck
 
 
+class StopRule:
+    """A rule of when to stop: one of the classes below."""
+
+
 @dataclass(frozen=True)
-class IterationLimit:
+class IterationLimit(StopRule):
     """Stops when the journal has so many iterations; those of earlier trainings count."""
 
     iterations: int
 
 
 @dataclass(frozen=True)
-class TimeLimit:
+class TimeLimit(StopRule):
     """Stops after so many seconds of this training. The iteration at hand is given up."""
 
     seconds: float
 
 
 @dataclass(frozen=True)
-class BoundStalling:
+class BoundStalling(StopRule):
     """Stops when the bound moved by no more than `relative` of itself, or `absolute` in money, over the last `iterations`.
 
     It looks each `every` iterations.
@@ -46,12 +50,13 @@ class BoundStalling:
 
 
 @dataclass(frozen=True)
-class Statistical:
+class Statistical(StopRule):
     """Stops when the policy is shown to be near the bound, at a confidence.
 
     Each `every` iterations the policy is followed along so many fresh scenarios, drawn from seeds that training does not use. It
     stops when the gap between their mean and the bound, and half the width of the mean's confidence interval, are together
-    at most `relative` of the mean, or `absolute` in money. Of a mean of samples nothing is proved.
+    at most `relative` of the mean, or `absolute` in money. It goes on where the mean is better than the bound by more than that and
+    half the width, which no policy can be: such scenarios are not like all. Of a mean of samples nothing is proved.
     """
 
     scenarios: int = 100
@@ -65,12 +70,10 @@ class Statistical:
         if not checks:
             return None
         last = checks[-1]
-        if last.gap + last.half_width > max(self.absolute, self.relative * abs(last.mean)):
+        near = max(self.absolute, self.relative * abs(last.mean))
+        if last.gap + last.half_width > near or last.gap < -last.half_width - near:
             return None
         return f"the mean of {last.scenarios} scenarios is within {last.gap + last.half_width:g} of the bound"
-
-
-StopRule = Union[IterationLimit, TimeLimit, BoundStalling, Statistical]
 
 
 def checked(rules: Sequence[StopRule]) -> Sequence[StopRule]:

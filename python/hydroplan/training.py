@@ -25,6 +25,17 @@ def fresh_seed(seed: int, iteration: int, part: int) -> int:
     return (seed + 1 + iteration * MOST_ITERATIONS + part) % SEEDS
 
 
+def kept_batch(journal: Path) -> int:
+    """The paths of an iteration with which a journal was made; 1 where there is none, or it says none (docs/FORMAT.md, The journal)."""
+    try:
+        with journal.open("rb") as file:
+            head = file.read(53)
+    except OSError:
+        return 1
+    has_batch = len(head) == 53 and head[:11] == b"\x01HYDPLAN1\x00\x02"
+    return max(1, int.from_bytes(head[51:53], "big")) if has_batch else 1
+
+
 class TrainingRun:
     """A training that goes on, with what is known of it."""
 
@@ -45,7 +56,7 @@ class TrainingRun:
         self._unanswered = 0
         self._checks: List[GapCheck] = []
         limits = [it.iterations for it in rules if isinstance(it, IterationLimit)]
-        self._limit = min(limits) if limits else sizes(compiled).most_iterations(batch or 1)
+        self._limit = min(limits) if limits else sizes(compiled).most_iterations(batch or kept_batch(journal))
         self._is_asked_for = bool(limits)
         times = [it.seconds for it in rules if isinstance(it, TimeLimit)]
         self._deadline = self._begun + min(times) if times else None
@@ -130,7 +141,7 @@ class TrainingRun:
             return "the time limit"
         if len(self._bounds) < self._limit:
             return None
-        return "the iteration limit" if self._is_asked_for else "the problem's size allows for no more iterations"
+        return "the iteration limit" if self._is_asked_for else "a journal of this problem holds no more iterations"
 
     def _is_time_for(self, rule: Statistical) -> bool:
         return len(self._bounds) % rule.every == 0 or len(self._bounds) >= self._limit

@@ -1,14 +1,17 @@
 """Models to problems in whole numbers, by the steps of convert. Expected numbers are worked out by hand."""
 import contextlib
+import functools
 import io
 import json
 import unittest
 from fractions import Fraction as F
+from unittest import mock
 
 from model_support import Folder, newsvendor, one_reservoir, three_stages
 from random_models import Draw
 from hydroplan.errors import ModelError, ModelRefused, Unbounded
 from hydroplan.model import Model, read_stochopt
+from hydroplan_tools.compiling import problem_text
 from hydroplan_tools.convert_command import main as convert
 from hydroplan_tools.scales import write_scales
 
@@ -69,6 +72,11 @@ class Compiling(unittest.TestCase):
                 model.compile(resolution=wrong)
         with self.assertRaisesRegex(ModelRefused, r'RoundedTooFar at the bound of "u" of stage "sell" \(.*model_support\.py:\d+\): 20.25 would be 2.025'):
             model.compile(resolution={"u": 10})
+
+    def test_a_problem_that_is_too_long(self):
+        with mock.patch("hydroplan.programs.problem_text", functools.partial(problem_text, most=100)):
+            with self.assertRaisesRegex(ModelError, "the problem would have more than 100 bytes"):
+                three_stages().compile()
 
     def test_a_row_that_is_wide(self):
         model = Model()

@@ -6,7 +6,7 @@ from fractions import Fraction as F
 from model_support import HERE, needs_numpy
 from hydroplan.errors import ModelError, NotLinear
 from hydroplan.exact import at_least, at_most, exact, exact_weight, text_of
-from hydroplan.model import Model, between
+from hydroplan.model import Model, between, total
 
 FILE = __file__
 
@@ -65,6 +65,8 @@ class Expressions(unittest.TestCase):
         self.assertEqual((5 - x).terms, {x: F(-1)})
         self.assertEqual((+x).terms, {x: F(1)})
         self.assertEqual(repr(2 * x + 1), "2 x + 1")
+        found = total([x, 2 * y + 1, x, "0.5"])
+        self.assertEqual((found.terms, found.constant, total([]).terms), ({x: 2, y: 2}, F(3, 2), {}))
 
     def test_comparisons_are_constraints(self):
         x, y = self.x, self.y

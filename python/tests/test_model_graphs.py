@@ -50,6 +50,10 @@ class Graphs(unittest.TestCase):
             with self.assertRaisesRegex(ModelError, said + r".*test_model_graphs\.py:\d+\)"):
                 made()
 
+    def test_a_weight_below_0(self):
+        with self.assertRaisesRegex(ModelError, r"a weight of a transition \(.*test_model_graphs\.py:\d+\) is below 0: -1"):
+            PolicyGraph.markov(2, [[-1]], [1])
+
 
 if __name__ == "__main__":
     unittest.main()

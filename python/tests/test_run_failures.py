@@ -112,6 +112,23 @@ class Stood(Folder):
         self.refused(2, "hydroplan: usage: base", RunFailed, "usage: base")
         self.refused(7, "hydroplan: too much: formula 5 gives 65537", TooMuch, "the branches of the scenario tree", "estimate by simulate instead")
 
+    def test_what_is_too_much(self):
+        for formula, said in enumerate(("iterations times paths", "stage problem with all cuts", "an iteration's record", "the numbers of a report",
+                                        "the scenario tree", "the common denominator", "the greatest cost of a path"), 1):
+            self.refused(7, f"hydroplan: too much: formula {formula} gives 99999999", TooMuch, said)
+
+    def test_what_is_no_journal_of_this_problem(self):
+        for line, said in (
+            ("NotAJournal", "the file is no journal"), ("Short at 9", "the journal ends too early"), ("TooMany", "more than 2,000 records"),
+            ("OtherProblem kept 12 asked 34", "needs a new journal"), ("BadRecord iteration 1 at 9", "the README says what each status means"),
+        ):
+            self.refused(6, f"hydroplan: journal refused: {line}", JournalRefused, said)
+
+    def test_a_program_that_says_nothing(self):
+        program = self.program("sys.exit(3)")
+        with self.assertRaisesRegex(ProblemUnreadable, "no line, status 3"):
+            check(three_stages().compile(), self.journal, program=program)
+
     def test_places_in_the_users_names(self):
         self.refused(5, "hydroplan: problem refused: BoxGap at node 1 0 0", ProblemRefused, 'BoxGap at state "volume" as it comes into node "2"', "made: node \"2\"")
         self.refused(5, "hydroplan: problem refused: TooLarge at constraint 0 1 1", ProblemRefused, 'constraint "energy" of stage "1"', "model_support.py")

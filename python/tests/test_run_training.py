@@ -7,6 +7,7 @@ import textwrap
 import time
 import unittest
 from fractions import Fraction as F
+from unittest import mock
 
 from model_support import TOP, Folder, needs_pandas, newsvendor, one_reservoir, three_stages
 from hydroplan.errors import RuleError
@@ -15,7 +16,7 @@ from hydroplan.model import Model
 from hydroplan.progress import ProgressPrinter
 from hydroplan.results import GapCheck
 from hydroplan.runs import BoundStalling, IterationLimit, Progress, Statistical, TimeLimit, TrainingInterrupted, check, train
-from hydroplan.training import fresh_seed
+from hydroplan.training import fresh_seed, kept_batch
 
 SECONDS = 1.2
 
@@ -125,6 +126,17 @@ class Rules(Folder):
         # formula 3 with a batch of 64: 640 + 64 · (6 + 2 · 3 · (16 + 4 + 12 · (64 K + 1)) + 3 · 16) is at most 2^26 up to K = 227
         self.assertEqual((wide.longest, wide.most_iterations(64)), (3, 227))
 
+    def test_the_batch_of_a_journal_counts(self):
+        self.assertEqual(kept_batch(self.journal), 1)
+        train(three_stages().compile(), self.journal, seed=7, iterations=1, batch=64, progress=False)
+        self.assertEqual(kept_batch(self.journal), 64)
+        found = self.train(BoundStalling(iterations=3, every=2), iterations=None)
+        self.assertIn("the bound moved by 0", found.stopped)
+
+    def test_a_journal_that_is_full(self):
+        with mock.patch("hydroplan.limits.MOST_ITERATIONS", 3):
+            self.assertEqual(self.train(BoundStalling(iterations=3, every=2)).stopped, "a journal of this problem holds no more iterations")
+
     def test_rules_that_make_no_sense(self):
         for rule, said in (
             (BoundStalling(every=0), "each 1 or more iterations, not each 0"), (BoundStalling(iterations=0), "stalls over 1 or more"),
@@ -149,6 +161,9 @@ class Rules(Folder):
         self.assertIn("within 14", Statistical(relative=0.14).reason([near]))
         self.assertIn("within 14", Statistical(relative=0, absolute=14).reason([near]))
         self.assertIsNone(Statistical().reason([]))
+        better = GapCheck(5, 90.0, 80.0, 4.0, -10.0, 30, 1, 0.0)
+        self.assertIsNone(Statistical(relative=0, absolute=5).reason([better]))
+        self.assertIn("within -6", Statistical(relative=0, absolute=6).reason([better]))
 
 
 class Seen(Folder):

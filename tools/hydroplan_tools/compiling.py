@@ -30,8 +30,18 @@ class Options:
     successor_total: int = 1
 
 
-def compile_model(model: Model, chosen: Scales, bounds: Bounds, options: Options) -> tuple[dict, Scales, Ledger]:
-    """The problem in whole numbers, its scales, and what was rounded and left out; or Refused."""
+@dataclass(frozen=True)
+class Converted:
+    """A problem in whole numbers, its scales, what was rounded and left out, and the model as it was written: without that."""
+
+    problem: dict
+    scales: Scales
+    ledger: Ledger
+    model: Model
+
+
+def compile_model(model: Model, chosen: Scales, bounds: Bounds, options: Options) -> Converted:
+    """The problem of a model, or Refused."""
     ledger = Ledger(options.tolerance)
     ledger.notes.extend(model.notes)
     model = without_fixings(without_nothing(model, ledger), ledger)
@@ -43,7 +53,7 @@ def compile_model(model: Model, chosen: Scales, bounds: Bounds, options: Options
     writer = Writer(model, scales, ledger, options.normalise, options.successor_total)
     problem = writer.problem()
     ledger.notes.extend(notes)
-    return problem, scales, ledger
+    return Converted(problem, scales, ledger, model)
 
 
 def problem_text(problem: dict, most: int = MOST_FILE_BYTES) -> str:

@@ -87,7 +87,8 @@ def read_with(path: Path, reader: Callable[[Cursor], Read]) -> Read:
 def convert(source: Cursor, chosen: Scales, bounds: Bounds, options: argparse.Namespace) -> tuple[dict, Scales, Ledger]:
     """The problem in whole numbers, its scales, and what was rounded and left out."""
     wanted = Options(options.negate_max, options.normalise, options.largest, options.tolerance, options.successor_total)
-    return compile_model(read_model(source), chosen, bounds, wanted)
+    found = compile_model(read_model(source), chosen, bounds, wanted)
+    return found.problem, found.scales, found.ledger
 
 
 def _problem(chosen: argparse.Namespace) -> int:

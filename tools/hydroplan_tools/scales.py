@@ -2,8 +2,8 @@
 
 Outside the proved core. A scale is chosen by the user, or found: the least one that makes all numbers whole, where
 these stay small enough, fractions being read from 40 digits or more; else the least one that makes whole the simplest
-fractions within one part in 10^9 of them, so 0.3 for 0.30000000000000004 and 1/3 for 0.3333333333; else the greatest power of ten that keeps them small enough. Numbers
-are then rounded, and the converter says which.
+fractions within one part in 10^9 of them, so 0.3 for 0.30000000000000004 and 1/3 for 0.3333333333; else the greatest
+power of ten that keeps them small enough. Numbers are then rounded, and the converter says which.
 """
 from __future__ import annotations
 

@@ -33,8 +33,8 @@ def file_of(coefficient, upper, probabilities=("1",), alternatives=(), other=7):
 
 def compiled(text, chosen=None, options=Options()):
     """The problem, the scales of its variables, and the ledger's lines."""
-    problem, scales, ledger = compile_model(read_model(cursor(text)), chosen or Scales(), Bounds({}, {}), options)
-    return problem, scales.subproblems["p"].variables, ledger_lines(ledger)
+    found = compile_model(read_model(cursor(text)), chosen or Scales(), Bounds({}, {}), options)
+    return found.problem, found.scales.subproblems["p"].variables, ledger_lines(found.ledger)
 
 
 class Ranges(unittest.TestCase):

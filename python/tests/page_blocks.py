@@ -1,0 +1,30 @@
+"""The blocks of docs/MODELS.md: those of Python are run in one namespace, those of text have what the block before them printed."""
+from __future__ import annotations
+
+import contextlib
+import io
+import re
+from typing import Dict, Tuple
+
+from model_support import TOP
+
+PAGE = TOP / "docs" / "MODELS.md"
+BLOCK = re.compile(r"```(python|text)\n(.*?)```\n", re.DOTALL)
+
+
+def run_blocks(text: str) -> Tuple[str, Dict[str, object]]:
+    """The page with what its blocks print, and the names that they leave. Files come to be in the folder at hand."""
+    names: Dict[str, object] = {"__name__": "page"}
+    renewed, printed, end = [], "", 0
+    for block in BLOCK.finditer(text):
+        renewed.append(text[end:block.start()])
+        end = block.end()
+        if block.group(1) == "text":
+            renewed.append(f"```text\n{printed}```\n")
+            continue
+        renewed.append(block.group())
+        line = text.count("\n", 0, block.start(2))
+        with contextlib.redirect_stdout(io.StringIO()) as out:
+            exec(compile("\n" * line + block.group(2), "docs/MODELS.md", "exec"), names)
+        printed = out.getvalue()
+    return "".join([*renewed, text[end:]]), names
