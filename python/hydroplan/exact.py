@@ -65,6 +65,8 @@ def _exact(number: object) -> Union[Fraction, None]:
         return _of_text(float.__repr__(number))
     if isinstance(number, str):
         return _of_text(number.strip())
+    if hasattr(number, "dtype") and hasattr(number, "item"):
+        return _of_text(str(number))
     if hasattr(number, "__index__"):
         return Fraction(operator.index(number))
     return None

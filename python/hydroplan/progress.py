@@ -6,7 +6,7 @@ import time
 from dataclasses import dataclass
 from fractions import Fraction
 from pathlib import Path
-from typing import Callable, Optional, TextIO, Union
+from typing import Callable, List, Optional, TextIO, Union
 
 from hydroplan_tools.watching import clock_text, run_check
 
@@ -72,9 +72,9 @@ class Watcher:
         self._next = begun + EVERY
         self._last: Optional[Progress] = None
 
-    def pause(self) -> float:
-        """The seconds until the next look."""
-        return max(0.05, self._next - time.monotonic())
+    def pauses(self) -> List[float]:
+        """The seconds until the next look, in a list; an empty one where nobody looks."""
+        return [] if self._report is None else [max(0.05, self._next - time.monotonic())]
 
     def look(self, problem: Path) -> None:
         """Looks at the journal where it is time and the journal changed, and reports what is new."""

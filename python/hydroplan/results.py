@@ -12,7 +12,7 @@ from hydroplan_tools.reports import Cut as ReportCut
 from hydroplan_tools.series import Active
 
 from .errors import ModelError
-from .exact import Number, exact
+from .exact import Number, at_least, at_most, exact
 from .tables import package
 
 
@@ -97,7 +97,8 @@ def _training_row(iteration: int, bound: float, check: Optional[GapCheck]) -> Tr
 class Cut:
     """At the incoming state x, `intercept` plus the sum of slopes times x bounds the expected cost from a node on, from below.
 
-    Where the model maximizes it bounds the expected revenue, from above. `slopes` is in money per unit, by state.
+    Where the model maximizes it bounds the expected revenue, from above. `slopes` is in money per unit, by state. Its numbers are
+    rounded to the nearest float, each for itself; `Check.exact_cuts` has them exactly.
     """
 
     node: str
@@ -134,9 +135,9 @@ class Check:
         return next(it for it in self.cuts if (it.node, it.place) == (node, found.place))
 
     def value(self, node: str, state: Mapping[str, Number]) -> float:
-        """The bound on the expected cost from a node on, at an incoming state, in money."""
+        """The bound on the expected cost from a node on, at an incoming state, in money; no float on the wrong side of it."""
         _, found = self._active(node, state)
-        return float(found)
+        return at_least(found) if self.maximizes else at_most(found)
 
     def water_values(self, node: str, state: Mapping[str, Number]) -> Dict[str, float]:
         """What one more unit of each state is worth at a node and an incoming state, in money per unit, by the active cut."""

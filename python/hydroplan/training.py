@@ -1,6 +1,7 @@
 """Training by rules: the program trains one journal in steps, and the rules are asked behind each of them."""
 from __future__ import annotations
 
+import signal
 import time
 from fractions import Fraction
 from pathlib import Path
@@ -18,6 +19,7 @@ from .results import GapCheck, Training, half_width
 from .stopping import BoundStalling, IterationLimit, Statistical, StopRule, TimeLimit
 
 SEEDS = 1 << 64
+INTERRUPTED = (-signal.SIGINT, 128 + signal.SIGINT)
 
 
 def fresh_seed(seed: int, iteration: int, part: int) -> int:
@@ -87,6 +89,8 @@ class TrainingRun:
         if ended is None:
             self._take(self._checked())
             return "the time limit"
+        if ended.status in INTERRUPTED:  # a terminal interrupts the program too, and perhaps first
+            raise KeyboardInterrupt
         if ended.status != 0:
             raise failure(self._compiled, ended)
         self._take(ended)
@@ -100,10 +104,10 @@ class TrainingRun:
             self._watcher.look(running.problem)
         return running.ended()
 
-    def _pause(self) -> float:
-        if self._deadline is None:
-            return self._watcher.pause()
-        return max(0.0, min(self._watcher.pause(), self._deadline - time.monotonic()))
+    def _pause(self) -> Optional[float]:
+        """The seconds until the next look or the end of the time; none where the step's end is all that is waited for."""
+        pauses = [] if self._deadline is None else [max(0.0, self._deadline - time.monotonic())]
+        return min([*pauses, *self._watcher.pauses()], default=None)
 
     def _checked(self) -> Ended:
         """A run of `check` over what the journal has, or of `base` where there is none yet."""

@@ -5,7 +5,9 @@ import stat
 import sys
 import tempfile
 import unittest
+from importlib.util import find_spec
 from pathlib import Path
+from typing import Callable
 
 TOP = Path(__file__).resolve().parents[2]
 if str(TOP / "python") not in sys.path:
@@ -80,12 +82,13 @@ class Folder(unittest.TestCase):
         return path
 
 
-def has(package: str) -> bool:
-    """Whether a package is there."""
-    from importlib.util import find_spec
+def needs(package: str) -> Callable:
+    """Skips a test where a package is not there, and says so in a line."""
+    there = find_spec(package) is not None
+    reason = f"{package} is not there (Debian: python3-{package})"
+    if not there:
+        print(f"{reason}: tests that need it are skipped", file=sys.stderr)
+    return unittest.skipUnless(there, reason)
 
-    return find_spec(package) is not None
 
-
-needs_pandas = unittest.skipUnless(has("pandas"), "pandas is not there (Debian: python3-pandas)")
-needs_numpy = unittest.skipUnless(has("numpy"), "numpy is not there (Debian: python3-numpy)")
+needs_pandas, needs_numpy = needs("pandas"), needs("numpy")

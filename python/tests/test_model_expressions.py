@@ -50,6 +50,7 @@ class Numbers(unittest.TestCase):
         x = Model().stage("s").variable("x", 0, 1)
         for two in (numpy.float64(2), numpy.int32(2)):
             self.assertEqual((two * x).terms[x], 2)
+        self.assertEqual([exact(it) for it in (numpy.float64(0.1), numpy.float32(0.1), numpy.int64(3))], [F(1, 10), F(1, 10), F(3)])
 
 
 class Expressions(unittest.TestCase):

@@ -198,6 +198,14 @@ class Seen(Folder):
         self.assertEqual((check(compiled, self.journal).iterations, kept > 0), (kept, True))
         self.assertEqual(train(compiled, self.journal, seed=7, iterations=kept + 1, progress=False).iterations, kept + 1)
 
+    def test_an_interrupt_that_the_program_sees_first(self):
+        compiled = three_stages().compile()
+        program = self.program("import os, signal\nif sys.argv[1] == 'train':\n    os.kill(os.getpid(), signal.SIGINT)\n"
+                               f"os.execv({str(TOP / 'hydroplan')!r}, ['hydroplan', *sys.argv[1:]])")
+        program.write_text(program.read_text().replace("sys.stdin.buffer.read()\n", ""))
+        with self.assertRaisesRegex(TrainingInterrupted, "0 iterations are kept"):
+            train(compiled, self.journal, seed=7, iterations=5, progress=False, program=program)
+
     def test_ctrl_c_ends_the_program(self):
         script = textwrap.dedent(f"""
             import sys
@@ -207,10 +215,12 @@ class Seen(Folder):
             print("begun", flush=True)
             train(three_stages().compile(), {str(self.journal)!r}, seed=7, iterations=2000)
         """)
-        process = subprocess.Popen([sys.executable, "-c", script], stdout=subprocess.PIPE, stderr=subprocess.PIPE, text=True)
+        process = subprocess.Popen(
+            [sys.executable, "-c", script], stdout=subprocess.PIPE, stderr=subprocess.PIPE, text=True, start_new_session=True,
+        )
         self.assertEqual(process.stdout.readline(), "begun\n")
         time.sleep(1)
-        os.kill(process.pid, signal.SIGINT)
+        os.killpg(process.pid, signal.SIGINT)  # as a terminal does: the program is interrupted too
         _, errors = process.communicate(timeout=20)
         self.assertNotEqual(process.returncode, 0)
         self.assertIn("iterations are kept in", errors)
