@@ -13,23 +13,26 @@ TOP = Path(__file__).resolve().parents[2]
 if str(TOP / "python") not in sys.path:
     sys.path.insert(0, str(TOP / "python"))
 
+from hydroplan.exact import exact  # noqa: E402
 from hydroplan.model import Model, PolicyGraph, equally  # noqa: E402
 
 HERE = Path(__file__).name
 
 
-def three_stages() -> Model:
-    """The tutorial of SDDP.jl: the least expected cost is 25000/3."""
-    def build(stage, node):
-        volume, inflow = stage.state("volume", 0, 200), stage.random("inflow")
-        hydro, thermal = stage.variable("hydro", 0, 150), stage.variable("thermal", 0, 150)
-        spill = stage.variable("spill", 0, 300)
-        stage.add(volume.outgoing + hydro + spill == volume.incoming + inflow, name="water")
-        stage.add(hydro + thermal == 150, name="energy")
-        stage.minimize(50 * node.stage * thermal)
-        return equally([{inflow: 0}, {inflow: 50}, {inflow: 100}])
+def three_stages(unit: object = 1, price: object = 1) -> Model:
+    """The tutorial of SDDP.jl: the least expected cost is 25000/3 times the size of its unit of water and that of its prices."""
+    size = exact(unit)
 
-    return Model.build(PolicyGraph.linear(3), build, initial={"volume": 200})
+    def build(stage, node):
+        volume, inflow = stage.state("volume", 0, 200 * size), stage.random("inflow")
+        hydro, thermal = stage.variable("hydro", 0, 150 * size), stage.variable("thermal", 0, 150 * size)
+        spill = stage.variable("spill", 0, 300 * size)
+        stage.add(volume.outgoing + hydro + spill == volume.incoming + inflow, name="water")
+        stage.add(hydro + thermal == 150 * size, name="energy")
+        stage.minimize(price * (50 * node.stage * thermal))
+        return equally([{inflow: 0}, {inflow: 50 * size}, {inflow: 100 * size}])
+
+    return Model.build(PolicyGraph.linear(3), build, initial={"volume": 200 * size})
 
 
 def one_reservoir() -> Model:

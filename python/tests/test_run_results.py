@@ -7,6 +7,7 @@ from unittest import mock
 
 from model_support import Folder, needs_numpy, needs_pandas, newsvendor, one_reservoir, three_stages
 from hydroplan.errors import MissingPackage, ModelError
+from hydroplan.exact import exact
 from hydroplan.model import Model
 from hydroplan.results import half_width
 from hydroplan.runs import check, evaluate, robust, simulate, train, validate
@@ -25,7 +26,7 @@ class Checks(Trained):
     def test_cuts_and_water_values(self):
         compiled = self.trained(three_stages())
         found = check(compiled, self.journal)
-        # with 200 in store before the first stage a unit more saves 50: one less is burnt at the first price
+        # docs/GUIDE.md: with 200 in store before the first stage a unit more saves 50
         self.assertAlmostEqual(found.water_values("1", {"volume": 200})["volume"], 50, places=3)
         self.assertAlmostEqual(found.value("1", {"volume": "200"}), 25000 / 3, places=3)
         self.assertEqual((found.iterations, found.unanswered, found.rest, found.maximizes), (20, 0, 0, False))
@@ -138,6 +139,32 @@ class Evaluations(Trained):
         self.assertGreater(robust(compiled, self.journal).exact_worst, F("17.49"))
         self.assertAlmostEqual(check(compiled, self.journal).bound, 15, places=3)
         self.assertEqual({it.node for it in robust(compiled, self.journal).planes}, {"n"})
+
+
+class Units(Trained):
+    """The three stages in other units: what is known of them is known in these too."""
+
+    def test_all_results_are_in_the_users_units(self):
+        for unit, price in (("0.37", "0.013"), ("1/3", 250), (1000, "1e-3"), (0.1, "1/7")):
+            with self.subTest(unit=unit, price=price):
+                self.units(exact(unit), exact(price), three_stages(unit, price))
+
+    def units(self, unit, price, model):
+        self.journal = self.folder / f"{unit.numerator}-{unit.denominator}-{price.numerator}.journal"
+        compiled, optimum = self.trained(model), float(F(25000, 3) * unit * price)
+        self.assertEqual(compiled.warnings, ())
+        checked, policy = check(compiled, self.journal), evaluate(compiled, self.journal)
+        self.assertAlmostEqual(checked.bound / optimum, 1, places=6)
+        self.assertLessEqual(checked.exact_bound, F(25000, 3) * unit * price)
+        self.assertAlmostEqual(policy.upper / optimum, 1, places=6)
+        # docs/GUIDE.md: 11,388.89 at 150 units, 8,333.33 at 200; the cost is convex, and a unit saves at least the least price of fuel
+        worth = checked.water_values("1", {"volume": 200 * unit})["volume"] / float(price)
+        self.assertTrue(50 - 1e-4 < worth < (11388.89 - 8333.33) / 50 + 1e-4, worth)
+        for scenario in simulate(compiled, self.journal, seed=3, scenarios=3).scenarios:
+            for number, stage in enumerate(scenario.stages, 1):
+                self.assertAlmostEqual((stage.values["hydro"] + stage.values["thermal"]) / float(150 * unit), 1, places=6)
+                self.assertAlmostEqual(stage.cost, float(50 * number * price) * stage.values["thermal"], places=4)
+                self.assertIn(round(stage.randoms["inflow"] / float(unit), 6), (0, 50, 100))
 
 
 class Missing(Trained):
