@@ -62,11 +62,11 @@ class Compiled:
         return byte_order(iter(self.scales.states))
 
     def row_names(self, node: str) -> List[str]:
-        """The names of a node's rows in their order; a number where the user gave none."""
+        """The names of a node's rows in their order; one without a name is called by its number, as in `#0`."""
         subproblem = self.scales.nodes[node]
         constraints = self.shared.subproblems[subproblem].constraints
         rows = self.scales.subproblems[subproblem].rows
-        return [constraints[at].name or str(number) for number, at in enumerate(rows)]
+        return [constraints[at].name or f"#{number}" for number, at in enumerate(rows)]
 
     def write(self, problem: Union[str, PathLike[str]], scales: Union[str, PathLike[str], None] = None) -> None:
         """Writes the problem to a file, and the scales to another that `tools/convert back` and `tools/watch` read."""

@@ -2,15 +2,16 @@
 from __future__ import annotations
 
 from fractions import Fraction
-from typing import Dict, List, Optional, Sequence, Tuple
+from typing import Dict, List, Optional, Tuple
 
 from hydroplan_tools.back import Back
 from hydroplan_tools.profile import SCALE
-from hydroplan_tools.reports import Cut as ReportCut, Report, Scenario as ReportScenario, Stage as ReportStage, read_report
+from hydroplan_tools.reports import Cut as ReportCut, Report, read_report
 
 from .exact import at_least, at_most
 from .programs import Compiled
-from .results import Check, Cut, Evaluation, MissedRow, Robust, Scenario, Simulation, StageOutcome
+from .results import Check, Cut, Evaluation, MissedRow, Robust, Simulation
+from .traces import scenarios_of
 
 
 def money(compiled: Compiled, number: int) -> Fraction:
@@ -64,31 +65,11 @@ def _cut(report: Report, cut: ReportCut) -> Cut:
     return Cut(report.nodes[cut.node], cut.place, float(cut.alpha), slopes)
 
 
-def simulation_of(compiled: Compiled, outputs: Sequence[str]) -> Simulation:
-    """The scenarios of one or more reports, numbered on."""
-    reports = [report_of(compiled, output) for output in outputs]
-    rows = {node: compiled.row_names(node) for node in compiled.node_names}
-    found = [(report, it) for report in reports for it in report.scenarios]
-    scenarios = tuple(_scenario(report, it, number, rows) for number, (report, it) in enumerate(found))
-    bound = reports[0].bound or Fraction(0)
-    return Simulation(scenarios, bound_float(compiled, bound), bound, compiled.maximizes)
-
-
-def _scenario(report: Report, scenario: ReportScenario, number: int, rows: Dict[str, List[str]]) -> Scenario:
-    stages = tuple(_stage(report.nodes[it.node], it, rows) for it in scenario.stages)
-    return Scenario(number, stages, float(scenario.total))
-
-
-def _stage(node: str, stage: ReportStage, rows: Dict[str, List[str]]) -> StageOutcome:
-    residuals = {name: float(it) for name, it in zip(rows[node], stage.residuals)}
-    return StageOutcome(
-        stage.number + 1, node, stage.kind, _floats(stage.incoming), _floats(stage.randoms), _floats(stage.values), residuals,
-        float(stage.cost),
-    )
-
-
-def _floats(numbers: Dict[str, Fraction]) -> Dict[str, float]:
-    return {name: float(it) for name, it in numbers.items()}
+def simulation_of(compiled: Compiled, output: str) -> Simulation:
+    """The result of `simulate` or `validate`."""
+    lines = output.rstrip("\n").split("\n")
+    bound = money(compiled, int(lines[-1].rpartition(" ")[2]))
+    return Simulation(tuple(scenarios_of(compiled, lines)), bound_float(compiled, bound), bound, compiled.maximizes)
 
 
 def evaluation_of(compiled: Compiled, output: str) -> Evaluation:

@@ -73,12 +73,12 @@ def simulate(compiled: Compiled, journal: Place, *, seed: int, scenarios: int, p
     """
     words = ["simulate", str(journal), str(_whole(seed, "a seed", 0, MOST_SEED))]
     words.append(str(_whole(scenarios, "the number of scenarios", 0, MOST_SCENARIOS)))
-    return simulation_of(compiled, [_output(compiled, words, program)])
+    return simulation_of(compiled, _output(compiled, words, program))
 
 
 def validate(compiled: Compiled, journal: Place, *, program: Optional[Place] = None) -> Simulation:
     """Follows the policy of a journal along the scenarios that the model stores (`Model.scenario`)."""
-    return simulation_of(compiled, [_output(compiled, ["validate", str(journal)], program)])
+    return simulation_of(compiled, _output(compiled, ["validate", str(journal)], program))
 
 
 def evaluate(compiled: Compiled, journal: Place, *, program: Optional[Place] = None) -> Evaluation:

@@ -119,6 +119,16 @@ class Files(Folder):
         for model in (three_stages(), one_reservoir(), newsvendor()):
             self.assertEqual(self.convert(model.to_stochopt())[0], model.compile().problem)
 
+    def test_rows_keep_their_names_where_constraints_are_left_out(self):
+        model = json.loads(newsvendor().to_stochopt())
+        program = model["subproblems"]["sell"]["subproblem"]
+        fixed = {"name": "fixed", "function": {"type": "Variable", "name": "d"}, "set": {"type": "EqualTo", "value": 1}}
+        unnamed = {"function": program["constraints"][0]["function"], "set": {"type": "LessThan", "upper": 9}}
+        program["constraints"] = [fixed, program["constraints"][0], unnamed, *program["constraints"][1:]]
+        path = self.folder / "model.sof.json"
+        path.write_text(json.dumps(model), encoding="utf-8")
+        self.assertEqual(read_stochopt(path).compile().row_names("sell"), ["papers", "#1", "demand"])
+
     def test_a_file_of_stochoptformat(self):
         path = self.folder / "model.sof.json"
         path.write_text(newsvendor().to_stochopt(), encoding="utf-8")

@@ -6,9 +6,12 @@ from fractions import Fraction as F
 from unittest import mock
 
 from model_support import Folder, needs_numpy, needs_pandas, newsvendor, one_reservoir, three_stages
+from hydroplan_tools.back import Back, split_name
 from hydroplan.errors import MissingPackage, ModelError
 from hydroplan.exact import exact
 from hydroplan.model import Model
+from hydroplan.core import find_program, run
+from hydroplan.reading import report_of, simulation_of
 from hydroplan.results import half_width
 from hydroplan.runs import check, evaluate, robust, simulate, train, validate
 
@@ -53,6 +56,37 @@ class Checks(Trained):
         self.assertEqual(set(table["node"]), {"1", "2", "3"})
 
 
+def turned_back(compiled, output):
+    """The scenarios of a report as `convert back` writes them: the number, the stages with all numbers by their words, and the cost."""
+    found = []
+    for line in Back(compiled.scales, None).lines(output.rstrip("\n").split("\n")):
+        word, _, rest = line.partition(" ")
+        if word == "scenario":
+            found.append([int(rest), [], None])
+        elif word == "stage":
+            number, _, node, kind = rest.split()
+            place = (int(number) + 1, compiled.node_names[int(node)], kind)
+            found[-1][1].append({"stage": place, "in": {}, "random": {}, "value": {}, "row": []})
+        elif word in ("in", "random", "value"):
+            name, number = split_name(rest)
+            found[-1][1][-1][word][name] = float(F(number))
+        elif word == "row":
+            found[-1][1][-1]["row"].append(float(F(rest.split()[2])))
+        elif word == "cost":
+            found[-1][1][-1]["cost"] = float(F(rest))
+        elif word == "end":
+            found[-1][2] = float(F(rest))
+    return found
+
+
+def numbers_of(scenario):
+    """A scenario in the same form."""
+    return [scenario.number, [{
+        "stage": (it.stage, it.node, it.kind), "in": it.incoming, "random": it.randoms, "value": it.values,
+        "row": list(it.residuals.values()), "cost": it.cost,
+    } for it in scenario.stages], scenario.cost]
+
+
 class Simulations(Trained):
     def test_scenarios(self):
         found = simulate(self.trained(three_stages()), self.journal, seed=1, scenarios=50)
@@ -84,6 +118,30 @@ class Simulations(Trained):
         self.assertEqual({round(it, 3) for it in found.costs}, {2.5})
         self.assertAlmostEqual(found.scenarios[0].stages[0].values["x_out"], 10, places=3)
         self.assertAlmostEqual(found.gap, found.bound - found.mean)
+
+    def test_a_report_is_read_as_the_tools_read_it(self):
+        for model in (three_stages("1/3", "0.7"), newsvendor()):
+            self.journal = self.folder / f"{len(model.nodes)}.journal"
+            compiled = self.trained(model)
+            output = run(find_program(), ["simulate", str(self.journal), "5", "20"], compiled.problem).output
+            found, report = simulation_of(compiled, output), report_of(compiled, output)
+            self.assertEqual([numbers_of(it) for it in found.scenarios], turned_back(compiled, output))
+            self.assertEqual([it.cost for it in found.scenarios], [float(it.total) for it in report.scenarios])
+            stages = [(it.incoming, max(map(abs, it.residuals.values()), default=0)) for one in found.scenarios for it in one.stages]
+            theirs = [(it.incoming, it.residual) for one in report.scenarios for it in one.stages]
+            floats = [({name: float(report.value(it)) for name, it in table.items()}, float(report.value(most))) for table, most in theirs]
+            self.assertEqual(stages, floats)
+            self.assertEqual(found.exact_bound, report.bound)
+
+    def test_names_of_all_kinds(self):
+        model = Model({'a "quoted"\n\x1f\\ \u00fc\u2028 state': 1})
+        stage = model.stage("s")
+        state, x = stage.state('a "quoted"\n\x1f\\ \u00fc\u2028 state', 0, 2), stage.variable("x y\x7f", 0, 1)
+        stage.add(state.incoming == state.outgoing + x, name="the row")
+        model.node("n 1", stage)
+        outcome = simulate(self.trained(model, 1), self.journal, seed=1, scenarios=1).scenarios[0].stages[0]
+        self.assertEqual((outcome.incoming, outcome.residuals), ({state.name: 1}, {"the row": 0}))
+        self.assertEqual(set(outcome.values), {state.outgoing.name, x.name})
 
     def test_stored_scenarios(self):
         model = newsvendor()
