@@ -59,6 +59,10 @@ class ProgramNotRun(RunFailed):
     """Status 1: the front door did not run the program, and says why."""
 
 
+class WordsRefused(RunFailed):
+    """Status 2: the program has no such command; it is another version, or no hydroplan."""
+
+
 class ProblemUnreadable(RunFailed):
     """Status 3: the program could not read the problem."""
 

@@ -14,12 +14,12 @@ from hydroplan_tools.profile import SCALE
 from .core import Ended
 from .errors import (
     JournalDeviceFailed, JournalRefused, NoStageSolution, OutOfMemory, OutOfRange, OutputFailed, ProblemRefused, ProblemTooLong,
-    ProblemUnreadable, ProgramKilled, ProgramNotRun, RunFailed, TooMuch,
+    ProblemUnreadable, ProgramKilled, ProgramNotRun, RunFailed, TooMuch, WordsRefused,
 )
 from .programs import Compiled
 
 PLAIN: Dict[int, Type[RunFailed]] = {
-    1: ProgramNotRun, 3: ProblemUnreadable, 4: ProblemTooLong, 8: OutOfRange, 10: JournalDeviceFailed, 11: OutputFailed,
+    1: ProgramNotRun, 2: WordsRefused, 3: ProblemUnreadable, 4: ProblemTooLong, 8: OutOfRange, 10: JournalDeviceFailed, 11: OutputFailed,
     12: OutOfMemory,
 }
 FORMULAS = {

@@ -12,7 +12,7 @@ from .core import Place, find_program, run
 from .errors import (
     HydroplanError, JournalDeviceFailed, JournalRefused, MissingPackage, NoStageSolution, OutOfMemory, OutOfRange, OutputFailed,
     ProblemRefused, ProblemTooLong, ProblemUnreadable, ProgramKilled, ProgramMissing, ProgramNotRun, RuleError, RunFailed, TooMuch,
-    TrainingInterrupted,
+    TrainingInterrupted, WordsRefused,
 )
 from .failures import failure
 from .limits import MOST_SCENARIOS
@@ -28,7 +28,7 @@ __all__ = [
     "JournalRefused", "MissedRow", "MissingPackage", "NoStageSolution", "OutOfMemory", "OutOfRange", "OutputFailed",
     "ProblemRefused", "ProblemTooLong", "ProblemUnreadable", "ProgramKilled", "ProgramMissing", "ProgramNotRun", "Progress",
     "ProgressPrinter", "Robust", "RuleError", "RunFailed", "Scenario", "Simulation", "StageOutcome", "Statistical", "StopRule", "TimeLimit",
-    "TooMuch", "Training", "TrainingInterrupted", "TrainingRow", "check", "evaluate", "robust", "simulate", "train", "validate",
+    "TooMuch", "Training", "TrainingInterrupted", "TrainingRow", "WordsRefused", "check", "evaluate", "robust", "simulate", "train", "validate",
 ]
 
 MOST_SEED = (1 << 64) - 1

@@ -23,15 +23,36 @@ def shared_model(model: Model) -> shared.Model:
     """The shared form of a model, or ModelError."""
     _is_whole(model)
     root = CodeOrigin("the root", model.place)
+    alike = _alike(model)
     return shared.Model(
         {name: quantity(model.initial[name], f'the initial value of "{name}" ({model.place})') for name in byte_order(iter(model.initial))},
         _shares(_first(model), root.place()),
         root,
-        {name: _node(model.nodes[name]) for name in byte_order(iter(model.nodes))},
-        {name: _subproblem(model.stages[name]) for name in byte_order(iter(model.stages))},
+        {name: _node(model.nodes[name], alike) for name in byte_order(iter(model.nodes))},
+        {name: _subproblem(model.stages[name]) for name in byte_order(iter(set(alike.values())))},
         tuple(tuple(_step(model, *step) for step in scenario) for scenario in model.scenarios),
         {} if model.name is None else {"name": model.name},
     )
+
+
+def _alike(model: Model) -> Dict[str, str]:
+    """For each stage that a node has, by name, the first in byte order that says the same: one subproblem is enough for them."""
+    first: Dict[object, str] = {}
+    used = {node.stage.name for node in model.nodes.values()}
+    return {name: first.setdefault(_said(model.stages[name]), name) for name in byte_order(iter(used))}
+
+
+def _said(stage: Stage) -> object:
+    """All that counts of a stage but its name and its lines."""
+    variables = tuple((it.name, it.kind, it.lower, it.upper) for it in stage.all_variables.values())
+    rows = tuple(
+        (it.name, it.relation.set_type, it.relation.lower, it.relation.upper, _by_name(it.relation.terms)) for it in stage.constraints
+    )
+    return variables, rows, stage.sense, _by_name(stage.objective)
+
+
+def _by_name(expression: Expression) -> object:
+    return tuple((it.name, coefficient) for it, coefficient in expression.terms.items()), expression.constant
 
 
 def quantity(value: Fraction, place: str) -> shared.Quantity:
@@ -107,7 +128,7 @@ def _parts(weights: Sequence[Fraction], place: str) -> List[shared.Quantity]:
     return [quantity(weight / total, f"realization {at} of {place}") for at, weight in enumerate(weights)]
 
 
-def _node(node: Node) -> shared.Node:
+def _node(node: Node, alike: Dict[str, str]) -> shared.Node:
     origin = CodeOrigin(f'node "{node.name}"', node.place)
     place = origin.place()
     probabilities = _parts([weight for weight, _ in node.realizations], place)
@@ -116,7 +137,7 @@ def _node(node: Node) -> shared.Node:
         for probability, (_, values) in zip(probabilities, node.realizations)
     )
     alternatives = tuple(tuple(_parts(it, f"an alternative of {place}")) for it in node.alternatives)
-    return shared.Node(node.stage.name, realizations, _shares(node.successors, place, node.stop), origin, alternatives)
+    return shared.Node(alike[node.stage.name], realizations, _shares(node.successors, place, node.stop), origin, alternatives)
 
 
 def _support(values: Dict[str, Fraction], place: str) -> Dict[str, shared.Quantity]:

@@ -1,15 +1,23 @@
-"""The blocks of docs/MODELS.md: those of Python are run in one namespace, those of text have what the block before them printed."""
+"""The optima of examples/README.md, and the blocks of docs/MODELS.md: those of Python are run in one namespace, those of text have what the block before them printed."""
 from __future__ import annotations
 
 import contextlib
 import io
 import re
+from fractions import Fraction
 from typing import Dict, Tuple
 
 from model_support import TOP
 
 PAGE = TOP / "docs" / "MODELS.md"
+OPTIMUM = re.compile(r"^\| `(\w+)\.json` \| [^|]* \| [^|]* \| (-?[0-9.,]+)", re.MULTILINE)
 BLOCK = re.compile(r"```(python|text)\n(.*?)```\n", re.DOTALL)
+
+
+def optima() -> Dict[str, Fraction]:
+    """The optima of the examples, which examples/README.md has from outside the program, to six places."""
+    found = OPTIMUM.findall((TOP / "examples" / "README.md").read_text(encoding="utf-8"))
+    return {name: Fraction(number.replace(",", "").rstrip(".")) for name, number in found}
 
 
 def run_blocks(text: str) -> Tuple[str, Dict[str, object]]:

@@ -1,19 +1,10 @@
 """The page docs/MODELS.md: its blocks are run one after the other, what they print is compared, and bounds with the optima from outside."""
 import os
-import re
 import unittest
 from fractions import Fraction as F
 
-from model_support import TOP, Folder
-from page_blocks import BLOCK, PAGE, run_blocks
-
-OPTIMUM = re.compile(r"^\| `(\w+)\.json` \| [^|]* \| [^|]* \| (-?[0-9.,]+)", re.MULTILINE)
-
-
-def optima():
-    """The optima of the examples, which examples/README.md has from outside the program."""
-    found = OPTIMUM.findall((TOP / "examples" / "README.md").read_text(encoding="utf-8"))
-    return {name: F(number.replace(",", "")) for name, number in found}
+from model_support import Folder
+from page_blocks import BLOCK, PAGE, optima, run_blocks
 
 
 class Page(Folder):

@@ -7,7 +7,7 @@ from model_support import TOP, Folder, one_reservoir, three_stages
 from hydroplan import core
 from hydroplan.errors import (
     JournalDeviceFailed, JournalRefused, NoStageSolution, OutOfMemory, OutOfRange, OutputFailed, ProblemRefused, ProblemTooLong,
-    ProblemUnreadable, ProgramKilled, ProgramMissing, ProgramNotRun, RunFailed, TooMuch,
+    ProblemUnreadable, ProgramKilled, ProgramMissing, ProgramNotRun, RunFailed, TooMuch, WordsRefused,
 )
 from hydroplan.model import Model
 from hydroplan.runs import check, evaluate, simulate, train
@@ -109,7 +109,8 @@ class Stood(Folder):
         self.refused(10, "hydroplan: journal device failed", JournalDeviceFailed, "journal device failed")
         self.refused(11, "hydroplan: output failed", OutputFailed, "output failed")
         self.refused(12, "hydroplan: memory", OutOfMemory, "memory")
-        self.refused(2, "hydroplan: usage: base", RunFailed, "usage: base")
+        self.refused(2, "hydroplan: usage: base", WordsRefused, "usage: base")
+        self.refused(99, "hydroplan: something new", RunFailed, "something new")
         self.refused(7, "hydroplan: too much: formula 5 gives 65537", TooMuch, "the branches of the scenario tree", "estimate by simulate instead")
 
     def test_what_is_too_much(self):
