@@ -170,9 +170,10 @@ def total(terms: Iterable[Linear]) -> Expression:
 
 def between(lower: Number, expression: Linear, upper: Number) -> Relation:
     """The constraint that an expression is at least `lower` and at most `upper`."""
-    terms, low, high = as_linear(expression), exact(lower, "the lower side"), exact(upper, "the upper side")
+    place, terms = users_line(), as_linear(expression)
+    low, high = exact(lower, f"the lower side ({place})"), exact(upper, f"the upper side ({place})")
     if low > high:
-        raise ModelError(f"the lower side {low} is above the upper side {high} ({users_line()})")
+        raise ModelError(f"the lower side {low} is above the upper side {high} ({place})")
     return Relation(Expression(terms.terms, Fraction(0)), "Interval", low - terms.constant, high - terms.constant)
 
 

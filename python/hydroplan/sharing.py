@@ -32,6 +32,7 @@ def shared_model(model: Model) -> shared.Model:
         {name: _subproblem(model.stages[name]) for name in byte_order(iter(set(alike.values())))},
         tuple(tuple(_step(model, *step) for step in scenario) for scenario in model.scenarios),
         {} if model.name is None else {"name": model.name},
+        [f'left out: stage "{it.name}" ({it.place}): no node has it' for it in model.stages.values() if it.name not in alike],
     )
 
 

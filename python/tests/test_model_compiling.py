@@ -61,6 +61,13 @@ class Compiling(unittest.TestCase):
         model.node("n", stage, [(1 / 6, {}), (1 / 3, {}), (0.5, {})])
         self.assertEqual([it["probability"] for it in json.loads(model.compile().problem)["nodes"]["n"]["realizations"]], [1, 2, 3])
 
+    def test_a_stage_without_a_node_is_left_out(self):
+        model = one_reservoir()
+        model.stage("idle").state("v", 0, 1)
+        compiled = model.compile()
+        self.assertEqual(compiled.problem, one_reservoir().compile().problem)
+        self.assertRegex(compiled.ledger[0], r'left out: stage "idle" \(.*test_model_compiling\.py:\d+\): no node has it')
+
     def test_resolution(self):
         model = newsvendor()
         compiled = model.compile(resolution={"x": 0.5, "u": "0.1", "cost": "0.0001"}, tolerance="0.01")

@@ -117,6 +117,7 @@ class Refusals(unittest.TestCase):
         self.refused(lambda: self.x != 1, "!= is no constraint")
         self.refused(lambda: bool(self.x + 1), "neither true nor false")
         self.refused(lambda: between(2, self.x, 1), "the lower side 2 is above the upper side 1")
+        self.refused(lambda: between("low", self.x, 1), "the lower side (", "has to be a number, and is 'low'")
 
     def test_constraints(self):
         self.refused(lambda: self.stage.add(self.x + 1, name="row"), 'constraint "row" is 1 x + 1, and no comparison')
