@@ -99,20 +99,18 @@ class Model:
         if self.stages.get(stage.name) is not stage:
             raise ModelError(f'the stage "{stage.name}" of node "{name}" ({place}) belongs to another model')
         called = f'node "{name}" ({place})'
-        given = [(_weight(it, f"a realization of {called}"), _values(stage, values, called)) for it, values in realizations or ()]
+        given = [_realization(stage, it, called) for it in realizations or ()]
         lists = [[_weight(it, f"an alternative of {called}") for it in weights] for weights in alternatives]
         wrong = next((it for it in lists if len(it) != len(given)), None)
         if wrong is not None:
             raise ModelError(f"an alternative of {called} has {len(wrong)} weights for {len(given)} realizations")
-        links = {key: _weight(it, f'the successor "{key}" of {called}') for key, it in (successors or {}).items()}
-        found = Node(name, stage, tuple(given), links, _weight(stop, f"stop of {called}"), tuple(map(tuple, lists)), place)
+        found = Node(name, stage, tuple(given), _successors(successors or {}, called), _weight(stop, f"stop of {called}"), tuple(map(tuple, lists)), place)
         self.nodes[name] = found
         return found
 
     def root(self, successors: Mapping[str, Number]) -> None:
         """Sets the first nodes, with weights. Without it the root leads to the one node that no other leads to."""
-        place = users_line()
-        self.first = {name: _weight(it, f'the successor "{name}" of the root ({place})') for name, it in successors.items()}
+        self.first = _successors(successors, f"the root ({users_line()})")
 
     def scenario(self, steps: Sequence[Tuple[str, Values]]) -> None:
         """Stores a scenario for `validate`: a node and the values of its random variables for each stage."""
@@ -141,6 +139,18 @@ class Model:
 
 def _weight(number: Number, what: str) -> Fraction:
     return exact_weight(number, f"the weight of {what}")
+
+
+def _successors(successors: Mapping[str, Number], called: str) -> Dict[str, Fraction]:
+    if not isinstance(successors, Mapping):
+        raise ModelError(f'the successors of {called} are weights by name, as in {{"next": 1}}, not {successors!r}')
+    return {name: _weight(it, f'the successor "{name}" of {called}') for name, it in successors.items()}
+
+
+def _realization(stage: Stage, realization: Realization, called: str) -> Tuple[Fraction, Dict[str, Fraction]]:
+    if not (isinstance(realization, tuple) and len(realization) == 2 and isinstance(realization[1], Mapping)):
+        raise ModelError(f"a realization of {called} is a weight and values by name, as in (1, {{..}}), not {realization!r}")
+    return _weight(realization[0], f"a realization of {called}"), _values(stage, realization[1], called)
 
 
 def _values(stage: Stage, values: Values, called: str) -> Dict[str, Fraction]:

@@ -221,6 +221,11 @@ class Refusals(unittest.TestCase):
                              ({wet: "much"}, 'the value of "wet" in node "n" .* has to be a number')):
             with self.assertRaisesRegex(ModelError, said):
                 model.node("n", self.stage, [(1, values)])
+        for wrong in ({wet: 1}, (1, 2), (1, {wet: 1}, 3), 5):
+            with self.assertRaisesRegex(ModelError, r'a realization of node "n" \(.*\) is a weight and values by name, as in \(1, {..}\), not '):
+                model.node("n", self.stage, [wrong])
+        with self.assertRaisesRegex(ModelError, r'the successors of node "n" \(.*\) are weights by name, as in {"next": 1}, not \[\'m\'\]'):
+            model.node("n", self.stage, [(1, {wet: 1})], ["m"])
         with self.assertRaisesRegex(ModelError, 'the weight of a realization of node "n" .* is below 0: -1'):
             model.node("n", self.stage, [(-1, {wet: 1})])
         with self.assertRaisesRegex(ModelError, 'an alternative of node "n" .* has 2 weights for 1 realizations'):
