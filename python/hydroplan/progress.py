@@ -4,7 +4,6 @@ from __future__ import annotations
 import sys
 import time
 from dataclasses import dataclass
-from fractions import Fraction
 from pathlib import Path
 from typing import Callable, List, Optional, TextIO, Union
 
@@ -59,13 +58,13 @@ def callback_of(progress: Union[bool, Callback]) -> Optional[Callback]:
 class Watcher:
     """Looks at a journal while the program writes it, and reports at most once in `EVERY` seconds.
 
-    A look takes a run of `check`, so the next one comes no sooner than that took.
+    `bound` turns a bound of the program into money. A look takes a run of `check`, so the next one comes no sooner than that took.
     """
 
-    def __init__(self, program: Path, journal: Path, money: Callable[[int], Fraction], report: Optional[Callback], begun: float) -> None:
+    def __init__(self, program: Path, journal: Path, bound: Callable[[int], float], report: Optional[Callback], begun: float) -> None:
         self._program = program
         self._journal = journal
-        self._money = money
+        self._bound = bound
         self._report = report
         self._begun = begun
         self._mark: object = None
@@ -86,15 +85,15 @@ class Watcher:
             self._mark = mark
             seen = run_check(self._program, self._journal, problem)
             if seen.fault is None and seen.bounds:
-                self.tell(len(seen.bounds), self._money(seen.bounds[-1]), seen.unsettled)
+                self.tell(len(seen.bounds), self._bound(seen.bounds[-1]), seen.unsettled)
         self._next = time.monotonic() + max(EVERY, time.monotonic() - began)
 
-    def tell(self, iteration: int, bound: Fraction, unanswered: int) -> None:
+    def tell(self, iteration: int, bound: float, unanswered: int) -> None:
         """Reports an iteration, where it was not reported yet."""
         if self._report is None or (self._last is not None and self._last.iteration >= iteration):
             return
-        moved = float(bound) - self._last.bound if self._last is not None else 0.0
-        self._last = Progress(iteration, float(bound), moved, time.monotonic() - self._begun, unanswered)
+        moved = bound - self._last.bound if self._last is not None else 0.0
+        self._last = Progress(iteration, bound, moved, time.monotonic() - self._begun, unanswered)
         self._next = time.monotonic() + EVERY
         self._report(self._last)
 

@@ -52,7 +52,7 @@ class TrainingRun:
         self._rules = rules
         self._program = program
         self._begun = time.monotonic()
-        self._watcher = Watcher(program, journal, lambda number: money(compiled, number), report, self._begun)
+        self._watcher = Watcher(program, journal, lambda it: bound_float(compiled, money(compiled, it)), report, self._begun)
         self._bounds: Tuple[float, ...] = ()
         self._bound = Fraction(0)
         self._unanswered = 0
@@ -128,7 +128,7 @@ class TrainingRun:
 
     def _tell(self) -> None:
         if self._bounds:
-            self._watcher.tell(len(self._bounds), self._bound, self._unanswered)
+            self._watcher.tell(len(self._bounds), self._bound_float(), self._unanswered)
 
     def _reason(self) -> Optional[str]:
         """Why training stops behind a step, none where it goes on."""
