@@ -53,8 +53,12 @@ class Running:
         self.problem = folder / "problem.json"
         self.problem.write_bytes(problem)
         self._output, self._errors = folder / "output", folder / "errors"
-        with self.problem.open("rb") as source, self._output.open("wb") as output, self._errors.open("wb") as errors:
-            self._process = subprocess.Popen([str(program), *words], stdin=source, stdout=output, stderr=errors)
+        try:
+            with self.problem.open("rb") as source, self._output.open("wb") as output, self._errors.open("wb") as errors:
+                self._process = subprocess.Popen([str(program), *words], stdin=source, stdout=output, stderr=errors)
+        except OSError as fault:
+            self._folder.cleanup()
+            raise ProgramMissing(f"the program {program} cannot be run: {fault.strerror}") from None
 
     def __enter__(self) -> Running:
         return self

@@ -39,7 +39,7 @@ class MissingPackage(HydroplanError, ImportError):
 
 
 class ProgramMissing(HydroplanError):
-    """No program was found to run."""
+    """No program was found, or the one that was given cannot be run."""
 
 
 class RunFailed(HydroplanError):

@@ -157,6 +157,9 @@ class Found(Folder):
         self.assertEqual(core.find_program(program), program.resolve())
         with self.assertRaisesRegex(ProgramMissing, "the program .*nothing is not there"):
             core.find_program(self.folder / "nothing")
+        self.journal.write_text("no program", encoding="utf-8")
+        with self.assertRaisesRegex(ProgramMissing, "the program .*plan.journal cannot be run: Permission denied"):
+            check(three_stages().compile(), self.journal, program=self.journal)
         with mock.patch.object(core, "TOP", self.folder):
             with mock.patch.dict(os.environ, {"PATH": ""}), self.assertRaisesRegex(ProgramMissing, "hydroplan is not found: name the program"):
                 core.find_program()
