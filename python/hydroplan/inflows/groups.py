@@ -13,7 +13,7 @@ from .records import Record, Row
 
 SOURCE = "k-means (MacQueen 1967; Lloyd 1982) from centres by Arthur and Vassilvitskii (2007)"
 ATTEMPTS = 10
-MOST_PASSES = 300
+PASSES = 50
 
 
 def grouped_years(record: Record, horizon: Horizon, groups: int, *, seed: int) -> Independent:
@@ -21,7 +21,7 @@ def grouped_years(record: Record, horizon: Horizon, groups: int, *, seed: int) -
 
     Groups are those of k-means (MacQueen 1967; Lloyd 1982) over all stations at once, each standardized by its mean and deviation in
     the step. `scipy.cluster.vq.kmeans2` finds them from centres drawn as Arthur and Vassilvitskii (2007) do; the best of 10 attempts
-    counts, in the sum of squared distances. `seed`, from 0 to 2^32 - 1, decides the draws.
+    of 50 passes counts, in the sum of squared distances. `seed`, from 0 to 2^32 - 1, decides the draws.
 
     k-means is taken, and no reduction to some of the years, since the weighted mean of groups' means is the record's mean: nothing
     has to be shifted afterwards. Deviations become smaller, by what the years differ within their groups. Values are rounded down or
@@ -67,7 +67,7 @@ def _labels(rows: Sequence[Row], groups: int, seeds: Sequence[int]) -> List[int]
     best: Optional[Tuple[float, List[int]]] = None
     for _ in range(ATTEMPTS):
         try:
-            centres, labels = vq.kmeans2(points, groups, iter=MOST_PASSES, minit="++", missing="raise", seed=random)
+            centres, labels = vq.kmeans2(points, groups, iter=PASSES, minit="++", missing="raise", seed=random)
         except vq.ClusterError:
             continue
         distance = float(((points - centres[labels]) ** 2).sum())
