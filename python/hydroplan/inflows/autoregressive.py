@@ -21,7 +21,7 @@ from .errors import InflowError
 from .realizations import About, Autoregression, Horizon, Realization, ShockStage, StageRealizations, decimal_step, in_units
 from .records import Record
 from .rounding import decimal_of
-from .shocks import fitted
+from .shocks import fitted, keeps_deviation
 from .statistics import Statistics, statistics_of
 
 METHOD = "PAR(1)"
@@ -42,9 +42,10 @@ def periodic_autoregression(
     Inflow does not fall below 0, on any path. For each stage the least inflow that can come before it is known, and so is the least
     shock that leads from there to 0. Shocks are max(least, c + k residual), with k and c such that mean and deviation of the shocks
     stay what they are to be (`shocks.fitted`). Nothing has to be added to the linear program: no variable for what is short, and no
-    penalty among the costs. Where more than the part `most_raised` of the residuals would lead below 0, or their mean would, the
-    coefficient is drawn towards 0 in its steps until that is no longer so; the correlation with the step before is then smaller than
-    the record's. The notes say how many shocks were raised and which coefficients were changed.
+    penalty among the costs. Where more than the part `most_raised` of the residuals would lead below 0, or their mean would, or the
+    deviation could not be kept with a k of at most 2, the coefficient is drawn towards 0 in its steps until that is no longer so; the
+    correlation with the step before is then smaller than the record's. The notes say how many shocks were raised and which
+    coefficients were changed.
 
     InflowError where the record has a value below 0 or fewer than 3 years, or `previous` is not one number at or above 0 for each
     station.
@@ -113,14 +114,15 @@ def _notes(record: Record, stages: Sequence[ShockStage]) -> List[str]:
     if count:
         every = sum(len(shocks.realizations) for _, _, shocks in raised)
         found.append(
-            f"raised, so that inflow stays at or above 0: {sum(it for it, _, _ in raised)} of {every} shocks; "
+            f"shocks raised, so that inflow stays at or above 0: {sum(it for it, _, _ in raised)} of {every}; "
             f"most, {count} of {len(most.realizations)}, for {name} in stage {most.stage}, {record.kind} {most.step}"
         )
     changed: Dict[Tuple[int, str], str] = {}
     for it in stages:
         for name in it.changed:
             changed[it.shocks.step, name] = f"{it.coefficients[name]} in place of {it.estimates[name]:.3f}"
-    return [*found, *(f"coefficient, for the same reason: {name}, {record.kind} {step}: {it}" for (step, name), it in sorted(changed.items()))]
+    words = "coefficient drawn towards 0, so that inflow stays at or above 0"
+    return [*found, *(f"{words}: {name}, {record.kind} {step}: {it}" for (step, name), it in sorted(changed.items()))]
 
 
 @dataclass(frozen=True)
@@ -179,9 +181,11 @@ class _Line:
         return count * unit, count != first
 
     def _is_fit(self, step: int, part: Fraction) -> bool:
-        """Whether the mean shock is not below the least one, and not too many others are."""
+        """Whether the mean shock is not below the least one, not too many others are, and the deviation can be kept."""
         residuals, mean, low = self._residuals(step, part), self._mean_shock(step, part), self._least_shock(part)
-        return mean >= low and self._raised(residuals, mean, low) <= self.rules.most_raised * len(residuals)
+        if mean < low or self._raised(residuals, mean, low) > self.rules.most_raised * len(residuals):
+            return False
+        return keeps_deviation(residuals, mean, self._deviation(step, part), low)
 
     def _raised(self, residuals: Sequence[Fraction], mean: Fraction, low: int) -> int:
         return sum(mean + it < low for it in residuals)

@@ -6,7 +6,7 @@ from math import fsum, sqrt
 from typing import List, Sequence, TypeVar
 
 FINENESS = 10**6
-MOST_FACTOR = 16
+MOST_FACTOR = 2
 TOLERANCE = 1e-9
 
 Real = TypeVar("Real", float, Fraction)
@@ -15,7 +15,7 @@ Real = TypeVar("Real", float, Fraction)
 def fitted(residuals: Sequence[Fraction], mean: Fraction, deviation: float, least: int) -> List[Fraction]:
     """The shocks max(least, c + k residual), with this mean exactly and with this deviation as nearly as k allows.
 
-    k has six decimals and is at most 16 times what it would be without the least shock; where that is not enough, the deviation is
+    k has six decimals and is at most twice what it would be without the least shock; where that is not enough, the deviation is
     smaller. `mean` is at or above `least`. All numbers are in one unit.
     """
     floats = [float(it) for it in residuals]
@@ -33,6 +33,15 @@ def fitted(residuals: Sequence[Fraction], mean: Fraction, deviation: float, leas
         else:
             high = middle
     return _filled(residuals, Fraction(high, FINENESS), mean, Fraction(least))
+
+
+def keeps_deviation(residuals: Sequence[Fraction], mean: Fraction, deviation: float, least: int) -> bool:
+    """Whether `fitted` finds shocks with this deviation."""
+    floats = [float(it) for it in residuals]
+    own = deviation_of(floats)
+    if own == 0:
+        return deviation == 0
+    return _deviation_with(floats, MOST_FACTOR * round(deviation / own * FINENESS), mean, least) >= deviation * (1 - TOLERANCE)
 
 
 def deviation_of(values: Sequence[float]) -> float:
