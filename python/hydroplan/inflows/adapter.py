@@ -40,11 +40,13 @@ def model_with_inflows(
 
 
 def policy_graph(inflows: Inflows, discount: Number = 1) -> PolicyGraph:
-    """The policy graph of inflows; each node's `value` is its part, a StageRealizations or a ShockStage."""
-    if not isinstance(inflows, (Independent, Autoregression)):
-        return PolicyGraph.lattice(inflows.stages, inflows.transitions, inflows.initial, discount)
-    layers: Sequence[object] = inflows.stages
-    return PolicyGraph.lattice([[it] for it in layers], [[[1]]] * (len(layers) - 1), discount=discount)
+    """The policy graph of inflows, without transitions of weight 0; each node's `value` is a StageRealizations or a ShockStage."""
+    if isinstance(inflows, (Independent, Autoregression)):
+        layers: Sequence[object] = inflows.stages
+        return PolicyGraph.lattice([[it] for it in layers], [[[1]]] * (len(layers) - 1), discount=discount)
+    graph = PolicyGraph.lattice(inflows.stages, inflows.transitions, inflows.initial, discount)
+    nodes = (replace(node, successors={name: it for name, it in node.successors.items() if it}) for node in graph.nodes)
+    return PolicyGraph(tuple(nodes), {name: it for name, it in graph.root.items() if it})
 
 
 def _first(inflows: Inflows) -> Dict[str, Decimal]:

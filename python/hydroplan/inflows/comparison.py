@@ -55,7 +55,7 @@ class Comparison:
         lines: List[str] = []
         for station in self.about.stations:
             lines.extend(self._block(station))
-        return "\n".join([*lines, *self._cross()]) + "\n"
+        return "".join(line.rstrip() + "\n" for line in [*lines, *self._cross()])
 
     def _block(self, station: str) -> List[str]:
         head = f"{station} ({self.about.unit})"
