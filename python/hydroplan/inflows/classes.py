@@ -25,8 +25,8 @@ def markov_classes(
     since its only year is the last, leads to the next step's classes by their numbers of years. Both are said in the notes. The first
     stage's classes have their numbers of years as weights, or the transitions from class `before` of the step before it.
 
-    Means are the record's at every stage of the first year, up to rounding. From the second year on they are off a little: the step
-    over the end of the year has one pair of years less.
+    Up to rounding, each stage until the end of the year has the record's joint distribution. After that, probabilities of classes are
+    off a little: the step over the end of the year has one pair of years less.
 
     InflowError where the classes are no number from 1 to that of the years, or `before` is none of them.
     """
