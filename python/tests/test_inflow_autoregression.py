@@ -125,7 +125,8 @@ class Autoregressions(unittest.TestCase):
 
     def test_shocks_are_joint(self):
         # at 10 times the inflow and far from 0, b's shocks are 10 times those of a in each year
-        record = record_of(*([(100 + a, 1000 + 10 * a), (100 + b, 1000 + 10 * b)] for a, b in ((2, 3), (4, 5), (6, 5), (8, 7))), stations="ab")
+        years = ((2, 3), (4, 5), (6, 5), (8, 7))
+        record = record_of(*([(100 + it, 1000 + 10 * it) for it in year] for year in years), stations="ab")
         for stage in periodic_autoregression(record, Horizon(2, start=2, resolution="0.01")).stages:
             for it in stage.shocks.realizations:
                 self.assertLess(abs(it.values["b"] - 10 * it.values["a"]), D("0.1"))
@@ -142,7 +143,8 @@ class Autoregressions(unittest.TestCase):
         # the mean 4 and the mean square 26: c is 5 less the root of 2.5 and 5k is 20 - 4c, so the shocks are 6, 9.42 and 15.74
         self.assertEqual([it.values["a"] for it in stage.shocks.realizations], [6, D("9.5"), D("9.5"), D("9.5"), D("15.5")])
         self.assertEqual((stage.lower["a"], stage.upper["a"]), (0, D("9.5")))
-        self.assertEqual(found.about.notes, ("shocks raised, so that inflow stays at or above 0: 1 of 5; most, 1 of 5, for a in stage 1, step 2",))
+        self.assertEqual(found.about.notes, (
+            "shocks raised, so that inflow stays at or above 0: 1 of 5; most, 1 of 5, for a in stage 1, step 2",))
 
     def test_a_coefficient_that_is_drawn_towards_0(self):
         # means 5 and 5, covariance 5.5, variances 5 and 6.5, the inflow before 0: shocks are at or above 0. From 1.1 to 0.6 the first
@@ -156,7 +158,8 @@ class Autoregressions(unittest.TestCase):
         self.assertEqual(sum(it.values["a"] for it in stage.shocks.realizations), 14)
         self.assertEqual(min(it.values["a"] for it in stage.shocks.realizations), 0)
         self.assertAlmostEqual(statistics_by_stage(found)[0].deviation["a"], sqrt(6.05), 1)
-        self.assertEqual(found.about.notes, ("coefficient drawn towards 0, so that inflow stays at or above 0: a, step 2: 0.3 in place of 1.100",))
+        self.assertEqual(found.about.notes, (
+            "coefficient drawn towards 0, so that inflow stays at or above 0: a, step 2: 0.3 in place of 1.100",))
 
     def test_no_path_falls_below_0(self):
         record = two_stations()
@@ -174,7 +177,8 @@ class Autoregressions(unittest.TestCase):
     def test_few_shocks_are_raised(self):
         for most in ("0.1", 0):
             for it in periodic_autoregression(two_stations(), Horizon(24), most_raised=most).stages:
-                self.assertTrue(all(count <= F(most) * len(it.shocks.realizations) for name, count in it.raised.items() if it.coefficients[name]))
+                raised = [count for name, count in it.raised.items() if it.coefficients[name]]
+                self.assertTrue(all(count <= F(most) * len(it.shocks.realizations) for count in raised))
 
     def test_means_are_the_records(self):
         record = two_stations()
@@ -219,7 +223,8 @@ class Autoregressions(unittest.TestCase):
         for record, chosen, said in (
             (record_of([1, 2], [2, 3]), {}, "at least 3 years"), (record_of([1], [-1], [2]), {}, "at or above 0"),
             (SMALL, {"previous": {"b": 1}}, "a previous inflow is expected for each of a, and not for b"),
-            (SMALL, {"previous": {"a": -1}}, "a previous inflow is at or above 0"), (SMALL, {"coefficient_step": 0}, "the step of coefficients is a decimal above 0"),
+            (SMALL, {"previous": {"a": -1}}, "a previous inflow is at or above 0"),
+            (SMALL, {"coefficient_step": 0}, "the step of coefficients is a decimal above 0"),
         ):
             with self.assertRaisesRegex(InflowError, said):
                 periodic_autoregression(record, Horizon(2), **chosen)

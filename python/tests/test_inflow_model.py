@@ -5,14 +5,18 @@ from fractions import Fraction as F
 
 from inflow_support import Folder, needs_numpy, needs_scipy, record_of, two_stations
 from hydroplan.inflows import (
-    Autoregression, Horizon, Lattice, grouped_years, independent_years, markov_classes, model_with_inflows, periodic_autoregression, policy_graph,
+    Autoregression, Horizon, Lattice, grouped_years, independent_years, markov_classes, model_with_inflows, periodic_autoregression,
+    policy_graph,
 )
 from hydroplan.runs import train
 
 DEMAND = [70, 66, 60, 52, 46, 42, 40, 42, 48, 56, 64, 70]
 COSTS = {"coal": 8, "gas": 20, "deficit": 200}
 MOST = {"coal": 25, "gas": 20, "deficit": 100}
-BOX = {"upper": (50, 1800), "lower": (20, 250), "turbine_upper": (0, 400), "turbine_lower": (0, 500), "spill_upper": (0, 20000), "spill_lower": (0, 20000)}
+BOX = {
+    "upper": (50, 1800), "lower": (20, 250), "turbine_upper": (0, 400), "turbine_lower": (0, 500), "spill_upper": (0, 20000),
+    "spill_lower": (0, 20000),
+}
 FIRST = {"upper": 100, "lower": 30}
 FACTORS = {"turbine_upper": F("0.1"), "turbine_lower": F("0.06")}
 
@@ -145,7 +149,8 @@ class Models(Folder):
         self.assertEqual((row.set_type, row.lower), ("EqualTo", 0))
         bounds = stage.all_variables["inflow_bygd_out"]
         self.assertEqual((bounds.lower, bounds.upper), (F(own.lower["bygd"]), F(own.upper["bygd"])))
-        self.assertEqual([it[1]["shock_bygd"] for it in model.nodes["2"].realizations], [F(it.values["bygd"]) for it in own.shocks.realizations])
+        found = [values["shock_bygd"] for _, values in model.nodes["2"].realizations]
+        self.assertEqual(found, [F(it.values["bygd"]) for it in own.shocks.realizations])
 
     def test_a_graph_with_a_discount(self):
         graph = policy_graph(independent_years(two_stations(), Horizon(2)), discount="0.9")

@@ -7,7 +7,9 @@ from itertools import product
 from math import floor
 
 from inflow_support import needs_numpy, needs_scipy, record_of, two_stations
-from hydroplan.inflows import Horizon, InflowError, class_probabilities, grouped_years, independent_years, markov_classes, statistics_by_stage
+from hydroplan.inflows import (
+    Horizon, InflowError, class_probabilities, grouped_years, independent_years, markov_classes, statistics_by_stage,
+)
 from hydroplan.inflows.rounding import rounded
 
 HALF = F(1, 2)
@@ -62,7 +64,8 @@ class Years(unittest.TestCase):
         # the total of 3.12 becomes 3.1, and the first of equal remainders goes up
         self.assertEqual(values_of(found.stages[1]), [(1, D("1.1")), (1, D("1.0")), (1, D("1.0"))])
         self.assertEqual([it.years for it in found.stages[0].realizations], [(2001,), (2002,), (2003,)])
-        self.assertEqual((found.about.unit, found.about.resolution, str(found.stages[1].realizations[1].values["a"])), ("hm3", D("0.1"), "1.0"))
+        self.assertEqual((found.about.unit, found.about.resolution), ("hm3", D("0.1")))
+        self.assertEqual(str(found.stages[1].realizations[1].values["a"]), "1.0")
 
     def test_the_record_at_its_own_resolution(self):
         record = two_stations()
@@ -81,7 +84,8 @@ class Years(unittest.TestCase):
         record = record_of([1, 2], [3, 4])
         for horizon, said in (
             (Horizon(0), "at least one stage, and not 0"), (Horizon(1, start=3), "the start is one of the steps 1 to 2, and not 3"),
-            (Horizon(1, resolution="1/3"), "the resolution is a decimal above 0, and not 1/3"), (Horizon(1, resolution=0), "the resolution is a decimal above 0"),
+            (Horizon(1, resolution="1/3"), "the resolution is a decimal above 0, and not 1/3"),
+            (Horizon(1, resolution=0), "the resolution is a decimal above 0"),
             (Horizon(1, resolution="1e-13"), r"more than 2\^40: take a coarser one"),
         ):
             with self.assertRaisesRegex(InflowError, said):
@@ -123,6 +127,11 @@ class Groups(unittest.TestCase):
         for own, years in zip(grouped_years(record, horizon, 10, seed=1).stages, independent_years(record, horizon).stages):
             self.assertEqual(sorted(own.realizations, key=lambda it: it.years), list(years.realizations))
 
+    def test_fewer_different_years_than_groups(self):
+        found = grouped_years(record_of([0, 1], [0, 5], [0, 9], [0, 1]), Horizon(2), 3, seed=1)
+        self.assertEqual([values_of(it) for it in found.stages], [[(4, 0)], [(2, 1), (1, 5), (1, 9)]])
+        self.assertEqual(found.about.notes, ("step 1 has no more than 1 groups: as many years differ",))
+
     def test_the_seed_decides(self):
         record, horizon = two_stations(), Horizon(24)
         found = [grouped_years(record, horizon, 4, seed=seed) for seed in (1, 1, 2)]
@@ -133,9 +142,7 @@ class Groups(unittest.TestCase):
 
     def test_refusals(self):
         record = record_of([1], [1], [2])
-        for groups, seed, said in (
-            (0, 1, "the number of groups is 1 to 3, .* not 0"), (4, 1, "not 4"), (3, 1, "step 1 has 2 different years, fewer than 3 groups"), (1, -1, "a seed is"),
-        ):
+        for groups, seed, said in ((0, 1, "the number of groups is 1 to 3, .* not 0"), (4, 1, "not 4"), (1, -1, "a seed is")):
             with self.assertRaisesRegex(InflowError, said):
                 grouped_years(record, Horizon(1), groups, seed=seed)
 
@@ -174,7 +181,8 @@ class Classes(unittest.TestCase):
     def test_classes_of_a_station_and_equal_years(self):
         record = record_of([(1, 9)], [(1, 8)], [(1, 7)], [(0, 6)], [(5, 6)], stations="ab")
         found = [markov_classes(record, Horizon(1), 2, by=by).stages[0] for by in ("a", "b", None)]
-        self.assertEqual([[it.years[0] for it in layer[0].realizations] for layer in found], [[2001, 2002, 2004], [2003, 2004, 2005], [2002, 2003, 2004]])
+        self.assertEqual([[it.years[0] for it in layer[0].realizations] for layer in found], [
+            [2001, 2002, 2004], [2003, 2004, 2005], [2002, 2003, 2004]])
         self.assertEqual([own.number for own in found[0]], [0, 1])
 
     def test_the_class_before_the_first_stage(self):
@@ -189,11 +197,13 @@ class Classes(unittest.TestCase):
     def test_a_class_that_is_never_come_to(self):
         found = markov_classes(record_of([9, 3], [1, 1], [2, 2]), Horizon(2, start=2), 2)
         self.assertEqual(found.transitions[0], ((1, 0), (1, 0)))
-        self.assertEqual(found.about.notes, ("never made from step 2 to 1, and weight 0: class 0 to 1, 1 to 1", "never come to from step 2 to 1: class 1"))
+        self.assertEqual(found.about.notes, (
+            "never made from step 2 to 1, and weight 0: class 0 to 1, 1 to 1", "never come to from step 2 to 1: class 1"))
 
     def test_refusals(self):
         for classes, chosen, said in (
-            (0, {}, "the number of classes is 1 to 4"), (5, {}, "not 5"), (2, {"before": 2}, "the class before is 0 to 1, and not 2"), (2, {"by": "x"}, "no station"),
+            (0, {}, "the number of classes is 1 to 4"), (5, {}, "not 5"), (2, {"before": 2}, "the class before is 0 to 1, and not 2"),
+            (2, {"by": "x"}, "no station"),
         ):
             with self.assertRaisesRegex(InflowError, said):
                 markov_classes(self.RECORD, Horizon(2), classes, **chosen)

@@ -2,7 +2,7 @@
 import unittest
 from fractions import Fraction as F
 
-from inflow_support import TWO_STATIONS, Folder, record_of, two_stations
+from inflow_support import Folder, record_of, two_stations
 from hydroplan.errors import HydroplanError
 from hydroplan.inflows import InflowError, RecordError, read_record
 
@@ -18,7 +18,8 @@ class Reading(Folder):
 
     def test_a_small_record(self):
         found = self.read("year,step,aure,bygd\n1981,1,1.5,2\n\n1982,2,-7e-1,8\n1981,2,3,4.25\n1982,1,5,6\n")
-        self.assertEqual((found.stations, found.kind, found.years, found.steps, found.unit), (("aure", "bygd"), "step", (1981, 1982), 2, "hm3"))
+        self.assertEqual((found.stations, found.kind, found.years), (("aure", "bygd"), "step", (1981, 1982)))
+        self.assertEqual((found.steps, found.unit), (2, "hm3"))
         self.assertEqual(found.values, (((F(3, 2), 2), (3, F(17, 4))), ((5, 6), (F(-7, 10), 8))))
         self.assertEqual(found.of_step(2), [(3, F(17, 4)), (F(-7, 10), 8)])
         self.assertEqual(found.pairs_of(2), [(0, (F(3, 2), 2), (3, F(17, 4))), (1, (5, 6), (F(-7, 10), 8))])
@@ -42,7 +43,8 @@ class Reading(Folder):
             "line 6, column 1: the year is no whole number: '19x2'",
             "line 6, column 3: the value of aure is no number: 'NaN'",
         ])
-        self.assertEqual(self.faults("year,month,a\n1981,13,1\n"), ["line 1, column 1: there is no row", "line 2, column 2: the month 13 is not one of 1 to 12"])
+        self.assertEqual(self.faults("year,month,a\n1981,13,1\n"), [
+            "line 1, column 1: there is no row", "line 2, column 2: the month 13 is not one of 1 to 12"])
         self.assertEqual(self.faults('year,step,a\n1981,1,"2\n'), ["line 3, column 1: no line of CSV: unexpected end of data"])
 
     def test_gaps_stand_at_the_row_in_front_of_them(self):
@@ -52,7 +54,14 @@ class Reading(Folder):
             "line 3, column 2: year 1982, step 2 to year 1984, step 2 are missing, 7 rows behind this row",
             "line 3, column 3: the value of a is no number: 'y'",
         ])
-        self.assertEqual(self.faults("year,step,a\n1981,1,1\n", steps=3), ["line 2, column 2: year 1981, step 2 to year 1981, step 3 are missing, 2 rows behind this row"])
+        self.assertEqual(self.faults("year,step,a\n1981,1,1\n", steps=3), [
+            "line 2, column 2: year 1981, step 2 to year 1981, step 3 are missing, 2 rows behind this row"])
+
+    def test_bytes_that_are_no_text(self):
+        path = self.folder / "record.csv"
+        path.write_bytes(b"year,step,a\n1981,1,\xff\n")
+        with self.assertRaisesRegex(RecordError, "line 1, column 1: no line of CSV: 'utf-8' codec can't decode"):
+            read_record(path, "hm3")
 
     def test_the_message_has_the_file_and_no_more_than_twenty_faults(self):
         with self.assertRaises(RecordError) as caught:
@@ -78,7 +87,8 @@ class Reading(Folder):
         text = "year,step,a\n1981,2,1\n1982,1,2\n1982,2,3\n1983,1,4\n"
         found = self.read(text, partial_years="leave out")
         self.assertEqual((found.years, found.values), ((1982,), (((2,), (3,)),)))
-        self.assertEqual(found.notes, ("left out: year 1981, which has steps 2 to 2 alone", "left out: year 1983, which has steps 1 to 1 alone"))
+        self.assertEqual(found.notes, (
+            "left out: year 1981, which has steps 2 to 2 alone", "left out: year 1983, which has steps 1 to 1 alone"))
         self.assertEqual(len(self.faults(text)), 2)
         self.assertEqual(len(self.faults("year,step,a\n1981,1,1\n1981,3,1\n1982,1,1\n", partial_years="leave out")), 1)
         with self.assertRaisesRegex(InflowError, "has no whole year"):
@@ -123,12 +133,11 @@ class Stations(unittest.TestCase):
     def test_some_of_them(self):
         record = record_of([(1, 2, 3)], stations="abc")
         self.assertEqual((record.only(["c", "a"]).stations, record.only(["c", "a"]).values), (("c", "a"), (((3, 1),),)))
-        for names, said in ((["d"], 'there is no station "d": the record has a, b, c'), (["a", "a"], "different stations"), ([], "at least one")):
+        for names, said in (
+            (["d"], 'there is no station "d": the record has a, b, c'), (["a", "a"], "different stations"), ([], "at least one"),
+        ):
             with self.assertRaisesRegex(InflowError, said):
                 record.only(names)
-
-    def test_the_data_are_as_they_were_copied(self):
-        self.assertEqual(len(TWO_STATIONS.read_text(encoding="utf-8").splitlines()), 121)
 
 
 if __name__ == "__main__":

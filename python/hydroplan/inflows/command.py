@@ -45,7 +45,8 @@ def parser() -> argparse.ArgumentParser:
     top.add_argument("--stages", type=int, help="the number of stages (a year)")
     top.add_argument("--start", type=int, default=1, help="the step of the year of the first stage (1)")
     top.add_argument("--resolution", default="0.1", help="the least step of numbers, in their unit (0.1)")
-    top.add_argument("--output", type=Path, action="append", default=[], metavar="FILE", help="writes realizations: .csv or .json; may be repeated")
+    words = "writes realizations: .csv or .json; may be repeated"
+    top.add_argument("--output", type=Path, action="append", default=[], metavar="FILE", help=words)
     top.add_argument("--comparison", type=Path, metavar="FILE.csv", help="writes the whole comparison (needs pandas)")
     top.add_argument("--picture", type=Path, metavar="FILE", help="draws the comparison: .png or .svg (needs matplotlib)")
     return top

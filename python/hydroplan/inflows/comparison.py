@@ -6,6 +6,7 @@ from typing import Any, Dict, Iterator, List, Optional, Tuple
 
 from hydroplan.tables import package
 
+from .errors import InflowError
 from .moments import statistics_by_stage
 from .realizations import About, Inflows
 from .records import Record
@@ -59,7 +60,8 @@ class Comparison:
 
     def _block(self, station: str) -> List[str]:
         head = f"{station} ({self.about.unit})"
-        lines = [f"{head:16}{'mean':^18}{'deviation':^18}{'lag-1':^14}", f"{self.about.kind:>8}{'':8}" + "   record    model" * 2 + " record  model"]
+        sides = "   record    model" * 2 + " record  model"
+        lines = [f"{head:16}{'mean':^18}{'deviation':^18}{'lag-1':^14}", f"{self.about.kind:>8}{'':8}{sides}"]
         columns = [self.of(measure, station) for measure in MEASURES[:3]]
         for mean, deviation, lag in zip(*columns):
             sizes = "".join(_number(it, 9, 2) for row in (mean, deviation) for it in (row.record, row.model))
@@ -85,7 +87,10 @@ def compare(record: Record, inflows: Inflows) -> Comparison:
     """The record beside the exact distribution of what was made of it, each step at its last stage of the horizon.
 
     Nothing is drawn: `moments.statistics_by_stage` says how the distribution is had. numpy is needed for the record's side.
+    InflowError where the inflows have other stations or another unit than the record.
     """
+    if (inflows.about.stations, inflows.about.unit) != (record.stations, record.unit):
+        raise InflowError(f"the inflows are of {', '.join(inflows.about.stations)} in {inflows.about.unit}, and the record is not")
     last: Dict[int, Tuple[int, Statistics]] = {it.step: (at, it) for at, it in enumerate(statistics_by_stage(inflows), 1)}
     sides = [(at, statistics_of(record, step), model) for step, (at, model) in sorted(last.items())]
     found: List[ComparisonRow] = []

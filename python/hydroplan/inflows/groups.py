@@ -26,9 +26,10 @@ def grouped_years(record: Record, horizon: Horizon, groups: int, *, seed: int) -
     k-means is taken, and no reduction to some of the years, since the weighted mean of groups' means is the record's mean: nothing
     has to be shifted afterwards. Deviations become smaller, by what the years differ within their groups. Values are rounded down or
     up so that each station's mean stays as near as it can (`rounding.rounded`): off by at most half a resolution times the greatest
-    weight's share of the years. Groups stand in the order of their total inflow.
+    weight's share of the years. Groups stand in the order of their total inflow. A step with fewer different years than groups has a
+    group for each of them, which a note says.
 
-    InflowError where the groups are no number from 1 to that of the years, or a step has fewer different years than groups.
+    InflowError where the groups are no number from 1 to that of the years.
     """
     if isinstance(groups, bool) or not isinstance(groups, int) or not 1 <= groups <= len(record.years):
         raise InflowError(f"the number of groups is 1 to {len(record.years)}, as many as there are years, and not {groups}")
@@ -37,14 +38,15 @@ def grouped_years(record: Record, horizon: Horizon, groups: int, *, seed: int) -
     steps, resolution = horizon.steps(record), horizon.unit()
     known = {step: _of_step(record, step, groups, seed, horizon) for step in sorted(set(steps))}
     method = f"{groups} groups of years, seed {seed}"
-    about = About(method, SOURCE, record.unit, resolution, record.stations, record.kind, record.notes)
+    fewer = {step: len(own) for step, own in known.items() if len(own) < groups}
+    notes = [f"{record.kind} {step} has no more than {count} groups: as many years differ" for step, count in fewer.items()]
+    about = About(method, SOURCE, record.unit, resolution, record.stations, record.kind, (*record.notes, *notes))
     return Independent(about, tuple(StageRealizations(at, step, known[step]) for at, step in enumerate(steps, 1)))
 
 
 def _of_step(record: Record, step: int, groups: int, seed: int, horizon: Horizon) -> Tuple[Realization, ...]:
     rows = record.of_step(step)
-    if len(set(rows)) < groups:
-        raise InflowError(f"{record.kind} {step} has {len(set(rows))} different years, fewer than {groups} groups")
+    groups = min(groups, len(set(rows)))
     labels = _labels(rows, groups, [seed, step])
     members = [[at for at, label in enumerate(labels) if label == group] for group in range(groups)]
     means = [_mean([rows[at] for at in own]) for own in members]
