@@ -207,10 +207,26 @@ class Command(Folder):
         self.assertEqual([it["values"] for it in found["stages"][0]["classes"][0]["realizations"]], [{"a": D("86.4")}, {"a": D("259.2")}])
         self.assertEqual((found["unit"], len(found["stages"])), ("hm3", 2))
 
+    @needs_numpy
+    def test_what_came_before(self):
+        out = self.folder / "out.json"
+        words = [TWO_STATIONS, "--stages", 1, "--output", out]
+        self.run_command(*words, "--autoregression", "--previous", "bygd=40.5,aure=150")
+        self.assertEqual(json.loads(out.read_text(encoding="utf-8"))["previous"], {"aure": 150, "bygd": 40.5})
+        for wrong, said in (
+            ("aure=1,2", "NAME=VALUE,.. is expected"), ("aure=1", "a previous inflow is expected for each of aure, bygd, and not for aure"),
+        ):
+            self.assertIn(said, self.run_command(*words, "--autoregression", "--previous", wrong, status=1))
+        self.run_command(*words, "--classes", 2, "--before", 0)
+        counts = markov_classes(two_stations(), Horizon(2, start=12), 2).transitions[0][0]
+        self.assertEqual(json.loads(out.read_text(encoding="utf-8"))["initial"], list(counts))
+
     def test_refusals(self):
         for text, words, said in (
             ("year,step,a\n1,1,x\n", [], r"^inflows: .*record\.csv, line 2, column 3: the value of a is no number: 'x'\n$"),
             ("year,step,a\n1,1,2\n", ["--output", "out.txt"], "^inflows: a file of realizations ends in .csv or .json, .* out.txt\n$"),
+            ("year,step,a\n1,1,2\n", ["--by", "a"], "^inflows: --by and --before go with --classes\n$"),
+            ("year,step,a\n1,1,2\n", ["--previous", "a=1"], "^inflows: --previous goes with --autoregression\n$"),
             ("year,step,a\n1,1,2\n", ["--start", "9"], "^inflows: the start is one of the steps 1 to 1, and not 9\n$"),
             ("year,step,a\n1,1,2\n", ["--resolution", "fine"], "^inflows: the resolution has to be a number, and is 'fine'\n$"),
         ):

@@ -4,7 +4,7 @@ from __future__ import annotations
 import argparse
 import sys
 from pathlib import Path
-from typing import List, Optional, Sequence
+from typing import Dict, List, Optional, Sequence
 
 from hydroplan.errors import HydroplanError
 
@@ -41,6 +41,9 @@ def parser() -> argparse.ArgumentParser:
     methods.add_argument("--classes", type=int, metavar="C", help="C Markov classes for each stage")
     methods.add_argument("--autoregression", action="store_true", help="PAR(1), with the inflow as a state; else years as they are")
     top.add_argument("--by", metavar="STATION", help="the station by which years are classed, in place of the total")
+    top.add_argument("--before", type=int, metavar="CLASS", help="the class of the step before the first stage, from 0, the driest")
+    words = "the inflow of the step before the first stage, for --autoregression (the mean)"
+    top.add_argument("--previous", metavar="NAME=VALUE,..", help=words)
     top.add_argument("--seed", type=int, default=1, help="the seed of groups (1)")
     top.add_argument("--stages", type=int, help="the number of stages (a year)")
     top.add_argument("--start", type=int, default=1, help="the step of the year of the first stage (1)")
@@ -64,9 +67,7 @@ def main(words: Optional[Sequence[str]] = None) -> int:
 
 
 def _run(chosen: argparse.Namespace) -> None:
-    wrong = [str(path) for path in chosen.output if path.suffix not in WRITERS]
-    if wrong:
-        raise InflowError(f"a file of realizations ends in .csv or .json, and not as {wrong[0]}")
+    _check(chosen)
     record = _record(chosen)
     inflows = _made(record, chosen)
     comparison = compare(record, inflows)
@@ -78,6 +79,17 @@ def _run(chosen: argparse.Namespace) -> None:
         comparison.table().to_csv(chosen.comparison, index=False)
     if chosen.picture:
         draw_comparison(comparison, chosen.picture)
+
+
+def _check(chosen: argparse.Namespace) -> None:
+    """Refuses words that go with another method, and files of other kinds."""
+    if chosen.classes is None and (chosen.by is not None or chosen.before is not None):
+        raise InflowError("--by and --before go with --classes")
+    if chosen.previous is not None and not chosen.autoregression:
+        raise InflowError("--previous goes with --autoregression")
+    wrong = [str(path) for path in chosen.output if path.suffix not in WRITERS]
+    if wrong:
+        raise InflowError(f"a file of realizations ends in .csv or .json, and not as {wrong[0]}")
 
 
 def _record(chosen: argparse.Namespace) -> Record:
@@ -92,8 +104,20 @@ def _made(record: Record, chosen: argparse.Namespace) -> Inflows:
     if chosen.groups is not None:
         return grouped_years(record, horizon, chosen.groups, seed=chosen.seed)
     if chosen.classes is not None:
-        return markov_classes(record, horizon, chosen.classes, by=chosen.by)
-    return periodic_autoregression(record, horizon) if chosen.autoregression else independent_years(record, horizon)
+        return markov_classes(record, horizon, chosen.classes, by=chosen.by, before=chosen.before)
+    if chosen.autoregression:
+        return periodic_autoregression(record, horizon, previous=_previous(chosen.previous))
+    return independent_years(record, horizon)
+
+
+def _previous(words: Optional[str]) -> Optional[Dict[str, str]]:
+    """The inflows of NAME=VALUE,.. by station; none where there are no words."""
+    if words is None:
+        return None
+    pairs = [word.rpartition("=") for word in words.split(",")]
+    if any(not name for name, _, _ in pairs):
+        raise InflowError(f"--previous {words}: NAME=VALUE,.. is expected")
+    return {name: value for name, _, value in pairs}
 
 
 def _head(record: Record, inflows: Inflows) -> List[str]:
