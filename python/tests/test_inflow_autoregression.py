@@ -219,6 +219,25 @@ class Autoregressions(unittest.TestCase):
                     found_r = _correlation(before, own)
                     self.assertLess(abs(found_r - r), 0.1)
 
+    def test_every_path_has_the_exact_distribution(self):
+        record = record_of([(2, 7), (3, 1)], [(4, 5), (5, 2)], [(6, 1), (5, 9)], [(8, 2), (7, 4)], stations="ab")
+        found = periodic_autoregression(record, Horizon(3, start=2), previous={"a": 4, "b": 6})
+        paths = [[{name: F(value) for name, value in found.previous.items()}]]
+        for it in found.stages:
+            b = {name: F(value) for name, value in it.coefficients.items()}
+            shocks = [own.values for own in it.shocks.realizations]
+            paths = [[*path, {name: b[name] * path[-1][name] + F(w[name]) for name in b}] for path in paths for w in shocks]
+        self.assertEqual(len(paths), 4 * 3 * 4)
+        for at, it in enumerate(statistics_by_stage(found), 1):
+            columns = {name: [path[at][name] for path in paths] for name in it.mean}
+            for name, own in columns.items():
+                before = [path[at - 1][name] for path in paths]
+                self.assertEqual(it.mean[name], sum(own) / len(own))
+                self.assertAlmostEqual(it.deviation[name], sqrt(product_mean(own, own)), 9)
+                if at > 1:
+                    self.assertAlmostEqual(it.lag[name], _correlation(before, own), 9)
+            self.assertAlmostEqual(it.cross["a", "b"], _correlation(*columns.values()), 9)
+
     def test_refusals(self):
         for record, chosen, said in (
             (record_of([1, 2], [2, 3]), {}, "at least 3 years"), (record_of([1], [-1], [2]), {}, "at or above 0"),

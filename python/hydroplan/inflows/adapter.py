@@ -25,7 +25,8 @@ def model_with_inflows(
 
     Independent and Lattice give a random variable `inflow_STATION`. Autoregression gives a state of that name and a random variable
     `shock_STATION`, with the row that the outgoing inflow is the coefficient times the incoming one plus the shock; the variable
-    that `fill` gets is the outgoing inflow. The nodes of a lattice have the number of the class in `node.state`.
+    that `fill` gets is the outgoing inflow. The nodes of a lattice have the number of the class in `node.state`; `node.value` is the
+    stage's part of `inflows`.
     """
     def build(stage: Stage, node: GraphNode) -> List[NodeRealization]:
         own = node.value
@@ -33,7 +34,7 @@ def model_with_inflows(
             inflow, realizations = _carried(stage, own)
         else:
             inflow, realizations = _drawn(stage, own, "inflow")
-        fill(stage, replace(node, value=None), inflow)
+        fill(stage, node, inflow)
         return realizations
 
     return Model.build(policy_graph(inflows, discount), build, {**(initial or {}), **_first(inflows)}, name)

@@ -7,6 +7,7 @@ from __future__ import annotations
 
 from decimal import Decimal
 from fractions import Fraction
+from itertools import product
 from math import ceil, floor
 from typing import Dict, List, Sequence, Tuple
 
@@ -43,14 +44,17 @@ def _of_equal_weights(values: Sequence[Fraction]) -> List[int]:
 def _with_one_more(choices: Dict[int, Choice], part: Fraction, weight: int) -> Dict[int, Choice]:
     """The cheapest way to each total, with one more value that is rounded down or, where it is not whole, up."""
     found: Dict[int, Choice] = {}
-    for total, (change, ups) in choices.items():
-        ways = [(0, part)] if part == 0 else [(0, part), (1, 1 - part)]
-        for up, by in ways:
-            entry = (change + weight * by * by, (*ups, up))
-            key = total + weight * up
-            if key not in found or (entry[0], tuple(-it for it in entry[1])) < (found[key][0], tuple(-it for it in found[key][1])):
-                found[key] = entry
+    ways = [(0, part)] if part == 0 else [(0, part), (1, 1 - part)]
+    for (total, (change, ups)), (up, by) in product(choices.items(), ways):
+        entry, key = (change + weight * by * by, (*ups, up)), total + weight * up
+        if key not in found or _rank(entry) < _rank(found[key]):
+            found[key] = entry
     return found
+
+
+def _rank(choice: Choice) -> Choice:
+    """What decides between two ways to one total: the change, then whether earlier values go up."""
+    return choice[0], tuple(-it for it in choice[1])
 
 
 def decimal_of(units: int, resolution: Decimal) -> Decimal:
