@@ -8,10 +8,10 @@ from .adapter import model_with_inflows, policy_graph
 from .autoregressive import periodic_autoregression
 from .classes import markov_classes
 from .comparison import Comparison, ComparisonRow, compare
-from .drawing import drawn_paths
 from .errors import Fault, InflowError, RecordError
 from .groups import grouped_years
 from .moments import class_probabilities, statistics_by_stage
+from .paths import drawn_paths
 from .picture import draw_comparison
 from .reading import read_record
 from .realizations import About, Autoregression, Horizon, Independent, Inflows, Lattice, Realization, ShockStage, StageRealizations

@@ -39,12 +39,11 @@ def markov_classes(
     stages = tuple(found.layer(stage, step, horizon) for stage, step in enumerate(steps, 1))
     transitions = tuple(found.transitions(step) for step in steps[1:])
     initial = found.sizes(steps[0]) if before is None else found.transitions(steps[0])[before]
-    return Lattice(_about(record, found, classes, by, horizon, steps), stages, transitions, initial)
+    notes = [note for step in sorted(set(steps[1:] if before is None else steps)) for note in found.notes(step)]
+    return Lattice(_about(record, horizon, f"{classes} Markov classes by {by or 'the total'}", notes), stages, transitions, initial)
 
 
-def _about(record: Record, found: _Classing, classes: int, by: Optional[str], horizon: Horizon, steps: Sequence[int]) -> About:
-    method = f"{classes} Markov classes by {by or 'the total'}"
-    notes = [note for step in sorted(set(steps[1:])) for note in found.notes(step)]
+def _about(record: Record, horizon: Horizon, method: str, notes: Sequence[str]) -> About:
     return About(method, SOURCE, record.unit, horizon.unit(), record.stations, record.kind, (*record.notes, *notes))
 
 

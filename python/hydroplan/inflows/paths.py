@@ -1,4 +1,4 @@
-"""Draws paths of inflow from what was made of a record, with a seed."""
+"""Paths of inflow that are drawn, with a seed, from what was made of a record."""
 from __future__ import annotations
 
 import random
