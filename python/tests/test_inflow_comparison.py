@@ -6,7 +6,6 @@ import json
 import statistics
 import unittest
 from decimal import Decimal as D
-from fractions import Fraction as F
 from math import sqrt
 from unittest import mock
 
