@@ -1,35 +1,23 @@
-"""What the tests of inflows share: where the package is, small records as texts, and which packages are there."""
+"""What the tests of inflows share beside `model_support`: small records, and which packages are there."""
 from __future__ import annotations
 
-import sys
-import tempfile
-import unittest
 from fractions import Fraction
-from importlib.util import find_spec
 from pathlib import Path
 
-TOP = Path(__file__).resolve().parents[2]
-if str(TOP / "python") not in sys.path:
-    sys.path.insert(0, str(TOP / "python"))
+import model_support  # it makes the package importable
+from model_support import TOP, needs, needs_numpy, needs_pandas
 
-from hydroplan.inflows import Record, read_record  # noqa: E402
+from hydroplan.inflows import Record, read_record
 
-DATA = Path(__file__).parent / "data"
-TWO_STATIONS = DATA / "record_two_stations.csv"
+TWO_STATIONS = Path(__file__).parent / "data" / "record_two_stations.csv"
 
-needs_numpy = unittest.skipUnless(find_spec("numpy"), "numpy is not there (Debian: python3-numpy)")
-needs_pandas = unittest.skipUnless(find_spec("pandas"), "pandas is not there (Debian: python3-pandas)")
-needs_scipy = unittest.skipUnless(find_spec("scipy"), "scipy is not there (Debian: python3-scipy)")
-needs_matplotlib = unittest.skipUnless(find_spec("matplotlib"), "matplotlib is not there (Debian: python3-matplotlib)")
+needs_scipy, needs_matplotlib = needs("scipy"), needs("matplotlib")
+
+__all__ = ["TOP", "TWO_STATIONS", "Folder", "needs_matplotlib", "needs_numpy", "needs_pandas", "needs_scipy", "record_of", "two_stations"]
 
 
-class Folder(unittest.TestCase):
+class Folder(model_support.Folder):
     """A folder for the files of a test."""
-
-    def setUp(self):
-        made = tempfile.TemporaryDirectory()
-        self.addCleanup(made.cleanup)
-        self.folder = Path(made.name)
 
     def written(self, text):
         """A file of this text."""
