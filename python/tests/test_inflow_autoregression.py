@@ -167,12 +167,36 @@ class Autoregressions(unittest.TestCase):
             found = periodic_autoregression(record, Horizon(36, start=start))
             self.assertTrue(any(it.raised["aure"] for it in found.stages) and any(it.changed for it in found.stages))
             for name in record.stations:
-                low = high = F(found.previous[name])
-                for it in found.stages:
-                    ends = [F(it.coefficients[name]) * end for end in (low, high)]
-                    shocks = [F(own.values[name]) for own in it.shocks.realizations]
-                    low, high = min(ends) + min(shocks), max(ends) + max(shocks)
-                    self.assertTrue(0 <= it.lower[name] <= low <= high <= it.upper[name])
+                self.stays_at_or_above_0(found, name)
+
+    def test_drawn_records(self):
+        draw = random.Random(9)
+        draws = (
+            lambda before: draw.choice((0, 0, 0, draw.randint(1, 50))), lambda before: draw.randint(0, 9),
+            lambda before: F(round(1000 * draw.lognormvariate(0, 1.5)), 1000), lambda before: max(0, 60 - before + draw.randint(-5, 5)),
+        )
+        for _ in range(40):
+            steps, one, years, before = draw.randint(1, 5), draw.choice(draws), [], F(30)
+            for _ in range(draw.randint(3, 12)):
+                row = []
+                for _ in range(steps):
+                    before = one(before)
+                    row.append(before)
+                years.append(row)
+            record = record_of(*years)
+            found = periodic_autoregression(record, Horizon(2 * steps + 1, start=steps), most_raised=draw.choice(("0.2", 1)))
+            self.stays_at_or_above_0(found, "a")
+            for stage, it in zip(found.stages, statistics_by_stage(found)):
+                self.assertLessEqual(abs(it.mean["a"] - record.mean(it.step, 0)), F(1, 20 * len(stage.shocks.realizations)))
+
+    def stays_at_or_above_0(self, found, name):
+        """The least and the greatest inflow of any path, stage by stage, are between the bounds, and these at or above 0."""
+        low = high = F(found.previous[name])
+        for it in found.stages:
+            ends = [F(it.coefficients[name]) * end for end in (low, high)]
+            shocks = [F(own.values[name]) for own in it.shocks.realizations]
+            low, high = min(ends) + min(shocks), max(ends) + max(shocks)
+            self.assertTrue(0 <= it.lower[name] <= low <= high <= it.upper[name])
 
     def test_few_shocks_are_raised(self):
         for most in ("0.1", 0):
