@@ -9,6 +9,7 @@ import unittest
 from fractions import Fraction as F
 from unittest import mock
 
+from example_models import example, model_of
 from model_support import TOP, Folder, needs_pandas, newsvendor, one_reservoir, three_stages
 from hydroplan.errors import RuleError
 from hydroplan.limits import sizes
@@ -19,6 +20,14 @@ from hydroplan.runs import BoundStalling, IterationLimit, Progress, Statistical,
 from hydroplan.training import fresh_seed, kept_batch
 
 SECONDS = 1.2
+
+
+PATHS = 4
+
+
+def long_training():
+    """A year of 24 nodes, of which 2,000 iterations of four paths take many seconds of a processor, however quick the disk is."""
+    return model_of(example("markov_year")).compile()
 
 
 class Trained(Folder):
@@ -108,10 +117,10 @@ class Rules(Folder):
             self.assertTrue(all(0 <= it < 1 << 64 for it in seeds))
 
     def test_time(self):
-        found = self.train(TimeLimit(SECONDS))
+        found = train(long_training(), self.journal, seed=7, batch=PATHS, stop=TimeLimit(SECONDS), progress=False)
         self.assertEqual(found.stopped, "the time limit")
         self.assertLess(found.seconds, SECONDS + 30)
-        self.assertEqual(check(three_stages().compile(), self.journal).iterations, found.iterations)
+        self.assertEqual(check(long_training(), self.journal).iterations, found.iterations)
 
     def test_no_time_for_one_iteration(self):
         found = self.train(TimeLimit(0.000001))
@@ -169,12 +178,13 @@ class Rules(Folder):
 class Seen(Folder):
     def test_progress_about_once_a_second(self):
         seen = []
-        found = train(three_stages().compile(), self.journal, seed=7, stop=TimeLimit(2.5), progress=seen.append)
+        found = train(long_training(), self.journal, seed=7, batch=PATHS, stop=TimeLimit(2.5), progress=seen.append)
         self.assertGreaterEqual(len(seen), 1)
         self.assertEqual([it.iteration for it in seen], sorted({it.iteration for it in seen}))
         self.assertLessEqual(len(seen), 5)
         self.assertEqual((seen[-1].iteration, seen[0].moved), (found.iterations, 0))
-        self.assertAlmostEqual(seen[-1].bound, 25000 / 3, places=3)
+        self.assertEqual([it.bound for it in seen], [found.bounds[it.iteration - 1] for it in seen])
+        self.assertEqual([it.moved for it in seen[1:]], [after.bound - before.bound for before, after in zip(seen, seen[1:])])
 
     def test_the_printer(self):
         import io
@@ -191,9 +201,9 @@ class Seen(Folder):
         def interrupt(progress):
             raise KeyboardInterrupt
 
-        compiled = three_stages().compile()
-        with self.assertRaisesRegex(TrainingInterrupted, r"interrupted: \d+ iterations are kept in .*with the bound 8333.*this journal and seed 7") as caught:
-            train(compiled, self.journal, seed=7, iterations=2000, progress=interrupt)
+        compiled = long_training()
+        with self.assertRaisesRegex(TrainingInterrupted, r"interrupted: \d+ iterations are kept in .*with the bound 1.*this journal and seed 7") as caught:
+            train(compiled, self.journal, seed=7, iterations=2000, batch=PATHS, progress=interrupt)
         kept = caught.exception.iterations
         self.assertEqual((check(compiled, self.journal).iterations, kept > 0), (kept, True))
         self.assertEqual(train(compiled, self.journal, seed=7, iterations=kept + 1, progress=False).iterations, kept + 1)
@@ -210,10 +220,11 @@ class Seen(Folder):
         script = textwrap.dedent(f"""
             import sys
             sys.path[:0] = [{str(TOP / "python")!r}, {str(TOP / "python" / "tests")!r}]
-            from model_support import three_stages
+            from test_run_training import PATHS, long_training
             from hydroplan import train
+            compiled = long_training()
             print("begun", flush=True)
-            train(three_stages().compile(), {str(self.journal)!r}, seed=7, iterations=2000)
+            train(compiled, {str(self.journal)!r}, seed=7, iterations=2000, batch=PATHS)
         """)
         process = subprocess.Popen(
             [sys.executable, "-c", script], stdout=subprocess.PIPE, stderr=subprocess.PIPE, text=True, start_new_session=True,
