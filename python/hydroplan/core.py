@@ -2,6 +2,7 @@
 from __future__ import annotations
 
 import os
+import select
 import shutil
 import subprocess
 import tempfile
@@ -13,6 +14,8 @@ from typing import Optional, Sequence, Type, Union
 from ._tools import TOP
 from .errors import ProgramMissing
 
+# how long processes that a run started may go on behind its end
+LAST_SECONDS = 10
 Place = Union[str, "os.PathLike[str]"]
 
 
@@ -53,18 +56,24 @@ class Running:
         self.problem = folder / "problem.json"
         self.problem.write_bytes(problem)
         self._output, self._errors = folder / "output", folder / "errors"
+        # the other end is held by all processes of the run, by nobody else
+        self._left, held = os.pipe()
         try:
             with self.problem.open("rb") as source, self._output.open("wb") as output, self._errors.open("wb") as errors:
-                self._process = subprocess.Popen([str(program), *words], stdin=source, stdout=output, stderr=errors)
+                self._process = subprocess.Popen([str(program), *words], stdin=source, stdout=output, stderr=errors, pass_fds=[held])
         except OSError as fault:
+            os.close(self._left)
             self._folder.cleanup()
             raise ProgramMissing(f"the program {program} cannot be run: {fault.strerror}") from None
+        finally:
+            os.close(held)
 
     def __enter__(self) -> Running:
         return self
 
     def __exit__(self, kind: Optional[Type[BaseException]], fault: Optional[BaseException], trace: Optional[TracebackType]) -> None:
         self.end()
+        os.close(self._left)
         self._folder.cleanup()
 
     def wait(self, seconds: Optional[float] = None) -> bool:
@@ -76,10 +85,14 @@ class Running:
             return False
 
     def end(self) -> None:
-        """Ends the run where it still goes on. A journal is whole at every moment, up to its last whole iteration."""
+        """Ends the run where it still goes on. A journal is whole at every moment, up to its last whole iteration.
+
+        Where the script `hydroplan` is ended, the kernel ends the program that it started, which is waited for too: it writes no more.
+        """
         if self._process.poll() is None:
             self._process.kill()
         self._process.wait()
+        select.select([self._left], [], [], LAST_SECONDS)
 
     def ended(self) -> Ended:
         """How the run ended; it has to be over."""
