@@ -220,6 +220,19 @@ class Command(Folder):
         counts = markov_classes(two_stations(), Horizon(2, start=12), 2).transitions[0][0]
         self.assertEqual(json.loads(out.read_text(encoding="utf-8"))["initial"], list(counts))
 
+    @needs_numpy
+    def test_names_forge_no_line(self):
+        text = 'year,step,"a\nb\u202e",c\n1,1,2,3\n2,1,4,5\n'
+        out = self.run_command(self.written(text))
+        self.assertIn("\na\\u{000A}b\\u{202E} (hm3)", out)
+        self.assertIn("\na\\u{000A}b\\u{202E}, c ", out)
+        self.assertNotIn("\u202e", out)
+        for words in (["--stations", "d"], ["--classes", 2, "--by", "d"]):
+            said = self.run_command(self.written(text), *words, status=1)
+            self.assertEqual((said.count("\n"), said.count("a\\u{000A}b\\u{202E}")), (1, 1), said)
+        said = self.run_command(self.written(text.replace("1,1,2", "1,1,x")), status=1)
+        self.assertRegex(said, r"^inflows: .*: the value of a\\u{000A}b\\u{202E} is no number: 'x'\n$")
+
     def test_refusals(self):
         for text, words, said in (
             ("year,step,a\n1,1,x\n", [], r"^inflows: .*record\.csv, line 2, column 3: the value of a is no number: 'x'\n$"),

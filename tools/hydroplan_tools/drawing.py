@@ -16,7 +16,7 @@ from matplotlib.figure import Figure  # noqa: E402  (the backend is chosen befor
 from matplotlib.ticker import MaxNLocator  # noqa: E402
 
 from .series import SHARES, Fan, Point, PolicyCost, converging  # noqa: E402
-from .shown_names import shown_name  # noqa: E402
+from .shown_names import shown_in_picture as shown  # noqa: E402
 
 COLOUR = "tab:blue"
 BANDS = ("#d6e6f4", "#abcfe6", "#6aaed6")
@@ -28,11 +28,6 @@ def save(figure: Figure, prefix: Path) -> list[Path]:
     figure.savefig(paths[0], dpi=120, pil_kwargs={"compress_level": 3})
     figure.savefig(paths[1], metadata={"Date": None})
     return paths
-
-
-def shown(name: str) -> str:
-    """A name as a picture shows it."""
-    return shown_name(name).replace("$", r"\$")
 
 
 def draw_bounds(

@@ -14,6 +14,11 @@ def shown_name(text: str) -> str:
     return UNSHOWN.sub(lambda found: f"\\u{{{ord(found[0]):04X}}}", text)
 
 
+def shown_in_picture(text: str) -> str:
+    r"""The same text as matplotlib takes it: `$` begins no formula."""
+    return shown_name(text).replace("$", r"\$")
+
+
 def shown_in_json(text: str) -> str:
     r"""A JSON string, as it stands in a report, with the same characters as JSON escapes them, `\uXXXX`: it is read as before."""
     return UNSHOWN.sub(lambda found: f"\\u{ord(found[0]):04x}", text)

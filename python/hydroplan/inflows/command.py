@@ -7,11 +7,12 @@ from pathlib import Path
 from typing import Dict, List, Optional, Sequence
 
 from hydroplan.errors import HydroplanError
+from hydroplan_tools.shown_names import shown_name
 
 from .autoregressive import periodic_autoregression
 from .classes import markov_classes
 from .comparison import compare
-from .errors import InflowError
+from .errors import InflowError, RecordError
 from .groups import grouped_years
 from .picture import draw_comparison
 from .reading import LEAVE_OUT, REFUSE, read_record
@@ -62,7 +63,8 @@ def main(words: Optional[Sequence[str]] = None) -> int:
         _run(chosen)
         return 0
     except (HydroplanError, OSError) as fault:
-        print(f"inflows: {fault}", file=sys.stderr)
+        lines = str(fault).split("\n") if isinstance(fault, RecordError) else [str(fault)]
+        print("\n".join(map(shown_name, [f"inflows: {lines[0]}", *lines[1:]])), file=sys.stderr)
     return 1
 
 
@@ -71,7 +73,7 @@ def _run(chosen: argparse.Namespace) -> None:
     record = _record(chosen)
     inflows = _made(record, chosen)
     comparison = compare(record, inflows)
-    sys.stdout.write("\n".join([*_head(record, inflows), "", comparison.text()]))
+    sys.stdout.write("\n".join([*map(shown_name, _head(record, inflows)), "", comparison.text()]))
     for path in chosen.output:
         with path.open("w", encoding="utf-8", newline="") as file:
             WRITERS[path.suffix](inflows, file)

@@ -5,6 +5,7 @@ from dataclasses import dataclass
 from typing import Any, Dict, Iterator, List, Optional, Tuple
 
 from hydroplan.tables import package
+from hydroplan_tools.shown_names import shown_name
 
 from .errors import InflowError
 from .moments import statistics_by_stage
@@ -59,7 +60,7 @@ class Comparison:
         return "".join(line.rstrip() + "\n" for line in [*lines, *self._cross()])
 
     def _block(self, station: str) -> List[str]:
-        head = f"{station} ({self.about.unit})"
+        head = f"{shown_name(station)} ({self.about.unit})"
         sides = "   record    model" * 2 + " record  model"
         lines = [f"{head:16}{'mean':^18}{'deviation':^18}{'lag-1':^14}", f"{self.about.kind:>8}{'':8}{sides}"]
         columns = [self.of(measure, station) for measure in MEASURES[:3]]
@@ -79,7 +80,7 @@ class Comparison:
                 record, model = (sum(getattr(it, side) for it in rows) / len(rows) for side in ("record", "model"))
                 far = max(rows, key=lambda it: abs((it.record or 0) - (it.model or 0)))
                 apart = f"{abs((far.record or 0) - (far.model or 0)):.2f} in {self.about.kind} {far.step}"
-                lines.append(f"{one + ', ' + other:34}{_number(record, 7, 2)}{_number(model, 7, 2)}   {apart}")
+                lines.append(f"{shown_name(f'{one}, {other}'):34}{_number(record, 7, 2)}{_number(model, 7, 2)}   {apart}")
         return lines
 
 

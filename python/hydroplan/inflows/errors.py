@@ -5,6 +5,7 @@ from dataclasses import dataclass
 from typing import Sequence
 
 from hydroplan.errors import HydroplanError
+from hydroplan_tools.shown_names import shown_name
 
 MOST_SHOWN = 20
 
@@ -22,7 +23,7 @@ class Fault:
     what: str
 
     def __str__(self) -> str:
-        return f"line {self.line}, column {self.column}: {self.what}"
+        return f"line {self.line}, column {self.column}: {shown_name(self.what)}"
 
 
 class RecordError(InflowError):

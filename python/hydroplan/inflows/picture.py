@@ -6,6 +6,7 @@ import os
 from typing import List, Union
 
 from hydroplan.tables import package
+from hydroplan_tools.shown_names import shown_in_picture
 
 from .comparison import MEASURES, Comparison, ComparisonRow
 
@@ -26,7 +27,7 @@ def draw_comparison(comparison: Comparison, path: Union[str, "os.PathLike[str]"]
             steps, look = [row.step + shift for row in means], {"color": colour, "markersize": 3, "label": side}
             left.errorbar(steps, _side(means, side), _side(deviations, side), fmt="o", capsize=2, **look)
             right.plot([row.step for row in lags], _side(lags, side), marker="o", **look)
-        left.set_ylabel(f"{station}\n{about.unit}")
+        left.set_ylabel(f"{shown_in_picture(station)}\n{about.unit}")
         left.legend(fontsize="small")
     panels[0][0].set_title(f"mean and deviation: {about.method}")
     panels[0][1].set_title("correlation with the step before")
