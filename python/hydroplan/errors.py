@@ -3,6 +3,8 @@ from __future__ import annotations
 
 from typing import Mapping, Optional, Sequence
 
+from hydroplan_tools.shown_names import shown_name
+
 
 class HydroplanError(Exception):
     """Whatever this package refuses or reports."""
@@ -49,7 +51,7 @@ class RunFailed(HydroplanError):
     """
 
     def __init__(self, message: str, status: int, line: str, words: Sequence[str] = ()) -> None:
-        super().__init__("\n  ".join([message, *words]))
+        super().__init__("\n  ".join(map(shown_name, [message, *words])))
         self.status = status
         self.line = line
         self.words = tuple(words)

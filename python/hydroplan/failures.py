@@ -10,6 +10,7 @@ from hydroplan_tools.explain_command import NO_STAGE, explain_line
 from hydroplan_tools.located_json import byte_order, parse
 from hydroplan_tools.places import Refusal, locate, read_refusal
 from hydroplan_tools.profile import SCALE
+from hydroplan_tools.status_lines import IN_WORDS
 
 from .core import Ended
 from .errors import (
@@ -22,23 +23,7 @@ PLAIN: Dict[int, Type[RunFailed]] = {
     1: ProgramNotRun, 2: WordsRefused, 3: ProblemUnreadable, 4: ProblemTooLong, 8: OutOfRange, 10: JournalDeviceFailed, 11: OutputFailed,
     12: OutOfMemory,
 }
-FORMULAS = {
-    1: "iterations times paths times the longest path times states: ask for fewer iterations or a smaller batch",
-    2: "the size of a node's stage problem with all cuts: ask for fewer iterations or a smaller batch",
-    3: "the bytes of an iteration's record: ask for fewer iterations or a smaller batch",
-    4: "the numbers of a report: ask for fewer scenarios",
-    5: "the branches of the scenario tree: evaluate goes through each, so estimate by simulate instead",
-    6: "the common denominator of all weights: use weights with smaller totals",
-    7: "the greatest cost of a path: use a coarser resolution of the costs",
-}
-JOURNALS = {
-    "NotAJournal": "the file is no journal of hydroplan",
-    "OtherProblem": "the journal was made for another problem: a model that was changed or compiled otherwise needs a new journal",
-    "OtherSeed": "the journal was made with another seed: go on with that seed, or begin a new journal",
-    "OtherBatch": "the journal was made with another batch: go on with that batch, or begin a new journal",
-    "Short": "the journal ends too early",
-    "TooMany": "the journal has more than 2,000 records",
-}
+OTHER_PROBLEM = "the journal was made for another problem: a model that was changed or compiled otherwise needs a new journal"
 TOO_MUCH = re.compile(r"too much: formula (\d+) gives (\d+)")
 JOURNAL = re.compile(r"journal refused: (\w+)")
 
@@ -46,7 +31,7 @@ JOURNAL = re.compile(r"journal refused: (\w+)")
 def failure(compiled: Compiled, ended: Ended) -> RunFailed:
     """The exception for a run that ended with a status other than 0."""
     lines = ended.errors.strip().splitlines()
-    line = next((it for it in lines if it.startswith("hydroplan:")), lines[0] if lines else f"no line, status {ended.status}")
+    line = _line(lines) or f"no line, status {ended.status}"
     message, words = line.replace("hydroplan: ", "", 1), lines[lines.index(line) + 1:] if line in lines else []
     if ended.status < 0:
         return ProgramKilled(f"the program was ended by signal {-ended.status}", ended.status, line)
@@ -55,10 +40,16 @@ def failure(compiled: Compiled, ended: Ended) -> RunFailed:
     if ended.status == 6:
         return _journal(compiled, line, message)
     if ended.status == 7:
-        return _too_much(line, message)
+        return _too_much(compiled, line, message)
     if ended.status == 8:
         words = _explained(compiled, line)
     return PLAIN.get(ended.status, RunFailed)(message, ended.status, line, words)
+
+
+def _line(lines: List[str]) -> Optional[str]:
+    """The program's line among those on standard error; that of the script `hydroplan` where it ran no program."""
+    ours = [it for it in lines if it.startswith("hydroplan:")] or lines
+    return next((it for it in ours if not IN_WORDS.match(it)), ours[0] if ours else None)
 
 
 def _root(compiled: Compiled) -> Cursor:
@@ -120,11 +111,11 @@ def _no_stage(compiled: Compiled, status: int, line: str, words: List[str], foun
 def _journal(compiled: Compiled, line: str, message: str) -> JournalRefused:
     found = JOURNAL.search(line)
     reason = found.group(1) if found else ""
-    words = [JOURNALS[reason]] if reason in JOURNALS else _explained(compiled, line)
+    words = [OTHER_PROBLEM] if reason == "OtherProblem" else _explained(compiled, line)
     return JournalRefused(message, 6, line, words, reason)
 
 
-def _too_much(line: str, message: str) -> TooMuch:
+def _too_much(compiled: Compiled, line: str, message: str) -> TooMuch:
     found = TOO_MUCH.search(line)
     formula, value = (int(found.group(1)), int(found.group(2))) if found else (0, 0)
-    return TooMuch(message, 7, line, [FORMULAS[formula]] if formula in FORMULAS else [], formula, value)
+    return TooMuch(message, 7, line, _explained(compiled, line), formula, value)

@@ -31,7 +31,7 @@ def upper_float(compiled: Compiled, value: Fraction) -> float:
 
 
 def report_of(compiled: Compiled, output: str) -> Report:
-    """The report in the user's units."""
+    """The report in the user's units, in exact fractions: the unit of its cuts is 1."""
     return read_report(Back(compiled.scales, None).lines(output.rstrip("\n").split("\n")))
 
 
@@ -61,8 +61,8 @@ def check_of(compiled: Compiled, output: str) -> Check:
 
 
 def _cut(report: Report, cut: ReportCut) -> Cut:
-    slopes = {name: float(slope) for name, slope in zip(report.states, cut.slopes)}
-    return Cut(report.nodes[cut.node], cut.place, float(cut.alpha), slopes)
+    slopes = {name: float(report.value(slope)) for name, slope in zip(report.states, cut.slopes)}
+    return Cut(report.nodes[cut.node], cut.place, float(report.value(cut.alpha)), slopes)
 
 
 def simulation_of(compiled: Compiled, output: str) -> Simulation:

@@ -15,7 +15,7 @@ from .errors import (
     TrainingInterrupted, WordsRefused,
 )
 from .failures import failure
-from .limits import MOST_SCENARIOS
+from .limits import MOST_SIMULATIONS
 from .programs import Compiled
 from .progress import Callback, Progress, ProgressPrinter, callback_of
 from .reading import check_of, evaluation_of, robust_of, simulation_of
@@ -72,7 +72,7 @@ def simulate(compiled: Compiled, journal: Place, *, seed: int, scenarios: int, p
     Draw them from another seed than training: scenarios of its own seed are paths that it was trained on.
     """
     words = ["simulate", str(journal), str(_whole(seed, "a seed", 0, MOST_SEED))]
-    words.append(str(_whole(scenarios, "the number of scenarios", 0, MOST_SCENARIOS)))
+    words.append(str(_whole(scenarios, "the number of scenarios", 0, MOST_SIMULATIONS)))
     return simulation_of(compiled, _output(compiled, words, program))
 
 

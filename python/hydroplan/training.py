@@ -152,7 +152,8 @@ class TrainingRun:
 
     def _compared(self, rule: Statistical) -> GapCheck:
         """The bound beside the mean of fresh scenarios, several runs of them where one report may not hold so many."""
-        most, part, count = sizes(self._compiled).most_scenarios(), 0, len(self._bounds)
+        # where not even one fits, the program says so
+        most, part, count = max(1, sizes(self._compiled).most_scenarios()), 0, len(self._bounds)
         costs: List[float] = []
         while len(costs) < rule.scenarios:
             seed, wanted = fresh_seed(self._seed, count, part), min(most, rule.scenarios - len(costs))

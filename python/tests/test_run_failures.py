@@ -1,5 +1,6 @@
 """Each status of the program as an exception, with words: of the program itself, and of programs of a few lines in its place."""
 import os
+import time
 import unittest
 from unittest import mock
 
@@ -54,8 +55,8 @@ class Real(Folder):
     def test_journals_of_others(self):
         self.train(three_stages())
         for reason, said, chosen in (
-            ("OtherSeed", "go on with that seed, or begin a new journal", {"seed": 8}),
-            ("OtherBatch", "go on with that batch, or begin a new journal", {"batch": 2}),
+            ("OtherSeed", "made with SEED 7, and 8 was asked for: go on with 7, or name another JOURNAL", {"seed": 8}),
+            ("OtherBatch", "made with BATCH 1, and 2 was asked for: leave BATCH out, or name another JOURNAL", {"batch": 2}),
         ):
             with self.assertRaisesRegex(JournalRefused, said) as caught:
                 self.train(three_stages(), **chosen)
@@ -63,7 +64,7 @@ class Real(Folder):
         with self.assertRaisesRegex(JournalRefused, "a model that was changed or compiled otherwise needs a new journal"):
             check(one_reservoir().compile(), self.journal)
         self.journal.write_bytes(b"no journal at all")
-        with self.assertRaisesRegex(JournalRefused, "the file is no journal of hydroplan"):
+        with self.assertRaisesRegex(JournalRefused, "the file does not begin as a journal does"):
             check(three_stages().compile(), self.journal)
 
     def test_too_much(self):
@@ -78,9 +79,10 @@ class Real(Folder):
             model.node(f"{at:02d}", stage, successors={f"{at + 1:02d}": 1} if at < 30 else {})
         compiled = model.compile()
         train(compiled, self.journal, seed=1, iterations=0, progress=False)
-        with self.assertRaisesRegex(TooMuch, "too much: formula 4 gives .*\n  the numbers of a report: ask for fewer scenarios") as caught:
+        # each of 1,000 scenarios has 30 stages with 150 decisions, 100 rows and 4 more numbers; 2^22 numbers are 550 of them
+        said = "too much: formula 4 gives .*\n  what: a report of 7,620,000 numbers, limit 4,194,304\n  fits: at most 550 scenarios$"
+        with self.assertRaisesRegex(TooMuch, said) as caught:
             simulate(compiled, self.journal, seed=1, scenarios=1000)
-        # each of 1,000 scenarios has 30 stages with 150 decisions, 100 rows and 4 more numbers
         self.assertEqual((caught.exception.status, caught.exception.formula, caught.exception.value), (7, 4, 1000 * 30 * 254))
 
     def test_no_folder(self):
@@ -111,17 +113,18 @@ class Stood(Folder):
         self.refused(12, "hydroplan: memory", OutOfMemory, "memory")
         self.refused(2, "hydroplan: usage: base", WordsRefused, "usage: base")
         self.refused(99, "hydroplan: something new", RunFailed, "something new")
-        self.refused(7, "hydroplan: too much: formula 5 gives 65537", TooMuch, "the branches of the scenario tree", "estimate by simulate instead")
+        self.refused(7, "hydroplan: too much: formula 5 gives 65537", TooMuch, "a policy of 65,537 branches", "`simulate` follows drawn scenarios")
 
     def test_what_is_too_much(self):
-        for formula, said in enumerate(("iterations times paths", "stage problem with all cuts", "an iteration's record", "the numbers of a report",
-                                        "the scenario tree", "the common denominator", "the greatest cost of a path"), 1):
+        for formula, said in enumerate(("cuts of 99,999,999 numbers", "a node's program", "a record of 99,999,999 bytes", "a report of 99,999,999 numbers",
+                                        "99,999,999 branches", "a denominator of 99,999,999", "the greatest cost of a stage"), 1):
             self.refused(7, f"hydroplan: too much: formula {formula} gives 99999999", TooMuch, said)
 
     def test_what_is_no_journal_of_this_problem(self):
         for line, said in (
-            ("NotAJournal", "the file is no journal"), ("Short at 9", "the journal ends too early"), ("TooMany", "more than 2,000 records"),
-            ("OtherProblem kept 12 asked 34", "needs a new journal"), ("BadRecord iteration 1 at 9", "the README says what each status means"),
+            ("NotAJournal", "does not begin as a journal does"), ("Short at 9", "ends inside the part that begins at byte 9"),
+            ("TooMany", "behind 2,000 records stands one more"), ("OtherProblem kept 12 asked 34", "needs a new journal"),
+            ("BadRecord iteration 1 at 9", "the record of iteration 1 is none of this problem, from byte 9 of its payload on"),
         ):
             self.refused(6, f"hydroplan: journal refused: {line}", JournalRefused, said)
 
@@ -144,10 +147,41 @@ class Stood(Folder):
         with self.assertRaisesRegex(JournalDeviceFailed, "journal device failed\n  hydroplan: another run writes it"):
             check(three_stages().compile(), self.journal, program=program)
 
+    def test_lines_of_the_script_are_not_the_program_s(self):
+        kept = "hydroplan: warning: the journal has 1 record that counts\\nhydroplan: training cuts these bytes off"
+        program = self.program(f"print('{kept}\\nhydroplan: memory', file=sys.stderr)\nsys.exit(12)")
+        with self.assertRaises(OutOfMemory) as caught:
+            check(three_stages().compile(), self.journal, program=program)
+        self.assertEqual(caught.exception.line, "hydroplan: memory")
+        program = self.program("print('hydroplan: there is no program', file=sys.stderr)\nsys.exit(1)")
+        with self.assertRaisesRegex(ProgramNotRun, "^there is no program$"):
+            check(three_stages().compile(), self.journal, program=program)
+
+    def test_a_name_forges_no_line(self):
+        failed = RunFailed("what\u202e", 99, "a line", ["two\nwords"])
+        self.assertEqual((str(failed), failed.words), ("what\\u{202E}\n  two\\u{000A}words", ("two\nwords",)))
+
     def test_a_signal(self):
         program = self.program("import os\nos.kill(os.getpid(), 9)")
         with self.assertRaisesRegex(ProgramKilled, "the program was ended by signal 9"):
             check(three_stages().compile(), self.journal, program=program)
+
+
+class Behind(Folder):
+    """What a program starts beside itself, as the script `hydroplan` does."""
+
+    def test_it_is_waited_for(self):
+        late = f"import pathlib, time; time.sleep(0.5); pathlib.Path({str(self.journal)!r}).touch()"
+        program = self.program(f"import subprocess\nsubprocess.Popen([sys.executable, '-c', {late!r}], close_fds=False)")
+        core.run(program, ["check"], b"")
+        self.assertTrue(self.journal.exists())
+
+    def test_it_is_not_waited_for_without_end(self):
+        program = self.program("import subprocess\nsubprocess.Popen(['sleep', '20'], close_fds=False)")
+        begun = time.monotonic()
+        with mock.patch.object(core, "LAST_SECONDS", 0.1):
+            core.run(program, ["check"], b"")
+        self.assertLess(time.monotonic() - begun, 15)
 
 
 class Found(Folder):

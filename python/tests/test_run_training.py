@@ -143,7 +143,7 @@ class Rules(Folder):
         self.assertIn("the bound moved by 0", found.stopped)
 
     def test_a_journal_that_is_full(self):
-        with mock.patch("hydroplan.limits.MOST_ITERATIONS", 3):
+        with mock.patch("hydroplan_tools.limits.MOST_ITERATIONS", 3):
             self.assertEqual(self.train(BoundStalling(iterations=3, every=2)).stopped, "a journal of this problem holds no more iterations")
 
     def test_rules_that_make_no_sense(self):
