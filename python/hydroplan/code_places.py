@@ -26,7 +26,7 @@ class CodePlace:
 
 @lru_cache(maxsize=None)
 def _is_ours(file: str) -> bool:
-    return os.path.dirname(os.path.abspath(file)) == PACKAGE
+    return os.path.abspath(file).startswith(PACKAGE + os.sep)
 
 
 def users_line() -> CodePlace:

@@ -138,6 +138,15 @@ class Models(Folder):
         model_with_inflows(inflows, lambda stage, node, inflow: states.append((node.stage, node.state, sorted(inflow))))
         self.assertEqual(states, [(stage, number, ["aure", "bygd"]) for stage in (1, 2, 3) for number in (0, 1)])
 
+    def test_parts_that_the_package_makes_stand_at_the_user_s_line(self):
+        def fill(stage, node, inflow):
+            for name, variable in inflow.items():
+                stage.add(variable >= 0, name=f"at least {name}")
+
+        model = model_with_inflows(periodic_autoregression(two_stations(), Horizon(2)), fill)
+        for stage in model.stages.values():
+            self.assertEqual({it.place.file for it in (stage, *stage.constraints)}, {__file__})
+
     def test_the_states_of_an_autoregression(self):
         inflows = periodic_autoregression(two_stations(), Horizon(2))
         model = built(inflows)
