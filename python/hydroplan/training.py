@@ -3,6 +3,7 @@ from __future__ import annotations
 
 import signal
 import time
+import warnings
 from fractions import Fraction
 from pathlib import Path
 from statistics import fmean
@@ -36,6 +37,13 @@ def kept_batch(journal: Path) -> int:
         return 1
     has_batch = len(head) == 53 and head[:11] == b"\x01HYDPLAN1\x00\x02"
     return max(1, int.from_bytes(head[51:53], "big")) if has_batch else 1
+
+
+def _warn(ended: Ended) -> None:
+    """Warns where the script `hydroplan` had to say something of a journal before training: what it cut off, and where a copy is."""
+    said = [line for line in ended.errors.splitlines() if line.startswith("hydroplan: ")]
+    if said:
+        warnings.warn("\n".join(said), RuntimeWarning, stacklevel=2)
 
 
 class TrainingRun:
@@ -93,6 +101,7 @@ class TrainingRun:
             raise KeyboardInterrupt
         if ended.status != 0:
             raise failure(self._compiled, ended)
+        _warn(ended)
         self._take(ended)
         return None
 

@@ -51,6 +51,17 @@ class Trained(Folder):
         self.assertEqual((first.bounds, again.iterations), (again.bounds[:3], 6))
         self.assertEqual(self.train(compiled, iterations=4).iterations, 6)
 
+    def test_a_damaged_journal_is_told_and_kept(self):
+        compiled = three_stages().compile()
+        self.train(compiled, iterations=3)
+        damaged = bytearray(self.journal.read_bytes())
+        # docs/FORMAT.md, The journal: the first gate of version 1 is byte 51
+        damaged[51] = 7
+        self.journal.write_bytes(damaged)
+        with self.assertWarnsRegex(RuntimeWarning, "has 0 records that count, .*the gate at byte 51 holds 7.*\n.*stays in .*plan.journal.kept"):
+            self.assertEqual(self.train(compiled, iterations=2).iterations, 2)
+        self.assertEqual(self.journal.with_name("plan.journal.kept").read_bytes(), damaged)
+
     def test_a_bound_on_revenues_is_above(self):
         found = self.train(newsvendor().compile(), iterations=20)
         self.assertGreaterEqual(found.exact_bound, F(5, 2))
