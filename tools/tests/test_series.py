@@ -239,7 +239,7 @@ class Plot(unittest.TestCase):
         _, _, err = run(main, "water-values", self.check, "--state", "w=3")
         self.assertEqual(err, f"plot: the states are {shown}: give each of them, and no other\n")
 
-    def test_a_thousand_scenarios_of_36_stages_take_five_seconds_at_most(self):
+    def test_a_thousand_scenarios_of_36_stages_take_seconds_and_not_minutes(self):
         stage = "".join(f'in "v{at}" {3 * S + at}\n' for at in range(8)) + "".join(f'random "w{at}" 1\n' for at in range(11))
         stage += "".join(f'value "q{at}" {at * S}\n' for at in range(38)) + "".join(f"row {at} residual 0\n" for at in range(11)) + f"cost {S}\n"
         scenario = "".join(f"stage {at} node {at} found\n{stage}" for at in range(36)) + f"end {S}\n"
@@ -255,8 +255,8 @@ class Plot(unittest.TestCase):
             self.assertEqual(run(main, "storage", self.simulation, *drawn)[0], 0)
             return time.process_time() - begun
 
-        # a processor that other work shares may be slow for a while
-        self.assertTrue(any(seconds() <= 5 for _ in range(3)))
+        # three to five seconds on a free processor; one that other work shares, or an older one, may take some times as long
+        self.assertTrue(any(seconds() <= 20 for _ in range(3)))
 
     @unittest.skipUnless(importlib.util.find_spec("matplotlib"), "matplotlib is not there")
     def test_axes(self):
