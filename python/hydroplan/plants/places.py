@@ -1,0 +1,24 @@
+"""The line of the user's code that made an element or a system."""
+from __future__ import annotations
+
+import os
+import sys
+from types import FrameType
+from typing import Optional
+
+from ..code_places import CodePlace
+
+PLANTS = os.path.dirname(os.path.abspath(__file__))
+PACKAGES = (PLANTS, os.path.dirname(PLANTS))
+
+
+def _is_ours(file: str) -> bool:
+    return file.startswith("<") or os.path.dirname(os.path.abspath(file)) in PACKAGES
+
+
+def users_line() -> CodePlace:
+    """The nearest line that stands outside of both packages; code without a file, as dataclasses make it, is passed over."""
+    frame: Optional[FrameType] = sys._getframe(1)
+    while frame is not None and _is_ours(frame.f_code.co_filename):
+        frame = frame.f_back
+    return CodePlace("?", 0) if frame is None else CodePlace(frame.f_code.co_filename, frame.f_lineno)
