@@ -12,6 +12,7 @@ from typing import Any, Dict, List, Mapping, Optional, Sequence, Tuple, Union
 from ..exact import Number, exact
 from .columns import Column
 from .errors import CostFalls, PlantError, UnknownName, suggestion
+from .places import users_line
 
 Values = Union[Number, Column, Sequence[Union[Number, None, Mapping[str, Number]]], Mapping[str, Union[Number, Column, Sequence[Number]]]]
 
@@ -43,7 +44,12 @@ class Tiers:
     """Tiers of a size and a cost each, in the order in which they are filled; both may differ from stage to stage."""
 
     def __init__(self, *tiers: Tuple[Values, Values]) -> None:
+        if not tiers or any(not isinstance(it, (tuple, list)) or len(it) != 2 for it in tiers):
+            raise PlantError(f"tiers are one or more pairs of a size and a cost, as in Tiers((10, 5), (20, 8)), not {tiers!r} ({users_line()})")
         self.tiers = tiers
+
+    def __repr__(self) -> str:
+        return f"Tiers{self.tiers!r}"
 
 
 Amounts = Union[Values, Random, Flow]

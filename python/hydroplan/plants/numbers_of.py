@@ -1,6 +1,7 @@
 """The tables of an element's members."""
 from __future__ import annotations
 
+from dataclasses import fields
 from fractions import Fraction
 from typing import Dict, Optional, Tuple
 
@@ -16,9 +17,10 @@ class Numbers:
         self.of = of
         self.tables: Dict[str, Table] = {}
         self._tiers: Dict[str, Tuple[Tier, ...]] = {}
+        optional = {it.name: it.default is None for it in fields(of)}
         for member, what in of.MEMBERS.items():
             given, called = getattr(of, member), f'"{member}" of {of.called()}'
-            if given is None:
+            if given is None and optional[member]:
                 continue
             if member == "initial":
                 given = exact(given, called)

@@ -13,11 +13,11 @@ PACKAGES = (PLANTS, os.path.dirname(PLANTS))
 
 
 def _is_ours(file: str) -> bool:
-    return file.startswith("<") or os.path.dirname(os.path.abspath(file)) in PACKAGES
+    return os.path.dirname(os.path.abspath(file)) in PACKAGES
 
 
 def users_line() -> CodePlace:
-    """The nearest line that stands outside of both packages; code without a file, as dataclasses make it, is passed over."""
+    """The nearest line that stands outside of this package and the one around it."""
     frame: Optional[FrameType] = sys._getframe(1)
     while frame is not None and _is_ours(frame.f_code.co_filename):
         frame = frame.f_back

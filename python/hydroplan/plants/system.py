@@ -155,7 +155,7 @@ def _block_names(blocks: Mapping[str, Values], called: str) -> Tuple[str, ...]:
 
 
 def _outcome(given: Outcome, called: str) -> Tuple[Fraction, Dict[str, Fraction]]:
-    if not (isinstance(given, tuple) and len(given) == 2 and isinstance(given[1], Mapping)):
+    if not (isinstance(given, (tuple, list)) and len(given) == 2 and isinstance(given[1], Mapping)):
         raise PlantError(f"{called} is a weight and values by station, not {given!r}")
     weight, values = given
     found = {name: exact(value, f'the value of "{name}" in {called}') for name, value in values.items()}

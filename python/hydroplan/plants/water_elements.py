@@ -12,6 +12,7 @@ from typing import ClassVar, Mapping, Optional, Sequence, Tuple, Union
 from ..exact import Number
 from .amounts import Amounts, Flow, Member, Tiered, Values
 from .element import Element, element
+from .errors import PlantError
 
 
 @dataclass(frozen=True)
@@ -85,20 +86,21 @@ class Reservoir(Element):
 
     def turbined_way(self) -> Optional[Way]:
         """The way of turbined water, none where it is gone."""
-        return _way(self.downstream)
+        return self._way("downstream", self.downstream)
 
     def spilled_way(self) -> Optional[Way]:
         """The way of spilled water, none where it is gone."""
-        return self.turbined_way() if isinstance(self.spilled, As) else _way(self.spilled)
+        return self.turbined_way() if isinstance(self.spilled, As) else self._way("spilled", self.spilled)
 
     def linked(self) -> Tuple[Tuple[str, str, str], ...]:
         """The bus and the reservoirs downstream."""
         ways = (("downstream", self.turbined_way()), ("spilled", self.spilled_way()))
         return (*super().linked(), *((member, "reservoir", way.to) for member, way in ways if way is not None))
 
-
-def _way(given: Union[str, Way, None]) -> Optional[Way]:
-    return Way(given) if isinstance(given, str) else given
+    def _way(self, member: str, given: Union[str, Way, None]) -> Optional[Way]:
+        if given is not None and not isinstance(given, (str, Way)):
+            raise PlantError(f'"{member}" of {self.called()} is the name of a reservoir or a Way, not {given!r}')
+        return Way(given) if isinstance(given, str) else given
 
 
 @element
