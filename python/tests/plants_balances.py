@@ -6,7 +6,7 @@ from __future__ import annotations
 
 from fractions import Fraction as F
 
-from extensive_plants import as_way
+from scenario_trees import as_way
 from hydroplan.plants import As, Flow, Random
 
 HM3 = F(36, 10000)

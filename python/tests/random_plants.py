@@ -120,7 +120,7 @@ class Draw:
             ("target", "target_penalty", [None] * (self.stages - 1) + [self.whole(5, 25)]),
         ):
             if self.often(0.35):
-                tiers = self.series(0, 20) if self.often() or member == "irrigation" or member == "evaporation" else Tiers((50, self.whole(1, 9)), (50, 9))
+                tiers = self.series(0, 20) if self.often() else Tiers((2, self.whole(1, 9)), (50, 9))
                 more.update({member: needed, penalty: tiers})
         if self.often(0.4):
             more["end_value"] = self.random.choice([7, Tiers((8, 9), (10, 4))])

@@ -106,6 +106,7 @@ class Values(Refused):
         self.compiling('"minimum" of import "i" .* above its maximum in stage 1', Import("i", "north", 3, 4, 5))
         self.compiling('"minimum" of reservoir "r" .* is 9 in stage 2, above its maximum 8', Reservoir("r", [9, 8], 5, 9, 9))
         self.compiling('reservoir "r" .* has a "productivity", and no "bus"', Reservoir("r", 9, 5, 9, productivity=1))
+        self.compiling('shares of "deficit" of bus "b" .* more than 1 together in stage 2', Bus("b", 4, Tiers(([1, "0.9"], 5), ([0, "0.2"], 8))))
         self.compiling('nothing brings energy to bus "b" .* demand in stage 1', Bus("b", 4))
         self.compiling("a number of at least 0 for each of 2 stages of travel", Reservoir("r", 9, 5, 9, downstream=Way("r", 2, [3])))
         self.compiling("whole number of stages, not 0.5", Reservoir("r", 9, 5, 9, downstream=Way("r", 0.5)))

@@ -113,6 +113,8 @@ def _deficits(rows: StageRows, it: Bus, numbers: Numbers, block: str, demand: Ex
     """The energy that is missing in each tier: at most its share of the demand."""
     tiers = numbers.tiers("deficit") or ()
     found: List[Linear] = []
+    if sum(_share(tier, rows.number, block) for tier in tiers) > 1:
+        raise PlantError(f'the shares of "deficit" of {it.called()} are more than 1 together in stage {rows.number}')
     for number, tier in enumerate(tiers, 1):
         parts = [number] if len(tiers) > 1 else []
         share = _share(tier, rows.number, block)

@@ -94,10 +94,12 @@ class StageRows:
         return found
 
     def missing(self, of: Element, word: str, needed: Fraction, penalty: Optional[Sequence[Tier]]) -> List[Variable]:
-        """What is missing to an amount, in the tiers of its penalty; nothing may be missing where there is none."""
+        """What is missing to an amount, in the tiers of its penalty: at most all of it, and nothing where there is no penalty."""
         found = []
+        left = needed
         for number, tier in enumerate(penalty or (), 1):
-            most = needed if tier.size is None else min(needed, tier.size.at(self.number))
+            most = left if tier.size is None else min(left, tier.size.at(self.number))
+            left -= most
             name = self.label(word, of) if len(penalty or ()) == 1 else self.label(word, of, number)
             found.append(self.variable(of, name, most, tier.cost.at(self.number)))
         return found
