@@ -49,7 +49,7 @@ class Balances:
 
     def blocks(self, stage, word, it):
         """The sum of a decision over the blocks."""
-        return sum((stage.values[self.name(word, it, block)] for block in self.case.blocks), F(0))
+        return sum((stage.values.get(self.name(word, it, block), F(0)) for block in self.case.blocks), F(0))
 
     def random(self, given, stage, block):
         """A number, perhaps times the value of a station."""
@@ -103,14 +103,14 @@ class Balances:
         found = self.tiers(stage, "deficit", bus, block) - self.random(bus.demand, stage, block) * self.hours(stage, block)
         found += sum((self.brought(it, stage, block) for it in self.case.elements if getattr(it, "bus", None) == bus.name), F(0))
         for it in self.of("line"):
-            sent, back = (stage.values[self.name(word, it, block)] for word in ("sent", "sent_back"))
+            sent, back = (stage.values.get(self.name(word, it, block), F(0)) for word in ("sent", "sent_back"))
             arriving = pick(it.arriving, stage.number, None)
             found += (arriving * back - sent) * (it.source == bus.name) + (arriving * sent - back) * (it.target == bus.name)
         return found
 
     def brought(self, it, stage, block):
         """The energy that an element brings to its bus."""
-        value = {word: stage.values.get(self.name(word, it, block)) for word in ("turbined", "taken", "imported", "exported", "pumped", "charged", "discharged")}
+        value = {word: stage.values.get(self.name(word, it, block), F(0)) for word in ("turbined", "taken", "imported", "exported", "pumped", "charged", "discharged")}
         if it.KIND == "reservoir":
             flows = isinstance(it.productivity, Flow)
             factor = pick(it.productivity.values, stage.number, block) / HM3 if flows else pick(it.productivity, stage.number, block)

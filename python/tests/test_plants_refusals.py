@@ -124,6 +124,12 @@ class Columns(Folder, Refused):
         stages = system.model().stages
         self.assertEqual([str(stages[name].objective) for name in stages], ["10 generation:t", "20 generation:t", "30 generation:t"])
 
+    def test_columns_by_block(self):
+        system = System(3, {"peak": 1, "base": 2})
+        system.add(Bus("b", {"peak": column(self.path, "coal"), "base": 4}, 90))
+        rows = [row.relation.lower for stage in system.model().stages.values() for row in stage.constraints]
+        self.assertEqual(rows, [10, 8, 20, 8, 30, 8])
+
     def test_what_is_refused(self):
         self.adding('has no column "cole": did you mean "coal"?', Thermal("t", "b", 3, column(self.path, "cole")), UnknownName)
         self.adding(r'"maximum" of thermal "t" .* column "gas" of .*plants.csv:3 has to be a number', Thermal("t", "b", 3, column(self.path, "gas")))

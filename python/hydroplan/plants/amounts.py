@@ -105,6 +105,10 @@ class Table:
         """The sum over the blocks of a stage, or its one number."""
         return sum((it for it in self.rows[stage - 1].values() if it is not None), Fraction(0))
 
+    def is_zero(self) -> bool:
+        """Whether it is 0 in all stages and blocks."""
+        return not any(it for row in self.rows for it in row.values())
+
     @property
     def by_block(self) -> bool:
         """Whether it has numbers for blocks."""

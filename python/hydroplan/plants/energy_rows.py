@@ -40,10 +40,13 @@ def _write_tiers(rows: StageRows, it: Thermal, block: str, tiers: Sequence[Tuple
 
 
 def write_line(rows: StageRows, it: Line, numbers: Numbers) -> None:
-    """Energy sent from the source and from the target; the other bus gets what arrives of it."""
+    """Energy sent from the source and from the target; the other bus gets what arrives of it. A way that is always shut has none."""
     arriving = numbers.at("arriving", rows.number)
+    ways = (("sent", "maximum", it.source, it.target), ("sent_back", "reverse", it.target, it.source))
     for block in rows.blocks:
-        for word, member, start, end in (("sent", "maximum", it.source, it.target), ("sent_back", "reverse", it.target, it.source)):
+        for word, member, start, end in ways:
+            if numbers.tables[member].is_zero():
+                continue
             most = numbers.at(member, rows.number, block) * rows.hours(block)
             sent = rows.variable(it, rows.label(word, it, block=block), most)
             rows.brings(start, block, -sent)

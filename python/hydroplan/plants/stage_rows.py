@@ -86,7 +86,9 @@ class StageRows:
         self.water.setdefault(reservoir, []).append(water)
 
     def limited(self, of: Element, word: str, table: Table) -> List[Variable]:
-        """Water in each block, limited in each block where the limit is a flow, else in the stage."""
+        """Water in each block, limited in each block where the limit is a flow, else in the stage; none where the limit is always 0."""
+        if table.is_zero():
+            return []
         blocks = [self.label(word, of, block=block) for block in self.blocks]
         found = [self.variable(of, name, table.at(self.number, block)) for name, block in zip(blocks, self.blocks)]
         if not table.by_block and len(found) > 1:
