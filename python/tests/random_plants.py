@@ -115,7 +115,7 @@ class Draw:
             more["downstream"] = Way(names[at + 1], travel, under_way) if self.often(0.8) else names[at + 1]
             more["spilled"] = self.random.choice([As.TURBINED, As.TURBINED, None, names[-1], Way(names[-1], 1)])
         for member, penalty, needed in (
-            ("minimum_outflow", "outflow_penalty", self.series(0, 4)), ("evaporation", "evaporation_penalty", self.series(0, 3)),
+            ("minimum_outflow", "outflow_penalty", self.series(0, 14)), ("evaporation", "evaporation_penalty", self.series(0, 3)),
             ("irrigation", "irrigation_penalty", self.series(0, 5)), ("alert", "alert_penalty", self.series(1, 15)),
             ("target", "target_penalty", [None] * (self.stages - 1) + [self.whole(5, 25)]),
         ):
@@ -127,7 +127,7 @@ class Draw:
         if self.often(0.2):
             more["minimum_outflow"], more["outflow_penalty"] = flow(50), 11
         turbine = self.series(4, 12) if self.often(0.6) else flow(self.by_block(100, 400))
-        productivity = self.random.choice([8, flow("0.036"), self.by_block(5, 12)])
+        productivity = self.random.choice([8, flow("0.036"), self.by_block(0, 12)])
         inflow = Random(self.station(name, -1 if self.often(0.2) else 0, 20))
         if self.often(0.2):
             inflow = flow(Random(self.station(name, 0, 300)))
@@ -146,10 +146,11 @@ class Draw:
         if self.often(0.3):
             found.append(Import("market", bus, self.by_block(2, 9), self.by_block(10, 50), self.random.choice([0, 1])))
         if self.often(0.3):
-            found.append(Export("neighbour", bus, self.by_block(1, 9), self.by_block(5, 20)))
+            least = self.whole(0, 1) if any(isinstance(it, Import) for it in found) else 0  # what is bought can be sold again
+            found.append(Export("neighbour", bus, self.by_block(1, 9), self.by_block(5, 20), least))
         if self.often(0.4):
             found.append(Battery("cells", bus, self.series(20, 30), 3, 4, 10, self.random.choice([1, "0.9"]), self.random.choice([1, "0.8"])))
         if self.often(0.4) and len(names) > 1:
             maximum = self.series(1, 4) if self.often() else flow(100)
-            found.append(Pump("lift", bus, names[-1], names[0], maximum, 9, self.random.choice([1, "0.75"])))
+            found.append(Pump("lift", bus, names[-1], names[0], maximum, self.whole(1, 9), self.random.choice([1, "0.75"])))
         return found

@@ -1,5 +1,6 @@
 """Systems of plants against their extensive form, a second reading that HiGHS solves; and balances of simulated decisions, exactly."""
 import unittest
+from dataclasses import MISSING, fields, replace
 from fractions import Fraction as F
 
 from exact_paths import exact_paths
@@ -8,11 +9,26 @@ from model_support import Folder
 from plants_balances import Balances
 from random_plants import Case, Draw
 from rounding_loss import rounding_loss
-from hydroplan.plants import Bus, Random, Reservoir, Thermal
+from hydroplan.plants import Battery, Bus, Export, Import, Line, Pump, Random, Renewable, Reservoir, Thermal
 from hydroplan.runs import train
 
 SEEDS = range(40)
 MOST_ITERATIONS = 240
+KINDS = (Battery, Bus, Export, Import, Line, Pump, Renewable, Reservoir, Thermal)
+
+
+def without(case, kind, member):
+    """A case whose elements of a kind have the member as it is where it is not given."""
+    default = {it.name: it.default for it in fields(kind)}[member]
+    return replace(case, elements=[replace(it, **{member: default}) if isinstance(it, kind) else it for it in case.elements])
+
+
+def differ(case, other):
+    """Whether two cases have other optima; one without an optimum has another."""
+    try:
+        return abs(Extensive(case).optimum() - Extensive(other).optimum()) > 1e-3
+    except AssertionError:
+        return True
 
 
 class Optima(Folder):
@@ -38,6 +54,19 @@ class Optima(Folder):
                 bound = self.trained(compiled, str(seed), optimum - rounding_loss(compiled) - near)
                 self.assertLessEqual(bound, optimum + near)
                 self.assertGreaterEqual(bound, optimum - rounding_loss(compiled) - near)
+
+    @needs_scipy
+    def test_each_feature_counts_in_some_drawn_system(self):
+        cases = [Draw(seed).case() for seed in SEEDS]
+        members = [(kind, it.name) for kind in KINDS for it in fields(kind) if it.default is not MISSING]
+        for kind, member in members:
+            if (kind, member) != (Thermal, "maximum"):  # what it would be without is no system
+                with self.subTest(kind=kind.KIND, member=member):
+                    self.assertTrue(any(differ(case, without(case, kind, member)) for case in cases))
+        for kind in (Battery, Export, Import, Line, Pump, Renewable):
+            with self.subTest(kind=kind.KIND):
+                others = [replace(case, elements=[it for it in case.elements if not isinstance(it, kind)]) for case in cases]
+                self.assertTrue(any(differ(case, other) for case, other in zip(cases, others)))
 
     @needs_scipy
     def test_the_second_reading_knows_a_case_by_hand(self):

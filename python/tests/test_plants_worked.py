@@ -59,6 +59,13 @@ WORKED = {
             Reservoir("high", 20, 0, 50, bus="b", turbine=9, productivity=1), demand=[0, 20], stages=2,
         ), 17 * 5,
     ),
+    # 2 hm3 are all there is to be lifted; 6 MWh could lift 3
+    "a pump that empties": (
+        one(
+            Renewable("wind", "b", [6, 0]), COAL, Pump("p", "b", "lake", "high", 9, 1, "0.5"), lake(initial=2, productivity=0),
+            Reservoir("high", 20, 0, 50, bus="b", turbine=9, productivity=1), demand=[0, 20], stages=2,
+        ), 18 * 5,
+    ),
     # 0.21 a year is 1 / 1.1 half a year later, 0.91 at two decimals
     "a discount": (one(COAL, stages=2, yearly_rate="0.21", stages_per_year=2), 50 + F("0.91") * 50),
     # 4 hm3 are worth 8, more than the 5 of coal; the next 3 are worth 4
@@ -72,6 +79,8 @@ WORKED = {
     "an alert volume": (one(COAL, lake(alert=3, alert_penalty=4)), 12),
     "an outflow that has to be": (one(COAL, lake(minimum_outflow=3, productivity=0, end_value=2)), 50 - 14),
     "an outflow at a penalty": (one(COAL, lake(minimum_outflow=3, outflow_penalty=1, productivity=0, end_value=2)), 50 + 3 - 20),
+    # one goes through the turbine, two past it
+    "an outflow past the turbine": (one(COAL, lake(turbine=1, minimum_outflow=3, outflow_penalty=9, productivity=0, end_value=2)), 50 - 14),
     "a spill that costs": (one(COAL, lake(maximum=7, turbine=1, spill_penalty=3)), 45 + 6),
     # 3 arrive in the first stage, 5 in the second, and what leaves the upper one now in the third
     "water under way": (
