@@ -1,5 +1,6 @@
 """What is refused of a system of plants: unknown names with a suggestion, numbers out of range, costs that fall; each with its line."""
 import unittest
+from dataclasses import replace
 
 from model_support import Folder
 from hydroplan.errors import ModelError
@@ -140,6 +141,11 @@ class Columns(Folder, Refused):
 
 
 class Lines(unittest.TestCase):
+    def test_an_element_that_is_made_of_another(self):
+        coal = Thermal("coal", "north", 3, 5)
+        other = replace(coal, maximum=7)
+        self.assertEqual((other.place.file, other.place.line, other.maximum), (__file__, coal.place.line + 1, 7))
+
     def test_parts_of_the_model_have_the_line_of_their_element(self):
         system = System(1)
         coal = Thermal("coal", "north", 3, 5)

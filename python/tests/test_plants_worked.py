@@ -1,5 +1,6 @@
 """Small systems whose least cost is found by hand, one for each part; docs/PLANTS.md has the equations."""
 import unittest
+from decimal import Decimal
 from fractions import Fraction as F
 
 from extensive_plants import Extensive, needs_scipy
@@ -7,7 +8,7 @@ from model_support import Folder
 from random_plants import Case
 from hydroplan.plants import Battery, Bus, Export, Import, Line, Pump, Random, Renewable, Reservoir, System, Thermal, Tiers, Way, flow
 from hydroplan.plants.discounting import discount
-from hydroplan.runs import train
+from hydroplan.runs import NoStageSolution, train
 
 COAL = Thermal("coal", "b", 5, 100)
 
@@ -107,6 +108,18 @@ class Worked(Folder):
                 self.assertLessEqual(abs(found.exact_bound - cost), F(1, 10**5))
                 self.assertLessEqual(found.exact_bound, cost)
 
+    def test_a_firm_need_that_cannot_be_met(self):
+        compiled = one(COAL, lake(initial=1, evaporation=2)).system().compile()
+        with self.assertRaises(NoStageSolution) as caught:
+            train(compiled, self.journal, seed=7, iterations=1, progress=False)
+        self.assertEqual((caught.exception.rows, caught.exception.state), (("water:lake",), {"volume:lake": 1}))
+
+    def test_inflows_are_decimals_by_station(self):
+        inflows = [[(Decimal("0.25"), {"r": Decimal("1.5")}), (Decimal("0.75"), {"r": Decimal(3)})]]
+        compiled = one(COAL, lake(initial=0, inflow=Random("r")), outcomes=inflows).system().compile()
+        found = train(compiled, self.journal, seed=7, iterations=5, progress=False)
+        self.assertAlmostEqual(found.bound, 5 * (0.25 * 8.5 + 0.75 * 7), places=5)
+
     @needs_scipy
     def test_the_extensive_form(self):
         for name, (case, cost) in WORKED.items():
@@ -119,6 +132,16 @@ class Discounts(unittest.TestCase):
         # 1.08^-1 = 0.925926, 1.08^-2 = 0.857339 and 1.08^-(1/12) = 0.993607, from tables of present values
         found = [discount(F("0.08"), F(years), F(1, 10**6)) for years in ("0", "1", "2", "1/12")]
         self.assertEqual(found, [1, F("0.925926"), F("0.857339"), F("0.993607")])
+
+    def test_the_ledger_says_where_they_are_rounded(self):
+        def first(**chosen):
+            return one(COAL, stages=3, **chosen).system().compile().ledger[0]
+
+        self.assertRegex(first(yearly_rate="0.1"), r"^discount: those of 2 stages were rounded to multiples of 0\.01 \(.*random_plants.py:\d+\)$")
+        self.assertEqual(first(yearly_rate="0.25"), "0 numbers were rounded")  # 0.8 and 0.64
+        self.assertEqual(first(yearly_rate="0.5625", stages_per_year=2), "0 numbers were rounded")  # the same by half years
+        self.assertRegex(first(yearly_rate="0.25", discount_resolution="0.1"), "those of 1 stages were rounded to multiples of 0.1")
+        self.assertEqual(first(), "0 numbers were rounded")
 
     def test_exact_where_it_can_be(self):
         self.assertEqual(discount(F("0.25"), F(3), F(1, 1000)), F(4, 5) ** 3)

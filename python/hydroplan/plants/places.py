@@ -1,6 +1,7 @@
 """The line of the user's code that made an element or a system."""
 from __future__ import annotations
 
+import dataclasses
 import os
 import sys
 from types import FrameType
@@ -13,11 +14,11 @@ PACKAGES = (PLANTS, os.path.dirname(PLANTS))
 
 
 def _is_ours(file: str) -> bool:
-    return os.path.dirname(os.path.abspath(file)) in PACKAGES
+    return os.path.dirname(os.path.abspath(file)) in PACKAGES or file == dataclasses.__file__
 
 
 def users_line() -> CodePlace:
-    """The nearest line that stands outside of this package and the one around it."""
+    """The nearest line that stands outside of this package, the one around it, and `dataclasses`, whose `replace` makes elements too."""
     frame: Optional[FrameType] = sys._getframe(1)
     while frame is not None and _is_ours(frame.f_code.co_filename):
         frame = frame.f_back

@@ -1,10 +1,11 @@
 """A system of hydro and thermal plants, and the model that it means."""
 from __future__ import annotations
 
+from dataclasses import replace
 from fractions import Fraction
 from typing import Any, Dict, List, Mapping, Optional, Sequence, Tuple, Type, TypeVar, cast
 
-from ..exact import Number, exact, exact_weight
+from ..exact import Number, exact, exact_weight, text_of
 from ..model import Model
 from ..programs import Compiled
 from .amounts import Horizon, Member, TableReader, Values, in_range
@@ -21,7 +22,6 @@ Outcomes = Sequence[Sequence[Outcome]]
 Kind = TypeVar("Kind", bound=Element)
 
 HOURS = Member("h", by_block=True, positive=True)
-MOST_WIDTH = 100
 
 
 class System:
@@ -100,8 +100,17 @@ class System:
         return model_of(self)
 
     def compile(self, **chosen: Any) -> Compiled:
-        """The problem in whole numbers: `Model.compile`, whose choices it takes."""
-        return self.model().compile(**chosen)
+        """The problem in whole numbers: `Model.compile`, whose choices it takes. The ledger says where discounts were rounded."""
+        found = self.model().compile(**chosen)
+        rounded = [it for it in range(1, self.horizon.stages + 1) if self._is_rounded(it)]
+        if not rounded:
+            return found
+        note = f"discount: those of {len(rounded)} stages were rounded to multiples of {text_of(self._resolution)} ({self.place})"
+        return replace(found, ledger=(note, *found.ledger))
+
+    def _is_rounded(self, stage: int) -> bool:
+        """Whether a discount d differs from (1 + r)^(-(s - 1) / n): d^n times (1 + r)^(s - 1) is then not 1."""
+        return self.discount(stage) ** self._stages_per_year * (1 + self._rate) ** (stage - 1) != 1
 
     def to_description(self, *, water: Number = 1, energy: Number = 1, money: Number = 1) -> str:
         """The system as a description that `hydroplan hydro` reads, in so many units for a hm3, a MWh and a unit of money.
