@@ -31,6 +31,11 @@ def differ(case, other):
         return True
 
 
+def off_on_ways(path):
+    """By how much the rows of water on its way are missed along a path."""
+    return sum((missed for stage in path for row, missed in stage.missed.items() if row.startswith("way:")), F(0))
+
+
 class Optima(Folder):
     def trained(self, compiled, name, enough):
         """The bound, after twice the iterations until it is at least so much."""
@@ -79,7 +84,7 @@ class Optima(Folder):
 
 class Exactly(Folder):
     def test_balances_of_simulated_decisions(self):
-        for seed in range(12):
+        for seed in range(24):
             case = Draw(seed).case()
             compiled = case.system().compile()
             journal = self.folder / str(seed)
@@ -87,8 +92,9 @@ class Exactly(Folder):
             for path in exact_paths(compiled, journal, 1, 5):
                 for stage, row, amount in Balances(case, path).all():
                     with self.subTest(seed=seed, stage=stage.number, row=row):
-                        # decisions are whole at scale 2^24; where they cannot meet a row, the report says by how much they miss it
-                        self.assertEqual(abs(amount), stage.missed.get(row, 0))
+                        # decisions are whole at scale 2^24; where they cannot meet a row, the report says by how much they miss it,
+                        # and what arrives is off by what the rows of its way miss
+                        self.assertLessEqual(abs(abs(amount) - stage.missed.get(row, 0)), off_on_ways(path) if row.startswith("water:") else 0)
                         self.assertLessEqual(abs(amount), F(1, 10**5))
 
     def test_decisions_that_are_whole_meet_their_balances(self):

@@ -101,7 +101,8 @@ class _Describer:
         if len(tiers) != 1 or it.maximum is None:
             raise NotDescribed(f'a description has no tiers: "cost" of {it.called()}')
         costs = {tiers[0].cost.at(stage, self._block) for stage in self._stages}
-        return {"bus": it.bus, "high": self._power(numbers, "maximum"), "cost": self._constant(it, "cost", costs, self._units.money / self._units.energy)}
+        price = self._constant(it, "cost", costs, self._units.money / self._units.energy)
+        return {"bus": it.bus, "high": self._power(numbers, "maximum"), "cost": price}
 
     def _lines(self) -> Dict[str, Any]:
         found: Dict[str, Any] = {}

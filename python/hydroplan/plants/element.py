@@ -2,7 +2,7 @@
 from __future__ import annotations
 
 from dataclasses import MISSING, dataclass, fields
-from typing import Any, ClassVar, Dict, Mapping, Tuple, Type, TypeVar
+from typing import Any, ClassVar, Mapping, Tuple, Type, TypeVar
 
 from ..code_places import CodePlace
 from .amounts import Member
@@ -66,6 +66,3 @@ def element(cls: Kind) -> Kind:
 def _check_name(made: Element, called: str) -> None:
     if not isinstance(made.name, str) or not made.name or ":" in made.name:
         raise PlantError(f"{called} has a name that is no text, empty, or has a colon")
-
-
-Elements = Dict[str, Dict[str, Element]]

@@ -59,10 +59,6 @@ class StageRows:
         self._stage.add(relation, name)
         self._stage.constraints[-1] = replace(self._stage.constraints[-1], place=of.place)
 
-    def cost(self, amount: Linear) -> None:
-        """Adds to the costs of the stage, before they are discounted."""
-        self._costs.append(amount)
-
     def amount(self, table: Optional[Table], block: str = "") -> Expression:
         """The number of a stage and block, times its station's value where it is random; without a block the total of the stage."""
         if table is None:

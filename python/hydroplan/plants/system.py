@@ -53,6 +53,7 @@ class System:
             raise PlantError(f"{called} has a yearly rate above -1, and a resolution of discounts above 0 and at most 1")
         self._elements: Dict[Tuple[str, str], Numbers] = {}
         self._outcomes: List[List[Tuple[Fraction, Dict[str, Fraction]]]] = [[] for _ in range(stages)]
+        self._outcomes_place = self.place
 
     def add(self, *elements: Element) -> None:
         """Adds elements, and reads their numbers; PlantError where one is wrong. Elements may name others that come later."""
@@ -70,7 +71,8 @@ class System:
         Inflows are in hm3 per stage, demands and renewables in MW, where no factor and no `flow` says otherwise. A stage with an
         empty list has the one realization without stations.
         """
-        called = f"the outcomes ({users_line()})"
+        self._outcomes_place = users_line()
+        called = f"the outcomes ({self._outcomes_place})"
         if len(stages) != self.horizon.stages:
             raise PlantError(f"{called} are of {len(stages)} stages, and there are {self.horizon.stages}")
         self._outcomes = [
@@ -137,15 +139,15 @@ class System:
             raise PlantError(f'the station "{colons[0]}" has a colon in its name ({self.place})')
         for stage, outcomes in enumerate(self._outcomes, 1):
             if wanted and not outcomes:
-                raise PlantError(f'stage {stage} has no outcomes, and the station "{wanted[0]}" is asked for ({self.place})')
+                raise PlantError(f'stage {stage} has no outcomes, and the station "{wanted[0]}" is asked for ({self._outcomes_place})')
             for _, values in outcomes:
                 unknown = [it for it in values if it not in wanted]
                 missing = [it for it in wanted if it not in values]
                 if unknown:
                     said = f'no element asks for the station "{unknown[0]}" of stage {stage}: {suggestion(unknown[0], wanted)}'
-                    raise UnknownName(f"{said} ({self.place})")
+                    raise UnknownName(f"{said} ({self._outcomes_place})")
                 if missing:
-                    raise PlantError(f'an outcome of stage {stage} has no value of the station "{missing[0]}" ({self.place})')
+                    raise PlantError(f'an outcome of stage {stage} has no value of the station "{missing[0]}" ({self._outcomes_place})')
 
     def _check_randoms(self, found: Numbers) -> None:
         """Refuses random values that are outside the range of the member that they are for."""
