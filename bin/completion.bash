@@ -5,17 +5,17 @@
 _hydroplan_words() {
     case "$1 $2 $3" in
     "base 0 "*) reply="--problem -h --help" ;;
-    "train 0 "*) reply="FILE --problem -h --help" ;;
-    "train 1 "*) reply="--problem" ;;
-    "train 2 "*) reply="--problem" ;;
-    "train 3 "*) reply="--problem" ;;
-    "train 4 "*) reply="--problem" ;;
+    "train 0 "*) reply="FILE --problem --workers --scheduler --timeout -h --help" ;;
+    "train 1 "*) reply="--problem --workers --scheduler --timeout" ;;
+    "train 2 "*) reply="--problem --workers --scheduler --timeout" ;;
+    "train 3 "*) reply="--problem --workers --scheduler --timeout" ;;
+    "train 4 "*) reply="--problem --workers --scheduler --timeout" ;;
     "check 0 "*) reply="FILE --problem -h --help" ;;
     "check 1 "*) reply="--problem" ;;
-    "simulate 0 "*) reply="FILE --problem -h --help" ;;
-    "simulate 1 "*) reply="--problem" ;;
-    "simulate 2 "*) reply="--problem" ;;
-    "simulate 3 "*) reply="--problem" ;;
+    "simulate 0 "*) reply="FILE --problem --workers --scheduler --timeout -h --help" ;;
+    "simulate 1 "*) reply="--problem --workers --scheduler --timeout" ;;
+    "simulate 2 "*) reply="--problem --workers --scheduler --timeout" ;;
+    "simulate 3 "*) reply="--problem --workers --scheduler --timeout" ;;
     "validate 0 "*) reply="FILE --problem -h --help" ;;
     "validate 1 "*) reply="--problem" ;;
     "evaluate 0 "*) reply="FILE --problem -h --help" ;;
@@ -27,6 +27,10 @@ _hydroplan_words() {
     "gen 1 "*) reply="" ;;
     "gen 2 "*) reply="" ;;
     "gen 3 "*) reply="" ;;
+    "study "*) reply="FILE --check --set --quiet -h --help" ;;
+    "report "*) reply="FILE -h --help" ;;
+    "export "*) reply="FILE --what --to --number --scenario --each-scenario --by-block --separator --decimal -h --help" ;;
+    "join "*) reply="FILE --problem --batch -h --help" ;;
     "convert "*" problem") reply="FILE -h --help --output --write-scales --scales --bounds --negate-max --normalise --largest --tolerance --successor-total --ledger" ;;
     "convert "*" back") reply="FILE -h --help --scales --digits --exact" ;;
     "convert "*) reply="problem back -h --help" ;;
@@ -37,7 +41,7 @@ _hydroplan_words() {
     "plot "*" residuals") reply="FILE -h --help --output --title" ;;
     "plot "*) reply="bounds water-values storage residuals -h --help" ;;
     "watch "*) reply="FILE -h --help --program --every --until --once --last --scales" ;;
-    "help 0 "* | "-h 0 "* | "--help 0 "*) reply="base train check simulate validate evaluate robust hydro gen convert explain plot watch prove --unproved help --problem" ;;
+    "help 0 "* | "-h 0 "* | "--help 0 "*) reply="base train check simulate validate evaluate robust hydro gen study report export join convert explain plot watch --workers --scheduler --timeout prove --unproved help --problem" ;;
     "--unproved 0 "*) reply="base train check simulate validate evaluate robust hydro gen" ;;
     esac
 }
@@ -47,7 +51,7 @@ _hydroplan_reply() {
     local at=1 place=0 command='' first=''
     while [ "$at" -lt "$COMP_CWORD" ]; do
         case "${COMP_WORDS[at]}" in
-        --problem) at=$((at + 1)) ;;
+        --problem | --workers | --scheduler | --timeout) at=$((at + 1)) ;;
         *)
             if [ -z "$command" ]; then command=${COMP_WORDS[at]}
             elif [[ ${COMP_WORDS[at]} != -* ]]; then place=$((place + 1)) first=${first:-${COMP_WORDS[at]}}
@@ -57,7 +61,8 @@ _hydroplan_reply() {
         at=$((at + 1))
     done
     if [ "${COMP_WORDS[COMP_CWORD - 1]}" = --problem ]; then reply=FILE
-    elif [ -z "$command" ]; then reply="base train check simulate validate evaluate robust hydro gen convert explain plot watch prove --unproved help --problem -h --help -V --version"
+    elif [[ ${COMP_WORDS[COMP_CWORD - 1]} =~ ^(--workers|--scheduler|--timeout)$ ]]; then reply=''
+    elif [ -z "$command" ]; then reply="base train check simulate validate evaluate robust hydro gen study report export join convert explain plot watch --workers --scheduler --timeout prove --unproved help --problem -h --help -V --version"
     else _hydroplan_words "$command" "$place" "$first"
     fi
 }

@@ -20,7 +20,7 @@ use Rattle.hp_theory.specs.Bound.{bound, Under}
 use Rattle.hp_theory.specs.View.{problem_of}
 use Rattle.hp_report.specs.Lines.{numbered}
 use Rattle.hp_report.specs.Report.{number_text, state_line, node_line, title, head_text, word, cut_words, cut_line, node_cuts, cut_lines, bound_line, base_text, iteration_line, iteration_after, iteration_lines, total_line, iterations_text, rest_line, check_text, train_text}
-use Rattle.hp_report.specs.SoundLines.{before_lines, lines_of, first_word, SoundLine, SoundLines}
+use Rattle.hp_report.specs.SoundLines.{before_lines, lines_of, first_word, Claims, Line, Lines, claims_of, SoundLines}
 
 -- no byte of it is a newline or another control character
 abbrev pub printable : List ℕ → Bool
@@ -100,29 +100,32 @@ one_line (b ∷ bs) rest h =
     by true e f = absurd (cc)
     by false e f = refl
 
-module _ (p : Problem) where
+module _ (claims : Claims) where
   -- before sound lines the text is sound too
   abbrev pub Good : List ℕ → Type 0
-  Good text = (rest : List ℕ) → SoundLines p rest → SoundLines p (text ++ rest)
+  Good text = (rest : List ℕ) → Lines claims rest → Lines claims (text ++ rest)
 
-  pub good_line : (line : List ℕ) → printable line ≡ true → SoundLine p line → Good (line ++ codes "\n")
+  pub good_line : (line : List ℕ) → printable line ≡ true → Line claims line → Good (line ++ codes "\n")
   good_line line h s rest r =
       let e : lines_of ((line ++ codes "\n") ++ rest) ≡ line ∷ lines_of rest = ap lines_of (append_assoc line (codes "\n") rest) ∙ one_line line rest h in
-      subst (All (SoundLine p)) (sym e) (All-cons (SoundLine p) line (lines_of rest) s r)
+      subst (All (Line claims)) (sym e) (All-cons (Line claims) line (lines_of rest) s r)
 
   pub good_append : (a b : List ℕ) → Good a → Good b → Good (a ++ b)
-  good_append a b f g rest r = subst (SoundLines p) (sym (append_assoc a b rest)) (f (b ++ rest) (g rest r))
+  good_append a b f g rest r = subst (Lines claims) (sym (append_assoc a b rest)) (f (b ++ rest) (g rest r))
 
   pub good_numbered : {A : Type 0} (text : ℕ → A → List ℕ) → ((i : ℕ) (x : A) → Good (text i x)) → (i : ℕ) (xs : List A) → Good (numbered text i xs)
   good_numbered text f i [] = λ rest r. r
   good_numbered text f i (x ∷ xs) = good_append (text i x) (numbered text (suc i) xs) (f i x) (good_numbered text f (suc i) xs)
 
-  -- a line whose first letter is none of those of `cut`, `bound` and `iteration`
-  pub plain_line : (line : List ℕ) (letter : ℕ) → get_or (first_word line) 0 0 ≡ letter → letter ≢ 99 → letter ≢ 98 → letter ≢ 105 → SoundLine p line
-  plain_line line letter e c b i = record {
+  -- a line whose first letter is none of those of words that claim something
+  pub plain_line : (line : List ℕ) (letter : ℕ) → get_or (first_word line) 0 0 ≡ letter → letter ≢ 99 → letter ≢ 98 → letter ≢ 105 → letter ≢ 117 → letter ≢ 112 → letter ≢ 119 → Line claims line
+  plain_line line letter e c b i u p w = record {
     cut = λ h. absurd (c (sym e ∙ ap (λ w. get_or w 0 0) h));
     bound = λ h. absurd (b (sym e ∙ ap (λ w. get_or w 0 0) h));
     iteration = λ h. absurd (i (sym e ∙ ap (λ w. get_or w 0 0) h));
+    upper = λ h. absurd (u (sym e ∙ ap (λ w. get_or w 0 0) h));
+    plane = λ h. absurd (p (sym e ∙ ap (λ w. get_or w 0 0) h));
+    worst = λ h. absurd (w (sym e ∙ ap (λ w. get_or w 0 0) h));
   }
 
   good_state : (i : ℕ) (s : State) → Good (state_line i s)
@@ -130,20 +133,20 @@ module _ (p : Problem) where
       let line : List ℕ = codes "state " ++ number_text i ++ codes " " ++ json_string s.name in
       good_line line
       (printable-append (codes "state " ++ number_text i ++ codes " ") (json_string s.name) (printable-append (codes "state " ++ number_text i) (codes " ") (printable-append (codes "state ") (number_text i) refl (number_printable (pos i))) refl) (name_printable s.name))
-      (plain_line line 115 refl (omega arith) (omega arith) (omega arith))
+      (plain_line line 115 refl (omega arith) (omega arith) (omega arith) (omega arith) (omega arith) (omega arith))
 
   good_node : (i : ℕ) (n : Node) → Good (node_line i n)
   good_node i n =
       let line : List ℕ = codes "node " ++ number_text i ++ codes " " ++ json_string n.name in
       good_line line
       (printable-append (codes "node " ++ number_text i ++ codes " ") (json_string n.name) (printable-append (codes "node " ++ number_text i) (codes " ") (printable-append (codes "node ") (number_text i) refl (number_printable (pos i))) refl) (name_printable n.name))
-      (plain_line line 110 refl (omega arith) (omega arith) (omega arith))
+      (plain_line line 110 refl (omega arith) (omega arith) (omega arith) (omega arith) (omega arith) (omega arith))
 
   good_title : Good title
   unfolding title
   good_title = good_append (codes "hydroplan 1" ++ codes "\n") (codes "scale 16777216" ++ codes "\n")
-      (good_line (codes "hydroplan 1") refl (plain_line (codes "hydroplan 1") 104 refl (omega arith) (omega arith) (omega arith)))
-      (good_line (codes "scale 16777216") refl (plain_line (codes "scale 16777216") 115 refl (omega arith) (omega arith) (omega arith)))
+      (good_line (codes "hydroplan 1") refl (plain_line (codes "hydroplan 1") 104 refl (omega arith) (omega arith) (omega arith) (omega arith) (omega arith) (omega arith)))
+      (good_line (codes "scale 16777216") refl (plain_line (codes "scale 16777216") 115 refl (omega arith) (omega arith) (omega arith) (omega arith) (omega arith) (omega arith)))
 
   pub good_head : (raw : Raw) → Good (head_text raw)
   unfolding head_text
@@ -153,39 +156,58 @@ module _ (p : Problem) where
   no : (a b : ℕ) (w : List ℕ) → get_or w 0 0 ≡ a → a ≢ b → (v : List ℕ) → get_or v 0 0 ≡ b → w ≡ v → ⊥
   no a b w e n v f h = n (sym e ∙ ap (λ u. get_or u 0 0) h ∙ f)
 
-  good_cut : (m k : ℕ) (c : Cut) → Holds p m c → Good (cut_line m k c)
+  good_cut : (m k : ℕ) (c : Cut) → claims.cuts m c → Good (cut_line m k c)
   good_cut m k c h =
       let line : List ℕ = codes "cut" ++ word (pos m) ++ word (pos k) ++ cut_words c in
       good_line line
       (printable-append (codes "cut" ++ word (pos m) ++ word (pos k)) (cut_words c) (printable-append (codes "cut" ++ word (pos m)) (word (pos k)) (printable-append (codes "cut") (word (pos m)) refl (word_printable (pos m))) (word_printable (pos k))) (cut_printable c))
       (record {
-        cut = λ e. record { node = m; place = k; cut = c; is = refl; holds = h };
+        cut = λ e. record { node = m; place = k; cut = c; is = refl; claimed = h };
         bound = λ e. absurd (no 99 98 (first_word line) refl (omega arith) (codes "bound") refl e);
         iteration = λ e. absurd (no 99 105 (first_word line) refl (omega arith) (codes "iteration") refl e);
+        upper = λ e. absurd (no 99 117 (first_word line) refl (omega arith) (codes "upper") refl e);
+        plane = λ e. absurd (no 99 112 (first_word line) refl (omega arith) (codes "plane") refl e);
+        worst = λ e. absurd (no 99 119 (first_word line) refl (omega arith) (codes "worst") refl e);
       })
 
-  good_cuts : (m k : ℕ) (cuts : List Cut) → All (Holds p m) cuts → Good (numbered (cut_line m) k cuts)
+  good_cuts : (m k : ℕ) (cuts : List Cut) → All (claims.cuts m) cuts → Good (numbered (cut_line m) k cuts)
   good_cuts m k [] h = λ rest r. r
-  good_cuts m k (c ∷ cs) h = good_append (cut_line m k c) (numbered (cut_line m) (suc k) cs) (good_cut m k c (h 0 c (omega arith))) (good_cuts m (suc k) cs (All-tail (Holds p m) c cs h))
+  good_cuts m k (c ∷ cs) h = good_append (cut_line m k c) (numbered (cut_line m) (suc k) cs) (good_cut m k c (h 0 c (omega arith))) (good_cuts m (suc k) cs (All-tail (claims.cuts m) c cs h))
 
-  good_lists : (m : ℕ) (lists : List (List Cut)) → ((k : ℕ) → All (Holds p (m + k)) (get_or lists k [])) → Good (numbered node_cuts m lists)
+  good_lists : (m : ℕ) (lists : List (List Cut)) → ((k : ℕ) → All (claims.cuts (m + k)) (get_or lists k [])) → Good (numbered node_cuts m lists)
   good_lists m [] h = λ rest r. r
   good_lists m (cuts ∷ lists) h =
-      let first : All (Holds p m) cuts = subst (λ (k : ℕ). All (Holds p k) cuts) (omega arith) (h 0) in
-      let rest : (k : ℕ) → All (Holds p (suc m + k)) (get_or lists k []) = λ k. subst (λ (i : ℕ). All (Holds p i) (get_or lists k [])) (omega arith) (h (suc k)) in
+      let first : All (claims.cuts m) cuts = subst (λ (k : ℕ). All (claims.cuts k) cuts) (omega arith) (h 0) in
+      let rest : (k : ℕ) → All (claims.cuts (suc m + k)) (get_or lists k []) = λ k. subst (λ (i : ℕ). All (claims.cuts i) (get_or lists k [])) (omega arith) (h (suc k)) in
       good_append (node_cuts m cuts) (numbered node_cuts (suc m) lists) (good_cuts m 0 cuts first) (good_lists (suc m) lists rest)
 
-  pub good_bound : (b : ℤ) → Under p b → Good (bound_line b)
+  pub good_bound : (b : ℤ) → claims.bounds b → Good (bound_line b)
   good_bound b h =
       let line : List ℕ = codes "bound" ++ word b in
       good_line line (printable-append (codes "bound") (word b) refl (word_printable b))
       (record {
         cut = λ e. absurd (no 98 99 (first_word line) refl (omega arith) (codes "cut") refl e);
-        bound = λ e. record { bound = b; is = refl; under = h };
+        bound = λ e. record { number = b; is = refl; claimed = h };
         iteration = λ e. absurd (no 98 105 (first_word line) refl (omega arith) (codes "iteration") refl e);
+        upper = λ e. absurd (no 98 117 (first_word line) refl (omega arith) (codes "upper") refl e);
+        plane = λ e. absurd (no 98 112 (first_word line) refl (omega arith) (codes "plane") refl e);
+        worst = λ e. absurd (no 98 119 (first_word line) refl (omega arith) (codes "worst") refl e);
       })
 
-  good_iteration : (k : ℕ) (b : ℤ) → Under p b → Good (iteration_line k b)
+  pub good_upper : (u : ℤ) → claims.uppers u → Good (codes "upper" ++ word u ++ codes "\n")
+  good_upper u h =
+      let line : List ℕ = codes "upper" ++ word u in
+      good_line line (printable-append (codes "upper") (word u) refl (word_printable u))
+      (record {
+        cut = λ e. absurd (no 117 99 (first_word line) refl (omega arith) (codes "cut") refl e);
+        bound = λ e. absurd (no 117 98 (first_word line) refl (omega arith) (codes "bound") refl e);
+        iteration = λ e. absurd (no 117 105 (first_word line) refl (omega arith) (codes "iteration") refl e);
+        upper = λ e. record { number = u; is = refl; claimed = h };
+        plane = λ e. absurd (no 117 112 (first_word line) refl (omega arith) (codes "plane") refl e);
+        worst = λ e. absurd (no 117 119 (first_word line) refl (omega arith) (codes "worst") refl e);
+      })
+
+  good_iteration : (k : ℕ) (b : ℤ) → claims.bounds b → Good (iteration_line k b)
   good_iteration k b h =
       let front : List ℕ = codes "iteration" ++ word (pos k) in
       let line : List ℕ = front ++ codes " bound" ++ word b in
@@ -194,31 +216,34 @@ module _ (p : Problem) where
       (record {
         cut = λ e. absurd (no 105 99 (first_word line) refl (omega arith) (codes "cut") refl e);
         bound = λ e. absurd (no 105 98 (first_word line) refl (omega arith) (codes "bound") refl e);
-        iteration = λ e. record { iteration = k; bound = b; is = refl; under = h };
+        iteration = λ e. record { iteration = k; bound = b; is = refl; claimed = h };
+        upper = λ e. absurd (no 105 117 (first_word line) refl (omega arith) (codes "upper") refl e);
+        plane = λ e. absurd (no 105 112 (first_word line) refl (omega arith) (codes "plane") refl e);
+        worst = λ e. absurd (no 105 119 (first_word line) refl (omega arith) (codes "worst") refl e);
       })
 
-  good_iterations : (i : ℕ) (bounds : List ℤ) → All (Under p) bounds → Good (numbered iteration_after i bounds)
+  good_iterations : (i : ℕ) (bounds : List ℤ) → All claims.bounds bounds → Good (numbered iteration_after i bounds)
   good_iterations i [] h = λ rest r. r
   good_iterations i (b ∷ bs) h =
       good_append (iteration_line (suc i) b) (numbered iteration_after (suc i) bs)
-      (good_iteration (suc i) b (h 0 b (omega arith))) (good_iterations (suc i) bs (All-tail (Under p) b bs h))
+      (good_iteration (suc i) b (h 0 b (omega arith))) (good_iterations (suc i) bs (All-tail claims.bounds b bs h))
 
   good_total : (count unsettled : ℕ) → Good (total_line count unsettled)
   good_total count unsettled =
       let front : List ℕ = codes "total iterations" ++ word (pos count) ++ codes " unsettled" in
       good_line (front ++ word (pos unsettled))
       (printable-append front (word (pos unsettled)) (printable-append (codes "total iterations" ++ word (pos count)) (codes " unsettled") (printable-append (codes "total iterations") (word (pos count)) refl (word_printable (pos count))) refl) (word_printable (pos unsettled)))
-      (plain_line (front ++ word (pos unsettled)) 116 refl (omega arith) (omega arith) (omega arith))
+      (plain_line (front ++ word (pos unsettled)) 116 refl (omega arith) (omega arith) (omega arith) (omega arith) (omega arith) (omega arith))
 
   good_rest : (n : ℕ) → Good (rest_line n)
   good_rest n =
       good_line (codes "rest" ++ word (pos n)) (printable-append (codes "rest") (word (pos n)) refl (word_printable (pos n)))
-      (plain_line (codes "rest" ++ word (pos n)) 114 refl (omega arith) (omega arith) (omega arith))
+      (plain_line (codes "rest" ++ word (pos n)) 114 refl (omega arith) (omega arith) (omega arith) (omega arith) (omega arith) (omega arith))
 
-  good_pools : (pools : List (List Cut)) → Sound p pools → Good (cut_lines pools)
-  good_pools pools s = good_lists 0 pools (λ k. subst (λ (i : ℕ). All (Holds p i) (pool pools k)) (omega arith) (s k))
+  good_pools : (pools : List (List Cut)) → ((m : ℕ) → All (claims.cuts m) (pool pools m)) → Good (cut_lines pools)
+  good_pools pools s = good_lists 0 pools (λ k. subst (λ (i : ℕ). All (claims.cuts i) (pool pools k)) (omega arith) (s k))
 
-  good_texts : (bounds : List ℤ) (unsettled : ℕ) → All (Under p) bounds → Good (iterations_text bounds unsettled)
+  good_texts : (bounds : List ℤ) (unsettled : ℕ) → All claims.bounds bounds → Good (iterations_text bounds unsettled)
   unfolding iterations_text
   good_texts bounds unsettled h = good_append (iteration_lines bounds) (total_line (length bounds) unsettled) (good_iterations 0 bounds h) (good_total (length bounds) unsettled)
 
@@ -227,8 +252,9 @@ pub sound_lines : (p : Sealed) (pools : List (List Cut)) → Sound (problem_of p
 unfolding base_text
 sound_lines p pools s u =
     let q : Problem = problem_of p in
-    let good = good_append q (head_text p.raw ++ cut_lines pools) (bound_line (bound q pools)) (good_append q (head_text p.raw) (cut_lines pools) (good_head q p.raw) (good_pools q pools s)) (good_bound q (bound q pools) u) in
-    subst (SoundLines q) (append-nil (head_text p.raw ++ cut_lines pools ++ bound_line (bound q pools))) (good [] (All-nil (SoundLine q)))
+    let c : Claims = claims_of q (λ m k. ⊥) (λ b. ⊥) in
+    let good = good_append c (head_text p.raw ++ cut_lines pools) (bound_line (bound q pools)) (good_append c (head_text p.raw) (cut_lines pools) (good_head c p.raw) (good_pools c pools s)) (good_bound c (bound q pools) u) in
+    subst (SoundLines q) (append-nil (head_text p.raw ++ cut_lines pools ++ bound_line (bound q pools))) (good [] (All-nil (Line c)))
 
 -- and so is that of a journal, where its pools are sound and each of its bounds is under the cost of each policy
 pub sound_check : (p : Sealed) (pools : List (List Cut)) (bounds : List ℤ) (unsettled rest : ℕ) → Sound (problem_of p) pools → All (Under (problem_of p)) bounds → Under (problem_of p) (bound (problem_of p) pools)
@@ -236,17 +262,19 @@ pub sound_check : (p : Sealed) (pools : List (List Cut)) (bounds : List ℤ) (un
 unfolding check_text
 sound_check p pools bounds unsettled rest s us u =
     let q : Problem = problem_of p in
+    let c : Claims = claims_of q (λ m k. ⊥) (λ b. ⊥) in
     let cuts : List ℕ = head_text p.raw ++ cut_lines pools in
     let iterations : List ℕ = cuts ++ iterations_text bounds unsettled in
     let last : List ℕ = iterations ++ bound_line (bound q pools) in
-    let good = good_append q last (rest_line rest) (good_append q iterations (bound_line (bound q pools)) (good_append q cuts (iterations_text bounds unsettled) (good_append q (head_text p.raw) (cut_lines pools) (good_head q p.raw) (good_pools q pools s)) (good_texts q bounds unsettled us)) (good_bound q (bound q pools) u)) (good_rest q rest) in
-    subst (SoundLines q) (append-nil (last ++ rest_line rest)) (good [] (All-nil (SoundLine q)))
+    let good = good_append c last (rest_line rest) (good_append c iterations (bound_line (bound q pools)) (good_append c cuts (iterations_text bounds unsettled) (good_append c (head_text p.raw) (cut_lines pools) (good_head c p.raw) (good_pools c pools s)) (good_texts c bounds unsettled us)) (good_bound c (bound q pools) u)) (good_rest c rest) in
+    subst (SoundLines q) (append-nil (last ++ rest_line rest)) (good [] (All-nil (Line c)))
 
 -- and that of training
 pub sound_training : (p : Sealed) (pools : List (List Cut)) (bounds : List ℤ) (unsettled : ℕ) → All (Under (problem_of p)) bounds → Under (problem_of p) (bound (problem_of p) pools) → SoundLines (problem_of p) (train_text p pools bounds unsettled)
 unfolding train_text
 sound_training p pools bounds unsettled us u =
     let q : Problem = problem_of p in
+    let c : Claims = claims_of q (λ m k. ⊥) (λ b. ⊥) in
     let iterations : List ℕ = head_text p.raw ++ iterations_text bounds unsettled in
-    let good = good_append q iterations (bound_line (bound q pools)) (good_append q (head_text p.raw) (iterations_text bounds unsettled) (good_head q p.raw) (good_texts q bounds unsettled us)) (good_bound q (bound q pools) u) in
-    subst (SoundLines q) (append-nil (iterations ++ bound_line (bound q pools))) (good [] (All-nil (SoundLine q)))
+    let good = good_append c iterations (bound_line (bound q pools)) (good_append c (head_text p.raw) (iterations_text bounds unsettled) (good_head c p.raw) (good_texts c bounds unsettled us)) (good_bound c (bound q pools) u) in
+    subst (SoundLines q) (append-nil (iterations ++ bound_line (bound q pools))) (good [] (All-nil (Line c)))

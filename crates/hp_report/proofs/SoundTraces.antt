@@ -17,7 +17,7 @@ use Rattle.hp_forward.specs.declared.traces.Trace.{Trace}
 use Rattle.hp_forward.specs.declared.traces.TraceStep.{TraceStep}
 use Rattle.hp_report.specs.Lines.{numbered}
 use Rattle.hp_report.specs.Report.{bound_line, head_text, word}
-use Rattle.hp_report.specs.SoundLines.{first_word, SoundLine, SoundLines}
+use Rattle.hp_report.specs.SoundLines.{first_word, Claims, Line, claims_of, SoundLines}
 use Rattle.hp_report.specs.Traces.{cost_line, end_line, in_lines, kind_word, named_line, named_lines, own_lines, random_lines, row_line, scenario_line, scenario_text, stage_line, step_text, trace_text, value_lines}
 use Rattle.hp_report.proofs.SoundLines.{Good, good_append, good_bound, good_head, good_line, good_numbered, name_printable, plain_line, printable, printable-append, word_printable}
 
@@ -33,13 +33,16 @@ named_printable what name z h = printable-append (what ++ json_string name) (wor
 pub differ : (k a b : ℕ) (v w : List ℕ) → get_or v k 0 ≡ a → get_or w k 0 ≡ b → a ≢ b → v ≢ w
 differ k a b v w e f n h = n (sym e ∙ ap (λ u. get_or u k 0) h ∙ f)
 
-module _ (p : Problem) where
-  -- a line whose first word is none of `cut`, `bound` and `iteration`
-  pub other_line : (line first : List ℕ) → first_word line ≡ first → first ≢ codes "cut" → first ≢ codes "bound" → first ≢ codes "iteration" → SoundLine p line
-  other_line line first e c b i = record {
+module _ (p : Claims) where
+  -- a line whose first word claims nothing
+  pub other_line : (line first : List ℕ) → first_word line ≡ first → first ≢ codes "cut" → first ≢ codes "bound" → first ≢ codes "iteration" → first ≢ codes "upper" → first ≢ codes "plane" → first ≢ codes "worst" → Line p line
+  other_line line first e c b i u x w = record {
     cut = λ h. absurd (c (sym e ∙ h));
     bound = λ h. absurd (b (sym e ∙ h));
     iteration = λ h. absurd (i (sym e ∙ h));
+    upper = λ h. absurd (u (sym e ∙ h));
+    plane = λ h. absurd (x (sym e ∙ h));
+    worst = λ h. absurd (w (sym e ∙ h));
   }
 
   good_none : Good p []
@@ -54,24 +57,24 @@ module _ (p : Problem) where
   good_in name z =
       let line : List ℕ = codes "in " ++ json_string name ++ word z in
       good_line p line (named_printable (codes "in ") name z refl)
-      (other_line line (codes "in") refl (differ 0 105 99 (codes "in") (codes "cut") refl refl (omega arith)) (differ 0 105 98 (codes "in") (codes "bound") refl refl (omega arith)) (differ 1 110 116 (codes "in") (codes "iteration") refl refl (omega arith)))
+      (other_line line (codes "in") refl (differ 0 105 99 (codes "in") (codes "cut") refl refl (omega arith)) (differ 0 105 98 (codes "in") (codes "bound") refl refl (omega arith)) (differ 1 110 116 (codes "in") (codes "iteration") refl refl (omega arith)) (differ 0 105 117 (codes "in") (codes "upper") refl refl (omega arith)) (differ 0 105 112 (codes "in") (codes "plane") refl refl (omega arith)) (differ 0 105 119 (codes "in") (codes "worst") refl refl (omega arith)))
 
   good_random : (name : List ℕ) (z : ℤ) → Good p (named_line (codes "random ") name z)
   good_random name z =
       let line : List ℕ = codes "random " ++ json_string name ++ word z in
-      good_line p line (named_printable (codes "random ") name z refl) (plain_line p line 114 refl (omega arith) (omega arith) (omega arith))
+      good_line p line (named_printable (codes "random ") name z refl) (plain_line p line 114 refl (omega arith) (omega arith) (omega arith) (omega arith) (omega arith) (omega arith))
 
   good_value : (name : List ℕ) (z : ℤ) → Good p (named_line (codes "value ") name z)
   good_value name z =
       let line : List ℕ = codes "value " ++ json_string name ++ word z in
-      good_line p line (named_printable (codes "value ") name z refl) (plain_line p line 118 refl (omega arith) (omega arith) (omega arith))
+      good_line p line (named_printable (codes "value ") name z refl) (plain_line p line 118 refl (omega arith) (omega arith) (omega arith) (omega arith) (omega arith) (omega arith))
 
   pub good_row : (i : ℕ) (r : ℤ) → Good p (row_line i r)
   good_row i r =
       let front : List ℕ = codes "row" ++ word (pos i) in
       let line : List ℕ = front ++ codes " residual" ++ word r in
       good_line p line (printable-append (front ++ codes " residual") (word r) (printable-append front (codes " residual") (printable-append (codes "row") (word (pos i)) refl (word_printable (pos i))) refl) (word_printable r))
-      (plain_line p line 114 refl (omega arith) (omega arith) (omega arith))
+      (plain_line p line 114 refl (omega arith) (omega arith) (omega arith) (omega arith) (omega arith) (omega arith))
 
   good_stage : (t : ℕ) (s : TraceStep) → Good p (stage_line t s)
   good_stage t s =
@@ -80,13 +83,13 @@ module _ (p : Problem) where
       let line : List ℕ = node ++ kind_word s.kind in
       good_line p line
       (printable-append node (kind_word s.kind) (printable-append (front ++ codes " node") (word (pos s.node)) (printable-append front (codes " node") (printable-append (codes "stage") (word (pos t)) refl (word_printable (pos t))) refl) (word_printable (pos s.node))) (kind_printable s.kind))
-      (plain_line p line 115 refl (omega arith) (omega arith) (omega arith))
+      (plain_line p line 115 refl (omega arith) (omega arith) (omega arith) (omega arith) (omega arith) (omega arith))
 
   good_cost : (z : ℤ) → Good p (cost_line z)
   good_cost z =
       let line : List ℕ = codes "cost" ++ word z in
       good_line p line (printable-append (codes "cost") (word z) refl (word_printable z))
-      (other_line line (codes "cost") refl (differ 1 111 117 (codes "cost") (codes "cut") refl refl (omega arith)) (differ 0 99 98 (codes "cost") (codes "bound") refl refl (omega arith)) (differ 0 99 105 (codes "cost") (codes "iteration") refl refl (omega arith)))
+      (other_line line (codes "cost") refl (differ 1 111 117 (codes "cost") (codes "cut") refl refl (omega arith)) (differ 0 99 98 (codes "cost") (codes "bound") refl refl (omega arith)) (differ 0 99 105 (codes "cost") (codes "iteration") refl refl (omega arith)) (differ 0 99 117 (codes "cost") (codes "upper") refl refl (omega arith)) (differ 0 99 112 (codes "cost") (codes "plane") refl refl (omega arith)) (differ 0 99 119 (codes "cost") (codes "worst") refl refl (omega arith)))
 
   good_own : (o : Option Subproblem) (s : TraceStep) → Good p (own_lines o s)
   good_own None s = good_none
@@ -108,12 +111,12 @@ module _ (p : Problem) where
   good_title : (i : ℕ) → Good p (scenario_line i)
   good_title i =
       let line : List ℕ = codes "scenario" ++ word (pos i) in
-      good_line p line (printable-append (codes "scenario") (word (pos i)) refl (word_printable (pos i))) (plain_line p line 115 refl (omega arith) (omega arith) (omega arith))
+      good_line p line (printable-append (codes "scenario") (word (pos i)) refl (word_printable (pos i))) (plain_line p line 115 refl (omega arith) (omega arith) (omega arith) (omega arith) (omega arith) (omega arith))
 
   good_end : (z : ℤ) → Good p (end_line z)
   good_end z =
       let line : List ℕ = codes "end" ++ word z in
-      good_line p line (printable-append (codes "end") (word z) refl (word_printable z)) (plain_line p line 101 refl (omega arith) (omega arith) (omega arith))
+      good_line p line (printable-append (codes "end") (word z) refl (word_printable z)) (plain_line p line 101 refl (omega arith) (omega arith) (omega arith) (omega arith) (omega arith) (omega arith))
 
   good_scenario : (sealed : Sealed) (i : ℕ) (trace : Trace) → Good p (scenario_text sealed i trace)
   unfolding scenario_text
@@ -126,6 +129,7 @@ pub sound_traces : (p : Sealed) (pools : List (List Cut)) (traces : List Trace) 
 unfolding trace_text
 sound_traces p pools traces u =
     let q : Problem = problem_of p in
+    let c : Claims = claims_of q (λ m k. ⊥) (λ b. ⊥) in
     let scenarios : List ℕ = head_text p.raw ++ numbered (scenario_text p) 0 traces in
-    let good = good_append q scenarios (bound_line (bound q pools)) (good_append q (head_text p.raw) (numbered (scenario_text p) 0 traces) (good_head q p.raw) (good_numbered q (scenario_text p) (good_scenario q p) 0 traces)) (good_bound q (bound q pools) u) in
-    subst (SoundLines q) (append-nil (scenarios ++ bound_line (bound q pools))) (good [] (All-nil (SoundLine q)))
+    let good = good_append c scenarios (bound_line (bound q pools)) (good_append c (head_text p.raw) (numbered (scenario_text p) 0 traces) (good_head c p.raw) (good_numbered c (scenario_text p) (good_scenario c p) 0 traces)) (good_bound c (bound q pools) u) in
+    subst (SoundLines q) (append-nil (scenarios ++ bound_line (bound q pools))) (good [] (All-nil (Line c)))

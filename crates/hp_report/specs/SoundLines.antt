@@ -1,7 +1,10 @@
 -- A text line by line: what its cuts and bounds promise.
-use Rattle.std.specs.Prelude.{◌≡◌, ℕ, ℤ, pos, List, [], ◌∷◌, ◌++◌, codes, All, ◌==◌, if◌then◌else◌}
+use Rattle.std.specs.Prelude.{◌≡◌, ℕ, ◌<◌, ℤ, pos, List, [], ◌∷◌, ◌++◌, codes, All, ◌==◌, if◌then◌else◌}
 use Rattle.hp_theory.specs.declared.cut.Cut.{Cut}
-use Rattle.hp_theory.specs.Problem.{Problem}
+use Rattle.hp_theory.specs.Fraction.{◌≤ᶠ◌}
+use Rattle.hp_theory.specs.Problem.{S, Problem}
+use Rattle.hp_theory.specs.Tree.{Forest, Policy}
+use Rattle.hp_theory.specs.Cost.{policy_cost}
 use Rattle.hp_theory.specs.Pools.{Holds}
 use Rattle.hp_theory.specs.Bound.{Under}
 use Rattle.hp_report.specs.Report.{word, cut_words}
@@ -21,33 +24,57 @@ abbrev pub first_word : List ℕ → List ℕ
 first_word [] = []
 first_word (b ∷ bs) = if b == 32 then [] else b ∷ first_word bs
 
--- the line is of a cut that holds at its node
-pub record CutLine (p : Problem) (line : List ℕ) : Type 0 where
+-- what a line's cut, bound, cost from above, plane and worst bound are to promise
+pub record Claims : Type 1 where
+  pub cuts : ℕ → Cut → Type 0
+  pub bounds : ℤ → Type 0
+  pub uppers : ℤ → Type 0
+  pub planes : ℕ → Cut → Type 0
+  pub worsts : ℤ → Type 0
+
+-- the line is of a cut, or of a plane, and this holds of it at its node
+pub record CutLine (first : List ℕ) (holds : ℕ → Cut → Type 0) (line : List ℕ) : Type 0 where
   pub node : ℕ
   pub place : ℕ
   pub cut : Cut
-  pub is : line ≡ codes "cut" ++ word (pos node) ++ word (pos place) ++ cut_words cut
-  pub holds : Holds p node cut
+  pub is : line ≡ first ++ word (pos node) ++ word (pos place) ++ cut_words cut
+  pub claimed : holds node cut
 
--- the line is of a bound under the cost of each policy
-pub record BoundLine (p : Problem) (line : List ℕ) : Type 0 where
-  pub bound : ℤ
-  pub is : line ≡ codes "bound" ++ word bound
-  pub under : Under p bound
+-- the line is of a number, of which this holds
+pub record NumberLine (first : List ℕ) (holds : ℤ → Type 0) (line : List ℕ) : Type 0 where
+  pub number : ℤ
+  pub is : line ≡ first ++ word number
+  pub claimed : holds number
 
--- the line is of an iteration and the bound after it, under the cost of each policy
-pub record IterationLine (p : Problem) (line : List ℕ) : Type 0 where
+-- the line is of an iteration and the bound after it
+pub record IterationLine (holds : ℤ → Type 0) (line : List ℕ) : Type 0 where
   pub iteration : ℕ
   pub bound : ℤ
   pub is : line ≡ codes "iteration" ++ word (pos iteration) ++ codes " bound" ++ word bound
-  pub under : Under p bound
+  pub claimed : holds bound
 
 -- the first word of a line decides what it is
-pub record SoundLine (p : Problem) (line : List ℕ) : Type 0 where
-  pub cut : first_word line ≡ codes "cut" → CutLine p line
-  pub bound : first_word line ≡ codes "bound" → BoundLine p line
-  pub iteration : first_word line ≡ codes "iteration" → IterationLine p line
+pub record Line (c : Claims) (line : List ℕ) : Type 0 where
+  pub cut : first_word line ≡ codes "cut" → CutLine (codes "cut") c.cuts line
+  pub bound : first_word line ≡ codes "bound" → NumberLine (codes "bound") c.bounds line
+  pub iteration : first_word line ≡ codes "iteration" → IterationLine c.bounds line
+  pub upper : first_word line ≡ codes "upper" → NumberLine (codes "upper") c.uppers line
+  pub plane : first_word line ≡ codes "plane" → CutLine (codes "plane") c.planes line
+  pub worst : first_word line ≡ codes "worst" → NumberLine (codes "worst") c.worsts line
 
--- each line of the text is sound
+-- so is each line of the text
+abbrev pub Lines : Claims → List ℕ → Type 0
+Lines c text = All (Line c) (lines_of text)
+
+-- some policy costs at most u / S, in some fraction of a unit
+abbrev pub Above : Problem → ℤ → Type 0
+Above p u = (units : ℕ) × (f : Forest) × (0 < units) × Policy p units f × (policy_cost p units f ≤ᶠ record { up = u; under = S })
+
+-- Cuts hold at their nodes, bounds are under the cost of each policy, and numbers from above are above that of some. What planes and worst
+-- bounds promise rests on lists of weights.
+abbrev pub claims_of : Problem → (ℕ → Cut → Type 0) → (ℤ → Type 0) → Claims
+claims_of p planes worsts = record { cuts = Holds p; bounds = Under p; uppers = Above p; planes = planes; worsts = worsts }
+
+-- each line of the text is sound, and none is of a plane or of a worst bound
 abbrev pub SoundLines : Problem → List ℕ → Type 0
-SoundLines p text = All (SoundLine p) (lines_of text)
+SoundLines p text = Lines (claims_of p (λ m c. ⊥) (λ b. ⊥)) text

@@ -14,4 +14,5 @@ pub mod Listed
 pub mod SoundPlanes
 pub mod SoundVerdict
 pub mod Plans
+pub mod Meant
 pub mod AnyStops

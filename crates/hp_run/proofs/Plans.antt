@@ -6,22 +6,22 @@ use Rattle.hp_hydro.specs.Text.{hydro_at}
 use Rattle.hp_accepts.specs.Plans.{Means}
 use Rattle.hp_accepts.proofs.Accepting.{made_bound, made_means}
 use Rattle.hp_theory.specs.View.{problem_of}
-use Rattle.hp_report.specs.SoundLines.{SoundLine, first_word, lines_of}
+use Rattle.hp_report.specs.SoundLines.{Line, claims_of, first_word, lines_of}
 use Rattle.hp_lp.specs.Chained.{Solving}
 use Rattle.hp_run.specs.Causes.{Ends, Explains, ExplainsDescribed, IfWritten}
 use Rattle.hp_run.specs.Run.{Describes, PlanLine, PlanLines}
-use Rattle.hp_run.specs.SoundText.{SoundText}
+use Rattle.hp_run.specs.SoundText.{PlaneHolds, SoundText, WorstHolds}
 use Rattle.hp_run.specs.declared.job.Job.{Job}
 use Rattle.hp_run.specs.declared.job.Job.TheVariants.{Plan, Hydro, Generate}
 use Rattle.hp_run.specs.declared.task.Task.{Task}
 use Rattle.hp_run.specs.declared.status.Status.{Status}
 use Rattle.hp_run.specs.declared.status.Status.TheVariants.{Done, Usage, ReadFault, TooLong, HydroRefused, ProblemRefused, JournalRefused, TooMuch, Range, NoStage, DiskFault, WriteFault, Memory}
 
-all_known : (o : Option (List ℕ)) (P : List ℕ → Type 0) → ((x : List ℕ) → P x) → IfSome o P
+pub all_known : (o : Option (List ℕ)) (P : List ℕ → Type 0) → ((x : List ℕ) → P x) → IfSome o P
 all_known None P each = tt
 all_known (Some x) P each = each x
 
-then_known : (o : Option (List ℕ)) (P Q : List ℕ → Type 0) → ((x : List ℕ) → P x → Q x) → IfSome o P → IfSome o Q
+pub then_known : (o : Option (List ℕ)) (P Q : List ℕ → Type 0) → ((x : List ℕ) → P x → Q x) → IfSome o P → IfSome o Q
 then_known None P Q each h = tt
 then_known (Some x) P Q each h = each x h
 
@@ -51,6 +51,6 @@ describes v (Some (Generate seed stages reservoirs)) e status h = tt
 -- a line of a bound on each policy of the problem is one of a bound on each workable plan
 pub plan_lines : (task : Task) (description problem text : List ℕ) → hydro_at description ≡ Ok problem → SoundText task problem text → PlanLines description text
 plan_lines task description problem text e s =
-    All-weaker (SoundLine (problem_of s.problem)) (λ line. first_word line ≡ codes "bound" → PlanLine description line)
-    (λ line sound is. let b = sound.bound is in record { bound = b.bound; is = b.is; under = made_bound description problem s.problem b.bound e s.read b.under })
+    All-weaker (Line (claims_of (problem_of s.problem) (PlaneHolds problem s.problem) (WorstHolds problem s.problem))) (λ line. first_word line ≡ codes "bound" → PlanLine description line)
+    (λ line sound is. let b = sound.bound is in record { bound = b.number; is = b.is; under = made_bound description problem s.problem b.number e s.read b.claimed })
     (lines_of text) s.lines

@@ -1,23 +1,25 @@
 -- A report is a sound text, and each status is the expected one where no device fails.
-use Rattle.std.proofs.Common.{◌≡◌, ◌⊎◌, inl, inr, ℕ, ◌<◌, ◌≤◌, ◌^◌, if◌then◌else◌, true, false, List, length, Option, Some, None, IfSome, IfOk, IsOk, Result, Ok, Err, nat_le, refl, sym, ap, ◌∙◌, subst, length-append, arith}
+use Rattle.std.proofs.Common.{◌≡◌, ◌⊎◌, inl, inr, ℕ, ◌<◌, ◌≤◌, ◌^◌, ℤ, if◌then◌else◌, true, false, List, length, Option, Some, None, IfSome, IfOk, IsOk, Result, Ok, Err, nat_le, refl, sym, ap, ◌∙◌, subst, length-append, arith}
 use Rattle.std.specs.Io.KnownBytes.{Consumes, IsAtEnd, Keeps}
 use Rattle.hp_outside.specs.Causes.{Rose}
 use Rattle.std.proofs.lemmas.Bool.Decides.{nat_tests}
+use Rattle.std.proofs.lemmas.List.Elements.{All-weaker}
 use Rattle.hp_problem.specs.Sealed.{Sealed}
 use Rattle.hp_sof.specs.Problem.{problem_at}
 use Rattle.hp_theory.specs.declared.cut.Cut.{Cut}
+use Rattle.hp_theory.specs.Problem.{Problem}
 use Rattle.hp_theory.specs.Range.{based}
 use Rattle.hp_theory.specs.View.{problem_of}
 use Rattle.hp_gen.specs.Generated.{generated}
 use Rattle.hp_hydro.specs.Text.{hydro_at}
-use Rattle.hp_report.specs.SoundLines.{SoundLines}
+use Rattle.hp_report.specs.SoundLines.{Line, Lines, SoundLines, claims_of, lines_of}
 use Rattle.hp_report.proofs.SoundLines.{sound_lines, sound_check, sound_training}
 use Rattle.hp_report.proofs.SoundTraces.{sound_traces}
 use Rattle.hp_fields.specs.Steps.{◌>>=◌}
 use Rattle.hp_problem.specs.declared.refusal.Refusal.{Refusal}
 use Rattle.hp_lp.specs.Chained.{Solving}
 use Rattle.hp_run.specs.Outcome.{IsRefused, Reports, WithBase, listed_at, with_alternatives, based_at, based_of, with_base, or_refused, report_by, report_at}
-use Rattle.hp_run.specs.SoundText.{IsSoundReport, SoundText}
+use Rattle.hp_run.specs.SoundText.{IsSoundReport, PlaneHolds, SoundText, WorstHolds}
 use Rattle.hp_run.specs.Causes.{Ends, Explains, ExplainsDescribed, ExplainsProblem, ExplainsTask, IsRefuted, Lacks, ReadAll, status_of, status_of_text, expected, expected_of, Completes}
 use Rattle.hp_run.specs.declared.job.Job.{Job}
 use Rattle.hp_run.specs.declared.job.Job.TheVariants.{Plan, Hydro, Generate}
@@ -30,16 +32,24 @@ use Rattle.hp_run.proofs.Listed.{robust_refused}
 use Rattle.hp_run.proofs.SoundPlanes.{sound_planes}
 use Rattle.hp_run.proofs.SoundVerdict.{sound_verdict}
 
-lines_of_report : (task : Task) (bytes : List ℕ) (p : Sealed) (pools : List (List Cut)) (text : List ℕ) → IsSoundReport task bytes p pools text → SoundLines (problem_of p) text
-lines_of_report Base bytes p pools text r = subst (SoundLines (problem_of p)) (sym r.is) (sound_lines p pools r.cuts r.bound)
+-- lines without a plane and a worst bound, whatever these are to promise
+more_lines : (p : Problem) (planes : ℕ → Cut → Type 0) (worsts : ℤ → Type 0) (text : List ℕ) → SoundLines p text → Lines (claims_of p planes worsts) text
+more_lines p planes worsts text s =
+    All-weaker (Line (claims_of p (λ m c. ⊥) (λ b. ⊥))) (Line (claims_of p planes worsts))
+    (λ line l. record { cut = l.cut; bound = l.bound; iteration = l.iteration; upper = l.upper; plane = λ is. absurd (l.plane is).claimed; worst = λ is. absurd (l.worst is).claimed }) (lines_of text) s
+
+lines_of_report : (task : Task) (bytes : List ℕ) (p : Sealed) (pools : List (List Cut)) (text : List ℕ) → IsSoundReport task bytes p pools text
+    → Lines (claims_of (problem_of p) (PlaneHolds bytes p) (WorstHolds bytes p)) text
+lines_of_report Base bytes p pools text r = more_lines (problem_of p) _ _ text (subst (SoundLines (problem_of p)) (sym r.is) (sound_lines p pools r.cuts r.bound))
 lines_of_report (Train seed count batch) bytes p pools text r =
-    subst (SoundLines (problem_of p)) (sym r.is.2) (sound_training p pools r.is.0 r.is.1 r.is.3 r.bound)
+    more_lines (problem_of p) _ _ text (subst (SoundLines (problem_of p)) (sym r.is.2) (sound_training p pools r.is.0 r.is.1 r.is.3 r.bound))
 lines_of_report Check bytes p pools text r =
-    subst (SoundLines (problem_of p)) (sym r.is.3) (sound_check p pools r.is.0 r.is.1 r.is.2 r.cuts r.is.4 r.bound)
-lines_of_report (Simulate seed count) bytes p pools text r = subst (SoundLines (problem_of p)) (sym r.is.1) (sound_traces p pools r.is.0 r.bound)
-lines_of_report Validate bytes p pools text r = subst (SoundLines (problem_of p)) (sym r.is.1) (sound_traces p pools r.is.0 r.bound)
-lines_of_report Evaluate bytes p pools text r = subst (SoundLines (problem_of p)) (sym r.is.1) (sound_verdict p pools r.is.0 r.bound)
-lines_of_report Robust bytes p pools text r = subst (SoundLines (problem_of p)) (sym r.is.3) (sound_planes p r.is.1)
+    more_lines (problem_of p) _ _ text (subst (SoundLines (problem_of p)) (sym r.is.3) (sound_check p pools r.is.0 r.is.1 r.is.2 r.cuts r.is.4 r.bound))
+lines_of_report (Simulate seed count) bytes p pools text r = more_lines (problem_of p) _ _ text (subst (SoundLines (problem_of p)) (sym r.is.1) (sound_traces p pools r.is.0 r.bound))
+lines_of_report Validate bytes p pools text r = more_lines (problem_of p) _ _ text (subst (SoundLines (problem_of p)) (sym r.is.1) (sound_traces p pools r.is.0 r.bound))
+lines_of_report Evaluate bytes p pools text r = more_lines (problem_of p) _ _ text (subst (SoundLines (problem_of p)) (sym r.is.1) (sound_verdict p pools r.is.0 r.bound r.is.2))
+lines_of_report Robust bytes p pools text r =
+    subst (Lines (claims_of (problem_of p) (PlaneHolds bytes p) (WorstHolds bytes p))) (sym r.is.3) (sound_planes bytes p r.is.0 r.is.1 r.is.2 r.is.4)
 
 -- a report of the problem that the bytes give is sound
 pub sound_text : (task : Task) (bytes : List ℕ) (p : Sealed) (pools : List (List Cut)) (text : List ℕ) → problem_at bytes ≡ Ok p → IsSoundReport task bytes p pools text → SoundText task bytes text

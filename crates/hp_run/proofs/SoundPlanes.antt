@@ -1,18 +1,22 @@
 -- The report of planes is sound line by line.
-use Rattle.std.proofs.Common.{◌≡◌, ℕ, ℤ, pos, List, [], ◌∷◌, ◌++◌, codes, true, refl, subst, arith}
+use Rattle.std.proofs.Common.{◌≡◌, ◌≢◌, ◌∙◌, ℕ, suc, ◌+◌, ℤ, pos, List, [], ◌∷◌, ◌++◌, All, codes, get_or, true, Ok, refl, sym, ap, subst, arith}
 use Rattle.std.specs.List.{flat_map}
 use Rattle.std.proofs.lemmas.List.{append-nil}
-use Rattle.std.proofs.lemmas.List.Elements.{All-nil}
+use Rattle.std.proofs.lemmas.List.Elements.{All-nil, All-tail}
 use Rattle.hp_problem.specs.Sealed.{Sealed}
 use Rattle.hp_theory.specs.declared.cut.Cut.{Cut}
 use Rattle.hp_theory.specs.Bound.{bound}
+use Rattle.hp_theory.specs.Pools.{pool}
 use Rattle.hp_theory.specs.Problem.{Problem}
 use Rattle.hp_theory.specs.View.{problem_of}
 use Rattle.hp_report.specs.Lines.{numbered}
 use Rattle.hp_report.specs.Report.{cut_words, head_text, word}
-use Rattle.hp_report.specs.SoundLines.{SoundLine, SoundLines}
-use Rattle.hp_report.proofs.SoundLines.{Good, good_append, good_head, good_line, good_numbered, plain_line, printable, printable-append, word_printable}
+use Rattle.hp_report.specs.SoundLines.{Claims, Line, Lines, claims_of, first_word}
+use Rattle.hp_report.proofs.SoundLines.{Good, good_append, good_head, good_line, printable, printable-append, word_printable}
+use Rattle.hp_risk.specs.declared.alternatives.Alternatives.{Alternatives}
+use Rattle.hp_risk.specs.Alternatives.{alternatives_of}
 use Rattle.hp_risk.specs.Report.{node_planes, plane_line, plane_lines, robust_text, worst_line}
+use Rattle.hp_run.specs.SoundText.{IsWorst, PlaneHolds, WorstHolds}
 
 words_printable : (zs : List ℤ) → printable (flat_map word zs) ≡ true
 words_printable [] = refl
@@ -21,27 +25,57 @@ words_printable (z ∷ zs) = printable-append (word z) (flat_map word zs) (word_
 planes_printable : (c : Cut) → printable (cut_words c) ≡ true
 planes_printable c = printable-append (word c.alpha) (flat_map word c.beta) (word_printable c.alpha) (words_printable c.beta)
 
-module _ (p : Problem) where
-  good_plane : (m k : ℕ) (c : Cut) → Good p (plane_line m k c)
-  good_plane m k c =
+module _ (c : Claims) where
+  no : (a b : ℕ) (w : List ℕ) → get_or w 0 0 ≡ a → a ≢ b → (v : List ℕ) → get_or v 0 0 ≡ b → w ≡ v → ⊥
+  no a b w e n v f h = n (sym e ∙ ap (λ u. get_or u 0 0) h ∙ f)
+
+  good_plane : (m k : ℕ) (plane : Cut) → c.planes m plane → Good c (plane_line m k plane)
+  good_plane m k plane h =
       let node : List ℕ = codes "plane" ++ word (pos m) in
-      let line : List ℕ = node ++ word (pos k) ++ cut_words c in
-      good_line p line (printable-append (node ++ word (pos k)) (cut_words c) (printable-append node (word (pos k)) (printable-append (codes "plane") (word (pos m)) refl (word_printable (pos m))) (word_printable (pos k))) (planes_printable c))
-      (plain_line p line 112 refl (omega arith) (omega arith) (omega arith))
+      let line : List ℕ = node ++ word (pos k) ++ cut_words plane in
+      good_line c line (printable-append (node ++ word (pos k)) (cut_words plane) (printable-append node (word (pos k)) (printable-append (codes "plane") (word (pos m)) refl (word_printable (pos m))) (word_printable (pos k))) (planes_printable plane))
+      (record {
+        cut = λ e. absurd (no 112 99 (first_word line) refl (omega arith) (codes "cut") refl e);
+        bound = λ e. absurd (no 112 98 (first_word line) refl (omega arith) (codes "bound") refl e);
+        iteration = λ e. absurd (no 112 105 (first_word line) refl (omega arith) (codes "iteration") refl e);
+        upper = λ e. absurd (no 112 117 (first_word line) refl (omega arith) (codes "upper") refl e);
+        plane = λ e. record { node = m; place = k; cut = plane; is = refl; claimed = h };
+        worst = λ e. absurd (no 112 119 (first_word line) refl (omega arith) (codes "worst") refl e);
+      })
 
-  good_planes : (planes : List (List Cut)) → Good p (plane_lines planes)
-  good_planes planes = good_numbered p node_planes (λ m cuts. good_numbered p (plane_line m) (good_plane m) 0 cuts) 0 planes
+  good_planes : (m k : ℕ) (planes : List Cut) → All (c.planes m) planes → Good c (numbered (plane_line m) k planes)
+  good_planes m k [] h = λ rest r. r
+  good_planes m k (x ∷ xs) h = good_append c (plane_line m k x) (numbered (plane_line m) (suc k) xs) (good_plane m k x (h 0 x (omega arith))) (good_planes m (suc k) xs (All-tail (c.planes m) x xs h))
 
-  good_worst : (b : ℤ) → Good p (worst_line b)
-  good_worst b =
+  good_lists : (m : ℕ) (lists : List (List Cut)) → ((k : ℕ) → All (c.planes (m + k)) (get_or lists k [])) → Good c (numbered node_planes m lists)
+  good_lists m [] h = λ rest r. r
+  good_lists m (planes ∷ lists) h =
+      let first : All (c.planes m) planes = subst (λ (k : ℕ). All (c.planes k) planes) (omega arith) (h 0) in
+      let rest : (k : ℕ) → All (c.planes (suc m + k)) (get_or lists k []) = λ k. subst (λ (i : ℕ). All (c.planes i) (get_or lists k [])) (omega arith) (h (suc k)) in
+      good_append c (node_planes m planes) (numbered node_planes (suc m) lists) (good_planes m 0 planes first) (good_lists (suc m) lists rest)
+
+  good_worst : (b : ℤ) → c.worsts b → Good c (worst_line b)
+  good_worst b h =
       let line : List ℕ = codes "worst" ++ word b in
-      good_line p line (printable-append (codes "worst") (word b) refl (word_printable b)) (plain_line p line 119 refl (omega arith) (omega arith) (omega arith))
+      good_line c line (printable-append (codes "worst") (word b) refl (word_printable b))
+      (record {
+        cut = λ e. absurd (no 119 99 (first_word line) refl (omega arith) (codes "cut") refl e);
+        bound = λ e. absurd (no 119 98 (first_word line) refl (omega arith) (codes "bound") refl e);
+        iteration = λ e. absurd (no 119 105 (first_word line) refl (omega arith) (codes "iteration") refl e);
+        upper = λ e. absurd (no 119 117 (first_word line) refl (omega arith) (codes "upper") refl e);
+        plane = λ e. absurd (no 119 112 (first_word line) refl (omega arith) (codes "plane") refl e);
+        worst = λ e. record { number = b; is = refl; claimed = h };
+      })
 
--- the report of planes has no line of a cut or a bound
-pub sound_planes : (p : Sealed) (planes : List (List Cut)) → SoundLines (problem_of p) (robust_text p planes)
+-- the report of planes is sound line by line, and has no line of a cut or a bound
+pub sound_planes : (bytes : List ℕ) (p : Sealed) (x : Alternatives) (planes : List (List Cut)) → alternatives_of p bytes ≡ Ok x → IsWorst (problem_of p) x planes
+    → Lines (claims_of (problem_of p) (PlaneHolds bytes p) (WorstHolds bytes p)) (robust_text p planes)
 unfolding robust_text
-sound_planes p planes =
+sound_planes bytes p x planes is worst =
     let q : Problem = problem_of p in
+    let c : Claims = claims_of q (PlaneHolds bytes p) (WorstHolds bytes p) in
     let front : List ℕ = head_text p.raw ++ plane_lines planes in
-    let good = good_append q front (worst_line (bound q planes)) (good_append q (head_text p.raw) (plane_lines planes) (good_head q p.raw) (good_planes q planes)) (good_worst q (bound q planes)) in
-    subst (SoundLines q) (append-nil (front ++ worst_line (bound q planes))) (good [] (All-nil (SoundLine q)))
+    let here : (k : ℕ) → All (c.planes k) (pool planes k) = λ k i d l. (x, is, worst.holds k i d l) in
+    let each : (k : ℕ) → All (c.planes (0 + k)) (get_or planes k []) = λ k. subst (λ (i : ℕ). All (c.planes i) (pool planes k)) (omega arith) (here k) in
+    let good = good_append c front (worst_line (bound q planes)) (good_append c (head_text p.raw) (plane_lines planes) (good_head c p.raw) (good_lists c 0 planes each)) (good_worst c (bound q planes) (x, is, worst.under)) in
+    subst (Lines c) (append-nil (front ++ worst_line (bound q planes))) (good [] (All-nil (Line c)))

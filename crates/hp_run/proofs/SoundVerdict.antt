@@ -1,49 +1,60 @@
 -- The report of a verdict is sound line by line.
-use Rattle.std.proofs.Common.{ℕ, ℤ, pos, List, [], ◌∷◌, ◌++◌, codes, refl, subst, arith}
+use Rattle.std.proofs.Common.{ℕ, ◌<◌, ℤ, pos, List, [], ◌∷◌, ◌++◌, codes, refl, subst, arith}
+use Rattle.std.specs.Prelude.{⊤}
 use Rattle.std.specs.List.{flat_map}
 use Rattle.std.proofs.lemmas.List.{append-nil}
 use Rattle.std.proofs.lemmas.List.Elements.{All-nil}
 use Rattle.hp_problem.specs.Sealed.{Sealed}
 use Rattle.hp_theory.specs.declared.cut.Cut.{Cut}
 use Rattle.hp_theory.specs.Bound.{bound, Under}
-use Rattle.hp_theory.specs.Problem.{Problem}
+use Rattle.hp_theory.specs.Problem.{S, Problem}
 use Rattle.hp_theory.specs.View.{problem_of}
 use Rattle.hp_sampler.specs.declared.steps.Step.{Step}
 use Rattle.hp_report.specs.Report.{bound_line, head_text, word}
-use Rattle.hp_report.specs.SoundLines.{SoundLine, SoundLines}
+use Rattle.hp_report.specs.SoundLines.{Claims, Line, claims_of, SoundLines}
 use Rattle.hp_report.specs.Traces.{row_line}
-use Rattle.hp_report.proofs.SoundLines.{Good, good_append, good_bound, good_head, good_line, plain_line, printable-append, word_printable}
+use Rattle.hp_report.proofs.SoundLines.{Good, good_append, good_bound, good_head, good_line, good_upper, printable-append, word_printable}
 use Rattle.hp_report.proofs.SoundTraces.{differ, good_row, other_line}
 use Rattle.hp_tree.specs.declared.walking.Verdict.{Verdict}
 use Rattle.hp_tree.specs.declared.walking.Verdict.TheVariants.{Cost, Missed}
 use Rattle.hp_tree.specs.Report.{branch_line, verdict_lines, verdict_text}
+use Rattle.hp_run.specs.SoundText.{IsTwoSided}
 
-module _ (p : Problem) where
+module _ (p : Claims) where
   good_branch : (s : Step) → Good p (branch_line s)
   good_branch s =
       let front : List ℕ = codes "branch" ++ word (pos s.node) in
       let line : List ℕ = front ++ word (pos s.realization) in
       good_line p line (printable-append front (word (pos s.realization)) (printable-append (codes "branch") (word (pos s.node)) refl (word_printable (pos s.node))) (word_printable (pos s.realization)))
-      (other_line p line (codes "branch") refl (differ 0 98 99 (codes "branch") (codes "cut") refl refl (omega arith)) (differ 1 114 111 (codes "branch") (codes "bound") refl refl (omega arith)) (differ 0 98 105 (codes "branch") (codes "iteration") refl refl (omega arith)))
+      (other_line p line (codes "branch") refl (differ 0 98 99 (codes "branch") (codes "cut") refl refl (omega arith)) (differ 1 114 111 (codes "branch") (codes "bound") refl refl (omega arith)) (differ 0 98 105 (codes "branch") (codes "iteration") refl refl (omega arith)) (differ 0 98 117 (codes "branch") (codes "upper") refl refl (omega arith)) (differ 0 98 112 (codes "branch") (codes "plane") refl refl (omega arith)) (differ 0 98 119 (codes "branch") (codes "worst") refl refl (omega arith)))
 
   good_branches : (ss : List Step) → Good p (flat_map branch_line ss)
   good_branches [] = λ rest r. r
   good_branches (s ∷ ss) = good_append p (branch_line s) (flat_map branch_line ss) (good_branch s) (good_branches ss)
 
-  good_upper : (u : ℤ) → Good p (codes "upper" ++ word u ++ codes "\n")
-  good_upper u =
-      let line : List ℕ = codes "upper" ++ word u in
-      good_line p line (printable-append (codes "upper") (word u) refl (word_printable u)) (plain_line p line 117 refl (omega arith) (omega arith) (omega arith))
+  -- what a verdict has from above
+  abbrev AboveIn : Verdict → Type 0
+  AboveIn (Cost upper) = p.uppers upper
+  AboveIn (Missed branches row residual) = ⊤
 
-  good_verdict : (verdict : Verdict) → Good p (verdict_lines verdict)
-  good_verdict (Cost upper) = good_upper upper
-  good_verdict (Missed branches row residual) = good_append p (flat_map branch_line branches) (row_line row residual) (good_branches branches) (good_row p row residual)
+  good_verdict : (verdict : Verdict) → AboveIn verdict → Good p (verdict_lines verdict)
+  good_verdict (Cost upper) h = good_upper p upper h
+  good_verdict (Missed branches row residual) h = good_append p (flat_map branch_line branches) (row_line row residual) (good_branches branches) (good_row p row residual)
 
--- the report of a verdict is sound line by line where the bound of its pools is under the cost of each policy
-pub sound_verdict : (p : Sealed) (pools : List (List Cut)) (verdict : Verdict) → Under (problem_of p) (bound (problem_of p) pools) → SoundLines (problem_of p) (verdict_text p pools verdict)
+some_units : 0 < S
+unfolding S
+some_units = omega arith
+
+above_in : (p : Problem) (planes : ℕ → Cut → Type 0) (worsts : ℤ → Type 0) (pools : List (List Cut)) (verdict : Verdict) → IsTwoSided p pools verdict → AboveIn (claims_of p planes worsts) verdict
+above_in p planes worsts pools (Cost upper) h = (S, h.forest, some_units, h.policy, h.cost.above)
+above_in p planes worsts pools (Missed branches row residual) h = tt
+
+-- the report of a verdict is sound line by line where the bound of its pools is under the cost of each policy, and some policy costs what it says
+pub sound_verdict : (p : Sealed) (pools : List (List Cut)) (verdict : Verdict) → Under (problem_of p) (bound (problem_of p) pools) → IsTwoSided (problem_of p) pools verdict → SoundLines (problem_of p) (verdict_text p pools verdict)
 unfolding verdict_text
-sound_verdict p pools verdict u =
+sound_verdict p pools verdict u two =
     let q : Problem = problem_of p in
+    let c : Claims = claims_of q (λ m k. ⊥) (λ b. ⊥) in
     let front : List ℕ = head_text p.raw ++ verdict_lines verdict in
-    let good = good_append q front (bound_line (bound q pools)) (good_append q (head_text p.raw) (verdict_lines verdict) (good_head q p.raw) (good_verdict q verdict)) (good_bound q (bound q pools) u) in
-    subst (SoundLines q) (append-nil (front ++ bound_line (bound q pools))) (good [] (All-nil (SoundLine q)))
+    let good = good_append c front (bound_line (bound q pools)) (good_append c (head_text p.raw) (verdict_lines verdict) (good_head c p.raw) (good_verdict c verdict (above_in q (λ m k. ⊥) (λ b. ⊥) pools verdict two))) (good_bound c (bound q pools) u) in
+    subst (SoundLines q) (append-nil (front ++ bound_line (bound q pools))) (good [] (All-nil (Line c)))

@@ -11,5 +11,6 @@ pub mod Training
 pub mod Loading
 pub mod Listing
 pub mod OwnSolver
+pub mod Meant
 pub mod Run
 pub mod AnyStops

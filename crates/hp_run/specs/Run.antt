@@ -11,6 +11,7 @@ use Rattle.hp_accepts.specs.Plans.{Means, UnderPlans}
 use Rattle.hp_report.specs.Report.{word}
 use Rattle.hp_report.specs.SoundLines.{first_word, lines_of}
 use Rattle.hp_words.specs.Commands.{texts}
+use Rattle.hp_run.specs.Meant.{Meant}
 use Rattle.hp_run.specs.OwnSolver.{own_solver}
 use Rattle.hp_run.specs.Outcome.{ReadsJournal}
 use Rattle.hp_run.specs.Status.{memory_line, status_line_text}
@@ -58,6 +59,10 @@ pub record IsRun {Start Chain I D O : Type 0} (v : Solving Start Chain) (job : O
   pub cause : Explains v job (ends_of t old new) status
   -- which status comes where no device fails: the report, the first refusal, or want of memory
   pub complete : Completes v job (ends_of t old new) status
+  -- no policy of the problem file costs less than a bound that was written, some policy costs at most what stands behind `upper`, and each
+  -- cut holds at every state that can come to its node, in any fraction of a unit, over any disk and for every solver: in the file's own words
+  -- the policies of the file that `hydro` wrote are the described plans, at equal cost, and what `gen` wrote is a file
+  pub means : Meant job (ends_of t old new) status
   -- each cut and each bound in what was written hold for every decision tree and every policy, in any fraction of a unit, over any disk
   -- and for every solver; the problem of a description is the one that is defined, and like a generated one accepted
   pub sound : Sounds job (ends_of t old new) status

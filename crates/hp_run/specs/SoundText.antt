@@ -10,7 +10,7 @@ use Rattle.hp_theory.specs.Tree.{Forest, Policy}
 use Rattle.hp_theory.specs.View.{problem_of}
 use Rattle.hp_forward.specs.declared.traces.Trace.{Trace}
 use Rattle.hp_report.specs.Report.{base_text, check_text, train_text}
-use Rattle.hp_report.specs.SoundLines.{SoundLines}
+use Rattle.hp_report.specs.SoundLines.{Lines, claims_of}
 use Rattle.hp_report.specs.Traces.{trace_text}
 use Rattle.hp_tree.specs.declared.walking.Verdict.{Verdict}
 use Rattle.hp_tree.specs.declared.walking.Verdict.TheVariants.{Cost, Missed}
@@ -18,7 +18,7 @@ use Rattle.hp_tree.specs.Report.{verdict_text}
 use Rattle.hp_tree.specs.Upper.{IsUpper}
 use Rattle.hp_risk.specs.declared.alternatives.Alternatives.{Alternatives}
 use Rattle.hp_risk.specs.Alternatives.{alternatives_of}
-use Rattle.hp_risk.specs.RiskCost.{RiskSound, RiskUnder}
+use Rattle.hp_risk.specs.RiskCost.{RiskHolds, RiskSound, RiskUnder}
 use Rattle.hp_risk.specs.Report.{robust_text}
 use Rattle.hp_run.specs.declared.task.Task.{Task}
 use Rattle.hp_run.specs.declared.task.Task.TheVariants.{Base, Train, Check, Simulate, Validate, Evaluate, Robust}
@@ -56,9 +56,16 @@ pub record IsSoundReport (task : Task) (bytes : List ℕ) (p : Sealed) (pools : 
   pub cuts : Sound (problem_of p) pools
   pub bound : Under (problem_of p) (bound (problem_of p) pools)
 
+-- a plane holds, and a number is under the cost of each policy, where each node weighs by the worst of its lists, which the bytes bring
+abbrev pub PlaneHolds : List ℕ → Sealed → ℕ → Cut → Type 0
+PlaneHolds bytes p m c = (x : Alternatives) × (alternatives_of p bytes ≡ Ok x) × RiskHolds (problem_of p) x.lists m c
+
+abbrev pub WorstHolds : List ℕ → Sealed → ℤ → Type 0
+WorstHolds bytes p b = (x : Alternatives) × (alternatives_of p bytes ≡ Ok x) × RiskUnder (problem_of p) x.lists b
+
 -- The text is a report of the problem that the bytes give, and each line of it is sound: a line of a cut is of one that holds at its node,
--- and the number in a line of a bound or of an iteration is under the cost of each policy. So are the cuts and the bound of the pools that
--- it is the report of.
+-- the number in a line of a bound or of an iteration is under the cost of each policy, one behind `upper` above that of some, and planes
+-- and worst bounds hold for the lists of weights. So are the cuts and the bound of the pools that it is the report of.
 pub record SoundText (task : Task) (bytes text : List ℕ) : Type 0 where
   pub problem : Sealed
   pub pools : List (List Cut)
@@ -66,4 +73,4 @@ pub record SoundText (task : Task) (bytes text : List ℕ) : Type 0 where
   pub is : IsReport task bytes problem pools text
   pub cuts : Sound (problem_of problem) pools
   pub bound : Under (problem_of problem) (bound (problem_of problem) pools)
-  pub lines : SoundLines (problem_of problem) text
+  pub lines : Lines (claims_of (problem_of problem) (PlaneHolds bytes problem) (WorstHolds bytes problem)) text

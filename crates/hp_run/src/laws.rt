@@ -8,6 +8,7 @@ ghost use Rattle.hp_journal.specs.Mine.{Mine};
 ghost use Rattle.hp_lp.specs.Chained.{solving};
 ghost use Rattle.hp_train.specs.Training.{payloads};
 ghost use Rattle.hp_run.specs.AnyStops.{EndsAlike, IsAsked, Reachable, Trains, whole};
+ghost use Rattle.hp_run.specs.Meant.{DescribedFile};
 ghost use Rattle.hp_run.specs.Outcome.{WithBase};
 ghost use Rattle.hp_run.specs.Run.{Devices, PlanLines, telling};
 ghost use Rattle.hp_run.specs.SoundText.{SoundText};
@@ -22,6 +23,13 @@ use hp_solver::Solver;
 pub fn bounds_of_plans()
     ensures { (task : Task) (description problem text : List ℕ)
         → hydro_at description ≡ Ok problem → SoundText task problem text → PlanLines description text }
+{}
+
+/// What `hydro` writes for a description is a problem file whose policies are the workable plans for what is described:
+/// each comes with one of the other that costs the same.
+pub fn described_file()
+    ensures { (description text : List ℕ)
+        → hydro_at description ≡ Ok text → DescribedFile description text }
 {}
 
 /// Training that is stopped any number of times, each time at any moment, and begun again by the same words, ends as the

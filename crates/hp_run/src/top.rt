@@ -4,6 +4,7 @@ ghost use Rattle.hp_outside.specs.Disks.{Stays};
 ghost use Rattle.hp_lp.specs.Chained.{solving};
 ghost use Rattle.hp_run.specs.Causes.{Completes, Explains, ExplainsTask, Sounds, ends, writes_nothing};
 ghost use Rattle.hp_run.specs.Journals.{Grows, IsResumed, LeavesMine, OfTask, OnlyReads, TaskOnlyReads, precedes_journal};
+ghost use Rattle.hp_run.specs.Meant.{Meant};
 ghost use Rattle.hp_run.specs.Outcome.{ReadsJournal};
 ghost use Rattle.hp_run.specs.OwnSolver.{own_solver};
 ghost use Rattle.hp_run.specs.Run.{Describes, IsRun, devices, telling};
@@ -89,6 +90,7 @@ fn acted<R: Threads + Sync, I: Source, D: Disk, O: Sink, V: Solver>(
     ensures cause { Explains (solving (V.started solver.now) (V.begun solver.now) (V.next solver.now)) (asked words.now) (ends I.left I.faults D.store D.faults O.taken O.faults problem.old problem.new journal.old journal.new out.old out.new) result }
     ensures complete { Completes (solving (V.started solver.now) (V.begun solver.now) (V.next solver.now)) (asked words.now) (ends I.left I.faults D.store D.faults O.taken O.faults problem.old problem.new journal.old journal.new out.old out.new) result }
     ensures sound { Sounds (asked words.now) (ends I.left I.faults D.store D.faults O.taken O.faults problem.old problem.new journal.old journal.new out.old out.new) result }
+    ensures means { Meant (asked words.now) (ends I.left I.faults D.store D.faults O.taken O.faults problem.old problem.new journal.old journal.new out.old out.new) result }
     ensures described { Describes (asked words.now) (ends I.left I.faults D.store D.faults O.taken O.faults problem.old problem.new journal.old journal.new out.old out.new) result }
     ensures unwritten { writes_nothing result ≡ true → out.new ≡ out.old }
     ensures unread { reads_problem (asked words.now) ≡ false → problem.new ≡ problem.old }

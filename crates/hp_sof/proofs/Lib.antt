@@ -3,3 +3,10 @@ pub mod RootFits
 pub mod NodesFit
 pub mod ScenariosFit
 pub mod ReadFits
+pub mod FileWeights
+pub mod FileFound
+pub mod FileLinks
+pub mod FileRealizations
+pub mod FileNodes
+pub mod FileRoot
+pub mod FileWhole

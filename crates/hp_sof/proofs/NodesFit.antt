@@ -206,10 +206,13 @@ node_at-adds names subproblems found next n k d e =
     let same = (key_at-name _ k name is_name_of).0 in
     ap (λ (ns : List Node). map (λ (n : Node). n.name) ns) (sym (Ok-is _ next e)) ∙ map-append (λ (n : Node). n.name) found _ ∙ ap (λ n. map (λ (n : Node). n.name) found ++ n ∷ []) (sym same)))))))))))
 
+-- the names of the nodes are the keys
+pub nodes_at-names : (names : List (List ℕ)) (subproblems : SubproblemTable) (ms : Members) (nodes : List Node) → nodes_at names subproblems ms ≡ Ok nodes → map (λ (n : Node). n.name) nodes ≡ keys_of ms
+unfolding nodes_at
+nodes_at-names names subproblems ms nodes e =
+    walk_members-adds (λ (ns : List Node). map (λ (n : Node). n.name) ns) (node_at names subproblems) (λ found next n k d e. node_at-adds names subproblems found next n k d e) ms [] nodes 0 e
+
 -- the nodes stand in the order of their names
 pub nodes_at-rise : (names : List (List ℕ)) (subproblems : SubproblemTable) (ms : Members) (nodes : List Node) → RisingMembers ms → nodes_at names subproblems ms ≡ Ok nodes → rises (λ (a b : Node). is_before a.name b.name) nodes ≡ true
-unfolding nodes_at
 nodes_at-rise names subproblems ms nodes rising e =
-    let named : map (λ (n : Node). n.name) nodes ≡ keys_of ms =
-    walk_members-adds (λ (ns : List Node). map (λ (n : Node). n.name) ns) (node_at names subproblems) (λ found next n k d e. node_at-adds names subproblems found next n k d e) ms [] nodes 0 e in
-    sym (rises-map (λ (n : Node). n.name) is_before nodes) ∙ ap (rises is_before) named ∙ rises-sorted (keys_of ms) (keys-sorted ms rising)
+    sym (rises-map (λ (n : Node). n.name) is_before nodes) ∙ ap (rises is_before) (nodes_at-names names subproblems ms nodes e) ∙ rises-sorted (keys_of ms) (keys-sorted ms rising)

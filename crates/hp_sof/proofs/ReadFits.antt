@@ -67,7 +67,7 @@ record TablesFit (t : Tables) : Type 0 where
   few_subproblems : nat_le (members_len t.subproblems) 1000 ≡ true
   few_scenarios : nat_le (items_len t.scenarios) 1000 ≡ true
 
-table_at-rising : (k : List ℕ) (d : Data) (ms : Members) → Rising d → table_at k d ≡ Ok ms → RisingMembers ms
+pub table_at-rising : (k : List ℕ) (d : Data) (ms : Members) → Rising d → table_at k d ≡ Ok ms → RisingMembers ms
 unfolding table_at
 table_at-rising k d ms rising e = then-Ok (present_at _ _) _ ms e (λ inner is e. object_at-rising whole inner ms (present_at-rising whole _ inner (get-rising k d rising) is) e)
 

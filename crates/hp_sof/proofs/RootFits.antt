@@ -61,12 +61,15 @@ state_at-adds found next i k d e =
     let same = (key_at-name _ k name is_name_of).0 in
     ap (λ (ss : List State). map (λ (s : State). s.name) ss) (sym (Ok-is _ next e)) ∙ map-append (λ (s : State). s.name) found _ ∙ ap (λ n. map (λ (s : State). s.name) found ++ n ∷ []) (sym same)))
 
+-- the names of the states are the keys
+pub states_at-names : (ms : Members) (states : List State) → states_at ms ≡ Ok states → map (λ (s : State). s.name) states ≡ keys_of ms
+unfolding states_at
+states_at-names ms states e = walk_members-adds (λ (ss : List State). map (λ (s : State). s.name) ss) state_at (λ found next i k d e. state_at-adds found next i k d e) ms [] states 0 e
+
 -- the states stand in the order of their names
 states_at-rise : (ms : Members) (states : List State) → RisingMembers ms → states_at ms ≡ Ok states → rises (λ (a b : State). is_before a.name b.name) states ≡ true
-unfolding states_at
 states_at-rise ms states rising e =
-    let named : map (λ (s : State). s.name) states ≡ keys_of ms = walk_members-adds (λ (ss : List State). map (λ (s : State). s.name) ss) state_at (λ found next i k d e. state_at-adds found next i k d e) ms [] states 0 e in
-    sym (rises-map (λ (s : State). s.name) is_before states) ∙ ap (rises is_before) named ∙ rises-sorted (keys_of ms) (keys-sorted ms rising)
+    sym (rises-map (λ (s : State). s.name) is_before states) ∙ ap (rises is_before) (states_at-names ms states e) ∙ rises-sorted (keys_of ms) (keys-sorted ms rising)
 
 counts_at-Ok : (p : Place) (states successors : ℕ) (x : Unit {0}) → counts_at p states successors ≡ Ok x → ((successors == 0) ≡ false) × (nat_le states 50 ≡ true)
 unfolding counts_at

@@ -11,3 +11,4 @@ pub mod Shown
 pub mod Subproblems
 pub mod Read
 pub mod Problem
+pub mod Said

@@ -1,6 +1,7 @@
 //! Reads a problem from JSON in a profile of StochOptFormat, the file format of stochastic programs on a policy graph.
 #![tactic(auto)]
 
+pub mod laws;
 mod nodes;
 mod problem;
 mod read;

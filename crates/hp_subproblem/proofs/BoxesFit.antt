@@ -23,7 +23,7 @@ use Rattle.hp_subproblem.proofs.RowsFit.{entry-small}
 
 -- ---- one decision
 
-bound_at-Ok : (at : Place) (o : Option ℤ) (z : ℤ) → bound_at at o ≡ Ok z → o ≡ Some z
+pub bound_at-Ok : (at : Place) (o : Option ℤ) (z : ℤ) → bound_at at o ≡ Ok z → o ≡ Some z
 unfolding bound_at
 bound_at-Ok at None z e = cc
 bound_at-Ok at (Some y) z e = ap Some (Ok-is y z e)

@@ -30,7 +30,7 @@ use Rattle.hp_fields.proofs.Distinct.{name_of, are_distinct-true, are_distinct-m
 use Rattle.hp_subproblem.proofs.NamesDiffer.{all-differ}
 use Rattle.hp_subproblem.proofs.BoxesFit.{BoxesFit, bounds-fit, boxes_at-fit, lows_of-bounds, highs_of-bounds}
 
-few_rows_at-Ok : (p : ℕ) (all found : Constraints) → few_rows_at p all ≡ Ok found → (all ≡ found) × (nat_le (length all.rows) 200 ≡ true)
+pub few_rows_at-Ok : (p : ℕ) (all found : Constraints) → few_rows_at p all ≡ Ok found → (all ≡ found) × (nat_le (length all.rows) 200 ≡ true)
 unfolding few_rows_at
 few_rows_at-Ok p all found e = let parts = test-Ok (nat_le (length all.rows) 200) _ _ _ found e in (Ok-is all found parts.1, parts.0)
 

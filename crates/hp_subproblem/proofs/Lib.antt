@@ -9,3 +9,15 @@ pub mod UsesFit
 pub mod BoxesFit
 pub mod NamesDiffer
 pub mod Fits
+pub mod FileSays
+pub mod FileEach
+pub mod FileTerms
+pub mod FileFunctions
+pub mod FileSplit
+pub mod FileRows
+pub mod FileSets
+pub mod FileKept
+pub mod FileConstraints
+pub mod FileBoxes
+pub mod FileFilled
+pub mod FileStage

@@ -14,7 +14,7 @@ use Rattle.hp_subproblem.proofs.UsesFit.{HasRole}
 -- ---- the numbers of the decisions
 
 -- each is at least the first variable's
-decisions_from-above : (k : ℕ) (roles : List Role) → AllByRecursion (λ w. k ≤ w) (decisions_from k roles)
+pub decisions_from-above : (k : ℕ) (roles : List Role) → AllByRecursion (λ w. k ≤ w) (decisions_from k roles)
 decisions_from-above k [] = tt
 decisions_from-above k (r ∷ rs) = by (is_decision r) (each-weaker (λ w. k + 1 ≤ w) (λ w. k ≤ w) (decisions_from (k + 1) rs) (λ w h. omega (arith, h)) (decisions_from-above (k + 1) rs))
   where
@@ -22,7 +22,7 @@ decisions_from-above k (r ∷ rs) = by (is_decision r) (each-weaker (λ w. k + 1
     by true more = (omega arith, more)
     by false more = more
 
-decisions_from-below : (k n : ℕ) (roles : List Role) → k + length roles ≤ n → AllByRecursion (λ w. w < n) (decisions_from k roles)
+pub decisions_from-below : (k n : ℕ) (roles : List Role) → k + length roles ≤ n → AllByRecursion (λ w. w < n) (decisions_from k roles)
 decisions_from-below k n [] within = tt
 decisions_from-below k n (r ∷ rs) within = by (is_decision r) (decisions_from-below (k + 1) n rs (omega (arith, within)))
   where
@@ -33,7 +33,7 @@ decisions_from-below k n (r ∷ rs) within = by (is_decision r) (decisions_from-
 later : (k : ℕ) (rs : List Role) → AllByRecursion (λ w. (k == w) ≡ false) (decisions_from (k + 1) rs)
 later k rs = each-weaker (λ w. k + 1 ≤ w) (λ w. (k == w) ≡ false) (decisions_from (k + 1) rs) (λ w h. ne_eqb k w (λ e. omega (arith, h, e))) (decisions_from-above (k + 1) rs)
 
-decisions_from-differ : (k : ℕ) (roles : List Role) → IsDistinct (λ a b. a == b) (decisions_from k roles)
+pub decisions_from-differ : (k : ℕ) (roles : List Role) → IsDistinct (λ a b. a == b) (decisions_from k roles)
 unfolding IsDistinct
 decisions_from-differ k [] = tt
 decisions_from-differ k (r ∷ rs) = by (is_decision r) (decisions_from-differ (k + 1) rs)

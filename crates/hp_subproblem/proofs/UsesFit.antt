@@ -68,7 +68,7 @@ set_there [] i x y e = cc
 set_there (z ∷ zs) zero x y e = refl
 set_there (z ∷ zs) (suc i) x y e = set_there zs i x y e
 
-free_is : (o : Option Role) → is_free o ≡ true → o ≡ Some Free
+pub free_is : (o : Option Role) → is_free o ≡ true → o ≡ Some Free
 free_is None e = cc
 free_is (Some Free) e = refl
 free_is (Some Incoming) e = cc
@@ -220,7 +220,7 @@ place_from_any test (x ∷ xs) h = by (test x) h (place_from_any test xs)
     by true h rest = omega arith
     by false h rest = omega (arith, rest h)
 
-number_of-within : (decisions : List ℕ) (v : ℕ) → list_any (λ w. w == v) decisions ≡ true → number_of decisions v < length decisions
+pub number_of-within : (decisions : List ℕ) (v : ℕ) → list_any (λ w. w == v) decisions ≡ true → number_of decisions v < length decisions
 unfolding number_of
 number_of-within decisions v any =
     let place = position_or_len (λ w. w == v) decisions in
@@ -229,7 +229,7 @@ number_of-within decisions v any =
     subst (λ o. unwrap_or o (length decisions) < length decisions) (sym found) within
 
 -- the variable is among the decisions, where the first role is that of variable k
-outgoing_decides : (roles : List Role) (k v j : ℕ) → k + v ≡ j → HasRole roles Outgoing v → list_any (λ w. w == j) (decisions_from k roles) ≡ true
+pub outgoing_decides : (roles : List Role) (k v j : ℕ) → k + v ≡ j → HasRole roles Outgoing v → list_any (λ w. w == j) (decisions_from k roles) ≡ true
 outgoing_decides [] k v j is out = cc
 outgoing_decides (r ∷ rs) k zero j is out =
     subst (λ r. list_any (λ w. w == j) (decisions_from k (r ∷ rs)) ≡ true) (sym (same_Some r Outgoing out)) (or_left (k == j) (list_any (λ w. w == j) (decisions_from (k + 1) rs)) (eq-eqb k j (omega arith)))
@@ -251,7 +251,7 @@ outs_of-within roles (v ∷ vs) all =
     and_from (nat_lt (number_of decisions v) (length decisions)) (list_all (λ o. nat_lt o (length decisions)) (map (number_of decisions) vs)) (lt-ltb (number_of decisions v) (length decisions) within) (outs_of-within roles vs all.1)
 
 -- the decision that has the number of the variable is the variable
-number_of-back : (decisions : List ℕ) (v : ℕ) → list_any (λ w. w == v) decisions ≡ true → get_or decisions (number_of decisions v) 0 ≡ v
+pub number_of-back : (decisions : List ℕ) (v : ℕ) → list_any (λ w. w == v) decisions ≡ true → get_or decisions (number_of decisions v) 0 ≡ v
 unfolding number_of
 number_of-back decisions v any =
     let place = position_or_len (λ w. w == v) decisions in
@@ -284,6 +284,7 @@ pub record VariablesFit (states : ℕ) (vars : Variables) : Type 0 where
   pub incoming : length vars.uses.incoming ≡ states
   pub incoming_roles : AllByRecursion (HasRole vars.uses.roles Incoming) vars.uses.incoming
   pub outgoing : length vars.uses.outgoing ≡ states
+  pub outgoing_roles : AllByRecursion (HasRole vars.uses.roles Outgoing) vars.uses.outgoing
   pub randoms : length vars.uses.randoms ≡ length vars.uses.names
   pub few_randoms : nat_le (length vars.uses.names) 50 ≡ true
   pub randoms_named : vars.uses.names ≡ map (name_of vars.names) vars.uses.randoms
@@ -313,6 +314,7 @@ variables_at-fit states p stage vars e =
       incoming = u.incoming;
       incoming_roles = u.incoming_roles;
       outgoing = u.outgoing;
+      outgoing_roles = u.outgoing_roles;
       randoms = sym as_many;
       few_randoms = rw (as_many ∙ u.randoms_used) all.1;
       randoms_named = u.randoms_named;

@@ -12,3 +12,4 @@ pub mod Boxes
 pub mod StageParts
 pub mod Shown
 pub mod Subproblem
+pub mod Said

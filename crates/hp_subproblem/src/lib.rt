@@ -5,6 +5,7 @@ mod boxes;
 mod constraint;
 mod decisions;
 mod function;
+pub mod laws;
 mod objective;
 mod randoms;
 mod role;

@@ -1,6 +1,7 @@
 use Rattle.hp_run.specs.Words.{asked}
 use Rattle.hp_run.proofs.ResumedRuns.{asked_within, resumes}
 use Rattle.hp_run.proofs.Plans.{describes}
+use Rattle.hp_run.proofs.Meant.{meant}
 use Rattle.hp_run.proofs.Reports.{completes}
 use Rattle.hp_run.proofs.top.acted.Goals as goal
 
@@ -12,3 +13,6 @@ returns-clause-resumed g c = resumes _ (asked c.args.words.now) _ _ (g.D.Disk.st
 
 pub returns-clause-described : goal.returns-clause-described
 returns-clause-described g c = describes _ (asked c.args.words.now) _ _ c.act.ensures.cause
+
+pub returns-clause-means : goal.returns-clause-means
+returns-clause-means g c = meant _ (asked c.args.words.now) _ _ c.act.ensures.cause

@@ -1,0 +1,2 @@
+pub mod WorkedStages
+pub mod WorkedFiles

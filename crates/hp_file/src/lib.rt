@@ -1,0 +1,4 @@
+//! What a problem file says, by the names that stand in it.
+#![tactic(auto)]
+
+pub mod worked;

@@ -1,0 +1,11 @@
+pub mod Reading
+pub mod Names
+pub mod Sides
+pub mod Stages
+pub mod SameStages
+pub mod Nodes
+pub mod Policies
+pub mod Every
+pub mod Bounds
+pub mod WorkedPolicies
+pub mod Same

@@ -1,0 +1,5 @@
+//! What a problem file means.
+#![tactic(auto)]
+
+pub mod laws;
+pub mod worked;
