@@ -3,12 +3,14 @@ from __future__ import annotations
 
 import os
 import sys
+from contextlib import contextmanager
+from contextvars import ContextVar
 from dataclasses import dataclass
 from functools import lru_cache
 from types import FrameType
-from typing import Optional
+from typing import Iterator, Optional
 
-from hydroplan_tools.cursor import Refused
+from .tools.cursor import Refused
 
 PACKAGE = os.path.dirname(os.path.abspath(__file__))
 
@@ -24,6 +26,24 @@ class CodePlace:
         return f"{self.file}:{self.line}"
 
 
+_given: "ContextVar[Optional[CodePlace]]" = ContextVar("given", default=None)
+
+
+@contextmanager
+def standing_at(place: CodePlace) -> Iterator[None]:
+    """Whatever is made within this context stands at a place, such as a line of a study, and not at a line of code."""
+    before = _given.set(place)
+    try:
+        yield
+    finally:
+        _given.reset(before)
+
+
+def given_place() -> Optional[CodePlace]:
+    """The place of `standing_at`, none where lines of code count."""
+    return _given.get()
+
+
 @lru_cache(maxsize=None)
 def _is_ours(file: str) -> bool:
     return os.path.abspath(file).startswith(PACKAGE + os.sep)
@@ -31,6 +51,9 @@ def _is_ours(file: str) -> bool:
 
 def users_line() -> CodePlace:
     """The line that called into this package: the nearest one that stands outside."""
+    given = given_place()
+    if given is not None:
+        return given
     frame: Optional[FrameType] = sys._getframe(1)
     while frame is not None and _is_ours(frame.f_code.co_filename):
         frame = frame.f_back

@@ -6,13 +6,13 @@ import select
 import shutil
 import subprocess
 import tempfile
-from dataclasses import dataclass
+from dataclasses import dataclass, replace
 from pathlib import Path
 from types import TracebackType
-from typing import Optional, Sequence, Type, Union
+from typing import BinaryIO, Optional, Sequence, Type, Union
 
-from ._tools import TOP
 from .errors import ProgramMissing
+from .repository import TOP
 
 # how long processes that a run started may go on behind its end
 LAST_SECONDS = 10
@@ -76,6 +76,10 @@ class Running:
         os.close(self._left)
         self._folder.cleanup()
 
+    def clear(self) -> None:
+        """Gives up the room that the report takes; the run has to be over."""
+        self._output.write_bytes(b"")
+
     def wait(self, seconds: Optional[float] = None) -> bool:
         """Waits for so many seconds at most; whether the run has ended."""
         try:
@@ -96,8 +100,15 @@ class Running:
 
     def ended(self) -> Ended:
         """How the run ended; it has to be over."""
-        output, errors = (path.read_bytes().decode("utf-8", "replace") for path in (self._output, self._errors))
-        return Ended(self._process.returncode, output, errors)
+        return replace(self.outcome(), output=self._output.read_bytes().decode("utf-8", "replace"))
+
+    def outcome(self) -> Ended:
+        """How the run ended, without its report; it has to be over."""
+        return Ended(self._process.returncode, "", self._errors.read_bytes().decode("utf-8", "replace"))
+
+    def report(self) -> BinaryIO:
+        """The report that was written so far, as a file to be read: it may be long. It is there until the context is left."""
+        return self._output.open("rb")
 
 
 def run(program: Path, words: Sequence[str], problem: bytes) -> Ended:

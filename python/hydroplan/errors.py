@@ -3,7 +3,7 @@ from __future__ import annotations
 
 from typing import Mapping, Optional, Sequence
 
-from hydroplan_tools.shown_names import shown_name
+from .tools.shown_names import shown_name
 
 
 class HydroplanError(Exception):

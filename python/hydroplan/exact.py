@@ -8,10 +8,9 @@ from decimal import Decimal
 from fractions import Fraction
 from typing import SupportsIndex, Union
 
-from hydroplan_tools.decimals import decimal_text
-from hydroplan_tools.profile import MOST_WEIGHT
-
 from .errors import ModelError
+from .tools.decimals import decimal_text
+from .tools.profile import MOST_WEIGHT
 
 Number = Union[int, float, str, Decimal, Fraction, SupportsIndex]
 

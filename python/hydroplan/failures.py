@@ -5,19 +5,18 @@ import re
 from fractions import Fraction
 from typing import Dict, List, Optional, Tuple, Type
 
-from hydroplan_tools.cursor import Cursor, Refused
-from hydroplan_tools.explain_command import NO_STAGE, explain_line
-from hydroplan_tools.located_json import byte_order, parse
-from hydroplan_tools.places import Refusal, locate, read_refusal
-from hydroplan_tools.profile import SCALE
-from hydroplan_tools.status_lines import IN_WORDS
-
 from .core import Ended
 from .errors import (
     JournalDeviceFailed, JournalRefused, NoStageSolution, OutOfMemory, OutOfRange, OutputFailed, ProblemRefused, ProblemTooLong,
     ProblemUnreadable, ProgramKilled, ProgramNotRun, RunFailed, TooMuch, WordsRefused,
 )
 from .programs import Compiled
+from .tools.cursor import Cursor, Refused
+from .tools.explain_command import NO_STAGE, explain_line
+from .tools.located_json import byte_order, parse
+from .tools.places import Refusal, locate, read_refusal
+from .tools.profile import SCALE
+from .tools.status_lines import IN_WORDS
 
 PLAIN: Dict[int, Type[RunFailed]] = {
     1: ProgramNotRun, 2: WordsRefused, 3: ProblemUnreadable, 4: ProblemTooLong, 8: OutOfRange, 10: JournalDeviceFailed, 11: OutputFailed,

@@ -4,9 +4,8 @@ from __future__ import annotations
 import json
 from functools import lru_cache
 
-from hydroplan_tools.limits import MOST_ITERATIONS, MOST_SIMULATIONS, Extent, extent_of
-
 from .programs import Compiled
+from .tools.limits import MOST_ITERATIONS, MOST_SIMULATIONS, Extent, extent_of
 
 __all__ = ["MOST_ITERATIONS", "MOST_SIMULATIONS", "Extent", "sizes"]
 

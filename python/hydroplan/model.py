@@ -129,7 +129,7 @@ class Model:
     def compile(
         self, resolution: Resolution = None, *, successor_total: int = 1, largest: int = 10**9, tolerance: Number = "0.001",
     ) -> Compiled:
-        """The problem in whole numbers, as `tools/convert` makes it of `to_stochopt`. `Program.compile` says what may be chosen."""
+        """The problem in whole numbers, as `./hydroplan convert` makes it of `to_stochopt`. `Program.compile` says what may be chosen."""
         return self.program().compile(resolution, successor_total=successor_total, largest=largest, tolerance=tolerance)
 
     def to_stochopt(self) -> str:

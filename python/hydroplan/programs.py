@@ -1,6 +1,6 @@
 """A stochastic program in the form that files and Python share, and the problem in whole numbers that it is compiled to.
 
-One code compiles both: the steps of `tools/convert`. What they refuse is told with the part's name and line.
+One code compiles both: the steps of `./hydroplan convert`. What they refuse is told with the part's name and line.
 """
 from __future__ import annotations
 
@@ -10,18 +10,17 @@ from os import PathLike
 from pathlib import Path
 from typing import Dict, List, Mapping, Optional, Tuple, Union
 
-from hydroplan_tools.compiling import Options, compile_model, ledger_lines, problem_text
-from hydroplan_tools.converting import Bounds
-from hydroplan_tools.cursor import Cursor, Refused
-from hydroplan_tools.likeness import unknown_word
-from hydroplan_tools.located_json import NotJson, byte_order, parse
-from hydroplan_tools.model import Model as SharedModel, Quantity
-from hydroplan_tools.scales import Scales, SubproblemScales, write_scales
-from hydroplan_tools.stochopt import read_model
-
 from .errors import ModelError, ModelRefused
 from .exact import Number, exact, text_of
 from .stochopt_writer import stochopt_text
+from .tools.compiling import Options, compile_model, ledger_lines, problem_text
+from .tools.converting import Bounds
+from .tools.cursor import Cursor, Refused
+from .tools.likeness import unknown_word
+from .tools.located_json import NotJson, byte_order, parse
+from .tools.model import Model as SharedModel, Quantity
+from .tools.scales import Scales, SubproblemScales, write_scales
+from .tools.stochopt import read_model
 
 Resolution = Union[Number, Mapping[str, Number], None]
 Sides = Tuple[Optional[Number], Optional[Number]]
@@ -69,7 +68,7 @@ class Compiled:
         return [constraints[at].name or f"#{number}" for number, at in enumerate(rows)]
 
     def write(self, problem: Union[str, PathLike[str]], scales: Union[str, PathLike[str], None] = None) -> None:
-        """Writes the problem to a file, and the scales to another that `tools/convert back` and `tools/watch` read."""
+        """Writes the problem to a file, and the scales to another that `./hydroplan convert back` and `./hydroplan watch` read."""
         Path(problem).write_bytes(self.problem)
         if scales is not None:
             Path(scales).write_text(write_scales(self.scales), encoding="utf-8")
@@ -104,9 +103,9 @@ class Program:
         return Compiled(data, found.scales, tuple(ledger_lines(found.ledger)), found.model)
 
     def to_stochopt(self) -> str:
-        """The program as a file of StochOptFormat 1.0, which `tools/convert` and other tools read.
+        """The program as a file of StochOptFormat 1.0, which `./hydroplan convert` and other tools read.
 
-        Fractions without an end, as 1/3, are written with 60 digits, which `tools/convert` takes for the fraction again.
+        Fractions without an end, as 1/3, are written with 60 digits, which `./hydroplan convert` takes for the fraction again.
         """
         return stochopt_text(self.shared)
 

@@ -7,7 +7,9 @@ from dataclasses import dataclass
 from pathlib import Path
 from typing import Callable, List, Optional, TextIO, Union
 
-from hydroplan_tools.watching import clock_text, run_check
+from .tools.watching import clock_text, run_check
+
+from .results import GapCheck
 
 EVERY = 1.0
 HEADING = f"{'time':>9} {'iteration':>9} {'bound':>22} {'moved':>16} {'unanswered':>10}"
@@ -17,7 +19,8 @@ HEADING = f"{'time':>9} {'iteration':>9} {'bound':>22} {'moved':>16} {'unanswere
 class Progress:
     """What is known of a training that goes on: the last iteration, its bound and by how much that moved since the report before.
 
-    Money is in the user's units. `unanswered` counts solves whose answer was of no use.
+    Money is in the user's units. `unanswered` counts solves whose answer was of no use. `compared` is the comparison with fresh scenarios that
+    has just ended; a report that has one is of an iteration that was reported already, perhaps.
     """
 
     iteration: int
@@ -25,6 +28,7 @@ class Progress:
     moved: float
     seconds: float
     unanswered: int
+    compared: Optional[GapCheck] = None
 
 
 Callback = Callable[[Progress], None]
@@ -39,6 +43,9 @@ class ProgressPrinter:
 
     def __call__(self, progress: Progress) -> None:
         stream = self._stream or sys.stderr
+        if progress.compared is not None:
+            print(self._comparison(progress.seconds, progress.compared), file=stream, flush=True)
+            return
         if not self._begun:
             print(HEADING, file=stream)
             self._begun = True
@@ -46,6 +53,12 @@ class ProgressPrinter:
             f"{clock_text(progress.seconds):>9} {progress.iteration:>9} {progress.bound:>22.6f} {progress.moved:>16.6f}"
             f" {progress.unanswered:>10}", file=stream, flush=True,
         )
+
+
+    def _comparison(self, seconds: float, it: GapCheck) -> str:
+        """A line on a comparison."""
+        words = f"{it.scenarios} scenarios: mean {it.mean:.6f}, half-width {it.half_width:.6f}, gap {it.gap:.6f}"
+        return f"{clock_text(seconds):>9} {it.iteration:>9} {words}"
 
 
 def callback_of(progress: Union[bool, Callback]) -> Optional[Callback]:
@@ -96,6 +109,14 @@ class Watcher:
         self._last = Progress(iteration, bound, moved, time.monotonic() - self._begun, unanswered)
         self._next = time.monotonic() + EVERY
         self._report(self._last)
+
+    def tell_comparison(self, compared: GapCheck) -> None:
+        """Reports a comparison that has ended."""
+        if self._report is None:
+            return
+        last, seconds = self._last, time.monotonic() - self._begun
+        unanswered = last.unanswered if last is not None else 0
+        self._report(Progress(compared.iteration, compared.bound, 0.0, seconds, unanswered, compared))
 
     def is_due(self) -> bool:
         """Whether so much time went by since the last report that another may come."""

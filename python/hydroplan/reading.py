@@ -4,13 +4,12 @@ from __future__ import annotations
 from fractions import Fraction
 from typing import Dict, List, Optional, Tuple
 
-from hydroplan_tools.back import Back
-from hydroplan_tools.profile import SCALE
-from hydroplan_tools.reports import Cut as ReportCut, Report, read_report
-
 from .exact import at_least, at_most
 from .programs import Compiled
 from .results import Check, Cut, Evaluation, MissedRow, Robust, Simulation
+from .tools.back import Back
+from .tools.profile import SCALE
+from .tools.reports import Cut as ReportCut, Report, read_report
 from .traces import scenarios_of
 
 

@@ -8,12 +8,11 @@ from pathlib import Path
 from statistics import NormalDist, fmean, stdev
 from typing import Any, Dict, List, Mapping, Optional, Sequence, Tuple
 
-from hydroplan_tools.reports import Cut as ReportCut
-from hydroplan_tools.series import Active
-
 from .errors import ModelError
 from .exact import Number, at_least, at_most, exact
 from .tables import package
+from .tools.reports import Cut as ReportCut
+from .tools.series import Active
 
 
 def half_width(costs: Sequence[float], confidence: float) -> float:

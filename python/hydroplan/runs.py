@@ -21,7 +21,7 @@ from .progress import Callback, Progress, ProgressPrinter, callback_of
 from .reading import check_of, evaluation_of, robust_of, simulation_of
 from .results import Check, Cut, Evaluation, GapCheck, MissedRow, Robust, Scenario, Simulation, StageOutcome, Training, TrainingRow
 from .stopping import BoundStalling, IterationLimit, Statistical, StopRule, TimeLimit, checked
-from .training import TrainingRun
+from .training import TrainWords, TrainingRun
 
 __all__ = [
     "BoundStalling", "Check", "Cut", "Evaluation", "GapCheck", "HydroplanError", "IterationLimit", "JournalDeviceFailed",
@@ -38,6 +38,7 @@ MOST_BATCH = 64
 def train(
     compiled: Compiled, journal: Place, *, seed: int, iterations: Optional[int] = None, batch: Optional[int] = None,
     stop: Union[StopRule, Sequence[StopRule]] = (), progress: Union[bool, Callback] = True, program: Optional[Place] = None,
+    shared: Sequence[str] = (),
 ) -> Training:
     """Trains until the journal has so many `iterations` in all, or until one of the rules of `stop` holds.
 
@@ -45,6 +46,7 @@ def train(
     `batch` is the number of paths of an iteration, 1 to 64, 1 where it is not given. Where neither `iterations` nor an
     IterationLimit is given, training goes on to the most iterations that the problem's size allows.
     `progress` is called about once a second with a Progress; True writes lines on standard error, False writes none.
+    `shared` are words by which the script `hydroplan` shares the work, as in `["--workers", "4"]`.
 
     An interrupt from the keyboard ends the program and raises TrainingInterrupted; the journal keeps whole iterations.
     """
@@ -56,7 +58,8 @@ def train(
     if not rules:
         raise ValueError("train needs iterations, or a rule of when to stop, as in train(.., iterations=100)")
     found = TrainingRun(
-        compiled, Path(journal), _whole(seed, "a seed", 0, MOST_SEED), batch, checked(rules), find_program(program), callback_of(progress),
+        compiled, Path(journal), TrainWords(_whole(seed, "a seed", 0, MOST_SEED), batch, shared), checked(rules), find_program(program),
+        callback_of(progress),
     )
     return found.run()
 

@@ -4,16 +4,15 @@ from __future__ import annotations
 from fractions import Fraction
 from typing import TYPE_CHECKING, Dict, Iterable, List, Optional, Sequence
 
-from hydroplan_tools import model as shared
-from hydroplan_tools.likeness import unknown_word
-from hydroplan_tools.located_json import byte_order
-from hydroplan_tools.stochopt import find_cycle
-
 from .code_places import CodeOrigin
 from .errors import ModelError, Unbounded
 from .exact import text_of
 from .expressions import Expression, Variable
 from .stages import Constraint, Stage
+from .tools import model as shared
+from .tools.likeness import unknown_word
+from .tools.located_json import byte_order
+from .tools.stochopt import find_cycle
 
 if TYPE_CHECKING:
     from .model import Model, Node

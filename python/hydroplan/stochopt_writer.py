@@ -4,8 +4,8 @@ from __future__ import annotations
 import json
 from typing import Any, Dict, List
 
-from hydroplan_tools.model import Constraint, Function, Model, Node, Quantity, Realization, Step, Subproblem
-from hydroplan_tools.profile import SETS
+from .tools.model import Constraint, Function, Model, Node, Quantity, Realization, Step, Subproblem
+from .tools.profile import SETS
 
 MATHOPT_VERSION = {"major": 1, "minor": 2}
 

@@ -9,10 +9,9 @@ from dataclasses import dataclass, field
 from fractions import Fraction
 from typing import Dict, Iterable, Iterator, List, Tuple
 
-from hydroplan_tools.profile import SCALE
-
 from .programs import Compiled
 from .results import Scenario, StageOutcome
+from .tools.profile import SCALE
 
 Ratio = Tuple[int, int]
 
@@ -23,7 +22,7 @@ def ratio(scale: Fraction, unit: int = SCALE) -> Ratio:
 
 
 @dataclass
-class _Node:
+class NodeOfReport:
     """The names and scales of a node; `ratios` has each name, as it is spelt in the report, with what its numbers are turned by."""
 
     name: str
@@ -36,11 +35,11 @@ class _Node:
         return name, int(number) * factor / divisor
 
 
-def _node(compiled: Compiled, name: str) -> _Node:
+def node_of_report(compiled: Compiled, name: str) -> NodeOfReport:
     subproblem = compiled.scales.nodes[name]
     own, shared = compiled.scales.subproblems[subproblem], compiled.shared.subproblems[subproblem]
     rows = [(row, ratio(own.constraints[at])) for row, at in zip(compiled.row_names(name), own.rows)]
-    found = _Node(name, rows)
+    found = NodeOfReport(name, rows)
     for state, scale in compiled.scales.states.items():
         found.ratios[f"in {_spelt(state)}"] = (state, ratio(scale))
     for variable in shared.variables:
@@ -73,7 +72,7 @@ class _Reader:
 
     def __init__(self, compiled: Compiled) -> None:
         scale = compiled.scales.cost or Fraction(1)
-        self._nodes = [_node(compiled, name) for name in compiled.node_names]
+        self._nodes = [node_of_report(compiled, name) for name in compiled.node_names]
         self._node = self._nodes[0]
         self._factor, self._divisor = ratio(scale)
         self._factor *= -1 if compiled.maximizes else 1

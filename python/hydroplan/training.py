@@ -1,9 +1,12 @@
 """Training by rules: the program trains one journal in steps, and the rules are asked behind each of them."""
 from __future__ import annotations
 
+import os
 import signal
 import time
 import warnings
+from concurrent.futures import ThreadPoolExecutor
+from dataclasses import dataclass
 from fractions import Fraction
 from pathlib import Path
 from statistics import fmean
@@ -20,6 +23,9 @@ from .results import GapCheck, Training, half_width
 from .stopping import BoundStalling, IterationLimit, Statistical, StopRule, TimeLimit
 
 SEEDS = 1 << 64
+# scenarios of a comparison are drawn by several runs of at most so many each, and so many at a time
+MOST_OF_A_RUN = 400
+MOST_AT_A_TIME = 4
 INTERRUPTED = (-signal.SIGINT, 128 + signal.SIGINT)
 
 
@@ -46,17 +52,30 @@ def _warn(ended: Ended) -> None:
         warnings.warn("\n".join(said), RuntimeWarning, stacklevel=2)
 
 
+@dataclass(frozen=True)
+class TrainWords:
+    """What stands behind the command `train`: the seed, the paths of an iteration, and words that share its work, as `--workers 4`."""
+
+    seed: int
+    batch: Optional[int] = None
+    shared: Sequence[str] = ()
+
+    def until(self, journal: Path, target: int) -> List[str]:
+        """The words of a training until the journal has so many iterations."""
+        batch = [] if self.batch is None else [str(self.batch)]
+        return ["train", str(journal), str(self.seed), str(target), *batch, *self.shared]
+
+
 class TrainingRun:
     """A training that goes on, with what is known of it."""
 
     def __init__(
-        self, compiled: Compiled, journal: Path, seed: int, batch: Optional[int], rules: Sequence[StopRule], program: Path,
-        report: Optional[Callback],
+        self, compiled: Compiled, journal: Path, words: TrainWords, rules: Sequence[StopRule], program: Path, report: Optional[Callback],
     ) -> None:
         self._compiled = compiled
         self._journal = journal
-        self._seed = seed
-        self._batch = [] if batch is None else [str(batch)]
+        self._words = words
+        self._seed = words.seed
         self._rules = rules
         self._program = program
         self._begun = time.monotonic()
@@ -66,7 +85,7 @@ class TrainingRun:
         self._unanswered = 0
         self._checks: List[GapCheck] = []
         limits = [it.iterations for it in rules if isinstance(it, IterationLimit)]
-        self._limit = min(limits) if limits else sizes(compiled).most_iterations(batch or kept_batch(journal))
+        self._limit = min(limits) if limits else sizes(compiled).most_iterations(words.batch or kept_batch(journal))
         self._is_asked_for = bool(limits)
         times = [it.seconds for it in rules if isinstance(it, TimeLimit)]
         self._deadline = self._begun + min(times) if times else None
@@ -89,8 +108,7 @@ class TrainingRun:
 
     def _step(self, target: int) -> Optional[str]:
         """Trains until the journal has so many iterations; the reason to stop where the time was over before."""
-        words = ["train", str(self._journal), str(self._seed), str(target), *self._batch]
-        with Running(self._program, words, self._compiled.problem) as running:
+        with Running(self._program, self._words.until(self._journal, target), self._compiled.problem) as running:
             ended = self._watched(running)
             if ended is None:
                 running.end()
@@ -126,13 +144,13 @@ class TrainingRun:
             raise failure(self._compiled, ended)
         return ended
 
-    def _take(self, ended: Ended) -> None:
-        """Takes bounds from a report of `train` or `check`."""
+    def _take(self, ended: Ended, tells: bool = True) -> None:
+        """Takes bounds from a report of `train` or `check`, and reports the last one where it is time and `tells` says so."""
         report = report_of(self._compiled, ended.output)
         self._bounds = bounds_of(self._compiled, report)
         self._bound = report.bound or Fraction(0)
         self._unanswered = report.unsettled or 0
-        if self._watcher.is_due():
+        if tells and self._watcher.is_due():
             self._tell()
 
     def _tell(self) -> None:
@@ -146,7 +164,9 @@ class TrainingRun:
             if isinstance(rule, BoundStalling):
                 found = rule.reason(self._bounds)
             elif isinstance(rule, Statistical) and self._is_time_for(rule):
+                self._tell()
                 self._checks.append(self._compared(rule))
+                self._watcher.tell_comparison(self._checks[-1])
                 found = rule.reason(self._checks)
             if found is not None:
                 return found
@@ -161,23 +181,29 @@ class TrainingRun:
 
     def _compared(self, rule: Statistical) -> GapCheck:
         """The bound beside the mean of fresh scenarios, several runs of them where one report may not hold so many."""
-        # where not even one fits, the program says so
-        most, part, count = max(1, sizes(self._compiled).most_scenarios()), 0, len(self._bounds)
-        costs: List[float] = []
-        while len(costs) < rule.scenarios:
-            seed, wanted = fresh_seed(self._seed, count, part), min(most, rule.scenarios - len(costs))
-            words = ["simulate", str(self._journal), str(seed), str(wanted)]
-            ended = run(self._program, words, self._compiled.problem)
-            if ended.status != 0:
-                raise failure(self._compiled, ended)
-            costs.extend(end_costs(self._compiled, ended.output))
-            part += 1
+        count = len(self._bounds)
+        with ThreadPoolExecutor(min(MOST_AT_A_TIME, os.cpu_count() or 1)) as several:
+            costs = [cost for part in several.map(self._costs, self._parts(rule.scenarios, count)) for cost in part]
         mean, bound = fmean(costs), self._bound_float()
         gap = bound - mean if self._compiled.maximizes else mean - bound
         seconds = time.monotonic() - self._begun
         return GapCheck(
             count, bound, mean, half_width(costs, rule.confidence), gap, len(costs), fresh_seed(self._seed, count, 0), seconds,
         )
+
+    def _parts(self, scenarios: int, iteration: int) -> List[Tuple[int, int]]:
+        """The runs in which scenarios are drawn: the seed and the number of each. Where not even one fits, the program says so."""
+        most = max(1, min(MOST_OF_A_RUN, sizes(self._compiled).most_scenarios()))
+        starts = range(0, scenarios, most)
+        return [(fresh_seed(self._seed, iteration, part), min(most, scenarios - start)) for part, start in enumerate(starts)]
+
+    def _costs(self, part: Tuple[int, int]) -> List[float]:
+        """The costs of the scenarios of a run."""
+        words = ["simulate", str(self._journal), *map(str, part)]
+        ended = run(self._program, words, self._compiled.problem)
+        if ended.status != 0:
+            raise failure(self._compiled, ended)
+        return end_costs(self._compiled, ended.output)
 
     def _bound_float(self) -> float:
         return bound_float(self._compiled, self._bound)
@@ -191,7 +217,7 @@ class TrainingRun:
 
     def _interrupted(self) -> TrainingInterrupted:
         """What the journal kept, and how to go on."""
-        self._take(self._checked())
+        self._take(self._checked(), tells=False)
         kept, bound = len(self._bounds), self._bound_float()
         said = f"training was interrupted: {kept} iterations are kept in {self._journal}"
         said += f", with the bound {bound:.6f}" if kept else ""

@@ -11,9 +11,9 @@ from model_support import Folder, newsvendor, one_reservoir, three_stages
 from random_models import Draw
 from hydroplan.errors import ModelError, ModelRefused, Unbounded
 from hydroplan.model import Model, read_stochopt
-from hydroplan_tools.compiling import problem_text
-from hydroplan_tools.convert_command import main as convert
-from hydroplan_tools.scales import write_scales
+from hydroplan.tools.compiling import problem_text
+from hydroplan.tools.convert_command import main as convert
+from hydroplan.tools.scales import write_scales
 
 
 class Compiling(unittest.TestCase):
@@ -145,7 +145,7 @@ class Files(Folder):
     def test_bounds_for_a_file(self):
         from model_support import TOP
 
-        program = read_stochopt(TOP / "tools" / "tests" / "data" / "newsvendor.sof.json")
+        program = read_stochopt(TOP / "python" / "tests" / "data" / "newsvendor.sof.json")
         with self.assertRaisesRegex(ModelRefused, "Unbounded"):
             program.compile()
         compiled = program.compile(bounds={"u": (None, "20.25"), "x_out": (None, 20)})

@@ -6,7 +6,7 @@ from fractions import Fraction as F
 from unittest import mock
 
 from model_support import Folder, needs_numpy, needs_pandas, newsvendor, one_reservoir, three_stages
-from hydroplan_tools.back import Back, split_name
+from hydroplan.tools.back import Back, split_name
 from hydroplan.errors import MissingPackage, ModelError
 from hydroplan.exact import exact
 from hydroplan.model import Model

@@ -154,7 +154,7 @@ class Rules(Folder):
         self.assertIn("the bound moved by 0", found.stopped)
 
     def test_a_journal_that_is_full(self):
-        with mock.patch("hydroplan_tools.limits.MOST_ITERATIONS", 3):
+        with mock.patch("hydroplan.tools.limits.MOST_ITERATIONS", 3):
             self.assertEqual(self.train(BoundStalling(iterations=3, every=2)).stopped, "a journal of this problem holds no more iterations")
 
     def test_rules_that_make_no_sense(self):
@@ -204,9 +204,12 @@ class Seen(Folder):
         printer = ProgressPrinter(stream)
         printer(Progress(1, 10.5, 0.0, 0.4, 0))
         printer(Progress(40, 12.25, 1.75, 61.0, 2))
+        printer(Progress(40, 12.25, 0.0, 62.0, 2, GapCheck(40, 12.25, 12.5, 0.5, 0.25, 100, 9, 62.0)))
         rows = [line.split() for line in stream.getvalue().splitlines()]
         self.assertEqual(rows[0], ["time", "iteration", "bound", "moved", "unanswered"])
-        self.assertEqual(rows[1:], [["0:00:00", "1", "10.500000", "0.000000", "0"], ["0:01:01", "40", "12.250000", "1.750000", "2"]])
+        self.assertEqual(rows[1:3], [["0:00:00", "1", "10.500000", "0.000000", "0"], ["0:01:01", "40", "12.250000", "1.750000", "2"]])
+        self.assertEqual(" ".join(rows[3]), "0:01:02 40 100 scenarios: mean 12.500000, half-width 0.500000, gap 0.250000")
+        self.assertEqual(len(rows), 4)
 
     def test_an_interrupt_says_what_is_kept(self):
         def interrupt(progress):

@@ -7,8 +7,8 @@ from pathlib import Path
 from typing import Dict, List, Optional, Sequence
 
 from hydroplan.errors import HydroplanError
-from hydroplan_tools.shown_names import shown_name
-
+from ..tools.shown_names import shown_name
+from ..tools.waiting import in_words
 from .autoregressive import periodic_autoregression
 from .classes import markov_classes
 from .comparison import compare
@@ -63,7 +63,7 @@ def main(words: Optional[Sequence[str]] = None) -> int:
         _run(chosen)
         return 0
     except (HydroplanError, OSError) as fault:
-        lines = str(fault).split("\n") if isinstance(fault, RecordError) else [str(fault)]
+        lines = str(fault).split("\n") if isinstance(fault, RecordError) else [in_words(fault)]
         print("\n".join(map(shown_name, [f"inflows: {lines[0]}", *lines[1:]])), file=sys.stderr)
     return 1
 

@@ -5,8 +5,7 @@ from dataclasses import dataclass
 from typing import Any, Dict, Iterator, List, Optional, Tuple
 
 from hydroplan.tables import package
-from hydroplan_tools.shown_names import shown_name
-
+from ..tools.shown_names import shown_name
 from .errors import InflowError
 from .moments import statistics_by_stage
 from .realizations import About, Inflows

@@ -5,7 +5,7 @@ from dataclasses import dataclass
 from typing import Sequence
 
 from hydroplan.errors import HydroplanError
-from hydroplan_tools.shown_names import shown_name
+from ..tools.shown_names import shown_name
 
 MOST_SHOWN = 20
 

@@ -6,8 +6,7 @@ import os
 from typing import List, Union
 
 from hydroplan.tables import package
-from hydroplan_tools.shown_names import shown_in_picture
-
+from ..tools.shown_names import shown_in_picture
 from .comparison import MEASURES, Comparison, ComparisonRow
 
 

@@ -66,6 +66,9 @@ class _Describer:
         called = f"the system ({self._system.place})"
         if len(self._system.horizon.blocks) > 1:
             raise NotDescribed(f"{called} has load blocks, and a description has none")
+        graph = self._system.graph()
+        if len(graph.nodes) > len(self._stages) or any(node.value.carried for node in graph.nodes):
+            raise NotDescribed(f"{called} has inflows with classes or with a memory, and a description has years or groups alone")
         if any(self._system.discount(stage) != 1 for stage in self._stages):
             raise NotDescribed(f"{called} discounts costs, and a description does not")
         if len({tuple(hours.values()) for hours in self._system.horizon.hours}) > 1:

@@ -7,7 +7,7 @@ import sys
 from types import FrameType
 from typing import Optional
 
-from ..code_places import CodePlace
+from ..code_places import CodePlace, given_place
 
 PLANTS = os.path.dirname(os.path.abspath(__file__))
 PACKAGES = (PLANTS, os.path.dirname(PLANTS))
@@ -19,6 +19,9 @@ def _is_ours(file: str) -> bool:
 
 def users_line() -> CodePlace:
     """The nearest line that stands outside of this package, the one around it, and `dataclasses`, whose `replace` makes elements too."""
+    given = given_place()
+    if given is not None:
+        return given
     frame: Optional[FrameType] = sys._getframe(1)
     while frame is not None and _is_ours(frame.f_code.co_filename):
         frame = frame.f_back

@@ -6,31 +6,48 @@ from fractions import Fraction
 from typing import TYPE_CHECKING, Dict, List, Optional, Sequence, Tuple
 
 from ..expressions import Expression, Linear, Relation, Variable, total
+from ..graphs import GraphNode
 from ..stages import Stage, State
 from .amounts import Table, Tier
 from .element import Element
+from .randomness import Carried, Drawn, NodeOutcomes
 
 if TYPE_CHECKING:
     from .system import System
 
 
 class StageRows:
-    """Writes the stage of a number, from 1, of a system.
+    """Writes the stage of a node of a system's graph.
 
     `energy` collects the MWh that come to a bus in a block less those that leave it, and `water` the hm3 that come to a reservoir
     less those that leave it, but for its inflow.
     """
 
-    def __init__(self, system: System, stage: Stage, number: int) -> None:
+    def __init__(self, system: System, stage: Stage, node: GraphNode) -> None:
         self._system = system
         self._stage = stage
-        self.number = number
-        self.is_last = number == system.horizon.stages
+        self._outcomes: NodeOutcomes = node.value
+        self.number = node.stage
+        self.is_last = node.stage == system.horizon.stages
         self.blocks = system.horizon.blocks
         self.energy: Dict[Tuple[str, str], List[Linear]] = {}
         self.water: Dict[str, List[Linear]] = {}
         self._costs: List[Linear] = []
-        self._randoms = {name: stage.random(name) for name in system.stations()}
+        self._randoms = {name: self._station(name) for name in system.stations()}
+
+    def _station(self, name: str) -> Variable:
+        """The variable of a station's value: a random one, or the state that carries it on, with its shock."""
+        carried: Optional[Carried] = self._outcomes.carried.get(name)
+        if carried is None:
+            return self._stage.random(name)
+        shock, state = self._stage.random(f"shock:{name}"), self._stage.state(f"inflow:{name}", carried.lower, carried.upper)
+        self._stage.add(state.outgoing == carried.coefficient * state.incoming + shock, f"inflow:{name}")
+        return state.outgoing
+
+    def realizations(self) -> List[Drawn]:
+        """What is drawn at the node, by the names of its random variables."""
+        words = {name: f"shock:{name}" if name in self._outcomes.carried else name for name in self._randoms}
+        return [(weight, {words[name]: values[name] for name in values}) for weight, values in self._outcomes.drawn]
 
     def label(self, word: str, of: Element, *parts: object, block: Optional[str] = None) -> str:
         """The name of a variable or a row: its word, its element, and its block where there are several."""
@@ -71,7 +88,7 @@ class StageRows:
         number = table.at(self.number, block)
         if table.station is None:
             return number
-        return number * max(values[table.station] for _, values in self._system.outcomes_of(self.number))
+        return number * self._outcomes.greatest(table.station)
 
     def brings(self, bus: str, block: str, energy: Linear) -> None:
         """Energy that comes to a bus; below 0 it leaves."""

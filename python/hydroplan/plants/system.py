@@ -6,6 +6,8 @@ from fractions import Fraction
 from typing import Any, Dict, List, Mapping, Optional, Sequence, Tuple, Type, TypeVar, cast
 
 from ..exact import Number, exact, exact_weight, text_of
+from ..graphs import PolicyGraph
+from ..inflows.realizations import Inflows
 from ..model import Model
 from ..programs import Compiled
 from .amounts import Horizon, Member, TableReader, Values, in_range
@@ -15,6 +17,7 @@ from .element import Element
 from .errors import PlantError, UnknownName, suggestion
 from .numbers_of import Numbers
 from .places import users_line
+from .randomness import carried_at_first, inflow_graph, linear_graph
 from .writing import model_of
 
 Outcome = Tuple[Number, Mapping[str, Number]]
@@ -53,6 +56,7 @@ class System:
             raise PlantError(f"{called} has a yearly rate above -1, and a resolution of discounts above 0 and at most 1")
         self._elements: Dict[Tuple[str, str], Numbers] = {}
         self._outcomes: List[List[Tuple[Fraction, Dict[str, Fraction]]]] = [[] for _ in range(stages)]
+        self._inflows: Optional[Inflows] = None
         self._outcomes_place = self.place
 
     def add(self, *elements: Element) -> None:
@@ -71,6 +75,7 @@ class System:
         Inflows are in hm3 per stage, demands and renewables in MW, where no factor and no `flow` says otherwise. A stage with an
         empty list has the one realization without stations.
         """
+        self._inflows = None
         self._outcomes_place = users_line()
         called = f"the outcomes ({self._outcomes_place})"
         if len(stages) != self.horizon.stages:
@@ -79,6 +84,27 @@ class System:
             [_outcome(it, f"outcome {at} of stage {stage} of {called}") for at, it in enumerate(outcomes, 1)]
             for stage, outcomes in enumerate(stages, 1)
         ]
+
+    def inflows(self, inflows: Inflows) -> None:
+        """Sets the realizations of each stage by a model of inflow: years, groups, Markov classes or an autoregression (docs/INFLOWS.md).
+
+        Classes give a node for each stage and class; an autoregression carries the value of each station on as a state. Stations that
+        no element asks for are left out.
+        """
+        if len(inflows.stages) != self.horizon.stages:
+            raise PlantError(f"the inflows ({users_line()}) are of {len(inflows.stages)} stages, and there are {self.horizon.stages}")
+        self._inflows = inflows
+        self._outcomes_place = users_line()
+
+    def graph(self) -> PolicyGraph:
+        """The policy graph: nodes by stage, each with what is drawn there as its `value` (`randomness.NodeOutcomes`)."""
+        if self._inflows is None:
+            return linear_graph(self._outcomes)
+        return inflow_graph(self._inflows, self.stations(), f"the inflows ({self._outcomes_place})")
+
+    def carried(self) -> Dict[str, Fraction]:
+        """The value before the first stage of each station whose value is carried on from stage to stage."""
+        return {} if self._inflows is None else carried_at_first(self._inflows, self.stations())
 
     def discount(self, stage: int) -> Fraction:
         """What the costs of a stage, numbered from 1, count."""
@@ -89,8 +115,8 @@ class System:
         return [(it.of, it) for it in self._elements.values() if isinstance(it.of, kind)]
 
     def outcomes_of(self, stage: int) -> List[Tuple[Fraction, Dict[str, Fraction]]]:
-        """The realizations of a stage, numbered from 1."""
-        return self._outcomes[stage - 1]
+        """The realizations of a stage, numbered from 1, of a system whose graph has one node for each stage."""
+        return list(self.graph().nodes[stage - 1].value.drawn)
 
     def stations(self) -> List[str]:
         """The stations whose values elements ask for, in the order of the elements."""
@@ -103,7 +129,10 @@ class System:
 
     def compile(self, **chosen: Any) -> Compiled:
         """The problem in whole numbers: `Model.compile`, whose choices it takes. The ledger says where discounts were rounded."""
-        found = self.model().compile(**chosen)
+        return self.noted(self.model().compile(**chosen))
+
+    def noted(self, found: Compiled) -> Compiled:
+        """The problem that this system's model was compiled to, with a line of the ledger on discounts that were rounded."""
         rounded = [it for it in range(1, self.horizon.stages + 1) if self._is_rounded(it)]
         if not rounded:
             return found
@@ -129,15 +158,16 @@ class System:
                     known = (its for its_kind, its in self._elements if its_kind == kind)
                     raise UnknownName(f'"{member}" of {found.of.called()}: there is no {kind} "{name}": {suggestion(name, known)}')
         self._check_stations()
+        graph = self.graph()
         for found in self._elements.values():
-            self._check_randoms(found)
+            self._check_randoms(found, graph)
 
     def _check_stations(self) -> None:
         wanted = self.stations()
         colons = [it for it in wanted if ":" in it]
         if colons:
             raise PlantError(f'the station "{colons[0]}" has a colon in its name ({self.place})')
-        for stage, outcomes in enumerate(self._outcomes, 1):
+        for stage, outcomes in enumerate([] if self._inflows is not None else self._outcomes, 1):
             if wanted and not outcomes:
                 raise PlantError(f'stage {stage} has no outcomes, and the station "{wanted[0]}" is asked for ({self._outcomes_place})')
             for _, values in outcomes:
@@ -149,13 +179,13 @@ class System:
                 if missing:
                     raise PlantError(f'an outcome of stage {stage} has no value of the station "{missing[0]}" ({self._outcomes_place})')
 
-    def _check_randoms(self, found: Numbers) -> None:
+    def _check_randoms(self, found: Numbers, graph: PolicyGraph) -> None:
         """Refuses random values that are outside the range of the member that they are for."""
         for member, station in found.stations().items():
             called = f'"{member}" of {found.of.called()}, by the station "{station}",'
-            for stage, outcomes in enumerate(self._outcomes, 1):
-                for _, values in outcomes:
-                    in_range(called, found.of.MEMBERS[member], stage, values[station])
+            for node in graph.nodes:
+                for value in (node.value.least(station), node.value.greatest(station)):
+                    in_range(called, found.of.MEMBERS[member], node.stage, value)
 
 
 def _block_names(blocks: Mapping[str, Values], called: str) -> Tuple[str, ...]:

@@ -73,6 +73,8 @@ def _check(rows: StageRows, it: Reservoir, numbers: Numbers) -> None:
     productive = any(numbers.at("productivity", rows.number, block) for block in rows.blocks)
     if productive and it.bus is None:
         raise PlantError(f'{it.called()} has a "productivity", and no "bus" that its turbine serves')
+    if any(way.to == it.name for way, _, _ in ways_of(it)):
+        raise PlantError(f"water of {it.called()} goes back to it: name the reservoir downstream")
 
 
 def _most_outflow(numbers: Numbers, names: Tuple[str, ...], first: List[Fraction]) -> Fraction:
@@ -131,6 +133,8 @@ def _write_end(rows: StageRows, it: Reservoir, numbers: Numbers, volume: State) 
 
 def write_pump(rows: StageRows, it: Pump, numbers: Numbers) -> None:
     """Water that is lifted, and the energy that it takes."""
+    if it.source == it.target:
+        raise PlantError(f'{it.called()} lifts water from "{it.source}" to itself')
     pumped = rows.limited(it, "pumped", numbers.tables["maximum"])
     for block, water in zip(rows.blocks, pumped):
         energy = numbers.at("energy", rows.number, block) / numbers.at("efficiency", rows.number)

@@ -5,7 +5,7 @@ from dataclasses import replace
 from fractions import Fraction
 from typing import TYPE_CHECKING, Dict
 
-from ..model import Model, PolicyGraph
+from ..model import Model
 from .energy_elements import Battery, Bus, Export, Import, Line, Renewable, Thermal
 from .energy_rows import write_battery, write_bus, write_export, write_import, write_line, write_renewable, write_thermal
 from .stage_rows import StageRows
@@ -20,15 +20,15 @@ def model_of(system: System) -> Model:
     """The model of a system whose elements fit each other."""
     initial = _initial(system)
     model = Model(dict(initial))
-    graph = PolicyGraph.linear(system.horizon.stages)
+    graph = system.graph()
     for node in graph.nodes:
         stage = model.stage(node.name)
         stage.place = system.place
-        rows = StageRows(system, stage, node.stage)
+        rows = StageRows(system, stage, node)
         _write_water(rows, system)
         _write_energy(rows, system)
         rows.finish()
-        model.node(node.name, stage, [(weight, dict(values)) for weight, values in system.outcomes_of(node.stage)], node.successors)
+        model.node(node.name, stage, rows.realizations(), node.successors)
         model.nodes[node.name] = replace(model.nodes[node.name], place=system.place)
     model.root(graph.root)
     model.place = system.place
@@ -41,6 +41,7 @@ def _initial(system: System) -> Dict[str, Fraction]:
         found.update(initial_states(reservoir, numbers))
     for battery, numbers in system.of_kind(Battery):
         found[f"stored:{battery.name}"] = numbers.at("initial", 1)
+    found.update({f"inflow:{station}": value for station, value in system.carried().items()})
     return found
 
 

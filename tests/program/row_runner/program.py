@@ -2,13 +2,17 @@
 from __future__ import annotations
 
 import os
+import shutil
 import subprocess
 from dataclasses import dataclass
 from pathlib import Path
-from typing import Any, Dict, Optional, Sequence
+from typing import Any, Dict, Optional, Sequence, Tuple
 
 # Seconds after which a run is given up.
 PATIENCE = 120
+
+# The user without rights.
+NOBODY = 65534
 
 ENVIRONMENT = {"PATH": "/usr/local/bin:/usr/bin:/bin", "LANG": "C.UTF-8"}
 
@@ -31,6 +35,8 @@ class Streams:
     piped: bool = False
     # True where standard error is closed.
     mute: bool = False
+    # True where the program may not write what lies in its folder: root, who may always, runs it as nobody.
+    readonly: bool = False
 
 
 @dataclass(frozen=True)
@@ -74,11 +80,23 @@ def sink_of(streams: Streams) -> Optional[int]:
     return writer
 
 
+def as_nobody(program: Path, folder: Path) -> Tuple[Path, Dict[str, Any]]:
+    """A copy of the program that anybody may run, and how it is run by somebody who may read the folder and not write it."""
+    copy = folder / "program"
+    shutil.copyfile(program, copy)
+    for place in (copy, folder):
+        place.chmod(0o555)
+    return copy, {"user": NOBODY, "group": NOBODY, "extra_groups": []} if os.geteuid() == 0 else {}
+
+
 def ended(program: Path, words: Sequence[str], streams: Streams, folder: Path) -> Ended:
     """Runs the program in a folder, where its journal is `J`. NoEnd where it does not end in time."""
     source, sink = source_of(streams), sink_of(streams)
     how: Dict[str, Any] = {"stdout": subprocess.PIPE if sink is None else sink, "stderr": subprocess.PIPE}
     how.update({"input": streams.problem.read_bytes()} if streams.piped and streams.problem else {"stdin": source})
+    if streams.readonly:
+        program, who = as_nobody(program, folder)
+        how.update(who)
     try:
         ran = subprocess.run(command(program, words, streams), cwd=folder, env=ENVIRONMENT, timeout=PATIENCE, **how)
     except subprocess.TimeoutExpired as error:

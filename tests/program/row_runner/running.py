@@ -57,7 +57,7 @@ def streams(row: Row, program: Path, folder: Path) -> Streams:
         raise BadRow(f"{name} is not there")
     problem = padded(row, folder, made(row, program, folder, problem))
     memory = row.number("memory", 0) if "memory" in row.options else None
-    return Streams(problem, row.options.get("output"), memory, "piped" in row.options, row.options.get("errors") == "closed")
+    return Streams(problem, row.options.get("output"), memory, "piped" in row.options, row.options.get("errors") == "closed", "readonly" in row.options)
 
 
 def place_journal(row: Row, journal: Path) -> None:
@@ -65,6 +65,8 @@ def place_journal(row: Row, journal: Path) -> None:
     held = journal_before(row)
     if held is not None:
         journal.write_bytes(held)
+        if "readonly" in row.options:
+            journal.chmod(0o444)
     elif "journal" in row.options:
         os.mkfifo(journal)
 

@@ -1,0 +1,12 @@
+"""Studies: a folder with study.toml and CSV files becomes a trained policy and a folder of results; docs/STUDIES.md has all keys.
+
+`read_study` reads a folder, `train_study` trains on its journal, `write_results` simulates and writes the results, and `main` is the command
+`hydroplan study`. All of it stands outside the proved core.
+"""
+from .command import main
+from .errors import StudyError
+from .results_folder import write_results
+from .study import Study, read_study
+from .study_training import train_study
+
+__all__ = ["Study", "StudyError", "main", "read_study", "train_study", "write_results"]

@@ -1,0 +1,199 @@
+"""The file study.toml as tables whose keys are looked at: each refusal names file, line and key."""
+from __future__ import annotations
+
+import datetime
+import importlib
+import re
+from dataclasses import dataclass, field
+from decimal import Decimal
+from pathlib import Path as FilePath
+from typing import Any, Dict, Iterable, List, Mapping, Optional, Sequence
+
+from hydroplan.tools.shown_names import shown_name
+
+from ..code_places import CodePlace
+from ..errors import MissingPackage
+from ..exact import is_number
+from ..plants.errors import suggestion
+from .errors import StudyError
+from .toml_lines import Path, lines_of
+
+FAULT_LINE = re.compile(r" \(at line (\d+), column (\d+)\)")
+
+
+def _read_toml(text: str) -> Dict[str, Any]:
+    """The values of a TOML text; numbers with a point are exact decimals."""
+    for name in ("tomllib", "tomli"):
+        try:
+            reader = importlib.import_module(name)
+        except ImportError:
+            continue
+        found: Dict[str, Any] = reader.loads(text, parse_float=Decimal)
+        return found
+    raise MissingPackage("tomli is needed for studies by Python before 3.11: Debian has it as python3-tomli")
+
+
+@dataclass
+class Document:
+    """The values of a study's file, and the place of each key."""
+
+    name: str
+    values: Dict[str, Any]
+    places: Dict[Path, CodePlace] = field(default_factory=dict)
+
+    @classmethod
+    def read(cls, path: FilePath) -> Document:
+        """The document in a file, or StudyError where it cannot be read or is no TOML."""
+        try:
+            text = path.read_bytes().decode("utf-8-sig").replace("\r\n", "\n")
+        except OSError as fault:
+            raise StudyError(f"{path}: {fault.strerror}") from None
+        except UnicodeDecodeError as fault:
+            raise StudyError(f"{path}: no UTF-8: {fault.reason} at byte {fault.start}") from None
+        values = _parsed(text, str(path))
+        return cls(str(path), values, {key: CodePlace(str(path), line) for key, line in lines_of(text).items()})
+
+    def override(self, words: Sequence[str]) -> None:
+        """Sets keys by words as in `stop.gap=0.02`: a key of the file, with a value as it would stand there."""
+        for number, word in enumerate(words, 1):
+            place = CodePlace("--set", number)
+            values = _parsed(word, str(place))
+            self.places.update({key: place for key in lines_of(word)})
+            _merge(self.values, values)
+
+    def top(self) -> Table:
+        """The whole document as a table."""
+        return Table(self, (), self.values)
+
+    def place(self, path: Path) -> CodePlace:
+        """Where a key stands, or else the nearest table around it."""
+        while path and path not in self.places:
+            path = path[:-1]
+        return self.places.get(path, CodePlace(self.name, 1))
+
+
+def _parsed(text: str, called: str) -> Dict[str, Any]:
+    try:
+        return _read_toml(text)
+    except ValueError as fault:
+        found = FAULT_LINE.search(str(fault))
+        line, words = (f":{found[1]}", str(fault).replace(found[0], "")) if found else ("", str(fault))
+        raise StudyError(f"{called}{line}: no TOML: {words}") from None
+
+
+def _merge(values: Dict[str, Any], others: Mapping[str, Any]) -> None:
+    for key, value in others.items():
+        if isinstance(value, dict) and isinstance(values.get(key), dict):
+            _merge(values[key], value)
+        else:
+            values[key] = value
+
+
+def dotted(path: Path) -> str:
+    """A key as messages have it, with dots; entries of lists count from 1."""
+    return ".".join(str(it + 1) if isinstance(it, int) else it for it in path)
+
+
+@dataclass(frozen=True)
+class Table:
+    """A table of the document."""
+
+    document: Document
+    path: Path
+    members: Mapping[str, Any]
+
+    def fault(self, reason: str, *keys: object) -> StudyError:
+        """A refusal of a key of this table, or of the table itself."""
+        path = (*self.path, *keys)
+        called = f'"{dotted(path)}" ' if path else ""  # type: ignore[arg-type]
+        return StudyError(shown_name(f"{self.document.place(path)}: {called}{reason}"))  # type: ignore[arg-type]
+
+    def place(self, *keys: object) -> CodePlace:
+        """Where a key of this table stands."""
+        return self.document.place((*self.path, *keys))  # type: ignore[arg-type]
+
+    def only(self, known: Iterable[str]) -> Table:
+        """This table, or StudyError where it has another key than those that are known."""
+        names = list(known)
+        for key in self.members:
+            if key not in names:
+                raise self.fault(f"is not known: {suggestion(key, names)}", key)
+        return self
+
+    def table(self, key: str) -> Table:
+        """The table of a key; an empty one where it is not there."""
+        value = self.members.get(key, {})
+        if not isinstance(value, dict):
+            raise self.fault(f"is a table, and not {shown(value)}", key)
+        return Table(self.document, (*self.path, key), value)
+
+    def tables(self, key: str) -> List[Table]:
+        """The tables of a key, by their own keys."""
+        outer = self.table(key)
+        return [outer.table(it) for it in outer.members]
+
+    def needed(self, key: str) -> Any:
+        """The value of a key that has to be there."""
+        if key not in self.members:
+            raise self.fault("is needed", key)
+        return self.members[key]
+
+    def text(self, key: str, default: Optional[str] = None) -> str:
+        """A text; the default where it is not there, and StudyError where there is none."""
+        value = self.needed(key) if default is None else self.members.get(key, default)
+        if not isinstance(value, str) or not value:
+            raise self.fault(f"is a text, and not {shown(value)}", key)
+        return value
+
+    def choice(self, key: str, known: Sequence[str], default: str) -> str:
+        """One of some words."""
+        value = self.text(key, default)
+        if value not in known:
+            raise self.fault(f"is one of {', '.join(known)}, and not {shown(value)}", key)
+        return value
+
+    def whole(self, key: str, least: int, most: int, default: Optional[int] = None) -> int:
+        """A whole number within its range."""
+        value = self.needed(key) if default is None else self.members.get(key, default)
+        if isinstance(value, bool) or not isinstance(value, int) or not least <= value <= most:
+            raise self.fault(f"is a whole number from {least} to {most}, and not {shown(value)}", key)
+        return value
+
+    def number(self, key: str, default: Any = None) -> Any:
+        """A number, exactly as it stands there."""
+        value = self.needed(key) if default is None else self.members.get(key, default)
+        if isinstance(value, (bool, float)) or not is_number(value):
+            raise self.fault(f"is a number, and not {shown(value)}", key)
+        return value
+
+    def share(self, key: str, default: float) -> float:
+        """A number above 0 and below 1."""
+        value = float(self.number(key, default if isinstance(default, Decimal) else Decimal(repr(default))))
+        if not 0 < value < 1:
+            raise self.fault(f"is above 0 and below 1, and not {shown(self.members[key])}", key)
+        return value
+
+    def positive(self, key: str) -> Optional[float]:
+        """A number above 0, none where it is not there."""
+        if key not in self.members:
+            return None
+        value = float(self.number(key))
+        if value <= 0:
+            raise self.fault(f"is above 0, and not {shown(self.members[key])}", key)
+        return value
+
+    def date(self, key: str) -> datetime.date:
+        """A date."""
+        value = self.needed(key)
+        if not isinstance(value, datetime.date) or isinstance(value, datetime.datetime):
+            raise self.fault(f"is a date, as in 2026-01-01, and not {shown(value)}", key)
+        return value
+
+
+def shown(value: object) -> str:
+    """A value as messages show it."""
+    if isinstance(value, bool):
+        return "true" if value else "false"
+    return f'"{value}"' if isinstance(value, str) else str(value)
+
+

@@ -1,0 +1,178 @@
+"""Studies drawn at random: certified bounds beside the least cost that HiGHS finds, and balances recomputed from decisions.csv.
+
+Each study is a folder of study.toml and CSV files. A second reading of these files alone gives the extensive form; docs/STUDIES.md and
+docs/PLANTS.md are all that the two have in common. `many_studies` draws thousands by hand.
+"""
+import contextlib
+import io
+import random
+import re
+import tempfile
+import unittest
+from collections import Counter
+from fractions import Fraction
+from pathlib import Path
+
+from model_support import needs, needs_numpy
+from decisions_balances import DecisionBalances, paths_of, rows_of
+from extensive_plants import Extensive, needs_scipy
+from random_studies import StudyDraw, write_study
+from study_optima import UNROUNDED, compared
+from study_readings import StudyReading, read_case
+from hydroplan.study import StudyError, main, read_study
+
+needs_tomllib = unittest.skipUnless(StudyReading.TOML, "tomllib comes with Python 3.11")
+# The seeds of the studies that are compared; `many_studies` takes others.
+STUDIES = 200
+SPELLINGS = {
+    "a list": r"= \[\d+, \d+", "a fraction": r'"\d+/2"', "a text": r'"\d+"', "a column": r"file = \"columns.csv\"", "months": r"months = \[",
+    "a column of months": r'months = \{ file = "months.csv"', "weeks": r"weeks = \[", "a profile": r"profile = ", "times": r"times = ",
+    "a profile that is a list": r"\np\d+ = \[", "by block": r"\{ peak = ", "by block in a list": r"\[\{ peak = ", "some stages": r"\bat\b.*=",
+    "a flow": r"flow = ", "a flow by block": r"flow = \{ peak = ", "a random flow": r"flow = \{ random = ", "a factor": r"factor = ",
+    "tiers": r"= \[\{ size = ", "tiers of their own": r"\[\[thermal\.[^\n]*cost\]\]", "dotted keys": r"\nturbine\.flow = ",
+    "a table of its own": r"\[reservoir\.[^\n]*\.downstream\]", "rows of elements": r"\[tables\]", "gone": r"spilled = false",
+    "outcomes": r"outcomes = ", "outcomes by stage": r'"outcomes.csv"', "years": r'record = "record.csv"', "records": r"records\b",
+    "flows of a record": r'unit = "m3/s"', "days": r"days = \[", "a rest": r'"rest"', "hours of a block": r"hours = 4", "months as they are": r"step = \"month\"",
+    "a name between quotes": r"Övre sjön", "a discount": r"yearly_rate = 0.1", "under way": r"under_way = \[\d",
+}
+POINTS = {
+    "a tier": "cost.1.size", "a block": r"(maximum|cost|minimum)\.peak\b", "a flow": r"turbine\.flow", "a way": r"downstream\.travel", "some stages": r"target\.at\.",
+    "stages": r"(cost|maximum)\.1,", "a stage and block": r"\.1\.peak",
+}
+
+
+def drawn(seed):
+    """The files of a study of a seed."""
+    return StudyDraw(random.Random(seed)).draw()
+
+
+class InFolders(unittest.TestCase):
+    """Writes each study in a folder of its own."""
+
+    @contextlib.contextmanager
+    def study(self, files):
+        """The folder of a study."""
+        with tempfile.TemporaryDirectory() as made:
+            folder = Path(made)
+            write_study(folder, files)
+            yield folder
+
+
+@needs_numpy
+@needs_scipy
+@needs_tomllib
+class Optima(InFolders):
+    def test_bounds_of_studies_are_the_optima_of_their_extensive_forms(self):
+        found = Counter()
+        for seed in range(STUDIES):
+            files = drawn(seed)
+            with self.study(files) as folder:
+                try:
+                    own = compared(folder)
+                except StudyError as refused:
+                    self.assertIn("RoundedTooFar", str(refused))
+                    found["refused"] += 1
+                    continue
+            found.update([own.rounded, "optimum" if own.bound is not None else "none", "upper" if own.upper is not None else "missed"])
+            self.assertEqual(own.fault(), "", f"seed {seed}\n" + "\n".join(files.values()))
+        self.assertLessEqual(found["refused"], STUDIES // 100, found)
+        self.assertGreaterEqual(found["optimum"], STUDIES * 9 // 10, found)
+        self.assertGreaterEqual(found[UNROUNDED], STUDIES * 9 // 10, found)
+        self.assertGreaterEqual(found["upper"], STUDIES // 10, found)
+
+    def test_the_second_reading_knows_a_study_by_hand(self):
+        # 10 hm3 of water, a MWh for each; 8 MWh are needed in each stage, and energy costs 3 and then 7
+        files = {
+            "study.toml": '[calendar]\nstart = 2026-01-01\nstages = 2\nhours = 1\n[bus.b]\ndemand = { file = "d.csv", column = "b" }\n'
+            '[tables]\nthermal = "t.csv"\n[reservoir.r]\nbus = "b"\nmaximum = 20\ninitial = 10\nspill = 50\nturbine = 20\nproductivity = "2/2"\n',
+            "d.csv": "b\n8\n8\n", "t.csv": "name,bus,maximum,cost.1,cost.2\nt,b,20,3,7\n",
+        }
+        with self.study(files) as folder:
+            self.assertAlmostEqual(Extensive(read_case(folder)).optimum(), 3 * 6)
+            self.assertEqual(compared(folder).fault(), "")
+
+    def test_a_study_that_is_read_otherwise_is_found(self):
+        # the same folder beside a case in which one member is another: the bound is not that case's optimum
+        found = 0
+        for seed in range(8):
+            with self.study(drawn(seed)) as folder:
+                own, case = compared(folder), read_case(folder)
+            next(it for it in case.elements if it.KIND == "bus").demand = 41
+            found += own.optimum is not None and abs(Extensive(case).optimum() - float(own.bound)) > float(own.loss + own.near)
+        self.assertGreaterEqual(found, 6)
+
+
+@needs_tomllib
+class Draws(InFolders):
+    def test_each_spelling_is_drawn(self):
+        files = [drawn(seed) for seed in range(150)]
+        for name, pattern in SPELLINGS.items():
+            with self.subTest(spelling=name):
+                self.assertTrue(any(re.search(pattern, it["study.toml"]) for it in files))
+        headers = [text.split("\n")[0] for it in files for name, text in it.items() if re.fullmatch("[a-z]+s.csv", name)]
+        for name, pattern in POINTS.items():
+            with self.subTest(point=name):
+                self.assertTrue(any(re.search(pattern, it) for it in headers))
+
+    @needs_scipy
+    def test_each_member_counts_in_some_drawn_study(self):
+        left = {(kind, member) for kind, own in StudyReading.DEFAULTS.items() for member in own} - {("thermal", "maximum")}
+        for seed in range(120):
+            with self.study(drawn(seed)) as folder:
+                case = read_case(folder)
+            left -= {it for it in sorted(left) if counts(case, *it)}
+        self.assertEqual(left, set())
+
+
+def optimum_of(case):
+    """The least cost, none where there is no plan."""
+    try:
+        return Extensive(case).optimum()
+    except AssertionError:
+        return None
+
+
+def counts(case, kind, member):
+    """Whether a case has another optimum where elements of a kind have a member as it is where it is not given."""
+    default = StudyReading.DEFAULTS[kind][member]
+    given = [it for it in case.elements if it.KIND == kind and getattr(it, member) != default]
+    if not given:
+        return False
+    before, kept = optimum_of(case), [getattr(it, member) for it in given]
+    for it in given:
+        setattr(it, member, default)
+    after = optimum_of(case)
+    for it, value in zip(given, kept):
+        setattr(it, member, value)
+    return before is not None and (after is None or abs(after - before) > 1e-3)
+
+
+@needs_numpy
+@needs_scipy
+@needs_tomllib
+class FromDecisions(InFolders):
+    def test_balances_and_costs_from_decisions_alone(self):
+        runs = 0
+        for seed in range(12):
+            with self.study(drawn(seed)) as folder, contextlib.redirect_stderr(io.StringIO()), contextlib.redirect_stdout(io.StringIO()):
+                if main([str(folder), "--quiet"]) == 0:
+                    runs += 1
+                    self.look(seed, folder)
+        self.assertGreaterEqual(runs, 10)
+
+    def look(self, seed, folder):
+        """Looks at each scenario."""
+        case = read_case(folder)
+        costs = {(int(row["scenario"]), int(row["stage"])): Fraction(row["cost"]) for row in rows_of(folder / "results" / "costs.csv")}
+        for scenario, path in enumerate(paths_of(case, folder / "results"), 1):
+            balances = DecisionBalances(case, path)
+            self.assertEqual(list(balances.outside()), [])
+            for stage, row, amount in balances.all():
+                self.assertLessEqual(abs(amount), Fraction(1, 100), (seed, scenario, stage.number, row))
+            for stage in path:
+                near = Fraction(1, 10**4) * max(1, abs(costs[scenario, stage.number]))
+                self.assertLessEqual(abs(balances.cost(stage) - costs[scenario, stage.number]), near, (seed, scenario, stage.number))
+
+
+if __name__ == "__main__":
+    unittest.main()

@@ -1,0 +1,62 @@
+"""Which libraries a command needs, and in which interpreter it runs; tests/script runs the commands themselves."""
+import contextlib
+import io
+import sys
+import unittest
+from unittest import mock
+
+import model_support  # noqa: F401
+from hydroplan import __main__ as commands
+from hydroplan import interpreters
+
+
+class Libraries(unittest.TestCase):
+    def test_of_commands(self):
+        self.assertEqual(commands.libraries_of("report", ["R"]), ("numpy", "pandas", "jinja2"))
+        self.assertEqual(commands.libraries_of("report", ["--help"]), ())
+        self.assertEqual(commands.libraries_of("plot", ["bounds", "r.txt"]), ())
+        self.assertEqual(commands.libraries_of("plot", ["bounds", "r.txt", "--output=x"]), ("matplotlib",))
+        self.assertEqual(commands.libraries_of("train", ["J", "7", "1", "--workers", "2"]), ("distributed",))
+        for name in ("join", "explain", "convert", "watch"):
+            self.assertEqual(commands.libraries_of(name, ["x"]), ())
+
+    def test_of_a_study_in_an_older_interpreter(self):
+        with mock.patch.object(sys, "version_info", (3, 10, 1)):
+            self.assertEqual(commands.libraries_of("study", ["S"]), ("numpy", "pandas", "scipy", "jinja2", "tomli"))
+        with mock.patch.object(sys, "version_info", (3, 11, 0)):
+            self.assertEqual(commands.libraries_of("study", ["S"]), ("numpy", "pandas", "scipy", "jinja2"))
+
+    def test_that_are_missing(self):
+        self.assertEqual(interpreters.missing(["json", "no_such_library", "math"]), ["no_such_library"])
+        with mock.patch.object(sys, "executable", "/opt/python"):
+            one, two, three = (interpreters.line_on("plan", ["a", "b", "c"][:count]) for count in (1, 2, 3))
+        behind = "which /opt/python has not got: sudo apt-get install"
+        self.assertEqual(one, f"hydroplan: plan needs a, {behind} python3-a installs it for /usr/bin/python3")
+        self.assertEqual(two, f"hydroplan: plan needs a and b, {behind} python3-a python3-b installs them for /usr/bin/python3")
+        self.assertEqual(three, f"hydroplan: plan needs a, b and c, {behind} python3-a python3-b python3-c installs them for /usr/bin/python3")
+
+
+class Interpreters(unittest.TestCase):
+    def test_another_that_has_the_libraries(self):
+        here = sys.executable
+        with mock.patch.object(interpreters, "DEBIAN", here), mock.patch.object(sys, "executable", "/opt/python"):
+            self.assertEqual(interpreters.other_interpreter(["json"]), here)
+            self.assertIsNone(interpreters.other_interpreter(["no_such_library"]))
+
+    def test_no_other(self):
+        with mock.patch.object(interpreters, "DEBIAN", sys.executable):
+            self.assertIsNone(interpreters.other_interpreter(["json"]))
+        with mock.patch.object(interpreters, "DEBIAN", "/nowhere/python3"):
+            self.assertIsNone(interpreters.other_interpreter(["json"]))
+        with mock.patch.object(interpreters, "LAUNCHER", interpreters.TOP / "nothing"), mock.patch.object(sys, "executable", "/opt/python"):
+            self.assertIsNone(interpreters.other_interpreter(["json"]))
+
+    def test_a_command_ends_with_a_line(self):
+        errors = io.StringIO()
+        with mock.patch.dict(commands.LIBRARIES, {"report": ("no_such_library",)}), contextlib.redirect_stderr(errors):
+            self.assertEqual(commands.main(["report", "R"]), 1)
+        self.assertRegex(errors.getvalue(), r"\Ahydroplan: report needs no_such_library, which \S+ has not got: .* for /usr/bin/python3\n\Z")
+
+
+if __name__ == "__main__":
+    unittest.main()
