@@ -2,7 +2,6 @@
 from __future__ import annotations
 
 import os
-import shutil
 import subprocess
 from dataclasses import dataclass
 from pathlib import Path
@@ -81,9 +80,13 @@ def sink_of(streams: Streams) -> Optional[int]:
 
 
 def as_nobody(program: Path, folder: Path) -> Tuple[Path, Dict[str, Any]]:
-    """A copy of the program that anybody may run, and how it is run by somebody who may read the folder and not write it."""
+    """A copy of the program that anybody may run, and how it is run by somebody who may read the folder and not write it.
+
+    Another process copies it: a file that is open for writing here would be open in programs that other threads start at the
+    same moment, and could not be run as long as they hold it.
+    """
     copy = folder / "program"
-    shutil.copyfile(program, copy)
+    subprocess.run(["cp", str(program), str(copy)], check=True)
     for place in (copy, folder):
         place.chmod(0o555)
     return copy, {"user": NOBODY, "group": NOBODY, "extra_groups": []} if os.geteuid() == 0 else {}
