@@ -1,4 +1,4 @@
-//! What a problem file says, by the names that stand in it.
+//! Reads a problem file as it stands: a document of nodes, stages and numbers, each by its name.
 #![tactic(auto)]
 
 pub mod worked;

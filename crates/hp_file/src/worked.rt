@@ -3,7 +3,7 @@ ghost use Rattle.std.specs.Prelude.{◌≡◌, ℕ, ℤ, pos, negsuc, List, [], 
 ghost use Rattle.hp_file.specs.File.{Function, Constraint, State, Stage, Realization, Link, Node, File, under, whole, function_of, constraint_of, objective_of, stage_of, realization_of, file_at};
 ghost use Rattle.hp_file.specs.Examples.{said, valued, tested, at_node, name_twice, no_constant, no_terms, with_point, two_names, quadratic, equal_to, greater_than, less_than, interval, crossed_interval, integer, with_constant, least, greatest, feasible, two_bounds, only_w, one_reservoir, with_stop, without_values, of_version_2, key_twice};
 
-/// What the definitions say of small documents; a definition with one word changed says something else.
+/// Applies the definitions to small documents. A definition with one word changed gives something else for one of them.
 pub fn worked_rows()
     ensures both_terms_count { valued 2 (pos 5) (said function_of name_twice) ≡ Some (pos 29) }
     ensures constant_absent { valued 2 (pos 5) (said function_of no_constant) ≡ Some (negsuc 14) }

@@ -1,4 +1,4 @@
--- What the file means is what its problem means: its nodes, its policies and their costs, and so bounds and cuts.
+-- The file and the problem that is read from it mean the same: nodes, policies and their costs, and so bounds and cuts.
 use Rattle.std.proofs.Common.{◌≡◌, ◌↔◌, ℕ, zero, suc, ◌*◌, ◌<◌, ℤ, pos, ◌+ℤ◌, ◌*ℤ◌, true, List, [], ◌∷◌, length, map, sum, get_or, Contains, slice_get, Option, Some, IsSomeAnd, refl, sym, ap, ap₂, subst, ◌∙◌, arith}
 use Rattle.std.proofs.lemmas.List.Elements.{All-contains, All-weaker}
 use Rattle.std.proofs.lemmas.Option.{same_Some}

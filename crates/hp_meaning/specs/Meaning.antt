@@ -1,4 +1,4 @@
--- What a problem file means: when numbers satisfy a stage, what a policy is and costs, and when a bound and a cut hold.
+-- Defines by the names of a problem file when numbers satisfy a stage, which trees are policies, their costs, bounds and cuts.
 use Rattle.std.specs.Prelude.{◌≡◌, ℕ, ◌+◌, ◌*◌, ◌<◌, ℤ, pos, ◌+ℤ◌, ◌*ℤ◌, List, [], ◌∷◌, map, sum, All, Contains, true, Option, Some, None, option_map, unwrap_or, IsSomeAnd, bytes_eq, if◌then◌else◌}
 use Rattle.hp_num.specs.Sums.{dot}
 use Rattle.hp_theory.specs.Fraction.{Fraction, ◌≤ᶠ◌, nothing, plus, times, over, weighted}

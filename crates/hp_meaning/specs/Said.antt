@@ -1,4 +1,4 @@
--- What ties a problem file to the problem that the reader gives.
+-- Ties a problem file to the problem that the reader gives.
 use Rattle.std.specs.Prelude.{◌≡◌, ◌↔◌, ℕ, ℤ, List, [], ◌∷◌, map, slice_get, All, true, Option, Some, None}
 use Rattle.hp_problem.specs.declared.raw.State as raw
 use Rattle.hp_problem.specs.declared.raw.Decision.{Decision}

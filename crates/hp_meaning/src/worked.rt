@@ -5,7 +5,7 @@ ghost use Rattle.hp_file.specs.Examples.{one_reservoir, with_stop, without_value
 ghost use Rattle.hp_meaning.specs.Meaning.{Plans, IsPolicy, policy_cost, IsBound};
 ghost use Rattle.hp_meaning.specs.Examples.{halves, one_higher, to_the_stop};
 
-/// What policies of small files are and cost; a definition with one word changed gives something else.
+/// Costs of policies of small files. A definition with one word changed gives something else for one of them.
 pub fn worked_rows()
     ensures policy { IsSomeAnd (file_at one_reservoir) (λ f. IsPolicy f 2 halves) }
     ensures cost_of_policy { option_map (λ (f : File). policy_cost f 2 halves) (file_at one_reservoir)

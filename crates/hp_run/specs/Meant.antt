@@ -1,4 +1,4 @@
--- What was written, by what the problem file means.
+-- Says of the lines of a report what they claim of the problem file itself.
 use Rattle.std.specs.Prelude.{◌≡◌, ℕ, List, All, Option, None, Some, IfSome, IsSome, slice_get, Ok, ⊤}
 use Rattle.hp_theory.specs.declared.cut.Cut.{Cut}
 use Rattle.hp_file.specs.File.{Name, File, file_at}

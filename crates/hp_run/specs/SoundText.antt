@@ -1,4 +1,4 @@
--- When the text of a report is sound: what a reader has to believe of it, apart from the solver and from training.
+-- Defines when the text of a report is sound, without the solver and without training.
 use Rattle.std.specs.Prelude.{◌≡◌, ℕ, ℤ, ◌≤ℤ◌, List, All, Ok, ⊤}
 use Rattle.hp_problem.specs.Sealed.{Sealed}
 use Rattle.hp_sof.specs.Problem.{problem_at}

@@ -1,4 +1,4 @@
-// What follows over two runs. A law is the contract of a function with an empty body.
+// Laws over two runs. A law is the contract of a function with an empty body.
 ghost use Rattle.std.specs.Prelude.{◌≡◌, ◌≤◌, ◌++◌, ℕ, List, Option, Ok};
 ghost use Rattle.sha2.specs.Sha256.{sha256};
 ghost use Rattle.hp_cut.specs.declared.entry.Entry.{Entry};

@@ -1,4 +1,4 @@
--- What the reader finds of weights is what the document says there.
+-- The reader finds the weights that stand in the document.
 use Rattle.std.proofs.Common.{◌≡◌, ℤ, pos, false, Some, Ok, int_lt, unsigned_abs, refl, subst, arith}
 use Rattle.std.proofs.lemmas.Int.{ints}
 use Rattle.serde_json.specs.Data.{Data}

@@ -1,4 +1,4 @@
--- What the reader accepts is a file, and says by names what the reader gives by numbers.
+-- A document that the reader accepts is a file, and says by names what the reader gives by numbers.
 use Rattle.std.proofs.Common.{◌≡◌, ℕ, pos, List, map, codes, true, Option, Some, None, option_map, option_and_then, IsSomeAnd, Ok, slice_get, refl, sym, ap, subst, ◌∙◌}
 use Rattle.std.specs.List.{AllZip}
 use Rattle.std.specs.Str.{is_utf8}

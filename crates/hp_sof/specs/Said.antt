@@ -1,4 +1,4 @@
--- What ties a problem file to the parts that the reader gives.
+-- Ties a problem file to the parts that the reader gives.
 use Rattle.std.specs.Prelude.{◌≡◌, ℕ, ℤ, List, [], ◌∷◌, map, slice_get, Some, IsSomeAnd}
 use Rattle.hp_problem.specs.declared.raw.State as states
 use Rattle.hp_problem.specs.declared.raw.Node as nodes

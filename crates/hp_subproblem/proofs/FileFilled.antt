@@ -1,4 +1,4 @@
--- What the reader gives of a stage's constraints: the decisions, and when boxes, rows and given bounds are kept.
+-- The constraints that the reader gives of a stage: the decisions, and when boxes, rows and given bounds are kept.
 use Rattle.std.proofs.Common.{◌≡◌, ◌↔◌, ℕ, ◌<◌, ℤ, List, length, map, get_or, true, Some, None, Ok, refl, sym, ap, subst, ◌∙◌}
 use Rattle.std.specs.List.{AllByRecursion}
 use Rattle.std.proofs.lemmas.List.{length-map}

@@ -1,4 +1,4 @@
--- What the reader finds in a document is what the document says there.
+-- The reader finds in a document the parts that stand there.
 use Rattle.std.proofs.Common.{◌≡◌, ℕ, ◌^◌, ℤ, pos, List, Bool, true, false, Option, Some, None, Result, Ok, nat_le, unsigned_abs, if◌then◌else◌, ap}
 use Rattle.serde_json.specs.Data.{unsigned, negative, float, Data, null, boolean, number, string, array, object, Items, no_items, Members, no_members}
 use Rattle.serde_json.specs.Find.{as_str, as_array, as_object}

@@ -1,4 +1,4 @@
--- What ties a stage of a problem file to the subproblem that the reader gives.
+-- Ties a stage of a problem file to the subproblem that the reader gives.
 use Rattle.std.specs.Prelude.{◌≡◌, ◌↔◌, ℕ, ◌<◌, ℤ, pos, ◌+ℤ◌, ◌*ℤ◌, ◌≤ℤ◌, List, ◌++◌, length, map, get_or, true, Option, Some, None}
 use Rattle.std.specs.Str.{bytes_eq}
 use Rattle.std.specs.List.{AllByRecursion, IsDistinct}
