@@ -1,4 +1,4 @@
--- What holds of all variables, states and rows, by their kinds.
+-- Laws about all variables, states and rows, shown kind by kind.
 use Rattle.std.proofs.Common.{◌≡◌, ℕ, suc, ◌<◌, List, [], ◌∷◌, ◌++◌, length, map, flat_map, All, Bool, true, false, nat_le, if◌then◌else◌, refl, arith, leb-true}
 use Rattle.std.proofs.lemmas.List.Elements.{All-nil, All-cons, All-append}
 use Rattle.hp_problem.specs.declared.raw.Row.{Row}

@@ -1,4 +1,4 @@
--- What hydro plants keep from stage to stage, what is decided in a stage, and what is not known before it.
+-- The states, the decisions and the random variables of a stage of hydro plants.
 use Rattle.std.specs.Prelude.{ℕ, suc, ◌+◌, ◌^◌, ℤ, pos, ◌+ℤ◌, List, [], ◌∷◌, ◌++◌, length, map, get_or, Option, Some, None, nat_le, if◌then◌else◌}
 use Rattle.std.specs.List.{flat_map}
 use Rattle.hp_num.specs.Sums.{entry, same_place}

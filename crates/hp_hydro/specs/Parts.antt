@@ -1,4 +1,4 @@
--- What stands in a sum for each plant of a kind.
+-- The terms that the plants of a kind add to a sum.
 use Rattle.std.specs.Prelude.{ℕ, [], ◌∷◌, length}
 use Rattle.std.specs.List.{flat_map}
 use Rattle.hp_paths.specs.Paths.{numbers}

@@ -1,4 +1,4 @@
--- What a plan costs: the average by the weights of thermal and deficit costs and what comes after.
+-- The expected cost of a plan: thermal and deficit costs and the cost of later stages, averaged by the weights.
 use Rattle.std.specs.Prelude.{ℕ, ◌+◌, ◌+ℤ◌, ◌*ℤ◌, List, [], ◌∷◌}
 use Rattle.hp_num.specs.Sums.{total}
 use Rattle.hp_theory.specs.Fraction.{Fraction, nothing, plus, times, over}

@@ -1,4 +1,4 @@
--- What the variables of a stage have to meet: water is kept, what is under way comes nearer, and each bus is served.
+-- The rows of a stage: the water balance of each reservoir, the water under way, and the energy balance of each bus.
 use Rattle.std.specs.Prelude.{ℕ, suc, ℤ, pos, ◌*ℤ◌, ◌-ℤ◌, neg_ℤ, List, ◌++◌, map, Some}
 use Rattle.std.specs.List.{flat_map}
 use Rattle.hp_num.specs.Sums.{same_place}

@@ -1,4 +1,4 @@
--- What the code's columns stand for.
+-- The variables of the definitions for which the code's columns stand.
 use Rattle.std.specs.Prelude.{ℕ}
 use Rattle.hp_hydro.specs.declared.columns.Store as declared_store
 use Rattle.hp_hydro.specs.declared.columns.Store.TheVariants as store

@@ -1,4 +1,4 @@
-// What is kept from stage to stage, and the variables of a stage, in the order in which they are written.
+// The states and the variables of a stage, in the order in which they are written.
 ghost use Rattle.std.specs.Prelude.{◌≡◌, ◌++◌, map, IfOk, OnOk};
 ghost use Rattle.std.specs.List.{flat_map};
 ghost use Rattle.hp_hydro.specs.Layout.{all_reservoirs, all_thermals, all_lines, all_buses, volume_of, thermal_of, line_of, travel, steps, way_at, ways, stores};
@@ -9,7 +9,7 @@ use crate::plants::travel;
 use hp_plants::Plants;
 use std::alloc::{AllocError, Global};
 
-/// What is kept from stage to stage.
+/// A state: a quantity that is carried from stage to stage.
 #[derive(Clone, Copy)]
 pub(crate) enum Store {
     /// The volume of a reservoir.
@@ -21,32 +21,32 @@ pub(crate) enum Store {
 /// A variable of a stage. Reservoirs, thermals, lines and buses stand by their numbers.
 #[derive(Clone, Copy)]
 pub(crate) enum Column {
-    /// What is kept, before the stage.
+    /// A state before the stage.
     Before(Store),
-    /// What is kept, after the stage.
+    /// A state after the stage.
     After(Store),
-    /// What flows into a reservoir.
+    /// The inflow into a reservoir.
     Inflow(usize),
-    /// What is asked for at a bus.
+    /// The demand at a bus.
     Demand(usize),
-    /// What goes through the turbine of a reservoir.
+    /// The water through the turbine of a reservoir.
     Turbine(usize),
-    /// What goes past it.
+    /// The spill of a reservoir.
     Spill(usize),
     /// The energy of a thermal.
     Thermal(usize),
     /// The energy on a line.
     Line(usize),
-    /// What is missing at a bus.
+    /// The deficit at a bus.
     Deficit(usize),
 }
 
-/// What is not known before a stage.
+/// A kind of random variable, which is drawn before a stage is decided.
 #[derive(Clone, Copy)]
 pub(crate) enum Random {
-    /// What flows into the reservoirs.
+    /// The inflow into each reservoir.
     Inflow,
-    /// What is asked for at the buses.
+    /// The demand at each bus.
     Demand,
 }
 
@@ -82,7 +82,7 @@ fn push_volumes(list: &mut Vec<Store>, plants: &Plants) -> Result<(), AllocError
     Ok(())
 }
 
-/// All that is kept, in the order of its names. [`AllocError`] where memory was refused.
+/// Gives all states, in the order of their names. [`AllocError`] where memory was refused.
 pub(crate) fn stores(alloc: Global, plants: &Plants) -> Result<Vec<Store>, AllocError>
     ensures { IfOk result (λ list. map store_of list.items ≡ stores plants.now) }
 {

@@ -10,7 +10,7 @@ use hp_forms::{digit, text_of};
 use hp_plants::Plants;
 use std::alloc::{AllocError, Global};
 
-// What belongs to a plant or a bus: letters, a colon and its name.
+// Builds the name of a quantity of a plant or a bus: letters, a colon and the name of the plant or the bus.
 #[tactic(auto, unfolding(crate::specs::Columns::named))]
 fn named(alloc: Global, letters: &str, name: &str) -> Result<String, AllocError>
     ensures { IfOk result (λ s. string_bytes s ≡ named letters.now name.now) }
@@ -21,7 +21,7 @@ fn named(alloc: Global, letters: &str, name: &str) -> Result<String, AllocError>
     Ok(text)
 }
 
-// What belongs to water under way: a letter and the number of stages, a colon and the reservoir's name.
+// Builds the name of a quantity of water under way: a letter and the number of stages, a colon and the reservoir's name.
 fn staged(alloc: Global, letter: u8, stages: u32, name: &str) -> Result<String, AllocError>
     requires { letter < 128 }
     ensures { IfOk result (λ s. string_bytes s ≡ named (staged letter stages) name.now) }
@@ -30,7 +30,7 @@ fn staged(alloc: Global, letter: u8, stages: u32, name: &str) -> Result<String, 
     named(alloc, text_of(&letters), name)
 }
 
-/// The name of a state. [`AllocError`] where memory was refused, as of all functions here.
+/// Gives the name of a state. [`AllocError`] where memory was refused, as of all functions here.
 #[tactic(auto, unfolding(crate::specs::Columns::state_name))]
 pub(crate) fn state_name(alloc: Global, plants: &Plants, store: Store) -> Result<String, AllocError>
     ensures { IfOk result (λ s. string_bytes s ≡ state_name plants.now (store_of store)) }
@@ -41,7 +41,7 @@ pub(crate) fn state_name(alloc: Global, plants: &Plants, store: Store) -> Result
     }
 }
 
-/// The variable that is a state before the stage.
+/// Gives the name of the variable that is a state before the stage.
 #[tactic(auto, unfolding(crate::specs::Columns::before_name))]
 pub(crate) fn before_name(
     alloc: Global,
@@ -56,7 +56,7 @@ pub(crate) fn before_name(
     }
 }
 
-/// The variable that is a state after the stage.
+/// Gives the name of the variable that is a state after the stage.
 #[tactic(auto, unfolding(crate::specs::Columns::after_name))]
 pub(crate) fn after_name(alloc: Global, plants: &Plants, store: Store) -> Result<String, AllocError>
     ensures { IfOk result (λ s. string_bytes s ≡ after_name plants.now (store_of store)) }
@@ -67,7 +67,7 @@ pub(crate) fn after_name(alloc: Global, plants: &Plants, store: Store) -> Result
     }
 }
 
-/// What flows into a reservoir.
+/// Gives the name of the inflow into a reservoir.
 #[tactic(auto, unfolding(crate::specs::Columns::chance_name))]
 pub(crate) fn inflow_name(alloc: Global, plants: &Plants, j: usize) -> Result<String, AllocError>
     ensures { IfOk result (λ s. string_bytes s ≡ chance_name plants.now (inflow_of j)) }
@@ -75,7 +75,7 @@ pub(crate) fn inflow_name(alloc: Global, plants: &Plants, j: usize) -> Result<St
     named(alloc, "w", reservoir_name(plants, j))
 }
 
-/// What is asked for at a bus.
+/// Gives the name of the demand at a bus.
 #[tactic(auto, unfolding(crate::specs::Columns::chance_name))]
 pub(crate) fn demand_name(alloc: Global, plants: &Plants, b: usize) -> Result<String, AllocError>
     ensures { IfOk result (λ s. string_bytes s ≡ chance_name plants.now (demand_of b)) }
@@ -83,7 +83,7 @@ pub(crate) fn demand_name(alloc: Global, plants: &Plants, b: usize) -> Result<St
     named(alloc, "d", bus_name(plants, b))
 }
 
-/// What is not known of a reservoir or of a bus.
+/// Gives the name of a random variable of a reservoir or of a bus.
 pub(crate) fn random_name(
     alloc: Global,
     plants: &Plants,
@@ -98,7 +98,7 @@ pub(crate) fn random_name(
     }
 }
 
-/// The name of a variable.
+/// Gives the name of a variable.
 #[tactic(auto, unfolding(crate::specs::Columns::column_name, crate::specs::Columns::variable_name))]
 pub(crate) fn column_name(
     alloc: Global,

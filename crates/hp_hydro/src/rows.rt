@@ -13,7 +13,7 @@ use hp_plants::Plants;
 use serde_json::Value;
 use std::alloc::{AllocError, Global};
 
-// One more term.
+// Appends a term.
 fn push(
     alloc: Global,
     plants: &Plants,
@@ -28,7 +28,7 @@ fn push(
     push_term(alloc, list, coefficient, name.as_str())
 }
 
-// One more term, where there is one.
+// Appends a term, where there is one.
 fn push_where(
     alloc: Global,
     plants: &Plants,
@@ -46,28 +46,28 @@ fn push_where(
     push(alloc, plants, list, coefficient, column)
 }
 
-// ---- what stands in a sum for each plant of a kind
+// ---- the terms of a sum, for each plant of a kind
 
 // A part of a sum, with the number of the reservoir or of the bus whose sum it is.
 #[derive(Clone, Copy)]
 enum Part {
-    // What comes to a reservoir, from each reservoir.
+    // The water that comes into a reservoir, from each reservoir.
     Coming(usize),
-    // What each reservoir's turbine gives to a bus.
+    // The energy that each reservoir's turbine gives to a bus.
     Turbined(usize),
-    // What each thermal gives to a bus.
+    // The energy that each thermal gives to a bus.
     Burned(usize),
-    // What each line brings to a bus.
+    // The energy that each line brings to a bus.
     Arriving(usize),
-    // What each line takes from a bus.
+    // The energy that each line takes from a bus.
     Leaving(usize),
-    // What the energy of each thermal costs.
+    // The cost of each thermal's energy.
     ThermalCost,
-    // What the energy that is missing at each bus costs.
+    // The cost of each bus's deficit.
     DeficitCost,
 }
 
-// How many plants there are of the kind.
+// Counts the plants of the kind.
 fn count(plants: &Plants, part: Part) -> usize
     ensures { result ≡ count_of plants.now part }
 {
@@ -79,7 +79,7 @@ fn count(plants: &Plants, part: Part) -> usize
     }
 }
 
-// What comes to reservoir `j` from reservoir `i`.
+// Appends the water that comes into reservoir `j` from reservoir `i`.
 #[tactic(auto, unfolding(crate::specs::Stage::coming))]
 fn push_coming(
     alloc: Global,
@@ -105,7 +105,7 @@ fn push_coming(
     push(alloc, plants, list, -1, Column::Spill(i))
 }
 
-// What stands for one plant.
+// Appends the terms of one plant.
 #[tactic(auto, unfolding(crate::specs::Stage::turbined_at, crate::specs::Stage::burned_at, crate::specs::Stage::arriving_at, crate::specs::Stage::leaving_at))]
 fn push_part(
     alloc: Global,
@@ -147,7 +147,7 @@ fn push_part(
     }
 }
 
-// What stands for all plants of the kind.
+// Appends the terms of all plants of the kind.
 fn push_all(
     alloc: Global,
     plants: &Plants,
@@ -186,7 +186,7 @@ fn water_terms(alloc: Global, plants: &Plants, j: usize) -> Result<Vec<Value>, A
     Ok(list)
 }
 
-/// The row that keeps the water of a reservoir. [`AllocError`] where memory was refused, as of all functions here.
+/// Gives the water balance of a reservoir. [`AllocError`] where memory was refused, as of all functions here.
 #[tactic(auto, unfolding(crate::specs::Stage::zero_row))]
 pub(crate) fn water_row(alloc: Global, plants: &Plants, j: usize) -> Result<Value, AllocError>
     ensures { IfOk result (λ v. view v ≡ zero_row plants.now (water_sum plants.now j)) }
@@ -197,7 +197,8 @@ pub(crate) fn water_row(alloc: Global, plants: &Plants, j: usize) -> Result<Valu
 
 // ---- water under way
 
-// What the water of reservoir `j` that is `away` stages away was before.
+// Appends the source of the water of reservoir `j` that is `away` stages away: the water that was one stage further away, or at
+// the full travel the turbined water and the spill.
 fn push_way_source(
     alloc: Global,
     plants: &Plants,
@@ -240,7 +241,7 @@ fn way_terms(alloc: Global, plants: &Plants, j: usize, away: u32) -> Result<Vec<
     Ok(list)
 }
 
-/// The row that brings the water under way from a reservoir nearer.
+/// Gives the row that brings the water under way from a reservoir one stage nearer.
 #[tactic(auto, unfolding(crate::specs::Stage::zero_row))]
 pub(crate) fn way_row(
     alloc: Global,
@@ -272,7 +273,7 @@ fn bus_terms(alloc: Global, plants: &Plants, b: usize) -> Result<Vec<Value>, All
     Ok(list)
 }
 
-/// The row that serves a bus.
+/// Gives the energy balance of a bus.
 #[tactic(auto, unfolding(crate::specs::Stage::zero_row))]
 pub(crate) fn bus_row(alloc: Global, plants: &Plants, b: usize) -> Result<Value, AllocError>
     ensures { IfOk result (λ v. view v ≡ zero_row plants.now (bus_sum plants.now b)) }
@@ -283,7 +284,7 @@ pub(crate) fn bus_row(alloc: Global, plants: &Plants, b: usize) -> Result<Value,
 
 // ---- costs
 
-/// The costs of thermals and of deficits.
+/// Gives the costs of thermals and of deficits.
 #[tactic(auto, unfolding(crate::specs::Stage::cost_sum))]
 pub(crate) fn cost_terms(alloc: Global, plants: &Plants) -> Result<Vec<Value>, AllocError>
     ensures { IfOk result (λ list. map view list.items

@@ -15,7 +15,7 @@ ghost use Rattle.hp_hydro.specs.Nodes.{nodes};
 ghost use Rattle.hp_hydro.specs.Text.{root, hydro_text};
 ghost use Rattle.hp_hydro.specs.Examples.{one_stage, one_stage_node, one_stage_text, cascade_names, cascade_rows_text, cascade_bounds_text, cascade_states_text, cascade_nodes_text, cascade_root_text, at_once_row_text, nine_plan, cascade, two_stages_node, at_once_rows, moving, still};
 
-/// What the definitions give on small descriptions.
+/// The definitions' values on small descriptions.
 pub fn worked_rows()
     ensures one_stage { node_at (problem_of_plants one_stage) 0 ≡ one_stage_node }
     ensures one_stage_cost { plan_cost one_stage 2 nine_plan ≡ record { up = pos 90; under = 2 } }
@@ -31,7 +31,7 @@ pub fn worked_rows()
     ensures arrived_at_once { ahead (cascade 0) 1 (moving ∷ []) ≡ pos 8 ∷ pos 8 ∷ [] }
 {}
 
-/// What is written of small descriptions.
+/// The texts that the definitions write of small descriptions.
 pub fn worked_texts()
     ensures one_stage { hydro_text one_stage ≡ one_stage_text }
     ensures columns { map (column_name (cascade 2)) (columns (cascade 2)) ≡ cascade_names }

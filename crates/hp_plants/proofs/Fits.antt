@@ -1,4 +1,4 @@
--- What was read has what every description has.
+-- A description that was read keeps the ranges of every description.
 use Rattle.std.proofs.Common.{◌≡◌, ◌≤◌, ◌<◌, ◌≤ℤ◌, ◌^◌, ℕ, ℤ, pos, List, [], length, map, true, ◌&&◌, Option, Some, None, IfSome, Ok, int_le, nat_le, nat_lt, codes, sym, ap, subst, ◌∙◌, arith}
 use Rattle.std.specs.List.{AllByRecursion}
 use Rattle.std.proofs.lemmas.Bool.{leb-true, ltb-true}

@@ -1,4 +1,4 @@
--- What every description has that is read.
+-- The ranges that every description keeps once it is read.
 use Rattle.std.specs.Prelude.{◌≡◌, ◌≤◌, ◌<◌, ℕ, ℤ, pos, true, List, length, IfSome}
 use Rattle.std.specs.List.{AllByRecursion}
 use Rattle.hp_problem.specs.Distinct.{rises, is_before}

@@ -7,16 +7,16 @@ use Rattle.hp_plants.specs.declared.refusal.HydroRefusal.{HydroRefusal}
 use Rattle.hp_plants.specs.declared.refusal.HydroFault.{HydroFault}
 use Rattle.hp_plants.specs.declared.refusal.HydroFault.TheVariants as faults
 
--- What a function's error means: what was refused, or that memory ran out.
+-- The meaning of a function's error: the refusal that the definition gives, or that memory ran out.
 abbrev pub Fails : {Y : Type 0} → HydroFault → Result Y HydroRefusal → Type 0
 Fails (faults.Refused r) read = read ≡ Err r
 Fails faults.Memory read = Unit {0}
 
--- What a function returned, seen by view, is what reading gives, unless memory ran out.
+-- A function gives what the definition reads: its answer, seen by view, is equal to it, unless memory ran out.
 abbrev pub Gives : {X Y : Type 0} → (X → Y) → Result X HydroFault → Result Y HydroRefusal → Type 0
 Gives view result read = GivesOr Fails view result read
 
--- The same of a function that takes no memory.
+-- Like `Gives`, for a function that takes no memory.
 abbrev pub Shows : {X Y : Type 0} → (X → Y) → Result X HydroRefusal → Result Y HydroRefusal → Type 0
 Shows view result read = GivesOr (λ e steps. steps ≡ Err e) view result read
 

@@ -1,4 +1,4 @@
-// What holds of every description that is read.
+// Ranges that every description keeps once it is read.
 ghost use Rattle.std.specs.Prelude.{◌≡◌, ℕ, List, Ok};
 ghost use Rattle.hp_plants.specs.declared.plants.Plants.{Plants};
 ghost use Rattle.hp_plants.specs.Described.{IsPlants};

@@ -11,12 +11,12 @@ pub struct Bus {
     pub deficit_cost: i64,
 }
 
-/// Where the water goes that leaves a reservoir.
+/// The way of the water that leaves a reservoir.
 #[derive(Clone, Copy, Debug, PartialEq, Eq)]
 pub struct Travel {
     /// The reservoir that it reaches.
     pub target: u32,
-    /// After how many stages it is there, 0 to 3.
+    /// The number of stages after which it arrives, 0 to 3.
     pub stages: u32,
 }
 
@@ -69,7 +69,7 @@ pub struct Line {
     pub high: i64,
 }
 
-/// What may flow into the reservoirs in a stage.
+/// A realization of the inflows into the reservoirs in a stage.
 #[derive(Drop)]
 pub struct Inflow {
     /// Its share of the total of the stage's weights, at least 1.

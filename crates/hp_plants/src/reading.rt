@@ -19,7 +19,8 @@ use hp_fields::{Names, few, keys};
 use serde_json::{Map, Value};
 use std::alloc::Global;
 
-// What the tables hold, where `bus_names` and `reservoir_names` are the names of all buses and of all reservoirs.
+// Reads the description that the tables hold. `bus_names` and `reservoir_names` are the names of all buses and of all
+// reservoirs.
 #[tactic(auto, unfolding(crate::specs::Plants::described_at))]
 fn described(
     alloc: Global,
@@ -46,7 +47,7 @@ fn described(
     })
 }
 
-// The description that a JSON value gives, or the first refusal.
+// Reads the description that a JSON value gives, or the first refusal.
 #[tactic(auto, unfolding(crate::specs::Plants::plants_of))]
 fn plants(alloc: Global, value: &Value) -> Result<Plants, HydroFault>
     ensures { Gives (λ p. p) result (plants_of (view value.now)) }
@@ -58,7 +59,7 @@ fn plants(alloc: Global, value: &Value) -> Result<Plants, HydroFault>
     described(alloc, &bus_names, &reservoir_names, &tables)
 }
 
-// The description that the bytes give, or the first refusal.
+// Reads the description that the bytes give, or the first refusal.
 #[tactic(auto, unfolding(crate::specs::Plants::plants_at))]
 fn read(alloc: Global, bytes: &[u8]) -> Result<Plants, HydroFault>
     ensures { Gives (λ p. p) result (plants_at bytes.now) }
@@ -67,7 +68,7 @@ fn read(alloc: Global, bytes: &[u8]) -> Result<Plants, HydroFault>
     plants(alloc, &value)
 }
 
-/// The description of plants that the bytes give, or the first refusal, or Memory where memory was refused.
+/// Reads the description of plants that the bytes give. The error is the first refusal, or Memory where memory was refused.
 pub fn read_plants(alloc: Global, bytes: &[u8]) -> Result<Plants, HydroFault>
     ensures value { Gives (λ p. p) result (plants_at bytes.now) }
     ensures known { IfOk result IsPlants }

@@ -1,11 +1,11 @@
-// What is wrong with a hydro description, and where.
+// Refusals of a hydro description: the kind of fault and its place.
 ghost use Rattle.std.specs.Prelude.{◌≡◌};
 ghost use Rattle.hp_plants.specs.declared.refusal.HydroFault.TheVariants as faults;
 
 use hp_num::Memory;
 use std::alloc::{AllocError, AllocFailed};
 
-/// What is wrong.
+/// A kind of fault.
 #[derive(Clone, Copy, Debug, PartialEq, Eq)]
 pub enum HydroKind {
     /// The bytes spell no JSON value, or one of more than 127 levels.
@@ -16,7 +16,7 @@ pub enum HydroKind {
     NotWhole,
     /// A number, a count or a total is outside its range, or a name is not of the form that names have.
     Limit,
-    /// A name names nothing.
+    /// A name stands for nothing in the description.
     UnknownName,
     /// The reservoirs and the sum of all travels are more than 50.
     States,
@@ -40,12 +40,12 @@ pub enum HydroPart {
     Stage,
 }
 
-/// What is wrong first, and where.
+/// The first fault of a description, and its place.
 #[derive(Clone, Copy, Debug, PartialEq, Eq)]
 pub struct HydroRefusal {
-    /// What is wrong.
+    /// The kind of fault.
     pub kind: HydroKind,
-    /// The part where it is wrong.
+    /// The faulty part.
     pub part: HydroPart,
     /// The first number of the place.
     pub a: u32,
@@ -53,10 +53,10 @@ pub struct HydroRefusal {
     pub b: u32,
 }
 
-/// Why no plants were read.
+/// The reason why no plants were read.
 #[derive(Clone, Copy, Debug, PartialEq, Eq)]
 pub enum HydroFault {
-    /// What is wrong first, and where.
+    /// The description is refused: its first fault, and where.
     Refused(HydroRefusal),
     /// Memory was refused.
     Memory,

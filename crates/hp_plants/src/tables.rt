@@ -21,7 +21,7 @@ const MOST_LINES: usize = 40;
 
 const MOST_STAGES: usize = 100;
 
-/// What a description holds.
+/// The tables and the list of stages in a description.
 #[derive(Clone, Copy)]
 pub(crate) struct Tables<'v> {
     pub(crate) buses: &'v Map<String, Value>,

@@ -6,7 +6,7 @@ ghost use Rattle.hp_plants.specs.Examples.{one_stage, one_stage_plants, travel, 
 ghost use Rattle.hp_plants.specs.Plants.{plants_of};
 ghost use Rattle.hp_plants.specs.Texts.{word, hydro_refusal_text};
 
-/// What the definitions give on two small descriptions, and the refusals of worse ones.
+/// The definitions' values on two small descriptions, and the refusals of worse ones.
 pub fn worked_rows()
     ensures one_stage { plants_of one_stage ≡ Ok one_stage_plants }
     ensures travel { plants_of (travel (codes "b") 1 65534) ≡ Ok travel_plants }
