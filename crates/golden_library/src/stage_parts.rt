@@ -33,7 +33,7 @@ struct Counts {
 /// The node whose stage problem is measured.
 const NODE: u32 = 0;
 
-/// The stage problem at a moment, in the memory of rows that are spare.
+/// Builds the stage problem at a moment, in the workspace's buffers.
 fn stage_at<'a>(
     alloc: Global,
     spare: &mut SpareRows,
@@ -199,9 +199,9 @@ fn counts_of(words: &str) -> Result<Counts, RowFault> {
     })
 }
 
-/// What CUTS BUILDS SIDES SETTLES give: what stands after each part of the first node's stage problem. So many cuts are put
-/// behind the base cut of the node's first successor; the stage problem is built, is given other sides, and an answer of its
-/// size is settled, each so often and once.
+/// Gives the figures after each part of the first node's stage problem, by the words CUTS BUILDS SIDES SETTLES. So many cuts
+/// are put behind the base cut of the node's first successor; the stage problem is built, is given other sides, and an answer
+/// of its size is settled, each so often and once.
 pub fn measured(alloc: Global, problem: &Problem, words: &str) -> Result<String, RowFault> {
     let counts = counts_of(words)?;
     let node = successor(problem)?;

@@ -1,4 +1,4 @@
--- What a sweep changes in pools: at most one cut more at each node, and nothing at others than the path's.
+-- A sweep appends at most one cut at each node, and none at nodes that are not on the path.
 use Rattle.std.proofs.Common.{◌≡◌, ◌≢◌, ℕ, ◌+◌, ◌≤◌, ℤ, List, [], ◌∷◌, ◌++◌, length, zip, All, Result, Ok, Err, refl, ap, sym, subst, ◌∙◌, length-append, arith}
 use Rattle.std.proofs.lemmas.List.{get_or-set_other}
 use Rattle.std.proofs.lemmas.List.Elements.{All-head, All-tail}

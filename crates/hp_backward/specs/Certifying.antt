@@ -1,4 +1,4 @@
--- What the realizations of a node give at an incoming state: a certificate for each.
+-- The certificates of a node at an incoming state, one for each realization.
 use Rattle.std.specs.Prelude.{ℕ, ◌+◌, ◌/◌, ℤ, List, [], ◌∷◌, ◌++◌, length, map, take, drop, get_or, Result, Ok, Err}
 use Rattle.hp_num.specs.Steps.{◌>>=◌}
 use Rattle.hp_problem.specs.declared.raw.Node as nodes

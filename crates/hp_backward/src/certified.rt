@@ -26,7 +26,7 @@ pub(crate) struct Visit<'a, V: Solver> {
     pub(crate) problem: &'a Problem,
     pub(crate) pools: &'a Pools,
     pub(crate) solver: &'a V,
-    /// What the solver made ready for each node.
+    /// The solver's start for each node.
     pub(crate) starts: &'a Starts<V>,
     pub(crate) iteration: u32,
     pub(crate) node: u32,
@@ -55,7 +55,7 @@ impl Certified {
     }
 }
 
-/// The same items in a list of their own.
+/// Copies the items into a new list.
 fn copied<T: Copy + Drop>(alloc: Global, items: &[T]) -> Result<List<T>, Memory>
     ensures { IfOk result (λ found. found ≡ items.now) }
 {
@@ -65,7 +65,7 @@ fn copied<T: Copy + Drop>(alloc: Global, items: &[T]) -> Result<List<T>, Memory>
 }
 
 impl<'a, V: Solver> Visit<'a, V> {
-    /// The stage problem of the node at these values, in the memory of rows that are spare.
+    /// Builds the stage problem of the node at these values, in the workspace's buffers.
     pub(crate) fn stage(
         &self,
         alloc: Global,

@@ -22,7 +22,7 @@ use hp_problem::Problem;
 use hp_solver::{Solver, StageLp};
 use std::alloc::Global;
 
-/// The realizations with these values, in a chain that has begun with a stage problem of the node.
+/// Certifies the realizations with these values, in a chain that has begun with a stage problem of the node.
 fn certify_in_chain<V: Solver>(
     alloc: Global,
     here: &Visit<V>,
@@ -51,8 +51,8 @@ fn certify_in_chain<V: Solver>(
     Ok(found)
 }
 
-/// The realizations with these values, in a chain of their own, by a stage problem of the node over these pools: its sides
-/// are set anew for each. Without values nothing is begun.
+/// Certifies the realizations with these values, in a chain of their own, by a stage problem of the node over these pools,
+/// whose sides are set anew for each. Without values nothing is begun.
 pub(crate) fn certify_over<V: Solver>(
     alloc: Global,
     here: &Visit<V>,
@@ -78,7 +78,7 @@ pub(crate) fn certify_over<V: Solver>(
     certify_in_chain(alloc, here, values, lp, chain)
 }
 
-/// The same with a stage problem of its own.
+/// Like `certify_over`, with a stage problem of its own.
 pub(crate) fn certify_each<V: Solver>(
     alloc: Global,
     problem: &Problem,

@@ -56,7 +56,7 @@ fn joined(first: Certified, second: Certified) -> Result<Certified, Memory>
     })
 }
 
-/// What two parts gave, one after the other. Where both refuse, the first part's fault comes.
+/// Joins the certificates of two parts, one after the other. Where both refuse, the first part's fault comes.
 fn both(
     first: Result<Certified, SweepFault>,
     second: Result<Certified, SweepFault>,
@@ -70,7 +70,7 @@ fn both(
     Ok(joined(first?, second?)?)
 }
 
-/// The certificates of two parts of a node's realizations, each in a chain of its own, the chains beside each other.
+/// Certifies two parts of a node's realizations, each in a chain of its own, the chains beside each other.
 fn beside_each_other<R: Threads, V: Solver>(
     rt: &R,
     alloc: Global,
@@ -119,7 +119,7 @@ fn beside_each_other<R: Threads, V: Solver>(
     both(first, second)
 }
 
-/// The same, the chains one after the other, over one stage problem.
+/// Like `beside_each_other`, with the chains one after the other, over one stage problem.
 fn one_after_the_other<V: Solver>(
     alloc: Global,
     here: &Visit<V>,
@@ -142,7 +142,7 @@ fn one_after_the_other<V: Solver>(
     Ok(joined(first, second)?)
 }
 
-/// The same, beside each other where that is worth a thread, by a stage problem of the node.
+/// Like `beside_each_other` where a thread is worth it, by a stage problem of the node, and else like `one_after_the_other`.
 fn in_two_chains<R: Threads, V: Solver>(
     rt: &R,
     alloc: Global,
@@ -168,9 +168,9 @@ fn in_two_chains<R: Threads, V: Solver>(
     }
 }
 
-/// The certificates of a node's realizations: the first half in one chain, the rest in another. The chains go beside each
-/// other where that is worth a thread; the answer is the same. The stage problem is in the memory of rows that
-/// are spare, and are so again afterwards.
+/// Certifies a node's realizations: the first half in one chain, the rest in another. The chains go beside each other where
+/// that is worth a thread; the answer is the same. The stage problem is in the workspace's buffers, which are free again
+/// afterwards.
 pub(crate) fn certified<R: Threads, V: Solver>(
     rt: &R,
     alloc: Global,

@@ -105,18 +105,17 @@ fn made_at<R: Threads, V: Solver>(
     Ok((found, cut))
 }
 
-/// What a step back is told of the problem and its solver.
+/// The fixed parts of a sweep: the problem, and the solver with its starts.
 #[derive(Drop)]
 pub(crate) struct Training<'a, V: Solver> {
     pub(crate) problem: &'a Problem,
     pub(crate) solver: &'a V,
-    /// What the solver made ready for each node.
+    /// The solver's start for each node.
     pub(crate) starts: &'a Starts<V>,
 }
 
-/// One step back along a path: the cut of the step's node at its incoming state is appended to the pools, and its
-/// certificates to the entry. The stage problem is in the memory of rows that are spare, and are so again
-/// afterwards.
+/// Takes one step back along a path: appends the cut of the step's node at its incoming state to the pools, and its
+/// certificates to the entry. The stage problem is in the workspace's buffers, which are free again afterwards.
 #[tactic(auto, unfolding(crate::specs::Sweeping::step_back))]
 pub(crate) fn step_back<R: Threads, V: Solver>(
     rt: &R,

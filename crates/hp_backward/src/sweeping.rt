@@ -75,9 +75,9 @@ fn go_back<R: Threads, V: Solver>(
     Ok(())
 }
 
-/// The backward part of an iteration of training, for one path (Pereira and Pinto 1991): from its last step to its
-/// first, the realizations of the step's node are solved at the step's incoming state over the pools as they then are,
-/// and a cut is appended to the node's pool. What is added is the entry.
+/// Sweeps one path backward, as an iteration of training does (Pereira and Pinto 1991): from its last step to its first, the
+/// realizations of the step's node are solved at the step's incoming state over the pools as they then are, and a cut is
+/// appended to the node's pool. The entry holds the certificates of these cuts.
 ///
 /// The first half of a node's realizations, rounded down, and the rest are two chains of solves beside each other. The
 /// entry counts the answers that were of no use, those of the walk forward with them.
@@ -86,8 +86,8 @@ fn go_back<R: Threads, V: Solver>(
 /// node's certificates passes 2^127 - 1; [`SweepFault::Memory`] where memory was refused. After each of these the cuts
 /// of the pools are as before.
 ///
-/// The walk has one state per step, at scale 2^24, in the box of the step's node, and at most 1000 answers that were of
-/// no use. What is ready was made for this problem and this solver.
+/// The walk has one state per step, at scale 2^24, in the box of the step's node, and at most 1000 answers that were of no use.
+/// `starts` was made for this problem and this solver.
 pub fn sweep<R: Threads, V: Solver>(
     rt: &R,
     alloc: Global,
@@ -122,8 +122,7 @@ pub fn sweep<R: Threads, V: Solver>(
     )
 }
 
-/// The entry that [`sweep`] gives, the stage problems in the memory of rows that are spare. Its faults are those of
-/// [`sweep`].
+/// Like [`sweep`], in the workspace's buffers. Its faults are those of [`sweep`].
 pub fn sweep_with<R: Threads, V: Solver>(
     rt: &R,
     alloc: Global,

@@ -1,4 +1,4 @@
--- What a problem gives out of a node are its parts.
+-- The node, the subproblem and the box that a problem gives at an index are the parts of that node.
 use Rattle.std.proofs.Common.{◌≡◌, ℕ, ◌<◌, ℤ, true, List, length, slice_get, Some, sym, ap, ◌∙◌}
 use Rattle.hp_problem.specs.declared.raw.Node as nodes
 use Rattle.hp_problem.specs.declared.raw.Subproblem.{Subproblem}

@@ -1,4 +1,4 @@
--- The same place, or another.
+-- Laws of same_place: it is 1 of a place and itself, and 0 of two different places.
 use Rattle.std.proofs.Common.{◌≡◌, ◌≢◌, ℕ, zero, suc, pos, ap, refl}
 use Rattle.hp_num.specs.Sums.{same_place}
 

@@ -1,4 +1,4 @@
--- What the shares of a list of certificates say of its size and its cut with weights.
+-- The size and the cut of a list of certificates by given weights, from its shares.
 use Rattle.std.proofs.Common.{◌≡◌, ℕ, zero, suc, ◌+◌, ◌-◌, ◌*◌, ◌^◌, ◌<◌, ◌≤◌, ℤ, pos, ◌+ℤ◌, ◌*ℤ◌, ◌≤ℤ◌, true, List, [], ◌∷◌, ◌++◌, length, get_or, take, zip, min, arith, refl, ap, sym, subst, ◌∙◌, ⊎_elim}
 use mir.Syntax.{w128}
 use Rattle.std.specs.Int.{int_wrap}

@@ -1,4 +1,4 @@
--- What of a list of certificates no weight changes: the size and the constant of each realization.
+-- The shares of a list of certificates: the size and the constant of each realization, which no weight changes.
 use Rattle.std.specs.Prelude.{◌≡◌, ℕ, ◌^◌, ◌<◌, ℤ, List, [], length, get_or, min, slice_get, zip, IsSome, Option, Some, None, Result, Ok, Err}
 use Rattle.std.specs.List.{sum_by}
 use Rattle.hp_problem.specs.declared.raw.Node as nodes

@@ -1,4 +1,4 @@
--- What the walk over a size needs of a node's parts and weights, and what it answers.
+-- The premises on a node's parts and weights under which a size is computed, and the answers.
 use Rattle.std.specs.Prelude.{◌≡◌, ℕ, ◌+◌, ◌*◌, ◌<◌, ◌≤◌, ◌^◌, ℤ, true, List, [], length, sum, take, nat_abs, All}
 use Rattle.std.specs.List.{sum_by}
 use Rattle.hp_num.specs.Sums.{entry}

@@ -1,4 +1,4 @@
--- What the walk over a list of certificates needs of a node's parts.
+-- The premises on a node's parts under which a list of certificates is walked through.
 use Rattle.std.specs.Prelude.{◌≡◌, ℕ, ◌<◌, ◌≤◌, ◌^◌, length, All}
 use Rattle.hp_problem.specs.declared.raw.Node.{Node}
 use Rattle.hp_problem.specs.declared.raw.Subproblem.{Subproblem}

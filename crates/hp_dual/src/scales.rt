@@ -8,7 +8,7 @@ use hp_problem::Node;
 /// The scale of cuts and multipliers, S.
 pub(crate) const SCALE: i128 = hp_theory::SCALE as i128;
 
-/// The same in 64 bits.
+/// The scale of cuts and multipliers, S, in 64 bits.
 pub(crate) const SHORT_SCALE: i64 = hp_theory::SCALE as i64;
 
 /// The total of the weights.

@@ -1,4 +1,4 @@
--- What is decided by an answer, and what holds of it.
+-- The decisions by an answer, and their properties.
 use Rattle.std.proofs.Common.{◌≡◌, ◌∙◌, Bool, true, ℕ, ◌<◌, ℤ, List, [], length, map, get_or, slice_get, Option, Some, Result, Ok, Err, IfOk, Contains, option_and_then, refl, ap, sym, subst}
 use Rattle.hp_num.proofs.Tests.{some_of}
 use Rattle.hp_num.specs.Sums.{entry, table}

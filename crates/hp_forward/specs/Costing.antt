@@ -1,4 +1,4 @@
--- What decisions leave open of a row, and what a stage costs, both at scale S.
+-- The residual of a row at given decisions, and the cost of a stage, both at scale S.
 use Rattle.std.specs.Prelude.{ℤ, pos, neg_ℤ, ◌-ℤ◌, ◌*ℤ◌, int_lt, List, map, Option, Some, None, if◌then◌else◌}
 use Rattle.std.specs.Int.{int_max}
 use Rattle.hp_problem.specs.declared.raw.Row.{Row}

@@ -1,4 +1,4 @@
--- What is decided at a node by the answer to its stage problem, or why nothing can be.
+-- The decisions at a node by the answer to its stage problem, or the refutation where there are none.
 use Rattle.std.specs.Prelude.{ℕ, ◌^◌, ◌/◌, ℤ, pos, ◌*ℤ◌, Bool, true, false, List, length, get_or, Result, Ok, Err}
 use Rattle.std.specs.Int.{int_min, int_max}
 use Rattle.hp_num.specs.Sums.{entry, table, floor_over}

@@ -1,4 +1,4 @@
--- What code that may run out of memory gives of decisions, and what is said of its answers.
+-- The contracts of code that decides and may run out of memory.
 use Rattle.std.specs.Prelude.{◌≡◌, ℕ, ℤ, List, Result, Ok, Err}
 use Rattle.hp_num.specs.Steps.{GivesOr}
 use Rattle.hp_problem.specs.Sealed.{Sealed}

@@ -1,4 +1,4 @@
-// What decisions leave open of rows, and what a stage costs.
+// Residuals of rows, and costs of stages.
 ghost use Rattle.std.specs.Prelude.{◌≡◌, ◌<◌, ◌≤◌, ◌^◌, ℤ, List, pos, ◌+ℤ◌, length, get_or, nat_abs, true};
 ghost use Rattle.hp_problem.specs.Limits.{are_values};
 ghost use Rattle.hp_problem.specs.Sealed.{subproblem_of};
@@ -107,7 +107,7 @@ pub fn residual(
     residual_of(own, decisions, state, values)
 }
 
-/// What a row misses.
+/// Gives by how much the left side of a row has to rise to meet it, negative where it has to fall.
 #[tactic(auto, unfolding(crate::specs::Costing::miss_of))]
 fn miss_of(row: &Row, decisions: &[i128], state: &[i128], values: &[i64]) -> i128
     requires given { AreGiven decisions.now state.now values.now }
@@ -124,9 +124,9 @@ fn miss_of(row: &Row, decisions: &[i128], state: &[i128], values: &[i64]) -> i12
     }
 }
 
-/// By how much the left side of a row of a node has to rise at an incoming state and values for the decisions to meet it,
-/// at scale 2^24: negative where it has to fall, and 0 exactly where they meet it. No memory is taken. What is asked of the
-/// decisions, the state and the values is as in [`residual`].
+/// Gives by how much the left side of a row of a node has to rise at an incoming state and values for the decisions to meet it,
+/// at scale 2^24: negative where it has to fall, and 0 exactly where they meet it. No memory is taken. The decisions, the state
+/// and the values are as in [`residual`].
 pub fn miss(
     problem: &Problem,
     node: u32,
@@ -148,7 +148,7 @@ pub fn miss(
     miss_of(own, decisions, state, values)
 }
 
-/// What a stage of a subproblem costs.
+/// Gives the cost of a stage of a subproblem.
 fn cost_of(subproblem: &Subproblem, decisions: &[i128], state: &[i128], values: &[i64]) -> i128
     requires given { AreGiven decisions.now state.now values.now }
     requires costs { AreCosts decisions.now state.now values.now subproblem.now }
@@ -178,9 +178,9 @@ fn cost_of(subproblem: &Subproblem, decisions: &[i128], state: &[i128], values: 
     )
 }
 
-/// What a stage costs at decisions, an incoming state and values, at scale 2^24: the constant, and the costs of the
-/// random variables, the decisions and the state. No memory is taken. What is asked of the decisions, the state and the
-/// values is as in [`residual`].
+/// Gives the cost of a stage at decisions, an incoming state and values, at scale 2^24: the constant, and the costs of the
+/// random variables, the decisions and the state. No memory is taken. The decisions, the state and the values are as in
+/// [`residual`].
 pub fn stage_cost(
     problem: &Problem,
     node: u32,

@@ -1,4 +1,4 @@
-// What is decided at a node.
+// Decisions at a node.
 ghost use Rattle.std.specs.Prelude.{◌≡◌, ◌<◌, ◌≤◌, ◌^◌, ◌/◌, ℕ, ℤ, pos, ◌*ℤ◌, true, length, get_or, map, nat_abs, Contains, Some, IfOk};
 ghost use Rattle.hp_num.specs.Sums.{entry, floor_over, table};
 ghost use Rattle.hp_problem.specs.declared.raw.Decision.{Decision};
@@ -47,10 +47,10 @@ impl From<Memory> for StageFault {
     }
 }
 
-/// What is decided at a node.
+/// The decisions at a node, and the state that leaves it.
 #[derive(Drop)]
 pub struct Decided {
-    /// What the answer to the stage problem is.
+    /// The kind of the answer to the stage problem.
     pub kind: Kind,
     /// The answer is of no use: no point was found, and nothing was shown.
     pub unsettled: bool,
@@ -134,7 +134,7 @@ pub fn next_state(alloc: Global, outs: &[u32], decisions: &[i128]) -> Result<Lis
     Ok(found)
 }
 
-/// What is decided by an answer.
+/// Gives the decisions by an answer, and the state that leaves the node.
 fn decided_of(
     alloc: Global,
     subproblem: &Subproblem,
@@ -203,14 +203,14 @@ fn decide_by(
     }
 }
 
-/// What is decided at a node, at values of its random variables and an incoming state, by a solver's answer to the
-/// stage problem, which is solved in a chain of its own.
+/// Decides at a node, at values of its random variables and an incoming state, by a solver's answer to the stage problem, which
+/// is solved in a chain of its own.
 ///
 /// A decision is the answer's number at scale 2^24, rounded down, and then the nearest in 2^24 times the decision's box;
 /// a missing number counts as the decision's least. `run` is the number that a refutation carries.
 ///
-/// There is one value per random variable of the node's subproblem, each at most 2^40 in absolute value, and the state,
-/// at scale 2^24, lies in the node's box. What is ready was made for this problem and this solver.
+/// There is one value per random variable of the node's subproblem, each at most 2^40 in absolute value, and the state, at
+/// scale 2^24, lies in the node's box. `starts` was made for this problem and this solver.
 ///
 /// NoStage exactly where the answer is judged dead: then no decisions exist there, in any fraction of a unit. Memory
 /// where memory was refused.
@@ -243,8 +243,7 @@ pub fn decide<V: Solver>(
     )
 }
 
-/// What [`decide`] decides, the stage problem in the memory of rows that are spare, and are so again afterwards. Its faults
-/// are those of [`decide`].
+/// Like [`decide`], in the workspace's buffers, which are free again afterwards. Its faults are those of [`decide`].
 #[tactic(auto, unfolding(crate::specs::Deciding::decide_of))]
 pub fn decide_with<V: Solver>(
     alloc: Global,

@@ -120,10 +120,11 @@ fn states_beside<R: Threads + Sync, V: Solver>(
     in_turn(first, rest)
 }
 
-/// The walks of [`states`](crate::states) along each of these paths, in their order. The first half of the paths, rounded down, and the
-/// rest are walked beside each other, one path alone on no other thread; the answer is that of one path after another.
+/// Walks forward along each of these paths as [`states`](crate::states) does, in their order. The first half of the paths,
+/// rounded down, and the rest are walked beside each other, one path alone on no other thread; the answer is that of one path
+/// after another.
 ///
-/// Each path is one of the problem's graph, and what is ready was made for this problem and this solver.
+/// Each path is one of the problem's graph, and `starts` was made for this problem and this solver.
 ///
 /// NoStage is that of the first path for which [`states`](crate::states) gives it; Memory where memory was refused.
 pub fn states_all<R: Threads + Sync, V: Solver>(

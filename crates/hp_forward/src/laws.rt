@@ -1,4 +1,4 @@
-// What residuals say. A law is the contract of a function with an empty body.
+// The meaning of residuals. A law is the contract of a function with an empty body.
 ghost use Rattle.std.specs.Prelude.{◌≡◌, ◌↔◌, ℤ, pos, ◌≤ℤ◌, List};
 ghost use Rattle.hp_problem.specs.declared.raw.Row.{Row};
 ghost use Rattle.hp_theory.specs.Problem.{S};

@@ -1,4 +1,4 @@
-//! What is decided along paths through a problem's graph, and what it costs.
+//! Decisions along paths through a problem's graph, and their costs.
 #![tactic(auto)]
 
 mod amounts;

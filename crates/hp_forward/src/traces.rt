@@ -1,4 +1,4 @@
-// What is decided along a path, with what it leaves open and costs.
+// Traces: the decisions along a path, with their residuals and costs.
 use hp_num::List;
 use hp_solver::Kind;
 
@@ -7,7 +7,7 @@ use hp_solver::Kind;
 pub struct TraceStep {
     /// The node's number.
     pub node: u32,
-    /// What the answer to the stage problem is.
+    /// The kind of the answer to the stage problem.
     pub kind: Kind,
     /// The incoming state, one number per state, at scale 2^24.
     pub state: List<i128>,
@@ -17,11 +17,11 @@ pub struct TraceStep {
     pub decisions: List<i128>,
     /// By how much the decisions miss each row, at scale 2^24.
     pub residuals: List<i128>,
-    /// What the stage costs, at scale 2^24.
+    /// The cost of the stage, at scale 2^24.
     pub cost: i128,
 }
 
-/// What is decided along a path.
+/// The decisions along a path.
 #[derive(Drop)]
 pub struct Trace {
     /// The steps, in order.

@@ -52,8 +52,8 @@ fn initial_state(alloc: Global, problem: &Problem) -> Result<List<i128>, Memory>
     scaled_all(alloc, problem.initial())
 }
 
-/// Adds a step to a walk that has come to a state, and gives the state that leaves the step's node. The stage problem is in
-/// the memory of rows that are spare, and are so again afterwards.
+/// Adds a step to a walk that has come to a state, and gives the state that leaves the step's node. The stage problem is in the
+/// workspace's buffers, which are free again afterwards.
 fn step_on<V: Solver>(
     alloc: Global,
     spare: &mut SpareRows,
@@ -94,11 +94,11 @@ fn step_on<V: Solver>(
     Ok(decided.next)
 }
 
-/// The incoming state of each step of a path, from the initial state on, by what is decided at each step over the same
-/// pools, and the number of answers that were of no use. `run` is the number that a refutation carries.
+/// Walks a path forward: gives the incoming state of each step, from the initial state on, by the decisions at each step over
+/// the same pools, and the number of answers that were of no use. `run` is the number that a refutation carries.
 ///
-/// The path is one of the problem's graph, and what is ready was made for this problem and this solver. Each state lies
-/// in the box of its step's node.
+/// The path is one of the problem's graph, and `starts` was made for this problem and this solver. Each state lies in the box
+/// of its step's node.
 ///
 /// NoStage exactly at the first step where [`decide`] gives it; Memory where memory was refused.
 pub fn states<V: Solver>(
@@ -123,7 +123,7 @@ pub fn states<V: Solver>(
     states_with(alloc, &mut spare, problem, pools, solver, starts, run, path)
 }
 
-/// The walk that [`states`] gives, the stage problems in the memory of rows that are spare.
+/// Like [`states`], in the workspace's buffers.
 #[tactic(auto, unfolding(crate::specs::Walking::walk_of))]
 pub(crate) fn states_with<V: Solver>(
     alloc: Global,

@@ -1,4 +1,4 @@
--- What the stage problems of one node share.
+-- The parts that the stage problems of one node share.
 use Rattle.std.proofs.Common.{◌≡◌, ℕ, ◌+◌, ◌<◌, ℤ, pos, true, List, [], ◌∷◌, ◌++◌, length, map, zip, take, drop, get_or, All, Option, Some, Result, Ok, Err, IfOk, slice_get, option_and_then, refl, ap, ap₂, sym, subst, ◌∙◌, arith}
 use Rattle.std.specs.Prelude.{unwrap_or}
 use Rattle.std.specs.List.{list_all}

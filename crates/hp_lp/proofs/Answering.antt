@@ -1,4 +1,4 @@
--- What a chain of one answers, by what is known of its parts.
+-- The answer of a chain of one solve, from facts about its parts.
 use Rattle.std.proofs.Common.{◌≡◌, ℕ, ◌<◌, ℤ, List, length, Option, Some, ap, ap₂, sym, ◌∙◌, subst}
 use Rattle.hp_num.proofs.Tests.{some_of}
 use Rattle.hp_problem.specs.Sealed.{Sealed}

@@ -1,4 +1,4 @@
--- What a solver made ready for the nodes of a problem.
+-- The starts that a solver made for the nodes of a problem.
 use Rattle.std.specs.Prelude.{◌≡◌, ℕ, List, length, slice_get, Some}
 use Rattle.hp_problem.specs.Sealed.{Sealed}
 use Rattle.hp_solver.specs.declared.programs.Program.{Program}

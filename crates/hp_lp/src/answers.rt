@@ -18,9 +18,8 @@ use hp_problem::Problem;
 use hp_solver::{Answer, Solver};
 use std::alloc::Global;
 
-/// The answer to the stage problem of a node at values and a state, solved in a chain of its own. What is asked of
-/// values and state is as in [`stage`]; what is ready was made for this problem and this solver. [`Memory`] where memory
-/// was refused.
+/// Solves the stage problem of a node at values and a state, in a chain of its own, and gives the answer. Values and state are
+/// as in [`stage`]; `starts` was made for this problem and this solver. [`Memory`] where memory was refused.
 pub fn answered<V: Solver>(
     alloc: Global,
     problem: &Problem,
@@ -44,8 +43,7 @@ pub fn answered<V: Solver>(
     )
 }
 
-/// The answer that [`answered`] gives, the stage problem in the memory of rows that are spare, and are so again afterwards.
-/// [`Memory`] where memory was refused.
+/// Like [`answered`], in the workspace's buffers, which are free again afterwards. [`Memory`] where memory was refused.
 pub fn answered_with<V: Solver>(
     alloc: Global,
     spare: &mut SpareRows,

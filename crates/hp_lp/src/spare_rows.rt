@@ -3,8 +3,8 @@ use hp_solver::{LpRow, StageLp, blank_row};
 use std::alloc::Global;
 use std::mem;
 
-/// Rows of stage problems that are done with. Those of the next stage problem are written over them; no result depends on
-/// what is kept.
+/// A workspace of the rows of stage problems that are done with. The next stage problem is written over them; no result depends
+/// on what is kept.
 #[derive(Drop)]
 pub struct SpareRows {
     /// The rows of the stage problem that came back last.

@@ -226,8 +226,8 @@ pub fn stage<'a>(
     stage_with(alloc, &mut spare, problem, pools, node, values, state)
 }
 
-/// The stage problem of a node, as [`stage`] makes it, in the memory of rows that are spare; [`SpareRows::give_back`] makes
-/// them so again. [`Memory`] where memory was refused.
+/// Like [`stage`], in the workspace's buffers; [`SpareRows::give_back`] makes them free again. [`Memory`] where memory was
+/// refused.
 pub fn stage_with<'a>(
     alloc: Global,
     spare: &mut SpareRows,

@@ -1,4 +1,4 @@
-// The starts that a solver makes ready for the nodes of a problem.
+// The starts that a solver makes for the nodes of a problem.
 ghost use Rattle.std.specs.Prelude.{◌≡◌, ◌<◌, length, IfOk, Some, slice_get};
 ghost use Rattle.hp_solver.specs.declared.programs.Program.{Program};
 ghost use Rattle.hp_solver.specs.Proper.{IsLike};
@@ -11,7 +11,7 @@ use hp_problem::Problem;
 use hp_solver::{Solver, StageLp};
 use std::alloc::Global;
 
-/// The starts that a solver makes ready for each node of a problem, before any solve.
+/// The starts that a solver makes for the nodes of a problem, one for each, before any solve.
 #[derive(Drop)]
 pub struct Starts<V: Solver> {
     items: List<V::Start>,
@@ -28,7 +28,7 @@ impl<V: Solver> Starts<V> {
         })
     }
 
-    /// Lends the start that is ready for a node.
+    /// Lends the start of a node.
     pub fn at(&self, node: u32) -> &V::Start
         requires { node < length self.now.items }
         ensures { slice_get self.now.items node ≡ Some result.now }
@@ -36,8 +36,8 @@ impl<V: Solver> Starts<V> {
         &self.items.as_slice()[node as usize]
     }
 
-    /// Begins a chain of a node with one of its stage problems, by what is ready for the node. The chain may take this
-    /// stage problem and each that [`restate`](crate::restate) makes of it. [`Memory`] where memory was refused.
+    /// Begins a chain of a node with one of its stage problems, by the start of the node. The chain may take this stage problem
+    /// and each that [`restate`](crate::restate) makes of it. [`Memory`] where memory was refused.
     ///
     /// Asks that the starts were made for this problem and this solver.
     pub fn begin(

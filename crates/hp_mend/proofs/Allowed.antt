@@ -1,4 +1,4 @@
--- What a move that is allowed leaves: small amounts, and decisions in their boxes.
+-- An allowed move leaves small amounts, and decisions in their boxes.
 use Rattle.std.proofs.Common.{◌≡◌, ◌∙◌, ℕ, ◌<◌, ◌≤◌, ◌^◌, Bool, true, false, ℤ, pos, ◌+ℤ◌, ◌*ℤ◌, ◌≤ℤ◌, nat_abs, List, length, get_or, nat_lt, nat_eq, refl, sym, ap₂, subst, arith}
 use Rattle.std.specs.Prelude.{int_lt, int_le, ◌&&◌}
 use Rattle.std.proofs.lemmas.Bool.Decides.{nat_tests}

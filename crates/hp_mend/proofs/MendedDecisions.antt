@@ -1,4 +1,4 @@
--- What holds of decisions after mending: they lie in their boxes, and their outs leave the node.
+-- Properties of mended decisions: they lie in their boxes, and their outs leave the node.
 use Rattle.std.proofs.Common.{◌≡◌, ◌∙◌, ℕ, ◌<◌, ℤ, true, List, length, map, Some, Result, Ok, Err, Contains, refl, ap, sym, subst}
 use Rattle.hp_num.specs.Steps.{◌>>=◌}
 use Rattle.hp_num.specs.Sums.{entry}

@@ -1,4 +1,4 @@
--- What is decided at a node after mending: where the answer to its stage problem is a point, the decisions there are mended.
+-- The mended decisions at a node: where the answer to its stage problem is a point, the decisions there are mended.
 use Rattle.std.specs.Prelude.{ℕ, ℤ, Bool, List, Result, Ok}
 use Rattle.hp_num.specs.Steps.{◌>>=◌}
 use Rattle.hp_problem.specs.Sealed.{Sealed}

@@ -1,4 +1,4 @@
-// What is decided at a node, mended.
+// Mended decisions at a node.
 ghost use Rattle.std.specs.Prelude.{◌≡◌, ◌<◌, ℕ, true, length, Contains, IfOk};
 ghost use Rattle.hp_problem.specs.Limits.{are_values};
 ghost use Rattle.hp_problem.specs.Parts.{successors_at};
@@ -56,7 +56,7 @@ fn decided_as(
     })
 }
 
-/// What was decided, with its decisions mended.
+/// Mends the decisions at a node.
 fn with_mended(
     alloc: Global,
     problem: &Problem,
@@ -83,7 +83,7 @@ fn with_mended(
     )
 }
 
-/// What was decided, mended where a point was found.
+/// Mends the decisions at a node where a point was found.
 fn mend(
     alloc: Global,
     problem: &Problem,
@@ -104,14 +104,14 @@ fn mend(
     }
 }
 
-/// What [`hp_forward::decide_with`] decides at a node, at values of its random variables and an incoming state, with its
-/// decisions mended where the answer is a point: as [`mended`] gives them, together with the state that these leave.
+/// Decides at a node, at values of its random variables and an incoming state, as [`hp_forward::decide_with`] does it, and
+/// mends the decisions where the answer is a point: gives them as [`mended`] does, together with the state that they leave.
 /// Decisions by any other answer stay as they are.
 ///
-/// Decisions and states are at scale 2^24, the decisions in 2^24 times their boxes. There is one value per random variable
-/// of the node's subproblem, each at most 2^40 in absolute value, and the state lies in the node's box. What is ready was
-/// made for this problem and this solver. The stage problem is in the memory of rows that are spare, and are so again
-/// afterwards. `run` is the number that a refutation carries.
+/// Decisions and states are at scale 2^24, the decisions in 2^24 times their boxes. There is one value per random variable of
+/// the node's subproblem, each at most 2^40 in absolute value, and the state lies in the node's box. `starts` was made for this
+/// problem and this solver. The stage problem is in the workspace's buffers, which are free again afterwards. `run` is the
+/// number that a refutation carries.
 ///
 /// NoStage exactly where the answer is judged dead: then no decisions exist there, in any fraction of a unit. Memory
 /// where memory was refused.

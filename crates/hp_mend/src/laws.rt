@@ -1,4 +1,4 @@
-// What mended decisions are, whatever decisions are given.
+// Properties of mended decisions, whatever decisions are given.
 ghost use Rattle.std.specs.Prelude.{◌≡◌, ◌⊎◌, ℤ, List, All};
 ghost use Rattle.hp_theory.specs.Problem.{S, Node};
 ghost use Rattle.hp_theory.specs.Tree.{RowHolds};

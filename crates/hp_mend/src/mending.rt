@@ -78,7 +78,7 @@ fn are_met(stage: &Stage, numbers: &[i128]) -> bool
     true
 }
 
-/// What a search comes to.
+/// Gives the numbers of a search.
 fn numbers_of(search: Search) -> List<i128>
     ensures { result ≡ search.numbers }
 {

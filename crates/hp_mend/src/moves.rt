@@ -40,7 +40,7 @@ fn is_inside(bounds: (i64, i64), number: i128) -> bool
     bounds.0 < bounds.1 && scaled(bounds.0) <= number && number <= scaled(bounds.1)
 }
 
-/// What a decision comes to.
+/// Gives the value of a decision after a move.
 pub(crate) fn moved_to(number: i128, amount: i128) -> i128
     requires number { nat_abs number ≤ 2 ^ 64 }
     requires amount { nat_abs amount ≤ 2 ^ 116 }
@@ -116,7 +116,7 @@ fn harm(stage: &Stage, row: u32, before: &[i128], after: &[i128]) -> u32
     count
 }
 
-/// What a move costs.
+/// Gives the cost of a move.
 fn product(cost: i64, amount: i128) -> i128
     requires cost { nat_abs cost ≤ 2 ^ 40 }
     requires amount { nat_abs amount ≤ 2 ^ 66 }

@@ -78,7 +78,7 @@ pub(crate) fn terms_at<'a>(stage: &Stage<'a>, row: u32) -> &'a [(u32, i64)]
         .as_slice()
 }
 
-/// What decisions miss of a row.
+/// Gives the miss of a row: by how much its left side has to rise for the decisions to meet it, negative where it has to fall.
 pub(crate) fn miss_at(stage: &Stage, numbers: &[i128], row: u32) -> i128
     requires stage { IsStage stage.now }
     requires inside { AreInside stage.now numbers.now }

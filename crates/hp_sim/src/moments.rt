@@ -1,4 +1,4 @@
-// What is decided at one moment of a run.
+// The decisions at one moment of a run.
 ghost use Rattle.std.specs.Prelude.{◌≡◌, ◌<◌, ◌≤◌, ◌+◌, ◌^◌, ℕ, ℤ, ◌+ℤ◌, List, length, nat_abs, true, Contains, IfOk};
 ghost use Rattle.hp_problem.specs.Limits.{are_values};
 ghost use Rattle.hp_problem.specs.Parts.{successors_at};
@@ -23,7 +23,7 @@ use hp_problem::{Moment, Problem};
 use hp_solver::{Kind, Solver};
 use std::alloc::Global;
 
-/// The same items in a list of their own.
+/// Copies the items into a new list.
 pub(crate) fn copied<T: Copy + Drop>(alloc: Global, items: &[T]) -> Result<List<T>, Memory>
     ensures { IfOk result (λ found. found ≡ items.now) }
 {
@@ -63,7 +63,7 @@ fn residuals(
     Ok(found)
 }
 
-/// What a stage costs.
+/// Gives the cost of a stage.
 fn cost(problem: &Problem, node: u32, decisions: &[i128], state: &[i128], values: &[i64]) -> i128
     requires known { node < length problem.now.raw.nodes }
     requires decisions { InBox S (node_at (problem_of problem.now) node).decision_low (node_at (problem_of problem.now) node).decision_high decisions.now }
@@ -140,8 +140,8 @@ fn add_step(trace: &mut Trace, step: TraceStep) -> Result<(), Memory>
     trace.steps.push(step)
 }
 
-/// Adds a moment to a trace that has come to a state, and gives the state that leaves the moment's node. The stage problem
-/// is in the memory of rows that are spare.
+/// Adds a moment to a trace that has come to a state, and gives the state that leaves the moment's node. The stage problem is
+/// in the workspace's buffers.
 pub(crate) fn step_on<V: Solver>(
     alloc: Global,
     spare: &mut SpareRows,

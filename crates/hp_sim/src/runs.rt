@@ -97,7 +97,7 @@ pub(crate) fn drawn(
     moments_of(alloc, problem, path.as_slice())
 }
 
-/// The trace of the run with a number, the stage problems in the memory of rows that are spare.
+/// Gives the trace of the run with a number, with the stage problems in the workspace's buffers.
 #[tactic(auto, unfolding(crate::specs::Tracing::trace_of))]
 pub(crate) fn trace_of<V: Solver>(
     alloc: Global,

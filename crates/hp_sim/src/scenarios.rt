@@ -17,14 +17,14 @@ use hp_problem::{Moment, Problem};
 use hp_solver::Solver;
 use std::alloc::Global;
 
-/// The traces of drawn scenarios, from scenario 0 on: of each step its node and values, the incoming state, what is
-/// decided there over these pools, by how much that misses each row, and what the stage costs; and the sum of these
-/// costs. States, decisions, residuals and costs are at scale 2^24, values are whole.
+/// Gives the traces of drawn scenarios, from scenario 0 on: of each step its node and values, the incoming state, the decisions
+/// there over these pools, by how much they miss each row, and the cost of the stage; and the sum of these costs. States,
+/// decisions, residuals and costs are at scale 2^24, values are whole.
 ///
-/// Scenario i follows the path that the seed and stream 2^32 + i draw, from the initial state, and each step is decided
-/// once, as [`hp_mend::decide_mended`] does it: by the answer to the stage problem, rounded down and brought into the
-/// boxes, and where that answer is a point, mended to meet the rows as [`hp_mend::mended`] does it. What is ready was made
-/// for this problem and this solver.
+/// Scenario i follows the path that the seed and stream 2^32 + i draw, from the initial state, and each step is decided once,
+/// as [`hp_mend::decide_mended`] does it: by the answer to the stage problem, rounded down and brought into the boxes, and
+/// where that answer is a point, mended to meet the rows as [`hp_mend::mended`] does it. `starts` was made for this problem and
+/// this solver.
 ///
 /// One trace per scenario, with one step per node of its path. NoStage exactly at the first step, in order of
 /// scenarios, where no decisions exist, as the multipliers that it carries show; its `run` is the number of the
@@ -74,8 +74,8 @@ fn stored(problem: &Problem) -> &[List<Moment>]
 /// The traces of the scenarios that a problem stores, in their order and with their own values; the rest is as in
 /// [`simulate`].
 ///
-/// What is ready was made for this problem and this solver. NoStage exactly at the first step, in order of scenarios,
-/// where no decisions exist, with the number of the scenario as its `run`. Memory where memory was refused.
+/// `starts` was made for this problem and this solver. NoStage exactly at the first step, in order of scenarios, where no
+/// decisions exist, with the number of the scenario as its `run`. Memory where memory was refused.
 pub fn validate<V: Solver>(
     alloc: Global,
     problem: &Problem,

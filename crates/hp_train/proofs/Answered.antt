@@ -1,4 +1,4 @@
--- What steps and options answer, taken apart.
+-- Equal answers have equal contents: laws of results and options.
 use Rattle.std.proofs.Common.{◌≡◌, Option, Some, None, Result, Ok}
 
 pub same_ok : {A E : Type 0} (x y : A) → ◌≡◌ {A = Result A E} (Ok x) (Ok y) → x ≡ y

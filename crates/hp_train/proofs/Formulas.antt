@@ -89,7 +89,7 @@ record_bytes_rise raw i j batch h = mul-le-mul_left batch (ten (sum_by (step_byt
     ten : (a b : ℕ) → a ≤ b → 10 + a ≤ 10 + b
     ten a b h = omega (arith, h)
 
--- What is kept for more iterations is kept for fewer.
+-- Formulas that are kept for some number of iterations are kept for fewer.
 pub too_much-fewer : (p : Sealed) (k count batch : ℕ) → k ≤ count → too_much p count batch ≡ None → too_much p k batch ≡ None
 unfolding too_much
 too_much-fewer p k count batch h e =

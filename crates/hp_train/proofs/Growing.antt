@@ -1,4 +1,4 @@
--- What sweeps leave of pools: the cuts of each node stay in front.
+-- Sweeps leave the cuts of each node in front of the new ones.
 use Rattle.std.proofs.Common.{◌≡◌, ℕ, zero, suc, ◌+◌, ◌≤◌, ℤ, List, [], ◌∷◌, ◌++◌, length, take, map, get_or, zip, Ok, refl, sym, ap, subst, ◌∙◌, append_assoc, arith}
 use Rattle.std.proofs.Math.Seq.{take-append_seam}
 use Rattle.std.proofs.lemmas.List.{append-nil, ext_get_or}

@@ -1,4 +1,4 @@
--- What is settled at a node has the shape of the node in a record, and counts at most 100 answers of no use.
+-- The certificates that are settled at a node have the shape of the node in a record, and count at most 100 answers of no use.
 use Rattle.std.proofs.Common.{◌≡◌, ◌∙◌, ℕ, zero, suc, ◌+◌, ◌/◌, ◌<◌, ◌≤◌, ◌^◌, true, ℤ, List, [], ◌∷◌, ◌++◌, length, map, zip, get_or, min, sum, All, Option, Some, Result, Ok, Err, option_and_then, slice_get, sym, ap, subst, arith}
 use Rattle.std.specs.Prelude.{option_map, unwrap_or}
 use Rattle.std.specs.List.{AllByRecursion}

@@ -151,7 +151,7 @@ module _ {Start Chain : Type 0} (v : Solving Start Chain) (p : Sealed) (sealed :
   mine_resumes named j bytes (born grown) = grown_resumes j bytes grown
   mine_resumes named j bytes (unborn none un) = subst (λ (k : ℕ). (o : Outcome) × Resumes v p base t asked count k bytes o) (sym none) (loads.unborn base asked, unborn_resumes named bytes un)
 
--- What is stopped within any write and resumed gives what is not stopped.
+-- Training that is stopped within any write and resumed gives what unstopped training gives.
 pub resumed : {Start Chain : Type 0} (v : Solving Start Chain) (p : Sealed) (base : List (List Cut)) (digest : List ℕ) (seed count : ℕ) (asked : Option ℕ) (j : ℕ) (bytes : List ℕ)
     → is_sealed p ≡ true → based p ≡ Ok base → IsTitle (new_title digest seed asked) → count ≤ 2000 → too_much p count (new_title digest seed asked).batch ≡ None
     → Mine (new_title digest seed asked) (payloads (unstopped v p base (new_title digest seed asked) count).lists) j bytes

@@ -1,4 +1,4 @@
--- What is loaded of a journal stands in its bytes.
+-- A loaded outcome stands in the journal's bytes.
 use Rattle.std.proofs.Common.{◌≡◌, ℕ, ◌<◌, Bool, true, false, List, [], Option, Some, None, IfSome, Result, Ok, Err, All, ◌==◌, if◌then◌else◌, refl, sym, subst, arith}
 use Rattle.std.specs.Str.{bytes_eq}
 use Rattle.std.proofs.lemmas.Bool.Decides.{nat_tests}
@@ -123,6 +123,6 @@ module _ (p : Sealed) (base : List (List Cut)) (digest : List ℕ) (seed asked :
       by (Ok h) is w = from_head h o lists is w
       by (Err f) is w = absurd cc
 
--- What is loaded of a journal stands in its bytes.
+-- A loaded outcome stands in the journal's bytes.
 pub stands_there : (p : Sealed) (base : List (List Cut)) (digest : List ℕ) (seed asked : Option ℕ) (bytes : List ℕ) (o : Outcome) (lists : List (List Entry)) → All (λ b. b < 256) bytes → load_of p base digest seed asked bytes ≡ Ok (o, lists) → StandsThere base digest seed asked bytes o lists
 stands_there p base digest seed asked bytes o lists small e = from_load p base digest seed asked bytes (bytes_from_All bytes (recursion_from_All (λ b. b < 256) bytes small)) o lists e

@@ -1,5 +1,4 @@
--- What is loaded of a journal, with lists behind it: the journal that they grow to, and what bytes that stand for some of
--- all these lists are.
+-- A loaded journal with more lists behind it: the journal that they grow to, and the bytes that stand for some of all these lists.
 use Rattle.std.proofs.Common.{◌≡◌, ◌≢◌, ◌∙◌, ℕ, zero, suc, ◌<◌, ◌≤◌, Bool, true, false, List, [], ◌∷◌, ◌++◌, length, take, drop, get_or, Option, Some, if◌then◌else◌, refl, sym, ap, subst, append_assoc, length-append, arith}
 use Rattle.std.specs.Int.{w32, to_be_bytes}
 use Rattle.std.proofs.lemmas.Bool.Decides.{nat_tests}

@@ -1,5 +1,5 @@
--- What an iteration gives can be written, within the bytes that the formula for records allows, and is accepted when it
--- is read back.
+-- The entries of an iteration can be written, within the bytes that the formula for records allows, and are accepted when they are read
+-- back.
 use Rattle.std.proofs.Common.{◌≡◌, ◌∙◌, ℕ, zero, suc, ◌+◌, ◌<◌, ◌≤◌, ◌^◌, true, List, [], ◌∷◌, ◌++◌, length, map, zip, All, Result, Ok, Err, refl, sym, ap, subst, arith, append_assoc}
 use Rattle.std.specs.List.{AllByRecursion}
 use Rattle.std.proofs.lemmas.List.{append-nil}
@@ -149,8 +149,8 @@ module _ {Start Chain : Type 0} (v : Solving Start Chain) (p : Sealed) (sealed :
         added = entry_before p k found.pools b.0.pools after.pools one.0 rest.new one.2.iteration one.3 rest.added;
       }
 
--- What an iteration leaves: entries that can be written, with at most so many pairs to a list, and are accepted over the
--- pools before it, which gives the pools behind it.
+-- The outcome of an iteration: entries that can be written, with at most so many pairs to a list, and that are accepted over the pools
+-- before it, which gives the pools behind it.
 pub record IsIteration (p : Sealed) (k batch most : ℕ) (pools : List (List Cut)) (s : Stepped) : Type 0 where
   pub written : IsBatch p k batch s.entries
   pub pairs : AllByRecursion (PairsWithin most) s.entries

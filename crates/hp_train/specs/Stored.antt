@@ -1,4 +1,4 @@
--- What is loaded of a journal, and what stands in its bytes.
+-- The relation between a loaded outcome and the journal's bytes.
 use Rattle.std.specs.Prelude.{◌≡◌, ℕ, ◌+◌, ◌-◌, true, false, List, [], length, take, Option, IfSome}
 use Rattle.hp_theory.specs.declared.cut.Cut.{Cut}
 use Rattle.hp_cut.specs.declared.entry.Entry.{Entry}

@@ -1,4 +1,4 @@
--- What training leaves of what was loaded, and of the journal.
+-- The loaded outcome and the journal, as training leaves them.
 use Rattle.std.specs.Prelude.{◌≡◌, ◌⊎◌, ℕ, ◌+◌, ◌-◌, ◌*◌, ◌≤◌, ◌^◌, max, true, false, List, [], ◌∷◌, ◌++◌, length, map, take, drop, if◌then◌else◌, Option, Some, None, Result, Ok, Err}
 use Rattle.std.specs.List.{sum_by}
 use Rattle.hp_problem.specs.Sealed.{Sealed}

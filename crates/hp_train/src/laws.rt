@@ -29,8 +29,8 @@ pub fn resume_equals_unstopped<V: Solver>(solver: &V)
         → (o : Outcome) × Resumes (solving (V.started solver.now) (V.begun solver.now) (V.next solver.now)) p base (new_title digest seed asked) asked count j bytes o }
 {}
 
-/// What is loaded stands in the bytes: of a born journal its head, with the asked seed and batch where they are asked,
-/// then the records of the lists, and a shut gate; one that is not born gives no list.
+/// The loaded lists stand in the bytes: a born journal has its head, with the asked seed and batch where they are asked, then
+/// the records of the lists, and a shut gate; a journal that is not born gives no list.
 ///
 /// So with more lists behind those that were loaded, training leaves the journal of all of them. And bytes that stand
 /// for some of all these lists stand for those that were loaded, behind which the others go on.

@@ -192,8 +192,8 @@ fn go_along<R: Threads + Sync, V: Solver>(
 /// walked forward over the pools as they are, beside each other in two halves; then each is swept backward, one after
 /// another, over the cuts of those before it. Each path adds an entry, and a cut to each of its nodes.
 ///
-/// Iterations count from 1 to 2,000, and a batch is 1 to 64 paths. No node has more than 2^23 cuts. What is ready was
-/// made for this problem and this solver.
+/// Iterations count from 1 to 2,000, and a batch is 1 to 64 paths. No node has more than 2^23 cuts. `starts` was made for this
+/// problem and this solver.
 ///
 /// NoStage and Range come exactly where the iteration, one path and one realization after another, meets a node that is
 /// shown to have no decisions, or certificates whose size passes 2^127 - 1; [`SweepFault::Memory`] where memory was
@@ -230,8 +230,7 @@ pub fn batch_once<R: Threads + Sync, V: Solver>(
     )
 }
 
-/// The iteration of [`batch_once`], the stage problems in the memory of rows that are spare. Its faults are those of
-/// [`batch_once`].
+/// Like [`batch_once`], in the workspace's buffers. Its faults are those of [`batch_once`].
 pub fn batch_once_with<R: Threads + Sync, V: Solver>(
     rt: &R,
     alloc: Global,

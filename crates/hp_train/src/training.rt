@@ -42,7 +42,7 @@ use hp_solver::Solver;
 use std::alloc::Global;
 use std::thread::Threads;
 
-/// What training goes by: the problem, the solver with what it made ready, and the seed of the paths.
+/// The fixed parts of a training run: the problem, the solver with its starts, and the seed of the paths.
 #[derive(Drop)]
 struct Course<'a, V: Solver> {
     problem: &'a Problem,
@@ -51,7 +51,7 @@ struct Course<'a, V: Solver> {
     seed: u64,
 }
 
-/// What stands behind the gate of a record: the payload's length, the payload, and a shut gate.
+/// Spells the bytes behind the gate of a record: the payload's length, the payload, and a shut gate.
 fn body_of(alloc: Global, problem: &Problem, entries: &[Entry]) -> Result<Vec<u8>, Memory>
     requires shape { AllByRecursion (Writable problem.now) entries.now }
     requires short { length (spell entries.now) ≤ 2 ^ 26 }
@@ -119,8 +119,7 @@ fn stepped<R: Threads + Sync, V: Solver>(
     }
 }
 
-/// An iteration over what was loaded: adds its cuts, its bound and what it counts, and answers what stands behind the gate
-/// of its record.
+/// Runs an iteration: adds its cuts, its bound and its counts to `loaded`, and gives the bytes behind the gate of its record.
 #[tactic(auto, unfolding(crate::specs::Iterating::iterated))]
 fn iterate<R: Threads + Sync, V: Solver>(
     rt: &R,
@@ -159,7 +158,7 @@ fn iterate<R: Threads + Sync, V: Solver>(
     Ok(body)
 }
 
-/// So many iterations over what was loaded, each with its record behind the shut gate at the journal's end.
+/// Runs so many iterations, each with its record behind the shut gate at the journal's end.
 fn iterate_all<R: Threads + Sync, D: Disk, V: Solver>(
     rt: &R,
     alloc: Global,
@@ -211,14 +210,14 @@ fn iterate_all<R: Threads + Sync, D: Disk, V: Solver>(
 /// batch, until there are `count`, and after each its record stands in the journal. Where the journal is not born yet,
 /// it is made first, and else its end is repaired. No iteration is done where `count` are there.
 ///
-/// What was loaded is what the journal gives with this digest of the problem's bytes and this seed, and nothing is pending
-/// on the disk. What is ready was made for this problem and this solver. After Ok it has the cuts, the bounds and the count
-/// of all iterations, and the journal ends at its gate of 0.
+/// `loaded` is what the journal gives with this digest of the problem's bytes and this seed, and nothing is pending on the
+/// disk. `starts` was made for this problem and this solver. After Ok `loaded` has the cuts, the bounds and the count of all
+/// iterations, and the journal ends at its gate of 0.
 ///
 /// [`TrainFault::NoStage`] and [`TrainFault::Range`] come exactly where an iteration stops so; the records of those before it
-/// stand in the journal. [`TrainFault::DiskFault`] comes only where the disk's count of faults rose;
-/// [`TrainFault::Memory`] where memory was refused. A crash at any moment leaves a journal of the records that were loaded
-/// and of the first of those that training adds. After a fault nothing is promised of what was loaded.
+/// stand in the journal. [`TrainFault::DiskFault`] comes only where the disk's count of faults rose; [`TrainFault::Memory`]
+/// where memory was refused. A crash at any moment leaves a journal of the records that were loaded and of the first of those
+/// that training adds. After a fault nothing is promised of `loaded`.
 pub fn train<R: Threads + Sync, D: Disk, V: Solver>(
     rt: &R,
     alloc: Global,

@@ -1,4 +1,4 @@
--- What faults mean, as they are handed on.
+-- The meaning of faults as they are handed on.
 use Rattle.std.proofs.Common.{◌≡◌, ◌∙◌, ℕ, zero, suc, ◌+◌, ℤ, List, Result, Ok, Err, IfOk, refl, sym, ap, subst, arith}
 use Rattle.hp_num.specs.Steps.{◌>>=◌}
 use Rattle.hp_settle.specs.declared.judging.Dead.{Dead}

@@ -1,4 +1,4 @@
--- What is decided at a branch is lawful: in its boxes, on its rows, and its outs leave the node.
+-- The decisions at a branch are lawful: they lie in their boxes, meet the rows, and their outs leave the node.
 use Rattle.std.proofs.Common.{◌≡◌, ℕ, suc, ℤ, pos, Bool, true, false, if◌then◌else◌, List, [], ◌∷◌, length, map, All, Option, Some, None, Result, Ok, Err, refl, subst}
 use Rattle.std.specs.Ordering.{int_eq}
 use Rattle.std.proofs.lemmas.Bool.Decides.{Decides-int_eq}

@@ -1,4 +1,4 @@
--- What code reads of a node, and what the definitions see of it.
+-- The parts of a node as code reads them, and as the definitions see them.
 use Rattle.std.proofs.Common.{◌≡◌, ◌∙◌, ℕ, zero, suc, ◌+◌, ◌<◌, ◌≤◌, ℤ, true, nat_lt, List, [], ◌∷◌, length, get_or, drop, sum, Some, slice_get, Option, refl, sym, ap, ap₂, subst, arith}
 use Rattle.std.specs.List.{list_all}
 use Rattle.std.proofs.lemmas.List.{drop_more, get_or_default}

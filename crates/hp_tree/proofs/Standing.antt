@@ -1,4 +1,4 @@
--- What a node's branches and denominator are, by those of its successors in a table.
+-- The branches and the denominator of a node, by those of its successors in a table.
 use Rattle.std.proofs.Common.{◌≡◌, ◌∙◌, ℕ, zero, suc, ◌+◌, ◌*◌, ◌<◌, min, true, List, [], ◌∷◌, length, get_or, map, sum, Contains, Some, slice_get, refl, sym, ap, ap₂, subst, arith}
 use Rattle.hp_paths.specs.Ranks.{rank}
 use Rattle.hp_problem.specs.declared.raw.Node as nodes

@@ -1,4 +1,4 @@
--- What keeps the costs of a walk through the tree inside 128 bits, and what is known of them.
+-- Bounds that keep the costs of a walk through the tree inside 128 bits, and the facts that such a walk keeps.
 use Rattle.std.specs.Prelude.{◌≡◌, ℕ, ◌+◌, ◌*◌, ◌/◌, ◌<◌, ◌≤◌, ◌^◌, pos, ◌+ℤ◌, ◌*ℤ◌, nat_abs, List, map, sum, FitsSigned}
 use Rattle.std.specs.Int.{w128}
 use Rattle.hp_problem.specs.Sealed.{Sealed}

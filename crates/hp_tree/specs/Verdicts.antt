@@ -1,4 +1,4 @@
--- What code that may run out of memory gives of a walk through the tree.
+-- The contracts of code that walks through the tree and may run out of memory.
 use Rattle.std.specs.Prelude.{◌≡◌, ℤ, reverse, Result, Ok, Err}
 use Rattle.hp_num.specs.Steps.{GivesOr}
 use Rattle.hp_settle.specs.declared.judging.Dead.{Dead}

@@ -1,4 +1,4 @@
-// What is decided at one branch of the tree.
+// Decisions at one branch of the tree.
 ghost use Rattle.std.specs.Prelude.{◌≡◌, ◌<◌, ◌∷◌, [], ℕ, ℤ, length, true, Contains, IfOk, Option, Some, None};
 ghost use Rattle.hp_problem.specs.Limits.{are_values};
 ghost use Rattle.hp_problem.specs.Parts.{successors_at};
@@ -25,7 +25,7 @@ use hp_sampler::Step;
 use hp_solver::Solver;
 use std::alloc::Global;
 
-/// What a walk goes by: the problem, its pools, and the solver with what it made ready.
+/// The fixed parts of a walk: the problem, its pools, and the solver with its starts.
 #[derive(Drop)]
 pub(crate) struct Course<'a, V: Solver> {
     pub(crate) problem: &'a Problem,
@@ -66,7 +66,7 @@ fn first_missed(
     None
 }
 
-/// What is decided, unless a row is missed.
+/// Gives the decisions, unless a row is missed.
 fn unless_missed(
     alloc: Global,
     step: Step,
@@ -89,7 +89,7 @@ fn unless_missed(
     }
 }
 
-/// What is decided at a branch, after so many others, mended where a point was found.
+/// Decides at a branch, after so many others, and mends the decisions where a point was found.
 #[tactic(auto, unfolding(crate::specs::PolicyTree::decide_branch))]
 pub(crate) fn decide_branch<V: Solver>(
     alloc: Global,

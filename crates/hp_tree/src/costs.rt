@@ -6,7 +6,7 @@ ghost use Rattle.hp_tree.specs.Small.{AddsUp};
 
 use crate::multiples::gcd;
 
-/// What a part of the tree costs, up / under at scale 2^24, and how many branches were decided by then.
+/// The cost of a part of the tree, up / under at scale 2^24, and the number of branches that were decided by then.
 #[derive(Clone, Copy)]
 pub(crate) struct Walked {
     pub(crate) up: i128,

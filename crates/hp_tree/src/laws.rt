@@ -1,4 +1,4 @@
-// What is said of the cost of a policy from above. A law is the contract of a function with an empty body.
+// The cost of a policy from above. A law is the contract of a function with an empty body.
 ghost use Rattle.std.specs.Prelude.{◌≡◌, true};
 ghost use Rattle.hp_problem.specs.Sealed.{Sealed, is_sealed};
 ghost use Rattle.hp_theory.specs.Tree.{Forest};

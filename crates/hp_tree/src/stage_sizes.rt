@@ -1,4 +1,4 @@
-// What the stages of a problem cost at most, in absolute value.
+// Upper bounds on the absolute costs of a problem's stages.
 ghost use Rattle.std.specs.Prelude.{◌≡◌, ◌<◌, ◌+◌, ◌*◌, length, map, min, nat_abs};
 ghost use Rattle.hp_problem.specs.declared.raw.Decision.{Decision};
 ghost use Rattle.hp_problem.specs.declared.raw.Node as nodes;

@@ -1,4 +1,4 @@
-// What a table of numbers, one per node, comes to over some nodes.
+// Sums and least common multiples over some nodes of a table with one number per node.
 ghost use Rattle.std.specs.Prelude.{◌≡◌, ℕ, ◌<◌, Contains, IfOk, get_or, length, map, min, sum, true};
 ghost use Rattle.hp_paths.specs.Paths.{are_known};
 ghost use Rattle.hp_tree.specs.Multiples.{lcm_all};

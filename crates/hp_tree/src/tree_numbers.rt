@@ -11,10 +11,10 @@ use std::alloc::Global;
 
 /// A number of each node's trees.
 pub(crate) trait TreeNumber {
-    /// That of the trees of a node, of at most so many stages.
+    /// The number of the trees of a node, of at most so many stages.
     ghost number_of: { Self → Sealed → ℕ → ℕ → ℕ };
 
-    /// That of a node, from those of its successors in a table, and the cap where it is above that.
+    /// Gives the number of a node, from those of its successors in a table, and the cap where it is above that.
     fn at_node(&self, problem: &Problem, table: &[u64], node: u32, cap: u64) -> u64
         requires known { node < length problem.now.raw.nodes }
         requires counted { length table.now ≡ length problem.now.raw.nodes }

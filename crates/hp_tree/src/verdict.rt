@@ -66,7 +66,7 @@ fn ceiling(up: i128, under: u64) -> i128
     -floor_div(-up, i128::from(under))
 }
 
-/// The same branches from the last to the first.
+/// Puts the branches in reverse order.
 fn reversed(branches: List<Step>) -> List<Step>
     ensures { result ≡ reverse branches }
 {
@@ -132,12 +132,12 @@ fn whole_cost<V: Solver>(
     Ok(share(total(raw.root_weights.as_slice()), sum))
 }
 
-/// The cost of the whole policy over these pools, at scale 2^24, rounded up once: each node of the graph is decided at
-/// each of its realizations and each state that comes into it, as [`hp_mend::decide_mended`] does it, from the initial state
-/// on: by the answer to the stage problem, rounded down and brought into the boxes, and where that answer is a point,
-/// mended to meet the rows as [`hp_mend::mended`] does it. No branch is left out, and no cost is rounded on the way.
+/// Gives the cost of the whole policy over these pools, at scale 2^24, rounded up once. Each node of the graph is decided at
+/// each of its realizations and each state that comes into it, from the initial state on, as [`hp_mend::decide_mended`] does
+/// it: by the answer to the stage problem, rounded down and brought into the boxes, and where that answer is a point, mended to
+/// meet the rows as [`hp_mend::mended`] does it. No branch is left out, and no cost is rounded on the way.
 ///
-/// What is ready was made for this problem and this solver, and no formula of the problem is above its limit.
+/// `starts` was made for this problem and this solver, and no formula of the problem is above its limit.
 ///
 /// Cost where each branch meets its rows: then these decisions are a policy, `upper` is the least whole number that is not
 /// below its cost, and over sound pools their bound is at most `upper`. Missed at the first branch, in order of the root's

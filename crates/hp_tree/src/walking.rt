@@ -9,7 +9,7 @@ use hp_num::{List, Memory};
 use hp_sampler::Step;
 use hp_settle::Dead;
 
-/// What the whole policy costs, or where it misses a row.
+/// The cost of the whole policy, or the first row that it misses.
 #[derive(Drop)]
 pub enum Verdict {
     /// Each branch meets its rows.

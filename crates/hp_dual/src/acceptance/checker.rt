@@ -94,7 +94,7 @@ pub fn accept(
     accept_with(problem, pools, node, own_weights(problem, node), list)
 }
 
-/// The same with given weights in place of the realizations' own: one weight per realization, each at least 1, of at
+/// Like [`accept`], with given weights in place of the realizations' own: one weight per realization, each at least 1, of at
 /// most 65,535 together.
 pub fn accept_with(
     problem: &Problem,
@@ -114,7 +114,7 @@ pub fn accept_with(
     check(&here, list)
 }
 
-/// What acceptance means: an accepted list is right and its size is in range, and such a list is accepted. The base
+/// The meaning of acceptance: an accepted list is right and its size is in range, and such a list is accepted. The base
 /// certificates of a node whose successors have cuts are accepted, unless their size passes its range.
 pub fn acceptance()
     ensures right { (pools : List (List Cut)) (n : problems.Node) (list : List Certificate)

@@ -81,7 +81,7 @@ fn pool_constants(pool: &[Cut], pairs: &[(u32, u64)]) -> i128
     sum
 }
 
-/// The same of all successors, modulo 2^128.
+/// Sums the multipliers times the first numbers of their cuts, over all successors, modulo 2^128.
 pub(crate) fn link_constants(links: &[u32], pools: &Pools, cuts: &[List<(u32, u64)>]) -> i128
     requires known { All (λ m. m < length pools.now.lists) links.now }
     requires there { All (λ (q : ℕ × List (ℕ × ℕ)). All (λ (s : ℕ × ℕ). s.0 < length (pool pools.now.lists q.0)) q.1) (zip links.now cuts.now) }

@@ -19,7 +19,7 @@ use hp_cut::Cut;
 use hp_num::{List, floor_div};
 use hp_theory::Certificate;
 
-/// What a division rounded down leaves.
+/// Gives the remainder of a division that is rounded down.
 fn left_over(sum: i128, under: i128) -> i128
     requires { pos 1 ≤ℤ under }
     ensures { result ≡ sum -ℤ under *ℤ floor_over sum (nat_abs under) }

@@ -27,7 +27,7 @@ pub fn make_into(problem: &Problem, pools: &Pools, node: u32, list: &[Certificat
     make_with(problem, pools, node, own_weights(problem, node), list, cut);
 }
 
-/// The same with given weights in place of the realizations' own: one weight per realization, each at least 1, of at
+/// Like [`make_into`], with given weights in place of the realizations' own: one weight per realization, each at least 1, of at
 /// most 65,535 together.
 pub fn make_with(
     problem: &Problem,

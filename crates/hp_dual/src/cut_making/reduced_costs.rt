@@ -43,7 +43,7 @@ fn add_narrow_terms(sums: &mut [i128], multiplier: i64, terms: &[(u32, i64)])
     }
 }
 
-/// The same for a multiplier of 128 bits.
+/// Adds a multiple of the terms, each to its decision's sum, modulo 2^128, for a multiplier of 128 bits.
 fn add_wide_terms(sums: &mut [i128], multiplier: i128, terms: &[(u32, i64)])
     requires { All (λ t. t.0 < length sums.old) terms.now }
     ensures count { length sums.new ≡ length sums.old }

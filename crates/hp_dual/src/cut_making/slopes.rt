@@ -51,7 +51,7 @@ fn add_rows(sums: &mut [i128], factor: i64, rows: &[Row], multipliers: &[i64])
     }
 }
 
-/// Takes a weight times S times the multipliers of a certificate times their rows' terms of the states away, modulo 2^128.
+/// Subtracts a weight times S times the multipliers of a certificate times their rows' terms of the states, modulo 2^128.
 fn take_certificate(sums: &mut [i128], weight: u32, rows: &[Row], certificate: &Certificate)
     requires { All (λ (row : Row). All (λ (t : ℕ × ℤ). t.0 < length sums.old) row.states) rows.now }
     ensures count { length sums.new ≡ length sums.old }
@@ -62,7 +62,7 @@ fn take_certificate(sums: &mut [i128], weight: u32, rows: &[Row], certificate: &
     add_rows(sums, factor, rows, certificate.rows.as_slice());
 }
 
-/// The same of all realizations' certificates.
+/// Subtracts these products for the certificate of each realization, with its weight, modulo 2^128.
 fn take_certificates(sums: &mut [i128], here: &NodeAt, list: &[Certificate])
     requires sized { Sized here.now.pools.now.lists here.now.node.now here.now.subproblem.now here.now.low.now here.now.weights.now }
     requires list { length list.now ≡ length here.now.weights.now }
@@ -102,7 +102,7 @@ pub(crate) fn slope_sums(here: &NodeAt, list: &[Certificate]) -> [i128; MOST_STA
     sums
 }
 
-/// The same where all realizations have one certificate.
+/// B_k for each state, modulo 2^128, where all realizations have the same certificate.
 pub(crate) fn repeated_slope_sums(here: &NodeAt, certificate: &Certificate) -> [i128; MOST_STATES]
     requires sized { Sized here.now.pools.now.lists here.now.node.now here.now.subproblem.now here.now.low.now here.now.weights.now }
     ensures count { length result ≡ 50 }

@@ -55,7 +55,7 @@ fn fixed_part(reduced: &mut [i128], here: &NodeAt, certificate: &Certificate) ->
     wrapping_add(pairs, least)
 }
 
-/// The same for one certificate alone.
+/// Gives the part of A_r that is the same at all values, for one certificate alone, modulo 2^128.
 pub(crate) fn fixed_constant(scale: i128, here: &NodeAt, certificate: &Certificate) -> i128
     requires limits { Limited here.now.node.now here.now.subproblem.now }
     requires known { All (λ m. m < length here.now.pools.now.lists) here.now.node.now.links }

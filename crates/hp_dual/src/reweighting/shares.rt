@@ -1,4 +1,4 @@
-// What of a list of certificates no weight changes.
+// The shares of a list of certificates, which no weight changes.
 ghost use Rattle.std.specs.Prelude.{◌≡◌, ◌^◌, ◌<◌, ◌≤◌, List, [], length, min, sum, All, IfOk};
 ghost use Rattle.hp_theory.specs.declared.cut.Certificate.{Certificate};
 ghost use Rattle.hp_theory.specs.CutOf.{scale};
@@ -18,7 +18,7 @@ use hp_problem::MOST_ROWS;
 use hp_theory::Certificate;
 use std::alloc::Global;
 
-/// What of a realization's certificate its weight does not change.
+/// The share of a realization's certificate, which its weight does not change.
 #[derive(Clone, Copy)]
 pub struct Share {
     /// All its terms in absolute value, 2^127 where they are more.

@@ -1,4 +1,4 @@
-// What of a certificate's size is the same at all realizations of its node: rows and costs at the ends of the boxes.
+// The part of a certificate's size that is the same at all realizations of its node: rows and costs at the ends of the boxes.
 ghost use Rattle.std.specs.Prelude.{◌≡◌, ◌^◌, ◌≤◌, ℕ, length, min};
 ghost use Rattle.std.specs.List.{sum_by};
 ghost use Rattle.hp_dual.specs.SizeByTerms.{Adds, decision_amount, fixed_row, FixedRows, fixed_costs, Fixed};
@@ -14,7 +14,7 @@ use hp_problem::{Decision, Row, Subproblem};
 pub(crate) struct FixedAmounts<'a> {
     /// Each row's terms of the decisions and of the incoming state.
     pub(super) rows: &'a [u128],
-    /// What the stage costs without its random costs.
+    /// The stage costs without the random costs.
     pub(super) costs: u128,
 }
 
@@ -90,7 +90,7 @@ fn plus_decisions(size: Size, decisions: &[Decision]) -> Option<Size>
     Some(sum)
 }
 
-/// What a stage costs without its random costs.
+/// Sizes the stage costs without the random costs.
 fn costs_size(sub: &Subproblem, states: &StateBox) -> Option<Size>
     ensures { Adds 0 result (fixed_costs sub.now states.now.low.now states.now.high.now) }
 {

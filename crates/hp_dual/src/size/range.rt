@@ -46,7 +46,7 @@ fn realizations_size(here: &NodeAt, list: &[Certificate]) -> Result<Size, usize>
     Ok(size)
 }
 
-/// What is left of a number beside a multiple of a positive divisor.
+/// Gives the remainder of a number by a positive divisor.
 fn rest(a: i128, d: i128) -> u128
     requires { pos 1 ≤ℤ d }
     ensures { result ≡ nat_abs (a -ℤ pos (nat_abs d) *ℤ floor_over a (nat_abs d)) }

@@ -13,7 +13,7 @@ use hp_num::Size;
 use hp_problem::Node;
 use hp_theory::{Certificate, SCALE};
 
-/// What a stage costs, beside what is the same at all realizations.
+/// Sizes the stage costs: the random costs, and the part that is the same at all realizations.
 fn costs_size(random_costs: &[i64], fixed: u128, values: &Values) -> Option<Size>
     ensures { (amount : ℕ) → fixed ≡ min amount (2 ^ 127) → Adds 0 result (amount + numbers_by (over_values values.now.values.now) random_costs.now) }
 {

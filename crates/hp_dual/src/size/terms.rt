@@ -17,7 +17,7 @@ fn number_at(numbers: &[i64], index: usize) -> i64
     }
 }
 
-/// What the factor of a term is multiplied with, by the term's variable.
+/// The bound by which a term's factor is multiplied, by the term's variable.
 pub(super) trait Multiples {
     ghost at: { Self → ℕ → ℕ };
 
