@@ -1,4 +1,4 @@
--- What settling needs of a node of a sealed problem, and what it makes there.
+-- The premises under which certificates are settled at a node of a sealed problem, and the certificates there.
 use Rattle.std.proofs.Common.{◌≡◌, ◌∙◌, ℕ, ◌<◌, ℤ, true, List, length, get_or, map, drop, refl, All, Result, Ok, Err, IfOk, slice_get, Some, nat_lt, sym, ap, ap₂, subst, arith}
 use Rattle.std.proofs.lemmas.Bool.Decides.{nat_tests}
 use Rattle.std.proofs.lemmas.Option.{slice_get-get_or}

@@ -1,4 +1,4 @@
--- What an answer shows of a node at values and an incoming state.
+-- The judgement of an answer, for a node at values and an incoming state.
 use Rattle.std.specs.Prelude.{ℕ, zero, suc, ◌+◌, ◌^◌, ℤ, List, if◌then◌else◌}
 use Rattle.hp_solver.specs.declared.fixed.Fx.{Fx}
 use Rattle.hp_solver.specs.declared.programs.Answer.{Answer}

@@ -1,4 +1,4 @@
--- What a sum that carries its size answers.
+-- The contract of a sum that carries its size.
 use Rattle.std.specs.Prelude.{◌≡◌, ℕ, ◌^◌, ◌≤◌, ℤ, Option, MatchOption}
 use Rattle.hp_settle.specs.declared.sized_sum.SizedSum.{SizedSum}
 

@@ -1,4 +1,4 @@
-// What an answer shows of a node at values and an incoming state.
+// The judgement of an answer, for a node at values and an incoming state.
 ghost use Rattle.std.specs.Prelude.{◌≡◌, ◌<◌, ◌≤◌, ◌^◌, length, IfOk};
 ghost use Rattle.hp_theory.specs.Problem.{node_at};
 ghost use Rattle.hp_theory.specs.View.{problem_of};
@@ -11,7 +11,7 @@ use hp_problem::Problem;
 use hp_solver::{Answer, Duals, Kind};
 use std::alloc::Global;
 
-/// What an answer shows of a node at values and an incoming state.
+/// The judgement of an answer, for a node at values and an incoming state.
 #[derive(Drop)]
 pub enum Judged {
     /// A point was found, and nothing is shown.
@@ -86,10 +86,9 @@ fn judge_ray(
     Ok(Judged::Unsettled)
 }
 
-/// What an answer shows of a node at values of its random variables and an incoming state at scale 2^24: Found for a
-/// found point, Dead exactly where the answer is a ray whose duals of rows refute over 2^0, 2^4, .. or 2^56, with the first
-/// of these that do, and else Unsettled.
-/// [`Memory`] where memory was refused.
+/// Judges an answer, for a node at values of its random variables and an incoming state at scale 2^24: Found for a found point,
+/// Dead exactly where the answer is a ray whose duals of rows refute over 2^0, 2^4, .. or 2^56, with the first of these that
+/// do, and else Unsettled. [`Memory`] where memory was refused.
 #[tactic(auto, unfolding(crate::specs::Judging::judge_of))]
 pub fn judge(
     alloc: Global,

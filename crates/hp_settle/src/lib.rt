@@ -1,4 +1,4 @@
-//! What a solver's answers are worth: certificates from their duals, and refutations.
+//! The worth of a solver's answers: certificates from their duals, and refutations.
 #![tactic(auto)]
 
 pub mod judging;

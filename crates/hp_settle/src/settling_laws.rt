@@ -1,4 +1,4 @@
-// What settled certificates are, whatever the answers, and settled duals that were worked out by hand.
+// Properties of settled certificates, whatever the answers, and settled duals that were worked out by hand.
 ghost use Rattle.std.specs.Prelude.{◌≡◌, ◌-◌, ◌^◌, ◌<◌, pos, negsuc, ℕ, true, List, [], ◌∷◌, length, map, All};
 ghost use Rattle.hp_solver.specs.Numbers.{number};
 ghost use Rattle.hp_solver.specs.declared.programs.Answer.{Answer};
@@ -31,8 +31,8 @@ pub fn settled_lists()
         ≡ range_fault pools (node_at (problem_of p) m) (map (settled_of pools (node_at (problem_of p) m)) answers) }
 {}
 
-/// What goes to the greatest of a successor's multipliers goes to the greatest of those that the duals give: where
-/// something is missing, each has kept all.
+/// The amount by which a successor's multipliers fall short goes to the greatest of those that the duals give: where they fall
+/// short, the cap has changed none of them.
 pub fn settled_shares()
     ensures { (target : ℕ) (vs : List ℕ) → 0 < missing target vs → capped target vs ≡ vs }
 {}

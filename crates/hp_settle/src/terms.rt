@@ -84,7 +84,7 @@ pub(crate) fn terms_sum<N: Numbers>(terms: &[(u32, i64)], numbers: &N) -> Option
     Some(sum)
 }
 
-/// What a multiplier of a row is multiplied with.
+/// The part of a row that its multiplier is multiplied with.
 pub(crate) trait RowPart {
     ghost value: { Self → Row → ℤ → ℤ };
 

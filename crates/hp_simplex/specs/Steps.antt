@@ -1,4 +1,4 @@
--- What a turn in place comes to.
+-- The contracts of a turn in place.
 use Rattle.std.specs.Prelude.{◌≡◌, ◌<◌, Bool, true, false, ⊤}
 use Rattle.hp_simplex.specs.declared.dictionary.Tableau.{Tableau}
 use Rattle.hp_simplex.specs.declared.dictionary.Leaving.{Leaving}

@@ -22,7 +22,7 @@ use std::marker::Model;
 /// is pivoted in place. A chain keeps the memory of its tableau; each answer depends on its program alone.
 pub struct DualSimplex;
 
-// What a turn came to.
+// The outcome of a turn.
 pub(crate) enum Step {
     // Two variables changed places.
     Goes,
@@ -34,7 +34,7 @@ pub(crate) enum Step {
     Stuck,
 }
 
-// What a turn is to do.
+// The choice that a turn makes before its pivot.
 pub(crate) enum Choice {
     // No bound is violated.
     Found,

@@ -117,7 +117,7 @@ fn chosen(best: Option<Entering>, column: usize, variable: usize, ratio: Fx) -> 
     }
 }
 
-// The same, where the column may enter at all.
+// Like `chosen`, for a column that counts only where it may enter at all.
 #[tactic(auto, unfolding(crate::specs::Entering::entering_step))]
 fn entering_step(
     lp: &Program,

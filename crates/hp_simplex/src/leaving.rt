@@ -85,7 +85,7 @@ fn chosen(best: Option<Leaving>, row: usize, variable: usize, side: Option<bool>
     }
 }
 
-// The same, of a row with its entries.
+// Like `chosen`, for a row that is given by its entries.
 #[tactic(auto, unfolding(crate::specs::Leaving::leaving_step))]
 fn leaving_step(
     lp: &Program,

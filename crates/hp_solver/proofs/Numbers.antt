@@ -1,4 +1,4 @@
--- What 128 bits hold, as a test and as a fact.
+-- The numbers that 128 bits hold, as a test and as a fact.
 use Rattle.std.proofs.Common.{◌≡◌, ◌^◌, ◌<◌, ℤ, pos, negsuc, Bool, true, false, cond, Option, Some, None, arith, refl, ap}
 use Rattle.std.specs.Option.{SomeIff}
 use Rattle.std.specs.Prelude.{FitsSigned}

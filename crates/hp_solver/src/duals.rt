@@ -10,8 +10,8 @@ use std::marker::Model;
 
 /// A dual for each row. Contracts see them as the list of all.
 ///
-/// Those of the first rows are listed; of the others only some stand there, and the rest are 0. So what they take grows with
-/// the rows that have a dual, and not with all rows.
+/// The duals of the first rows are listed; of the other duals only some are stored, and the rest are 0. So the memory grows
+/// with the rows that have a dual, and not with all rows.
 #[derive(Drop)]
 pub struct Duals {
     /// The duals of the first rows.
@@ -145,7 +145,7 @@ fn push_kept(
     Ok(())
 }
 
-// The same for each of some pairs.
+// Like `push_kept`, for each of some pairs.
 fn push_all_kept(
     found: &mut List<(usize, Fx)>,
     pairs: &[(usize, Fx)],

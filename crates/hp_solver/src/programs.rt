@@ -42,7 +42,7 @@ pub struct Program {
     pub own: u32,
 }
 
-/// What an answer is.
+/// The kind of an answer.
 #[derive(Clone, Copy, Debug, PartialEq, Eq)]
 pub enum Kind {
     /// A point that keeps all rows, with duals.
@@ -56,7 +56,7 @@ pub enum Kind {
 /// An answer. It is a claim: nothing rests on its being right.
 #[derive(Drop)]
 pub struct Answer {
-    /// What the answer is.
+    /// The kind of the answer.
     pub kind: Kind,
     /// A value for each column. A missing one stands for the column's least value.
     pub point: List<Fx>,

@@ -1,4 +1,4 @@
-// What solves linear programs, one after another.
+// Solvers of linear programs, which solve one after another.
 ghost use Rattle.std.specs.Prelude.{◌≡◌, IfOk, OnOk};
 ghost use Rattle.hp_solver.specs.declared.programs.Program.{Program};
 ghost use Rattle.hp_solver.specs.declared.programs.Answer.{Answer};
@@ -9,22 +9,22 @@ use crate::stage_lp::StageLp;
 use hp_num::Memory;
 use std::alloc::Global;
 
-/// A solver, known by three functions: what it makes ready for a node, what a chain of solves holds before its first
-/// program, and the answer to a program with what the chain holds after it. The answers need not be right.
+/// A solver, known by three functions: the start that it makes for a node, the state of a chain of solves before its first
+/// program, and the answer to a program with the state of the chain after it. The answers need not be right.
 pub trait Solver: Sync {
-    /// What is made ready for a node, before any solve.
+    /// The start that is made for a node, before any solve.
     type Start: Drop + Send + Sync;
 
-    /// What a chain of solves holds.
+    /// The state of a chain of solves.
     type Chain: Drop + Send;
 
-    /// What is made ready by a program.
+    /// The start that is made by a program.
     ghost started: { Self → Program → Self.Start };
 
-    /// What a chain that begins with a program holds before it.
+    /// The state of a chain that begins with a program, before that program.
     ghost begun: { Self → Self.Start → Program → Self.Chain };
 
-    /// The answer to a program, and what the chain holds after it.
+    /// The answer to a program, and the state of the chain after it.
     ghost next: { Self → Self.Chain → Program → Answer × Self.Chain };
 
     /// Whether a chain may begin with a program.
@@ -33,8 +33,8 @@ pub trait Solver: Sync {
     /// Whether a chain may take a program.
     ghost fits: { Self → Self.Chain → Program → Type 0 };
 
-    /// Makes ready for a node by its program without cuts. A chain may begin with each program that has the same
-    /// decisions, as many columns, and the same own rows but for their sides. [`Memory`] where memory was refused.
+    /// Makes the start of a node by its program without cuts. A chain may begin with each program that has the same decisions,
+    /// as many columns, and the same own rows but for their sides. [`Memory`] where memory was refused.
     fn start(&self, alloc: Global, lp: &StageLp) -> Result<Self::Start, Memory>
         requires proper { IsProper lp.now }
         requires reference { IsReference lp.now }

@@ -72,7 +72,7 @@ impl Liar {
     }
 }
 
-// The same numbers in a list of their own.
+// Copies the numbers into a new list.
 fn copied(alloc: Global, numbers: &[Fx]) -> Result<List<Fx>, Memory>
     ensures { IfOk result (λ found. found ≡ numbers.now) }
 {
@@ -160,7 +160,7 @@ impl Meeting {
         self.first_saw.load(Ordering::SeqCst) && self.second_saw.load(Ordering::SeqCst)
     }
 
-    // What a call does beside its answer.
+    // Takes part in the meeting, where the call is one of the two that are to meet.
     fn visit(&self) {
         let call = self.calls.fetch_add(1, Ordering::SeqCst);
         if call < self.after {

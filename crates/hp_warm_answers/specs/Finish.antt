@@ -1,4 +1,4 @@
--- What ends a run: reduced costs computed afresh from the duals of the rows, and whether they are to be trusted.
+-- The end of a run: reduced costs computed afresh from the duals of the rows, and whether they are to be trusted.
 use Rattle.std.specs.Prelude.{ℕ, suc, ◌^◌, ◌-◌, ℤ, pos, ◌+ℤ◌, ◌-ℤ◌, ◌*ℤ◌, Bool, false, List, [], ◌∷◌, map, get_or, slice_set, length, Option, int_lt, nat_lt, if◌then◌else◌}
 use Rattle.std.specs.Option.{option_map}
 use Rattle.hp_num.specs.Sums.{Term, entry, floor_over}

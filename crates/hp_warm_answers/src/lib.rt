@@ -1,4 +1,4 @@
-//! What the warm simplex reads off its table: the variable that enters, what is found at the end, and duals that prove
+//! Answers that the warm simplex reads off its table: the variable that enters, the answer at the end, and duals that prove
 //! that no point keeps all rows.
 #![tactic(auto)]
 

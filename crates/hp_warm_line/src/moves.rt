@@ -26,7 +26,7 @@ pub struct Swap {
     pub above: bool,
     /// The place of the variable that enters.
     pub place: usize,
-    /// What is left of the violation once those that flip have gone to their other bounds.
+    /// The violation that is left once those that flip have gone to their other bounds.
     pub rest: i128,
 }
 
@@ -49,7 +49,7 @@ fn size(cell: Cell) -> i128
     if number < 0 { -number } else { number }
 }
 
-// What is left of a violation over the size of a cell. None where it is no quantity.
+// Divides the violation that is left by the size of a cell. None where the result is no quantity.
 #[tactic(auto, unfolding(crate::specs::Move::length_of))]
 fn length_of(rest: i128, cell: Cell) -> Option<Quantity>
     requires { 0 < nat_abs cell }
@@ -86,7 +86,7 @@ fn span_of(table: &Table, high: bool, variable: usize) -> Shift
     Shift::between(here, stand(&table.bounds, !high, variable))
 }
 
-// The same for the variable at a place.
+// Like `span_of`, for the variable at a place.
 #[tactic(auto, unfolding(crate::specs::Move::span_at))]
 fn span_at(table: &Table, place: usize) -> Shift
     requires sized { IsTable table.now }

@@ -183,7 +183,7 @@ fn turn(line: &mut [Cell], place: usize) -> bool
     turn_all(line, inverse(pivot), digits(pivot) + 16)
 }
 
-// The same in a list.
+// Like `turn`, for a list.
 fn turn_line(line: &mut List<Cell>, place: usize) -> bool
     requires place { place < length line.old }
     requires pivot { 0 < nat_abs (entry line.old place) }
@@ -328,7 +328,7 @@ fn eliminate_by(
     move_reduced(&mut table.reduced, place, line, steps)
 }
 
-// The same. `steps` is for work.
+// Like `eliminate_by`. `steps` is for work.
 fn eliminate(
     table: &mut Table,
     line: &[Cell],
@@ -378,11 +378,11 @@ fn replace(
     exchange(&mut table.basis, leaving, above, place, flips);
 }
 
-/// The pivot: a basic variable, with its line, leaves for the variable at a place, and stands at its
-/// upper bound where it was above that. The variables at some more places, the flips, change their
-/// bounds. `line` is for work after that, and `steps`, as many places with cells as columns, too. The answer is false exactly where a number of it has an
-/// absolute value of 2^60 or more: the basis is then as before, and nothing is promised of the
-/// reduced costs and of the lines. All else of the table stays.
+/// Pivots: a basic variable, with its line, leaves for the variable at a place, and stands at its upper bound where it was
+/// above that. The variables at some more places, the flips, change their bounds. `line` is for work after that, and `steps`,
+/// as many places with cells as columns, too. The answer is false exactly where a number of it has an absolute value of 2^60 or
+/// more: the basis is then as before, and nothing is promised of the reduced costs and of the lines. All else of the table
+/// stays.
 #[tactic(auto, unfolding(crate::specs::Pivot::pivoted, crate::specs::Pivot::replaced))]
 pub fn pivot(
     table: &mut Table,

@@ -1,4 +1,4 @@
--- What a scan in place comes to.
+-- The contracts of a scan in place.
 use Rattle.std.specs.Prelude.{◌≡◌, ◌<◌, Bool, true, false, List, length, take, Option, Some, None}
 use Rattle.hp_warm_table.specs.declared.table.Table.{Table}
 use Rattle.hp_warm_scan.specs.declared.scanning.Scan.{Scan}

@@ -1,4 +1,4 @@
--- What cuts say of a point.
+-- The values of cuts at a point.
 use Rattle.std.specs.Prelude.{ℕ, ◌≡◌, ◌<◌, ◌≤◌, ◌^◌, ℤ, pos, neg_ℤ, ◌+ℤ◌, ◌*ℤ◌, Bool, true, List, map, length, drop, replicate, get_or, slice_set, nat_abs, All, Option, Some, None, IfSome, int_lt, FitsSigned, if◌then◌else◌}
 use Rattle.std.specs.Int.{w64}
 use Rattle.std.specs.Option.{option_map}

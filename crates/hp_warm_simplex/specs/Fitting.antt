@@ -1,4 +1,4 @@
--- What turns leave of a table as it was.
+-- The parts of a table that turns leave as they were.
 use Rattle.std.specs.Prelude.{◌≡◌, length}
 use Rattle.hp_solver.specs.declared.programs.Program.{Program}
 use Rattle.hp_warm_table.specs.declared.table.Table.{Table}

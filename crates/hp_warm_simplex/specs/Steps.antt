@@ -1,4 +1,4 @@
--- What a step in place comes to.
+-- The contracts of steps in place.
 use Rattle.std.specs.Prelude.{◌≡◌, ◌<◌, ◌≤◌, ◌^◌, ℕ, ℤ, nat_abs, List, length, Option, Some, None, ⊤}
 use Rattle.hp_num.specs.Sums.{entry}
 use Rattle.hp_solver.specs.declared.programs.Answer.{Answer}

@@ -170,7 +170,7 @@ impl Coefficient {
         }
     }
 
-    /// The same number as a cell.
+    /// Gives the number as a cell.
     pub fn cell(self) -> Cell
         ensures { result ≡ self }
     {

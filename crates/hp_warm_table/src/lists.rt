@@ -11,14 +11,14 @@ pub fn with_room<T>(alloc: Global, count: usize) -> Result<List<T>, Memory>
     Ok(List::from_vec(Vec::with_capacity(alloc, count)?))
 }
 
-/// The same values in a list of their own. [`Memory`] where memory was refused.
+/// Copies the values into a new list. [`Memory`] where memory was refused.
 pub fn copied<T: Copy + Drop>(alloc: Global, items: &[T]) -> Result<List<T>, Memory>
     ensures { IfOk result (λ found. found ≡ items.now) }
 {
     Ok(List::from_vec(Vec::from_slice(alloc, items)?))
 }
 
-/// The same values in a list of their own, with memory for so many more. [`Memory`] where memory was refused.
+/// Copies the values into a new list, with memory for so many more. [`Memory`] where memory was refused.
 pub fn copied_with_room<T: Copy + Drop>(
     alloc: Global,
     items: &[T],

@@ -66,8 +66,7 @@ impl Rows {
         Ok(())
     }
 
-    /// The same rows, in memory of their own, with memory for the places of so many more. [`Memory`] where memory was
-    /// refused.
+    /// Copies the rows, with memory for the places of so many more. [`Memory`] where memory was refused.
     pub fn copy(&self, alloc: Global, more: usize) -> Result<Rows, Memory>
         ensures { IfOk result (λ rows. rows ≡ self.now) }
     {

@@ -93,7 +93,7 @@ impl Square {
         move_row_of(&mut self.cells, self.size, v, place, addend, steps)
     }
 
-    /// The same rows, in memory of their own. [`Memory`] where memory was refused.
+    /// Copies the rows. [`Memory`] where memory was refused.
     pub fn copy(&self, alloc: Global) -> Result<Square, Memory>
         ensures { IfOk result (λ square. square ≡ self.now) }
     {

@@ -23,7 +23,7 @@ pub struct Scales {
 }
 
 impl Scales {
-    // With memory for so many rows more.
+    // Copies the scales, with memory for so many rows more.
     fn copy(&self, alloc: Global, more: usize) -> Result<Scales, Memory>
         ensures { IfOk result (λ scales. scales ≡ self.now) }
     {
@@ -77,7 +77,7 @@ impl Bounds {
         }
     }
 
-    // With memory for so many rows more.
+    // Copies the bounds, with memory for so many rows more.
     fn copy(&self, alloc: Global, more: usize) -> Result<Bounds, Memory>
         ensures { IfOk result (λ bounds. bounds ≡ self.now) }
     {
@@ -103,14 +103,14 @@ pub struct Basis {
 }
 
 impl Basis {
-    /// The same basis, in memory of its own. [`Memory`] where memory was refused.
+    /// Copies the basis. [`Memory`] where memory was refused.
     pub fn copy(&self, alloc: Global) -> Result<Basis, Memory>
         ensures { IfOk result (λ basis. basis ≡ self.now) }
     {
         self.copy_with_room(alloc, 0)
     }
 
-    // The same with memory for so many rows more.
+    // Copies the basis, with memory for so many rows more.
     fn copy_with_room(&self, alloc: Global, more: usize) -> Result<Basis, Memory>
         ensures { IfOk result (λ basis. basis ≡ self.now) }
     {
@@ -132,7 +132,7 @@ pub struct Cuts {
 }
 
 impl Cuts {
-    // With memory for so many rows more.
+    // Copies the cuts, with memory for so many rows more.
     fn copy(&self, alloc: Global, more: usize) -> Result<Cuts, Memory>
         ensures { IfOk result (λ cuts. cuts ≡ self.now) }
     {
@@ -143,8 +143,8 @@ impl Cuts {
     }
 }
 
-/// What a chain of solves holds: a program in scaled numbers, with how its basic variables depend
-/// on the nonbasic ones. There are as many places, for nonbasic variables, as columns.
+/// The state of a chain of solves: a program in scaled numbers, with how its basic variables depend on the nonbasic ones. There
+/// are as many places, for nonbasic variables, as columns.
 #[derive(Drop)]
 pub struct Table {
     /// How the numbers are scaled.
@@ -211,7 +211,7 @@ impl Table {
         Ok((costs, reduced, copied(alloc, self.values.as_slice())?))
     }
 
-    /// The same table, in memory of its own, with memory for so many rows more. [`Memory`] where memory was refused.
+    /// Copies the table, with memory for so many rows more. [`Memory`] where memory was refused.
     pub fn copy(&self, alloc: Global, more: usize) -> Result<Table, Memory>
         ensures { IfOk result (λ table. table ≡ self.now) }
     {

@@ -93,7 +93,7 @@ fn add_row_wide(row: &mut [Cell], factor: Cell, addend: &[Cell]) -> bool
     true
 }
 
-// The same for a factor below 2^39, by the high half of a product of 64 bits.
+// Like `add_row_wide`, for a factor below 2^39, by the high half of a product of 64 bits.
 #[tactic(auto, unfolding(crate::specs::Updates::added_row))]
 fn add_row_near(row: &mut [Cell], factor: Cell, addend: &[Cell]) -> bool
     requires near { nat_abs factor < 2 ^ 39 }
@@ -142,7 +142,7 @@ fn add_wide_at(row: &mut [Cell], factor: Cell, steps: &[(usize, Cell)]) -> bool
     true
 }
 
-// The same for a factor below 2^39.
+// Like `add_wide_at`, for a factor below 2^39.
 fn add_near_at(row: &mut [Cell], factor: Cell, steps: &[(usize, Cell)]) -> bool
     requires near { nat_abs factor < 2 ^ 39 }
     requires inside { All (λ s. s.0 < length row.old) steps.now }
@@ -160,7 +160,7 @@ fn add_near_at(row: &mut [Cell], factor: Cell, steps: &[(usize, Cell)]) -> bool
     true
 }
 
-// The same for any factor.
+// Like `add_wide_at`, by `add_near_at` where the factor is below 2^39.
 fn add_at(row: &mut [Cell], factor: Cell, steps: &[(usize, Cell)]) -> bool
     requires { All (λ s. s.0 < length row.old) steps.now }
     ensures lengths { length row.new ≡ length row.old }
@@ -173,7 +173,7 @@ fn add_at(row: &mut [Cell], factor: Cell, steps: &[(usize, Cell)]) -> bool
     }
 }
 
-// The same as `add_row`, by the addend's cells that are not 0, where there are others.
+// Like `add_row`, by the addend's cells that are not 0, where it has others.
 #[tactic(auto, using(crate::proofs::Stepping::sparse_added))]
 fn add_steps(row: &mut [Cell], factor: Cell, addend: &[Cell], steps: &[(usize, Cell)]) -> bool
     requires lengths { length addend.now ≡ length row.old }

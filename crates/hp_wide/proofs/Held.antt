@@ -1,4 +1,4 @@
--- What a sign and binary digits hold, as a test and as a fact.
+-- The numbers that a sign and binary digits hold, as a test and as a fact.
 use Rattle.std.proofs.Common.{◌≡◌, ℕ, ◌^◌, ◌<◌, ◌≤◌, ℤ, pos, negsuc, nat_abs, nat_lt, SFits, FitsSigned, Bool, true, false, cond, Option, Some, None, arith, refl, ap}
 use Rattle.std.specs.Option.{SomeIff}
 use mir.Syntax.{w128}

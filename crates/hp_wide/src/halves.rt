@@ -124,7 +124,7 @@ pub fn shift_down(a: i128, k: u32) -> i128
     }
 }
 
-/// What a number over 2^k has behind the point, in 128 bits.
+/// Gives the binary digits behind the point of a number over 2^k, in 128 bits.
 pub fn shifted_out(a: i128, k: u32) -> u128
     requires least { 0 < k }
     requires most { k < 128 }

@@ -1,4 +1,4 @@
--- What ends a run: duals that speak of sides that are there, and the test that the reduced costs that follow from them are cells.
+-- The end of a run: duals only of sides that exist, and the test that the reduced costs that follow from them are cells.
 use Rattle.std.specs.Prelude.{ℕ, suc, ◌^◌, ◌-◌, ℤ, pos, ◌-ℤ◌, ◌*ℤ◌, Bool, false, List, [], ◌∷◌, map, get_or, slice_set, length, Option, Some, int_lt, nat_lt, if◌then◌else◌}
 use Rattle.std.specs.Option.{option_map, option_and_then}
 use Rattle.hp_num.specs.Sums.{Term, entry}

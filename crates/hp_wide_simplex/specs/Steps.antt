@@ -1,4 +1,4 @@
--- What a step in place comes to.
+-- The contracts of steps in place.
 use Rattle.std.specs.Prelude.{◌≡◌, ◌<◌, ◌≤◌, ◌^◌, nat_abs, length, All, ⊤}
 use Rattle.hp_num.specs.Sums.{entry}
 use Rattle.hp_wide_table.specs.Shape.{variables}

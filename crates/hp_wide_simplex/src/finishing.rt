@@ -1,4 +1,4 @@
-// What ends a run: duals that speak of sides that are there, and the test that the reduced costs that follow are cells.
+// The end of a run: duals only of sides that exist, and the test that the reduced costs that follow from them are cells.
 ghost use Rattle.std.specs.Prelude.{◌≡◌, ◌<◌, ◌^◌, ◌*ℤ◌, pos, length, All, IfOk};
 ghost use Rattle.std.specs.Option.{is_some};
 ghost use Rattle.hp_simplex.specs.Each.{each_from};
@@ -125,8 +125,8 @@ fn whole_costs(alloc: Global, costs: &[Cell]) -> Result<List<Wide>, Memory>
     Ok(found)
 }
 
-// What rests of the cost of each column, less the terms of all rows times their duals. None where 256 bits do not hold a
-// rest on the way.
+// Gives the rest of each column's cost: the cost less the terms of all rows times their duals. None where 256 bits do not hold
+// a rest on the way.
 fn rests_of(alloc: Global, table: &Table) -> Result<Option<List<Wide>>, Memory>
     requires sized { IsTable table.now }
     ensures rests { IfOk result (λ found. found ≡ rests_of table.now) }

@@ -30,7 +30,7 @@ pub struct Mend {
     pub flips: List<usize>,
 }
 
-/// What one violation or all violations come to.
+/// The outcome of one violation, or of all violations.
 pub enum Look {
     /// None can be mended, and none shows that no point keeps all own rows.
     Rests,
@@ -141,8 +141,8 @@ fn look_at_all(
     Ok(Look::Rests)
 }
 
-/// What the violations of a table come to, the greatest first, until one is mended or shows that no point keeps all own
-/// rows. [`Memory`] where memory was refused.
+/// Looks at the violations of a table, the greatest first, until one is mended or shows that no point keeps all own rows.
+/// [`Memory`] where memory was refused.
 #[tactic(auto, unfolding(crate::specs::Turns::look_of))]
 pub fn look_over(alloc: Global, lp: &StageLp, table: &Table) -> Result<Look, Memory>
     requires fits { Fits table.now lp.now }

@@ -78,7 +78,7 @@ fn turn(line: &mut [Cell], place: usize) -> bool
     turn_all(line, inverse_of(pivot), digits(pivot) + 44)
 }
 
-// The same in a list.
+// Like `turn`, for a list.
 fn turn_line(line: &mut List<Cell>, place: usize) -> bool
     requires place { place < length line.old }
     requires pivot { 0 < nat_abs (entry line.old place) }

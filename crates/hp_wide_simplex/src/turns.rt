@@ -14,7 +14,7 @@ use hp_solver::{Answer, StageLp};
 use hp_wide_table::Table;
 use std::alloc::Global;
 
-/// What a turn comes to.
+/// The outcome of a turn.
 pub enum Turn {
     /// Two variables changed places.
     Pivots,
@@ -54,7 +54,7 @@ fn exchange(lp: &StageLp, table: &mut Table, mend: Mend) -> Turn
     }
 }
 
-// What the violations of a table with the values of its basis come to.
+// Takes a turn by the violations of a table with the values of its basis.
 fn mend_table(alloc: Global, lp: &StageLp, table: &mut Table) -> Result<Turn, Memory>
     requires fits { Fits table.old lp.now }
     requires proper { IsProper lp.now }

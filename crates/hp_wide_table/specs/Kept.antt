@@ -1,4 +1,4 @@
--- What stays where a table changes.
+-- The parts of a table that stay where it changes.
 use Rattle.std.specs.Prelude.{◌≡◌, ℤ, List}
 use Rattle.hp_warm_table.specs.declared.table.Basis.{Basis}
 use Rattle.hp_wide_table.specs.declared.table.Table.{Table}

@@ -69,7 +69,7 @@ fn blank(alloc: Global, count: usize, scales: Scales) -> Result<Table, Memory>
     })
 }
 
-// The same, which is a table.
+// Like `blank`, with the contract that the result is a table.
 fn blank_table(alloc: Global, count: usize, scales: Scales) -> Result<Table, Memory>
     requires few { count ≤ 1199 }
     requires small { AreSmall 1000 scales }
