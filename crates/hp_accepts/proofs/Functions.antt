@@ -1,4 +1,4 @@
--- What the reader makes of sums of variables.
+-- The reader's answers on sums of variables.
 use Rattle.std.proofs.Common.{◌≡◌, ℕ, suc, ◌≤◌, ◌^◌, ℤ, pos, negsuc, ◌+ℤ◌, List, [], ◌∷◌, length, map, slice_set, Bool, true, false, cond, None, Some, Result, Ok, unsigned_abs, refl, sym, ap, ◌∙◌}
 use Rattle.std.specs.List.{AllByRecursion}
 use Rattle.std.proofs.lemmas.Bool.{le-leb}

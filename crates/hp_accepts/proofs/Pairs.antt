@@ -1,4 +1,4 @@
--- What holds of each thing of a list, and of each pair in its order.
+-- Properties of each element of a list, and of each pair in its order.
 use Rattle.std.proofs.Common.{◌≡◌, ℕ, zero, suc, ◌+◌, ◌<◌, List, [], ◌∷◌, ◌++◌, length, map, get_or, slice_get, Bool, true, Ordering, Less, Equal, Greater, nat_cmp, is_lt, Some, refl, ap, ◌∙◌, arith}
 use Rattle.std.specs.Cmp.Lexicographic.{slice_cmp}
 use Rattle.std.specs.List.{AllByRecursion, flat_map, range_with_len}

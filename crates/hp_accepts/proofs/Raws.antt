@@ -1,4 +1,4 @@
--- What the reader makes of the whole text of a hydro problem, before its graph is looked at.
+-- The reader's answer on the whole text of a hydro problem, before its graph is looked at.
 use Rattle.std.proofs.Common.{◌≡◌, ℕ, zero, suc, ◌+◌, ◌<◌, ◌≤◌, ℤ, pos, ◌≤ℤ◌, List, [], ◌∷◌, ◌++◌, length, map, codes, All, sum, Bool, true, false, nat_lt, nat_le, if◌then◌else◌, None, Ok, refl, ap, ◌∙◌, arith}
 use Rattle.std.specs.List.{AllByRecursion, flat_map}
 use Rattle.std.proofs.lemmas.Bool.{le-leb, lt-ltb, ltb-true}

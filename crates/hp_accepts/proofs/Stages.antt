@@ -1,4 +1,4 @@
--- What the reader makes of the nodes of a hydro problem.
+-- The reader's answers on the nodes of a hydro problem.
 use Rattle.std.proofs.Common.{◌≡◌, ℕ, zero, suc, ◌+◌, ◌/◌, ◌^◌, ◌<◌, ◌≤◌, ◌==◌, ℤ, pos, List, [], ◌∷◌, ◌++◌, length, map, get_or, slice_get, Bool, true, false, int_lt, Equal, Greater, nat_cmp, bytes_eq, position, Some, None, Result, Ok, refl, sym, ap, ap₂, subst, ◌∙◌, arith, append-nil, append_assoc}
 use Rattle.std.specs.Cmp.Lexicographic.{slice_cmp}
 use Rattle.std.specs.List.{AllByRecursion, range_with_len}

@@ -1,4 +1,4 @@
--- What the reader makes of the subproblem of a stage.
+-- The reader's answer on the subproblem of a stage.
 use Rattle.std.proofs.Common.{◌≡◌, ℕ, zero, suc, ◌+◌, ◌≤◌, ℤ, List, [], ◌∷◌, length, map, filter, slice_get, Bool, true, false, cond, Some, Ok, refl, sym, ap, ap₂, subst, ◌∙◌, arith}
 use Rattle.std.specs.List.{AllByRecursion}
 use Rattle.std.proofs.lemmas.Bool.{le-leb}

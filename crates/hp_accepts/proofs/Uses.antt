@@ -1,4 +1,4 @@
--- What the reader makes of variables, and of what states and random variables use of them.
+-- The reader's answers on variables, and on their uses by states and random variables.
 use Rattle.std.proofs.Common.{◌≡◌, ℕ, zero, suc, ◌+◌, ◌<◌, ◌≤◌, ◌==◌, ℤ, List, [], ◌∷◌, ◌++◌, length, map, filter, get_or, slice_get, Bool, true, false, cond, if◌then◌else◌, Some, Result, Ok, Err, bytes_eq, refl, sym, ap, ap₂, subst, ◌∙◌, arith, append-nil, append_assoc}
 use Rattle.std.specs.List.{AllByRecursion, list_any, position_or_len}
 use Rattle.std.proofs.lemmas.Bool.{le-leb, lt-ltb, true≢false}

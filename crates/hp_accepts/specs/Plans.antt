@@ -1,4 +1,4 @@
--- What a text that is made of a description means for its plans.
+-- The meaning of a text that is made of a description, for its plans.
 use Rattle.std.specs.Prelude.{◌≡◌, ◌↔◌, ℕ, ◌<◌, ℤ, List, Ok}
 use Rattle.hp_problem.specs.Sealed.{Sealed}
 use Rattle.hp_sof.specs.Problem.{problem_at}

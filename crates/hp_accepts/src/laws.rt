@@ -38,9 +38,9 @@ pub fn made_accepted()
         → IfOk (problem_at text) (λ s. IsOk (based s)) }
 {}
 
-/// What the text that a description gives means for its plans: they are workable exactly where their trees are policies of the
-/// text's problem, at equal cost; and what is at most the cost of each policy of that problem is at most the cost of each
-/// workable plan.
+/// The meaning of the text that a description gives, for its plans: they are workable exactly where their trees are policies of
+/// the text's problem, at equal cost; and a number that is at most the cost of each policy of that problem is at most the cost
+/// of each workable plan.
 pub fn made_means()
     ensures plans { (bytes text : List ℕ) → hydro_at bytes ≡ Ok text → Means bytes text }
     ensures bound { (bytes text : List ℕ) (s : Sealed) (b : ℤ)

@@ -1,4 +1,4 @@
--- What an Ok says of the steps before it, and of the number that was read.
+-- Facts that follow from an Ok, about the steps before it and about the number that was read.
 use Rattle.std.proofs.Common.{◌≡◌, ◌≤◌, ◌^◌, ℕ, ℤ, pos, Bool, true, false, cond, Result, Ok, Err, unsigned_abs, nat_le, refl, subst}
 use Rattle.std.proofs.lemmas.Bool.{leb-true}
 use Rattle.serde_json.specs.Data.{unsigned, negative, float, Data, null, boolean, number, string, array, object}

@@ -1,4 +1,4 @@
--- What the bytes of a JSON text give.
+-- The JSON value, or the refusal, that a text's bytes give.
 use Rattle.std.proofs.Common.{◌≡◌, ℕ, List, Bool, true, false, refl}
 use Rattle.std.specs.Str.{IsUtf8, is_utf8}
 use Rattle.std.proofs.lemmas.Str.{IsUtf8-from_is_utf8, is_utf8-from_IsUtf8}

@@ -1,4 +1,4 @@
--- Steps that may refuse, and what code gives of them.
+-- Steps that may refuse, and the contracts of code that takes them.
 use Rattle.std.specs.Prelude.{◌≡◌, ℕ, suc, List, [], ◌∷◌, Result, Ok, Err}
 use Rattle.serde_json.specs.Data.{Data, Items, no_items, item, Members, no_members, member}
 pub use Rattle.hp_num.specs.Steps.{◌>>=◌}
@@ -7,12 +7,12 @@ use Rattle.hp_problem.specs.declared.refusal.Refusal.{Refusal}
 use Rattle.hp_fields.specs.declared.refusal.ReadRefusal.{ReadRefusal}
 use Rattle.hp_fields.specs.declared.refusal.ReadRefusal.TheVariants as refusals
 
--- What a function's error means: what was refused, or that memory ran out.
+-- The meaning of a function's error: the refusal that the definition gives, or that memory ran out.
 abbrev pub Fails : {Y : Type 0} → ReadRefusal → Result Y Refusal → Type 0
 Fails (refusals.Refused r) read = read ≡ Err r
 Fails refusals.Memory read = Unit {0}
 
--- What a function returned, seen by view, is what reading gives, unless memory ran out.
+-- A function gives what the definition reads: its answer, seen by view, is equal to it, unless memory ran out.
 abbrev pub Gives : {X Y : Type 0} → (X → Y) → Result X ReadRefusal → Result Y Refusal → Type 0
 Gives view result read = GivesOr Fails view result read
 
@@ -37,6 +37,6 @@ walk_list step found i (x ∷ xs) = do
   next ← step found i x
   walk_list step next (suc i) xs
 
--- The same of a function that takes no memory.
+-- Like `Gives`, for a function that takes no memory.
 abbrev pub Shows : {X Y : Type 0} → (X → Y) → Result X Refusal → Result Y Refusal → Type 0
 Shows view result read = GivesOr (λ e steps. steps ≡ Err e) view result read

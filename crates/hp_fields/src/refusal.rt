@@ -9,7 +9,7 @@ use std::alloc::{AllocError, AllocFailed};
 /// Why nothing was read.
 #[derive(Clone, Copy, Debug, PartialEq, Eq)]
 pub enum ReadRefusal {
-    /// What is wrong first, and where.
+    /// The first fault, and its place.
     Refused(Refusal),
     /// Memory was refused.
     Memory,

@@ -1,4 +1,4 @@
--- What a torn write and a cut leave of bytes in parts.
+-- The bytes that a torn write and a cut leave, in parts.
 use Rattle.std.proofs.Common.{◌≡◌, ℕ, zero, suc, ◌+◌, ◌≤◌, ◌<◌, List, [], ◌∷◌, ◌++◌, length, get_or, take, drop, refl, sym, ◌∙◌, ap, arith, append_assoc, length-append, take-append-drop}
 use Rattle.std.proofs.lemmas.List.{take_at, drop_at, drop_more, take_all, drop_all, append-nil, length-take}
 use Rattle.hp_outside.specs.Disks.{Torn, Cut, written}

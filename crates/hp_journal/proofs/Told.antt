@@ -1,4 +1,4 @@
--- What holds of the bytes that a disk tells, and runs of the two writes.
+-- Facts about the bytes that a disk tells, and runs of the two writes.
 use Rattle.std.proofs.Common.{◌≡◌, ℕ, List, Option, Some, None, IfSome, Result, Ok, Err, OnOk, refl, sym, ◌∙◌, ap, subst}
 use Rattle.std.specs.Option.{option_map}
 use Rattle.hp_outside.specs.Disks.{Store, Torn, Cut, Lawful}

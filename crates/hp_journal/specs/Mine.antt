@@ -1,4 +1,4 @@
--- What a crash may leave of a journal while it grows.
+-- The bytes that a crash may leave of a journal while it grows.
 use Rattle.std.specs.Prelude.{◌≡◌, ◌≢◌, ◌≤◌, ◌<◌, ℕ, List, [], ◌∷◌, ◌++◌, length, take, get_or, IfSome}
 use Rattle.hp_outside.specs.Disks.{Store}
 use Rattle.hp_outside.specs.Since.{LeavesOnly}

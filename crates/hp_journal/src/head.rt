@@ -14,7 +14,7 @@ use thiserror::Error;
 /// HYDPLAN1, the bytes that follow the birth byte.
 pub(crate) const MAGIC: [u8; 8] = [72, 89, 68, 80, 76, 65, 78, 49];
 
-/// What a file that may become a journal, or is one, says of itself.
+/// The head of a file that may become a journal, or is one.
 #[derive(Clone, Copy, Debug, PartialEq, Eq)]
 pub enum Head {
     /// Not born yet: a file of this length that holds no record and never did.
@@ -143,7 +143,7 @@ fn digest(bytes: &[u8]) -> [u8; 32]
     digest
 }
 
-// What a head with the magic and a birth byte of 1 says.
+// Reads the head, given its magic and a birth byte of 1.
 #[tactic(auto, unfolding(crate::specs::Head::title_at))]
 fn title(bytes: &[u8], len: u64) -> Result<Head, HeadFault>
     requires long { 52 ≤ len }

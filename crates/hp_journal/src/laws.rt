@@ -1,5 +1,4 @@
-// What is written of a journal is what is read of it. Each law is the contract of a function with an empty
-// body.
+// A journal is read as it was written. Each law is the contract of a function with an empty body.
 ghost use Rattle.std.specs.Prelude.{◌≡◌, ◌≢◌, ◌≤◌, ◌<◌, ◌+◌, ◌^◌, ℕ, suc, List, [], length, take, get_or, Ok};
 ghost use Rattle.hp_journal.specs.declared.head.Head.TheVariants as heads;
 ghost use Rattle.hp_journal.specs.declared.gate.Gate.TheVariants.{Shut, Ajar};

@@ -1,4 +1,4 @@
--- What adding the cuts of steps and entries keeps.
+-- Properties that stay when the cuts of steps and entries are added.
 use Rattle.std.proofs.Common.{◌≡◌, ℕ, ◌+◌, ◌≤◌, ◌<◌, true, List, [], ◌∷◌, length, Option, Some, None, Ok, refl, ap, subst, arith}
 use Rattle.std.specs.List.{AllByRecursion}
 use Rattle.hp_problem.specs.Sealed.{Sealed, is_sealed}

@@ -1,4 +1,4 @@
--- What one cut more keeps: it holds and fits, and its node has one cut more.
+-- Properties that stay when a cut is added: it holds and fits, and its node has one cut more.
 use Rattle.std.proofs.Common.{◌≡◌, ℕ, ◌+◌, ◌≤◌, ◌<◌, true, List, [], ◌∷◌, ◌++◌, length, All, None, sym, ap, subst, ◌∙◌, length-append, arith}
 use Rattle.std.proofs.lemmas.List.{length-set}
 use Rattle.std.proofs.lemmas.List.Elements.{All-push}

@@ -1,4 +1,4 @@
--- What is loaded: the definition from the head on, and what holds of each outcome.
+-- Outcomes of loading: the definition from the head on, and the properties of each outcome.
 use Rattle.std.proofs.Common.{◌≡◌, ◌⊎◌, ℕ, ◌+◌, ◌*◌, ◌≤◌, ◌^◌, List, [], length, Option, Some, Result, Ok, Err, refl, sym, ap, subst, ◌∙◌, arith}
 use Rattle.std.proofs.Math.Logic.{⊎_elim}
 use Rattle.hp_num.specs.Steps.{◌>>=◌}

@@ -1,4 +1,4 @@
--- What is read over a disk, whether it tells its bytes or not.
+-- Readings over a disk, whether it tells its bytes or not.
 use Rattle.std.proofs.Common.{◌≡◌, ℕ, suc, ◌+◌, List, length, Option, Some, None, IfSome, Result, Ok, Err, ◌⊎◌, refl, sym, ap, subst, ◌∙◌, rules}
 use Rattle.std.proofs.Math.Logic.{⊎_elim}
 use Rattle.hp_num.specs.Steps.{◌>>=◌}

@@ -99,7 +99,7 @@ records_at p batch bytes (suc left) at found lists = do
     read ← record_at p batch bytes at found
     records_at p batch bytes left read.1 read.2 (lists ++ read.0 ∷ []))
 
--- What code answers where the records end as the definition says, with the entries as far as they are kept.
+-- The contracts of code that reads records: these end as the definition says, with the entries as far as they are kept.
 
 -- the lists are those that were kept, where they are kept
 abbrev pub IsKept : Option (List (List Entry)) → List (List Entry) → Type 0

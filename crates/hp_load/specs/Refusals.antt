@@ -1,4 +1,4 @@
--- What the faults of a journal's parts are for the journal, and what code answers of a definition.
+-- The faults of a journal's parts as faults of the journal, and the contracts of code that loads.
 use Rattle.std.specs.Prelude.{◌≡◌, ℕ, Option, Some, None, Result, Ok, Err}
 use Rattle.hp_num.specs.Steps.{GivesOr}
 use Rattle.hp_problem.specs.declared.formulas.TooMuch.{TooMuch}
@@ -46,7 +46,7 @@ abbrev pub within : Option TooMuch → Result (Unit {0}) LoadFault
 within None = Ok tt
 within (Some t) = Err (faults.TooMuch t)
 
--- What code answers where the definition gives this: the same, unless the disk failed or memory was refused.
+-- Code answers as the definition does, unless the disk failed or memory was refused.
 abbrev pub Fails : {Y : Type 0} → LoadFault → Result Y LoadFault → Type 0
 Fails (faults.Refused r) load = load ≡ Err (faults.Refused r)
 Fails (faults.TooMuch t) load = load ≡ Err (faults.TooMuch t)

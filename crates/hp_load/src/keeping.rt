@@ -1,4 +1,4 @@
-// What becomes of the entries of a record once their cuts are made.
+// Keepers, which take the entries of a record once its cuts are made.
 ghost use Rattle.std.specs.Prelude.{◌≡◌, List, ◌++◌, ◌∷◌, [], Option, Some, None, OnOk};
 ghost use Rattle.std.specs.Option.{option_map};
 ghost use Rattle.hp_cut.specs.declared.entry.Entry.{Entry};

@@ -1,4 +1,4 @@
-//! What a journal gives: the cuts of its records, each checked by its certificates, and the bounds.
+//! Loads a journal: the cuts of its records, each checked by its certificates, and the bounds.
 #![tactic(auto)]
 
 mod cuts;

@@ -1,8 +1,8 @@
-// What a journal gives.
+// The outcome of loading a journal.
 use hp_cut::Pools;
 use hp_num::List;
 
-/// What a journal gives: the cuts of its records, the bounds, and where it ends.
+/// A loaded journal: the cuts of its records, the bounds, and where it ends.
 #[derive(Drop)]
 pub struct Loaded {
     /// The base cuts, and the cuts of all records.

@@ -45,7 +45,7 @@ pub fn first_gate(version: u16) -> u64
     if version == 2 { 53 } else { 51 }
 }
 
-// What is loaded of a journal that is not born.
+// Gives the outcome of a journal that is not born.
 fn load_unborn(alloc: Global, problem: &Problem, base: Pools, batch: Option<u16>) -> Loaded
     requires base { based problem.now ≡ Ok base.lists }
     requires batch { IfSome batch (λ b. (1 ≤ b) × (b ≤ 64)) }
@@ -67,7 +67,7 @@ fn load_unborn(alloc: Global, problem: &Problem, base: Pools, batch: Option<u16>
     }
 }
 
-// What is loaded of a journal that is born, with its version and batch.
+// Loads a journal that is born, with its version and batch.
 fn load_born<D: Disk, K: Keeper>(
     alloc: Global,
     problem: &Problem,
@@ -115,7 +115,7 @@ fn load_born<D: Disk, K: Keeper>(
     })
 }
 
-// What is loaded, with the entries of each record handed to a keeper.
+// Loads a journal, and hands the entries of each record to a keeper.
 fn load_with<D: Disk, K: Keeper>(
     alloc: Global,
     problem: &Problem,
@@ -150,9 +150,9 @@ fn load_with<D: Disk, K: Keeper>(
     }
 }
 
-/// What a journal gives over the base cuts of a problem: each step of each record is checked by its certificates over
-/// the cuts so far, and its cut appended. A digest of the problem's bytes is asked, and perhaps a seed and a batch (1 to
-/// 64), which a journal that is not born takes for its own.
+/// Loads a journal over the base cuts of a problem: each step of each record is checked by its certificates over the cuts so
+/// far, and its cut appended. A digest of the problem's bytes is asked, and perhaps a seed and a batch (1 to 64), which a
+/// journal that is not born takes for its own.
 ///
 /// The refusals come in this order: those of the head; `OtherProblem`; `OtherSeed`; `OtherBatch`; then of each record
 /// `Short` with the place of its gate, `TooMany` at an open gate behind 2,000 records, `TooMuch` by the formulas with as
@@ -193,9 +193,9 @@ pub fn load<D: Disk>(
     )
 }
 
-/// The same without an asked seed and batch, where the entries of each record are kept, in order. Over any disk these are
-/// accepted one after the other over the base cuts, and give what was loaded. After a refusal nothing is promised of
-/// `keep`, which is empty at first.
+/// Like [`load`], without an asked seed and batch, and keeps the entries of each record, in order. Over any disk these are
+/// accepted one after the other over the base cuts, and give the same outcome. After a refusal nothing is promised of `keep`,
+/// which is empty at first.
 pub fn load_keep<D: Disk>(
     alloc: Global,
     problem: &Problem,

@@ -31,7 +31,7 @@ use hp_problem::{MOST_ITERATIONS, Problem};
 use hp_record::{EntryFault, Spares, decode_batch_with};
 use std::alloc::Global;
 
-/// What records have given.
+/// The outcome of the records so far.
 #[derive(Drop)]
 pub(crate) struct Gathered {
     /// The base cuts, and the cuts of the records.

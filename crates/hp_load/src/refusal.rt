@@ -130,7 +130,7 @@ impl<T: Drop> From<AllocFailed<T>> for LoadFault {
     }
 }
 
-// What a payload's fault is for the record of an iteration.
+// Turns a payload's fault, at the record of an iteration, into the journal's.
 pub(crate) fn of_payload(iteration: u32, fault: PayloadFault) -> LoadFault
     ensures { result ≡ of_payload iteration fault }
 {
@@ -144,7 +144,7 @@ pub(crate) fn of_payload(iteration: u32, fault: PayloadFault) -> LoadFault
     }
 }
 
-// What a fault of the entries is for the record of an iteration.
+// Turns a fault of the entries, at the record of an iteration, into the journal's.
 pub(crate) fn of_entries(iteration: u32, fault: EntryFault) -> LoadFault
     ensures { result ≡ of_entries iteration fault }
 {

@@ -7,7 +7,7 @@ ghost use Rattle.hp_load.specs.declared.refusal.JournalRefusal.TheVariants as re
 ghost use Rattle.hp_load.specs.Load.{load_of, unborn};
 ghost use Rattle.hp_load.specs.Examples.{small, flat, base, digest, title, entry, payload, two, bytes};
 
-/// What the definitions give on a problem of one stage: its journal of two records, and the refusals of worse ones.
+/// The definitions' values on a problem of one stage: its journal of two records, and the refusals of worse ones.
 pub fn worked_rows()
     ensures loaded { load_of small base digest (Some 9) None bytes ≡ Ok (
       record {

@@ -12,8 +12,8 @@ ghost use Rattle.hp_file.specs.File.{Name, file_at};
 ghost use Rattle.hp_meaning.specs.Meaning.{Plans, IsPolicy, policy_cost, IsBound, IsCut};
 ghost use Rattle.hp_meaning.specs.Said.{Pairs, node_names, state_names, SameLink, SameNode, forest_of};
 
-/// What the reader accepts is a file, and the problem that the reader gives means what the file means: its nodes one by
-/// one, its policies with what they cost, and so its bounds and cuts.
+/// Bytes that the reader accepts are a file, and the problem that the reader gives means what the file means: its nodes one by
+/// one, its policies with their costs, and so its bounds and cuts.
 pub fn same_meaning()
     ensures file { (bytes : List ℕ) (s : Sealed) → problem_at bytes ≡ Ok s
         → IsSomeAnd (file_at bytes) (λ f. (f.states ≡ state_names s) × (f.names ≡ node_names s)

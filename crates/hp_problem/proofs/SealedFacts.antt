@@ -1,4 +1,4 @@
--- What holds of each problem, fact by fact.
+-- Facts about each sealed problem, one by one.
 use Rattle.std.proofs.Common.{◌≡◌, ℕ, ◌<◌, true, false, ◌&&◌, length, get_or, nat_le, nat_lt, ◌≤◌, Option, Some, None, slice_get, subst, sym, arith}
 use Rattle.std.specs.List.{list_all}
 use Rattle.std.proofs.lemmas.Bool.{leb-true}

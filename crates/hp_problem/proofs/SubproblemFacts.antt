@@ -1,4 +1,4 @@
--- What the limits of a subproblem say, fact by fact.
+-- Facts that the limits of a subproblem state, one by one.
 use Rattle.std.proofs.Common.{◌≡◌, ◌≤◌, ℕ, true, ◌&&◌, length, nat_lt, arith}
 use Rattle.std.specs.List.{list_all}
 use Rattle.std.proofs.lemmas.Bool.Decides.{nat_tests}

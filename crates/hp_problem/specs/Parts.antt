@@ -1,4 +1,4 @@
--- What belongs to a node.
+-- The parts of a node.
 use Rattle.std.specs.Prelude.{ℕ, List, [], map, Option, get_or, slice_get, option_and_then}
 use Rattle.hp_paths.specs.Paths.{links_at}
 use Rattle.hp_problem.specs.declared.raw.Node.{Node}

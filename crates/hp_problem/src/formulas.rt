@@ -23,7 +23,7 @@ pub struct TooMuch {
     /// bytes of a record, 4 for the numbers of the traces, 5 for the branches of a whole policy, 6 for the number over
     /// which its cost stands, 7 for the size of its costs along a path.
     pub which: u8,
-    /// What the formula gives.
+    /// The value of the formula.
     pub value: u64,
 }
 

@@ -70,7 +70,7 @@ fn ranked_fits(
     is_order(alloc, ranking.order, ranks)
 }
 
-// The same, and whether no node reaches itself.
+// Like `ranked_fits`, with the graph's ranks; false, too, where a node reaches itself.
 fn links_fit(alloc: Global, graph: &[List<u32>], ranking: &Ranking) -> Result<bool, Memory>
     requires known { is_graph graph.now ≡ true }
     requires starts { are_known (length graph.now) ranking.now.starts.now ≡ true }

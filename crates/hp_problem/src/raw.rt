@@ -51,7 +51,7 @@ pub struct Subproblem {
     pub randoms: List<Name>,
     /// In the order of the file.
     pub rows: List<Row>,
-    /// What a stage costs in any case.
+    /// The constant cost of a stage.
     pub constant: i64,
     /// One cost per incoming state.
     pub state_costs: List<i64>,

@@ -1,7 +1,7 @@
-// What is wrong with a problem, and where.
+// Refusals of a problem: the kind of fault and its place.
 ghost use Rattle.std.specs.Prelude.{◌≡◌};
 
-/// What is wrong.
+/// A kind of fault.
 #[derive(Clone, Copy, Debug, PartialEq, Eq)]
 pub enum RefusalKind {
     /// The bytes spell no JSON value, or one of more than 127 levels.
@@ -79,7 +79,7 @@ pub enum Part {
 /// A place in a problem: a part and three numbers, which [`Part`] explains.
 #[derive(Clone, Copy, Debug, PartialEq, Eq)]
 pub struct Place {
-    /// What stands there.
+    /// The part of the problem.
     pub part: Part,
     /// The first number.
     pub a: u32,
@@ -89,12 +89,12 @@ pub struct Place {
     pub c: u32,
 }
 
-/// What is wrong first, and where.
+/// The first fault of a problem, and its place.
 #[derive(Clone, Copy, Debug, PartialEq, Eq)]
 pub struct Refusal {
-    /// What is wrong.
+    /// The kind of fault.
     pub kind: RefusalKind,
-    /// Where.
+    /// The place of the fault.
     pub place: Place,
 }
 

@@ -1,4 +1,4 @@
--- What is spelled so is read again, whatever follows it.
+-- A text that is spelled is read again, whatever follows it.
 use Rattle.std.proofs.Common.{◌≡◌, ℕ, suc, ◌^◌, ◌<◌, ◌≤◌, ◌==◌, ℤ, Bool, true, ◌&&◌, List, [], ◌∷◌, ◌++◌, length, Option, Some, None, Result, Ok, refl, sym, ap, subst, ◌∙◌, append_assoc, arith}
 use Rattle.std.specs.Prelude.{FitsSigned, nat_lt, nat_le}
 use Rattle.std.specs.List.{flat_map, AllByRecursion}

@@ -1,4 +1,4 @@
--- What the lists by node say of one of the nodes.
+-- The parts of one node, from the lists by node.
 use Rattle.std.proofs.Common.{◌≡◌, ℕ, List, [], map, get_or, Some, slice_get, ap, ◌∙◌}
 use Rattle.std.proofs.lemmas.List.{get_or-map}
 use Rattle.std.proofs.lemmas.Option.{slice_get_within, get_or_from_slice_get}

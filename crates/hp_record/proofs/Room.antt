@@ -1,4 +1,4 @@
--- What a text of at most 2^26 bytes spells has room in its fields.
+-- Entries whose text has at most 2^26 bytes have room in its fields.
 use Rattle.std.proofs.Common.{◌≡◌, ℕ, ◌+◌, ◌^◌, ◌<◌, ◌≤◌, ◌==◌, true, List, [], ◌∷◌, ◌++◌, length, All, Option, Some, None, arith, ap, ◌∙◌}
 use Rattle.std.specs.List.{flat_map, AllByRecursion}
 use Rattle.std.specs.Int.{w16, w32, w64, to_be_bytes}

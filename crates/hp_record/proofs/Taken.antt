@@ -1,4 +1,4 @@
--- What is read is spelled so.
+-- The bytes that are read are the text of the entries.
 use Rattle.std.proofs.Common.{◌≡◌, ℕ, zero, suc, ◌^◌, ◌<◌, ◌≤◌, ◌==◌, ℤ, Bool, true, ◌&&◌, ◌||◌, not, cond, List, [], ◌∷◌, ◌++◌, length, Option, Some, None, Result, Ok, Err, refl, sym, ap, subst, ◌∙◌, arith}
 use Rattle.std.specs.Prelude.{FitsSigned, nat_lt, nat_le}
 use Rattle.std.specs.List.{flat_map, AllByRecursion}

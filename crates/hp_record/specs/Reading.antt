@@ -15,7 +15,7 @@ use Rattle.hp_record.specs.declared.fault.EntryFault.TheVariants as faults
 use Rattle.hp_record.specs.Shape.{sizes_of, may_stand, IsBatch}
 use Rattle.hp_record.specs.Spelling.{spell}
 
--- What a function returned, seen by view, is what reading gives, unless memory ran out.
+-- A function gives what the definition reads: its answer, seen by view, is equal to it, unless memory ran out.
 abbrev pub Fails : {Y : Type 0} → ReadFault → Result Y ℕ → Type 0
 Fails (reads.Bad left) read = read ≡ Err left
 Fails reads.Memory read = Unit {0}

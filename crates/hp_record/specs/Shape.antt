@@ -79,7 +79,7 @@ pub record IsBatch (p : Sealed) (iteration count : ℕ) (es : List Entry) : Type
   pub each : AllByRecursion (Writable p) es
   pub numbers : AllByRecursion EntryFits es
 
--- What has room in the fields of the text.
+-- Counts and numbers that have room in the fields of the text.
 
 abbrev pub CountsFit : Certificate → Type 0
 CountsFit c = All (λ qs. length qs < 2 ^ 32) c.cuts

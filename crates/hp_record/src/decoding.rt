@@ -123,7 +123,7 @@ fn placed(
     }
 }
 
-/// The entries of a payload: so many, each of the iteration, with the problem's shape. Bad exactly where the payload
+/// Reads the entries of a payload: so many, each of the iteration, with the problem's shape. Bad exactly where the payload
 /// is the text of no such entries; its place is the offset of the first field that is not wholly there or has a
 /// forbidden value, or of the first byte too many. Memory where memory was refused.
 ///
@@ -137,19 +137,19 @@ pub fn decode_batch(
     payload: &[u8],
 ) -> Result<List<Entry>, EntryFault>
     requires { length payload.now ≤ 2 ^ 26 }
-    // What is read is a batch, and the payload is its text.
+    // The entries that are read are a batch, and the payload is its text.
     ensures spelled { IfOk result (λ list. IsBatch problem.now iteration batch list × (payload.now ≡ spell list)) }
     // The text of a batch is read as the batch.
     ensures again { (list : List Entry) → IsBatch problem.now iteration batch list → payload.now ≡ spell list → Answers (λ x. x) result (Ok list) }
     ensures bad { OnBad result (IsNoText problem.now iteration batch payload.now) }
-    // Which place it is.
+    // The place is the one that the definition gives.
     ensures exact { Answers (λ x. x) result (read_batch problem.now iteration batch payload.now) }
 {
     let mut spares = Spares::new(alloc);
     decode_batch_with(alloc, &mut spares, problem, iteration, batch, payload)
 }
 
-/// The same as [`decode_batch`] reads, where the lists of certificates take the memory of entries that are done with.
+/// Like [`decode_batch`], where the lists of certificates take the memory of entries that are done with.
 pub fn decode_batch_with(
     alloc: Global,
     spares: &mut Spares,

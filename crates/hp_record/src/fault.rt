@@ -18,7 +18,7 @@ pub enum EntryFault {
     Memory,
 }
 
-/// The same, while the bytes are read.
+/// Like [`EntryFault`], while the bytes are read.
 #[derive(Clone, Copy, Debug, PartialEq, Eq)]
 pub(crate) enum ReadFault {
     /// A field is not wholly there or has a forbidden value, or a byte is too many.

@@ -4,7 +4,7 @@ ghost use Rattle.hp_record.specs.Spelling.{spell};
 ghost use Rattle.hp_record.specs.Reading.{read_batch};
 ghost use Rattle.hp_record.specs.Examples.{chain, two_steps, head, first_step, second_step, pair};
 
-/// What the definitions give on a chain of two nodes: a text, the entry that it is, and the places of faults.
+/// The definitions' values on a chain of two nodes: a text, the entry that it is, and the places of faults.
 pub fn worked_rows()
     ensures text { spell (two_steps ∷ []) ≡ head 3 2 ++ first_step 1 ++ second_step 0 1 ++ pair }
     ensures entry { read_batch chain 3 1 (head 3 2 ++ first_step 1 ++ second_step 0 1 ++ pair) ≡ Ok (two_steps ∷ []) }

@@ -1,4 +1,4 @@
--- What the reader accepts keeps the limits.
+-- Problems that the reader accepts keep the limits.
 use Rattle.std.proofs.Common.{◌≡◌, ℕ, suc, List, [], length, true, ◌&&◌, nat_le, Ok, refl, sym, subst, ◌∙◌, arith}
 use Rattle.std.specs.List.{list_all}
 use Rattle.serde_json.specs.Data.{Data, Items, Members}

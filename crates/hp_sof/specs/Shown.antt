@@ -1,4 +1,4 @@
--- What the tables of a problem file stand for.
+-- The definitions' tables for which the code's tables of a problem file stand.
 use Rattle.serde_json.specs.View.{members_view, items_view}
 use Rattle.hp_sof.specs.declared.tables.Tables.{Tables}
 use Rattle.hp_sof.specs.Tables as tables

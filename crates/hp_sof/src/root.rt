@@ -14,7 +14,7 @@ use hp_problem::{Part, Place, Refusal, RefusalKind, State};
 use serde_json::{Map, Value};
 use std::alloc::Global;
 
-/// What a problem begins with.
+/// The root of a problem: its states, and the nodes that may come first.
 #[derive(Drop)]
 pub(crate) struct Root {
     pub(crate) states: List<State>,

@@ -12,7 +12,7 @@ use hp_problem::limits::{MOST_NODES, MOST_SCENARIOS, MOST_SUBPROBLEMS};
 use hp_problem::{Place, Refusal, RefusalKind};
 use serde_json::{Map, Value};
 
-/// What a problem file holds.
+/// The tables of a problem file, and its list of scenarios.
 #[derive(Clone, Copy)]
 pub(crate) struct Tables<'v> {
     pub(crate) root: &'v Map<String, Value>,

@@ -1,4 +1,4 @@
--- What the variables of a subproblem are used for: how many there are of each, and that each outgoing variable is a decision.
+-- The uses of a subproblem's variables: how many there are of each, and that each outgoing variable is a decision.
 use Rattle.std.proofs.Common.{◌≡◌, ◌<◌, ◌+◌, ◌==◌, ℕ, zero, suc, List, [], ◌∷◌, ◌++◌, length, Bool, true, false, not, nat_le, nat_lt, slice_get, slice_set, Option, Some, None, unwrap_or, position, get_or, Ok, if◌then◌else◌, bytes_eq, map, cond, ◌||◌, refl, sym, ap, ap₂, subst, ◌∙◌, arith}
 use Rattle.std.specs.List.{AllByRecursion, IsDistinct, list_all, list_any, position_or_len}
 use Rattle.std.proofs.lemmas.List.{length-set, length-replicate, length-map, map-append, length_push}

@@ -1,4 +1,4 @@
--- What a stage costs.
+-- The cost of a stage.
 use Rattle.std.specs.Prelude.{ℕ, List, length, Result, Ok, codes, if◌then◌else◌}
 use Rattle.std.specs.Str.{bytes_eq}
 use Rattle.serde_json.specs.Data.{Data}

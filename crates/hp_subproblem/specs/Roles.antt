@@ -1,4 +1,4 @@
--- What the variables are used for.
+-- The roles of a subproblem's variables.
 use Rattle.std.specs.Prelude.{ℕ, List, [], replicate, slice_get, slice_set, Option, Some, None, Bool, true, false, Result, Ok, if◌then◌else◌}
 use Rattle.hp_problem.specs.declared.refusal.Refusal.{Refusal}
 use Rattle.hp_problem.specs.declared.refusal.RefusalKind.TheVariants as kinds

@@ -1,4 +1,4 @@
--- What the parts of a stage stand for.
+-- The definitions' parts of a stage for which the code's parts stand.
 use Rattle.serde_json.specs.View.{view, members_view, items_view}
 use Rattle.hp_subproblem.specs.declared.stage_parts.StageParts.{StageParts}
 use Rattle.hp_subproblem.specs.StageParts as parts

@@ -15,7 +15,7 @@ use hp_problem::{Part, Place, Row};
 use serde_json::Value;
 use std::alloc::Global;
 
-/// What the constraints say.
+/// The bounds and the rows that the constraints give.
 #[derive(Drop)]
 pub(crate) struct Constraints {
     /// One entry per variable; a random variable has no bounds.

@@ -1,4 +1,4 @@
-// What a subproblem says in the file is what the reader gives of it. The law is the contract of a function with an empty body.
+// The reader gives what a subproblem says in the file. The law is the contract of a function with an empty body.
 ghost use Rattle.std.specs.Prelude.{◌≡◌, ℕ, List, map, Ok, IsSomeAnd};
 ghost use Rattle.serde_json.specs.Data.{Data};
 ghost use Rattle.hp_problem.specs.declared.raw.State.{State};

@@ -1,4 +1,4 @@
-// What a stage costs.
+// The cost of a stage.
 ghost use Rattle.std.specs.Prelude.{◌≡◌};
 ghost use Rattle.serde_json.specs.View.{view};
 ghost use Rattle.hp_fields.specs.Steps.{Gives};

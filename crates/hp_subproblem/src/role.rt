@@ -1,4 +1,4 @@
-// What the variables are used for.
+// The roles of a subproblem's variables.
 ghost use Rattle.std.specs.Prelude.{◌≡◌, length, IfOk};
 ghost use Rattle.hp_fields.specs.Steps.{Shows};
 ghost use Rattle.hp_subproblem.specs.Roles.{taken_at, unused};
@@ -7,14 +7,14 @@ use hp_num::{List, Memory, Name};
 use hp_problem::{Place, Refusal, RefusalKind};
 use std::alloc::Global;
 
-/// What a variable is used for.
+/// The role of a variable.
 #[derive(Clone, Copy, PartialEq, Eq)]
 pub(crate) enum Role {
-    /// Neither by a state nor as a random variable.
+    /// Used neither by a state nor as a random variable.
     Free,
-    /// As the state at the begin of a stage.
+    /// Used as the state at the begin of a stage.
     Incoming,
-    /// As the state at the end of a stage.
+    /// Used as the state at the end of a stage.
     Outgoing,
     Random,
 }

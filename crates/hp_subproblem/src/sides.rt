@@ -71,7 +71,7 @@ impl Sides {
         Ok(self)
     }
 
-    /// What stands between the sides and between the other ones.
+    /// Gives the intersection with other sides.
     pub(crate) fn intersection(self, other: Sides) -> Sides
         ensures { result ≡ intersection self other }
     {

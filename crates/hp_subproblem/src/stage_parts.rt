@@ -9,7 +9,7 @@ use hp_fields::{array, items, members, object, present};
 use hp_problem::{Place, Refusal};
 use serde_json::{Map, Value};
 
-/// What a subproblem's object holds.
+/// The parts of a subproblem's object.
 #[derive(Clone, Copy)]
 pub(crate) struct StageParts<'v> {
     pub(crate) states: &'v Map<String, Value>,

@@ -85,14 +85,14 @@ fn few_rows(found: Constraints, p: u32) -> Result<Constraints, Refusal>
     Ok(found)
 }
 
-// What a stage problem says of its states and random variables, in lists.
+// The costs and bounds of a stage problem's states and random variables, in lists.
 #[derive(Drop)]
 struct Lists {
     // The decision that is each state's outgoing variable.
     outs: List<u32>,
-    // What a unit of each incoming state costs.
+    // The cost of a unit of each incoming state.
     state_costs: List<i64>,
-    // What a unit of each random variable costs.
+    // The cost of a unit of each random variable.
     random_costs: List<i64>,
     // The given lower bound of each incoming state.
     low: List<Option<i64>>,
@@ -100,7 +100,7 @@ struct Lists {
     high: List<Option<i64>>,
 }
 
-// What a unit of each incoming state and of each random variable costs.
+// Gives the cost of a unit of each incoming state and of each random variable.
 fn given_costs(
     alloc: Global,
     uses: &Uses,
