@@ -1,4 +1,4 @@
--- What is kept of a node's cuts.
+-- The lists that are kept for a node's cuts.
 use Rattle.std.specs.Prelude.{◌≤◌, ◌^◌, List, length, map, All, Option, IfSome}
 use Rattle.hp_theory.specs.declared.cut.Cut.{Cut}
 use Rattle.hp_cut.specs.declared.flat_cuts.FlatCuts.{FlatCuts}

@@ -1,4 +1,4 @@
--- What the reader makes of the parts of a generated problem.
+-- The reader's answers on the parts of a generated problem.
 use Rattle.std.proofs.Common.{◌≡◌, ℕ, zero, suc, ◌+◌, ◌*◌, ◌%◌, ◌^◌, ◌<◌, ◌≤◌, ◌==◌, ℤ, pos, List, [], ◌∷◌, ◌++◌, map, codes, Bool, true, false, cond, nat_lt, Some, None, position, bytes_eq, sum, Result, Ok, refl, ap, ◌∙◌, arith}
 use Rattle.std.proofs.lemmas.Bool.{le-leb, ltb-true}
 use Rattle.serde_json.specs.Data.{Data, object, Members, no_items, no_members, member}

@@ -1,4 +1,4 @@
--- What the reader makes of the subproblem.
+-- The reader's answer on the subproblem.
 use Rattle.std.proofs.Common.{◌≡◌, ℕ, zero, suc, ◌*◌, ◌≤◌, pos, List, [], ◌∷◌, ◌++◌, map, codes, replicate, Some, Result, Ok, Err, refl, arith}
 use Rattle.std.specs.List.{flat_map}
 use Rattle.std.specs.Prelude.{⊤}

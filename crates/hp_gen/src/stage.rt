@@ -41,7 +41,7 @@ fn variables(alloc: Global, reservoirs: u32) -> Result<Vec<Value>, AllocError>
     Ok(list)
 }
 
-// What the reservoir above lets down.
+// Appends the water that the reservoir above lets down.
 #[tactic(auto, unfolding(crate::specs::Stage::from_above))]
 fn push_from_above(alloc: Global, list: &mut Vec<Value>, reservoir: u32) -> Result<(), AllocError>
     requires { reservoir < 10 }

@@ -1,4 +1,4 @@
--- What is arranged can be sealed.
+-- A problem that is arranged can be sealed.
 use Rattle.std.proofs.Common.{◌≡◌, ◌∙◌, ℕ, ◌<◌, ◌≤◌, ℤ, pos, true, ◌&&◌, ◌==◌, List, [], length, get_or, slice_get, nat_lt, unwrap_or, Contains, Option, Some, None, Result, Ok, Err, refl, ap, subst, sym, arith}
 use Rattle.std.specs.List.{list_all, list_any}
 use Rattle.std.specs.Prelude.{option_and_then}

@@ -1,4 +1,4 @@
--- What comes into a node: its hull, and the box of its incoming state.
+-- The hull of the states that come into a node, and the box of its incoming state.
 use Rattle.std.specs.Prelude.{ℕ, ℤ, pos, Bool, true, ◌&&◌, ◌==◌, not, List, [], ◌∷◌, length, map, Option, Some, None, int_le, get_or, slice_get, option_and_then, unwrap_or, if◌then◌else◌}
 use Rattle.std.specs.Int.{int_min, int_max}
 use Rattle.std.specs.List.{list_any, find, fold, cons_option}

@@ -1,4 +1,4 @@
-// What comes into a node.
+// The hull and the box of the states that come into a node.
 ghost use Rattle.std.specs.Prelude.{◌≡◌, ◌≤◌, ◌<◌, ℤ, pos, [], ◌∷◌, List, length, map, IfOk, slice_get, option_and_then, unwrap_or, ◌==◌, if◌then◌else◌, Option, Some, None, get_or};
 ghost use Rattle.std.specs.List.{list_any, fold, cons_option};
 ghost use Rattle.hp_paths.specs.Paths.{numbers};

@@ -1,4 +1,4 @@
--- What a test says where it is true.
+-- Facts that follow where a test is true.
 use Rattle.std.proofs.Common.{◌≡◌, ◌∙◌, ℕ, suc, zero, ◌<◌, Bool, true, false, ◌&&◌, List, [], ◌∷◌, length, map, get_or, slice_get, Contains, Option, Some, None, is_none, ap, subst, refl, arith}
 use Rattle.std.proofs.lemmas.Option.{slice_get-get_or, slice_get_within, get_or_from_slice_get}
 use Rattle.std.specs.List.{list_all}

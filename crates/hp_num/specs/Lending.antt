@@ -1,4 +1,4 @@
--- What a list ends as, where its values are lent to be changed.
+-- The final values of a list whose values are lent to be changed.
 use Rattle.std.specs.Prelude.{List, ◌++◌, length, take, drop}
 use Rattle.std.specs.Borrow.{Lends, Fml, RattleType, MutBor, Array}
 use Rattle.hp_num.specs.contracts.list.List.{the_row}

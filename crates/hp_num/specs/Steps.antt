@@ -6,7 +6,7 @@ abbrev pub ◌>>=◌ : {A B E : Type 0} → Result A E → (A → Result B E) �
 (Ok x) >>= f = f x
 (Err e) >>= f = Err e
 
--- What a function returned, seen by view, is what the steps give; of its error fails says what it means.
+-- A function gives what the steps give: its answer, seen by view, is equal to it; fails gives the meaning of its error.
 abbrev pub GivesOr : {X Y E F : Type 0} → (F → Result Y E → Type 0) → (X → Y) → Result X F → Result Y E → Type 0
 GivesOr fails view (Ok x) steps = steps ≡ Ok (view x)
 GivesOr fails view (Err e) steps = fails e steps

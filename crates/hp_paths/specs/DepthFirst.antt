@@ -1,4 +1,4 @@
--- What a depth-first search for the ranks knows of each node while it goes on.
+-- The marks of the nodes in a depth-first search for the ranks.
 use Rattle.std.specs.Prelude.{◌≡◌, ℕ, suc, ◌<◌, ◌⊎◌, Bool, true, false, List, length, map, None, get_or, Contains}
 use Rattle.std.specs.List.{sum_by}
 use Rattle.hp_paths.specs.Paths.{links_at, first_in_cycle, Reaches}

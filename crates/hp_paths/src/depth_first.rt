@@ -8,7 +8,7 @@ use crate::search::links;
 use hp_num::{List, Memory};
 use std::alloc::Global;
 
-// What the search knows of a node: nothing yet, that the search is below it, or its rank.
+// The mark of a node: it is not seen yet, the search is below it, or it has its rank.
 #[derive(Clone, Copy)]
 pub(crate) enum Mark {
     Unseen,

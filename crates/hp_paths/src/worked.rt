@@ -2,7 +2,7 @@
 ghost use Rattle.std.specs.Prelude.{◌≡◌, [], ◌∷◌, true, false, Some, None};
 ghost use Rattle.hp_paths.specs.Paths.{is_graph, reached, first_in_cycle, first_unreached};
 
-/// What the definitions give on small graphs; a definition with one number changed gives something else.
+/// The definitions' values on small graphs; a definition with one number changed gives something else.
 pub fn worked_rows()
     ensures known { is_graph ((1 ∷ []) ∷ [] ∷ []) ≡ true }
     ensures unknown { is_graph ((2 ∷ []) ∷ [] ∷ []) ≡ false }

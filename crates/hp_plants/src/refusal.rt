@@ -16,7 +16,7 @@ pub enum HydroKind {
     NotWhole,
     /// A number, a count or a total is outside its range, or a name is not of the form that names have.
     Limit,
-    /// A name stands for nothing in the description.
+    /// A name names nothing.
     UnknownName,
     /// The reservoirs and the sum of all travels are more than 50.
     States,
@@ -53,10 +53,10 @@ pub struct HydroRefusal {
     pub b: u32,
 }
 
-/// The reason why no plants were read.
+/// Why no plants were read.
 #[derive(Clone, Copy, Debug, PartialEq, Eq)]
 pub enum HydroFault {
-    /// The description is refused: its first fault, and where.
+    /// The first fault, and its place.
     Refused(HydroRefusal),
     /// Memory was refused.
     Memory,

@@ -1,4 +1,4 @@
-// What stands above every report.
+// The head of every report.
 ghost use Rattle.std.specs.Prelude.{◌≡◌, ◌++◌, OnErr, OnOk, codes};
 ghost use Rattle.std.specs.Io.{StartsWith};
 ghost use Rattle.hp_report.specs.Lines.{numbered};
@@ -8,8 +8,8 @@ use hp_num::{List, Memory};
 use hp_problem::{Node, Raw, State};
 use hp_text::{push_bytes, push_name, push_whole};
 
-/// Appends what stands above every report: the version, the scale of cuts and bounds, and a line for each state and each
-/// node with its number, from 0 on, and its name as a JSON string.
+/// Appends the head of every report: the version, the scale of cuts and bounds, and a line for each state and each node with
+/// its number, from 0 on, and its name as a JSON string.
 ///
 /// After `Memory` a first part of it may stand in `out`, behind what stood there before.
 #[tactic(auto, unfolding(crate::specs::Report::head_text))]

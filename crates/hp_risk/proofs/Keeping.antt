@@ -1,4 +1,4 @@
--- What planes keep: each fits, and each holds as the lists of weights ask.
+-- Properties that planes keep: each fits, and each holds as the lists of weights ask.
 use Rattle.std.proofs.Common.{◌≡◌, ℕ, zero, suc, ◌+◌, ◌<◌, ◌≤◌, Bool, true, false, nat_lt, List, [], ◌∷◌, ◌++◌, length, get_or, sum, All, Some, None, Ok, refl, sym, subst, ◌∙◌, arith}
 use Rattle.std.proofs.lemmas.Bool.Decides.{nat_tests}
 use Rattle.std.proofs.lemmas.List.{length-set}

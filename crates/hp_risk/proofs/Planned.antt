@@ -1,4 +1,4 @@
--- What a plane is: the cut of a list of weights with which its certificates are accepted.
+-- A plane is the cut of a list of weights with which its certificates are accepted.
 use Rattle.std.proofs.Common.{map, ◌≡◌, ◌∙◌, ℕ, suc, ◌<◌, ℤ, Bool, true, false, List, [], ◌∷◌, length, get_or, Option, Some, None, IfSome, Ok, Err, int_lt, refl, sym, subst, ap, arith, if◌then◌else◌}
 use Rattle.std.specs.Prelude.{is_none, slice_get}
 use Rattle.std.proofs.lemmas.Option.{get_or_from_slice_get}

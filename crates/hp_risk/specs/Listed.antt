@@ -1,4 +1,4 @@
--- What holds of the weights that are listed for the realizations of the nodes.
+-- Properties of the weights that are listed for the realizations of the nodes.
 use Rattle.std.specs.Prelude.{◌≡◌, ℕ, ◌<◌, List, [], length, map, get_or, All}
 use Rattle.hp_problem.specs.Sealed.{Sealed}
 use Rattle.hp_theory.specs.Problem.{Realization, Node, node_at}

@@ -89,7 +89,7 @@ planes_of p x lists = do
   base ← base_planes p x
   each (entries_added p x) base lists
 
--- What code answers; want of memory is free.
+-- Code answers as the definition does; want of memory is free.
 
 abbrev pub Stops : RobustFault → Result (List (List Cut)) (ℕ × ℕ × ℕ) → Type 0
 Stops (ends.Range k m r) planes = planes ≡ Err (k, m, r)

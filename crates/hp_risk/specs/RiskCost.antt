@@ -1,4 +1,4 @@
--- What a decision tree costs where each node weighs its realizations by the worst of several lists of weights, and a policy.
+-- The risk cost of a decision tree and of a policy: each node weighs its realizations by the worst of several lists of weights.
 -- Source: the risk measures of Shapiro, Dentcheva and Ruszczynski 2009, as the greatest expectation over a set of weights.
 use Rattle.std.specs.Prelude.{◌≡◌, ℕ, ◌<◌, ℤ, pos, ◌*ℤ◌, List, [], ◌∷◌, sum, int_lt, All, if◌then◌else◌}
 use Rattle.hp_theory.specs.declared.cut.Cut.{Cut}

@@ -12,7 +12,7 @@ use hp_problem::{Node, Problem, Subproblem};
 use hp_theory::Certificate;
 use std::alloc::Global;
 
-// The same certificate for each realization of a node.
+// Gives the base certificate of a node once for each realization.
 fn certificates(
     alloc: Global,
     node: &Node,

@@ -26,7 +26,7 @@ pub(crate) fn weights(alloc: Global, all: &[u64], place: Place) -> Result<List<u
     Ok(found)
 }
 
-/// The same weights, in a list of their own.
+/// Copies the weights into a new list.
 pub(crate) fn copied(alloc: Global, weights: &[u32]) -> Result<List<u32>, Memory>
     ensures { IfOk result (λ l. l ≡ weights.now) }
 {

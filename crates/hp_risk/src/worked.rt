@@ -8,7 +8,7 @@ ghost use Rattle.hp_risk.specs.Listed.{own_weights};
 ghost use Rattle.hp_risk.specs.Planes.{plane_of};
 ghost use Rattle.hp_risk.specs.RiskCost.{risk_policy_cost};
 
-/// What the definitions give of the reservoir.
+/// The definitions' values on the reservoir.
 pub fn worked_rows()
     ensures base_plane { plane_of [] (reservoir 1) (base_list (reservoir 1))
         (own_weights (reservoir 1) ∷ (3 ∷ 1 ∷ []) ∷ [])

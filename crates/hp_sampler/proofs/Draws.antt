@@ -1,4 +1,4 @@
--- What the limits of a sealed problem say of the weights that a path picks among.
+-- The limits of a sealed problem on the weights that a path picks among.
 use Rattle.std.proofs.Common.{◌≡◌, ℕ, suc, ◌+◌, ◌-◌, ◌*◌, ◌<◌, ◌≤◌, true, false, List, [], ◌∷◌, ◌++◌, length, map, get_or, sum, Option, Some, None, IfSome, slice_get, nat_lt, refl, sym, ap, subst, ◌∙◌, arith}
 use Rattle.std.specs.List.{list_all}
 use Rattle.std.proofs.lemmas.Bool.{ltb-true}

@@ -1,4 +1,4 @@
--- What a word of 32 bits picks among weights.
+-- The index that a word of 32 bits picks among weights.
 use Rattle.std.specs.Prelude.{ℕ, zero, suc, ◌+◌, ◌*◌, ◌/◌, ◌^◌, List, [], ◌∷◌, sum, if◌then◌else◌, nat_lt}
 
 -- the first index whose running sum exceeds the level; `before` is the sum of the weights before the index i, where these begin

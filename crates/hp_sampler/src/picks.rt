@@ -1,4 +1,4 @@
-// What a word picks among weights.
+// The index that a word picks among weights.
 ghost use Rattle.std.specs.Prelude.{◌≡◌, ◌+◌, ◌*◌, ◌/◌, ◌^◌, ◌<◌, ◌≤◌, ◌++◌, true, length, sum};
 ghost use Rattle.hp_problem.specs.Limits.{are_weights};
 ghost use Rattle.hp_sampler.specs.Picked.{first_above, level_of, picked, stop_weight};
@@ -28,7 +28,7 @@ fn first_above(weights: &[u32], level: u32) -> u32
     weights.len() as u32
 }
 
-// What a word picks among weights with a stop weight behind them.
+// Gives the index that a word picks among weights with a stop weight behind them.
 #[tactic(auto, using(crate::proofs::Picking::picked_stop, crate::proofs::Picking::few_weights))]
 pub(crate) fn pick_or_stop(weights: &[u32], stop: u32, word: u32) -> u32
     requires some { 0 < length weights.now }

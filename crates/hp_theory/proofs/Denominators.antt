@@ -1,4 +1,4 @@
--- What stands under the cost of a tree and of a policy is positive.
+-- The denominators of the costs of trees and of policies are positive.
 use Rattle.std.proofs.Common.{◌≡◌, ℕ, ◌<◌, ℤ, true, List, [], ◌∷◌, length, sum, All, arith, mul-pos}
 use Rattle.hp_num.proofs.Sums.{All_head, All_tail}
 use Rattle.hp_problem.specs.Sealed.{Sealed, is_sealed}

@@ -1,4 +1,4 @@
--- What is at most a fraction: sums, multiples, parts.
+-- Lower bounds on fractions: on sums, multiples and parts.
 use Rattle.std.proofs.Common.{◌≡◌, ℕ, ◌*◌, ◌<◌, ℤ, pos, ◌+ℤ◌, ◌*ℤ◌, ◌≤ℤ◌, [], ◌∷◌, arith}
 use Rattle.std.proofs.lemmas.Int.{ints}
 use Rattle.hp_num.proofs.Order.{le_of_eq, le_trans, le_add, le_scale, le_cancel}

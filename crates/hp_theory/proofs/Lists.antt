@@ -1,4 +1,4 @@
--- What holds of each element of lists that go side by side.
+-- Properties of the elements of lists that go side by side.
 use Rattle.std.proofs.Common.{List, [], ◌∷◌, All, zip}
 use Rattle.std.proofs.lemmas.List.Elements.{All-nil, All-cons, All-head, All-tail}
 

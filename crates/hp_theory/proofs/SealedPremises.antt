@@ -1,4 +1,4 @@
--- What the laws ask of a problem, from what holds of each sealed one.
+-- The premises of the laws hold of each sealed problem.
 use Rattle.std.proofs.Common.{◌≡◌, ℕ, zero, suc, ◌+◌, ◌*◌, nat_abs, ◌<◌, ◌≤◌, ◌^◌, ℤ, pos, ◌≤ℤ◌, ◌+ℤ◌, true, List, [], ◌∷◌, length, get_or, map, All, Contains, sum, Some, slice_get, nat_lt, sym, ap, ◌∙◌, subst, arith}
 use Rattle.std.specs.Prelude.{int_le}
 use Rattle.std.specs.List.{list_all}

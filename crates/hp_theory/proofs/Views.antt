@@ -1,4 +1,4 @@
--- What the definitions see of a sealed problem, field by field.
+-- The definitions' view of a sealed problem, field by field.
 use Rattle.std.proofs.Common.{◌≡◌, ℕ, zero, suc, ◌+◌, ◌<◌, ℤ, All, subst, List, [], ◌∷◌, length, map, get_or, sum, Some, None, refl, ap, sym, ◌∙◌, arith}
 use Rattle.std.proofs.lemmas.List.Sums.{sum_by-cons}
 use Rattle.std.specs.Prelude.{slice_get}

@@ -1,4 +1,4 @@
--- What a decision tree costs, and a policy: expectations by the weights, in which the stop weight's share of the future costs nothing.
+-- The expected cost of a decision tree and of a policy, by the weights; the stop weight's share of the future costs nothing.
 -- Source: Pereira and Pinto 1991; the stop weight as a discount, Dowson 2020.
 use Rattle.std.specs.Prelude.{ℕ, ℤ, pos, ◌+ℤ◌, ◌*ℤ◌, List, [], ◌∷◌, sum}
 use Rattle.hp_num.specs.Sums.{dot}

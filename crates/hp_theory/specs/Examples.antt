@@ -151,7 +151,7 @@ edge high = record {
   stop = 0;
 }
 
--- The same with cost 2^39 - 1 of u, the state in [-1,0], and two realizations.
+-- Like edge, with cost 2^39 - 1 of u, the state in [-1,0], and two realizations.
 abbrev pub edge_twice : Node
 edge_twice = record (edge (pos (2 ^ 39 - 1))) {
   costs = pos 0 ∷ pos (2 ^ 39 - 1) ∷ pos 1 ∷ [];

@@ -1,4 +1,4 @@
--- What the laws ask of a problem: lists that fit, weights, boxes inside boxes, and an order of the nodes.
+-- The premises of the laws on a problem: lists that fit, weights, boxes inside boxes, and an order of the nodes.
 use Rattle.std.specs.Prelude.{◌≡◌, ℕ, ◌<◌, ◌^◌, pos, ◌+ℤ◌, ◌≤ℤ◌, List, [], ◌∷◌, length, get_or, All, Contains, sum}
 use Rattle.hp_num.specs.Sums.{sum_to, entry}
 use Rattle.hp_theory.specs.declared.cut.Cut.{Cut}

@@ -1,4 +1,4 @@
--- What the definitions see of a sealed problem.
+-- The definitions' view of a sealed problem.
 use Rattle.std.specs.Prelude.{ℕ, ℤ, List, [], map, zip, get_or, slice_get, Option, option_and_then, unwrap_or}
 use Rattle.std.specs.Option.{option_map}
 use Rattle.hp_problem.specs.declared.raw.State.{State}

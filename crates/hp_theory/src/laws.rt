@@ -102,8 +102,8 @@ pub fn leaf_base()
         → Holds p m (cut_of pools (node_at p m) (base_list (node_at p m))) }
 {}
 
-/// What stands under the cost of a tree is positive wherever the nodes have weights and lead to nodes, and so is what
-/// stands under the cost of a policy of a sealed problem: costs are compared as fractions.
+/// The denominator of the cost of a tree is positive wherever the nodes have weights and lead to nodes, and so is the
+/// denominator of the cost of a policy of a sealed problem: costs are compared as fractions.
 pub fn positive_denominators()
     ensures trees { (p : Problem) (count m units : ℕ) (xi : List ℤ) (t : Tree)
         → Known p count → m < count → 0 < units → 0 < (cost p units m xi t).under }

@@ -1,4 +1,4 @@
-//! What a problem's policies cost, when a cut is sound, and the laws of the cut arithmetic.
+//! The cost of a problem's policies, the soundness of cuts, and the laws of the cut arithmetic.
 #![tactic(auto)]
 
 pub mod cut;

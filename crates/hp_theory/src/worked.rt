@@ -9,7 +9,7 @@ ghost use Rattle.hp_theory.specs.Bound.{bound};
 ghost use Rattle.hp_theory.specs.Base.{base, base_list};
 ghost use Rattle.hp_theory.specs.Examples.{reservoir, reservoir_problem, reservoir_certificate, tree_in_halves, wrong_tree, fork_tree, policy_of, negative_box, with_row, fork_problem, edge, edge_twice};
 
-/// What the definitions give on small problems; a definition with one number changed gives something else.
+/// The definitions' values on small problems; a definition with one number changed gives something else.
 pub fn worked_rows()
     ensures policy { Policy (reservoir_problem 2) 2 (policy_of tree_in_halves) }
     ensures no_policy { ¬ Policy (reservoir_problem 2) 2 (policy_of wrong_tree) }

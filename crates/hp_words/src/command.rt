@@ -1,6 +1,6 @@
 // The commands of the program.
 
-/// What the program is asked to do.
+/// A command to the program.
 #[derive(Clone, Copy, Debug, PartialEq, Eq)]
 pub enum Command {
     /// The base cuts of a problem, and their bound.
@@ -11,7 +11,7 @@ pub enum Command {
         count: u32,
         batch: Option<u16>,
     },
-    /// What a journal holds.
+    /// The contents of a journal.
     Check,
     /// Simulation of so many drawn scenarios, 0 to 1,000.
     Simulate {

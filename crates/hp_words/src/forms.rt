@@ -111,7 +111,7 @@ fn generate(words: &[String]) -> Option<Command>
     }
 }
 
-// What a first word asks for with the words behind it.
+// Gives the command of a first word and the words behind it.
 #[tactic(auto, unfolding(crate::specs::Commands::command_by))]
 fn command_by(word: &str, words: &[String]) -> Option<Command>
     ensures { result ≡ command_by word.now (texts words.now) }
