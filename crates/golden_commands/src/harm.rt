@@ -10,7 +10,7 @@ use std::thread::Threads;
 /// More calls than a row makes.
 const MOST: u64 = 10_000;
 
-/// What becomes of the calls of a journal from some number on.
+/// The harm to the calls of a journal from some number on.
 #[derive(Clone, Copy)]
 pub enum Harm {
     /// All fail.
@@ -111,7 +111,7 @@ fn fails<R: Threads + Sync>(
     Ok(failed)
 }
 
-/// What was shown, or that there was nothing to show.
+/// Gives the lines that were shown, or `resumed after each call` where there were none.
 fn summary(alloc: Global, shown: String) -> Result<String, AllocError> {
     if shown.is_empty() {
         return String::from_str(alloc, "resumed after each call");

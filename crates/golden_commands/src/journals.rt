@@ -1,4 +1,4 @@
-// What the check of a journal writes.
+// The output of the check of a journal.
 use crate::devices::{Devices, disk};
 use crate::fault::RowFault;
 use crate::runs::{Task, report};
@@ -56,7 +56,7 @@ pub fn asked_disk(alloc: Global, asked: Asked<'_>) -> Result<MemDisk, RowFault> 
     disk(alloc, bytes.as_slice(), failing.as_slice())
 }
 
-/// What the check of a journal writes over its disk, with a sink that takes 10 bytes a call.
+/// Gives the output of the check of a journal over its disk, with a sink that takes 10 bytes a call.
 pub fn checked<R: Threads + Sync>(
     rt: &R,
     alloc: Global,

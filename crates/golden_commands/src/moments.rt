@@ -1,4 +1,4 @@
-// What a journal reads while a run goes on.
+// The bytes of a journal while a run goes on.
 use crate::fault::RowFault;
 use crate::harm::{Harm, harmed};
 use crate::runs::{Task, report};
@@ -33,7 +33,7 @@ fn goes_on<R: Threads + Sync>(
     Ok(disk.calls() > call)
 }
 
-/// What the journal reads at first, and after each call that changes it.
+/// Shows the bytes of the journal at first, and after each call that changes them.
 pub fn moments<R: Threads + Sync>(
     rt: &R,
     alloc: Global,

@@ -10,7 +10,7 @@ use std::fs;
 use std::rt::Files;
 use std::thread::Threads;
 
-/// What one run, or one after another, gives as a text.
+/// The text of one run, or of one after another.
 #[derive(Clone, Copy)]
 enum Run {
     /// The report.
@@ -21,7 +21,7 @@ enum Run {
     Solver(Named),
 }
 
-/// What is done over a journal.
+/// The course of runs over a journal.
 #[derive(Clone, Copy)]
 enum Course {
     /// Runs are harmed and resumed.
@@ -30,7 +30,7 @@ enum Course {
     Moments,
 }
 
-/// What a row is about.
+/// The kind of a row.
 #[derive(Clone, Copy)]
 enum Kind {
     /// Its text is shown.
@@ -106,7 +106,7 @@ fn text_of<R: Threads + Sync>(
     }
 }
 
-/// What is done over a journal with these bytes.
+/// Takes a course over a journal with these bytes.
 fn over<R: Threads + Sync>(
     rt: &R,
     alloc: Global,
@@ -145,7 +145,7 @@ fn task<'a>(problem: &'a str, command: &'a str) -> Task<'a> {
     }
 }
 
-/// What is done over the journal of the file that the first of the words names, by the command that they go on with.
+/// Takes a course over the journal of the file that the first of the words names, by the command that they go on with.
 fn over_file<R: Threads + Sync + Files + AllocGlobal>(
     rt: &R,
     alloc: Global,
@@ -167,13 +167,13 @@ fn over_file<R: Threads + Sync + Files + AllocGlobal>(
     )
 }
 
-/// What is expected of a row.
+/// Reads the text that is expected of a row.
 fn expected<R: Files + AllocGlobal>(rt: &R, alloc: Global, name: &str) -> Result<String, RowFault> {
     let path = format!(in alloc; "{name}.txt")?;
     Ok(fs::read_to_string(rt, path.as_str())?)
 }
 
-/// What a row gives, beside what is expected.
+/// Gives the answer of a row, given the expected text.
 fn answer<R: Threads + Sync + Files + AllocGlobal>(
     rt: &R,
     alloc: Global,

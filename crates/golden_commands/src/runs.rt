@@ -96,7 +96,7 @@ pub fn push_report<R: Threads + Sync>(
     push_written(alloc, &status, sink.bytes(), text)
 }
 
-/// The same with another solver.
+/// Like `push_report`, with another solver.
 fn push_other<R: Threads + Sync, V: Solver>(
     rt: &R,
     alloc: Global,
@@ -110,7 +110,8 @@ fn push_other<R: Threads + Sync, V: Solver>(
     push_written(alloc, &status, sink.bytes(), text)
 }
 
-/// The same with a solver of which two solves are to meet, after so many; and a line that says whether they met.
+/// Like `push_report`, with a solver of which two solves are to meet, after so many; and appends a line that says whether they
+/// met.
 fn push_met<R: Threads + Sync>(
     rt: &R,
     alloc: Global,

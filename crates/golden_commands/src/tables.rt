@@ -8,7 +8,7 @@ use std::alloc::{AllocError, Global};
 use std::fmt::Write;
 use std::thread::Threads;
 
-/// What the lines of a table ask of their problem.
+/// The question of a table's lines to their problem.
 #[derive(Clone, Copy)]
 pub enum Question {
     /// The last line of the report of an edited problem.

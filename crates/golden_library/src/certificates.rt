@@ -120,7 +120,7 @@ fn is_made(problem: &Problem, pools: &Pools, list: &[Certificate], cut: &mut Cut
     }
 }
 
-/// The same by one call.
+/// Like `is_made`, by one call.
 fn is_made_at_once(problem: &Problem, pools: &Pools, list: &[Certificate], cut: &mut Cut) -> bool
     requires { Fit (problem_of problem.now) (length problem.now.raw.nodes) pools.now.lists }
 {
@@ -131,7 +131,7 @@ fn is_made_at_once(problem: &Problem, pools: &Pools, list: &[Certificate], cut: 
     accept_into(problem, pools, 0, list, cut).is_ok()
 }
 
-/// The same with given weights.
+/// Like `is_made`, with given weights.
 fn is_made_with(
     problem: &Problem,
     pools: &Pools,
@@ -233,7 +233,7 @@ struct Asked {
     list: Vec<Certificate>,
 }
 
-/// What is said of an accepted list: its cut at the first node.
+/// Writes the answer on an accepted list: its cut at the first node.
 fn cut_at(alloc: Global, problem: &Problem, asked: &Asked) -> Result<String, RowFault> {
     let list = asked.list.as_slice();
     if asked.node != 0 {
@@ -245,7 +245,7 @@ fn cut_at(alloc: Global, problem: &Problem, asked: &Asked) -> Result<String, Row
     }
 }
 
-/// What is said of a list: its first fault, or what is said of an accepted one.
+/// Writes the answer on a list: its first fault, or the cut of an accepted one.
 fn said(alloc: Global, problem: &Problem, asked: &Asked) -> Result<String, RowFault> {
     match fault_of(alloc, problem, asked.node, asked.list.as_slice())? {
         Some(fault) => Ok(format!(in alloc; "{fault:?}")?),
@@ -268,7 +268,7 @@ fn read(alloc: Global, value: &Value) -> Result<Asked, RowFault> {
     })
 }
 
-/// What is said of `{"node": N, "certificates": [{"rows": [..], "cuts": [[[PLACE, MULTIPLIER], ..], ..]}, ..]}`, where
+/// Writes the answer on `{"node": N, "certificates": [{"rows": [..], "cuts": [[[PLACE, MULTIPLIER], ..], ..]}, ..]}`, where
 /// `"weights"` may give two weights in place of the realizations' own.
 pub fn cut_or_fault(alloc: Global, problem: &Problem, text: &str) -> Result<String, RowFault> {
     let asked = read(alloc, &Value::from_str(alloc, text)?)?;

@@ -15,7 +15,7 @@ fn too_much(problem: &Problem, iterations: u32, batch: u32) -> Option<TooMuch> {
     }
 }
 
-/// What is exceeded by `too_much ITERATIONS BATCH` or `too_wide SCENARIOS`, if anything.
+/// Gives the formula that `too_much ITERATIONS BATCH` or `too_wide SCENARIOS` exceeds, if any.
 pub fn exceeded(alloc: Global, problem: &Problem, question: &str) -> Result<String, RowFault> {
     let (formula, numbers) = question.split_once(" ").ok_or(RowFault::Form)?;
     let found = match (formula, numbers.split_once(" ")) {

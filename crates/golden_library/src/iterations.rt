@@ -17,7 +17,7 @@ use hp_train::batch_once_with;
 use std::alloc::Global;
 use std::thread::Threads;
 
-/// What is told of iterations.
+/// The level of detail in which iterations are told.
 #[derive(Clone, Copy, PartialEq, Eq)]
 pub enum Told {
     /// Each entry with its certificates.
@@ -28,7 +28,7 @@ pub enum Told {
     Nothing,
 }
 
-/// What is trained.
+/// The iterations that are trained.
 #[derive(Clone, Copy)]
 pub struct Plan {
     pub seed: u64,

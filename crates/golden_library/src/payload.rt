@@ -57,7 +57,7 @@ fn entries(words: &mut SplitWhitespace<'_>) -> Result<u16, RowFault> {
     Ok(number(words)?.min(MOST_ENTRIES) as u16)
 }
 
-/// What ENTRIES REPEATS give: how many entries of 160 kB were read, of a payload of so many that is read so often.
+/// Counts the entries that ENTRIES REPEATS read: a payload of so many entries of 160 kB is read so often.
 pub fn decoded(alloc: Global, problem: &Problem, words: &str) -> Result<String, RowFault> {
     let mut words = words.split_whitespace();
     let entries = entries(&mut words)?;

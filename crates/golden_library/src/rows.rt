@@ -16,7 +16,7 @@ use std::fs;
 use std::rt::Files;
 use std::thread::Threads;
 
-/// What a row asks of its problem.
+/// The question of a row to its problem.
 #[derive(Clone, Copy)]
 enum Question {
     /// The entries, cuts and bound of iterations of training.
@@ -39,7 +39,7 @@ enum Question {
     Formula,
 }
 
-/// What the file of a row holds.
+/// The contents of a row's file.
 #[derive(Clone, Copy)]
 enum Kind {
     /// The linear programs of a chain, which are solved.
@@ -81,7 +81,7 @@ fn parsed(line: &str) -> Option<Row<'_>> {
     Some(Row { kind, file, words })
 }
 
-/// What a question gives, with the row's further words.
+/// Gives the answer to a question, with the row's further words.
 fn answer<R: Threads + Sync>(
     rt: &R,
     alloc: Global,
@@ -102,7 +102,7 @@ fn answer<R: Threads + Sync>(
     }
 }
 
-/// What a row gives of its file's text.
+/// Gives the answer of a row on its file's text.
 fn of_text<R: Threads + Sync>(
     rt: &R,
     alloc: Global,
@@ -118,7 +118,7 @@ fn of_text<R: Threads + Sync>(
     }
 }
 
-/// What the row of a line gives: whole lines.
+/// Gives the answer to the row of a line: whole lines.
 pub fn outcome<R: Threads + Sync + Files + AllocGlobal>(
     rt: &R,
     alloc: Global,

@@ -1,4 +1,4 @@
-// What the words of a row on simulation give.
+// The answers to rows on simulation.
 ghost use Rattle.std.specs.Prelude.{length, All, IfOk};
 ghost use Rattle.hp_lp.specs.Ready.{AreReady};
 ghost use Rattle.hp_report.specs.Traces.{AreKnown};
@@ -24,7 +24,7 @@ use std::fmt::Write;
 use std::str::{SplitWhitespace, from_utf8};
 use std::thread::Threads;
 
-/// What is simulated.
+/// The scenarios that are simulated.
 #[derive(Clone, Copy)]
 struct Course {
     solver: Named,
@@ -162,7 +162,7 @@ fn text_of<R: Threads + Sync>(
     Ok(text)
 }
 
-/// What SOLVER TRAINED ITERATIONS SEED COUNT give: the report of drawn scenarios.
+/// Gives the report of drawn scenarios, by SOLVER TRAINED ITERATIONS SEED COUNT.
 pub fn simulated<R: Threads + Sync>(
     rt: &R,
     alloc: Global,
@@ -181,7 +181,7 @@ pub fn simulated<R: Threads + Sync>(
     text_of(rt, alloc, problem, course)
 }
 
-/// What SOLVER TRAINED ITERATIONS give: the report of the stored scenarios.
+/// Gives the report of the stored scenarios, by SOLVER TRAINED ITERATIONS.
 pub fn validated<R: Threads + Sync>(
     rt: &R,
     alloc: Global,

@@ -9,11 +9,11 @@ pub enum Named {
     DualSimplex,
     /// The solver of the program.
     WarmSimplex,
-    /// The same, all on one thread.
+    /// The solver of the program, all on one thread.
     WarmOneThread,
-    /// The same, in halves on two threads.
+    /// The solver of the program, in halves on two threads.
     WarmTwoThreads,
-    /// The same on one thread, each program solved twice.
+    /// The solver of the program on one thread, each program solved twice.
     WarmTwice,
     /// Answers without work.
     Zero,

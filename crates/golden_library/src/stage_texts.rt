@@ -1,4 +1,4 @@
-// What is said of a stage problem and of a certificate.
+// Texts about a stage problem and about a certificate.
 use crate::fault::RowFault;
 use hp_solver::{Fx, LpRow, StageLp};
 use hp_theory::Certificate;

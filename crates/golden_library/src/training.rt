@@ -1,4 +1,4 @@
-// What the words of a row on training give.
+// The answers to rows on training.
 ghost use Rattle.std.specs.Prelude.{length};
 ghost use Rattle.hp_theory.specs.Fit.{Fit};
 ghost use Rattle.hp_theory.specs.View.{problem_of};
@@ -63,7 +63,7 @@ fn push_trained<R: Threads + Sync, V: Solver>(
     push_end(text, problem, &pools, plan.told)
 }
 
-/// The same with solvers whose solves meet, after so many that need not, and whether they met.
+/// Like `push_trained`, with solvers whose solves meet, after so many that need not, and appends whether they met.
 fn push_met<R: Threads + Sync>(
     rt: &R,
     alloc: Global,
@@ -78,7 +78,7 @@ fn push_met<R: Threads + Sync>(
     Ok(())
 }
 
-/// The same with wild answers of a kind.
+/// Like `push_trained`, with wild answers of a kind.
 fn push_lied<R: Threads + Sync>(
     rt: &R,
     alloc: Global,
@@ -91,7 +91,7 @@ fn push_lied<R: Threads + Sync>(
     push_trained(rt, alloc, problem, &liar, plan, text)
 }
 
-/// The same with the solver of the program, all on one thread or in halves on two.
+/// Like `push_trained`, with the solver of the program, all on one thread or in halves on two.
 fn push_warm<R: Threads + Sync>(
     rt: &R,
     alloc: Global,
@@ -104,7 +104,7 @@ fn push_warm<R: Threads + Sync>(
     push_trained(rt, alloc, problem, &Threaded { solver, worth }, plan, text)
 }
 
-/// The same with the solver of the program on one thread, where each program is solved twice.
+/// Like `push_trained`, with the solver of the program on one thread, where each program is solved twice.
 fn push_twice<R: Threads + Sync>(
     rt: &R,
     alloc: Global,
@@ -120,7 +120,7 @@ fn push_twice<R: Threads + Sync>(
     push_trained(rt, alloc, problem, &Threaded { solver, worth }, plan, text)
 }
 
-/// The same with the solver of a name.
+/// Like `push_trained`, with the solver of a name.
 fn push_trained_by<R: Threads + Sync>(
     rt: &R,
     alloc: Global,
@@ -141,7 +141,7 @@ fn push_trained_by<R: Threads + Sync>(
     }
 }
 
-/// What SOLVER SEED BATCH COUNT give: what is told of so many iterations and of the cuts after them, and the bound.
+/// Writes what is told of so many iterations and of the cuts after them, and the bound, by SOLVER SEED BATCH COUNT.
 pub fn trained<R: Threads + Sync>(
     rt: &R,
     alloc: Global,

@@ -1,5 +1,5 @@
-// What words pick, and paths that are drawn. The clause of what picks among weights with a stop weight says that it picks among
-// the weights with that one behind them.
+// Picks of words, and paths that are drawn. The contract of `pick_or_stop` says that it picks among the weights with the stop
+// weight behind them.
 use crate::problems::TWO_ROWS;
 use hp_num::Memory;
 use hp_problem::Problem;

@@ -1,4 +1,4 @@
-// What no problem in a file shows: parts that are not sealed.
+// Parts that are not sealed, which no problem in a file shows.
 use crate::problems::BARE;
 use hp_fields::ReadRefusal;
 use hp_num::{List, Memory};
@@ -27,7 +27,7 @@ fn one<T: Drop>(alloc: Global, item: T) -> Result<List<T>, Memory> {
     Ok(found)
 }
 
-// What sealing says of these parts with this weight, with the order, the lows and the highs as they are given.
+// Seals these parts with this weight, with the order, the lows and the highs as they are given, and gives the fault.
 fn sealing(
     alloc: Global,
     mut raw: Raw,

@@ -115,7 +115,7 @@ fn numbers_of(cuts: &PackedCuts, place: usize) -> Option<(i128, i64)> {
     }
 }
 
-// The same of a cut that node 0 keeps side by side.
+// Gives these numbers of a cut that node 0 keeps side by side.
 fn kept(pools: &Pools, place: usize) -> Option<(i128, i64)> {
     if pools.nodes() > 0 {
         let cuts = pools.packed(0)?;
