@@ -1,4 +1,4 @@
-"""What rattle's answer to an edited crate says of the edit."""
+"""The verdict on an edit from rattle's answer to the edited crate."""
 import re
 from typing import Dict, Iterable, List, NamedTuple
 

@@ -41,7 +41,7 @@ class InFolder(unittest.TestCase):
         return path
 
     def fault(self, program: str, expected: str, kind: str = "run", options: str = "") -> Optional[str]:
-        """What is reported of a row with this expectation over a program that is the lines of a shell."""
+        """Returns the fault of a row with this expectation over a program that is the lines of a shell."""
         (self.folder / "expected.txt").write_text(expected)
         line = f"{kind} {self.folder}/expected.txt problem={self.folder}/problem.json {options} : base"
         return tried(parsed(line), self.program(f"#!/bin/sh\n{program}\n")).fault

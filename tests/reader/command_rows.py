@@ -36,7 +36,7 @@ class CommandRow:
     expected: Path
 
     def before(self) -> bytes:
-        """What the journal reads at first."""
+        """Returns the bytes of the journal before the run."""
         return bytes.fromhex(self.journal.read_text(encoding="utf-8")) if self.journal else b""
 
 
@@ -103,7 +103,7 @@ def followed(text: bytes, before: bytes, command: str, words: Sequence[str]) -> 
 
 
 def outcome(row: CommandRow) -> Tuple[str, bytes]:
-    """What a row gives: the line of what ended it, or its text, and the bytes of the journal afterwards."""
+    """Returns the outcome of a row: the line of what ended it, or its text, and the bytes of the journal afterwards."""
     text, before, (command, _, *words) = row.problem.read_bytes(), row.before(), row.words
     if command == "train":
         lines, after = trained(text, before, row.words[1:])
@@ -113,7 +113,7 @@ def outcome(row: CommandRow) -> Tuple[str, bytes]:
 
 
 def expected(row: CommandRow) -> Tuple[str, bytes]:
-    """The same as it is stored. Where nothing is said of the journal, it is as it was."""
+    """Returns the stored outcome of a row. Where nothing is said of the journal, it is as it was."""
     text, mark, digits = row.expected.read_text(encoding="utf-8").partition("journal ")
     return text, bytes.fromhex(digits) if mark else row.before()
 
@@ -125,7 +125,7 @@ def measure_rows() -> List[str]:
 
 
 def measured(line: str) -> List[str]:
-    """What has to be printed of such a row: for each path how many programs it solved and how many answers were of no use."""
+    """Returns the lines expected of such a row: for each path how many programs it solved and how many answers were of no use."""
     _, _, name, _, seed, batch, count = line.split()
     training = Training(problem_of((LIBRARY / "data" / name).read_bytes()), int(seed), int(batch))
     training.train(int(count))

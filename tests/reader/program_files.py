@@ -81,6 +81,6 @@ def solve_rows() -> List[Tuple[str, str]]:
 
 
 def expected_lines(file: str) -> List[str]:
-    """What has to be printed of a file of programs."""
+    """Returns the lines expected of a file of programs."""
     text = (LIBRARY / "data" / file).read_text(encoding="utf-8")
     return [line for answer, _ in answers_of(text) for line in printed(answer)]

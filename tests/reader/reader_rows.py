@@ -1,4 +1,4 @@
-"""What the tests of the second reading share. `python3 -m unittest discover -s tests/reader` at the top of the repository runs them.
+"""Parts that the tests of the second reading share. `python3 -m unittest discover -s tests/reader` at the top of the repository runs them.
 
 The rows in data come from outside: other readings of the same rules gave these answers. A row is a program in raw numbers, 2^32 for
 one, whose first `own` rows are its own and whose others are cuts, each with its successor's column last.

@@ -25,7 +25,7 @@ def sides_of(program):
 
 
 def determinant(one, two, three):
-    """That of three columns or rows."""
+    """Returns the determinant of three columns or rows."""
     return (one[0] * (two[1] * three[2] - two[2] * three[1]) - one[1] * (two[0] * three[2] - two[2] * three[0])
             + one[2] * (two[0] * three[1] - two[1] * three[0]))
 

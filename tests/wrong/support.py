@@ -1,4 +1,4 @@
-"""What the tests of `.ci/wrong` share. `python3 -m unittest discover -s tests/wrong` at the top of the repository runs them.
+"""Parts that the tests of `.ci/wrong` share. `python3 -m unittest discover -s tests/wrong` at the top of the repository runs them.
 
 They show which edits the runner passes and fails, where it looks for the function that an edit is in, and which edits it
 chooses. test_prover.py asks the prover itself, and is left out where the Rattle kit is not there.

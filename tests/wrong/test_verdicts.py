@@ -1,4 +1,4 @@
-"""What rattle's answers say of an edit. The answers here were printed by rattle, and are cut to the lines that matter."""
+"""Verdicts on an edit from rattle's answers. The answers here were printed by rattle, and are cut to the lines that matter."""
 import unittest
 
 import support

@@ -1,4 +1,4 @@
-"""What a row expects, and the first difference of a run from it."""
+"""The expectation of a row, and the first difference of a run from it."""
 from __future__ import annotations
 
 from dataclasses import dataclass
@@ -49,7 +49,7 @@ def status_of(line: bytes) -> Optional[int]:
 
 
 def expectation(name: str, file: bytes) -> Expectation:
-    """What a file of the form `[hydroplan: LINE].. TEXT [journal HEX]` expects. BadRow where the digits are none.
+    """Reads the expectation from a file of the form `[hydroplan: LINE].. TEXT [journal HEX]`. BadRow where the digits are none.
 
     The first line belongs to the text where it is that of no status, and so do those behind it.
     """

@@ -40,7 +40,7 @@ class Kills:
     trainings: int = 0
 
     def note(self) -> str:
-        """What was done, in a line."""
+        """Returns a line on the kills that were done."""
         return (
             f"{self.count} kills in {self.trainings} trainings of {self.length:.1f} seconds, "
             f"{self.before_the_first_byte} before the first byte of the journal, {self.within_a_record} within a record"
@@ -85,7 +85,7 @@ class Kills:
         return process.wait() < 0
 
     def fault_of_check(self) -> Optional[str]:
-        """What is wrong with what a kill left: `check` has to read it, and to find the first bounds of the undisturbed run."""
+        """Returns the fault of the journal that a kill left: `check` has to read it, and to find the first bounds of the undisturbed run."""
         journal = journal_in(self.folder)
         if not journal:
             self.before_the_first_byte += 1

@@ -1,4 +1,4 @@
-"""What is done for a row of each kind."""
+"""The check for a row of each kind."""
 from __future__ import annotations
 
 import tempfile
@@ -40,7 +40,7 @@ KINDS = {
 
 
 def tried(row: Row, program: Path) -> Verdict:
-    """What comes of a row, in a folder of its own."""
+    """Runs a row in a folder of its own, and returns the verdict."""
     kind = KINDS.get(row.kind)
     if kind is None:
         return Verdict(f"there is no kind `{row.kind}`")

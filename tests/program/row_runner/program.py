@@ -22,7 +22,7 @@ class NoEnd(Exception):
 
 @dataclass(frozen=True)
 class Streams:
-    """What a run has in the place of standard input and output, and how much memory."""
+    """The stand-ins for the standard input and output of a run, and its memory."""
 
     # A file, a folder or a device; None where standard input is closed.
     problem: Optional[Path]
@@ -49,7 +49,7 @@ class Ended:
 
 
 def journal_in(folder: Path) -> Optional[bytes]:
-    """What the journal of a folder holds, or None where there is none."""
+    """Returns the bytes of the journal in a folder, or None where there is none."""
     journal = folder / "J"
     return journal.read_bytes() if journal.is_file() else None
 
@@ -64,12 +64,12 @@ def command(program: Path, words: Sequence[str], streams: Streams) -> Sequence[s
 
 
 def source_of(streams: Streams) -> int:
-    """What the program reads: a file, a folder or a device, opened for reading."""
+    """Opens the source of the program for reading: a file, a folder or a device."""
     return os.open(streams.problem or os.devnull, os.O_RDONLY)
 
 
 def sink_of(streams: Streams) -> Optional[int]:
-    """What the program writes to; None where what it writes is read."""
+    """Opens the sink of the program; None where its output is read."""
     if streams.output in (None, "closed"):
         return None
     if streams.output != "broken":

@@ -15,7 +15,7 @@ LINE = re.compile(r"hydroplan: no stage solution: run (\d+) node (\d+) values((?
 
 
 class Told(NamedTuple):
-    """What the line tells: the iteration or scenario, the node, its random values, its incoming state times 2^24, and the multipliers."""
+    """The numbers of the line: the iteration or scenario, the node, its random values, its incoming state times 2^24, and the multipliers."""
 
     run: int
     node: int

@@ -22,7 +22,7 @@ class Verdict:
 
 
 def journal_before(row: Row) -> Optional[bytes]:
-    """What the journal holds at first; None where the row has none. BadRow where the row's file is not in its form."""
+    """Returns the bytes of the journal before the run; None where the row has none. BadRow where the row's file is not in its form."""
     name = row.options.get("journal")
     if name in (None, "pipe"):
         return None

@@ -48,7 +48,7 @@ def without_reads(answer: bytes) -> bytes:
 
 
 def fault_of(run: Ended, question: bytes, answer: bytes) -> Optional[str]:
-    """What is wrong with a run whose last line has to be this one."""
+    """Returns the fault of a run whose last line has to be this one."""
     fault = text_difference("the last line", last_line(run), without_reads(answer))
     if fault is None and run.status != status_of(run.said):
         fault = f"ends with {run.status}, expected {status_of(run.said)}"
@@ -56,7 +56,7 @@ def fault_of(run: Ended, question: bytes, answer: bytes) -> Optional[str]:
 
 
 def first_fault(row: Row, run: Callable[[bytes], Ended]) -> Verdict:
-    """What is wrong with the run of the first line of a table that is not as expected, and how many lines there are."""
+    """Returns the fault of the first line of a table whose run is not as expected, and how many lines there are."""
     faults = [fault_of(run(question), question, answer) for question, answer in lines_of_table(row.expected)]
     return Verdict(next((fault for fault in faults if fault), None if faults else "the table is empty"))
 

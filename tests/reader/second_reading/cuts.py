@@ -33,7 +33,7 @@ def tight_cuts(place: Place, pools: Pools, certificate: Certificate) -> Iterator
 
 
 def reduced_costs(place: Place, pools: Pools, certificate: Certificate) -> List[int]:
-    """What a unit of each decision costs beyond what rows and cuts give for it."""
+    """Returns the reduced cost of each decision: its cost less what rows and cuts give for a unit of it."""
     stage = place.stage
     reduced = [UNIT * UNIT * place.total * it for it in stage.node.costs]
     for row, multiplier in zip(stage.node.rows, certificate.rows):
@@ -46,7 +46,7 @@ def reduced_costs(place: Place, pools: Pools, certificate: Certificate) -> List[
 
 
 def constant_of(place: Place, pools: Pools, values: Sequence[int], certificate: Certificate) -> int:
-    """What a realization's cost comes to at least, but for what depends on the incoming state; at 2^48 times the weights for one."""
+    """Returns a lower bound on a realization's cost, but for the part that depends on the incoming state; at 2^48 times the weights for one."""
     stage = place.stage
     total = UNIT * UNIT * place.total * (stage.costs.constant + product(stage.costs.randoms, values))
     for row, multiplier in zip(stage.node.rows, certificate.rows):
@@ -126,7 +126,7 @@ def value_of(pool: Sequence[Cut], state: Sequence[int]) -> int:
 
 
 def bound_of(problem: Problem, pools: Pools, initial: Optional[Sequence[int]] = None) -> int:
-    """What no policy costs less than, at 2^24 for one."""
+    """Returns the lower bound on the cost of each policy, at 2^24 for one."""
     state = problem.initial if initial is None else initial
     total = sum(weight * value_of(pools[number], state) for number, weight in problem.root)
     return total // sum(weight for _, weight in problem.root)

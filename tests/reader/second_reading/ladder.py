@@ -12,7 +12,7 @@ from .turns import Trace, go
 from .wide import wide_answer
 
 Chain = Optional[Table]
-"""What goes from one program of a chain to the next: a table, or none."""
+"""The state that goes from one program of a chain to the next: a table, or none."""
 
 
 def rebuild(table: Table) -> bool:
@@ -119,7 +119,7 @@ def start(reference: Program, trace: Trace) -> Chain:
 
 
 def begin(started: Chain, program: Program) -> Chain:
-    """What a chain holds before its first program: a copy of the start, widened by the program."""
+    """Returns the state of a chain before its first program: a copy of the start, widened by the program."""
     if started is None:
         return None
     table = started.copy()

@@ -1,4 +1,4 @@
-"""What a node's stage asks of decisions: boxes, costs, rows with what is realized and the incoming state, and its successors."""
+"""A node's stage problem: boxes, costs, rows with the realization and the incoming state, and its successors."""
 from __future__ import annotations
 
 from dataclasses import dataclass
@@ -46,7 +46,7 @@ def product(left: Sequence[int], right: Sequence[int]) -> int:
 
 
 def given_part(row: StageRow, values: Sequence[int], state: Sequence[int]) -> int:
-    """What a row has before decisions, in fine units: of the incoming state, and of what is realized in whole units."""
+    """Returns the given part of a row, in fine units: of the incoming state, and of the realization in whole units."""
     return product(row.states, state) + UNIT * product(row.randoms, values)
 
 

@@ -14,7 +14,7 @@ Sides = Tuple[Optional[int], Optional[int]]
 
 @dataclass(frozen=True)
 class Costs:
-    """What a stage costs beside its decisions: a constant, and so much for a unit of each state and of each random variable."""
+    """The costs of a stage beside its decisions: a constant, and so much for a unit of each state and of each random variable."""
 
     constant: int
     states: Tuple[int, ...]
@@ -99,7 +99,7 @@ def terms_of(function: Mapping[str, Any]) -> Dict[str, int]:
 
 
 def met(one: Sides, other: Sides) -> Sides:
-    """What both bounds leave."""
+    """Returns the intersection of both bounds."""
     lows, highs = ([it for it in pair if it is not None] for pair in zip(one, other))
     return max(lows, default=None), min(highs, default=None)
 

@@ -83,7 +83,7 @@ class Program:
         return self.cut_rows[name]
 
     def row_of(self, successor: int, cut: Cut) -> Row:
-        """What a cut asks: the successor's cost, less slopes times states, is at least alpha."""
+        """Returns the row of a cut: the successor's cost, less slopes times states, is at least alpha."""
         sums = {column: 0 for column in sorted(set(self.outs))}
         for column, slope in zip(self.outs, cut.slopes):
             sums[column] -= FINER * slope
@@ -100,7 +100,7 @@ class Program:
         return replace(self, columns=(*self.columns[:self.decisions], *nothing), pools=((),) * len(self.pools))
 
     def with_sides(self, sides: Sequence[Tuple[Optional[int], Optional[int]]]) -> Program:
-        """The same program with other sides of its own rows. What is known of its cuts stays known."""
+        """Returns the program with other sides of its own rows. The facts computed about its cuts are kept."""
         other = replace(self, own=tuple(Row(low, high, row.terms) for row, (low, high) in zip(self.own, sides)))
         vars(other).update(cut_rows=self.cut_rows, narrow=self.narrow)
         return other
@@ -132,7 +132,7 @@ FOUND, RAY, STUCK = "Found", "Ray", "Stuck"
 
 @dataclass(frozen=True)
 class Answer:
-    """What a solve gives: a point with duals, multipliers that show that no point keeps the own rows, or nothing.
+    """The answer of a solve: a point with duals, multipliers that show that no point keeps the own rows, or nothing.
 
     `duals` has one number for each row of the program, cuts among them. `weak`: the point is found, and not to be trusted.
     """

@@ -1,4 +1,4 @@
-"""What the program prints of training, of scenarios and of the cost of a whole policy."""
+"""The reports of training, of scenarios and of the cost of a whole policy, as the program prints them."""
 from __future__ import annotations
 
 import json
@@ -81,7 +81,7 @@ class Policy:
         self.problem, self.solver, self.pools = problem, solver, pools
 
     def decided(self, number: int, values: Sequence[int], state: Sequence[int]) -> Decided:
-        """What is decided at a node."""
+        """Decides at a node."""
         stage = self.problem.places[number].stage
         answer, _, decisions = self.solver.decided(number, self.pools, values, state)
         if answer.kind == FOUND:

@@ -107,7 +107,7 @@ def refutes(node: Node, values: Sequence[int], state: Sequence[int], rows: Seque
 
 
 def judged(node: Node, values: Sequence[int], state: Sequence[int], answer: Answer) -> Tuple[str, Optional[List[int]]]:
-    """What an answer is worth: Found, Dead with multipliers of rows that refute, or Unsettled.
+    """Judges an answer: Found, Dead with multipliers of rows that refute, or Unsettled.
 
     A ray's multipliers are whole. They are rounded down by one power of two after another, and the first that refute count.
     """

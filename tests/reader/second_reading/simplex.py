@@ -122,7 +122,7 @@ def is_eligible(table: Table, place: int, cell: int, sign: int) -> bool:
 
 
 def ratio(table: Table, place: int, cell: int) -> Fraction:
-    """What a unit of the violation costs at a place; a reduced cost of the wrong sign, or within the noise, counts as 0."""
+    """Returns the cost of a unit of the violation at a place; a reduced cost of the wrong sign, or within the noise, counts as 0."""
     reduced = table.reduced[place]
     cost = max(0, -reduced) if table.at_high[place] else max(0, reduced)
     return Fraction(0 if cost < table.numbers.noise else cost, abs(cell))

@@ -105,5 +105,5 @@ class Solver:
         return answer, of_use, decisions_of(self.problem.places[number].stage.node, answer.point)
 
     def left(self, number: int, decisions: Sequence[int]) -> List[int]:
-        """What leaves a node as the state."""
+        """Returns the state that leaves a node."""
         return [decisions[out] for out in self.problem.places[number].stage.outs]

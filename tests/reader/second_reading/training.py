@@ -17,7 +17,7 @@ Step = Tuple[int, List[Certificate]]
 
 @dataclass
 class Entry:
-    """What a path left: its steps, the last node first, and how many answers were of no use."""
+    """The entry of a path: its steps, the last node first, and how many answers were of no use."""
 
     iteration: int
     steps: List[Step] = field(default_factory=list)
@@ -26,7 +26,7 @@ class Entry:
 
 @dataclass
 class Stopped:
-    """What ended an iteration: a node without decisions, or one of whose cut the sizes leave 128 bits."""
+    """The cause that ended an iteration: a node without decisions, or one of whose cut the sizes leave 128 bits."""
 
     iteration: int
     cause: Union[NoDecision, OutOfRange]

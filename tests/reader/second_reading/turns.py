@@ -12,7 +12,7 @@ from .simplex import (Entering, Violation, append, column_point, drop_last, ente
 from .table import Table
 
 Trace = List[str]
-"""What happened, in words: `a/b` where b enters for a, `cut m.k` where a cut's row came in, `drop m.k` where it went again."""
+"""The turns, in words: `a/b` where b enters for a, `cut m.k` where a cut's row came in, `drop m.k` where it went again."""
 
 
 def violations(table: Table) -> List[Violation]:
@@ -31,7 +31,7 @@ def violations(table: Table) -> List[Violation]:
 
 @dataclass(frozen=True)
 class Taken:
-    """What looking at the violations gave: one that is mended by an entering place, or a ray, or neither.
+    """The outcome of looking at the violations: one that is mended by an entering place, or a ray, or neither.
 
     `passed_over`: a violation was seen for which nothing can enter and which proves nothing.
     """
