@@ -60,7 +60,7 @@ made_read bytes text e = let m = made_of bytes text e in subst (λ (t : List ℕ
 pub made_based : (bytes text : List ℕ) → hydro_at bytes ≡ Ok text → IfOk (problem_at text) (λ s. IsOk (based s))
 made_based bytes text e = let m = made_of bytes text e in subst (λ (t : List ℕ). IfOk (problem_at t) (λ s. IsOk (based s))) m.3 (base_fits m.0 m.2)
 
--- what plants mean is said of the problem that their text gives
+-- the meaning of plants is a fact about the problem that their text gives
 means_of : (bytes text : List ℕ) (h : Plants) (s : Sealed) → IsPlants h → plants_at bytes ≡ Ok h → problem_at text ≡ Ok s → problem_of s ≡ problem_of_plants h → Means bytes text
 means_of bytes text h s i described read same = record {
   plants = h;

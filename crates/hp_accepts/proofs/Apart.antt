@@ -70,7 +70,7 @@ module _ (h : Plants) where
   abbrev Apart : Column → Column → Type 0
   Apart c d = bytes_eq (column_name h c) (column_name h d) ≡ false
 
-  -- what belongs to the plant or bus of this name
+  -- the columns of the plant or bus of this name
   record Block (a : List ℕ) (c : Column) : Type 0 where
     letters : List ℕ
     form : Letters letters

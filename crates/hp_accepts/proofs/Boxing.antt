@@ -124,7 +124,7 @@ module _ (raw : Raw) (f : ℕ → Node) (sub : Subproblem) (count : ℕ) (lows h
   abbrev In : ℕ → ℤ → Type 0
   In s z = Inside (entry lows s) (entry highs s) z
 
-  -- what leaves a node
+  -- the ends of the state that leaves a node
   end_is : (side : Side) (zs : List ℤ) (m s : ℕ) → ends side raw ≡ zs ∷ [] → m < count → s < length zs → end_at raw.nodes (ends side raw) s m ≡ entry zs s
   end_is side zs m s e h k = rw (e, c.nodes, node_there f count m h, c.own m, slice_is zs s k) refl
 

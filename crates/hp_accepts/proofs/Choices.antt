@@ -69,7 +69,7 @@ module _ (h : Plants) where
 -- ---- where states stand
 
 module _ (h : Plants) where
-  -- what holds of all states holds of each
+  -- a property of all states holds of each
   pub of_stores : (P : Store → Type 0) → AllByRecursion P (stores h) → ((j : ℕ) → travel h j ≤ 3) → OfStores h P
   of_stores P a few =
       let all : All P (flat_map (ways h) (steps 3) ++ map volume_of (all_reservoirs h)) = All-from_recursion P (stores h) a in

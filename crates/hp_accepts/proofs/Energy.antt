@@ -20,7 +20,7 @@ use Rattle.hp_accepts.proofs.Sums.{F, pick, F-append, F-flat, F-map, of_reservoi
 
 -- ---- the way that is left
 
--- what is there only where the water is at the end of its way
+-- a number that is there only where the water is at the end of its way
 at_end : (k n : ℕ) (w z : ℤ) → k ≤ n → w ≡ pos 0 → (if nat_lt k n then w else z) ≡ same_place k n *ℤ z
 at_end k n w z most e = by (nat_lt k n) refl
   where
@@ -210,7 +210,7 @@ module _ (h : Plants) (i : IsPlants h) where
 
   -- ---- costs
 
-  -- what a unit costs
+  -- the cost of a unit
   abbrev pub costs_of : Column → ℤ
   costs_of (before s) = pos 0
   costs_of (random c) = pos 0

@@ -40,7 +40,7 @@ name_utf8 k e = IsUtf8-from_ascii k (bytes_ascii k (last (nat_lt 0 (length k)) (
     last true false c e = absurd cc
     last false b c e = absurd cc
 
--- what is made of a name: short, and UTF-8
+-- a text that is made of a name: short, and UTF-8
 pub record IsFit (k : List ℕ) : Type 0 where
   pub few : length k ≤ 128
   pub utf8 : IsUtf8 k

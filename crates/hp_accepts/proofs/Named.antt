@@ -81,7 +81,7 @@ module _ {A : Type 0} (name : A → List ℕ) where
   unchanged f g x [] all = refl
   unchanged f g x (y ∷ ys) all = rw (all.0) (ap (λ zs. f y ∷ zs) (unchanged f g x ys all.1))
 
-  -- what stands for x is changed
+  -- the entry of x is changed
   pub changed_at : {B : Type 0} (f g : A → B) (x : A) (xs : List A) (k : ℕ) → Distinct xs → At xs k x → slice_set (map f xs) k (g x) ≡ map (λ y. cond (same x y) (g y) (f y)) xs
   changed_at f g x [] k d at = absurd cc
   changed_at {B} f g x (y ∷ ys) zero d at =

@@ -21,7 +21,7 @@ use Rattle.hp_accepts.proofs.Pairs.{all_append, all_weaker, all_flat_map, all_ma
 use Rattle.hp_accepts.proofs.Listing.{OfColumns, somewhere}
 use Rattle.hp_accepts.proofs.Apart.{distinct_columns}
 
--- the same of each, from more
+-- a property of each column follows from a stronger one
 pub more_of : (h : Plants) (P Q : Column → Type 0) → ((c : Column) → P c → Q c) → OfColumns h P → OfColumns h Q
 more_of h P Q f a = record {
   stores = record { volume = λ j p. f _ (a.stores.volume j p); way = λ j k p low high. f _ (a.stores.way j k p low high) };

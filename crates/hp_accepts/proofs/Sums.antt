@@ -135,7 +135,7 @@ module _ (h : Plants) (i : IsPlants h) where
   if_else true ts us d = refl
   if_else false ts us d = refl
 
-  -- what the turbine, the spill and the first way of reservoir n give d, where they are p, q and w
+  -- the coefficient of d in the turbine, the spill and the first way of reservoir n, where these give p, q and w
   coming_is : (o : Option Travel) (n j : ℕ) (d : Column) (p q w : ℤ) → pick (decided (turbine_of n)) d (negsuc 0) ≡ p → pick (decided (spill_of n)) d (negsuc 0) ≡ q → pick (before (way_of n 1)) d (negsuc 0) ≡ w
       → F (coming_by n o j) d ≡ leads_by o j *ℤ (same_place 0 (travel_of o) *ℤ (p +ℤ q) +ℤ (pos 1 -ℤ same_place 0 (travel_of o)) *ℤ w)
   coming_is None n j d p q w e1 e2 e3 = sym (zero-*ℤ (same_place 0 0 *ℤ (p +ℤ q) +ℤ (pos 1 -ℤ same_place 0 0) *ℤ w))

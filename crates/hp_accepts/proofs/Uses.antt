@@ -45,7 +45,7 @@ found_or a (Err e) = a
 abbrev pub free : Role
 free = nth (roles.unused 1).roles 0 (omega arith)
 
--- what a state that goes from the first variable to the second makes of both
+-- the roles of two variables after a state that goes from the first to the second
 unfoldable pub of_state : List Role
 unfolding states.state_at roles.taken_at fields.present_at fields.string_at limits.known_at forms.state_between
 of_state = (found_or (roles.unused 2) (states.state_at ((97 ∷ []) ∷ (98 ∷ []) ∷ []) 0 (roles.unused 2) 0 [] (forms.state_between (97 ∷ []) (98 ∷ [])))).roles
@@ -124,7 +124,7 @@ module _ {A : Type 0} (name : A → List ℕ) where
   given g f [] y = f y
   given g f (x ∷ xs) y = given g (λ z. cond (same name x z) (g x) (f z)) xs y
 
-  -- what is given under y's name is given to y
+  -- a value under y's name is y's value
   abbrev pub Respects : {B : Type 0} → (A → B) → A → List A → Type 0
   Respects g y xs = AllByRecursion (λ x. same name x y ≡ true → g x ≡ g y) xs
 
@@ -258,7 +258,7 @@ module _ {A : Type 0} (name : A → List ℕ) where
   pub places_are : (g : A → Role) (xs : List A) → Distinct name xs → decisions.decisions_from 0 (map g xs) ≡ map (place name xs) (filter (λ y. decisions.is_decision (g y)) xs)
   places_are g xs d = places_from g xs d xs 0 (λ k y at. let none : k ≡ 0 + k = omega arith in subst (λ (j : ℕ). At name xs j y) none at)
 
-  -- what stands at the places of some
+  -- the values at the places of some
   pub picked_are : (f : A → ℤ) (xs ys : List A) → AllByRecursion (Stands name xs) ys → map (entry (map f xs)) (map (place name xs) ys) ≡ map f ys
   picked_are f xs [] all = refl
   picked_are f xs (y ∷ ys) all = ap₂ ◌∷◌ (entry_at name f y xs (place name xs y) all.0) (picked_are f xs ys all.1)

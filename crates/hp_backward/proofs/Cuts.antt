@@ -65,7 +65,7 @@ settled_list v p pools k m state found e h fit is =
     let list : found.list ≡ map (settled_of pools n) xs = listed pools n k m state nothing (values_at p.raw m) xs found count is in
     subst (λ (l : List Certificate). fault_of pools n l ≡ range_fault pools n l) (sym list) (only_range-sealed p m pools xs e h fit (count ∙ (values_here p m e h).count))
 
--- what a fault of the size says of the size
+-- where no fault of the size comes, the size is in range
 pub none_past : (o : Option ℕ) → option_map faults.Range o ≡ None → o ≡ None
 none_past None e = refl
 none_past (Some r) e = absurd (some_none (faults.Range r) e)

@@ -44,6 +44,6 @@ values_here p m e h =
       count = omega (arith, ap (λ (k : List Realization). length k) rs, length-map {B = Realization} (zip n.weights n.values) (λ (r : ℕ × List ℤ). record { weight = r.0; values = r.1 }), length-zip n.weights n.values, w.3);
     })
 
--- those that were read
+-- the values that were read
 pub values_read : (p : Sealed) (m : ℕ) (ns : List nodes.Node) (n : nodes.Node) (values : List (List ℤ)) → m < length p.raw.nodes → ns ≡ p.raw.nodes → values ≡ (get_or ns m n).values → values ≡ values_at p.raw m
 values_read p m ns n values h all is = is ∙ ap (λ (ks : List nodes.Node). (get_or ks m n).values) all ∙ sym (get_or-map (λ (k : nodes.Node). k.values) p.raw.nodes m n [] h)

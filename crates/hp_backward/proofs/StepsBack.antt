@@ -43,7 +43,7 @@ get_or-zip (x ∷ xs) [] i d e h k = absurd (omega arith)
 get_or-zip (x ∷ xs) (y ∷ ys) zero d e h k = refl
 get_or-zip (x ∷ xs) (y ∷ ys) (suc i) d e h k = get_or-zip xs ys i d e (omega arith) (omega arith)
 
--- the same of a state that was read
+-- the visit at a state that was read
 pub visit_at : (path : List Step) (states : List (List ℤ)) (i : ℕ) (none : Step) (x : List ℤ) → i < length path → i < length states → x ≡ get_or states i x → (get_or path i none, x) ≡ get_or (zip path states) i (get_or path i none, x)
 visit_at path states i none x h k is = ap (λ (y : List ℤ). (get_or path i none, y)) is ∙ get_or-zip path states i none x h k ∙ ap (λ (y : List ℤ). get_or (zip path states) i (get_or path i none, y)) (sym is)
 

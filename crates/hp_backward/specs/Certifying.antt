@@ -44,7 +44,7 @@ nothing = record { list = []; unsettled = 0 }
 abbrev pub both : Certified → Certified → Certified
 both a b = record { list = a.list ++ b.list; unsettled = a.unsettled + b.unsettled }
 
--- what two parts give, one after the other: the first fault, or the certificates of both
+-- the certificates of two parts, one after the other, or the first fault
 abbrev pub in_order : Result Certified SweepFault → Result Certified SweepFault → Result Certified SweepFault
 in_order one other = one >>= λ a. other >>= λ b. Ok (both a b)
 

@@ -19,7 +19,7 @@ use Rattle.hp_backward.specs.declared.fault.SweepFault.{SweepFault}
 use Rattle.hp_backward.specs.declared.fault.SweepFault.TheVariants.{NoStage, Range, Memory}
 use Rattle.hp_backward.specs.Certifying.{certified}
 
--- what stands after some steps of a path: the pools, the entry's steps, and how many answers were of no use
+-- the state after some steps of a path: the pools, the entry's steps, and how many answers were of no use
 pub record Swept : Type 0 where
   pub pools : List (List Cut)
   pub steps : List EntryStep
@@ -57,7 +57,7 @@ backwards step (x ∷ xs) start = backwards step xs start >>= λ before. step be
 unfoldable pub swept : {Start Chain : Type 0} → Solving Start Chain → Sealed → List (List Cut) → ℕ → List Step → List (List ℤ) → ℕ → Result Swept SweepFault
 swept v p pools k path states unsettled = backwards (step_back v p k) (zip path states) (record { pools = pools; steps = []; unsettled = unsettled })
 
--- what there is to see of pools and an entry
+-- the visible part of pools and an entry
 abbrev pub seen : List (List Cut) → Entry → Swept
 seen pools entry = record { pools = pools; steps = entry.steps; unsettled = entry.unsettled }
 

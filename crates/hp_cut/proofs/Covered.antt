@@ -48,7 +48,7 @@ covers_refl all lows highs i = λ xs inside. before_refl i (value_of (cut_at all
 covers_trans : (all : List PackedCut) (lows highs : List ℤ) (i j k : ℕ) → Covers all lows highs i j → Covers all lows highs j k → Covers all lows highs i k
 covers_trans all lows highs i j k a b = λ xs inside. before_trans i j k (value_of (cut_at all i) xs) (value_of (cut_at all j) xs) (value_of (cut_at all k) xs) (a xs inside) (b xs inside)
 
--- what is covered stays so with more places
+-- a covered cut stays so with more places
 pub covered_more : (all : List PackedCut) (lows highs : List ℤ) (ps qs : List ℕ) (j : ℕ) → IsCovered all lows highs ps j → IsCovered all lows highs (ps ++ qs) j
 covered_more all lows highs ps qs j c = record {
   by = c.by;
@@ -68,7 +68,7 @@ covered_last all lows highs ps p j c = record {
 pub covered_own : (all : List PackedCut) (lows highs : List ℤ) (ps : List ℕ) (p : ℕ) → IsCovered all lows highs (ps ++ p ∷ []) p
 covered_own all lows highs ps p = covered_last all lows highs ps p p (covers_refl all lows highs p)
 
--- what is covered by what is covered
+-- a cut that a covered cut covers
 pub covered_on : (all : List PackedCut) (lows highs : List ℤ) (ps : List ℕ) (i j : ℕ) → IsCovered all lows highs ps i → Covers all lows highs i j → IsCovered all lows highs ps j
 covered_on all lows highs ps i j c d = record {
   by = c.by;
@@ -146,14 +146,14 @@ first_covered all lows highs ps p before own = rw add-one (record {
     here j (inl a) = before.covered j a
     here j (inr e) = subst (λ (n : ℕ). IsCovered all lows highs ps n) (sym e) own
 
--- those that cover the first cuts cover all where there are no more
+-- cuts that cover the first ones cover all where there are no more
 pub all_first : (all : List PackedCut) (lows highs : List ℤ) (ps : List ℕ) (n : ℕ) → CoverFirst all n ps lows highs → n ≡ length all → CoverAll all ps lows highs
 all_first all lows highs ps n first e = record {
   rising = subst (λ (m : ℕ). AreRisingPlaces 0 m ps) e first.rising;
   covered = λ j h. first.covered j (omega (arith, h, e));
 }
 
--- those that cover all cuts cover these among more
+-- cuts that cover all cover these among more
 same_cut : (all : List PackedCut) (c : PackedCut) (i : ℕ) → i < length all → cut_at all i ≡ cut_at (all ++ c ∷ []) i
 same_cut all c i h = sym (get_or-append all (c ∷ []) no_packed_cut i h)
 
@@ -171,7 +171,7 @@ first_more all c lows highs ps whole = record {
           (subst (λ (d : PackedCut). IsBefore (get_or ps own.by 0) (value_of d xs) j (value_of (cut_at all j) xs)) (same_cut all c (get_or ps own.by 0) (place_below 0 (length all) own.by ps whole.rising own.there)) (own.covers xs inside));
     }
 
--- the same of what is read
+-- the cover of cuts that are read
 pub covered_read : (all : List PackedCut) (lows highs los his : List ℤ) (ps qs : List ℕ) (p : ℕ) → los ≡ lows → his ≡ highs → qs ≡ ps → CoverFirst all p ps lows highs → IsCovered all los his qs p → CoverFirst all (p + 1) ps lows highs
 covered_read all lows highs los his ps qs p el eh eq before own = first_covered all lows highs ps p before (rw (el, eh, eq) at own)
 

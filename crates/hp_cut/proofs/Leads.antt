@@ -53,7 +53,7 @@ more_than (negsuc v) x y h k = absurd (omega (arith, ints, h))
 pub lesser_is : (s o l h a b c d v : ℤ) → a ≡ s → b ≡ o → c ≡ l → d ≡ h → v ≡ int_min ((a -ℤ b) *ℤ c) ((a -ℤ b) *ℤ d) → v ≡ int_min ((s -ℤ o) *ℤ l) ((s -ℤ o) *ℤ h)
 lesser_is s o l h a b c d v es eo el eh e = rw (es, eo, el, eh) at e
 
--- the same of slopes that are read
+-- the lead of slopes that are read
 pub lead_read : (lows highs xs ys : List ℤ) (a b : PackedCut) (d v : ℤ) → xs ≡ a.slopes → ys ≡ b.slopes → length ys ≡ length xs → length lows ≡ length xs → d ≡ a.height -ℤ b.height → v ≡ d +ℤ sum_to (length xs) (lesser_over lows highs xs ys) → IsLead lows highs a b v
 lead_read lows highs xs ys a b d v ex ey same wide ed is =
     is_lead lows highs a b v (rw (ex, ey) at same) (rw ex at wide) (rw (ex, ey, ed) at is)

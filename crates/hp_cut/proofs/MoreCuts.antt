@@ -41,7 +41,7 @@ more cs c old new flat kept own short room heights slopes small states = record 
 pub packed_with : (n : ℕ) (hs bs gs ss : List ℤ) (h : ℤ) (own : List ℤ) → ArePacked n hs bs → length hs < 2 ^ 24 → nat_abs h < 2 ^ 100 → length own ≡ n → All (λ s. nat_abs s < 2 ^ 57) own → gs ≡ hs ++ h ∷ [] → ss ≡ bs ++ own → ArePacked n gs ss
 packed_with n hs bs gs ss h own p room short is small heights slopes = rw (heights, slopes) (packed_more n hs bs h own p room short is small)
 
--- what contracts see of them
+-- the view of contracts of them
 pub seen_with : (n : ℕ) (hs bs gs ss : List ℤ) (h : ℤ) (own : List ℤ) (old : List PackedCut) (c : PackedCut) → length bs ≡ length hs * n → length own ≡ n → gs ≡ hs ++ h ∷ [] → ss ≡ bs ++ own → cuts_of n hs bs ≡ old → h ≡ c.height → own ≡ c.slopes → cuts_of n gs ss ≡ old ++ c ∷ []
 seen_with n hs bs gs ss h own old c count is heights slopes same eh es =
     let last : record { height = h; slopes = own } ≡ c = ap₂ (λ (x : ℤ) (xs : List ℤ). record { height = x; slopes = xs }) eh es in

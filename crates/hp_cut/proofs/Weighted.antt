@@ -97,7 +97,7 @@ next p pools i s v e h is small value room =
     subst (λ (z : ℤ). Added (total (part pools x) ls) s z (total (part pools x) (drop (i + 1) ls)) (total most (drop (i + 1) ls)) (total most ls)) term
     (total_step (part pools x) most ls i no_link s here (subst (λ (z : ℤ). magnitude z ≤ℤ most (get_or ls i no_link)) (sym term) bound) most_some value room (most_fits p e))
 
--- the same of what is read on the way
+-- the sum with a part that is read on the way
 pub next_read : (p : Sealed) (pools : List (List Cut)) (raw : Raw) (ms ws : List ℕ) (x : List ℤ) (i : ℕ) (s w v : ℤ) → is_sealed p ≡ true → raw ≡ p.raw → ms ≡ raw.root → ws ≡ raw.root_weights → x ≡ initial_values p.raw → i < length ms
     → SFits w128 w → SFits w128 v → w ≡ pos (get_or ws i 0) → v ≡ value pools (get_or ms i 0) x → magnitude v ≤ℤ pos (2 ^ 104)
     → total (part pools (initial_values p.raw)) (links_of p.raw.root p.raw.root_weights) ≡ s +ℤ total (part pools (initial_values p.raw)) (drop i (links_of p.raw.root p.raw.root_weights))

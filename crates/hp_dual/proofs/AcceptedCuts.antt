@@ -23,7 +23,7 @@ use Rattle.hp_dual.proofs.OwnWeights.{OwnWeights}
 use Rattle.hp_dual.proofs.PartsOfNode.{own_weighted}
 use Rattle.hp_dual.proofs.SealedCuttable.{cuttable, given_weight}
 
--- what follows of acceptance and of what then is so
+-- a consequence of acceptance and of a fact that then holds
 pub accepted_then : (r : Result (Unit {0}) CertFault) (fault : Option CertFault) (P Q : Type 0) → Accepts r fault → IfOk r (λ u. P) → (fault ≡ None → P → Q) → IfOk r (λ u. Q)
 accepted_then (Ok u) fault P Q a p f = f a p
 accepted_then (Err e) fault P Q a p f = tt
@@ -54,7 +54,7 @@ module _ (p : Sealed) (m : ℕ) (pools : List (List Cut)) (list : List Certifica
   accepted_holds none cut value sound =
       subst (Holds (problem_of p) m) (sym value) (weak_duality (problem_of p) pools m list (shaped-sealed p m e h) sound (right-fault_of pools (node_at (problem_of p) m) list none))
 
--- what is answered and written over the node's parts is so at the node
+-- an answer and a cut over the node's parts are so at the node
 module _ (p : Sealed) (m : ℕ) (pools qs : List (List Cut)) (list : List Certificate) (ws vs : List ℕ) (n : nodes.Node) (s : Subproblem) (low high : List ℤ) (parts : NodeParts p m qs vs n s low high) (h : m < length p.raw.nodes) (own : OwnWeights ws (node_at (problem_of p) m))
     (weights : vs ≡ ws) (same : qs ≡ pools) (r : Result (Unit {0}) CertFault) (cut : Cut) (a : Accepts r (fault_of qs (with_weights vs (node_of n s low high)) list)) (v : IfOk r (λ u. cut ≡ cut_of qs (with_weights vs (node_of n s low high)) list)) where
   is : with_weights vs (node_of n s low high) ≡ node_at (problem_of p) m

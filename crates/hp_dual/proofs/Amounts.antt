@@ -22,7 +22,7 @@ module _ {X : Type 0} (f : X → ℕ) (xs : List X) (i b s : ℕ) (d : X) (h : i
   pub adds_past : 2 ^ 127 ≤ s + f (get_or xs i d) → 2 ^ 127 ≤ b + sum_by f xs
   adds_past k = let l = sum_by-take-le f xs (i + 1) in omega (arith, k, l, step)
 
--- the same by a count
+-- the order of sums by a count
 count_by-le : (i n : ℕ) (f : ℕ → ℕ) → i ≤ n → count_by i f ≤ count_by n f
 count_by-le i zero f h = let e : i ≡ 0 = omega arith in rw e (omega arith)
 count_by-le i (suc n) f h = ⊎_elim (λ (l : n < i). let e : i ≡ suc n = omega arith in rw e (omega arith)) (λ (l : i ≤ n). let m = count_by-le i n f l in omega (arith, m)) (cases_lt n i)
@@ -34,7 +34,7 @@ module _ (f : ℕ → ℕ) (i b s : ℕ) (e : s ≡ b + count_by i f) where
   pub counts_past : (n : ℕ) → i < n → 2 ^ 127 ≤ s + f i → 2 ^ 127 ≤ b + count_by n f
   counts_past n h k = let l : count_by (suc i) f ≤ count_by n f = count_by-le (suc i) n f (omega arith) in omega (arith, e, k, l)
 
--- the same over two lists that go side by side
+-- the sum over two lists that go side by side
 module _ {A B : Type 0} (f : A × B → ℕ) (ks : List A) (vs : List B) (i b s n : ℕ) (x c : A) (y d : B) (m : n ≡ min (length ks) (length vs)) (h : i < n) (p : x ≡ get_or ks i c) (q : y ≡ get_or vs i d) (e : s ≡ b + sum_by f (take i (zip ks vs))) where
   pub within : i < length (zip ks vs)
   within = let l = length-zip ks vs in omega (arith, l, h, m)

@@ -30,6 +30,6 @@ module _ (lists : List (List Cut)) (ms : List ℕ) (cs : List (List (ℕ × ℕ)
       let here : All (λ (s : ℕ × ℕ). s.0 < length (pool lists (get_or ms i 0))) pairs = subst P pairs_at (all i (0, pairs) (omega (arith, length-zip ms cs))) in
       subst (λ (found : List Cut). All (λ (s : ℕ × ℕ). s.0 < length found) given) (sym own) (subst (λ (ss : List (ℕ × ℕ)). All (λ (s : ℕ × ℕ). s.0 < length (pool lists (get_or ms i 0))) ss) (sym same) here)
 
-  -- what they sum to is the summand of their successor
+  -- their sum is the summand of their successor
   pub pairs_part : (f : Cut → ℤ) → over_pool cuts f given ≡ (let q : ℕ × List (ℕ × ℕ) = get_or (zip ms cs) i (0, pairs) in over_pool (pool lists q.0) f q.1)
   pairs_part f = ap₂ (λ (found : List Cut) (ss : List (ℕ × ℕ)). over_pool found f ss) own same ∙ sym (ap (λ (q : ℕ × List (ℕ × ℕ)). over_pool (pool lists q.0) f q.1) pairs_at)

@@ -44,7 +44,7 @@ pub with_weights-own : (n : nodes.Node) (s : Subproblem) (low high : List ℤ) �
 unfolding node_of
 with_weights-own n s low high e = ap (λ (rs : List Realization). record (node_of n s low high) { realizations = rs }) (own n.weights n.values e)
 
--- what the walk sees of a node with given weights
+-- the walk's view of a node with given weights
 pub record Seen (ws : List ℕ) (n : nodes.Node) (s : Subproblem) (k : Node) : Type 0 where
   pub rows : k.rows ≡ s.rows
   pub links : k.links ≡ links_of n.links n.link_weights

@@ -26,7 +26,7 @@ use Rattle.hp_dual.proofs.Accepted.{none-or_then, shaped-shape_fault, fault-righ
 use Rattle.hp_dual.proofs.GivenNode.{realizations-given}
 use Rattle.hp_dual.proofs.SealedCuttable.{given_weight}
 
--- what holds of each value that there is
+-- a property that follows for the value of a result
 pub if_ok : {A E : Type 0} (P Q : A → Type 0) (r : Result A E) → ((x : A) → P x → Q x) → IfOk r P → IfOk r Q
 if_ok P Q (Ok x) f h = f x h
 if_ok P Q (Err e) f h = tt

@@ -32,7 +32,7 @@ use Rattle.hp_dual.proofs.Slopes.{rows_fit}
 use Rattle.hp_dual.proofs.Viewed.{reduced-node_of}
 use Rattle.hp_dual.proofs.Weighted.{reweighted_at, weight-reweighted, some_weight}
 
--- what the limits say
+-- facts that the limits state
 values_counted : (n : nodes.Node) (randoms : ℕ) → realizations_fit randoms n ≡ true → list_all (are_numbers randoms) n.values ≡ true
 values_counted n randoms e = grind (arith, nat_tests)
 

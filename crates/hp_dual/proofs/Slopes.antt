@@ -49,7 +49,7 @@ read_slope n list xs k h fits table size =
     exact (entry xs k) (beta_sum n list k) fits
     (in_range (beta_sum n list k) (le_trans (magnitude (beta_sum n list k)) (slope_size n list k) (pos (2 ^ 127 - 1)) (beta_sum_size n list k) size)) (table k h)
 
--- what all realizations have, and what their certificates take away
+-- the part that all realizations have, less the parts of their certificates
 pub split_sum : (a : ℤ) (g : Certificate → ℤ) (ws vs : List ℕ) (xs : List (List ℤ)) (list : List Certificate) → length ws ≡ length vs → length xs ≡ length vs → length list ≡ length vs
     → total (λ (q : Realization × Certificate). pos q.0.weight *ℤ (a -ℤ g q.1)) (zip (reweighted ws (realizations_of vs xs)) list) ≡ pos (sum ws) *ℤ a -ℤ total (λ (q : Realization × Certificate). pos q.0.weight *ℤ g q.1) (zip (reweighted ws (realizations_of vs xs)) list)
 split_sum a g [] vs xs list e h k = omega (arith, ints)

@@ -52,7 +52,7 @@ constant_at k pools n s values c =
 abbrev pub ReducedFit : ℤ → List (List Cut) → nodes.Node → Subproblem → Certificate → Type 0
 ReducedFit k pools n s c = (j : ℕ) → j < length s.decisions → (reach (lows s) (highs s) j *ℤ magnitude (reduced_at k pools n s c j)) ≤ℤ pos (2 ^ 127 - 1)
 
--- what the limits say of a node and its subproblem
+-- the limits of a node and its subproblem
 pub record Limited (n : nodes.Node) (s : Subproblem) : Type 0 where
   pub values : length n.values ≡ length n.weights
   pub randoms : All (λ (v : List ℤ). length v ≡ length s.randoms) n.values
@@ -80,7 +80,8 @@ slope_size n list k = total (λ (q : Realization × Certificate). pos q.0.weight
 abbrev pub rows_sum : Node → List Certificate → ℕ → ℤ
 rows_sum n list k = total (λ (q : Realization × Certificate). pos q.0.weight *ℤ (pos S *ℤ over_rows n q.1 (λ row y. coefficient row.states k))) (zip n.realizations list)
 
--- what makes a cut out of a list of certificates with these weights: the limits, pairs that are in the pools, and sums in range
+-- the premises under which a list of certificates with these weights makes a cut: the limits, pairs that are in the pools, and sums in
+-- range
 pub record Cuttable (pools : List (List Cut)) (n : nodes.Node) (s : Subproblem) (low : List ℤ) (weights : List ℕ) (list : List Certificate) : Type 0 where
   pub limits : Limited n s
   pub sized : Sized pools n s low weights

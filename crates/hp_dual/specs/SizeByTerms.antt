@@ -27,12 +27,12 @@ count_by (suc n) f = count_by n f + f n
 abbrev pub span : ℤ → ℤ → ℕ
 span low high = max 1 (max (nat_abs low) (nat_abs high))
 
--- that of a decision's box, 1 without a decision
+-- the span of a decision's box, 1 without a decision
 abbrev pub decision_span : Option Decision → ℕ
 decision_span None = 1
 decision_span (Some d) = span d.low d.high
 
--- what the factors of terms are multiplied with: over decisions, over a box, and over values
+-- the bounds by which the factors of terms are multiplied: over decisions, over a box, and over values
 abbrev pub over_decisions : List Decision → ℕ → ℕ
 over_decisions ds j = decision_span (slice_get ds j)
 
@@ -80,11 +80,11 @@ rows_amount ds low high values rows ys = sum_by (scaled_row ds low high values) 
 abbrev pub decision_amount : Decision → ℕ
 decision_amount d = span d.low d.high * nat_abs d.cost
 
--- what a stage costs without rows, cuts and random costs, the same at all realizations
+-- the stage costs without rows, cuts and random costs, the same at all realizations
 abbrev pub fixed_costs : Subproblem → List ℤ → List ℤ → ℕ
 fixed_costs s low high = nat_abs s.constant + sum_by decision_amount s.decisions + numbers_by (over_box low high) s.state_costs
 
--- what a stage costs without rows and cuts
+-- the stage costs without rows and cuts
 abbrev pub costs_amount : Subproblem → List ℤ → List ℤ → List ℤ → ℕ
 costs_amount s low high values = fixed_costs s low high + numbers_by (over_values values) s.random_costs
 

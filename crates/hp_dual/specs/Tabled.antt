@@ -10,7 +10,7 @@ use Rattle.hp_dual.specs.Parts.{costs_at}
 use Rattle.hp_dual.specs.Sized.{unboxed}
 use Rattle.hp_dual.specs.declared.cut_making.scaled_costs.ScaledCosts.{ScaledCosts}
 
--- what stands at j is congruent to f j
+-- the number at j is congruent to f j
 abbrev pub Tabled : (ℕ → ℤ) → List ℤ → Type 0
 Tabled f xs = (j : ℕ) → j < length xs → Congruent (entry xs j) (f j)
 

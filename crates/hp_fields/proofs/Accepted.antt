@@ -17,7 +17,7 @@ use Rattle.hp_fields.specs.Fields.{refuse, key_at, string_at, weight_at, whole_a
 use Rattle.hp_fields.specs.Limits.{name_at, limited_at, known_at}
 use Rattle.hp_fields.proofs.Answered.{step-Ok, whole_at-Ok, limited_at-Ok}
 
--- what an Ok says of a step and of those after it
+-- an Ok says that a step and those after it are Ok
 pub then-Ok : {A B G : Type 0} (r : Result A Refusal) (f : A → Result B Refusal) (y : B) → (r >>= f) ≡ Ok y → ((x : A) → r ≡ Ok x → f x ≡ Ok y → G) → G
 then-Ok (Ok x) f y e next = next x refl e
 then-Ok (Err r) f y e next = absurd cc
@@ -56,7 +56,7 @@ pub limited_at-is : (p : Place) (x z : ℤ) → limited_at p x ≡ Ok z → x �
 unfolding limited_at
 limited_at-is p x z e = Ok-is x z (test-Ok _ _ kinds.TooLarge p z e).1
 
--- what is not below 1 is at least 1 in absolute value
+-- a number that is not below 1 is at least 1 in absolute value
 positive : (z : ℤ) → int_lt z (pos 1) ≡ false → nat_lt 0 (unsigned_abs z) ≡ true
 positive z e = lt-ltb 0 (unsigned_abs z) (omega (arith, ints))
 
@@ -96,7 +96,7 @@ module _ {A : Type 0} (P : ℕ → A → Type 0) where
       let first = step-Ok _ _ whole is in
       walk_items-Ok step keep ds first.0 whole (suc i) n (omega arith) first.2 (keep found first.0 i d first.1 p)
 
--- what holds of each entry with its number, where the first entry's number is i
+-- a property of each entry with its number, where the first entry's number is i
 abbrev pub EachFrom : {B : Type 0} → (ℕ → B → Type 0) → ℕ → List B → Type 0
 EachFrom Q i [] = Unit {0}
 EachFrom Q i (x ∷ xs) = Q i x × EachFrom Q (suc i) xs
@@ -136,7 +136,7 @@ module _ {A : Type 0} (P : ℕ → A → Type 0) (Q : List ℕ → Data → Type
       let first = step-Ok _ _ whole is in
       walk_members-Ok step keep ms first.0 whole (suc i) n (omega arith) all.1 first.2 (keep found first.0 i k d all.0 first.1 p)
 
--- what each step says of its key holds of all keys
+-- a property that each step states of its key holds of all keys
 pub walk_members-keys : {A : Type 0} (Q : List ℕ → Type 0) (step : A → ℕ → List ℕ → Data → Result A Refusal) → ((found next : A) (i : ℕ) (k : List ℕ) (d : Data) → step found i k d ≡ Ok next → Q k)
     → (ms : Members) (found whole : A) (i : ℕ) → walk_members step found i ms ≡ Ok whole → AllByRecursion Q (keys_of ms)
 unfolding walk_members
@@ -145,7 +145,7 @@ walk_members-keys Q step says (member k d ms) found whole i is =
     let first = step-Ok _ _ whole is in
     (says found first.0 i k d first.1, walk_members-keys Q step says ms first.0 whole (suc i) first.2)
 
--- what stands for the members, one after another, where each step adds what stands for its key
+-- the names of the members, one after another, where each step adds the name of its key
 pub walk_members-adds : {A : Type 0} (names : A → List (List ℕ)) (step : A → ℕ → List ℕ → Data → Result A Refusal)
     → ((found next : A) (i : ℕ) (k : List ℕ) (d : Data) → step found i k d ≡ Ok next → names next ≡ names found ++ k ∷ [])
     → (ms : Members) (found whole : A) (i : ℕ) → walk_members step found i ms ≡ Ok whole → names whole ≡ names found ++ keys_of ms

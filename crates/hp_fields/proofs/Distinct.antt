@@ -54,7 +54,7 @@ unfolding IsDistinct
 distinct-push same [] x distinct apart = (tt, tt)
 distinct-push same (y ∷ ys) x distinct apart = (each-push (λ z. same y z ≡ false) ys x distinct.0 apart.0, distinct-push same ys x distinct.1 apart.1)
 
--- what stands for different things is different
+-- images of different things are different
 pub distinct-image : {A B : Type 0} (same : A → A → Bool) (alike : B → B → Bool) (f : A → B) (P : A → Type 0) → ((x y : A) → P x → P y → same x y ≡ false → alike (f x) (f y) ≡ false)
     → (xs : List A) → AllByRecursion P xs → IsDistinct same xs → IsDistinct alike (map f xs)
 unfolding IsDistinct
@@ -70,7 +70,7 @@ unfolding IsDistinct are_distinct
 are_distinct-true same [] distinct = refl
 are_distinct-true same (x ∷ xs) distinct = rw (none-of (same x) xs distinct.0, are_distinct-true same xs distinct.1) refl
 
--- the same of what stands for the entries
+-- the images of the entries are distinct
 pub are_distinct-map : {A B : Type 0} (f : A → B) (same : B → B → Bool) (xs : List A) → are_distinct same (map f xs) ≡ are_distinct (λ a b. same (f a) (f b)) xs
 unfolding are_distinct
 are_distinct-map f same [] = refl

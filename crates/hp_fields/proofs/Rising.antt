@@ -192,7 +192,7 @@ known-position names k i e =
     let within : position_or_len (bytes_eq k) names < length names = ltb-true (position_or_len (bytes_eq k) names) (length names) parts.0 in
     (subst (λ j. j < length names) parts.1 within, any_from_place (bytes_eq k) names within)
 
--- what holds of each of some keys holds of a key among them
+-- a property of each of some keys holds of a key among them
 among : (P : List ℕ → Type 0) (ks : List (List ℕ)) (q : List ℕ) → AllByRecursion P ks → is_member bytes_eq ks q ≡ true → P q
 among P [] q all e = cc
 among P (k ∷ ks) q all e = by (bytes_eq q k) refl e (among P ks q all.1)

@@ -4,7 +4,7 @@ use Rattle.serde_json.specs.Data.{Data}
 use Rattle.serde_json.specs.Read.{read}
 use Rattle.hp_file.specs.File.{Name, Function, Constraint, Node, File, ◌>>=◌}
 
--- what f makes of the document in a text
+-- the value that f gives of the document in a text
 unfoldable pub said : {A : Type 0} → (Data → Option A) → List ℕ → Option A
 said f text = read text >>= f
 
@@ -16,7 +16,7 @@ valued units z = option_map (λ (f : Function). f units (λ v. z))
 abbrev pub tested : ℕ → List ℤ → Option Constraint → Option (List Bool)
 tested units zs = option_map (λ (c : Constraint). map (λ z. c units (λ v. z)) zs)
 
--- what f makes of the node k of a file
+-- the value that f gives of the node k of a file
 abbrev pub at_node : {A : Type 0} → (Node → A) → Name → Option File → Option A
 at_node f k file = file >>= λ (g : File). option_map f (g.nodes k)
 
@@ -42,7 +42,7 @@ quadratic = codes "{\"type\":\"ScalarQuadraticFunction\",\"terms\":[],\"quadrati
 
 -- ---- constraints
 
--- that the variable q lies in this set
+-- the text that the variable q lies in this set
 abbrev pub lies_in : List ℕ → List ℕ
 lies_in set = codes "{\"function\":{\"type\":\"Variable\",\"name\":\"q\"},\"set\":" ++ set ++ codes "}"
 

@@ -7,7 +7,7 @@ use Rattle.hp_problem.specs.declared.refusal.Refusal.{Refusal}
 use Rattle.hp_fields.specs.Steps.{◌>>=◌, walk_members, walk_items, walk_list}
 use Rattle.hp_forms.specs.Listed.{members_from}
 
--- what is found after n steps, from the number i on
+-- the findings after n steps, from the number i on
 abbrev pub walked : {A : Type 0} → (A → ℕ → A) → A → ℕ → ℕ → A
 walked grow found i zero = found
 walked grow found i (suc n) = walked grow (grow found i) (suc i) n

@@ -85,7 +85,7 @@ values-sealed p s e r =
     let own = all_at (are_numbers (length q.subproblem.randoms)) q.node.values s.realization [] (each_values (length q.subproblem.randoms) q.node q.fit.realizations) inside in
     rw (q.fit.the_node, q.fit.the_subproblem, values) own
 
--- what is read of a problem at a step
+-- the values that are read of a problem at a step
 pub values_read : (p : Sealed) (s : Step) (n : nodes.Node) (values : List ℤ) → slice_get p.raw.nodes s.node ≡ Some n → s.realization < length n.values → values ≡ get_or n.values s.realization values → values ≡ values_of p.raw s
 values_read p s n values is h at =
     at ∙ get_or_default n.values s.realization values [] h ∙ ap (λ (vs : List (List ℤ)). get_or vs s.realization []) (sym (made_at (λ (n : nodes.Node). n.values) p.raw.nodes s.node n [] is))

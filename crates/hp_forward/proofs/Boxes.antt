@@ -78,7 +78,7 @@ decisions_inside n point boxes =
       below = λ j h. subst (λ (z : ℤ). z ≤ℤ (pos S *ℤ entry n.decision_high j)) (sym (entry-table (length n.decision_low) f j h)) (boxed_below _ (pos S *ℤ entry n.decision_low j) (pos S *ℤ entry n.decision_high j) (le_scale S (entry n.decision_low j) (entry n.decision_high j) (boxes j h).ordered));
     }
 
--- what leaves a node lies in the box of each successor
+-- the state that leaves a node lies in the box of each successor
 pub next_inside : (n k : Node) (u : List ℤ) → Nested n k → InBox S n.decision_low n.decision_high u → InBox S k.low k.high (next_state n u)
 next_inside n k u nested b = record {
   count = length-map n.outs (λ o. entry u o) ∙ nested.count;

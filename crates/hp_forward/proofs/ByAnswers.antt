@@ -24,7 +24,7 @@ use Rattle.hp_forward.specs.Given.{Fails, Gives, IsStateAt, OnNoStage, Refutes}
 use Rattle.hp_forward.proofs.Boxes.{boxes-sealed, decisions_inside, nested-sealed, next_inside}
 use Rattle.hp_forward.proofs.Decisions.{lows, number_of}
 
--- what is decided at a subproblem
+-- the decisions at a subproblem
 abbrev pub decided_at : Subproblem → Answer → Bool → Decided
 decided_at s answer unsettled =
     let u : List ℤ = table (length (lows s.decisions)) (number_of answer.point s.decisions) in
@@ -71,7 +71,7 @@ no_ok x d h = cc
 no_err : (x : Decided) (d : Dead) → ok x ≡ err d → ⊥
 no_err x d h = cc
 
--- what holds of the answer that was defined holds of the one that is given, and so of a refutation
+-- a property of the defined answer holds of the given one, and so it is with a refutation
 pub if_given : {A : Type 0} (r : Result A StageFault) (defined : Result A Dead) (P : A → Type 0) → ((x : A) → defined ≡ Ok x → P x) → Gives r defined → IfOk r P
 if_given (Ok x) defined P f g = f x g
 if_given (Err e) defined P f g = tt
@@ -90,7 +90,7 @@ module _ (p : Sealed) (e : is_sealed p ≡ true) (run m : ℕ) (h : m < length p
   inside_of : (known : Judged) → InBox S (node_at (problem_of p) m).decision_low (node_at (problem_of p) m).decision_high (decided_of (node_at (problem_of p) m) answer known).decisions
   inside_of known = decisions_inside (node_at (problem_of p) m) answer.point (boxes-sealed p m e h)
 
-  -- what is decided lies in the boxes
+  -- the decisions lie in the boxes
   pub inside_by : (known : Judged) (d : Decided) → decide_by p run m values state answer known ≡ Ok d → InBox S (node_at (problem_of p) m).decision_low (node_at (problem_of p) m).decision_high d.decisions
   inside_by judged.Found d is = subst (λ (x : Decided). InBox S (node_at (problem_of p) m).decision_low (node_at (problem_of p) m).decision_high x.decisions) (ok_same _ d is) (inside_of judged.Found)
   inside_by judged.Unsettled d is = subst (λ (x : Decided). InBox S (node_at (problem_of p) m).decision_low (node_at (problem_of p) m).decision_high x.decisions) (ok_same _ d is) (inside_of judged.Unsettled)
@@ -105,7 +105,7 @@ module _ (p : Sealed) (e : is_sealed p ≡ true) (run m : ℕ) (h : m < length p
   next_by judged.Unsettled d is k c = subst (λ (x : Decided). IsStateAt p k x.next) (ok_same _ d is) (next_of k c judged.Unsettled)
   next_by (judged.Dead ys) d is k c = absurd (no_ok d _ is)
 
-  -- what is refuted has no decisions
+  -- a refuted node has no decisions
   refutes_by : (known : Judged) (d : Dead) → judge_of (node_at (problem_of p) m) values state answer ≡ known → decide_by p run m values state answer known ≡ Err d → Refutes p d
   refutes_by judged.Found d j is = absurd (no_err _ d is)
   refutes_by judged.Unsettled d j is = absurd (no_err _ d is)

@@ -53,7 +53,7 @@ module _ {A B E : Type 0} (f : A → Result B E) where
   each_stops xs i d ys e h so_far is =
       sym (each-halves i xs) ∙ ap₂ (λ (s t : Result (List B) E). in_turn s t) so_far (ap (each_of f) (drop_more xs i d h) ∙ stopped (get_or xs i d) (drop (i + 1) xs) e is)
 
-  -- what holds of all
+  -- a property of all items with their answers
   pub record Each (P : A → B → Type 0) (xs : List A) (ys : List B) : Type 0 where
     pub count : length ys ≡ length xs
     pub each : All (λ (q : A × B). P q.0 q.1) (zip xs ys)

@@ -36,7 +36,7 @@ abbrev pub ComesTo : Sealed → List Step → List ℤ → Type 0
 ComesTo p [] state = Unit {0}
 ComesTo p (s ∷ ss) state = Comes p s ss state
 
--- what leaves a node comes to the next step
+-- the state that leaves a node comes to the next step
 pub comes_next : (p : Sealed) (s : Step) (ss : List Step) (state next : List ℤ) → Comes p s ss state → ((k : ℕ) → Contains (successors_at p.raw s.node) k → IsStateAt p k next) → ComesTo p ss next
 comes_next p s [] state next c h = tt
 comes_next p s (t ∷ ts) state next c h = record { here = h t.node c.follows.0; follows = c.follows.1; range = All_head (IsInRange p.raw) t ts c.rest; rest = All_tail (IsInRange p.raw) t ts c.rest }
@@ -46,7 +46,7 @@ pub comes_first : (p : Sealed) (path : List Step) → is_sealed p ≡ true → I
 comes_first p [] e h = tt
 comes_first p (s ∷ ss) e h = record { here = start-sealed p s.node e (root_counted p e) h.starts; follows = h.follows; range = All_head (IsInRange p.raw) s ss h.in_range; rest = All_tail (IsInRange p.raw) s ss h.in_range }
 
--- what is asked of deciding at each step
+-- the premises on deciding at each step
 pub record Decides (p : Sealed) (decide : Step → List ℤ → Result Decided Dead) : Type 0 where
   pub next : (s : Step) (state : List ℤ) (d : Decided) → s.node < length p.raw.nodes → decide s state ≡ Ok d → (k : ℕ) → Contains (successors_at p.raw s.node) k → IsStateAt p k d.next
   pub dead : (s : Step) (state : List ℤ) (d : Dead) → s.node < length p.raw.nodes → decide s state ≡ Err d → Refutes p d
@@ -155,7 +155,7 @@ one_more decide walk state s after next n e h = by (decide s state) refl
         omega (arith, same, at_most_one d.unsettled, h)
     by (Err d) is = absurd (no_step after next d (step_on decide walk state s) (refuted d is) e)
 
--- what is decided by a solver's answers
+-- deciding by a solver's answers
 module _ {Start Chain : Type 0} (v : Solving Start Chain) (p : Sealed) (pools : List (List Cut)) (run : ℕ) (e : is_sealed p ≡ true) where
   pub decides : Decides p (decide_step v p pools run)
   unfolding decide_of
@@ -176,7 +176,7 @@ module _ {Start Chain : Type 0} (v : Solving Start Chain) (p : Sealed) (pools : 
   unfolding walk_of
   walk_dies path dead h is = dies p (decide_step v p pools run) decides no_walk (times_all S (problem_of p).initial) path dead (comes_first p path e h) is
 
-  -- the same of several
+  -- walks along several paths
   pub walks_are : (paths : List (List Step)) (walks : List Walk) → All (IsPath p) paths → walks_of v p pools run paths ≡ Ok walks → AreWalks p paths walks
   walks_are paths walks h is =
       let each = each_holds (walk_of v p pools run) (IsPath p) (IsWalk p) (λ path walk i e. walk_is path walk i e) paths walks h is in

@@ -39,7 +39,7 @@ is_unsettled judged.Found = false
 is_unsettled judged.Unsettled = true
 is_unsettled (judged.Dead ys) = false
 
--- what is decided by an answer of which this is known; the state that leaves the node is the decisions at its outs
+-- the decisions by an answer and its judgement; the state that leaves the node is the decisions at its outs
 abbrev pub decided_of : Node → Answer → Judged → Decided
 decided_of n answer known = record {
   kind = answer.kind;
@@ -54,7 +54,7 @@ unless_dead dead decided judged.Found = Ok decided
 unless_dead dead decided judged.Unsettled = Ok decided
 unless_dead dead decided (judged.Dead ys) = Err (dead ys)
 
--- the same at the node m, the values and the state, in the run of this number
+-- the decisions at the node m, the values and the state, or the refutation in the run of this number
 abbrev pub decide_by : Sealed → ℕ → ℕ → List ℤ → List ℤ → Answer → Judged → Result Decided Dead
 decide_by p run m values state answer known =
     unless_dead (λ ys. record { run = run; node = m; values = values; state = state; rows = ys }) (decided_of (node_at (problem_of p) m) answer known) known

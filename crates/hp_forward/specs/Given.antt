@@ -15,15 +15,15 @@ abbrev pub Fails : {A : Type 0} → StageFault → Result A Dead → Type 0
 Fails (NoStage dead) defined = defined ≡ Err dead
 Fails Memory defined = Unit {0}
 
--- what there is to see of an answer is what was defined, or the refutation is
+-- the visible part of an answer is the defined one, or the refutation is
 abbrev pub GivesSeen : {A B : Type 0} → (A → B) → Result A StageFault → Result B Dead → Type 0
 GivesSeen view result defined = GivesOr Fails view result defined
 
--- the answer that was defined, or the refutation
+-- the answer is the defined one, or the refutation is
 abbrev pub Gives : {A : Type 0} → Result A StageFault → Result A Dead → Type 0
 Gives result defined = GivesSeen (λ x. x) result defined
 
--- what holds of a refutation
+-- a property of a refutation
 abbrev pub OnNoStage : {A : Type 0} → Result A StageFault → (Dead → Type 0) → Type 0
 OnNoStage (Ok x) P = Unit {0}
 OnNoStage (Err (NoStage dead)) P = P dead

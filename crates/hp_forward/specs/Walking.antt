@@ -40,7 +40,7 @@ abbrev pub walk_on : (Step → List ℤ → Result Decided Dead) → Walk → Li
 walk_on decide walk state [] = Ok walk
 walk_on decide walk state (s ∷ ss) = step_on decide walk state s >>= λ after. walk_on decide after.0 after.1 ss
 
--- what is decided at a step
+-- the decisions at a step
 abbrev pub decide_step : {Start Chain : Type 0} → Solving Start Chain → Sealed → List (List Cut) → ℕ → Step → List ℤ → Result Decided Dead
 decide_step v p pools run s state = decide_of v p pools run s.node (values_of p.raw s) state
 
@@ -48,7 +48,7 @@ decide_step v p pools run s state = decide_of v p pools run s.node (values_of p.
 unfoldable pub walk_of : {Start Chain : Type 0} → Solving Start Chain → Sealed → List (List Cut) → ℕ → List Step → Result Walk Dead
 walk_of v p pools run path = walk_on (decide_step v p pools run) no_walk (times_all S (problem_of p).initial) path
 
--- what f gives of each in order, up to the first refusal
+-- the answers of f for each item in order, up to the first refusal
 abbrev pub each_of : {A B E : Type 0} → (A → Result B E) → List A → Result (List B) E
 each_of f [] = Ok []
 each_of f (x ∷ xs) = f x >>= λ y. each_of f xs >>= λ ys. Ok (y ∷ ys)

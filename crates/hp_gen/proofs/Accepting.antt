@@ -192,7 +192,7 @@ newline_ascii : (i : ℕ) → get_or (10 ∷ []) i 0 < 128
 newline_ascii zero = omega arith
 newline_ascii (suc i) = omega arith
 
--- what was printed for the problem, and a newline
+-- the text that was printed for the problem, and a newline
 pub printed_read : (printed text : List ℕ) (d : Data) (word : ℕ → ℕ) (stages count : ℕ) → 1 ≤ stages → stages ≤ 500 → 1 ≤ count → count ≤ 10 → d ≡ problem word stages count
     → IsUtf8 printed → printed ≡ print (tokens printed) → IsInOrder printed d → (depth d ≤ max_depth → read printed ≡ Some d) → text ≡ printed ++ 10 ∷ []
     → (p : Sealed) × (problem_at text ≡ Ok p) × (all : List (List Cut)) × (based p ≡ Ok all)

@@ -117,7 +117,7 @@ rows_size_zero n f = rows_small n.rows f
 lesser : (x : ℤ) → pos 0 ≤ℤ x → int_min (pos 0) x ≡ pos 0
 lesser x r = omega (arith, ints, clamps)
 
--- what costs nothing at its least value and at least 0 anywhere
+-- a variable that costs nothing at its least value and at least 0 anywhere
 least_zero : (k : ℕ) (c l h : ℤ) → c *ℤ l ≡ pos 0 → pos 0 ≤ℤ c → pos 0 ≤ℤ h → int_min (pos k *ℤ c *ℤ l) (pos k *ℤ c *ℤ h) ≡ pos 0
 least_zero k c l h e p q =
     let some : pos 0 ≤ℤ (pos k *ℤ c) = subst (λ (x : ℤ). x ≤ℤ (pos k *ℤ c)) (times_zero (pos k)) (le_scale k (pos 0) c p) in

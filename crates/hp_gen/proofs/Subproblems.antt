@@ -40,7 +40,7 @@ or_none (Err e) = no_subproblem
 unfoldable pub sub : ℕ → Subproblem
 sub count = or_none (subproblem_at (state_list count) 0 (codes "p") (stage.subproblem count))
 
--- what unfolds to compute the reader on the subproblem
+-- the definitions that unfold to compute the reader on the subproblem
 unfoldable reading : ⊤
 unfolding sub subproblem_at variables_at number_of outs_of few_rows_at subproblem_of filled_at walk_members walk_items walk_list fields.whole_at fields.key_at fields.present_at fields.object_at fields.array_at fields.string_at limits.name_at limits.limited_at limits.known_at limits.members_at limits.items_at boxes.bound_at boxes.decision_at boxes.incoming_at boxes.box_at boxes.variable_at boxes.boxes_at boxes.lows_of boxes.highs_of constraint.narrowed constraint.bounded constraint.joined_at constraint.constraint_at constraint.constraints_at decisions.decisions_at function.variable_function_at function.raised function.term_at function.terms_at function.constant_at function.coefficient_at function.coefficients_at function.affine_function_at function.function_at objective.costs_at objective.objective_at randoms.random_at randoms.each_random_at randoms.randoms_at roles.taken_at rows.picked rows.row_of sides.ordered_at sides.side_at sides.equal_at sides.greater_at sides.less_at sides.interval_at sides.set_at sides.shifted_side_at sides.shifted_at parts.array_under parts.object_under parts.stage_parts_at states.state_at states.each_state_at states.states_at variables.variable_at variables.names_at forms.variable forms.term forms.affine forms.equal_to forms.row forms.single forms.interval forms.bound forms.least_sum forms.state_between forms.program_of forms.subproblem_of stage.variables_of stage.variables stage.from_above stage.balance_terms stage.power_terms stage.bounds_of stage.constraints stage.objective stage.program stage.subproblem reservoir_name
 reading = tt
@@ -68,7 +68,7 @@ form count = record {
   high = replicate count (Some (pos 100));
 }
 
--- what holds of each number from 1 to 10
+-- a property of each number from 1 to 10
 pub each : (P : ℕ → Type 0) → P 1 → P 2 → P 3 → P 4 → P 5 → P 6 → P 7 → P 8 → P 9 → P 10 → (n : ℕ) → 1 ≤ n → n ≤ 10 → P n
 each P a b c d e f g h i j zero low high = absurd (omega arith)
 each P a b c d e f g h i j (suc zero) low high = a

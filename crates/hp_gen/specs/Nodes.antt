@@ -7,7 +7,7 @@ use Rattle.hp_forms.specs.Listed.{members_from, whole}
 use Rattle.hp_forms.specs.Nodes.{realization_of, node_of}
 use Rattle.hp_gen.specs.Stage.{inflow_name}
 
--- what a word gives as an inflow of a dry node, and of a wet one
+-- the inflow of a dry node, and of a wet one, that a word gives
 unfoldable pub inflow : ℕ → ℕ → ℕ
 inflow kind word = if kind == 0 then word % 11 else 10 + word % 21
 

@@ -35,7 +35,7 @@ variables count = flat_map variables_of (numbers count) ++ variable (codes "g") 
 
 -- ---- constraints
 
--- what the reservoir above lets down; there is none above the first
+-- the water that the reservoir above lets down; there is none above the first
 unfoldable pub from_above : ℕ → List Data
 from_above j = if nat_lt 0 j then term (negsuc 0) (turbined (j - 1)) ∷ term (negsuc 0) (spilled (j - 1)) ∷ [] else []
 

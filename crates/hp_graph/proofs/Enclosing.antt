@@ -78,7 +78,7 @@ map_member f [] x c = absurd (omega (arith, c.1))
 map_member f (y ∷ xs) x (zero, l, e) = (zero, omega arith, ap f e)
 map_member f (y ∷ xs) x (suc k, l, e) = let c = map_member f xs x (k, omega arith, e) in (suc c.0, omega (arith, c.1), c.2)
 
--- what a predecessor lets out comes in
+-- the state that a predecessor lets out comes in
 pub end_comes_in : (side : Side) (raw : Raw) (p n s : ℕ) → Contains (links_at (graph_of raw) p) n → Contains (incoming side raw n s) (end_at raw.nodes (ends side raw) s p)
 end_comes_in side raw p n s c = behind (start_at raw n s) (map_member (end_at raw.nodes (ends side raw) s) (predecessors (graph_of raw) n) p (leading (graph_of raw) p n c))
   where

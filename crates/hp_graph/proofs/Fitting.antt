@@ -43,7 +43,7 @@ few raw e = (few_nodes raw e, few_states raw e)
 ok_is : {A : Type 0} (a b : A) → ◌≡◌ {A = Result A Refusal} (Ok a) (Ok b) → a ≡ b
 ok_is a b e = cc
 
--- what an Ok of the order says
+-- the facts that an Ok of the order states
 record Ordered (raw : Raw) (order : List ℕ) (longest : ℕ) : Type 0 where
   no_cycle : first_in_cycle (graph_of raw) ≡ None
   all_reached : first_unreached (graph_of raw) raw.root ≡ None
@@ -113,7 +113,7 @@ box_holds raw m lows highs none l ins outs =
 links_of_node : (raw : Raw) (p : ℕ) (n : Node) → slice_get raw.nodes p ≡ Some n → links_at (graph_of raw) p ≡ n.links
 links_of_node raw p n e = get_or_from_slice_get (graph_of raw) p n.links [] (slice_get-map (λ (k : Node). k.links) raw.nodes p ∙ ap (option_map (λ (k : Node). k.links)) e)
 
--- what leaves the node p lies in the box of its successor m
+-- the state that leaves the node p lies in the box of its successor m
 link_inside : (raw : Raw) (p m : ℕ) (n : Node) → first_gap raw (numbers (length raw.nodes)) ≡ None → slice_get raw.nodes p ≡ Some n → Contains n.links m → m < length raw.nodes
     → holds_box (sides Low raw) (sides High raw) (lows_from raw n) (highs_from raw n) m ≡ true
 link_inside raw p m n none e c l =
@@ -171,7 +171,7 @@ sealed_parts raw p (Ok (order, longest)) (Ok (lo, hi)) f i j h =
     let same = ok_is (record { raw = raw; order = order; longest = longest; lo = lo; hi = hi }) p (ap (with_boxes raw (order, longest)) (sym j) ∙ h) in
     subst (λ q. is_sealed q ≡ true) same (fits raw order longest lo hi f i j)
 
--- what is arranged is sealed
+-- an arranged problem is sealed
 pub arranged_sealed : (raw : Raw) (p : Sealed) → raw_fits raw ≡ true → arranged raw ≡ Ok p → is_sealed p ≡ true
 unfolding arranged
 arranged_sealed raw p f h = sealed_parts raw p (ordered raw) (boxed raw) f refl refl (h)

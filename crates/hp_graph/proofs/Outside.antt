@@ -39,7 +39,7 @@ reached : (side : Side) (a : ℤ) (xs : List ℤ) → (fold (outer side) a xs �
 reached Low a xs = fold-int_min_reached a xs (fold (outer Low) a xs) refl
 reached High a xs = fold-int_max_reached a xs (fold (outer High) a xs) refl
 
--- what holds of 0 and of each of the numbers holds of the outermost
+-- a property of 0 and of each of the numbers holds of the outermost
 pub outermost_keeps : (P : ℤ → Type 0) (side : Side) (xs : List ℤ) → P (pos 0) → All P xs → P (outermost side xs)
 outermost_keeps P side [] z h = z
 outermost_keeps P side (x ∷ xs) z h = ⊎_elim (λ same. subst P (sym same) (h 0 x (omega arith))) (λ later. All-contains P (x ∷ xs) (fold (outer side) x xs) h (suc later.0, omega (arith, later.1), later.2)) (reached side x xs)

@@ -33,7 +33,7 @@ low_small d e = grind (arith, nat_tests, common_steps, e)
 high_small : (d : Decision) → decision_fits d ≡ true → is_small d.high ≡ true
 high_small d e = grind (arith, nat_tests, common_steps, e)
 
--- what is read from a list of small numbers is small
+-- a number that is read from a list of small numbers is small
 read_small : (zs : List ℤ) (os : List ℕ) → list_all is_small zs ≡ true → are_small (map (entry zs) os) ≡ true
 read_small zs os e = all_made (entry zs) is_small os (λ o. all_or is_small zs o (pos 0) e refl)
 

@@ -49,7 +49,7 @@ with_order raw (Ok o) = with_boxes raw o (boxed raw)
 unfoldable pub arranged : Raw → Result Sealed Refusal
 arranged raw = with_order raw (ordered raw)
 
--- what a function answers is the answer that is defined, unless memory ran out
+-- a function answers as the definition does, unless memory ran out
 abbrev pub Arranges : {X Y : Type 0} → (X → Y) → Result X ArrangeFault → Result Y Refusal → Type 0
 Arranges view (Ok p) answer = answer ≡ Ok (view p)
 Arranges view (Err (faults.Cycle m)) answer = answer ≡ refused kinds.Cycle m 0

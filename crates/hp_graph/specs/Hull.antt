@@ -40,7 +40,7 @@ end_at nodes all s p = unwrap_or (option_and_then (λ n. option_and_then (λ es.
 abbrev pub start_at : Raw → ℕ → ℕ → Option ℤ
 start_at raw n s = if list_any (λ m. m == n) raw.root then slice_get (initial_values raw) s else None
 
--- what comes into the node n as state s: the initial value, and the ends of what its predecessors let out
+-- the ends of the state s that comes into the node n: the initial value, and the ends that its predecessors let out
 abbrev pub incoming : Side → Raw → ℕ → ℕ → List ℤ
 incoming side raw n s = cons_option (start_at raw n s) (map (end_at raw.nodes (ends side raw) s) (predecessors (graph_of raw) n))
 

@@ -9,7 +9,7 @@ use Rattle.hp_plants.specs.declared.plants.Plants.{Plants}
 use Rattle.hp_hydro.specs.Layout.{Store, volume_of, way_of, Variable, after, turbine_of, spill_of, thermal_of, line_of, deficit_of, Chance, inflow_of, demand_of, travel, all_reservoirs, all_thermals, all_lines, all_buses, steps, ways, stores, variables_of, variables, chances}
 use Rattle.hp_hydro.proofs.Lists.{total-map, total-flat_map}
 
--- what a reservoir's variables add to a sum
+-- the terms of a reservoir's variables
 abbrev pub of_reservoir : Plants → (Variable → ℤ) → ℕ → ℤ
 of_reservoir h f i = f (after (volume_of i)) +ℤ (f (turbine_of i) +ℤ (f (spill_of i) +ℤ total (λ k. f (after (way_of i k))) (steps (travel h i))))
 
@@ -26,7 +26,7 @@ total-variables h f =
     block : (i : ℕ) → total f (variables_of h i) ≡ of_reservoir h f i
     block i = ap (λ (z : ℤ). f (after (volume_of i)) +ℤ (f (turbine_of i) +ℤ (f (spill_of i) +ℤ z))) (total-map f (λ k. after (way_of i k)) (steps (travel h i)))
 
--- what the water adds that is k stages away
+-- the terms of the water that is k stages away
 abbrev pub of_way : Plants → (Store → ℤ) → ℕ → ℤ
 of_way h f k = total (λ i. if nat_le k (travel h i) then f (way_of i k) else pos 0) (all_reservoirs h)
 

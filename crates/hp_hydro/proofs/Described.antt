@@ -26,7 +26,7 @@ few_at m n (r ∷ rs) d (suc j) a z = few_at m n rs d j a.1 z
 pub short : (h : Plants) → IsPlants h → (j : ℕ) → travel h j ≤ 3
 short h i j = few_at _ _ h.reservoirs _ j i.reservoirs (omega arith)
 
--- what is not known before a stage is its inflow's water, and its demand
+-- the random variables of a stage are its inflow's water, and its demand
 pub values_are : (h : Plants) (demand : List ℤ) (i : Inflow) → length i.water ≡ length h.reservoirs → length demand ≡ length h.buses → (realization h demand i).values ≡ i.water ++ demand
 values_are h demand i w d =
     map-append (chance_value demand i.water) (map inflow_of (all_reservoirs h)) (map demand_of (all_buses h))

@@ -58,7 +58,7 @@ newly : (i n : ℕ) (here : Moment) (past : Past) → total (released i) (drop n
 newly i zero here past = refl
 newly i (suc n) here past = one_ago i n past
 
--- what arrives with one branch more, as the row of water has it: at once, or what was one stage away
+-- the water that arrives with one branch more, as the row of water has it: at once, or the water that was one stage away
 fresh_is : (i n : ℕ) (l : ℤ) (here : Moment) (past : Past) → l *ℤ fresh i n here past ≡ same_place 0 n *ℤ l *ℤ released i here +ℤ (if nat_le 1 n then l *ℤ left_ago i (n - 1) past else pos 0)
 fresh_is i zero l here past = ring (l ∷ released i here ∷ []) (var 0 ⊗ var 1) (num (pos 1) ⊗ var 0 ⊗ var 1 ⊕ num (pos 0)) tt
 fresh_is i (suc n) l here past =

@@ -17,7 +17,7 @@ use Rattle.hp_hydro.proofs.Flow.{above_leb, if_false, from_ways, volume_next, fr
 abbrev pub left_of : Plants → ℕ → (Variable → ℤ) → (Store → ℤ) → (Chance → ℤ) → (Variable → ℤ) → (Store → ℤ) → (Chance → ℤ) → ℤ
 left_of h units a b g x s v = total (λ d. a d *ℤ x d) (variables h) +ℤ total (λ d. b d *ℤ s d) (stores h) +ℤ pos units *ℤ total (λ d. g d *ℤ v d) (chances h)
 
--- what leaves reservoir i by a choice
+-- the water that leaves reservoir i by a choice
 abbrev out_of : Choice → ℕ → ℤ
 out_of c i = c.turbine i +ℤ c.spill i
 
@@ -115,11 +115,11 @@ beyond (suc (suc (suc k))) n y h t z =
     (ap₂ ◌+ℤ◌ (if_none (nat_le 2 n) (neg_ℤ (pos 0 *ℤ y 2)) (ap neg_ℤ (none (y 2)))) (ap (λ (z : ℤ). z +ℤ pos 0) (if_none (nat_le 3 n) (neg_ℤ (pos 0 *ℤ y 3)) (ap neg_ℤ (none (y 3))))))
     ∙ ap neg_ℤ (sym (if_false (nat_le (suc (suc (suc (suc k)))) n) (y (suc (suc (suc (suc k))))) (above_leb (suc (suc (suc (suc k)))) n (omega arith))))
 
--- what reservoir i would add where its water is k stages away
+-- the term of reservoir i where its water is k stages away
 abbrev kept : Plants → ℕ → ℕ → Choice → (Store → ℤ) → ℕ → ℤ
 kept h j k c next i = neg_ℤ (same_place k (travel h j) *ℤ out_of c i) +ℤ total (λ m. same_place k m *ℤ next (way_of i m)) (steps (travel h i))
 
--- what the water adds that was l stages away
+-- the terms of the water that was l stages away
 abbrev shown : Plants → ℕ → ℕ → Past → ℕ → ℤ
 shown h j k past l = if nat_le l (travel h j) then neg_ℤ (same_place (suc k) l *ℤ left_ago j (travel h j - l) past) else pos 0
 
@@ -197,7 +197,7 @@ module _ (h : Plants) (units b : ℕ) (c : Choice) (next : Store → ℤ) (withi
       (total_ext (λ d. neg_ℤ (same_place b d) *ℤ entry demand d) (λ d. same_place b d *ℤ neg_ℤ (entry demand d)) (all_buses h) (λ d. ring (same_place b d ∷ entry demand d ∷ []) (⊖ (var 0) ⊗ var 1) (var 0 ⊗ ⊖ (var 1)) tt) ∙ total_same (length h.buses) b (λ d. neg_ℤ (entry demand d)) within)
       ∙ +ℤ_idl (neg_ℤ (entry demand b))
 
-  -- what is made of energy, less the demand
+  -- the energy balance of a bus: the energy that is made, less the demand
   pub left_bus : (demand water : List ℤ) (before : Store → ℤ) → left_of h units (bus_decided h b) no_store (bus_asked b) (value_with c next) before (chance_value demand water) ≡ served h c b -ℤ pos units *ℤ entry demand b
   left_bus demand water before =
       ap₂ ◌+ℤ◌ (ap₂ ◌+ℤ◌ bus_variables (total_none (λ s. pos 0 *ℤ before s) (stores h) (λ s. none (before s)))) (ap (λ (z : ℤ). pos units *ℤ z) (bus_chances demand water))

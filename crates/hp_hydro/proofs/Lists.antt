@@ -33,7 +33,7 @@ total_range a (suc n) f g h =
     let first : a ≡ a + 0 = omega arith in
     ap₂ ◌+ℤ◌ (ap f first ∙ h 0) (total_range (a + 1) n f (λ j. g (suc j)) (λ j. let next : a + 1 + j ≡ a + suc j = omega arith in ap f next ∙ h (suc j)))
 
--- what stands beside the number j
+-- the value beside the number j
 pub total_same : (n j : ℕ) (f : ℕ → ℤ) → j < n → total (λ i. same_place j i *ℤ f i) (numbers n) ≡ f j
 total_same n j f h =
     total_range 0 n (λ i. same_place j i *ℤ f i) (λ i. same_place j i *ℤ f i) (λ i. let none : 0 + i ≡ i = omega arith in ap (λ (k : ℕ). same_place j k *ℤ f k) none) ∙ sum_same n j f h

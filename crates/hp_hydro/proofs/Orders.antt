@@ -43,7 +43,7 @@ module _ (h : Plants) (known : IsPlants h) where
       each_of_all (λ x. AllByRecursion (λ y. Before (state_name h x) (state_name h y)) ys) (way_at h k) (length h.reservoirs)
       (λ i l. each_if (λ x. AllByRecursion (λ y. Before (state_name h x) (state_name h y)) ys) (nat_le k (travel h i)) (way_of i k) (b i))
 
-  -- what holds of all water that is k stages away, and of all volumes
+  -- a property of all water that is k stages away, and of all volumes
   each_way : (P : Store → Type 0) (k : ℕ) → ((j : ℕ) → P (way_of j k)) → AllByRecursion P (ways h k)
   each_way P k p = each_of_all P (way_at h k) (length h.reservoirs) (λ j l. each_if P (nat_le k (travel h j)) (way_of j k) (p j))
 

@@ -75,7 +75,7 @@ run_variables h =
     (run_kind h line_of (length h.lines) (0 + length (rs ++ ts)) (λ l. omega (arith, at))))
     (run_kind h deficit_of (length h.buses) (0 + length (rs ++ ts ++ ls)) (λ b. omega (arith, al)))
 
--- what stands at a variable's place
+-- the value at a variable's place
 pub at_place : (h : Plants) (x : Variable → ℤ) → All (λ d. entry (map x (variables h)) (place_of h d) ≡ x d) (variables h)
 at_place h x k d p =
     let place : place_of h (get_or (variables h) k d) ≡ k =

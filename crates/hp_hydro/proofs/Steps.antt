@@ -21,7 +21,7 @@ flat_stepped {B} f n front old new is before =
     ap (flat_map f) (steps_more n) ∙ flat_map-append f (steps n) (suc n ∷ []) ∙ ap (λ (l : List B). flat_map f (steps n) ++ l) (append-nil (f (suc n))) in
     is ∙ ap (λ (l : List B). l ++ f (suc n)) before ∙ append_assoc front (flat_map f (steps n)) (f (suc n)) ∙ ap (λ (l : List B). front ++ l) (sym more)
 
--- what each of two lists gives, seen one after the other
+-- the items of two lists, seen one after the other
 pub map_parts : {A B C D : Type 0} (seen : C → D) (f : A → C) (g : B → C) (xs : List A) (ys : List B) → map seen (map f xs ++ map g ys) ≡ map (λ x. seen (f x)) xs ++ map (λ y. seen (g y)) ys
 map_parts seen f g [] [] = refl
 map_parts seen f g [] (y ∷ ys) = ap (λ l. seen (g y) ∷ l) (map_parts seen f g [] ys)
@@ -31,7 +31,7 @@ one_each : {A B : Type 0} (f : A → B) (xs : List A) → flat_map (λ x. f x �
 one_each f [] = refl
 one_each f (x ∷ xs) = ap (λ l. f x ∷ l) (one_each f xs)
 
--- the same, where each gives a list of one
+-- like map_parts, where each gives a list of one
 pub single_parts : {A B C D : Type 0} (seen : C → D) (f : A → C) (g : B → C) (xs : List A) (ys : List B) → map seen (map f xs ++ map g ys) ≡ map seen (flat_map (λ x. f x ∷ []) xs) ++ map seen (flat_map (λ y. g y ∷ []) ys)
 single_parts {A} {B} {C} seen f g xs ys =
     map-append seen (map f xs) (map g ys) ∙ ap₂ (λ (a b : List C). map seen a ++ map seen b) (sym (one_each f xs)) (sym (one_each g ys))

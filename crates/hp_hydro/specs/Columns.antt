@@ -1,4 +1,4 @@
--- The variables that the text of a stage has: states before and after it, what is not known before it, and what is decided in it. Their names, and the names of states.
+-- The variables of a stage's text: states before and after the stage, random variables and decisions. Their names, and the names of states.
 use Rattle.std.specs.Prelude.{ℕ, List, [], ◌∷◌, ◌++◌, map, codes}
 use Rattle.std.specs.List.{flat_map}
 use Rattle.hp_forms.specs.Listed.{digit}
@@ -6,11 +6,11 @@ use Rattle.hp_plants.specs.declared.plants.Plants.{Plants}
 use Rattle.hp_hydro.specs.Layout.{Store, volume_of, way_of, Variable, after, turbine_of, spill_of, thermal_of, line_of, deficit_of, Chance, inflow_of, demand_of, reservoir, thermal, line, bus, travel, all_reservoirs, all_thermals, all_lines, all_buses, steps}
 
 pub data Column : Type 0 where
-  -- what a state is before the stage
+  -- a state before the stage
   before : Store → Column
-  -- what is not known before the stage
+  -- a random variable
   random : Chance → Column
-  -- what is decided in the stage
+  -- a decision of the stage
   decided : Variable → Column
 
 abbrev pub way_columns : ℕ → ℕ → List Column
@@ -31,7 +31,7 @@ columns h =
 
 -- ---- names
 
--- what belongs to a plant or a bus: letters, a colon and its name
+-- the name of a quantity of a plant or a bus: letters, a colon and the name of the plant or the bus
 unfoldable pub named : List ℕ → List ℕ → List ℕ
 named letters name = letters ++ 58 ∷ name
 

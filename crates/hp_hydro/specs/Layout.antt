@@ -92,9 +92,9 @@ store_initial h (way_of j k) = pos 0
 -- ---- decisions
 
 pub data Variable : Type 0 where
-  -- what a state is after the stage
+  -- a state after the stage
   after : Store → Variable
-  -- what goes through the turbine of reservoir j, and past it
+  -- the water through the turbine of reservoir j, and past it
   turbine_of : ℕ → Variable
   spill_of : ℕ → Variable
   -- the energy of thermal i, on line l, and missing at bus b

@@ -7,7 +7,7 @@ use Rattle.hp_hydro.specs.declared.rows.Part.{Part}
 use Rattle.hp_hydro.specs.declared.rows.Part.TheVariants as part
 use Rattle.hp_hydro.specs.Stage.{Sum, coming, turbined_at, burned_at, arriving_at, leaving_at, thermal_cost, deficit_cost}
 
--- how many plants there are of the kind
+-- the number of plants of the kind
 abbrev pub count_of : Plants → Part → ℕ
 count_of h (part.Coming j) = length h.reservoirs
 count_of h (part.Turbined b) = length h.reservoirs
@@ -17,7 +17,7 @@ count_of h (part.Leaving b) = length h.lines
 count_of h part.ThermalCost = length h.thermals
 count_of h part.DeficitCost = length h.buses
 
--- what stands for plant i
+-- the terms of plant i
 abbrev pub sum_at : Plants → Part → ℕ → Sum
 sum_at h (part.Coming j) i = coming h j i
 sum_at h (part.Turbined b) i = turbined_at h b i
@@ -27,6 +27,6 @@ sum_at h (part.Leaving b) i = leaving_at h b i
 sum_at h part.ThermalCost i = thermal_cost h i ∷ []
 sum_at h part.DeficitCost i = deficit_cost h i ∷ []
 
--- what stands for all of them
+-- the terms of all of them
 abbrev pub part_sum : Plants → Part → Sum
 part_sum h p = flat_map (sum_at h p) (numbers (count_of h p))

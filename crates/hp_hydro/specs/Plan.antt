@@ -6,7 +6,8 @@ use Rattle.hp_plants.specs.declared.plants.Stage.{Stage}
 use Rattle.hp_plants.specs.declared.plants.Plants.{Plants}
 use Rattle.hp_hydro.specs.Layout.{reservoir, thermal, line, travel, leads, all_reservoirs, all_thermals, all_lines, greatest_deficit}
 
--- what is chosen for one inflow of a stage, in units of 1/N: by the numbers of reservoirs, thermals, lines and buses. Beyond these numbers it means nothing.
+-- the decisions for one inflow of a stage, in units of 1/N: by the numbers of reservoirs, thermals, lines and buses. Beyond these numbers
+-- they mean nothing.
 pub record Choice : Type 0 where
   pub turbine : ℕ → ℤ
   pub spill : ℕ → ℤ
@@ -37,15 +38,15 @@ moment i c = record { water = i.water; choice = c }
 abbrev pub Past : Type 0
 Past = List Moment
 
--- what leaves reservoir j
+-- the water that leaves reservoir j
 abbrev pub released : ℕ → Moment → ℤ
 released j m = m.choice.turbine j +ℤ m.choice.spill j
 
--- what reservoir j gains by its inflow, less what leaves it
+-- the inflow of reservoir j, less the water that leaves it
 abbrev pub gained : ℕ → ℕ → Moment → ℤ
 gained units j m = pos units *ℤ entry m.water j -ℤ released j m
 
--- what came from reservoir i: all that left it at least as many stages ago as it travels
+-- the water that came from reservoir i: all that left it at least as many stages ago as it travels
 abbrev pub arrived : Plants → ℕ → Past → ℤ
 arrived h i past = total (released i) (drop (travel h i) past)
 
@@ -53,7 +54,7 @@ arrived h i past = total (released i) (drop (travel h i) past)
 abbrev pub volume : Plants → ℕ → Past → ℕ → ℤ
 volume h units past j = pos units *ℤ (reservoir h j).initial +ℤ total (gained units j) past +ℤ total (λ i. leads h i j *ℤ arrived h i past) (all_reservoirs h)
 
--- what is made of energy at bus b
+-- the energy that is made at bus b
 abbrev pub served : Plants → Choice → ℕ → ℤ
 served h c b =
     total (λ j. same_place (reservoir h j).bus b *ℤ (reservoir h j).factor *ℤ c.turbine j) (all_reservoirs h)

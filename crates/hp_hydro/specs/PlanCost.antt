@@ -23,7 +23,7 @@ abbrev mutual
   branches_cost h units stages [] (choose c l p) = nothing
   branches_cost h units stages (i ∷ is) (choose c l p) = plus (times i.weight (plus (choice_cost h units c) (later_cost h units stages l))) (branches_cost h units stages is p)
 
-  -- that sum over the total of the weights
+  -- the sum over the total of the weights
   pub later_cost : Plants → ℕ → List Stage → Later → Fraction
   later_cost h units stages the_end = nothing
   later_cost h units [] (later p) = nothing

@@ -20,7 +20,7 @@ plus c = (pos 1, c)
 abbrev pub minus : Column → ℤ × Column
 minus c = (negsuc 0, c)
 
--- what comes from reservoir i to reservoir j: what leaves it where that is there at once, else what arrives with this stage
+-- the water that comes from reservoir i to reservoir j: all that leaves i where it is there at once, else all that arrives with this stage
 abbrev pub coming_by : ℕ → Option Travel → ℕ → Sum
 coming_by i None j = []
 coming_by i (Some t) j =
@@ -35,7 +35,8 @@ water_sum h j =
     plus (decided (after (volume_of j))) ∷ plus (decided (turbine_of j)) ∷ plus (decided (spill_of j)) ∷ minus (before (volume_of j)) ∷ minus (random (inflow_of j)) ∷ []
     ++ flat_map (coming h j) (all_reservoirs h)
 
--- what the water of reservoir j that is k stages away after a stage was before it: k + 1 stages away, or still in the reservoir where it travels for k stages
+-- the source of the water of reservoir j that is k stages away after a stage: the water that was k + 1 stages away, or where it travels for
+-- k stages the water that leaves the reservoir now
 abbrev pub way_source : Plants → ℕ → ℕ → Sum
 way_source h j k = if nat_lt k (travel h j) then minus (before (way_of j (suc k))) ∷ [] else minus (decided (turbine_of j)) ∷ minus (decided (spill_of j)) ∷ []
 
@@ -88,7 +89,7 @@ unfoldable pub rows : Plants → List Data
 rows h =
     map (λ j. zero_row h (water_sum h j)) (all_reservoirs h) ++ flat_map (way_rows h) (all_reservoirs h) ++ map (λ b. zero_row h (bus_sum h b)) (all_buses h)
 
--- what is not known before the stage has no bounds
+-- random variables have no bounds
 unfoldable pub bounds_of : Plants → Column → List Data
 bounds_of h (before s) = bound (before_name h s) (store_low h s) (store_high h s) ∷ []
 bounds_of h (random c) = []

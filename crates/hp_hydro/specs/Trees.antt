@@ -8,7 +8,7 @@ use Rattle.hp_plants.specs.declared.plants.Plants.{Plants}
 use Rattle.hp_hydro.specs.Layout.{Store, volume_of, way_of, Variable, after, turbine_of, spill_of, thermal_of, line_of, deficit_of, travel, stores, variables, place_of}
 use Rattle.hp_hydro.specs.Plan.{Choice, Plan, no_plan, choose, Later, the_end, later, Moment, moment, Past, released, volume}
 
--- what left reservoir j n stages before the last one of the past, 0 before the first
+-- the water that left reservoir j n stages before the last one of the past, 0 before the first
 abbrev pub left_ago : ℕ → ℕ → Past → ℤ
 left_ago j n [] = pos 0
 left_ago j zero (m ∷ past) = released j m

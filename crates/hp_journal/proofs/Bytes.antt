@@ -84,7 +84,7 @@ written_same bytes at d x below is =
 pub written_last : (bytes : List ℕ) (at x : ℕ) → length bytes ≤ at + 1 → written bytes at (x ∷ []) ≡ take at bytes ++ x ∷ []
 written_last bytes at x short = append_assoc (take at bytes) (x ∷ []) (drop (at + 1) bytes) ∙ ap (λ (l : List ℕ). take at bytes ++ x ∷ l) (drop_all (at + 1) bytes short)
 
--- what is cut off behind a written byte
+-- a cut behind a written byte
 pub cut_behind : (bytes : List ℕ) (at x : ℕ) → at < length bytes → take (at + 1) (written bytes at (x ∷ [])) ≡ take at bytes ++ x ∷ []
 cut_behind bytes at x below =
     take_at (take at bytes ++ x ∷ []) (drop (at + 1) bytes) (at + 1) (omega (arith, length_front bytes at (omega (arith, below)), length-append (take at bytes) (x ∷ [])))

@@ -120,7 +120,7 @@ module _ (old new : Store) (bytes : List ℕ) (lawful : Lawful old) (quiet : Qui
   rest_off mid t payloads j run maps moment place grows =
       cuts old (GrownFrom t payloads j) mid new (written bytes at (0 ∷ [])) (at + 1) run (mapped old.reads mid.reads (λ b. written b at (0 ∷ [])) bytes is maps) moment (rest_cut t payloads j at bytes place grows)
 
--- what a repair leaves of a disk, whether it tells its bytes or not
+-- a crash while a disk is repaired, whether it tells its bytes or not
 module _ (old mid new : Store) (lawful : Lawful old) (quiet : Quiet old) (at : ℕ) where
   pub gate_read_leaves : Stays old mid → LeavesGrown at old mid
   gate_read_leaves same = told old.reads (λ bytes is t payloads j place grows. gate_read old old bytes lawful quiet is at mid same t payloads j grows)
@@ -135,7 +135,7 @@ module _ (old mid new : Store) (lawful : Lawful old) (quiet : Quiet old) (at : �
       let run = known (λ b. (t : Title) (payloads : List (List ℕ)) (j : ℕ) → at ≡ length (front t (take j payloads)) → Grown t payloads j b → LeavesOnly old mid (GrownFrom t payloads j)) old.reads bytes is shuts t payloads j place grows in
       rest_off old new bytes lawful quiet is at mid t payloads j run maps moment place grows)
 
--- what an appended record leaves
+-- a crash while a record is appended
 abbrev pub LeavesAppended : ℕ → List ℕ → Store → Store → Type 0
 LeavesAppended at body old new = IfSome old.reads (λ bytes. (t : Title) (payloads : List (List ℕ)) (j : ℕ) → j < length payloads → bytes ≡ journal t (take j payloads) 0 [] → body ≡ body_of (get_or payloads j []) → LeavesOnly old new (GrownFrom t payloads j))
 

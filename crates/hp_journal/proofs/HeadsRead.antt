@@ -11,7 +11,7 @@ use Rattle.hp_journal.specs.Mine.{Unborn, short, zero_byte, half_born}
 use Rattle.hp_journal.proofs.Bytes.{piece_of_front, byte_behind}
 use Rattle.hp_journal.proofs.Newborn.{shared_length}
 
--- what a head says whose parts are these
+-- the head with these parts
 module _ (b digest : List ℕ) (len seed : ℕ) where
   read_one : byte_at b 0 ≡ 1 → has_magic b ≡ true → version_of b ≡ 1 → digest_of b ≡ digest → seed_of b ≡ seed → 52 ≤ len → head_at b len ≡ Ok (heads.Born 1 digest seed 1)
   unfolding head_at is_unborn title_at

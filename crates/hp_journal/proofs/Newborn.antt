@@ -198,7 +198,7 @@ head_exact digest seed (Some b) is = omega (arith, length-append (shared_title 2
     two : (n : ℕ) → length (to_be_bytes w16 n) ≡ 2
     two n = refl
 
--- what each call leaves of a disk, whether it tells its bytes or not
+-- a crash at each call on a disk, whether it tells its bytes or not
 module _ (old mid new : Store) (lawful : Lawful old) (quiet : Quiet old) where
   pub mark_read_leaves : Stays old mid → LeavesMine old mid
   mark_read_leaves same = told old.reads (λ bytes is t payloads long mine. mark_read t payloads long old old bytes lawful quiet is mine mid same)

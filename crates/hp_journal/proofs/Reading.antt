@@ -48,7 +48,7 @@ head_read bytes front len is holds =
     min_comm : (a b : ℕ) → min a b ≡ min b a
     min_comm a b = omega arith
 
--- what is read over a disk, whether it tells its bytes or not; X is the other cause of an answer
+-- readings over a disk, whether it tells its bytes or not; X is the other cause of an answer
 module _ (reads : Option (List ℕ)) (at len : ℕ) (size : IfSome reads (λ b. len ≡ length b)) where
   size_of : (b : List ℕ) → reads ≡ Some b → len ≡ length b
   size_of b is = known (λ b. len ≡ length b) reads b is size

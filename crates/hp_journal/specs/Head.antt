@@ -34,7 +34,7 @@ is_whole_head bytes len = (len == 52 && has_magic bytes && version_of bytes == 1
 unfoldable pub is_unborn : List ℕ → ℕ → Bool
 is_unborn bytes len = nat_le len 1 || (byte_at bytes 0 == 0 && nat_le len 54) || (not (byte_at bytes 0 == 0) && not (byte_at bytes 0 == 1) && is_whole_head bytes len)
 
--- what a head with the magic and a birth byte of 1 says
+-- the head, given its magic and a birth byte of 1
 unfoldable pub title_at : List ℕ → ℕ → Result Head HeadFault
 title_at bytes len =
     if version_of bytes == 1 then Ok (Born 1 (digest_of bytes) (seed_of bytes) 1)

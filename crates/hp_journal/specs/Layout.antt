@@ -6,7 +6,7 @@ use Rattle.std.specs.Int.{w16, w32, w64, to_be_bytes}
 abbrev pub magic : List ℕ
 magic = 72 ∷ 89 ∷ 68 ∷ 80 ∷ 76 ∷ 65 ∷ 78 ∷ 49 ∷ []
 
--- what a journal says of itself: its version, the SHA-256 of its problem, its seed, and how many paths an iteration has
+-- the title of a journal: its version, the SHA-256 of its problem, its seed, and how many paths an iteration has
 pub record Title : Type 0 where
   pub version : ℕ
   pub digest : List ℕ
@@ -19,7 +19,7 @@ pub record IsTitle (t : Title) : Type 0 where
   pub seed : t.seed < 2 ^ 64
   pub version : ((t.version ≡ 1) × (t.batch ≡ 1)) ⊎ ((t.version ≡ 2) × (1 ≤ t.batch) × (t.batch ≤ 64))
 
--- what each version has behind the birth byte
+-- the bytes that each version has behind the birth byte
 abbrev pub shared_title : ℕ → List ℕ → ℕ → List ℕ
 shared_title version digest seed = magic ++ to_be_bytes w16 version ++ digest ++ to_be_bytes w64 seed
 
@@ -36,11 +36,11 @@ unfoldable pub records : List (List ℕ) → List ℕ
 records [] = []
 records (p ∷ ps) = 1 ∷ to_be_bytes w32 (length p) ++ p ++ records ps
 
--- what stands behind a gate that is opened: the payload's length, the payload, and the next gate, shut
+-- the bytes behind a gate that is opened: the payload's length, the payload, and the next gate, shut
 unfoldable pub body_of : List ℕ → List ℕ
 body_of p = to_be_bytes w32 (length p) ++ p ++ 0 ∷ []
 
--- what stands before the gate that follows these records
+-- the bytes before the gate that follows these records
 abbrev pub front : Title → List (List ℕ) → List ℕ
 front t ps = 1 ∷ title_bytes t ++ records ps
 

@@ -28,7 +28,7 @@ accepted_step p k pools new s e = unless_ok k s.node (fault_of_step p pools s) (
 abbrev pub Known : Sealed → EntryStep → Type 0
 Known p s = s.node < length p.raw.nodes
 
--- what each accepted step keeps, all keep
+-- a property that each accepted step keeps is kept by all
 module _ (p : Sealed) (P : List (List Cut) → Type 0) (more : (pools : List (List Cut)) (s : EntryStep) → Known p s → fault_of_step p pools s ≡ None → P pools → P (push pools s.node (cut_of_step p pools s))) where
   pub step_keeps : (k : ℕ) (pools new : List (List Cut)) (s : EntryStep) → Known p s → P pools → step_added p k pools s ≡ Ok new → P new
   step_keeps k pools new s known has e = let a = accepted_step p k pools new s e in subst P a.1 (more pools s known a.0 has)

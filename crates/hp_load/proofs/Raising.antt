@@ -99,7 +99,7 @@ left_there k v ms xs i before after below other so_far turn =
     let next : suc i ≡ i + 1 = omega arith in
     turn ∙ so_far ∙ leave_here k v ms xs i below other ∙ ap (λ (n : ℕ). raised k v (take n ms) xs) next
 
--- what is read of the values
+-- the values that are read
 
 value_reach : (x : List ℤ) (c : Cut) → Reaches x c → magnitude (value_of_cut c x) ≤ℤ pos (2 ^ 104)
 value_reach x c r = omega (arith, ints, r.small, size_dot c.beta x)

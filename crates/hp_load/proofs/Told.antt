@@ -18,7 +18,7 @@ use Rattle.hp_load.specs.Refusals.{of_gate, of_payload, of_entries, with_fault, 
 use Rattle.hp_load.specs.Records.{Found, rest_behind, rest_at, entries_at, record_added, record_at}
 use Rattle.hp_load.proofs.Binding.{bind_on, fails_on, fails_as}
 
--- what is told of the same bytes
+-- a property of the bytes that are told holds of the same bytes
 pub same_bytes : (P : List ℕ → Type 0) (r s : Option (List ℕ)) → s ≡ r → IfSome s P → IfSome r P
 same_bytes P r s same has = subst (λ o. IfSome o P) same has
 

@@ -17,14 +17,14 @@ pub record IsRecord (p : Sealed) (entries : List Entry) : Type 0 where
   pub few : length entries ≤ 64
   pub paths : AllByRecursion (λ (e : Entry). IsPathFromRoot p (nodes_back e.steps)) entries
 
--- At most 2,000 such lists, of which all steps are accepted one after the other over the base cuts, each with its cut appended; and
--- what they give.
+-- At most 2,000 such lists, of which all steps are accepted one after the other over the base cuts, each with its cut appended; and their
+-- findings.
 pub record Accepted (p : Sealed) (base : List (List Cut)) (lists : List (List Entry)) (found : Found) : Type 0 where
   pub few : length lists ≤ 2000
   pub records : AllByRecursion (IsRecord p) lists
   pub added : lists_added p (fresh base) lists ≡ Ok found
 
--- what records have given over base cuts, with so many paths to a record, after i of them
+-- the findings of records over base cuts, with so many paths to a record, after i of them
 pub record IsSound (p : Sealed) (batch i : ℕ) (found : Found) : Type 0 where
   -- each cut holds at its node
   pub sound : Sound (problem_of p) found.pools
@@ -37,7 +37,7 @@ pub record IsSound (p : Sealed) (batch i : ℕ) (found : Found) : Type 0 where
   pub cuts : (m : ℕ) → length (pool found.pools m) ≤ 1 + i * batch
   pub unsettled : found.unsettled ≤ i * 2 ^ 38
 
--- what holds of everything that is loaded, over any disk
+-- the properties of everything that is loaded, over any disk
 pub record IsSafe (p : Sealed) (l : Loaded) : Type 0 where
   -- each cut holds at its node
   pub sound : Sound (problem_of p) l.pools.lists

@@ -16,7 +16,7 @@ use Rattle.hp_load.specs.declared.loaded.Loaded.{Loaded}
 use Rattle.hp_load.specs.Refusals.{of_head, with_fault, Fails}
 use Rattle.hp_load.specs.Records.{Found, fresh, Ended, IsKept, records_at}
 
--- what loading gives
+-- the outcome of loading
 pub record Outcome : Type 0 where
   pub pools : List (List Cut)
   pub bounds : List ℤ
@@ -60,13 +60,13 @@ born version batch e = record { pools = e.found.pools; bounds = e.found.bounds; 
 abbrev pub first_gate : ℕ → ℕ
 first_gate version = head_length version - 1
 
--- what a born journal of this version and batch gives over the base cuts
+-- the outcome of a born journal of this version and batch over the base cuts
 unfoldable pub load_records : Sealed → List (List Cut) → List ℕ → ℕ → ℕ → Result (Outcome × List (List Entry)) LoadFault
 load_records p base bytes version batch = do
   ended ← records_at p batch bytes 2000 (first_gate version) (fresh base) []
   Ok (born version batch ended, ended.lists)
 
--- what a journal with this head gives
+-- the outcome of a journal with this head
 unfoldable pub load_from : Sealed → List (List Cut) → List ℕ → Option ℕ → Option ℕ → List ℕ → Head → Result (Outcome × List (List Entry)) LoadFault
 load_from p base digest seed batch bytes (Unborn length) = Ok (unborn base batch, [])
 load_from p base digest seed batch bytes (Born version kept own paths) = do
@@ -85,14 +85,14 @@ abbrev pub outcome_of : Result (Outcome × List (List Entry)) LoadFault → Resu
 outcome_of (Ok x) = Ok x.0
 outcome_of (Err e) = Err e
 
--- what was loaded, as an outcome
+-- the loaded journal, as an outcome
 abbrev pub seen : Loaded → Outcome
 seen l = record { pools = l.pools.lists; bounds = l.bounds; unsettled = l.unsettled; born = l.born; end = l.end; rest = l.rest; version = l.version; batch = l.batch }
 
 abbrev pub found_in : Loaded → Found
 found_in l = record { pools = l.pools.lists; bounds = l.bounds; unsettled = l.unsettled }
 
--- what code answers, with the entries as far as they are kept
+-- code answers as the definition does, with the entries as far as they are kept
 abbrev pub LoadsAs : Option (List (List Entry)) → Result Loaded LoadFault → Result (Outcome × List (List Entry)) LoadFault → Type 0
 LoadsAs kept (Ok l) load = (lists : List (List Entry)) × IsKept kept lists × (load ≡ Ok (seen l, lists))
 LoadsAs kept (Err e) load = Fails e load

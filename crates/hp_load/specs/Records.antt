@@ -21,7 +21,7 @@ use Rattle.hp_load.specs.declared.records.End.{End}
 use Rattle.hp_load.specs.Refusals.{of_gate, of_payload, of_entries, with_fault, within, Fails}
 use Rattle.hp_load.specs.Cuts.{entries_added}
 
--- what records have given
+-- the findings of records
 pub record Found : Type 0 where
   pub pools : List (List Cut)
   -- the bound after each record

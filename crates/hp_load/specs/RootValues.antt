@@ -13,7 +13,7 @@ root_values p pools = map (λ (m : ℕ). value pools m (initial_values p.raw)) p
 abbrev pub raised_one : ℕ → ℤ → ℕ → ℤ → ℤ
 raised_one k v m x = if nat_eq m k then int_max x v else x
 
--- the same of the values of some nodes
+-- the values of some nodes, raised in the same way
 abbrev pub raised : ℕ → ℤ → List ℕ → List ℤ → List ℤ
 raised k v [] xs = xs
 raised k v (m ∷ ms) [] = []

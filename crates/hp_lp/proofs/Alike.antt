@@ -27,7 +27,7 @@ use Rattle.hp_lp.specs.Nodes.{Stands, stage_in, idle_column, quarters, reference
 use Rattle.hp_lp.proofs.ProperStages.{HasBox, box-decisions, sides-own, terms-own, proper-stage_of}
 use Rattle.hp_lp.proofs.SealedStages.{boxed}
 
--- what follows for what is there
+-- a property that follows for the value of a result
 pub if_ok : {A E : Type 0} (r : Result A E) (P Q : A → Type 0) → ((x : A) → P x → Q x) → IfOk r P → IfOk r Q
 if_ok (Ok x) P Q f h = f x h
 if_ok (Err e) P Q f h = h
@@ -175,7 +175,7 @@ pub own-stage_of : (pools : List (List Cut)) (n : Node) (s : Subproblem) (v x : 
 unfolding stage_of
 own-stage_of pools n s v x old e = ap (λ (lp : Program). lp.own) e
 
--- the same of a node by its number
+-- the parts of a node, by its number
 record There (p : Sealed) (m : ℕ) : Type 0 where
   pub node : Node
   pub subproblem : Subproblem

@@ -17,14 +17,14 @@ summed a v z r k f e h is small s = (
   range_more v z r (k + 1) (2 ^ 104) h small s,
 )
 
--- the same over a list, from 0 on
+-- the sum over a list, from 0 on
 pub totalled : {A : Type 0} (f : A → ℤ) (xs : List A) (i m : ℕ) (d : A) (v z r : ℤ) → i < length xs → v ≡ total f (take i xs) → nat_abs v ≤ i * m → z ≡ f (get_or xs i d) → nat_abs z ≤ m → r ≡ v +ℤ z → (r ≡ total f (take (i + 1) xs)) × (nat_abs r ≤ (i + 1) * m)
 totalled f xs i m d v z r inside e h is small s = (
   s ∙ ap (λ (x : ℤ). x +ℤ z) e ∙ ap (λ (x : ℤ). total f (take i xs) +ℤ x) is ∙ sym (total_more f xs i d inside),
   range_more v z r i m h small s,
 )
 
--- what a function makes of one element more, behind some others
+-- one item more of a list that a function makes
 pub map_more : {A B : Type 0} (f : A → B) (xs : List A) (i : ℕ) (d : A) (before old new : List B) (x : B) → i < length xs → old ≡ before ++ map f (take i xs) → x ≡ f (get_or xs i d) → new ≡ old ++ x ∷ [] → new ≡ before ++ map f (take (i + 1) xs)
 map_more f xs i d before old new x h e is n =
     n ∙ ap (λ (ys : List _). ys ++ x ∷ []) e ∙ append_assoc before (map f (take i xs)) (x ∷ [])

@@ -76,7 +76,7 @@ absent o (p ∷ os) (b ∷ bs) e =
     nothing : (b : ℤ) → b *ℤ pos 0 +ℤ pos 0 ≡ pos 0
     nothing b = omega (arith, ints)
 
--- what stands at a decision is the slope of its state
+-- the coefficient of a decision is the slope of its state
 slope_at : (k : ℕ) (os : List ℕ) (bs : List ℤ) (j : ℕ) → are_distinct (λ (a b : ℕ). a == b) os ≡ true → coefficient (placed os bs) j ≡ slope_from k bs (state_from k os j)
 unfolding are_distinct
 slope_at k [] bs j e = refl

@@ -42,7 +42,7 @@ module _ (s : Subproblem) (boxes : List OutBox) (e : boxes ≡ out_boxes s) wher
   most_same best (c ∷ cs) =
       ap (λ (z : ℤ). most_over boxes (int_max best z) cs) (greatest_same c) ∙ most_same (int_max best (greatest_value s c)) cs
 
-  -- what pools keep
+  -- the peaks that pools keep
   pub peak_same : (cs : List Cut) → peak_over boxes cs ≡ peak_of s cs
   peak_same cs =
       ap (λ (z : ℤ). most_over boxes z cs) (greatest_same (get_or cs 0 no_cut)) ∙ most_same (greatest_value s (get_or cs 0 no_cut)) cs

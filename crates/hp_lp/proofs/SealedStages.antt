@@ -236,7 +236,7 @@ module _ (p : Sealed) (e : is_sealed p ≡ true) (m : ℕ) (h : m < length p.raw
         over_randoms = subst (λ (c : ℕ). terms_fit c 0 row.randoms ≡ true) (sym v) (grind (arith, common_steps, fits));
       }
 
--- what the own rows of a node need, at values and a state
+-- the premises on the own rows of a node, at values and a state
 pub of-sealed : {p : Sealed} {m : ℕ} {n : nodes.Node} {s : Subproblem} (values state : List ℤ) → Stands p m n s → are_values (subproblem_of p m) values ≡ true → InBox S (node_at (problem_of p) m).low (node_at (problem_of p) m).high state → AreOf s values state
 of-sealed {p} {m} {n} {s} values state t v x =
     let b = boxed t in
@@ -247,11 +247,11 @@ of-sealed {p} {m} {n} {s} values state t v x =
       over = over-sealed p t.sealed m t.known n s b.low b.high b.fit values state (numbers_counted values (length s.randoms) numbers) (box.count ∙ numbers_counted b.low (length p.raw.states) b.fit.lows);
     }
 
--- what its columns and the cuts need
+-- the premises on its columns and on the cuts
 pub within-fit : {p : Sealed} {m : ℕ} {n : nodes.Node} {s : Subproblem} (pools : List (List Cut)) → Stands p m n s → Fit (problem_of p) (length p.raw.nodes) pools → AreWithin pools n s
 within-fit {p} {m} {n} {s} pools t f = let b = boxed t in within-sealed p t.sealed m t.known n s b.low b.high b.fit pools f
 
--- what its reference program needs
+-- the premises on its reference program
 quarter_small : (l u : ℤ) → nat_abs l ≤ 2 ^ 40 → nat_abs u ≤ 2 ^ 40 → nat_abs (quarter (l, u)) ≤ 2 ^ 64
 quarter_small l u a b = omega (arith, ints, a, b)
 

@@ -33,7 +33,7 @@ packed-cut_rows s pools ms outs first cuts differ is here e =
     ∙ packed-over (outs_in_order s) pools (length s.decisions) ms
     ∙ rows-cut_rows s pools (length s.decisions) ms differ
 
--- what is known of the cuts that were found
+-- a fact about the cuts that were found
 pub found-cuts : (pools : List (List Cut)) (lent ms : List ℕ) (found : Option (List (List PackedCut))) (cuts : List (List PackedCut)) → lent ≡ ms → found ≡ Some cuts → IfSome found (λ (css : List (List PackedCut)). css ≡ map (λ (m : ℕ). map packed_cut (pool pools m)) lent) → cuts ≡ map (λ (m : ℕ). map packed_cut (pool pools m)) ms
 found-cuts pools lent ms found cuts e is h =
     subst (λ (o : Option (List (List PackedCut))). IfSome o (λ (css : List (List PackedCut)). css ≡ map (λ (m : ℕ). map packed_cut (pool pools m)) lent)) is h

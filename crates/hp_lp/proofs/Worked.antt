@@ -38,7 +38,7 @@ leaf_stage : stage_of [] leaf reservoir (pos 1 ∷ []) (pos 67108864 ∷ []) ≡
 unfolding stage_of
 leaf_stage = refl
 
--- the same stage before a successor with the cuts 0 and 35 - 5v, whose weight is 3 beside a stop weight of 1
+-- this stage before a successor with the cuts 0 and 35 - 5v, whose weight is 3 beside a stop weight of 1
 abbrev before : Node
 before = record { name = []; sub = 0; weights = 1 ∷ []; values = (pos 1 ∷ []) ∷ []; links = 0 ∷ []; link_weights = 3 ∷ []; stop = 1 }
 

@@ -17,7 +17,7 @@ pub record Solving (Start Chain : Type 0) : Type 0 where
 abbrev pub solving : {Start Chain : Type 0} → (Program → Start) → (Start → Program → Chain) → (Chain → Program → Answer × Chain) → Solving Start Chain
 solving started begun next = record { started = started; begun = begun; next = next }
 
--- what is solved at a number that is no node
+-- the program at a number that is no node
 abbrev pub no_program : Program
 no_program = record { columns = []; rows = []; decisions = 0; own = 0 }
 
@@ -29,7 +29,7 @@ program_of (Some lp) = lp
 abbrev pub stage_at : Sealed → List (List Cut) → ℕ → List ℤ → List ℤ → Program
 stage_at p pools m values state = program_of (stage_in p pools m values state)
 
--- what a chain of the node m holds before its first program
+-- the state of a chain of the node m before its first program
 abbrev pub begun_at : {Start Chain : Type 0} → Solving Start Chain → Sealed → ℕ → Program → Chain
 begun_at v p m lp = v.begun (v.started (program_of (reference_in p m))) lp
 

@@ -40,7 +40,7 @@ pub record AreWithin (pools : List (List Cut)) (n : Node) (s : Subproblem) : Typ
   pub some : All (λ m. 0 < length (pool pools m)) n.links
   pub spans : All (λ m. All (Spans s) (pool pools m)) n.links
 
--- what the reference program of a node in this box is made of, within limits
+-- the parts of the reference program of a node in this box, within limits
 pub record HasReference (n : Node) (s : Subproblem) (low high : List ℤ) : Type 0 where
   pub some : 0 < length n.values
   pub decisions : length s.decisions ≤ 200

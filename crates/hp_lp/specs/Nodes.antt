@@ -18,7 +18,7 @@ pub record Stands (p : Sealed) (m : ℕ) (n : Node) (s : Subproblem) : Type 0 wh
   pub the_node : slice_get p.raw.nodes m ≡ Some n
   pub the_subproblem : subproblem_of p m ≡ Some s
 
--- what is made of the node m and its subproblem
+-- the program that is made of the node m and its subproblem
 abbrev pub at_node : Sealed → ℕ → (Node → Subproblem → Program) → Option Program
 at_node p m f = option_and_then (λ (n : Node). option_map (f n) (slice_get p.raw.subs n.sub)) (slice_get p.raw.nodes m)
 

@@ -5,7 +5,7 @@ use Rattle.hp_solver.specs.declared.programs.Program.{Program}
 use Rattle.hp_solver.specs.Proper.{Extends}
 use Rattle.hp_lp.specs.Nodes.{reference_in}
 
--- what is made by the reference program of the node m; a chain may begin from there with each program that extends it
+-- the start that the reference program of the node m makes; a chain may begin from there with each program that extends it
 pub record IsReady {Start : Type 0} (started : Program → Start) (suits : Start → Program → Type 0) (p : Sealed) (m : ℕ) (start : Start) : Type 0 where
   pub program : Program
   pub reference : reference_in p m ≡ Some program

@@ -39,7 +39,7 @@ root_average : (ks : List problems.Link) (cs : List Fraction) → 0 < sum (probl
 root_average [] cs h = absurd (omega arith)
 root_average (k ∷ ks) cs h = ap (over (weighted (problems.link_weights (k ∷ ks)) cs)) (omega arith)
 
--- what stands beside a member
+-- the member beside a member
 beside_at : {A B : Type 0} (P : A → B → Type 0) (xs : List A) (ys : List B) (x : A) (i : ℕ) → Pairs P xs ys → i < length xs → get_or xs i x ≡ x → (y : B) × Contains ys y × P x y
 beside_at P [] ys x i h l e = absurd (omega arith)
 beside_at P (a ∷ xs) [] x i h l e = absurd h

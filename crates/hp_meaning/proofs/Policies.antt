@@ -41,12 +41,12 @@ InBoxOf s units xi k = InBox units (node_at (problem_of s) k.node).low (node_at 
 abbrev pub InBoxesOf : Sealed → ℕ → List ℤ → List theory.Link → Type 0
 InBoxesOf s units xi ks = All (InBoxOf s units xi) ks
 
--- what is decided in its box leads into the boxes of the successors
+-- decisions in their boxes lead into the boxes of the successors
 pub boxes_after : (s : Sealed) (units : ℕ) (n : theory.Node) (u : List ℤ) → All (λ (l : theory.Link). Nested n (node_at (problem_of s) l.node)) n.links → InBox units n.decision_low n.decision_high u → InBoxesOf s units (next_state n u) n.links
 boxes_after s units n u nested b = λ k d q. in_next units n (node_at (problem_of s) (get_or n.links k d).node) u (nested k d q) b
 
 module _ (s : Sealed) (f : File) (says : (m : ℕ) (k : Name) → slice_get (node_names s) m ≡ Some k → NodeSays s f m k) where
-  -- what is said of the node that a link leads to
+  -- the statement about the node that a link leads to
   pub at_link : (l : Link) (k : theory.Link) → SameLink s l k → NodeSays s f k.node l.node
   at_link l k h = says k.node l.node h.node
 

@@ -16,7 +16,7 @@ use Rattle.hp_meaning.specs.Said.{Pairs, node_names, state_names, SameLink, Same
 use Rattle.hp_meaning.proofs.Reading.{read_sealed, read_raw}
 use Rattle.hp_meaning.proofs.Bounds as lemmas
 
--- what follows for a file from what is said of it
+-- a property of a file that follows from the statements about it
 follows : (P : File → Type 0) (bytes : List ℕ) (s : Sealed) → problem_at bytes ≡ Ok s → ((f : File) → is_sealed s ≡ true → FileSaid s.raw f → P f) → IsSomeAnd (file_at bytes) P
 follows P bytes s h go = by (file_at bytes) (file-says bytes s.raw (read_raw bytes s h))
   where

@@ -46,7 +46,7 @@ no_policy h = true≢false (sym (first_constraint 2 _ _ _ (numbers (pos 2) (pos 
 first_state : (units : ℕ) (st : Stage) (r : Realization) (x : Volumes) (y : Numbers) (t : State) (ts : List State) → st.states ≡ t ∷ ts → Satisfies units st r x y → x t.name ≡ Some (y t.before)
 first_state units st r x y t ts e h = (recursion_from_All (λ (t : State). x t.name ≡ Some (y t.before)) (t ∷ ts) (subst (All (λ (t : State). x t.name ≡ Some (y t.before))) e h.states)).0
 
--- the same numbers in whole units are another state
+-- these numbers in whole units are another state
 pub other_units : IsSomeAnd (file_at one_reservoir) (λ f. IsPolicy f 1 halves) → ⊥
 unfolding number_of value items members content lex punctuate word after_number scan_numeral file_at file_of node_of stage_of objective_of constraint_of function_of variable_of affine_of set_of one_reservoir halves numbers
 other_units h = absurd (four_not_eight (first_state 1 _ _ _ (numbers (pos 2) (pos 1) (pos 9) (pos 9)) _ _ refl h.0.0))

@@ -69,7 +69,7 @@ abbrev pub average : ℕ → List ℕ → List Fraction → Fraction
 average stop [] costs = nothing
 average stop (w ∷ ws) costs = over (weighted (w ∷ ws) costs) (stop + sum (w ∷ ws))
 
--- what branches cost together, over the total of their weights
+-- the cost of branches together, over the total of their weights
 abbrev pub mean : List Realization → Fraction → Fraction
 mean rs together = over together (sum (map (λ (r : Realization). r.weight) rs))
 

@@ -24,7 +24,7 @@ module _ (f : Frame) (q count : ℕ) (s t : Search) (all : Outcome) (there : q <
   pub row_left : (false, t) ≡ fixed f 3 q s → (false, t) ≡ all
   row_left e = subst (λ (o : Outcome). and_then o (all_fixed f (suc q) (count - suc q)) ≡ all) (sym e) opened
 
--- what is found where all rows are met
+-- the decisions that are found where all rows are met
 module _ (n : Node) (values x u found : List ℤ) (done : Bool) (s after : Search) (begun : s ≡ fresh u) (o : (done, after) ≡ all_fixed (frame_of n values x) 0 (length (frame_of n values x).rows) s) (is : found ≡ after.numbers) where
   pub found_searched : found ≡ searched n values x u
   found_searched = is ∙ ap (λ (k : Outcome). k.1.numbers) o ∙ ap (λ (k : Search). (all_fixed (frame_of n values x) 0 (length (frame_of n values x).rows) k).1.numbers) begun

@@ -14,7 +14,7 @@ use Rattle.hp_forward.proofs.Boxes.{boxes-sealed}
 use Rattle.hp_mend.specs.declared.search.Search.{Search}
 use Rattle.hp_mend.specs.Moves.{Frame, may_move, moved}
 
--- what stands in a box that is no point
+-- a number in a box that is no point
 pub record Allowed (low high number : ℤ) : Type 0 where
   pub room : int_lt low high ≡ true
   pub above : (pos S *ℤ low) ≤ℤ number

@@ -43,7 +43,7 @@ decided_same x y r e f = cc
 no_decided : (x : Decided) (d : Dead) (r : Result Decided Dead) → r ≡ Err d → r ≡ Ok x → ⊥
 no_decided x d r e f = cc
 
--- what leaves a node is the next state of what is decided
+-- the state that leaves a node is the next state of the decisions
 abbrev Leaves : Node → Decided → Type 0
 Leaves n d = d.next ≡ next_state n d.decisions
 
@@ -56,7 +56,7 @@ leaves_by p run m values x answer (judged.Dead ys) d e = absurd (no_decided d (r
 abbrev Inside : Node → Decided → Type 0
 Inside n d = InBox S n.decision_low n.decision_high d.decisions
 
--- what holds of mended decisions, and of those that were decided, holds of what mending gives
+-- a property of mended decisions, and of those before mending, holds of the result of mending
 either : (P : Decided → Type 0) (kind : Kind) (mended d : Decided) → P mended → P d → P (if_found kind mended d)
 either P kinds.Found mended d f g = f
 either P kinds.Ray mended d f g = g
@@ -69,7 +69,7 @@ module _ (n : Node) (values x : List ℤ) (d : Decided) where
   leaves_mend : Leaves n d → Leaves n (mend n values x d)
   leaves_mend h = either (Leaves n) d.kind (decided_as n d.kind d.unsettled (mended_of n values x d.decisions)) d refl h
 
--- what was decided before mending
+-- the decisions before mending
 record IsMended (n : Node) (values x : List ℤ) (first : Result Decided Dead) (d : Decided) : Type 0 where
   pub before : Decided
   pub here : first ≡ Ok before

@@ -24,11 +24,11 @@ if_found kinds.Found mended d = mended
 if_found kinds.Ray mended d = d
 if_found kinds.Stuck mended d = d
 
--- what was decided at values and a state, mended where a point was found
+-- the decisions at values and a state, mended where a point was found
 abbrev pub mend : Node → List ℤ → List ℤ → Decided → Decided
 mend n values state d = if_found d.kind (decided_as n d.kind d.unsettled (mended_of n values state d.decisions)) d
 
--- what is decided by the answer to the node's stage problem, mended; a refutation stays as it is
+-- the decisions by the answer to the node's stage problem, mended; a refutation stays as it is
 unfoldable pub decide_mended_of : {Start Chain : Type 0} → Solving Start Chain → Sealed → List (List Cut) → ℕ → ℕ → List ℤ → List ℤ → Result Decided Dead
 decide_mended_of v p pools run m values state =
     decide_of v p pools run m values state >>= λ d. Ok (mend (node_at (problem_of p) m) values state d)

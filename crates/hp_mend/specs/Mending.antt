@@ -12,7 +12,7 @@ use Rattle.hp_mend.specs.Fixing.{all_fixed}
 abbrev pub fresh : List ℤ → Search
 fresh u = record { numbers = u; held = replicate (length u) false; tries = 256 }
 
--- what the search comes to
+-- the decisions that the search finds
 abbrev pub searched : Node → List ℤ → List ℤ → List ℤ → List ℤ
 searched n values x u = (all_fixed (frame_of n values x) 0 (length (frame_of n values x).rows) (fresh u)).1.numbers
 

@@ -8,7 +8,7 @@ use Rattle.hp_forward.specs.Costing.{misses_of}
 use Rattle.hp_mend.specs.declared.search.Move.{Move}
 use Rattle.hp_mend.specs.declared.search.Search.{Search}
 
--- what is moved: the boxes and costs of the decisions, their terms in each row, and what decisions at scale S miss of a row
+-- the frame of moves: the boxes and costs of the decisions, their terms in each row, and the misses of rows by decisions at scale S
 pub record Frame : Type 0 where
   pub lows : List ℤ
   pub highs : List ℤ
@@ -76,7 +76,7 @@ moves_by f deep s i j v = if may_move f s j v then counting deep (move_of f s i 
 abbrev pub is_other : ℕ → ℕ → Bool
 is_other least most = not ((least == 0) || (least == most))
 
--- those of a term, where the row misses d: beyond, and short of it where that is another move
+-- the moves of a term, where the row misses d: beyond, and short of it where that is another move
 abbrev pub both_moves : Frame → Bool → Search → ℕ → ℤ → Term → List Move
 both_moves f deep s i d t =
     moves_by f deep s i t.0 (directed d t.1 (reaching d t.1))

@@ -22,7 +22,7 @@ pub record IsStage (s : Stage) : Type 0 where
   pub values : are_values (subproblem_of s.problem.now s.node) s.values.now ≡ true
   pub state : IsStateAt s.problem.now s.node s.state.now
 
--- what counts where there is no decision of a number
+-- the decision that counts where there is none of a number
 abbrev pub no_decision : Decision
 no_decision = record { name = []; low = pos 0; high = pos 0; cost = pos 0 }
 

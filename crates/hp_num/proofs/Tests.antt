@@ -37,7 +37,7 @@ pub all_map : {A B : Type 0} (f : A → B) (p : A → Bool) (q : B → Bool) →
 all_map f p q follows [] e = e
 all_map f p q follows (x ∷ xs) e = both (q (f x)) (list_all q (map f xs)) (follows x (and_first (p x) (list_all p xs) e)) (all_map f p q follows xs (and_second (p x) (list_all p xs) e))
 
--- what a test for absence says
+-- a test for absence that is true
 pub is_none-true : {A : Type 0} (o : Option A) → is_none o ≡ true → o ≡ None
 is_none-true None e = refl
 is_none-true (Some x) e = absurd (no e)
@@ -45,7 +45,7 @@ is_none-true (Some x) e = absurd (no e)
     no : false ≡ true → ⊥
     no h = cc
 
--- what stands at a number below the length
+-- the item at a number below the length
 pub some_of : {A : Type 0} (xs : List A) (i : ℕ) → i < length xs → (x : A) × (slice_get xs i ≡ Some x)
 some_of [] i h = absurd (omega arith)
 some_of (x ∷ xs) i h = (get_or (x ∷ xs) i x, slice_get-get_or (x ∷ xs) i x h)

@@ -29,7 +29,7 @@ longest : (g : List (List ℕ)) (v : ℕ → ℕ) → Solves g v → (n m : ℕ)
 longest g v s zero m l = omega arith
 longest g v s (suc n) m l = ap greatest (map_same (λ k. suc (longest_within g n k)) (λ k. suc (v k)) (links_at g m) (λ k c. ap suc (longest g v s n k (omega (arith, falls g v s m k c))))) ∙ sym (s m)
 
--- what each step lowers is lower at the end
+-- a number that each step lowers is lower at the end
 lower : (g : List (List ℕ)) (v : ℕ → ℕ) → Solves g v → (m : ℕ) (ks : List ℕ) (j : ℕ) → Path g m ks j → v j ≤ v m
 lower g v s m [] j w = subst (λ i. v i ≤ v m) w (omega arith)
 lower g v s m (k ∷ ks) j w = omega (arith, falls g v s m k w.0, lower g v s k ks j w.1)

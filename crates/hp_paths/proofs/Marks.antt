@@ -42,7 +42,7 @@ marks_come count found m l = marks_from count (found ++ m ∷ []) (set (marks_of
         by (inl e) = subst (λ j. get_or (set (marks_of count found) m true) j false ≡ true) (sym e.1) (get_or-set_same (marks_of count found) m true false long) ∙ sym (ap (λ b. is_member nat_eq found k || (b || false)) e.0 ∙ or-true (is_member nat_eq found k))
         by (inr e) = get_or-set_other (marks_of count found) m k true false e.1 ∙ marks_at count found k false lt ∙ sym (ap (λ b. is_member nat_eq found k || (b || false)) e.0 ∙ or-false (is_member nat_eq found k))
 
--- what a search has found after it comes to a node
+-- the findings of a search after it comes to a node
 pub marked_stays : (marks : List Bool) (found : List ℕ) (m : ℕ) → marks ≡ marks_of (length marks) found → m < length marks → get_or marks m false ≡ true → come found m ≡ found
 marked_stays marks found m e l h = ap (λ b. cond b found (found ++ m ∷ [])) (sym (marks_at (length marks) found m false l) ∙ subst (λ bs. get_or bs m false ≡ true) e h)
 

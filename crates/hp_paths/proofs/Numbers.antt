@@ -16,7 +16,7 @@ range_more a (suc n) j e = ap (λ ks. a ∷ ks) (range_more (a + 1) n j (omega (
 pub numbers_more : (n : ℕ) → numbers (n + 1) ≡ numbers n ++ n ∷ []
 numbers_more n = let s : n + 1 ≡ suc n = omega arith in ap numbers s ∙ range_more 0 n n (omega arith)
 
--- what passes among the numbers, with one number more
+-- the numbers that pass a test, with one number more
 pub filter_more : (p : ℕ → Bool) (n : ℕ) → filter p (numbers (n + 1)) ≡ filter p (numbers n) ++ cond (p n) (n ∷ []) []
 filter_more p n = ap (filter p) (numbers_more n) ∙ filter-append p (numbers n) (n ∷ [])
 

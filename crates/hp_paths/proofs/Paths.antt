@@ -12,7 +12,7 @@ use Rattle.std.proofs.Math.Dec.{eqb}
 use Rattle.hp_num.proofs.Tests.{all_at}
 use Rattle.hp_paths.specs.Paths.{links_at, is_graph, are_known, Path}
 
--- what holds of m, and of the successors of whatever it holds of, holds at the end of each path from m
+-- a property of m, and of the successors of whatever has it, holds at the end of each path from m
 pub closed : (g : List (List ℕ)) (P : ℕ → Type 0) → ((m k : ℕ) → P m → Contains (links_at g m) k → P k) → (m : ℕ) (ks : List ℕ) (j : ℕ) → P m → Path g m ks j → P j
 closed g P step m [] j p w = subst P w p
 closed g P step m (k ∷ ks) j p w = closed g P step k ks j (step m k p w.0) w.1
@@ -31,7 +31,7 @@ few vs count d h = subst (λ n. length vs ≤ n) (length-range_with_len 0 count)
     below : (q : ℕ) → q < count → Contains (range_with_len 0 count) q
     below q l = (q, subst (λ n. q < n) (sym (length-range_with_len 0 count)) l, omega (arith, get_or-range_with_len 0 count q q l))
 
--- what a list with one more in front contains
+-- the members of a list with one more in front
 pub one_of : (m : ℕ) (vs : List ℕ) (v : ℕ) → Contains (m ∷ vs) v → (m ≡ v) ⊎ Contains vs v
 one_of m vs v (zero, l, e) = inl e
 one_of m vs v (suc i, l, e) = inr (i, omega arith, e)

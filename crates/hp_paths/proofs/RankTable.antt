@@ -58,7 +58,7 @@ unseen_falls old new l p = lighter old new l (λ m. by m (p.each m))
     by m (inl e) = omega (arith, ap weight e)
     by m (inr (u, r)) = omega (arith, ranked_weight (mark_at new m) r)
 
--- what a later table keeps
+-- the marks that a later table keeps
 pub later_trans : (a b c : List Mark) → Later a b → Later b c → Later a c
 later_trans a b c p q = record { each = λ m. by m (p.each m) (q.each m) }
   where

@@ -34,7 +34,7 @@ differ_push found m new differ i j d low high = elim (cases_lt j (length found))
         let place : i < length found = low_of (omega arith) in
         new (i, place, get_or_default found i m d place ∙ sym (get_or_append_left found (m ∷ []) d i place) ∙ e ∙ get_or_push found m d j end)
 
--- what a search has found after it came to each of some nodes
+-- the findings of a search after it came to each of some nodes
 record More (found ms after : List ℕ) : Type 0 where
   longer : length found ≤ length after
   stay : (i d : ℕ) → i < length found → get_or after i d ≡ get_or found i d

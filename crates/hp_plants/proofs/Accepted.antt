@@ -19,7 +19,7 @@ use Rattle.hp_plants.specs.Fields.{Within, refuse, greatest, present_at, string_
 use Rattle.hp_plants.specs.Names.{is_name, key_at, known_at, named_at}
 use Rattle.hp_plants.specs.Described.{AreEntries, IsAmount}
 
--- what an Ok says of a step and of those after it
+-- an Ok says that a step and those after it are Ok
 pub then-Ok : {A B G : Type 0} (r : Result A HydroRefusal) (f : A → Result B HydroRefusal) (y : B) → (r >>= f) ≡ Ok y → ((x : A) → r ≡ Ok x → f x ≡ Ok y → G) → G
 then-Ok (Ok x) f y e next = next x refl e
 then-Ok (Err r) f y e next = absurd cc
@@ -114,7 +114,7 @@ one_more : {A : Type 0} (xs : List A) (x : A) → length (xs ++ x ∷ []) ≡ su
 one_more xs x = omega (arith, length_push xs x)
 
 module _ {A : Type 0} (Q : A → Type 0) (name : A → List ℕ) where
-  -- what was added for the members fits, and has their keys as names
+  -- the entries added for the members fit, and have their keys as names
   pub walk_members-each : (step : List A → ℕ → List ℕ → Data → Result (List A) HydroRefusal)
       → ((found next : List A) (i : ℕ) (k : List ℕ) (d : Data) → step found i k d ≡ Ok next → Added Q (λ x. name x ≡ k) found next)
       → (ms : Members) (found whole : List A) (i : ℕ) → walk_members step found i ms ≡ Ok whole → AllByRecursion Q found → AllByRecursion Q whole × (map name whole ≡ map name found ++ keys_of ms)
@@ -130,7 +130,7 @@ module _ {A : Type 0} (Q : A → Type 0) (name : A → List ℕ) where
       (rest.0, rest.1 ∙ ap (λ (ns : List (List ℕ)). ns ++ keys_of ms) named ∙ append_assoc (map name found) (k ∷ []) (keys_of ms)))
 
 module _ {A : Type 0} (Q : A → Type 0) where
-  -- what was added for the items fits, and is as much
+  -- the entries added for the items fit, and are as many
   pub walk_items-each : (step : List A → ℕ → Data → Result (List A) HydroRefusal)
       → ((found next : List A) (i : ℕ) (d : Data) → step found i d ≡ Ok next → Added Q (λ x. Unit {0}) found next)
       → (ds : Items) (found whole : List A) (i : ℕ) → walk_items step found i ds ≡ Ok whole → AllByRecursion Q found → AllByRecursion Q whole × (length whole ≡ length found + items_len ds)
@@ -146,7 +146,7 @@ module _ {A : Type 0} (Q : A → Type 0) where
       let count : length next ≡ suc (length found) = ap length a.is ∙ one_more found a.entry in
       (rest.0, omega (arith, rest.1, count)))
 
-  -- the same of a list
+  -- the entries added for a list fit, and are as many
   pub walk_list-each : {B : Type 0} (step : List A → B → Result (List A) HydroRefusal)
       → ((found next : List A) (x : B) → step found x ≡ Ok next → Added Q (λ x. Unit {0}) found next)
       → (xs : List B) (found whole : List A) → walk_list step found xs ≡ Ok whole → AllByRecursion Q found → AllByRecursion Q whole × (length whole ≡ length found + length xs)

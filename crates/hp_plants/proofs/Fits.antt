@@ -32,7 +32,7 @@ use Rattle.hp_plants.specs.Described.{IsBus, IsTravel, IsReservoir, IsThermal, I
 use Rattle.hp_plants.proofs.Accepted.{then-Ok, Ok-is, test-Ok, Added, added, amount_at-Ok, natural_at-Ok, key_at-Ok, named_at-Ok, entries_at-Ok, from_none, walk_members-each, walk_items-each}
 use Rattle.hp_plants.proofs.Rising.{json_at-Rising, table_at-Rising, members_at-Rising}
 
--- what holds of each entry, and that the names rise, of what was read for these members
+-- the entries that were read for these members: each has the property, and their names rise
 record Read {A : Type 0} (Q : A → Type 0) (name : A → List ℕ) (ms : Members) (xs : List A) : Type 0 where
   each : AllByRecursion Q xs
   many : length xs ≡ members_len ms
@@ -325,7 +325,7 @@ plants_of-Ok d p rising e =
     let fit = tables_at-Ok d t rising is_t in
     described_at-Ok t p fit.0 fit.1 e)
 
--- what the reader accepts has what every description has
+-- a description that the reader accepts keeps the ranges of every description
 pub plants_at-Ok : (bytes : List ℕ) (p : Plants) → plants_at bytes ≡ Ok p → IsPlants p
 unfolding plants_at
 plants_at-Ok bytes p e = then-Ok (json_at _) _ p e (λ d is_d e. plants_of-Ok d p (json_at-Rising bytes d is_d) e)

@@ -10,7 +10,7 @@ use Rattle.hp_plants.specs.Tables.{Tables, tables_at}
 use Rattle.hp_plants.specs.Grid.{buses_at, reservoirs_at, thermals_at, lines_at, states_at}
 use Rattle.hp_plants.specs.Stages.{stages_at}
 
--- what the tables hold, where buses and reservoirs are the names of all
+-- the description that the tables hold, where buses and reservoirs are the names of all
 unfoldable pub described_at : List (List ℕ) → List (List ℕ) → Tables → Result Plants HydroRefusal
 described_at bus_names reservoir_names tables = do
   buses ← buses_at tables.buses

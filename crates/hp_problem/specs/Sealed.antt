@@ -49,7 +49,7 @@ out_lows s = map (λ o. entry (map (λ (d : Decision). d.low) s.decisions) o) s.
 abbrev pub out_highs : Subproblem → List ℤ
 out_highs s = map (λ o. entry (map (λ (d : Decision). d.high) s.decisions) o) s.outs
 
--- what leaves a node
+-- the ends of the state that leaves a node
 abbrev pub lows_from : Raw → Node → List ℤ
 lows_from raw n = get_or (map out_lows raw.subs) n.sub []
 
@@ -66,7 +66,7 @@ at_most (x ∷ xs) (y ∷ ys) = int_le x y && at_most xs ys
 abbrev pub holds_box : List (List ℤ) → List (List ℤ) → List ℤ → List ℤ → ℕ → Bool
 holds_box lo hi lows highs m = at_most (get_or lo m []) lows && at_most highs (get_or hi m [])
 
--- what leaves a node lies in the boxes of its successors
+-- the state that leaves a node lies in the boxes of its successors
 abbrev pub leaves_inside : Raw → List (List ℤ) → List (List ℤ) → Node → Bool
 leaves_inside raw lo hi n = list_all (holds_box lo hi (lows_from raw n) (highs_from raw n)) n.links
 
@@ -101,7 +101,7 @@ boxes_fit raw lo hi =
     && list_all (are_numbers (length raw.states)) lo && list_all (are_numbers (length raw.states)) hi
     && list_all (leaves_inside raw lo hi) raw.nodes && list_all (holds_box lo hi (initial_values raw) (initial_values raw)) raw.root
 
--- what holds of each problem
+-- the properties of each sealed problem
 unfoldable pub is_sealed : Sealed → Bool
 is_sealed p = raw_fits p.raw && graph_fits p.raw p.order p.longest && boxes_fit p.raw p.lo p.hi
 

@@ -230,8 +230,8 @@ fn all_outs_inside(
     ))
 }
 
-/// Whether there is one box per node with one small entry per state, the given bounds of incoming states are its sides,
-/// what leaves a node lies in the boxes of its successors, and the initial values lie in those of the root's.
+/// Whether there is one box per node with one small entry per state, the given bounds of incoming states are its sides, the
+/// state that leaves a node lies in the boxes of its successors, and the initial values lie in those of the root's.
 #[tactic(auto, unfolding(crate::specs::Sealed::boxes_fit))]
 pub(crate) fn boxes_fit(
     alloc: Global,

@@ -29,7 +29,7 @@ many_again field text P each (x ∷ xs) rest fits =
     let regrouped : flat_map text (x ∷ xs) ++ rest ≡ text x ++ (flat_map text xs ++ rest) = ap (λ (t : List ℕ). t ++ rest) (flat_map-cons text x xs) ∙ append_assoc (text x) (flat_map text xs) rest in
     ap (many field (suc (length xs))) regrouped ∙ rw (each x (flat_map text xs ++ rest) fits.0, many_again field text P each xs rest fits.1) refl
 
--- the same where the count is told otherwise
+-- many fields, where the count is told otherwise
 many_of : {A : Type 0} (field : List ℕ → Result (A × List ℕ) ℕ) (text : A → List ℕ) (P : A → Type 0)
     → ((x : A) (rest : List ℕ) → P x → field (text x ++ rest) ≡ Ok (x, rest))
     → (n : ℕ) (xs : List A) (rest : List ℕ) → length xs ≡ n → AllByRecursion P xs → many field n (flat_map text xs ++ rest) ≡ Ok (xs, rest)
@@ -104,7 +104,7 @@ count_again p n rest small some few =
     let passes : (nat_lt 0 n && nat_le n p.longest) ≡ true = grind (arith, nat_tests) in
     rw (number_again w16 (2 ^ 16) wide16 n rest (omega arith), passes) refl
 
--- what is known of the sizes of a problem
+-- facts about the sizes of a problem
 pub record IsSmall (p : Sealed) : Type 0 where
   pub nodes : length p.raw.nodes ≤ 2 ^ 16
   pub longest : p.longest < 2 ^ 16

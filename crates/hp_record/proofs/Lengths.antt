@@ -105,7 +105,7 @@ counted_rows (Some s) = refl
 
 -- ---- a step, by its node
 
--- what the formula gives for the node
+-- the bytes that the formula gives for the node
 abbrev node_bytes : Sealed → ℕ → ℕ → ℕ
 node_bytes p cuts m = at (step_bytes p.raw cuts) p.raw.nodes m
 

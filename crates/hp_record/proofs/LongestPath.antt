@@ -27,7 +27,7 @@ same_number x y e = grind (arith, nat_tests, e)
 among : (ms : List ℕ) (m : ℕ) → is_among ms m ≡ true → Contains ms m
 among ms m e = Contains-from_any {eq = λ x y. nat_eq y x} same_number m ms e
 
--- what is known of the graph of a problem
+-- facts about the graph of a problem
 pub record Graph (p : Sealed) : Type 0 where
   pub known : is_graph (graph_of p.raw) ≡ true
   pub acyclic : first_in_cycle (graph_of p.raw) ≡ None

@@ -8,7 +8,7 @@ use Rattle.hp_record.specs.declared.fault.ReadFault.{ReadFault}
 use Rattle.hp_record.specs.declared.fault.ReadFault.TheVariants as reads
 use Rattle.hp_record.specs.Reading.{◌>>=◌, Fails, many, step_at, steps_at}
 
--- what was read before, and what is still read
+-- the values that were read before, and those that are still read
 abbrev pub with_front : {A : Type 0} → List A → Result (List A × List ℕ) ℕ → Result (List A × List ℕ) ℕ
 with_front front read = read >>= λ x. Ok (front ++ x.0, x.1)
 

@@ -25,7 +25,7 @@ node_line i n = codes "node " ++ number_text i ++ codes " " ++ json_string n.nam
 unfoldable pub title : List ℕ
 title = codes "hydroplan 1\nscale 16777216\n"
 
--- what stands above every report
+-- the head of every report
 unfoldable pub head_text : Raw → List ℕ
 head_text raw = title ++ numbered state_line 0 raw.states ++ numbered node_line 0 raw.nodes
 
@@ -53,7 +53,7 @@ bound_line b = codes "bound" ++ word b ++ codes "\n"
 abbrev pub iteration_line : ℕ → ℤ → List ℕ
 iteration_line k b = codes "iteration" ++ word (pos k) ++ codes " bound" ++ word b ++ codes "\n"
 
--- the same of the iteration that comes after so many others; iterations count from 1 on
+-- the line of the iteration that comes after so many others; iterations count from 1 on
 abbrev pub iteration_after : ℕ → ℤ → List ℕ
 iteration_after i b = iteration_line (suc i) b
 

@@ -14,17 +14,17 @@ abbrev pub before_lines : ℕ → List (List ℕ) → List (List ℕ)
 before_lines b [] = (b ∷ []) ∷ []
 before_lines b (l ∷ ls) = (b ∷ l) ∷ ls
 
--- what stands before each newline, and behind the last one where anything does
+-- the text before each newline, and behind the last one where there is any
 abbrev pub lines_of : List ℕ → List (List ℕ)
 lines_of [] = []
 lines_of (b ∷ bs) = if b == 10 then [] ∷ lines_of bs else before_lines b (lines_of bs)
 
--- what stands before the first space
+-- the text before the first space
 abbrev pub first_word : List ℕ → List ℕ
 first_word [] = []
 first_word (b ∷ bs) = if b == 32 then [] else b ∷ first_word bs
 
--- what a line's cut, bound, cost from above, plane and worst bound are to promise
+-- the promises of a line's cut, bound, cost from above, plane and worst bound
 pub record Claims : Type 1 where
   pub cuts : ℕ → Cut → Type 0
   pub bounds : ℤ → Type 0

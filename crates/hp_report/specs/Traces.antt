@@ -24,7 +24,7 @@ kind_word Found = codes " found"
 kind_word Ray = codes " ray"
 kind_word Stuck = codes " stuck"
 
--- what is asked for, a name, and its number
+-- a line: a word, a name, and its number
 abbrev pub named_line : List ℕ → List ℕ → ℤ → List ℕ
 named_line what name z = what ++ json_string name ++ word z ++ codes "\n"
 

@@ -93,7 +93,7 @@ at_index P [] i d h lt = absurd (omega arith)
 at_index P (x ∷ xs) zero d h lt = h.0
 at_index P (x ∷ xs) (suc i) d h lt = at_index P xs i d h.1 (omega arith)
 
--- what one plane more keeps, all keep
+-- a property that one plane more keeps is kept by all
 module _ (p : Sealed) (x : Alternatives) (sealed : is_sealed p ≡ true) (listed : Listed p x.lists) where
   abbrev IsFit : Planes → Type 0
   IsFit planes = Fit (problem_of p) (length p.raw.nodes) planes

@@ -43,7 +43,7 @@ module _ {B : Type 0} (step : Planes → B → Answer) where
     pub each_stops : (fault : RobustFault) → Stops fault (step planes x) → Stops fault whole
     each_stops fault e = stops_as fault (step planes x >>= λ next. each step next (drop (i + 1) xs)) whole (sym split ∙ so_far) (stops_on fault (step planes x) (λ next. each step next (drop (i + 1) xs)) e)
 
-  -- the same where the item that comes next is split off
+  -- the step to the item that comes next, split off
   module _ (planes : Planes) (x : B) (xs : List B) (whole : Answer) (so_far : each step planes (x ∷ xs) ≡ whole) where
     pub next_more : (new : Planes) → step planes x ≡ Ok new → each step new xs ≡ whole
     next_more new e = sym (ap (λ (r : Answer). r >>= λ next. each step next xs) e) ∙ so_far
@@ -54,7 +54,7 @@ module _ {B : Type 0} (step : Planes → B → Answer) where
   pub each_done : (planes : Planes) (xs : List B) (i : ℕ) (whole : Answer) → length xs ≤ i → each step planes (drop i xs) ≡ whole → whole ≡ Ok planes
   each_done planes xs i whole all so_far = sym so_far ∙ ap (λ (ys : List B). each step planes ys) (drop_all i xs all)
 
-  -- what each step keeps of such items, all keep
+  -- a property that each step keeps of such items is kept by all
   pub each_keeps : (P : Planes → Type 0) (Is : B → Type 0) → ((planes new : Planes) (x : B) → Is x → P planes → step planes x ≡ Ok new → P new) → (planes new : Planes) (xs : List B) → All Is xs → P planes → each step planes xs ≡ Ok new → P new
   each_keeps P Is keeps planes new [] are has e = subst P (same_ok planes new e) has
   each_keeps P Is keeps planes new (x ∷ xs) are has e =

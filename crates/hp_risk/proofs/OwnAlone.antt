@@ -77,7 +77,7 @@ pub plane-own : (planes : List (List Cut)) (n : Node) (list : List Certificate) 
 unfolding plane_of
 plane-own planes n list h = ap (λ (o : Option Cut). better n.low None o) (own_cut planes n list h)
 
--- what is right over pools is right over planes of the same number
+-- a list that is right over pools is right over planes of the same number
 right_elsewhere : (pools planes : List (List Cut)) (n : Node) (list : List Certificate) → ((m : ℕ) → length (pool planes m) ≡ length (pool pools m)) → Right pools n list → Right planes n list
 right_elsewhere pools planes n list same r = record {
   count = r.count;

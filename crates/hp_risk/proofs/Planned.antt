@@ -40,7 +40,7 @@ module _ (P : Cut → Type 0) where
         by None e = h e
         by (Some f) e = tt
 
-    -- what holds of the cut of each list with which the certificates are accepted
+    -- a property of the cut of each list with which the certificates are accepted
     abbrev pub OfEach : List (List ℕ) → Type 0
     OfEach lists = (i : ℕ) → i < length lists → fault_of planes (with_weights (get_or lists i []) n) list ≡ None → P (cut_of planes (with_weights (get_or lists i []) n) list)
 
@@ -78,7 +78,7 @@ low_is p m low e h at =
     let q : Parts p m = parts p m e h in
     sym (get_or_from_slice_get p.lo m low [] at) ∙ get_or_from_slice_get p.lo m q.low [] q.fit.the_low ∙ sym (ap (λ (n : Node). n.low) q.fit.is ∙ low_of q.node q.subproblem q.low q.high)
 
--- what a step adds
+-- the addition of a step
 module _ (p : Sealed) (x : Alternatives) (k : ℕ) (planes : List (List Cut)) (m : ℕ) (list : List Certificate) (lists : List (List ℕ)) (is : lists ≡ lists_at x.lists m) where
   abbrev there : Node
   there = node_at (problem_of p) m

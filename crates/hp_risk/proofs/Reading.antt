@@ -191,7 +191,7 @@ listed-each p x sealed each = record {
   each = λ m h. let o = own p x sealed each m h in subst (λ (ls : List (List ℕ)). All (Weighs (node_at (problem_of p) m)) ls) (sym o.is) o.fit;
 }
 
--- what was read is listed
+-- alternatives that were read are listed
 pub listed-read : (p : Sealed) (bytes : List ℕ) (x : Alternatives) → is_sealed p ≡ true → alternatives_of p bytes ≡ Ok x → Listed p x.lists
 unfolding alternatives_of
 listed-read p bytes x sealed e =

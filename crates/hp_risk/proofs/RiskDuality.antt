@@ -24,7 +24,7 @@ use Rattle.hp_theory.specs.declared.cut.Certificate.{Certificate}
 use Rattle.hp_risk.specs.Listed.{lists_at}
 use Rattle.hp_risk.specs.RiskCost.{Weighty, greater, average, worst, branch_costs, risk_costs, RiskHolds, RiskSound}
 
--- what is at most one fraction is at most a greater one
+-- a lower bound of a fraction is one of a greater fraction
 carried : (a : ℤ) (k : ℕ) (f g : Fraction) → 0 < f.under → (f.up *ℤ pos g.under) ≤ℤ (g.up *ℤ pos f.under) → ratio a k ≤ᶠ f → ratio a k ≤ᶠ g
 carried a k f g p le h =
     let first : (pos f.under *ℤ (a *ℤ pos g.under)) ≤ℤ (pos k *ℤ (f.up *ℤ pos g.under)) = between (pos f.under *ℤ (a *ℤ pos g.under)) (pos g.under *ℤ (a *ℤ pos f.under)) (pos g.under *ℤ (f.up *ℤ pos k)) (pos k *ℤ (f.up *ℤ pos g.under))
@@ -56,7 +56,7 @@ below_second a k f g p h = by (int_lt (f.up *ℤ pos g.under) (g.up *ℤ pos f.u
     by true e = h
     by false e = carried a k g f p (not_lt_le (f.up *ℤ pos g.under) (g.up *ℤ pos f.under) e) h
 
--- what stands under risk costs is positive
+-- the denominators of risk costs are positive
 abbrev pub Some : Fraction → Type 0
 Some f = 0 < f.under
 
@@ -86,7 +86,7 @@ under_worst (ws ∷ (vs ∷ lists)) fs p h =
     under_greater (average ws fs) (worst (vs ∷ lists) fs) (under_average ws fs (All_head (λ (ws : List ℕ). 0 < sum ws) ws (vs ∷ lists) p) h)
     (under_worst (vs ∷ lists) fs (All_tail (λ (ws : List ℕ). 0 < sum ws) ws (vs ∷ lists) p) h)
 
--- what is at most one of the averages is at most the worst
+-- a lower bound of one of the averages is one of the worst
 below_worst : (a : ℤ) (k i : ℕ) (lists : List (List ℕ)) (fs : List Fraction) → Heavy lists → All Some fs → i < length lists → ratio a k ≤ᶠ average (get_or lists i []) fs → ratio a k ≤ᶠ worst lists fs
 below_worst a k i [] fs p h lt le = absurd (omega arith)
 below_worst a k zero (ws ∷ []) fs p h lt le = le

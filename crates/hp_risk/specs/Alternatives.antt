@@ -50,7 +50,7 @@ node_lists_at n own listed = do
   ds ← items_at (at_weight n 0 0) listed
   if nat_le (items_len ds) 10 then alternatives_at n own ds else refuse kinds.TooLarge (at_weight n 0 0)
 
--- those of a node more, which stands under its name among the nodes of the file
+-- the alternatives of a node more, which stands under its name among the nodes of the file
 unfoldable pub next_node_at : Members → List (List (List ℕ)) → ℕ → Node → Result (List (List (List ℕ))) Refusal
 next_node_at members found n node = do
   d ← present_at whole (get_member node.name members)

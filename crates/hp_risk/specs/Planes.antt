@@ -99,7 +99,7 @@ abbrev pub Plans : Result Pooled RobustFault → Result (List (List Cut)) (ℕ �
 Plans (Ok pools) planes = planes ≡ Ok pools.lists
 Plans (Err fault) planes = Stops fault planes
 
--- the same of a call that changes planes to `new`
+-- the contract of a call that changes planes to `new`
 abbrev pub PlansTo : List (List Cut) → Result (Unit {0}) RobustFault → Result (List (List Cut)) (ℕ × ℕ × ℕ) → Type 0
 PlansTo new (Ok u) planes = planes ≡ Ok new
 PlansTo new (Err fault) planes = Stops fault planes

@@ -19,7 +19,7 @@ use Rattle.rand_chacha.specs.ChaCha.{ChaCha}
 use Rattle.hp_sampler.specs.declared.steps.Step.{Step}
 use Rattle.hp_sampler.specs.Drawn.{choices, first_node, next_node, path, path_from, step_at, steps_of, stream_of, word_in}
 
--- what is made of the node m
+-- the value that is made of the node m
 pub made_at : {A : Type 0} (f : Node → A) (nodes : List Node) (m : ℕ) (n : Node) (d : A) → slice_get nodes m ≡ Some n → get_or (map f nodes) m d ≡ f n
 made_at f nodes m n d is = get_or-map f nodes m n d (slice_get_within nodes m n is) ∙ ap f (get_or_from_slice_get nodes m n n is)
 
@@ -83,7 +83,7 @@ pub first_is : (p : Sealed) (ms ws : List ℕ) (word place : ℕ) → ms ≡ p.r
 first_is p ms ws word place em ew at inside =
     ap (λ (vs : List ℕ). slice_get p.raw.root (picked vs word)) (sym ew) ∙ ap (slice_get p.raw.root) (sym at) ∙ ap (λ (ks : List ℕ). slice_get ks place) (sym em) ∙ slice_get-get_or ms place 0 inside
 
--- the same at a node
+-- the realization at a node
 pub realization_is : (p : Sealed) (m : ℕ) (n : Node) (word : ℕ) → slice_get p.raw.nodes m ≡ Some n → picked n.weights word ≡ picked (weights_at p.raw m) word
 realization_is p m n word is = ap (λ (ws : List ℕ). picked ws word) (sym (made_at (λ (k : Node). k.weights) p.raw.nodes m n [] is))
 

@@ -32,7 +32,7 @@ word_small : (g : ChaCha) (place : ℕ) → word_in g place < 2 ^ 32
 unfolding word_in block_word
 word_small g place = mod-lt _ (omega arith)
 
--- what stands at a place of a list is in it
+-- an entry at a place of a list is in it
 contained : (ks : List ℕ) (i k : ℕ) → slice_get ks i ≡ Some k → Contains ks k
 contained ks i k is = (i, slice_get_within ks i k is, get_or_from_slice_get ks i k k is)
 
@@ -110,7 +110,7 @@ module _ (p : Sealed) (e : is_sealed p ≡ true) where
       let at : weights_at p.raw m ≡ n.0.weights = made_at (λ (k : Node). k.weights) p.raw.nodes m n.0 [] n.1 in
       (h, subst (λ (ws : List ℕ). picked ws word < length ws) (sym at) (picked_in_range n.0.weights word small w.some w.weights))
 
-  -- what holds of the steps after one at the node m, of at most n steps
+  -- the properties of the steps after one at the node m, of at most n steps
   record Tail (n m : ℕ) (steps : List Step) : Type 0 where
     pub follows : Follows p.raw m steps
     pub ends : MayEnd p.raw (last_node m steps)
@@ -150,7 +150,7 @@ module _ (p : Sealed) (e : is_sealed p ≡ true) where
           let inside = successor_inside m k h c in
           tail_more l m k (word_in g place) _ (word_small g place) inside c (rest k inside (omega (arith, low, falls m k c)))
 
-  -- what holds of a path
+  -- the properties of a path
   pub record Drawn (steps : List Step) : Type 0 where
     pub starts : StartsAtRoot p.raw steps
     pub follows : FollowsArcs p.raw steps

@@ -45,7 +45,7 @@ sum_stop [] zero = refl
 sum_stop [] (suc n) = omega arith
 sum_stop (w ∷ ws) stop = omega (arith, sum_stop ws stop, sum-cons w ws, sum-cons w (ws ++ stop_weight stop))
 
--- what a word picks with a stop weight
+-- the index that a word picks with a stop weight
 pub picked_stop : (ws : List ℕ) (stop word : ℕ) → word < 2 ^ 32 → 0 < sum ws → first_above (level_of (sum ws + stop) word) 0 0 ws ≡ picked (ws ++ stop_weight stop) word
 unfolding picked
 picked_stop ws stop word h some =

@@ -22,7 +22,7 @@ use Rattle.hp_dual.specs.Acceptance.{fault_of, range_fault}
 use Rattle.hp_settle.specs.Settling.{settled_rows, settled_links, settled_duals, used_duals, settled_of}
 use Rattle.hp_settle.proofs.SettledRight.{HasCuts, settled_used, settled_right, settled_fault}
 
--- what follows for a value that is there
+-- a property that follows for the value of a result
 pub if_ok : {A E : Type 0} (P Q : A → Type 0) (r : Result A E) → ((x : A) → P x → Q x) → IfOk r P → IfOk r Q
 if_ok P Q (Ok x) f h = f x h
 if_ok P Q (Err e) f h = h
@@ -35,7 +35,7 @@ pub only_range-sealed : (p : Sealed) (m : ℕ) (pools : List (List Cut)) (answer
     → length answers ≡ length (node_at (problem_of p) m).realizations → fault_of pools (node_at (problem_of p) m) (map (settled_of pools (node_at (problem_of p) m)) answers) ≡ range_fault pools (node_at (problem_of p) m) (map (settled_of pools (node_at (problem_of p) m)) answers)
 only_range-sealed p m pools answers e h fit = settled_fault pools (node_at (problem_of p) m) answers (have_cuts p m pools e h fit)
 
--- what is made of a node's parts
+-- the certificate that is made of a node's parts
 made_of : (pools : List (List Cut)) (n : nodes.Node) (s : Subproblem) (low high : List ℤ) (duals : List Fx)
     → record { rows = settled_rows 0 s.rows duals; cuts = settled_links pools (links_of n.links n.link_weights) (drop (length s.rows) duals) } ≡ settled_duals pools (node_of n s low high) duals
 unfolding node_of

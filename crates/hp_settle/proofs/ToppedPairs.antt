@@ -55,7 +55,7 @@ none_more [] more h z e = absurd (omega arith)
 none_more (zero ∷ vs) more h z e = ap (λ (n : ℕ). pairs_from 0 ((0 + n) ∷ vs)) z ∙ e
 none_more (suc v ∷ vs) more h z e = absurd cc
 
--- what goes to the greatest
+-- the amount that goes to the greatest
 raised-greatest : (vs : List ℕ) (more : ℕ) → 0 < length vs → (pairs_from 0 vs ≡ [] → more ≡ 0) → pairs_from 0 (raised vs (place_of_greatest vs) more) ≡ raised_pair (pairs_from 0 vs) (place_of_greatest (seconds (pairs_from 0 vs))) more
 raised-greatest vs more h few = by (alike 0 0 0 0 0 vs)
   where
@@ -67,7 +67,7 @@ raised-greatest vs more h few = by (alike 0 0 0 0 0 vs)
         ap (λ (i : ℕ). pairs_from 0 (raised vs i more)) (omega (arith, e)) ∙ same more
         ∙ ap (λ (i : ℕ). raised_pair (pairs_from 0 vs) i more) (omega (arith, f))
 
--- what goes to the first cut
+-- the amount that goes to the first cut
 first_in_front : (k more : ℕ) (vs : List ℕ) → raised_first (pairs_from (suc k) vs) more ≡ (0, more) ∷ pairs_from (suc k) vs
 first_in_front k more [] = refl
 first_in_front k more (zero ∷ vs) = first_in_front (suc k) more vs

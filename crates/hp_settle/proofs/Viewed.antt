@@ -22,7 +22,7 @@ use Rattle.hp_settle.specs.declared.sized_sum.SizedSum.{SizedSum}
 use Rattle.hp_settle.specs.SizedSums.{Sums}
 use Rattle.hp_settle.specs.Refutation.{right_side, right_side_size, reduced_cost, reduced_size, refutation_value, refutation_size, refutes_of}
 
--- the same sum, spelled otherwise
+-- the sum, spelled otherwise
 pub sums_same : (r : Option SizedSum) (v w : ℤ) (n m : ℕ) → v ≡ w → n ≡ m → Sums r v n → Sums r w m
 sums_same r v w n m e f h = subst (λ (k : ℕ). Sums r w k) f (subst (λ (z : ℤ). Sums r z n) e h)
 

@@ -8,7 +8,7 @@ abbrev pub kept_pairs : ℕ → List (ℕ × Fx) → List (ℕ × ℕ)
 kept_pairs left [] = []
 kept_pairs left (p ∷ ps) = pairs_from p.0 (min (cut_multiplier p.1.0) left ∷ []) ++ kept_pairs (left - cut_multiplier p.1.0) ps
 
--- what is left of it then
+-- the amount of it that is left then
 abbrev pub left_over : ℕ → List (ℕ × Fx) → ℕ
 left_over left [] = left
 left_over left (p ∷ ps) = left_over (left - cut_multiplier p.1.0) ps

@@ -45,7 +45,7 @@ abbrev pub rows_over : ℕ → ℕ → List Row → List Fx → List ℤ
 rows_over divisor i [] duals = []
 rows_over divisor i (row ∷ rows) duals = row_over divisor row (dual_at duals i) ∷ rows_over divisor (suc i) rows duals
 
--- the same at the scale of multipliers
+-- the duals of rows at the scale of multipliers
 abbrev pub settled_rows : ℕ → List Row → List Fx → List ℤ
 settled_rows i rows duals = rows_over finer i rows duals
 
@@ -53,11 +53,11 @@ abbrev pub positive_part : ℤ → ℕ
 positive_part (pos n) = n
 positive_part (negsuc n) = 0
 
--- what the dual of a cut gives as its multiplier
+-- the multiplier that the dual of a cut gives
 abbrev pub cut_multiplier : ℤ → ℕ
 cut_multiplier dual = positive_part (rescaled dual)
 
--- the same of count cuts, the first of which has the place k
+-- the multipliers of count cuts, the first of which has the place k
 abbrev pub cut_multipliers : List Fx → ℕ → ℕ → List ℕ
 cut_multipliers duals k zero = []
 cut_multipliers duals k (suc count) = cut_multiplier (dual_at duals k) ∷ cut_multipliers duals (suc k) count
@@ -67,7 +67,7 @@ abbrev pub capped : ℕ → List ℕ → List ℕ
 capped left [] = []
 capped left (v ∷ vs) = min v left ∷ capped (left - v) vs
 
--- what is left when all have kept theirs
+-- the amount that is left when all have kept theirs
 abbrev pub missing : ℕ → List ℕ → ℕ
 missing left [] = left
 missing left (v ∷ vs) = missing (left - v) vs

@@ -77,7 +77,7 @@ stage_small n s low high u x values constant given costs =
     (subst (λ (z : ℤ). nat_abs z ≤ 2 ^ 112) (dot-times_all s.random_costs values) (costs_small s.random_costs (times_all S values) given.of_values costs.randoms))
     (costs_small (map (λ (d : Decision). d.cost) s.decisions) u given.of_decisions costs.decisions) (costs_small s.state_costs x given.of_state costs.states)
 
--- what a stage costs at decisions in their boxes, a state in its box and small values
+-- the cost of a stage at decisions in their boxes, a state in its box and small values
 pub stage_cost_small : (p : Sealed) → is_sealed p ≡ true → (m : ℕ) → m < length p.raw.nodes → (s : Subproblem) → subproblem_of p m ≡ Some s → (u x values : List ℤ)
     → InBox S (node_at (problem_of p) m).decision_low (node_at (problem_of p) m).decision_high u → IsStateAt p m x → are_values (subproblem_of p m) values ≡ true
     → nat_abs (stage_cost_of (node_at (problem_of p) m) u x values) ≤ 2 ^ 115

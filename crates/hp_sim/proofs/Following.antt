@@ -61,7 +61,7 @@ node_there raw m values e = by (slice_get raw.nodes m) refl e
     by None is e = absurd (no e)
     by (Some n) is e = slice_get_within raw.nodes m n is
 
--- what a step of a run says
+-- the properties of a step of a run
 record Fits (raw : Raw) (from : List ℕ) (m : Moment) (ms : List Moment) : Type 0 where
   pub contained : Contains from m.node
   pub values : are_values (subproblem_at raw m.node) m.values ≡ true
@@ -106,7 +106,7 @@ pub record ComesTo (p : Sealed) (ms : List Moment) (state : List ℤ) : Type 0 w
 pub comes_first : (p : Sealed) (ms : List Moment) → is_sealed p ≡ true → IsRun p ms → ComesTo p ms (times_all S (problem_of p).initial)
 comes_first p ms e h = record { from = p.raw.root; fits = h; inside = λ k c. start-sealed p k e (root_counted p e) c }
 
--- what is asked of a moment
+-- the premises on a moment
 pub record IsHere (p : Sealed) (m : Moment) (ms : List Moment) (state : List ℤ) : Type 0 where
   pub known : m.node < length p.raw.nodes
   pub values : are_values (subproblem_of p m.node) m.values ≡ true
@@ -121,7 +121,7 @@ at_first p m ms state c =
 pub comes_here : (p : Sealed) (ms : List Moment) (i : ℕ) (m : Moment) (state : List ℤ) → i < length ms → m ≡ get_or ms i m → ComesTo p (drop i ms) state → IsHere p m (drop (i + 1) ms) state
 comes_here p ms i m state inside is c = at_first p m (drop (i + 1) ms) state (subst (λ (xs : List Moment). ComesTo p xs state) (drop_more ms i m inside ∙ ap (λ (x : Moment). x ∷ drop (i + 1) ms) (sym is)) c)
 
--- what leaves its node comes to the next one
+-- the state that leaves its node comes to the next one
 pub comes_next : (p : Sealed) (m : Moment) (ms : List Moment) (state next : List ℤ) → IsHere p m ms state → ((k : ℕ) → Contains (successors_at p.raw m.node) k → IsStateAt p k next) → ComesTo p ms next
 comes_next p m ms state next h f = record { from = successors_at p.raw m.node; fits = h.rest; inside = f }
 

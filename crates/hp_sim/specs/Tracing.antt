@@ -15,7 +15,7 @@ use Rattle.hp_forward.specs.declared.traces.TraceStep.{TraceStep}
 use Rattle.hp_forward.specs.Costing.{residuals_of, stage_cost_of}
 use Rattle.hp_mend.specs.Deciding.{decide_mended_of}
 
--- what was decided at a moment, at the state that came into it, with all residuals and the cost
+-- the decisions at a moment, at the state that came into it, with all residuals and the cost
 abbrev pub traced : Sealed → Moment → List ℤ → Decided → TraceStep
 traced p m state d = record {
   node = m.node;
@@ -43,7 +43,7 @@ abbrev pub trace_on : Sealed → (Moment → List ℤ → Result Decided Dead) �
 trace_on p decide trace state [] = Ok trace
 trace_on p decide trace state (m ∷ ms) = step_on p decide trace state m >>= λ after. trace_on p decide after.0 after.1 ms
 
--- what is decided at a moment, mended where a point was found
+-- the decisions at a moment, mended where a point was found
 abbrev pub decide_at : {Start Chain : Type 0} → Solving Start Chain → Sealed → List (List Cut) → ℕ → Moment → List ℤ → Result Decided Dead
 decide_at v p pools run m state = decide_mended_of v p pools run m.node m.values state
 

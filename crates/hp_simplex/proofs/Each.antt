@@ -46,7 +46,7 @@ pub map_none : {A B : Type 0} (f : A → B) (o : Option A) → option_map f o �
 map_none f None h = refl
 map_none f (Some x) h = absurd (cc)
 
--- what an option that is mapped holds
+-- the value of an option that is mapped
 pub map_some : {A B : Type 0} (f : A → B) (o : Option A) (y : B) → option_map f o ≡ Some y → (x : A) × (o ≡ Some x) × (f x ≡ y)
 map_some f None y h = absurd (cc)
 map_some f (Some x) y h = (x, refl, some_same h)

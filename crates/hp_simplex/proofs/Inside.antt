@@ -11,14 +11,14 @@ use Rattle.hp_simplex.specs.Leaving as leaving
 use Rattle.hp_simplex.specs.Entering as entering
 use Rattle.hp_simplex.proofs.Each.{some_same, map_some}
 
--- what is chosen, if anything, is below m
+-- the chosen row, if any, is below m
 abbrev pub IsRow : ℕ → Option Leaving → Type 0
 IsRow m best = (l : Leaving) → best ≡ Some l → l.row < m
 
 abbrev pub IsColumn : ℕ → Option Entering → Type 0
 IsColumn m best = (e : Entering) → best ≡ Some e → e.column < m
 
--- what an option holds that comes after another
+-- the value of an option that comes after another
 pub then_some : {A B : Type 0} (f : A → Option B) (o : Option A) (y : B) → option_and_then f o ≡ Some y → (x : A) × (o ≡ Some x) × (f x ≡ Some y)
 then_some f None y h = absurd (cc)
 then_some f (Some x) y h = (x, refl, h)

@@ -50,7 +50,7 @@ whole_in_stages count i e n cells costs h l =
     (ap (each_from (new_row i e r) 0) rows ∙ table_rows i e r (take n (drop (i * n) cells)) (rows_of i n (take (i * n) cells)) (rows_of (count - i - 1) n (drop n (drop (i * n) cells))) 0 (omega (arith, rows_count i n (take (i * n) cells))))
     ∙ regrouped r (others e r (rows_of i n (take (i * n) cells))) (others e r (rows_of (count - i - 1) n (drop n (drop (i * n) cells)))) (moved_row e r costs))
 
--- the same over the parts of the cells
+-- the step over the parts of the cells
 pub in_parts : (count i e n : ℕ) (cells costs above rest p below : List Fx) → i < count → length cells ≡ count * n → above ≡ take (i * n) cells → rest ≡ drop (i * n) cells → p ≡ take n rest → below ≡ drop n rest → pivot_of i e (grid count n cells costs) ≡ in_stages e p (rows_of i n above) (rows_of (count - i - 1) n below) costs
 in_parts count i e n cells costs above rest p below h l a r q b =
     let m : ℕ = count - i - 1 in

@@ -10,7 +10,7 @@ use Rattle.hp_simplex.specs.Leaving.{leaving_from}
 use Rattle.hp_simplex.specs.Entering.{entering_from}
 use Rattle.hp_simplex.specs.Answers.{stuck_of, found_of, ray_of}
 
--- what a turn comes to: the next dictionary, a point, a variable that nothing brings back, or an absent result
+-- the outcome of a turn: the next dictionary, a point, a variable that nothing brings back, or an absent result
 pub data Turn : Type 0 where
   goes : Dictionary → Turn
   found : Turn

@@ -17,14 +17,14 @@ abbrev pub Exchanges : Bool → Dictionary → Leaving → Entering → Dictiona
 Exchanges true d l e new = solve.by_pivot d l e (pivot_of l.row e.column d.grid) ≡ solve.goes new
 Exchanges false d l e new = solve.by_pivot d l e (pivot_of l.row e.column d.grid) ≡ solve.stuck
 
--- the step says what the turn comes to, and leaves the next dictionary, or the same one
+-- the step is the outcome of the turn, and leaves the next dictionary, or the same one
 abbrev pub Takes : Step → solve.Turn → Tableau → Tableau → Type 0
 Takes Goes t old new = t ≡ solve.goes (dictionary_of new)
 Takes Found t old new = (t ≡ solve.found) × (new ≡ old)
 Takes (Ray l) t old new = (t ≡ solve.ray l) × (new ≡ old) × (l.row < new.table.rows)
 Takes Stuck t old new = t ≡ solve.stuck
 
--- what a turn comes to, but for its pivot
+-- the choice of a turn, before its pivot
 abbrev pub Chooses : Choice → solve.Turn → Dictionary → Type 0
 Chooses choices.Found t d = t ≡ solve.found
 Chooses (choices.Ray l) t d = t ≡ solve.ray l

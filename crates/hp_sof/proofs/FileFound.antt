@@ -40,7 +40,7 @@ all_zip-weaker P Q [] (y ∷ ys) f all = absurd all
 all_zip-weaker P Q (x ∷ xs) [] f all = absurd all
 all_zip-weaker P Q (x ∷ xs) (y ∷ ys) f all = (f x y all.0, all_zip-weaker P Q xs ys f all.1)
 
--- what stands beside an entry
+-- the entry beside an entry
 pub beside : {A B : Type 0} (P : A → B → Type 0) (xs : List A) (ys : List B) (i : ℕ) (x : A) → AllZip P xs ys → slice_get xs i ≡ Some x → (y : B) × (slice_get ys i ≡ Some y) × P x y
 beside P [] [] i x all e = cc
 beside P [] (y ∷ ys) i x all e = absurd all
@@ -63,7 +63,7 @@ get-object k (string s) ms e = cc
 get-object k (array ds) ms e = cc
 get-object k (object ns) ms e = ap (get_member k) (same_Some ns ms e)
 
--- the same of an object that may be absent
+-- the members of an object that may be absent
 pub under-object : {A : Type 0} (o : Option Data) (ms : Members) → or_absent no_members as_object o ≡ Some ms → (k : List ℕ) (f : Data → Option A) → (o >>= under k f) ≡ (get_member k ms >>= f)
 under-object None ms e k f = subst (λ ms. None ≡ (get_member k ms >>= f)) (same_Some no_members ms e) refl
 under-object (Some d) ms e k f = ap (λ o. o >>= f) (get-object k d ms e)
@@ -91,7 +91,7 @@ later-found : (first k : List ℕ) (d : Data) (ms : Members) → slice_cmp nat_c
 later-found first k d ms less = ap (λ o. match_ordering o (get_member k ms) (Some d) (get_member k ms)) (nat_list_cmp_total.antisymm k first ∙ ap ordering_reverse less)
 
 module _ {B : Type 0} (says : List ℕ → Data → Option B) where
-  -- what stands under keys above the first one, and is read
+  -- the members under keys above the first one
   later-read : (first : List ℕ) (d : Data) (ms : Members) (ks : List (List ℕ)) → AllByRecursion (λ k. slice_cmp nat_cmp first k ≡ Less) ks
       → map (λ k. get_member k (member first d ms) >>= says k) ks ≡ map (λ k. get_member k ms >>= says k) ks
   later-read first d ms [] above = refl
@@ -113,7 +113,7 @@ module _ {B : Type 0} (says : List ℕ → Data → Option B) where
           → map (λ l. get_member l (member k d ms) >>= says l) (k ∷ keys_of ms) ≡ map Some xs
       by p rest = rw (p.2, first-found k d ms, p.3, later-read k d ms (keys_of ms) rising.0, rest p.1 p.4) refl
 
-  -- what the member with a number says, by its name
+  -- the statement of the member with a number, by its name
   pub found-at : (ms : Members) (xs : List B) (k : List ℕ) (i : ℕ) → RisingMembers ms → each_member says ms ≡ Some xs → slice_get (keys_of ms) i ≡ Some k
       → (x : B) × (slice_get xs i ≡ Some x) × ((get_member k ms >>= says k) ≡ Some x)
   found-at ms xs k i rising e is = by (slice_get xs i) refl (sym (slice_get-map Some xs i) ∙ ap (λ ys. slice_get ys i) (sym (each-found ms xs rising e)) ∙ slice_get-map (λ k. get_member k ms >>= says k) (keys_of ms) i ∙ ap (option_map (λ k. get_member k ms >>= says k)) is)

@@ -77,7 +77,7 @@ realization-says n randoms found next r d done e so_far =
       subst (λ c. RealizationsSaid randoms c (done ++ x ∷ [])) (Ok-is _ next e) (together-push (RealizationSaid randoms) done found.weights found.values x (unsigned_abs weight) values so_far one),
     ))))))
 
--- what is listed is not empty
+-- realizations that are listed are not empty
 some-listed : (d : Data) (ds : Items) (rs : List Realization) → each realization_of (item d ds) ≡ Some rs → or_certain rs ≡ rs
 some-listed d ds rs e = by (realization_of d) (each realization_of ds) e
   where

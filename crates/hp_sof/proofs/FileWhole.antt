@@ -71,7 +71,7 @@ table-says key d ms rising e =
     then-Ok (present_at _ _) _ ms e (λ inner is rest.
     record { inner = inner; there = present-says fields.whole (get key d) inner is; members = object-says fields.whole inner ms rest; rising = table_at-rising key d ms rising e })
 
--- what stands in a table under a name
+-- the member of a table under a name
 table-under : {B : Type 0} (key : Name) (d : Data) (ms : Members) → TableSaid key d ms → (k : Name) (f : Data → Option B) → under key (under k f) d ≡ (get_member k ms >>= f)
 table-under key d ms t k f = ap (λ o. o >>= under k f) t.there ∙ ap (λ o. o >>= f) (get-object k t.inner ms t.members)
 
@@ -188,7 +188,7 @@ json-says : (bytes : List ℕ) (d : Data) → json_at bytes ≡ Ok d → read by
 unfolding json_at
 json-says bytes d e = read-says (read bytes) d (test-Ok (is_utf8 bytes) (json_or (read bytes)) kinds.NotJson fields.whole d e).1
 
--- what the reader accepts is a file that says its parts by names
+-- bytes that the reader accepts are a file that says its parts by names
 pub file-says : (bytes : List ℕ) (raw : Raw) → raw_of bytes ≡ Ok raw → IsSomeAnd (file_at bytes) (FileSaid raw)
 unfolding raw_of file_at
 file-says bytes raw e =

@@ -140,7 +140,7 @@ whole-fits : (names : List (List ℕ)) (raw : Raw) (scenarios : List (List Momen
 unfolding names_rise scenarios_fit raw_fits
 whole-fits names raw scenarios g few fit = rw (g.rise, few, fit, g.few_states, g.few_nodes, g.few_subs, g.states, g.subs, g.nodes, g.root) refl
 
--- what the reader accepts keeps the limits
+-- a problem that the reader accepts keeps the limits
 pub raw_fits-read : (bytes : List ℕ) (raw : Raw) → raw_of bytes ≡ Ok raw → raw_fits raw ≡ true
 unfolding raw_of
 raw_fits-read bytes raw e =

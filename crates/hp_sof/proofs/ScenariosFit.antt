@@ -137,7 +137,7 @@ scenario_at-fits names raw found next k d as_many all e so_far =
       fit = list_all-push (scenario_fits raw) found path so_far.fit (and_from (nat_lt 0 (length path)) (steps_fit raw raw.root path) some p.fit);
     }))))
 
--- the same of a problem with scenarios
+-- steps fit in a problem with scenarios as they do without
 steps_same : (raw : Raw) (scenarios : List (List Moment)) (successors : List ℕ) (steps : List Moment) → steps_fit (record raw { scenarios = scenarios }) successors steps ≡ steps_fit raw successors steps
 steps_same raw scenarios successors [] = refl
 steps_same raw scenarios successors (step ∷ steps) = ap (λ b. step_fits raw successors step && b) (steps_same raw scenarios (successors_at raw step.node) steps)

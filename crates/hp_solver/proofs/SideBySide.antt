@@ -16,7 +16,7 @@ height_at n [] bs k = refl
 height_at n (h ∷ hs) bs zero = refl
 height_at n (h ∷ hs) bs (suc k) = height_at n hs (drop n bs) k
 
--- what is left after two parts
+-- the rest after two parts
 twice : (m k : ℕ) (bs : List ℤ) → drop k (drop m bs) ≡ drop (m + k) bs
 twice zero k bs = let e : k ≡ 0 + k = omega arith in ap (λ (m : ℕ). drop m bs) e
 twice (suc m) k [] = drop-nil k ∙ sym (drop-nil (suc m + k))

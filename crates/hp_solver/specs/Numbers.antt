@@ -31,7 +31,7 @@ number z = record { 0 = z }
 abbrev pub zero_fx : Fx
 zero_fx = number (pos 0)
 
--- what stands for 1
+-- the number that stands for 1
 abbrev pub one : Fx
 one = number (pos (2 ^ 32))
 

@@ -32,7 +32,7 @@ pub record IsReference (lp : Program) : Type 0 where
   pub own : lp.own ≡ length lp.rows
   pub idle : All IsIdle (drop lp.decisions lp.columns)
 
--- the same decisions, as many columns, and the same own rows but for their sides
+-- a program with the same decisions, as many columns, and the same own rows but for their sides
 pub record Extends (reference lp : Program) : Type 0 where
   pub decisions : lp.decisions ≡ reference.decisions
   pub own : lp.own ≡ reference.own
@@ -41,7 +41,7 @@ pub record Extends (reference lp : Program) : Type 0 where
   pub terms : terms_of (take reference.own lp.rows) ≡ terms_of (take reference.own reference.rows)
   pub proper : IsProper lp
 
--- the same program but for the sides of own rows
+-- a program that differs in the sides of own rows alone
 pub record IsLike (lp other : Program) : Type 0 where
   pub columns : lp.columns ≡ other.columns
   pub decisions : lp.decisions ≡ other.decisions

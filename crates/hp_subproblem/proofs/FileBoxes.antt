@@ -57,7 +57,7 @@ decision-box names bounds costs at found next name v known named e =
       record { known = known; named = named; low = bound_at-Ok at _ low is_low; high = bound_at-Ok at _ high is_high; cost = refl },
     ))))
 
--- what one variable adds: a decision, or nothing
+-- the addition of one variable: a decision, or nothing
 Adds : List Name → List Sides → List ℤ → ℕ → Bool → List Decision → List Decision → Type 0
 Adds names bounds costs v decides found next = (ds : List Decision) × (next ≡ found ++ ds) × AreBoxes names bounds costs (if decides then v ∷ [] else []) ds
 
@@ -85,7 +85,7 @@ front : (b : Bool) (i : ℕ) (rs : List Role) → (if b then i ∷ [] else []) +
 front true i rs = ap (λ n. i ∷ decisions_from n rs) (omega arith)
 front false i rs = ap (λ n. decisions_from n rs) (omega arith)
 
--- what two steps add
+-- the addition of two steps
 after : (found next all ds es : List Decision) → all ≡ next ++ es → next ≡ found ++ ds → all ≡ found ++ (ds ++ es)
 after found next all ds es is first = is ∙ ap (λ (xs : List Decision). xs ++ es) first ∙ append_assoc found ds es
 
@@ -180,7 +180,7 @@ given-kept units ys bounds (v ∷ vs) = let rest = given-kept units ys bounds vs
 
 -- ---- all variables
 
--- what holds of all variables holds of the decisions
+-- a property of all variables holds of the decisions
 decisions-each : (P : ℕ → Type 0) (roles : List Role) (i n : ℕ) → i + length roles ≡ n → ((v : ℕ) → v < n → P v) → AllByRecursion P (decisions_from i roles)
 decisions-each P [] i n count all = tt
 decisions-each P (r ∷ rs) i n count all = by (is_decision r) (decisions-each P rs (i + 1) n (omega arith) all)
@@ -189,7 +189,7 @@ decisions-each P (r ∷ rs) i n count all = by (is_decision r) (decisions-each P
     by true rest = (all i (omega arith), rest)
     by false rest = rest
 
--- what holds of the decisions holds of each variable that is one
+-- a property of the decisions holds of each variable that is one
 decided : (P : ℕ → Type 0) (roles : List Role) (i v n : ℕ) (r : Role) → i + v ≡ n → slice_get roles v ≡ Some r → is_decision r ≡ true → AllByRecursion P (decisions_from i roles) → P n
 decided P [] i v n r count is decides all = cc
 decided P (q ∷ rs) i zero n r count is decides all =
@@ -206,7 +206,7 @@ decided P (q ∷ rs) i (suc v) n r count is decides all = decided P rs (i + 1) v
     by true h = h.1
     by false h = h
 
--- what holds of all holds of one among them
+-- a property of all holds of one among them
 listed : (P : ℕ → Type 0) (vs : List ℕ) (v : ℕ) → list_any (λ w. w == v) vs ≡ true → AllByRecursion P vs → P v
 listed P [] v any all = cc
 listed P (w ∷ ws) v any all = by (w == v) refl any (λ more. listed P ws v more all.1)
@@ -215,7 +215,7 @@ listed P (w ∷ ws) v any all = by (w == v) refl any (λ more. listed P ws v mor
     by true is h rest = subst P (eqb-true w v is) all.0
     by false is h rest = rest h
 
--- what holds of all variables holds of the incoming states
+-- a property of all variables holds of the incoming states
 incoming-each : (P : ℕ → Type 0) (roles : List Role) (n : ℕ) (vs : List ℕ) → length roles ≡ n → AllByRecursion (λ v. slice_get roles v ≡ Some Incoming) vs → ((v : ℕ) → v < n → P v) → AllByRecursion P vs
 incoming-each P roles n [] long is all = tt
 incoming-each P roles n (v ∷ vs) long is all = (all v (omega (arith, slice_get_within roles v Incoming is.0, long)), incoming-each P roles n vs long is.1 all)

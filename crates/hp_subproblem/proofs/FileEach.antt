@@ -22,7 +22,7 @@ module _ {A B : Type 0} (P : A → List B → Type 0) where
       (one.0 ∷ rest.0, ap₂ (both ◌∷◌) one.1 rest.1, subst (P all) (append_assoc done (one.0 ∷ []) rest.0) rest.2)
 
 module _ {A B : Type 0} (P : A → List B → Type 0) where
-  -- the same of members with their keys
+  -- like walk_items-says, for members with their keys
   pub walk_members-says : (step : A → ℕ → List ℕ → Data → Result A Refusal) (says : List ℕ → Data → Option B)
       → ((found next : A) (i : ℕ) (k : List ℕ) (d : Data) (done : List B) → step found i k d ≡ Ok next → P found done → (x : B) × (says k d ≡ Some x) × P next (done ++ x ∷ []))
       → (ms : Members) (found all : A) (i : ℕ) (done : List B) → walk_members step found i ms ≡ Ok all → P found done → (xs : List B) × (each_member says ms ≡ Some xs) × P all (done ++ xs)

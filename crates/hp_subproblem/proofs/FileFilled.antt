@@ -27,7 +27,7 @@ use Rattle.hp_subproblem.proofs.FileKept.{Holds, Kept}
 use Rattle.hp_subproblem.proofs.FileConstraints.{constraints-say}
 use Rattle.hp_subproblem.proofs.FileBoxes.{AreBoxes, Keeps, boxes-are, boxes-named, boxes-cost, boxes-own, boxes-kept, given-kept, bounded-parts}
 
--- what a subproblem has of variables, costs and constraints
+-- the variables, costs and constraints of a subproblem
 pub record Filled (vars : Variables) (costs : functions.Function) (ds : Items) (s : Subproblem) : Type 0 where
   pub names : map (λ (d : Decision). d.name) s.decisions ≡ map (name_of vars.names) vars.decisions
   pub own : (y : Numbers) → own s y ≡ map (entry (map y vars.names)) vars.decisions
@@ -85,7 +85,7 @@ stage-kept vars costs found decisions cs split k boxes st are own_is before_is c
       λ h. subst (AllByRecursion (λ (c : Constraint). c units y ≡ true)) (sym are) (all.1 (parts.1 (own_boxes.0 h.0, given.0 h.2), rows.1 h.1)),
     )
 
--- what the reader gives is filled with what the file says
+-- the reader's subproblem is filled with the parts that the file says
 pub filled-says : (vars : Variables) (p : ℕ) (costs : functions.Function) (ds : Items) (s : Subproblem) → Split vars → filled_at vars p costs ds ≡ Ok s → Filled vars costs ds s
 unfolding filled_at subproblem_of
 filled-says vars p costs ds s split e =

@@ -99,7 +99,7 @@ each-more : {A : Type 0} (P : A → Type 0) (xs : List A) (x : A) → AllByRecur
 each-more P [] x = (λ h. (tt, h.0), λ h. (h.1, tt))
 each-more P (z ∷ zs) x = let rest = each-more P zs x in (λ h. ((h.0, (rest.0 h.1).0), (rest.0 h.1).1), λ h. (h.0.0, rest.1 (h.0.1, h.1)))
 
--- what is bounded is the one variable of the function, and not random
+-- the bounded variable is the one variable of the function, and not random
 bounded-is : (roles : List Role) (o : Option ℕ) (v : ℕ) → bounded roles o ≡ Some v → (o ≡ Some v) × (slice_get roles v ≡ Some Random → ⊥)
 unfolding bounded
 bounded-is roles None v e = cc
@@ -113,7 +113,7 @@ bounded-is roles (Some w) v e = by (is_random (slice_get roles w)) refl e
 abbrev pub Holds : Variables → ℕ → List ℤ → Row → Type 0
 Holds vars units ys row = Between units row.low row.high (row_sum vars ys row)
 
--- what was found so far is kept where what was said so far is
+-- the constraints found so far are kept where those said so far are
 pub record Kept (vars : Variables) (found : Constraints) (cs : List Constraint) : Type 0 where
   pub long : length found.bounds ≡ length vars.names
   pub free : Unbounded vars found.bounds

@@ -54,7 +54,7 @@ object-says p (string t) ms e = cc
 object-says p (array es) ms e = cc
 object-says p (object ns) ms e = ap Some (Ok-is ns ms e)
 
--- what may be absent
+-- members that may be absent
 pub members-say : (p : Place) (o : Option Data) (ms : Members) → members_at p o ≡ Ok ms → or_absent no_members as_object o ≡ Some ms
 unfolding members_at
 members-say p None ms e = ap Some (Ok-is no_members ms e)
@@ -70,7 +70,7 @@ unfolding constant_at
 constant-says p None z e = ap Some (Ok-is (pos 0) z e)
 constant-says p (Some d) z e = whole-says p d z e
 
--- what is said after a test, where both ways say it
+-- a statement after a test, where both ways state it
 pub chosen : {A B : Type 0} (G : Option A → Type 0) (b : Bool) (r s : Result B Refusal) (y : B) (o p : Option A) → (if b then r else s) ≡ Ok y → (r ≡ Ok y → G o) → (s ≡ Ok y → G p) → G (if b then o else p)
 chosen G true r s y o p e one other = one e
 chosen G false r s y o p e one other = other e

@@ -100,7 +100,7 @@ set-says at d sides e =
     chosen (SetSaid sides) (bytes_eq kind (codes "LessThan")) _ _ sides _ _ e (λ e. less-says at d sides e) (λ e.
     chosen (SetSaid sides) (bytes_eq kind (codes "Interval")) _ _ sides _ _ e (λ e. interval-says at d sides e) (λ e. absurd cc)))))))
 
--- what lies between both sides lies between those that meet
+-- a number between both sides is one between their intersection
 pub meet-is : (a b : Sides) (units : ℕ) (z : ℤ) → Within units (intersection a b) z ↔ (Within units a z × Within units b z)
 meet-is a b units z = (
   λ h. let l = low a.low b.low in let u = high a.high b.high in (((l.0 h.0).0, (u.0 h.1).0), ((l.0 h.0).1, (u.0 h.1).1)),

@@ -1,4 +1,5 @@
--- After the states and the random variables each variable is a decision, an incoming or a random variable. The lists of these are what the file says.
+-- After the states and the random variables each variable is a decision, an incoming or a random variable. These lists are as the file
+-- says.
 use Rattle.std.proofs.Common.{◌≡◌, ℕ, zero, suc, ◌<◌, ◌≤◌, ◌+◌, ◌==◌, ◌||◌, List, [], ◌∷◌, ◌++◌, length, map, replicate, Bool, true, false, slice_get, slice_set, Option, Some, None, Ok, position, codes, bytes_eq, if◌then◌else◌, refl, sym, ap, ap₂, subst, ◌∙◌, arith}
 use Rattle.std.specs.Prelude.{IsPermutation}
 use Rattle.std.specs.List.{AllByRecursion, IsDistinct, list_any}
@@ -247,7 +248,7 @@ incoming-among vars long decisions random all v has =
     middle false false true e f h = cc
     middle false false false e f h = cc
 
--- what the file says of a stage's states and random variables
+-- a stage's states and random variables, as the file says them
 pub record VariablesSaid (states : List raw.State) (stage : StageParts) (vars : Variables) : Type 0 where
   pub split : Split vars
   pub states_are : List State

@@ -136,7 +136,7 @@ filled_at-fits states vars p costs ds s v small e =
       boxes = boxes;
     })))))
 
--- what the reader accepts keeps the limits
+-- a subproblem that the reader accepts keeps the limits
 pub subproblem_at-fits : (states : List State) (p : ℕ) (k : List ℕ) (d : Data) (s : Subproblem) → subproblem_at states p k d ≡ Ok s → subproblem_fits (length states) s ≡ true
 unfolding subproblem_at
 subproblem_at-fits states p k d s e =

@@ -56,7 +56,7 @@ random-apart (r ∷ rs) k (suc v) j is has = by (is_decision r) (random-apart rs
 
 -- ---- the names of some variables
 
--- what holds of each pair, taken the other way round
+-- a property of each pair, taken the other way round
 turned : {A B : Type 0} (R : A → B → Type 0) (xs : List A) (ys : List B) → AllByRecursion (λ y. AllByRecursion (λ x. R x y) xs) ys → AllByRecursion (λ x. AllByRecursion (R x) ys) xs
 turned R [] ys all = tt
 turned {A} R (x ∷ xs) ys all = (

@@ -62,7 +62,7 @@ names_at-differ p ds names e =
 abbrev pub HasRole : List Role → Role → ℕ → Type 0
 HasRole roles role v = slice_get roles v ≡ Some role
 
--- what a variable has stays where another one gets a role, and the one gets it
+-- the role of a variable stays where another one gets a role, and that one gets it
 set_there : {A : Type 0} (xs : List A) (i : ℕ) (x y : A) → slice_get xs i ≡ Some y → slice_get (slice_set xs i x) i ≡ Some x
 set_there [] i x y e = cc
 set_there (z ∷ zs) zero x y e = refl
@@ -100,7 +100,7 @@ taken_at-Ok at old new v role e =
       others = λ w used taken has. stays old v w role used parts.0 taken has;
     })
 
--- those that have the role already, and the one that is free
+-- the variables that have the role already, and the one that is free
 apart : (roles : List Role) (v : ℕ) (used : Role) (vs : List ℕ) → is_free (slice_get roles v) ≡ true → is_free (Some used) ≡ false → AllByRecursion (HasRole roles used) vs → AllByRecursion (λ w. (w == v) ≡ false) vs
 apart roles v used vs free taken all =
     each-weaker (HasRole roles used) (λ w. (w == v) ≡ false) vs (λ w has. ne_eqb w v (λ same. absurd (true≢false (sym free ∙ ap is_free (subst (λ u. HasRole roles used u) same has) ∙ taken)))) all

@@ -72,7 +72,7 @@ lesser_of None b = b
 lesser_of (Some a) None = Some a
 lesser_of (Some a) (Some b) = Some (int_min a b)
 
--- what stands between both
+-- the intersection of both
 abbrev pub intersection : Sides → Sides → Sides
 intersection a b = record { low = greater_of a.low b.low; high = lesser_of a.high b.high }
 

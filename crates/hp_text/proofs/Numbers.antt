@@ -27,7 +27,7 @@ whole : (word : List ℕ) → IsNumeral word → is_numeral word ≡ true
 whole [] h = absurd (omega arith)
 whole (first ∷ rest) h = grind (arith, nat_tests, h.digits, h.lead)
 
--- what `parse` gives of a numeral
+-- the value that `parse` gives of a numeral
 pub parsed : {E : Type 0} (word : List ℕ) (r : Result ℕ E) → ParsesUnsigned 64 10 word r → is_numeral word ≡ true → result_ok r ≡ number_of word
 unfolding number_of
 parsed {E} word (Ok n) h numeral = let q = parse_digits own {E = E} 64 word (Ok n) h (parts word numeral).digits in grind (arith, nat_tests, numeral)

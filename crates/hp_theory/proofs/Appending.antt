@@ -13,7 +13,7 @@ use Rattle.hp_theory.specs.Problem.{Link, Problem, link_weights}
 use Rattle.hp_theory.proofs.WorkedCertificates.{pools}
 use Rattle.hp_theory.specs.declared.cut.Cut.{Cut}
 
--- what holds of the pool of k, with the new cut where k is m
+-- a property of the pool of k, with the new cut where k is m
 pub push_at : (pools : List (List Cut)) (m k : ℕ) (c : Cut) (P : List Cut → Type 0) → P (pool pools k) → (k ≡ m → P (pool pools m ++ c ∷ [])) → P (pool (push pools m c) k)
 push_at [] m k c P h g = h
 push_at (q ∷ qs) zero zero c P h g = g refl

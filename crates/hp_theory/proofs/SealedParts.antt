@@ -89,11 +89,11 @@ parts p m e h =
       fit = parts_fit p m n.0 s.0 l.0 u.0 e n.1 s.1 l.1 u.1;
     }
 
--- the same of the parts that a problem gives out
+-- the parts of a node, as a problem gives them out
 pub parts_given : (p : Sealed) (m : ℕ) (n : nodes.Node) (s : Subproblem) (low high : List ℤ) → is_sealed p ≡ true → slice_get p.raw.nodes m ≡ Some n → subproblem_of p m ≡ Some s → slice_get p.lo m ≡ Some low → slice_get p.hi m ≡ Some high → PartsFit p m n s low high
 parts_given p m n s low high e fn fs = parts_fit p m n s low high e fn (ap (λ (o : Option nodes.Node). option_and_then (λ (k : nodes.Node). slice_get p.raw.subs k.sub) o) (sym fn) ∙ fs)
 
--- what the limits say
+-- facts that the limits state
 pub weighty : (n : nodes.Node) (randoms : ℕ) → realizations_fit randoms n ≡ true → (0 < length n.weights) × (length n.weights ≤ 100) × (sum n.weights ≤ 65535) × (length n.values ≡ length n.weights)
 weighty n randoms e = grind (arith, nat_tests, common_steps)
 

@@ -59,7 +59,7 @@ some_successor_weight stop (m ∷ ms) (w ∷ ws) e h =
     let some : 0 < sum (w ∷ ws) = positive_sum (w ∷ ws) (omega arith) h in
     omega arith
 
--- what leaves a node lies in the box of another
+-- the state that leaves a node lies in the box of another
 nested : (n k : nodes.Node) (s t : Subproblem) (low high low' high' : List ℤ) → length s.outs ≡ length low' → length s.outs ≡ length high' → list_all (λ o. nat_lt o (length s.decisions)) s.outs ≡ true
     → at_most low' (out_lows s) ≡ true → at_most (out_highs s) high' ≡ true → Nested (node_of n s low high) (node_of k t low' high')
 unfolding node_of

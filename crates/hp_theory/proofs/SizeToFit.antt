@@ -212,7 +212,7 @@ scale_least : (d : ℕ) → S ≤ d → pos (2 ^ 127) ≤ℤ (pos d *ℤ pos (2 
 unfolding S
 scale_least d h = omega (arith, ints)
 
--- what acceptance bounds keeps the cut small
+-- the bound of acceptance keeps the cut small
 small_cut : (pools : List (List Cut)) (n : Node) (list : List Certificate) → 0 < divisor n → S ≤ divisor n → size_of pools n list ≤ℤ pos (2 ^ 127) → Narrow n → cut_size n (cut_of pools n list) ≤ℤ pos (2 ^ 103 + 2 ^ 46)
 small_cut pools n list z sd h k =
     le_cancel (divisor n) (cut_size n (cut_of pools n list)) (pos (2 ^ 103 + 2 ^ 46)) z

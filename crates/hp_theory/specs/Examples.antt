@@ -38,7 +38,7 @@ reservoir w = record {
   stop = 0;
 }
 
--- that node alone, from volume 4
+-- the reservoir's node alone, from volume 4
 abbrev reservoir_at : ℕ → ℕ → Node
 reservoir_at w zero = reservoir w
 reservoir_at w (suc m) = no_node
@@ -55,7 +55,7 @@ reservoir_certificate = record { rows = negsuc 83886079 ∷ pos 83886080 ∷ [];
 abbrev pub tree_in_halves : Tree
 tree_in_halves = branch (pos 1 ∷ pos 9 ∷ pos 9 ∷ []) no_tree (branch (pos 0 ∷ pos 14 ∷ pos 4 ∷ []) no_tree no_branch)
 
--- the same with one half more left at inflow 1, which is water from nowhere
+-- this tree with one half more left at inflow 1, which is water from nowhere
 abbrev pub wrong_tree : Tree
 wrong_tree = branch (pos 2 ∷ pos 9 ∷ pos 9 ∷ []) no_tree (branch (pos 0 ∷ pos 14 ∷ pos 4 ∷ []) no_tree no_branch)
 

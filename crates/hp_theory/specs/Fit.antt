@@ -21,7 +21,7 @@ pub record Fit (p : Problem) (count : ℕ) (pools : List (List Cut)) : Type 0 wh
   pub some : (m : ℕ) → m < count → 0 < length (pool pools m)
   pub cuts : (m : ℕ) → m < count → All (CutFits (node_at p m)) (pool pools m)
 
--- the same of a node's successors alone
+-- pools that fit for a node's successors alone
 pub record FitFor (p : Problem) (count : ℕ) (pools : List (List Cut)) (m : ℕ) : Type 0 where
   pub lists : length pools ≡ count
   pub some : All (λ (l : Link). 0 < length (pool pools l.node)) (node_at p m).links

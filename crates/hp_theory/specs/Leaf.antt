@@ -6,7 +6,7 @@ use Rattle.hp_theory.specs.Problem.{Node, Realization}
 use Rattle.hp_theory.specs.CutOf.{box_least}
 use Rattle.hp_theory.specs.Size.{magnitude, magnitudes, reach}
 
--- what a stage costs at least, but for its incoming state: constant + f·omega + the sum of min(c_j l_j, c_j h_j)
+-- the least cost of a stage, but for its incoming state: constant + f·omega + the sum of min(c_j l_j, c_j h_j)
 abbrev pub least_stage : Node → List ℤ → ℤ
 least_stage n values = n.constant +ℤ dot n.random_costs values +ℤ sum_to (length n.costs) (λ j. box_least n j (entry n.costs j))
 

@@ -6,7 +6,7 @@ use Rattle.hp_theory.specs.Problem.{Link, Node, Problem, node_at, link_weights, 
 use Rattle.hp_theory.specs.Pools.{pool}
 use Rattle.hp_theory.specs.Size.{reach}
 
--- what leaves n lies in m's box
+-- the state that leaves n lies in m's box
 pub record Nested (n m : Node) : Type 0 where
   pub count : length n.outs ≡ length m.low
   pub outs : (k : ℕ) → k < length m.low → get_or n.outs k 0 < length n.decision_low

@@ -25,14 +25,14 @@ pub record Node : Type 0 where
   pub outs : List ℕ
   -- low ≤ decisions·u + states·x + randoms·omega ≤ high, where either side may be absent
   pub rows : List Row
-  -- what a stage costs without its decisions
+  -- the stage costs without the decisions
   pub constant : ℤ
   pub state_costs : List ℤ
   pub random_costs : List ℤ
   -- the box of the incoming state
   pub low : List ℤ
   pub high : List ℤ
-  -- what may happen here, and after it
+  -- the realizations here, and the successors after it
   pub realizations : List Realization
   pub links : List Link
   pub stop : ℕ

@@ -38,7 +38,7 @@ module _ {Start Chain : Type 0} (v : Solving Start Chain) (p : Sealed) (pools : 
     | inr other ↦ let e = stays m n f (omega (arith, below, other)) stopped in stays_one m f (ap (λ (c : Continued). c.stop) e ∙ stopped) ∙ e
   ]
 
-  -- what is there stays in front
+  -- the lists that are there stay in front
   more_step : (c : Continued) (r : Result Stepped SweepFault) → (rest : List (List Entry)) × ((with_step p c r).lists ≡ c.lists ++ rest)
   more_step c (Ok s) = (s.entries ∷ [], refl)
   more_step c (Err f) = ([], sym (append-nil c.lists))

@@ -46,7 +46,7 @@ module _ {A B E : Type 0} (step : B → A → Result B E) (zs : List A) (i : ℕ
   pub forwards-done : length zs ≤ i → whole ≡ Ok found
   forwards-done h = sym inv ∙ ap (λ (xs : List A). forwards step xs found) (drop_all i zs h)
 
--- what stops a part stops the whole
+-- a fault that stops a part stops the whole
 pub stops_through : {A B : Type 0} (f : SweepFault) (part : Result A SweepFault) (whole : Result B SweepFault) → ((e : SweepFault) → part ≡ Err e → whole ≡ Err e) → Stops f part → Stops f whole
 stops_through (NoStage dead) part whole h s = h (NoStage dead) s
 stops_through (Range k m r) part whole h s = h (Range k m r) s

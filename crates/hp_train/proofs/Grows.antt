@@ -59,7 +59,7 @@ recorded_ends old new at lists final has ends =
     each None e = tt
     each (Some bytes) e = behind_ends at bytes lists e
 
--- what an appended record leaves, at any moment
+-- a crash at any moment while a record is appended
 abbrev pub LeavesAppended : List ℕ → Store → Store → Type 0
 LeavesAppended body old new = IfSome old.reads (λ bytes. (t : Title) (ps : List (List ℕ)) (j : ℕ) → j < length ps → bytes ≡ journal t (take j ps) 0 [] → body ≡ body_of (get_or ps j []) → LeavesOnly old new (GrownFrom t ps j))
 
@@ -154,7 +154,7 @@ module _ {Start Chain : Type 0} (v : Solving Start Chain) (p : Sealed) (seed : �
       (ap (λ (o : Outcome). o.version) is)
       (ap (λ (o : Outcome). o.batch) is)
 
-  -- what an iteration gave, by its parts
+  -- the outcome of an iteration, by its parts
   pub record WasStepped (n : ℕ) (old mid : Loaded) (body : List ℕ) (o : Outcome) : Type 0 where
     pub s : Stepped
     pub step : step_of v p (after old n).pools seed old.batch (suc (length old.bounds + n)) ≡ Ok s
@@ -224,11 +224,11 @@ module _ {Start Chain : Type 0} (v : Solving Start Chain) (p : Sealed) (seed : �
         end = omega (arith, ap (λ (x : Outcome). x.end) is, short, has.end);
       }
 
--- what was loaded of an open journal ends at its gate
+-- the outcome of an open journal ends at its gate
 pub gate_is : (l : Loaded) → l.born ≡ true → last_gate (seen l) ≡ l.end
 gate_is l born = ap (λ (b : Bool). if b then l.end else first_gate l.version) born
 
--- the same where the last lists are known
+-- the moment and the disk where the last lists are known
 module _ (old mid new : Store) (at : ℕ) (lists final : List (List Entry)) (es : List Entry) (rest : List (List Entry)) (body : List ℕ) (has : HasRecorded old mid at lists final) (ends : IfSome old.reads (EndsShut at)) (goes : final ≡ lists ++ es ∷ rest) (is : body ≡ body_of (spell es)) where
   pub moment_on : LeavesAppended body mid new → IfSome old.reads (λ bytes. (t : Title) (ps : List (List ℕ)) (j : ℕ) → bytes ≡ journal t (take j ps) 0 [] → GoOnWith j ps final → LeavesOnly old new (GrownFrom t ps j))
   moment_on leaves =

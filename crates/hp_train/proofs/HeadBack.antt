@@ -53,7 +53,7 @@ eight_small l h = omega (arith, h 0, h 1, h 2, h 3, h 4, h 5, h 6, h 7)
 
 -- ---- a born head
 
--- what stands up to the first gate, which is there
+-- the bytes up to the first gate, which is there
 pub record HeadIs (bytes : List ℕ) (t : Title) : Type 0 where
   pub title : IsTitle t
   pub stands : take (head_length t.version - 1) bytes ≡ front t []
@@ -106,7 +106,7 @@ module _ (bytes : List ℕ) (fits : IsBytes bytes) where
         there = long;
       }
 
-  -- what a head says of the bytes
+  -- the statement of a head about the bytes
   abbrev pub HeadGives : Head → Type 0
   HeadGives (Unborn n) = IsUnborn bytes × (n ≡ length bytes)
   HeadGives (Born version digest seed batch) = HeadIs bytes (record { version = version; digest = digest; seed = seed; batch = batch })

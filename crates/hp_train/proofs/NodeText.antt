@@ -105,7 +105,7 @@ counted_answers_at v p pools m state =
     let whole : length (first_half vs) + length (second_half vs) ≡ length vs = sym (length-append (first_half vs) (second_half vs)) ∙ ap (λ (all : List (List ℤ)). length all) (take-append-drop (length vs / 2) vs) in
     omega (arith, length-append xs ys, counted-answers_to v p pools m state (first_half vs), counted-answers_to v p pools m state (second_half vs), whole)
 
--- what a step of an entry needs to be written, with at most so many pairs to a list
+-- the premises under which a step of an entry can be written, with at most so many pairs to a list
 pub record StepText (p : Sealed) (most : ℕ) (s : EntryStep) : Type 0 where
   pub suits : StepSuits p s
   pub fits : StepFits s

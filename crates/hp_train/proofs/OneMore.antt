@@ -83,7 +83,7 @@ module _ {Start Chain : Type 0} {v : Solving Start Chain} {p : Sealed} {seed n :
             (recorded_on before during now old.end done final w.s.entries more.0 bytes recorded ends more.1 spells leaves quiet m.end (place born) reads (after v p seed old (suc n)).lists
             (ap (λ (x : Continued). x.lists) (goes_on v p old.pools.lists seed old.batch (length old.bounds) n (Ok w.s) has.running w.step)))
 
-    -- what was loaded ends behind its record
+    -- the loaded journal ends behind its record
     pub next_iterated : (new : Loaded) (end : ℕ) (bytes : List ℕ) → bytes ≡ body → end ≡ m.end + length bytes → seen new ≡ moved v p seed (seen m) end
         → IsBody body
         → Fit (problem_of p) (length p.raw.nodes) m.pools.lists

@@ -21,7 +21,7 @@ true_or_false : (b : Bool) → (b ≡ true) ⊎ (b ≡ false)
 true_or_false true = inl refl
 true_or_false false = inr refl
 
--- what stands before a byte at its place
+-- the bytes before a byte at its place
 front_of : (f bytes : List ℕ) (at gate : ℕ) (rest : List ℕ) → at ≡ length f → bytes ≡ f ++ gate ∷ rest → take at bytes ≡ f
 front_of f bytes at gate rest place same = ap (λ (b : List ℕ). take at b) same ∙ ap (λ (n : ℕ). take n (f ++ gate ∷ rest)) place ∙ take-append_seam f (gate ∷ rest)
 
@@ -50,7 +50,7 @@ module _ (t : Title) (l : Outcome) (old new : Store) where
   repaired_leaves is leaves = told old.reads (λ bytes reads ps j stands. old_leaves ps j bytes is (known (λ b. (s : Title) (qs : List (List ℕ)) (k : ℕ) → l.end ≡ length (front s (take k qs)) → Grown s qs k b → LeavesOnly old new (GrownFrom s qs k)) old.reads bytes reads leaves) stands)
 
 module _ (digest : List ℕ) (seed : ℕ) (l : Outcome) where
-  -- what stands before the gate
+  -- the bytes before the gate
   pub new_front : (bytes : List ℕ) → l.born ≡ false → loaded_front digest seed l bytes ≡ front (title_of digest seed l) []
   new_front bytes is = ap (λ (b : Bool). if b then take l.end bytes else front (title_of digest seed l) []) is
 

@@ -38,7 +38,7 @@ pub payloads-append : (xs ys : List (List Entry)) → payloads (xs ++ ys) ≡ pa
 payloads-append [] ys = refl
 payloads-append (x ∷ xs) ys = ap (λ (l : List (List ℕ)). spell x ∷ l) (payloads-append xs ys)
 
--- what stands before the gate behind more records
+-- the bytes before the gate behind more records
 pub front-append : (t : Title) (ps qs : List (List ℕ)) → front t (ps ++ qs) ≡ front t ps ++ records qs
 front-append t ps qs = ap (λ (l : List ℕ). 1 ∷ title_bytes t ++ l) (records-append ps qs) ∙ ap (λ (l : List ℕ). 1 ∷ l) (sym (append_assoc (title_bytes t) (records ps) (records qs)))
 

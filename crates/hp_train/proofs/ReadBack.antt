@@ -106,7 +106,7 @@ record_bytes bytes at x fits there one q =
 -- ---- the records from a place on
 
 module _ (p : Sealed) (batch : ℕ) (t : Title) (bytes : List ℕ) (fits : IsBytes bytes) where
-  -- what stands up to a gate
+  -- the bytes up to a gate
   abbrev StandsTo : ℕ → List (List Entry) → Type 0
   StandsTo at lists = take at bytes ≡ front t (payloads lists)
 
@@ -176,7 +176,7 @@ module _ (p : Sealed) (batch : ℕ) (t : Title) (bytes : List ℕ) (fits : IsByt
       ∙ sym (front-append t (payloads lists) (spell es ∷ []))
       ∙ ap (λ (ps : List (List ℕ)). front t ps) (sym (payloads-append lists (es ∷ [])))
 
-  -- what stands up to the last gate, which is shut, and behind it
+  -- the bytes up to the last gate, which is shut, and behind it
   pub record EndsThere (e : Ended) : Type 0 where
     pub stands : take e.end bytes ≡ front t (payloads e.lists)
     pub shut : IsShutAt e.end bytes

@@ -46,7 +46,7 @@ read_more p batch i n found mid after [] es is r one =
     (after, subst (λ (f : Found). IsRead p batch i f es after) (sym r) (subst (λ (k : ℕ). IsRead p batch k mid es after) same one), refl)
 read_more p batch i n found mid after (x ∷ lists) es is r one = (r.0, r.1, read_more p batch (suc i) n r.0 mid after lists es (omega (arith, is)) r.2 one)
 
--- what iterations found
+-- the findings of iterations, as records have them
 abbrev pub found_by : Continued → Found
 found_by c = record { pools = c.pools; bounds = c.bounds; unsettled = unsettled_in c.lists }
 
@@ -57,7 +57,7 @@ pub record AreRecorded (p : Sealed) (base : List (List Cut)) (batch : ℕ) (c : 
   pub added : lists_added p (fresh base) c.lists ≡ Ok (found_by c)
 
 module _ (p : Sealed) (base : List (List Cut)) (batch : ℕ) where
-  -- what an iteration adds to what was found
+  -- the addition of an iteration to the findings
   step_added : (c : Continued) (s : Stepped) → entries_added p c.pools s.entries ≡ Ok s.pools → record_added p (found_by c) s.entries ≡ Ok (found_by (with_step p c (Ok s)))
   unfolding record_added
   step_added c s e =

@@ -151,7 +151,7 @@ module _ (p : Sealed) (sealed : is_sealed p ≡ true) (batch : ℕ) (t : Title) 
 
 -- ---- the head
 
--- what is asked of a batch
+-- the premise on an asked batch
 abbrev pub AsksFor : Option ℕ → ℕ → Type 0
 AsksFor None batch = Unit {0}
 AsksFor (Some b) batch = b ≡ batch

@@ -31,7 +31,7 @@ asks_for : (digest : List ℕ) (seed : ℕ) (asked : Option ℕ) → AsksFor ask
 asks_for digest seed None = tt
 asks_for digest seed (Some b) = refl
 
--- that of a journal that is not born
+-- the title of a journal that is not born
 unborn_title : (digest : List ℕ) (seed : ℕ) (asked : Option ℕ) (base : List (List Cut)) → title_of (new_title digest seed asked).digest (new_title digest seed asked).seed (loads.unborn base asked) ≡ new_title digest seed asked
 unborn_title digest seed None base = refl
 unborn_title digest seed (Some b) base = refl
@@ -42,7 +42,7 @@ few_paths t title = ⊎_elim (λ one. omega (arith, one.1)) (λ two. two.2) titl
 not_open : (n : ℕ) → n ≡ 0 → n ≢ 1
 not_open n z e = omega (arith, z, e)
 
--- what stands before the gate of a journal
+-- the bytes before the gate of a journal
 front_of : (t : Title) (ps : List (List ℕ)) (gate : ℕ) (rest : List ℕ) → take (length (front t ps)) (journal t ps gate rest) ≡ front t ps
 front_of t ps gate rest = take-append_seam (front t ps) (gate ∷ rest)
 

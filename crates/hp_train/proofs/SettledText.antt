@@ -88,7 +88,7 @@ fitting_lists : (n : ℕ) (cuts : List (List (ℕ × ℕ))) → AllByRecursion (
 fitting_lists n [] h = tt
 fitting_lists n (c ∷ cuts) h = (h.0.1, fitting_lists n cuts h.1)
 
--- what a certificate of the node n needs to be written, with at most so many pairs to a list
+-- the premises under which a certificate of the node n can be written, with at most so many pairs to a list
 pub record HasText (most : ℕ) (n : Node) (c : Certificate) : Type 0 where
   pub rows : length c.rows ≡ length n.rows
   pub cuts : length c.cuts ≡ length n.links

@@ -14,7 +14,7 @@ use Rattle.hp_train.specs.Continuing.{Continued, before_any, with_step, with_ite
 use Rattle.hp_train.proofs.Continuing.{goes_on, stays, in_front, counted}
 use Rattle.hp_train.proofs.Answered.{none_some}
 
--- what some iterations gave, and behind it what others did
+-- the outcome of some iterations, and behind it the outcome of others
 abbrev pub joined : Continued → Continued → Continued
 joined b r = record { pools = r.pools; lists = b.lists ++ r.lists; bounds = b.bounds ++ r.bounds; stop = r.stop }
 

@@ -29,7 +29,7 @@ use Rattle.hp_train.proofs.Answered.{same_ok}
 abbrev fine : Result (Unit {0}) LoadFault
 fine = Ok tt
 
--- what was asked is the journal's own
+-- an asked digest, seed or batch is the journal's own
 problem_is : (digest kept : List ℕ) → same_problem digest kept ≡ Ok tt → kept ≡ digest
 problem_is digest kept e = by (bytes_eq kept digest) refl e
   where

@@ -56,7 +56,7 @@ ranged : {A : Type 0} (k m : ℕ) (o : Option ℕ) (x y : A) → within_range k 
 ranged k m None x y e = (refl, same_ok x y e)
 ranged k m (Some r) x y e = absurd (not_ok _ y e)
 
--- what a step back adds
+-- the addition of a step back
 record StepMade (p : Sealed) (k most : ℕ) (before : Swept) (m : ℕ) (after : Swept) : Type 0 where
   list : List Certificate
   added : step_added p k before.pools (record { node = m; list = list }) ≡ Ok after.pools
@@ -93,7 +93,7 @@ module _ {Start Chain : Type 0} (v : Solving Start Chain) (p : Sealed) (sealed :
       let whole : with_made before m (b.0, cut_of before.pools n b.0.list) ≡ after = ap (λ made. with_made before m made) r.1 ∙ same_ok (with_made before m a.0) after a.2 in
       subst (StepMade p k most before m) whole (made most before m visit.1 b.0 known fit small few b.1 r.0)
 
-  -- what stands after some steps of a path, the last ones
+  -- the state after some steps of a path, the last ones
   pub record SweptText (pools : List (List Cut)) (most unsettled : ℕ) (ss : List Step) (after : Swept) : Type 0 where
     pub fit : Fit (problem_of p) (length p.raw.nodes) after.pools
     pub added : steps_added p k pools after.steps ≡ Ok after.pools

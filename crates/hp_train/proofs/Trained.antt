@@ -57,7 +57,7 @@ module _ (digest : List ℕ) (seed : ℕ) (o : Outcome) (title : IsTitle (title_
       ap (λ (x : Option (List ℕ)). option_map (behind end lists) x) reads ∙ ap (λ (n : ℕ). option_map (behind n lists) (option_map ready r)) is
       ∙ map_map r ready (behind (last_gate o) lists) (λ b. grown_journal digest seed o b lists) (told r (λ bytes there. behind_front digest seed o bytes lists (long r shut bytes there)))
 
-  -- what a crash leaves
+  -- a crash at any moment
   all_moments : (old mid new : Store) (lists : List (List Entry)) → mid.reads ≡ option_map ready old.reads
       → IfSome old.reads (λ bytes. (ps : List (List ℕ)) (j : ℕ) → StandsIn (title_of digest seed o) o ps j bytes → LeavesOnly old mid (MineFrom (title_of digest seed o) ps j))
       → IfSome mid.reads (λ bytes. (t : Title) (ps : List (List ℕ)) (j : ℕ) → bytes ≡ journal t (take j ps) 0 [] → GoOnWith j ps lists → LeavesOnly mid new (GrownFrom t ps j))

@@ -62,7 +62,7 @@ pub length-paths_from : (p : Sealed) (seed stream n : ℕ) → length (paths_fro
 length-paths_from p seed stream zero = refl
 length-paths_from p seed stream (suc n) = ap suc (length-paths_from p seed (suc stream) n)
 
--- what an entry needs to be written, with at most so many pairs to a list
+-- the premises under which an entry can be written, with at most so many pairs to a list
 pub record EntryText (p : Sealed) (k most : ℕ) (e : Entry) : Type 0 where
   pub iteration : e.iteration ≡ k
   pub writable : Writable p e
@@ -73,7 +73,7 @@ pub record EntryText (p : Sealed) (k most : ℕ) (e : Entry) : Type 0 where
 abbrev IsWalked : Sealed → List Step × Walk → Type 0
 IsWalked p q = IsPath p q.0 × IsWalk p q.0 q.1
 
--- what paths that are swept one after another leave
+-- the outcome of paths that are swept one after another
 record Added (p : Sealed) (k most count : ℕ) (found after : Stepped) : Type 0 where
   new : List Entry
   is : after.entries ≡ found.entries ++ new

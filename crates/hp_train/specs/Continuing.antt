@@ -10,8 +10,8 @@ use Rattle.hp_lp.specs.Chained.{Solving}
 use Rattle.hp_backward.specs.declared.fault.SweepFault.{SweepFault}
 use Rattle.hp_train.specs.Stepping.{Stepped, step_of}
 
--- what some iterations gave: the last pools, the entries of each, the bound after each, and the fault at which the next
--- one stopped, where one did
+-- the outcome of some iterations: the last pools, the entries of each, the bound after each, and the fault at which the next one stopped,
+-- where one did
 pub record Continued : Type 0 where
   pub pools : List (List Cut)
   pub lists : List (List Entry)

@@ -18,7 +18,7 @@ use Rattle.hp_train.specs.declared.fault.TrainFault.TheVariants.{NoStage, Range,
 use Rattle.hp_train.specs.Stepping.{Stepped, step_of}
 use Rattle.hp_train.specs.Training.{payloads}
 
--- what was loaded, with what an iteration gave, but for the journal's end
+-- the loaded outcome with an iteration's, but for the journal's end
 abbrev pub with_stepped : Sealed → Loaded → Stepped → Outcome
 with_stepped p l s = record {
   pools = s.pools;

@@ -8,7 +8,7 @@ use Rattle.hp_lp.specs.Chained.{Solving}
 use Rattle.hp_train.specs.Continuing.{Continued, continued}
 use Rattle.hp_train.specs.Training.{StandsIn, grown_journal, iterations, payloads, title_of, unsettled_in}
 
--- what so many iterations give from the base cuts
+-- the outcome of so many iterations from the base cuts
 abbrev pub unstopped : {Start Chain : Type 0} → Solving Start Chain → Sealed → List (List Cut) → Title → ℕ → Continued
 unstopped v p base t count = continued v p base t.seed t.batch 0 count
 

@@ -16,7 +16,7 @@ use Rattle.hp_backward.specs.declared.fault.SweepFault.TheVariants.{NoStage}
 use Rattle.hp_backward.specs.Sweeping.{Swept, swept, taken_back}
 use Rattle.hp_train.specs.Drawing.{paths_from, first_stream}
 
--- what stands after some paths of an iteration
+-- the state after some paths of an iteration
 pub record Stepped : Type 0 where
   pub pools : List (List Cut)
   pub entries : List Entry
@@ -55,7 +55,7 @@ along v p pools k paths = or_dead (walks_of v p pools k paths) >>= with_walks v 
 unfoldable pub step_of : {Start Chain : Type 0} → Solving Start Chain → Sealed → List (List Cut) → ℕ → ℕ → ℕ → Result Stepped SweepFault
 step_of v p pools seed batch k = along v p pools k (paths_from p seed (first_stream batch k) batch)
 
--- what there is to see of pools and entries
+-- the visible part of pools and entries
 abbrev pub seen : List (List Cut) → List Entry → Stepped
 seen pools entries = record { pools = pools; entries = entries }
 

@@ -20,7 +20,7 @@ use Rattle.hp_train.specs.declared.fault.TrainFault.TheVariants.{NoStage, Range,
 use Rattle.hp_lp.specs.Chained.{Solving}
 use Rattle.hp_train.specs.Continuing.{Continued, continued}
 
--- what training asks of what was loaded, with so many iterations to come to in all
+-- the premises of training on the loaded outcome, with so many iterations to come to in all
 pub record CanTrain (p : Sealed) (count : ℕ) (o : Outcome) : Type 0 where
   pub fit : Fit (problem_of p) (length p.raw.nodes) o.pools
   pub iterations : count ≤ 2000
@@ -52,11 +52,11 @@ last_gate o = if o.born then o.end else first_gate o.version
 abbrev pub iterations : {Start Chain : Type 0} → Solving Start Chain → Sealed → ℕ → ℕ → Outcome → Continued
 iterations v p seed count o = continued v p o.pools seed o.batch (length o.bounds) (count - length o.bounds)
 
--- what was loaded, once the journal is born and ends with a gate of 0
+-- the loaded outcome, once the journal is born and ends with a gate of 0
 abbrev pub opened : Outcome → Outcome
 opened o = record { pools = o.pools; bounds = o.bounds; unsettled = o.unsettled; born = true; end = last_gate o; rest = 0; version = o.version; batch = o.batch }
 
--- what was loaded, with what iterations behind it gave
+-- the loaded outcome, with the outcome of iterations behind it
 abbrev pub trained : Outcome → Continued → Outcome
 trained o c = record {
   pools = c.pools;
@@ -69,7 +69,7 @@ trained o c = record {
   batch = o.batch;
 }
 
--- what stands before the last gate that was loaded, as it was read
+-- the bytes before the last gate that was loaded, as they were read
 abbrev pub loaded_front : List ℕ → ℕ → Outcome → List ℕ → List ℕ
 loaded_front digest seed o bytes = if o.born then take o.end bytes else front (title_of digest seed o) []
 
@@ -77,8 +77,7 @@ loaded_front digest seed o bytes = if o.born then take o.end bytes else front (t
 abbrev pub grown_journal : List ℕ → ℕ → Outcome → List ℕ → List (List Entry) → List ℕ
 grown_journal digest seed o bytes lists = loaded_front digest seed o bytes ++ records (payloads lists) ++ 0 ∷ []
 
--- what was loaded stands in the bytes: a journal of the first j of these payloads up to its last gate, or one that is
--- not born yet
+-- the loaded outcome stands in the bytes: a journal of the first j of these payloads up to its last gate, or one that is not born yet
 pub data StandsIn (t : Title) (o : Outcome) (ps : List (List ℕ)) (j : ℕ) (bytes : List ℕ) : Type 0 where
   unborn : o.born ≡ false → j ≡ 0 → Unborn t bytes → StandsIn t o ps j bytes
   born : o.born ≡ true → o.end ≡ length (front t (take j ps)) → Grown t ps j bytes → StandsIn t o ps j bytes
@@ -99,7 +98,7 @@ StopsAs (Err (Range k m r)) stop = stop ≡ Some (sweeps.Range k m r)
 StopsAs (Err DiskFault) stop = Unit {0}
 StopsAs (Err Memory) stop = Unit {0}
 
--- what holds once all iterations are done that the definition has
+-- a property once all iterations are done that the definition has
 abbrev pub WhenWhole : {A : Type 0} → Result A TrainFault → Type 0 → Type 0
 WhenWhole (Ok x) P = P
 WhenWhole (Err (NoStage dead)) P = P

@@ -51,7 +51,7 @@ pub at_least_once : (k a : ℕ) → 0 < a → k ≤ k * a
 at_least_once k zero h = absurd (omega arith)
 at_least_once k (suc a) h = omega arith
 
--- what holds of the sum so far, where the costs of `rest` are still to be added
+-- the invariant of the sum so far, where the costs of `rest` are still to be added
 pub record LinksGo (p : Sealed) (n k : ℕ) (go : ℕ → ℕ → Result Walked Stop) (ls rest : List Link) (total : Walked) : Type 0 where
   pub value : link_costs go total rest ≡ link_costs go (no_cost k) ls
   pub some : 0 < total.under

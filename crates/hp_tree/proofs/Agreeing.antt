@@ -102,7 +102,7 @@ agree_then R Q (Ok w) (Err s) f g h k = absurd h
 agree_then R Q (Err s) (Ok t) f g h k = absurd h
 agree_then R Q (Err s) (Err u) f g h k = h
 
--- the same where only the tree goes on
+-- like agree_then, where only the tree goes on
 agree_into : {A B : Type 0} (R : Walked → A → Type 0) (Q : Walked → B → Type 0) (a : Result Walked Stop) (b : Grown A) (g : A × ℕ → Grown B) → Agree R a b
     → ((w : Walked) (t : A × ℕ) → w.decided ≡ t.1 → R w t.0 → Agree Q (Ok w) (g t)) → Agree Q a (b >>= g)
 agree_into R Q (Ok w) (Ok t) g h k = k w t h.0 h.1
@@ -121,7 +121,7 @@ agree_behind R s (Err u) (Err v) h = subst (λ (v : Stop). Agree R (behind s (Er
     same (missed m) = refl
 
 module _ (p : Problem) where
-  -- what a cost has in common with a tree of the node m
+  -- the relation of a cost to a tree of the node m
   abbrev IsTree : ℕ → List ℤ → ℕ → Walked → Tree → Type 0
   IsTree n x m w t = Is (cost p S m x t) w.up (S * w.under) × (w.under ≡ denominator p n m)
 
@@ -159,7 +159,7 @@ module _ (p : Problem) where
       Is (plus (stage S node values x b.0) (over (weighted (link_weights node.links) (costs_of p S node.links (next_state node b.0) b.1)) (successor_weight node))) w.up (S * w.under)
       × (w.under ≡ successor_weight node * lcm_all 1 (dens n node.links))
 
-  -- what is decided leaves the node as its decisions say
+  -- the decisions leave the node as the next state
   abbrev pub Leaves : Deciding → Type 0
   Leaves decide = (k : ℕ) (s : Step) (values x : List ℤ) (d : Decided) → decide k s values x ≡ Ok d → d.next ≡ next_state (node_at p s.node) d.decisions
 
@@ -207,7 +207,7 @@ module _ (p : Problem) where
                 → Is (plus (stage S node values x d.decisions) (over (weighted (link_weights node.links) (costs_of p S node.links (next_state node d.decisions) f)) (successor_weight node))) (pos (successor_weight node * w.under) *ℤ stage_cost_of node d.decisions x values +ℤ w.up) (S * (successor_weight node * w.under))
             staged d w f h = is_staged (successor_weight node) w.under (stage S node values x d.decisions) (weighted (link_weights node.links) (costs_of p S node.links (next_state node d.decisions) f)) w.up refl h
 
-    -- what a sum stands over: v before the first branch, and then u
+    -- the denominator of a sum: v before the first branch, and then u
     abbrev last_under : ℕ → ℕ → List Realization → ℕ
     last_under v u [] = v
     last_under v u (r ∷ rs) = u

@@ -22,7 +22,7 @@ use Rattle.hp_tree.proofs.Branching.{behind_small, stage_cost_is, stage_fits, st
 use Rattle.hp_tree.proofs.Faults.{links_same, ok_of}
 use Rattle.hp_tree.proofs.Seen.{Seen, links_there, seen, successor_sum, within_successors}
 
--- what code reads of the successors of the node m
+-- the successors of the node m, as code reads them
 pub record Successors (p : Sealed) (m : ℕ) (own : nodes.Node) (ms ws : List ℕ) : Type 0 where
   pub sealed : is_sealed p ≡ true
   pub known : m < length p.raw.nodes
@@ -78,7 +78,7 @@ module _ {p : Sealed} {m : ℕ} {own : nodes.Node} {ms ws : List ℕ} (b : Succe
         subst (λ (ls : List Link). IsSmall p k (link_denominator p k ls) (sum (link_weights ls)) (decided + 1) (link_branches p k ls)) links
         (behind_small p k (successor_weight n) (link_denominator p k n.links) (sum (link_weights n.links)) decided (link_branches p k n.links) ((known-sealed p b.sealed).successors m b.known) within_all small)
 
-    -- what the walk behind the branch gives
+    -- the walk behind the branch
     pub behind_gives : (go : List ℤ → ℕ → ℕ → Result Walked Stop) (x y : List ℤ) (r : Result Walked Fault) → y ≡ x → GivesWalk r (link_costs (go y) (no_cost (decided + 1)) (links_of ms ws)) → GivesWalk r (link_costs (go x) (no_cost (suc decided)) n.links)
     behind_gives go x y r same g = subst (λ (d : Result Walked Stop). GivesWalk r d) (links_same go y x (decided + 1) (suc decided) (links_of ms ws) n.links same (omega arith) (sym links)) g
 

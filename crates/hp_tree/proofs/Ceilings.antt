@@ -67,7 +67,7 @@ upper_is p f h =
       least = λ v le. ceiling_least (c.up *ℤ pos S) c.under v h (le_trans (c.up *ℤ pos S) (v *ℤ pos c.under) (pos c.under *ℤ v) le.crossed (le_of_eq (v *ℤ pos c.under) (pos c.under *ℤ v) (ring (pos c.under ∷ v ∷ []) (var 1 ⊗ var 0) (var 0 ⊗ var 1) tt)));
     }
 
--- what lies under the cost of each policy lies below it
+-- a number under the cost of each policy is at most the cost from above
 pub under_upper : (p : Problem) (f : Forest) (b u : ℤ) → 0 < (policy_cost p S f).under → record { up = b; under = S } ≤ᶠ policy_cost p S f → IsUpper p f u → b ≤ℤ u
 under_upper p f b u h low up =
     let c : Fraction = policy_cost p S f in

@@ -17,7 +17,7 @@ use Rattle.hp_tree.specs.Small.{IsCost}
 use Rattle.hp_tree.specs.TooBig.{branches, denominator}
 use Rattle.hp_tree.specs.Verdicts.{OnDead, Stops}
 
--- what stops one thing stops another
+-- a fault that stops one thing stops another
 pub stops_on : {A B : Type 0} (f : Fault) (a : Result A Stop) (b : Result B Stop) → ((s : Stop) → a ≡ Err s → b ≡ Err s) → Stops f a → Stops f b
 stops_on (faults.NoStage d) a b h g = h (dead d) g
 stops_on (faults.Missed m) a b h g = h (missed m) g
@@ -34,7 +34,7 @@ dead_behind A B (faults.NoStage d) r P h o = subst (λ (r : Result A Fault). OnD
 dead_behind A B (faults.Missed m) r P h o = tt
 dead_behind A B faults.Memory r P h o = tt
 
--- what holds of an answer
+-- a property of an answer
 pub ok_of : {A E : Type 0} (r : Result A E) (x : A) (P : A → Type 0) → r ≡ Ok x → IfOk r P → P x
 ok_of {A} {E} r x P e h = subst (λ (r : Result A E). IfOk r P) e h
 
@@ -63,7 +63,7 @@ module _ (decide : Deciding) (go : List ℤ → ℕ → ℕ → Result Walked St
   branch_behind : (d : Decided) (t : Stop) → decide decided s values x ≡ Ok d → behind_it d ≡ Err t → branch_cost decide go n decided s values x ≡ Err t
   branch_behind d t e h = ap (λ (r : Result Decided Stop). r >>= λ d. behind_it d >>= whole d) e ∙ ap (λ (r : Result Walked Stop). r >>= whole d) h
 
-  -- what stops the decision or the walk behind it stops the branch
+  -- a fault of the decision or of the walk behind it stops the branch
   pub undecided_fault : (f : Fault) → Stops f (decide decided s values x) → Stops f (branch_cost decide go n decided s values x)
   undecided_fault f h = stops_on f (decide decided s values x) (branch_cost decide go n decided s values x) branch_undecided h
 

@@ -11,7 +11,7 @@ use Rattle.hp_theory.proofs.SealedOrder.{ordered-sealed}
 use Rattle.hp_tree.specs.Tables.{IsTable, Stands}
 use Rattle.hp_tree.proofs.Ordered.{led_before, ordered_there}
 
--- what stands in a table at the nodes that are done
+-- the entries of a table at the nodes that are done
 pub record IsFilled (p : Sealed) (f : ℕ → ℕ → ℕ) (cap : ℕ) (done table : List ℕ) : Type 0 where
   pub count : length table ≡ length p.raw.nodes
   pub each : (m : ℕ) → Contains done m → Stands p f cap m (get_or table m 0)

@@ -15,7 +15,7 @@ use Rattle.hp_sampler.specs.declared.steps.Step.{Step}
 use Rattle.hp_forward.specs.declared.deciding.Decided.{Decided}
 use Rattle.hp_tree.specs.PolicyTree.{Deciding, Stop, dead, missed, Grown, behind, forest_of, branch_of, tree_of, grow, whole_tree}
 
--- what holds of a result, step by step
+-- a property of a result, step by step
 pub if_then : {A B E : Type 0} (P : A → Type 0) (Q : B → Type 0) (r : Result A E) (f : A → Result B E) → IfOk r P → ((x : A) → P x → IfOk (f x) Q) → IfOk (r >>= f) Q
 if_then P Q (Ok x) f h k = k x h
 if_then P Q (Err e) f h k = tt
@@ -25,7 +25,7 @@ if_behind P s (Ok x) h = h
 if_behind P s (Err (dead d)) h = tt
 if_behind P s (Err (missed m)) h = tt
 
--- what is decided at a node: a feasible decision, which leaves the node as its next state
+-- the decision at a node is feasible, and leaves the node as its next state
 pub record Lawful (p : Problem) (count : ℕ) (decide : Deciding) : Type 0 where
   pub decides : (k : ℕ) (s : Step) (values x : List ℤ) (d : Decided) → s.node < count → decide k s values x ≡ Ok d → Decides S (node_at p s.node) values x d.decisions
   pub leaves : (k : ℕ) (s : Step) (values x : List ℤ) (d : Decided) → decide k s values x ≡ Ok d → d.next ≡ next_state (node_at p s.node) d.decisions

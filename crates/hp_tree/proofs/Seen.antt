@@ -82,7 +82,7 @@ seen p m n e h is =
       light = w.2;
     })
 
--- what a loop through a node's realizations reads at a place
+-- the reading of a loop through a node's realizations at a place
 pub record Read (own : nodes.Node) (i w : ℕ) (v : List ℤ) : Type 0 where
   pub inside : i < length own.weights
   pub weight : w ≡ get_or own.weights i w

@@ -93,7 +93,7 @@ node_within : (p : Sealed) (m : ℕ) → m < length p.raw.nodes → node_size (p
 unfolding most_size
 node_within p m h = greatest_over (node_size (problem_of p)) (numbers (length p.raw.nodes)) m (numbered (length p.raw.nodes) m h)
 
--- what a branch's stage costs
+-- the cost of a branch's stage
 pub branch_within : (p : Sealed) (m i : ℕ) (d : Realization) (u x : List ℤ) → is_sealed p ≡ true → m < length p.raw.nodes → i < length (node_at (problem_of p) m).realizations → IsStateAt p m x
     → InBox S (node_at (problem_of p) m).decision_low (node_at (problem_of p) m).decision_high u
     → nat_abs (stage_cost_of (node_at (problem_of p) m) u x (get_or (node_at (problem_of p) m).realizations i d).values) ≤ most_cost p 1

@@ -72,7 +72,7 @@ module _ (p : Sealed) (e : is_sealed p ≡ true) (cap : ℕ) (table : List ℕ) 
             weights_stop (total_weight n.weights) (successor_total n.stop n.link_weights) (lcm_all 1 (map f n.links)) (lcm_all 1 (map at n.links)) cap v multiples value
             ∙ ap₂ (λ (w : ℕ) (k : ℕ). min (w * k) cap) (realization_total p m n own) (ap₂ (λ (q : ℕ) (ks : List ℕ). q * lcm_all 1 ks) (successor_sum p m n own) (sym (links_are f)))
 
-  -- what stands for a denominator is positive
+  -- the number that stands for a denominator is positive
   pub stands_some : (k v : ℕ) → 0 < cap → k < length p.raw.nodes → Stands p (denominator (problem_of p)) cap k v → 0 < v
   stands_some k v some h s =
       let d : ℕ = suc (rank (graph_of p.raw) k) in

@@ -172,7 +172,7 @@ module _ (p : Sealed) (e : is_sealed p ≡ true) where
         by b (Ok (verdicts.Missed branches row residual)) h g = tt
         by b (Err fault) h g = tt
 
--- the same of what a solver decides
+-- the verdict by a solver's decisions
 module _ {Start Chain : Type 0} (v : Solving Start Chain) (p : Sealed) (e : is_sealed p ≡ true) (pools : List (List Cut)) where
   verdict_by_tree : verdict_of v p pools ≡ judged (problem_of p) (whole_tree (decide_branch v p pools) (problem_of p) p.longest >>= λ f. Ok f.0)
   unfolding verdict_of policy_tree

@@ -26,7 +26,7 @@ abbrev pub link_costs : (ℕ → ℕ → Result Walked Stop) → Walked → List
 link_costs go sum [] = Ok sum
 link_costs go sum (l ∷ ls) = go sum.decided l.node >>= λ w. link_costs go (add_cost sum l.weight w) ls
 
--- what a stage costs, and behind it the successors by their weight of q together
+-- the cost of a stage, and behind it the successors by their weight of q together
 abbrev pub add_stage : ℕ → ℤ → Walked → Walked
 add_stage q cost w = record { up = pos (q * w.under) *ℤ cost +ℤ w.up; under = q * w.under; decided = w.decided }
 

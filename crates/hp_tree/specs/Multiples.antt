@@ -15,7 +15,7 @@ gcd a b = gcd_within (suc b) a b
 abbrev pub lcm : ℕ → ℕ → ℕ
 lcm a b = a / gcd a b * b
 
--- that of a number and these
+-- the least common multiple of a number and these
 abbrev pub lcm_all : ℕ → List ℕ → ℕ
 lcm_all a [] = a
 lcm_all a (b ∷ bs) = lcm_all (lcm a b) bs

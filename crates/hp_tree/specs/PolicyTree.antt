@@ -37,7 +37,7 @@ abbrev pub unless_missed : Step → Option (ℕ × ℤ) → Decided → Result D
 unless_missed s None d = Ok d
 unless_missed s (Some q) d = Err (missed (record { branches = s ∷ []; row = q.0; residual = q.1 }))
 
--- what is decided at a branch: after so many others, at these values and this state
+-- the decisions at a branch: after so many others, at these values and this state
 abbrev pub Deciding : Type 0
 Deciding = ℕ → Step → List ℤ → List ℤ → Result Decided Stop
 
@@ -90,6 +90,6 @@ judged p (Ok f) = Ok (verdicts.Cost (upper_of p f))
 judged p (Err (dead d)) = Err d
 judged p (Err (missed m)) = Ok (verdicts.Missed (reverse m.branches) m.row m.residual)
 
--- what is to be said of the whole policy
+-- the verdict on the whole policy
 unfoldable pub verdict_of : {Start Chain : Type 0} → Solving Start Chain → Sealed → List (List Cut) → Result Verdict Dead
 verdict_of v p pools = judged (problem_of p) (policy_tree v p pools)

@@ -23,11 +23,11 @@ Stops (faults.NoStage d) defined = defined ≡ Err (dead d)
 Stops (faults.Missed m) defined = defined ≡ Err (missed m)
 Stops faults.Memory defined = Unit {0}
 
--- what was defined, or the stop
+-- the definition's answer, or its stop
 abbrev pub GivesWalk : {A : Type 0} → Result A Fault → Result A Stop → Type 0
 GivesWalk result defined = GivesOr Stops (λ x. x) result defined
 
--- what holds of a refutation
+-- a property of a refutation
 abbrev pub OnDead : {A : Type 0} → Result A Fault → (Dead → Type 0) → Type 0
 OnDead (Ok x) P = Unit {0}
 OnDead (Err (faults.NoStage d)) P = P d
@@ -40,7 +40,7 @@ rounded (Ok w) = Ok (verdicts.Cost (ceiling_over w.up w.under))
 rounded (Err (dead d)) = Err d
 rounded (Err (missed m)) = Ok (verdicts.Missed (reverse m.branches) m.row m.residual)
 
--- what holds of the cost of a policy from above
+-- a property of the cost of a policy from above
 abbrev pub OnCost : Result Verdict StageFault → (ℤ → Type 0) → Type 0
 OnCost (Ok (verdicts.Cost upper)) P = P upper
 OnCost (Ok (verdicts.Missed branches row residual)) P = Unit {0}

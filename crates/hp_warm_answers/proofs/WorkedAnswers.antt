@@ -91,7 +91,7 @@ beyond_noise : enter_of (with_costs (pos 65536 ∷ pos 0 ∷ cost 1 ∷ cost 1 �
 unfolding is_fixed is_eligible rank_at precedes first_step left_after turn_of
 beyond_noise = refl
 
--- the same at high, of a violation of an upper bound
+-- noise at high, for a violation of an upper bound
 noise_above : enter_of (with_costs (negsuc 65534 ∷ pos 0 ∷ minus_cost 1 ∷ minus_cost 1 ∷ []) (true ∷ true ∷ true ∷ true ∷ [])) steep_row true (pos (17 * 2 ^ 30)) ≡ (Some (2, pos (7 * 2 ^ 30)), 0 ∷ 1 ∷ [])
 unfolding is_fixed is_eligible rank_at precedes first_step left_after turn_of
 noise_above = refl

@@ -23,7 +23,7 @@ is_column t v = nat_lt v (length t.costs)
 abbrev pub terms_of : Table → ℕ → List Term
 terms_of t v = get_or t.rows (v - length t.costs) []
 
--- what rests of the costs of the columns, less a term times the dual y
+-- the rests of the columns' costs, less a term times the dual y
 abbrev pub less_term : ℤ → List ℤ → Term → List ℤ
 less_term y rests a = slice_set rests a.0 (entry rests a.0 -ℤ y *ℤ a.1)
 
@@ -43,7 +43,7 @@ less_places t j rests (v ∷ vs) = less_places t (suc j) (less_place t j rests v
 abbrev pub whole_costs : List ℤ → List ℤ
 whole_costs costs = map (λ c. c *ℤ pos (2 ^ 40)) costs
 
--- what rests of the cost of each column, less the terms of all rows times their duals, at scale 2^80
+-- the rest of each column's cost, less the terms of all rows times their duals, at scale 2^80
 abbrev pub rests_of : Table → List ℤ
 rests_of t = less_places t 0 (whole_costs t.costs) t.basis.nonbasic
 
@@ -72,12 +72,12 @@ bound_by b v y = if int_lt (pos 0) y then entry b.lows v else entry b.ups v
 abbrev pub plus_bound : Bounds → ℤ → ℕ → ℤ → ℤ
 plus_bound b s v y = s +ℤ y *ℤ bound_by b v y
 
--- s + what the columns from v on cost at the least
+-- s + the least cost of the columns from v on
 abbrev pub columns_from : Table → ℕ → ℤ → List ℤ → ℤ
 columns_from t v s [] = s
 columns_from t v s (q ∷ qs) = columns_from t (suc v) (plus_bound t.bounds s v q) qs
 
--- s + what the row whose slack v stands at place j costs at the least
+-- s + the least cost of the row whose slack v stands at place j
 unfoldable pub plus_side : Table → ℕ → ℤ → ℕ → ℤ
 plus_side t j s v = if is_column t v then s else plus_bound t.bounds s v (dual_of t v (entry t.reduced j))
 
@@ -85,7 +85,7 @@ abbrev pub sides_from : Table → ℕ → ℤ → List ℕ → ℤ
 sides_from t j s [] = s
 sides_from t j s (v ∷ vs) = sides_from t (suc j) (plus_side t j s v) vs
 
--- what all points cost at the least, by the duals
+-- a lower bound on the cost of all points, by the duals
 abbrev pub least_cost : Table → List ℤ → ℤ
 least_cost t qs = sides_from t 0 (columns_from t 0 (pos 0) qs) t.basis.nonbasic
 

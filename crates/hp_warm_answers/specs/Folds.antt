@@ -12,7 +12,7 @@ abbrev pub Reaches : {A : Type 0} → Bool → Option A → A → Type 0
 Reaches true made new = made ≡ Some new
 Reaches false made new = made ≡ None
 
--- the same, where a step that stops leaves the old value
+-- a step that stops leaves the old value
 abbrev pub ReachesOrKeeps : {A : Type 0} → Bool → Option A → A → A → Type 0
 ReachesOrKeeps true made old new = made ≡ Some new
 ReachesOrKeeps false made old new = (made ≡ None) × (new ≡ old)

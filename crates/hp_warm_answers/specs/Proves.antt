@@ -55,7 +55,7 @@ term_step z ws t = option_map (λ w. slice_set ws t.0 w) (lessened z ws t)
 abbrev pub is_zero : Fx → Bool
 is_zero z = not (int_lt (pos 0) z.0) && not (int_lt z.0 (pos 0))
 
--- the same by all terms of a row in order, where z is not 0
+-- the weights less all terms of a row in order, where z is not 0
 abbrev pub less_terms : Fx → List Fx → LpRow → Option (List Fx)
 less_terms z ws r = if is_zero z then Some ws else fold_from (λ k vs t. term_step z vs t) 0 ws r.terms
 

@@ -285,11 +285,11 @@ fn exceeds_by_one(
     Ok(false)
 }
 
-/// Tells whether multipliers of own rows prove that no point in the boxes of decisions keeps these rows (Farkas, 1902):
-/// what the rows demand at the least exceeds what the decisions give at the most. All numbers are taken as whole ones, the
-/// multipliers over 2^k and rounded down, for a k of 0, 4, .., 56. A k where a product or a sum on the way leaves 128
-/// bits does not count. A missing multiplier stands for 0, and so does one of a row without the side that it speaks of.
-/// [`Memory`] where memory was refused.
+/// Tells whether multipliers of own rows prove that no point in the boxes of decisions keeps these rows (Farkas, 1902): the
+/// least that the rows demand exceeds the most that the decisions give. All numbers are taken as whole ones, the multipliers
+/// over 2^k and rounded down, for a k of 0, 4, .., 56. A k where a product or a sum on the way leaves 128 bits does not count.
+/// A missing multiplier stands for 0, and so does one of a row without the side that it speaks of. [`Memory`] where memory was
+/// refused.
 #[tactic(auto, unfolding(crate::specs::Proves::proves))]
 pub fn proves(alloc: Global, lp: &StageLp, multipliers: &[Fx]) -> Result<bool, Memory>
     ensures { IfOk result (λ found. found ≡ proves lp.now multipliers.now) }

@@ -111,7 +111,7 @@ slack_enters : moved_of spread (neg_ℤ (pos (2 ^ 40)) ∷ pos 0 ∷ pos (2 ^ 41
 unfolding stand_of length_of step_of span_of span_at carried put reached arrived moved_along moved_of
 slack_enters = refl
 
--- what is left over the cell is rounded towards zero; the second column comes down to its upper bound
+-- the violation that is left over the cell is rounded towards zero; the second column comes down to its upper bound
 rounds_to_zero : moved_of spread (pos 0 ∷ pos 0 ∷ pos (3 * 2 ^ 40 + 1) ∷ []) 1 true 2 (pos (7 * 2 ^ 32)) (0 ∷ []) ≡ Some (pos 0 ∷ pos (8 * 2 ^ 32) ∷ pos 37223049898 ∷ [])
 unfolding stand_of length_of step_of span_of span_at carried put reached arrived moved_along moved_of
 rounds_to_zero = refl

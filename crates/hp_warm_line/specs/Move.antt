@@ -15,7 +15,7 @@ turned_by turns q = if turns then neg_ℤ q else q
 unfoldable pub length_of : ℤ → ℤ → Option ℤ
 length_of rest x = value_of (quotient_of (rest *ℤ pos (2 ^ 40)) (pos (nat_abs x)))
 
--- the same with its direction: down where exactly one of these holds, that the violation is above a bound and that the cell is below 0
+-- the step with its direction: down where exactly one of these holds, that the violation is above a bound and that the cell is below 0
 unfoldable pub step_of : List ℤ → Bool → ℕ → ℤ → Option ℤ
 step_of line above e rest = option_map (λ q. turned_by above (turned_by (int_lt (entry line e) (pos 0)) q)) (length_of rest (entry line e))
 
@@ -23,7 +23,7 @@ step_of line above e rest = option_map (λ q. turned_by above (turned_by (int_lt
 unfoldable pub span_of : Table → Bool → ℕ → ℤ
 span_of t high v = stand_of t.bounds (not high) v -ℤ stand_of t.bounds high v
 
--- the same for the variable at place j
+-- the span of the variable at place j
 unfoldable pub span_at : Table → ℕ → ℤ
 span_at t j = span_of t (get_or t.basis.high j false) (get_or t.basis.nonbasic j 0)
 

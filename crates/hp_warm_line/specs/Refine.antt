@@ -24,7 +24,7 @@ stand_of b high v = unwrap_or (if high then up_of b v else low_of b v) (pos 0)
 unfoldable pub placed : Bounds → List Bool → ℕ → ℕ → List ℤ → List ℤ
 placed b high j v x = if nat_lt v (length x) then slice_set x v (stand_of b (get_or high j false) v) else x
 
--- the same for the variables from place j on
+-- the values of the variables from place j on
 abbrev pub stood : Bounds → List Bool → ℕ → List ℕ → List ℤ → List ℤ
 stood b high j [] x = x
 stood b high j (v ∷ vs) x = stood b high (suc j) vs (placed b high j v x)

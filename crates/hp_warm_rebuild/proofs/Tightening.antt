@@ -22,7 +22,7 @@ module _ (b : Basis) (t : Table) (v last : ℕ) where
   pub tight_done : (whole : Option Table) → last ≤ v → whole ≡ tightened b t v (last - v) → whole ≡ Some t
   tight_done whole h w = let e : last - v ≡ 0 = omega (arith, h) in w ∙ ap (tightened b t v) e
 
--- what is rebuilt, by the slacks that left
+-- the rebuilt table, by the slacks that left
 pub rebuilt_by : (t u : Table) (b : Basis) (r : Option Table) → b ≡ t.basis → u ≡ clean_of t → tightened b u (length u.costs) (length u.rows) ≡ r → rebuilt_of t ≡ option_map (stood_up t.basis) r
 unfolding rebuilt_of clean_of
 rebuilt_by t u b r e f h = ap (option_map (stood_up t.basis)) (sym (ap₂ (λ (c : Basis) (s : Table). tightened c s (length s.costs) (length s.rows)) e f) ∙ h)

@@ -17,7 +17,7 @@ map_from f j (x ∷ xs) = f j x ∷ map_from f (suc j) xs
 unfoldable pub standing : Basis → ℕ → ℕ → ℤ → Bool → Bool
 standing b columns v d high = if nat_lt v columns then int_lt d (pos 0) || (not (int_lt (pos 0) d) && was_high b v) else high
 
--- the same at place j
+-- the standing at place j
 unfoldable pub standing_at : Basis → List ℕ → List ℤ → ℕ → Bool → Bool
 standing_at b vs reduced j high = standing b (length vs) (get_or vs j 0) (entry reduced j) high
 

@@ -16,7 +16,7 @@ grown_between low high (Some s) x h k b = record {
   high_greatest = omega (arith, ints, clamps, b.high_greatest);
 }
 
--- what f gives is between two numbers
+-- the numbers that f gives are between two numbers
 abbrev pub GivesBetween : {A : Type 0} → ℤ → ℤ → (ℕ → A → Option ℤ) → Type 0
 GivesBetween {A} low high f = (j : ℕ) (a : A) (x : ℤ) → f j a ≡ Some x → (low ≤ℤ x) × (x ≤ℤ high)
 

@@ -57,7 +57,7 @@ cut_more i r t u h =
       waiting = sym (ap (λ (s : Table). s.cuts.waiting) a.2) ∙ ap (λ (c : Cuts). c.waiting) one.cuts;
     }
 
--- the same rows, and the same cuts
+-- a table with as many rows, and the same cuts
 pub record HasRows (t u : Table) : Type 0 where
   pub rows : length u.rows ≡ length t.rows
   pub cuts : u.cuts ≡ t.cuts

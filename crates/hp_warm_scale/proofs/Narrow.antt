@@ -32,7 +32,7 @@ either_was : (b : Bool) (ws : List Bool) (o : Option ℕ) (j : ℕ) → get_or (
 either_was true ws o j h = h
 either_was false ws o j h = closed_was ws o j h
 
--- what waits after some cuts waited before
+-- a column that waits after some cuts waited before
 waited : (rs : List ℕ) (i : ℕ) (ws : List Bool) (cuts : List LpRow) (j : ℕ) → get_or (after rs i ws cuts) j false ≡ true → get_or ws j false ≡ true
 waited rs i ws [] j h = h
 waited rs i ws (r ∷ cuts) j h = either_was (is_narrow rs r) ws (last_column r.terms) j (waited rs (suc i) (closed_by rs ws r) cuts j h)

@@ -129,7 +129,7 @@ small_more k m s l w = record {
   values_greatest = w.values_greatest;
 }
 
--- what holds of a value holds of a result that gives it
+-- a property of a value holds of a result that gives it
 pub if_ok : {T E : Type 0} (P : T → Type 0) (r : Result T E) (x : T) → IfOk r (λ t. t ≡ x) → P x → IfOk r P
 if_ok P (Ok t) x e p = subst P (sym e) p
 if_ok P (Err e) x h p = tt

@@ -11,7 +11,7 @@ walk_more step whole xs k d s t h w e = w ∙ ap (walk step k s) (drop_more xs k
 pub walk_all : {S A : Type 0} (step : ℕ → S → A → S) (whole : S) (xs : List A) (k : ℕ) (s : S) → length xs ≤ k → whole ≡ walk step k s (drop k xs) → whole ≡ s
 walk_all step whole xs k s h w = w ∙ ap (walk step k s) (drop_of_length-le xs h)
 
--- what each step keeps, the whole walk keeps
+-- a property that each step keeps is kept by the whole walk
 pub walk_keeps : {S A : Type 0} (step : ℕ → S → A → S) (P : S → Type 0) → ((j : ℕ) (s : S) (x : A) → P s → P (step j s x)) → (j : ℕ) (s : S) (xs : List A) → P s → P (walk step j s xs)
 walk_keeps step P keeps j s [] h = h
 walk_keeps step P keeps j s (x ∷ xs) h = walk_keeps step P keeps (suc j) (step j s x) xs (keeps j s x h)

@@ -169,7 +169,7 @@ reference_scales : option_map (Î» (t : Table). t.scales) (first_of reference) â‰
 unfolding with_row spans_of pass_of columns_of count_leading_zeros scaled_value scaled_cell costs_scale values_scale scaled_column column_step blank_of columns_table scaled_sides row_scale scaled_term scaled_terms appended_row first_of shift_up shift_down
 reference_scales = refl
 
--- the same with its successor's cuts
+-- this program with its successor's cuts
 abbrev with_cuts : Program
 with_cuts =
     record {
@@ -215,7 +215,7 @@ own_rows =
       own = 2;
     }
 
--- the same with two cuts, of which one has no other term
+-- this program with two cuts, of which one has no other term
 abbrev two_cuts : Program
 two_cuts =
     record {
@@ -239,7 +239,7 @@ two_idle =
       own = 1;
     }
 
--- the same with their cuts: those of the first wait, and a slope of 66 binary digits lets both of the second come in
+-- these programs with their cuts: those of the first wait, and a slope of 66 binary digits lets both of the second come in
 abbrev two_successors : Program
 two_successors =
     record {

@@ -97,7 +97,7 @@ blank_with n fs g h = record {
   weak = false;
 }
 
--- the same with the exponents for some decisions and rows
+-- the blank table with the exponents for some decisions and rows
 unfoldable pub blank_of : ℕ → List Column → List LpRow → Table
 blank_of n decisions rows =
     let fs = columns_of n decisions rows in

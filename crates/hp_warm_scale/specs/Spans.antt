@@ -15,7 +15,7 @@ abbrev pub joined : Option Span → Option ℤ → Option Span
 joined s None = s
 joined s (Some x) = grown s x
 
--- those of the numbers that f gives along a list; none where it gives none
+-- the span of the numbers that f gives along a list; none where it gives none
 abbrev pub span_of : {A : Type 0} → (ℕ → A → Option ℤ) → List A → Option Span
 span_of f xs = walk (λ j s x. joined s (f j x)) 0 None xs
 

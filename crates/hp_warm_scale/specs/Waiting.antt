@@ -38,7 +38,7 @@ closed ws (Some j) = slice_set ws j false
 abbrev pub closed_by : List ℕ → List Bool → LpRow → List Bool
 closed_by rs ws r = if is_narrow rs r then ws else closed ws (last_column r.terms)
 
--- the same by some rows, one after the other
+-- the columns that wait after some rows, one after the other
 abbrev pub all_closed : List ℕ → List Bool → List LpRow → List Bool
 all_closed rs ws cuts = walk (λ i ws (r : LpRow). closed_by rs ws r) 0 ws cuts
 

@@ -6,7 +6,7 @@ use Rattle.hp_warm_scale.specs.Exponents.{columns_of}
 use Rattle.hp_warm_scale.specs.Scaling.{costs_scale, values_scale}
 use Rattle.hp_warm_scale.specs.Widening.{cut_spans, successor_scales}
 
--- those of the columns of a program's own part
+-- the exponents of the columns of a program's own part
 abbrev pub own_scales : Program → List ℤ
 own_scales lp = columns_of (length lp.columns) (take lp.decisions lp.columns) (take lp.own lp.rows)
 
@@ -18,7 +18,7 @@ all_scales lp fs h = successor_scales h (cut_spans lp.decisions (length lp.colum
 abbrev pub scales_with : Program → List ℤ → ℤ → Scales
 scales_with lp fs h = record { rows = []; columns = fs; costs = costs_scale fs lp.columns; values = h }
 
--- that of values goes by the decisions
+-- the exponent of values goes by the decisions
 abbrev pub whole_by : Program → List ℤ → ℤ → Scales
 whole_by lp fs h = scales_with lp (all_scales lp fs h) h
 

@@ -86,10 +86,10 @@ widened_columns lp t = run column_step lp.decisions (drop lp.decisions lp.column
 unfoldable pub widened_by : List Bool → Program → Table → Option Table
 widened_by ws lp t = option_and_then (put_cuts ws lp.own (drop lp.own lp.rows)) (option_map (with_waiting ws) (widened_columns lp t))
 
--- the same, where the cuts wait of which that can be asked
+-- the widened table, where cuts wait as far as that can be asked of them
 unfoldable pub widened : Program → Table → Option Table
 widened lp t = widened_by (waiting_of lp) lp t
 
--- the same, where no cut waits
+-- the widened table, where no cut waits
 unfoldable pub widened_in_full : Program → Table → Option Table
 widened_in_full lp t = widened_by (replicate (length lp.columns) false) lp t

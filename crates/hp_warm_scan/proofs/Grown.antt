@@ -68,7 +68,7 @@ put_fits lp i e ts s t u cuts h g c f w m =
 last_at : {A : Type 0} (xs : List A) (x d : A) (n : ℕ) → n ≡ length xs → get_or (xs ++ x ∷ []) n d ≡ x
 last_at xs x d n e = ap (λ (k : ℕ). get_or (xs ++ x ∷ []) k d) e ∙ get_or-append_seam xs x [] d
 
--- what the last row says of a point
+-- the violation of the last row by a point
 pub last_violated : (i : ℕ) (e : ℤ) (ts : List (ℕ × ℤ)) (s : Sides) (t : Table) → IsTable t → violates_last (with_cut i (with_row e ts s t)) ≡ is_below s.low (row_value ts t.values)
 unfolding violates_last
 last_violated i e ts s t w =

@@ -30,7 +30,7 @@ got [] i x d h = absurd (cc)
 got (y ∷ ys) zero x d h = some_same h
 got (y ∷ ys) (suc i) x d h = got ys i x d h
 
--- what holds from a place on holds of an item behind it
+-- a property that holds from a place on holds of an item behind it
 pub got_holds : {X : Type 0} (P : X → Type 0) (first i : ℕ) (xs : List X) (x : X) → first ≤ i → i < length xs → slice_get xs i ≡ Some x → All P (drop first xs) → P x
 got_holds P first i xs x b l g h =
     let e : first + (i - first) ≡ i = omega (arith, b) in
@@ -80,7 +80,7 @@ cuts_come ws xs i bests outs column n cs many few h l w =
     ap (λ (bs : List (Option Valued)). walk (λ i bests (r : LpRow). greatest_step ws xs i bests r) i bs (map (packed_row outs column) cs)) (sym (set-get_or bests column None))
     ∙ cuts_from ws xs i bests (get_or bests column None) outs column n cs many few h l w
 
--- what holds of each of two lists' items holds of those of the former
+-- a property of the items of two lists holds of those of the former
 All-former : {X : Type 0} (P : X → Type 0) (xs ys : List X) → All P (xs ++ ys) → All P xs
 All-former P xs ys h k d l = subst P (get_or_append_left xs ys d k l) (h k d (omega (arith, l, length-append xs ys)))
 
@@ -107,7 +107,7 @@ successor_more ws xs outs first k row n whole bests new css cs l is count w e =
     ∙ walk_append step row bests front rest
     ∙ ap₂ (λ (i : ℕ) (bs : List (Option Valued)). walk step i bs rest) many (sym e)
 
--- what holds of the rows that are left holds of this successor's
+-- a property of the rows that are left holds of this successor's
 pub holds_here : (P : LpRow → Type 0) (outs : List Out) (column k : ℕ) (css : List (List PackedCut)) (cs : List PackedCut) → k < length css → cs ≡ get_or css k cs → All P (packed_rows outs column (drop k css)) → All P (map (packed_row outs column) cs)
 holds_here P outs column k css cs l is h =
     let here : List LpRow = map (packed_row outs column) (get_or css k cs) in

@@ -19,7 +19,7 @@ with_rows_of new old = record old {
 abbrev pub Begins : {A : Type 0} → List A → List A → Type 0
 Begins old new = take (length old) new ≡ old
 
--- the same table but for more rows, behind those that it had
+-- the table grows by rows behind those that it had, and is the same otherwise
 pub record Grows (old new : Table) : Type 0 where
   pub rest : new ≡ with_rows_of new old
   pub rows : Begins old.rows new.rows

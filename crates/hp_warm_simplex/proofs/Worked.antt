@@ -54,7 +54,7 @@ found point duals = record { kind = kinds.Found; point = map number point; duals
 abbrev ray : List ℤ → List ℤ → Answer
 ray point duals = record { kind = kinds.Ray; point = map number point; duals = map number duals }
 
--- what is seen of each table along a chain that has this one
+-- the view of each table along a chain that has this one
 abbrev along : {A : Type 0} → (Table → A) → Option Table → List Program → List (Option A)
 along seen chain [] = []
 along seen chain (lp ∷ lps) = option_map seen (next_of chain lp).1 ∷ along seen (next_of chain lp).1 lps

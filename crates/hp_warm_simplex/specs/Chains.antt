@@ -97,7 +97,7 @@ readied_by t a u = if is_good a u.weak then u else t
 abbrev pub readied : Table → Went → Table
 readied t w = readied_by t w.answer w.table
 
--- what is made ready by a program of own rows
+-- the start that a program of own rows makes
 unfoldable pub started_of : Program → Option Table
 started_of lp = option_map (λ t. readied t (go_of lp t)) (first_of lp)
 

@@ -19,8 +19,8 @@ use Rattle.hp_warm_scan.specs.Scan.{Scanned, scan_of}
 use Rattle.hp_warm_simplex.specs.declared.violations.Violation.{Violation}
 use Rattle.hp_warm_simplex.specs.Violations.{violations_of, next_violation}
 
--- what one violation comes to: nothing can be done; it is mended, by what enters for it, its line and the places that flip; it
--- shows by its ray that no point keeps all bounds; or a number is out of range
+-- the outcome of one violation: nothing can be done; it is mended, by the variable that enters for it, its line and the places that flip;
+-- it shows by its ray that no point keeps all bounds; or a number is out of range
 pub data Glance : Type 0 where
   passes : Glance
   mends : Swap → List ℤ → List ℕ → Glance
@@ -50,8 +50,8 @@ by_line lp t v (Some line) = by_entry v (ray_of t line v.variable v.above lp) li
 unfoldable pub glance_of : Program → Table → Violation → Glance
 glance_of lp t v = by_line lp t v (line_of t v.variable)
 
--- what all violations come to: none can be mended, and some were passed over or none; this one is; one shows that no point keeps
--- all bounds; or a number is out of range
+-- the outcome of all violations: none can be mended, and some were passed over or none; this one is; one shows that no point keeps all
+-- bounds; or a number is out of range
 pub data Look : Type 0 where
   rests : Bool → Look
   takes : Swap → List ℤ → List ℕ → Look
@@ -82,8 +82,8 @@ by_violations lp t (Some vs) = look_from lp t vs (length vs) None
 unfoldable pub look_of : Program → Table → Look
 look_of lp t = by_violations lp t (violations_of t)
 
--- what a turn comes to: a pivot; a point that is as exact as its table, refined or with rows of cuts more; or the end, with an
--- answer or without. Of the table of an end without one its program, its rows and its basis count, as it was when the turn began
+-- the outcome of a turn: a pivot; a point that is as exact as its table, refined or with rows of cuts more; or the end, with an answer or
+-- without. Of the table of an end without one its program, its rows and its basis count, as it was when the turn began
 pub data Turn : Type 0 where
   pivots : Table → Turn
   settles : Table → Turn
@@ -99,7 +99,7 @@ abbrev pub by_move : Table → Swap → List ℤ → List ℕ → Option (List �
 by_move t s line flips None = ends None t
 by_move t s line flips (Some x) = by_pivot t (pivoted (with_values t x) line s.leaving s.above s.place flips)
 
--- what leaves has this line
+-- the variable that leaves has this line
 abbrev pub swapped : Table → Swap → List ℤ → List ℕ → Turn
 swapped t s line flips = by_move t s line flips (moved_of t line s.leaving s.above s.place s.rest flips)
 

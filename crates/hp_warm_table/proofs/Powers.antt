@@ -14,7 +14,7 @@ power_read k h =
     let one : 1 * 2 ^ k ≡ 2 ^ k = omega arith in
     ap (λ (n : ℕ). to_z w128 (n % 2 ^ 128)) one ∙ ap (to_z w128) (mod-eq_of_lt (omega (arith, small))) ∙ to_z-of_z w128 (pos (2 ^ k)) fits
 
--- the same in 64 bits
+-- powers in 64 bits
 pub short_power_read : (k : ℕ) → k ≤ 62 → to_z w64 (1 * 2 ^ k % 2 ^ 64) ≡ pos (2 ^ k)
 short_power_read k h =
     let small : 2 ^ k < 2 ^ 63 = omega (arith, power_more 62 k h) in

@@ -30,7 +30,7 @@ held_within k z h = rw (fits_within k z h) refl
 pub some_same : {a b : ℤ} → Some a ≡ Some b → a ≡ b
 some_same j = cc
 
--- what is held is the number
+-- the held number is the number itself
 pub held_same : (k : ℕ) (z y : ℤ) → Some y ≡ held k z → y ≡ z
 held_same k z y h = by (fits k z) h
   where
@@ -38,7 +38,7 @@ held_same k z y h = by (fits k z) h
     by true e = some_same e
     by false e = absurd (cc)
 
--- what is there exactly where the type holds it
+-- a result that is there exactly where the type holds the number
 pub is_held : (r : Option ℤ) (z : ℤ) → SomeIff r (FitsSigned w128 z) z → r ≡ held 127 z
 is_held None z h = by (fits 127 z) refl
   where

@@ -34,7 +34,7 @@ nearest_is s k z =
     let whole : (k - 1) + 1 ≡ k = omega (arith, z) in
     ap (λ (d : ℕ). floor_over (s +ℤ pos (2 ^ (k - 1))) d) (ap (λ (n : ℕ). 2 ^ n) (sym whole) ∙ pow-add 2 (k - 1) 1) ∙ half_more s (2 ^ (k - 1)) (power_positive (k - 1))
 
--- what 128 bits hold over 2, 256 bits hold
+-- a number is held by 256 bits where its half is held by 128
 held_before : (z : ℤ) → fits 127 (floor_over z 2) ≡ true → fits 255 z ≡ true
 held_before (pos n) e = less_true n (2 ^ 255) (by (grind (arith, nat_tests)))
   where

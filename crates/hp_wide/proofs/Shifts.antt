@@ -69,7 +69,7 @@ rest_below a d z = by (pos d *ℤ floor_over a d) (floor_at_most a d z) (floor_a
 quotient_below : (n d e : ℕ) → 0 < d → n < d * e → n / d < e
 quotient_below n d e z h = ⊎_elim (λ (l : n / d < e). l) (λ (l : e ≤ n / d). absurd (omega (arith, h, z, mul-le-mul_left d l))) (cases_lt (n / d) e)
 
--- what is left of x e, where d e is the least number that does not fit
+-- the rest of x e, where d e is the least number that does not fit
 rest_up : (d e x q r : ℕ) → x ≡ q * d + r → r < d → 0 < e → (x * e) % (d * e) ≡ r * e
 rest_up d e x q r i h z =
     let spread : x * e ≡ q * (d * e) + r * e = ap (λ (n : ℕ). n * e) i ∙ omega arith in

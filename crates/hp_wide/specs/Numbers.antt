@@ -5,7 +5,7 @@ use Rattle.std.specs.Int.Signed.{quot_z}
 use Rattle.std.specs.Ordering.{int_eq}
 use Rattle.hp_num.specs.Sums.{floor_over}
 
--- what a sign and k binary digits hold: from -2^k to 2^k - 1; negsuc n is -(n + 1)
+-- a sign and k binary digits hold z: from -2^k to 2^k - 1; negsuc n is -(n + 1)
 abbrev pub fits : ℕ → ℤ → Bool
 fits k (pos n) = nat_lt n (2 ^ k)
 fits k (negsuc n) = nat_lt n (2 ^ k)
@@ -14,7 +14,7 @@ fits k (negsuc n) = nat_lt n (2 ^ k)
 abbrev pub held : ℕ → ℤ → Option ℤ
 held k z = if fits k z then Some z else None
 
--- what z has above the greatest multiple of d that is at most z
+-- the excess of z over the greatest multiple of d that is at most z
 abbrev pub rest_over : ℤ → ℕ → ℕ
 rest_over z d = nat_abs (z -ℤ pos d *ℤ floor_over z d)
 

@@ -23,7 +23,7 @@ is_column t v = nat_lt v (length t.costs)
 abbrev pub terms_of : Table → ℕ → List Term
 terms_of t v = get_or t.rows (v - length t.costs) []
 
--- what rests of the costs of the columns, less a term times the dual y; none where 256 bits do not hold it
+-- the rests of the columns' costs, less a term times the dual y; none where 256 bits do not hold one
 unfoldable pub less_term : ℤ → List ℤ → Term → Option (List ℤ)
 less_term y rests a = option_map (slice_set rests a.0) (held 255 (entry rests a.0 -ℤ y *ℤ a.1))
 
@@ -43,7 +43,7 @@ less_places t j rests (v ∷ vs) = option_and_then (λ next. less_places t (suc 
 abbrev pub whole_costs : List ℤ → List ℤ
 whole_costs costs = map (λ c. c *ℤ pos (2 ^ 80)) costs
 
--- what rests of the cost of each column, less the terms of all rows times their duals, at scale 2^160
+-- the rest of each column's cost, less the terms of all rows times their duals, at scale 2^160
 abbrev pub rests_of : Table → Option (List ℤ)
 rests_of t = less_places t 0 (whole_costs t.costs) t.basis.nonbasic
 

@@ -59,6 +59,6 @@ found_with point duals = record { kind = kinds.Found; point = point; duals = dua
 unfoldable pub found_of : Table → Program → Option Answer
 found_of t lp = option_and_then (λ point. option_map (found_with point) (each_from (dual_at t) 0 lp.rows)) (each_from (point_at t) 0 lp.columns)
 
--- the same, none where a reduced cost is no cell
+-- the answer, none where a reduced cost is no cell
 unfoldable pub finished_of : Table → Program → Option Answer
 finished_of t lp = option_and_then (λ costs. found_of t lp) (costs_of t)

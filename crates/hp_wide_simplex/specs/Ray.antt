@@ -55,7 +55,7 @@ unfoldable pub ray_dual : Table → List ℤ → ℕ → Bool → ℤ → ℕ �
 ray_dual t line v above top i r =
     option_map (λ y. clipped r (number y)) (option_and_then (held 127) (shift_of (factor_at t line v above i) (entry t.scales.rows i +ℤ pos 60 -ℤ top)))
 
--- those of all own rows
+-- the duals of all own rows
 unfoldable pub ray_duals : Table → List ℤ → ℕ → Bool → Program → ℤ → Option (List Fx)
 ray_duals t line v above lp top = each_from (ray_dual t line v above top) 0 (take lp.own lp.rows)
 

@@ -37,8 +37,8 @@ abbrev pub by_line : Program → Table → Violation → Option (List ℤ) → L
 by_line lp t v None = looks.Stops
 by_line lp t v (Some line) = by_entry (ray_of t line v.variable v.above lp) v line (enter_of t line v.above v.amount)
 
--- what one violation comes to: nothing can be done; it is mended; it shows by its ray that no point keeps all bounds; or a number
--- is out of range
+-- the outcome of one violation: nothing can be done; it is mended; it shows by its ray that no point keeps all bounds; or a number is out
+-- of range
 unfoldable pub look_at : Program → Table → Violation → Look
 look_at lp t v = by_line lp t v (line_of t v.variable)
 
@@ -62,11 +62,11 @@ abbrev pub by_violations : Program → Table → Option (List Violation) → Loo
 by_violations lp t None = looks.Stops
 by_violations lp t (Some vs) = look_from lp t vs (length vs) None
 
--- what all violations come to
+-- the outcome of all violations
 unfoldable pub look_of : Program → Table → Look
 look_of lp t = by_violations lp t (violations_of t)
 
--- what a turn comes to: a pivot, nothing, a ray, or a number out of range
+-- the outcome of a turn: a pivot, nothing, a ray, or a number out of range
 pub data Turn : Type 0 where
   pivots : Table → Turn
   idles : Table → Turn

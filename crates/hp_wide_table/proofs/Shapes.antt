@@ -37,7 +37,7 @@ bounds_of t s = record { lows = s.lows; ups = s.ups; has_low = s.has_low; has_up
 pub basis_of : (t : Table) → IsTable t → IsBasis (length t.costs) (variables t) t.basis
 basis_of t s = record { nonbasic = s.nonbasic; places = s.places; high = s.high; numbers = s.numbers; inside = s.inside }
 
--- the same basis, where its nonbasic variables stand at other bounds
+-- a basis stays one where its nonbasic variables stand at other bounds
 pub other_highs : (t : Table) (high : List Bool) → IsTable t → length high ≡ length t.costs → IsBasis (length t.costs) (variables t) (record t.basis { high = high })
 other_highs t high s e = record { nonbasic = s.nonbasic; places = s.places; high = e; numbers = s.numbers; inside = s.inside }
 

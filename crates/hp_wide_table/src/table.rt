@@ -66,8 +66,7 @@ pub struct Table {
     pub basis: Basis,
     /// The reduced cost at each place; of a slack, the dual of its row.
     pub reduced: List<Cell>,
-    /// For each basic column the cells by which it is a sum over all places; for other columns
-    /// what was left there.
+    /// For each basic column the cells by which it is a sum over all places; for other columns the cells that were left there.
     pub lines: Square,
     /// The value of each column.
     pub values: List<Quantity>,

@@ -60,7 +60,7 @@ abbrev pub gen : List (List ℕ) → Option Command
 gen (seed ∷ (stages ∷ (reservoirs ∷ []))) = gen_by seed stages reservoirs
 gen ws = None
 
--- what a first word asks for with the words behind it
+-- the command of a first word and the words behind it
 unfoldable pub command_by : List ℕ → List (List ℕ) → Option Command
 command_by word ws =
     if bytes_eq word (codes "base") then alone Base ws

@@ -7,7 +7,7 @@ use Rattle.hp_dual.specs.Parts.{PairsThere, ReducedFit, repeated}
 use Rattle.hp_dual.proofs.Congruence.{same_read}
 use Rattle.hp_dual.proofs.cut_making.repeated.write_repeated_cut.Goals as goal
 
--- what all have, the one has
+-- a property of all copies holds of the one
 of_one : (P : Certificate → Type 0) (c : Certificate) (ws : List ℕ) → 0 < length ws → All P (repeated c ws) → P c
 of_one P c ws h all = subst P (get_or-map (λ (w : ℕ). c) ws 0 0 c h) (all 0 c (subst (λ (k : ℕ). 0 < k) (sym (length-map ws (λ (w : ℕ). c))) h))
 
