@@ -9,10 +9,10 @@ const OUTPUT: usize = 1 << 20;
 /// The space for what is written to a journal.
 const ROOM: usize = 1 << 12;
 
-/// How many writes, cuts and syncs a journal takes.
+/// The number of writes, cuts and syncs that a journal takes.
 const CHANGES: usize = 1 << 10;
 
-/// How a source and a sink behave: how many bytes a call takes at most, and the calls that fail.
+/// The behaviour of a source and a sink: the most bytes that a call takes, and the calls that fail.
 #[derive(Clone, Copy)]
 pub struct Devices<'a> {
     pub most_read: usize,

@@ -31,7 +31,7 @@ pub fn harmed(alloc: Global, journal: &[u8], harm: Harm, call: u64) -> Result<Me
     }
 }
 
-/// Whether what a crash leaves can be checked.
+/// Tells whether what a crash leaves can be checked.
 fn is_checked<R: Threads + Sync>(
     rt: &R,
     alloc: Global,
@@ -48,7 +48,7 @@ fn is_checked<R: Threads + Sync>(
     Ok(seen.starts_with("hydroplan 1\n"))
 }
 
-/// Whether the task run on what a crash leaves gives what it gives unharmed.
+/// Tells whether the task run on what a crash leaves gives what it gives unharmed.
 fn is_resumed<R: Threads + Sync>(
     rt: &R,
     alloc: Global,
@@ -62,7 +62,7 @@ fn is_resumed<R: Threads + Sync>(
     Ok(again.as_str() == unharmed)
 }
 
-/// Whether both hold after each kind of crash.
+/// Tells whether both hold after each kind of crash.
 fn are_resumed<R: Threads + Sync>(
     rt: &R,
     alloc: Global,
@@ -81,7 +81,7 @@ fn are_resumed<R: Threads + Sync>(
     Ok(true)
 }
 
-/// Whether a run ends as the failure of its journal with nothing written, or, where it made no call that fails, as an
+/// Tells whether a run ends as the failure of its journal with nothing written, or, where it made no call that fails, as an
 /// unharmed one.
 fn is_told(found: &str, failed: bool, unharmed: &str) -> bool {
     if failed {

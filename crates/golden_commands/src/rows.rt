@@ -190,7 +190,7 @@ fn answer<R: Threads + Sync + Files + AllocGlobal>(
     }
 }
 
-/// Whether what the row of a line gives is as expected.
+/// Tells whether what the row of a line gives is as expected.
 pub fn tried<R: Threads + Sync + Files + AllocGlobal>(
     rt: &R,
     alloc: Global,

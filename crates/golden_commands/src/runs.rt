@@ -8,7 +8,7 @@ use std::alloc::Global;
 use std::fmt::Write;
 use std::thread::Threads;
 
-/// How often each of two solves that are to meet looks for the other at most.
+/// The most looks that each of two solves that are to meet takes for the other.
 const LOOKS: u64 = 1 << 30;
 
 /// A command line and its problem.

@@ -141,7 +141,7 @@ fn told<R: Threads + Sync>(
     }
 }
 
-/// Whether an answer is the expected one; otherwise both are shown.
+/// Tells whether an answer is the expected one; otherwise both are shown.
 fn is_expected(
     shown: &mut String,
     asked: &str,
@@ -155,7 +155,7 @@ fn is_expected(
     Ok(false)
 }
 
-/// Whether a line `QUESTION -> ANSWER` is as expected; otherwise it is shown.
+/// Tells whether a line `QUESTION -> ANSWER` is as expected; otherwise it is shown.
 fn is_answered<R: Threads + Sync>(
     rt: &R,
     alloc: Global,

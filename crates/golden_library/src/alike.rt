@@ -11,7 +11,7 @@ fn is_same_column(a: &Column, b: &Column) -> bool
     a.low == b.low && a.high == b.high && a.cost == b.cost
 }
 
-/// Whether two lists of columns are the same.
+/// Tells whether two lists of columns are the same.
 #[tactic(auto, using(crate::proofs::Same::same_more))]
 fn are_same_columns(a: &[Column], b: &[Column]) -> bool
     ensures { result ≡ true → a.now ≡ b.now }
@@ -33,7 +33,7 @@ fn is_same_term(a: (u32, Fx), b: (u32, Fx)) -> bool
     a.0 == b.0 && a.1 == b.1
 }
 
-/// Whether two lists of terms are the same.
+/// Tells whether two lists of terms are the same.
 #[tactic(auto, using(crate::proofs::Same::same_more))]
 fn are_same_terms(a: &[(u32, Fx)], b: &[(u32, Fx)]) -> bool
     ensures { result ≡ true → a.now ≡ b.now }
@@ -55,7 +55,7 @@ fn has_same_terms(a: &LpRow, b: &LpRow) -> bool
     are_same_terms(a.terms.as_slice(), b.terms.as_slice())
 }
 
-/// Whether rows have the same terms.
+/// Tells whether rows have the same terms.
 #[tactic(auto, using(crate::proofs::Same::mapped_more))]
 fn have_same_terms(a: &[LpRow], b: &[LpRow]) -> bool
     ensures { result ≡ true → terms_of a.now ≡ terms_of b.now }
@@ -77,7 +77,7 @@ fn is_same_row(a: &LpRow, b: &LpRow) -> bool
     has_same_terms(a, b) && a.low == b.low && a.high == b.high
 }
 
-/// Whether two lists of rows are the same.
+/// Tells whether two lists of rows are the same.
 #[tactic(auto, using(crate::proofs::Same::same_more))]
 fn are_same_rows(a: &[LpRow], b: &[LpRow]) -> bool
     ensures { result ≡ true → a.now ≡ b.now }
@@ -93,7 +93,7 @@ fn are_same_rows(a: &[LpRow], b: &[LpRow]) -> bool
     true
 }
 
-/// Whether two programs have as many columns and rows of each sort.
+/// Tells whether two programs have as many columns and rows of each sort.
 fn are_counted_alike(a: &Program, b: &Program) -> bool
     ensures decisions { result ≡ true → a.now.decisions ≡ b.now.decisions }
     ensures own { result ≡ true → a.now.own ≡ b.now.own }
@@ -101,7 +101,7 @@ fn are_counted_alike(a: &Program, b: &Program) -> bool
     a.decisions == b.decisions && a.own == b.own
 }
 
-/// Whether a chain may begin with a program after a start by a reference.
+/// Tells whether a chain may begin with a program after a start by a reference.
 pub fn extends(reference: &Program, lp: &Program) -> bool
     requires reference { IsProper reference.now }
     ensures { result ≡ true → Extends reference.now lp.now }
@@ -121,7 +121,7 @@ pub fn extends(reference: &Program, lp: &Program) -> bool
         )
 }
 
-/// Whether a chain may take a program after another.
+/// Tells whether a chain may take a program after another.
 pub fn is_like(lp: &Program, other: &Program) -> bool
     requires { IsProper lp.now }
     ensures { result ≡ true → IsLike lp.now other.now }

@@ -73,7 +73,7 @@ fn bounded(weight: u32) -> u32
     weight.clamp(1, 1000)
 }
 
-/// Whether the list is accepted at the first node with these two weights, each from 1 to 1,000; then its cut is written.
+/// Tells whether the list is accepted at the first node with these two weights, each from 1 to 1,000; then its cut is written.
 fn is_made_with_two(
     problem: &Problem,
     pools: &Pools,
@@ -103,7 +103,7 @@ fn first_fault(
     accept(problem, pools, node, list).err()
 }
 
-/// Whether the list is accepted at the first node; then its cut is written.
+/// Tells whether the list is accepted at the first node; then its cut is written.
 fn is_made(problem: &Problem, pools: &Pools, list: &[Certificate], cut: &mut Cut) -> bool
     requires { Fit (problem_of problem.now) (length problem.now.raw.nodes) pools.now.lists }
 {

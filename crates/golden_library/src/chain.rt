@@ -39,7 +39,7 @@ fn push_answer(text: &mut String, answer: &Answer) -> Result<(), RowFault> {
     push_duals(text, &answer.duals)
 }
 
-/// Whether a chain may take a program after another. [`Memory`] where memory was refused.
+/// Tells whether a chain may take a program after another. [`Memory`] where memory was refused.
 fn comes_after(alloc: Global, last: &StageLp, lp: &StageLp) -> Result<bool, Memory>
     requires { IsProper last.now }
     ensures { IfOk result (λ found. found ≡ true → IsLike last.now lp.now) }
@@ -49,7 +49,7 @@ fn comes_after(alloc: Global, last: &StageLp, lp: &StageLp) -> Result<bool, Memo
     Ok(is_like(&before, &program))
 }
 
-/// Whether a chain may begin with a program after a start by a reference. [`Memory`] where memory was refused.
+/// Tells whether a chain may begin with a program after a start by a reference. [`Memory`] where memory was refused.
 fn may_begin(alloc: Global, reference: &StageLp, lp: &StageLp) -> Result<bool, Memory>
     requires { IsProper reference.now }
     ensures { IfOk result (λ found. found ≡ true → Extends reference.now lp.now) }

@@ -22,7 +22,7 @@ use std::thread::Threads;
 pub enum Told {
     /// Each entry with its certificates.
     Everything,
-    /// How many programs each iteration solved, and how many answers were of no use.
+    /// The number of programs that each iteration solved, and of answers that were of no use.
     Sums,
     /// Nothing.
     Nothing,
@@ -60,7 +60,7 @@ fn push_told(text: &mut String, entries: &[Entry], told: Told) -> Result<(), Row
     }
 }
 
-/// One iteration more. A node without decisions is told in any case.
+/// Takes one more iteration. A node without decisions is told in any case.
 fn step<R: Threads + Sync, V: Solver>(
     rt: &R,
     alloc: Global,

@@ -33,7 +33,7 @@ fn payload(alloc: Global, entries: u16) -> Result<Vec<u8>, Memory> {
     Ok(payload)
 }
 
-/// How many entries the payload has, 0 where it is not read.
+/// Counts the entries of the payload, 0 where it is not read.
 fn entries_of(alloc: Global, problem: &Problem, entries: u16, payload: &[u8]) -> u64 {
     if MOST_BYTES < payload.len() {
         return 0;

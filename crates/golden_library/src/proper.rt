@@ -7,14 +7,14 @@ ghost use Rattle.hp_solver.specs.Proper.{IsProper, IsReference, IsIdle, AreRisin
 
 use hp_solver::{Column, Fx, LpRow, Program};
 
-/// Whether some value is in the box.
+/// Tells whether some value is in the box.
 fn has_box(column: &Column) -> bool
     ensures { result ≡ true → column.now.low.0 ≤ℤ column.now.high.0 }
 {
     column.low.0 <= column.high.0
 }
 
-/// Whether no box is empty.
+/// Tells whether no box is empty.
 fn have_boxes(columns: &[Column]) -> bool
     ensures { result ≡ true → All (λ (c : Column). c.low.0 ≤ℤ c.high.0) columns.now }
 {
@@ -26,7 +26,7 @@ fn have_boxes(columns: &[Column]) -> bool
     true
 }
 
-/// Whether some value keeps both sides.
+/// Tells whether some value keeps both sides.
 fn has_value(row: &LpRow) -> bool
     ensures { result ≡ true → IfSome row.now.low (λ low. IfSome row.now.high (λ high. low.0 ≤ℤ high.0)) }
 {
@@ -36,7 +36,7 @@ fn has_value(row: &LpRow) -> bool
     }
 }
 
-/// Whether some value keeps both sides of each row.
+/// Tells whether some value keeps both sides of each row.
 fn have_values(rows: &[LpRow]) -> bool
     ensures { result ≡ true → All (λ (r : LpRow). IfSome r.low (λ low. IfSome r.high (λ high. low.0 ≤ℤ high.0))) rows.now }
 {
@@ -48,7 +48,7 @@ fn have_values(rows: &[LpRow]) -> bool
     true
 }
 
-/// Whether column numbers rise and are below the number of columns.
+/// Tells whether column numbers rise and are below the number of columns.
 fn rises(terms: &[(u32, Fx)], columns: usize) -> bool
     ensures { result ≡ true → AreRising 0 columns terms.now }
 {
@@ -63,7 +63,7 @@ fn rises(terms: &[(u32, Fx)], columns: usize) -> bool
     true
 }
 
-/// Whether the terms of each row rise.
+/// Tells whether the terms of each row rise.
 fn rise(rows: &[LpRow], columns: usize) -> bool
     ensures { result ≡ true → All (λ (r : LpRow). AreRising 0 columns r.terms) rows.now }
 {
@@ -75,7 +75,7 @@ fn rise(rows: &[LpRow], columns: usize) -> bool
     true
 }
 
-/// Whether no column has another value than 0, nor a cost.
+/// Tells whether no column has another value than 0, nor a cost.
 fn are_idle(columns: &[Column]) -> bool
     ensures { result ≡ true → All IsIdle columns.now }
 {
@@ -87,7 +87,7 @@ fn are_idle(columns: &[Column]) -> bool
     true
 }
 
-/// Whether a program is proper.
+/// Tells whether a program is proper.
 pub fn is_proper(lp: &Program) -> bool
     ensures { result ≡ true → IsProper lp.now }
 {
@@ -100,7 +100,7 @@ pub fn is_proper(lp: &Program) -> bool
         && lp.own as usize <= rows.len()
 }
 
-/// Whether a program has own rows alone, and idle columns of successors.
+/// Tells whether a program has own rows alone, and idle columns of successors.
 pub fn is_reference(lp: &Program) -> bool
     ensures { result ≡ true → IsReference lp.now }
 {

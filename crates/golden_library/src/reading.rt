@@ -7,7 +7,7 @@ use hp_solver::{Column, Fx, LpRow, Program, StageLp};
 use std::alloc::Global;
 use std::str::SplitWhitespace;
 
-/// How much of a program is read.
+/// The part of a program that is read.
 #[derive(Clone, Copy)]
 pub enum Extent {
     /// The own rows alone: the columns of successors stand at 0 and cost nothing.

@@ -21,7 +21,7 @@ use std::thread::Threads;
 enum Question {
     /// The entries, cuts and bound of iterations of training.
     Train,
-    /// How many programs such iterations solve.
+    /// The number of programs that such iterations solve.
     Measure,
     /// The report of drawn scenarios.
     Simulate,

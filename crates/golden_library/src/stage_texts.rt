@@ -41,7 +41,7 @@ pub fn push_program(alloc: Global, text: &mut String, lp: &StageLp) -> Result<()
     Ok(())
 }
 
-/// How many multipliers are not 0.
+/// Counts the multipliers that are not 0.
 fn nonzero(multipliers: &[i64]) -> usize {
     multipliers
         .iter()

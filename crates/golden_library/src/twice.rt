@@ -8,8 +8,8 @@ use hp_num::Memory;
 use hp_solver::{Answer, Solver, StageLp};
 use std::alloc::Global;
 
-/// Solves each program twice, in two chains that know nothing of each other, and answers as the first. What this takes
-/// longer than the solver alone is what the solver takes.
+/// Solves each program twice, in two chains that know nothing of each other, and answers as the first. The time that it takes
+/// beyond the solver alone is the time of the solver.
 #[derive(Drop)]
 pub struct Twice<'a, V: Solver> {
     pub solver: &'a V,

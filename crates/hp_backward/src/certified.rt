@@ -39,7 +39,7 @@ pub(crate) struct Visit<'a, V: Solver> {
 pub(crate) struct Certified {
     /// In the order of the realizations.
     pub(crate) list: List<Certificate>,
-    /// How many answers were of no use.
+    /// The number of answers that were of no use.
     pub(crate) unsettled: u32,
 }
 
@@ -100,7 +100,7 @@ impl<'a, V: Solver> Visit<'a, V> {
         })
     }
 
-    /// One realization more: its answer is judged, and settled to a certificate.
+    /// Certifies one more realization: judges its answer, and settles it to a certificate.
     #[tactic(auto, unfolding(crate::specs::Certifying::certify))]
     pub(crate) fn certify(
         &self,

@@ -1,4 +1,4 @@
-// One step back along a path: the cut of a node.
+// A step back along a path: the cut of a node.
 ghost use Rattle.std.specs.Prelude.{◌≡◌, ◌≢◌, ℕ, ◌+◌, ◌<◌, ◌≤◌, ◌^◌, length, All, IfOk, OnOk, OnErr};
 ghost use Rattle.hp_num.specs.Steps.{GivesOr};
 ghost use Rattle.hp_theory.specs.Fit.{CutFits, Fit, FitFor};

@@ -7,7 +7,7 @@ use hp_solver::CutList;
 use std::alloc::Global;
 use std::marker::Model;
 
-/// How many cuts are copied at most.
+/// The most cuts that are copied.
 const MOST_CUTS: usize = 1 << 24;
 
 /// Copies of some cuts, all heights in one list and all slopes in another, so that a walk over these cuts reads memory in order.
@@ -16,7 +16,7 @@ const MOST_CUTS: usize = 1 << 24;
 pub(crate) struct Copies {
     heights: Vec<i128>,
     slopes: Vec<i64>,
-    /// How many slopes each cut has.
+    /// The number of slopes of each cut.
     states: usize,
 }
 

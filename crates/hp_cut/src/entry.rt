@@ -16,7 +16,7 @@ pub struct EntryStep {
 pub struct Entry {
     /// The number of the iteration, from 1.
     pub iteration: u32,
-    /// How many solves of the path, forward and backward, gave an answer that was of no use.
+    /// The number of solves of the path, forward and backward, that gave an answer that was of no use.
     pub unsettled: u32,
     /// One step per node of the path, the last node first.
     pub steps: List<EntryStep>,

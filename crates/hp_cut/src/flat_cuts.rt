@@ -9,10 +9,10 @@ use hp_solver::CutList;
 use hp_theory::Cut;
 use std::alloc::Global;
 
-/// How many states cuts that are kept have at most.
+/// The most states that kept cuts may have.
 const MOST_STATES: usize = 50;
 
-/// How many cuts are kept at most.
+/// The most cuts that are kept.
 const MOST_CUTS: usize = 1 << 24;
 
 /// The cuts of a node once more, all heights in one list and all slopes in another, so that a walk over all cuts reads memory
@@ -21,13 +21,13 @@ const MOST_CUTS: usize = 1 << 24;
 pub(crate) struct FlatCuts {
     heights: Vec<i128>,
     slopes: Vec<i64>,
-    /// How many slopes each cut has.
+    /// The number of slopes of each cut.
     states: usize,
     /// All cuts are there.
     kept: bool,
 }
 
-/// How many slopes the first cut has.
+/// Counts the slopes of the first cut.
 fn states_of(cuts: &[Cut]) -> usize {
     match cuts.first() {
         Some(cut) => cut.beta.len(),
@@ -100,8 +100,8 @@ impl FlatCuts {
         found
     }
 
-    /// Takes one cut more in. None are kept any more where it has more or fewer slopes than the others or too many binary
-    /// digits, where there are too many, or where memory was refused.
+    /// Appends a new cut. None are kept any more where it has more or fewer slopes than the others or too many binary digits,
+    /// where there are too many, or where memory was refused.
     pub(crate) fn add(&mut self, cut: &Cut)
         ensures { (cuts : List Cut) → IsFlat cuts self.old → IsFlat (cuts ++ cut.now ∷ []) self.new }
     {
@@ -113,7 +113,7 @@ impl FlatCuts {
         }
     }
 
-    // There is room for one cut more, and it has as many slopes as the others and a height of few binary digits.
+    // Tells whether there is room for one more cut, and it has as many slopes as the others and a height of few binary digits.
     fn takes(&self, cut: &Cut) -> bool
         ensures count { result ≡ true → length cut.now.beta ≡ self.now.states }
         ensures height { result ≡ true → nat_abs cut.now.alpha < 2 ^ 100 }

@@ -117,7 +117,7 @@ impl Peak {
         }
     }
 
-    /// Takes one cut more in. False where a product or a sum leaves i128.
+    /// Updates the greatest value with a new cut. False where a product or a sum leaves i128.
     pub(crate) fn raise(&mut self, cut: &Cut) -> bool
         ensures { result ≡ true → (cuts : List Cut) → IsPeak cuts self.old → IsPeak (cuts ++ cut.now ∷ []) self.new }
     {

@@ -14,18 +14,18 @@ use hp_theory::Cut;
 use std::alloc::Global;
 use std::marker::Model;
 
-/// How many cuts are compared with one another at most when those that cover the others are looked for: with so many it takes
-/// some hundredths of a second, and the time grows with the square.
+/// The most cuts that are compared with one another when those that cover the others are looked for: with so many it takes some
+/// hundredths of a second, and the time grows with the square.
 const MOST_COMPARED: usize = 1 << 12;
 
-/// How many peaks a pool keeps at most. The predecessors of a node mostly share one box.
+/// The most peaks that a pool keeps. The predecessors of a node mostly share one box.
 const MOST_PEAKS: usize = 8;
 
-/// The cuts of a node, at most 2^24, and what is kept of them so that stage problems are built in less time.
+/// The cuts of a node, at most 2^24, and the lists that are kept of them so that stage problems are built in less time.
 #[derive(Drop)]
 pub(crate) struct Pool {
     cuts: Vec<Cut>,
-    /// The cuts once more.
+    /// The cuts side by side.
     flat: FlatCuts,
     /// The peaks over some boxes.
     peaks: Vec<Peak>,
@@ -45,7 +45,7 @@ impl Model for Pool {
     ghost invariant = { λ p. IsKept p.cuts.items p.flat p.peaks.items p.active };
 }
 
-/// Takes one cut more in at each peak. False where a product or a sum leaves i128.
+/// Updates each peak with a new cut. False where a product or a sum leaves i128.
 fn raise_all(peaks: &mut [Peak], cut: &Cut) -> bool
     ensures { result ≡ true → (cuts : List Cut) → All (IsPeak cuts) peaks.old → All (IsPeak (cuts ++ cut.now ∷ [])) peaks.new }
 {
@@ -57,7 +57,7 @@ fn raise_all(peaks: &mut [Peak], cut: &Cut) -> bool
     true
 }
 
-/// Takes one cut more in at each peak; keeps none any more where a product or a sum leaves i128.
+/// Updates each peak with a new cut, and drops all of them where a product or a sum leaves i128.
 fn raise_or_clear(peaks: &mut Vec<Peak>, cut: &Cut)
     ensures { (cuts : List Cut) → All (IsPeak cuts) peaks.old.items → All (IsPeak (cuts ++ cut.now ∷ [])) peaks.new.items }
 {
@@ -99,8 +99,8 @@ fn active_of(
     Ok(Some(Active::of(alloc, boxes, &list)?))
 }
 
-/// Takes the last of the cuts in, where those before it are covered. None where the cuts are not side by side, and where memory
-/// was refused.
+/// Updates the covering cuts with the last of the cuts, where those before it are covered. None where the cuts are not side by
+/// side, and where memory was refused.
 fn renewed(active: Option<Active>, flat: &FlatCuts, cuts: &[Cut]) -> Option<Active>
     requires flat { IsFlat cuts.now flat.now }
     requires some { 0 < length cuts.now }

@@ -19,7 +19,7 @@ pub fn row_side(row: &Row, multiplier: i64) -> i64
     }
 }
 
-/// Whether a row has the side that a multiplier stands on: no positive multiplier without a lower side, and no negative
+/// Tells whether a row has the side that a multiplier stands on: no positive multiplier without a lower side, and no negative
 /// one without an upper.
 pub fn is_sign(row: &Row, multiplier: i64) -> bool
     ensures { result ≡ is_sign row.now multiplier }

@@ -108,7 +108,7 @@ pub fn array(value: &Value, place: Place) -> Result<&[Value], Refusal>
     }
 }
 
-/// How many members there are.
+/// Counts the members.
 #[tactic(auto, using(crate::proofs::InOrder::counts))]
 pub fn count(members: &Map<String, Value>) -> usize
     ensures { result ≡ members_len (members_view members.now.entries) }

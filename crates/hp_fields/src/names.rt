@@ -35,7 +35,7 @@ impl Names {
         }
     }
 
-    /// How many names there are.
+    /// Counts the names.
     pub fn len(&self) -> usize
         ensures { result ≡ length self.now }
     {

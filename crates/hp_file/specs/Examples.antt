@@ -110,7 +110,8 @@ one_reservoir =
     ++ codes "{\"function\":{\"type\":\"Variable\",\"name\":\"q\"},\"set\":{\"type\":\"Interval\",\"lower\":0,\"upper\":8}},"
     ++ codes "{\"function\":{\"type\":\"Variable\",\"name\":\"g\"},\"set\":{\"type\":\"Interval\",\"lower\":0,\"upper\":20}}]}}}}"
 
--- a node a, which ends the horizon with weight 2 and leads to b with weight 3 and to c with weight 5; a stage costs w, which is 0 at a, 10 at b and 20 at c
+-- a node a, which ends the horizon with weight 2 and leads to b with weight 3 and to c with weight 5; a stage costs w: 0 at a, 10 at b, 20
+-- at c
 unfoldable pub with_stop : List ℕ
 with_stop =
     codes "{\"version\":{\"major\":1,\"minor\":0},\"root\":{\"successors\":{\"a\":1}},\"nodes\":{"

@@ -119,7 +119,7 @@ pub fn subproblem(
     json!(in alloc; {"state_variables": states, "random_variables": randoms, "subproblem": program})
 }
 
-/// One more text.
+/// Appends a text.
 pub fn push_text(list: &mut Vec<Value>, text: String) -> Result<(), AllocError>
     ensures { OnOk result (map view list.new.items
         ≡ map view list.old.items ++ string (string_bytes text) ∷ []) }
@@ -127,7 +127,7 @@ pub fn push_text(list: &mut Vec<Value>, text: String) -> Result<(), AllocError>
     Ok(list.push(Value::String(text))?)
 }
 
-/// One more variable.
+/// Appends a variable.
 pub fn push_variable(alloc: Global, list: &mut Vec<Value>, name: &str) -> Result<(), AllocError>
     ensures { OnOk result (map view list.new.items
         ≡ map view list.old.items ++ variable name.now ∷ []) }
@@ -135,7 +135,7 @@ pub fn push_variable(alloc: Global, list: &mut Vec<Value>, name: &str) -> Result
     Ok(list.push(variable(alloc, name)?)?)
 }
 
-/// One more term.
+/// Appends a term.
 pub fn push_term(
     alloc: Global,
     list: &mut Vec<Value>,
@@ -148,7 +148,7 @@ pub fn push_term(
     Ok(list.push(term(alloc, coefficient, name)?)?)
 }
 
-/// One more bound.
+/// Appends a bound.
 pub fn push_bound(
     alloc: Global,
     list: &mut Vec<Value>,
@@ -162,7 +162,7 @@ pub fn push_bound(
     Ok(list.push(bound(alloc, name, low, high)?)?)
 }
 
-/// One more member: a whole number.
+/// Adds a member: a whole number.
 pub fn put_whole(
     alloc: Global,
     map: &mut Map<String, Value>,

@@ -94,7 +94,7 @@ fn product(factor: i64, number: i128) -> i128
     i128::from(factor) * number
 }
 
-/// The sum with a summand more.
+/// Adds a summand to a sum.
 fn more(sum: i128, summand: i128) -> i128
     requires sum { nat_abs sum ≤ 2 ^ 112 }
     requires summand { nat_abs summand ≤ 2 ^ 104 }

@@ -47,7 +47,7 @@ fn left_side(row: &Row, decisions: &[i128], state: &[i128], values: &[i64]) -> i
     sum_of_three(of_decisions, of_state, of_values)
 }
 
-/// How far the left side lies below the lower side.
+/// Gives by how much the left side lies below the lower side.
 fn below(low: Option<i64>, left: i128) -> i128
     requires { nat_abs left ≤ 2 ^ 114 }
     ensures value { result ≡ below low left }
@@ -59,7 +59,7 @@ fn below(low: Option<i64>, left: i128) -> i128
     }
 }
 
-/// How far the left side lies above the upper side.
+/// Gives by how much the left side lies above the upper side.
 fn above(high: Option<i64>, left: i128) -> i128
     requires { nat_abs left ≤ 2 ^ 114 }
     ensures value { result ≡ above high left }

@@ -27,7 +27,7 @@ use hp_solver::{Answer, Fx, Kind, Solver};
 use hp_theory::SCALE;
 use std::alloc::Global;
 
-/// How often the scale of decisions goes into that of a solver's numbers.
+/// The ratio of the scale of a solver's numbers to that of decisions.
 const FINER: i128 = ONE / SCALE as i128;
 
 /// Why nothing is decided.

@@ -1,4 +1,4 @@
--- Where decisions cost nothing at their least values and never less, base cuts are 0; where costs are not too large, the sizes of their certificates are within their range.
+-- Base cuts are 0 where decisions cost nothing at their least values and never less; where costs are small, sizes are in range.
 use Rattle.std.proofs.Common.{◌≡◌, ℕ, zero, suc, ◌*◌, ◌^◌, ◌-◌, ◌<◌, ◌⊎◌, inl, inr, ℤ, pos, ◌+ℤ◌, ◌-ℤ◌, ◌*ℤ◌, ◌≤ℤ◌, List, [], ◌∷◌, ◌++◌, length, map, zip, get_or, set, replicate, Option, None, Ok, refl, sym, ap, ap₂, subst, ◌∙◌, arith}
 use Rattle.std.specs.Int.{int_min}
 use Rattle.std.proofs.lemmas.Int.{ints, clamps}

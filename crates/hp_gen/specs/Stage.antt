@@ -7,7 +7,7 @@ use Rattle.hp_gen.specs.Names.{reservoir_name}
 use Rattle.hp_forms.specs.Listed.{members_from}
 use Rattle.hp_forms.specs.Stage.{variable, term, row, bound, least_sum, state_between, program_of, subproblem_of}
 
--- ---- variables: of each reservoir what is stored before, what flows in, what is stored after, what is turbined, what is spilled; then three sources of power
+-- ---- variables: of each reservoir the volumes before and after, inflow, turbined water and spill; then three sources of power
 
 abbrev pub incoming : ℕ → List ℕ
 incoming j = reservoir_name (codes "i") j

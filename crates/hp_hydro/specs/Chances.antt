@@ -1,4 +1,4 @@
--- How many random variables of a kind there are.
+-- The number of random variables of a kind.
 use Rattle.std.specs.Prelude.{ℕ, length}
 use Rattle.hp_plants.specs.declared.plants.Plants.{Plants}
 use Rattle.hp_hydro.specs.declared.columns.Random.{Random}

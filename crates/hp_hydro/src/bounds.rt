@@ -119,7 +119,7 @@ fn line_high(plants: &Plants, l: usize) -> i64
     }
 }
 
-// One more bound: a variable is from `low` to `high`.
+// Appends a bound: a variable is from `low` to `high`.
 fn push_between(
     alloc: Global,
     plants: &Plants,

@@ -1,4 +1,4 @@
-// The plants by their numbers. What has no number of a plant is nameless, and nothing of it is there.
+// The plants by their numbers. A number that is no plant's has no name, and nothing of it is there.
 ghost use Rattle.std.specs.Prelude.{◌≡◌, ◌<◌, length};
 ghost use Rattle.hp_hydro.specs.Layout.{reservoir, thermal, line, bus, travel};
 

@@ -183,7 +183,7 @@ fn states(alloc: Global, plants: &Plants) -> Result<Map<String, Value>, AllocErr
     Ok(map)
 }
 
-// How many random variables of a kind there are.
+// Counts the random variables of a kind.
 fn random_count(plants: &Plants, random: Random) -> usize
     ensures { result ≡ chance_count plants.now random }
 {

@@ -106,7 +106,7 @@ fn head_from(bytes: &[u8], len: u64) -> Result<Head, HeadFault>
     title(bytes, len)
 }
 
-// Whether the bytes 1 to 8 are the magic.
+// Tells whether the bytes 1 to 8 are the magic.
 fn magic(bytes: &[u8]) -> bool
     requires { 9 ≤ length bytes.now }
     ensures { result ≡ has_magic bytes.now }

@@ -12,7 +12,7 @@ pub(crate) trait Keeper {
     /// The entries of each record so far, where they are kept.
     ghost kept: { Self → Option (List (List Entry)) };
 
-    /// Takes the entries of one record more. Where they are not kept, the spares take their memory.
+    /// Keeps the entries of one more record. Where they are not kept, the spares take their memory.
     fn keep(&mut self, entries: List<Entry>, spares: &mut Spares) -> Result<(), Memory>
         ensures { OnOk result (kept self.new ≡ option_map (λ lists. lists ++ entries ∷ []) (kept self.old)) };
 }

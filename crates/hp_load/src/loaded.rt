@@ -9,7 +9,7 @@ pub struct Loaded {
     pub pools: Pools,
     /// The bound after each record, at scale 2^24.
     pub bounds: List<i128>,
-    /// How many solves the records state that gave an answer that was of no use.
+    /// The number of solves with an answer that was of no use, as the records state it.
     pub unsettled: u64,
     /// Whether the file is a journal already.
     pub born: bool,

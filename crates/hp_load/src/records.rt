@@ -53,7 +53,7 @@ pub(crate) struct End {
     pub(crate) rest: u64,
 }
 
-// The formulas with as many iterations as the record's number.
+// Checks the formulas with as many iterations as the record's number.
 fn check_formulas(problem: &Problem, iteration: u32, batch: u16) -> Result<(), LoadFault>
     requires iteration { iteration ≤ 2001 }
     requires some { 1 ≤ batch }
@@ -67,7 +67,7 @@ fn check_formulas(problem: &Problem, iteration: u32, batch: u16) -> Result<(), L
     }
 }
 
-// The payload behind the open gate at a place, in the place of what the buffer had; answers the place of the next gate.
+// Reads the payload behind the open gate at a place into the buffer, over its old contents; answers the place of the next gate.
 fn read_payload<D: Disk>(
     disk: &mut D,
     iteration: u32,
@@ -88,7 +88,7 @@ fn read_payload<D: Disk>(
     }
 }
 
-// The entries of an iteration that a payload spells.
+// Decodes the entries of an iteration from a payload.
 fn decode(
     alloc: Global,
     spares: &mut Spares,
@@ -137,7 +137,7 @@ fn entries_behind<D: Disk>(
     Ok((entries, next))
 }
 
-/// How many unsettled solves the entries of an iteration, at most 64, state together.
+/// Sums the unsettled solves that the entries of an iteration, at most 64, state.
 pub fn unsettled(entries: &[Entry]) -> u64
     requires { length entries.now ≤ 64 }
     ensures value { result ≡ sum_by (λ (e : Entry). e.unsettled) entries.now }

@@ -248,8 +248,8 @@ pub fn stage_with<'a>(
     stage_of(alloc, spare, &stage, pools, values, state)
 }
 
-/// Gives a stage problem of a node the sides of other values and another state: it is then the stage problem of these,
-/// over the same pools. What is asked of values and state is as in [`stage`]. No memory is taken.
+/// Gives a stage problem of a node the sides of other values and another state: it is then the stage problem of these, over the
+/// same pools. Values and state are as in [`stage`]. No memory is taken.
 pub fn restate(problem: &Problem, node: u32, values: &[i64], state: &[i128], lp: &mut StageLp)
     requires known { node < length problem.now.raw.nodes }
     requires values { are_values (subproblem_of problem.now node) values.now ≡ true }

@@ -14,7 +14,7 @@ use std::mem;
 pub(crate) struct WrittenRows {
     /// The rows, and behind them those that may be written over.
     rows: Vec<LpRow>,
-    /// How many are written.
+    /// The number of rows that are written.
     count: usize,
 }
 

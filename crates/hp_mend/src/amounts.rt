@@ -40,8 +40,7 @@ impl Amount {
     }
 }
 
-/// How many units are the most that do not go beyond a row's side: the row misses so much, and has the decision with this
-/// factor.
+/// Gives the most units that do not go beyond a row's side: the row misses so much, and has the decision with this factor.
 pub(crate) fn short_of(miss: i128, factor: i64) -> u128
     requires some { factor ≢ pos 0 }
     requires small { nat_abs miss ≤ 2 ^ 115 }
@@ -51,7 +50,7 @@ pub(crate) fn short_of(miss: i128, factor: i64) -> u128
     miss.unsigned_abs() / u128::from(factor.unsigned_abs())
 }
 
-/// How many units are the least that reach the side.
+/// Gives the least units that reach the side.
 pub(crate) fn reaching(miss: i128, factor: i64) -> u128
     requires some { factor ≢ pos 0 }
     requires small { nat_abs miss ≤ 2 ^ 115 }

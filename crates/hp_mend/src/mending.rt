@@ -18,10 +18,10 @@ use hp_num::{List, Memory};
 use hp_problem::Problem;
 use std::alloc::Global;
 
-/// How many moves may be tried for a node's rows.
+/// The number of moves that may be tried for a node's rows.
 const TRIES: u32 = 256;
 
-/// How many levels of rows may be fixed below one another.
+/// The number of levels of rows that may be fixed below one another.
 const LEVELS: u32 = 3;
 
 /// So many decisions, none of which is held.
@@ -64,7 +64,7 @@ fn fix_all(alloc: Global, stage: &Stage, search: &mut Search) -> Result<bool, Me
     Ok(true)
 }
 
-/// Whether decisions meet all rows.
+/// Tells whether decisions meet all rows.
 fn are_met(stage: &Stage, numbers: &[i128]) -> bool
     requires stage { IsStage stage.now }
     requires inside { AreInside stage.now numbers.now }

@@ -23,7 +23,7 @@ pub(crate) fn number_at(numbers: &[i128], at: u32) -> i128
     }
 }
 
-/// Whether a decision is held; one that is not there is.
+/// Tells whether a decision is held; one that is not there is.
 fn is_held(held: &[bool], at: u32) -> bool
     ensures { result ≡ get_or held.now at true }
 {
@@ -33,7 +33,7 @@ fn is_held(held: &[bool], at: u32) -> bool
     }
 }
 
-/// Whether what a decision comes to is in its box.
+/// Tells whether what a decision comes to is in its box.
 fn is_inside(bounds: (i64, i64), number: i128) -> bool
     ensures { result ≡ int_lt bounds.0 bounds.1 && (int_le (pos S *ℤ bounds.0) number && int_le number (pos S *ℤ bounds.1)) }
 {
@@ -49,7 +49,7 @@ pub(crate) fn moved_to(number: i128, amount: i128) -> i128
     number + amount
 }
 
-/// Whether a decision may move by so much: it is not held, and stays in its box, which is no point.
+/// Tells whether a decision may move by so much: it is not held, and stays in its box, which is no point.
 pub(crate) fn may_move(stage: &Stage, search: &Search, at: u32, amount: i128) -> bool
     requires stage { IsStage stage.now }
     requires inside { AreInside stage.now search.now.numbers }
@@ -83,7 +83,7 @@ fn moved(alloc: Global, numbers: &[i128], at: u32, amount: i128) -> Result<List<
     Ok(found)
 }
 
-/// Whether a row has to be met for the sake of another one, and is not met afterwards.
+/// Tells whether a row has to be met for the sake of another one, and is not met afterwards.
 pub(crate) fn is_harmed(
     stage: &Stage,
     row: u32,
@@ -100,7 +100,7 @@ pub(crate) fn is_harmed(
     (other == row || is_met(stage, before, other)) && !is_met(stage, after, other)
 }
 
-/// How many rows are harmed.
+/// Counts the rows that are harmed.
 fn harm(stage: &Stage, row: u32, before: &[i128], after: &[i128]) -> u32
     requires stage { IsStage stage.now }
     requires before { AreInside stage.now before.now }
@@ -177,14 +177,14 @@ fn push_move(
     Ok(())
 }
 
-/// Whether falling short of a side is another move than going beyond it.
+/// Tells whether falling short of a side is another move than going beyond it.
 fn is_other(least: u128, most: u128) -> bool
     ensures { result ≡ is_other least most }
 {
     least != 0 && least != most
 }
 
-/// Whether a factor is 0.
+/// Tells whether a factor is 0.
 fn is_zero(factor: i64) -> bool
     ensures value { result ≡ int_eq factor (pos 0) }
     ensures some { result ≡ false → factor ≢ pos 0 }

@@ -12,7 +12,7 @@ pub(crate) struct Move {
     pub(crate) decision: u32,
     /// By how much it moves, at scale 2^24.
     pub(crate) amount: Amount,
-    /// How many rows that have to be met are not met afterwards.
+    /// The number of rows that have to be met and are not met afterwards.
     pub(crate) harm: u32,
     /// The cost of the decision times the amount.
     pub(crate) cost: i128,
@@ -25,7 +25,7 @@ pub(crate) struct Search {
     pub(crate) numbers: List<i128>,
     /// One entry per decision.
     pub(crate) held: List<bool>,
-    /// How many moves may be tried yet.
+    /// The number of moves that may still be tried.
     pub(crate) tries: u32,
 }
 

@@ -95,7 +95,7 @@ pub(crate) fn miss_at(stage: &Stage, numbers: &[i128], row: u32) -> i128
     miss(problem, node, row, numbers, state, values)
 }
 
-/// Whether decisions meet a row.
+/// Tells whether decisions meet a row.
 pub(crate) fn is_met(stage: &Stage, numbers: &[i128], row: u32) -> bool
     requires stage { IsStage stage.now }
     requires inside { AreInside stage.now numbers.now }

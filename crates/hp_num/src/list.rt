@@ -68,7 +68,7 @@ impl<T> List<T> {
         self.items.len()
     }
 
-    /// Whether there are no values.
+    /// Tells whether there are no values.
     pub fn is_empty(&self) -> bool
         ensures { result ≡ (length self.now == 0) }
     {

@@ -1,4 +1,5 @@
--- Paths: what is closed under successors holds what is reached, a path goes on by one step, and each path can be shortened to one that visits no node twice.
+-- Paths: a set closed under successors holds each node that is reached; a path goes on by one step; each can be shortened to visit no node
+-- twice.
 use Rattle.std.proofs.Common.{◌≡◌, ℕ, zero, suc, ◌<◌, ◌≤◌, Bool, true, false, List, [], ◌∷◌, ◌++◌, length, get_or, Contains, ◌⊎◌, inl, inr, nat_lt, cond, refl, sym, ap, subst, ◌∙◌, arith}
 use Rattle.std.proofs.lemmas.Bool.{ltb-true, cases_lt}
 use Rattle.std.proofs.lemmas.List.{get_or_past}

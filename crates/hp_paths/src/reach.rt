@@ -28,7 +28,7 @@ pub fn first_unreached(
     Ok(None)
 }
 
-// Whether a path of at least one step leads from a node to itself.
+// Tells whether a path of at least one step leads from a node to itself.
 #[tactic(auto, using(crate::proofs::Least::tables))]
 fn reaches_itself(alloc: Global, graph: &[List<u32>], node: u32) -> Result<bool, Memory>
     requires known { is_graph graph.now ≡ true }

@@ -65,7 +65,7 @@ impl Search {
         Ok(())
     }
 
-    // How many nodes the search has come to.
+    // Counts the nodes that the search has come to.
     fn len(&self) -> usize
         ensures { result ≡ length self.now.found }
     {

@@ -94,7 +94,8 @@ bounds_stand raw lo hi =
     list_all (λ (p : Node × List ℤ). are_given (given_lows (own_subproblem raw p.0)) p.1) (zip raw.nodes lo)
     && list_all (λ (p : Node × List ℤ). are_given (given_highs (own_subproblem raw p.0)) p.1) (zip raw.nodes hi)
 
--- one box per node with one small entry per state, with the given bounds as its sides; what leaves a node lies in the boxes of its successors, and the initial values lie in those of the root's
+-- one box per node with one small entry per state and the given bounds as sides; states that leave nodes, and the initial values, lie in
+-- the boxes
 unfoldable pub boxes_fit : Raw → List (List ℤ) → List (List ℤ) → Bool
 boxes_fit raw lo hi =
     bounds_stand raw lo hi && (length lo == length raw.nodes) && (length hi == length raw.nodes)

@@ -101,7 +101,7 @@ fn at_most(lesser: &[i64], greater: &[i64]) -> bool
     all_rise(lesser, greater)
 }
 
-// Whether the box of a node holds the box from `lows` to `highs`.
+// Tells whether the box of a node holds the box from `lows` to `highs`.
 fn holds_box(lo: &[List<i64>], hi: &[List<i64>], lows: &[i64], highs: &[i64], node: u32) -> bool
     ensures { result ≡ holds_box lo.now hi.now lows.now highs.now node }
 {
@@ -116,7 +116,7 @@ fn all_hold(nodes: &[u32], lo: &[List<i64>], hi: &[List<i64>], lows: &[i64], hig
         .all(|node| holds_box(lo, hi, lows, highs, *node))
 }
 
-// Whether what leaves a node, from `lows` to `highs` of its subproblem, lies in the boxes of its successors.
+// Tells whether what leaves a node, from `lows` to `highs` of its subproblem, lies in the boxes of its successors.
 fn leaves_inside(
     node: &Node,
     lo: &[List<i64>],
@@ -197,7 +197,7 @@ fn highs_stand(nodes: &[Node], hi: &[List<i64>], raw: &Raw) -> bool
     nodes.iter().zip(hi).all(|(node, sides)| are_given(given_highs(raw, node), sides.as_slice()))
 }
 
-// Whether the bounds that are given for incoming states are the sides of the boxes.
+// Tells whether the bounds that are given for incoming states are the sides of the boxes.
 #[tactic(auto, unfolding(crate::specs::Sealed::bounds_stand))]
 fn bounds_stand(raw: &Raw, lo: &[List<i64>], hi: &[List<i64>]) -> bool
     ensures { result ≡ bounds_stand raw.now lo.now hi.now }
@@ -230,8 +230,8 @@ fn all_outs_inside(
     ))
 }
 
-/// Whether there is one box per node with one small entry per state, the given bounds of incoming states are its sides, the
-/// state that leaves a node lies in the boxes of its successors, and the initial values lie in those of the root's.
+/// Tells whether there is one box per node with one small entry per state, the given bounds of incoming states are its sides,
+/// the state that leaves a node lies in the boxes of its successors, and the initial values lie in those of the root's.
 #[tactic(auto, unfolding(crate::specs::Sealed::boxes_fit))]
 pub(crate) fn boxes_fit(
     alloc: Global,

@@ -15,7 +15,7 @@ fn is_before(name: &Name, next: &Name) -> bool
     name.as_str() < next.as_str()
 }
 
-// Whether each state comes before the one beside it.
+// Tells whether each state comes before the one beside it.
 fn states_before(states: &[State], others: &[State]) -> bool
     ensures { result ≡ list_all (λ p. is_before p.0.name p.1.name) (zip states.now others.now) }
 {
@@ -35,7 +35,7 @@ fn states_rise(states: &[State]) -> bool
     }
 }
 
-// Whether each node comes before the one beside it.
+// Tells whether each node comes before the one beside it.
 fn nodes_before(nodes: &[Node], others: &[Node]) -> bool
     ensures { result ≡ list_all (λ p. is_before p.0.name p.1.name) (zip nodes.now others.now) }
 {
@@ -55,7 +55,7 @@ fn nodes_rise(nodes: &[Node]) -> bool
     }
 }
 
-/// Whether the states and the nodes stand in the byte order of their names, each name once.
+/// Tells whether the states and the nodes stand in the byte order of their names, each name once.
 #[tactic(auto, unfolding(crate::specs::Limits::names_rise))]
 pub(crate) fn names_rise(raw: &Raw) -> bool
     ensures { result ≡ names_rise raw.now }
@@ -63,7 +63,7 @@ pub(crate) fn names_rise(raw: &Raw) -> bool
     states_rise(raw.states.as_slice()) && nodes_rise(raw.nodes.as_slice())
 }
 
-// Whether each number is below the one beside it.
+// Tells whether each number is below the one beside it.
 fn numbers_below(numbers: &[u32], others: &[u32]) -> bool
     ensures { result ≡ list_all (λ p. nat_lt p.0 p.1) (zip numbers.now others.now) }
 {
@@ -73,7 +73,7 @@ fn numbers_below(numbers: &[u32], others: &[u32]) -> bool
         .all(|(number, other)| *number < *other)
 }
 
-/// Whether each number is above the one before it.
+/// Tells whether each number is above the one before it.
 #[tactic(auto, unfolding(crate::specs::Distinct::rises))]
 pub(crate) fn numbers_rise(numbers: &[u32]) -> bool
     ensures { result ≡ rises nat_lt numbers.now }
@@ -128,7 +128,7 @@ fn names_differ(names: &[Name]) -> bool
     true
 }
 
-// Whether no decision has one of these names.
+// Tells whether no decision has one of these names.
 fn are_apart(decisions: &[Decision], names: &[Name]) -> bool
     ensures { result ≡ list_all (λ d. not (list_any (bytes_eq d.name) names.now)) decisions.now }
 {
@@ -143,7 +143,7 @@ fn are_names(names: &[Name]) -> bool
     names.iter().all(|name| is_name(name))
 }
 
-/// Whether no two decisions and random variables have the same name, and the names of random variables are short.
+/// Tells whether no two decisions and random variables have the same name, and the names of random variables are short.
 #[tactic(auto, unfolding(crate::specs::Limits::names_fit))]
 pub(crate) fn names_fit(subproblem: &Subproblem) -> bool
     ensures { result ≡ names_fit subproblem.now }
@@ -175,7 +175,7 @@ fn numbers_differ(numbers: &[u32]) -> bool
     true
 }
 
-/// Whether no decision is the outgoing state of two states.
+/// Tells whether no decision is the outgoing state of two states.
 #[tactic(auto, unfolding(crate::specs::Limits::outs_differ))]
 pub(crate) fn outs_differ(subproblem: &Subproblem) -> bool
     ensures { result ≡ outs_differ subproblem.now }

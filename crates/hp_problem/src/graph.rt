@@ -32,7 +32,7 @@ pub fn successors(alloc: Global, nodes: &[Node]) -> Result<List<List<u32>>, Memo
     Ok(found)
 }
 
-// Whether these are the nodes by rank.
+// Tells whether these are the nodes by rank.
 fn is_order(alloc: Global, order: &[u32], ranks: &[u32]) -> Result<bool, Memory>
     requires { length ranks.now ≤ 1000 }
     ensures { IfOk result (λ b. b ≡ is_order order.now ranks.now) }
@@ -49,7 +49,7 @@ struct Ranking<'a> {
     longest: u32,
 }
 
-// Whether the starts reach each node, and the order and the length of the longest path from them are those of the ranks.
+// Tells whether the starts reach each node, and the order and the length of the longest path from them are those of the ranks.
 fn ranked_fits(
     alloc: Global,
     graph: &[List<u32>],
@@ -84,8 +84,8 @@ fn links_fit(alloc: Global, graph: &[List<u32>], ranking: &Ranking) -> Result<bo
     }
 }
 
-/// Whether no node reaches itself, the root reaches each node, and the order and the length of the longest path
-/// from the root are those of the nodes' ranks.
+/// Tells whether no node reaches itself, the root reaches each node, and the order and the length of the longest path from the
+/// root are those of the nodes' ranks.
 #[tactic(auto, unfolding(crate::specs::Sealed::graph_fits), using(crate::proofs::SealedFacts::known_root))]
 pub(crate) fn graph_fits(
     alloc: Global,

@@ -212,7 +212,7 @@ fn costs_fit(subproblem: &Subproblem, states: usize) -> bool
         && are_numbers(&subproblem.random_costs, subproblem.randoms.len())
 }
 
-// Whether names and outgoing states differ, and the bounds of the incoming states do not pass each other.
+// Tells whether names and outgoing states differ, and the bounds of the incoming states do not pass each other.
 fn variables_fit(subproblem: &Subproblem) -> bool
     ensures { result ≡ (names_fit subproblem.now && bounds_fit subproblem.now && outs_differ subproblem.now) }
 {
@@ -342,7 +342,7 @@ fn root_fits(raw: &Raw) -> bool
     numbers_rise(raw.root.as_slice()) && root_successors_fit(raw)
 }
 
-/// Whether all parts keep the limits.
+/// Tells whether all parts keep the limits.
 ///
 /// There are at most 50 states, 1000 nodes with 1 to 100 realizations each, and 1000 subproblems with at most 200
 /// decisions, 200 rows and 50 random variables each. Names have at most 128 bytes, those of the states and of the nodes
@@ -364,7 +364,7 @@ pub fn raw_fits(raw: &Raw) -> bool
         && root_fits(raw)
 }
 
-// Whether names rise, the stored scenarios are paths, and there are not too many states, nodes and subproblems.
+// Tells whether names rise, the stored scenarios are paths, and there are not too many states, nodes and subproblems.
 fn few_parts(raw: &Raw) -> bool
     ensures { result ≡ (names_rise raw.now && scenarios_fit raw.now && nat_le (length raw.now.states) 50 && nat_le (length raw.now.nodes) 1000 && nat_le (length raw.now.subs) 1000) }
 {

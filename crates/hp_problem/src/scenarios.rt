@@ -17,7 +17,7 @@ fn successors_at(raw: &Raw, node: u32) -> &[u32]
     }
 }
 
-// Whether there is a value for each random variable of a subproblem.
+// Tells whether there is a value for each random variable of a subproblem.
 fn are_values(subproblems: &[Subproblem], subproblem: u32, values: &List<i64>) -> bool
     ensures { result ≡ are_values (slice_get subproblems.now subproblem) values.now }
 {
@@ -48,7 +48,7 @@ fn step_fits(step: &Moment, successors: &[u32], raw: &Raw) -> bool
     is_among(step.node, successors) && values_fit(step, raw)
 }
 
-// Whether the steps go from the root along its successors and theirs.
+// Tells whether the steps go from the root along its successors and theirs.
 fn steps_fit(steps: &[Moment], raw: &Raw) -> bool
     ensures { result ≡ steps_fit raw.now raw.now.root steps.now }
 {
@@ -74,7 +74,7 @@ fn all_fit(scenarios: &[List<Moment>], raw: &Raw) -> bool
     scenarios.iter().all(|steps| scenario_fits(steps, raw))
 }
 
-/// Whether there are at most 1000 stored scenarios, and each is a path from the root with at least one step and the
+/// Tells whether there are at most 1000 stored scenarios, and each is a path from the root with at least one step and the
 /// values of each node's random variables.
 #[tactic(auto, unfolding(crate::specs::Limits::scenarios_fit))]
 pub(crate) fn scenarios_fit(raw: &Raw) -> bool

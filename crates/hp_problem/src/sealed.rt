@@ -102,8 +102,8 @@ impl Problem {
     /// nodes by rank, the steps of the longest path from there, and then by number; `longest` is the number of nodes
     /// on the longest path from the root; `lo` and `hi` have one list per node with one small entry per state, which is
     /// the given bound where one is given, and hold what leaves the nodes that lead there, and the initial values where
-    /// the root leads there. NotRaw exactly where the parts do not fit, Memory where memory was refused. What was handed
-    /// in is dropped after a fault.
+    /// the root leads there. NotRaw exactly where the parts do not fit, Memory where memory was refused. The parts are dropped
+    /// after a fault.
     pub fn seal(
         alloc: Global,
         raw: Raw,

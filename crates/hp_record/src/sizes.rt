@@ -1,11 +1,11 @@
-// How long the lists of a node's certificates are.
+// The lengths of the lists of a node's certificates.
 ghost use Rattle.std.specs.Prelude.{◌≡◌, ◌<◌, length, true};
 ghost use Rattle.hp_problem.specs.Sealed.{is_sealed};
 ghost use Rattle.hp_record.specs.Shape.{sizes_of};
 
 use hp_problem::Problem;
 
-/// How long the lists of a node's certificates are.
+/// The lengths of the lists of a node's certificates.
 #[derive(Clone, Copy, Debug)]
 pub(crate) struct Sizes {
     /// One certificate per realization.

@@ -13,7 +13,7 @@ use hp_num::List;
 use hp_problem::Problem;
 use std::alloc::Global;
 
-// Whether the node leads to the one of the step before.
+// Tells whether the node leads to the one of the step before.
 #[tactic(auto, using(crate::proofs::NodeParts::successors_are))]
 fn leads_on(problem: &Problem, node: u32, before: Option<u32>) -> bool
     requires { node < length problem.now.raw.nodes }
@@ -25,7 +25,7 @@ fn leads_on(problem: &Problem, node: u32, before: Option<u32>) -> bool
     }
 }
 
-// Whether this may be the node of a step, after the node of the step before.
+// Tells whether this may be the node of a step, after the node of the step before.
 fn may_stand(problem: &Problem, before: Option<u32>, last: bool, node: u32) -> bool
     ensures { result ≡ may_stand problem.now before last node }
 {

@@ -70,8 +70,8 @@ Lines c text = All (Line c) (lines_of text)
 abbrev pub Above : Problem → ℤ → Type 0
 Above p u = (units : ℕ) × (f : Forest) × (0 < units) × Policy p units f × (policy_cost p units f ≤ᶠ record { up = u; under = S })
 
--- Cuts hold at their nodes, bounds are under the cost of each policy, and numbers from above are above that of some. What planes and worst
--- bounds promise rests on lists of weights.
+-- Cuts hold at their nodes, bounds are under the cost of each policy, and numbers from above are above that of some. The promises of planes
+-- and worst bounds rest on lists of weights.
 abbrev pub claims_of : Problem → (ℕ → Cut → Type 0) → (ℤ → Type 0) → Claims
 claims_of p planes worsts = record { cuts = Holds p; bounds = Under p; uppers = Above p; planes = planes; worsts = worsts }
 

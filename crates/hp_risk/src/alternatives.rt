@@ -25,7 +25,7 @@ pub struct Alternatives {
     pub lists: List<List<List<u32>>>,
 }
 
-// How many items there are.
+// Counts the items.
 #[tactic(auto, using(hp_fields::proofs::InOrder::counts))]
 fn count(items: &[Value]) -> usize
     ensures { result ≡ items_len (items_view items.now) }
@@ -137,7 +137,7 @@ fn node_lists(
     own_and_listed(alloc, n, own, items)
 }
 
-// The lists of a node more.
+// Appends the lists of the next node.
 #[tactic(auto, unfolding(crate::specs::Alternatives::next_node_at))]
 fn next_node(
     alloc: Global,

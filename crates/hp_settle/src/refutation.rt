@@ -95,7 +95,7 @@ impl RowPart for Column {
     }
 }
 
-/// The sum with the least product of a decision's reduced cost and a value in its box more.
+/// Adds the least product of a decision's reduced cost and a value in its box to a sum.
 fn plus_box(
     sum: SizedSum,
     rows: &[Row],
@@ -169,8 +169,8 @@ fn is_refuted(sub: &Subproblem, values: &[i64], state: &[i128], multipliers: &[i
     is_positive(refuting_sum(sub, values, state, multipliers))
 }
 
-/// Whether multipliers of a node's rows, at any scale, refute it at values of its random variables and an incoming
-/// state at scale 2^24. Where they do, no decisions exist there, in any fraction of a unit.
+/// Tells whether multipliers of a node's rows, at any scale, refute it at values of its random variables and an incoming state
+/// at scale 2^24. Where they do, no decisions exist there, in any fraction of a unit.
 ///
 /// It is false where there is not one multiplier per row, one has a sign that its row does not allow, the refuting value
 /// is not positive, or its size exceeds 2^127 - 1.

@@ -18,7 +18,7 @@ use hp_solver::{Answer, Duals, Fx, Kind};
 use hp_theory::{Certificate, SCALE};
 use std::alloc::Global;
 
-/// How often the scale of multipliers goes into that of duals.
+/// The ratio of the scale of duals to that of multipliers.
 const FINER: u64 = (ONE / SCALE as i128) as u64;
 
 /// The dual of a row, 0 where it is missing.
@@ -317,14 +317,14 @@ fn settled_duals(
     Ok(Certificate { rows, cuts })
 }
 
-/// The certificate of an answer at a node over its successors' cuts; [`Memory`] where memory was refused.
+/// Settles an answer at a node over its successors' cuts to a certificate; [`Memory`] where memory was refused.
 ///
-/// A multiplier is a dual at scale 2^24, rounded down. That of a row is clamped to 64 bits, and 0 where the row lacks
-/// the side that it stands on. Each cut of a successor keeps, in order, at most what is left of 2^24 times the
-/// successor's weight. What is missing then goes to the first cut where it is more than a unit for each multiplier above
-/// 0, and else to the greatest, the first of equals; cuts with 0 are left out. A missing dual counts as 0, and those
-/// beyond the rows are ignored. An answer that claims no solution gives the base certificate. The certificate is right
-/// for any answer, of any lengths and numbers.
+/// A multiplier is a dual at scale 2^24, rounded down. The multiplier of a row is clamped to 64 bits, and 0 where the row lacks
+/// the side that it stands on. Each cut of a successor keeps, in order, at most what is left of 2^24 times the successor's
+/// weight. The shortfall then goes to the first cut where it is more than a unit for each multiplier above 0, and else to the
+/// greatest, the first of equals; cuts with 0 are left out. A missing dual counts as 0, and those beyond the rows are ignored.
+/// An answer that claims no solution gives the base certificate. The certificate is right for any answer, of any lengths and
+/// numbers.
 pub fn settle(
     alloc: Global,
     problem: &Problem,

@@ -25,7 +25,7 @@ fn negative(x: i128) -> i128
 }
 
 impl SizedSum {
-    /// The sum with a product more.
+    /// Adds a product to the sum.
     pub(crate) fn plus_product(self, x: i128, y: i128) -> Option<SizedSum>
         ensures { Sums result (self.value +ℤ x *ℤ y) (self.size.total + nat_abs x * nat_abs y) }
     {
@@ -36,7 +36,7 @@ impl SizedSum {
         })
     }
 
-    /// The sum with a multiple of another sum more.
+    /// Adds a multiple of another sum to the sum.
     pub(crate) fn plus_multiple(self, factor: i128, inner: Option<SizedSum>) -> Option<SizedSum>
         ensures { (value : ℤ) (size : ℕ) → Sums inner value size
             → Sums result (self.value +ℤ factor *ℤ value) (self.size.total + nat_abs factor * size) }
@@ -54,7 +54,7 @@ impl SizedSum {
         })
     }
 
-    /// The sum with the least product of another sum, taken negative, and a number in a box more.
+    /// Adds the least product of another sum, taken negative, and a number in a box to the sum.
     pub(crate) fn plus_least(self, inner: Option<SizedSum>, low: i64, high: i64) -> Option<SizedSum>
         ensures { (value : ℤ) (size : ℕ) → Sums inner value size
             → Sums result (self.value +ℤ int_min (neg_ℤ value *ℤ low) (neg_ℤ value *ℤ high)) (self.size.total + span low high * size) }
@@ -69,7 +69,7 @@ impl SizedSum {
         })
     }
 
-    /// The sum with another sum more.
+    /// Adds another sum to the sum.
     pub(crate) fn plus(self, inner: Option<SizedSum>) -> Option<SizedSum>
         ensures { (value : ℤ) (size : ℕ) → Sums inner value size
             → Sums result (self.value +ℤ value) (self.size.total + size) }

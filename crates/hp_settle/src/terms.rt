@@ -65,7 +65,7 @@ impl Numbers for Place {
     }
 }
 
-/// The sum with a term more.
+/// Adds a term to a sum.
 fn plus_term<N: Numbers>(sum: SizedSum, term: &(u32, i64), numbers: &N) -> Option<SizedSum>
     ensures { Sums result (sum.value +ℤ term.now.1 *ℤ N.at numbers.now term.now.0) (sum.size.total + term_by (λ i. nat_abs (N.at numbers.now i)) term.now) }
 {
@@ -94,7 +94,7 @@ pub(crate) trait RowPart {
         ensures { Sums result (value self.now row.now multiplier) (size self.now row.now multiplier) };
 }
 
-/// The sum with a row's part times its multiplier more.
+/// Adds a row's part times its multiplier to a sum.
 fn plus_row<P: RowPart>(sum: SizedSum, row: &Row, multiplier: i64, part: &P) -> Option<SizedSum>
     ensures { Sums result (sum.value +ℤ multiplier *ℤ P.value part.now row.now multiplier) (sum.size.total + nat_abs multiplier * P.size part.now row.now multiplier) }
 {

@@ -121,7 +121,7 @@ fn traced(
     })
 }
 
-/// The cost of stages with one more.
+/// Adds the cost of a stage.
 fn sum(costs: i128, cost: i128) -> i128
     requires costs { nat_abs costs ≤ 2 ^ 126 }
     requires cost { nat_abs cost ≤ 2 ^ 115 }

@@ -44,7 +44,7 @@ pub fn value_at(lp: &Program, place: Nonbasic) -> Option<Fx>
     }
 }
 
-// A sum with one term more.
+// Adds a term to a sum.
 #[tactic(auto, unfolding(crate::specs::Dictionary::sum_step))]
 fn sum_step(lp: &Program, sum: Fx, factor: Fx, place: Nonbasic) -> Option<Fx>
     ensures { result ≡ sum_step lp.now sum factor place }

@@ -30,7 +30,7 @@ pub struct Entering {
     pub column: usize,
     /// The variable's number.
     pub variable: usize,
-    /// How far the reduced costs let it go.
+    /// The step that the reduced costs let it go.
     pub ratio: Fx,
 }
 

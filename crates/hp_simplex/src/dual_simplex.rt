@@ -109,7 +109,7 @@ fn choose(lp: &Program, tableau: &Tableau) -> Choice
     }
 }
 
-// One turn.
+// Takes one turn.
 fn turn(lp: &Program, tableau: &mut Tableau) -> Step
     requires whole { IsWhole tableau.old }
     ensures rows { tableau.new.table.rows ≡ tableau.old.table.rows }

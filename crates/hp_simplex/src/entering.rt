@@ -10,7 +10,7 @@ use hp_solver::{Fx, Program};
 // 2^-12.
 const LEAST_FACTOR: u128 = 1 << 20;
 
-// Whether both bounds are there and equal.
+// Tells whether both bounds are there and equal.
 fn are_equal(low: Option<Fx>, high: Option<Fx>) -> bool
     ensures { result ≡ are_equal low high }
 {
@@ -20,7 +20,7 @@ fn are_equal(low: Option<Fx>, high: Option<Fx>) -> bool
     }
 }
 
-// Whether a variable's bounds are equal.
+// Tells whether a variable's bounds are equal.
 #[tactic(auto, unfolding(crate::specs::Entering::is_fixed))]
 fn is_fixed(lp: &Program, variable: usize) -> bool
     ensures { result ≡ is_fixed lp.now variable }
@@ -28,7 +28,7 @@ fn is_fixed(lp: &Program, variable: usize) -> bool
     are_equal(low_of(lp, variable), high_of(lp, variable))
 }
 
-// Whether a variable with this factor brings the leaving one back when it leaves its bound.
+// Tells whether a variable with this factor brings the leaving one back when it leaves its bound.
 #[tactic(auto, unfolding(crate::specs::Entering::is_towards))]
 fn is_towards(above: bool, high: bool, factor: Fx) -> bool
     ensures { result ≡ is_towards above high factor }
@@ -41,7 +41,7 @@ fn is_towards(above: bool, high: bool, factor: Fx) -> bool
     }
 }
 
-// Whether the variable at a place may enter.
+// Tells whether the variable at a place may enter.
 #[tactic(auto, unfolding(crate::specs::Entering::is_eligible))]
 fn is_eligible(lp: &Program, above: bool, factor: Fx, place: Nonbasic) -> bool
     ensures { result ≡ is_eligible lp.now above factor place }
@@ -67,7 +67,7 @@ fn at_least_zero(x: Fx) -> Fx
     if is_negative(x) { Fx(0) } else { x }
 }
 
-// How far a reduced cost is from the sign that it would lose.
+// Gives the distance of a reduced cost from the sign that it would lose.
 #[tactic(auto, unfolding(crate::specs::Entering::slack_of))]
 fn slack_of(place: Nonbasic, cost: Fx) -> Option<Fx>
     ensures { result ≡ slack_of place cost }
@@ -80,7 +80,7 @@ fn slack_of(place: Nonbasic, cost: Fx) -> Option<Fx>
     Some(at_least_zero(signed?))
 }
 
-// How far the reduced cost lets the variable go.
+// Gives the step that the reduced cost lets the variable go.
 #[tactic(auto, unfolding(crate::specs::Entering::ratio_of))]
 fn ratio_of(factor: Fx, place: Nonbasic, cost: Fx) -> Option<Fx>
     ensures { result ≡ ratio_of factor place cost }
@@ -89,7 +89,7 @@ fn ratio_of(factor: Fx, place: Nonbasic, cost: Fx) -> Option<Fx>
     slack.div(magnitude(factor)?)
 }
 
-// Whether a variable is better than the best so far.
+// Tells whether a variable is better than the best so far.
 fn is_better(variable: usize, ratio: Fx, best: Option<Entering>) -> bool
     ensures { result ≡ is_better variable ratio best }
 {

@@ -11,7 +11,7 @@ use hp_solver::{Fx, Program};
 // 2^-16.
 const TOLERANCE: Fx = Fx(1 << 16);
 
-// Whether a value is below a bound by more than the tolerance.
+// Tells whether a value is below a bound by more than the tolerance.
 #[tactic(auto, unfolding(crate::specs::Leaving::is_below))]
 fn is_below(bound: Option<Fx>, x: Fx) -> Option<bool>
     ensures { result ≡ is_below bound x }
@@ -25,7 +25,7 @@ fn is_below(bound: Option<Fx>, x: Fx) -> Option<bool>
     }
 }
 
-// Whether a value is above a bound by more than the tolerance.
+// Tells whether a value is above a bound by more than the tolerance.
 #[tactic(auto, unfolding(crate::specs::Leaving::is_above))]
 fn is_above(bound: Option<Fx>, x: Fx) -> Option<bool>
     ensures { result ≡ is_above bound x }
@@ -55,7 +55,7 @@ fn violated(lp: &Program, variable: usize, x: Fx) -> Option<Option<bool>>
     }
 }
 
-// Whether a variable's number is less than that of the best so far.
+// Tells whether a variable's number is less than that of the best so far.
 fn is_less(variable: usize, best: Option<Leaving>) -> bool
     ensures { result ≡ is_less variable best }
 {

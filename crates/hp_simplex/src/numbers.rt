@@ -12,7 +12,7 @@ pub(crate) fn negated(x: Fx) -> Option<Fx>
     Fx(0).sub(x)
 }
 
-// Whether the number is below 0.
+// Tells whether the number is below 0.
 pub(crate) fn is_negative(x: Fx) -> bool
     ensures { result ≡ is_negative x }
 {

@@ -9,8 +9,8 @@ use crate::numbers::negated;
 use hp_solver::Fx;
 use hp_solver::fixed::ONE;
 
-/// How the basic variables and the reduced costs depend on the nonbasic ones: one row per basic
-/// variable, one column per nonbasic one. All numbers are in fixed point.
+/// The dependence of the basic variables and the reduced costs on the nonbasic ones: one row per basic variable, one column per
+/// nonbasic one. All numbers are in fixed point.
 #[derive(Drop)]
 pub struct Table {
     /// The number of basic variables.

@@ -37,7 +37,7 @@ fn graph(alloc: Global, names: &Names, tables: &Tables) -> Result<Raw, ReadRefus
     })
 }
 
-/// The parts of a problem from the bytes of its file, or the first refusal. What is read keeps the limits.
+/// Reads the parts of a problem from the bytes of its file, or the first refusal. The parts keep the limits.
 #[tactic(auto, unfolding(crate::specs::Read::raw_of), using(hp_fields::proofs::InOrder::counts))]
 pub fn read_raw(alloc: Global, bytes: &[u8]) -> Result<Raw, ReadRefusal>
     ensures value { Gives (λ r. r) result (raw_of bytes.now) }

@@ -52,7 +52,7 @@ fn is_zero(dual: Fx) -> bool
     !(0 < dual.0) && !(dual.0 < 0)
 }
 
-// How many of the first pairs are of rows before a row.
+// Counts the first pairs that are of rows before a row.
 fn place_of(pairs: &[(usize, Fx)], row: usize) -> usize
     ensures value { result ≡ place_of row pairs.now }
     ensures inside { result ≤ length pairs.now }
@@ -67,7 +67,7 @@ fn place_of(pairs: &[(usize, Fx)], row: usize) -> usize
     place
 }
 
-// Whether there is a pair at a place that is of this row.
+// Tells whether there is a pair at a place that is of this row.
 fn is_of(pairs: &[(usize, Fx)], place: usize, row: usize) -> bool
     ensures value { result ≡ is_of row (slice_get pairs.now place) }
     ensures inside { result ≡ true → place < length pairs.now }

@@ -61,7 +61,7 @@ pub trait Solver: Sync {
         ensures fits { OnOk result ((other : Program) → IsLike lp.now other
             → fits self.now chain.new other) };
 
-    /// Whether so many solves, of programs like this one, take so long that half of them are worth a thread of their own.
+    /// Tells whether so many solves, of programs like this one, take so long that half of them are worth a thread of their own.
     /// No answer depends on it.
     fn worth_a_thread(&self, _lp: &StageLp, _solves: usize) -> bool {
         true

@@ -155,7 +155,7 @@ impl Meeting {
         }
     }
 
-    /// Whether both calls saw the other.
+    /// Tells whether both calls saw the other.
     pub fn met(&self) -> bool {
         self.first_saw.load(Ordering::SeqCst) && self.second_saw.load(Ordering::SeqCst)
     }

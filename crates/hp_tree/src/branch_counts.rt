@@ -1,4 +1,4 @@
-// How many branches the whole policy has.
+// The number of branches of the whole policy.
 ghost use Rattle.std.specs.Prelude.{◌≡◌, ◌<◌, IfOk, min};
 ghost use Rattle.hp_theory.specs.View.{problem_of};
 ghost use Rattle.hp_tree.specs.TooBig.{branch_count, branches};

@@ -240,10 +240,10 @@ fn duals(alloc: Global, table: &Table, lp: &StageLp) -> Result<Option<Duals>, Me
     }
 }
 
-/// The answer to a program by a table in which no bound is violated: the value of each column as [`points`] writes it,
-/// and the dual of each row. That of an own row, or of a cut that has a row in the table, is the reduced cost of the
-/// row's slack, 0 where that is basic; that of any other cut is 0. None where a number on the way leaves 128 bits.
-/// [`Memory`] where memory was refused.
+/// Gives the answer to a program by a table in which no bound is violated: the value of each column as [`points`] writes it,
+/// and the dual of each row. The dual of an own row, or of a cut that has a row in the table, is the reduced cost of the row's
+/// slack, 0 where that is basic; the dual of any other cut is 0. None where a number on the way leaves 128 bits. [`Memory`]
+/// where memory was refused.
 #[tactic(auto, unfolding(crate::specs::Found::found_of))]
 pub fn found(alloc: Global, table: &Table, lp: &StageLp) -> Result<Option<Answer>, Memory>
     requires sized { IsTable table.now }

@@ -169,7 +169,7 @@ fn take_rows(weights: &mut [Fx], rows: &[LpRow], multipliers: &[Fx], digits: u32
     true
 }
 
-// A sum with one product more.
+// Adds a product to a sum.
 fn with_product(sum: Fx, multiplier: Fx, side: Option<Fx>) -> Option<Fx>
     ensures { result ≡ with_product sum multiplier side }
 {

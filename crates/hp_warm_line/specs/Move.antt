@@ -56,6 +56,7 @@ arrived t v above e q flips x = option_map (put t above v) (reached t (get_or t.
 unfoldable pub moved_along : Table → ℕ → Bool → ℕ → List ℕ → ℤ → Option (List ℤ)
 moved_along t v above e flips q = option_and_then (arrived t v above e q flips) (each_from (carried t.basis.places t.lines v (steps_of t e q flips)) 0 t.values)
 
--- the values after v, with the line given, leaves for the variable at place e, where `rest` was left of the violation; none where a number is no quantity
+-- the values after v, with the line given, leaves for the variable at place e, with `rest` of the violation left; none where a number is no
+-- quantity
 unfoldable pub moved_of : Table → List ℤ → ℕ → Bool → ℕ → ℤ → List ℕ → Option (List ℤ)
 moved_of t line v above e rest flips = option_and_then (moved_along t v above e flips) (step_of line above e rest)

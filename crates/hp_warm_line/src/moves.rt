@@ -62,7 +62,7 @@ fn length_of(rest: i128, cell: Cell) -> Option<Quantity>
     }
 }
 
-// How far the entering variable goes.
+// Gives the step of the entering variable.
 #[tactic(auto, unfolding(crate::specs::Move::step_of))]
 fn step_of(line: &[Cell], swap: Swap) -> Option<Shift>
     requires place { swap.place < length line.now }
@@ -75,7 +75,7 @@ fn step_of(line: &[Cell], swap: Swap) -> Option<Shift>
     Some(Shift::by(length).turned_by(down).turned_by(swap.above))
 }
 
-// How far it is to a variable's other bound.
+// Gives the distance to a variable's other bound.
 #[tactic(auto, unfolding(crate::specs::Move::span_of), using(crate::proofs::Inside::whole_bounds))]
 fn span_of(table: &Table, high: bool, variable: usize) -> Shift
     requires sized { IsTable table.now }

@@ -1,11 +1,11 @@
-// How far a variable goes.
+// The distance that a variable goes.
 ghost use Rattle.std.specs.Prelude.{◌≡◌, ◌^◌, ◌≤◌, pos, ◌-ℤ◌, nat_abs};
 ghost use Rattle.hp_warm_line.specs.Move.{turned_by};
 
 use hp_warm_table::Quantity;
 use std::marker::Model;
 
-/// How far a variable goes, of absolute value at most 2^56, at scale 2^32.
+/// The distance that a variable goes, of absolute value at most 2^56, at scale 2^32.
 #[derive(Clone, Copy)]
 pub struct Shift {
     v: i64,

@@ -7,7 +7,7 @@ ghost use Rattle.hp_warm_rebuild.specs.Standings.{map_from, standing, standing_a
 use hp_num::List;
 use hp_warm_table::{Basis, Cell, Table};
 
-// Whether the variable at a place, if it has one, stands at its upper bound.
+// Tells whether the variable at a place, if it has one, stands at its upper bound.
 fn stands_high(basis: &Basis, place: Option<usize>) -> bool
     requires { IfSome place (λ j. j < length basis.now.high) }
     ensures { result ≡ stands_high basis.now place }
@@ -18,7 +18,7 @@ fn stands_high(basis: &Basis, place: Option<usize>) -> bool
     }
 }
 
-// Whether a variable was not basic and stood at its upper bound.
+// Tells whether a variable was not basic and stood at its upper bound.
 pub(crate) fn was_high(basis: &Basis, variable: usize) -> bool
     requires there { variable < length basis.now.places }
     requires inside { All (λ p. IfSome p (λ j. j < length basis.now.high)) basis.now.places }
@@ -27,7 +27,7 @@ pub(crate) fn was_high(basis: &Basis, variable: usize) -> bool
     stands_high(basis, basis.places.as_slice()[variable])
 }
 
-// Whether a variable stands at its upper bound.
+// Tells whether a variable stands at its upper bound.
 #[tactic(auto, unfolding(crate::specs::Standings::standing))]
 fn standing(basis: &Basis, columns: usize, variable: usize, reduced: Cell, high: bool) -> bool
     requires there { variable < length basis.now.places }
@@ -42,7 +42,7 @@ fn standing(basis: &Basis, columns: usize, variable: usize, reduced: Cell, high:
     }
 }
 
-// Whether the variable at place j stands at its upper bound.
+// Tells whether the variable at place j stands at its upper bound.
 #[tactic(auto, unfolding(crate::specs::Standings::standing_at))]
 fn standing_at(basis: &Basis, nonbasic: &[usize], reduced: &[Cell], j: usize, high: bool) -> bool
     requires place { j < length nonbasic.now }

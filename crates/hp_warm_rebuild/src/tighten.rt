@@ -13,7 +13,7 @@ use hp_warm_table::{Basis, Cell, Table};
 
 const LEAST: u64 = 1 << 24;
 
-// Whether a variable is a column that was basic.
+// Tells whether a variable is a column that was basic.
 #[tactic(auto, unfolding(crate::specs::Tighten::was_basic))]
 fn was_basic(basis: &Basis, columns: usize, variable: usize) -> bool
     requires { variable < length basis.now.places }
@@ -29,7 +29,7 @@ fn magnitude(cell: Cell) -> u64
     cell.number().unsigned_abs()
 }
 
-// Whether the cell at place j is greater than the best one so far.
+// Tells whether the cell at place j is greater than the best one so far.
 fn is_greater(line: &[Cell], j: usize, best: Option<usize>) -> bool
     requires place { j < length line.now }
     requires best { IfSome best (λ b. b < length line.now) }

@@ -293,9 +293,9 @@ pub(crate) fn reaches(alloc: Global, columns: &[Column]) -> Result<List<u32>, Me
     Ok(found)
 }
 
-/// The exponents of so many columns, of which the first are the decisions, by the terms of rows:
-/// powers of two by which terms come near 2^33 (after the geometric scaling of Fourer, 1982). Those
-/// of the other columns are 0. [`Memory`] where memory was refused.
+/// Gives the exponents of so many columns, of which the first are the decisions, by the terms of rows: powers of two by which
+/// terms come near 2^33 (after the geometric scaling of Fourer, 1982). The exponents of the other columns are 0. [`Memory`]
+/// where memory was refused.
 #[tactic(auto, unfolding(crate::specs::Exponents::columns_of))]
 pub fn columns(
     alloc: Global,

@@ -31,7 +31,7 @@ pub fn scaled_cell(number: Fx, exponent: i32) -> Option<Cell>
     Cell::new(shift(number.0, exponent)?)
 }
 
-/// How far the greatest is below a limit; 0 where there is none.
+/// Gives by how much the greatest is below a limit; 0 where there is none.
 pub fn room(limit: i32, span: Option<Span>) -> i32
     requires least { pos 0 ≤ℤ limit }
     requires greatest { limit ≤ℤ pos 100 }

@@ -11,7 +11,7 @@ pub struct Span {
     pub greatest: i32,
 }
 
-/// The span with one number more.
+/// Extends a span by a number.
 pub fn grow(span: Option<Span>, number: i32) -> Option<Span>
     ensures { result ≡ grown span number }
 {

@@ -51,7 +51,7 @@ fn cut_top(exponents: &[i32], terms: &[(u32, Fx)]) -> Option<i32>
     top(term_span(exponents, slopes(terms)))
 }
 
-// The spans of successors' columns with one number more.
+// Extends by a number the spans of successors' columns.
 fn add_top(decisions: usize, spans: &mut [Option<Span>], top: Option<i32>, column: Option<usize>)
     requires range { IfSome top (λ x. (pos 0 ≤ℤ x) × (x ≤ℤ pos 640)) }
     requires column { IfSome column (λ j. j < length spans.old) }

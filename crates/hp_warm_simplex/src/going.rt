@@ -19,7 +19,7 @@ use hp_warm_table::lists::repeated;
 use hp_warm_table::{Cell, Square, Table};
 use std::alloc::Global;
 
-// Makes a list so long, where it is not. What it then holds counts for nothing.
+// Makes a list so long, where it is not. Its values count for nothing then.
 fn fit<T: Copy + Drop>(
     alloc: Global,
     list: &mut List<T>,

@@ -97,7 +97,7 @@ fn settle(table: &mut Table, shifts: &mut List<(usize, Shift)>) -> Turn
     }
 }
 
-// Reduced costs computed afresh. What is found is not to be trusted where a violation was passed over.
+// Computes the reduced costs afresh. An answer is not to be trusted where a violation was passed over.
 #[tactic(auto, unfolding(crate::specs::Turns::closed_of))]
 fn close(alloc: Global, lp: &StageLp, table: &mut Table, passed: bool) -> Result<bool, Memory>
     requires fits { Fits table.old lp.now }
@@ -177,7 +177,7 @@ fn rest(
     Ok(settle(table, &mut room.shifts))
 }
 
-// One turn, on a table whose point is fresh, that is refined since the last pivot, or not.
+// Takes one turn, on a table whose point is fresh, that is refined since the last pivot, or not.
 #[tactic(auto, unfolding(crate::specs::Turns::turn_of, crate::specs::Turns::look_of), using(crate::proofs::Fitting::still_fits))]
 fn take_turn(
     alloc: Global,

@@ -147,7 +147,7 @@ impl Cuts {
 /// are as many places, for nonbasic variables, as columns.
 #[derive(Drop)]
 pub struct Table {
-    /// How the numbers are scaled.
+    /// The scales of the numbers.
     pub scales: Scales,
     /// The terms of each row: first the program's own rows, then rows of cuts in the order in which they came.
     pub rows: Rows,

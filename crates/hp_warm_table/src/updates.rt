@@ -54,7 +54,7 @@ fn near_cell(t: Cell, step: i64) -> Option<Cell>
     Cell::narrow(t.number() + step)
 }
 
-// Whether a factor is below 2^39 in absolute value.
+// Tells whether a factor is below 2^39 in absolute value.
 fn is_near(factor: Cell) -> bool
     ensures { result ≡ true → nat_abs factor < 2 ^ 39 }
 {

@@ -41,7 +41,7 @@ impl Wide {
         Wide { high: 0, low: 0 }
     }
 
-    /// Whether the number is below 0.
+    /// Tells whether the number is below 0.
     pub fn is_negative(self) -> bool
         ensures { result ≡ int_lt self (pos 0) }
     {
@@ -123,14 +123,14 @@ impl Wide {
         }
     }
 
-    /// Whether the number is below the other.
+    /// Tells whether the number is below the other.
     pub fn is_less(self, other: Wide) -> bool
         ensures { result ≡ int_lt self other }
     {
         self.high < other.high || (self.high == other.high && self.low < other.low)
     }
 
-    /// Whether the numbers are equal.
+    /// Tells whether the numbers are equal.
     pub fn is_equal(self, other: Wide) -> bool
         ensures { result ≡ int_eq self other }
     {

@@ -13,7 +13,7 @@ use hp_wide_table::numbers::down;
 use hp_wide_table::{Bounds, Cell, Table};
 use std::alloc::Global;
 
-// Whether a variable has the bound that a cost of this sign speaks of.
+// Tells whether a variable has the bound that a cost of this sign speaks of.
 fn has_side(bounds: &Bounds, variable: usize, cost: Cell) -> bool
     requires low { variable < length bounds.now.has_low }
     requires up { variable < length bounds.now.has_up }
@@ -147,7 +147,7 @@ fn cell(rest: Wide) -> Option<Cell>
     Cell::new(down(rest)?)
 }
 
-// Whether numbers at scale 2^160 are cells.
+// Tells whether numbers at scale 2^160 are cells.
 fn are_cells(rests: &[Wide]) -> bool
     ensures { result ≡ is_some (each_from cell_at 0 rests.now) }
 {
@@ -159,8 +159,8 @@ fn are_cells(rests: &[Wide]) -> bool
     true
 }
 
-/// Whether the reduced costs of all columns, computed afresh from the duals of the rows, are cells. [`Memory`] where memory
-/// was refused.
+/// Tells whether the reduced costs of all columns, computed afresh from the duals of the rows, are cells. [`Memory`] where
+/// memory was refused.
 #[tactic(auto, unfolding(crate::specs::Finish::costs_of))]
 pub fn has_costs(alloc: Global, table: &Table) -> Result<bool, Memory>
     requires sized { IsTable table.now }

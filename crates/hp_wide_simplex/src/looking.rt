@@ -17,7 +17,7 @@ use hp_solver::{Answer, StageLp};
 use hp_wide_table::{Cell, Table};
 use std::alloc::Global;
 
-/// How a violation is mended.
+/// The mend of a violation.
 #[derive(Drop)]
 pub struct Mend {
     /// The violation.

@@ -69,7 +69,7 @@ fn mend_table(alloc: Global, lp: &StageLp, table: &mut Table) -> Result<Turn, Me
     }
 }
 
-// One turn.
+// Takes one turn.
 #[tactic(auto, unfolding(crate::specs::Turns::turn_of), using(crate::proofs::Fitting::still_fits))]
 fn take_turn(alloc: Global, lp: &StageLp, table: &mut Table) -> Result<Turn, Memory>
     requires fits { Fits table.old lp.now }

@@ -54,7 +54,7 @@ impl Bounds {
 /// as many places, for nonbasic variables, as columns.
 #[derive(Drop)]
 pub struct Table {
-    /// How the numbers are scaled.
+    /// The scales of the numbers.
     pub scales: Scales,
     /// The terms of each row of the program.
     pub rows: Rows,

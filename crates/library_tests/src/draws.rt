@@ -20,7 +20,7 @@ fn picks_among_three(rt: HostRuntime) {
     assert_eq!(rt; pick(&[1, 3, 4], 2147483648), 2);
 }
 
-// Whether this realization of the only node is drawn.
+// Tells whether this realization of the only node is drawn.
 fn draws(
     alloc: Global,
     problem: &Problem,

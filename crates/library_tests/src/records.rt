@@ -49,7 +49,7 @@ fn place(
     }
 }
 
-// Whether these are the multipliers -83886080 and 83886080 at both realizations of node 0.
+// Tells whether these are the multipliers -83886080 and 83886080 at both realizations of node 0.
 fn is_step(step: &EntryStep) -> bool {
     step.node == 0
         && step.list.len() == 2

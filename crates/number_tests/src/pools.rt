@@ -19,7 +19,7 @@ fn alpha(pools: &Pools, node: u32, place: u32) -> Option<i128> {
     }
 }
 
-// Whether a node gets a cut of this constant and slope.
+// Tells whether a node gets a cut of this constant and slope.
 fn pushes(alloc: Global, pools: &mut Pools, node: u32, alpha: i128, slope: i128) -> bool {
     if (node as usize) < pools.nodes() && pools.count(node) < 1000 {
         match cut(alloc, alpha, slope) {
@@ -31,7 +31,7 @@ fn pushes(alloc: Global, pools: &mut Pools, node: u32, alpha: i128, slope: i128)
     }
 }
 
-// Whether node 0 has no cut, and node 1 has cuts of these constants.
+// Tells whether node 0 has no cut, and node 1 has cuts of these constants.
 fn holds(pools: &Pools, alphas: [Option<i128>; 3]) -> bool {
     let found = [alpha(pools, 1, 0), alpha(pools, 1, 1), alpha(pools, 1, 2)];
     alpha(pools, 0, 0).is_none() && found == alphas
@@ -149,7 +149,7 @@ fn keeps_cuts_side_by_side(rt: HostRuntime) -> Result<(), Fail> {
     Ok(())
 }
 
-// Whether these places are those by which all cuts of node 0 are covered.
+// Tells whether these places are those by which all cuts of node 0 are covered.
 fn are_covering(pools: &Pools, places: &[u32]) -> bool {
     if pools.nodes() == 0 {
         return false;

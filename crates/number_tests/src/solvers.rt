@@ -97,7 +97,7 @@ fn claims_what_it_is_told(rt: HostRuntime) -> Result<(), Fail> {
     Ok(())
 }
 
-// Whether a chain of one is found, and no two threads met.
+// Tells whether a chain of one is found, and no two threads met.
 fn finds_alone(alloc: Global, meeting: &Meeting) -> Result<bool, Memory> {
     Ok(alone(alloc, meeting)?.kind == Kind::Found && !meeting.met())
 }

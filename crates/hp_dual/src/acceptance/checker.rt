@@ -78,7 +78,7 @@ fn check(here: &NodeAt, list: &[Certificate]) -> Result<(), CertFault>
     check_range(here, list)
 }
 
-/// Whether a list of certificates is accepted at a node, with its realizations' own weights: Ok, or the first fault.
+/// Tells whether a list of certificates is accepted at a node, with its realizations' own weights: Ok, or the first fault.
 ///
 /// The list has one certificate per realization. No memory is taken.
 pub fn accept(

@@ -30,7 +30,7 @@ fn write_accepted(here: &NodeAt, list: &[Certificate], sums: &[i128], cut: &mut 
     write_cut_of(here, constant_sum(here, list), sums, cut);
 }
 
-/// Whether a list is accepted over the parts of a node; where it is, its cut is written.
+/// Tells whether a list is accepted over the parts of a node; where it is, its cut is written.
 fn accept_at(here: &NodeAt, list: &[Certificate], cut: &mut Cut) -> Result<(), CertFault>
     ghost n: { problems.Node }
     requires is { n ≡ with_weights here.now.weights.now (node_of here.now.node.now here.now.subproblem.now here.now.low.now here.now.high.now) }
@@ -48,9 +48,9 @@ fn accept_at(here: &NodeAt, list: &[Certificate], cut: &mut Cut) -> Result<(), C
     Ok(())
 }
 
-/// Whether a list of certificates is accepted at a node, with its realizations' own weights: Ok, or the first fault, as
-/// `accept` answers. An accepted list's cut is written, as `make_into` writes it; the sums that its slopes come of are
-/// taken once for both. No memory is taken.
+/// Tells whether a list of certificates is accepted at a node, with its realizations' own weights: Ok, or the first fault, as
+/// `accept` answers. An accepted list's cut is written, as `make_into` writes it; the sums that its slopes come of are taken
+/// once for both. No memory is taken.
 pub fn accept_into(
     problem: &Problem,
     pools: &Pools,

@@ -108,7 +108,7 @@ fn shares_at(
 }
 
 /// The cut of a list of certificates with each of several lists of weights in place of the realizations' own, in order;
-/// none where it is not accepted with them. What no weight changes is computed once.
+/// none where it is not accepted with them. The part that no weight changes is computed once.
 ///
 /// Each list has one weight per realization, each at least 1, of at most 65,535 together.
 pub fn make_each(

@@ -28,7 +28,7 @@ fn capped(size: Option<Size>) -> u128
     }
 }
 
-/// The sum with an amount more that is 2^127 where it was more.
+/// Adds an amount to a size; `fixed` is 2^127 where the amount is more.
 pub(super) fn plus_capped(size: Size, fixed: u128) -> Option<Size>
     ensures { (amount : ℕ) → fixed ≡ min amount (2 ^ 127) → Adds size.total result amount }
 {
