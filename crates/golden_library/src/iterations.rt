@@ -51,7 +51,7 @@ fn has_room(pools: &Pools) -> bool
     true
 }
 
-/// Appends what is told of an iteration's entries.
+/// Appends an iteration's entries at the level of detail that is asked.
 fn push_told(text: &mut String, entries: &[Entry], told: Told) -> Result<(), RowFault> {
     match told {
         Told::Everything => push_entries(text, entries),
@@ -92,7 +92,7 @@ fn step<R: Threads + Sync, V: Solver>(
     }
 }
 
-/// The iterations of a plan, one after another, with what is told of them appended to the text.
+/// Takes the iterations of a plan, one after another, and appends what is told of them to the text.
 pub fn steps<R: Threads + Sync, V: Solver>(
     rt: &R,
     alloc: Global,
@@ -125,7 +125,7 @@ pub fn steps<R: Threads + Sync, V: Solver>(
     Ok(())
 }
 
-/// The pools of the base cuts, made ready for stage problems.
+/// Gives the pools of the base cuts, ready for stage problems.
 pub fn base_pools(alloc: Global, problem: &Problem) -> Result<Pools, RowFault>
     ensures { IfOk result (λ p. Fit (problem_of problem.now) (length problem.now.raw.nodes) p.lists) }
 {

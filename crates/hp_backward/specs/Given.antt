@@ -11,7 +11,7 @@ use Rattle.hp_lp.specs.Ready.{AreReady}
 use Rattle.hp_sampler.specs.declared.steps.Step.{Step}
 use Rattle.hp_lp.specs.Nodes.{stage_in}
 
--- a node of the problem, a state in its box, pools that fit, and what the solver made ready
+-- a node of the problem, a state in its box, pools that fit, and the solver's starts
 pub record CanVisit {Start : Type 0} (started : Program → Start) (suits : Start → Program → Type 0) (p : Sealed) (starts : List Start) (pools : List (List Cut)) (m : ℕ) (state : List ℤ) : Type 0 where
   pub known : m < length p.raw.nodes
   pub fit : Fit (problem_of p) (length p.raw.nodes) pools

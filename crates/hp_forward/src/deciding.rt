@@ -180,7 +180,7 @@ fn dead_at(
     })
 }
 
-/// The refutation, or what is decided.
+/// Gives the refutation, or the decisions.
 fn decide_by(
     alloc: Global,
     problem: &Problem,

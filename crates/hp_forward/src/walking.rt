@@ -1,4 +1,4 @@
-// Walks along paths, by what is decided at each step.
+// Walks along paths, by the decisions at each step.
 ghost use Rattle.std.specs.Prelude.{◌≡◌, ◌<◌, ◌≤◌, ◌+◌, ◌-◌, ◌^◌, ℕ, List, Ok, length, true, Contains, IfOk};
 ghost use Rattle.hp_problem.specs.Limits.{are_values};
 ghost use Rattle.hp_problem.specs.Parts.{successors_at};

@@ -1,4 +1,4 @@
-// The bounds of what is decided in a stage and of what is kept.
+// The bounds of the decisions of a stage and of its states.
 ghost use Rattle.std.specs.Prelude.{◌≡◌, ◌++◌, [], ◌∷◌, map, OnOk};
 ghost use Rattle.std.specs.List.{flat_map};
 ghost use Rattle.serde_json.specs.View.{view};

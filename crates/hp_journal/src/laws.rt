@@ -17,8 +17,8 @@ pub fn head_as_written()
     ensures first { (t : Title) → IsTitle t → length (front t []) + 1 ≡ head_length t.version }
 {}
 
-/// The gate before each record of a journal is open, and what is read behind it is that record's payload,
-/// up to the next gate. The gate behind the last record is shut before the rest.
+/// The gate before each record of a journal is open, and the payload that is read behind it is that record's, up to the next
+/// gate. The gate behind the last record is shut before the rest.
 pub fn records_as_written()
     ensures open { (t : Title) (payloads : List (List ℕ)) (gate : ℕ) (rest : List ℕ) (j : ℕ)
         → j < length payloads

@@ -7,7 +7,7 @@ use Rattle.hp_solver.specs.declared.programs.Answer.{Answer}
 use Rattle.hp_solver.specs.Chains.{chained}
 use Rattle.hp_lp.specs.Nodes.{stage_in, reference_in}
 
--- a solver, known by what it makes ready, what a chain holds at first, and the answer with what the chain holds after it
+-- a solver, known by the starts that it makes, the state of a chain at first, and the answer with the state of the chain after it
 pub record Solving (Start Chain : Type 0) : Type 0 where
   pub started : Program → Start
   pub begun : Start → Program → Chain

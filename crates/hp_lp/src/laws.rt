@@ -6,9 +6,9 @@ ghost use Rattle.hp_solver.specs.declared.programs.Program.{Program};
 ghost use Rattle.hp_solver.specs.Proper.{IsProper, Extends, IsLike};
 ghost use Rattle.hp_lp.specs.Nodes.{stage_in, reference_in};
 
-/// The stage problems of a node are proper. Two of them over the same pools differ in the sides of the node's own rows
-/// alone, so a chain may take one after the other; and a chain may begin with each of them where the solver is ready by
-/// the node's reference program.
+/// The stage problems of a node are proper. Two of them over the same pools differ in the sides of the node's own rows alone,
+/// so a chain may take one after the other; and a chain may begin with each of them from the start that the solver makes by the
+/// node's reference program.
 pub fn stages_of_a_node()
     ensures proper { (p : Sealed) → is_sealed p ≡ true → (m : ℕ) → m < length p.raw.nodes
         → (pools : List (List Cut)) → (values state : List ℤ) → (lp : Program)

@@ -104,9 +104,9 @@ fn reference_of<'a>(
     }))
 }
 
-/// The reference program of a node, by which a solver makes ready for it: its stage problem without cuts, at the values
-/// of its first realization and the state a quarter of the way up its box. The columns of the successors stand at 0 and
-/// cost nothing. [`Memory`] where memory was refused.
+/// Builds the reference program of a node, by which a solver makes its start: the stage problem without cuts, at the values of
+/// the first realization and the state a quarter of the way up the box. The columns of the successors stand at 0 and cost
+/// nothing. [`Memory`] where memory was refused.
 pub fn reference<'a>(alloc: Global, problem: &Problem, node: u32) -> Result<StageLp<'a>, Memory>
     requires { node < length problem.now.raw.nodes }
     ensures value { IfOk result (λ lp. reference_in problem.now node ≡ Some lp) }

@@ -4,7 +4,7 @@ use std::alloc::Global;
 use std::mem;
 
 /// A workspace of the rows of stage problems that are done with. The next stage problem is written over them; no result depends
-/// on what is kept.
+/// on them.
 #[derive(Drop)]
 pub struct SpareRows {
     /// The rows of the stage problem that came back last.

@@ -18,8 +18,8 @@ pub struct Starts<V: Solver> {
 }
 
 impl<V: Solver> Starts<V> {
-    /// Has the solver make ready a start by each node's reference program. A chain may begin from there with each stage
-    /// problem of the node. [`Memory`] where memory was refused.
+    /// Has the solver make the start of each node, by the node's reference program. A chain may begin from there with each
+    /// stage problem of the node. [`Memory`] where memory was refused.
     pub fn new(alloc: Global, problem: &Problem, solver: &V) -> Result<Starts<V>, Memory>
         ensures { IfOk result (λ made. AreReady (V.started solver.now) (V.suits solver.now) problem.now made.items) }
     {
@@ -60,7 +60,7 @@ impl<V: Solver> Starts<V> {
     }
 }
 
-// Has the solver make ready a start for each node.
+// Has the solver make a start for each node.
 fn started<V: Solver>(
     alloc: Global,
     problem: &Problem,

@@ -4,8 +4,8 @@ ghost use Rattle.std.specs.Prelude.{◌≡◌, []};
 use crate::List;
 use std::alloc::Global;
 
-/// Lists that are done with. Where many lists come and go, new ones take their memory in place of other. No result depends
-/// on what is kept.
+/// Lists that are done with. Where many lists come and go, new ones take their memory in place of other. No result depends on
+/// their contents.
 #[derive(Drop)]
 pub struct Spare<T> {
     lists: Vec<List<T>>,

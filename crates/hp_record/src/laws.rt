@@ -10,8 +10,8 @@ ghost use Rattle.hp_record.specs.Shape.{IsBatch, PairsWithin, Writable, is_path_
 ghost use Rattle.hp_record.specs.Backwards.{IsPathFromRoot, nodes_back};
 ghost use Rattle.hp_record.specs.Reading.{read_batch};
 
-/// Each batch has one text, and no other batch has it: reading gives back what was spelled, and what is read has the
-/// bytes as its text.
+/// Each batch has one text, and no other batch has it: reading gives back the batch that was spelled, and a batch that is read
+/// has the bytes as its text.
 pub fn one_spelling()
     ensures again { (p : Sealed) (iteration count : ℕ) (list : List Entry)
         → is_sealed p ≡ true → IsBatch p iteration count list

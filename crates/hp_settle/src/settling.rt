@@ -80,7 +80,7 @@ fn cut_multiplier(dual: i128) -> u128
     u128::try_from(rescaled(dual)).unwrap_or(0)
 }
 
-/// A multiplier, or what is left where that is less.
+/// Gives a multiplier, or the rest of the target where that is less.
 fn share(multiplier: u128, left: u64) -> u64
     ensures { result ≡ min multiplier left }
 {
@@ -97,14 +97,15 @@ fn push_pair(pairs: &mut List<(u32, u64)>, place: u32, multiplier: u64) -> Resul
     Ok(())
 }
 
-/// The pairs of a successor's cuts within its target, and what is missing to it.
+/// The pairs of a successor's cuts within its target, and the shortfall.
 #[derive(Drop)]
 struct Shares {
     pairs: List<(u32, u64)>,
     missing: u64,
 }
 
-/// A cut keeps at most what is left, by its place and its dual: what is left then. One that keeps nothing has no pair.
+/// Keeps at most the rest of the target for a cut, by its place and its dual, and gives the rest then. A cut that keeps nothing
+/// has no pair.
 fn keep(pairs: &mut List<(u32, u64)>, dual: (usize, Fx), left: u64) -> Result<u64, Memory>
     requires { dual.0 < 2 ^ 32 }
     ensures pairs { OnOk result (pairs.new ≡ pairs.old ++ pairs_from dual.0 (min (cut_multiplier dual.1.0) left ∷ [])) }
@@ -203,7 +204,7 @@ fn raise_first(
     }
 }
 
-/// Adds what is missing: more than a unit a pair to the first cut, and else to the greatest.
+/// Adds the shortfall: more than a unit a pair to the first cut, and else to the greatest.
 fn top_up(
     alloc: Global,
     mut pairs: List<(u32, u64)>,
@@ -222,8 +223,8 @@ fn top_up(
     Ok(pairs)
 }
 
-/// The pairs of a successor with so many cuts, whose duals begin at a row: in order each cut keeps at most what the target
-/// leaves, and what is missing then goes to the first where it is more than a unit a pair, and else to the greatest.
+/// Settles the pairs of a successor with so many cuts, whose duals begin at a row: in order each cut keeps at most the rest of
+/// the target, and the shortfall then goes to the first where it is more than a unit a pair, and else to the greatest.
 fn settled_pairs(
     alloc: Global,
     target: u64,

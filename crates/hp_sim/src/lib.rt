@@ -1,4 +1,4 @@
-//! Simulation: what is decided along drawn and stored scenarios, what it leaves open of the rows, and what it costs.
+//! Simulation: decisions along drawn and stored scenarios, their residuals, and their costs.
 #![tactic(auto)]
 
 mod moments;

@@ -26,7 +26,7 @@ use hp_solver::Solver;
 use std::alloc::Global;
 use std::thread::Threads;
 
-/// An iteration of training: the problem, its solver, and what that made ready for each node.
+/// The fixed parts of an iteration of training: the problem, and its solver with the starts.
 #[derive(Drop)]
 struct Iteration<'a, V: Solver> {
     problem: &'a Problem,

@@ -364,13 +364,11 @@ fn move_along(
     arrive(table, swap, step, flips)
 }
 
-/// Moves the point where a basic variable, with its line, leaves for the one at a place, before the
-/// basis changes: the variables at some more places, the flips, go to their other bounds, the
-/// entering one as far as what is left of the violation asks, and the basic columns along with
-/// them; the leaving one comes to the bound that it violates. The answer is false exactly where how
-/// far the entering one goes, or a value of a column, has an absolute value of 2^55 or more: nothing
-/// is promised of the values then. All else of the table stays. `shifts` is for work: as many places
-/// with shifts as columns.
+/// Moves the point where a basic variable, with its line, leaves for the one at a place, before the basis changes: the
+/// variables at some more places, the flips, go to their other bounds, the entering one as far as the rest of the violation
+/// asks, and the basic columns along with them; the leaving one comes to the bound that it violates. The answer is false
+/// exactly where the distance of the entering one, or a value of a column, has an absolute value of 2^55 or more: nothing is
+/// promised of the values then. All else of the table stays. `shifts` is for work: as many places with shifts as columns.
 #[tactic(auto, unfolding(crate::specs::Move::moved_of))]
 pub fn move_point(
     table: &mut Table,

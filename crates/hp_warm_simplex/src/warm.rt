@@ -92,7 +92,7 @@ fn ready(alloc: Global, lp: &StageLp, mut table: Table) -> Result<Option<Table>,
     }
 }
 
-// The table that is made ready by a program of own rows.
+// Makes a start by a program of own rows: the table that its solve leaves, and its first table where that is of no use.
 #[tactic(auto, unfolding(crate::specs::Chains::started_of), using(crate::proofs::Likeness::reference_fits))]
 fn started(alloc: Global, lp: &StageLp) -> Result<Option<Table>, Memory>
     requires proper { IsProper lp.now }

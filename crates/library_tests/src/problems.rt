@@ -17,7 +17,7 @@ pub(crate) const TWO_ROWS: &[u8] =
 \"set\":{\"type\":\"LessThan\",\"upper\":8}},
 {\"function\":{\"type\":\"Variable\",\"name\":\"x\"},\"set\":{\"type\":\"Interval\",\"lower\":0,\"upper\":9}}]}}}}";
 
-// One node without successors: what is kept, in [0, 20] at cost 3, is what was there, in [0, 10], and an inflow of 1.
+// One node without successors: the kept water, in [0, 20] at cost 3, is the water before, in [0, 10], and an inflow of 1.
 pub(crate) const KEEPING: &[u8] =
     b"{\"version\":{\"major\":1},\"root\":{\"state_variables\":{\"volume\":4},\"successors\":{\"n\":1}},
 \"nodes\":{\"n\":{\"subproblem\":\"s\",\"realizations\":[{\"probability\":1,\"support\":{\"inflow\":1}}]}},

@@ -1,4 +1,4 @@
-// The program by which a solver makes ready for a node.
+// The program by which a solver makes the start of a node.
 use crate::problems::KEEPING;
 use hp_lp::{Starts, reference};
 use hp_num::Memory;

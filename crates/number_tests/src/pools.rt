@@ -134,7 +134,7 @@ fn keeps_two(alloc: Global, pools: &mut Pools) -> bool {
         && kept(pools, 1) == Some((4, 1))
 }
 
-// A cut with a slope of 58 binary digits ends what is kept.
+// A cut with a slope of 58 binary digits ends the keeping of cuts side by side.
 fn keeps_few_digits(alloc: Global, pools: &mut Pools) -> bool {
     pushes(alloc, pools, 0, 4, 1 << 57) && kept(pools, 0).is_none()
 }
