@@ -3,10 +3,10 @@ use crate::fault::RowFault;
 use hp_outside::{MemDisk, MemSink, MemSource};
 use std::alloc::Global;
 
-/// The space for what is written to a sink.
+/// The space for the bytes that are written to a sink.
 const OUTPUT: usize = 1 << 20;
 
-/// The space for what is written to a journal.
+/// The space for the bytes that are written to a journal.
 const ROOM: usize = 1 << 12;
 
 /// The number of writes, cuts and syncs that a journal takes.

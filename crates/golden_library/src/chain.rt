@@ -119,7 +119,7 @@ fn push_from<V: Solver>(
     push_chain(alloc, solver, reference, &start, all.as_slice(), text)
 }
 
-/// Appends what a solver answers to the programs of a file, in one chain from the start of the file's own rows.
+/// Appends a solver's answers to the programs of a file, in one chain from the start of the file's own rows.
 fn push_solved<V: Solver>(
     alloc: Global,
     solver: &V,

@@ -108,7 +108,7 @@ fn push_traces<V: Solver>(
     }
 }
 
-/// Appends what comes of scenarios with a solver.
+/// Appends the report of scenarios with a solver.
 fn push_followed<R: Threads + Sync, V: Solver>(
     rt: &R,
     alloc: Global,
@@ -132,7 +132,7 @@ fn count_of(problem: &Problem, drawn: Option<(u64, u32)>) -> u32 {
     }
 }
 
-/// Appends what comes of scenarios, or the formula that so many exceed.
+/// Appends the report of scenarios, or the formula that so many exceed.
 fn push_course<R: Threads + Sync>(
     rt: &R,
     alloc: Global,

@@ -132,7 +132,7 @@ fn successor(problem: &Problem) -> Result<u32, RowFault>
     }
 }
 
-/// Appends what stands in the certificate of an answer for so many own rows of a stage problem with so many rows.
+/// Appends the figures of the certificate of an answer for so many own rows of a stage problem with so many rows.
 fn push_settled(
     alloc: Global,
     problem: &Problem,
@@ -150,7 +150,7 @@ fn push_settled(
     push_certificate(text, &certificate)
 }
 
-/// Appends what stands after each part, at two moments.
+/// Appends the figures after each part, at two moments.
 fn push_parts(
     alloc: Global,
     problem: &Problem,
@@ -173,7 +173,7 @@ fn push_parts(
     push_settled(alloc, problem, pools, own, rows, counts.settles, text)
 }
 
-/// Appends what stands after each part over pools.
+/// Appends the figures after each part over pools.
 fn push_stage(
     alloc: Global,
     problem: &Problem,

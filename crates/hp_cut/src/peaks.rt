@@ -9,7 +9,7 @@ use hp_num::{List, Memory};
 use hp_theory::Cut;
 use std::alloc::Global;
 
-/// The box of what leaves a stage as a state, in whole units.
+/// The box of a state that leaves a stage, in whole units.
 #[derive(Clone, Copy)]
 pub struct OutBox {
     /// The lesser end.

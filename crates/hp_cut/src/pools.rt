@@ -132,9 +132,9 @@ impl Pools {
     }
 
     /// Makes a node's cuts ready for stage problems of a predecessor from now on. Keeps them side by side once more, where they
-    /// have few binary digits. Keeps those by which all are covered over what may leave the predecessor, one box per state, and
-    /// the greatest of their values there. It is a matter of time alone, and these lists are dropped where a node's cuts are
-    /// cut back. [`Memory`] where memory was refused. The cuts and their room stay in either case.
+    /// have few binary digits. Keeps those by which all are covered over the states that may leave the predecessor, one box per
+    /// state, and the greatest of their values there. It is a matter of time alone, and these lists are dropped where a node's
+    /// cuts are cut back. [`Memory`] where memory was refused. The cuts and their room stay in either case.
     pub fn prepare(&mut self, alloc: Global, node: u32, boxes: &[OutBox]) -> Result<(), Memory>
         requires { node < length self.old.lists }
         ensures { self.new ≡ self.old }

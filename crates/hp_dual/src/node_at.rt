@@ -1,4 +1,4 @@
-// A node and what stands round it.
+// A node with its subproblem, the box of its incoming state, the pools, and weights for its realizations.
 ghost use Rattle.std.specs.Prelude.{◌≡◌, ◌<◌, true, length};
 ghost use Rattle.hp_problem.specs.Sealed.{is_sealed};
 ghost use Rattle.hp_theory.specs.Fit.{FitFor};

@@ -46,7 +46,7 @@ pub(crate) fn scale(node: &Node) -> i128
     SCALE * SCALE * i128::from(successor_weight(node))
 }
 
-/// S * Q * W: what the sums over the realizations are divided by.
+/// S * Q * W: the divisor of the sums over the realizations.
 #[tactic(auto, unfolding(hp_theory::specs::Problem::S))]
 pub(crate) fn divisor(node: &Node, weights: &[u32]) -> i128
     requires links { length node.now.link_weights ≡ length node.now.links }

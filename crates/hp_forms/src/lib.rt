@@ -1,4 +1,4 @@
-//! The parts of a problem file as JSON values: what the crates that make problems write.
+//! The parts of a problem file as JSON values, for the crates that make problems.
 #![tactic(auto)]
 
 mod names;

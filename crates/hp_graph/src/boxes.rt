@@ -69,7 +69,7 @@ fn gap_at(raw: &Raw, node: usize, low: &[i64], high: &[i64]) -> Option<u32>
 }
 
 #[tactic(auto, using(hp_paths::proofs::Numbers::drop_next, hp_paths::proofs::Numbers::drop_end))]
-/// The least node, and its least state, with a given bound that does not enclose what comes in.
+/// Finds the least node, and its least state, with a given bound that does not enclose the states that come in.
 pub(crate) fn first_gap(raw: &Raw, low: &[List<i64>], high: &[List<i64>]) -> Option<(u32, u32)>
     requires nodes { length raw.now.nodes ≤ 1000 }
     requires states { length raw.now.states ≤ 50 }

@@ -22,7 +22,7 @@ pub enum ArrangeFault {
     Cycle { node: u32 },
     /// The least node that the root does not reach.
     Unreachable { node: u32 },
-    /// The least node, and its least state, with a given bound that does not enclose what comes in.
+    /// The least node, and its least state, with a given bound that does not enclose the states that come in.
     BoxGap { node: u32, state: u32 },
     /// Memory was refused.
     Memory,
@@ -106,12 +106,12 @@ fn sealed(
     }
 }
 
-/// The problem of the parts that were read, with its order, its longest path, and the boxes of its incoming states:
-/// the given bound where one is given, else the side of the hull of what comes in.
+/// Arranges the parts that were read to a problem, with its order, its longest path, and the boxes of its incoming states: the
+/// given bound where one is given, else the side of the hull of the states that come in.
 ///
-/// Cycle for the least node that can reach itself, else Unreachable for the least node that the root does not reach,
-/// else BoxGap for the least node, and its least state, with a given bound that does not enclose what comes in. After
-/// a refusal the parts are dropped.
+/// Cycle for the least node that can reach itself, else Unreachable for the least node that the root does not reach, else
+/// BoxGap for the least node, and its least state, with a given bound that does not enclose the states that come in. After a
+/// refusal the parts are dropped.
 #[tactic(auto, unfolding(crate::specs::Arranged::arranged), using(crate::proofs::Fitting::fits, crate::proofs::Fitting::arranged_is))]
 pub fn arrange(alloc: Global, raw: Raw) -> Result<Problem, ArrangeFault>
     requires { raw_fits raw ≡ true }

@@ -35,7 +35,7 @@ fn end_at(nodes: &[Node], ends: &[List<i64>], state: usize, node: u32) -> i64
     found_end(nodes, ends, state, node).unwrap_or(0)
 }
 
-// The outermost of the first number and of what the nodes let out.
+// Finds the outermost of the first number and of the ends that the nodes let out.
 fn outermost_from(
     side: Side,
     first: i64,
@@ -78,7 +78,8 @@ fn start_at(raw: &Raw, node: u32, state: usize) -> Option<i64>
     }
 }
 
-// The outermost number of what comes into a node: its start, where there is one, and what the nodes `into` let out.
+// Finds the outermost end of the state that comes into a node: its start, where there is one, and the ends that the nodes
+// `into` let out.
 fn outermost(
     side: Side,
     start: Option<i64>,

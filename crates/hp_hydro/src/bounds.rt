@@ -152,7 +152,7 @@ fn push_store_bounds(
     push_between(alloc, plants, list, column, low, high)
 }
 
-// The bounds of a variable; what is not known before the stage has none.
+// Appends the bounds of a variable; a random variable has none.
 #[tactic(auto, unfolding(crate::specs::Stage::bounds_of, crate::specs::Columns::column_name))]
 fn push_bounds_of(
     alloc: Global,

@@ -1,4 +1,4 @@
-//! Hydro plants as a problem: what a plan for them is, the problem that is made of them, and that both mean the same.
+//! Hydro plants as a problem: plans for them, the problem that is made of them, and the law that both mean the same.
 #![tactic(auto)]
 
 mod bounds;

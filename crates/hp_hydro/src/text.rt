@@ -89,12 +89,13 @@ fn text(alloc: Global, plants: &Plants) -> Result<Vec<u8>, AllocError>
     Ok(text)
 }
 
-/// The problem that a description of hydro plants means, as a problem file: compact JSON with its keys in byte order,
+/// Makes the problem that a description of hydro plants means, as a problem file: compact JSON with its keys in byte order, and
+/// a newline.
+///
 /// Each stage is a node, and the next one's predecessor. A state is the volume of a reservoir, or the water from it that is
 /// one, two or three stages away. The decisions are the water through each turbine and past it, the energy of each thermal and
 /// on each line, and the deficit at each bus, which costs. The rows keep the water of each reservoir, bring water under way
 /// nearer, and serve each bus.
-/// bring water under way nearer, and serve each bus.
 ///
 /// The first refusal of the description, exactly as [`read_plants`] gives it; Memory where memory was refused.
 #[tactic(auto, unfolding(crate::specs::Text::hydro_at))]

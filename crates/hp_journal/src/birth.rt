@@ -101,7 +101,7 @@ fn new_head(digest: &[u8; 32], seed: u64, batch: Option<u16>) -> ([u8; 54], usiz
     }
 }
 
-// Writes what each version has behind the birth byte, and answers the place behind it.
+// Writes the bytes that each version has behind the birth byte, and answers the place behind them.
 fn fill_title(head: &mut [u8; 54], version: u16, digest: &[u8; 32], seed: u64) -> usize
     ensures bytes { take result head.new ≡ take 1 head.old ++ shared_title version digest.now seed }
     ensures place { result ≡ 51 }

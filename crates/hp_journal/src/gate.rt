@@ -13,7 +13,7 @@ use thiserror::Error;
 /// The most bytes of a record's payload.
 pub const MOST_PAYLOAD: u32 = 1 << 26;
 
-/// A gate: what stands behind it counts where it is open.
+/// A gate: the bytes behind it count where it is open.
 #[derive(Clone, Copy, Debug, PartialEq, Eq)]
 pub enum Gate {
     /// Any byte but 1, with the number of bytes behind it.
@@ -137,7 +137,7 @@ pub fn payload<D: Disk>(disk: &mut D, at: u64, into: &mut Vec<u8>) -> Result<u64
     Ok(next)
 }
 
-// Reads so many bytes from a place on into a buffer, in the place of what was there.
+// Reads so many bytes from a place on into a buffer, over its old contents.
 fn read_into<D: Disk>(
     disk: &mut D,
     at: u64,

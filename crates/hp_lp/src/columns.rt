@@ -40,8 +40,8 @@ pub(crate) fn decision_columns(
     Ok(found)
 }
 
-/// The greatest value of a successor's cuts over what may leave the stage: the peak that the pools keep, and where they
-/// keep none, what a walk over the cuts gives.
+/// Gives the greatest value of a successor's cuts over the states that may leave the stage: the peak that the pools keep, and
+/// where they keep none, that of a walk over the cuts.
 fn peak(subproblem: &Subproblem, boxes: &[OutBox], pools: &Pools, successor: usize) -> i128
     requires there { successor < length pools.now.lists }
     requires some { 0 < length (pool pools.now.lists successor) }

@@ -1,4 +1,4 @@
-// The least and the greatest values of cuts over what may leave a stage.
+// The least and the greatest values of cuts over the states that may leave a stage.
 ghost use Rattle.std.specs.Prelude.{◌≡◌, ◌<◌, ◌≤◌, ◌^◌, ℤ, ◌*ℤ◌, true, length, nat_lt, nat_abs, All};
 ghost use Rattle.std.specs.Int.{int_min, int_max};
 ghost use Rattle.std.specs.List.{list_all};
@@ -39,7 +39,7 @@ fn greater(a: i128, b: i128) -> i128
     a.max(b)
 }
 
-/// The least product of a slope and what leaves the stage as the state.
+/// Gives the least product of a slope and its outgoing state.
 fn least_product(subproblem: &Subproblem, cut: &Cut, state: usize) -> i128
     requires spans { Spans subproblem.now cut.now }
     requires there { state < length subproblem.now.outs }
@@ -52,7 +52,7 @@ fn least_product(subproblem: &Subproblem, cut: &Cut, state: usize) -> i128
     lesser(product(slope, out.low), product(slope, out.high))
 }
 
-/// The least value of a cut over what may leave the stage.
+/// Gives the least value of a cut over the states that may leave the stage.
 pub(crate) fn least_value(subproblem: &Subproblem, cut: &Cut) -> i128
     requires spans { Spans subproblem.now cut.now }
     requires few { length subproblem.now.outs ≤ 50 }
@@ -67,7 +67,7 @@ pub(crate) fn least_value(subproblem: &Subproblem, cut: &Cut) -> i128
     value
 }
 
-/// The greatest product of a slope and what leaves the stage as the state with this box.
+/// Gives the greatest product of a slope and its outgoing state in this box.
 fn greatest_product(
     subproblem: &Subproblem,
     cut: &Cut,
@@ -89,7 +89,7 @@ fn greatest_product(
     }
 }
 
-/// The greatest value of a cut over what may leave the stage.
+/// Gives the greatest value of a cut over the states that may leave the stage.
 pub(crate) fn greatest_value(subproblem: &Subproblem, boxes: &[OutBox], cut: &Cut) -> i128
     requires spans { Spans subproblem.now cut.now }
     requires few { length subproblem.now.outs ≤ 50 }

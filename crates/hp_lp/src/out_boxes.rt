@@ -1,4 +1,4 @@
-// The boxes of what leaves a stage as states.
+// The boxes of the states that leave a stage.
 ghost use Rattle.std.specs.Prelude.{◌≡◌, ◌<◌, true, length, nat_lt, IfOk};
 ghost use Rattle.std.specs.List.{list_all};
 ghost use Rattle.hp_num.specs.Sums.{entry};
@@ -32,7 +32,7 @@ fn out_box(subproblem: &Subproblem, state: usize) -> OutBox
     }
 }
 
-/// The boxes of what leaves a stage, one for each state. [`Memory`] where memory was refused.
+/// Gives the boxes of the states that leave a stage, one for each state. [`Memory`] where memory was refused.
 pub(crate) fn out_boxes(alloc: Global, subproblem: &Subproblem) -> Result<List<OutBox>, Memory>
     requires known { list_all (λ o. nat_lt o (length subproblem.now.decisions)) subproblem.now.outs ≡ true }
     ensures { IfOk result (λ found. found ≡ out_boxes subproblem.now) }

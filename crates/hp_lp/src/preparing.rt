@@ -24,10 +24,10 @@ fn prepare_at(alloc: Global, problem: &Problem, pools: &mut Pools, node: u32) ->
     Ok(())
 }
 
-/// Makes the pools ready for the stage problems of all nodes from now on, so that these are built in less time: each node's
-/// cuts are kept side by side, with those of them that cover the others over what may leave a predecessor, and for each of its
-/// predecessors the greatest of their values over what may leave it. Cuts that are appended later come in. [`Memory`] where memory was refused. The cuts and
-/// their room stay in either case.
+/// Makes the pools ready for the stage problems of all nodes from now on, so that these are built in less time. Each node's
+/// cuts are kept side by side, with those of them that cover the others over the states that may leave a predecessor, and for
+/// each of its predecessors the greatest of their values over the states that may leave it. Cuts that are appended later come
+/// in. [`Memory`] where memory was refused. The cuts and their room stay in either case.
 pub fn prepare(alloc: Global, problem: &Problem, pools: &mut Pools) -> Result<(), Memory>
     requires fit { Fit (problem_of problem.now) (length problem.now.raw.nodes) pools.old.lists }
     ensures { pools.new ≡ pools.old }

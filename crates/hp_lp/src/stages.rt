@@ -202,8 +202,8 @@ fn stage_of<'a>(
     }
 }
 
-/// The stage problem of a node (Pereira and Pinto 1991): the cheapest decisions at these values and this state, with the
-/// cost of the future at each successor at least what its cuts say. [`Memory`] where memory was refused.
+/// Builds the stage problem of a node (Pereira and Pinto 1991): the cheapest decisions at these values and this state, with the
+/// cost of the future at each successor at least as high as its cuts. [`Memory`] where memory was refused.
 ///
 /// There is one value per random variable of the node's subproblem, each at most 2^40 in absolute value, and the state,
 /// at scale 2^24, lies in the node's box.

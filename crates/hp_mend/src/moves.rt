@@ -33,7 +33,7 @@ fn is_held(held: &[bool], at: u32) -> bool
     }
 }
 
-/// Tells whether what a decision comes to is in its box.
+/// Tells whether the value of a decision is inside its box, which is no point.
 fn is_inside(bounds: (i64, i64), number: i128) -> bool
     ensures { result ≡ int_lt bounds.0 bounds.1 && (int_le (pos S *ℤ bounds.0) number && int_le number (pos S *ℤ bounds.1)) }
 {
@@ -125,7 +125,7 @@ fn product(cost: i64, amount: i128) -> i128
     i128::from(cost) * amount
 }
 
-/// A move of a decision for the sake of a row, with what it harms and costs.
+/// Builds a move of a decision for the sake of a row, with its harm and its cost.
 fn move_of(
     alloc: Global,
     stage: &Stage,
@@ -192,7 +192,7 @@ fn is_zero(factor: i64) -> bool
     factor == 0
 }
 
-/// Puts the moves of a term of a row behind others: beyond what the row misses, and short of it where that is another one.
+/// Appends the moves of a term of a row: one beyond the miss of the row, and one short of it where that is another.
 fn push_both(
     alloc: Global,
     moves: &mut List<Move>,

@@ -1,4 +1,4 @@
-// The boxes of the incoming states, and what leaves a node.
+// The boxes of the incoming states, and the states that leave a node.
 ghost use Rattle.std.specs.Prelude.{◌≡◌, ◌&&◌, ◌==◌, ◌<◌, [], true, length, map, get_or, int_le, IfOk};
 ghost use Rattle.std.specs.List.{list_all, zip};
 ghost use Rattle.hp_num.specs.Sums.{entry};
@@ -116,7 +116,7 @@ fn all_hold(nodes: &[u32], lo: &[List<i64>], hi: &[List<i64>], lows: &[i64], hig
         .all(|node| holds_box(lo, hi, lows, highs, *node))
 }
 
-// Tells whether what leaves a node, from `lows` to `highs` of its subproblem, lies in the boxes of its successors.
+// Tells whether the states that leave a node, from `lows` to `highs` of its subproblem, lie in the boxes of its successors.
 fn leaves_inside(
     node: &Node,
     lo: &[List<i64>],

@@ -34,7 +34,7 @@ pub enum RefusalKind {
     Cycle,
     /// The root does not reach a node.
     Unreachable,
-    /// A given bound of an incoming state does not enclose what may come in.
+    /// A given bound of an incoming state does not enclose the states that may come in.
     BoxGap,
     /// The size of a base cut is above 2^127 - 1.
     Range,

@@ -1,4 +1,4 @@
-//! The worst of several lists of weights: what a problem file lists, and planes that bound the greatest expectation.
+//! The worst of several lists of weights: the lists of a problem file, and planes that bound the greatest expectation.
 #![tactic(auto)]
 
 mod alternatives;

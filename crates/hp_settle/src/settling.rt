@@ -116,7 +116,7 @@ fn keep(pairs: &mut List<(u32, u64)>, dual: (usize, Fx), left: u64) -> Result<u6
     Ok(left - multiplier)
 }
 
-/// In order each cut with a dual keeps at most what the target leaves.
+/// Shares the target out: in order each cut with a dual keeps at most the rest of the target.
 fn shares_of(alloc: Global, target: u64, duals: &[(usize, Fx)]) -> Result<Shares, Memory>
     requires { All (λ (p : ℕ × Fx). p.0 < 2 ^ 32) duals.now }
     ensures pairs { IfOk result (λ found. found.pairs ≡ kept_pairs target duals.now) }
@@ -130,8 +130,8 @@ fn shares_of(alloc: Global, target: u64, duals: &[(usize, Fx)]) -> Result<Shares
     Ok(Shares { pairs, missing })
 }
 
-/// In order each of so many cuts, whose duals begin at a row, keeps at most what the target leaves. The duals of most cuts are
-/// 0, and these keep nothing.
+/// Shares the target out: in order each of so many cuts, whose duals begin at a row, keeps at most the rest of the target. The
+/// duals of most cuts are 0, and these keep nothing.
 fn within_target(
     alloc: Global,
     target: u64,

@@ -77,7 +77,7 @@ fn cost(problem: &Problem, node: u32, decisions: &[i128], state: &[i128], values
     stage_cost(problem, node, decisions, state, values)
 }
 
-/// The step of what was decided at a moment.
+/// Builds the step of a trace from the decisions at a moment.
 fn traced(
     alloc: Global,
     problem: &Problem,

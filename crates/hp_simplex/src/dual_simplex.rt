@@ -94,7 +94,7 @@ fn bring_back(lp: &Program, tableau: &Tableau, leaving: Leaving) -> Choice
     }
 }
 
-// The variables that a turn exchanges, or what it comes to without an exchange.
+// Chooses the variables that a turn exchanges, or its outcome without an exchange.
 #[tactic(auto, unfolding(crate::specs::Solve::turn_of, crate::specs::Whole::dictionary_of))]
 fn choose(lp: &Program, tableau: &Tableau) -> Choice
     requires whole { IsWhole tableau.now }

@@ -4,7 +4,7 @@ ghost use Rattle.hp_solver.specs.Numbers.{held, quotient, plus, minus, times, ov
 
 use hp_num::floor_div;
 
-/// The scale F of a solver's numbers: what stands for 1.
+/// The scale F of a solver's numbers: it stands for 1.
 pub const ONE: i128 = 1 << 32;
 
 /// A number that stands for itself over F = 2^32.

@@ -1,4 +1,4 @@
-//! Linear programs in fixed point, and what a solver of them is known by. Nothing here says that an answer is right.
+//! Linear programs in fixed point, and the trait of their solvers. Nothing here says that an answer is right.
 #![tactic(auto)]
 
 pub mod duals;

@@ -11,7 +11,7 @@ use hp_problem::{Part, Place, RefusalKind};
 use serde_json::Value;
 use std::alloc::Global;
 
-/// A subproblem's variables, and what they are used for.
+/// A subproblem's variables, and their uses.
 #[derive(Drop)]
 pub(crate) struct Variables {
     /// In the order of the file, by which they are numbered.

@@ -1,4 +1,4 @@
-// The formulas that bound what goes through a whole policy.
+// The formulas that bound the work of a walk through a whole policy.
 ghost use Rattle.std.specs.Prelude.{◌≡◌, IfOk};
 ghost use Rattle.hp_tree.specs.TooBig.{too_big_of};
 

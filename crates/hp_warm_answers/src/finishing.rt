@@ -116,7 +116,7 @@ fn whole_costs(alloc: Global, costs: &[Cell]) -> Result<List<Wide>, Memory>
     Ok(found)
 }
 
-// Writes what rests of the cost of each column, less the terms of all rows times their duals.
+// Writes the rest of each column's cost, less the terms of all rows times their duals.
 fn rests_of(alloc: Global, table: &Table) -> Result<List<Wide>, Memory>
     requires sized { IsTable table.now }
     ensures rests { IfOk result (λ found. found ≡ rests_of table.now) }
@@ -192,7 +192,7 @@ fn plus_bound(table: &Table, sum: Wide, variable: usize, cost: Cell) -> Wide
     sum.plus(cost, bound_by(&table.bounds, variable, cost))
 }
 
-// Computes what the columns cost at the least.
+// Computes the least cost of the columns.
 fn columns_cost(table: &Table, costs: &[Cell]) -> Wide
     requires sized { IsTable table.now }
     requires lengths { length costs.now ≡ length table.now.costs }
@@ -206,7 +206,7 @@ fn columns_cost(table: &Table, costs: &[Cell]) -> Wide
     sum
 }
 
-// A sum with what the row whose slack stands at a place costs at the least.
+// Adds the least cost of the row whose slack stands at a place to a sum.
 #[tactic(auto, unfolding(crate::specs::Finish::plus_side))]
 fn plus_side(table: &Table, sum: Wide, place: usize, variable: usize) -> Wide
     requires sized { IsTable table.now }
@@ -223,7 +223,7 @@ fn plus_side(table: &Table, sum: Wide, place: usize, variable: usize) -> Wide
     plus_bound(table, sum, variable, dual)
 }
 
-// A sum with what the rows whose slacks stand at the places cost at the least.
+// Adds the least costs of the rows whose slacks stand at the places to a sum.
 fn plus_sides(table: &Table, sum: Wide, nonbasic: &[usize]) -> Wide
     requires sized { IsTable table.now }
     requires places { length nonbasic.now ≡ length table.now.costs }
@@ -336,10 +336,10 @@ fn new_costs(
     Ok(found)
 }
 
-/// Computes the reduced costs of a table afresh from the duals of its rows, which are clipped, and sets whether they are
-/// not to be trusted: that is where the cost of the point exceeds what all points cost at the least, by these duals, by
-/// more than 2^-18 of both and 2^-16. False, with the table as it was, where a reduced cost leaves the range of cells.
-/// [`Memory`] where memory was refused, with the table as it was.
+/// Computes the reduced costs of a table afresh from the duals of its rows, which are clipped, and sets whether they are not to
+/// be trusted: where the cost of the point exceeds the least cost of all points, by these duals, by more than 2^-18 of both and
+/// 2^-16. False, with the table as it was, where a reduced cost leaves the range of cells. [`Memory`] where memory was refused,
+/// with the table as it was.
 #[tactic(auto, unfolding(crate::specs::Finish::finish_of))]
 pub fn finish(alloc: Global, table: &mut Table) -> Result<bool, Memory>
     requires sized { IsTable table.old }

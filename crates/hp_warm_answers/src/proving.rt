@@ -195,7 +195,7 @@ fn side_step(sum: Fx, row: &LpRow, multipliers: &[Fx], number: usize, digits: u3
     with_row(sum, row, multiplier_at(row, multipliers, number, digits))
 }
 
-// Finds what the rows demand at the least.
+// Finds the least that the rows demand.
 fn demand(rows: &[LpRow], multipliers: &[Fx], digits: u32) -> Option<Fx>
     requires { digits ≤ 126 }
     ensures { result ≡ fold_from (side_step digits multipliers.now) 0 zero_fx rows.now }
@@ -235,7 +235,7 @@ fn with_boxes(sum: Fx, columns: &[Column], weights: &[Fx]) -> Option<Fx>
     Some(sum)
 }
 
-// Finds what the rows demand at the least, less what the decisions give at the most.
+// Finds the least that the rows demand, less the most that the decisions give.
 fn excess(lp: &StageLp, multipliers: &[Fx], weights: &[Fx], digits: u32) -> Option<Fx>
     requires { digits ≤ 126 }
     ensures { result ≡ option_and_then (λ s. fold_from (box_step weights.now) 0 s (decisions_of lp.now)) (fold_from (side_step digits multipliers.now) 0 zero_fx (own_rows lp.now)) }

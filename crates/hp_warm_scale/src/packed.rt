@@ -76,7 +76,7 @@ fn is_within(span: Option<Span>, top: i32) -> bool
     }
 }
 
-// Puts a cut's top, which is not within the span, to a span, and writes the limits and the lead of what comes of it.
+// Extends a span by a cut's top, which is not within it, and writes the limits and the lead of the new span.
 fn grow_by_top(
     span: Option<Span>,
     lead: Lead,

@@ -167,8 +167,8 @@ fn clear(greatest: &mut List<Option<(usize, i128)>>, count: usize) -> Result<(),
     Ok(())
 }
 
-/// Writes for each column the row of the greatest of its cuts that wait, and its value, at some states. Writes beside it
-/// what leaves the stage, where cuts stand side by side, and may write a row. [`Memory`] where memory was refused.
+/// Writes for each column the row of the greatest of its cuts that wait, and its value, at some states. Writes beside it the
+/// outgoing states, where cuts stand side by side, and may write a row. [`Memory`] where memory was refused.
 pub fn write_greatest(
     greatest: &mut List<Option<(usize, i128)>>,
     waiting: &[bool],

@@ -27,7 +27,7 @@ fn short_or_zero(number: i128) -> i64
     }
 }
 
-// Gives what leaves the stage by a decision.
+// Gives the outgoing state of a decision.
 fn leaving(states: &[i128], out: Out) -> i64
     ensures { result ≡ short_or_zero (entry states.now out.decision) }
 {
@@ -37,7 +37,7 @@ fn leaving(states: &[i128], out: Out) -> i64
     }
 }
 
-// Adds to what leaves as a state, where the state has a place. False where 64 bits do not hold the sum.
+// Adds to an outgoing state, where it has a place. False where 64 bits do not hold the sum.
 fn add(found: &mut [i64], state: usize, value: i64) -> bool
     ensures value { result ≡ true → found.new ≡ added state value found.old }
     ensures count { length found.new ≡ length found.old }
@@ -54,7 +54,7 @@ fn add(found: &mut [i64], state: usize, value: i64) -> bool
     }
 }
 
-// Adds what leaves the stage as a state. False where 64 bits do not hold the sum.
+// Adds a decision to its outgoing state. False where 64 bits do not hold the sum.
 fn add_out(found: &mut [i64], states: &[i128], out: Out) -> bool
     ensures value { result ≡ true → found.new ≡ with_leaving states.now found.old out }
     ensures count { length found.new ≡ length found.old }
@@ -86,8 +86,7 @@ fn write_zeros(found: &mut List<i64>) -> Result<(), Memory>
     Ok(())
 }
 
-/// Writes for each of 50 states what leaves the stage as it. False where 64 bits do not hold a sum. [`Memory`] where memory
-/// was refused.
+/// Writes the outgoing value of each of 50 states. False where 64 bits do not hold a sum. [`Memory`] where memory was refused.
 #[tactic(auto, unfolding(crate::specs::Packed::leaving_of))]
 pub(crate) fn write_leaving(
     states: &[i128],
@@ -101,7 +100,7 @@ pub(crate) fn write_leaving(
     Ok(add_all(found.as_mut_slice(), states, outs))
 }
 
-// Finds the value of a cut at what leaves the stage, at the scale 2^48.
+// Finds the value of a cut at the state that leaves the stage, at the scale 2^48.
 fn packed_value(height: i128, slopes: &[i64], leaving: &[i64]) -> i128
     requires height { nat_abs height < 2 ^ 100 }
     requires slopes { All (λ s. nat_abs s < 2 ^ 57) slopes.now }

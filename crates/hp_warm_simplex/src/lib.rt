@@ -1,4 +1,4 @@
-//! The bounded dual simplex method, warm: turns on a table, answers along a chain, and what a chain begins with.
+//! The bounded dual simplex method, warm: turns on a table, answers along a chain, and the begin of a chain.
 #![tactic(auto)]
 
 mod attempts;

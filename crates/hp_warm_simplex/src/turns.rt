@@ -35,7 +35,7 @@ pub struct Room {
     pub(crate) shifts: List<(usize, Shift)>,
     // The places that flip.
     pub(crate) flips: List<usize>,
-    // The places that may enter, with what their order goes by.
+    // The places that may enter, with their sort keys.
     pub(crate) candidates: List<Rank>,
     // Lists of scans.
     pub(crate) scan: ScanRoom,
@@ -53,7 +53,7 @@ pub(crate) enum Turn {
     Stops,
 }
 
-// The point goes along the line of what leaves, and then the variables change places.
+// Moves the point along the line of the variable that leaves, and then exchanges the variables.
 fn exchange(table: &mut Table, room: &mut Room, swap: Swap) -> Turn
     requires sized { IsTable table.old }
     requires room { IsRoomy room.old table.old }

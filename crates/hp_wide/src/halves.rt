@@ -39,7 +39,7 @@ pub fn low_product(x: u64, y: u64) -> u128
     u128::from(x) * u128::from(y)
 }
 
-/// The product of an upper and a lower half, with what is carried from below.
+/// Gives the product of an upper and a lower half, with the carry from below.
 pub fn cross_product(x: i64, y: u64, carry: u64) -> i128
     ensures { result ≡ x *ℤ pos y +ℤ pos carry }
 {
@@ -54,7 +54,7 @@ pub fn high_product(x: i64, y: i64) -> i128
     i128::from(x) * i128::from(y)
 }
 
-/// The product of two upper halves with what is carried from below.
+/// Gives the product of two upper halves with the carry from below.
 pub fn high_total(product: i128, first: i64, second: i64) -> i128
     requires { nat_abs product ≤ 2 ^ 126 }
     ensures { result ≡ product +ℤ first +ℤ second }

@@ -27,7 +27,7 @@ fn left_over(sum: i128, under: i128) -> i128
     sum.rem_euclid(under)
 }
 
-/// Writes beta_k of B_k. The answer is r_k, what the division leaves.
+/// Writes beta_k of B_k. The answer is r_k, the remainder of the division.
 fn write_slope(sum: i128, under: i128, slopes: &mut List<i128>, state: usize) -> i128
     requires some { pos 1 ≤ℤ under }
     requires there { state < length slopes.old }

@@ -159,8 +159,8 @@ fn add_links(
     }
 }
 
-/// Adds what the multipliers of a certificate make of each decision's reduced cost, modulo 2^128. With the decision's cost
-/// at the scale it is d_j.
+/// Adds the part of each decision's reduced cost that the multipliers of a certificate make, modulo 2^128. With the decision's
+/// cost at the scale it is d_j.
 pub(super) fn add_multipliers(sums: &mut [i128], here: &NodeAt, certificate: &Certificate)
     requires rows { All (λ (row : Row). All (λ (t : ℕ × ℤ). t.0 < length sums.old) row.decisions) here.now.subproblem.now.rows }
     requires outs { All (λ o. o < length sums.old) here.now.subproblem.now.outs }

@@ -1,4 +1,4 @@
-// The decisions' costs at a scale: what the reduced costs of all certificates of a node begin with.
+// The decisions' costs at a scale, with which the reduced costs of all certificates of a node begin.
 ghost use Rattle.std.specs.Prelude.{◌≡◌, ◌≤◌, ◌*ℤ◌, ℕ, ℤ, length, map};
 ghost use Rattle.hp_num.specs.Sums.{entry};
 ghost use Rattle.hp_problem.specs.declared.raw.Decision.{Decision};

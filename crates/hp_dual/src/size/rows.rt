@@ -10,7 +10,7 @@ use crate::sides::row_side;
 use hp_num::Size;
 use hp_problem::Row;
 
-/// A row's side and its terms of the random variables, beside what is the same at all realizations.
+/// Sizes a row's side and its terms of the random variables, beside the part that is the same at all realizations.
 fn row_size(row: &Row, multiplier: i64, fixed: u128, values: &Values) -> Option<Size>
     ensures { (amount : ℕ) → fixed ≡ min amount (2 ^ 127) → Adds 0 result (row_over values.now.values.now (row.now, multiplier) amount) }
 {
@@ -30,7 +30,7 @@ fn plus_row(size: Size, row: &Row, multiplier: i64, fixed: u128, values: &Values
     plus_scaled(size, absolute(multiplier), inner)
 }
 
-/// The rows times their multipliers, beside what is the same at all realizations.
+/// Sizes the rows times their multipliers, beside the part that is the same at all realizations.
 pub(super) fn rows_size(
     rows: &[Row],
     multipliers: &[i64],
