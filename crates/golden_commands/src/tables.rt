@@ -1,4 +1,4 @@
-// Tables of one problem: what comes of each line.
+// Tables of one problem: the outcome of each line.
 use crate::devices::{Devices, FAULTLESS};
 use crate::edits::edited;
 use crate::fault::RowFault;

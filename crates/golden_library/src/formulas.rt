@@ -1,4 +1,4 @@
-// The formulas that bound what a problem's training and simulation take.
+// The formulas that bound the numbers and bytes of a problem's training and simulation.
 use crate::fault::RowFault;
 use hp_problem::{Problem, TooMuch};
 use std::alloc::Global;

@@ -1,4 +1,4 @@
--- The boxes of a chain whose nodes share one subproblem with a box for each state: what comes in lies inside.
+-- The boxes of a chain whose nodes share one subproblem with a box for each state: the states that come in lie inside.
 use Rattle.std.proofs.Common.{◌≡◌, ℕ, zero, suc, ◌+◌, ◌<◌, ◌≤◌, ◌==◌, ◌⊎◌, inl, inr, ℤ, pos, ◌≤ℤ◌, List, [], ◌∷◌, ◌++◌, length, map, filter, fold, get_or, slice_get, false, Option, Some, None, option_and_then, unwrap_or, Ok, refl, sym, ap, ap₂, subst, ◌∙◌, arith}
 use Rattle.std.specs.List.{AllByRecursion, cons_option, flat_map, range_with_len}
 use Rattle.std.proofs.lemmas.Bool.{cases_lt, lt-ltb}

@@ -1,4 +1,4 @@
--- The variables of a stage's text: what holds of each, where they stand, and that no two have one name.
+-- The variables of a stage's text: the properties of each, their places, and that no two have one name.
 use Rattle.std.proofs.Common.{◌≡◌, ℕ, zero, suc, ◌<◌, ◌≤◌, List, [], ◌∷◌, ◌++◌, length, map, All, Bool, true, false, nat_le, if◌then◌else◌, refl, ap, subst, arith}
 use Rattle.std.specs.List.{AllByRecursion, flat_map}
 use Rattle.std.proofs.lemmas.Bool.{leb-true}

@@ -1,4 +1,4 @@
--- Things with names in a list: where each stands, and what is looked up and changed there by its name.
+-- Things with names in a list: their places, and the look-up and the change of one by its name.
 use Rattle.std.proofs.Common.{◌≡◌, ℕ, zero, suc, ◌<◌, ℤ, List, [], ◌∷◌, ◌++◌, length, map, slice_get, slice_set, Bool, true, false, cond, Some, Option, unwrap_or, position, bytes_eq, refl, sym, ap, ap₂, subst, ◌∙◌, ◌||◌, arith}
 use Rattle.std.specs.List.{AllByRecursion, list_any, position_or_len}
 use Rattle.std.proofs.lemmas.Bool.{lt-ltb}

@@ -1,4 +1,4 @@
--- The names of states rise, and so do those of what is not known before a stage.
+-- The names of states rise, and so do those of random variables.
 use Rattle.std.proofs.Common.{◌≡◌, ℕ, suc, ◌<◌, ◌≤◌, List, [], ◌∷◌, ◌++◌, length, map, Bool, true, false, nat_le, if◌then◌else◌, bytes_eq, refl, ◌∙◌, arith}
 use Rattle.std.specs.List.{AllByRecursion, flat_map}
 use Rattle.hp_paths.specs.Paths.{numbers}

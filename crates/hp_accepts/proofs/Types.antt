@@ -1,4 +1,4 @@
--- The types of what is private to the reader.
+-- Types that are private to the reader.
 use Rattle.std.proofs.Common.{List, Result}
 
 -- the type of a value, of what a step finds, of what a function takes, and of the entries of a list

@@ -24,7 +24,7 @@ pub record Means (description text : List ℕ) : Type 0 where
   pub cost : (units : ℕ) (plan : Plan) → plan_cost plants units plan ≡ policy_cost (problem_of problem) units (tree_of plants units plan)
   pub policy : (units : ℕ) (forest : Forest) → Policy (problem_of problem) units forest → tree_of plants units (plan_of plants forest) ≡ forest
 
--- b / S is at most the cost of each workable plan for what is described, in any units
+-- b / S is at most the cost of each workable plan for the description, in any units
 abbrev pub UnderPlans : List ℕ → ℤ → Type 0
 UnderPlans description b = (plants : Plants) (units : ℕ) (plan : Plan) → plants_at description ≡ Ok plants → 0 < units → Workable plants units plan
     → record { up = b; under = S } ≤ᶠ plan_cost plants units plan

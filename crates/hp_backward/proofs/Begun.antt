@@ -1,4 +1,4 @@
--- A chain of a node's realizations, by what it began with.
+-- A chain of a node's realizations, by the program with which it began.
 use Rattle.std.proofs.Common.{◌≡◌, ℕ, ℤ, List, [], ◌∷◌, map, Option, Some, None, slice_get, ap, ap₂, sym, ◌∙◌}
 use Rattle.std.specs.Prelude.{unwrap_or}
 use Rattle.hp_problem.specs.Sealed.{Sealed}

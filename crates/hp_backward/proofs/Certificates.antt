@@ -1,4 +1,4 @@
--- Realizations and their answers, one after another: in parts, and what is known of the result.
+-- Realizations and their answers, one after another: in parts, and facts about the result.
 use Rattle.std.proofs.Common.{◌≡◌, ℕ, suc, ◌+◌, ◌/◌, ℤ, List, [], ◌∷◌, ◌++◌, length, map, Result, Ok, Err, refl, ap, ap₂, sym, subst, ◌∙◌, append_assoc, arith}
 use Rattle.std.proofs.lemmas.List.{append-nil, take-append-drop, length-map}
 use Rattle.hp_num.specs.Steps.{◌>>=◌}

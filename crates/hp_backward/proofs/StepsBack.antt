@@ -1,4 +1,4 @@
--- Steps one after another, the last first, and what is taken back.
+-- Steps one after another, the last first, and the cuts that are taken back.
 use Rattle.std.proofs.Common.{◌≡◌, ℕ, zero, suc, ◌+◌, ◌<◌, ℤ, List, [], ◌∷◌, ◌++◌, length, take, drop, zip, get_or, Option, Some, None, Result, Ok, Err, refl, ap, ap₂, sym, subst, ◌∙◌, arith}
 use Rattle.std.proofs.lemmas.List.{drop_more}
 use Rattle.hp_num.specs.Steps.{◌>>=◌}

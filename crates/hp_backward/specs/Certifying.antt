@@ -48,7 +48,7 @@ both a b = record { list = a.list ++ b.list; unsettled = a.unsettled + b.unsettl
 abbrev pub in_order : Result Certified SweepFault → Result Certified SweepFault → Result Certified SweepFault
 in_order one other = one >>= λ a. other >>= λ b. Ok (both a b)
 
--- with a realization more, by what its answer shows; a dead one stops the iteration
+-- with a realization more, by the judgement of its answer; a dead one stops the iteration
 abbrev pub with_judged : ℕ → ℕ → List ℤ → List ℤ → Certificate → Certified → Judged → Result Certified SweepFault
 with_judged k m state values c found judged.Found = Ok (record { list = found.list ++ c ∷ []; unsettled = found.unsettled })
 with_judged k m state values c found judged.Unsettled = Ok (record { list = found.list ++ c ∷ []; unsettled = found.unsettled + 1 })

@@ -1,4 +1,4 @@
--- One product more: its magnitude, and what is left.
+-- One product more: its magnitude, and the part that is left.
 use Rattle.std.proofs.Common.{◌≡◌, ℕ, ◌+◌, ◌<◌, ◌≤◌, ◌^◌, ℤ, pos, ◌+ℤ◌, ◌*ℤ◌, ◌≤ℤ◌, ◌<ℤ◌, List, [], ◌∷◌, length, drop, SFits, w64, to_z, of_z, add-one, arith, refl, ap, ◌∙◌, drop-cons, drop_of_length-le}
 use Rattle.std.proofs.lemmas.Int.{ints, to_z-of_z}
 use mir.Syntax.{w128}

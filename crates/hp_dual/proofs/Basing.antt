@@ -1,4 +1,4 @@
--- The base certificates of a node: what is made of its parts, and the cut that they make.
+-- The base certificates of a node: the certificate of its parts, and the cut that they make.
 use Rattle.std.proofs.Common.{◌≡◌, ℕ, ◌*◌, ◌<◌, ℤ, pos, List, [], ◌∷◌, length, map, None, refl, sym, ap, ◌∙◌, arith}
 use Rattle.std.specs.Option.{option_map}
 use Rattle.hp_problem.specs.declared.raw.Row.{Row}

@@ -1,4 +1,4 @@
--- The cuts of a list of certificates with given weights: when there is one, that it fits, and what no weight changes.
+-- The cuts of a list of certificates with given weights: when there is one, that it fits, and the part that no weight changes.
 use Rattle.std.proofs.Common.{◌≡◌, ℕ, suc, ◌<◌, ◌==◌, true, false, ℤ, List, [], ◌∷◌, length, min, map, All, IfOk, IfSome, IsSome, Option, Some, None, Result, Ok, Err, if◌then◌else◌, arith, refl, ap, sym, subst, ◌∙◌, zip}
 use Rattle.std.specs.Prelude.{is_none, is_some, slice_get}
 use Rattle.std.specs.Option.{option_map}

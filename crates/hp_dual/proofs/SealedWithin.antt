@@ -1,4 +1,4 @@
--- The parts of a node of a sealed problem are within what the walk needs.
+-- The parts of a node of a sealed problem meet the premises of the walk.
 use Rattle.std.proofs.Common.{◌≡◌, ℕ, ◌<◌, ◌≤◌, ℤ, true, List, length, get_or, All, sum, slice_get, Some, nat_lt, sym, ap, ◌∙◌, subst, arith}
 use Rattle.std.proofs.lemmas.Bool.Decides.{nat_tests}
 use Rattle.std.proofs.lemmas.Option.{slice_get-get_or}

@@ -1,4 +1,4 @@
--- The base cuts made so far, and what is still to be made.
+-- The base cuts made so far, and those still to be made.
 use Rattle.std.proofs.Common.{◌≡◌, ℕ, ◌<◌, ◌^◌, true, List, [], ◌∷◌, ◌+◌, drop, get_or, length, replicate, Option, Some, None, Ok, Err, refl, sym, ap, ◌∙◌, subst, arith}
 use Rattle.std.proofs.lemmas.List.{drop_more}
 use Rattle.hp_problem.specs.Sealed.{Sealed, is_sealed}

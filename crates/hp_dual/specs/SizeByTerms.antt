@@ -42,14 +42,14 @@ over_box low high k = span (entry low k) (entry high k)
 abbrev pub over_values : List ℤ → ℕ → ℕ
 over_values values t = nat_abs (entry values t)
 
--- |factor| times what f has at the term's number, and the sum of these
+-- |factor| times the value of f at the term's number, and the sum of these
 abbrev pub term_by : (ℕ → ℕ) → Term → ℕ
 term_by f t = nat_abs t.1 * f t.0
 
 abbrev pub terms_by : (ℕ → ℕ) → List Term → ℕ
 terms_by f ts = sum_by (term_by f) ts
 
--- the sum of |number| times what f has at its index
+-- the sum of |number| times the value of f at its index
 abbrev pub numbers_by : (ℕ → ℕ) → List ℤ → ℕ
 numbers_by f zs = count_by (length zs) (λ k. nat_abs (entry zs k) * f k)
 
@@ -61,7 +61,7 @@ fixed_row ds low high row = terms_by (over_decisions ds) row.decisions + terms_b
 abbrev pub FixedRows : List Decision → List ℤ → List ℤ → List Row → List ℕ → Type 0
 FixedRows ds low high rows amounts = (i : ℕ) (row : Row) (amount : ℕ) → i < length rows → get_or amounts i amount ≡ min (fixed_row ds low high (get_or rows i row)) (2 ^ 127)
 
--- a row at its side, with its terms of the random variables, beside what is the same at all realizations
+-- a row at its side, with its terms of the random variables, beside the part that is the same at all realizations
 abbrev pub row_over : List ℤ → Row × ℤ → ℕ → ℕ
 row_over values q fixed = nat_abs (side q.0 q.1) + fixed + terms_by (over_values values) q.0.randoms
 

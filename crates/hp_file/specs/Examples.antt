@@ -1,4 +1,4 @@
--- Small documents, and what is said by one.
+-- Small documents, and the files that they state.
 use Rattle.std.specs.Prelude.{ℕ, ℤ, List, ◌++◌, map, Bool, Option, option_map, codes}
 use Rattle.serde_json.specs.Data.{Data}
 use Rattle.serde_json.specs.Read.{read}

@@ -1,4 +1,4 @@
--- Paths of a problem's graph: how long they are, where they begin, and what stands at a step.
+-- Paths of a problem's graph: how long they are, where they begin, and the values at a step.
 use Rattle.std.proofs.Common.{◌≡◌, ◌∙◌, ℕ, ◌<◌, ◌≤◌, ℤ, pos, ◌*ℤ◌, ◌≤ℤ◌, List, [], ◌∷◌, length, get_or, slice_get, Some, true, Contains, sym, ap, subst, arith}
 use Rattle.std.proofs.lemmas.Bool.Decides.{nat_tests}
 use Rattle.std.proofs.lemmas.List.{get_or-map, get_or_default, length-map}

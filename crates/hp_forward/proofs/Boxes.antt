@@ -1,4 +1,4 @@
--- The boxes of a node's decisions, and what leaves the node for its successors.
+-- The boxes of a node's decisions, and of the states that leave it for its successors.
 use Rattle.std.proofs.Common.{◌≡◌, ◌∙◌, ℕ, ◌<◌, ◌≤◌, ◌^◌, ℤ, pos, ◌*ℤ◌, ◌≤ℤ◌, List, [], length, get_or, nat_abs, true, Contains, sym, ap, subst, arith}
 use Rattle.std.specs.Int.{int_min, int_max}
 use Rattle.std.proofs.lemmas.Bool.Decides.{nat_tests}

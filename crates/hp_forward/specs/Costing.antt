@@ -32,7 +32,7 @@ miss_of row u x values =
 abbrev pub residuals_of : Node → List ℤ → List ℤ → List ℤ → List ℤ
 residuals_of n u x values = map (λ (row : Row). residual_of row u x values) n.rows
 
--- and what each misses
+-- and the miss of each
 abbrev pub misses_of : Node → List ℤ → List ℤ → List ℤ → List ℤ
 misses_of n u x values = map (λ (row : Row). miss_of row u x values) n.rows
 

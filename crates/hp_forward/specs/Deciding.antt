@@ -48,7 +48,7 @@ decided_of n answer known = record {
   next = next_state n (decisions_at n answer.point);
 }
 
--- the refutation where there is one, and else what is decided
+-- the refutation where there is one, and else the decisions
 abbrev pub unless_dead : (List ℤ → Dead) → Decided → Judged → Result Decided Dead
 unless_dead dead decided judged.Found = Ok decided
 unless_dead dead decided judged.Unsettled = Ok decided

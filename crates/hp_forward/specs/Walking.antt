@@ -1,4 +1,4 @@
--- Walks along paths: the state that comes into each step, by what was decided before it.
+-- Walks along paths: the state that comes into each step, by the decisions before it.
 use Rattle.std.specs.Prelude.{◌≡◌, ℕ, ◌+◌, ◌≤◌, ℤ, Bool, true, false, List, [], ◌∷◌, ◌++◌, length, map, zip, get_or, All, Result, Ok}
 use Rattle.hp_num.specs.Steps.{◌>>=◌}
 use Rattle.hp_problem.specs.declared.raw.Node.{Node}

@@ -1,4 +1,4 @@
--- The boxes of a generated problem hold what comes in: all of it is from 0 to 100.
+-- The boxes of a generated problem hold the states that come in: all of them are from 0 to 100.
 use Rattle.std.proofs.Common.{◌≡◌, ℕ, zero, suc, ◌≤◌, ◌==◌, ◌&&◌, not, ℤ, pos, ◌≤ℤ◌, List, [], ◌∷◌, length, map, get_or, slice_get, replicate, Bool, true, false, cond, Option, Some, None, option_and_then, unwrap_or, Ok, refl, sym, ap, subst, ◌∙◌, arith}
 use Rattle.std.specs.List.{list_any, fold, cons_option}
 use Rattle.std.proofs.lemmas.Int.{ints, clamps}

@@ -1,4 +1,4 @@
--- The names of nodes and of what belongs to reservoirs rise with their numbers.
+-- The names of nodes and of reservoirs' quantities rise with their numbers.
 use Rattle.std.proofs.Common.{◌≡◌, ℕ, ◌+◌, ◌/◌, ◌<◌, ◌≤◌, List, [], ◌∷◌, Less, Greater, nat_cmp, refl, ◌∙◌, arith}
 use Rattle.std.specs.Cmp.Lexicographic.{slice_cmp}
 use Rattle.std.proofs.lemmas.Bool.{cases_lt}

@@ -2,7 +2,7 @@
 use Rattle.std.specs.Prelude.{ℕ, ◌+◌, ◌/◌, ◌%◌, List, [], ◌∷◌, ◌++◌, codes}
 use Rattle.hp_forms.specs.Listed.{digit}
 
--- the name of a variable of the reservoir j: a letter and two digits, from 01
+-- the name of a quantity of the reservoir j: a letter and two digits, from 01
 unfoldable pub reservoir_name : List ℕ → ℕ → List ℕ
 reservoir_name letter j = letter ++ digit ((j + 1) / 10) ∷ digit (j + 1) ∷ []
 

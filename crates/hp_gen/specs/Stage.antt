@@ -39,7 +39,7 @@ variables count = flat_map variables_of (numbers count) ++ variable (codes "g") 
 unfoldable pub from_above : ℕ → List Data
 from_above j = if nat_lt 0 j then term (negsuc 0) (turbined (j - 1)) ∷ term (negsuc 0) (spilled (j - 1)) ∷ [] else []
 
--- the water of the reservoir j: what is stored after, turbined and spilled, less what was stored, what flows in and what comes from above
+-- the water of the reservoir j: the volume after, turbined and spilled water, less the volume before, the inflow and the water from above
 unfoldable pub balance_terms : ℕ → List Data
 balance_terms j =
     term (pos 1) (outgoing j) ∷ term (pos 1) (turbined j) ∷ term (pos 1) (spilled j) ∷ term (negsuc 0) (incoming j) ∷ term (negsuc 0) (inflow_name j) ∷ [] ++ from_above j

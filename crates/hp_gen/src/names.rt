@@ -1,10 +1,10 @@
-// Names of nodes and of a reservoir's variables.
+// Names of nodes and of a reservoir's quantities.
 ghost use Rattle.std.specs.Prelude.{◌≡◌, ◌+◌, ◌<◌, ◌≤◌, [], ◌∷◌, IsAscii};
 ghost use Rattle.hp_gen.specs.Names.{reservoir_name, node_name};
 
 use hp_forms::digit;
 
-// Builds the name of a reservoir's variable: a letter and two digits, from 01.
+// Builds the name of a reservoir's quantity: a letter and two digits, from 01.
 #[tactic(auto, unfolding(crate::specs::Names::reservoir_name))]
 pub(crate) fn reservoir_name(letter: u8, reservoir: u32) -> [u8; 3]
     requires letter { letter < 128 }

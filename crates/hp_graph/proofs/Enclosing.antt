@@ -1,4 +1,4 @@
--- The boxes hold what comes in.
+-- The boxes hold the states that come in.
 use Rattle.std.proofs.Common.{◌≡◌, ◌∙◌, ℕ, zero, suc, ◌<◌, ◌==◌, ℤ, pos, ◌≤ℤ◌, Bool, true, false, ◌&&◌, not, List, [], ◌∷◌, length, map, Contains, Option, Some, None, unwrap_or, slice_get, refl, sym, ap, subst, arith}
 use Rattle.std.specs.Prelude.{int_le, if◌then◌else◌}
 use Rattle.std.specs.List.{list_any, find, cons_option}

@@ -33,7 +33,7 @@ abbrev pub unless_gap : Raw → Option (ℕ × ℕ) → Result (List (List ℤ) 
 unless_gap raw (Some at) = refused kinds.BoxGap at.0 at.1
 unless_gap raw None = Ok (sides Low raw, sides High raw)
 
--- the boxes: each given bound has to enclose what comes in
+-- the boxes: each given bound has to enclose the states that come in
 unfoldable pub boxed : Raw → Result (List (List ℤ) × List (List ℤ)) Refusal
 boxed raw = unless_gap raw (first_gap raw (numbers (length raw.nodes)))
 

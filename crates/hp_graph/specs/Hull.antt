@@ -27,12 +27,12 @@ abbrev pub outermost : Side → List ℤ → ℤ
 outermost side [] = pos 0
 outermost side (x ∷ xs) = fold (outer side) x xs
 
--- the ends on this side of what leaves each subproblem, one per state
+-- the ends on this side of the states that leave each subproblem, one per state
 abbrev pub ends : Side → Raw → List (List ℤ)
 ends Low raw = map out_lows raw.subs
 ends High raw = map out_highs raw.subs
 
--- the end of what leaves the node p as state s, with the ends of each subproblem
+-- the end of the state s that leaves the node p, with the ends of each subproblem
 abbrev pub end_at : List Node → List (List ℤ) → ℕ → ℕ → ℤ
 end_at nodes all s p = unwrap_or (option_and_then (λ n. option_and_then (λ es. slice_get es s) (slice_get all n.sub)) (slice_get nodes p)) (pos 0)
 
@@ -44,7 +44,7 @@ start_at raw n s = if list_any (λ m. m == n) raw.root then slice_get (initial_v
 abbrev pub incoming : Side → Raw → ℕ → ℕ → List ℤ
 incoming side raw n s = cons_option (start_at raw n s) (map (end_at raw.nodes (ends side raw) s) (predecessors (graph_of raw) n))
 
--- the side of the least box that holds what comes into the node n, one entry per state
+-- the side of the least box that holds the states that come into the node n, one entry per state
 unfoldable pub hull : Side → Raw → ℕ → List ℤ
 hull side raw n = map (λ s. outermost side (incoming side raw n s)) (numbers (length raw.states))
 
@@ -68,7 +68,7 @@ abbrev pub encloses : Side → Option ℤ → ℤ → Bool
 encloses side None h = true
 encloses side (Some bound) h = is_outside side bound h
 
--- a given bound does not enclose what comes in
+-- a given bound does not enclose the states that come in
 abbrev pub has_gap : Raw → ℕ → ℕ → Bool
 has_gap raw n s = not (encloses Low (given Low raw n s) (entry (hull Low raw n) s) && encloses High (given High raw n s) (entry (hull High raw n) s))
 

@@ -152,7 +152,7 @@ place_of h (thermal_of i) = first_of h (length h.reservoirs) + i
 place_of h (line_of l) = first_of h (length h.reservoirs) + length h.thermals + l
 place_of h (deficit_of b) = first_of h (length h.reservoirs) + length h.thermals + length h.lines + b
 
--- ---- what is not known before a stage
+-- ---- random variables
 
 pub data Chance : Type 0 where
   -- the inflow of reservoir j, and the demand at bus b

@@ -17,7 +17,7 @@ inflow_weight [] = 0
 inflow_weight (i ∷ is) = i.weight + inflow_weight is
 
 abbrev mutual
-  -- the sum over the branches of weight * (choice + what comes after)
+  -- the sum over the branches of weight * (choice + the cost of later stages)
   pub branches_cost : Plants → ℕ → List Stage → List Inflow → Plan → Fraction
   branches_cost h units stages is no_plan = nothing
   branches_cost h units stages [] (choose c l p) = nothing

@@ -17,7 +17,8 @@ row_with h a b g = record {
   randoms = terms_from 0 (map g (chances h));
 }
 
--- ---- water of reservoir j: o + q + z - i - w, less the q and z of reservoirs that lead to j at once, less what arrives from the others
+-- ---- water of reservoir j: o + q + z - i - w, less the q and z of reservoirs that lead to j at once, less the water that arrives from the
+-- others
 
 -- 1 where the water of reservoir i is in reservoir j at once, else 0
 abbrev pub leads_at_once : Plants → ℕ → ℕ → ℤ
@@ -46,7 +47,7 @@ water_flowing j (demand_of b) = pos 0
 abbrev pub water_row : Plants → ℕ → Row
 water_row h j = row_with h (water_decided h j) (water_before h j) (water_flowing j)
 
--- ---- water of reservoir j under way: what is k stages away was k + 1 away before, or left in this stage
+-- ---- water of reservoir j under way: the water k stages away was k + 1 away before, or left in this stage
 
 abbrev pub way_after : ℕ → ℕ → Store → ℤ
 way_after j k (volume_of i) = pos 0

@@ -9,7 +9,7 @@ use Rattle.hp_plants.specs.declared.plants.Plants.{Plants}
 use Rattle.hp_hydro.specs.Layout.{Store, volume_of, way_of, after, turbine_of, spill_of, thermal_of, line_of, deficit_of, inflow_of, demand_of, reservoir, thermal, line, bus, travel, all_reservoirs, all_thermals, all_lines, all_buses, steps, stores, chances, store_low, store_high, least, greatest}
 use Rattle.hp_hydro.specs.Columns.{Column, before, random, decided, columns, state_name, before_name, after_name, chance_name, column_name}
 
--- ---- what a row or the objective sums: each variable with its factor, in the order in which they are written
+-- ---- sums of a row or of the objective: each variable with its factor, in the order in which they are written
 
 abbrev pub Sum : Type 0
 Sum = List (ℤ × Column)

@@ -1,4 +1,4 @@
--- Steps that may refuse, and what is answered of them.
+-- Steps that may refuse, and the contracts of code that takes them.
 use Rattle.std.proofs.Common.{◌≡◌, Result, Ok, Err, refl, sym, subst, ap}
 use Rattle.hp_num.specs.Steps.{◌>>=◌}
 use Rattle.hp_load.specs.declared.refusal.LoadFault.{LoadFault}

@@ -1,4 +1,4 @@
--- Adding cuts as the loops do: what is done, and what is left.
+-- Adding cuts as the loops do: the part that is done, and the part that is left.
 use Rattle.std.proofs.Common.{◌≡◌, ℕ, zero, suc, ◌+◌, ◌-◌, ◌≤◌, ◌<◌, ◌^◌, true, List, [], ◌∷◌, length, drop, get_or, All, None, Ok, sym, ap, ◌∙◌, arith}
 use Rattle.std.specs.List.{AllByRecursion}
 use Rattle.std.proofs.lemmas.Bool.Decides.{nat_tests}

@@ -1,4 +1,4 @@
--- Lists of entries that are accepted over base cuts, and what holds of everything that is loaded.
+-- Lists of entries that are accepted over base cuts, and the properties of everything that is loaded.
 use Rattle.std.specs.Prelude.{◌≡◌, ◌⊎◌, ◌≤◌, ◌+◌, ◌*◌, ◌^◌, ℕ, List, length, All, Ok}
 use Rattle.std.specs.List.{AllByRecursion}
 use Rattle.hp_problem.specs.Sealed.{Sealed}

@@ -1,4 +1,4 @@
--- Load: what a journal's bytes give.
+-- Load: the outcome of a journal's bytes.
 use Rattle.std.specs.Prelude.{◌≡◌, ℕ, ◌-◌, ℤ, Bool, true, false, List, [], ◌==◌, Option, Some, None, Result, Ok, Err, if◌then◌else◌}
 use Rattle.std.specs.Str.{bytes_eq}
 pub use Rattle.hp_num.specs.Steps.{◌>>=◌}

@@ -26,7 +26,7 @@ pub record Found : Type 0 where
   pub pools : List (List Cut)
   -- the bound after each record
   pub bounds : List ℤ
-  -- the sum of what the entries state
+  -- the sum of the unsettled solves that the entries state
   pub unsettled : ℕ
 
 -- before the first record
@@ -58,14 +58,14 @@ entries_at p batch bytes k at = do
   entries ← with_fault (λ place. of_entries k (Bad place)) (read_batch p k batch payload)
   Ok (entries, at + 5 + length payload)
 
--- the record behind the open gate at a place: its entries, the place of the next gate, and what was found with them
+-- the record behind the open gate at a place: its entries, the place of the next gate, and the findings with them
 unfoldable pub record_at : Sealed → ℕ → List ℕ → ℕ → Found → Result (List Entry × ℕ × Found) LoadFault
 record_at p batch bytes at found = do
   read ← entries_at p batch bytes (suc (length found.bounds)) at
   next ← record_added p found read.0
   Ok (read.0, read.1, next)
 
--- where the records end, and what they gave
+-- the end of the records, and their findings
 pub record Ended : Type 0 where
   pub found : Found
   pub lists : List (List Entry)
@@ -83,7 +83,7 @@ rest_at bytes at = do
   gate ← with_fault of_gate (gate_of bytes at)
   Ok (rest_behind gate)
 
--- the end where the gate is shut, else what stands behind it
+-- the end where the gate is shut, else the records behind it
 abbrev pub or_more : Option ℕ → (ℕ → Ended) → Result Ended LoadFault → Result Ended LoadFault
 or_more (Some rest) ended more = Ok (ended rest)
 or_more None ended more = more

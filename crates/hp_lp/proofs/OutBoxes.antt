@@ -1,4 +1,4 @@
--- The boxes of what leaves a stage, and the greatest products with their ends.
+-- The boxes of the states that leave a stage, and the greatest products with their ends.
 use Rattle.std.proofs.Common.{◌≡◌, ◌∙◌, ℕ, ◌<◌, ℤ, pos, negsuc, ◌*ℤ◌, true, false, List, length, get_or, arith, ap, sym}
 use Rattle.std.specs.Int.{int_min, int_max}
 use Rattle.std.specs.Int.Signed.{lt_z}

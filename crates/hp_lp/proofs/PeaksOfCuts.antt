@@ -1,4 +1,4 @@
--- The greatest value of cuts over what may leave a stage: as pools keep it, and its range.
+-- The greatest value of cuts over the states that may leave a stage: as pools keep it, and its range.
 use Rattle.std.proofs.Common.{◌≡◌, ◌∙◌, ℕ, suc, zero, ◌+◌, ◌*◌, ◌<◌, ◌≤◌, ◌^◌, ℤ, ◌+ℤ◌, ◌*ℤ◌, nat_abs, List, [], ◌∷◌, length, get_or, All, arith, ap, ap₂, refl}
 use Rattle.std.specs.Int.{int_min, int_max}
 use Rattle.std.proofs.lemmas.Int.{ints, clamps}

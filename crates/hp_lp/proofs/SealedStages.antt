@@ -1,4 +1,4 @@
--- The parts of a sealed problem's node are within what its stage problems need.
+-- The parts of a sealed problem's node meet the premises of its stage problems.
 use Rattle.std.proofs.Common.{◌≡◌, ℕ, zero, suc, ◌<◌, ◌≤◌, ◌^◌, max, ℤ, pos, ◌+ℤ◌, ◌*ℤ◌, ◌≤ℤ◌, true, nat_abs, nat_lt, List, [], length, map, zip, get_or, All, Option, Some, slice_get, sym, ap, subst, ◌∙◌, mul-le-mul, arith}
 use Rattle.std.specs.List.{list_all}
 use Rattle.std.proofs.lemmas.Bool.Decides.{nat_tests}

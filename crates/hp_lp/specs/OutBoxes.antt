@@ -1,4 +1,4 @@
--- The boxes of what leaves a stage as states.
+-- The boxes of the states that leave a stage.
 use Rattle.std.specs.Prelude.{ℕ, List, length, map}
 use Rattle.std.specs.Int.{int_min, int_max}
 use Rattle.std.specs.List.{range_with_len}
@@ -7,7 +7,7 @@ use Rattle.hp_problem.specs.declared.raw.Subproblem.{Subproblem}
 use Rattle.hp_problem.specs.Sealed.{out_lows, out_highs}
 use Rattle.hp_cut.specs.declared.peaks.OutBox.{OutBox}
 
--- the ends of the box of what leaves as the state k, the lesser and the greater
+-- the ends of the box of the outgoing state k, the lesser and the greater
 abbrev pub out_box : Subproblem → ℕ → OutBox
 out_box s k = record { least = int_min (entry (out_lows s) k) (entry (out_highs s) k); greatest = int_max (entry (out_lows s) k) (entry (out_highs s) k) }
 

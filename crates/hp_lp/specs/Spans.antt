@@ -1,4 +1,4 @@
--- Cuts whose values over what leaves a stage stay small.
+-- Cuts whose values over the states that leave a stage stay small.
 use Rattle.std.specs.Prelude.{◌≡◌, ℕ, ◌<◌, ◌≤◌, ◌^◌, ℤ, List, nat_abs, length}
 use Rattle.hp_num.specs.Sums.{entry}
 use Rattle.hp_problem.specs.declared.raw.Subproblem.{Subproblem}

@@ -30,14 +30,14 @@ scaled z = number (pos 256 *ℤ z)
 abbrev pub decision_column : ℕ → Decision → Column
 decision_column q d = record { low = whole d.low; high = whole d.high; cost = whole (pos q *ℤ d.cost) }
 
--- a slope times what leaves the stage as the state k, at the ends of its box
+-- a slope times the outgoing state k, at the ends of its box
 abbrev pub at_low : Subproblem → Cut → ℕ → ℤ
 at_low s c k = entry c.beta k *ℤ entry (out_lows s) k
 
 abbrev pub at_high : Subproblem → Cut → ℕ → ℤ
 at_high s c k = entry c.beta k *ℤ entry (out_highs s) k
 
--- the least and the greatest value of a cut over what may leave the stage
+-- the least and the greatest value of a cut over the states that may leave the stage
 abbrev pub least_value : Subproblem → Cut → ℤ
 least_value s c = c.alpha +ℤ sum_to (length s.outs) (λ k. int_min (at_low s c k) (at_high s c k))
 
@@ -49,7 +49,7 @@ abbrev pub most_from : Subproblem → ℤ → List Cut → ℤ
 most_from s best [] = best
 most_from s best (c ∷ cs) = most_from s (int_max best (greatest_value s c)) cs
 
--- the greatest value of some cuts over what may leave the stage
+-- the greatest value of some cuts over the states that may leave the stage
 abbrev pub peak_of : Subproblem → List Cut → ℤ
 peak_of s cuts = most_from s (greatest_value s (get_or cuts 0 no_cut)) cuts
 

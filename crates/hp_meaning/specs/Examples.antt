@@ -20,7 +20,7 @@ one_higher = plan (branch (numbers (pos 2) (pos 2) (pos 9) (pos 9)) no_plan (bra
 
 -- ---- the file with a stop weight
 
--- w is what is realized
+-- w is the realized value
 abbrev one_node : ℤ → Plans → Plan
 one_node w ps = branch (λ v. w) ps no_branch
 

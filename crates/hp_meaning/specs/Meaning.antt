@@ -11,7 +11,7 @@ Volumes = Name → Option ℤ
 abbrev pub in_units : ℕ → Option ℤ → Option ℤ
 in_units units o = option_map (λ z. pos units *ℤ z) o
 
--- incoming variables have the incoming volumes, random variables what is realized, and each constraint is kept
+-- incoming variables have the incoming volumes, random variables the realized values, and each constraint is kept
 pub record Satisfies (units : ℕ) (s : Stage) (r : Realization) (x : Volumes) (y : Numbers) : Type 0 where
   pub states : All (λ (t : State). x t.name ≡ Some (y t.before)) s.states
   pub randoms : All (λ (v : Name). in_units units (r.support v) ≡ Some (y v)) s.randoms
@@ -28,7 +28,7 @@ starting f units s = in_units units (f.initial s)
 -- ---- policies
 
 mutual
-  -- a branch for each realization: its numbers, what is planned after it, and the branches beside it
+  -- a branch for each realization: its numbers, the plan after it, and the branches beside it
   pub data Plan : Type 0 where
     no_branch : Plan
     branch : Numbers → Plans → Plan → Plan
@@ -74,7 +74,7 @@ abbrev pub mean : List Realization → Fraction → Fraction
 mean rs together = over together (sum (map (λ (r : Realization). r.weight) rs))
 
 abbrev mutual
-  -- the sum over the branches of weight times (the stage's cost and the average of what comes after)
+  -- the sum over the branches of weight times (the stage's cost and the average cost of the plans after it)
   pub branches_cost : File → ℕ → Node → List Realization → Plan → Fraction
   branches_cost f units n rs no_branch = nothing
   branches_cost f units n [] (branch y ps p) = nothing
@@ -110,7 +110,7 @@ pub data Comes (f : File) (units : ℕ) : Name → Volumes → Type 0 where
   first : (l : Link) → Contains f.root l → Comes f units l.node (starting f units)
   next : (k : Name) (n : Node) (x : Volumes) (r : Realization) (y : Numbers) (l : Link) → Comes f units k x → f.nodes k ≡ Some n → Contains n.realizations r → Satisfies units n.stage r x y → Contains n.links l → Comes f units l.node (leaving n.stage.states y)
 
--- (alpha + beta·x) / S is at most what any plan costs from the node k on, whatever volumes x come to it
+-- (alpha + beta·x) / S is at most the cost of any plan from the node k on, whatever volumes x come to it
 abbrev pub IsCut : File → Name → ℤ → List ℤ → Type 0
 IsCut f k alpha beta = (units : ℕ) (n : Node) (x : Volumes) (xs : List ℤ) (p : Plan) → 0 < units → f.nodes k ≡ Some n → Comes f units k x → map x f.states ≡ map Some xs
     → Meets f units n n.realizations x p → record { up = alpha *ℤ pos units +ℤ dot beta xs; under = S * units } ≤ᶠ plan_cost f units n p

@@ -1,4 +1,4 @@
--- One row more of those that are fixed in turn, and what the search comes to.
+-- One row more of those that are fixed in turn, and the outcome of the search.
 use Rattle.std.proofs.Common.{◌≡◌, ◌∙◌, ℕ, suc, ◌+◌, ◌-◌, ◌<◌, Bool, true, false, ℤ, List, length, if◌then◌else◌, sym, ap, subst, arith}
 use Rattle.hp_theory.specs.Problem.{Node}
 use Rattle.hp_mend.specs.declared.search.Search.{Search}

@@ -19,6 +19,6 @@ searched n values x u = (all_fixed (frame_of n values x) 0 (length (frame_of n v
 abbrev pub all_met : Node → List ℤ → List ℤ → List ℤ → Bool
 all_met n values x u = list_all (λ (d : ℤ). int_eq d (pos 0)) (misses_of n u x values)
 
--- Mended: where the search meets each row, what it comes to, and else the decisions as they are
+-- Mended: where the search meets each row, the decisions that it finds, and else the decisions as they are
 unfoldable pub mended_of : Node → List ℤ → List ℤ → List ℤ → List ℤ
 mended_of n values x u = if all_met n values x (searched n values x u) then searched n values x u else u

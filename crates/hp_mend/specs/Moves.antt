@@ -40,7 +40,7 @@ reaching d a = (nat_abs d + (nat_abs a - 1)) / nat_abs a
 abbrev pub short_of : ℤ → ℤ → ℕ
 short_of d a = nat_abs d / nat_abs a
 
--- a decision may move by v: it is not held, and what it comes to is in S times its box, which is no point
+-- a decision may move by v: it is not held, and its value then is in S times its box, which is no point
 abbrev pub may_move : Frame → Search → ℕ → ℤ → Bool
 may_move f s j v =
     not (get_or s.held j true) && (int_lt (entry f.lows j) (entry f.highs j) && (int_le (pos S *ℤ entry f.lows j) (entry s.numbers j +ℤ v) && int_le (entry s.numbers j +ℤ v) (pos S *ℤ entry f.highs j)))

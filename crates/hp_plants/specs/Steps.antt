@@ -1,4 +1,4 @@
--- Steps that may refuse, and what code gives of them.
+-- Steps that may refuse, and the contracts of code that takes them.
 use Rattle.std.specs.Prelude.{◌≡◌, ℕ, suc, List, [], ◌∷◌, Result, Ok, Err}
 use Rattle.serde_json.specs.Data.{Data, Items, no_items, item, Members, no_members, member}
 pub use Rattle.hp_num.specs.Steps.{◌>>=◌}

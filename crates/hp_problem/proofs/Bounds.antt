@@ -1,4 +1,4 @@
--- Bounds on what a problem's formulas are made of.
+-- Bounds on the parts of a problem's formulas.
 use Rattle.std.proofs.Common.{◌≡◌, ℕ, suc, zero, ◌+◌, ◌≤◌, List, [], ◌∷◌, true, false, length, map, sum, get_or, Option, Some, None, slice_get, nat_lt, refl, arith}
 use Rattle.std.proofs.lemmas.Bool.Decides.{nat_tests}
 use Rattle.std.proofs.lemmas.Grind.{common_steps}

@@ -1,4 +1,4 @@
--- The comparison of the sides of boxes, and what leaves a node.
+-- The comparison of the sides of boxes, and of the states that leave a node.
 use Rattle.std.proofs.Common.{◌≡◌, ℤ, ◌&&◌, List, [], ◌∷◌, int_le, refl, ap}
 use Rattle.std.specs.List.{list_all, zip}
 use Rattle.hp_problem.specs.Sealed.{at_most}

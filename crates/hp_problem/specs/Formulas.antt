@@ -1,4 +1,4 @@
--- The weights of a node, and the formulas that bound what training and simulating take.
+-- The weights of a node, and the formulas that bound the numbers and bytes of training and simulation.
 use Rattle.std.specs.Prelude.{ℕ, ◌+◌, ◌*◌, ◌^◌, List, [], ◌∷◌, length, map, Option, Some, None, sum, if◌then◌else◌, nat_lt}
 use Rattle.std.specs.List.{sum_by}
 use Rattle.hp_paths.specs.Ranks.{greatest}

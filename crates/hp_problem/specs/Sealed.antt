@@ -1,4 +1,4 @@
--- A problem as contracts see it: its parts, and what was found out about its graph.
+-- A problem as contracts see it: its parts, and the findings about its graph.
 use Rattle.std.specs.Prelude.{◌≡◌, ℕ, ℤ, Bool, true, false, ◌&&◌, ◌==◌, List, [], ◌∷◌, length, map, Option, Some, None, Result, Ok, Err, int_le, get_or, slice_get, option_and_then, is_none}
 use Rattle.std.specs.List.{list_all, zip}
 use Rattle.std.specs.Ordering.{int_eq}

@@ -1,4 +1,4 @@
-// The weights of a node, and the formulas that bound the memory of training and simulation.
+// The weights of a node, and the formulas that bound the numbers and bytes of training and simulation.
 ghost use Rattle.std.specs.Prelude.{◌≡◌, ◌≤◌, ◌<◌, ◌+◌, ◌*◌, ◌^◌, ℕ, true, length, map, sum, slice_get, IfSome};
 ghost use Rattle.std.specs.List.{list_all, sum_by};
 ghost use Rattle.hp_paths.specs.Ranks.{greatest};

@@ -1,4 +1,4 @@
--- The length of a text: at most what the formula for records gives.
+-- The length of a text: at most the value of the formula for records.
 use Rattle.std.proofs.Common.{◌≡◌, ℕ, zero, suc, ◌+◌, ◌*◌, ◌<◌, ◌≤◌, ◌==◌, true, cond, List, [], ◌∷◌, ◌++◌, length, slice_get, Option, Some, None, refl, sym, ap, subst, ◌∙◌, arith}
 use Rattle.std.specs.Prelude.{ℤ, nat_le, option_map, option_and_then, unwrap_or}
 use Rattle.std.specs.List.{flat_map, sum_by, AllByRecursion}

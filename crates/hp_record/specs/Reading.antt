@@ -111,7 +111,7 @@ placed total (Err left) = Err (total - left)
 unfoldable pub read_batch : Sealed → ℕ → ℕ → List ℕ → Result (List Entry) ℕ
 read_batch p wanted count payload = placed (length payload) (entries_at p wanted count payload)
 
--- the answer is what reading gives, unless memory was refused
+-- the answer is that of the definition, unless memory was refused
 abbrev pub FailsAt : {Y : Type 0} → EntryFault → Result Y ℕ → Type 0
 FailsAt (faults.Bad place) read = read ≡ Err place
 FailsAt faults.Memory read = Unit {0}

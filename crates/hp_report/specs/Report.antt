@@ -76,7 +76,7 @@ iterations_text bounds unsettled = iteration_lines bounds ++ total_line (length 
 unfoldable pub base_text : Sealed → List (List Cut) → List ℕ
 base_text p pools = head_text p.raw ++ cut_lines pools ++ bound_line (bound (problem_of p) pools)
 
--- the report of a journal that was checked: its cuts over the base cuts, its bounds, and what is left behind its last gate
+-- the report of a journal that was checked: its cuts over the base cuts, its bounds, and the bytes left behind its last gate
 unfoldable pub check_text : Sealed → List (List Cut) → List ℤ → ℕ → ℕ → List ℕ
 check_text p pools bounds unsettled rest = head_text p.raw ++ cut_lines pools ++ iterations_text bounds unsettled ++ bound_line (bound (problem_of p) pools) ++ rest_line rest
 

@@ -1,4 +1,4 @@
--- A text line by line: what its cuts and bounds promise.
+-- A text line by line: the promises of its cuts and bounds.
 use Rattle.std.specs.Prelude.{◌≡◌, ℕ, ◌<◌, ℤ, pos, List, [], ◌∷◌, ◌++◌, codes, All, ◌==◌, if◌then◌else◌}
 use Rattle.hp_theory.specs.declared.cut.Cut.{Cut}
 use Rattle.hp_theory.specs.Fraction.{◌≤ᶠ◌}

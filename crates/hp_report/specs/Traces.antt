@@ -47,7 +47,7 @@ value_lines decisions u = named_lines (codes "value ") (λ (d : Decision). d.nam
 abbrev pub row_line : ℕ → ℤ → List ℕ
 row_line i r = codes "row" ++ word (pos i) ++ codes " residual" ++ word r ++ codes "\n"
 
--- the stage, the node and what was found there
+-- the stage, the node and the kind of its answer
 abbrev pub stage_line : ℕ → TraceStep → List ℕ
 stage_line t s = codes "stage" ++ word (pos t) ++ codes " node" ++ word (pos s.node) ++ kind_word s.kind ++ codes "\n"
 

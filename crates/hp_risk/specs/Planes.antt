@@ -1,4 +1,4 @@
--- Planes: what bounds the greatest expectation over the lists of weights, made from the certificates of a journal.
+-- Planes, which bound the greatest expectation over the lists of weights, made from the certificates of a journal.
 use Rattle.std.specs.Prelude.{◌≡◌, ℕ, ℤ, List, [], ◌∷◌, length, get_or, map, replicate, Option, Some, None, Result, Ok, Err, int_lt, if◌then◌else◌}
 pub use Rattle.hp_num.specs.Steps.{◌>>=◌}
 use Rattle.hp_problem.specs.Sealed.{Sealed}
@@ -34,7 +34,7 @@ better x best None = best
 better x None (Some c) = Some c
 better x (Some best) (Some c) = if int_lt (value_of_cut best x) (value_of_cut c x) then Some c else Some best
 
--- the best of several cuts and of what was best before, by their values at x
+-- the best of several cuts and of the best before, by their values at x
 abbrev pub best_from : List ℤ → Option Cut → List (Option Cut) → Option Cut
 best_from x best [] = best
 best_from x best (c ∷ cs) = best_from x (better x best c) cs

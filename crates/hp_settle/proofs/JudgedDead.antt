@@ -1,4 +1,4 @@
--- The rows of a problem's node, and what is judged dead.
+-- The rows of a problem's node, and the answers that are judged dead.
 use Rattle.std.proofs.Common.{◌≡◌, Bool, true, false, ℕ, zero, suc, ◌+◌, ◌-◌, ◌*◌, ◌<◌, ℤ, List, [], get_or, length, slice_get, if◌then◌else◌, Option, Some, option_and_then, refl, ap, sym, subst, ◌∙◌, arith}
 use Rattle.hp_num.proofs.Tests.{some_of}
 use Rattle.hp_problem.specs.Sealed.{Sealed, subproblem_of}

@@ -3,7 +3,7 @@ use Rattle.std.specs.Prelude.{ℕ, ◌-◌, min, List, [], ◌∷◌, ◌++◌}
 use Rattle.hp_solver.specs.declared.fixed.Fx.{Fx}
 use Rattle.hp_settle.specs.Settling.{cut_multiplier, pairs_from}
 
--- the pairs of the multipliers, of which in order each is at most what is left
+-- the pairs of the multipliers, of which in order each is at most the rest of the target
 abbrev pub kept_pairs : ℕ → List (ℕ × Fx) → List (ℕ × ℕ)
 kept_pairs left [] = []
 kept_pairs left (p ∷ ps) = pairs_from p.0 (min (cut_multiplier p.1.0) left ∷ []) ++ kept_pairs (left - cut_multiplier p.1.0) ps

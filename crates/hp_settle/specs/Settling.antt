@@ -62,7 +62,7 @@ abbrev pub cut_multipliers : List Fx → ℕ → ℕ → List ℕ
 cut_multipliers duals k zero = []
 cut_multipliers duals k (suc count) = cut_multiplier (dual_at duals k) ∷ cut_multipliers duals (suc k) count
 
--- in order each keeps at most what is left
+-- in order each keeps at most the rest of the target
 abbrev pub capped : ℕ → List ℕ → List ℕ
 capped left [] = []
 capped left (v ∷ vs) = min v left ∷ capped (left - v) vs
@@ -110,7 +110,7 @@ raised_first [] more = (0, more) ∷ []
 raised_first ((zero, v) ∷ ss) more = (0, v + more) ∷ ss
 raised_first ((suc k, v) ∷ ss) more = (0, more) ∷ (suc k, v) ∷ ss
 
--- pairs with what is missing: more than a unit a pair at the first cut, and else at the greatest of their multipliers
+-- pairs with the shortfall: more than a unit a pair at the first cut, and else at the greatest of their multipliers
 abbrev pub topped : List (ℕ × ℕ) → ℕ → List (ℕ × ℕ)
 topped ss more = if nat_lt (length ss) more then raised_first ss more else raised_pair ss (place_of_greatest (map (λ (t : ℕ × ℕ). t.1) ss)) more
 

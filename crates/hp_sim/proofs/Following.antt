@@ -1,4 +1,4 @@
--- Runs of a problem: how long they are, and what stands at a moment.
+-- Runs of a problem: their length, and the moment at a place.
 use Rattle.std.proofs.Common.{◌≡◌, ◌∙◌, ℕ, zero, suc, ◌+◌, ◌<◌, ◌≤◌, ℤ, Bool, true, false, ◌||◌, ◌==◌, List, [], ◌∷◌, length, map, get_or, drop, slice_get, Option, Some, None, All, Contains, option_and_then, refl, sym, ap, subst, arith}
 use Rattle.std.proofs.lemmas.Bool.Decides.{nat_tests}
 use Rattle.std.proofs.lemmas.Grind.{common_steps}

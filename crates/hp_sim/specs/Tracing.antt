@@ -1,4 +1,4 @@
--- Traces: what is decided along runs, what it leaves open of the rows, and what it costs.
+-- Traces: the decisions along runs, their residuals, and their costs.
 use Rattle.std.specs.Prelude.{ℕ, suc, ◌<◌, ℤ, pos, ◌+ℤ◌, List, [], ◌∷◌, ◌++◌, length, All, Result, Ok}
 use Rattle.hp_num.specs.Steps.{◌>>=◌}
 use Rattle.hp_problem.specs.declared.raw.Moment.{Moment}

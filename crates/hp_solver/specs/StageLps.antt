@@ -1,4 +1,4 @@
--- Programs of stages: the whole of what is listed and what stands side by side.
+-- Programs of stages: the rows that are listed and the cuts that stand side by side, as one.
 use Rattle.std.specs.Prelude.{◌≡◌, ℕ, ◌≤◌, List, ◌++◌, length, get_or, set, Option, None, [], IfSome}
 use Rattle.hp_solver.specs.declared.fixed.Fx.{Fx}
 use Rattle.hp_solver.specs.declared.packed.PackedView.{PackedView}

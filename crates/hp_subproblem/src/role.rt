@@ -12,7 +12,7 @@ use std::alloc::Global;
 pub(crate) enum Role {
     /// Used neither by a state nor as a random variable.
     Free,
-    /// Used as the state at the begin of a stage.
+    /// Used as the state at the beginning of a stage.
     Incoming,
     /// Used as the state at the end of a stage.
     Outgoing,

@@ -1,4 +1,4 @@
--- The texts of names, and what is added to a text.
+-- The texts of names, and appending to a text.
 use Rattle.std.specs.Prelude.{◌≡◌, ℕ, ◌+◌, ◌/◌, ◌%◌, ◌==◌, List, [], ◌∷◌, ◌++◌, codes, Result, ⊤, MatchResult, nat_lt, if◌then◌else◌}
 use Rattle.std.specs.List.{flat_map}
 

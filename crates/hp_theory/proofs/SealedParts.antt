@@ -1,4 +1,4 @@
--- The parts of each node of a sealed problem, and what its limits say of them.
+-- The parts of each node of a sealed problem, and the facts that its limits state.
 use Rattle.std.proofs.Common.{◌≡◌, ℕ, ◌+◌, ◌<◌, ◌≤◌, ◌^◌, nat_abs, ℤ, pos, true, ◌==◌, List, [], length, get_or, sum, Option, Some, slice_get, nat_lt, option_and_then, sym, ap, ◌∙◌, subst, arith}
 use Rattle.std.specs.List.{list_all}
 use Rattle.std.proofs.lemmas.Option.{get_or_from_slice_get}

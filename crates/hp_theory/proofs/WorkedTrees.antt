@@ -1,4 +1,4 @@
--- Policies that were worked out by hand: which are feasible, what they cost, and how near a bound comes.
+-- Policies that were worked out by hand: which are feasible, their costs, and how near a bound comes.
 use Rattle.std.proofs.Common.{◌≡◌, ℕ, ℤ, pos, ◌*ℤ◌, ◌≤ℤ◌, [], ◌∷◌, refl, arith}
 use Rattle.std.proofs.lemmas.Int.{ints}
 use Rattle.std.proofs.lemmas.List.Elements.{All-nil, All-cons}

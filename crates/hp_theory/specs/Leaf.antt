@@ -1,4 +1,4 @@
--- Nodes without successors: what their stages cost at least, and the size of their base cuts.
+-- Nodes without successors: the least costs of their stages, and the size of their base cuts.
 -- Source: Neumaier and Shcherbina 2004, with all multipliers 0.
 use Rattle.std.specs.Prelude.{ℤ, pos, ◌+ℤ◌, ◌*ℤ◌, List, length}
 use Rattle.hp_num.specs.Sums.{sum_to, total, entry, dot}

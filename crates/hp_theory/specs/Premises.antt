@@ -13,7 +13,7 @@ pub record Nested (n m : Node) : Type 0 where
   pub lows : (k : ℕ) → k < length m.low → entry m.low k ≤ℤ entry n.decision_low (get_or n.outs k 0)
   pub highs : (k : ℕ) → k < length m.low → entry n.decision_high (get_or n.outs k 0) ≤ℤ entry m.high k
 
--- the lists of a node fit, its weights are there, and what leaves it lies in the boxes of its successors
+-- the lists of a node fit, its weights are there, and the state that leaves it lies in the boxes of its successors
 pub record Shaped (p : Problem) (n : Node) : Type 0 where
   pub decisions : length n.decision_low ≡ length n.costs
   pub states : length n.low ≡ length n.state_costs

@@ -228,7 +228,7 @@ module _ {Start Chain : Type 0} (v : Solving Start Chain) (p : Sealed) (seed : �
 pub gate_is : (l : Loaded) → l.born ≡ true → last_gate (seen l) ≡ l.end
 gate_is l born = ap (λ (b : Bool). if b then l.end else first_gate l.version) born
 
--- the moment and the disk where the last lists are known
+-- an appended record, where the last lists are known
 module _ (old mid new : Store) (at : ℕ) (lists final : List (List Entry)) (es : List Entry) (rest : List (List Entry)) (body : List ℕ) (has : HasRecorded old mid at lists final) (ends : IfSome old.reads (EndsShut at)) (goes : final ≡ lists ++ es ∷ rest) (is : body ≡ body_of (spell es)) where
   pub moment_on : LeavesAppended body mid new → IfSome old.reads (λ bytes. (t : Title) (ps : List (List ℕ)) (j : ℕ) → bytes ≡ journal t (take j ps) 0 [] → GoOnWith j ps final → LeavesOnly old new (GrownFrom t ps j))
   moment_on leaves =

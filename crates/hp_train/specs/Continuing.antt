@@ -21,7 +21,7 @@ pub record Continued : Type 0 where
 abbrev pub before_any : List (List Cut) → Continued
 before_any pools = record { pools = pools; lists = []; bounds = []; stop = None }
 
--- with what an iteration more gave
+-- with the outcome of an iteration more
 abbrev pub with_step : Sealed → Continued → Result Stepped SweepFault → Continued
 with_step p c (Ok s) = record { pools = s.pools; lists = c.lists ++ s.entries ∷ []; bounds = c.bounds ++ bound (problem_of p) s.pools ∷ []; stop = None }
 with_step p c (Err fault) = record { pools = c.pools; lists = c.lists; bounds = c.bounds; stop = Some fault }

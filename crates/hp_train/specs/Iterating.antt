@@ -1,4 +1,4 @@
--- One iteration on a journal, and what it leaves of what was loaded.
+-- One iteration on a journal, and the loaded outcome after it.
 use Rattle.std.specs.Prelude.{◌≡◌, ◌<◌, ℕ, ◌+◌, List, [], ◌∷◌, ◌++◌, length, take, Result, Ok, Err}
 use Rattle.std.specs.List.{sum_by}
 use Rattle.hp_num.specs.Steps.{◌>>=◌}
@@ -31,7 +31,7 @@ with_stepped p l s = record {
   batch = l.batch;
 }
 
--- with iteration k, and what stands behind the gate of its record
+-- with iteration k, and the bytes behind the gate of its record
 unfoldable pub iterated : {Start Chain : Type 0} → Solving Start Chain → Sealed → Loaded → ℕ → ℕ → Result (Outcome × List ℕ) SweepFault
 iterated v p l seed k = step_of v p l.pools.lists seed l.batch k >>= λ s. Ok (with_stepped p l s, body_of (spell s.entries))
 

@@ -15,7 +15,7 @@ unstopped v p base t count = continued v p base t.seed t.batch 0 count
 -- Bytes that stand for the first j lists of these iterations are loaded with this outcome, and the iterations behind it
 -- make up the whole.
 pub record Resumes {Start Chain : Type 0} (v : Solving Start Chain) (p : Sealed) (base : List (List Cut)) (t : Title) (asked : Option ℕ) (count j : ℕ) (bytes : List ℕ) (o : Outcome) : Type 0 where
-  -- the entries that were written, and what stands after them
+  -- the entries that were written, and the pools, the bounds and the bytes after them
   pub loads : load_of p base t.digest (Some t.seed) asked bytes ≡ Ok (o, take j (unstopped v p base t count).lists)
   pub pools : o.pools ≡ (unstopped v p base t j).pools
   pub bounds : o.bounds ≡ (unstopped v p base t j).bounds

@@ -40,7 +40,7 @@ title_of digest seed o = record { version = o.version; digest = digest; seed = s
 abbrev pub payloads : List (List Entry) → List (List ℕ)
 payloads lists = map spell lists
 
--- the sum of what all entries state
+-- the sum of the unsettled solves that all entries state
 abbrev pub unsettled_in : List (List Entry) → ℕ
 unsettled_in lists = sum_by (sum_by (λ (e : Entry). e.unsettled)) lists
 

@@ -1,4 +1,4 @@
--- The costs of a node's branches, one after another, and what keeps them inside 128 bits.
+-- The costs of a node's branches, one after another, and the bounds that keep them inside 128 bits.
 use Rattle.std.proofs.Common.{◌≡◌, ◌∙◌, ℕ, suc, ◌+◌, ◌*◌, ◌<◌, ◌≤◌, ◌^◌, ℤ, pos, ◌+ℤ◌, ◌*ℤ◌, nat_abs, List, [], ◌∷◌, length, Result, Ok, Err, FitsSigned, refl, sym, ap, subst, arith, mul-le-mul_left}
 use Rattle.std.specs.Int.{w128}
 use Rattle.std.proofs.Math.Nat.{mul-le-mul}

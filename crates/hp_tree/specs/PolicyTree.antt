@@ -1,4 +1,4 @@
--- The tree of a policy: what is decided at each branch, in whole numbers at scale 2^24.
+-- The tree of a policy: the decisions at each branch, in whole numbers at scale 2^24.
 -- Source: the scenario tree of a policy over a policy graph, Dowson 2020.
 use Rattle.std.specs.Prelude.{ℕ, zero, suc, ℤ, pos, List, [], ◌∷◌, ◌++◌, reverse, Option, Some, None, Result, Ok, Err, if◌then◌else◌}
 use Rattle.std.specs.Ordering.{int_eq}
@@ -61,7 +61,7 @@ abbrev pub forest_of : (ℕ → ℕ → Grown Tree) → ℕ → List Link → Gr
 forest_of grow decided [] = Ok (no_tree, decided)
 forest_of grow decided (l ∷ ls) = grow decided l.node >>= λ t. forest_of grow t.1 ls >>= λ f. Ok (tree t.0 f.0, f.1)
 
--- a branch: what is decided, and then the trees of its successors, from the state that leaves it
+-- a branch: its decisions, and then the trees of its successors, from the state that leaves it
 abbrev pub branch_of : Deciding → (List ℤ → ℕ → ℕ → Grown Tree) → List Link → ℕ → Step → List ℤ → List ℤ → Grown (List ℤ × Forest)
 branch_of decide grow ls decided s values x =
     decide decided s values x >>= λ d. behind s (forest_of (grow d.next) (suc decided) ls) >>= λ f. Ok ((d.decisions, f.0), f.1)

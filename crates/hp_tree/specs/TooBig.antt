@@ -1,5 +1,4 @@
--- The formulas that bound what goes through a whole policy: its branches, the number over which its costs stand, and the
--- costs of its stages.
+-- The formulas that bound a whole policy: its branches, the number over which its costs stand, and the costs of its stages.
 use Rattle.std.specs.Prelude.{ℕ, zero, suc, ◌+◌, ◌*◌, ◌^◌, ℤ, List, [], ◌∷◌, length, map, min, max, nat_abs, sum, Option}
 use Rattle.hp_paths.specs.Paths.{numbers}
 use Rattle.hp_paths.specs.Ranks.{greatest}

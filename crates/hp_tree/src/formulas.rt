@@ -1,4 +1,4 @@
-// The formulas that bound the work of a walk through a whole policy.
+// The formulas that bound a whole policy: its branches, the number over which its cost stands, and its costs along a path.
 ghost use Rattle.std.specs.Prelude.{◌≡◌, IfOk};
 ghost use Rattle.hp_tree.specs.TooBig.{too_big_of};
 

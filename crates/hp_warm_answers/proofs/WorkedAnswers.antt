@@ -1,4 +1,4 @@
--- Worked tables, and what is answered by them.
+-- Worked tables, and their answers.
 use Rattle.std.proofs.Common.{◌≡◌, ℕ, ◌^◌, ◌*◌, ℤ, pos, negsuc, neg_ℤ, Bool, true, false, List, [], ◌∷◌, replicate, Option, Some, None, refl}
 use lib.Count.{count_leading_zeros}
 use Rattle.hp_solver.specs.declared.programs.Column.{Column}

@@ -1,4 +1,4 @@
--- Worked multipliers, and what they prove.
+-- Worked multipliers, and the proofs that they give.
 use Rattle.std.proofs.Common.{◌≡◌, ℕ, ◌^◌, ◌*◌, pos, negsuc, true, false, List, [], ◌∷◌, ◌++◌, map, Some, None, refl}
 use Rattle.hp_solver.specs.declared.fixed.Fx.{Fx}
 use Rattle.hp_solver.specs.declared.programs.Column.{Column}

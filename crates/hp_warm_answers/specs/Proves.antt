@@ -1,4 +1,4 @@
--- Tell what whole multipliers of own rows prove: that no point in the boxes of decisions keeps these rows (Farkas, 1902).
+-- Proofs by whole multipliers of own rows that no point in the boxes of decisions keeps these rows (Farkas, 1902).
 use Rattle.std.specs.Prelude.{ℕ, zero, suc, ◌^◌, ◌*◌, pos, ◌*ℤ◌, Bool, false, not, ◌&&◌, ◌||◌, List, length, take, replicate, get_or, slice_get, slice_set, Option, Some, None, int_lt, if◌then◌else◌}
 use Rattle.std.specs.Option.{option_map, option_and_then}
 use Rattle.hp_num.specs.Sums.{floor_over}
@@ -88,7 +88,7 @@ lesser x y = if int_lt x.0 y.0 then x else y
 unfoldable pub box_step : List Fx → ℕ → Fx → Column → Option Fx
 box_step ws j s c = option_and_then (λ low. option_and_then (λ high. plus s (lesser low high)) (whole_times (number_at ws j) (lowered 8 c.high))) (whole_times (number_at ws j) (lowered 8 c.low))
 
--- W: what the rows demand at the least, less what the decisions give at the most
+-- W: the least that the rows demand, less the most that the decisions give
 unfoldable pub excess_of : Program → List Fx → ℕ → Option Fx
 excess_of lp ys k = option_and_then (λ ws. option_and_then (λ s. fold_from (box_step ws) 0 s (decisions_of lp)) (fold_from (side_step k ys) 0 zero_fx (own_rows lp))) (weights_of lp ys k)
 

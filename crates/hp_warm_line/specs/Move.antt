@@ -11,7 +11,7 @@ use Rattle.hp_warm_line.specs.Refine.{stand_of}
 abbrev pub turned_by : Bool → ℤ → ℤ
 turned_by turns q = if turns then neg_ℤ q else q
 
--- how far a variable with the cell x has to go for what is left of a violation; none where that is no quantity
+-- the distance that a variable with the cell x has to go for the violation that is left; none where that is no quantity
 unfoldable pub length_of : ℤ → ℤ → Option ℤ
 length_of rest x = value_of (quotient_of (rest *ℤ pos (2 ^ 40)) (pos (nat_abs x)))
 

@@ -1,4 +1,4 @@
--- Tell what cuts that stand side by side say of a point.
+-- The values of cuts that stand side by side, at a point.
 use Rattle.std.specs.Prelude.{ℕ, ◌+◌, ◌^◌, ℤ, pos, negsuc, ◌+ℤ◌, List, replicate, get_or, slice_set, Option, Some, None, nat_lt, if◌then◌else◌}
 use Rattle.hp_num.specs.Sums.{entry}
 use Rattle.hp_solver.specs.declared.packed.Out.{Out}
@@ -14,11 +14,11 @@ short_or_zero (negsuc n) = if nat_lt n (2 ^ 63) then negsuc n else pos 0
 abbrev pub added : ℕ → ℤ → List ℤ → List ℤ
 added s v ls = slice_set ls s (entry ls s +ℤ v)
 
--- add what leaves the stage as a state
+-- adds a decision to its outgoing state
 abbrev pub with_leaving : List ℤ → List ℤ → Out → List ℤ
 with_leaving xs ls o = added o.state (short_or_zero (entry xs o.decision)) ls
 
--- sum for each of 50 states what leaves the stage as it
+-- the outgoing value of each of 50 states
 unfoldable pub leaving_of : List ℤ → List Out → List ℤ
 leaving_of xs outs = walk (λ k ls (o : Out). with_leaving xs ls o) 0 (replicate 50 (pos 0)) outs
 

@@ -1,4 +1,4 @@
--- Worked programs, and what is answered to them.
+-- Worked programs, and their answers.
 use Rattle.std.proofs.Common.{◌≡◌, ◌^◌, ℕ, ℤ, pos, neg_ℤ, ◌*ℤ◌, List, [], ◌∷◌, map, Option, Some, None, refl}
 use Rattle.std.specs.Option.{option_map}
 use Rattle.hp_solver.specs.declared.fixed.Fx.{Fx}

@@ -22,7 +22,7 @@ is_ray kinds.Found = false
 is_ray kinds.Ray = true
 is_ray kinds.Stuck = false
 
--- a ray is good, since it proves what it says, and a point where it is to be trusted
+-- a ray is good, since it is a proof, and a point where it is to be trusted
 abbrev pub is_good : Option Answer → Bool → Bool
 is_good None weak = false
 is_good (Some a) weak = if is_ray a.kind then true else not weak

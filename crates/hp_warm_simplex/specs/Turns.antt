@@ -31,7 +31,7 @@ abbrev pub by_ray : Option Answer → Glance
 by_ray None = passes
 by_ray (Some a) = shows a
 
--- the variable of a violation leaves for the one at a place, with what is left of it there
+-- the variable of a violation leaves for the one at a place, with the violation that is left there
 abbrev pub swap_at : Violation → ℕ × ℤ → Swap
 swap_at v e = record { leaving = v.variable; above = v.above; place = e.0; rest = e.1 }
 
@@ -58,7 +58,7 @@ pub data Look : Type 0 where
   finds : Answer → Look
   fails : Look
 
--- a violation by its glance, where `after` is what those after it come to
+-- a violation by its glance, where `after` is the outcome of those after it
 abbrev pub by_glance : Look → Glance → Look
 by_glance after passes = after
 by_glance after (mends swap line flips) = takes swap line flips

@@ -1,4 +1,4 @@
-//! The bounded dual simplex method, warm: turns on a table, answers along a chain, and the begin of a chain.
+//! The bounded dual simplex method, warm: turns on a table, answers along a chain, and the start of a chain.
 #![tactic(auto)]
 
 mod attempts;

@@ -20,7 +20,7 @@ use Rattle.hp_wide_simplex.specs.Finish.{dual_of, costs_of}
 abbrev pub place_of : Table → ℕ → Option ℕ
 place_of t v = get_or t.basis.places v None
 
--- the nearest multiple of 2^8, halves up; none where 128 bits do not hold what is rounded
+-- the nearest multiple of 2^8, halves up; none where 128 bits do not hold it
 unfoldable pub rounded : ℤ → Option ℤ
 rounded x = option_map (λ s. floor_over s (2 ^ 8) *ℤ pos (2 ^ 8)) (option_and_then (held 127) (sum_of x (pos (2 ^ 7))))
 

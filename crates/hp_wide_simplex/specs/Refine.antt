@@ -1,4 +1,4 @@
--- The point of a basis: nonbasic variables stand at their bounds, and basic columns are moved by what the rows are off.
+-- The point of a basis: nonbasic variables stand at their bounds, and basic columns are moved by the errors of the rows.
 use Rattle.std.specs.Prelude.{◌≡◌, ℕ, suc, ◌-◌, ℤ, pos, ◌-ℤ◌, ◌*ℤ◌, Bool, false, List, [], ◌∷◌, length, get_or, slice_set, is_none, nat_lt, Option, Some, None, if◌then◌else◌}
 use Rattle.std.specs.Option.{option_and_then, unwrap_or}
 use Rattle.hp_simplex.specs.Each.{each_from}

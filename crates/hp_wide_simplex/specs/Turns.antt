@@ -42,7 +42,7 @@ by_line lp t v (Some line) = by_entry (ray_of t line v.variable v.above lp) v li
 unfoldable pub look_at : Program → Table → Violation → Look
 look_at lp t v = by_line lp t v (line_of t v.variable)
 
--- where nothing can be done, what `after` says
+-- where nothing can be done, the outcome of `after`
 abbrev pub or_after : Look → Look → Look
 or_after after looks.Rests = after
 or_after after (looks.Mends m) = looks.Mends m

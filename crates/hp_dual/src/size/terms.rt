@@ -1,4 +1,4 @@
-// Terms and numbers times what bounds them, added to a size.
+// Terms and numbers times the bounds of their variables, added to a size.
 ghost use Rattle.std.specs.Prelude.{◌≡◌, ◌*◌, ◌≤◌, ℕ, Option};
 ghost use Rattle.hp_num.specs.Sums.{entry};
 ghost use Rattle.hp_dual.specs.SizeByTerms.{Adds, over_decisions, over_box, over_values, term_by, terms_by, numbers_by};
