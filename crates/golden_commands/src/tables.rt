@@ -99,7 +99,7 @@ fn check_line<R: Threads + Sync>(
     Ok(format!(in alloc; "{line} short reads {}", disk.longest_read() <= 64)?)
 }
 
-/// All that the check of a journal writes, in quotation marks.
+/// Gives all that the check of a journal writes, in quotation marks.
 fn whole_check<R: Threads + Sync>(
     rt: &R,
     alloc: Global,

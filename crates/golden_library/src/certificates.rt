@@ -57,7 +57,7 @@ fn certificates(alloc: Global, value: &Value) -> Result<Vec<Certificate>, RowFau
     Ok(found)
 }
 
-/// Two weights.
+/// Reads two weights.
 fn weights(value: &Value) -> Option<(u32, u32)> {
     let weights = value.get("weights")?.as_array()?;
     let first = u32::try_from(weights.first()?.as_u64()?).ok()?;

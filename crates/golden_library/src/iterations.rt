@@ -39,7 +39,7 @@ pub struct Plan {
     pub told: Told,
 }
 
-/// No node has more than 2^23 cuts.
+/// Tells whether no node has more than 2^23 cuts.
 fn has_room(pools: &Pools) -> bool
     ensures { result ≡ true → (m : ℕ) → length (pool pools.now.lists m) ≤ 2 ^ 23 }
 {

@@ -126,7 +126,7 @@ fn push_parts(text: &mut String, raw: &Raw) -> Result<(), AllocError> {
     push_scenarios(text, raw)
 }
 
-/// All parts of a problem, then its longest path, and the box of each node in order.
+/// Writes all parts of a problem, then its longest path, and the box of each node in order.
 pub fn parts(alloc: Global, problem: &Problem) -> Result<String, RowFault> {
     let mut text = String::new(alloc);
     push_parts(&mut text, problem.raw())?;

@@ -47,7 +47,7 @@ pub fn made_means()
         → hydro_at bytes ≡ Ok text → problem_at text ≡ Ok s → Under (problem_of s) b → UnderPlans bytes b }
 {}
 
-/// How much a problem that is made of plants may have, each within what the reader allows.
+/// The counts of a problem that is made of plants are within the limits of the reader.
 pub fn within_limits()
     ensures states { (h : Plants) → IsPlants h → length (stores h) ≤ 50 }
     ensures decisions { (h : Plants) → IsPlants h → length (variables h) ≤ 200 }

@@ -82,8 +82,8 @@ impl FlatCuts {
         }
     }
 
-    /// Some cuts. None are kept where one has more or fewer slopes than the first or too many binary digits, where there are
-    /// too many, or where memory was refused.
+    /// Keeps some cuts. None are kept where one has more or fewer slopes than the first or too many binary digits, where there
+    /// are too many, or where memory was refused.
     pub(crate) fn of(alloc: Global, cuts: &[Cut]) -> FlatCuts
         ensures { IsFlat cuts.now result }
     {

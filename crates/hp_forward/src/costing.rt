@@ -71,7 +71,7 @@ fn above(high: Option<i64>, left: i128) -> i128
     }
 }
 
-/// By how much the decisions miss a row.
+/// Gives by how much the decisions miss a row.
 #[tactic(auto, unfolding(crate::specs::Costing::residual_of))]
 fn residual_of(row: &Row, decisions: &[i128], state: &[i128], values: &[i64]) -> i128
     requires given { AreGiven decisions.now state.now values.now }
@@ -82,7 +82,7 @@ fn residual_of(row: &Row, decisions: &[i128], state: &[i128], values: &[i64]) ->
     below(row.low, left).max(above(row.high, left)).max(0)
 }
 
-/// By how much decisions miss a row of a node at an incoming state and values, at scale 2^24, and 0 exactly where they
+/// Gives by how much decisions miss a row of a node at an incoming state and values, at scale 2^24, and 0 exactly where they
 /// meet it. No memory is taken.
 ///
 /// The decisions, at scale 2^24, lie in 2^24 times their boxes, the state, at the same scale, in the node's box, and

@@ -57,7 +57,7 @@ fn split<'a>(problem: &Problem, paths: &'a [List<Step>]) -> (&'a [List<Step>], &
     paths.split_at(paths.len() / 2)
 }
 
-/// Two lists, one after the other.
+/// Joins two lists, one after the other.
 fn joined(first: List<Walk>, rest: List<Walk>) -> Result<List<Walk>, Memory>
     ensures { IfOk result (λ walks. walks ≡ first ++ rest) }
 {

@@ -34,7 +34,7 @@ fn values_of(problem: &Problem, step: Step) -> &[i64]
     node.values.as_slice()[step.realization as usize].as_slice()
 }
 
-/// Whole numbers at the scale of states.
+/// Brings whole numbers to the scale of states.
 fn scaled_all(alloc: Global, numbers: &[i64]) -> Result<List<i128>, Memory>
     ensures { IfOk result (λ found. found ≡ times_all S numbers.now) }
 {

@@ -22,7 +22,7 @@ fn inflow(words: &mut ChaCha20Rng, kind: u32) -> u32
     if kind == 0 { word % 11 } else { 10 + word % 21 }
 }
 
-// One inflow per reservoir.
+// Builds a realization: one inflow per reservoir.
 #[tactic(auto, unfolding(crate::specs::Nodes::support))]
 fn support(
     alloc: Global,
@@ -94,7 +94,7 @@ fn weight(kind: u32, next: u32) -> u32
     if kind == next { 3 } else { 1 }
 }
 
-// Two nodes of one stage, the dry one first, with their weights.
+// Builds two nodes of one stage, the dry one first, with their weights.
 pub(crate) fn pair(
     alloc: Global,
     first: u32,
@@ -112,7 +112,7 @@ pub(crate) fn pair(
     Ok(map)
 }
 
-// Both nodes of the next stage, none after the last one.
+// Builds the successors: both nodes of the next stage, none after the last one.
 #[tactic(auto, unfolding(crate::specs::Nodes::successors))]
 fn successors(alloc: Global, stages: u32, node: u32) -> Result<Map<String, Value>, AllocError>
     requires node { node < 2 * stages }
@@ -150,7 +150,7 @@ fn node(
     Ok(value)
 }
 
-// All nodes, stage by stage.
+// Builds all nodes, stage by stage.
 #[tactic(auto, unfolding(crate::specs::Nodes::nodes))]
 pub(crate) fn nodes(
     alloc: Global,

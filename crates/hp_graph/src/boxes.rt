@@ -105,7 +105,7 @@ fn side_of(
 }
 
 #[tactic(auto, using(hp_paths::proofs::Numbers::map_more))]
-/// One list per node with one entry per state: the given bound, else the hull's side.
+/// Gives one list per node with one entry per state: the given bound, else the hull's side.
 pub(crate) fn sides(
     alloc: Global,
     side: Side,

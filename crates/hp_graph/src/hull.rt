@@ -11,7 +11,7 @@ use hp_num::{List, Memory};
 use hp_problem::{Node, Raw, out_highs, out_lows};
 use std::alloc::Global;
 
-// One list per subproblem with one entry per state.
+// Gives one list per subproblem with one entry per state.
 pub(crate) fn ends(alloc: Global, side: Side, raw: &Raw) -> Result<List<List<i64>>, Memory>
     ensures { IfOk result (λ l. l ≡ ends side raw.now) }
 {

@@ -94,7 +94,7 @@ pub(crate) fn stores(alloc: Global, plants: &Plants) -> Result<Vec<Store>, Alloc
     Ok(list)
 }
 
-// The water under way from a reservoir.
+// Appends the columns of the water under way from a reservoir.
 fn push_way_columns(list: &mut Vec<Column>, plants: &Plants, j: usize) -> Result<(), AllocError>
     ensures { OnOk result (map column_of list.new.items
         ≡ map column_of list.old.items ++ flat_map (way_columns j) (steps (travel plants.now j))) }
@@ -165,7 +165,7 @@ fn push_all_buses(list: &mut Vec<Column>, plants: &Plants) -> Result<(), AllocEr
     Ok(())
 }
 
-/// All variables of a stage. [`AllocError`] where memory was refused.
+/// Gives all variables of a stage. [`AllocError`] where memory was refused.
 #[tactic(auto, unfolding(crate::specs::Columns::columns))]
 pub(crate) fn columns(alloc: Global, plants: &Plants) -> Result<Vec<Column>, AllocError>
     ensures { IfOk result (λ list. map column_of list.items ≡ columns plants.now) }

@@ -28,7 +28,7 @@ fn node_name(node: u32) -> [u8; 4]
     [b's', digit(stage / 100), digit(stage / 10), digit(stage)]
 }
 
-// One of some numbers.
+// Gives one of some numbers.
 fn number(numbers: &[i64], at: usize) -> i64
     requires { at < length numbers.now }
     ensures { result ≡ entry numbers.now at }
@@ -150,7 +150,7 @@ fn node(alloc: Global, plants: &Plants, m: usize) -> Result<Value, AllocError>
     hp_forms::node(alloc, realizations, next)
 }
 
-/// All nodes, stage by stage.
+/// Builds all nodes, stage by stage.
 #[tactic(auto, unfolding(crate::specs::Nodes::nodes))]
 pub(crate) fn nodes(alloc: Global, plants: &Plants) -> Result<Map<String, Value>, AllocError>
     requires { IsPlants plants.now }

@@ -61,7 +61,7 @@ pub(crate) fn reaching(miss: i128, factor: i64) -> u128
     (miss.unsigned_abs() + (factor - 1)) / factor
 }
 
-/// So many units, up or down, as they bring the left side of a row its way.
+/// Gives so many units, up or down, as they bring the left side of a row its way.
 pub(crate) fn directed(miss: i128, factor: i64, size: u128) -> i128
     requires { size ≤ 2 ^ 116 }
     ensures value { result ≡ directed miss factor size }

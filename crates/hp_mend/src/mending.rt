@@ -24,7 +24,7 @@ const TRIES: u32 = 256;
 /// The number of levels of rows that may be fixed below one another.
 const LEVELS: u32 = 3;
 
-/// So many decisions, none of which is held.
+/// Makes a list for so many decisions, none of which is held.
 fn none_held(alloc: Global, count: usize) -> Result<List<bool>, Memory>
     ensures { IfOk result (λ found. found ≡ replicate count false) }
 {

@@ -12,7 +12,7 @@ pub struct Spare<T> {
 }
 
 impl<T: Drop> Spare<T> {
-    /// Nothing is kept yet.
+    /// Starts with nothing kept.
     pub fn new(alloc: Global) -> Spare<T> {
         Spare {
             lists: Vec::new(alloc),

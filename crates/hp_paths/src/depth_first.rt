@@ -39,7 +39,7 @@ fn visit(graph: &[List<u32>], marks: &mut [Mark], node: u32) -> Option<u32>
     }
 }
 
-// One more than the greatest rank of these nodes, 0 without nodes; None where a node reaches itself.
+// Gives one more than the greatest rank of these nodes, 0 without nodes; None where a node reaches itself.
 #[cycle(search)]
 fn rank_above(graph: &[List<u32>], marks: &mut [Mark], nodes: &[u32]) -> Option<u32>
     requires known { is_graph graph.now ≡ true }
@@ -57,7 +57,7 @@ fn rank_above(graph: &[List<u32>], marks: &mut [Mark], nodes: &[u32]) -> Option<
     Some(most)
 }
 
-/// So many marks of nodes not seen yet. [`Memory`] where memory was refused.
+/// Makes so many marks of nodes not seen yet. [`Memory`] where memory was refused.
 pub(crate) fn unseen(alloc: Global, count: usize) -> Result<Vec<Mark>, Memory>
     ensures { IfOk result (λ marks. marks.items ≡ replicate count Unseen) }
 {

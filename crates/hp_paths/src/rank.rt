@@ -57,9 +57,9 @@ fn ranks_in(alloc: Global, graph: &[List<u32>], marks: &mut [Mark]) -> Result<Li
     }
 }
 
-/// One rank per node: the number of steps of the longest path from there. `graph` has for each node the
-/// numbers of its successors. A depth-first search (Tarjan 1972) sees each arc once. Cycle exactly where a node
-/// can reach itself, with the least such node; Memory where memory was refused.
+/// Gives one rank per node: the number of steps of the longest path from there. `graph` has for each node the numbers of its
+/// successors. A depth-first search (Tarjan 1972) sees each arc once. Cycle exactly where a node can reach itself, with the
+/// least such node; Memory where memory was refused.
 pub fn ranks(alloc: Global, graph: &[List<u32>]) -> Result<List<u32>, RankFault>
     requires known { is_graph graph.now ≡ true }
     requires count { length graph.now ≤ 1000 }

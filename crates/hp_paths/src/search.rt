@@ -80,7 +80,7 @@ impl Search {
         self.found.as_slice()[at]
     }
 
-    // For each node whether the search has come to it.
+    // Gives for each node whether the search has come to it.
     fn into_marks(self) -> List<bool>
         ensures { result ≡ marks_of self.count self.found }
     {
@@ -97,7 +97,7 @@ pub(crate) fn links(graph: &[List<u32>], node: u32) -> &[u32]
     graph[node as usize].as_slice()
 }
 
-// For each node whether one of the starts reaches it. The time is linear in the number of nodes and in the arcs of those
+// Gives for each node whether one of the starts reaches it. The time is linear in the number of nodes and in the arcs of those
 // that are reached.
 pub(crate) fn marks(
     alloc: Global,

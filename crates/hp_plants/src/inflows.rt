@@ -58,7 +58,7 @@ pub(crate) fn inflows(
     Ok(found)
 }
 
-/// Limit where the weights add up to more than 65,535.
+/// Refuses weights that add up to more than 65,535: Limit.
 #[tactic(auto, unfolding(crate::specs::Stages::total_at, crate::specs::Stages::total_weight))]
 pub(crate) fn total(inflows: &[Inflow], place: Place) -> Result<(), HydroRefusal>
     ensures { result ≡ total_at place inflows.now }

@@ -19,7 +19,7 @@ const LONGEST_TRAVEL: u32 = 3;
 /// The most states of the problem that is made of a description.
 const MOST_STATES: usize = 50;
 
-// Where the water of a reservoir goes, none where it has no downstream.
+// Reads the way of the water that leaves a reservoir, none where it has no downstream.
 #[tactic(auto, unfolding(crate::specs::Grid::travel_at))]
 fn travel(
     reservoirs: &Names,
@@ -39,7 +39,7 @@ fn travel(
     Ok(Some(Travel { target, stages }))
 }
 
-// Limit where the low volume is above the high one, or the initial one outside both.
+// Refuses a low volume above the high one, and an initial one outside both: Limit.
 #[tactic(auto, unfolding(crate::specs::Grid::levels_at))]
 fn levels(low: i64, high: i64, initial: i64, place: Place) -> Result<(), HydroRefusal>
     ensures { result ≡ levels_at place low high initial }
@@ -114,7 +114,7 @@ pub(crate) fn reservoirs(
     Ok(found)
 }
 
-// Over how many stages water is on its way.
+// Counts the stages over which water is on its way.
 fn travel_stages(downstream: Option<Travel>) -> usize
     ensures { result ≡ travel_stages downstream }
 {

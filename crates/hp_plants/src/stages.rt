@@ -18,7 +18,7 @@ use std::alloc::Global;
 /// The most inflows of a stage.
 const MOST_INFLOWS: usize = 100;
 
-// Limit where there is no inflow, or more than 100.
+// Refuses no inflow, and more than 100: Limit.
 #[tactic(auto, unfolding(crate::specs::Stages::count_at))]
 fn counted(count: usize, place: Place) -> Result<(), HydroRefusal>
     ensures value { result ≡ count_at place count }

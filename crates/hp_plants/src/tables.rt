@@ -31,7 +31,7 @@ pub(crate) struct Tables<'v> {
     pub(crate) stages: &'v [Value],
 }
 
-// Limit where a count is outside its range.
+// Refuses a count outside its range: Limit.
 #[tactic(auto, unfolding(crate::specs::Tables::counts_at), using(hp_fields::proofs::InOrder::counts))]
 fn counts(tables: &Tables) -> Result<(), HydroRefusal>
     ensures { result ≡ counts_at (shown tables.now) }

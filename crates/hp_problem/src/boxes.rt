@@ -49,8 +49,8 @@ fn highs_of(alloc: Global, subproblem: &Subproblem) -> Result<List<i64>, Memory>
     Ok(found)
 }
 
-/// One list per subproblem: the least values of the decisions that leave as states, one per state, in the states'
-/// units. Memory where memory was refused.
+/// Gives one list per subproblem: the least values of the decisions that leave as states, one per state, in the states' units.
+/// Memory where memory was refused.
 pub fn out_lows(alloc: Global, subproblems: &[Subproblem]) -> Result<List<List<i64>>, Memory>
     ensures { IfOk result (λ l. l ≡ map out_lows subproblems.now) }
 {
@@ -62,7 +62,7 @@ pub fn out_lows(alloc: Global, subproblems: &[Subproblem]) -> Result<List<List<i
     Ok(found)
 }
 
-/// One list per subproblem: the greatest values of the decisions that leave as states, one per state, in the states'
+/// Gives one list per subproblem: the greatest values of the decisions that leave as states, one per state, in the states'
 /// units. Memory where memory was refused.
 pub fn out_highs(alloc: Global, subproblems: &[Subproblem]) -> Result<List<List<i64>>, Memory>
     ensures { IfOk result (λ l. l ≡ map out_highs subproblems.now) }

@@ -20,7 +20,7 @@ fn copied(alloc: Global, numbers: &[u32]) -> Result<List<u32>, Memory>
     Ok(found)
 }
 
-/// One list per node: the numbers of its successors. Memory where memory was refused.
+/// Gives one list per node: the numbers of its successors. Memory where memory was refused.
 pub fn successors(alloc: Global, nodes: &[Node]) -> Result<List<List<u32>>, Memory>
     ensures { IfOk result (λ l. l ≡ map (λ n. n.links) nodes.now) }
 {

@@ -137,7 +137,7 @@ impl Problem {
         })
     }
 
-    /// All parts, as they were handed in.
+    /// Gives all parts, as they were handed in.
     pub fn raw(&self) -> &Raw
         ensures value { result.now ≡ self.now.raw }
         ensures sealed { is_sealed self.now ≡ true }

@@ -92,7 +92,7 @@ fn certificate<'a>(
     Ok((Certificate { rows, cuts }, rest))
 }
 
-// One certificate per realization.
+// Reads one certificate per realization.
 pub(crate) fn certificates<'a>(
     alloc: Global,
     spares: &mut Spares,

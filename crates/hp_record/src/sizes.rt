@@ -30,7 +30,7 @@ pub(crate) fn sizes_of(problem: &Problem, node: u32) -> Sizes
     }
 }
 
-// Each problem's parts fit together. It does nothing.
+// States that each problem's parts fit together. It does nothing.
 pub(crate) fn sealed(problem: &Problem)
     ensures { is_sealed problem.now ≡ true }
 {

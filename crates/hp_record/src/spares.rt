@@ -20,7 +20,7 @@ pub struct Spares {
 }
 
 impl Spares {
-    /// Nothing is kept yet.
+    /// Starts with nothing kept.
     pub fn new(alloc: Global) -> Spares {
         Spares {
             rows: Spare::new(alloc),

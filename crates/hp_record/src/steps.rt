@@ -67,7 +67,7 @@ fn step<'a>(
     Ok((EntryStep { node, list }, rest))
 }
 
-// So many steps, of which the last one's node is a successor of the root.
+// Reads so many steps, of which the last one's node is a successor of the root.
 pub(crate) fn steps<'a>(
     alloc: Global,
     spares: &mut Spares,

@@ -61,7 +61,7 @@ fn all_weights(alloc: Global, n: u32, a: u32, items: &[Value]) -> Result<List<u6
     Ok(found)
 }
 
-// One weight for each of so many realizations, of at most 65,535 together.
+// Reads one weight for each of so many realizations, of at most 65,535 together.
 #[tactic(auto, unfolding(crate::specs::Alternatives::alternative_at))]
 fn alternative(
     alloc: Global,

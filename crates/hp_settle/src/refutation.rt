@@ -28,7 +28,7 @@ fn scale() -> i128
     i128::from(SCALE)
 }
 
-/// Each multiplier has the sign that its row allows.
+/// Tells whether each multiplier has the sign that its row allows.
 fn are_signs(rows: &[Row], multipliers: &[i64]) -> bool
     requires { length multipliers.now ≡ length rows.now }
     ensures { result ≡ list_all (λ (q : Row × ℤ). is_sign q.0 q.1) (zip rows.now multipliers.now) }

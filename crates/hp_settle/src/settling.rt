@@ -239,7 +239,7 @@ fn settled_pairs(
     top_up(alloc, pairs, missing)
 }
 
-/// All of a successor's weight.
+/// Gives the target of a successor: all of its weight.
 #[tactic(auto, unfolding(hp_theory::specs::Problem::S))]
 fn target(weight: u32) -> u64
     ensures { result ≡ S * weight }

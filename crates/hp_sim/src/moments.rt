@@ -41,7 +41,7 @@ fn row_count(problem: &Problem, node: u32) -> u32
     problem.sub(node).rows.len() as u32
 }
 
-/// By how much decisions miss each row of a node.
+/// Gives by how much decisions miss each row of a node.
 fn residuals(
     alloc: Global,
     problem: &Problem,

@@ -46,7 +46,7 @@ pub(crate) enum Choice {
     Stuck,
 }
 
-// Two variables change places; false where a result is absent.
+// Exchanges two variables; false where a result is absent.
 fn exchange(tableau: &mut Tableau, leaving: Leaving, entering: Entering) -> bool
     requires whole { IsWhole tableau.old }
     requires row { leaving.row < tableau.old.table.rows }

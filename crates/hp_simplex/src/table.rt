@@ -79,7 +79,7 @@ fn move_row(row: &mut [Fx], pivot_row: &[Fx], column: usize) -> bool
     true
 }
 
-// One of several rows, from the number `start` on, after the pivot.
+// Moves one of several rows, from the number `start` on, by the pivot.
 fn move_row_at(rows: &mut [Fx], start: usize, pivot_row: &[Fx], column: usize) -> bool
     requires column { column < length pivot_row.now }
     requires inside { start + length pivot_row.now ≤ length rows.old }
@@ -92,7 +92,7 @@ fn move_row_at(rows: &mut [Fx], start: usize, pivot_row: &[Fx], column: usize) -
     move_row(row, pivot_row, column)
 }
 
-// Some rows, one after the other, after the pivot.
+// Moves some rows, one after the other, by the pivot.
 fn move_rows(rows: &mut [Fx], count: usize, pivot_row: &[Fx], column: usize) -> bool
     requires column { column < length pivot_row.now }
     requires count { length rows.old ≡ count * length pivot_row.now }
@@ -163,7 +163,7 @@ impl Table {
         )
     }
 
-    // One row.
+    // Lends one row.
     pub(crate) fn row(&self, number: usize) -> &[Fx]
         requires row { number < self.now.rows }
         requires cells { length self.now.cells.items ≡ self.now.rows * self.now.columns }

@@ -19,7 +19,7 @@ pub(crate) fn first_stream(batch: u16, iteration: u32) -> u64
     u64::from(iteration - 1) * u64::from(batch) + 1
 }
 
-/// So many paths, which the streams from `first` on draw. [`Memory`] where memory was refused.
+/// Draws so many paths, by the streams from `first` on. [`Memory`] where memory was refused.
 pub(crate) fn paths_from(
     alloc: Global,
     problem: &Problem,

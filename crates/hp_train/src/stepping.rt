@@ -188,9 +188,9 @@ fn go_along<R: Threads + Sync, V: Solver>(
     )
 }
 
-/// One iteration of training (Pereira and Pinto 1991): so many paths, as the seed draws them for this iteration, are
-/// walked forward over the pools as they are, beside each other in two halves; then each is swept backward, one after
-/// another, over the cuts of those before it. Each path adds an entry, and a cut to each of its nodes.
+/// Takes one iteration of training (Pereira and Pinto 1991): so many paths, as the seed draws them for this iteration, are
+/// walked forward over the pools as they are, beside each other in two halves; then each is swept backward, one after another,
+/// over the cuts of those before it. Each path adds an entry, and a cut to each of its nodes.
 ///
 /// Iterations count from 1 to 2,000, and a batch is 1 to 64 paths. No node has more than 2^23 cuts. `starts` was made for this
 /// problem and this solver.

@@ -39,7 +39,7 @@ fn scaled(number: i64) -> i128
     i128::from(SCALE) * i128::from(number)
 }
 
-/// Whole numbers at the scale of states.
+/// Brings whole numbers to the scale of states.
 fn scaled_all(alloc: Global, numbers: &[i64]) -> Result<List<i128>, Memory>
     ensures { IfOk result (λ found. found ≡ times_all S numbers.now) }
 {

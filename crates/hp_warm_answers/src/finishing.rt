@@ -41,7 +41,7 @@ fn dual_of(table: &Table, variable: usize, cost: Cell) -> Cell
     }
 }
 
-// Less a dual times a term.
+// Subtracts a dual times a term.
 fn less_term(rests: &mut [Wide], term: (u32, Coefficient), dual: Cell)
     requires inside { term.0 < length rests.old }
     requires small { AreWithin (2 ^ 24) rests.old }
@@ -53,7 +53,7 @@ fn less_term(rests: &mut [Wide], term: (u32, Coefficient), dual: Cell)
     rests[at] = rests[at].less_term(dual, term.1);
 }
 
-// Less a dual times each of some terms.
+// Subtracts a dual times each of some terms.
 fn less_terms(rests: &mut [Wide], terms: &[(u32, Coefficient)], dual: Cell)
     requires inside { AreRising 0 (length rests.old) terms.now }
     requires few { length rests.old ≤ 1199 }
@@ -67,7 +67,7 @@ fn less_terms(rests: &mut [Wide], terms: &[(u32, Coefficient)], dual: Cell)
     }
 }
 
-// Less the terms of the row whose slack stands at a place.
+// Subtracts the terms of the row whose slack stands at a place.
 #[tactic(auto, unfolding(crate::specs::Finish::less_place))]
 fn less_place(rests: &mut [Wide], table: &Table, place: usize, variable: usize)
     requires sized { IsTable table.now }
@@ -87,7 +87,7 @@ fn less_place(rests: &mut [Wide], table: &Table, place: usize, variable: usize)
     less_terms(rests, table.rows.row(variable - columns), dual);
 }
 
-// Less the terms of the rows whose slacks stand at the places.
+// Subtracts the terms of the rows whose slacks stand at the places.
 fn less_places(rests: &mut [Wide], table: &Table, nonbasic: &[usize])
     requires sized { IsTable table.now }
     requires places { length nonbasic.now ≡ length table.now.costs }
@@ -103,7 +103,7 @@ fn less_places(rests: &mut [Wide], table: &Table, nonbasic: &[usize])
     }
 }
 
-// Costs at scale 2^80.
+// Brings costs to scale 2^80.
 fn whole_costs(alloc: Global, costs: &[Cell]) -> Result<List<Wide>, Memory>
     ensures costs { IfOk result (λ found. found ≡ whole_costs costs.now) }
     ensures lengths { IfOk result (λ found. length found ≡ length costs.now) }

@@ -65,7 +65,7 @@ pub fn clamped(column: &Column, x: i128) -> Fx
     }
 }
 
-// By which power of two a column's value is scaled.
+// Gives the power of two by which a column's value is scaled.
 fn value_exponent(scales: &Scales, column: usize) -> i64
     requires { column < length scales.now.columns }
     ensures { result ≡ entry scales.now.columns column -ℤ scales.now.values }
@@ -73,7 +73,7 @@ fn value_exponent(scales: &Scales, column: usize) -> i64
     i64::from(scales.columns.as_slice()[column]) - i64::from(scales.values)
 }
 
-// By which power of two a row's dual is scaled.
+// Gives the power of two by which a row's dual is scaled.
 fn dual_exponent(scales: &Scales, row: usize) -> i64
     requires { row < length scales.now.rows }
     ensures { result ≡ (entry scales.now.rows row -ℤ scales.now.costs) -ℤ pos 8 }

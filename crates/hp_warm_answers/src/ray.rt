@@ -118,7 +118,7 @@ fn top_of(table: &Table, line: &[Cell], variable: usize, above: bool, own: usize
     )
 }
 
-// By which power of two the factor of a row is multiplied.
+// Gives the power of two by which the factor of a row is multiplied.
 fn ray_exponent(scales: &Scales, row: usize, top: i64) -> i64
     requires row { row < length scales.now.rows }
     requires small { nat_abs top ≤ 2 ^ 32 }

@@ -65,7 +65,7 @@ fn inverse(pivot: Cell) -> i64
     short(ratio(dividend(digits(pivot)), pivot))
 }
 
-// Half of 2^k added.
+// Adds half of 2^k.
 #[tactic(auto, using(crate::proofs::Inverses::half_small))]
 fn half_added(sum: i128, k: u32) -> i128
     requires few { nat_abs sum ≤ 2 ^ 117 }

@@ -31,7 +31,7 @@ impl Shift {
         Shift { v: 0 }
     }
 
-    // As far as a quantity says.
+    // Gives the distance of a quantity.
     pub(crate) fn by(x: Quantity) -> Shift
         ensures { result ≡ x }
     {
@@ -47,7 +47,7 @@ impl Shift {
         }
     }
 
-    // As far the other way, where it turns.
+    // Turns the distance the other way, where it turns.
     pub(crate) fn turned_by(self, turns: bool) -> Shift
         ensures { result ≡ turned_by turns self }
     {

@@ -70,7 +70,7 @@ fn write_standings(high: &mut List<bool>, basis: &Basis, nonbasic: &[usize], red
     }
 }
 
-// Each nonbasic column of a table stands by its reduced cost, and as it was where that is 0.
+// Sets each nonbasic column of a table to stand by its reduced cost, and as it was where that is 0.
 #[tactic(auto, unfolding(crate::specs::Standings::stood_up), using(crate::proofs::Sizes::numbers_inside))]
 pub(crate) fn stand_up(table: &mut Table, was: &Basis)
     requires sized { IsTable table.old }

@@ -142,7 +142,7 @@ fn tighten(
     }
 }
 
-// All slacks leave that were not basic, in order.
+// Lets all slacks leave that were not basic, in order.
 pub(crate) fn tighten_all(
     table: &mut Table,
     line: &mut List<Cell>,

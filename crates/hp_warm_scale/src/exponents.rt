@@ -189,7 +189,7 @@ fn clear(spans: &mut [Option<Span>])
     }
 }
 
-// For each column the span of its terms in all rows.
+// Writes for each column the span of its terms in all rows.
 #[tactic(auto, unfolding(crate::specs::Exponents::spans_of))]
 fn write_spans(
     decisions: usize,

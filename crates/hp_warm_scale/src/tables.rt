@@ -176,8 +176,8 @@ fn scale_column(table: &mut Table, j: usize, column: &Column) -> bool
     }
 }
 
-/// Some columns of a program, from number `first` on, scaled: their bounds, costs and reduced
-/// costs. The answer is false exactly where a number leaves its range.
+/// Scales some columns of a program, from number `first` on: their bounds, costs and reduced costs. The answer is false exactly
+/// where a number leaves its range.
 pub(crate) fn scale_columns(table: &mut Table, first: usize, columns: &[Column]) -> bool
     requires whole { IsTable table.old }
     requires small { AreSmall 1000 table.old.scales }
@@ -201,7 +201,7 @@ fn is_negative(cell: Cell) -> bool
     cell.number() < 0
 }
 
-// Each column stands at its upper bound where its reduced cost is negative.
+// Sets each column to its upper bound where its reduced cost is negative.
 fn stand(high: &mut [bool], reduced: &[Cell])
     requires { length high.old ≡ length reduced.now }
     ensures { high.new ≡ map is_negative reduced.now }

@@ -73,7 +73,7 @@ fn close(waiting: &mut [bool], column: Option<usize>)
     }
 }
 
-// Where a row is not narrow its successor's cuts do not wait.
+// Ends the waiting of a successor's cuts where a row of theirs is not narrow.
 fn close_by(reaches: &[u32], waiting: &mut [bool], row: &LpRow)
     requires { AreRising 0 (length waiting.old) row.now.terms }
     ensures value { waiting.new ≡ closed_by reaches.now waiting.old row.now }
@@ -95,7 +95,7 @@ fn close_all(reaches: &[u32], waiting: &mut [bool], cuts: &[LpRow])
     }
 }
 
-// Where a cut is not narrow its successor's cuts do not wait; those that stand side by side are narrow in short columns.
+// Ends the waiting of a successor's cuts where one is not narrow; those that stand side by side are narrow in short columns.
 fn close_packed(
     alloc: Global,
     reaches: &[u32],
@@ -119,7 +119,7 @@ fn close_packed(
     Ok(())
 }
 
-// Where a cut of a program is not narrow its successor's cuts do not wait.
+// Ends the waiting of the successors' cuts where one of a program is not narrow.
 fn close_by_cuts(
     alloc: Global,
     reaches: &[u32],
@@ -140,7 +140,7 @@ fn close_by_cuts(
     }
 }
 
-// For each column whether it is a successor's.
+// Gives for each column whether it is a successor's.
 fn successors(alloc: Global, decisions: usize, count: usize) -> Result<List<bool>, Memory>
     requires { decisions ≤ count }
     ensures value { IfOk result (λ found. found ≡ successors_of decisions count) }
@@ -152,7 +152,8 @@ fn successors(alloc: Global, decisions: usize, count: usize) -> Result<List<bool
     Ok(List::from_vec(found))
 }
 
-/// For each column whether it is a successor's, all of whose cuts are narrow: these wait. [`Memory`] where memory was refused.
+/// Gives for each column whether it is a successor's, all of whose cuts are narrow: these wait. [`Memory`] where memory was
+/// refused.
 #[tactic(auto, unfolding(crate::specs::Waiting::waiting_of))]
 pub fn waiting(alloc: Global, lp: &StageLp) -> Result<List<bool>, Memory>
     requires { IsProper lp.now }

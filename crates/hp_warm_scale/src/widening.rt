@@ -67,7 +67,7 @@ fn add_top(decisions: usize, spans: &mut [Option<Span>], top: Option<i32>, colum
     }
 }
 
-// For each column of a successor the span of the tops of its cuts.
+// Writes for each column of a successor the span of the tops of its cuts.
 #[tactic(auto, unfolding(crate::specs::Widening::cut_spans))]
 fn write_cut_spans(decisions: usize, exponents: &[i32], spans: &mut [Option<Span>], cuts: &[LpRow])
     requires exponents { AreUpTo 512 exponents.now }
@@ -88,7 +88,7 @@ fn write_cut_spans(decisions: usize, exponents: &[i32], spans: &mut [Option<Span
     }
 }
 
-/// For each column of a successor the span of the tops of a program's cuts.
+/// Writes for each column of a successor the span of the tops of a program's cuts.
 pub(crate) fn write_spans(
     alloc: Global,
     exponents: &[i32],
@@ -132,7 +132,7 @@ fn half(number: i32) -> i32
     number.div_euclid(2)
 }
 
-// Half of the greatest and the least top, less 33.
+// Gives half of the greatest and the least top, less 33.
 fn cut_lift(span: Option<Span>) -> i32
     requires { AreBetween (pos 0) (pos 640) span }
     ensures value { result ≡ cut_lift span }

@@ -40,7 +40,7 @@ pub(crate) enum Look {
     Stops,
 }
 
-// One violation by its line. The flips are the places that flip where it is mended.
+// Looks at one violation by its line. The flips are the places that flip where it is mended.
 fn enter_or_show(
     alloc: Global,
     lp: &StageLp,
@@ -71,7 +71,7 @@ fn enter_or_show(
     }
 }
 
-// One violation. The line is that of its variable then.
+// Looks at one violation. The line is that of its variable then.
 #[tactic(auto, unfolding(crate::specs::Turns::glance_of))]
 fn inspect(
     alloc: Global,
@@ -103,7 +103,7 @@ fn inspect(
     )
 }
 
-// All violations, the greatest first, until one is mended or shows that no point keeps all bounds.
+// Looks at all violations, the greatest first, until one is mended or shows that no point keeps all bounds.
 pub(crate) fn inspect_all(
     alloc: Global,
     lp: &StageLp,

@@ -214,7 +214,7 @@ fn take_turn(
     }
 }
 
-// At most so many turns. None where a number is out of range, or where all are used up.
+// Takes at most so many turns. None where a number is out of range, or where all are used up.
 pub(crate) fn take_turns(
     alloc: Global,
     lp: &StageLp,

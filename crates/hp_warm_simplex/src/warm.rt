@@ -150,7 +150,7 @@ impl Solver for WarmSimplex {
         Ok(answer)
     }
 
-    // By the number of cells of the tables and of cuts that are looked up, all together.
+    // Decides by the number of cells of the tables and of cuts that are looked up, all together.
     fn worth_a_thread(&self, lp: &StageLp, solves: usize) -> bool {
         let own = lp.own();
         let cells = lp

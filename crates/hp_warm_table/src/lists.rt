@@ -31,7 +31,7 @@ pub fn copied_with_room<T: Copy + Drop>(
     Ok(List::from_vec(found))
 }
 
-/// So many times the same value. [`Memory`] where memory was refused.
+/// Repeats a value so many times. [`Memory`] where memory was refused.
 pub fn repeated<T: Copy + Drop>(alloc: Global, count: usize, item: T) -> Result<List<T>, Memory>
     ensures { IfOk result (λ found. found ≡ replicate count item) }
 {

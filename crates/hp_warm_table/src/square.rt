@@ -51,7 +51,7 @@ impl Square {
         self.size as usize
     }
 
-    /// Row v.
+    /// Lends row v.
     #[tactic(auto, using(hp_simplex::proofs::Flat::rows_count))]
     pub fn row(&self, v: usize) -> &[Cell]
         requires { v < length self.now }
@@ -71,10 +71,9 @@ impl Square {
         set_row_of(&mut self.cells, self.size, v, row);
     }
 
-    /// Row v after the variable at a place is replaced by the sum that the addend is; the other rows
-    /// stay. The answer is false exactly where a result leaves the range of cells: nothing but
-    /// their number is promised of the rows then. `steps` are the addend's cells that are not 0,
-    /// each with its place.
+    /// Replaces the variable at a place of row v by the sum that the addend is; the other rows stay. The answer is false
+    /// exactly where a result leaves the range of cells: nothing but their number is promised of the rows then. `steps` are the
+    /// addend's cells that are not 0, each with its place.
     #[tactic(auto, using(hp_simplex::proofs::Flat::rows_count))]
     pub fn move_row(
         &mut self,
@@ -104,7 +103,7 @@ impl Square {
     }
 }
 
-// Row v of as many rows as cells in each.
+// Lends row v of as many rows as cells in each.
 fn row_of(cells: &[Cell], size: u32, v: usize) -> &[Cell]
     requires there { v < size }
     requires square { length cells.now ≡ size * size }
@@ -137,7 +136,7 @@ fn set_row_of(cells: &mut List<Cell>, size: u32, v: usize, row: &[Cell])
     put_row(cells.as_mut_slice(), v * size as usize, row);
 }
 
-// One row, from the cell `start` on, after the variable at a place is replaced.
+// Replaces the variable at a place of one row, from the cell `start` on.
 fn move_row_at(
     cells: &mut [Cell],
     start: usize,
@@ -157,7 +156,7 @@ fn move_row_at(
     move_row(row, place, addend, steps)
 }
 
-// Row v of as many rows as cells in each, after the variable at a place is replaced.
+// Replaces the variable at a place of row v, of as many rows as cells in each.
 fn move_row_of(
     cells: &mut List<Cell>,
     size: u32,

@@ -62,7 +62,7 @@ pub fn high_total(product: i128, first: i64, second: i64) -> i128
     product + i128::from(first) + i128::from(second)
 }
 
-/// Two halves, joined.
+/// Joins two halves.
 pub fn join(high: u64, low: u64) -> u128
     ensures { result ≡ high * 2 ^ 64 + low }
 {

@@ -40,7 +40,7 @@ pub(crate) fn dual_of(table: &Table, variable: usize, cost: Cell) -> Cell
     }
 }
 
-// Less a dual times a term. False where 256 bits do not hold it.
+// Subtracts a dual times a term. False where 256 bits do not hold it.
 #[tactic(auto, unfolding(crate::specs::Finish::less_term))]
 fn less_term(rests: &mut [Wide], term: (u32, Cell), dual: Cell) -> bool
     requires inside { term.0 < length rests.old }
@@ -57,7 +57,7 @@ fn less_term(rests: &mut [Wide], term: (u32, Cell), dual: Cell) -> bool
     }
 }
 
-// Less a dual times each of some terms.
+// Subtracts a dual times each of some terms.
 fn less_terms(rests: &mut [Wide], terms: &[(u32, Cell)], dual: Cell) -> bool
     requires inside { All (λ t. t.0 < length rests.old) terms.now }
     ensures rests { Gives result (less_terms dual rests.old terms.now) rests.new }
@@ -71,7 +71,7 @@ fn less_terms(rests: &mut [Wide], terms: &[(u32, Cell)], dual: Cell) -> bool
     true
 }
 
-// Less the terms of the row whose slack stands at a place.
+// Subtracts the terms of the row whose slack stands at a place.
 #[tactic(auto, unfolding(crate::specs::Finish::less_place), using(crate::proofs::Columns::row_within))]
 fn less_place(rests: &mut [Wide], table: &Table, place: usize, variable: usize) -> bool
     requires sized { IsTable table.now }
@@ -89,7 +89,7 @@ fn less_place(rests: &mut [Wide], table: &Table, place: usize, variable: usize) 
     less_terms(rests, table.rows.row(variable - columns), dual)
 }
 
-// Less the terms of the rows whose slacks stand at the places.
+// Subtracts the terms of the rows whose slacks stand at the places.
 fn less_places(rests: &mut [Wide], table: &Table, nonbasic: &[usize]) -> bool
     requires sized { IsTable table.now }
     requires places { length nonbasic.now ≡ length table.now.costs }
@@ -113,7 +113,7 @@ fn whole_cost(cost: Cell) -> Wide
     Wide::product(cost.number(), 1 << 80)
 }
 
-// Costs at scale 2^160.
+// Brings costs to scale 2^160.
 fn whole_costs(alloc: Global, costs: &[Cell]) -> Result<List<Wide>, Memory>
     ensures costs { IfOk result (λ found. found ≡ whole_costs costs.now) }
     ensures lengths { IfOk result (λ found. length found ≡ length costs.now) }

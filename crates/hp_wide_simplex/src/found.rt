@@ -62,7 +62,7 @@ fn whole_part(x: i128) -> i128
     floor_div(x, 256) * 256
 }
 
-// By which power of two a column's value is no longer scaled.
+// Gives the power of two by which a column's value is no longer scaled.
 fn value_exponent(scales: &Scales, column: usize) -> i32
     requires small { AreSmall 1000 scales.now }
     requires there { column < length scales.now.columns }
@@ -71,7 +71,7 @@ fn value_exponent(scales: &Scales, column: usize) -> i32
     scales.columns.as_slice()[column] - scales.values - 32
 }
 
-// By which power of two a row's dual is no longer scaled.
+// Gives the power of two by which a row's dual is no longer scaled.
 fn dual_exponent(scales: &Scales, row: usize) -> i32
     requires small { AreSmall 1000 scales.now }
     requires there { row < length scales.now.rows }

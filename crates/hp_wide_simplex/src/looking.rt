@@ -62,7 +62,7 @@ fn show(
     }
 }
 
-// One violation by its line.
+// Looks at one violation by its line.
 fn enter_or_show(
     alloc: Global,
     lp: &StageLp,
@@ -98,7 +98,7 @@ fn enter_or_show(
     }
 }
 
-// One violation.
+// Looks at one violation.
 #[tactic(auto, unfolding(crate::specs::Turns::look_at))]
 fn look_at(alloc: Global, lp: &StageLp, table: &Table, violation: Violation) -> Result<Look, Memory>
     requires fits { Fits table.now lp.now }
@@ -113,7 +113,7 @@ fn look_at(alloc: Global, lp: &StageLp, table: &Table, violation: Violation) -> 
     }
 }
 
-// All violations, the greatest first, until one is mended or shows that no point keeps all own rows.
+// Looks at all violations, the greatest first, until one is mended or shows that no point keeps all own rows.
 fn look_at_all(
     alloc: Global,
     lp: &StageLp,

@@ -49,7 +49,7 @@ fn turned(inverse: i128, k: u32, x: Cell) -> Option<Cell>
     }
 }
 
-// All cells of a line times the inverse of the pivot, with the other sign.
+// Multiplies all cells of a line by the inverse of the pivot, with the other sign.
 fn turn_all(line: &mut [Cell], inverse: i128, k: u32) -> bool
     requires least { 1 ≤ k }
     requires greatest { k ≤ 250 }

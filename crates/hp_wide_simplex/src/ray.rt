@@ -134,7 +134,7 @@ fn top_of(table: &Table, line: &[Cell], variable: usize, above: bool, own: usize
     greatest(table, line, variable, above, exponents)
 }
 
-// By which power of two the factor of a row is multiplied.
+// Gives the power of two by which the factor of a row is multiplied.
 fn ray_exponent(scales: &Scales, row: usize, top: i32) -> i32
     requires scales { AreSmall 1000 scales.now }
     requires row { row < length scales.now.rows }

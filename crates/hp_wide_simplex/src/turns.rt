@@ -83,7 +83,7 @@ fn take_turn(alloc: Global, lp: &StageLp, table: &mut Table) -> Result<Turn, Mem
     mend_table(alloc, lp, table)
 }
 
-/// At most so many turns on a table, until there is an answer. None where a number is out of range, or where all are used
+/// Takes at most so many turns on a table, until there is an answer. None where a number is out of range, or where all are used
 /// up. [`Memory`] where memory was refused.
 pub fn take_turns(
     alloc: Global,

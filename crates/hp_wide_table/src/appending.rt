@@ -127,7 +127,7 @@ fn put_row(
     push_row(table, exponent, terms, sides)
 }
 
-// By which power of two the sides of a row are scaled.
+// Gives the power of two by which the sides of a row are scaled.
 fn side_exponent(exponent: i32, values: i32) -> i32
     requires least { negsuc 1299 ≤ℤ exponent }
     requires greatest { exponent ≤ℤ pos 1300 }

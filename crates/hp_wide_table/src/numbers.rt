@@ -6,7 +6,7 @@ ghost use Rattle.hp_wide_table.specs.Numbers.{nearest, down_of, shift_up, shift_
 use hp_warm_table::numbers::bits;
 use hp_wide::Wide;
 
-// Half of 2^k.
+// Gives half of 2^k.
 #[tactic(auto, using(crate::proofs::Halves::half_held))]
 fn half(k: u32) -> Wide
     requires least { 1 ≤ k }

@@ -28,7 +28,7 @@ impl Model for Rows {
 }
 
 impl Rows {
-    /// No rows.
+    /// Starts with no rows.
     pub fn new(alloc: Global) -> Rows
         ensures { result ≡ [] }
     {
@@ -66,7 +66,7 @@ impl Rows {
     }
 }
 
-// Where row i begins.
+// Gives the place where row i begins.
 fn start_of(ends: &[usize], i: usize) -> usize
     requires { i < length ends.now }
     ensures { result ≡ begins_at ends.now i }

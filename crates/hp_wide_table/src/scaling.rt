@@ -56,7 +56,7 @@ fn scaled_cost(cost: Fx, costs: i32, exponent: i32) -> Option<Cell>
     scaled_cell(cost, power(costs, exponent))
 }
 
-// Both bounds and the cost. None where one of them is absent.
+// Scales both bounds and the cost. None where one of them is absent.
 fn column_of(
     low: Option<Quantity>,
     up: Option<Quantity>,

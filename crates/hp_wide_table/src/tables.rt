@@ -142,7 +142,7 @@ fn is_negative(cell: Cell) -> bool
     cell.number() < 0
 }
 
-// Each column stands at its upper bound where its reduced cost is negative.
+// Sets each column to its upper bound where its reduced cost is negative.
 fn stand(high: &mut [bool], reduced: &[Cell])
     requires { length high.old ≡ length reduced.now }
     ensures { high.new ≡ map is_negative reduced.now }

@@ -84,7 +84,7 @@ fn prepares(alloc: Global, pools: &mut Pools) -> bool {
     pools.nodes() > 0 && pools.prepare(alloc, 0, [ENDS].as_slice()).is_ok()
 }
 
-// Over [1, 10] the cut 7 - 2x is greatest at 1, and the cut 4 + x at 10.
+// Tells whether a peak is kept: over [1, 10] the cut 7 - 2x is greatest at 1, and the cut 4 + x at 10.
 fn keeps_peak(alloc: Global, pools: &mut Pools) -> bool {
     pushes(alloc, pools, 0, 7, -2)
         && peak(pools, ENDS).is_none()
@@ -163,7 +163,7 @@ fn are_covering(pools: &Pools, places: &[u32]) -> bool {
     }
 }
 
-// Over [1, 10] the cut 3 + x is covered by 4 + x, and that one by 5 + x.
+// Tells whether covering cuts are kept: over [1, 10] the cut 3 + x is covered by 4 + x, and that one by 5 + x.
 fn keeps_covering(alloc: Global, pools: &mut Pools) -> bool {
     pushes(alloc, pools, 0, 9, -2)
         && prepares(alloc, pools)

@@ -16,7 +16,7 @@ use hp_num::List;
 use hp_problem::Row;
 use hp_theory::{Certificate, SCALE};
 
-/// One multiplier per row and one list of pairs per successor.
+/// Tells whether there is one multiplier per row and one list of pairs per successor.
 fn is_shaped(rows: usize, links: usize, certificate: &Certificate) -> bool
     ensures { result ≡ (length certificate.now.rows == rows) && (length certificate.now.cuts == links) }
 {
@@ -40,7 +40,7 @@ fn check_shapes(rows: usize, links: usize, list: &[Certificate]) -> Result<(), C
     Ok(())
 }
 
-/// One certificate per realization, each of its node's shape.
+/// Checks that there is one certificate per realization, each of its node's shape.
 pub(crate) fn check_count(
     count: usize,
     rows: usize,

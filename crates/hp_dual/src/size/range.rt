@@ -71,8 +71,8 @@ fn plus_remainders(size: Size, here: &NodeAt, sums: &[i128]) -> Option<Size>
     Some(sum)
 }
 
-/// Where the sizes of the realizations are in range: their number where the remainders of the slopes bring the sum above
-/// 2^127 - 1, and else none. B is given modulo 2^128.
+/// Gives the number of realizations where the remainders of the slopes bring the sum above 2^127 - 1, and else none. The sizes
+/// of the realizations are in range, and B is given modulo 2^128.
 pub(crate) fn remainders_range(size: Size, here: &NodeAt, sums: &[i128]) -> Option<usize>
     requires sized { Sized here.now.pools.now.lists here.now.node.now here.now.subproblem.now here.now.low.now here.now.weights.now }
     requires table { length sums.now ≡ 50 }

@@ -77,7 +77,7 @@ pub(super) fn pairs_size(here: &NodeAt, certificate: &Certificate) -> Option<Siz
     )
 }
 
-/// All of a realization over its pairs, without its weight.
+/// Sizes a realization over its pairs, without its weight.
 pub(super) fn realization_over(
     pairs: Option<Size>,
     here: &NodeAt,
@@ -98,7 +98,7 @@ pub(super) fn realization_over(
     plus_scaled(pairs, scale(), stage)
 }
 
-/// All of a realization, without its weight.
+/// Sizes a realization, without its weight.
 pub(crate) fn realization_size(
     here: &NodeAt,
     fixed: &FixedAmounts,
