@@ -1,5 +1,5 @@
 -- What the report of a verdict is, and why there is none.
-use Rattle.std.proofs.Common.{◌≡◌, ◌∙◌, ℕ, ◌≤ℤ◌, true, List, length, Option, IfSome, Result, Ok, Err, sym, ap}
+use Rattle.std.proofs.Common.{◌≡◌, ◌∙◌, ℕ, ◌≤ℤ◌, true, List, length, Option, IfSome, Result, Ok, sym, ap}
 use Rattle.sha2.specs.Sha256.{sha256}
 use Rattle.hp_fields.specs.Steps.{◌>>=◌}
 use Rattle.hp_problem.specs.Sealed.{Sealed, is_sealed}
@@ -13,7 +13,7 @@ use Rattle.hp_theory.specs.View.{problem_of}
 use Rattle.hp_load.specs.Load.{Outcome}
 use Rattle.hp_lp.specs.Chained.{Solving}
 use Rattle.hp_forward.specs.declared.deciding.StageFault.{StageFault}
-use Rattle.hp_forward.specs.Given.{Fails, OnNoStage, Refutes}
+use Rattle.hp_forward.specs.Given.{Fails}
 use Rattle.hp_tree.specs.declared.walking.Verdict.{Verdict}
 use Rattle.hp_tree.specs.declared.walking.Verdict.TheVariants.{Cost, Missed}
 use Rattle.hp_tree.specs.PolicyTree.{verdict_of}
@@ -29,6 +29,7 @@ use Rattle.hp_run.specs.declared.status.Status.{Status}
 use Rattle.hp_run.specs.declared.task.Task.TheVariants.{Evaluate}
 use Rattle.hp_run.proofs.Checks.{bound_under}
 use Rattle.hp_run.proofs.Loaded.{GoesOn, gone_on, not_decided}
+use Rattle.hp_run.proofs.LocatedVerdict.{verdict_located}
 
 two_sided : (p : Sealed) (pools : List (List Cut)) (verdict : Verdict) → Sound (problem_of p) pools
     → (let r : Result Verdict StageFault = Ok verdict in OnCost r (λ upper. (f : Forest) × Policy (problem_of p) S f × IsUpper (problem_of p) f upper × (Sound (problem_of p) pools → bound (problem_of p) pools ≤ℤ upper)))
@@ -63,6 +64,6 @@ module _ {Start Chain : Type 0} (v : Solving Start Chain) (bytes : List ℕ) (b 
     verdict_reported verdict text e is = gone_on v Evaluate told bytes b (too_big_of b.problem) judge (judges based) o (Ok text) has (ap (report_judged b.problem o.pools) e ∙ ap (λ (x : List ℕ). Ok x) (sym is))
 
     -- a node without decisions
-    pub not_judged : (disk disk_now : ℕ) (f : StageFault) → Fails f (verdict_of v b.problem o.pools) → (let r : Result Verdict StageFault = Err f in OnNoStage r (Refutes b.problem)) → Lacks v Evaluate told disk disk_now bytes (status_of_stage f)
-    not_judged disk disk_now f fails none =
-        not_decided v Evaluate told bytes b (too_big_of b.problem) judge (judges based) disk disk_now o f (verdict_of v b.problem o.pools) has (λ dead e. ap (report_judged b.problem o.pools) e) fails none
+    pub not_judged : (disk disk_now : ℕ) (f : StageFault) → Fails f (verdict_of v b.problem o.pools) → is_sealed b.problem ≡ true → Lacks v Evaluate told disk disk_now bytes (status_of_stage f)
+    not_judged disk disk_now f fails sealed =
+        not_decided v Evaluate told bytes b (too_big_of b.problem) judge (judges based) disk disk_now o f (verdict_of v b.problem o.pools) has (λ dead e. ap (report_judged b.problem o.pools) e) fails (verdict_located v b.problem sealed o.pools)

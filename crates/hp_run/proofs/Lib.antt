@@ -7,6 +7,12 @@ pub mod Synced
 pub mod TrainReports
 pub mod Wrote
 pub mod ResumedRuns
+pub mod Located
+pub mod LocatedWalks
+pub mod LocatedTraces
+pub mod LocatedSweeps
+pub mod LocatedTraining
+pub mod LocatedVerdict
 pub mod Loaded
 pub mod Simulated
 pub mod Evaluated

@@ -1,5 +1,5 @@
 -- What comes of a task that loads a journal and makes decisions over its pools, unless a formula is above its limit.
-use Rattle.std.proofs.Common.{◌≡◌, ◌∙◌, ℕ, List, Option, Some, None, IfSome, Result, Ok, Err, refl, ap, subst}
+use Rattle.std.proofs.Common.{◌≡◌, ◌∙◌, ℕ, List, Option, Some, None, IfSome, Result, Ok, Err, IfErr, refl, ap, subst}
 use Rattle.sha2.specs.Sha256.{sha256}
 use Rattle.hp_fields.specs.Steps.{◌>>=◌}
 use Rattle.hp_outside.specs.Causes.{Rose}
@@ -11,13 +11,15 @@ use Rattle.hp_lp.specs.Chained.{Solving}
 use Rattle.hp_settle.specs.declared.judging.Dead.{Dead}
 use Rattle.hp_forward.specs.declared.deciding.StageFault.{StageFault}
 use Rattle.hp_forward.specs.declared.deciding.StageFault.TheVariants as stages
-use Rattle.hp_forward.specs.Given.{Fails, OnNoStage, Refutes}
+use Rattle.hp_forward.specs.Given.{Fails}
 use Rattle.hp_run.specs.Causes.{Lacks}
 use Rattle.hp_run.specs.Outcome.{Reads, ReadsJournal, Reports, Solves, WithBase, based_at, loaded_within, report_at, status_of_fault}
 use Rattle.hp_run.specs.Loading.{NotLoaded, status_of_stage}
+use Rattle.hp_run.specs.Refuted.{DecidesAt}
 use Rattle.hp_run.specs.declared.status.Status.{Status}
 use Rattle.hp_run.specs.declared.status.Status.TheVariants.{JournalRefused, TooMuch, NoStage}
 use Rattle.hp_run.specs.declared.task.Task.{Task}
+use Rattle.hp_run.proofs.Located.{Located, err_as, refuted_here}
 
 goes : {A B E : Type 0} (m : Result A E) (g : A → Result B E) (x : A) → m ≡ Ok x → (m >>= g) ≡ g x
 goes m g x e = ap (λ r. r >>= g) e
@@ -70,6 +72,8 @@ module _ {Start Chain : Type 0} (v : Solving Start Chain) (task : Task) (told : 
 
   -- a node without decisions
   pub not_decided : {X : Type 0} (disk disk_now : ℕ) (o : Outcome) (f : StageFault) (decided : Result X Dead) → IfSome told (λ kept. loaded kept ≡ Ok o) → ((dead : Dead) → decided ≡ Err dead → after o ≡ Err (NoStage dead)) → Fails f decided
-      → (let r : Result X StageFault = Err f in OnNoStage r (Refutes b.problem)) → Lacks v task told disk disk_now bytes (status_of_stage f)
-  not_decided disk disk_now o (stages.NoStage dead) decided has e fails none = (on.solves, gone_on o (Err (NoStage dead)) has (e dead fails), (b, on.based, none))
-  not_decided disk disk_now o stages.Memory decided has e fails none = tt
+      → IfErr decided (Located b.problem (DecidesAt task b.problem)) → Lacks v task told disk disk_now bytes (status_of_stage f)
+  not_decided disk disk_now o (stages.NoStage dead) decided has e fails there =
+      let here : Located b.problem (DecidesAt task b.problem) dead = err_as (Located b.problem (DecidesAt task b.problem)) decided (Err dead) fails there in
+      (on.solves, gone_on o (Err (NoStage dead)) has (e dead fails), refuted_here task bytes b dead on.based here)
+  not_decided disk disk_now o stages.Memory decided has e fails there = tt

@@ -20,7 +20,8 @@ use Rattle.hp_problem.specs.declared.refusal.Refusal.{Refusal}
 use Rattle.hp_lp.specs.Chained.{Solving}
 use Rattle.hp_run.specs.Outcome.{IsRefused, Reports, WithBase, listed_at, with_alternatives, based_at, based_of, with_base, or_refused, report_by, report_at}
 use Rattle.hp_run.specs.SoundText.{IsSoundReport, PlaneHolds, SoundText, WorstHolds}
-use Rattle.hp_run.specs.Causes.{Ends, Explains, ExplainsDescribed, ExplainsProblem, ExplainsTask, IsRefuted, Lacks, ReadAll, status_of, status_of_text, expected, expected_of, Completes}
+use Rattle.hp_run.specs.Causes.{Ends, Explains, ExplainsDescribed, ExplainsProblem, ExplainsTask, Lacks, ReadAll, status_of, status_of_text, expected, expected_of, Completes}
+use Rattle.hp_run.specs.Refuted.{IsRefuted}
 use Rattle.hp_run.specs.declared.job.Job.{Job}
 use Rattle.hp_run.specs.declared.job.Job.TheVariants.{Plan, Hydro, Generate}
 use Rattle.hp_run.specs.declared.task.Task.{Task}
@@ -202,7 +203,7 @@ module _ {Start Chain : Type 0} (v : Solving Start Chain) (task : Task) (e : End
   without_report (JournalRefused r) h = (h.0, read_all (λ b. Reports v task e.kept b (Err (JournalRefused r))) h.1, keeps)
   without_report (TooMuch t) h = (h.0, read_all (λ b. Reports v task e.kept b (Err (TooMuch t))) h.1, keeps)
   without_report (Range k m r) h = (h.0, read_all (λ b. Reports v task e.kept b (Err (Range k m r))) h.1, keeps)
-  without_report (NoStage dead) h = (h.0, read_all (λ b. Reports v task e.kept b (Err (NoStage dead)) × IsRefuted b dead) (h.1, h.2), keeps)
+  without_report (NoStage dead) h = (h.0, read_all (λ b. Reports v task e.kept b (Err (NoStage dead)) × IsRefuted task b dead) (h.1, h.2), keeps)
   without_report DiskFault h = (h.0, h.1, end, keeps)
   without_report Memory h = keeps
   without_report Done h = absurd h

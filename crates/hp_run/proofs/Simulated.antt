@@ -1,5 +1,5 @@
 -- What the report of scenarios is, and why there is none.
-use Rattle.std.proofs.Common.{◌≡◌, ◌∙◌, ℕ, true, List, length, Option, Some, IfSome, Result, Ok, Err, sym, ap}
+use Rattle.std.proofs.Common.{◌≡◌, ◌∙◌, ℕ, true, List, length, Option, Some, IfSome, Result, Ok, IfErr, sym, ap}
 use Rattle.sha2.specs.Sha256.{sha256}
 use Rattle.hp_fields.specs.Steps.{◌>>=◌}
 use Rattle.hp_problem.specs.declared.formulas.TooMuch as formulas
@@ -13,19 +13,23 @@ use Rattle.hp_load.specs.Load.{Outcome}
 use Rattle.hp_lp.specs.Chained.{Solving}
 use Rattle.hp_forward.specs.declared.deciding.StageFault.{StageFault}
 use Rattle.hp_forward.specs.declared.traces.Trace.{Trace}
-use Rattle.hp_forward.specs.Given.{Fails, OnNoStage, Refutes}
+use Rattle.hp_forward.specs.Given.{Fails}
 use Rattle.hp_report.specs.Traces.{trace_text}
+use Rattle.hp_sim.specs.Runs.{drawn_from}
 use Rattle.hp_sim.specs.Tracing.{traces_of}
 use Rattle.hp_run.specs.Causes.{Lacks}
 use Rattle.hp_run.specs.Outcome.{Reads, ReadsJournal, Reports, Solves, WithBase, based_at, count_of, loaded_within, or_refused, report_at, report_by, report_traced, runs_of, simulated_for, task_for}
 use Rattle.hp_run.specs.SoundText.{IsReport, IsSoundReport}
 use Rattle.hp_run.specs.Loading.{status_of_stage}
+use Rattle.hp_run.specs.Refuted.{DecidesAt, IsRealized, IsStored}
 use Rattle.hp_run.specs.declared.simulating.Scenarios.{Scenarios}
 use Rattle.hp_run.specs.declared.simulating.Scenarios.TheVariants.{Drawn, Stored}
 use Rattle.hp_run.specs.declared.status.Status.{Status}
 use Rattle.hp_run.specs.declared.task.Task.TheVariants.{Simulate, Validate}
 use Rattle.hp_run.proofs.Checks.{bound_under}
 use Rattle.hp_run.proofs.Loaded.{GoesOn, gone_on, not_decided}
+use Rattle.hp_run.proofs.Located.{Located}
+use Rattle.hp_run.proofs.LocatedTraces.{drawn_runs, runs_stored, traces_located}
 
 reads_journal : (scenarios : Scenarios) → ReadsJournal (task_for scenarios)
 reads_journal (Drawn seed count) = tt
@@ -50,6 +54,11 @@ scenarios_sound scenarios bytes p pools traces text e fit sound is = record {
   cuts = sound;
   bound = bound_under p pools e fit sound;
 }
+
+-- where traces stop, by how their scenarios come
+traces_there : {Start Chain : Type 0} (v : Solving Start Chain) (p : Sealed) (pools : List (List Cut)) (scenarios : Scenarios) → is_sealed p ≡ true → IfErr (traces_of v p pools (runs_of p scenarios)) (Located p (DecidesAt (task_for scenarios) p))
+traces_there v p pools (Drawn seed count) e = traces_located v p e (IsRealized p) pools (drawn_from p seed 0 count) (drawn_runs p e seed 0 count)
+traces_there v p pools Stored e = traces_located v p e (IsStored p) pools p.raw.scenarios (runs_stored p e)
 
 module _ {Start Chain : Type 0} (v : Solving Start Chain) (scenarios : Scenarios) (bytes : List ℕ) (b : WithBase) where
   -- the formula of so many traces
@@ -77,6 +86,6 @@ module _ {Start Chain : Type 0} (v : Solving Start Chain) (scenarios : Scenarios
     traces_reported traces text are is = gone_on v (task_for scenarios) told bytes b width follow (follows based) o (Ok text) has (ap (report_traced b.problem o.pools) are ∙ ap (λ (x : List ℕ). Ok x) (sym is))
 
     -- a node without decisions
-    pub not_traced : (disk disk_now : ℕ) (f : StageFault) → Fails f (traces_of v b.problem o.pools (runs_of b.problem scenarios)) → (let r : Result (List Trace) StageFault = Err f in OnNoStage r (Refutes b.problem)) → Lacks v (task_for scenarios) told disk disk_now bytes (status_of_stage f)
-    not_traced disk disk_now f fails none =
-        not_decided v (task_for scenarios) told bytes b width follow (follows based) disk disk_now o f (traces_of v b.problem o.pools (runs_of b.problem scenarios)) has (λ dead e. ap (report_traced b.problem o.pools) e) fails none
+    pub not_traced : (disk disk_now : ℕ) (f : StageFault) → Fails f (traces_of v b.problem o.pools (runs_of b.problem scenarios)) → is_sealed b.problem ≡ true → Lacks v (task_for scenarios) told disk disk_now bytes (status_of_stage f)
+    not_traced disk disk_now f fails sealed =
+        not_decided v (task_for scenarios) told bytes b width follow (follows based) disk disk_now o f (traces_of v b.problem o.pools (runs_of b.problem scenarios)) has (λ dead e. ap (report_traced b.problem o.pools) e) fails (traces_there v b.problem o.pools scenarios sealed)

@@ -1,5 +1,5 @@
 -- The report of training, or why there is none, and what is left of the journal.
-use Rattle.std.proofs.Common.{◌≡◌, ◌≢◌, ℕ, ◌+◌, ◌≤◌, ℤ, Bool, true, false, List, [], ◌++◌, length, max, Option, Some, None, IfSome, IfOk, IfErr, Result, Ok, Err, All, arith, refl, sym, ap, ◌∙◌, subst}
+use Rattle.std.proofs.Common.{◌≡◌, ◌≢◌, ℕ, ◌+◌, ◌-◌, ◌≤◌, ℤ, Bool, true, false, List, [], ◌++◌, length, max, Option, Some, None, IfSome, IfOk, IfErr, Result, Ok, Err, All, arith, refl, sym, ap, ◌∙◌, subst}
 use Rattle.std.specs.Option.{option_map}
 use Rattle.sha2.specs.Sha256.{sha256}
 use Rattle.hp_fields.specs.Steps.{◌>>=◌}
@@ -35,12 +35,16 @@ use Rattle.hp_run.specs.Causes.{Lacks}
 use Rattle.hp_run.specs.Journals.{Leaves, LeavesMine, has_trained, is_refusal, status_of}
 use Rattle.hp_run.specs.Outcome.{WithBase, Reports, based_at, loaded_for, or_refused, or_status, ready_for, report_at, report_by, report_trained, status_of_stop, trained_for, unless_much, unless_stopped, within_formulas}
 use Rattle.hp_run.specs.SoundText.{IsSoundReport}
-use Rattle.hp_run.specs.Training.{ComesOfLoading, IsDead, Refuses, StopsAs, WhenTrained}
+use Rattle.hp_run.specs.Refuted.{IsRealized}
+use Rattle.hp_run.specs.Training.{ComesOfLoading, Refuses, StopsAs, WhenTrained}
 use Rattle.hp_run.specs.declared.status.Status.{Status}
 use Rattle.hp_run.specs.declared.status.Status.TheVariants.{Done, Usage, ReadFault, TooLong, HydroRefused, ProblemRefused, JournalRefused, TooMuch, Range, NoStage, DiskFault, WriteFault, Memory}
 use Rattle.hp_run.specs.declared.task.Task.{Task}
 use Rattle.hp_run.specs.declared.task.Task.TheVariants.{Train}
 use Rattle.hp_run.proofs.LoadedEnds.{loaded_shut, loaded_unborn}
+use Rattle.hp_run.proofs.Located.{Located, refuted_here}
+use Rattle.hp_run.proofs.LocatedSweeps.{OnDead}
+use Rattle.hp_run.proofs.LocatedTraining.{stop_located}
 use Rattle.hp_run.proofs.Synced.{LeavesFrom}
 
 same_ok : {A E : Type 0} (x y : A) → (let l : Result A E = Ok x in l ≡ Ok y) → x ≡ y
@@ -175,20 +179,23 @@ module _ {Start Chain : Type 0} (v : Solving Start Chain) (bytes : List ℕ) (b 
     unloaded_lacks digest disk now s own is_digest has rose = unloaded disk now s own (subst (λ (x : List ℕ). IfSome reads (λ kept. Refuses s (ready_for b.problem b.pools x seed count batch kept))) is_digest has) rose
 
     -- iterations stop
-    pub stopped_lacks : (A : Type 0) (disk now : ℕ) (o : Outcome) (s : Status) → IfSome reads (λ kept. ready kept ≡ Ok o) → (let r : Result A Status = Err s in StopsAs r (iterations v b.problem seed count o).stop) → (s ≡ DiskFault → Rose disk now) → IsDead b.problem s → Lacks v task reads disk now bytes s
-    stopped_lacks A disk now o Done has stops rose dead = absurd stops
-    stopped_lacks A disk now o Usage has stops rose dead = absurd stops
-    stopped_lacks A disk now o ReadFault has stops rose dead = absurd stops
-    stopped_lacks A disk now o TooLong has stops rose dead = absurd stops
-    stopped_lacks A disk now o (HydroRefused refusal) has stops rose dead = absurd stops
-    stopped_lacks A disk now o (ProblemRefused r) has stops rose dead = absurd stops
-    stopped_lacks A disk now o (JournalRefused r) has stops rose dead = absurd stops
-    stopped_lacks A disk now o (TooMuch t) has stops rose dead = absurd stops
-    stopped_lacks A disk now o (Range k m r) has stops rose dead = (tt, stopped_reports o (sweeps.Range k m r) has stops)
-    stopped_lacks A disk now o (NoStage dead) has stops rose refuted = (tt, stopped_reports o (sweeps.NoStage dead) has stops, (b, is, refuted))
-    stopped_lacks A disk now o DiskFault has stops rose dead = (tt, rose refl)
-    stopped_lacks A disk now o WriteFault has stops rose dead = absurd stops
-    stopped_lacks A disk now o Memory has stops rose dead = tt
+    pub stopped_lacks : (A : Type 0) (disk now : ℕ) (o : Outcome) (s : Status) → IfSome reads (λ kept. ready kept ≡ Ok o) → (let r : Result A Status = Err s in StopsAs r (iterations v b.problem seed count o).stop) → (s ≡ DiskFault → Rose disk now) → is_sealed b.problem ≡ true → Lacks v task reads disk now bytes s
+    stopped_lacks A disk now o Done has stops rose sealed = absurd stops
+    stopped_lacks A disk now o Usage has stops rose sealed = absurd stops
+    stopped_lacks A disk now o ReadFault has stops rose sealed = absurd stops
+    stopped_lacks A disk now o TooLong has stops rose sealed = absurd stops
+    stopped_lacks A disk now o (HydroRefused refusal) has stops rose sealed = absurd stops
+    stopped_lacks A disk now o (ProblemRefused r) has stops rose sealed = absurd stops
+    stopped_lacks A disk now o (JournalRefused r) has stops rose sealed = absurd stops
+    stopped_lacks A disk now o (TooMuch t) has stops rose sealed = absurd stops
+    stopped_lacks A disk now o (Range k m r) has stops rose sealed = (tt, stopped_reports o (sweeps.Range k m r) has stops)
+    stopped_lacks A disk now o (NoStage dead) has stops rose sealed =
+        let there = stop_located v b.problem sealed o.pools seed o.batch (length o.bounds) (count - length o.bounds) in
+        let here = subst (λ (stop : Option SweepFault). IfSome stop (OnDead (Located b.problem (IsRealized b.problem)))) stops there in
+        (tt, stopped_reports o (sweeps.NoStage dead) has stops, refuted_here task bytes b dead is here)
+    stopped_lacks A disk now o DiskFault has stops rose sealed = (tt, rose refl)
+    stopped_lacks A disk now o WriteFault has stops rose sealed = absurd stops
+    stopped_lacks A disk now o Memory has stops rose sealed = tt
 
 -- nothing was trained
 pub when_unloaded : (A : Type 0) (s : Status) (P : Type 0) → ComesOfLoading s → (let r : Result A Status = Err s in WhenTrained r P)

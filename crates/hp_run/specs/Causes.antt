@@ -6,12 +6,9 @@ use Rattle.hp_outside.specs.Disks.{Store}
 use Rattle.hp_gen.specs.Generated.{generated}
 use Rattle.hp_plants.specs.declared.refusal.HydroRefusal.{HydroRefusal}
 use Rattle.hp_hydro.specs.Text.{hydro_at}
-use Rattle.hp_theory.specs.Problem.{node_at}
-use Rattle.hp_theory.specs.View.{problem_of}
 use Rattle.hp_lp.specs.Chained.{Solving}
-use Rattle.hp_settle.specs.declared.judging.Dead.{Dead}
-use Rattle.hp_settle.specs.Refutation.{NoDecision}
-use Rattle.hp_run.specs.Outcome.{IsRefused, Makes, Reads, ReadsJournal, Reports, Solves, WithBase, based_at, report_at}
+use Rattle.hp_run.specs.Outcome.{IsRefused, Makes, Reads, ReadsJournal, Reports, Solves, based_at, report_at}
+use Rattle.hp_run.specs.Refuted.{IsRefuted}
 use Rattle.hp_run.specs.SoundText.{SoundText}
 use Rattle.hp_run.specs.declared.job.Job.{Job}
 use Rattle.hp_run.specs.declared.job.Job.TheVariants.{Plan, Hydro, Generate}
@@ -64,17 +61,13 @@ WasLong left left_now = (piece : List ℕ) × (length piece ≡ 2 ^ 24 + 1) × C
 abbrev pub Wrote : {Start Chain : Type 0} → Solving Start Chain → Task → Ends → (List ℕ → Type 0) → Type 0
 Wrote v task e written = ReadAll e (λ bytes. (text : List ℕ) × Reports v task e.kept bytes (Ok text) × SoundText task bytes text × written text)
 
--- no decisions exist at the node, the values and the state of a refutation, in any fraction of a unit
-abbrev pub IsRefuted : List ℕ → Dead → Type 0
-IsRefuted bytes dead = (b : WithBase) × (based_at bytes ≡ Ok b) × NoDecision (node_at (problem_of b.problem) dead.node) dead.values dead.state
-
 -- why a task gives no report
 abbrev pub Lacks : {Start Chain : Type 0} → Solving Start Chain → Task → Option (List ℕ) → ℕ → ℕ → List ℕ → Status → Type 0
 Lacks v task told disk disk_now bytes (ProblemRefused r) = IsRefused task bytes r
 Lacks v task told disk disk_now bytes (JournalRefused r) = ReadsJournal task × Reports v task told bytes (Err (JournalRefused r))
 Lacks v task told disk disk_now bytes (TooMuch t) = ReadsJournal task × Reports v task told bytes (Err (TooMuch t))
 Lacks v task told disk disk_now bytes (Range k m r) = Makes task × Reports v task told bytes (Err (Range k m r))
-Lacks v task told disk disk_now bytes (NoStage dead) = Solves task × Reports v task told bytes (Err (NoStage dead)) × IsRefuted bytes dead
+Lacks v task told disk disk_now bytes (NoStage dead) = Solves task × Reports v task told bytes (Err (NoStage dead)) × IsRefuted task bytes dead
 Lacks v task told disk disk_now bytes DiskFault = ReadsJournal task × Rose disk disk_now
 Lacks v task told disk disk_now bytes Memory = ⊤
 Lacks v task told disk disk_now bytes Done = ⊥
@@ -95,7 +88,7 @@ ExplainsTask v task e (ProblemRefused r) = ReadAll e (λ bytes. IsRefused task b
 ExplainsTask v task e (JournalRefused r) = ReadsJournal task × ReadAll e (λ bytes. Reports v task e.kept bytes (Err (JournalRefused r))) × Keeps e.taken e.taken_now
 ExplainsTask v task e (TooMuch t) = ReadsJournal task × ReadAll e (λ bytes. Reports v task e.kept bytes (Err (TooMuch t))) × Keeps e.taken e.taken_now
 ExplainsTask v task e (Range k m r) = Makes task × ReadAll e (λ bytes. Reports v task e.kept bytes (Err (Range k m r))) × Keeps e.taken e.taken_now
-ExplainsTask v task e (NoStage dead) = Solves task × ReadAll e (λ bytes. Reports v task e.kept bytes (Err (NoStage dead)) × IsRefuted bytes dead) × Keeps e.taken e.taken_now
+ExplainsTask v task e (NoStage dead) = Solves task × ReadAll e (λ bytes. Reports v task e.kept bytes (Err (NoStage dead)) × IsRefuted task bytes dead) × Keeps e.taken e.taken_now
 ExplainsTask v task e DiskFault = ReadsJournal task × Rose e.disk e.disk_now × IsAtEnd e.left_now × Keeps e.taken e.taken_now
 ExplainsTask v task e WriteFault = Rose e.writes e.writes_now × Wrote v task e (λ text. (n : ℕ) × Appends e.taken e.taken_now (take n text))
 ExplainsTask v task e Memory = Keeps e.taken e.taken_now

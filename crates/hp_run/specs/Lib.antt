@@ -4,6 +4,7 @@ pub mod Status
 pub mod Words
 pub mod SoundText
 pub mod Outcome
+pub mod Refuted
 pub mod Causes
 pub mod TrainingLines
 pub mod Journals

@@ -1,9 +1,5 @@
 -- What code that trains on a journal answers.
-use Rattle.std.specs.Prelude.{◌≡◌, ℕ, List, Option, Some, None, Result, Ok, Err, ⊤}
-use Rattle.hp_problem.specs.Sealed.{Sealed}
-use Rattle.hp_theory.specs.Problem.{node_at}
-use Rattle.hp_theory.specs.View.{problem_of}
-use Rattle.hp_settle.specs.Refutation.{NoDecision}
+use Rattle.std.specs.Prelude.{◌≡◌, Option, Some, None, Result, Ok, Err, ⊤}
 use Rattle.hp_backward.specs.declared.fault.SweepFault.{SweepFault}
 use Rattle.hp_backward.specs.declared.fault.SweepFault.TheVariants as sweeps
 use Rattle.hp_run.specs.declared.status.Status.{Status}
@@ -74,19 +70,3 @@ WhenTrained (Err (ProblemRefused r)) P = ⊤
 WhenTrained (Err (JournalRefused r)) P = ⊤
 WhenTrained (Err (TooMuch t)) P = ⊤
 WhenTrained (Err WriteFault) P = P
-
--- where a node is refuted, no decisions exist there
-abbrev pub IsDead : Sealed → Status → Type 0
-IsDead p (NoStage dead) = NoDecision (node_at (problem_of p) dead.node) dead.values dead.state
-IsDead p Done = ⊤
-IsDead p Usage = ⊤
-IsDead p ReadFault = ⊤
-IsDead p TooLong = ⊤
-IsDead p (HydroRefused refusal) = ⊤
-IsDead p (ProblemRefused r) = ⊤
-IsDead p (JournalRefused r) = ⊤
-IsDead p (TooMuch t) = ⊤
-IsDead p (Range k m r) = ⊤
-IsDead p DiskFault = ⊤
-IsDead p WriteFault = ⊤
-IsDead p Memory = ⊤

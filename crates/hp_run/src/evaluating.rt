@@ -10,7 +10,7 @@ ghost use Rattle.hp_theory.specs.Tree.{Forest, Policy};
 ghost use Rattle.hp_theory.specs.View.{problem_of};
 ghost use Rattle.hp_theory.specs.declared.cut.Cut.{Cut};
 ghost use Rattle.hp_lp.specs.Chained.{solving};
-ghost use Rattle.hp_forward.specs.Given.{Gives, OnNoStage, Refutes};
+ghost use Rattle.hp_forward.specs.Given.{Gives};
 ghost use Rattle.hp_tree.specs.PolicyTree.{verdict_of};
 ghost use Rattle.hp_tree.specs.TooBig.{too_big_of};
 ghost use Rattle.hp_tree.specs.Upper.{IsUpper};
@@ -46,7 +46,6 @@ fn verdict_of<V: Solver>(
     ensures value { Gives result (verdict_of (solving (V.started solver.now) (V.begun solver.now) (V.next solver.now)) problem.now pools.now.lists) }
     ensures two_sided { OnCost result (λ upper. (f : Forest) × Policy (problem_of problem.now) S f × IsUpper (problem_of problem.now) f upper
         × (Sound (problem_of problem.now) pools.now.lists → bound (problem_of problem.now) pools.now.lists ≤ℤ upper)) }
-    ensures dead { OnNoStage result (Refutes problem.now) }
 {
     let starts = Starts::new(alloc, problem, solver)?;
     evaluate(alloc, problem, pools, solver, &starts)

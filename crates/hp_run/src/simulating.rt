@@ -6,7 +6,7 @@ ghost use Rattle.hp_theory.specs.Range.{based};
 ghost use Rattle.hp_theory.specs.View.{problem_of};
 ghost use Rattle.hp_theory.specs.declared.cut.Cut.{Cut};
 ghost use Rattle.hp_lp.specs.Chained.{solving};
-ghost use Rattle.hp_forward.specs.Given.{Gives, OnNoStage, Refutes};
+ghost use Rattle.hp_forward.specs.Given.{Gives};
 ghost use Rattle.hp_sim.specs.Tracing.{AreKnown, traces_of};
 ghost use Rattle.hp_run.specs.Causes.{Lacks};
 ghost use Rattle.hp_run.specs.Outcome.{Reports, based_at, count_of, runs_of, task_for};
@@ -58,7 +58,6 @@ fn traced<V: Solver>(
     requires fit { Fit (problem_of problem.now) (length problem.now.raw.nodes) pools.now.lists }
     ensures value { Gives result (traces_of (solving (V.started solver.now) (V.begun solver.now) (V.next solver.now)) problem.now pools.now.lists (runs_of problem.now scenarios)) }
     ensures known { IfOk result (All (AreKnown problem.now)) }
-    ensures dead { OnNoStage result (Refutes problem.now) }
 {
     let starts = Starts::new(alloc, problem, solver)?;
     match scenarios {

@@ -24,7 +24,7 @@ ghost use Rattle.hp_run.specs.Causes.{Lacks};
 ghost use Rattle.hp_run.specs.Journals.{Grows, LeavesMine, is_refusal};
 ghost use Rattle.hp_run.specs.Outcome.{Reports, based_at, loaded_for, ready_for};
 ghost use Rattle.hp_run.specs.SoundText.{IsSoundReport};
-ghost use Rattle.hp_run.specs.Training.{ComesOfLoading, IsDead, Refuses, StopsAs, WhenTrained};
+ghost use Rattle.hp_run.specs.Training.{ComesOfLoading, Refuses, StopsAs, WhenTrained};
 ghost use Rattle.hp_run.specs.declared.status.Status.TheVariants as statuses;
 ghost use Rattle.hp_run.specs.declared.task.Task.TheVariants as tasks;
 
@@ -129,7 +129,6 @@ fn train_on<R: Threads + Sync, D: Disk, V: Solver>(
         → i ≤ j → ((c : List ℕ) → (D.store journal.old).images c → MineFrom (title_of digest.now asked.seed (seen loaded.old)) ps i c)
         → LeavesOnly (D.store journal.old) (D.store journal.new) (MineFrom (title_of digest.now asked.seed (seen loaded.old)) ps i)) }
     ensures cause { DiskCause (D.faults journal.old) (D.faults journal.new) (result ≡ Err statuses.DiskFault) }
-    ensures dead { IfErr result (IsDead problem.now) }
     ensures fit { OnOk result (Fit (problem_of problem.now) (length problem.now.raw.nodes) loaded.new.pools.lists) }
     ensures sound { Sound (problem_of problem.now) loaded.old.pools.lists → OnOk result (Sound (problem_of problem.now) loaded.new.pools.lists) }
     ensures under { Sound (problem_of problem.now) loaded.old.pools.lists → All (Under (problem_of problem.now)) loaded.old.bounds → OnOk result (All (Under (problem_of problem.now)) loaded.new.bounds) }

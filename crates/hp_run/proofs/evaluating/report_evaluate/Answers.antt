@@ -25,7 +25,7 @@ returns-in-Err-verdict_of-clause-lacks g c =
     let kept = (g.D.Disk.store c.args.journal.now).reads in
     let loaded = c.in-Ok-load_within.loaded in
     let told = loaded_by kept (λ (r : Result Outcome Status). r ≡ Ok (seen loaded)) b _ _ _ _ c.digest-digest.ensures c.in-Ok.ensures c.in-Ok-load_within.ensures.value in
-    rw c.status_of_stage.ensures (not_judged v c.args.bytes.now b kept c.requires.read (seen loaded) told _ _ c.in-Err-verdict_of.fault c.in-Err-verdict_of.ensures.value c.in-Err-verdict_of.ensures.dead)
+    rw c.status_of_stage.ensures (not_judged v c.args.bytes.now b kept c.requires.read (seen loaded) told _ _ c.in-Err-verdict_of.fault c.in-Err-verdict_of.ensures.value c.raw.ensures.sealed)
 
 pub returns-in-Ok-verdict_report-clause-report : goal.returns-in-Ok-verdict_report-clause-report
 returns-in-Ok-verdict_report-clause-report g c =

@@ -27,7 +27,7 @@ returns-in-Err-traced-clause-lacks g c =
     let kept = (g.D.Disk.store c.args.journal.now).reads in
     let formula = c.too_wide-formula.ensures ∙ ap (λ (n : ℕ). too_wide b.problem n) c.count_of.ensures in
     let told = loaded_by kept (λ (r : Result Outcome Status). r ≡ Ok (seen c.in-Ok.loaded)) b _ _ _ _ c.digest-digest.ensures formula c.in-Ok.ensures.value in
-    rw c.status_of_stage.ensures (not_traced v c.args.scenarios c.args.bytes.now b kept c.requires.read (seen c.in-Ok.loaded) told _ _ c.in-Err-traced.fault c.in-Err-traced.ensures.value c.in-Err-traced.ensures.dead)
+    rw c.status_of_stage.ensures (not_traced v c.args.scenarios c.args.bytes.now b kept c.requires.read (seen c.in-Ok.loaded) told _ _ c.in-Err-traced.fault c.in-Err-traced.ensures.value c.raw.ensures.sealed)
 
 pub returns-in-Ok-trace_report-clause-report : goal.returns-in-Ok-trace_report-clause-report
 returns-in-Ok-trace_report-clause-report g c =

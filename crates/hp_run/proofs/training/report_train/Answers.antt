@@ -23,7 +23,7 @@ pub returns-in_err-train_on-clause-lacks : goal.returns-in_err-train_on-clause-l
 returns-in_err-train_on-clause-lacks g c =
     let ready = is_ready _ _ _ _ _ _ _ _ c.requires.read c.digest-digest.ensures c.in_ok-loaded.ensures.value in
     let e = err_from_is_err_and c.from_residual-in_err-train_on.result c.from_residual-in_err-train_on.ensures.1 in
-    rw (e.1, e.2) (stopped_lacks _ _ _ _ _ _ ready.base _ (Unit {0}) _ _ _ c.in_err-train_on.field-0.0 ready.ready c.in_err-train_on.ensures.stop (λ d. rose_later _ _ _ c.load_for.ensures.cause.later (c.train_on.ensures.cause.failed (c.in_err-train_on.was ∙ ap Err d))) c.in_err-train_on.ensures.dead)
+    rw (e.1, e.2) (stopped_lacks _ _ _ _ _ _ ready.base _ (Unit {0}) _ _ _ c.in_err-train_on.field-0.0 ready.ready c.in_err-train_on.ensures.stop (λ d. rose_later _ _ _ c.load_for.ensures.cause.later (c.train_on.ensures.cause.failed (c.in_err-train_on.was ∙ ap Err d))) c.raw.ensures.sealed)
 
 pub returns-in_err-train_on-clause-grown : goal.returns-in_err-train_on-clause-grown
 returns-in_err-train_on-clause-grown g c =
