@@ -22,3 +22,11 @@ pub mod SoundVerdict
 pub mod Plans
 pub mod Meant
 pub mod AnyStops
+pub mod FirstRefusal
+pub mod ThereFacts
+pub mod ToldRoot
+pub mod ToldSubproblems
+pub mod ToldNodes
+pub mod ToldGraph
+pub mod ToldAll
+pub mod Finding

@@ -5,6 +5,9 @@ pub mod Words
 pub mod SoundText
 pub mod Outcome
 pub mod Refuted
+pub mod FirstRefusal
+pub mod There
+pub mod CheckList
 pub mod Causes
 pub mod TrainingLines
 pub mod Journals

@@ -1,0 +1,61 @@
+-- The first check that finds a refusal, and those before it.
+use Rattle.std.proofs.Common.{◌≡◌, ◌↔◌, ℕ, List, [], ◌∷◌, ◌++◌, Option, Some, None, Result, Ok, Err, refl, sym, ap, ◌∙◌}
+use Rattle.std.specs.List.{AllByRecursion}
+use Rattle.std.specs.Option.{option_or}
+use Rattle.hp_problem.specs.declared.refusal.Refusal.{Refusal}
+use Rattle.hp_run.specs.FirstRefusal.{Check, IsFirst, first, refusal_of}
+use Rattle.hp_run.specs.CheckList.{checks, checks_of, list_checks}
+use Rattle.hp_run.specs.Outcome.{IsRefused, based_at, listed_at}
+use Rattle.hp_run.specs.declared.task.Task.{Task}
+use Rattle.hp_run.specs.declared.task.Task.TheVariants as tasks
+use Rattle.hp_run.proofs.FirstRefusal.{Told}
+use Rattle.hp_run.proofs.ToldAll.{based-told, listed-told}
+
+-- with one more in front that finds nothing
+behind : (c : Check) (cs : List Check) (bytes : List ℕ) (r : Refusal) → c.finds bytes ≡ None → IsFirst cs bytes r → IsFirst (c ∷ cs) bytes r
+behind c cs bytes r e f = record {
+  before = c ∷ f.before;
+  check = f.check;
+  after = f.after;
+  listed = ap (λ ds. c ∷ ds) f.listed;
+  nothing = (e, f.nothing);
+  found = f.found;
+}
+
+found-first : (cs : List Check) (bytes : List ℕ) (r : Refusal) → first cs bytes ≡ Some r → IsFirst cs bytes r
+found-first [] bytes r e = absurd cc
+found-first (c ∷ cs) bytes r e = by (c.finds bytes) refl (found-first cs bytes r) e
+  where
+    by : (o : Option Refusal) → c.finds bytes ≡ o → (first cs bytes ≡ Some r → IsFirst cs bytes r) → option_or o (first cs bytes) ≡ Some r → IsFirst (c ∷ cs) bytes r
+    by None is more e = behind c cs bytes r is (more e)
+    by (Some q) is more e = record { before = []; check = c; after = cs; listed = refl; nothing = tt; found = is ∙ e }
+
+after-nothing : (before : List Check) (check : Check) (after : List Check) (bytes : List ℕ) (r : Refusal) → AllByRecursion (λ (c : Check). c.finds bytes ≡ None) before → check.finds bytes ≡ Some r
+    → first (before ++ check ∷ after) bytes ≡ Some r
+after-nothing [] check after bytes r nothing found = rw found refl
+after-nothing (c ∷ before) check after bytes r nothing found = rw nothing.0 (after-nothing before check after bytes r nothing.1 found)
+
+first-found : (cs : List Check) (bytes : List ℕ) (r : Refusal) → IsFirst cs bytes r → first cs bytes ≡ Some r
+first-found cs bytes r f = ap (λ ds. first ds bytes) f.listed ∙ after-nothing f.before f.check f.after bytes r f.nothing f.found
+
+refused : {A : Type 0} (x : Result A Refusal) (r : Refusal) → refusal_of x ≡ Some r → x ≡ Err r
+refused (Ok v) r e = absurd cc
+refused (Err q) r e = cc
+
+-- what is refused is what the first check finds, and the other way round
+told-first : {A : Type 0} (bytes : List ℕ) (cs : List Check) (x : Result A Refusal) → Told bytes cs x → (r : Refusal) → (x ≡ Err r) ↔ (first cs bytes ≡ Some r)
+told-first bytes cs x told r = ((λ e. sym told.is ∙ ap refusal_of e), (λ e. refused x r (told.is ∙ e)))
+
+pub refused-first : (task : Task) (bytes : List ℕ) (r : Refusal) → IsRefused task bytes r ↔ (first (checks_of task bytes) bytes ≡ Some r)
+refused-first tasks.Base bytes r = told-first bytes (checks bytes) (based_at bytes) (based-told bytes) r
+refused-first (tasks.Train seed count batch) bytes r = told-first bytes (checks bytes) (based_at bytes) (based-told bytes) r
+refused-first tasks.Check bytes r = told-first bytes (checks bytes) (based_at bytes) (based-told bytes) r
+refused-first (tasks.Simulate seed count) bytes r = told-first bytes (checks bytes) (based_at bytes) (based-told bytes) r
+refused-first tasks.Validate bytes r = told-first bytes (checks bytes) (based_at bytes) (based-told bytes) r
+refused-first tasks.Evaluate bytes r = told-first bytes (checks bytes) (based_at bytes) (based-told bytes) r
+refused-first tasks.Robust bytes r = told-first bytes (checks bytes ++ list_checks bytes) (listed_at bytes) (listed-told bytes) r
+
+pub none-before : (task : Task) (bytes : List ℕ) (r : Refusal) → IsRefused task bytes r ↔ IsFirst (checks_of task bytes) bytes r
+none-before task bytes r =
+    let it = refused-first task bytes r in
+    ((λ e. found-first (checks_of task bytes) bytes r (it.0 e)), (λ f. it.1 (first-found (checks_of task bytes) bytes r f)))

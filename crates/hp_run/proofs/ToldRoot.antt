@@ -1,0 +1,54 @@
+-- The reader of the whole and of the root refuses what the checks of the whole and of the root find first.
+use Rattle.std.proofs.Common.{◌≡◌, ℕ, List, [], codes, Some, refl}
+use Rattle.serde_json.specs.Data.{Data, Members}
+use Rattle.serde_json.specs.Events.{members_len}
+use Rattle.serde_json.specs.Find.{get_member}
+use Rattle.hp_problem.specs.declared.raw.State.{State}
+use Rattle.hp_problem.specs.declared.refusal.Part.{Part}
+use Rattle.hp_problem.specs.declared.refusal.Part.TheVariants as parts
+use Rattle.hp_fields.specs.Fields.{keys_of, place, key_at, present_at, object_at, weight_at}
+use Rattle.hp_fields.specs.Limits.{known_at, members_at}
+use Rattle.hp_sof.specs.Root.{root, at_state, initial_at, state_at, states_at, counts_at, root_at}
+use Rattle.hp_sof.specs.Successors.{no_successors, successor_at, successors_at}
+use Rattle.hp_sof.specs.Weights.{weights_at}
+use Rattle.hp_run.specs.FirstRefusal.{of_each, refusal_of}
+use Rattle.hp_run.specs.There as there
+use Rattle.hp_run.specs.CheckList.{initial_checks, start_checks, root_checks}
+use Rattle.hp_run.proofs.FirstRefusal.{Told, refusal-same, one-then, all-then, one-last, made, all-members}
+use Rattle.hp_run.proofs.ThereFacts.{state_members-is, start_value-is, start_members-is, start-is}
+
+state-same : (found other : List State) (s : ℕ) (k : List ℕ) (d : Data) → refusal_of (state_at other s k d) ≡ refusal_of (state_at found s k d)
+unfolding state_at
+state-same found other s k d = refusal-same (key_at (at_state s) k) _ _ (λ name. refusal-same (initial_at (at_state s) d) _ _ (λ initial. refl))
+
+pub successor-same : (part : Part) (a i : ℕ) (names : List (List ℕ)) (found other : there.Successors) (k : List ℕ) (d : Data)
+    → refusal_of (successor_at (place part a i 0) names other k d) ≡ refusal_of (successor_at (place part a i 0) names found k d)
+unfolding successor_at
+successor-same part a i names found other k d = refusal-same (weight_at (place part a i 0) d) _ _ (λ weight. refusal-same (known_at (place part a i 0) _) _ _ (λ node. refl))
+
+module _ (bytes : List ℕ) where
+  states-told : (ms : Members) → there.state_members bytes ≡ Some ms → Told bytes (of_each initial_checks 0 (there.members_in (there.state_members bytes))) (states_at ms)
+  unfolding states_at initial_checks
+  states-told ms is =
+      all-members bytes initial_checks state_at (there.state_members bytes) ms [] is (λ found s k d e. one-last bytes _ (state_at found s k d) (rw (is, e) (state-same found [] s k d)))
+
+  start-told : (ns ms : Members) → there.table (codes "nodes") bytes ≡ Some ns → there.start_members bytes ≡ Some ms
+      → Told bytes (of_each start_checks 0 (there.members_in (there.start_members bytes))) (successors_at parts.Root 2 (keys_of ns) ms)
+  unfolding successors_at start_checks
+  start-told ns ms are is =
+      all-members bytes start_checks (λ found i k d. successor_at (place parts.Root 2 i 0) (keys_of ns) found k d) (there.start_members bytes) ms no_successors is
+      (λ found i k d e. one-last bytes _ (successor_at (place parts.Root 2 i 0) (keys_of ns) found k d) (rw (are, is, e) (successor-same parts.Root 2 i (keys_of ns) found no_successors k d)))
+
+  pub root-told : (ns ms : Members) → there.table (codes "nodes") bytes ≡ Some ns → there.table (codes "root") bytes ≡ Some ms → Told bytes (root_checks bytes) (root_at (keys_of ns) ms)
+  unfolding root_checks root_at
+  root-told ns ms are is =
+      one-then bytes _ _ (members_at root (get_member (codes "state_variables") ms)) _ (rw is refl) (λ ss e1.
+      one-then bytes _ _ (present_at root (get_member (codes "successors") ms)) _ (rw is refl) (λ inner e2.
+      let is2 = start_value-is bytes ms is inner e2 in
+      one-then bytes _ _ (object_at root inner) _ (rw is2 refl) (λ links e3.
+      let is1 = state_members-is bytes ms is ss e1 in
+      let is3 = start_members-is bytes inner links is2 e3 in
+      one-then bytes _ _ (counts_at root (members_len ss) (members_len links)) _ (rw (is1, is3) refl) (λ counted e4.
+      all-then bytes (of_each initial_checks 0 (there.members_in (there.state_members bytes))) _ (states_at ss) _ (states-told ss is1) (λ qs e5.
+      all-then bytes (of_each start_checks 0 (there.members_in (there.start_members bytes))) _ (successors_at parts.Root 2 (keys_of ns) links) _ (start-told ns links are is3) (λ found e6.
+      made bytes _ (weights_at root 0 found.weights) _ (one-last bytes _ (weights_at root 0 found.weights) (rw (start-is bytes ns links found are is3 e6) refl))))))))

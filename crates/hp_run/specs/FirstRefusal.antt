@@ -1,0 +1,64 @@
+-- Checks in an order, and the first of them that finds a refusal.
+use Rattle.std.specs.Prelude.{◌≡◌, ℕ, zero, suc, List, [], ◌∷◌, ◌++◌, Bool, Option, Some, None, Result, Ok, Err, if◌then◌else◌}
+use Rattle.std.specs.List.{AllByRecursion}
+use Rattle.std.specs.Option.{option_or}
+use Rattle.serde_json.specs.Data.{Data, Items, no_items, item, Members, no_members, member}
+use Rattle.hp_problem.specs.declared.refusal.Place.{Place}
+use Rattle.hp_problem.specs.declared.refusal.Refusal.{Refusal}
+use Rattle.hp_problem.specs.declared.refusal.RefusalKind.{RefusalKind}
+
+-- A check by its name and the numbers of what it looks at, with the refusal that it finds in the bytes of a problem. It finds none where
+-- something is missing that it needs.
+pub record Check : Type 0 where
+  pub name : List ℕ
+  pub numbers : List ℕ
+  pub finds : List ℕ → Option Refusal
+
+abbrev pub check : List ℕ → List ℕ → (List ℕ → Option Refusal) → Check
+check name numbers finds = record { name = name; numbers = numbers; finds = finds }
+
+-- what the first of the checks finds that finds something
+abbrev pub first : List Check → List ℕ → Option Refusal
+first [] bytes = None
+first (c ∷ cs) bytes = option_or (c.finds bytes) (first cs bytes)
+
+-- the checks of the number i, and of the n - 1 numbers after it
+abbrev pub of_each : (ℕ → List Check) → ℕ → ℕ → List Check
+of_each checks i zero = []
+of_each checks i (suc n) = checks i ++ of_each checks (suc i) n
+
+-- one of the checks finds the refusal, and no check before it finds anything
+pub record IsFirst (checks : List Check) (bytes : List ℕ) (r : Refusal) : Type 0 where
+  pub before : List Check
+  pub check : Check
+  pub after : List Check
+  pub listed : checks ≡ before ++ check ∷ after
+  pub nothing : AllByRecursion (λ (c : Check). c.finds bytes ≡ None) before
+  pub found : check.finds bytes ≡ Some r
+
+-- ---- members and items by their numbers
+
+abbrev pub nth_member : ℕ → Members → Option (List ℕ × Data)
+nth_member n no_members = None
+nth_member zero (member k d ms) = Some (k, d)
+nth_member (suc n) (member k d ms) = nth_member n ms
+
+abbrev pub nth_item : ℕ → Items → Option Data
+nth_item n no_items = None
+nth_item zero (item d ds) = Some d
+nth_item (suc n) (item d ds) = nth_item n ds
+
+-- ---- what a step of the reader gives
+
+-- the value, where it is not refused
+abbrev pub there : {A : Type 0} → Result A Refusal → Option A
+there (Ok x) = Some x
+there (Err r) = None
+
+abbrev pub refusal_of : {A : Type 0} → Result A Refusal → Option Refusal
+refusal_of (Ok x) = None
+refusal_of (Err r) = Some r
+
+-- what a test refuses where it fails
+abbrev pub failing : Bool → RefusalKind → Place → Option Refusal
+failing test kind at = if test then None else Some (record { kind = kind; place = at })

@@ -1,0 +1,335 @@
+-- What there is in the bytes of a problem, part by part. A part is there where what it is read from is there and its own reading refuses
+-- nothing; what stands before it in the file, and is not needed for it, may be refused.
+use Rattle.std.specs.Prelude.{ℕ, List, [], length, slice_get, Option, Some, None, Result, codes, position}
+use Rattle.std.specs.Str.{bytes_eq}
+use Rattle.serde_json.specs.Data.{Data, Items, Members, no_members}
+use Rattle.serde_json.specs.Events.{items_len, members_len}
+use Rattle.serde_json.specs.Find.{get, get_member}
+use Rattle.hp_problem.specs.declared.raw.Moment.{Moment}
+use Rattle.hp_problem.specs.declared.raw.Node.{Node}
+use Rattle.hp_problem.specs.declared.raw.Raw.{Raw}
+use Rattle.hp_problem.specs.declared.raw.State.{State}
+use Rattle.hp_problem.specs.declared.refusal.Part.TheVariants as parts
+use Rattle.hp_problem.specs.declared.refusal.Refusal.{Refusal}
+use Rattle.hp_problem.specs.Sealed.{Sealed}
+use Rattle.hp_file.specs.File.{◌>>=◌}
+use Rattle.hp_fields.specs.Fields.{keys_of, place, whole, json_at, present_at, string_at, object_at}
+use Rattle.hp_fields.specs.Limits.{known_at, members_at, items_at}
+use Rattle.hp_subproblem.specs.Variables.{names_at}
+use Rattle.hp_subproblem.specs.Roles.{unused}
+use Rattle.hp_subproblem.specs.States.{each_state_at}
+use Rattle.hp_subproblem.specs.Randoms.{each_random_at}
+use Rattle.hp_subproblem.specs.Decisions.{decisions_at}
+use Rattle.hp_subproblem.specs.Function.{zero_function}
+use Rattle.hp_subproblem.specs.Objective.{objective_at}
+use Rattle.hp_subproblem.specs.Sides.{no_sides}
+use Rattle.hp_subproblem.specs.Constraint.{no_constraints, constraints_at}
+use Rattle.hp_subproblem.specs.StageParts.{StageParts, stage_parts_at}
+use Rattle.hp_sof.specs.Tables.{table_at}
+use Rattle.hp_sof.specs.Root.{root, states_at, root_at}
+use Rattle.hp_sof.specs.Successors.{no_successors, successors_at}
+use Rattle.hp_sof.specs.Weights.{weights_at}
+use Rattle.hp_sof.specs.Subproblems.{subproblems_at}
+use Rattle.hp_sof.specs.Values.{randoms_of}
+use Rattle.hp_sof.specs.Realizations.{at_node, no_realizations, realizations_at}
+use Rattle.hp_sof.specs.Nodes.{stop_at, nodes_at}
+use Rattle.hp_sof.specs.Scenarios.{at_scenario, steps_at, scenarios_at}
+use Rattle.hp_graph.specs.Arranged.{arranged}
+use Rattle.hp_risk.specs.Alternatives.{at_weight}
+use Rattle.hp_run.specs.FirstRefusal.{there, nth_item, nth_member}
+
+-- ---- the reader's own types, by values and functions of them
+
+abbrev pub TypeOf : {A : Type 0} → A → Type 0
+TypeOf {A = A} x = A
+
+abbrev pub Takes : {A B : Type 0} → (A → B) → Type 0
+Takes {A = A} f = A
+
+abbrev pub Gives : {A : Type 0} → Result A Refusal → Type 0
+Gives {A = A} r = A
+
+abbrev pub Root : Type 0
+Root = Gives (root_at [] no_members)
+
+abbrev pub Uses : Type 0
+Uses = TypeOf (unused 0)
+
+abbrev pub Variables : Type 0
+Variables = Takes constraints_at
+
+abbrev pub Function : Type 0
+Function = TypeOf (zero_function 0)
+
+abbrev pub Constraints : Type 0
+Constraints = TypeOf (no_constraints 0)
+
+abbrev pub Sides : Type 0
+Sides = TypeOf no_sides
+
+abbrev pub Successors : Type 0
+Successors = TypeOf no_successors
+
+abbrev pub Realizations : Type 0
+Realizations = TypeOf no_realizations
+
+abbrev pub SubproblemTable : Type 0
+SubproblemTable = Takes (nodes_at [])
+
+-- ---- counts; 0 where there is nothing to count
+
+abbrev pub members_in : Option Members → ℕ
+members_in None = 0
+members_in (Some ms) = members_len ms
+
+abbrev pub items_in : Option Items → ℕ
+items_in None = 0
+items_in (Some ds) = items_len ds
+
+abbrev pub nodes_in : Option Raw → ℕ
+nodes_in None = 0
+nodes_in (Some raw) = length raw.nodes
+
+-- ---- the document and its tables
+
+unfoldable pub document : List ℕ → Option Data
+document bytes = there (json_at bytes)
+
+-- the object under a key of the whole
+unfoldable pub table : List ℕ → List ℕ → Option Members
+table key bytes = do
+  d ← document bytes
+  there (table_at key d)
+
+-- the member n of such an object, with its key
+unfoldable pub entry : List ℕ → ℕ → List ℕ → Option (List ℕ × Data)
+entry key n bytes = do
+  ms ← table key bytes
+  nth_member n ms
+
+-- how many there are
+unfoldable pub entries : List ℕ → List ℕ → ℕ
+entries key bytes = members_in (table key bytes)
+
+unfoldable pub stored : List ℕ → Option Items
+stored bytes = do
+  d ← document bytes
+  there (items_at whole (get (codes "validation_scenarios") d))
+
+-- ---- the root
+
+unfoldable pub state_members : List ℕ → Option Members
+state_members bytes = do
+  ms ← table (codes "root") bytes
+  there (members_at root (get_member (codes "state_variables") ms))
+
+unfoldable pub start_value : List ℕ → Option Data
+start_value bytes = do
+  ms ← table (codes "root") bytes
+  there (present_at root (get_member (codes "successors") ms))
+
+unfoldable pub start_members : List ℕ → Option Members
+start_members bytes = do
+  d ← start_value bytes
+  there (object_at root d)
+
+unfoldable pub states : List ℕ → Option (List State)
+states bytes = do
+  ms ← state_members bytes
+  there (states_at ms)
+
+unfoldable pub start : List ℕ → Option Successors
+start bytes = do
+  nodes ← table (codes "nodes") bytes
+  ms ← start_members bytes
+  there (successors_at parts.Root 2 (keys_of nodes) ms)
+
+unfoldable pub start_weights : List ℕ → Option (List ℕ)
+start_weights bytes = do
+  links ← start bytes
+  there (weights_at root 0 links.weights)
+
+-- ---- the subproblem p
+
+unfoldable pub stage : ℕ → List ℕ → Option StageParts
+stage p bytes = do
+  it ← entry (codes "subproblems") p bytes
+  there (stage_parts_at (place parts.Subproblem p 0 0) it.1)
+
+unfoldable pub names : ℕ → List ℕ → Option (List (List ℕ))
+names p bytes = do
+  st ← stage p bytes
+  there (names_at p st.variables)
+
+unfoldable pub state_uses : ℕ → List ℕ → Option Uses
+state_uses p bytes = do
+  st ← stage p bytes
+  ns ← names p bytes
+  there (each_state_at ns p (unused (length ns)) st.states)
+
+unfoldable pub uses : ℕ → List ℕ → Option Uses
+uses p bytes = do
+  st ← stage p bytes
+  ns ← names p bytes
+  found ← state_uses p bytes
+  there (each_random_at ns p found st.randoms)
+
+unfoldable pub variables : ℕ → List ℕ → Option Variables
+variables p bytes = do
+  ns ← names p bytes
+  used ← uses p bytes
+  decisions ← there (decisions_at p used.roles)
+  Some (record { names = ns; uses = used; decisions = decisions })
+
+unfoldable pub costs : ℕ → List ℕ → Option Function
+costs p bytes = do
+  st ← stage p bytes
+  ns ← names p bytes
+  there (objective_at ns p st.objective)
+
+unfoldable pub constraint_items : ℕ → List ℕ → Option Items
+constraint_items p bytes = do
+  st ← stage p bytes
+  Some st.constraints
+
+unfoldable pub constraint : ℕ → ℕ → List ℕ → Option Data
+constraint p i bytes = do
+  ds ← constraint_items p bytes
+  nth_item i ds
+
+unfoldable pub constraint_count : ℕ → List ℕ → ℕ
+constraint_count p bytes = items_in (constraint_items p bytes)
+
+unfoldable pub constraints : ℕ → List ℕ → Option Constraints
+constraints p bytes = do
+  st ← stage p bytes
+  vars ← variables p bytes
+  there (constraints_at vars p st.constraints)
+
+unfoldable pub subproblems : List ℕ → Option SubproblemTable
+subproblems bytes = do
+  qs ← states bytes
+  ms ← table (codes "subproblems") bytes
+  there (subproblems_at qs ms)
+
+-- ---- the node n
+
+unfoldable pub own_name : ℕ → List ℕ → Option Data
+own_name n bytes = do
+  it ← entry (codes "nodes") n bytes
+  there (present_at (at_node n) (get (codes "subproblem") it.1))
+
+unfoldable pub own_text : ℕ → List ℕ → Option (List ℕ)
+own_text n bytes = do
+  d ← own_name n bytes
+  there (string_at (at_node n) d)
+
+unfoldable pub own_subproblem : ℕ → List ℕ → Option ℕ
+own_subproblem n bytes = do
+  name ← own_text n bytes
+  ms ← table (codes "subproblems") bytes
+  there (known_at (at_node n) (position (bytes_eq name) (keys_of ms)))
+
+unfoldable pub outcomes : ℕ → List ℕ → Option Items
+outcomes n bytes = do
+  it ← entry (codes "nodes") n bytes
+  there (items_at (at_node n) (get (codes "realizations") it.1))
+
+unfoldable pub outcome : ℕ → ℕ → List ℕ → Option Data
+outcome n r bytes = do
+  ds ← outcomes n bytes
+  nth_item r ds
+
+unfoldable pub next_members : ℕ → List ℕ → Option Members
+next_members n bytes = do
+  it ← entry (codes "nodes") n bytes
+  there (members_at (at_node n) (get (codes "successors") it.1))
+
+unfoldable pub next_entry : ℕ → ℕ → List ℕ → Option (List ℕ × Data)
+next_entry n i bytes = do
+  ms ← next_members n bytes
+  nth_member i ms
+
+-- its random variables, which are those of its subproblem
+unfoldable pub randoms : ℕ → List ℕ → Option (List (List ℕ))
+randoms n bytes = do
+  sub ← own_subproblem n bytes
+  all ← subproblems bytes
+  Some (randoms_of all.subs sub)
+
+unfoldable pub realizations : ℕ → List ℕ → Option Realizations
+realizations n bytes = do
+  ns ← randoms n bytes
+  ds ← outcomes n bytes
+  there (realizations_at n ns ds)
+
+unfoldable pub next : ℕ → List ℕ → Option Successors
+next n bytes = do
+  nodes ← table (codes "nodes") bytes
+  ms ← next_members n bytes
+  there (successors_at parts.Successor n (keys_of nodes) ms)
+
+unfoldable pub stop : ℕ → List ℕ → Option ℕ
+stop n bytes = do
+  it ← entry (codes "nodes") n bytes
+  there (stop_at (at_node n) (get (codes "stop") it.1))
+
+unfoldable pub nodes : List ℕ → Option (List Node)
+nodes bytes = do
+  ms ← table (codes "nodes") bytes
+  all ← subproblems bytes
+  there (nodes_at (keys_of ms) all ms)
+
+-- ---- the graph, without stored scenarios and with them
+
+unfoldable pub graph : List ℕ → Option Raw
+graph bytes = do
+  qs ← states bytes
+  links ← start bytes
+  weights ← start_weights bytes
+  all ← subproblems bytes
+  ns ← nodes bytes
+  Some (record { states = qs; root = links.nodes; root_weights = weights; nodes = ns; subs = all.subs; scenarios = [] })
+
+-- the steps of the scenario k
+unfoldable pub steps : ℕ → List ℕ → Option Items
+steps k bytes = do
+  ds ← stored bytes
+  d ← nth_item k ds
+  there (steps_at (at_scenario k) d)
+
+unfoldable pub scenarios : List ℕ → Option (List (List Moment))
+scenarios bytes = do
+  ms ← table (codes "nodes") bytes
+  raw ← graph bytes
+  ds ← stored bytes
+  there (scenarios_at (keys_of ms) raw ds)
+
+unfoldable pub sealed : List ℕ → Option Sealed
+sealed bytes = do
+  raw ← graph bytes
+  paths ← scenarios bytes
+  there (arranged (record raw { scenarios = paths }))
+
+-- ---- the weights that are listed at the node n
+
+unfoldable pub lister : ℕ → List ℕ → Option Node
+lister n bytes = do
+  raw ← graph bytes
+  slice_get raw.nodes n
+
+unfoldable pub lister_value : ℕ → List ℕ → Option Data
+lister_value n bytes = do
+  node ← lister n bytes
+  ms ← table (codes "nodes") bytes
+  there (present_at whole (get_member node.name ms))
+
+unfoldable pub lists : ℕ → List ℕ → Option Items
+lists n bytes = do
+  d ← lister_value n bytes
+  there (items_at (at_weight n 0 0) (get (codes "alternatives") d))
+
+unfoldable pub alternative : ℕ → ℕ → List ℕ → Option Data
+alternative n i bytes = do
+  ds ← lists n bytes
+  nth_item i ds
