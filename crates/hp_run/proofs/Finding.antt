@@ -1,9 +1,8 @@
 -- The first check that finds a refusal, and those before it.
-use Rattle.std.proofs.Common.{◌≡◌, ◌↔◌, ℕ, List, [], ◌∷◌, ◌++◌, Option, Some, None, Result, Ok, Err, refl, sym, ap, ◌∙◌}
-use Rattle.std.specs.List.{AllByRecursion}
+use Rattle.std.proofs.Common.{◌≡◌, ◌↔◌, ℕ, List, [], ◌∷◌, ◌++◌, Option, Some, None, Result, Ok, Err, IsOk, refl, sym, ap, ◌∙◌}
 use Rattle.std.specs.Option.{option_or}
 use Rattle.hp_problem.specs.declared.refusal.Refusal.{Refusal}
-use Rattle.hp_run.specs.FirstRefusal.{Check, IsFirst, first, refusal_of}
+use Rattle.hp_run.specs.FirstRefusal.{Check, FindNothing, IsFirst, first, refusal_of}
 use Rattle.hp_run.specs.CheckList.{checks, checks_of, list_checks}
 use Rattle.hp_run.specs.Outcome.{IsRefused, based_at, listed_at}
 use Rattle.hp_run.specs.declared.task.Task.{Task}
@@ -30,7 +29,7 @@ found-first (c ∷ cs) bytes r e = by (c.finds bytes) refl (found-first cs bytes
     by None is more e = behind c cs bytes r is (more e)
     by (Some q) is more e = record { before = []; check = c; after = cs; listed = refl; nothing = tt; found = is ∙ e }
 
-after-nothing : (before : List Check) (check : Check) (after : List Check) (bytes : List ℕ) (r : Refusal) → AllByRecursion (λ (c : Check). c.finds bytes ≡ None) before → check.finds bytes ≡ Some r
+after-nothing : (before : List Check) (check : Check) (after : List Check) (bytes : List ℕ) (r : Refusal) → FindNothing bytes before → check.finds bytes ≡ Some r
     → first (before ++ check ∷ after) bytes ≡ Some r
 after-nothing [] check after bytes r nothing found = rw found refl
 after-nothing (c ∷ before) check after bytes r nothing found = rw nothing.0 (after-nothing before check after bytes r nothing.1 found)
@@ -59,3 +58,30 @@ pub none-before : (task : Task) (bytes : List ℕ) (r : Refusal) → IsRefused t
 none-before task bytes r =
     let it = refused-first task bytes r in
     ((λ e. found-first (checks_of task bytes) bytes r (it.0 e)), (λ f. it.1 (first-found (checks_of task bytes) bytes r f)))
+
+-- ---- nothing is found
+
+one-more : (c : Check) (cs : List Check) (bytes : List ℕ) (o : Option Refusal) → c.finds bytes ≡ o → option_or o (first cs bytes) ≡ None → (c.finds bytes ≡ None) × (first cs bytes ≡ None)
+one-more c cs bytes None is e = (is, e)
+one-more c cs bytes (Some q) is e = absurd cc
+
+nothing-found : (cs : List Check) (bytes : List ℕ) → first cs bytes ≡ None → FindNothing bytes cs
+nothing-found [] bytes e = tt
+nothing-found (c ∷ cs) bytes e = let it = one-more c cs bytes (c.finds bytes) refl e in (it.0, nothing-found cs bytes it.1)
+
+found-nothing : (cs : List Check) (bytes : List ℕ) → FindNothing bytes cs → first cs bytes ≡ None
+found-nothing [] bytes all = refl
+found-nothing (c ∷ cs) bytes all = rw all.0 (found-nothing cs bytes all.1)
+
+not-refused : {A : Type 0} (x : Result A Refusal) → refusal_of x ≡ None → IsOk x
+not-refused (Ok v) e = refl
+not-refused (Err r) e = absurd cc
+
+refuses-nothing : {A : Type 0} (x : Result A Refusal) → IsOk x → refusal_of x ≡ None
+refuses-nothing (Ok v) is = refl
+refuses-nothing (Err r) is = absurd cc
+
+pub accepted : (bytes : List ℕ) → IsOk (based_at bytes) ↔ FindNothing bytes (checks bytes)
+accepted bytes =
+    let told = based-told bytes in
+    ((λ is. nothing-found (checks bytes) bytes (sym told.is ∙ refuses-nothing (based_at bytes) is)), (λ all. not-refused (based_at bytes) (told.is ∙ found-nothing (checks bytes) bytes all)))

@@ -27,13 +27,17 @@ abbrev pub of_each : (ℕ → List Check) → ℕ → ℕ → List Check
 of_each checks i zero = []
 of_each checks i (suc n) = checks i ++ of_each checks (suc i) n
 
+-- none of the checks finds anything
+abbrev pub FindNothing : List ℕ → List Check → Type 0
+FindNothing bytes checks = AllByRecursion (λ (c : Check). c.finds bytes ≡ None) checks
+
 -- one of the checks finds the refusal, and no check before it finds anything
 pub record IsFirst (checks : List Check) (bytes : List ℕ) (r : Refusal) : Type 0 where
   pub before : List Check
   pub check : Check
   pub after : List Check
   pub listed : checks ≡ before ++ check ∷ after
-  pub nothing : AllByRecursion (λ (c : Check). c.finds bytes ≡ None) before
+  pub nothing : FindNothing bytes before
   pub found : check.finds bytes ≡ Some r
 
 -- ---- members and items by their numbers

@@ -1,5 +1,5 @@
 // Laws over two runs. A law is the contract of a function with an empty body.
-ghost use Rattle.std.specs.Prelude.{◌≡◌, ◌↔◌, ◌≤◌, ◌++◌, ℕ, List, Option, Some, Ok};
+ghost use Rattle.std.specs.Prelude.{◌≡◌, ◌↔◌, ◌≤◌, ◌++◌, ℕ, List, Option, Some, Ok, IsOk};
 ghost use Rattle.sha2.specs.Sha256.{sha256};
 ghost use Rattle.hp_cut.specs.declared.entry.Entry.{Entry};
 ghost use Rattle.hp_problem.specs.declared.refusal.Refusal.{Refusal};
@@ -9,10 +9,10 @@ ghost use Rattle.hp_journal.specs.Mine.{Mine};
 ghost use Rattle.hp_lp.specs.Chained.{solving};
 ghost use Rattle.hp_train.specs.Training.{payloads};
 ghost use Rattle.hp_run.specs.AnyStops.{EndsAlike, IsAsked, Reachable, Trains, whole};
-ghost use Rattle.hp_run.specs.CheckList.{checks_of};
-ghost use Rattle.hp_run.specs.FirstRefusal.{IsFirst, first};
+ghost use Rattle.hp_run.specs.CheckList.{checks, checks_of};
+ghost use Rattle.hp_run.specs.FirstRefusal.{FindNothing, IsFirst, first};
 ghost use Rattle.hp_run.specs.Meant.{DescribedFile};
-ghost use Rattle.hp_run.specs.Outcome.{IsRefused, WithBase};
+ghost use Rattle.hp_run.specs.Outcome.{IsRefused, WithBase, based_at};
 ghost use Rattle.hp_run.specs.Run.{Devices, PlanLines, telling};
 ghost use Rattle.hp_run.specs.SoundText.{SoundText};
 ghost use Rattle.hp_run.specs.declared.status.Status.{Status};
@@ -61,8 +61,10 @@ pub fn first_lists<V: Solver>(solver: &V)
 {}
 
 /// The list of checks that docs/FORMAT.md has in words says which refusal comes. The bytes of a problem are refused exactly where
-/// one of the checks finds a refusal, with the one that the first such check finds: no check before it finds anything.
+/// one of the checks finds a refusal, with the one that the first such check finds: no check before it finds anything. They are
+/// accepted, with base cuts in range, exactly where none finds anything.
 pub fn first_refusal()
+    ensures accepted { (bytes : List ℕ) → IsOk (based_at bytes) ↔ FindNothing bytes (checks bytes) }
     ensures first { (task : Task) (bytes : List ℕ) (r : Refusal) → IsRefused task bytes r ↔ (first (checks_of task bytes) bytes ≡ Some r) }
     ensures none_before { (task : Task) (bytes : List ℕ) (r : Refusal) → IsRefused task bytes r ↔ IsFirst (checks_of task bytes) bytes r }
 {}
