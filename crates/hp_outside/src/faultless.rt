@@ -1,5 +1,5 @@
 // A source, a sink and a disk that never fail.
-ghost use Rattle.std.specs.Prelude.{◌≡◌, ◌≤◌, ◌+◌, ◌^◌, length, min, take, drop, None, Some, ◌++◌, is_some, IsOk, IfOk};
+ghost use Rattle.std.specs.Prelude.{◌≡◌, ◌≤◌, ◌+◌, ◌^◌, length, min, take, drop, None, Some, ◌++◌, IsOk, IfOk};
 ghost use Rattle.std.specs.Io.{ReadsAtMost};
 ghost use Rattle.std.specs.Io.KnownBytes.{ReadConsumes};
 ghost use Rattle.hp_outside.specs.Causes.{HasCause, Takes};
@@ -49,7 +49,6 @@ impl Source for FaultlessSource {
     fn read(&mut self, buf: &mut [u8]) -> Result<usize, Failed>
         ensures bound { ReadsAtMost result buf.new }
         ensures bytes { ReadConsumes (Some self.old) (Some self.new) result buf.new }
-        ensures tells { is_some (Some self.new) ≡ is_some (Some self.old) }
         ensures cause { HasCause 0 0 result }
 
         // It hands over all that the buffer has room for.

@@ -12,6 +12,7 @@ pub mod memory_disk;
 pub mod sink;
 pub mod source;
 pub mod stream;
+mod told;
 mod worked;
 
 pub use disk::Disk;

@@ -1,7 +1,7 @@
 // Where bytes go.
-ghost use Rattle.std.specs.Prelude.{◌≡◌, ◌≢◌, ◌↔◌, ◌≤◌, ◌<◌, [], length, take, ℕ, List, Option, None, Some, is_some, IsTrue, IsErr, IfOk, IfErr, OnErr};
+ghost use Rattle.std.specs.Prelude.{◌≡◌, ◌≢◌, ◌↔◌, ◌≤◌, [], length, take, ℕ, List, Option, Some, IsTrue, IsErr, IfOk, IfErr, OnErr};
 ghost use Rattle.std.specs.Io.{WritesAtMost};
-ghost use Rattle.std.specs.Io.KnownBytes.{Appends, Keeps, WriteAppends};
+ghost use Rattle.std.specs.Io.KnownBytes.{Keeps, WriteAppends};
 ghost use Rattle.std.specs.IoError.{error_kind};
 ghost use Rattle.hp_outside.specs.Causes.{HasCause, Takes, faults_after};
 ghost use Rattle.hp_outside.specs.InMemory.{MemorySink, count_written, WriteFails, after_write, after_failed_write};
@@ -26,30 +26,27 @@ pub trait Sink {
 
     /// Takes the front of the piece and answers how many bytes it took: at most `piece.len()`, and
     /// some of a piece that is not empty. It has no condition. `Failed` comes only where the count
-    /// of faults rose, or stands at its type's end, and then nothing of the piece was taken.
+    /// of faults rose, or stands at its type's end, and then some front of the piece was taken,
+    /// which may be none of it. A sink that tells its bytes keeps telling them.
     fn write(&mut self, piece: &[u8]) -> Result<usize, Failed>
         ensures bytes { Takes (taken self.old) (taken self.new) result piece.now }
-        ensures tells { is_some (taken self.new) ≡ is_some (taken self.old) }
         ensures cause { HasCause (faults self.old) (faults self.new) result };
 }
 
 impl<W: Write> Sink for StdStream<W> {
-    ghost taken = { λ s. None };
+    /// The bytes that the writer holds, where it tells them.
+    ghost taken = { λ s. W.contents s.inner };
 
     ghost faults = { λ s. s.faults };
 
     /// One write of the writer, and a flush. A write of a piece that takes nothing, a refused write
-    /// and a refused flush fail the call; after a refused flush the writer may still hold a front of
-    /// the piece. An interrupted write or flush is tried again and is no fault, up to 2^64 - 1
-    /// interruptions.
+    /// and a refused flush fail the call; after a refused flush the writer holds the front of the
+    /// piece that it took. An interrupted write or flush is tried again and is no fault, up to
+    /// 2^64 - 1 interruptions.
     fn write(&mut self, piece: &[u8]) -> Result<usize, Failed>
-        ensures bytes { Takes None None result piece.now }
+        ensures bytes { Takes (W.contents self.old.inner) (W.contents self.new.inner) result piece.now }
         ensures cause { HasCause self.old.faults self.new.faults result }
         ensures counted { self.new.faults ≡ faults_after self.old.faults result }
-
-        // What the writer took, where it tells it.
-        ensures written { IfOk result (λ n.
-            Appends (W.contents self.old.inner) (W.contents self.new.inner) (take n piece.now)) }
     {
         let outcome = write_and_flush(&mut self.inner, piece);
         counted(&mut self.faults, outcome)
@@ -58,10 +55,7 @@ impl<W: Write> Sink for StdStream<W> {
 
 // A write that takes something of a piece that is not empty, and a flush.
 fn write_and_flush<W: Write>(output: &mut W, piece: &[u8]) -> io::Result<usize>
-    ensures bound { WritesAtMost result piece.now }
-    ensures some { IfOk result (λ n. 0 < length piece.now → 0 < n) }
-    ensures bytes { IfOk result (λ n.
-        Appends (W.contents output.old) (W.contents output.new) (take n piece.now)) }
+    ensures { Takes (W.contents output.old) (W.contents output.new) result piece.now }
 {
     if piece.is_empty() {
         return Ok(0);
@@ -192,7 +186,6 @@ impl Sink for MemSink {
     /// piece would pass the room.
     fn write(&mut self, piece: &[u8]) -> Result<usize, Failed>
         ensures bytes { Takes (Some self.old.taken) (Some self.new.taken) result piece.now }
-        ensures tells { is_some (Some self.new.taken) ≡ is_some (Some self.old.taken) }
         ensures cause { HasCause self.old.faults self.new.faults result }
 
         // What the sink in memory does exactly.

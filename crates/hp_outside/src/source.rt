@@ -1,5 +1,5 @@
 // Where bytes come from.
-ghost use Rattle.std.specs.Prelude.{◌≡◌, ◌≢◌, ◌↔◌, ◌≤◌, ◌<◌, ◌++◌, ℕ, List, Option, None, Some, length, min, [], drop, take, is_some, IsErr, IfOk, IfErr, OnErr};
+ghost use Rattle.std.specs.Prelude.{◌≡◌, ◌≢◌, ◌↔◌, ◌≤◌, ◌<◌, ◌++◌, ℕ, List, Option, Some, length, min, [], drop, take, IsErr, IfOk, IfErr, OnErr};
 ghost use Rattle.std.specs.Io.{ReadsAtMost};
 ghost use Rattle.std.specs.Io.KnownBytes.{ReadConsumes};
 ghost use Rattle.std.specs.IoError.{error_kind};
@@ -25,16 +25,16 @@ pub trait Source {
     /// Reads the next bytes into the front of `buf` and answers how many they are, at most
     /// `buf.len()`. `Ok(0)` at a buffer that is not empty is the end. It has no condition. `Failed`
     /// comes only where the count of faults rose, or stands at its type's end, and then no byte was
-    /// handed over.
+    /// handed over. A source that tells its bytes keeps telling them.
     fn read(&mut self, buf: &mut [u8]) -> Result<usize, Failed>
         ensures bound { ReadsAtMost result buf.new }
         ensures bytes { ReadConsumes (left self.old) (left self.new) result buf.new }
-        ensures tells { is_some (left self.new) ≡ is_some (left self.old) }
         ensures cause { HasCause (faults self.old) (faults self.new) result };
 }
 
 impl<R: Read> Source for StdStream<R> {
-    ghost left = { λ s. None };
+    /// The bytes that the reader has left, where it tells them.
+    ghost left = { λ s. R.remaining s.inner };
 
     ghost faults = { λ s. s.faults };
 
@@ -135,7 +135,6 @@ impl Source for MemSource {
     fn read(&mut self, buf: &mut [u8]) -> Result<usize, Failed>
         ensures bound { ReadsAtMost result buf.new }
         ensures bytes { ReadConsumes (Some self.old.left) (Some self.new.left) result buf.new }
-        ensures tells { is_some (Some self.new.left) ≡ is_some (Some self.old.left) }
         ensures cause { HasCause self.old.faults self.new.faults result }
 
         // What the bytes in memory do exactly.

@@ -3,7 +3,8 @@ ghost use Rattle.std.specs.Prelude.{◌≡◌};
 
 use std::marker::Model;
 
-/// A reader or a writer of std, with how often a call of it failed. It tells nothing of its bytes.
+/// A reader or a writer of std, with how often a call of it failed. It tells of its
+/// bytes what that reader or writer tells: all of them over bytes in memory, and none over the streams of a process.
 #[derive(Drop)]
 pub struct StdStream<T> {
     pub(crate) inner: T,
