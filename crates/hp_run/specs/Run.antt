@@ -1,7 +1,8 @@
 -- What a run is: one record, with a name for each thing that is promised.
-use Rattle.std.specs.Prelude.{◌≡◌, ◌⊎◌, ℕ, ℤ, true, false, List, String, ◌++◌, codes, take, All, Option, None, Some, IfSome, MatchBool, ⊤}
+use Rattle.std.specs.Prelude.{◌≡◌, ◌⊎◌, ℕ, ℤ, true, false, List, String, ◌++◌, codes, take, All, Option, None, Some, IfSome, MatchOption, ⊤}
 use Rattle.std.specs.declared.alloc.Global.{Global}
 use Rattle.std.specs.Io.KnownBytes.{Appends}
+use Rattle.hp_outside.specs.Causes.{Rose, TakesFront}
 use Rattle.hp_outside.specs.Counted.{Counted, CountedFile}
 use Rattle.hp_outside.specs.Disks.{Store, Stays, untold}
 use Rattle.hp_lp.specs.Chained.{Solving}
@@ -15,11 +16,11 @@ use Rattle.hp_run.specs.Meant.{Meant}
 use Rattle.hp_run.specs.OwnSolver.{own_solver}
 use Rattle.hp_run.specs.Outcome.{ReadsJournal}
 use Rattle.hp_run.specs.Status.{memory_line, status_line_text}
-use Rattle.hp_run.specs.Words.{IfPlanned, asked, asks_itself, journal_name, reads_problem, writes_journal}
+use Rattle.hp_run.specs.Words.{IfPlanned, asked, journal_name, reads_problem, text_asked, writes_journal}
 use Rattle.hp_run.specs.declared.job.Job.{Job}
 use Rattle.hp_run.specs.declared.job.Job.TheVariants.{Plan, Hydro, Generate}
 use Rattle.hp_run.specs.declared.status.Status.{Status}
-use Rattle.hp_run.specs.declared.status.Status.TheVariants.{Done, Memory, WriteFault}
+use Rattle.hp_run.specs.declared.status.Status.TheVariants.{Done, Memory, Usage, WriteFault}
 
 -- what is known of a source, a disk and a sink in any state of theirs
 pub record Tells (I D O : Type 0) : Type 1 where
@@ -93,21 +94,42 @@ SaysLine errors errors_now status = (n : ℕ) × (Appends errors errors_now (tak
 abbrev pub journal_of : List (List ℕ) → CountedFile
 journal_of words = record { name = journal_name words; write = writes_journal words; faults = 0 }
 
--- what is known of a reader and a writer of std and of a file: how often each failed
-abbrev pub telling_counts : (I O : Type 0) → Tells (Counted I) CountedFile (Counted O)
-telling_counts I O = telling (λ (s : Counted I). None) (λ (s : Counted I). s.faults) (λ (d : CountedFile). untold) (λ (d : CountedFile). d.faults) (λ (s : Counted O). None) (λ (s : Counted O). s.faults)
+-- what is known of a reader and a writer of std and of a file: the bytes that the reader has left and that the writer holds, where std
+-- tells them, and how often each of the three failed
+abbrev pub telling_streams : {I O : Type 0} → (I → Option (List ℕ)) → (O → Option (List ℕ)) → Tells (Counted I) CountedFile (Counted O)
+telling_streams {I} {O} remaining contents =
+    telling (λ (s : Counted I). remaining s.inner) (λ (s : Counted I). s.faults) (λ (d : CountedFile). untold) (λ (d : CountedFile). d.faults) (λ (s : Counted O). contents s.inner) (λ (s : Counted O). s.faults)
 
 -- a run of the program's solver over a reader, the file that the words name, and a writer
-abbrev pub RunsOver : {I O : Type 0} → List (String Global) → Counted I → Counted I → Counted O → Counted O → Status → Type 0
-RunsOver {I} {O} words problem problem_now out out_now status = (journal_now : CountedFile)
-    × IsRun own_solver (asked words) (telling_counts I O) (devices problem (journal_of (texts words)) out) (devices problem_now journal_now out_now) status
+abbrev pub RunsOver : {I O : Type 0} → (I → Option (List ℕ)) → (O → Option (List ℕ)) → List (String Global) → Counted I → Counted I → Counted O → Counted O → Status → Type 0
+RunsOver remaining contents words problem problem_now out out_now status = (journal_now : CountedFile)
+    × IsRun own_solver (asked words) (telling_streams remaining contents) (devices problem (journal_of (texts words)) out) (devices problem_now journal_now out_now) status
+
+-- a text was written, or a front of it, where a call of the sink failed
+abbrev pub Shows : List ℕ → Option (List ℕ) → Option (List ℕ) → ℕ → ℕ → Status → Type 0
+Shows text taken taken_now writes writes_now status =
+    ((status ≡ Done) × Appends taken taken_now text) ⊎ ((status ≡ WriteFault) × Rose writes writes_now × TakesFront taken taken_now text)
 
 -- What the program does on its words: the words that ask what it is are answered, and nothing is read; others are run, unless there is
--- no memory for the name of the journal.
-abbrev pub Answers : {I O : Type 0} → List (String Global) → Counted I → Counted I → Counted O → Counted O → Status → Type 0
-Answers words problem problem_now out out_now status = MatchBool (asks_itself (texts words))
-    ((problem_now ≡ problem) × ((status ≡ Done) ⊎ (status ≡ WriteFault)))
-    ((status ≡ Memory) ⊎ RunsOver words problem problem_now out out_now status)
+-- no memory for the name of the journal, and then nothing is read or written.
+abbrev pub Answers : {I O : Type 0} → (I → Option (List ℕ)) → (O → Option (List ℕ)) → List (String Global) → Counted I → Counted I → Counted O → Counted O → Status → Type 0
+Answers remaining contents words problem problem_now out out_now status = MatchOption (text_asked (texts words))
+    (((status ≡ Memory) × (problem_now ≡ problem) × (out_now ≡ out)) ⊎ RunsOver remaining contents words problem problem_now out out_now status)
+    (λ text. (problem_now ≡ problem) × Shows text (contents out.inner) (contents out_now.inner) out.faults out_now.faults status)
+
+-- a reader or a writer of which no call has failed
+abbrev pub fresh : {A : Type 0} → A → Counted A
+fresh inner = record { inner = inner; faults = 0 }
+
+-- the words of the command line cannot be had, or the streams cannot be made sure of
+abbrev pub CannotStart : Status → Type 0
+CannotStart status = (status ≡ Usage) ⊎ ((status ≡ Memory) ⊎ (status ≡ WriteFault))
+
+-- What the program does over a reader and a writer, which are its own from then on: it answers some words, those of the command line, of which
+-- std says nothing, or it cannot start.
+abbrev pub Starts : {I O : Type 0} → (I → Option (List ℕ)) → (O → Option (List ℕ)) → I → O → Status → Type 0
+Starts {I} {O} remaining contents input output status = CannotStart status
+    ⊎ ((words : List (String Global)) × (problem_now : Counted I) × (out_now : Counted O) × Answers remaining contents words (fresh input) problem_now (fresh output) out_now status)
 
 -- the line is of a bound that is at most the cost of each workable plan for what is described
 pub record PlanLine (description line : List ℕ) : Type 0 where

@@ -1,11 +1,12 @@
 -- What the words of the command line ask for.
-use Rattle.std.specs.Prelude.{◌≤◌, ℕ, Bool, true, false, ◌||◌, List, [], ◌∷◌, String, codes, Option, Some, None, IfSome}
+use Rattle.std.specs.Prelude.{◌≤◌, ℕ, Bool, true, false, if◌then◌else◌, List, [], ◌∷◌, String, codes, Option, Some, None, IfSome}
 use Rattle.std.specs.Option.{option_map}
 use Rattle.std.specs.Str.{bytes_eq}
 use Rattle.std.specs.declared.alloc.Global.{Global}
 use Rattle.hp_words.specs.declared.command.Command.{Command}
 use Rattle.hp_words.specs.declared.command.Command.TheVariants as commands
 use Rattle.hp_words.specs.Commands.{command_of, texts}
+use Rattle.hp_run.specs.declared.help.TheConstants.{HELP, VERSION}
 use Rattle.hp_run.specs.declared.job.Job.{Job}
 use Rattle.hp_run.specs.declared.job.Job.TheVariants.{Plan, Hydro, Generate}
 use Rattle.hp_run.specs.declared.task.Task.{Task}
@@ -68,8 +69,8 @@ abbrev pub writes_journal : List (List ℕ) → Bool
 writes_journal [] = false
 writes_journal (word ∷ ws) = bytes_eq word (codes "train")
 
--- the program is asked what it is: by one of these words alone
-abbrev pub asks_itself : List (List ℕ) → Bool
-asks_itself [] = false
-asks_itself (word ∷ []) = bytes_eq word (codes "--help") || bytes_eq word (codes "--version")
-asks_itself (word ∷ (next ∷ ws)) = false
+-- what the program says of itself, where it is asked by one of these words alone
+abbrev pub text_asked : List (List ℕ) → Option (List ℕ)
+text_asked [] = None
+text_asked (word ∷ []) = if bytes_eq word (codes "--help") then Some HELP.now else if bytes_eq word (codes "--version") then Some VERSION.now else None
+text_asked (word ∷ (next ∷ ws)) = None

@@ -1,7 +1,7 @@
 // What the program says of itself.
-ghost use Rattle.std.specs.Prelude.{◌≡◌, is_some};
+ghost use Rattle.std.specs.Prelude.{◌≡◌, option_map};
 ghost use Rattle.hp_words.specs.Commands.{texts};
-ghost use Rattle.hp_run.specs.Words.{asks_itself};
+ghost use Rattle.hp_run.specs.Words.{text_asked};
 
 /// One screen: each command with what it reads and writes, and the numbers of the statuses.
 const HELP: &[u8] =
@@ -34,7 +34,7 @@ const VERSION: &[u8] = b"hydroplan 1 (problems 1.0, journals 1 and 2)\n";
 
 /// The text that is asked for, where the only word is `--help` or `--version`.
 pub(crate) fn own_text(words: &[String]) -> Option<&'static [u8]>
-    ensures { is_some result ≡ asks_itself (texts words.now) }
+    ensures { option_map (λ text. text.now) result ≡ text_asked (texts words.now) }
 {
     match words {
         [word] if word.as_str() == "--help" => Some(HELP),

@@ -1,9 +1,9 @@
 // The program over the objects that stand for the world outside.
-ghost use Rattle.std.specs.Prelude.{◌≡◌, ◌⊎◌, IfOk};
+ghost use Rattle.std.specs.Prelude.{◌≡◌, ◌⊎◌, IfErr, IfOk};
 ghost use Rattle.std.specs.Process.{exit_status};
 ghost use Rattle.hp_words.specs.Commands.{texts};
 ghost use Rattle.hp_run.specs.OwnSolver.{own_solver};
-ghost use Rattle.hp_run.specs.Run.{Answers, IsRun, RunsOver, SaysLine, devices, journal_of, telling};
+ghost use Rattle.hp_run.specs.Run.{Answers, CannotStart, IsRun, RunsOver, SaysLine, Shows, Starts, devices, journal_of, telling};
 ghost use Rattle.hp_run.specs.Status.{number_of};
 ghost use Rattle.hp_run.specs.Words.{asked, journal_name, writes_journal};
 
@@ -62,12 +62,24 @@ pub fn execute<R: Threads + Sync, I: Source, D: Disk, O: Sink, E: Write>(
     ended(alloc, &status, errors)
 }
 
-/// The words after the program's name, or the status where they cannot be had.
-fn words_given<R: Env + AllocGlobal>(rt: &R) -> Result<Vec<String>, Status> {
-    let all = env::args(rt).map_err(|error| match error.kind() {
+// The status where the words of the command line cannot be had.
+fn status_of_words(error: &io::Error) -> Status
+    ensures { CannotStart result }
+{
+    match error.kind() {
         io::ErrorKind::OutOfMemory => Status::Memory,
         _ => Status::Usage,
-    })?;
+    }
+}
+
+/// The words after the program's name, or the status where they cannot be had.
+fn words_given<R: Env + AllocGlobal>(rt: &R) -> Result<Vec<String>, Status>
+    ensures { IfErr result CannotStart }
+{
+    let all = match env::args(rt) {
+        Ok(all) => all,
+        Err(error) => return Err(status_of_words(&error)),
+    };
     let mut words = Vec::new(rt.alloc());
     for word in all.skip(1) {
         if words.push(word).is_err() {
@@ -112,7 +124,7 @@ fn journal_of<'a, R: Files>(
 
 /// Writes a text of the program's own.
 fn show<O: Sink>(out: &mut O, text: &[u8]) -> Status
-    ensures { (result ≡ Status.Done) ⊎ (result ≡ Status.WriteFault) }
+    ensures { Shows text.now (O.taken out.old) (O.taken out.new) (O.faults out.old) (O.faults out.new) result }
 {
     match put(out, text) {
         Ok(()) => Status::Done,
@@ -159,7 +171,8 @@ where
     O: Write,
     E: Write,
     ensures { (status : Status) × (exit_status result ≡ number_of status)
-        × ((status ≡ Status.Memory) ⊎ RunsOver words.now problem.old problem.new out.old out.new status) }
+        × (((status ≡ Status.Memory) × (problem.new ≡ problem.old) × (out.new ≡ out.old))
+        ⊎ RunsOver I.remaining O.contents words.now problem.old problem.new out.old out.new status) }
 {
     match journal_of(rt, rt.alloc(), words) {
         Ok(mut journal) => {
@@ -185,7 +198,7 @@ where
     I: Read,
     O: Write,
     E: Write,
-    ensures { (status : Status) × (exit_status result ≡ number_of status) × Answers words.now problem.old problem.new out.old out.new status }
+    ensures { (status : Status) × (exit_status result ≡ number_of status) × Answers I.remaining O.contents words.now problem.old problem.new out.old out.new status }
 {
     match own_text(words) {
         Some(text) => ended(rt.alloc(), &show(out, text), errors),
@@ -203,7 +216,7 @@ where
     I: Read + Drop,
     O: Write + Drop,
     E: Write,
-    ensures { (status : Status) × (exit_status result ≡ number_of status) }
+    ensures { (status : Status) × (exit_status result ≡ number_of status) × Starts I.remaining O.contents input output status }
 {
     let Ok(_streams) = with_streams(rt) else {
         return ended(rt.alloc(), &Status::WriteFault, errors);

@@ -1,7 +1,7 @@
 use Rattle.std.proofs.Common.{inl, inr, refl, subst}
 use Rattle.hp_outside.specs.Counted.{CountedFile}
 use Rattle.hp_run.specs.OwnSolver.{own_solver}
-use Rattle.hp_run.specs.Run.{IsRun, devices, telling_counts}
+use Rattle.hp_run.specs.Run.{IsRun, devices, telling_streams}
 use Rattle.hp_run.specs.Words.{asked}
 use Rattle.hp_run.specs.declared.status.Status.TheVariants.{Memory}
 use Rattle.hp_run.proofs.program.over_file.Goals as goal
@@ -14,10 +14,10 @@ returns-in-Ok g c =
       run.ensures.1,
       inr (
         run.new.journal,
-        subst (λ (d : CountedFile). IsRun own_solver (asked c.args.words.now) (telling_counts _ _) (devices c.args.problem.now d c.args.out.now) (devices run.new.problem run.new.journal run.new.out) run.ensures.0)
+        subst (λ (d : CountedFile). IsRun own_solver (asked c.args.words.now) (telling_streams g.I.Read.remaining g.O.Write.contents) (devices c.args.problem.now d c.args.out.now) (devices run.new.problem run.new.journal run.new.out) run.ensures.0)
             c.in-Ok.ensures run.ensures.2,
       ),
     )
 
 pub returns-in-Err : goal.returns-in-Err
-returns-in-Err g c = (Memory, c.ended.ensures.number, inl refl)
+returns-in-Err g c = (Memory, c.ended.ensures.number, inl (refl, refl, refl))
