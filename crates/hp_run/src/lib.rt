@@ -17,6 +17,7 @@ mod refusal_lines;
 mod simulating;
 mod status;
 mod task;
+mod told;
 mod top;
 mod training;
 mod training_lines;

@@ -1,0 +1,27 @@
+// What a run says over std's bytes in memory.
+ghost use Rattle.std.specs.Prelude.{◌≡◌, ◌++◌, ℕ, List, Some};
+ghost use Rattle.hp_run.specs.SoundText.{SoundText};
+ghost use Rattle.hp_run.specs.Words.{asked};
+ghost use Rattle.hp_run.specs.declared.task.Task.{Task};
+
+use crate::job::Job;
+use crate::status::Status;
+use crate::top::run;
+use hp_outside::{Disk, StdSink, StdSource};
+use std::alloc::Global;
+use std::thread::Threads;
+
+// A run of a task that is Done over a slice and a vector wrote a sound text of the problem in the slice, behind the vector's bytes.
+pub(crate) fn run_over_memory<R: Threads + Sync, D: Disk>(
+    rt: &R,
+    alloc: Global,
+    words: &[String],
+    problem: &mut StdSource<&[u8]>,
+    journal: &mut D,
+    out: &mut StdSink<Vec<u8>>,
+) -> Status
+    ensures { (task : Task) → asked words.now ≡ Some (Job.Plan task) → result ≡ Status.Done
+        → (text : List ℕ) × SoundText task problem.old.inner.now text × (out.new.inner.items ≡ out.old.inner.items ++ text) }
+{
+    run(rt, alloc, words, problem, journal, out)
+}
