@@ -3,7 +3,6 @@ ghost use Rattle.std.specs.Prelude.{◌≡◌, is_ok, IfOk, Ok};
 ghost use Rattle.hp_outside.specs.Causes.{HasCause, one_more, faults_after};
 
 use crate::Failed;
-use std::io;
 
 // A count one higher, up to the greatest u64.
 pub(crate) fn next(count: u64) -> u64
@@ -12,8 +11,8 @@ pub(crate) fn next(count: u64) -> u64
     count.saturating_add(1)
 }
 
-// What a call over std answers: one that std refused is counted.
-pub(crate) fn counted<T>(faults: &mut u64, outcome: io::Result<T>) -> Result<T, Failed>
+// What a call over std answers: one that was refused is counted.
+pub(crate) fn counted<T, E: Drop>(faults: &mut u64, outcome: Result<T, E>) -> Result<T, Failed>
     ensures value { IfOk result (λ value. outcome ≡ Ok value) }
     ensures same { is_ok result ≡ is_ok outcome }
     ensures cause { HasCause faults.old faults.new result }

@@ -6,34 +6,26 @@ ghost use Rattle.hp_outside.specs.Causes.{HasCause, faults_after};
 use crate::Failed;
 use crate::disk::Disk;
 use crate::faults::counted;
+use crate::file_calls::FileCalls;
+use crate::kept::Kept;
 use crate::lock::Lock;
+use crate::obstacle::{Obstacle, Refused};
 use hp_num::Name;
 use std::fs::{OpenFile, OpenOptions, metadata};
 use std::io;
-use std::io::{Read, Seek, SeekFrom, Write};
 use std::marker::Model;
 use std::rt::Files;
 
-/// Why a file was not opened, where more is known than that its opening was refused.
-#[derive(Clone, Copy, Debug, PartialEq, Eq)]
-pub enum Obstacle {
-    /// A folder, a pipe or a device stands there.
-    NoFile,
-    /// Its folder could not be opened, which is synced once the file is made.
-    Folder,
-    /// Another opening holds its lock.
-    Held,
-}
-
 /// A file of a runtime, opened at the first call. It tells nothing of its bytes. A refused call of
 /// the file is a failed call, and so is a refused opening, for want of memory too. What is written is
-/// locked while it is open.
+/// locked while it is open. A sync succeeds only where the file that has this name then is as long as
+/// the writes and cuts here have made it, and ends its last piece as it was written.
 #[derive(Drop)]
 pub struct FileDisk<'a, R: Files> {
     rt: &'a R,
     name: Name,
     write: bool,
-    file: Option<R::File>,
+    file: Option<FileCalls<R::File>>,
     obstacle: Option<Obstacle>,
     faults: u64,
 }
@@ -50,7 +42,7 @@ impl<'a, R: Files> FileDisk<'a, R> {
     /// The file of this name, not yet opened, that has not failed. With `write` it is opened for
     /// reading and writing, and a missing one is made; the first call fails where another opening
     /// for writing holds it. Without, it is opened for reading, and the first call of a missing one
-    /// fails. So it does of what is no regular file.
+    /// fails, as each write, cut and sync does. The first call of what is no regular file fails.
     pub fn at(rt: &'a R, name: Name, write: bool) -> FileDisk<'a, R>
         ensures { result ≡ record { name = name; write = write; faults = 0 } }
     {
@@ -64,7 +56,7 @@ impl<'a, R: Files> FileDisk<'a, R> {
         }
     }
 
-    /// Why the file was not opened, where more is known than that its opening was refused.
+    /// Why the file was not opened, or no longer written, where more is known than that a call was refused.
     pub fn obstacle(&self) -> Option<Obstacle> {
         self.obstacle
     }
@@ -75,46 +67,36 @@ fn file_of<'f, R: Files>(
     rt: &R,
     name: &Name,
     write: bool,
-    file: &'f mut Option<R::File>,
-    obstacle: &mut Option<Obstacle>,
-) -> io::Result<&'f mut R::File>
+    file: &'f mut Option<FileCalls<R::File>>,
+) -> Result<&'f mut FileCalls<R::File>, Refused>
 where
     R::File: Lock,
 {
     match file {
         Some(file) => Ok(file),
-        None => Ok(file.insert(opened(rt, name.as_str(), write, obstacle)?)),
+        None => Ok(file.insert(opened(rt, name.as_str(), write)?)),
     }
 }
 
 // Opens the file of this name. What is there and is no regular file is refused, unopened: opening a pipe would wait for
 // whoever writes to it.
-fn opened<R: Files>(
-    rt: &R,
-    name: &str,
-    write: bool,
-    obstacle: &mut Option<Obstacle>,
-) -> io::Result<R::File>
+fn opened<R: Files>(rt: &R, name: &str, write: bool) -> Result<FileCalls<R::File>, Refused>
 where
     R::File: Lock,
 {
     if is_other(rt, name) {
-        *obstacle = Some(Obstacle::NoFile);
-        return Err(io::Error::from(io::ErrorKind::InvalidInput));
+        return Err(Refused(Some(Obstacle::NoFile)));
     }
     if !write {
-        return OpenOptions::new().read(true).open(rt, name);
+        let file = OpenOptions::new().read(true).open(rt, name)?;
+        return Ok(FileCalls::read_only(file));
     }
-    let folder = match OpenOptions::new().read(true).open(rt, folder_of(name)) {
-        Ok(folder) => folder,
-        Err(error) => {
-            *obstacle = Some(Obstacle::Folder);
-            return Err(error);
-        }
+    let Ok(folder) = OpenOptions::new().read(true).open(rt, folder_of(name)) else {
+        return Err(Refused(Some(Obstacle::Folder)));
     };
-    let file = held(rt, name, obstacle)?;
+    let file = held(rt, name)?;
     folder.sync_all()?;
-    Ok(file)
+    FileCalls::writing(file)
 }
 
 // Tells whether what stands there is no regular file.
@@ -126,7 +108,7 @@ fn is_other<R: Files>(rt: &R, name: &str) -> bool {
 }
 
 // Opens the file for reading and writing, makes it where it is missing, and takes its lock.
-fn held<R: Files>(rt: &R, name: &str, obstacle: &mut Option<Obstacle>) -> io::Result<R::File>
+fn held<R: Files>(rt: &R, name: &str) -> Result<R::File, Refused>
 where
     R::File: Lock,
 {
@@ -136,10 +118,21 @@ where
         .create(true)
         .open(rt, name)?;
     if !file.take_lock() {
-        *obstacle = Some(Obstacle::Held);
-        return Err(io::Error::from(io::ErrorKind::WouldBlock));
+        return Err(Refused(Some(Obstacle::Held)));
     }
     Ok(file)
+}
+
+// Opens afresh the file that has this name now, and tells whether it holds what has to be found.
+fn is_found<R: Files>(rt: &R, name: &str, kept: &Kept) -> Result<bool, Refused> {
+    if is_other(rt, name) {
+        return Ok(false);
+    }
+    match OpenOptions::new().read(true).open(rt, name) {
+        Ok(file) => FileCalls::read_only(file).holds(kept),
+        Err(error) if error.kind() == io::ErrorKind::NotFound => Ok(false),
+        Err(error) => Err(Refused::from(error)),
+    }
 }
 
 // Gives the folder in which the file of this name stands.
@@ -155,72 +148,55 @@ impl<'a, R: Files> FileDisk<'a, R>
 where
     R::File: Lock,
 {
-    fn measured(&mut self) -> io::Result<u64>
+    fn measured(&mut self) -> Result<u64, Refused>
         ensures { self.new ≡ self.old }
     {
-        let file = file_of(
-            self.rt,
-            &self.name,
-            self.write,
-            &mut self.file,
-            &mut self.obstacle,
-        )?;
-        Ok(file.metadata()?.len())
+        file_of(self.rt, &self.name, self.write, &mut self.file)?.measured()
     }
 
-    // The bytes from this place on, or an error where the file ends before the buffer is full.
-    fn fetched(&mut self, at: u64, into: &mut [u8]) -> io::Result<()>
+    fn fetched(&mut self, at: u64, into: &mut [u8]) -> Result<(), Refused>
         ensures { self.new ≡ self.old }
     {
-        let file = file_of(
-            self.rt,
-            &self.name,
-            self.write,
-            &mut self.file,
-            &mut self.obstacle,
-        )?;
-        file.seek(SeekFrom::Start(at))?;
-        file.read_exact(into)
+        file_of(self.rt, &self.name, self.write, &mut self.file)?.fetched(at, into)
     }
 
-    fn put(&mut self, at: u64, piece: &[u8]) -> io::Result<()>
+    fn put(&mut self, at: u64, piece: &[u8]) -> Result<(), Refused>
         ensures { self.new ≡ self.old }
     {
-        let file = file_of(
-            self.rt,
-            &self.name,
-            self.write,
-            &mut self.file,
-            &mut self.obstacle,
-        )?;
-        file.seek(SeekFrom::Start(at))?;
-        file.write_all(piece)
+        file_of(self.rt, &self.name, self.write, &mut self.file)?.put(at, piece)
     }
 
-    fn resized(&mut self, len: u64) -> io::Result<()>
+    fn resized(&mut self, len: u64) -> Result<(), Refused>
         ensures { self.new ≡ self.old }
     {
-        file_of(
-            self.rt,
-            &self.name,
-            self.write,
-            &mut self.file,
-            &mut self.obstacle,
-        )?
-        .set_len(len)
+        file_of(self.rt, &self.name, self.write, &mut self.file)?.resized(len)
     }
 
-    fn synced(&mut self) -> io::Result<()>
+    // Syncs the file, and reads back by its name what was written last.
+    fn synced(&mut self) -> Result<(), Refused>
         ensures { self.new ≡ self.old }
     {
-        file_of(
-            self.rt,
-            &self.name,
-            self.write,
-            &mut self.file,
-            &mut self.obstacle,
-        )?
-        .sync_all()
+        let file = file_of(self.rt, &self.name, self.write, &mut self.file)?;
+        let kept = file.synced()?;
+        if !is_found(self.rt, self.name.as_str(), &kept)? {
+            return Err(Refused(Some(Obstacle::Changed)));
+        }
+        file.go_on(kept);
+        Ok(())
+    }
+
+    // What a call answers: one that was refused is counted, and it is noted why.
+    fn answered<T>(&mut self, outcome: Result<T, Refused>) -> Result<T, Failed>
+        ensures value { IfOk result (λ value. outcome ≡ Ok value) }
+        ensures same { is_ok result ≡ is_ok outcome }
+        ensures cause { HasCause self.old.faults self.new.faults result }
+        ensures counted { self.new
+            ≡ record self.old { faults = faults_after self.old.faults result } }
+    {
+        if let Err(Refused(Some(why))) = outcome {
+            self.obstacle = Some(why);
+        }
+        counted(&mut self.faults, outcome)
     }
 }
 
@@ -243,7 +219,7 @@ where
             ≡ record self.old { faults = faults_after self.old.faults result } }
     {
         let outcome = self.measured();
-        counted(&mut self.faults, outcome)
+        self.answered(outcome)
     }
 
     fn read_at(&mut self, at: u64, into: &mut [u8]) -> Result<(), Failed>
@@ -252,7 +228,7 @@ where
             ≡ record self.old { faults = faults_after self.old.faults result } }
     {
         let outcome = self.fetched(at, into);
-        counted(&mut self.faults, outcome)
+        self.answered(outcome)
     }
 
     fn write_at(&mut self, at: u64, piece: &[u8]) -> Result<(), Failed>
@@ -261,7 +237,7 @@ where
             ≡ record self.old { faults = faults_after self.old.faults result } }
     {
         let outcome = self.put(at, piece);
-        counted(&mut self.faults, outcome)
+        self.answered(outcome)
     }
 
     fn cut(&mut self, len: u64) -> Result<(), Failed>
@@ -270,7 +246,7 @@ where
             ≡ record self.old { faults = faults_after self.old.faults result } }
     {
         let outcome = self.resized(len);
-        counted(&mut self.faults, outcome)
+        self.answered(outcome)
     }
 
     fn sync(&mut self) -> Result<(), Failed>
@@ -279,6 +255,6 @@ where
             ≡ record self.old { faults = faults_after self.old.faults result } }
     {
         let outcome = self.synced();
-        counted(&mut self.faults, outcome)
+        self.answered(outcome)
     }
 }

@@ -5,10 +5,13 @@
 pub mod disk;
 pub mod faultless;
 mod faults;
+mod file_calls;
 pub mod file_disk;
+mod kept;
 pub mod lock;
 pub mod memory;
 pub mod memory_disk;
+pub mod obstacle;
 pub mod sink;
 pub mod source;
 pub mod stream;
@@ -17,9 +20,10 @@ mod worked;
 
 pub use disk::Disk;
 pub use faultless::{FaultlessDisk, FaultlessSink, FaultlessSource};
-pub use file_disk::{FileDisk, Obstacle};
+pub use file_disk::FileDisk;
 pub use lock::Lock;
 pub use memory_disk::{Crash, MemDisk};
+pub use obstacle::Obstacle;
 pub use sink::{MemSink, Sink};
 pub use source::{MemSource, Source};
 pub use stream::{StdSink, StdSource};

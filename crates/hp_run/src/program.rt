@@ -140,16 +140,17 @@ fn with_streams<R: Files>(rt: &R) -> io::Result<(R::File, R::File, R::File)> {
     Ok((how.open(rt, "/")?, how.open(rt, "/")?, how.open(rt, "/")?))
 }
 
-// Gives the line that says why the journal was not opened.
+// Gives the line that says why the journal was not opened, or no longer written.
 fn obstacle_line(obstacle: Obstacle) -> &'static [u8] {
     match obstacle {
         Obstacle::NoFile => b"hydroplan: the journal is no regular file\n",
         Obstacle::Folder => b"hydroplan: the journal's folder cannot be opened\n",
         Obstacle::Held => b"hydroplan: another run writes this journal\n",
+        Obstacle::Changed => b"hydroplan: the journal was removed or changed while it was written\n",
     }
 }
 
-// Writes why the journal was not opened, where more is known than its status says.
+// Writes why the journal was not opened or no longer written, where more is known than its status says.
 fn write_obstacle<E: Write>(obstacle: Option<Obstacle>, errors: &mut E) {
     if let Some(obstacle) = obstacle {
         let _ = errors.write_all(obstacle_line(obstacle));
