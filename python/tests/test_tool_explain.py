@@ -131,6 +131,7 @@ class OtherLines(unittest.TestCase):
         rows = {
             "journal device failed": "its permissions", "the journal is no regular file": "a folder, a pipe or a device",
             "the journal's folder cannot be opened": "make it", "another run writes this journal": "`check` may read it",
+            "the journal was removed or changed while it was written": "train again",
             "problem could not be read": "--problem FILE", "problem is longer than 16777216 bytes": "16,777,216", "output failed": "its disk",
             "memory": "free some",
         }

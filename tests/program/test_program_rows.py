@@ -236,6 +236,39 @@ class Kills(InFolder):
         self.assertRegex(self.trained("y") or "", "after [1-4] kills: journal of 20 bytes")
 
 
+class Harms(InFolder):
+    """Trains twenty iterations, a byte of the journal each. One notices that the file of this name has another length; one does not."""
+
+    SAYS = "hydroplan: journal device failed\\nhydroplan: the journal was removed or changed while it was written\\n"
+    GROWS = "size=0; exec 3> J\nwhile [ $size -lt 20 ]; do printf x >&3; size=$((size + 1)); sleep 0.02\n{then}done\n"
+    LOOKS = "[ -e J ] && [ $(wc -c < J) = $size ] || {{ printf '{says}' >&2; exit 10; }}\n"
+
+    def harmed(self, then: str, harm: str) -> Optional[str]:
+        program = self.program("#!/bin/sh\n" + self.GROWS.format(then=then))
+        (self.folder / "expected.txt").write_bytes(bytes_of("journal-changed.txt"))
+        return tried(parsed(f"harms {self.folder}/expected.txt problem={self.folder}/problem.json harm={harm} : train J 7 20"), program).fault
+
+    def test_training_that_looks(self) -> None:
+        for harm in ("removed", "cut", "replaced"):
+            with self.subTest(harm):
+                self.assertIsNone(self.harmed(self.LOOKS.format(says=self.SAYS), harm))
+
+    def test_training_that_does_not(self) -> None:
+        for harm in ("removed", "cut", "replaced"):
+            with self.subTest(harm):
+                self.assertRegex(self.harmed("", harm) or "", "^ends with 0, expected 10")
+
+    def test_training_that_spoils_what_is_there(self) -> None:
+        spoils = "[ -e J ] && [ $(wc -c < J) = $size ] || {{ echo more >> J; printf '{says}' >&2; exit 10; }}\n"
+        self.assertRegex(self.harmed(spoils.format(says=self.SAYS), "replaced") or "", "^journal of 35 bytes, expected 30")
+
+    def test_rows_that_are_none(self) -> None:
+        self.assertRegex(self.harmed("", "burnt") or "", "^a journal is harmed by")
+        program = self.program("#!/bin/sh\n")
+        line = f"harms journal-changed.txt problem={self.folder}/problem.json harm=cut : train J 7 20"
+        self.assertRegex(tried(parsed(line), program).fault or "", "is through, or stuck")
+
+
 class Index(unittest.TestCase):
     def test_statuses_are_those_of_the_table(self) -> None:
         page = (TOP / "docs" / "FORMAT.md").read_text(encoding="utf-8")

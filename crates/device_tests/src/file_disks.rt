@@ -1,5 +1,7 @@
 // A disk over a file: a real one, and one of a file system that counts syncs and bytes. The clause `counted` of its calls says
 // how many faults it counts.
+ghost use Rattle.std.specs.Prelude.{◌≤◌, ◌+◌, ◌^◌};
+
 use crate::disks::holds;
 use hp_num::{Memory, Name};
 use hp_outside::{Disk, Failed, FileDisk, Lock, Obstacle};
@@ -73,6 +75,7 @@ where
 fn is_read_at<R: Files>(disk: &mut FileDisk<'_, R>, at: u64) -> bool
 where
     R::File: Lock,
+    requires { at ≤ 2 ^ 32 + 1 }
 {
     let mut found = [0; 3];
     disk.write_at(at, b"far").is_ok()
@@ -107,20 +110,73 @@ fn keeps_a_file(rt: HostRuntime) -> Result<(), Fail> {
     Ok(())
 }
 
-// A file system with a folder of one file, which holds nothing. It counts the syncs of both, and the bytes that were written.
+// A file system with a folder of one file of at most eight bytes, empty at first. It counts the syncs of both, and the bytes that
+// were written.
 #[derive(Drop)]
 struct OneFile<'a> {
-    file_syncs: &'a Cell<u64>,
-    folder_syncs: &'a Cell<u64>,
-    bytes: &'a Cell<u64>,
+    file: &'a Counted,
+    folder: &'a Counted,
     is_held: bool,
 }
 
-// The file, or the folder, once it is open. Its second sync is refused, and a write takes one byte.
+fn files_of<'a>(file: &'a Counted, folder: &'a Counted, is_held: bool) -> OneFile<'a> {
+    OneFile {
+        file,
+        folder,
+        is_held,
+    }
+}
+
+// What a file holds, and how often it was synced and how many bytes were written.
+#[derive(Drop)]
+struct Counted {
+    held: Cell<[u8; 8]>,
+    len: Cell<u64>,
+    syncs: Cell<u64>,
+    bytes: Cell<u64>,
+}
+
+impl Counted {
+    fn new() -> Counted {
+        Counted {
+            held: Cell::new([0; 8]),
+            len: Cell::new(0),
+            syncs: Cell::new(0),
+            bytes: Cell::new(0),
+        }
+    }
+
+    // Tells whether so many syncs were counted, and so many bytes.
+    fn is_at(&self, syncs: u64, bytes: u64) -> bool {
+        self.syncs.get() == syncs && self.bytes.get() == bytes
+    }
+
+    // The byte at a place; none past the end.
+    fn byte_at(&self, at: u64) -> Option<u8> {
+        if at < self.len.get().min(8) {
+            Some(self.held.get()[at as usize])
+        } else {
+            None
+        }
+    }
+
+    // Writes a byte at a place, of which there are eight.
+    fn put(&self, at: u64, byte: u8) {
+        if at < 8 {
+            let mut held = self.held.get();
+            held[at as usize] = byte;
+            self.held.set(held);
+        }
+        self.len.set(self.len.get().max(at.saturating_add(1)));
+        self.bytes.set(self.bytes.get().saturating_add(1));
+    }
+}
+
+// The file, or the folder, once it is open. Its third sync is refused, and a read or a write takes one byte.
 #[derive(Drop)]
 struct Opened<'a> {
-    syncs: &'a Cell<u64>,
-    bytes: &'a Cell<u64>,
+    counted: &'a Counted,
+    at: u64,
     is_held: bool,
 }
 
@@ -135,17 +191,26 @@ fn unsupported<T>() -> io::Result<T> {
 }
 
 impl<'a> Read for Opened<'a> {
-    fn read(&mut self, _buf: &mut [u8]) -> io::Result<usize> {
-        Ok(0)
+    fn read(&mut self, buf: &mut [u8]) -> io::Result<usize> {
+        match self.counted.byte_at(self.at) {
+            Some(byte) if !buf.is_empty() => {
+                buf[0] = byte;
+                self.at = self.at.saturating_add(1);
+                Ok(1)
+            }
+            _ => Ok(0),
+        }
     }
 }
 
 impl<'a> Write for Opened<'a> {
     fn write(&mut self, buf: &[u8]) -> io::Result<usize> {
-        let taken = buf.len().min(1);
-        self.bytes
-            .set(self.bytes.get().saturating_add(taken as u64));
-        Ok(taken)
+        if buf.is_empty() {
+            return Ok(0);
+        }
+        self.counted.put(self.at, buf[0]);
+        self.at = self.at.saturating_add(1);
+        Ok(1)
     }
 
     fn flush(&mut self) -> io::Result<()> {
@@ -154,24 +219,29 @@ impl<'a> Write for Opened<'a> {
 }
 
 impl<'a> Seek for Opened<'a> {
-    fn seek(&mut self, _to: SeekFrom) -> io::Result<u64> {
-        Ok(0)
+    fn seek(&mut self, to: SeekFrom) -> io::Result<u64> {
+        let SeekFrom::Start(at) = to else {
+            return unsupported();
+        };
+        self.at = at;
+        Ok(at)
     }
 }
 
 impl<'a> OpenFile for Opened<'a> {
     fn metadata(&self) -> io::Result<Metadata> {
-        Ok(Metadata::of_file(0))
+        Ok(Metadata::of_file(self.counted.len.get()))
     }
 
-    fn set_len(&self, _size: u64) -> io::Result<()> {
+    fn set_len(&self, size: u64) -> io::Result<()> {
+        self.counted.len.set(size);
         Ok(())
     }
 
     fn sync_all(&self) -> io::Result<()> {
-        let count = self.syncs.get();
-        self.syncs.set(count.saturating_add(1));
-        if count == 1 {
+        let count = self.counted.syncs.get();
+        self.counted.syncs.set(count.saturating_add(1));
+        if count == 2 {
             return unsupported();
         }
         Ok(())
@@ -188,14 +258,14 @@ impl<'a> Files for OneFile<'a> {
     type Dir = Opened<'a>;
 
     fn open_file(&self, _how: &OpenOptions, path: &str) -> io::Result<Opened<'a>> {
-        let syncs = match path {
-            "folder/file" | "file" => self.file_syncs,
-            "folder" | "." => self.folder_syncs,
+        let counted = match path {
+            "folder/file" | "file" => self.file,
+            "folder" | "." => self.folder,
             _ => return unsupported(),
         };
         Ok(Opened {
-            syncs,
-            bytes: self.bytes,
+            counted,
+            at: 0,
             is_held: self.is_held,
         })
     }
@@ -240,59 +310,31 @@ impl<'a> Files for OneFile<'a> {
     }
 }
 
-// Counts of the syncs of a file and of its folder, and of the bytes that were written.
-#[derive(Drop)]
-struct Counts {
-    file_syncs: Cell<u64>,
-    folder_syncs: Cell<u64>,
-    bytes: Cell<u64>,
-}
-
-impl Counts {
-    fn new() -> Counts {
-        Counts {
-            file_syncs: Cell::new(0),
-            folder_syncs: Cell::new(0),
-            bytes: Cell::new(0),
-        }
-    }
-
-    fn files(&self, is_held: bool) -> OneFile<'_> {
-        OneFile {
-            file_syncs: &self.file_syncs,
-            folder_syncs: &self.folder_syncs,
-            bytes: &self.bytes,
-            is_held,
-        }
-    }
-
-    // Tells whether so many syncs of the file and of its folder were counted, and so many bytes.
-    fn are(&self, file_syncs: u64, folder_syncs: u64, bytes: u64) -> bool {
-        self.file_syncs.get() == file_syncs
-            && self.folder_syncs.get() == folder_syncs
-            && self.bytes.get() == bytes
-    }
-}
-
-// Tells whether the folder is synced when the file is opened, and the file when the disk is; a piece is written whole, and a
-// refused sync fails.
-fn syncs<R: Files>(files: &R, counts: &Counts, name: Name) -> bool
+// Tells whether the folder is synced when the file is opened, and the file then and when the disk is; a piece is written whole,
+// and after a refused sync nothing is tried again.
+fn syncs<R: Files>(files: &R, file: &Counted, folder: &Counted, name: Name) -> bool
 where
     R::File: Lock,
 {
     let mut disk = FileDisk::at(files, name, true);
     disk.write_at(0, b"abc").is_ok()
         && disk.cut(2).is_ok()
-        && counts.are(0, 1, 3)
+        && file.is_at(1, 3)
         && disk.sync().is_ok()
-        && counts.are(1, 1, 3)
+        && file.is_at(2, 3)
         && disk.sync() == Err(Failed)
+        && disk.sync() == Err(Failed)
+        && disk.write_at(2, b"d") == Err(Failed)
+        && disk.cut(0) == Err(Failed)
+        && file.is_at(3, 3)
+        && folder.is_at(1, 0)
+        && holds(&mut disk, b"ab")
 }
 
 // Tells whether a file with counts of its own is synced so.
 fn syncs_anew(name: Name) -> bool {
-    let counts = Counts::new();
-    syncs(&counts.files(false), &counts, name)
+    let (file, folder) = (Counted::new(), Counted::new());
+    syncs(&files_of(&file, &folder, false), &file, &folder, name)
 }
 
 #[test]
@@ -302,28 +344,38 @@ fn syncs_the_file_and_its_folder(rt: HostRuntime) -> Result<(), Fail> {
     Ok(())
 }
 
-// Tells whether nothing is written, and the disk says why.
-fn is_refused<R: Files>(files: &R, counts: &Counts, name: Name, obstacle: Option<Obstacle>) -> bool
+// Tells whether a file is neither read nor written, and its disk says why.
+fn is_refused<R: Files>(files: &R, file: &Counted, name: Name, obstacle: Option<Obstacle>) -> bool
 where
     R::File: Lock,
 {
     let mut disk = FileDisk::at(files, name, true);
-    disk.write_at(0, b"abc") == Err(Failed)
-        && counts.bytes.get() == 0
+    disk.len() == Err(Failed)
+        && disk.write_at(0, b"abc") == Err(Failed)
+        && file.bytes.get() == 0
         && disk.obstacle() == obstacle
 }
 
 // Tells whether a file is refused whose lock another opening holds, or none does.
 fn is_refused_anew(is_held: bool, name: Name, obstacle: Option<Obstacle>) -> bool {
-    let counts = Counts::new();
-    is_refused(&counts.files(is_held), &counts, name, obstacle)
+    let (file, folder) = (Counted::new(), Counted::new());
+    is_refused(&files_of(&file, &folder, is_held), &file, name, obstacle)
 }
 
-// Tells whether a folder whose sync is refused refuses the file.
-fn is_refused_unsynced(name: Name) -> bool {
-    let counts = Counts::new();
-    counts.folder_syncs.set(1);
-    is_refused(&counts.files(false), &counts, name, None)
+// Tells whether the first call of a file fails that was synced so often, as its folder was.
+fn fails_to_sync(file_syncs: u64, folder_syncs: u64, name: Name) -> bool {
+    let (file, folder) = (Counted::new(), Counted::new());
+    file.syncs.set(file_syncs);
+    folder.syncs.set(folder_syncs);
+    is_unread(&files_of(&file, &folder, false), name)
+}
+
+fn is_unread<R: Files>(files: &R, name: Name) -> bool
+where
+    R::File: Lock,
+{
+    let mut disk = FileDisk::at(files, name, true);
+    disk.len() == Err(Failed) && disk.obstacle() == None
 }
 
 #[test]
@@ -334,6 +386,7 @@ fn refuses_a_file(rt: HostRuntime) -> Result<(), Fail> {
     assert!(rt; is_refused_anew(false, Name::new(rt.alloc(), "folder")?, other));
     let missing = Some(Obstacle::Folder);
     assert!(rt; is_refused_anew(false, Name::new(rt.alloc(), "missing/file")?, missing));
-    assert!(rt; is_refused_unsynced(Name::new(rt.alloc(), "file")?));
+    assert!(rt; fails_to_sync(0, 2, Name::new(rt.alloc(), "file")?));
+    assert!(rt; fails_to_sync(2, 0, Name::new(rt.alloc(), "file")?));
     Ok(())
 }

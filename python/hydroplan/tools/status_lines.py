@@ -20,6 +20,8 @@ PLAIN = {
     "the journal is no regular file": "JOURNAL names a folder, a pipe or a device, and has to name a file",
     "the journal's folder cannot be opened": "the folder of JOURNAL is not there, or may not be opened: make it, or name another",
     "another run writes this journal": "a training on this journal goes on: wait for it, or name another JOURNAL; `check` may read it meanwhile",
+    "the journal was removed or changed while it was written": "the file of that name is no longer the one that was written: "
+    "let nothing else write, move or cut JOURNAL, look whether it is still there, and train again",
     "output failed": "standard output was closed, or its disk is full",
     "memory": "memory was refused: free some, or train with fewer iterations or a smaller problem",
 }

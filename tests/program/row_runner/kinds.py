@@ -7,6 +7,7 @@ from pathlib import Path
 
 from .bounds import between, rising, upper
 from .expectation import difference, expectation
+from .harms import harms
 from .kills import killed
 from .program import NoEnd
 from .refuted import refuted
@@ -35,7 +36,7 @@ def kills(row: Row, program: Path, folder: Path) -> Verdict:
 
 KINDS = {
     "run": run, "between": between, "upper": upper, "rising": rising, "refuted": refuted, "each": each, "edits": edits,
-    "journals": journals, "kills": kills,
+    "journals": journals, "kills": kills, "harms": harms,
 }
 
 

@@ -9,7 +9,7 @@ from typing import List, Mapping, Tuple
 TOP = Path(__file__).resolve().parents[3]
 FOLDER = Path(__file__).resolve().parents[1]
 
-OPTIONS = ("problem", "made", "padded", "piped", "journal", "held", "readonly", "output", "errors", "memory", "kills", "seed")
+OPTIONS = ("problem", "made", "padded", "piped", "journal", "held", "readonly", "output", "errors", "memory", "kills", "seed", "harm")
 
 
 class BadRow(Exception):
