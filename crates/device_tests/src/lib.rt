@@ -23,3 +23,5 @@ mod silent_disks;
 mod sinks;
 #[cfg(test)]
 mod sources;
+#[cfg(test)]
+mod twins;

@@ -1,4 +1,5 @@
 pub mod Changes
+pub mod FoundAgain
 pub mod Histories
 pub mod MemoryDisks
 mod ReadRest

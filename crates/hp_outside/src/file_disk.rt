@@ -1,5 +1,5 @@
 // A disk over a file of a runtime.
-ghost use Rattle.std.specs.Prelude.{◌≡◌, ◌≤◌, ◌^◌, is_ok, IfOk};
+ghost use Rattle.std.specs.Prelude.{◌≡◌, ◌≤◌, ◌+◌, ◌^◌, length, is_ok, IfOk};
 ghost use Rattle.hp_outside.specs.Disks.{untold, untold_lawful};
 ghost use Rattle.hp_outside.specs.Causes.{HasCause, faults_after};
 
@@ -7,6 +7,7 @@ use crate::Failed;
 use crate::disk::Disk;
 use crate::faults::counted;
 use crate::file_calls::FileCalls;
+use crate::file_like::StdFile;
 use crate::kept::Kept;
 use crate::lock::Lock;
 use crate::obstacle::{Obstacle, Refused};
@@ -25,7 +26,7 @@ pub struct FileDisk<'a, R: Files> {
     rt: &'a R,
     name: Name,
     write: bool,
-    file: Option<FileCalls<R::File>>,
+    file: Option<FileCalls<StdFile<R::File>>>,
     obstacle: Option<Obstacle>,
     faults: u64,
 }
@@ -67,8 +68,8 @@ fn file_of<'f, R: Files>(
     rt: &R,
     name: &Name,
     write: bool,
-    file: &'f mut Option<FileCalls<R::File>>,
-) -> Result<&'f mut FileCalls<R::File>, Refused>
+    file: &'f mut Option<FileCalls<StdFile<R::File>>>,
+) -> Result<&'f mut FileCalls<StdFile<R::File>>, Refused>
 where
     R::File: Lock,
 {
@@ -80,7 +81,7 @@ where
 
 // Opens the file of this name. What is there and is no regular file is refused, unopened: opening a pipe would wait for
 // whoever writes to it.
-fn opened<R: Files>(rt: &R, name: &str, write: bool) -> Result<FileCalls<R::File>, Refused>
+fn opened<R: Files>(rt: &R, name: &str, write: bool) -> Result<FileCalls<StdFile<R::File>>, Refused>
 where
     R::File: Lock,
 {
@@ -89,14 +90,14 @@ where
     }
     if !write {
         let file = OpenOptions::new().read(true).open(rt, name)?;
-        return Ok(FileCalls::read_only(file));
+        return Ok(FileCalls::read_only(StdFile::new(file)));
     }
     let Ok(folder) = OpenOptions::new().read(true).open(rt, folder_of(name)) else {
         return Err(Refused(Some(Obstacle::Folder)));
     };
     let file = held(rt, name)?;
     folder.sync_all()?;
-    FileCalls::writing(file)
+    FileCalls::writing(StdFile::new(file))
 }
 
 // Tells whether what stands there is no regular file.
@@ -129,7 +130,7 @@ fn is_found<R: Files>(rt: &R, name: &str, kept: &Kept) -> Result<bool, Refused> 
         return Ok(false);
     }
     match OpenOptions::new().read(true).open(rt, name) {
-        Ok(file) => FileCalls::read_only(file).holds(kept),
+        Ok(file) => FileCalls::read_only(StdFile::new(file)).holds(kept),
         Err(error) if error.kind() == io::ErrorKind::NotFound => Ok(false),
         Err(error) => Err(Refused::from(error)),
     }
@@ -161,12 +162,14 @@ where
     }
 
     fn put(&mut self, at: u64, piece: &[u8]) -> Result<(), Refused>
+        requires { at + length piece.now ≤ 2 ^ 62 }
         ensures { self.new ≡ self.old }
     {
         file_of(self.rt, &self.name, self.write, &mut self.file)?.put(at, piece)
     }
 
     fn resized(&mut self, len: u64) -> Result<(), Refused>
+        requires { len ≤ 2 ^ 62 }
         ensures { self.new ≡ self.old }
     {
         file_of(self.rt, &self.name, self.write, &mut self.file)?.resized(len)
@@ -232,6 +235,7 @@ where
     }
 
     fn write_at(&mut self, at: u64, piece: &[u8]) -> Result<(), Failed>
+        requires end { at + length piece.now ≤ 2 ^ 62 }
         ensures cause { HasCause self.old.faults self.new.faults result }
         ensures counted { self.new
             ≡ record self.old { faults = faults_after self.old.faults result } }
@@ -241,6 +245,7 @@ where
     }
 
     fn cut(&mut self, len: u64) -> Result<(), Failed>
+        requires end { len ≤ 2 ^ 62 }
         ensures cause { HasCause self.old.faults self.new.faults result }
         ensures counted { self.new
             ≡ record self.old { faults = faults_after self.old.faults result } }
