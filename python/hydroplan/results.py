@@ -34,6 +34,7 @@ class GapCheck:
     scenarios: int
     seed: int
     seconds: float
+    confidence: float = 0.95
 
 
 @dataclass(frozen=True)

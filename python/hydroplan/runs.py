@@ -38,7 +38,7 @@ MOST_BATCH = 64
 def train(
     compiled: Compiled, journal: Place, *, seed: int, iterations: Optional[int] = None, batch: Optional[int] = None,
     stop: Union[StopRule, Sequence[StopRule]] = (), progress: Union[bool, Callback] = True, program: Optional[Place] = None,
-    shared: Sequence[str] = (),
+    shared: Sequence[str] = (), known: Sequence[GapCheck] = (),
 ) -> Training:
     """Trains until the journal has so many `iterations` in all, or until one of the rules of `stop` holds.
 
@@ -46,7 +46,8 @@ def train(
     `batch` is the number of paths of an iteration, 1 to 64, 1 where it is not given. Where neither `iterations` nor an
     IterationLimit is given, training goes on to the most iterations that the problem's size allows.
     `progress` is called about once a second with a Progress; True writes lines on standard error, False writes none.
-    `shared` are words by which the script `hydroplan` shares the work, as in `["--workers", "4"]`.
+    `shared` are words by which the script `hydroplan` shares the work, as in `["--workers", "4"]`. `known` are comparisons with scenarios
+    of earlier trainings of this journal (`Training.checks`): where one is what a rule asks for, it is not made again.
 
     An interrupt from the keyboard ends the program and raises TrainingInterrupted; the journal keeps whole iterations.
     """
@@ -59,7 +60,7 @@ def train(
         raise ValueError("train needs iterations, or a rule of when to stop, as in train(.., iterations=100)")
     found = TrainingRun(
         compiled, Path(journal), TrainWords(_whole(seed, "a seed", 0, MOST_SEED), batch, shared), checked(rules), find_program(program),
-        callback_of(progress),
+        callback_of(progress), known,
     )
     return found.run()
 

@@ -71,6 +71,7 @@ class TrainingRun:
 
     def __init__(
         self, compiled: Compiled, journal: Path, words: TrainWords, rules: Sequence[StopRule], program: Path, report: Optional[Callback],
+        known: Sequence[GapCheck] = (),
     ) -> None:
         self._compiled = compiled
         self._journal = journal
@@ -84,6 +85,7 @@ class TrainingRun:
         self._bound = Fraction(0)
         self._unanswered = 0
         self._checks: List[GapCheck] = []
+        self._known = {it.iteration: it for it in known}
         limits = [it.iterations for it in rules if isinstance(it, IterationLimit)]
         self._limit = min(limits) if limits else sizes(compiled).most_iterations(words.batch or kept_batch(journal))
         self._is_asked_for = bool(limits)
@@ -164,9 +166,7 @@ class TrainingRun:
             if isinstance(rule, BoundStalling):
                 found = rule.reason(self._bounds)
             elif isinstance(rule, Statistical) and self._is_time_for(rule):
-                self._tell()
-                self._checks.append(self._compared(rule))
-                self._watcher.tell_comparison(self._checks[-1])
+                self._compare(rule)
                 found = rule.reason(self._checks)
             if found is not None:
                 return found
@@ -179,6 +179,22 @@ class TrainingRun:
     def _is_time_for(self, rule: Statistical) -> bool:
         return len(self._bounds) % rule.every == 0 or len(self._bounds) >= self._limit
 
+    def _compare(self, rule: Statistical) -> None:
+        """Takes the comparison that an earlier training made of the same cuts, or makes it and tells it."""
+        self._tell()
+        known = self._known.get(len(self._bounds))
+        if known is not None and self._is_of(rule, known):
+            self._checks.append(known)
+            return
+        self._checks.append(self._compared(rule))
+        self._watcher.tell_comparison(self._checks[-1])
+
+    def _is_of(self, rule: Statistical, known: GapCheck) -> bool:
+        """Whether a comparison is the one that a rule would make now: of the same bound, with the same scenarios."""
+        seed = fresh_seed(self._seed, len(self._bounds), 0)
+        asked = (self._bound_float(), seed, rule.scenarios, rule.confidence)
+        return asked == (known.bound, known.seed, known.scenarios, known.confidence)
+
     def _compared(self, rule: Statistical) -> GapCheck:
         """The bound beside the mean of fresh scenarios, several runs of them where one report may not hold so many."""
         count = len(self._bounds)
@@ -188,7 +204,7 @@ class TrainingRun:
         gap = bound - mean if self._compiled.maximizes else mean - bound
         seconds = time.monotonic() - self._begun
         return GapCheck(
-            count, bound, mean, half_width(costs, rule.confidence), gap, len(costs), fresh_seed(self._seed, count, 0), seconds,
+            count, bound, mean, half_width(costs, rule.confidence), gap, len(costs), fresh_seed(self._seed, count, 0), seconds, rule.confidence,
         )
 
     def _parts(self, scenarios: int, iteration: int) -> List[Tuple[int, int]]:

@@ -1,4 +1,5 @@
 """A study run again: it goes on from its journal after a change of options, and begins anew after a change of data."""
+import json
 import types
 import unittest
 from unittest import mock
@@ -10,6 +11,7 @@ from hydroplan.errors import TrainingInterrupted
 from hydroplan.runs import WordsRefused, train
 from hydroplan.study import command, study_training
 from hydroplan.study.kept_journal import History
+from hydroplan.training import TrainingRun
 
 GOING_ON = "study: going on from the journal\n"
 
@@ -57,6 +59,20 @@ class Again(StudyFolder):
         self.assertEqual(set(compared), {"4", "8"})
         for difference in compared.values():
             self.assertAlmostEqual(difference, 0, 4)
+
+    def test_a_comparison_that_is_known_is_not_made_again(self):
+        options = ["--set", "stop.gap=1", "--set", "stop.scenarios=10", "--set", "stop.every=4"]
+        trained = "study: trained: the mean of 10 scenarios is within"
+        self.assertIn(trained, self.said(*options))
+        before, beside = self.rows("bounds.csv"), (self.folder / "study.journal.json").read_text(encoding="utf-8")
+        with mock.patch.object(TrainingRun, "_compared", side_effect=AssertionError("compared again")):
+            self.assertIn(trained, self.said(*options, "--set", "simulation.scenarios=30"))
+            self.assertEqual(json.loads((self.folder / "study.journal.json").read_text(encoding="utf-8"))["checks"], json.loads(beside)["checks"])
+            means = [[row["mean"] for row in rows] for rows in (before, self.rows("bounds.csv"))]
+            self.assertEqual(means[0], means[1])
+            for other in ("stop.scenarios=11", "stop.confidence=0.9"):
+                with self.assertRaisesRegex(AssertionError, "compared again"):
+                    self.said(*options, "--set", other)
 
     def test_other_data_begin_anew(self):
         self.said()

@@ -53,6 +53,8 @@ def _trained(study: Study, journal: KeptJournal, say: Say, progress: bool) -> Tr
 def _take(history: History, training: Training, before: float) -> None:
     """Takes down the end of a training and its comparisons; those of earlier trainings stay."""
     for check in training.checks:
+        if history.checks.get(check.iteration) == check:  # of an earlier training
+            continue
         history.checks[check.iteration] = replace(check, seconds=before + check.seconds)
         history.note(check.iteration, before + check.seconds)
     history.note(training.iterations, before + training.seconds)
@@ -66,6 +68,7 @@ def _by(study: Study, journal: KeptJournal, say: Say, report: Callable[[Progress
         shared = []
     return train(
         study.compiled, journal.path, seed=options.seed, batch=options.batch, stop=study.options.stop.rules(), progress=report, shared=shared,
+        known=tuple(journal.history.checks.values()),
     )
 
 
