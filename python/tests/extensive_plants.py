@@ -13,13 +13,13 @@ needs_scipy = needs("scipy")
 
 
 class Extensive:
-    """The linear program: columns by key, rows as dictionaries of columns."""
+    """The linear program: columns by key, rows as dictionaries of columns. It is over the whole tree, or over the `nodes` that are given."""
 
-    def __init__(self, case) -> None:
+    def __init__(self, case, nodes=None) -> None:
         self.case = case
         self.columns, self.costs, self.bounds = {}, [], []
         self.equal, self.most = [], []
-        for node in tree(case):
+        for node in tree(case) if nodes is None else nodes:
             self.write(node)
 
     def of(self, *kinds):
@@ -248,10 +248,26 @@ class Extensive:
 
     def optimum(self) -> float:
         """The least expected cost."""
+        return self.solved(self.costs, self.equal, self.most, self.bounds)
+
+    def missed(self) -> float:
+        """By how much the rows are missed together at least: above 0 where there is no plan."""
+        width, equal, most, costs = len(self.costs), [], [], []
+        for part, side in self.equal:
+            above, below = width + len(costs), width + len(costs) + 1
+            costs += [1.0, 1.0]
+            equal.append(({**part, above: 1.0, below: -1.0}, side))
+        for part, side in self.most:
+            most.append(({**part, width + len(costs): -1.0}, side))
+            costs.append(1.0)
+        return self.solved([0.0] * width + costs, equal, most, [*self.bounds, *[(0.0, None)] * len(costs)])
+
+    def solved(self, costs, equal, most, bounds) -> float:
+        """The least cost by HiGHS, within bounds, where some rows are equal to their sides and some at most these."""
         from scipy.optimize import linprog
 
-        equal, most = matrix(self.equal, len(self.costs)), matrix(self.most, len(self.costs))
-        sides = [[side for _, side in rows] for rows in (self.equal, self.most)]
-        found = linprog(self.costs, A_ub=most, b_ub=sides[1] or None, A_eq=equal, b_eq=sides[0] or None, bounds=self.bounds, method="highs")
+        matrices = [matrix(rows, len(costs)) for rows in (equal, most)]
+        sides = [[side for _, side in rows] or None for rows in (equal, most)]
+        found = linprog(costs, A_ub=matrices[1], b_ub=sides[1], A_eq=matrices[0], b_eq=sides[0], bounds=bounds, method="highs")
         assert found.status == 0, found.message
         return found.fun

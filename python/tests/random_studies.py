@@ -1,7 +1,8 @@
 """Small studies drawn at random, as the files of a folder: each feature of docs/PLANTS.md on or off, in every spelling of docs/STUDIES.md.
 
-A draw takes a `random.Random`, or one of hypothesis, which then can make a study smaller. Numbers have few decimals, so that hardly any
-has to be rounded, and fit the hours of a stage: what is turbined is about 10 hm3 whether a stage is ten hours or a month.
+A draw takes a `random.Random`, or what hypothesis has in its place (`drawn_studies`), which makes a wrong study smaller. Numbers have few
+decimals, so that hardly any has to be rounded, and fit the hours of a stage: what is turbined is about 10 hm3 whether a stage is ten
+hours or a month.
 """
 from __future__ import annotations
 
@@ -230,7 +231,7 @@ class StudyDraw(Spellings):
         ):
             if self.often(0.3):
                 found[member] = needed()
-                if self.often(0.95):
+                if self.often(0.98):
                     found[penalty] = self.penalty()
         return found
 

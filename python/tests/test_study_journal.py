@@ -61,7 +61,7 @@ class Again(StudyFolder):
             self.assertAlmostEqual(difference, 0, 4)
 
     def test_a_comparison_that_is_known_is_not_made_again(self):
-        options = ["--set", "stop.gap=1", "--set", "stop.scenarios=10", "--set", "stop.every=4"]
+        options = ["--set", "stop.gap=0.99", "--set", "stop.scenarios=10", "--set", "stop.every=4"]
         trained = "study: trained: the mean of 10 scenarios is within"
         self.assertIn(trained, self.said(*options))
         before, beside = self.rows("bounds.csv"), (self.folder / "study.journal.json").read_text(encoding="utf-8")

@@ -1,7 +1,8 @@
 """Studies drawn at random: certified bounds beside the least cost that HiGHS finds, and balances recomputed from decisions.csv.
 
 Each study is a folder of study.toml and CSV files. A second reading of these files alone gives the extensive form; docs/STUDIES.md and
-docs/PLANTS.md are all that the two have in common. `many_studies` draws thousands by hand.
+docs/PLANTS.md are all that the two have in common. Hypothesis draws the compared ones, the same each time; `many_studies` draws thousands
+by hand.
 """
 import contextlib
 import io
@@ -9,7 +10,7 @@ import random
 import re
 import tempfile
 import unittest
-from collections import Counter
+from dataclasses import replace
 from fractions import Fraction
 from pathlib import Path
 
@@ -19,11 +20,15 @@ from extensive_plants import Extensive, needs_scipy
 from random_studies import StudyDraw, write_study
 from study_optima import UNROUNDED, compared
 from study_readings import StudyReading, read_case
-from hydroplan.study import StudyError, main, read_study
+from hydroplan.plants import Tiers
+from hydroplan.study import main
 
+needs_hypothesis = needs("hypothesis")
 needs_tomllib = unittest.skipUnless(StudyReading.TOML, "tomllib comes with Python 3.11")
-# The seeds of the studies that are compared; `many_studies` takes others.
 STUDIES = 200
+# kinds and members that are a price of something; one wrong by so much, in money, is found
+PRICES = (("thermal", "cost"), ("bus", "deficit"), ("import", "cost"), ("export", "price"), ("reservoir", "end_value"), ("reservoir", "alert_penalty"))
+WRONG_BY = Fraction(1, 100)
 SPELLINGS = {
     "a list": r"= \[\d+, \d+", "a fraction": r'"\d+/2"', "a text": r'"\d+"', "a column": r"file = \"columns.csv\"", "months": r"months = \[",
     "a column of months": r'months = \{ file = "months.csv"', "weeks": r"weeks = \[", "a profile": r"profile = ", "times": r"times = ",
@@ -62,23 +67,35 @@ class InFolders(unittest.TestCase):
 @needs_scipy
 @needs_tomllib
 class Optima(InFolders):
+    @needs_hypothesis
     def test_bounds_of_studies_are_the_optima_of_their_extensive_forms(self):
-        found = Counter()
-        for seed in range(STUDIES):
-            files = drawn(seed)
-            with self.study(files) as folder:
-                try:
-                    own = compared(folder)
-                except StudyError as refused:
-                    self.assertIn("RoundedTooFar", str(refused))
-                    found["refused"] += 1
-                    continue
-            found.update([own.rounded, "optimum" if own.bound is not None else "none", "upper" if own.upper is not None else "missed"])
-            self.assertEqual(own.fault(), "", f"seed {seed}\n" + "\n".join(files.values()))
-        self.assertLessEqual(found["refused"], STUDIES // 100, found)
-        self.assertGreaterEqual(found["optimum"], STUDIES * 9 // 10, found)
+        from drawn_studies import compared_studies
+
+        def words(own):
+            return ["upper"] if own.upper is not None else []
+
+        found = compared_studies(STUDIES, words, derandomize=True)
+        self.assertGreaterEqual(found["the optimum"], STUDIES * 19 // 20, found)
+        self.assertLessEqual(found["no plan"], STUDIES // 50, found)
+        self.assertLessEqual(found["too coarse"], STUDIES // 100, found)
         self.assertGreaterEqual(found[UNROUNDED], STUDIES * 9 // 10, found)
         self.assertGreaterEqual(found["upper"], STUDIES // 10, found)
+
+    def test_stages_without_a_solution_are_found_by_both(self):
+        # 10 hm3 at first and 8 that must be there in the end: where the lake is emptied before, as is cheapest, a plan meets a dead end
+        files = {
+            "study.toml": '[calendar]\nstart = 2026-01-01\nstages = 2\nhours = 1\n[bus.b]\ndemand = [10, 0]\ndeficit = 9\n[reservoir.r]\n'
+            'bus = "b"\nmaximum = 20\ninitial = 10\nspill = 50\nturbine = 20\nproductivity = 1\ntarget = { at = { 2 = 8 } }\n',
+        }
+        endings = []
+        for target in (8, 11):
+            with self.study({name: text.replace("2 = 8", f"2 = {target}") for name, text in files.items()}) as folder:
+                own = compared(folder)
+                endings.append((own.ending(), own.fault(), round(own.lacking, 6), round(own.lacking_alone, 6)))
+        self.assertEqual(endings, [("a dead end", "", 0, 8), ("no plan", "", 1, 11)])
+        self.assertIn("HiGHS has a solution for the stage", replace(own, lacking_alone=0.0).fault())
+        self.assertIn("does not show that there is none", replace(own, lacking=0.0).fault())
+        self.assertIn("HiGHS finds no plan, and training does", replace(own, bound=Fraction(1)).fault())
 
     def test_the_second_reading_knows_a_study_by_hand(self):
         # 10 hm3 of water, a MWh for each; 8 MWh are needed in each stage, and energy costs 3 and then 7
@@ -91,15 +108,21 @@ class Optima(InFolders):
             self.assertAlmostEqual(Extensive(read_case(folder)).optimum(), 3 * 6)
             self.assertEqual(compared(folder).fault(), "")
 
-    def test_a_study_that_is_read_otherwise_is_found(self):
-        # the same folder beside a case in which one member is another: the bound is not that case's optimum
-        found = 0
-        for seed in range(8):
+    def test_a_price_that_is_wrong_by_a_hundredth_is_found(self):
+        # the same folder beside a case in which one price is another: the bound is not that case's optimum, wherever the price counts
+        counted = found = 0
+        for seed in range(6):
             with self.study(drawn(seed)) as folder:
                 own, case = compared(folder), read_case(folder)
-            next(it for it in case.elements if it.KIND == "bus").demand = 41
-            found += own.optimum is not None and abs(Extensive(case).optimum() - float(own.bound)) > float(own.loss + own.near)
-        self.assertGreaterEqual(found, 6)
+            for it, member in ((it, member) for kind, member in PRICES for it in case.elements if it.KIND == kind and getattr(it, member)):
+                right = getattr(it, member)
+                setattr(it, member, dearer(right))
+                off = abs(Extensive(case).optimum() - float(own.optimum))
+                setattr(it, member, right)
+                counted += off > 1e-7 * max(1, abs(own.optimum))
+                found += off > float(own.loss + 2 * own.near)
+        self.assertGreaterEqual(counted, 12)
+        self.assertEqual(found, counted)
 
 
 @needs_tomllib
@@ -122,6 +145,15 @@ class Draws(InFolders):
                 case = read_case(folder)
             left -= {it for it in sorted(left) if counts(case, *it)}
         self.assertEqual(left, set())
+
+
+def dearer(given):
+    """A price, or each of several, with a little more."""
+    if isinstance(given, Tiers):
+        return Tiers(*((size, dearer(price)) for size, price in given.tiers))
+    if isinstance(given, dict):
+        return {name: dearer(it) for name, it in given.items()}
+    return [dearer(it) for it in given] if isinstance(given, (list, tuple)) else given + WRONG_BY
 
 
 def optimum_of(case):

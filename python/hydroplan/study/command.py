@@ -11,10 +11,11 @@ from typing import Any, Dict, List, Optional, Sequence
 
 from hydroplan.tools.shown_names import shown_name
 
-from ..errors import HydroplanError, TrainingInterrupted
+from ..errors import HydroplanError, NoStageSolution, TrainingInterrupted
 from ..limits import sizes
 from ..plants.element import Element
 from ..tables import package
+from .dead_ends import dead_end
 from .results_folder import RESULTS, write_results
 from .study import Study, read_study
 from .study_training import train_study
@@ -69,9 +70,12 @@ def _run(study: Study, quiet: bool) -> None:
     package("numpy")
     if study.options.simulation.prices:
         package("scipy")
-    training, journal = train_study(study, _say, not quiet)
-    _say(f"trained: {training.stopped}")
-    found = write_results(study, training, journal)
+    try:
+        training, journal = train_study(study, _say, not quiet)
+        _say(f"trained: {training.stopped}")
+        found = write_results(study, training, journal)
+    except NoStageSolution as fault:
+        raise dead_end(study, fault) from fault
     _write_report(study, study.folder / RESULTS)
     print("\n".join(map(shown_name, [*_result_lines(found), f"results: {study.folder / RESULTS}"])))
     _say(f"done in {time.monotonic() - begun:.0f} seconds")
