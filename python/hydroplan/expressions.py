@@ -168,6 +168,14 @@ def total(terms: Iterable[Linear]) -> Expression:
     return Expression(found, constant)
 
 
+def dot(numbers: Iterable[Number], terms: Iterable[Linear]) -> Expression:
+    """The sum of numbers times variables or expressions, in their order: of both there are as many."""
+    place, found, coefficients = users_line(), list(map(as_linear, terms)), list(numbers)
+    if len(coefficients) != len(found):
+        raise ModelError(f"dot has {len(coefficients)} numbers for {len(found)} terms ({place})")
+    return total(exact(number, f"a number of dot ({place})") * term for number, term in zip(coefficients, found))
+
+
 def between(lower: Number, expression: Linear, upper: Number) -> Relation:
     """The constraint that an expression is at least `lower` and at most `upper`."""
     place, terms = users_line(), as_linear(expression)

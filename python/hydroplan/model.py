@@ -12,7 +12,7 @@ from typing import Callable, Dict, List, Mapping, Optional, Sequence, Tuple, Uni
 from .code_places import CodePlace, users_line
 from .errors import ModelError, NotLinear
 from .exact import Number, exact, exact_weight
-from .expressions import Expression, Relation, Variable, between, total
+from .expressions import Expression, Relation, Variable, between, dot, total
 from .graphs import GraphNode, PolicyGraph
 from .programs import Compiled, Program, Resolution, read_stochopt
 from .sharing import shared_model
@@ -20,7 +20,7 @@ from .stages import Constraint, Stage, State
 
 __all__ = [
     "Compiled", "Constraint", "Expression", "GraphNode", "Model", "Node", "NotLinear", "Number", "PolicyGraph", "Program",
-    "Realization", "Relation", "Stage", "State", "Variable", "between", "equally", "read_stochopt", "total",
+    "Realization", "Relation", "Stage", "State", "Variable", "between", "dot", "equally", "read_stochopt", "total",
 ]
 
 Values = Union[Mapping[str, Number], Mapping[Variable, Number]]
@@ -104,7 +104,9 @@ class Model:
         wrong = next((it for it in lists if len(it) != len(given)), None)
         if wrong is not None:
             raise ModelError(f"an alternative of {called} has {len(wrong)} weights for {len(given)} realizations")
-        found = Node(name, stage, tuple(given), _successors(successors or {}, called), _weight(stop, f"stop of {called}"), tuple(map(tuple, lists)), place)
+        found = Node(
+            name, stage, tuple(given), _successors(successors or {}, called), _weight(stop, f"stop of {called}"), tuple(map(tuple, lists)), place,
+        )
         self.nodes[name] = found
         return found
 

@@ -3,7 +3,7 @@ from __future__ import annotations
 
 from dataclasses import dataclass
 from fractions import Fraction
-from typing import Dict, List, Optional, Union
+from typing import Dict, Iterable, List, Optional, Union
 
 from .code_places import CodePlace, users_line
 from .errors import ModelError
@@ -82,6 +82,10 @@ class Stage:
             raise ModelError(f"{found.called()} ({found.place}) has the name of one that is there already ({earlier.place})")
         self.constraints.append(found)
         return found
+
+    def add_all(self, relations: Iterable[Relation]) -> List[Constraint]:
+        """Adds each of several constraints, as in `stage.add_all(total(it) <= 1 for it in used)`."""
+        return [self.add(it) for it in relations]
 
     def minimize(self, cost: Linear) -> None:
         """Sets the stage's cost."""

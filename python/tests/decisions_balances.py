@@ -50,7 +50,8 @@ class DecisionBalances(Balances):
         pairs = [(self.water(it.inflow, drawn), stage.values[f"inflow:{it.name}"]) for it in self.of("reservoir")]
         for it in self.of("bus"):
             if isinstance(it.demand, Random):
-                pairs += [(self.random(it.demand, drawn, block) * self.hours(drawn, block), stage.values[self.name("demand", it, block)]) for block in self.case.blocks]
+                for block in self.case.blocks:
+                    pairs.append((self.random(it.demand, drawn, block) * self.hours(drawn, block), stage.values[self.name("demand", it, block)]))
         return all(abs(given - told) <= NEAR for given, told in pairs)
 
     def outside(self):

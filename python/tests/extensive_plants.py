@@ -113,7 +113,9 @@ class Extensive:
         self.short(node, it, "alert", pick(it.alert, node.stage, None), it.alert_penalty, volume)
         if node.stage == self.case.stages and it.end_value is not None:
             most = pick(it.maximum, node.stage, None)
-            kept = [self.column(node, ("kept", it.name, at), size, -value) for at, (size, value) in enumerate(self.tiers(it.end_value, node, None, most))]
+            kept = [
+                self.column(node, ("kept", it.name, at), size, -value) for at, (size, value) in enumerate(self.tiers(it.end_value, node, None, most))
+            ]
             self.most.append((added(*kept, scaled(volume, -1)), 0.0))
 
     def short(self, node, it, word, needed, penalty, amount):
@@ -200,11 +202,17 @@ class Extensive:
 
     def write_import(self, node, it, block):
         """Energy that is bought."""
-        self.column(node, ("imported", it.name, block), self.power(it.maximum, node, block), pick(it.cost, node.stage, block), self.power(it.minimum, node, block))
+        self.column(
+            node, ("imported", it.name, block), self.power(it.maximum, node, block), pick(it.cost, node.stage, block),
+            self.power(it.minimum, node, block),
+        )
 
     def write_export(self, node, it, block):
         """Energy that is sold."""
-        self.column(node, ("exported", it.name, block), self.power(it.maximum, node, block), -pick(it.price, node.stage, block), self.power(it.minimum, node, block))
+        self.column(
+            node, ("exported", it.name, block), self.power(it.maximum, node, block), -pick(it.price, node.stage, block),
+            self.power(it.minimum, node, block),
+        )
 
     def productivity(self, it, node, block):
         """MWh per hm3."""

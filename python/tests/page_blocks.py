@@ -1,4 +1,7 @@
-"""The optima of examples/README.md, and the blocks of docs/MODELS.md: those of Python are run in one namespace, those of text have what the block before them printed."""
+"""The optima of examples/README.md, and the blocks of docs/MODELS.md.
+
+Those of Python are run in one namespace, and those of text have what the block before them printed.
+"""
 from __future__ import annotations
 
 import contextlib

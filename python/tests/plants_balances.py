@@ -110,7 +110,8 @@ class Balances:
 
     def brought(self, it, stage, block):
         """The energy that an element brings to its bus."""
-        value = {word: stage.values.get(self.name(word, it, block), F(0)) for word in ("turbined", "taken", "imported", "exported", "pumped", "charged", "discharged")}
+        words = ("turbined", "taken", "imported", "exported", "pumped", "charged", "discharged")
+        value = {word: stage.values.get(self.name(word, it, block), F(0)) for word in words}
         if it.KIND == "reservoir":
             flows = isinstance(it.productivity, Flow)
             factor = pick(it.productivity.values, stage.number, block) / HM3 if flows else pick(it.productivity, stage.number, block)

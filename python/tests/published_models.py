@@ -1,4 +1,4 @@
-"""Problems of other packages and books whose optima are published, as models of some twelve lines each.
+"""Problems of other packages and books whose optima are published, as models of at most twelve lines each, below their names.
 
 The data are those of the examples of SDDP.jl (Dowson and Kapelevich 2021), which took several from FAST, StructDualDynProg.jl and
 StochDynamicProgramming.jl; Louveaux and Smeers (1988); Birge and Louveaux (2011). Variables without an upper bound there get one that
@@ -11,7 +11,7 @@ from itertools import product
 from math import sin
 
 import model_support  # noqa: F401
-from hydroplan.model import Model, PolicyGraph, equally, total
+from hydroplan.model import Model, PolicyGraph, dot, equally, total
 
 FUEL = [(0, "1.5"), (50, 1), (100, "0.75")]
 CLIMATES = [[1, 2, 3], [3, 2, 1]]
@@ -96,13 +96,11 @@ def power_expansion(stages):
         plants = [stage.state(f"x{i}", 0, 20000) for i in range(4)]
         new, missing = [stage.variable(f"v{i}", 0, 20000 if node.stage < stages else 0) for i in range(4)], stage.variable("missing", 0, 20000)
         power, demand = [[stage.variable(f"y{i}{j}", 0, 20000) for j in range(3)] for i in range(4)], [stage.random(f"d{j}") for j in range(3)]
-        for i in range(4):
-            stage.add(plants[i].outgoing == plants[i].incoming + new[i])
-            stage.add(total(power[i]) <= plants[i].incoming)
-        for j in range(3):
-            stage.add(total(it[j] for it in power) + missing >= demand[j])
-        fuel = total(F(price) * HOURS[j] * power[i][j] for i, price in enumerate(("25", "80", "6.5", "160")) for j in range(3))
-        stage.minimize(16 * new[0] + 5 * new[1] + 32 * new[2] + 2 * new[3] + fuel + 10**6 * missing)
+        stage.add_all(plants[i].outgoing == plants[i].incoming + new[i] for i in range(4))
+        stage.add_all(total(power[i]) <= plants[i].incoming for i in range(4))
+        stage.add_all(total(it[j] for it in power) + missing >= demand[j] for j in range(3))
+        fuel = total(dot([F(price) * it for it in HOURS], own) for price, own in zip(("25", "80", "6.5", "160"), power))
+        stage.minimize(dot((16, 5, 32, 2), new) + fuel + 10**6 * missing)
         return [(weight, dict(zip(demand, it))) for weight, it in zip((9, 1), DEMANDS)] if node.stage > 1 else equally([dict.fromkeys(demand, 0)])
     return Model.build(PolicyGraph.linear(stages), build, {f"x{i}": 0 for i in range(4)})
 
@@ -113,12 +111,11 @@ def hydro_valley(inflows, graph):
         level = [stage.state(f"level{r}", 0, 200) for r in (0, 1)]
         used = [[stage.variable(f"use{r}{k}", 0, 1) for k in range(3)] for r in (0, 1)]
         spill, water = [stage.variable(f"spill{r}", 0, 500) for r in (0, 1)], [stage.random(f"water{r}") for r in (0, 1)]
-        out = [50 * it[0] + 60 * it[1] + 70 * it[2] for it in used]
+        out = [dot((50, 60, 70), it) for it in used]
         stage.add(level[0].outgoing <= level[0].incoming + water[0] - out[0] - spill[0])
         stage.add(level[1].outgoing <= level[1].incoming + water[1] - out[1] - spill[1] + out[0] + spill[0])
-        for it in used:
-            stage.add(total(it) <= 1)
-        stage.maximize(node.value * total(55 * it[0] + 65 * it[1] + 70 * it[2] for it in used) - 1000 * total(spill))
+        stage.add_all(total(it) <= 1 for it in used)
+        stage.maximize(node.value * total(dot((55, 65, 70), it) for it in used) - 1000 * total(spill))
         return equally([dict(zip(water, it)) for it in (inflows if node.stage > 1 else inflows[:1])])
     return Model.build(graph, build, {"level0": 200, "level1": 200})
 
@@ -132,12 +129,9 @@ def asset_management():
     """Birge and Louveaux: 55 grow in stocks and bonds for three periods to reach 80."""
     def build(stage, node):
         stocks, bonds = stage.state("stocks", 0, 500), stage.state("bonds", 0, 500)
-        if node.stage == 1:
-            stage.add(stocks.outgoing + bonds.outgoing == 55)
-            return stage.minimize(0)
-        grown = F(node.value[0]) * stocks.incoming + F(node.value[1]) * bonds.incoming
+        grown = 55 if node.stage == 1 else F(node.value[0]) * stocks.incoming + F(node.value[1]) * bonds.incoming
         if node.stage < 4:
-            stage.add(grown == stocks.outgoing + bonds.outgoing)
+            stage.add(stocks.outgoing + bonds.outgoing == grown)
             return stage.minimize(0)
         over, short = stage.variable("over", 0, 500), stage.variable("short", 0, 500)
         stage.add(grown - over + short == 80)
@@ -151,16 +145,13 @@ def electricity_planning():
     def build(stage, node):
         x = [stage.state(f"x{i}", 0, 20) for i in range(4)]
         if node.stage == 1:
-            stage.add(total(it.outgoing for it in x) >= 12)
-            spent = total(price * it.outgoing for price, it in zip((10, 7, 16, 6), x))
-            stage.add(spent <= 120)
+            spent = dot((10, 7, 16, 6), (it.outgoing for it in x))
+            stage.add_all([total(it.outgoing for it in x) >= 12, spent <= 120])
             return stage.minimize(spent)
         y, demand = [[stage.variable(f"y{i}{j}", 0, 20) for j in range(3)] for i in range(4)], stage.random("demand")
-        for i in range(4):
-            stage.add(total(y[i]) <= x[i].incoming)
-        for j, needed in enumerate((demand, 3, 2)):
-            stage.add(total(it[j] for it in y) >= needed)
-        stage.minimize(total(F(unit) * F(hours) * y[i][j] for i, unit in enumerate(("4", "4.5", "3.2", "5.5")) for j, hours in enumerate((10, 6, 1))))
+        stage.add_all(total(y[i]) <= x[i].incoming for i in range(4))
+        stage.add_all(total(it[j] for it in y) >= needed for j, needed in enumerate((demand, 3, 2)))
+        stage.minimize(total(F(unit) * dot((10, 6, 1), own) for unit, own in zip(("4", "4.5", "3.2", "5.5"), y)))
         return [(3, {demand: 3}), (4, {demand: 5}), (3, {demand: 7})]
     return Model.build(PolicyGraph.linear(2), build, {f"x{i}": 0 for i in range(4)})
 
@@ -206,10 +197,9 @@ def two_reservoirs():
     model = Model({"upper": 50, "lower": 30})
     stage = model.stage("season")
     upper, lower, rain, demand = stage.state("upper", 10, 80), stage.state("lower", 5, 60), stage.random("rain"), stage.random("demand")
-    high, low, spill, coal = (stage.variable(name, least, most) for name, least, most in (("high", 0, 30), ("low", 0, 25), ("spill", 0, 100), ("coal", 2, 60)))
-    stage.add(upper.outgoing + high == upper.incoming + rain)
-    stage.add(lower.outgoing + low + spill == lower.incoming + high)
-    stage.add(high + low + coal >= demand)
+    high, low, spill, coal = (stage.variable(it, *box) for it, box in zip(("high", "low", "spill", "coal"), ((0, 30), (0, 25), (0, 100), (2, 60))))
+    balances = [upper.outgoing + high == upper.incoming + rain, lower.outgoing + low + spill == lower.incoming + high]
+    stage.add_all([*balances, high + low + coal >= demand])
     stage.minimize(7 * coal + spill + 12)
     model.node("spring", stage, [(1, {rain: 10, demand: 40}), (2, {rain: 25, demand: 40})], {"summer dry": 1, "summer wet": 3})
     model.node("summer dry", stage, [(1, {rain: 0, demand: 30})], {"autumn": 1}, stop=1)
@@ -219,6 +209,7 @@ def two_reservoirs():
 
 
 LAKES = ("alp", "birch", "cliff", "dale", "elm")
+ABOVE = ((), (0,), (1, 3), (), ())
 SEASONS = [
     [(1, 1, 1, 1, 1, 310), (3, 2, 2, 3, 2, 300), (5, 3, 3, 5, 3, 295)], [(9, 2, 2, 6, 3, 270), (18, 5, 4, 12, 6, 260), (31, 8, 7, 21, 10, 255)],
     [(11, 2, 1, 4, 2, 230), (22, 4, 3, 8, 5, 220), (38, 7, 5, 14, 8, 215)], [(4, 1, 1, 2, 2, 270), (8, 3, 3, 5, 4, 260), (14, 5, 5, 8, 7, 255)],
@@ -231,17 +222,12 @@ def five_reservoirs():
     def build(stage, node):
         lakes = [stage.state(name, 0, most) for name, most in zip(LAKES, (100, 30, 40, 80, 60))]
         used = [stage.variable(f"{name}_turbine", 0, most) for name, most in zip(LAKES, (25, 35, 60, 20, 15))]
-        lost = [stage.variable(f"{name}_spill", 0, 500) for name in LAKES]
-        random = [stage.random(name) for name in (*(f"{it}_inflow" for it in LAKES), "demand")]
-        for at, above in enumerate(((), (0,), (1, 3), (), ())):
-            stage.add(lakes[at].outgoing + used[at] + lost[at] == lakes[at].incoming + random[at] + total(used[it] + lost[it] for it in above))
+        out = [turbine + stage.variable(f"{name}_spill", 0, 500) for name, turbine in zip(LAKES, used)]
+        missing = [stage.variable(f"{name}_missing", 0, most if node.stage == 5 else 0) for name, most in zip(LAKES, (30, 10, 10, 25, 20))]
         burnt = [stage.variable(name, least, most) for name, least, most in (("coal", 10, 60), ("gas", 0, 60), ("oil", 0, 50), ("deficit", 0, 400))]
-        stage.add(total(unit * it for unit, it in zip((4, 2, 1, 3, 2), used)) + total(burnt) == random[5])
-        cost = total(price * it for price, it in zip((3, 7, 15, 60), burnt))
-        for lake, target, price in zip(lakes, (30, 10, 10, 25, 20), (28, 14, 6, 18, 12)) if node.stage == 5 else ():
-            missing = stage.variable(f"{lake.name}_missing", 0, target)
-            stage.add(lake.outgoing + missing >= target)
-            cost = cost + price * missing
-        stage.minimize(cost)
+        random = [stage.random(name) for name in (*(f"{it}_inflow" for it in LAKES), "demand")]
+        stage.add_all(it.outgoing + out[at] == it.incoming + random[at] + total(out[above] for above in ABOVE[at]) for at, it in enumerate(lakes))
+        stage.add_all([dot((4, 2, 1, 3, 2), used) + total(burnt) == random[5], *(it.outgoing + gap >= gap.upper for it, gap in zip(lakes, missing))])
+        stage.minimize(dot((3, 7, 15, 60), burnt) + dot((28, 14, 6, 18, 12), missing))
         return [(weight, dict(zip(random, it))) for weight, it in zip((1, 2, 1), SEASONS[node.stage - 1])]
     return Model.build(PolicyGraph.linear(5), build, dict(zip(LAKES, (60, 15, 20, 40, 30))))

@@ -76,7 +76,9 @@ class Draw:
     def node(self, model, name, stage, following):
         """A node; one realization in five has no weight, and where none has, it may have alternatives."""
         count = self.random.randint(1, 3)
-        weights = [self.weight()] + [self.random.choice([self.weight(), 0]) if self.random.random() < 0.4 else self.weight() for _ in range(count - 1)]
+        weights = [self.weight()] + [
+            self.random.choice([self.weight(), 0]) if self.random.random() < 0.4 else self.weight() for _ in range(count - 1)
+        ]
         realizations = [(weight, self.outcome(stage)) for weight in weights]
         alternatives = [[self.weight() for _ in weights]] if 0 not in weights and self.random.random() < 0.3 else []
         stop = self.random.choice([0, 0, self.weight()])

@@ -190,7 +190,9 @@ class StudyDraw(Spellings):
         productivity = None
         if bus is not None:
             per = self.per_water
-            productivity = self.random.choice([8 * per, {"flow": self.random.choice([Decimal("0.036"), Decimal("0.018")])}, self.by_block(0, 12 * per)])
+            productivity = self.random.choice(
+                [8 * per, {"flow": self.random.choice([Decimal("0.036"), Decimal("0.018")])}, self.by_block(0, 12 * per)]
+            )
         members = dict(
             bus=bus, productivity=productivity, minimum=self.series(0, 4) if self.often(0.2) else None, maximum=self.series(30, 40),
             initial=self.spelled(self.whole(5, 30)), inflow=self.inflow(name), turbine=self.series(4, 12) if self.often(0.6) else self.flow(4, 12),
@@ -306,7 +308,7 @@ class StudyDraw(Spellings):
         """Elements as tables of study.toml, or as rows of a CSV file for their kind."""
         files = {}
         for kind, elements in self.elements.items():
-            in_file = {name: it for name, it in elements.items() if it.get("spilled") is not False and self.often(0.6)} if self.often(0.3) else {}
+            in_file = {name: it for name, it in elements.items() if self.often(0.6)} if self.often(0.3) else {}
             if in_file:
                 files[kind] = f"{kind}s.csv"
                 self.files[files[kind]] = element_rows(in_file)
@@ -328,7 +330,8 @@ class StudyDraw(Spellings):
         elif self.often():
             tables.add(("inflow",), {"method": "listed", "outcomes": [{**self.weight(), **self.values()} for _ in range(self.whole(1, 3))]})
         else:
-            rows = [(stage, self.weight().get("weight", 1), *self.values().values()) for stage in range(1, self.times.stages + 1) for _ in range(self.whole(1, 3))]
+            stages = [stage for stage in range(1, self.times.stages + 1) for _ in range(self.whole(1, 3))]
+            rows = [(stage, self.weight().get("weight", 1), *self.values().values()) for stage in stages]
             self.files["outcomes.csv"] = csv_text(["stage", "weight", *self.stations], rows)
             tables.add(("inflow",), {"method": "listed", "file": "outcomes.csv"})
 
@@ -370,7 +373,10 @@ def drawn_times(random):
     elif step == "week" or random.random() < 0.5:
         table["step"] = step
     found = Times(step, stages, {"own": 10, "month": 720, "week": 168}[step], table)
-    blocks = [{}, {"peak": Decimal("0.25"), "base": "rest"}, {"base": "rest", "peak": {"hours": [2, 3, 4][:stages]}}, {"peak": {"hours": 4}, "base": "rest"}]
+    blocks = [
+        {}, {"peak": Decimal("0.25"), "base": "rest"}, {"base": "rest", "peak": {"hours": [2, 3, 4][:stages]}},
+        {"peak": {"hours": 4}, "base": "rest"},
+    ]
     found.blocks = random.choice([*blocks, {"night": Decimal("0.5"), "1st": "rest", "x": Decimal("0.25")}])
     return found
 
@@ -389,4 +395,4 @@ def flattened(members, before=""):
         if isinstance(value, (dict, list)):
             yield from flattened(value, f"{before}{key}.")
         else:
-            yield f"{before}{key}", value.strip('"') if isinstance(value, Text) else value
+            yield f"{before}{key}", "false" if value is False else value.strip('"') if isinstance(value, Text) else value

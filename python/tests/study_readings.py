@@ -161,7 +161,7 @@ class StudyReading:
         yield from self.document.get(kind, {}).items()
         if kind in self.document.get("tables", {}):
             for row in self.rows(self.document["tables"][kind]):
-                members = nested({key: cell for key, cell in row.items() if cell})
+                members = nested({key: False if (key, cell) == ("spilled", "false") else cell for key, cell in row.items() if cell})
                 yield members.pop("name"), members
 
     def element(self, kind, name, members):

@@ -60,15 +60,22 @@ class OfModels(Messages):
         node = model.node("n", model.stage("p"))
         self.assertEqual(node.name, "n")
         self.refused(rf"\Athe discount {HERE} has to be a number, and is 'x'\Z", lambda: PolicyGraph.linear(2, discount="x"))
-        self.refused(r'\Athe weight of the successor "m" of node "o" .* has to be a number, and is ', lambda: model.node("o", model.stage("o"), successors={"m": "a"}))
-        self.refused(rf'\A"y" has a value in a step to "n" {HERE}, and is no random variable of stage "p"\Z', lambda: model.scenario([("n", {"y": 1})]))
+        self.refused(
+            r'\Athe weight of the successor "m" of node "o" .* has to be a number, and is ',
+            lambda: model.node("o", model.stage("o"), successors={"m": "a"}),
+        )
+        self.refused(
+            rf'\A"y" has a value in a step to "n" {HERE}, and is no random variable of stage "p"\Z', lambda: model.scenario([("n", {"y": 1})]),
+        )
         self.refused(r"\Athe tolerance has to be a number, and is 'x'\Z", lambda: one_reservoir().compile(tolerance="x"))
         self.assertEqual(w.kind, "random")
 
     def test_resolutions(self):
         self.refused(r'\Athe resolution of "v" is above 0, not 0\Z', lambda: one_reservoir().compile({"v": 0}))
         self.refused(r"\Athe resolution is above 0, not -1\Z", lambda: one_reservoir().compile(-1))
-        self.refused(r'\Aa resolution is given, and "u" is not known; known are cost, g, q, v, v_in, v_out, w\Z', lambda: one_reservoir().compile({"u": 1}))
+        self.refused(
+            r'\Aa resolution is given, and "u" is not known; known are cost, g, q, v, v_in, v_out, w\Z', lambda: one_reservoir().compile({"u": 1}),
+        )
 
     def test_numbers_that_become_too_large(self):
         model = Model({"v": 1})
@@ -77,7 +84,9 @@ class OfModels(Messages):
         stage.add(v.outgoing == v.incoming)
         stage.minimize(v.outgoing + 2**50)
         model.node("n", stage)
-        self.refused(r'TooLarge at the constant of the objective of stage "p" .*: \d+ becomes \d+, above 2\^40: choose a smaller scale', model.compile)
+        self.refused(
+            r'TooLarge at the constant of the objective of stage "p" .*: \d+ becomes \d+, above 2\^40: choose a smaller scale', model.compile,
+        )
 
     def test_a_node_without_decisions_and_random_values(self):
         model = Model({"v": 1})

@@ -77,7 +77,9 @@ class Compiling(unittest.TestCase):
         for wrong, said in (({"y": 1}, '"y" is not known'), ({"x": 0}, 'the resolution of "x" is above 0'), (-1, "the resolution is above 0")):
             with self.assertRaisesRegex(ModelError, said):
                 model.compile(resolution=wrong)
-        with self.assertRaisesRegex(ModelRefused, r'RoundedTooFar at the bound of "u" of stage "sell" \(.*model_support\.py:\d+\): 20.25 would be 2.025'):
+        with self.assertRaisesRegex(
+            ModelRefused, r'RoundedTooFar at the bound of "u" of stage "sell" \(.*model_support\.py:\d+\): 20.25 would be 2.025',
+        ):
             model.compile(resolution={"u": 10})
 
     def test_a_problem_that_is_too_long(self):
@@ -153,7 +155,9 @@ class Files(Folder):
 
     def test_files_that_are_refused(self):
         path = self.folder / "model.sof.json"
-        for text, said in (("{", r"NotJson at .*\(line 1, column 2\)"), ('{"version": {"major": 3}}', r"Version at .*\(line 1, column 23\): version 3")):
+        for text, said in (
+            ("{", r"NotJson at .*\(line 1, column 2\)"), ('{"version": {"major": 3}}', r"Version at .*\(line 1, column 23\): version 3"),
+        ):
             path.write_text(text, encoding="utf-8")
             with self.assertRaisesRegex(ModelRefused, said):
                 read_stochopt(path)
@@ -185,7 +189,8 @@ class Refusals(unittest.TestCase):
         self.stage.variable("y", upper=3)
         model.node("n", self.stage)
         self.refused(
-            model, r'"v_out" \(.*test_model_compiling.py:\d+\) of stage "s" has no upper bound; "y" \(.*:\d+\) of stage "s" has no lower bound', Unbounded,
+            model, r'"v_out" \(.*test_model_compiling.py:\d+\) of stage "s" has no upper bound; "y" \(.*:\d+\) of stage "s" has no lower bound',
+            Unbounded,
         )
 
     def test_states(self):
@@ -217,7 +222,8 @@ class Refusals(unittest.TestCase):
     def test_realizations(self):
         model = self.one()
         wet = self.stage.random("wet")
-        for values, said in (({}, 'the random variable "wet" .* has no value in node "n"'), ({"dry": 1}, '"dry" has a value in node "n" .*and is no random'),
+        for values, said in (({}, 'the random variable "wet" .* has no value in node "n"'),
+                             ({"dry": 1}, '"dry" has a value in node "n" .*and is no random'),
                              ({wet: "much"}, 'the value of "wet" in node "n" .* has to be a number')):
             with self.assertRaisesRegex(ModelError, said):
                 model.node("n", self.stage, [(1, values)])

@@ -27,7 +27,9 @@ class Numbers(unittest.TestCase):
             exact("1e301")
 
     def test_weights(self):
-        for given, value in ((1 / 6, F(1, 6)), (0.1, F(1, 10)), (0.3333, F(3333, 10000)), (0.123456789, F("0.123456789")), ("2/3", F(2, 3)), (5, F(5))):
+        for given, value in (
+            (1 / 6, F(1, 6)), (0.1, F(1, 10)), (0.3333, F(3333, 10000)), (0.123456789, F("0.123456789")), ("2/3", F(2, 3)), (5, F(5)),
+        ):
             self.assertEqual(exact_weight(given, "the weight"), value)
         with self.assertRaisesRegex(ModelError, "the weight is below 0: -1"):
             exact_weight(-1, "the weight")

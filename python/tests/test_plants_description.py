@@ -97,7 +97,9 @@ class Described(Folder):
             system.add(Bus(name, [stage["demand"][name] for stage in given["stages"]], it["deficit_cost"]))
         for name, it in given["reservoirs"].items():
             way = Way(it["downstream"], it["travel"]) if "downstream" in it else None
-            system.add(Reservoir(name, it["high"], it["initial"], it["spill"], it["low"], Random(name), it["bus"], it["turbine"], it["factor"], downstream=way))
+            system.add(Reservoir(
+                name, it["high"], it["initial"], it["spill"], it["low"], Random(name), it["bus"], it["turbine"], it["factor"], downstream=way,
+            ))
         for name, it in given["thermals"].items():
             system.add(Thermal(name, it["bus"], it["cost"], it["high"]))
         for name, it in given["lines"].items():

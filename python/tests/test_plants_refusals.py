@@ -44,7 +44,9 @@ class Names(Refused):
         )
         self.compiling('there is no reservoir "alb": did you mean "alp"?', Reservoir("alp", 9, 5, 9, downstream="alb"), kind=UnknownName)
         self.compiling('"spilled" of reservoir "alp" .* no reservoir "x"', Reservoir("alp", 9, 5, 9, spilled="x"), kind=UnknownName)
-        self.compiling('there is no reservoir "sea": known are alp', Reservoir("alp", 9, 5, 9), Pump("p", "north", "sea", "alp", 3, 1), kind=UnknownName)
+        self.compiling(
+            'there is no reservoir "sea": known are alp', Reservoir("alp", 9, 5, 9), Pump("p", "north", "sea", "alp", 3, 1), kind=UnknownName,
+        )
         self.compiling("the name of a reservoir or a Way, not 5", Reservoir("alp", 9, 5, 9, downstream=5))
 
     def test_twice(self):

@@ -39,7 +39,9 @@ WORKED = {
     "a limit of the stage": (one(Thermal("t", "b", {"a": 5, "b": 7}, 100), lake(turbine=2), blocks={"a": 2, "b": 3}), 20 * 5 + 28 * 7),
     # 100 m3/s are 0.72 and 1.08 hm3, 10 MWh each
     "a limit of the blocks": (
-        one(Thermal("t", "b", {"a": 5, "b": 7}, 100), lake(turbine=flow(100), productivity=10), blocks={"a": 2, "b": 3}), F("12.8") * 5 + F("19.2") * 7,
+        one(
+            Thermal("t", "b", {"a": 5, "b": 7}, 100), lake(turbine=flow(100), productivity=10), blocks={"a": 2, "b": 3},
+        ), F("12.8") * 5 + F("19.2") * 7,
     ),
     "deficits in tiers": (Case(1, {"all": 1}, [Bus("b", 10, Tiers(("0.1", 50), ("0.9", 100)))], [[]]), 50 + 900),
     # 5 of the minimum: 3 at 2 and 2 at 7, and one more is bought at 1

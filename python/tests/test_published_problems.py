@@ -1,10 +1,12 @@
-"""Published optima, from models of some twelve lines: beside the certified bound, and beside the whole tree as HiGHS solves it.
+"""Published optima, from models of at most twelve lines: beside the certified bound, and beside the whole tree as HiGHS solves it.
 
 Each row has the optimum as it is published with its tolerance, the model, the iterations of seed 7, and the tree as a program written
 apart. Where the policy can be evaluated, what it costs is on the other side of the optimum.
 """
+import ast
 import unittest
 from importlib.util import find_spec
+from pathlib import Path
 from typing import Callable, Dict, NamedTuple, Optional
 
 import published_models as models
@@ -35,8 +37,12 @@ ROWS = {
     "expansion, 2 stages": Published(340315.52, 0.1, lambda: models.power_expansion(2), lambda: trees.power_expansion(2)),
     "expansion, 3 stages": Published(406712.49, 0.2, lambda: models.power_expansion(3), lambda: trees.power_expansion(3)),
     "hydro valley": Published(835, 1e-3, lambda: models.hydro_valley(models.RAIN[:1], models.ONE_PRICE), lambda: trees.hydro_valley(False, False)),
-    "hydro valley, rain": Published(838.33, 1e-2, lambda: models.hydro_valley(models.RAIN, models.ONE_PRICE), lambda: trees.hydro_valley(True, False)),
-    "hydro valley, prices": Published(851.8, 1e-2, lambda: models.hydro_valley(models.RAIN[:1], models.TWO_PRICES), lambda: trees.hydro_valley(False, True)),
+    "hydro valley, rain": Published(
+        838.33, 1e-2, lambda: models.hydro_valley(models.RAIN, models.ONE_PRICE), lambda: trees.hydro_valley(True, False),
+    ),
+    "hydro valley, prices": Published(
+        851.8, 1e-2, lambda: models.hydro_valley(models.RAIN[:1], models.TWO_PRICES), lambda: trees.hydro_valley(False, True),
+    ),
     "hydro valley, both": Published(855, 1e-2, lambda: models.hydro_valley(models.RAIN, models.TWO_PRICES), lambda: trees.hydro_valley(True, True)),
     "asset management": Published(1.514, 1e-4, models.asset_management, trees.asset_management, is_evaluated=False, resolution={"cost": "0.001"}),
     "electricity planning": Published(381.853, 1e-3, models.electricity_planning, trees.electricity_planning),
@@ -49,6 +55,15 @@ ROWS = {
     "three stocks": Published(-4.349, 1e-2, models.three_stocks, trees.three_stocks, iterations=300, is_evaluated=False),
 }
 needs_scipy = unittest.skipUnless(find_spec("scipy"), "scipy is not there (Debian: python3-scipy)")
+
+
+class Lines(unittest.TestCase):
+    def test_each_model_has_at_most_twelve(self):
+        functions = [it for it in ast.parse(Path(models.__file__).read_text(encoding="utf-8")).body if isinstance(it, ast.FunctionDef)]
+        for it in functions:
+            documented = isinstance(it.body[0], ast.Expr)
+            with self.subTest(it.name):
+                self.assertLessEqual(it.end_lineno - it.body[documented].lineno + 1, 12)
 
 
 class PublishedOptima(Folder):

@@ -41,7 +41,9 @@ class Axes(unittest.TestCase):
         months = date_ticks(date(2026, 10, 1), date(2027, 10, 1), 240)
         self.assertEqual([(above, below) for _, above, below in months], [("Oct", "2026"), ("Jan", "2027"), ("Apr", ""), ("Jul", ""), ("Oct", "")])
         days = date_ticks(date(2026, 1, 28), date(2026, 2, 4), 400)
-        self.assertEqual([(above, below) for _, above, below in days][:5], [("28", "Jan 2026"), ("29", ""), ("30", ""), ("31", ""), ("1", "Feb 2026")])
+        self.assertEqual(
+            [(above, below) for _, above, below in days][:5], [("28", "Jan 2026"), ("29", ""), ("30", ""), ("31", ""), ("1", "Feb 2026")],
+        )
         self.assertEqual([above for _, above, _ in date_ticks(date(2026, 1, 1), date(2046, 1, 1), 300)], ["2030", "2035", "2040", "2045"])
 
     def test_long_and_short_spans_have_ticks(self):

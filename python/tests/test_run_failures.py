@@ -33,7 +33,9 @@ class Real(Folder):
         failed = caught.exception
         self.assertEqual((failed.status, failed.node, failed.values, failed.state), (9, "monday", {"rain": 0.25}, {"tank": 0.5}))
         self.assertEqual(set(failed.rows), {"water", "need"})
-        self.assertIn('node "monday" has no decisions at rain = 0.25 with tank = 0.5 coming in; its rows water, need ask too much together', str(failed))
+        self.assertIn(
+            'node "monday" has no decisions at rain = 0.25 with tank = 0.5 coming in; its rows water, need ask too much together', str(failed),
+        )
         self.assertIn("give such rows a decision that takes up what is missing, at a cost", failed.words)
         self.assertTrue(failed.line.startswith("hydroplan: no stage solution: run 1 node 0"))
 
@@ -107,7 +109,9 @@ class Stood(Folder):
         self.refused(1, "hydroplan: the program was not run", ProgramNotRun, "the program was not run")
         self.refused(3, "hydroplan: problem could not be read", ProblemUnreadable, "problem could not be read")
         self.refused(4, "hydroplan: problem is longer than 16777216 bytes", ProblemTooLong, "longer than 16777216 bytes")
-        self.refused(8, "hydroplan: range: iteration 3 node 1 realization 2", OutOfRange, 'realization 2 of node "2"', "use smaller costs or quantities")
+        self.refused(
+            8, "hydroplan: range: iteration 3 node 1 realization 2", OutOfRange, 'realization 2 of node "2"', "use smaller costs or quantities",
+        )
         self.refused(10, "hydroplan: journal device failed", JournalDeviceFailed, "journal device failed")
         self.refused(11, "hydroplan: output failed", OutputFailed, "output failed")
         self.refused(12, "hydroplan: memory", OutOfMemory, "memory")
@@ -116,7 +120,8 @@ class Stood(Folder):
         self.refused(7, "hydroplan: too much: formula 5 gives 65537", TooMuch, "a policy of 65,537 branches", "`simulate` follows drawn scenarios")
 
     def test_what_is_too_much(self):
-        for formula, said in enumerate(("cuts of 99,999,999 numbers", "a node's program", "a record of 99,999,999 bytes", "a report of 99,999,999 numbers",
+        for formula, said in enumerate(("cuts of 99,999,999 numbers", "a node's program", "a record of 99,999,999 bytes",
+                                        "a report of 99,999,999 numbers",
                                         "99,999,999 branches", "a denominator of 99,999,999", "the greatest cost of a stage"), 1):
             self.refused(7, f"hydroplan: too much: formula {formula} gives 99999999", TooMuch, said)
 
@@ -134,8 +139,13 @@ class Stood(Folder):
             check(three_stages().compile(), self.journal, program=program)
 
     def test_places_in_the_users_names(self):
-        self.refused(5, "hydroplan: problem refused: BoxGap at node 1 0 0", ProblemRefused, 'BoxGap at state "volume" as it comes into node "2"', "made: node \"2\"")
-        self.refused(5, "hydroplan: problem refused: TooLarge at constraint 0 1 1", ProblemRefused, 'constraint "energy" of stage "1"', "model_support.py")
+        self.refused(
+            5, "hydroplan: problem refused: BoxGap at node 1 0 0", ProblemRefused, 'BoxGap at state "volume" as it comes into node "2"',
+            "made: node \"2\"",
+        )
+        self.refused(
+            5, "hydroplan: problem refused: TooLarge at constraint 0 1 1", ProblemRefused, 'constraint "energy" of stage "1"', "model_support.py",
+        )
         self.refused(5, "hydroplan: problem refused: TooLarge at variable 2 4 0", ProblemRefused, 'variable "thermal" of stage "3"')
         self.refused(5, "hydroplan: problem refused: NotJson at whole 0 0 0", ProblemRefused, "the file as a whole")
 

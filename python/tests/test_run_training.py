@@ -216,7 +216,9 @@ class Seen(Folder):
             raise KeyboardInterrupt
 
         compiled = long_training()
-        with self.assertRaisesRegex(TrainingInterrupted, r"interrupted: \d+ iterations are kept in .*with the bound 1.*this journal and seed 7") as caught:
+        with self.assertRaisesRegex(
+            TrainingInterrupted, r"interrupted: \d+ iterations are kept in .*with the bound 1.*this journal and seed 7",
+        ) as caught:
             train(compiled, self.journal, seed=7, iterations=2000, batch=PATHS, progress=interrupt)
         kept = caught.exception.iterations
         self.assertEqual((check(compiled, self.journal).iterations, kept > 0), (kept, True))

@@ -123,11 +123,14 @@ class Balances(StudyFolder):
         hours = self.reading.block_hours(stage, block)
         found = decisions.at(stage, bus, "deficit", block) - self.reading.number(self.document["bus"][bus]["demand"], stage, block) * hours
         for kind, quantity, sign in (
-            ("reservoir", "generation", 1), ("thermal", "generation", 1), ("renewable", "taken", 1), ("import", "imported", 1), ("export", "exported", -1),
+            ("reservoir", "generation", 1), ("thermal", "generation", 1), ("renewable", "taken", 1), ("import", "imported", 1),
+            ("export", "exported", -1),
         ):
             found += sign * sum(decisions.at(stage, name, quantity, block) for name in self.named(kind, bus))
         for name in self.named("battery", bus):
-            found += self.document["battery"][name]["discharging"] * decisions.at(stage, name, "discharged", block) - decisions.at(stage, name, "charged", block)
+            found += self.document["battery"][name]["discharging"] * decisions.at(
+                stage, name, "discharged", block,
+            ) - decisions.at(stage, name, "charged", block)
         for name in self.named("pump", bus):
             pump = self.document["pump"][name]
             found -= pump["energy"] / pump["efficiency"] * decisions.at(stage, name, "pumped", block)
@@ -148,7 +151,8 @@ class Balances(StudyFolder):
         """What was stored and changes, less what is stored."""
         battery = self.document["battery"]["store"]
         before = battery["initial"] if stage == 1 else decisions.at(stage - 1, "store", "stored")
-        change = sum(battery["charging"] * decisions.at(stage, "store", "charged", it) - decisions.at(stage, "store", "discharged", it) for it in ("peak", "base"))
+        into, out = (sum(decisions.at(stage, "store", word, it) for it in ("peak", "base")) for word in ("charged", "discharged"))
+        change = battery["charging"] * into - out
         return before + change - decisions.at(stage, "store", "stored")
 
     def turbine(self, decisions, stage, name, reservoir):

@@ -25,7 +25,9 @@ class DeadEnds(StudyFolder):
 
     def test_an_earlier_stage_runs_into_a_need_without_a_cost(self):
         said = self.said(TARGET)
-        self.assertRegex(said[0], r'study: stage 3 \(1 January 2026, 1 h\) has no solution, with volume of reservoir "lake" \d+ coming in at lake \d+$')
+        self.assertRegex(
+            said[0], r'study: stage 3 \(1 January 2026, 1 h\) has no solution, with volume of reservoir "lake" \d+ coming in at lake \d+$',
+        )
         self.assertEqual(said[1:], [
             TOGETHER + 'target of reservoir "lake"; balance of water of reservoir "lake"',
             "study: a stage sees what a later one needs by its cost alone: a need without a cost is not seen before",

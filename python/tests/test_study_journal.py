@@ -130,7 +130,9 @@ class Again(StudyFolder):
         self.edited(("hours = 1", 'step = "month"'))
         months = self.study()
         report = types.SimpleNamespace(write=pages.append)
-        with mock.patch.object(command.importlib.util, "find_spec", return_value=True), mock.patch.object(command.importlib, "import_module", return_value=report):
+        with mock.patch.object(command.importlib.util, "find_spec", return_value=True), mock.patch.object(
+            command.importlib, "import_module", return_value=report,
+        ):
             command._write_report(hours, self.folder)
             self.assertEqual(pages, [])
             command._write_report(months, self.folder)

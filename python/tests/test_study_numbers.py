@@ -6,7 +6,7 @@ from fractions import Fraction as F
 from model_support import needs_numpy
 from study_support import StudyFolder
 from extensive_plants import needs_scipy
-from hydroplan.plants import Bus, Reservoir, Thermal
+from hydroplan.plants import As, Bus, Reservoir, Thermal
 from hydroplan.study.study import Resolution
 
 HEAD = """
@@ -62,7 +62,9 @@ demand = { peak = 3, night = [1, 2, 3], base = { months = [1, 2, 3, 4, 5, 6, 7, 
 demand = [{ peak = 1, night = 2, base = 3 }, 4, { peak = 5, night = 6, base = 7 }]
 """
         study = self.written(body)
-        self.assertEqual([[float(it) for it in hours.values()] for hours in study.system.horizon.hours], [[186, 100, 458], [168, 72, 432], [186, 94, 464]])
+        self.assertEqual(
+            [[float(it) for it in hours.values()] for hours in study.system.horizon.hours], [[186, 100, 458], [168, 72, 432], [186, 94, 464]],
+        )
         (_, one), (_, other) = study.system.of_kind(Bus)
         blocks = ("peak", "night", "base")
         self.assertEqual([[one.at("demand", stage, it) for it in blocks] for stage in (1, 2, 3)], [[3, 1, 1], [3, 2, 2], [3, 3, 3]])
@@ -95,9 +97,10 @@ target_penalty = 4
 
     def test_tables_of_elements(self):
         table = "name,bus,maximum,cost.peak,cost.base,minimum,availability\n\"gas, old\",b,10,5,4,,0.5\noil,b,7.5,9,9,1,\n"
-        ways = "name,maximum,initial,spill,downstream,turbine.flow\nup,9,1,9,down,10\ndown,9,1,9,,\n"
+        ways = "name,maximum,initial,spill,downstream,spilled,turbine.flow\nup,9,1,9,down,false,10\ndown,9,1,9,,,\n"
         study = self.written(
-            "[blocks]\npeak = 0.5\nbase = \"rest\"\n[bus.b]\n[tables]\nthermal = \"t.csv\"\nreservoir = \"r.csv\"\n[thermal.coal]\nbus = \"b\"\nmaximum = 1\ncost = 1\n",
+            "[blocks]\npeak = 0.5\nbase = \"rest\"\n[bus.b]\n[tables]\nthermal = \"t.csv\"\nreservoir = \"r.csv\"\n"
+            "[thermal.coal]\nbus = \"b\"\nmaximum = 1\ncost = 1\n",
             t_csv=table, r_csv=ways,
         )
         thermals = {it.name: numbers for it, numbers in study.system.of_kind(Thermal)}
@@ -105,7 +108,7 @@ target_penalty = 4
         gas = thermals["gas, old"]
         self.assertEqual((gas.at("maximum", 1, "peak"), gas.at("availability", 2), gas.tiers("cost")[0].cost.at(1, "base")), (10, F(1, 2), 4))
         (up, numbers), (down, _) = study.system.of_kind(Reservoir)
-        self.assertEqual((up.downstream, down.downstream), ("down", None))
+        self.assertEqual((up.downstream, up.spilled, down.downstream, down.spilled), ("down", None, None, As.TURBINED))
         self.assertEqual(numbers.at("turbine", 1, "peak"), 10 * 372 * F(36, 10000))
 
 
@@ -153,7 +156,9 @@ class Records(StudyFolder):
     def test_records_side_by_side(self):
         first = "year,month,lake,unused\n" + "".join(f"{year},{month},{month},9\n" for year in (1990, 1991) for month in TWELVE)
         second = "year,month,wind\n" + "".join(f"{year},{month},{year - 1900 + month}\n" for year in (1991, 1992) for month in TWELVE)
-        study = self.study_of('records = [{ file = "a.csv", unit = "m3/s" }, { file = "b.csv", unit = "as it is" }]\nresolution = 0.0001', a_csv=first, b_csv=second)
+        study = self.study_of(
+            'records = [{ file = "a.csv", unit = "m3/s" }, { file = "b.csv", unit = "as it is" }]\nresolution = 0.0001', a_csv=first, b_csv=second,
+        )
         # 4 and 5 m3/s over 30 and 31 days; the year 1991 alone is in both
         outcomes = [study.system.outcomes_of(stage) for stage in (1, 2)]
         self.assertEqual(outcomes, [[(1, {"lake": F("10.368"), "wind": 95})], [(1, {"lake": F("13.392"), "wind": 96})]])

@@ -27,7 +27,9 @@ needs_hypothesis = needs("hypothesis")
 needs_tomllib = unittest.skipUnless(StudyReading.TOML, "tomllib comes with Python 3.11")
 STUDIES = 200
 # kinds and members that are a price of something; one wrong by so much, in money, is found
-PRICES = (("thermal", "cost"), ("bus", "deficit"), ("import", "cost"), ("export", "price"), ("reservoir", "end_value"), ("reservoir", "alert_penalty"))
+PRICES = (
+    ("thermal", "cost"), ("bus", "deficit"), ("import", "cost"), ("export", "price"), ("reservoir", "end_value"), ("reservoir", "alert_penalty"),
+)
 WRONG_BY = Fraction(1, 100)
 SPELLINGS = {
     "a list": r"= \[\d+, \d+", "a fraction": r'"\d+/2"', "a text": r'"\d+"', "a column": r"file = \"columns.csv\"", "months": r"months = \[",
@@ -37,11 +39,13 @@ SPELLINGS = {
     "tiers": r"= \[\{ size = ", "tiers of their own": r"\[\[thermal\.[^\n]*cost\]\]", "dotted keys": r"\nturbine\.flow = ",
     "a table of its own": r"\[reservoir\.[^\n]*\.downstream\]", "rows of elements": r"\[tables\]", "gone": r"spilled = false",
     "outcomes": r"outcomes = ", "outcomes by stage": r'"outcomes.csv"', "years": r'record = "record.csv"', "records": r"records\b",
-    "flows of a record": r'unit = "m3/s"', "days": r"days = \[", "a rest": r'"rest"', "hours of a block": r"hours = 4", "months as they are": r"step = \"month\"",
+    "flows of a record": r'unit = "m3/s"', "days": r"days = \[", "a rest": r'"rest"', "hours of a block": r"hours = 4",
+    "months as they are": r"step = \"month\"",
     "a name between quotes": r"Övre sjön", "a discount": r"yearly_rate = 0.1", "under way": r"under_way = \[\d",
 }
 POINTS = {
-    "a tier": "cost.1.size", "a block": r"(maximum|cost|minimum)\.peak\b", "a flow": r"turbine\.flow", "a way": r"downstream\.travel", "some stages": r"target\.at\.",
+    "a tier": "cost.1.size", "a block": r"(maximum|cost|minimum)\.peak\b", "a flow": r"turbine\.flow", "a way": r"downstream\.travel",
+    "some stages": r"target\.at\.",
     "stages": r"(cost|maximum)\.1,", "a stage and block": r"\.1\.peak",
 }
 

@@ -63,7 +63,9 @@ class Refused(StudyFolder):
     def test_load_blocks_that_mean_something_else(self):
         for name in ("1", "size", "cost", "months"):
             with self.subTest(name=name):
-                self.assertIn(f'"blocks.{name}" is a word of numbers', self.refusal(("[bus.city]", f'[blocks]\n{name} = 0.5\nx = "rest"\n\n[bus.city]')))
+                self.assertIn(
+                    f'"blocks.{name}" is a word of numbers', self.refusal(("[bus.city]", f'[blocks]\n{name} = 0.5\nx = "rest"\n\n[bus.city]')),
+                )
 
     def test_days_and_hours(self):
         for days, words in (

@@ -161,7 +161,8 @@ deficit = 500
         self.write()
         found = self.results()
         prices = {"1": 50, "2": 100, "3": 150}
-        burnt = {(row["scenario"], row["stage"]): prices[row["stage"]] * float(row["value"]) for row in self.rows("decisions.csv") if row["element"] == "gas"}
+        rows = [row for row in self.rows("decisions.csv") if row["element"] == "gas"]
+        burnt = {(row["scenario"], row["stage"]): prices[row["stage"]] * float(row["value"]) for row in rows}
         costs = {(row["scenario"], row["stage"]): float(row["cost"]) for row in self.rows("costs.csv")}
         self.assertEqual(len(costs), 60)
         for key, cost in costs.items():

@@ -116,7 +116,9 @@ class Reservoir(Files):
         self.assertEqual(program["objective"]["function"]["constant"], 25)
         water, demand, *bounds, wet = program["constraints"]
         self.assertEqual([it["coefficient"] for it in water["function"]["terms"]], [10, 20, -10, -1])
-        self.assertEqual(([it["coefficient"] for it in demand["function"]["terms"]], demand["set"]), ([18, 20], {"type": "GreaterThan", "lower": 155}))
+        self.assertEqual(
+            ([it["coefficient"] for it in demand["function"]["terms"]], demand["set"]), ([18, 20], {"type": "GreaterThan", "lower": 155}),
+        )
         self.assertEqual(bounds[0]["set"], {"type": "Interval", "lower": 1, "upper": 40})
         self.assertEqual((wet["function"]["terms"], wet["set"]), ([{"coefficient": 1, "variable": "inflow"}], {"type": "LessThan", "upper": 2000}))
         self.assertEqual(scales["subproblems"]["stage"]["rows"], [0, 1, 6])
@@ -227,7 +229,9 @@ class Chosen(Files):
             self.assertEqual(problem[key], given[key])
         self.assertEqual(problem["nodes"]["n"]["realizations"], given["nodes"]["n"]["realizations"])
         self.assertEqual((scales["cost"], scales["states"]), ("1", {"v": "1"}))
-        self.assertEqual(ledger, ["shares: $.nodes.n (line 3, column 14): the probabilities sum to 2, and are taken as parts of it", "0 numbers were rounded"])
+        self.assertEqual(
+            ledger, ["shares: $.nodes.n (line 3, column 14): the probabilities sum to 2, and are taken as parts of it", "0 numbers were rounded"],
+        )
 
 
 class FoundScales(unittest.TestCase):
@@ -250,10 +254,18 @@ class Refusals(Files):
         ('"set": {"type": "EqualTo", "value": 0.0}', '"set": {"type": "Integer"}', "Unsupported", "constraints[0].set.type", "Integer"),
         ('"type": "Variable", "name": "u"', '"type": "VectorOfVariables", "variables": ["u"]', "Unsupported", "function.type", "VectorOfVariables"),
         ('"sense": "max", "function": {"type": "ScalarAffineFunction", "terms": [{"coefficient": 1.5',
-         '"sense": "max", "function": {"type": "ScalarQuadraticFunction", "terms": [{"coefficient": 1.5', "Unsupported", "objective.function.type", "ScalarQuadraticFunction"),
-        ('{"d": 14.5}}], "successors": {}', '{"d": 14.5}}], "successors": {"first_stage": 1.0}', "Cycle", "$.nodes.first_stage", "first_stage -> second_stage -> first_stage"),
+         '"sense": "max", "function": {"type": "ScalarQuadraticFunction", "terms": [{"coefficient": 1.5',
+         "Unsupported", "objective.function.type", "ScalarQuadraticFunction"),
+        (
+            '{"d": 14.5}}], "successors": {}', '{"d": 14.5}}], "successors": {"first_stage": 1.0}', "Cycle", "$.nodes.first_stage",
+            "first_stage -> second_stage -> first_stage",
+        ),
         ('{"second_stage": 1.0}', '{"third_stage": 1.0}', "UnknownName", "$.nodes.first_stage", "third_stage"),
-        ('"sense": "max", "function": {"type": "ScalarAffineFunction", "terms": [{"coefficient": -1.25', '"sense": "min", "function": {"type": "ScalarAffineFunction", "terms": [{"coefficient": -1.25', "Unsupported", "sense", "minimise and others maximise"),
+        (
+            '"sense": "max", "function": {"type": "ScalarAffineFunction", "terms": [{"coefficient": -1.25',
+            '"sense": "min", "function": {"type": "ScalarAffineFunction", "terms": [{"coefficient": -1.25', "Unsupported", "sense",
+            "minimise and others maximise",
+        ),
         ('"major": 1, "minor": 0', '"major": 2, "minor": 0', "Version", "$.version.major", "version 2"),
         ('"probability": 0.6', '"probability": 0.5', "Probability", "$.nodes.second_stage", "9/10"),
         ('"probability": 0.6', '"probability": -0.6', "Probability", "realizations[1].probability", "below 0"),
@@ -264,7 +276,10 @@ class Refusals(Files):
         ('{"name": "u"}, {"name": "d"}', '{"name": "u"}, {"name": "u"}', "Duplicate", "variables[3].name", '"u"'),
         ('"first_stage": 1.0}', '"first_stage": 0.9}', "Probability", "$.root", "9/10"),
         ('{"x": 0.0}', '{"x": 0.0, "y": 1}', "States", "$.subproblems.first_stage_subproblem", "not those of the root"),
-        ('"set": {"type": "EqualTo", "value": 0.0}', '"set": {"type": "Interval", "lower": 1, "upper": 0.5}', "EmptyBox", "constraints[0].set", "1 is above 0.5"),
+        (
+            '"set": {"type": "EqualTo", "value": 0.0}', '"set": {"type": "Interval", "lower": 1, "upper": 0.5}', "EmptyBox",
+            "constraints[0].set", "1 is above 0.5",
+        ),
         ('{"x": 0.0}', '{"x": "none"}', "Shape", "$.root.state_variables.x", "a number is expected"),
     ]
 

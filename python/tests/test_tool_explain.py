@@ -24,7 +24,10 @@ class Places(unittest.TestCase):
     """Nodes in byte order: autumn, spring, summer dry, summer wet; states: lower, upper."""
 
     ROWS = [
-        ("NotWhole at support 1 1 0", 'the value of "rain" in realization 1 of node "spring"', "$.nodes.spring.realizations[1].support.rain (line 12, column 48)"),
+        (
+            "NotWhole at support 1 1 0", 'the value of "rain" in realization 1 of node "spring"',
+            "$.nodes.spring.realizations[1].support.rain (line 12, column 48)",
+        ),
         ("BoxGap at node 3 1 0", 'state "upper" as it comes into node "summer wet"', '$.nodes["summer wet"] (line 22, column 19)'),
         ("Weight at successor 1 1 0", 'successor "summer wet" of node "spring"', '$.nodes.spring.successors["summer wet"] (line 14, column 53)'),
         ("NotWhole at root 1 1 0", 'state "upper" of the root', "$.root.state_variables.upper (line 4, column 47)"),
@@ -56,7 +59,10 @@ class Places(unittest.TestCase):
             ('"summer wet": 3', '"summer wett": 3', "UnknownName at successor 1 1 0", "summer wett", '"summer wet" is'),
             ('"name": "coal"}, "set"', '"name": "coals"}, "set"', "UnknownName at constraint 0 8 0", "function.name", '"coal" is'),
             ('"sense": "min"', '"sense": "max"', "Unsupported at objective 0 0 0", "objective.sense", '"max" is not read'),
-            ('"type": "GreaterThan", "lower": 0}', '"type": "GreaterThan", "low": 0}', "Shape at constraint 0 2 0", "constraints[2].set", "`lower` is missing"),
+            (
+                '"type": "GreaterThan", "lower": 0}', '"type": "GreaterThan", "low": 0}', "Shape at constraint 0 2 0",
+                "constraints[2].set", "`lower` is missing",
+            ),
             ('"realizations": [{"probability": 1, "support": {"rain": 15, "demand": 30}}]', '"realizations": []',
              "Shape at node 3 0 0", '$.nodes["summer wet"].realizations', "it has no realizations"),
             ('"name": "spill"}', '"name": "rain"}', "Duplicate at variable 0 8 0", "variables[2].name", "stands here already"),
@@ -84,7 +90,10 @@ class Places(unittest.TestCase):
                 self.assertIn(place, text)
 
     def test_a_cycle_is_shown(self):
-        text = TWO.replace('"successors": {"autumn": 1}\n    },\n    "autumn": {', '"successors": {"autumn": 1}\n    },\n    "autumn": {"successors": {"summer wet": 1},')
+        text = TWO.replace(
+            '"successors": {"autumn": 1}\n    },\n    "autumn": {',
+            '"successors": {"autumn": 1}\n    },\n    "autumn": {"successors": {"summer wet": 1},',
+        )
         self.assertIn("ring: autumn -> summer wet -> autumn", said(text, "hydroplan: problem refused: Cycle at node 0 0 0"))
 
     def test_the_ring_goes_through_the_node(self):
@@ -120,12 +129,16 @@ class OtherLines(unittest.TestCase):
 
     def test_lines_without_a_place(self):
         self.assertIn("names no place", said(TWO, "hydroplan: something new"))
-        for line in ("cannot open x.json: No such file or directory", "train: JOURNAL is missing", "there is no command `bases`; `base` is the nearest"):
+        for line in (
+            "cannot open x.json: No such file or directory", "train: JOURNAL is missing", "there is no command `bases`; `base` is the nearest",
+        ):
             self.assertEqual(said(TWO, f"hydroplan: {line}"), f"hydroplan: {line}")
 
     def test_words_and_streams(self):
         text = said(TWO, "hydroplan: usage: base, train JOURNAL SEED COUNT [BATCH], ..")
-        for part in ("form: train JOURNAL SEED COUNT [BATCH] < PROBLEM\n", "form: gen SEED STAGES RESERVOIRS\n", "range: COUNT of simulate, 0 to 1000\n"):
+        for part in (
+            "form: train JOURNAL SEED COUNT [BATCH] < PROBLEM\n", "form: gen SEED STAGES RESERVOIRS\n", "range: COUNT of simulate, 0 to 1000\n",
+        ):
             self.assertIn(f"  {part}", text)
         self.assertNotIn("form: prove", text)
         rows = {
@@ -163,7 +176,8 @@ class OtherLines(unittest.TestCase):
 
     def test_journals_that_are_refused(self):
         rows = {
-            "NotAJournal": "does not begin", "OtherVersion 3": "version 3", "BadBatch 65": "65 paths", "Short at 45": "byte 45", "TooMany": "2,000 records",
+            "NotAJournal": "does not begin", "OtherVersion 3": "version 3", "BadBatch 65": "65 paths", "Short at 45": "byte 45",
+            "TooMany": "2,000 records",
             "BadLength iteration 4 length 67108865": "iteration 4 says that it has 67108865 bytes", "BadRecord iteration 2 at 14": "from byte 14",
             "OtherSeed kept 7 asked 8": "SEED 7, and 8 was asked for", "OtherBatch kept 2 asked 3": "BATCH 2, and 3 was asked for",
             "SomethingElse 5": "not known here",

@@ -40,7 +40,9 @@ class Reading(unittest.TestCase):
         self.assertEqual(root.value.repeated, [("a", 7)])
 
     def test_whole_numbers_are_those_of_64_bits(self):
-        texts = ("0", "-5", "18446744073709551615", "-9223372036854775808", "-0", "18446744073709551616", "-9223372036854775809", "5.0", "1e3", "1" * 5000)
+        texts = (
+            "0", "-5", "18446744073709551615", "-9223372036854775808", "-0", "18446744073709551616", "-9223372036854775809", "5.0", "1e3", "1" * 5000,
+        )
         self.assertEqual([NumberText(it).is_whole() for it in texts], [True] * 4 + [False] * 6)
 
     def test_paths(self):

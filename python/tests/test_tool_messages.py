@@ -77,8 +77,14 @@ class OfConvert(unittest.TestCase):
         return err
 
     ROWS = [
-        ('"subproblem": "second_stage_subproblem"', '"subproblem": "third"', 'UnknownName at $.nodes.second_stage.subproblem', 'no subproblem is named "third"'),
-        ('"successors": {"second_stage": 1.0}', '"successors": {"third": 1.0}', "UnknownName at $.nodes.first_stage", 'its successor "third" is no node'),
+        (
+            '"subproblem": "second_stage_subproblem"', '"subproblem": "third"', 'UnknownName at $.nodes.second_stage.subproblem',
+            'no subproblem is named "third"',
+        ),
+        (
+            '"successors": {"second_stage": 1.0}', '"successors": {"third": 1.0}', "UnknownName at $.nodes.first_stage",
+            'its successor "third" is no node',
+        ),
         ('"support"', '"supports"', "Shape at $.nodes.second_stage.realizations[0]", "the key `support` is missing"),
     ]
 
@@ -194,7 +200,9 @@ class Waiting(unittest.TestCase):
         self.assertEqual(self.waits(explain_command.main, problem, "--keys"), [])
         self.assertEqual(self.waits(explain_command.main, problem, "--line", "hydroplan: memory"), [])
         with tempfile.TemporaryDirectory() as folder:
-            given = ["--bounds", DATA / "newsvendor.bounds.json", "--negate-max", "--write-scales", f"{folder}/s.json", "--output", f"{folder}/p.json"]
+            given = [
+                "--bounds", DATA / "newsvendor.bounds.json", "--negate-max", "--write-scales", f"{folder}/s.json", "--output", f"{folder}/p.json",
+            ]
             self.waits(convert_command.main, "problem", DATA / "newsvendor.sof.json", *given)
             said = self.waits(convert_command.main, "back", "--scales", f"{folder}/s.json")
         self.assertEqual(said, ["convert: waiting for a report on standard input: a word behind `back` names a file", "convert: the report is empty"])
@@ -202,7 +210,9 @@ class Waiting(unittest.TestCase):
     def test_files_that_cannot_be_opened(self):
         for main, words in (
             (explain_command.main, ["nothere.json"]), (plot_command.main, ["bounds", "nothere.json"]),
-            (convert_command.main, ["problem", "nothere.json", "--write-scales", "s.json"]), (convert_command.main, ["back", "--scales", "nothere.json"]),
+            (
+                convert_command.main, ["problem", "nothere.json", "--write-scales", "s.json"],
+            ), (convert_command.main, ["back", "--scales", "nothere.json"]),
         ):
             name = main.__module__.rpartition(".")[2].partition("_")[0]
             self.assertEqual(self.waits(main, *words), [f"{name}: cannot open nothere.json: No such file or directory"])
@@ -273,17 +283,25 @@ class OfExplain(unittest.TestCase):
             ('"upper": 100}', '"upper": 1099511627777}', "TooLarge at constraint 0 7 0", ": 1099511627777 is above 2^40 in absolute value"),
             ('"stop": 1', '"stop": -1', "Weight at node 2 0 0", ": -1 is too small for a weight"),
             ('"root": {', '"root": 7, "old": {', "Shape at root 0 0 0", ": an object is expected, not a number"),
-            ('"type": "ScalarAffineFunction"', '"type": "Quadratic"', "Unsupported at objective 0 0 0", 'the type "Quadratic" is not read; Variable, ScalarAffineFunction are'),
+            (
+                '"type": "ScalarAffineFunction"', '"type": "Quadratic"', "Unsupported at objective 0 0 0",
+                'the type "Quadratic" is not read; Variable, ScalarAffineFunction are',
+            ),
         ]
         for old, new, refusal, words in rows:
             with self.subTest(refusal):
-                self.assertTrue(self.looked_at(old, new, f"problem refused: {refusal}").endswith(words), self.looked_at(old, new, f"problem refused: {refusal}"))
+                self.assertTrue(
+                    self.looked_at(old, new, f"problem refused: {refusal}").endswith(words), self.looked_at(old, new, f"problem refused: {refusal}"),
+                )
 
     def test_closer_looks_at_descriptions(self):
         value = json.loads(CASCADE)
         alp = value["reservoirs"]["alp"]
         rows = [
-            ("low", alp["high"] + 1, "Limit at reservoir 0 0", f"`low` {alp['high'] + 1}, `initial` {alp['initial']} and `high` {alp['high']} do not rise"),
+            (
+                "low", alp["high"] + 1, "Limit at reservoir 0 0",
+                f"`low` {alp['high'] + 1}, `initial` {alp['initial']} and `high` {alp['high']} do not rise",
+            ),
             ("low", "x", "Shape at reservoir 0 0", "a number is expected, not a string"),
             ("low", F(1, 2), "NotWhole at reservoir 0 0", "0.5 is not whole, or outside 64 bits"),
         ]
@@ -300,10 +318,14 @@ class OfExplain(unittest.TestCase):
         for stage in many["stages"]:
             for inflow in stage["inflows"]:
                 inflow["inflow"] = {f"r{at}": 1 for at in range(18)}
-        self.assertTrue(any("reservoirs and travels are 72 together, above 50" in it for it in said(json.dumps(many), "hydro refused: States at whole 0 0")))
+        self.assertTrue(
+            any("reservoirs and travels are 72 together, above 50" in it for it in said(json.dumps(many), "hydro refused: States at whole 0 0"))
+        )
         heavy = json.loads(CASCADE)
         heavy["stages"][0]["inflows"] = [{**heavy["stages"][0]["inflows"][0], "weight": 40000}] * 2
-        self.assertTrue(any("the weights are 80000 together, above 65535" in it for it in said(json.dumps(heavy), "hydro refused: Limit at stage 0 0")))
+        self.assertTrue(
+            any("the weights are 80000 together, above 65535" in it for it in said(json.dumps(heavy), "hydro refused: Limit at stage 0 0"))
+        )
 
     def test_other_lines(self):
         self.assertIn("  what: memory was refused: free some, or train with fewer iterations or a smaller problem", said(TWO, "memory"))
@@ -330,7 +352,8 @@ class OfTooMuch(unittest.TestCase):
         for at in range(2):
             nodes[f"n{at}"]["successors"] = {f"n{at + 1}": 1}
         line, = of_policy({"root": {"successors": {"n0": 1}}, "nodes": nodes})
-        self.assertEqual(line, f"too much: probabilities of branches with a denominator of {2**60:,}, limit {2**40:,}: divide each list of weights by what its numbers share")
+        said = f"too much: probabilities of branches with a denominator of {2**60:,}, limit {2**40:,}"
+        self.assertEqual(line, f"{said}: divide each list of weights by what its numbers share")
 
     def test_of_no_problem(self):
         told = "what would fit is computed where the problem is a file: --problem FILE"

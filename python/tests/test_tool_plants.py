@@ -138,7 +138,8 @@ class Explained(unittest.TestCase):
     def test_names_and_places(self):
         rows = [
             ("UnknownName at reservoir 0 0", ('"downstream": "birch"', '"downstream": "brich"'), 'where: reservoir "alp"',
-             "path: $.reservoirs.alp (line 7, column 12)", 'look at: $.reservoirs.alp.downstream (line 7, column 121): "brich" is not known; "birch" is'),
+             "path: $.reservoirs.alp (line 7, column 12)",
+             'look at: $.reservoirs.alp.downstream (line 7, column 121): "brich" is not known; "birch" is'),
             ("Limit at stage 1 2", ('"weight": 112', '"weight": 0'), "where: inflow 1 of stage 1, both counted from 0",
              "path: $.stages[1].inflows[1] (line 33, column 9)", "$.stages[1].inflows[1].weight (line 33, column 20): 0 is outside 1 to 1048576"),
             ("Shape at stage 1 0", ('"demand": {"north": 85', '"demand": {"nroth": 85'), "where: stage 1, counted from 0",
@@ -193,8 +194,12 @@ class Keys(unittest.TestCase):
     def test_each_key_that_is_ignored_is_told(self):
         rows = [
             ('{\n  "buses"', '{\n  "name": "valley",\n  "buses"', "$.name (line 2, column 3): the key `name` is ignored"),
-            ('"spill": 120', '"spill": 120, "owner": "x"', "$.reservoirs.cliff.owner"), ('"weight": 64', '"weight": 64, "year": 1981', "inflows[0].year"),
-            ('"demand": {"north"', '"demand": {"west": 5, "north"', "$.stages[0].demand.west"), ('"inflow": {"alp": 2,', '"inflow": {"lake": 1, "alp": 2,', "inflow.lake"),
+            (
+                '"spill": 120', '"spill": 120, "owner": "x"', "$.reservoirs.cliff.owner",
+            ), ('"weight": 64', '"weight": 64, "year": 1981', "inflows[0].year"),
+            (
+                '"demand": {"north"', '"demand": {"west": 5, "north"', "$.stages[0].demand.west",
+            ), ('"inflow": {"alp": 2,', '"inflow": {"lake": 1, "alp": 2,', "inflow.lake"),
             ('"demand": {', '"month": 1, "demand": {', "$.stages[0].month"),
         ]
         for old, new, part in rows:

@@ -179,7 +179,9 @@ class Plot(unittest.TestCase):
         ]
 
     def test_tables(self):
-        firsts = ["check\t1\t2.5", "v\t0\t0\t0\t0\t5\t5\t5\t5", "v\t0\ta b\t5", "v\t0\t2\t2\t2\t3\t6\t6\t6", "greatest residual of a step\t0" + "\t2" * 7]
+        firsts = [
+            "check\t1\t2.5", "v\t0\t0\t0\t0\t5\t5\t5\t5", "v\t0\ta b\t5", "v\t0\t2\t2\t2\t3\t6\t6\t6", "greatest residual of a step\t0" + "\t2" * 7,
+        ]
         for words, first in zip(self.commands(), firsts):
             with self.subTest(words=words[0]):
                 status, out, err = run(main, *words)
@@ -230,7 +232,9 @@ class Plot(unittest.TestCase):
         for file in (self.check, self.simulation):
             file.write_text(file.read_text(encoding="utf-8").replace('"v"', name).replace('"a b"', '"a\\r\u2069"'), encoding="utf-8")
         shown = "v\\u{000A}\\u{0009}v\\u{202E}\\u{2028}\\u{0085}\\u{061C}"
-        for words, first in ((("storage", self.simulation), f"{shown}\t0\t2"), (("water-values", self.check, "--at", self.simulation), f"{shown}\t0\t0")):
+        for words, first in (
+            (("storage", self.simulation), f"{shown}\t0\t2"), (("water-values", self.check, "--at", self.simulation), f"{shown}\t0\t0"),
+        ):
             status, out, err = run(main, *words)
             self.assertEqual((status, err, len(out.split("\n"))), (0, "", 4))
             self.assertTrue(out.split("\n")[1].startswith(first))

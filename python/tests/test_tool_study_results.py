@@ -9,7 +9,9 @@ from tool_support import run
 from hydroplan.tools.plot_command import OF_A_STUDY, main
 
 SUMMARY = {
-    "title": "Two <lakes>", "units": {"money": "EUR", "money_scale": 1}, "calendar": [{"stage": 1, "date": "2026-01-01"}, {"stage": 2, "date": "2026-02-01"}],
+    "title": "Two <lakes>", "units": {"money": "EUR", "money_scale": 1}, "calendar": [
+        {"stage": 1, "date": "2026-01-01"}, {"stage": 2, "date": "2026-02-01"},
+    ],
     "estimated": {"mean": 12.5, "scenarios": 40},
 }
 BOUNDS = "iteration,bound,mean,half_width,gap,seconds\n1,-3.5,,,,0.1\n2,12.25,12.5,0.5,0.25,0.2\n"

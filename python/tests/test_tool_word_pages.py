@@ -68,10 +68,16 @@ class Completion(unittest.TestCase):
     def test_offers_what_may_stand_there(self):
         rows = [
             (["tr"], ["train"]), (["e"], ["evaluate", "export", "explain"]), (["--v"], ["--version"]), (["train", "a"], ["a plan.journal"]),
-            (["train", "J", "7", ""], ["--problem", "--workers", "--scheduler", "--timeout"]), (["train", "J", "7", "20", "--workers", ""], [""]), (["train", "J", "--problem", "p"], ["problem.json"]), (["--problem", "x", "ch"], ["check"]),
-            (["check", "--problem", "x", "a"], ["a plan.journal"]), (["gen", "1", ""], [""]), (["help", "si"], ["simulate"]), (["plot", "wa"], ["water-values"]), (["study", "p"], ["problem.json"]), (["join", "all", "a"], ["a plan.journal"]),
+            (["train", "J", "7", ""], ["--problem", "--workers", "--scheduler", "--timeout"]), (["train", "J", "7", "20", "--workers", ""], [""]), (
+                ["train", "J", "--problem", "p"], ["problem.json"],
+            ), (["--problem", "x", "ch"], ["check"]),
+            (["check", "--problem", "x", "a"], ["a plan.journal"]), (["gen", "1", ""], [""]), (["help", "si"], ["simulate"]), (
+                ["plot", "wa"], ["water-values"],
+            ), (["study", "p"], ["problem.json"]), (["join", "all", "a"], ["a plan.journal"]),
             (["plot", "bounds", "--c"], ["--cost"]), (["plot", "bounds", "p"], ["problem.json"]), (["convert", "back", "--s"], ["--scales"]),
-            (["watch", "J", "--o"], ["--once"]), (["simulate", "--workers", "4", "a"], ["a plan.journal"]), (["join", "J", "--p"], ["--problem"]), (["nothing", ""], [""]),
+            (["watch", "J", "--o"], ["--once"]), (
+                ["simulate", "--workers", "4", "a"], ["a plan.journal"],
+            ), (["join", "J", "--p"], ["--problem"]), (["nothing", ""], [""]),
         ]
         for words, offered in rows:
             with self.subTest(words):

@@ -67,7 +67,9 @@ class Tables:
             return []
         if isinstance(value, list) and chosen == "own" and all(isinstance(it, dict) for it in value):
             header = f"[[{self.name((*path, key))}]]"
-            self.parts.append("\n\n".join("\n".join([header, *(f"{key_text(inner)} = {inline(it)}" for inner, it in table.items())]) for table in value))
+            self.parts.append(
+                "\n\n".join("\n".join([header, *(f"{key_text(inner)} = {inline(it)}" for inner, it in table.items())]) for table in value)
+            )
             return []
         if isinstance(value, list) and chosen == "dotted":
             return [f"{key_text(key)} = [", *(f"    {inline(it)},  # a comment = [" for it in value), "]"]

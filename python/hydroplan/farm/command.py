@@ -78,7 +78,9 @@ def run_join(words: argparse.Namespace) -> None:
     """Joins journals, and says what came of it."""
     made = join(shape_of(read_problem()), words.target, words.journals, words.batch)
     paths = "" if made.paths == 1 else f" of {made.paths} paths"
-    print(f"joined {len(words.journals)} journals, which share {made.shared} records: {made.records} records{paths} in {shown_name(str(words.target))}")
+    print(
+        f"joined {len(words.journals)} journals, which share {made.shared} records: {made.records} records{paths} in {shown_name(str(words.target))}"
+    )
 
 
 def run_train(words: argparse.Namespace) -> None:

@@ -14,7 +14,7 @@ from hydroplan.tables import package
 from .errors import ReportError
 from .folder import Results
 from .page import page_text
-from .study import Study
+from .shown_study import ShownStudy
 
 PAGE = "report.html"
 
@@ -30,7 +30,7 @@ def write(results_folder: Union[str, "os.PathLike[str]"]) -> Path:
     for library in ("jinja2", "numpy", "pandas"):
         package(library)
     folder = Path(results_folder)
-    text = page_text(Study(Results(folder)))
+    text = page_text(ShownStudy(Results(folder)))
     path, beside = folder / PAGE, folder / f"{PAGE}.part"
     beside.write_text(text, encoding="utf-8")
     beside.replace(path)

@@ -11,17 +11,17 @@ from .sections.cost import bound_text, cost_unit, mean_text
 from .sections.dry_years import weather_unit
 from .sections.lakes import total_limit, total_quantiles
 from .sections.water_worth import headline_stages, names_of, value_unit, worths_of
-from .study import Study
+from .shown_study import ShownStudy
 
 PLURALS = {"bus": "buses", "battery": "batteries"}
 
 
-def in_short(study: Study) -> List[Paragraph]:
+def in_short(study: ShownStudy) -> List[Paragraph]:
     """What the study is, between what its cost lies, and how sure that is."""
     return [Paragraph(it) for it in (_what_it_is(study), _what_it_costs(study), _how_sure(study)) if it]
 
 
-def _what_it_is(study: Study) -> str:
+def _what_it_is(study: ShownStudy) -> str:
     summary = study.summary
     kinds = Counter(it.kind for it in summary.elements)
     parts = [f"{count} {_plural(kind, count)}" for kind, count in kinds.items() if kind and kind != "bus"]
@@ -35,7 +35,7 @@ def _plural(kind: str, count: int) -> str:
     return kind if count == 1 else PLURALS.get(kind, f"{kind}s")
 
 
-def _what_it_costs(study: Study) -> str:
+def _what_it_costs(study: ShownStudy) -> str:
     summary, unit = study.summary, cost_unit(study).name
     parts = []
     if summary.bound is not None:
@@ -47,7 +47,7 @@ def _what_it_costs(study: Study) -> str:
     return " ".join(parts)
 
 
-def _how_sure(study: Study) -> str:
+def _how_sure(study: ShownStudy) -> str:
     summary, estimate = study.summary, study.summary.estimate
     if estimate is None or summary.bound is None:
         return ""
@@ -60,19 +60,19 @@ def _how_sure(study: Study) -> str:
     return f"So the best of all plans is cheaper than this one by at most {saved} {unit.name}{part}, with that confidence."
 
 
-def answers_of(study: Study) -> List[Answer]:
+def answers_of(study: ShownStudy) -> List[Answer]:
     """The three questions, each with a short answer and a few words."""
     return [it for it in (_cost(study), _lake(study), _water(study), _dry(study)) if it is not None]
 
 
-def _cost(study: Study) -> Optional[Answer]:
+def _cost(study: ShownStudy) -> Optional[Answer]:
     if study.summary.bound is None:
         return None
     words = f"{mean_text(study)} on average over scenarios (≈ estimated)." if study.summary.estimate else ""
     return Answer("What does it cost at least?", f"{bound_text(study)} {cost_unit(study).name}", words, CERTIFIED, "cost")
 
 
-def _lake(study: Study) -> Optional[Answer]:
+def _lake(study: ShownStudy) -> Optional[Answer]:
     found, sums = total_quantiles(study), study.sums
     if found is None or sums is None:
         return None
@@ -85,7 +85,7 @@ def _lake(study: Study) -> Optional[Answer]:
     return Answer("When does the lake empty?", f"End of {stages[lowest].name}", words, ESTIMATED, "lakes")
 
 
-def _near_empty(study: Study) -> str:
+def _near_empty(study: ShownStudy) -> str:
     """How often the largest lake is near empty, and when most often."""
     sums = study.sums
     assert sums is not None
@@ -97,12 +97,12 @@ def _near_empty(study: Study) -> str:
     return f"The largest one, {name}, is near empty in at most {share(float(counts.max()) / sums.scenarios)} of scenarios, at the end of {when}."
 
 
-def largest_lake(study: Study, names: Sequence[str]) -> str:
+def largest_lake(study: ShownStudy, names: Sequence[str]) -> str:
     """The name of the reservoir with the greatest volume allowed."""
     return max(names, key=lambda name: max(_greatest_volumes(study, name), default=0.0))
 
 
-def _water(study: Study) -> Optional[Answer]:
+def _water(study: ShownStudy) -> Optional[Answer]:
     values = study.table("water_values")
     if values is None:
         return None
@@ -122,13 +122,13 @@ def _water(study: Study) -> Optional[Answer]:
     return Answer(f"What is water worth in {month}?", f"{middle} {unit.name}", words, ESTIMATED, "water")
 
 
-def _greatest_volumes(study: Study, name: str) -> List[float]:
+def _greatest_volumes(study: ShownStudy, name: str) -> List[float]:
     """The greatest volumes of a reservoir, where they are given."""
     element = study.summary.store(name)
     return [] if element is None else [it for it in element.maximum if it is not None]
 
 
-def _dry(study: Study) -> Optional[Answer]:
+def _dry(study: ShownStudy) -> Optional[Answer]:
     known = [it for it in study.weather if it.cost_onwards is not None and it.year in study.whole_years()]
     if not known:
         return None

@@ -19,7 +19,7 @@ from .sections.making import making_section
 from .sections.missing import missing_section
 from .sections.prices import prices_section
 from .sections.water_worth import water_section
-from .study import Study
+from .shown_study import ShownStudy
 
 TEMPLATES = Path(__file__).parent / "templates"
 SECTIONS = (
@@ -30,7 +30,7 @@ MARK_SIGNS = {"certified": "◆", "estimated": "≈", "given": "▸", "both": "�
 MARK_WORDS = {"certified": "certified", "estimated": "estimated", "given": "given", "both": "certified and estimated"}
 
 
-def page_text(study: Study) -> str:
+def page_text(study: ShownStudy) -> str:
     """The page as HTML. MissingPackage where jinja2 is not there."""
     sections: List[Section] = [it(study) for it in SECTIONS]
     words = {

@@ -6,7 +6,7 @@ from typing import Any, Dict, List, Optional, Sequence, Tuple
 
 from .bars import Layer
 from .decisions import LOAD, ROUNDING, SUPPLY, Series, Sums
-from .study import Study
+from .shown_study import ShownStudy
 
 LARGEST = 3
 """So many elements of a kind stand by themselves where a kind has more; the others are put together."""
@@ -35,7 +35,7 @@ class Source:
         return sum(sums.of_stage[it] for it in self.series) / max(1, sums.scenarios)
 
 
-def sources_of(study: Study, bus: Optional[str] = None) -> List[Source]:
+def sources_of(study: ShownStudy, bus: Optional[str] = None) -> List[Source]:
     """The sources of the study, or of one bus, in the order in which they are stacked."""
     sums = study.sums
     if sums is None:
@@ -56,13 +56,13 @@ def _place(kind: str) -> Tuple[int, str]:
     return (ORDER.index(kind) if kind in ORDER else ORDER.index("thermal"), kind)
 
 
-def _kind(study: Study, series: Series) -> str:
+def _kind(study: ShownStudy, series: Series) -> str:
     """What a series is put with: what its quantity says, and of generation whether it is a reservoir's."""
     name, quantity = series
     return KIND_OF.get(quantity) or ("thermal" if study.summary.element(name, "reservoir") is None else "reservoir")
 
 
-def _bus_of(study: Study, series: Series) -> Optional[str]:
+def _bus_of(study: ShownStudy, series: Series) -> Optional[str]:
     if series[1] == "deficit":
         return series[0]
     kind = _kind(study, series)
@@ -70,7 +70,7 @@ def _bus_of(study: Study, series: Series) -> Optional[str]:
     return None if element is None else element.bus
 
 
-def _of_kind(study: Study, sums: Sums, kind: str, found: Sequence[Series]) -> List[Source]:
+def _of_kind(study: ShownStudy, sums: Sums, kind: str, found: Sequence[Series]) -> List[Source]:
     """The sources of a kind: one by one where they are few in the whole study, else the largest ones and the others together.
 
     What is largest, and so has which colour, is taken from the whole study, also where a bus is drawn.

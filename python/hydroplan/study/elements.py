@@ -20,6 +20,8 @@ from .numbers import NumberReader
 ELEMENTS: Tuple[Type[Element], ...] = (Bus, Reservoir, Thermal, Line, Renewable, Import, Export, Pump, Battery)
 KINDS: Dict[str, Type[Element]] = {it.KIND: it for it in ELEMENTS}
 WAYS = ("downstream", "spilled")
+# of a CSV file; a reservoir of that name is named by `spilled.to`
+GONE = ("spilled", "false")
 MEMBER = re.compile(r'^(?:tier \d+ of |the size of |block "[^"]*" of |stage \d+ of )*"(\w+)" of ')
 TEXTS = {"name", "bus", "source", "target", "to", "random", "file", "column", "profile"}
 
@@ -109,7 +111,7 @@ def _nested(cells: Mapping[str, str], file: CsvFile, row: int) -> Dict[str, Any]
             inner = inner.setdefault(key, {})
             if not isinstance(inner, dict):
                 raise file.fault(row, f'the column "{column}" stands beside "{key}", which has a value of its own')
-        inner[last] = cell if last in TEXTS or last in WAYS else _value(cell)
+        inner[last] = False if (last, cell) == GONE else cell if last in TEXTS or last in WAYS else _value(cell)
     return {key: _listed(it) for key, it in found.items()}
 
 

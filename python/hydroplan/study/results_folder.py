@@ -113,7 +113,10 @@ def _write_deficits(study: Study, results: Path, kept: Scenarios) -> None:
     numpy = package("numpy")
     names = ("stage", "date", "block", "bus", "share_of_scenarios", "mean", "p95", "greatest")
     write_rows(results / "deficits.csv", names, (
-        (stage, date.isoformat(), block, bus, float((values > NOTICED).mean()), float(values.mean()), float(numpy.quantile(values, 0.95)), float(values.max()))
+        (
+            stage, date.isoformat(), block, bus, float((values > NOTICED).mean()), float(values.mean()),
+            float(numpy.quantile(values, 0.95)), float(values.max()),
+        )
         for at, (bus, block) in enumerate(kept.places) for stage, date in enumerate(study.calendar.dates, 1)
         for values in [kept.deficits[:, stage - 1, at]]
     ))

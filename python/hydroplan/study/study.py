@@ -81,7 +81,9 @@ class Study:
     def compiled(self) -> Compiled:
         """The problem in whole numbers."""
         total = 256 if self.inflow.is_model and len(self.model.nodes) > self.calendar.stages else 1
-        chosen: Dict[str, Any] = {"resolution": self.resolution.of(self.model) or None, "tolerance": self.resolution.tolerance, "successor_total": total}
+        chosen: Dict[str, Any] = {
+            "resolution": self.resolution.of(self.model) or None, "tolerance": self.resolution.tolerance, "successor_total": total
+        }
         with standing_at(self.document.place(())):
             return self.system.noted(_refused(lambda: self.model.compile(**chosen)))
 

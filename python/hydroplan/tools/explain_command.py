@@ -185,7 +185,10 @@ def _no_stage(root: Cursor, found: re.Match[str]) -> list[str]:
     values, states, rows = ([int(number) for number in text.split()] for text in found.groups()[2:])
     path, words = node_path(root, node)
     at, _ = descend(root, path)
-    said = [f"what: {words} is shown to have no decisions, in iteration or scenario {run}, or in a whole policy after {run} branches", f"path: {at.place()}"]
+    said = [
+        f"what: {words} is shown to have no decisions, in iteration or scenario {run}, or in a whole policy after {run} branches",
+        f"path: {at.place()}",
+    ]
     said.extend(f'random: "{name}" = {value}' for name, value in zip(random_names(at, root), values))
     for name, value in zip(states_of(root), states):
         said.append(f'state: "{name}" = {decimal_text(Fraction(value, SCALE), 6)}')

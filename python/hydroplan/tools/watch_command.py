@@ -30,7 +30,9 @@ def parser() -> argparse.ArgumentParser:
     )
     found.add_argument("journal", type=Path, help="the journal")
     found.add_argument("problem", type=Path, help="the problem file for which it is made")
-    found.add_argument("--program", type=Path, default=default_program(), help="the program, or the script that runs it (./hydroplan of this repository)")
+    found.add_argument(
+        "--program", type=Path, default=default_program(), help="the program, or the script that runs it (./hydroplan of this repository)",
+    )
     found.add_argument("--every", type=float, default=2.0, help="seconds between two looks, at least (2)")
     found.add_argument("--until", type=int, help="end at so many iterations")
     found.add_argument("--once", action="store_true", help="look once; the status is 1 where the journal is refused")

@@ -40,7 +40,9 @@ def upper(row: Row, program: Path, folder: Path) -> Verdict:
     followed = ended(program, ("evaluate", "J"), streams(row, program, folder), folder)
     cost = COST.search(followed.written)
     if trained.status or followed.status or not cost:
-        return Verdict(f"ends with {trained.status}, and then with {followed.status} and without a cost; standard error has {trained.said + followed.said!r}")
+        return Verdict(
+            f"ends with {trained.status}, and then with {followed.status} and without a cost; standard error has {trained.said + followed.said!r}"
+        )
     if not int(least) <= int(cost[1]) <= int(greatest):
         return Verdict(f"the policy costs {int(cost[1])}, expected between {least} and {greatest}")
     return Verdict(None)

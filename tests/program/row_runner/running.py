@@ -57,7 +57,9 @@ def streams(row: Row, program: Path, folder: Path) -> Streams:
         raise BadRow(f"{name} is not there")
     problem = padded(row, folder, made(row, program, folder, problem))
     memory = row.number("memory", 0) if "memory" in row.options else None
-    return Streams(problem, row.options.get("output"), memory, "piped" in row.options, row.options.get("errors") == "closed", "readonly" in row.options)
+    return Streams(
+        problem, row.options.get("output"), memory, "piped" in row.options, row.options.get("errors") == "closed", "readonly" in row.options,
+    )
 
 
 def place_journal(row: Row, journal: Path) -> None:

@@ -9,14 +9,14 @@ from ..bars import draw_histogram
 from ..content import BOTH, CERTIFIED, ESTIMATED, Block, Column, Figure, Key, Missing, Section, Table, word_column
 from ..curves import Convergence, draw_convergence
 from ..formats import Unit, decimals_for, money_unit, number, numbers, rounded_down, rounded_up, share
-from ..study import Study
+from ..shown_study import ShownStudy
 from ..weather import costs_by_stage
 
 FIGURES_OF_A_BOUND = 6
 DEAREST = 0.05
 
 
-def cost_section(study: Study) -> Section:
+def cost_section(study: ShownStudy) -> Section:
     """The section of costs, the bound and its convergence."""
     costs = costs_by_stage(study.results)
     blocks: List[Block] = [_between(study), *_convergence(study)]
@@ -28,20 +28,20 @@ def cost_section(study: Study) -> Section:
     return Section("cost", "What it costs, and how sure that is", blocks)
 
 
-def cost_unit(study: Study) -> Unit:
+def cost_unit(study: ShownStudy) -> Unit:
     """The unit in which the whole cost is shown."""
     estimate = study.summary.estimate
     return money_unit(study.summary.units, [study.summary.bound, study.summary.upper, estimate.mean if estimate else None])
 
 
-def bound_text(study: Study) -> str:
+def bound_text(study: ShownStudy) -> str:
     """The certified bound, rounded down, without its unit."""
     unit, bound = cost_unit(study), study.summary.bound
     shown = 0.0 if bound is None else unit.of(bound)
     return rounded_down(shown, decimals_for([shown], FIGURES_OF_A_BOUND))
 
 
-def mean_text(study: Study) -> str:
+def mean_text(study: ShownStudy) -> str:
     """The estimated mean with half of its interval, without its unit."""
     unit, estimate = cost_unit(study), study.summary.estimate
     if estimate is None:
@@ -51,7 +51,7 @@ def mean_text(study: Study) -> str:
     return number(unit.of(estimate.mean), decimals) + half
 
 
-def _between(study: Study) -> Table:
+def _between(study: ShownStudy) -> Table:
     summary, unit = study.summary, cost_unit(study)
     rows, marks = [], []
     if summary.bound is not None:
@@ -68,7 +68,7 @@ def _between(study: Study) -> Table:
     return Table("Between what the expected cost lies", BOTH, columns, rows, row_marks=marks)
 
 
-def _estimated_rows(study: Study) -> List[List[str]]:
+def _estimated_rows(study: ShownStudy) -> List[List[str]]:
     estimate, unit = study.summary.estimate, cost_unit(study)
     if estimate is None:
         return []
@@ -84,7 +84,7 @@ def _estimated_rows(study: Study) -> List[List[str]]:
     return rows
 
 
-def _convergence(study: Study) -> List[Block]:
+def _convergence(study: ShownStudy) -> List[Block]:
     bounds, unit = study.table("bounds"), cost_unit(study)
     if bounds is None:
         return [Missing("bounds.csv is not there: the way of the bound is not known.")]
@@ -120,7 +120,7 @@ def _iterations(bounds: Any, unit: Unit) -> Table:
     return Table("Iterations at which scenarios were simulated, and the last one", BOTH, columns, rows, is_folded=True)
 
 
-def _histogram(study: Study, totals: Any) -> Figure:
+def _histogram(study: ShownStudy, totals: Any) -> Figure:
     unit, summary = cost_unit(study), study.summary
     low, high = (float(it) for it in package("numpy").quantile(totals, [0.05, 0.95]))
     marks = [("estimate-line", unit.of(float(totals.mean())), "mean (estimated)")]
@@ -136,7 +136,7 @@ def _histogram(study: Study, totals: Any) -> Figure:
     return Figure("How the costs of scenarios lie", ESTIMATED, [drawing], note, is_wide=True)
 
 
-def _quantiles(study: Study, totals: Any) -> Table:
+def _quantiles(study: ShownStudy, totals: Any) -> Table:
     numpy, unit = package("numpy"), cost_unit(study)
     shares = numpy.quantile(totals, [0, 0.05, 0.25, 0.5, 0.75, 0.95, 1])
     dearest = numpy.sort(totals)[-max(1, round(DEAREST * len(totals))):].mean()
@@ -148,7 +148,7 @@ def _quantiles(study: Study, totals: Any) -> Table:
     return Table("Costs of scenarios", ESTIMATED, columns, [[f"{len(totals):,}", *row]])
 
 
-def _by_year(study: Study, costs: Any) -> Table:
+def _by_year(study: ShownStudy, costs: Any) -> Table:
     years = [(year, costs[[it for it in costs.columns if it in set(year.numbers)]].sum(axis=1)) for year in study.years]
     unit = money_unit(study.summary.units, [float(it.abs().max()) for _, it in years])
     found = [[float(it.mean()), *(float(it.quantile(part)) for part in (0.05, 0.5, 0.95))] for _, it in years]

@@ -9,8 +9,8 @@ from ..bars import Group, draw_groups
 from ..content import ESTIMATED, Block, Column, Figure, Key, Missing, Section, Table, word_column
 from ..decisions import Sums
 from ..formats import Unit, decimals_for, energy_unit, money_unit, number
+from ..shown_study import ShownStudy
 from ..sources import Source, sources_of
-from ..study import Study
 from ..weather import Weather, mean_and_half_width
 
 ORDER_WORDS = (
@@ -21,7 +21,7 @@ OF_ONWARDS = 2
 ONWARDS = "Onwards: the year and all that comes after it, since a dry year leaves lakes that are emptier."
 
 
-def dry_years_section(study: Study) -> Section:
+def dry_years_section(study: ShownStudy) -> Section:
     """The section of dry and wet years."""
     title = "What a dry year costs"
     if not study.weather:
@@ -34,12 +34,12 @@ def dry_years_section(study: Study) -> Section:
     return Section("dry", title, [*blocks, *_energy(study)])
 
 
-def weather_unit(study: Study) -> Unit:
+def weather_unit(study: ShownStudy) -> Unit:
     """The unit of costs by year."""
     return money_unit(study.summary.units, [abs(float(it.cost_onwards.mean())) for it in study.weather if it.cost_onwards is not None])
 
 
-def _costs(study: Study) -> Table:
+def _costs(study: ShownStudy) -> Table:
     unit, volume = weather_unit(study), study.summary.units.volume
     rows, decimals = [], decimals_for([unit.of(float(abs(it.cost_onwards).max())) for it in study.weather if it.cost_onwards is not None], 4)
     water = decimals_for([float(it.inflow.max()) for it in study.weather])
@@ -55,7 +55,7 @@ def _costs(study: Study) -> Table:
     return Table("What a dry year costs against a mean and a wet one", ESTIMATED, columns[:kept], [it[:kept] for it in rows], note)
 
 
-def _onwards(study: Study) -> str:
+def _onwards(study: ShownStudy) -> str:
     """What onwards means, where there are years that come after one."""
     return f"{ONWARDS} " if len(study.weather) > 1 else ""
 
@@ -78,7 +78,7 @@ def _cost_row(weather: Weather, name: str, part: slice, unit: Unit, decimals: Se
     ]
 
 
-def _tenths(study: Study) -> Figure:
+def _tenths(study: ShownStudy) -> Figure:
     unit = weather_unit(study)
     drawings = [_tenth_drawing(study, it, unit) for it in study.weather]
     keys = [
@@ -90,7 +90,7 @@ def _tenths(study: Study) -> Figure:
     return Figure("Costs from a dry to a wet year", ESTIMATED, drawings, note, keys)
 
 
-def _tenth_drawing(study: Study, weather: Weather, unit: Unit) -> Any:
+def _tenth_drawing(study: ShownStudy, weather: Weather, unit: Unit) -> Any:
     numpy, found = package("numpy"), []
     costs = weather.cost_onwards
     assert costs is not None
@@ -105,7 +105,7 @@ def _tenth_drawing(study: Study, weather: Weather, unit: Unit) -> Any:
     return draw_groups(weather.year.name, unit.name, found, unit.of(float(costs.mean())), ends, words)
 
 
-def _energy(study: Study) -> List[Block]:
+def _energy(study: ShownStudy) -> List[Block]:
     """What serves the demand in dry, mean and wet years, as the mean over the whole years of the study."""
     sums = study.sums
     if sums is None:

@@ -6,7 +6,7 @@ from typing import List, Optional, Sequence
 from ..content import ESTIMATED, GIVEN, Block, Column, Section, Table, word_column
 from ..decisions import MISSING, OF_ENERGY
 from ..formats import decimals_for, number
-from ..study import Study
+from ..shown_study import ShownStudy
 from ..study_summary import Element
 
 OF_MOMENTS = ("volume", "stored")
@@ -14,12 +14,12 @@ LEFT_OUT = ("deficit", "outflow")
 LEAST_FIGURES = 4
 
 
-def elements_section(study: Study) -> Section:
+def elements_section(study: ShownStudy) -> Section:
     """The section of elements: what is given of each, and what it does in a mean year."""
     return Section("elements", "The system", [_given(study), *_done(study)])
 
 
-def _given(study: Study) -> Table:
+def _given(study: ShownStudy) -> Table:
     kept = [it for it in study.summary.elements if it.kind != "bus"]
     rows = [[it.name, it.kind, _where(it), _range(it.minimum), _range(it.maximum), _unit(study, it)] for it in kept]
     heads = ("element", "kind", "where", "least", "greatest", "unit of the limits")
@@ -33,7 +33,7 @@ def _where(element: Element) -> str:
     return ", ".join(it for it in (element.bus, ways) if it) or "–"
 
 
-def _unit(study: Study, element: Element) -> str:
+def _unit(study: ShownStudy, element: Element) -> str:
     """The unit of an element's limits: of a reservoir a volume, of a battery energy, of a pump a volume, and else power."""
     units = study.summary.units
     if not element.minimum and not element.maximum:
@@ -50,7 +50,7 @@ def _range(limits: Sequence[Optional[float]]) -> str:
     return number(kept[0], decimals) if min(kept) == max(kept) else f"{number(min(kept), decimals)} to {number(max(kept), decimals)}"
 
 
-def _done(study: Study) -> List[Block]:
+def _done(study: ShownStudy) -> List[Block]:
     """What the decisions of each element come to, by year: of amounts the sum, of volumes and stores the mean."""
     sums = study.sums
     if sums is None:

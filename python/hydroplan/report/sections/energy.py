@@ -7,8 +7,8 @@ from ..bars import Stack, draw_stack
 from ..content import ESTIMATED, GIVEN, Block, Column, Figure, Key, Missing, Section, Table, word_column
 from ..decisions import Sums
 from ..formats import Unit, decimals_for, energy_unit, number
+from ..shown_study import ShownStudy
 from ..sources import Source, layers_of, sources_of
-from ..study import Study
 
 DEMAND_KEY = Key("demand", "demand (given)", "line")
 REST = (
@@ -16,7 +16,7 @@ REST = (
 )
 
 
-def energy_section(study: Study) -> Section:
+def energy_section(study: ShownStudy) -> Section:
     """The section of generation and demand."""
     title, sums = "Where the energy comes from", study.sums
     sources = sources_of(study)
@@ -33,7 +33,7 @@ def energy_section(study: Study) -> Section:
     return Section("energy", title, blocks)
 
 
-def demand_of(study: Study, bus: Optional[str] = None) -> List[Optional[float]]:
+def demand_of(study: ShownStudy, bus: Optional[str] = None) -> List[Optional[float]]:
     """The energy that is asked for in each stage, of a bus or of all; None where nothing is said of a stage."""
     hours = {it.number: it.hours for it in study.summary.stages}
     found: Dict[int, float] = {}
@@ -45,31 +45,31 @@ def demand_of(study: Study, bus: Optional[str] = None) -> List[Optional[float]]:
     return [found.get(it.number) for it in study.summary.stages]
 
 
-def _edges(study: Study) -> Any:
+def _edges(study: ShownStudy) -> Any:
     return study.edges([it.number for it in study.summary.stages])
 
 
-def _stack(study: Study, sums: Sums, sources: Sequence[Source], unit: Unit, bus: Optional[str]) -> Stack:
+def _stack(study: ShownStudy, sums: Sums, sources: Sequence[Source], unit: Unit, bus: Optional[str]) -> Stack:
     demand = [None if it is None else unit.of(it) for it in demand_of(study, bus)]
     above, below = (layers_of(sources, sums, unit.divisor, sign) for sign in (1, -1))
     return Stack(bus or "", f"{unit.name} a stage", above, below, demand)
 
 
-def _words(study: Study, stack: Stack) -> str:
+def _words(study: ShownStudy, stack: Stack) -> str:
     """The shares of the sources in all that is supplied."""
     total = sum(sum(it.values) for it in stack.above) or 1.0
     shares = ", ".join(f"{it.words} {100 * sum(it.values) / total:.0f} %" for it in stack.above)
     return f"Of all energy supplied{' at ' + stack.title if stack.title else ''}: {shares}."
 
 
-def _by_bus(study: Study, sums: Sums, unit: Unit, whole: Stack) -> Figure:
+def _by_bus(study: ShownStudy, sums: Sums, unit: Unit, whole: Stack) -> Figure:
     stacks = [_stack(study, sums, sources_of(study, bus), unit, bus) for bus in study.summary.buses]
     drawings = [draw_stack(it, _edges(study), _words(study, it)) for it in stacks]
     note = "Where the demand stands above the stack, lines bring what is between; where it stands below, they take it away."
     return Figure("Energy by source at each bus", ESTIMATED, drawings, note, [*whole.keys, DEMAND_KEY])
 
 
-def _by_year(study: Study, sums: Sums, sources: Sequence[Source], unit: Unit) -> Table:
+def _by_year(study: ShownStudy, sums: Sums, sources: Sequence[Source], unit: Unit) -> Table:
     places = {year.name: [sums.place_of_stage[it] for it in year.numbers] for year in study.years}
     lines = [(it.words, [it.sign * float(it.values(sums)[places[year.name]].sum()) for year in study.years]) for it in sources]
     demand = demand_of(study)

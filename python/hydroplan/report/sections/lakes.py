@@ -10,14 +10,14 @@ from ..content import ESTIMATED, Block, Column, Figure, Missing, Paragraph, Sect
 from ..decisions import NEAR_EMPTY
 from ..fans import FAN_KEYS, LIMIT_KEY, Fan, draw_fan
 from ..formats import decimals_for, number, share
-from ..study import Study, in_order, quantiles_of
+from ..shown_study import ShownStudy, in_order, quantiles_of
 from ..study_summary import Element
 from ..years import Year
 
 NEAR_EMPTY_WORDS = f"Near empty: at most {100 * NEAR_EMPTY:.0f} per cent of the reservoir's range above its least volume."
 
 
-def lakes_section(study: Study) -> Section:
+def lakes_section(study: ShownStudy) -> Section:
     """The section of storage."""
     stored = study.table("storage_quantiles")
     blocks: List[Block] = [Paragraph("A volume stands at the end of its stage: that of January at the end of January.")]
@@ -32,7 +32,7 @@ def lakes_section(study: Study) -> Section:
     return Section("lakes", "When the lakes fill and empty", blocks)
 
 
-def total_quantiles(study: Study) -> Optional[Dict[str, Any]]:
+def total_quantiles(study: ShownStudy) -> Optional[Dict[str, Any]]:
     """The quantiles of the volume of all reservoirs together by stage; None where volumes are not known."""
     sums = study.sums
     if sums is None or not any(name in sums.thresholds for name, quantity in sums.of_stage if quantity == "volume"):
@@ -40,7 +40,7 @@ def total_quantiles(study: Study) -> Optional[Dict[str, Any]]:
     return quantiles_of(package("numpy"), sums.volume[sums.there])
 
 
-def total_limit(study: Study) -> Optional[Tuple[List[float], List[float]]]:
+def total_limit(study: ShownStudy) -> Optional[Tuple[List[float], List[float]]]:
     """The least and greatest volumes of all reservoirs together by stage; None where one of them is not given."""
     limits = [(it.minimum, it.maximum) for it in study.summary.elements_of("reservoir")]
     if not limits or any(None in side or not side for pair in limits for side in pair):
@@ -49,7 +49,7 @@ def total_limit(study: Study) -> Optional[Tuple[List[float], List[float]]]:
     return least, greatest
 
 
-def _all_together(study: Study) -> List[Block]:
+def _all_together(study: ShownStudy) -> List[Block]:
     found, numbers = total_quantiles(study), [it.number for it in study.summary.stages]
     if found is None:
         return []
@@ -66,7 +66,7 @@ def _all_together(study: Study) -> List[Block]:
     return [Figure("Water in all reservoirs together", ESTIMATED, [drawing], words, [*FAN_KEYS, LIMIT_KEY], True)]
 
 
-def _near_empty(study: Study) -> List[Block]:
+def _near_empty(study: ShownStudy) -> List[Block]:
     sums, stages = study.sums, study.summary.stages
     names = [it.name for it in study.summary.elements_of("reservoir") if sums is not None and it.name in sums.near_empty and it.maximum]
     if sums is None or not names:
@@ -86,7 +86,7 @@ def _near_empty(study: Study) -> List[Block]:
     return [figure, _first_times(study, names), table]
 
 
-def _first_times(study: Study, names: Sequence[str]) -> Table:
+def _first_times(study: ShownStudy, names: Sequence[str]) -> Table:
     """How many scenarios ever come near empty, and when first."""
     sums, stages, numpy = study.sums, study.summary.stages, package("numpy")
     assert sums is not None
@@ -106,13 +106,13 @@ def _first_times(study: Study, names: Sequence[str]) -> Table:
     return Table("When a reservoir comes near empty", ESTIMATED, columns, rows, NEAR_EMPTY_WORDS)
 
 
-def _fans(study: Study, stored: Any) -> Figure:
+def _fans(study: ShownStudy, stored: Any) -> Figure:
     order = [it.name for it in study.summary.elements]
     drawings = [_fan(study, name, stored[stored["reservoir"] == name]) for name in in_order(list(stored["reservoir"]), order)]
     return Figure("Water by reservoir", ESTIMATED, drawings, keys=[*FAN_KEYS, LIMIT_KEY])
 
 
-def _fan(study: Study, name: str, rows: Any) -> Any:
+def _fan(study: ShownStudy, name: str, rows: Any) -> Any:
     numbers, element = [int(it) for it in rows["stage"]], study.summary.store(name)
     unit = str(rows["unit"].iloc[0]) or study.summary.units.volume
     lines = [("limit", _at(study, numbers, line)) for line in (element.minimum, element.maximum) if line] if element else []
@@ -122,13 +122,13 @@ def _fan(study: Study, name: str, rows: Any) -> Any:
     return draw_fan(Fan(name, unit, study.ends(numbers), rows, lines), study.dates, words)
 
 
-def _at(study: Study, numbers: Sequence[int], line: Sequence[Optional[float]]) -> List[Optional[float]]:
+def _at(study: ShownStudy, numbers: Sequence[int], line: Sequence[Optional[float]]) -> List[Optional[float]]:
     """The numbers of an element's line at these stages."""
     places = {it.number: place for place, it in enumerate(study.summary.stages)}
     return [line[places[it]] for it in numbers]
 
 
-def _lowest(study: Study, stored: Any) -> Table:
+def _lowest(study: ShownStudy, stored: Any) -> Table:
     """When each reservoir is lowest in each year, and how low then."""
     names = in_order(list(stored["reservoir"]), [it.name for it in study.summary.elements])
     rows = [[name, *(cell for year in study.years for cell in _low(study, stored[stored["reservoir"] == name], name, year))] for name in names]
@@ -140,7 +140,7 @@ def _lowest(study: Study, stored: Any) -> Table:
     return Table("When each reservoir is lowest", ESTIMATED, columns, rows, note, groups)
 
 
-def _low(study: Study, rows: Any, name: str, year: Year) -> List[str]:
+def _low(study: ShownStudy, rows: Any, name: str, year: Year) -> List[str]:
     kept = rows[rows["stage"].isin(year.numbers)]
     if not len(kept):
         return ["–"] * 4
@@ -158,7 +158,7 @@ def _share_of_range(element: Optional[Element], volume: float) -> Optional[float
     return (volume - min(lows)) / (max(highs) - min(lows))
 
 
-def _volumes(study: Study, stored: Any) -> Table:
+def _volumes(study: ShownStudy, stored: Any) -> Table:
     """The median and two quantiles of each reservoir by date."""
     names = in_order(list(stored["reservoir"]), [it.name for it in study.summary.elements])
     parts = ("p10", "p50", "p90")

@@ -4,7 +4,7 @@ from __future__ import annotations
 from typing import Any, List, Mapping
 
 from ..content import BOTH, ESTIMATED, GIVEN, Block, Column, Listing, Missing, Paragraph, Section, Table, word_column
-from ..study import Study
+from ..shown_study import ShownStudy
 
 TRAINING = (
     ("iterations", "iterations", ""), ("seconds", "time of training", "s"), ("unanswered", "answers of the solver that were of no use", ""),
@@ -30,13 +30,13 @@ MARKS = (
 )
 
 
-def making_section(study: Study) -> Section:
+def making_section(study: ShownStudy) -> Section:
     """The section of how the study was made: what is given, trained and rounded."""
     blocks: List[Block] = [_about(study), *_ledger(study), *_residuals(study), _marks()]
     return Section("making", "How these numbers were made", blocks)
 
 
-def _about(study: Study) -> Table:
+def _about(study: ShownStudy) -> Table:
     summary, inflow = study.summary, study.summary.inflow
     first, last = summary.stages[0], summary.stages[-1]
     rows = [
@@ -57,7 +57,7 @@ def _about(study: Study) -> Table:
     return Table("The study", GIVEN, [word_column("what"), word_column("is")], kept)
 
 
-def _money(study: Study) -> str:
+def _money(study: ShownStudy) -> str:
     units = study.summary.units
     return units.money if units.money_scale == 1 else f"{units.money} (files in {units.money_scale:,.15g} {units.money})"
 
@@ -71,7 +71,7 @@ def _words(value: Any) -> str:
     return "" if value is None else f"{value:,.1f}" if isinstance(value, float) else str(value)
 
 
-def _ledger(study: Study) -> List[Block]:
+def _ledger(study: ShownStudy) -> List[Block]:
     lines = study.results.lines("ledger.txt")
     if lines is None:
         return [Missing("ledger.txt is not there: what was rounded is not known.")]
@@ -83,7 +83,7 @@ def _ledger(study: Study) -> List[Block]:
     return [Listing(caption, GIVEN, kept[:MOST_LINES], f"{LEDGER_NOTE}{more}")]
 
 
-def _residuals(study: Study) -> List[Block]:
+def _residuals(study: ShownStudy) -> List[Block]:
     residuals = study.table("residuals")
     if residuals is None:
         return [Missing("residuals.csv is not there: whether simulated decisions meet all rows is not known.")]

@@ -6,12 +6,12 @@ from typing import Any, List
 from ..content import ESTIMATED, Block, Column, Missing, Paragraph, Section, Table, word_column
 from ..decisions import MISSING, ROUNDING, Series, Sums
 from ..formats import decimals_for, energy_unit, number, share
-from ..study import Study, in_order
+from ..shown_study import ShownStudy, in_order
 
 MOST_ROWS = 24
 
 
-def missing_section(study: Study) -> Section:
+def missing_section(study: ShownStudy) -> Section:
     """The section of deficits and of needs that were not met."""
     deficits = study.table("deficits")
     blocks: List[Block] = [Missing("deficits.csv is not there: how much energy is missing is not known.")]
@@ -20,14 +20,14 @@ def missing_section(study: Study) -> Section:
     return Section("missing", "What is missing", [*blocks, *_needs(study)])
 
 
-def _deficits(study: Study, deficits: Any) -> List[Block]:
+def _deficits(study: ShownStudy, deficits: Any) -> List[Block]:
     kept = deficits[(deficits["share_of_scenarios"] > 0) & (deficits["greatest"] > ROUNDING)]
     if not len(kept):
         return [Paragraph("No energy is missing in any simulated scenario. That is estimated: other scenarios can come.")]
     return [_by_year(study, deficits), _by_date(study, kept)]
 
 
-def _by_year(study: Study, deficits: Any) -> Table:
+def _by_year(study: ShownStudy, deficits: Any) -> Table:
     """The expected energy that is missing at each bus in each year, and the greatest share of scenarios in a stage and block."""
     buses = in_order(list(deficits["bus"]), study.summary.buses)
     parts = [[deficits[(deficits["bus"] == bus) & deficits["stage"].isin(year.numbers)] for year in study.years] for bus in buses]
@@ -48,7 +48,7 @@ def _greatest(part: Any) -> float:
     return float(part["share_of_scenarios"].max()) if len(part) else 0.0
 
 
-def _by_date(study: Study, kept: Any) -> Table:
+def _by_date(study: ShownStudy, kept: Any) -> Table:
     """The stages and blocks with the greatest expected deficits, in the order of dates."""
     most = kept.nlargest(MOST_ROWS, "mean").sort_values(["stage", "bus", "block"])
     unit = energy_unit(study.summary.units, most["greatest"])
@@ -65,7 +65,7 @@ def _by_date(study: Study, kept: Any) -> Table:
     return Table("When energy is missing", ESTIMATED, columns, rows, note)
 
 
-def _needs(study: Study) -> List[Block]:
+def _needs(study: ShownStudy) -> List[Block]:
     """Needs of reservoirs that were missed: minimum outflows, targets, alert volumes, evaporation, irrigation."""
     sums = study.sums
     if sums is None:
@@ -83,7 +83,7 @@ def _needs(study: Study) -> List[Block]:
     return [Table("Needs that are missed", ESTIMATED, columns, rows, "A volume that is missing counts in each stage anew.")]
 
 
-def _need(study: Study, sums: Sums, series: Series, decimals: int) -> List[str]:
+def _need(study: ShownStudy, sums: Sums, series: Series, decimals: int) -> List[str]:
     line, (name, quantity) = sums.of_stage[series] / sums.scenarios, series
     words = quantity[len(MISSING):].replace("_", " ").strip() or quantity
     ever = float(sums.occurs[series][sums.there].mean())

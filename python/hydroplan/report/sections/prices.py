@@ -6,13 +6,13 @@ from typing import Any, List, Optional, Sequence
 from ..content import ESTIMATED, Block, Column, Figure, Missing, Paragraph, Section, Table, word_column
 from ..fans import CUT_OFF, FAN_KEYS, Fan, draw_fan
 from ..formats import decimals_for, number, price_unit
-from ..study import Study, in_order
+from ..shown_study import ShownStudy, in_order
 from ..years import Year
 
 WORDS = "A price is what one more MWh of demand would cost by the trained plan, undiscounted. It is estimated; nothing is proved of it."
 
 
-def prices_section(study: Study) -> Section:
+def prices_section(study: ShownStudy) -> Section:
     """The section of prices."""
     prices = study.table("price_quantiles")
     blocks: List[Block] = [Missing("price_quantiles.csv is not there: prices are not known.")]
@@ -21,13 +21,13 @@ def prices_section(study: Study) -> Section:
     return Section("prices", "What energy is worth", blocks)
 
 
-def _words(study: Study) -> str:
+def _words(study: ShownStudy) -> str:
     """What a price is, and in how many scenarios prices were looked for where the summary says so."""
     count = study.summary.prices.get("scenarios")
     return WORDS if count is None else f"{WORDS} Prices were looked for in {count:,} scenarios."
 
 
-def _pairs(study: Study, prices: Any) -> List[Any]:
+def _pairs(study: ShownStudy, prices: Any) -> List[Any]:
     """Buses and blocks in the order of the study."""
     buses = in_order(list(prices["bus"]), study.summary.buses)
     blocks = in_order(list(prices["block"]), list(study.summary.stages[0].hours))
@@ -39,13 +39,13 @@ def _label(prices: Any, bus: str, block: str) -> str:
     return bus if prices["block"].nunique() < 2 else f"{bus}, {block}"
 
 
-def _fans(study: Study, prices: Any) -> Figure:
+def _fans(study: ShownStudy, prices: Any) -> Figure:
     scale = 1 / price_unit(study.summary.units, "").divisor
     drawings = [_fan(study, prices, bus, block, scale) for bus, block in _pairs(study, prices)]
     return Figure("Prices by bus", ESTIMATED, drawings, CUT_OFF, FAN_KEYS)
 
 
-def _fan(study: Study, prices: Any, bus: str, block: str, scale: float) -> Any:
+def _fan(study: ShownStudy, prices: Any, bus: str, block: str, scale: float) -> Any:
     rows = prices[(prices["bus"] == bus) & (prices["block"] == block)].sort_values("stage")
     numbers = [int(it) for it in rows["stage"]]
     unit, label = _unit(study, rows), _label(prices, bus, block)
@@ -55,13 +55,13 @@ def _fan(study: Study, prices: Any, bus: str, block: str, scale: float) -> Any:
     return draw_fan(Fan(label, unit, study.edges(numbers), shown), study.dates, words)
 
 
-def _unit(study: Study, rows: Any) -> str:
+def _unit(study: ShownStudy, rows: Any) -> str:
     """The unit of the file, where numbers are as they are there; else that of the study."""
     given = str(rows["unit"].iloc[0])
     return given if given and study.summary.units.money_scale == 1 else price_unit(study.summary.units, study.summary.units.energy).name
 
 
-def _by_year(study: Study, prices: Any) -> Table:
+def _by_year(study: ShownStudy, prices: Any) -> Table:
     """Means over scenarios and hours of each year, with the greatest 95 per cent quantile of its stages."""
     scale = 1 / price_unit(study.summary.units, "").divisor
     pairs = _pairs(study, prices)
@@ -84,7 +84,7 @@ def _whole_and_blocks(prices: Any, pairs: Sequence[Any]) -> List[Any]:
     return [it for bus in buses for it in ((bus, None), *(pair for pair in pairs if pair[0] == bus))]
 
 
-def _of_year(study: Study, prices: Any, pair: Any, year: Year) -> List[Optional[float]]:
+def _of_year(study: ShownStudy, prices: Any, pair: Any, year: Year) -> List[Optional[float]]:
     bus, block = pair
     kept = prices[(prices["bus"] == bus) & prices["stage"].isin(year.numbers)]
     kept = kept if block is None else kept[kept["block"] == block]

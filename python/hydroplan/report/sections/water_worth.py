@@ -8,7 +8,7 @@ from ..content import ESTIMATED, Block, Column, Figure, Key, Missing, Paragraph,
 from ..curves import LINE_LOOKS, Curve, draw_curves, draw_over_dates
 from ..fans import CUT_OFF
 from ..formats import Unit, decimals_for, number, price_unit
-from ..study import Study, in_order
+from ..shown_study import ShownStudy, in_order
 from ..study_summary import Stage
 from ..years import MONTHS
 
@@ -32,7 +32,7 @@ class Worth:
     values: Sequence[float]
 
 
-def water_section(study: Study) -> Section:
+def water_section(study: ShownStudy) -> Section:
     """The section of water values."""
     values = study.table("water_values")
     blocks: List[Block] = [Missing("water_values.csv is not there: what water is worth is not known.")]
@@ -41,15 +41,15 @@ def water_section(study: Study) -> Section:
     return Section("water", f"What water is worth{_in_words(study)}", blocks)
 
 
-def _in_words(study: Study) -> str:
+def _in_words(study: ShownStudy) -> str:
     return f" in {MONTHS[HEADLINE_MONTH - 1]} and in other months" if _has_march(study) else ""
 
 
-def _has_march(study: Study) -> bool:
+def _has_march(study: ShownStudy) -> bool:
     return any(it.start.month == HEADLINE_MONTH for it in study.summary.stages)
 
 
-def headline_stages(study: Study) -> List[Stage]:
+def headline_stages(study: ShownStudy) -> List[Stage]:
     """The first stage that begins in March of each year; where no stage begins in March, the first stage of each year."""
     marches = [it for it in study.summary.stages if it.start.month == HEADLINE_MONTH]
     if not marches:
@@ -73,17 +73,17 @@ def _worth(stage: Stage, node: str, rows: Any) -> Worth:
     return Worth(stage, node, [volumes[it] for it in places], [float(rows["value"].iloc[it]) for it in places])
 
 
-def names_of(study: Study, values: Any) -> List[str]:
+def names_of(study: ShownStudy, values: Any) -> List[str]:
     """The reservoirs of the file, in the order of the study."""
     return in_order(list(values["reservoir"]), [it.name for it in study.summary.elements])
 
 
-def value_unit(study: Study) -> Unit:
+def value_unit(study: ShownStudy) -> Unit:
     """The unit of water values: money for a unit of volume."""
     return price_unit(study.summary.units, study.summary.units.volume)
 
 
-def _in_march(study: Study, values: Any) -> Table:
+def _in_march(study: ShownStudy, values: Any) -> Table:
     stages, names, unit = headline_stages(study), names_of(study, values), value_unit(study)
     found = {name: worths_of(values, name, stages) for name in names}
     heads = list(dict.fromkeys((it.stage.number, it.node) for worths in found.values() for it in worths))
@@ -102,13 +102,13 @@ def _cells(worths: Sequence[Worth], heads: Sequence[Any], unit: Unit, decimals: 
     return [number(None if it is None else unit.of(it.values[level]), decimals) for it in kept for level in range(len(LEVELS))]
 
 
-def _over_time(study: Study, values: Any) -> Figure:
+def _over_time(study: ShownStudy, values: Any) -> Figure:
     drawings = [_time_drawing(study, name, worths_of(values, name, study.summary.stages)) for name in names_of(study, values)]
     keys = [Key(look, f"at {level} volume", "line") for look, (level, _) in zip(LINE_LOOKS, LEVELS)]
     return Figure("What water is worth over time", ESTIMATED, drawings, LEVEL_WORDS, keys)
 
 
-def _time_drawing(study: Study, name: str, worths: Sequence[Worth]) -> Any:
+def _time_drawing(study: ShownStudy, name: str, worths: Sequence[Worth]) -> Any:
     unit = value_unit(study)
     first = [it for it, before in zip(worths, [None, *worths]) if before is None or before.stage.number != it.stage.number]
     days = [float(it.stage.start.toordinal()) for it in first]
@@ -119,7 +119,7 @@ def _time_drawing(study: Study, name: str, worths: Sequence[Worth]) -> Any:
     return draw_over_dates(name, unit.name, curves, study.dates, words)
 
 
-def curve_stages(study: Study) -> List[Stage]:
+def curve_stages(study: ShownStudy) -> List[Stage]:
     """At most four stages of the middle year: those of March, June, September and December where there are such."""
     year = study.years[len(study.years) // 2]
     quarters = [it for it in year.stages if it.start.month % 3 == 0]
@@ -129,7 +129,7 @@ def curve_stages(study: Study) -> List[Stage]:
     return [year.stages[it * len(year.stages) // CURVES_OF_A_PANEL] for it in range(CURVES_OF_A_PANEL)]
 
 
-def _curves(study: Study, values: Any) -> Figure:
+def _curves(study: ShownStudy, values: Any) -> Figure:
     stages = [it for it in curve_stages(study) if (values["stage"] == it.number).any()]
     stages = stages or study.stages(sorted(set(values["stage"]))[:CURVES_OF_A_PANEL])
     drawings = [_curve_drawing(study, name, values[values["reservoir"] == name], stages) for name in names_of(study, values)]
@@ -138,7 +138,7 @@ def _curves(study: Study, values: Any) -> Figure:
     return Figure("What water is worth by how much there is", ESTIMATED, drawings, note, keys)
 
 
-def _curve_drawing(study: Study, name: str, rows: Any, stages: Sequence[Stage]) -> Any:
+def _curve_drawing(study: ShownStudy, name: str, rows: Any, stages: Sequence[Stage]) -> Any:
     unit, volume = value_unit(study), study.summary.units.volume
     curves = [_curve(look, rows[rows["stage"] == stage.number], unit) for look, stage in zip(LINE_LOOKS, stages)]
     kept = [it for it in curves if it is not None]
@@ -154,12 +154,12 @@ def _curve(look: str, rows: Any, unit: Unit) -> Optional[Curve]:
     return Curve(look, [float(it) for it in kept["volume"]], [unit.of(float(it)) for it in kept["value"]])
 
 
-def _by_month(study: Study, values: Any) -> List[Table]:
+def _by_month(study: ShownStudy, values: Any) -> List[Table]:
     """A folded table for each reservoir: the values of each stage at three volumes."""
     return [_month_table(study, name, worths_of(values, name, study.summary.stages)) for name in names_of(study, values)]
 
 
-def _month_table(study: Study, name: str, worths: Sequence[Worth]) -> Table:
+def _month_table(study: ShownStudy, name: str, worths: Sequence[Worth]) -> Table:
     unit, volume = value_unit(study), study.summary.units.volume
     found = ([it for worth in worths for it in worth.volumes], [unit.of(it) for worth in worths for it in worth.values])
     decimals = [decimals_for(it, 3) for it in found]

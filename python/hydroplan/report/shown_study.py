@@ -12,7 +12,7 @@ from .years import Year, years_of
 Edges = List[Tuple[float, float]]
 
 
-class Study:
+class ShownStudy:
     """Reads a folder once. ReportError where a file of it cannot be read."""
 
     def __init__(self, results: Results) -> None:
