@@ -11,7 +11,7 @@ use Rattle.hp_run.proofs.FirstRefusal.{Told}
 use Rattle.hp_run.proofs.ToldAll.{based-told, listed-told}
 
 -- with one more in front that finds nothing
-behind : (c : Check) (cs : List Check) (bytes : List ℕ) (r : Refusal) → c.finds bytes ≡ None → IsFirst cs bytes r → IsFirst (c ∷ cs) bytes r
+behind : {R : Type 0} (c : Check R) (cs : List (Check R)) (bytes : List ℕ) (r : R) → c.finds bytes ≡ None → IsFirst cs bytes r → IsFirst (c ∷ cs) bytes r
 behind c cs bytes r e f = record {
   before = c ∷ f.before;
   check = f.check;
@@ -21,28 +21,28 @@ behind c cs bytes r e f = record {
   found = f.found;
 }
 
-found-first : (cs : List Check) (bytes : List ℕ) (r : Refusal) → first cs bytes ≡ Some r → IsFirst cs bytes r
+found-first : {R : Type 0} (cs : List (Check R)) (bytes : List ℕ) (r : R) → first cs bytes ≡ Some r → IsFirst cs bytes r
 found-first [] bytes r e = absurd cc
-found-first (c ∷ cs) bytes r e = by (c.finds bytes) refl (found-first cs bytes r) e
+found-first {R = R} (c ∷ cs) bytes r e = by (c.finds bytes) refl (found-first cs bytes r) e
   where
-    by : (o : Option Refusal) → c.finds bytes ≡ o → (first cs bytes ≡ Some r → IsFirst cs bytes r) → option_or o (first cs bytes) ≡ Some r → IsFirst (c ∷ cs) bytes r
+    by : (o : Option R) → c.finds bytes ≡ o → (first cs bytes ≡ Some r → IsFirst cs bytes r) → option_or o (first cs bytes) ≡ Some r → IsFirst (c ∷ cs) bytes r
     by None is more e = behind c cs bytes r is (more e)
     by (Some q) is more e = record { before = []; check = c; after = cs; listed = refl; nothing = tt; found = is ∙ e }
 
-after-nothing : (before : List Check) (check : Check) (after : List Check) (bytes : List ℕ) (r : Refusal) → FindNothing bytes before → check.finds bytes ≡ Some r
+after-nothing : {R : Type 0} (before : List (Check R)) (check : Check R) (after : List (Check R)) (bytes : List ℕ) (r : R) → FindNothing bytes before → check.finds bytes ≡ Some r
     → first (before ++ check ∷ after) bytes ≡ Some r
 after-nothing [] check after bytes r nothing found = rw found refl
 after-nothing (c ∷ before) check after bytes r nothing found = rw nothing.0 (after-nothing before check after bytes r nothing.1 found)
 
-first-found : (cs : List Check) (bytes : List ℕ) (r : Refusal) → IsFirst cs bytes r → first cs bytes ≡ Some r
+first-found : {R : Type 0} (cs : List (Check R)) (bytes : List ℕ) (r : R) → IsFirst cs bytes r → first cs bytes ≡ Some r
 first-found cs bytes r f = ap (λ ds. first ds bytes) f.listed ∙ after-nothing f.before f.check f.after bytes r f.nothing f.found
 
-refused : {A : Type 0} (x : Result A Refusal) (r : Refusal) → refusal_of x ≡ Some r → x ≡ Err r
+refused : {A R : Type 0} (x : Result A R) (r : R) → refusal_of x ≡ Some r → x ≡ Err r
 refused (Ok v) r e = absurd cc
 refused (Err q) r e = cc
 
 -- what is refused is what the first check finds, and the other way round
-told-first : {A : Type 0} (bytes : List ℕ) (cs : List Check) (x : Result A Refusal) → Told bytes cs x → (r : Refusal) → (x ≡ Err r) ↔ (first cs bytes ≡ Some r)
+told-first : {A R : Type 0} (bytes : List ℕ) (cs : List (Check R)) (x : Result A R) → Told bytes cs x → (r : R) → (x ≡ Err r) ↔ (first cs bytes ≡ Some r)
 told-first bytes cs x told r = ((λ e. sym told.is ∙ ap refusal_of e), (λ e. refused x r (told.is ∙ e)))
 
 pub refused-first : (task : Task) (bytes : List ℕ) (r : Refusal) → IsRefused task bytes r ↔ (first (checks_of task bytes) bytes ≡ Some r)
@@ -61,23 +61,23 @@ none-before task bytes r =
 
 -- ---- nothing is found
 
-one-more : (c : Check) (cs : List Check) (bytes : List ℕ) (o : Option Refusal) → c.finds bytes ≡ o → option_or o (first cs bytes) ≡ None → (c.finds bytes ≡ None) × (first cs bytes ≡ None)
+one-more : {R : Type 0} (c : Check R) (cs : List (Check R)) (bytes : List ℕ) (o : Option R) → c.finds bytes ≡ o → option_or o (first cs bytes) ≡ None → (c.finds bytes ≡ None) × (first cs bytes ≡ None)
 one-more c cs bytes None is e = (is, e)
 one-more c cs bytes (Some q) is e = absurd cc
 
-nothing-found : (cs : List Check) (bytes : List ℕ) → first cs bytes ≡ None → FindNothing bytes cs
+nothing-found : {R : Type 0} (cs : List (Check R)) (bytes : List ℕ) → first cs bytes ≡ None → FindNothing bytes cs
 nothing-found [] bytes e = tt
 nothing-found (c ∷ cs) bytes e = let it = one-more c cs bytes (c.finds bytes) refl e in (it.0, nothing-found cs bytes it.1)
 
-found-nothing : (cs : List Check) (bytes : List ℕ) → FindNothing bytes cs → first cs bytes ≡ None
+found-nothing : {R : Type 0} (cs : List (Check R)) (bytes : List ℕ) → FindNothing bytes cs → first cs bytes ≡ None
 found-nothing [] bytes all = refl
 found-nothing (c ∷ cs) bytes all = rw all.0 (found-nothing cs bytes all.1)
 
-not-refused : {A : Type 0} (x : Result A Refusal) → refusal_of x ≡ None → IsOk x
+not-refused : {A R : Type 0} (x : Result A R) → refusal_of x ≡ None → IsOk x
 not-refused (Ok v) e = refl
 not-refused (Err r) e = absurd cc
 
-refuses-nothing : {A : Type 0} (x : Result A Refusal) → IsOk x → refusal_of x ≡ None
+refuses-nothing : {A R : Type 0} (x : Result A R) → IsOk x → refusal_of x ≡ None
 refuses-nothing (Ok v) is = refl
 refuses-nothing (Err r) is = absurd cc
 

@@ -80,16 +80,16 @@ unfolding based_of
 based-problem p x e = base-problem p (based p) x e
 
 module _ (bytes : List ℕ) where
-  abbrev subproblem_list : List Check
+  abbrev subproblem_list : List (Check Refusal)
   subproblem_list = of_each (subproblem_checks bytes) 0 (there.entries (codes "subproblems") bytes)
 
-  abbrev node_list : List Check
+  abbrev node_list : List (Check Refusal)
   node_list = of_each (node_checks bytes) 0 (there.entries (codes "nodes") bytes)
 
-  abbrev scenario_list : List Check
+  abbrev scenario_list : List (Check Refusal)
   scenario_list = of_each scenario_checks 0 (there.items_in (there.stored bytes))
 
-  module _ {B : Type 0} (rest : List Check) (F : Sealed → Result B Refusal)
+  module _ {B : Type 0} (rest : List (Check Refusal)) (F : Sealed → Result B Refusal)
       (then : (d : Data) (ns : Members) (g : Raw) (p : Sealed) → json_at bytes ≡ Ok d → table_at (codes "nodes") d ≡ Ok ns → there.table (codes "nodes") bytes ≡ Some ns → there.graph bytes ≡ Some g
       → g.nodes ≡ p.raw.nodes → there.sealed bytes ≡ Some p → Told bytes rest (F p)) where
     -- what comes after the tables
@@ -144,7 +144,7 @@ module _ (bytes : List ℕ) where
         one-then bytes _ _ (sizes_at ns ss ds) _ (rw (b, c, s) refl) (λ sizes e8. parts-then d rt ns ss ds e1 e5 a b c s))))))))))))))))))
 
   -- one after another, however they are put together
-  nested : (w r s n c g b : List Check) → w ++ r ++ s ++ n ++ c ++ g ++ b ≡ w ++ (r ++ (s ++ (n ++ (c ++ (g ++ b)))))
+  nested : (w r s n c g b : List (Check Refusal)) → w ++ r ++ s ++ n ++ c ++ g ++ b ≡ w ++ (r ++ (s ++ (n ++ (c ++ (g ++ b)))))
   nested w r s n c g b =
       append_assoc (w ++ r ++ s ++ n ++ c) g b ∙ append_assoc (w ++ r ++ s ++ n) c (g ++ b) ∙ append_assoc (w ++ r ++ s) n (c ++ (g ++ b)) ∙ append_assoc (w ++ r) s (n ++ (c ++ (g ++ b)))
       ∙ append_assoc w r (s ++ (n ++ (c ++ (g ++ b))))

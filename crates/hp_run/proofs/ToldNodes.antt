@@ -35,7 +35,7 @@ realization-same n names found other r d =
     refusal-same (weight_at (at_realization n r) inner) _ _ (λ weight.
     refusal-same (values_at parts.Support n r names support) _ _ (λ values. refl)))))
 
-none-of : (checks : ℕ → List Check) (o : Option Items) (ds : Items) → o ≡ Some ds → (items_len ds == 0) ≡ true → of_each checks 0 (there.items_in o) ≡ []
+none-of : {R : Type 0} (checks : ℕ → List (Check R)) (o : Option Items) (ds : Items) → o ≡ Some ds → (items_len ds == 0) ≡ true → of_each checks 0 (there.items_in o) ≡ []
 none-of checks o ds is none = ap (λ o. of_each checks 0 (there.items_in o)) is ∙ ap (of_each checks 0) (eqb-true (items_len ds) 0 none)
 
 module _ (bytes : List ℕ) (n : ℕ) where

@@ -4,6 +4,7 @@ use Rattle.std.specs.Str.{bytes_eq}
 use Rattle.serde_json.specs.Events.{items_len, members_len}
 use Rattle.serde_json.specs.Find.{get, get_member}
 use Rattle.hp_paths.specs.Paths.{numbers, first_in_cycle, first_unreached}
+use Rattle.hp_problem.specs.declared.refusal.Refusal.{Refusal}
 use Rattle.hp_problem.specs.declared.refusal.RefusalKind.TheVariants as kinds
 use Rattle.hp_problem.specs.declared.refusal.Part.TheVariants as parts
 use Rattle.hp_problem.specs.Sealed.{graph_of}
@@ -37,7 +38,7 @@ use Rattle.hp_run.specs.declared.task.Task.{Task}
 use Rattle.hp_run.specs.declared.task.Task.TheVariants as tasks
 
 -- 1. the whole
-unfoldable pub whole_checks : List Check
+unfoldable pub whole_checks : List (Check Refusal)
 whole_checks =
     check (codes "JSON") [] (λ b. refusal_of (json_at b))
     ∷ check (codes "an object") [] (λ b. there.document b >>= λ d. refusal_of (object_at whole d))
@@ -50,16 +51,16 @@ whole_checks =
     ∷ []
 
 -- 2. the root, with each state s and each successor i
-unfoldable pub initial_checks : ℕ → List Check
+unfoldable pub initial_checks : ℕ → List (Check Refusal)
 initial_checks s = check (codes "initial value") (s ∷ []) (λ b. there.state_members b >>= λ ms. nth_member s ms >>= λ it. refusal_of (state_at [] s it.0 it.1)) ∷ []
 
-unfoldable pub start_checks : ℕ → List Check
+unfoldable pub start_checks : ℕ → List (Check Refusal)
 start_checks i =
     check (codes "successor of the root") (i ∷ [])
     (λ b. there.table (codes "nodes") b >>= λ ns. there.start_members b >>= λ ms. nth_member i ms >>= λ it. refusal_of (successor_at (place parts.Root 2 i 0) (keys_of ns) no_successors it.0 it.1))
     ∷ []
 
-unfoldable pub root_checks : List ℕ → List Check
+unfoldable pub root_checks : List ℕ → List (Check Refusal)
 root_checks bytes =
     check (codes "type of states") [] (λ b. there.table (codes "root") b >>= λ ms. refusal_of (members_at root (get_member (codes "state_variables") ms)))
     ∷ check (codes "successors are there") [] (λ b. there.table (codes "root") b >>= λ ms. refusal_of (present_at root (get_member (codes "successors") ms)))
@@ -69,18 +70,18 @@ root_checks bytes =
     ++ (check (codes "weights of the root") [] (λ b. there.start b >>= λ links. refusal_of (weights_at root 0 links.weights)) ∷ [])))
 
 -- 3. each subproblem p, with each constraint i
-unfoldable pub constraint_checks : ℕ → ℕ → List Check
+unfoldable pub constraint_checks : ℕ → ℕ → List (Check Refusal)
 constraint_checks p i =
     check (codes "constraint") (p ∷ i ∷ []) (λ b. there.variables p b >>= λ vars. there.constraint p i b >>= λ d. refusal_of (constraint_at vars p (no_constraints (length vars.names)) i d)) ∷ []
 
-unfoldable pub filled_checks : ℕ → List ℕ → List Check
+unfoldable pub filled_checks : ℕ → List ℕ → List (Check Refusal)
 filled_checks p bytes =
     of_each (constraint_checks p) 0 (there.constraint_count p bytes)
     ++ (check (codes "count of rows") (p ∷ []) (λ b. there.constraints p b >>= λ found. refusal_of (few_rows_at p found))
     ∷ check (codes "bounds of variables") (p ∷ []) (λ b. there.variables p b >>= λ vars. there.costs p b >>= λ f. there.constraints p b >>= λ found. refusal_of (boxes_at vars p found.bounds f.coefficients))
     ∷ [])
 
-unfoldable pub subproblem_checks : List ℕ → ℕ → List Check
+unfoldable pub subproblem_checks : List ℕ → ℕ → List (Check Refusal)
 subproblem_checks bytes p =
     check (codes "name of a subproblem") (p ∷ []) (λ b. there.entry (codes "subproblems") p b >>= λ it. refusal_of (key_at (place parts.Subproblem p 0 0) it.0))
     ∷ check (codes "types of its members") (p ∷ []) (λ b. there.entry (codes "subproblems") p b >>= λ it. refusal_of (stage_parts_at (place parts.Subproblem p 0 0) it.1))
@@ -94,30 +95,30 @@ subproblem_checks bytes p =
     ∷ filled_checks p bytes
 
 -- 4. each node n, with each realization r and each successor i
-unfoldable pub realization_checks : ℕ → ℕ → List Check
+unfoldable pub realization_checks : ℕ → ℕ → List (Check Refusal)
 realization_checks n r =
     check (codes "realization") (n ∷ r ∷ []) (λ b. there.randoms n b >>= λ ns. there.outcome n r b >>= λ d. refusal_of (realization_at n ns no_realizations r d)) ∷ []
 
-unfoldable pub next_checks : ℕ → ℕ → List Check
+unfoldable pub next_checks : ℕ → ℕ → List (Check Refusal)
 next_checks n i =
     check (codes "successor") (n ∷ i ∷ []) (λ b. there.table (codes "nodes") b >>= λ ns. there.next_entry n i b >>= λ it. refusal_of (successor_at (place parts.Successor n i 0) (keys_of ns) no_successors it.0 it.1)) ∷ []
 
 -- their count, and each
-unfoldable pub outcome_checks : List ℕ → ℕ → List Check
+unfoldable pub outcome_checks : List ℕ → ℕ → List (Check Refusal)
 outcome_checks bytes n =
     check (codes "count of realizations") (n ∷ []) (λ b. there.outcomes n b >>= λ ds. failing (nat_le (items_len ds) 100) kinds.TooLarge (at_node n))
     ∷ check (codes "none is needed") (n ∷ []) (λ b. there.randoms n b >>= λ ns. there.outcomes n b >>= λ ds. if items_len ds == 0 then refusal_of (certain_at (at_node n) ns) else None)
     ∷ of_each (realization_checks n) 0 (there.items_in (there.outcomes n bytes))
 
 -- each successor, `stop`, and their total
-unfoldable pub transition_checks : List ℕ → ℕ → List Check
+unfoldable pub transition_checks : List ℕ → ℕ → List (Check Refusal)
 transition_checks bytes n =
     of_each (next_checks n) 0 (there.members_in (there.next_members n bytes))
     ++ (check (codes "stop") (n ∷ []) (λ b. there.entry (codes "nodes") n b >>= λ it. refusal_of (stop_at (at_node n) (get (codes "stop") it.1)))
     ∷ check (codes "weights of successors") (n ∷ []) (λ b. there.next n b >>= λ links. there.stop n b >>= λ stop. refusal_of (weights_at (at_node n) stop links.weights))
     ∷ [])
 
-unfoldable pub node_checks : List ℕ → ℕ → List Check
+unfoldable pub node_checks : List ℕ → ℕ → List (Check Refusal)
 node_checks bytes n =
     check (codes "name of a node") (n ∷ []) (λ b. there.entry (codes "nodes") n b >>= λ it. refusal_of (key_at (at_node n) it.0))
     ∷ check (codes "a node is an object") (n ∷ []) (λ b. there.entry (codes "nodes") n b >>= λ it. refusal_of (object_at (at_node n) it.1))
@@ -131,7 +132,7 @@ node_checks bytes n =
     ++ (check (codes "weights of realizations") (n ∷ []) (λ b. there.realizations n b >>= λ found. refusal_of (weights_at (at_node n) 0 found.weights)) ∷ transition_checks bytes n))
 
 -- 5. each stored scenario k
-unfoldable pub scenario_checks : ℕ → List Check
+unfoldable pub scenario_checks : ℕ → List (Check Refusal)
 scenario_checks k =
     check (codes "type of a scenario") (k ∷ []) (λ b. there.stored b >>= λ ds. nth_item k ds >>= λ d. refusal_of (steps_at (at_scenario k) d))
     ∷ check (codes "at least one step") (k ∷ []) (λ b. there.steps k b >>= λ ds. refusal_of (some_at (at_scenario k) ds))
@@ -139,7 +140,7 @@ scenario_checks k =
     ∷ []
 
 -- 6. the graph
-unfoldable pub graph_checks : List Check
+unfoldable pub graph_checks : List (Check Refusal)
 graph_checks =
     check (codes "cycles") [] (λ b. there.graph b >>= λ raw. option_map (λ m. record { kind = kinds.Cycle; place = at_node m }) (first_in_cycle (graph_of raw)))
     ∷ check (codes "nodes that are not reached") [] (λ b. there.graph b >>= λ raw. option_map (λ m. record { kind = kinds.Unreachable; place = at_node m }) (first_unreached (graph_of raw) raw.root))
@@ -148,15 +149,15 @@ graph_checks =
     ∷ []
 
 -- 7. the base cuts
-unfoldable pub base_checks : List Check
+unfoldable pub base_checks : List (Check Refusal)
 base_checks = check (codes "base cuts") [] (λ b. there.sealed b >>= λ p. refusal_of (based_of p)) ∷ []
 
 -- 8. for `robust` alone the weights that are listed at each node n, with each alternative i
-unfoldable pub alternative_checks : ℕ → ℕ → List Check
+unfoldable pub alternative_checks : ℕ → ℕ → List (Check Refusal)
 alternative_checks n i =
     check (codes "alternative") (n ∷ i ∷ []) (λ b. there.lister n b >>= λ node. there.alternative n i b >>= λ d. refusal_of (alternative_at n (suc i) (length node.weights) d)) ∷ []
 
-unfoldable pub lister_checks : List ℕ → ℕ → List Check
+unfoldable pub lister_checks : List ℕ → ℕ → List (Check Refusal)
 lister_checks bytes n =
     check (codes "the node is there") (n ∷ []) (λ b. there.lister n b >>= λ node. there.table (codes "nodes") b >>= λ ms. refusal_of (present_at whole (get_member node.name ms)))
     ∷ check (codes "type of alternatives") (n ∷ []) (λ b. there.lister_value n b >>= λ d. refusal_of (items_at (at_weight n 0 0) (get (codes "alternatives") d)))
@@ -164,17 +165,17 @@ lister_checks bytes n =
     ∷ of_each (alternative_checks n) 0 (there.items_in (there.lists n bytes))
 
 -- what is checked of a problem
-unfoldable pub checks : List ℕ → List Check
+unfoldable pub checks : List ℕ → List (Check Refusal)
 checks bytes =
     whole_checks ++ root_checks bytes ++ of_each (subproblem_checks bytes) 0 (there.entries (codes "subproblems") bytes) ++ of_each (node_checks bytes) 0 (there.entries (codes "nodes") bytes)
     ++ of_each scenario_checks 0 (there.items_in (there.stored bytes)) ++ graph_checks ++ base_checks
 
 -- and then of the weights that it lists
-unfoldable pub list_checks : List ℕ → List Check
+unfoldable pub list_checks : List ℕ → List (Check Refusal)
 list_checks bytes = of_each (lister_checks bytes) 0 (there.nodes_in (there.graph bytes))
 
 -- what is checked for a task
-abbrev pub checks_of : Task → List ℕ → List Check
+abbrev pub checks_of : Task → List ℕ → List (Check Refusal)
 checks_of tasks.Base bytes = checks bytes
 checks_of (tasks.Train seed count batch) bytes = checks bytes
 checks_of tasks.Check bytes = checks bytes

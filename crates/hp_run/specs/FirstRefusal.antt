@@ -7,35 +7,35 @@ use Rattle.hp_problem.specs.declared.refusal.Place.{Place}
 use Rattle.hp_problem.specs.declared.refusal.Refusal.{Refusal}
 use Rattle.hp_problem.specs.declared.refusal.RefusalKind.{RefusalKind}
 
--- A check by its name and the numbers of what it looks at, with the refusal that it finds in the bytes of a problem. It finds none where
+-- A check by its name and the numbers of what it looks at, with the refusal that it finds in the bytes of a file. It finds none where
 -- something is missing that it needs.
-pub record Check : Type 0 where
+pub record Check (R : Type 0) : Type 0 where
   pub name : List ℕ
   pub numbers : List ℕ
-  pub finds : List ℕ → Option Refusal
+  pub finds : List ℕ → Option R
 
-abbrev pub check : List ℕ → List ℕ → (List ℕ → Option Refusal) → Check
+abbrev pub check : {R : Type 0} → List ℕ → List ℕ → (List ℕ → Option R) → Check R
 check name numbers finds = record { name = name; numbers = numbers; finds = finds }
 
 -- what the first of the checks finds that finds something
-abbrev pub first : List Check → List ℕ → Option Refusal
+abbrev pub first : {R : Type 0} → List (Check R) → List ℕ → Option R
 first [] bytes = None
 first (c ∷ cs) bytes = option_or (c.finds bytes) (first cs bytes)
 
 -- the checks of the number i, and of the n - 1 numbers after it
-abbrev pub of_each : (ℕ → List Check) → ℕ → ℕ → List Check
+abbrev pub of_each : {R : Type 0} → (ℕ → List (Check R)) → ℕ → ℕ → List (Check R)
 of_each checks i zero = []
 of_each checks i (suc n) = checks i ++ of_each checks (suc i) n
 
 -- none of the checks finds anything
-abbrev pub FindNothing : List ℕ → List Check → Type 0
-FindNothing bytes checks = AllByRecursion (λ (c : Check). c.finds bytes ≡ None) checks
+abbrev pub FindNothing : {R : Type 0} → List ℕ → List (Check R) → Type 0
+FindNothing {R = R} bytes checks = AllByRecursion (λ (c : Check R). c.finds bytes ≡ None) checks
 
 -- one of the checks finds the refusal, and no check before it finds anything
-pub record IsFirst (checks : List Check) (bytes : List ℕ) (r : Refusal) : Type 0 where
-  pub before : List Check
-  pub check : Check
-  pub after : List Check
+pub record IsFirst {R : Type 0} (checks : List (Check R)) (bytes : List ℕ) (r : R) : Type 0 where
+  pub before : List (Check R)
+  pub check : Check R
+  pub after : List (Check R)
   pub listed : checks ≡ before ++ check ∷ after
   pub nothing : FindNothing bytes before
   pub found : check.finds bytes ≡ Some r
@@ -55,11 +55,11 @@ nth_item (suc n) (item d ds) = nth_item n ds
 -- ---- what a step of the reader gives
 
 -- the value, where it is not refused
-abbrev pub there : {A : Type 0} → Result A Refusal → Option A
+abbrev pub there : {A R : Type 0} → Result A R → Option A
 there (Ok x) = Some x
 there (Err r) = None
 
-abbrev pub refusal_of : {A : Type 0} → Result A Refusal → Option Refusal
+abbrev pub refusal_of : {A R : Type 0} → Result A R → Option R
 refusal_of (Ok x) = None
 refusal_of (Err r) = Some r
 
