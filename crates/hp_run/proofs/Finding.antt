@@ -54,6 +54,11 @@ refused-first tasks.Validate bytes r = told-first bytes (checks bytes) (based_at
 refused-first tasks.Evaluate bytes r = told-first bytes (checks bytes) (based_at bytes) (based-told bytes) r
 refused-first tasks.Robust bytes r = told-first bytes (checks bytes ++ list_checks bytes) (listed_at bytes) (listed-told bytes) r
 
+pub told-none-before : {A R : Type 0} (bytes : List ℕ) (cs : List (Check R)) (x : Result A R) → Told bytes cs x → (r : R) → (x ≡ Err r) ↔ IsFirst cs bytes r
+told-none-before bytes cs x told r =
+    let it = told-first bytes cs x told r in
+    ((λ e. found-first cs bytes r (it.0 e)), (λ f. it.1 (first-found cs bytes r f)))
+
 pub none-before : (task : Task) (bytes : List ℕ) (r : Refusal) → IsRefused task bytes r ↔ IsFirst (checks_of task bytes) bytes r
 none-before task bytes r =
     let it = refused-first task bytes r in

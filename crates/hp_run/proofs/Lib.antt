@@ -31,3 +31,4 @@ pub mod ToldNodes
 pub mod ToldGraph
 pub mod ToldAll
 pub mod Finding
+pub mod ToldHydro

@@ -8,6 +8,7 @@ pub mod Refuted
 pub mod FirstRefusal
 pub mod There
 pub mod CheckList
+pub mod HydroList
 pub mod Causes
 pub mod TrainingLines
 pub mod Journals

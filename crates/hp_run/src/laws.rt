@@ -1,5 +1,5 @@
 // Laws over two runs. A law is the contract of a function with an empty body.
-ghost use Rattle.std.specs.Prelude.{◌≡◌, ◌↔◌, ◌≤◌, ◌++◌, ℕ, List, Option, Some, Ok, IsOk};
+ghost use Rattle.std.specs.Prelude.{◌≡◌, ◌↔◌, ◌≤◌, ◌++◌, ℕ, List, Option, Some, Ok, Err, IsOk};
 ghost use Rattle.sha2.specs.Sha256.{sha256};
 ghost use Rattle.hp_cut.specs.declared.entry.Entry.{Entry};
 ghost use Rattle.hp_problem.specs.declared.refusal.Refusal.{Refusal};
@@ -7,10 +7,12 @@ ghost use Rattle.hp_hydro.specs.Text.{hydro_at};
 ghost use Rattle.hp_journal.specs.Layout.{new_title};
 ghost use Rattle.hp_journal.specs.Mine.{Mine};
 ghost use Rattle.hp_lp.specs.Chained.{solving};
+ghost use Rattle.hp_plants.specs.declared.refusal.HydroRefusal.{HydroRefusal};
 ghost use Rattle.hp_train.specs.Training.{payloads};
 ghost use Rattle.hp_run.specs.AnyStops.{EndsAlike, IsAsked, Reachable, Trains, whole};
 ghost use Rattle.hp_run.specs.CheckList.{checks, checks_of};
 ghost use Rattle.hp_run.specs.FirstRefusal.{FindNothing, IsFirst, first};
+ghost use Rattle.hp_run.specs.HydroList.{hydro_checks};
 ghost use Rattle.hp_run.specs.Meant.{DescribedFile};
 ghost use Rattle.hp_run.specs.Outcome.{IsRefused, WithBase, based_at};
 ghost use Rattle.hp_run.specs.Run.{Devices, PlanLines, telling};
@@ -67,4 +69,9 @@ pub fn first_refusal()
     ensures accepted { (bytes : List ℕ) → IsOk (based_at bytes) ↔ FindNothing bytes (checks bytes) }
     ensures first { (task : Task) (bytes : List ℕ) (r : Refusal) → IsRefused task bytes r ↔ (first (checks_of task bytes) bytes ≡ Some r) }
     ensures none_before { (task : Task) (bytes : List ℕ) (r : Refusal) → IsRefused task bytes r ↔ IsFirst (checks_of task bytes) bytes r }
+{}
+
+/// The same of a description: which refusal of `hydro` comes is what the first check finds that finds something.
+pub fn first_hydro_refusal()
+    ensures { (bytes : List ℕ) (r : HydroRefusal) → (hydro_at bytes ≡ Err r) ↔ IsFirst (hydro_checks bytes) bytes r }
 {}
