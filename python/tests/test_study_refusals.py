@@ -229,7 +229,7 @@ class Refusals(StudyFolder):
         self.edited(("maximum = 150", "maximum = 100"), ("initial = 200", "initial = 0"))
         status, _, errors = self.run_study()
         self.assertEqual(status, 1)
-        self.assertRegex(errors, 'energy:city')
+        self.assertRegex(errors, r'stage 2 .* has no solution, .*\n.* balance of energy of bus "city"\n')
 
 
 class Lines(unittest.TestCase):
