@@ -6,7 +6,7 @@ from fractions import Fraction as F
 from model_support import HERE, needs_numpy
 from hydroplan.errors import ModelError, NotLinear
 from hydroplan.exact import at_least, at_most, exact, exact_weight, text_of
-from hydroplan.model import Model, between, total
+from hydroplan.model import Model, between, dot, total
 
 FILE = __file__
 
@@ -70,6 +70,20 @@ class Expressions(unittest.TestCase):
         self.assertEqual(repr(2 * x + 1), "2 x + 1")
         found = total([x, 2 * y + 1, x, "0.5"])
         self.assertEqual((found.terms, found.constant, total([]).terms), ({x: 2, y: 2}, F(3, 2), {}))
+        found = dot((2, "0.5"), [x + 1, 4 * y])
+        self.assertEqual((found.terms, found.constant, dot([], []).terms), ({x: 2, y: 2}, 2, {}))
+        with self.assertRaisesRegex(ModelError, r"\Adot has 1 numbers for 2 terms \(.*expressions.py:\d+\)\Z"):
+            dot([1], [x, y])
+        with self.assertRaisesRegex(ModelError, r"\Aa number of dot \(.*expressions.py:\d+\) has to be a number, and is 'x'\Z"):
+            dot(["x"], [x])
+
+    def test_several_constraints(self):
+        x, y = self.x, self.y
+        found = x.stage.add_all(it <= 1 for it in (x, y))
+        self.assertEqual([it.relation.upper for it in found], [1, 1])
+        self.assertEqual(x.stage.constraints[-2:], found)
+        with self.assertRaisesRegex(ModelError, r"a constraint is 3, and no comparison of expressions"):
+            x.stage.add_all([x <= 2, 3])
 
     def test_comparisons_are_constraints(self):
         x, y = self.x, self.y

@@ -50,6 +50,17 @@ class DeadEnds(StudyFolder):
         said = self.said(("demand = 150", "demand = 50\ndeficit = 900"), ("maximum = 150\n", "maximum = 150\nminimum = 60\n"))
         self.assertEqual(said[-1], 'study: what to do: let the "minimum" of thermal "gas" (F/study.toml:16) be lower')
 
+    def test_tiers_that_are_forced(self):
+        tiers = "cost = [{ size = 100, cost = 50 }, { size = 50, cost = 70 }]\nminimum = 60"
+        said = self.said(("demand = 150", "demand = 50\ndeficit = 900"), ("maximum = 150\ncost = [50, 100, 150]", tiers))
+        self.assertIn('minimum of thermal "gas"', said[1])
+        self.assertEqual(said[-1], 'study: what to do: let the "minimum" of thermal "gas" (F/study.toml:16) be lower')
+
+    def test_too_much_water(self):
+        said = self.said(("spill = 300", "spill = 0"), ("turbine = 150", "turbine = 10"))
+        self.assertEqual(said[-1], "study: what to do: let more be spilled, or let the least numbers of decisions be lower")
+        self.helps(("turbine = 150", "turbine = 10"))
+
     def test_a_least_volume(self):
         said = self.said(("maximum = 200\n", "maximum = 200\nminimum = [0, 0, 180]\n"))
         self.assertIn('give reservoir "lake" (F/study.toml:20) an "alert" with an "alert_penalty" in place of its "minimum"', said[-1])
