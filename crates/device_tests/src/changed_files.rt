@@ -8,7 +8,7 @@ use std::io::Write;
 use std::rt::Files;
 use std::test::Fail;
 
-// What happens to the file.
+// A change of the file behind the disk's back.
 #[derive(Clone, Copy, Debug, PartialEq, Eq)]
 enum Change {
     Removed,

@@ -1,7 +1,7 @@
-// What the tests of disks share.
+// Functions that the tests of disks share.
 use hp_outside::Disk;
 
-// Whether these bytes, at most eight, are the whole disk as it reads.
+// Tells whether these bytes, at most eight, are the whole disk as it reads.
 pub(crate) fn holds<D: Disk>(disk: &mut D, want: &[u8]) -> bool {
     let mut bytes = [0; 8];
     let count = want.len().min(8);

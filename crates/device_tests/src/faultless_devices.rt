@@ -3,19 +3,19 @@ use crate::disks::holds;
 use hp_outside::{Disk, FaultlessDisk, FaultlessSink, FaultlessSource, Sink, Source};
 use std::test::Fail;
 
-// Whether writes are kept, of a disk of `abc` with room for two bytes more.
+// Tells whether writes are kept, of a disk of `abc` with room for two bytes more.
 fn keeps_writes(disk: &mut FaultlessDisk) -> bool {
     disk.write_at(3, b"defg").is_ok()
         && holds(disk, b"abcde\0\0")
         && disk.write_at(1, b"xy").is_ok()
 }
 
-// Whether it is cut then, by a cut inside it and none by one behind it.
+// Tells whether it is cut then, by a cut inside it and none by one behind it.
 fn is_cut(disk: &mut FaultlessDisk) -> bool {
     disk.cut(4).is_ok() && disk.cut(9).is_ok() && disk.sync().is_ok() && holds(disk, b"axyd")
 }
 
-// Whether there are zeros then before a write behind its end, which finds no room.
+// Tells whether there are zeros then before a write behind its end, which finds no room.
 fn has_zeros(disk: &mut FaultlessDisk) -> bool {
     disk.write_at(6, b"z").is_ok() && holds(disk, b"axyd\0\0\0")
 }
@@ -29,7 +29,7 @@ fn keeps_the_front(rt: HostRuntime) -> Result<(), Fail> {
     Ok(())
 }
 
-// Whether a read of four bytes hands over these.
+// Tells whether a read of four bytes hands over these.
 fn hands_over(source: &mut FaultlessSource, want: &[u8]) -> bool {
     let mut buf = [0; 4];
     source.read(&mut buf) == Ok(want.len()) && buf.get(..want.len()) == Some(want)

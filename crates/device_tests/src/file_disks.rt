@@ -18,7 +18,7 @@ fn disk<R: Files>(rt: &R, alloc: Global, write: bool) -> Result<FileDisk<'_, R>,
     Ok(FileDisk::at(rt, name, write))
 }
 
-// Whether calls of the missing file fail.
+// Tells whether calls of the missing file fail.
 fn is_missing<R: Files>(rt: &R, alloc: Global) -> Result<bool, Memory>
 where
     R::File: Lock,
@@ -37,7 +37,7 @@ where
         && holds(disk, b"abxyz")
 }
 
-// Whether it is cut then, and no read goes past its end.
+// Tells whether it is cut then, and no read goes past its end.
 fn cuts<R: Files>(disk: &mut FileDisk<'_, R>) -> bool
 where
     R::File: Lock,
@@ -53,7 +53,7 @@ where
     Ok(writes(&mut disk) && cuts(&mut disk))
 }
 
-// Whether it is read then, and not written.
+// Tells whether it is read then, and not written.
 fn is_only_read<R: Files>(rt: &R, alloc: Global) -> Result<bool, Memory>
 where
     R::File: Lock,
@@ -127,7 +127,7 @@ fn files_of<'a>(file: &'a Counted, folder: &'a Counted, is_held: bool) -> OneFil
     }
 }
 
-// What a file holds, and how often it was synced and how many bytes were written.
+// The bytes of a file, and how often it was synced and how many bytes were written.
 #[derive(Drop)]
 struct Counted {
     held: Cell<[u8; 8]>,

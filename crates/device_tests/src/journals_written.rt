@@ -8,7 +8,7 @@ use std::alloc::Global;
 use std::process::Abort;
 use std::test::Fail;
 
-// Whether a crash may leave these bytes of a file that becomes the journal without records: it is not
+// Tells whether a crash may leave these bytes of a file that becomes the journal without records: it is not
 // born yet, or only its birth byte is another.
 fn may_be_left_of_birth(bytes: &[u8]) -> bool {
     bytes.len() <= 1
@@ -16,7 +16,7 @@ fn may_be_left_of_birth(bytes: &[u8]) -> bool {
         || bytes.get(1..) == NO_RECORDS.get(1..)
 }
 
-// What a crash left becomes a journal where it is none yet.
+// Makes a journal of what a crash left, where it is none yet.
 fn reborn(disk: &mut Silent) -> Result<(), Failed> {
     match read_head(disk) {
         Ok(Head::Unborn { .. }) => give_birth(disk, &[100; 32], 7, None),
@@ -24,7 +24,7 @@ fn reborn(disk: &mut Silent) -> Result<(), Failed> {
     }
 }
 
-// Whether a crash may leave this disk, and it becomes the journal without records.
+// Tells whether a crash may leave this disk, and it becomes the journal without records.
 fn comes_to_life(left: &mut Silent) -> bool {
     may_be_left_of_birth(left.bytes())
         && reborn(left).is_ok()
@@ -82,14 +82,14 @@ fn is_born_with_batches(rt: HostRuntime) -> Result<(), Fail> {
 // The body of a record of two bytes.
 const BODY: &[u8; 7] = b"\x00\x00\x00\x02xy\x00";
 
-// Whether a crash may leave these bytes of the journal without records that gets the record: its gate is
+// Tells whether a crash may leave these bytes of the journal without records that gets the record: its gate is
 // 0, or the record's body stands whole behind it.
 fn may_be_left_of_growth(bytes: &[u8]) -> bool {
     bytes.get(..51) == NO_RECORDS.get(..51)
         && (bytes.get(51) == Some(&0) || bytes.get(52..) == Some(BODY.as_slice()))
 }
 
-// What a crash left gets the record where it has none.
+// Adds the record to what a crash left, where it has none.
 fn regrown(disk: &mut Silent) -> Result<(), Failed> {
     match read_gate(disk, 51) {
         Ok(Gate::Shut { .. }) => {
@@ -100,14 +100,14 @@ fn regrown(disk: &mut Silent) -> Result<(), Failed> {
     }
 }
 
-// Whether these are the bytes of the journal with the record.
+// Tells whether these are the bytes of the journal with the record.
 fn has_record(bytes: &[u8]) -> bool {
     bytes.get(..51) == NO_RECORDS.get(..51)
         && bytes.get(51) == Some(&1)
         && bytes.get(52..) == Some(BODY.as_slice())
 }
 
-// Whether a crash may leave this disk, and it becomes the journal with the record.
+// Tells whether a crash may leave this disk, and it becomes the journal with the record.
 fn gets_record(left: &mut Silent) -> bool {
     may_be_left_of_growth(left.bytes()) && regrown(left).is_ok() && has_record(left.bytes())
 }

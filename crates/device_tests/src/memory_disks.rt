@@ -88,7 +88,7 @@ const CHANGES: [(Step<'static>, Result<(), Failed>); 5] = [
     (Step::Write(4, b"uv"), Ok(())),
 ];
 
-// What a crash leaves of `abcdef` after these changes.
+// Gives what a crash leaves of `abcdef` after these changes.
 const LEFT: [(Crash, &[u8]); 3] = [
     (Crash::Kept, b"apqduv"),
     (Crash::Lost, b"abcdxyz"),

@@ -1,11 +1,11 @@
-// What sinks take. Their clauses `err` and `counted` say how many faults they count.
+// Tests of sinks. Their clauses `err` and `counted` say how many faults they count.
 use hp_outside::{Failed, MemSink, Sink, StdSink};
 use std::io;
 use std::io::{ErrorKind, Write};
 use std::process::Abort;
 use std::test::Fail;
 
-// What a writer of std answers at one call.
+// The answer of a writer of std at one call.
 #[derive(Clone, Copy)]
 enum Step {
     Takes(usize),

@@ -1,11 +1,11 @@
-// What sources hand over. Their clauses `err` and `counted` say how many faults they count.
+// Tests of sources. Their clauses `err` and `counted` say how many faults they count.
 use hp_outside::{Failed, MemSource, Source, StdSource};
 use std::io;
 use std::io::{ErrorKind, Read};
 use std::process::Abort;
 use std::test::Fail;
 
-// What a reader of std answers at one call.
+// The answer of a reader of std at one call.
 #[derive(Clone, Copy)]
 enum Step {
     Gives(u8),

@@ -1,4 +1,4 @@
--- What has to be found is found where nobody else writes.
+-- The length and the last bytes are found where nobody else writes.
 use Rattle.std.proofs.Common.{◌≡◌, ℕ, zero, suc, ◌+◌, ◌-◌, ◌≤◌, List, [], ◌∷◌, ◌++◌, length, take, drop, refl, sym, ◌∙◌, ap, subst, arith, length-take, append_assoc}
 use Rattle.std.proofs.lemmas.List.{take_all, drop-append-le}
 use Rattle.std.proofs.Math.Seq.{drop-append-add, take-append_seam}

@@ -1,4 +1,4 @@
--- What a call does to a disk in memory, and what it tells of it.
+-- The effect of a call on a disk in memory, and what the disk tells of it.
 use Rattle.std.proofs.Common.{◌≡◌, inl, ℕ, ◌+◌, ◌≤◌, min, List, [], ◌∷◌, ◌++◌, length, take, Result, Ok, Err, OnOk, OnErr, sym, ◌∙◌, ap, subst, arith, length-append, length-take}
 use Rattle.hp_outside.specs.Disks.{Torn, Cut, Follows, Only, Elapses, written}
 use Rattle.hp_outside.specs.Changes.{Change, wrote, cut_to, synced, Contents, at_rest, changed, after, Placed}

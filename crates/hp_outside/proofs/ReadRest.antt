@@ -1,4 +1,4 @@
--- What a read of bytes in memory leaves of them.
+-- The bytes that a read of bytes in memory leaves.
 use Rattle.std.proofs.Common.{◌≡◌, ℕ, ◌+◌, ◌<◌, List, [], ◌++◌, take, drop, ap, take-append-drop}
 use Rattle.std.proofs.lemmas.List.{drop-drop}
 

@@ -1,4 +1,4 @@
--- What a crash leaves after one call of a disk more, and after a run of calls behind another.
+-- The bytes that a crash leaves after one call of a disk more, and after a run of calls behind another.
 use Rattle.std.proofs.Common.{inl, inr, ⊎_elim, ℕ, List, arith}
 use Rattle.hp_outside.specs.Disks.{Store, Elapses, Stays, Lawful}
 use Rattle.hp_outside.specs.Since.{LeavesOnly}

@@ -1,4 +1,4 @@
--- What a disk that tells nothing owes.
+-- The clauses that a disk that tells nothing owes.
 use Rattle.std.proofs.Common.{◌≡◌, ℕ, ◌^◌, ◌≤◌, List, length, false, Option, None, Result, IfOk, OnOk, MatchResult, refl, arith, rules, inl}
 use Rattle.std.proofs.lemmas.List.{take_all}
 use Rattle.std.specs.Prelude.{⊤}

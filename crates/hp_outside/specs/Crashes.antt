@@ -1,4 +1,4 @@
--- What a disk in memory reads after each kind of crash.
+-- The bytes that a disk in memory reads after each kind of crash.
 use Rattle.std.specs.Prelude.{◌≡◌, ◌⊎◌, ℕ, ◌+◌, ◌≤◌, ◌<◌, List, [], ◌∷◌, length, get_or}
 use Rattle.hp_outside.specs.declared.memory_disk.Crash.{Crash}
 use Rattle.hp_outside.specs.declared.memory_disk.Crash.TheVariants as crashes

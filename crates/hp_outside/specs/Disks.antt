@@ -1,4 +1,4 @@
--- What a disk holds, and what a crash may leave of it.
+-- The bytes of a disk, and those that a crash may leave of it.
 use Rattle.std.specs.Prelude.{◌≡◌, ◌⊎◌, ◌↔◌, ⊤, ℕ, ◌+◌, ◌≤◌, min, max, List, ◌++◌, length, take, drop, Option}
 
 -- a disk as far as it tells: what a read gives, what a crash now may leave, the moment (a number that

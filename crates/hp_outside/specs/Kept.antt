@@ -1,4 +1,4 @@
--- What has to be found in a file that was written.
+-- The length and the last bytes that have to be found in a file that was written.
 use Rattle.std.specs.Prelude.{◌≡◌, ℕ, ◌+◌, ◌-◌, max, List, length, take, drop}
 
 -- the length of a file by its own writes and cuts, and the end of the piece that was written last, with its place

@@ -1,4 +1,4 @@
--- What a disk in memory reads, with the space for it.
+-- The bytes that a disk in memory reads, with the space for them.
 use Rattle.std.specs.Prelude.{ℕ}
 use Rattle.hp_outside.specs.Changes.{Contents}
 

@@ -1,4 +1,4 @@
--- What a crash might have left since a moment.
+-- The bytes that a crash might have left since a moment.
 use Rattle.std.specs.Prelude.{◌⊎◌, ℕ, ◌≤◌, List, IfSome}
 use Rattle.hp_outside.specs.Disks.{Store, Only}
 

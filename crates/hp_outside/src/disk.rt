@@ -9,7 +9,7 @@ use crate::Failed;
 /// that tells its bytes keeps telling them, and one that does not never does.
 /// Of each call: `Failed` comes only where the count of faults rose, or stands at its type's end.
 pub trait Disk {
-    /// What it holds and what a crash may leave, where it tells them, and its clock.
+    /// The bytes that it holds and those that a crash may leave, where it tells them, and its clock.
     ghost store: { Self → Store };
 
     /// How far it may be read: to the length last told, and to no more than each later cut.

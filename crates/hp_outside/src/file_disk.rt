@@ -188,7 +188,7 @@ where
         Ok(())
     }
 
-    // What a call answers: one that was refused is counted, and it is noted why.
+    // Gives the answer of a call: one that was refused is counted, and it is noted why.
     fn answered<T>(&mut self, outcome: Result<T, Refused>) -> Result<T, Failed>
         ensures value { IfOk result (λ value. outcome ≡ Ok value) }
         ensures same { is_ok result ≡ is_ok outcome }

@@ -9,7 +9,7 @@ use std::io::{Read, Seek, SeekFrom, Write};
 /// A file of bytes, and the place in it from which on the next call reads or writes. A file that tells its bytes keeps telling
 /// them, and one that does not never does.
 pub trait FileLike {
-    /// What it holds and what a crash may leave, where it tells them, and its clock.
+    /// The bytes that it holds and those that a crash may leave, where it tells them, and its clock.
     ghost store: { Self → Store };
 
     /// The place to which it was last told to go.

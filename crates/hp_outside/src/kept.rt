@@ -1,4 +1,4 @@
-// What the writes and cuts of a file have led to.
+// The length and the last bytes that the writes and cuts of a file have led to.
 ghost use Rattle.std.specs.Prelude.{◌≡◌, ◌≤◌, ◌+◌, ◌^◌, [], List, ℕ, length, take};
 ghost use Rattle.hp_outside.specs.Disks.{written};
 ghost use Rattle.hp_outside.specs.Kept.{KeptEnd, IsKept, after_write, after_cut};
@@ -54,7 +54,7 @@ impl Kept {
         self.at
     }
 
-    /// What was written last, or its end.
+    /// The piece that was written last, or its end.
     pub(crate) fn last(&self) -> &[u8]
         ensures value { result.now ≡ self.now.last }
         ensures few { length result.now ≤ 64 }
@@ -103,7 +103,7 @@ fn ending(piece: &[u8]) -> (usize, [u8; MOST])
     (piece.len(), last)
 }
 
-/// What has to be found is found behind a write and behind a cut, where nobody else changes the file.
+/// The length and the last bytes are found behind a write and behind a cut, where nobody else changes the file.
 pub(crate) fn found_behind_changes()
     ensures write { (kept : KeptEnd) (bytes : List ℕ) (at : ℕ) (piece : List ℕ) → at ≤ length bytes
         → IsKept kept bytes → IsKept (after_write kept at piece) (written bytes at piece) }

@@ -1,8 +1,8 @@
-// What the objects in memory share.
+// Functions that the objects in memory share.
 ghost use Rattle.std.specs.Prelude.{◌≡◌, ◌↔◌, ◌≤◌, ◌+◌, length, replicate, vec_len, vec_capacity, IsTrue, Contains};
 ghost use Rattle.hp_outside.specs.Disks.{written};
 
-// Whether the call of this number is one of those that fail.
+// Tells whether the call of this number is one of those that fail.
 pub(crate) fn is_listed(fail: &[u64], call: u64) -> bool
     ensures { IsTrue result ↔ Contains fail.now call }
 {

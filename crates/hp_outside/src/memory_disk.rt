@@ -18,7 +18,7 @@ use readings::Readings;
 use std::alloc::Global;
 use std::marker::Model;
 
-/// What a crash does to what was written and cut since the last sync.
+/// The effect of a crash on what was written and cut since the last sync.
 #[derive(Clone, Copy, Debug, PartialEq, Eq)]
 pub enum Crash {
     /// All of it stays.
@@ -134,7 +134,7 @@ impl MemDisk {
         MemDisk::new(alloc, bytes, Vec::new(alloc), room, changes)
     }
 
-    // What a read gives after a crash.
+    // Gives what a read gives after a crash.
     fn left(&self, how: Crash) -> &[u8]
         ensures bytes { result.now ≡ left_by how self.now }
         ensures image { Image self.now.log self.now.initial result.now }
@@ -156,21 +156,21 @@ impl MemDisk {
         }
     }
 
-    // Whether the next call fails, whatever it is.
+    // Tells whether the next call fails, whatever it is.
     fn refuses(&self) -> bool
         ensures { IsTrue result ↔ CallFails self.now }
     {
         is_listed(&self.fail, self.calls) || self.is_stopped()
     }
 
-    // Whether the next call fails if it is a cut or a sync.
+    // Tells whether the next call fails if it is a cut or a sync.
     fn refuses_change(&self) -> bool
         ensures { IsTrue result ↔ ChangeFails self.now }
     {
         self.refuses() || self.history.is_full()
     }
 
-    // Whether the next call fails if it is a write of a piece of this length.
+    // Tells whether the next call fails if it is a write of a piece of this length.
     fn refuses_write(&self, len: usize) -> bool
         ensures { IsTrue result ↔ WriteFails self.now len }
     {

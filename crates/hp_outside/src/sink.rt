@@ -169,7 +169,7 @@ impl MemSink {
         self.bytes.as_slice()
     }
 
-    // Whether the next write of a piece of this length fails.
+    // Tells whether the next write of a piece of this length fails.
     fn refuses(&self, len: usize) -> bool
         ensures { IsTrue result ↔ WriteFails self.now len }
     {
@@ -188,7 +188,7 @@ impl Sink for MemSink {
         ensures bytes { Takes (Some self.old.taken) (Some self.new.taken) result piece.now }
         ensures cause { HasCause self.old.faults self.new.faults result }
 
-        // What the sink in memory does exactly.
+        // The exact effect on the sink in memory.
         ensures fails { IsErr result ↔ WriteFails self.old (length piece.now) }
         ensures count { IfOk result (λ n. n ≡ count_written self.old (length piece.now)) }
         ensures ok { IfOk result (λ n. self.new ≡ after_write self.old (take n piece.now)) }

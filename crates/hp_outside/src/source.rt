@@ -137,7 +137,7 @@ impl Source for MemSource {
         ensures bytes { ReadConsumes (Some self.old.left) (Some self.new.left) result buf.new }
         ensures cause { HasCause self.old.faults self.new.faults result }
 
-        // What the bytes in memory do exactly.
+        // The exact effect on the bytes in memory.
         ensures fails { IsErr result ↔ ReadFails self.old }
         ensures count { IfOk result (λ n. n ≡ count_read self.old (length buf.old)) }
         ensures copied { IfOk result (λ n. buf.new ≡ take n self.old.left ++ drop n buf.old) }

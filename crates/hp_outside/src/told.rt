@@ -1,4 +1,4 @@
-// What the objects over std tell over its bytes in memory, by what each source and each sink promises.
+// The objects over std, over its bytes in memory, by the promises of each source and each sink.
 ghost use Rattle.std.specs.Prelude.{◌≡◌, ◌≤◌, ◌<◌, ◌++◌, ℕ, List, [], length, take, IfOk, OnErr};
 ghost use Rattle.std.specs.Io.KnownBytes.{ReadConsumes};
 ghost use Rattle.hp_outside.specs.Causes.{Takes};
@@ -17,7 +17,7 @@ fn write_any<S: Sink>(sink: &mut S, piece: &[u8]) -> Result<usize, Failed>
     sink.write(piece)
 }
 
-// What is read over a slice is the front of it, and nothing is read where nothing is there.
+// The bytes that are read over a slice are the front of it, and nothing is read where nothing is there.
 pub(crate) fn read_slice(bytes: &[u8], buf: &mut [u8]) -> Result<usize, Failed>
     ensures front { IfOk result (λ n. (rest : List ℕ) × (bytes.now ≡ take n buf.new ++ rest)) }
     ensures end { IfOk result (λ n. n ≡ 0 → 0 < length buf.new → bytes.now ≡ []) }
@@ -25,7 +25,7 @@ pub(crate) fn read_slice(bytes: &[u8], buf: &mut [u8]) -> Result<usize, Failed>
     read_any(&mut StdSource::new(bytes), buf)
 }
 
-// What is written over a vector stands behind its bytes: so much as it took, or a front of it where the call fails.
+// The piece that is written over a vector stands behind its bytes: so much as it took, or a front of it where the call fails.
 pub(crate) fn write_vec(sink: &mut StdSink<Vec<u8>>, piece: &[u8]) -> Result<usize, Failed>
     ensures ok { IfOk result (λ n. sink.new.inner.items ≡ sink.old.inner.items ++ take n piece.now) }
     ensures some { IfOk result (λ n. 0 < length piece.now → 0 < n) }

@@ -27,7 +27,7 @@ impl<D: Disk> DiskFile<D> {
     }
 }
 
-// What a call of a disk answers, as that of a file.
+// Gives the answer of a file's call as that of a disk.
 fn answered<T>(outcome: Result<T, Failed>) -> io::Result<T>
     ensures ok { IfOk result (λ value. outcome ≡ Ok value) }
 {

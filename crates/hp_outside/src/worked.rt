@@ -2,7 +2,7 @@
 ghost use Rattle.std.specs.Prelude.{◌≡◌, [], ◌∷◌};
 ghost use Rattle.hp_outside.specs.Changes.{wrote, cut_to, synced, at_rest, after, Image};
 
-// What changes leave of the bytes `abcdef`, and of `abc`.
+// The bytes that changes leave of `abcdef`, and of `abc`.
 pub(crate) fn worked_rows()
     ensures contents { after (wrote 4 (120 ∷ 121 ∷ 122 ∷ []) ∷ synced ∷ wrote 1 (112 ∷ 113 ∷ [])
         ∷ cut_to 5 ∷ []) (at_rest (97 ∷ 98 ∷ 99 ∷ 100 ∷ 101 ∷ 102 ∷ [])) ≡ record {

@@ -1,4 +1,4 @@
--- What the report of a task is, and that it is sound.
+-- The report of a task is the one that is defined, and it is sound.
 use Rattle.std.proofs.Common.{◌≡◌, ℕ, true, List, length, Option, IfSome, IfOk, Result, Ok, Err, refl, sym, ap, ◌∙◌, subst}
 use Rattle.hp_problem.specs.declared.refusal.Refusal.{Refusal}
 use Rattle.hp_problem.specs.Sealed.{Sealed, is_sealed}

@@ -1,4 +1,4 @@
--- What holds of each text that a description gives holds of the one that code answers.
+-- A property of each text that a description gives holds of the one that code answers.
 use Rattle.std.proofs.Common.{◌≡◌, ℕ, List, IfOk, Result, Ok, Err}
 use Rattle.hp_plants.specs.Steps.{Gives}
 use Rattle.hp_plants.specs.declared.refusal.HydroFault.{HydroFault}

@@ -1,4 +1,4 @@
--- What the report of a verdict is, and why there is none.
+-- The report of a verdict is the one that is defined, or there is a reason why there is none.
 use Rattle.std.proofs.Common.{◌≡◌, ◌∙◌, ℕ, ◌≤ℤ◌, true, List, length, Option, IfSome, Result, Ok, sym, ap}
 use Rattle.sha2.specs.Sha256.{sha256}
 use Rattle.hp_fields.specs.Steps.{◌>>=◌}

@@ -1,4 +1,4 @@
--- What comes of a task that reads the weights that a problem lists, and the planes that they give.
+-- The outcome of a task that reads the weights that a problem lists, and the planes that they give.
 use Rattle.std.proofs.Common.{◌≡◌, ◌∙◌, ℕ, true, List, length, Option, Some, None, IfSome, Result, Ok, Err, refl, sym, ap, subst}
 use Rattle.sha2.specs.Sha256.{sha256}
 use Rattle.hp_fields.specs.Steps.{◌>>=◌}

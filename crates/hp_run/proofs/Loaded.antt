@@ -1,4 +1,4 @@
--- What comes of a task that loads a journal and makes decisions over its pools, unless a formula is above its limit.
+-- The outcome of a task that loads a journal and makes decisions over its pools, unless a formula is above its limit.
 use Rattle.std.proofs.Common.{◌≡◌, ◌∙◌, ℕ, List, Option, Some, None, IfSome, Result, Ok, Err, IfErr, refl, ap, subst}
 use Rattle.sha2.specs.Sha256.{sha256}
 use Rattle.hp_fields.specs.Steps.{◌>>=◌}

@@ -1,4 +1,4 @@
--- What was written of a problem means what its file means.
+-- The lines that were written of a problem claim what holds of its file.
 use Rattle.std.proofs.Common.{◌≡◌, ◌↔◌, ℕ, ◌<◌, ℤ, List, get_or, slice_get, Option, Some, None, IfSome, IsSome, IsSomeAnd, IsOk, Result, Ok, Err, refl, sym, ap, subst, ◌∙◌}
 use Rattle.std.proofs.lemmas.List.Elements.{All-weaker}
 use Rattle.std.proofs.lemmas.Option.{slice_get-get_or}

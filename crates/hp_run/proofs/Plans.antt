@@ -1,4 +1,4 @@
--- What `hydro` wrote means what the description says, and bounds of its problem are bounds on plans.
+-- The text that `hydro` wrote means what the description says, and bounds of its problem are bounds on plans.
 use Rattle.std.proofs.Common.{◌≡◌, ℕ, List, Option, Some, None, IfSome, Ok}
 use Rattle.std.specs.Prelude.{codes}
 use Rattle.std.proofs.lemmas.List.Elements.{All-weaker}

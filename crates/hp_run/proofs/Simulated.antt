@@ -1,4 +1,4 @@
--- What the report of scenarios is, and why there is none.
+-- The report of scenarios is the one that is defined, or there is a reason why there is none.
 use Rattle.std.proofs.Common.{◌≡◌, ◌∙◌, ℕ, true, List, length, Option, Some, IfSome, Result, Ok, IfErr, sym, ap}
 use Rattle.sha2.specs.Sha256.{sha256}
 use Rattle.hp_fields.specs.Steps.{◌>>=◌}

@@ -1,4 +1,4 @@
--- What a run of a task that is Done wrote.
+-- The text that a run of a task wrote that is Done.
 use Rattle.std.proofs.Common.{◌≡◌, ℕ, List, Option, Some, IfSome, subst}
 use Rattle.std.specs.Io.KnownBytes.{Appends}
 use Rattle.hp_run.specs.Causes.{Ends, IfWritten, Sounds}

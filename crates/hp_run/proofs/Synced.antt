@@ -1,4 +1,4 @@
--- What a crash leaves of the journal while it is synced, and while training goes on from there.
+-- The bytes that a crash leaves of the journal while it is synced, and while training goes on from there.
 use Rattle.std.proofs.Common.{◌≡◌, ℕ, ◌≤◌, List, Option, IfSome, arith, subst, sym, ◌∙◌}
 use Rattle.hp_outside.specs.Disks.{Store, Lawful, Elapses}
 use Rattle.hp_outside.specs.Since.{LeavesOnly}

@@ -1,4 +1,4 @@
--- What is refused of a problem is what the first check finds.
+-- The refusal of a problem is the one that the first check finds.
 use Rattle.std.proofs.Common.{◌≡◌, ℕ, List, [], ◌++◌, codes, Some, Result, Ok, Err, refl, sym, ap, subst, ◌∙◌}
 use Rattle.std.proofs.lemmas.List.{append_assoc}
 use Rattle.serde_json.specs.Data.{Data, Items, Members}

@@ -1,4 +1,4 @@
--- What is refused of the graph, and of the weights that a problem lists, is what its checks find first.
+-- The refusal of the graph, and of the weights that a problem lists, is the one that its checks find first.
 use Rattle.std.proofs.Common.{◌≡◌, ℕ, suc, ℤ, List, [], ◌∷◌, length, nat_le, codes, slice_get, Option, Some, None, Result, Ok, Err, refl, sym, ap}
 use Rattle.serde_json.specs.Data.{Data, Items, Members}
 use Rattle.serde_json.specs.Events.{items_len}

@@ -1,4 +1,4 @@
--- What was left of the journal where the report could not be written whole.
+-- The journal that is left where the report could not be written whole.
 use Rattle.std.proofs.Common.{ℕ, List, Option, IfSome, refl}
 use Rattle.std.specs.Io.KnownBytes.{Consumes, IsAtEnd}
 use Rattle.hp_outside.specs.Disks.{Store}

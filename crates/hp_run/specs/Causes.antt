@@ -1,4 +1,4 @@
--- What each status says of the words, the source, the disk and the sink.
+-- The causes of each status: its claims on the words, the source, the disk and the sink.
 use Rattle.std.specs.Prelude.{◌≡◌, ◌⊎◌, ℕ, ◌+◌, ◌^◌, ◌≤◌, List, Bool, true, false, length, take, Option, Some, None, IfSome, IsOk, Result, Ok, Err, nat_le, if◌then◌else◌, ⊤}
 use Rattle.std.specs.Io.KnownBytes.{Appends, Consumes, IsAtEnd, Keeps}
 use Rattle.hp_outside.specs.Causes.{Rose}
@@ -179,7 +179,7 @@ IfWritten P e (NoStage dead) = ⊤
 IfWritten P e DiskFault = ⊤
 IfWritten P e Memory = ⊤
 
--- What was written is sound, over any disk: a report of the problem that the source held, each line of it sound; or the problem that a
+-- Each text that was written is sound, over any disk: a report of the problem that the source held, each line of it sound; or the problem that a
 -- description means, or a generated one, in which no cut and no bound stands, and which the program accepts.
 abbrev pub Sounds : Option Job → Ends → Status → Type 0
 Sounds None e status = ⊤

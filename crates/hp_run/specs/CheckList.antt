@@ -1,4 +1,4 @@
--- What is checked of a problem file, in this order. docs/FORMAT.md has the same list in words.
+-- The checks of a problem file, in their order. docs/FORMAT.md has the same list in words.
 use Rattle.std.specs.Prelude.{ℕ, suc, ◌==◌, List, [], ◌∷◌, ◌++◌, length, None, option_map, nat_le, codes, position, if◌then◌else◌}
 use Rattle.std.specs.Str.{bytes_eq}
 use Rattle.serde_json.specs.Events.{items_len, members_len}

@@ -1,4 +1,4 @@
--- What is checked of a description, in this order. docs/FORMAT.md has the same list in words.
+-- The checks of a description, in their order. docs/FORMAT.md has the same list in words.
 use Rattle.std.specs.Prelude.{ℕ, List, [], ◌∷◌, ◌++◌, Option, codes, pos}
 use Rattle.serde_json.specs.Data.{Data, Items, Members}
 use Rattle.serde_json.specs.Events.{items_len}

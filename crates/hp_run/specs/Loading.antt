@@ -1,4 +1,4 @@
--- What code answers that loads a journal, unless a formula is above its limit, and then makes decisions.
+-- The answers of code that loads a journal, unless a formula is above its limit, and then makes decisions.
 use Rattle.std.specs.Prelude.{◌≡◌, Result, Err, ⊤}
 use Rattle.hp_forward.specs.declared.deciding.StageFault.{StageFault}
 use Rattle.hp_forward.specs.declared.deciding.StageFault.TheVariants as stages

@@ -1,4 +1,4 @@
--- What the bytes of a problem and of a journal give.
+-- The problem and the report that the bytes of a problem and of a journal give.
 use Rattle.std.specs.Prelude.{◌≡◌, ℕ, ◌+◌, List, ◌++◌, length, max, Option, Some, None, Result, Ok, Err, ⊤}
 use Rattle.sha2.specs.Sha256.{sha256}
 use Rattle.hp_problem.specs.declared.refusal.Refusal.{Refusal}

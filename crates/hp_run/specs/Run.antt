@@ -1,4 +1,4 @@
--- What a run is: one record, with a name for each thing that is promised.
+-- A run of the program: one record, with a name for each thing that is promised.
 use Rattle.std.specs.Prelude.{◌≡◌, ◌⊎◌, ℕ, ℤ, true, false, List, String, ◌++◌, codes, take, All, Option, None, Some, IfSome, MatchOption, ⊤}
 use Rattle.std.specs.declared.alloc.Global.{Global}
 use Rattle.std.specs.Io.KnownBytes.{Appends}
@@ -110,7 +110,7 @@ abbrev pub Shows : List ℕ → Option (List ℕ) → Option (List ℕ) → ℕ 
 Shows text taken taken_now writes writes_now status =
     ((status ≡ Done) × Appends taken taken_now text) ⊎ ((status ≡ WriteFault) × Rose writes writes_now × TakesFront taken taken_now text)
 
--- What the program does on its words: the words that ask what it is are answered, and nothing is read; others are run, unless there is
+-- The program on its words: the words that ask what it is are answered, and nothing is read; others are run, unless there is
 -- no memory for the name of the journal, and then nothing is read or written.
 abbrev pub Answers : {I O : Type 0} → (I → Option (List ℕ)) → (O → Option (List ℕ)) → List (String Global) → Counted I → Counted I → Counted O → Counted O → Status → Type 0
 Answers remaining contents words problem problem_now out out_now status = MatchOption (text_asked (texts words))
@@ -125,7 +125,7 @@ fresh inner = record { inner = inner; faults = 0 }
 abbrev pub CannotStart : Status → Type 0
 CannotStart status = (status ≡ Usage) ⊎ ((status ≡ Memory) ⊎ (status ≡ WriteFault))
 
--- What the program does over a reader and a writer, which are its own from then on: it answers some words, those of the command line, of which
+-- The program over a reader and a writer, which are its own from then on: it answers some words, those of the command line, of which
 -- std says nothing, or it cannot start.
 abbrev pub Starts : {I O : Type 0} → (I → Option (List ℕ)) → (O → Option (List ℕ)) → I → O → Status → Type 0
 Starts {I} {O} remaining contents input output status = CannotStart status

@@ -1,4 +1,4 @@
--- What there is in the bytes of a problem, part by part. A part is there where what it is read from is there and its own reading refuses
+-- The parts that there are in the bytes of a problem. A part is there where what it is read from is there and its own reading refuses
 -- nothing; what stands before it in the file, and is not needed for it, may be refused.
 use Rattle.std.specs.Prelude.{ℕ, List, [], length, slice_get, Option, Some, None, Result, codes, position}
 use Rattle.std.specs.Str.{bytes_eq}

@@ -1,4 +1,4 @@
--- What code that trains on a journal answers.
+-- The answers of code that trains on a journal.
 use Rattle.std.specs.Prelude.{◌≡◌, Option, Some, None, Result, Ok, Err, ⊤}
 use Rattle.hp_backward.specs.declared.fault.SweepFault.{SweepFault}
 use Rattle.hp_backward.specs.declared.fault.SweepFault.TheVariants as sweeps

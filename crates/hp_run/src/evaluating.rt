@@ -34,7 +34,7 @@ use hp_tree::{Verdict, evaluate, too_big, verdict_report};
 use sha2::{Digest, Sha256};
 use std::alloc::Global;
 
-/// What is said of the whole policy over these pools, once the solver has made ready for each node.
+/// Gives the verdict on the whole policy over these pools, once the solver has made ready for each node.
 fn verdict_of<V: Solver>(
     alloc: Global,
     problem: &Problem,

@@ -1,4 +1,4 @@
-// What the program says of itself.
+// The texts behind `--help` and `--version`.
 ghost use Rattle.std.specs.Prelude.{◌≡◌, option_map};
 ghost use Rattle.hp_words.specs.Commands.{texts};
 ghost use Rattle.hp_run.specs.Words.{text_asked};

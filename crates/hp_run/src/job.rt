@@ -1,11 +1,11 @@
-// What the program is asked to do.
+// The jobs that the words of the command line ask for.
 ghost use Rattle.std.specs.Prelude.{◌≡◌, IfSome};
 ghost use Rattle.hp_run.specs.Words.{IsJobWithin, asked, job_of};
 
 use crate::task::Task;
 use hp_words::{Command, read_words};
 
-/// What the program does.
+/// A job of the program.
 #[derive(Clone, Copy, Debug, PartialEq, Eq)]
 pub enum Job {
     /// A task over the problem that the source holds.
@@ -44,7 +44,7 @@ fn job_of(command: Command) -> Job
     }
 }
 
-/// What the words ask for, where they are a command.
+/// Gives the job that the words ask for, where they are a command.
 #[tactic(auto, unfolding(crate::specs::Words::asked))]
 pub(crate) fn asked(words: &[String]) -> Option<Job>
     ensures value { result ≡ asked words.now }

@@ -30,7 +30,7 @@ pub fn bounds_of_plans()
         → hydro_at description ≡ Ok problem → SoundText task problem text → PlanLines description text }
 {}
 
-/// What `hydro` writes for a description is a problem file whose policies are the workable plans for what is described:
+/// The text that `hydro` writes for a description is a problem file whose policies are the workable plans for what is described:
 /// each comes with one of the other that costs the same.
 pub fn described_file()
     ensures { (description text : List ℕ)
@@ -71,7 +71,7 @@ pub fn first_refusal()
     ensures none_before { (task : Task) (bytes : List ℕ) (r : Refusal) → IsRefused task bytes r ↔ IsFirst (checks_of task bytes) bytes r }
 {}
 
-/// The same of a description: which refusal of `hydro` comes is what the first check finds that finds something.
+/// Of a description likewise: the refusal of `hydro` is the one that the first check finds that finds something.
 pub fn first_hydro_refusal()
     ensures { (bytes : List ℕ) (r : HydroRefusal) → (hydro_at bytes ≡ Err r) ↔ IsFirst (hydro_checks bytes) bytes r }
 {}

@@ -1,4 +1,4 @@
-//! What the program does with its words, a problem and a sink.
+//! The program: its words, a problem, a journal and a sink.
 #![tactic(auto)]
 
 mod describing;

@@ -22,7 +22,7 @@ use hp_outside::Disk;
 use hp_problem::{Problem, TooMuch};
 use std::alloc::Global;
 
-/// What was loaded, with its pools made ready for stage problems. [`Memory`] where memory was refused.
+/// Makes the loaded pools ready for stage problems. [`Memory`] where memory was refused.
 pub(crate) fn prepared(alloc: Global, problem: &Problem, loaded: Loaded) -> Result<Loaded, Memory>
     requires { Fit (problem_of problem.now) (length problem.now.raw.nodes) loaded.pools.lists }
     ensures { IfOk result (λ l. l ≡ loaded) }
@@ -32,7 +32,7 @@ pub(crate) fn prepared(alloc: Global, problem: &Problem, loaded: Loaded) -> Resu
     Ok(loaded)
 }
 
-/// What was loaded, unless a formula is above its limit.
+/// Gives back what was loaded, unless a formula is above its limit.
 fn unless_much(formula: Option<TooMuch>, loaded: Loaded) -> Result<Loaded, LoadFault>
     ensures value { GivesOr NotLoaded seen result (unless_much formula (seen loaded)) }
     ensures same { IfOk result (λ l. l ≡ loaded) }

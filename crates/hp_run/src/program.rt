@@ -146,7 +146,8 @@ fn obstacle_line(obstacle: Obstacle) -> &'static [u8] {
         Obstacle::NoFile => b"hydroplan: the journal is no regular file\n",
         Obstacle::Folder => b"hydroplan: the journal's folder cannot be opened\n",
         Obstacle::Held => b"hydroplan: another run writes this journal\n",
-        Obstacle::Changed => b"hydroplan: the journal was removed or changed while it was written\n",
+        Obstacle::Changed =>
+            b"hydroplan: the journal was removed or changed while it was written\n",
     }
 }
 

@@ -32,7 +32,7 @@ use std::alloc::Global;
 pub(crate) enum Scenarios {
     /// So many, drawn by a seed.
     Drawn { seed: u64, count: u32 },
-    /// Those that the problem stores.
+    /// The scenarios that the problem stores.
     Stored,
 }
 

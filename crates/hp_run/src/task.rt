@@ -1,6 +1,6 @@
 // The tasks over a problem.
 
-/// What the program does with a problem and a journal.
+/// A task over a problem and a journal.
 #[derive(Clone, Copy, Debug, PartialEq, Eq)]
 pub enum Task {
     /// The report of the base cuts of a problem.

@@ -1,4 +1,4 @@
-// What a run says over std's bytes in memory.
+// A run over std's bytes in memory.
 ghost use Rattle.std.specs.Prelude.{◌≡◌, ◌++◌, ℕ, List, Some};
 ghost use Rattle.hp_run.specs.SoundText.{SoundText};
 ghost use Rattle.hp_run.specs.Words.{asked};

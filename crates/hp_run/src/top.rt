@@ -77,7 +77,7 @@ pub fn run_safe<R: Threads + Sync, D: Disk, O: Sink>(
     run(rt, alloc, words, problem, journal, out)
 }
 
-// The same, promise by promise.
+// Like `run_with`, with a clause for each promise.
 fn acted<R: Threads + Sync, I: Source, D: Disk, O: Sink, V: Solver>(
     rt: &R,
     alloc: Global,

@@ -44,7 +44,7 @@ use sha2::{Digest, Sha256};
 use std::alloc::Global;
 use std::thread::Threads;
 
-/// What is asked of training: the seed, how many iterations there are to be in all, and perhaps the paths of each.
+/// The words behind `train`: the seed, how many iterations there are to be in all, and perhaps the paths of each.
 #[derive(Clone, Copy, Debug, PartialEq, Eq)]
 pub(crate) struct Asked {
     pub(crate) seed: u64,

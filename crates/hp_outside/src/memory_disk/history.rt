@@ -78,7 +78,7 @@ impl History {
         self.changes
     }
 
-    // Whether a piece of this length would pass the room.
+    // Tells whether a piece of this length would pass the room.
     pub(crate) fn lacks_room(&self, len: usize) -> bool
         ensures { IsTrue result ↔ (self.now.room < self.now.taken + len) }
     {

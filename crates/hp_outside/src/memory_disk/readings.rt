@@ -1,4 +1,4 @@
-// What a disk in memory reads, now and after a crash.
+// The bytes that a disk in memory reads, now and after a crash.
 ghost use Rattle.std.specs.Prelude.{◌≡◌, ◌≤◌, ◌+◌, length, replicate, vec_len, vec_capacity, IfOk};
 ghost use Rattle.hp_outside.specs.Disks.{written};
 ghost use Rattle.hp_outside.specs.Changes.{wrote, cut_to, synced, at_rest, changed};
@@ -8,10 +8,10 @@ use hp_num::Memory;
 use std::alloc::Global;
 use std::marker::Model;
 
-// What a torn write leaves in each of its places.
+// The byte that a torn write leaves in each of its places.
 const TORN: u8 = 165;
 
-// What a read gives, and what it gives after each kind of crash, in memory that is taken when they
+// The bytes of a read, now and after each kind of crash, in memory that is taken when they
 // are made.
 #[derive(Drop)]
 pub(crate) struct Readings {

@@ -1,4 +1,4 @@
--- What a crash may not leave differs in a byte or in its length from all that it may.
+-- Bytes that a crash may not leave differ in a byte or in their length from all that it may.
 use Rattle.std.proofs.Common.{inr, ⊎_elim, List, ℕ, [], ◌∷◌, take, length, get_or, refl, ap, arith, ◌∙◌}
 use Rattle.hp_outside.proofs.worked.worked_rows.Goals as goal
 

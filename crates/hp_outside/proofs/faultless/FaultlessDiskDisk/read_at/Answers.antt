@@ -4,7 +4,7 @@ use Rattle.hp_outside.specs.Faultless.{FrontDisk, read_of}
 use Rattle.hp_outside.proofs.Zeros.{drop_inside, over_zeros}
 use Rattle.hp_outside.proofs.faultless.FaultlessDiskDisk.read_at.Goals as goal
 
--- What is copied is what is kept from the place on, over zeros.
+-- The copied bytes are those kept from the place on, over zeros.
 pub returns-clause-value : goal.returns-clause-value
 returns-clause-value c =
     let kept = c.self.inside.kept.items in

@@ -1,4 +1,4 @@
--- What a disk in memory does exactly is what a disk owes.
+-- The exact effect of calls of a disk in memory is what a disk owes.
 use Rattle.std.proofs.Common.{◌≡◌, List, ℕ, ◌≤◌, min, length, take, Some, refl, ap, arith}
 use Rattle.hp_outside.specs.Disks.{Torn, Cut, Follows, Elapses, Only, written}
 use Rattle.hp_outside.specs.Changes.{cut_to, synced}
