@@ -1,7 +1,12 @@
-use Rattle.std.proofs.Common.{inr, subst}
+use Rattle.std.proofs.Common.{inl, inr, refl, subst}
 use Rattle.hp_outside.specs.Counted.{Counted}
 use Rattle.hp_run.specs.Run.{Answers, fresh}
+use Rattle.hp_run.specs.declared.status.Status.TheVariants as statuses
 use Rattle.hp_run.proofs.program.start.Goals as goal
+
+-- the streams cannot be made sure of
+pub returns-in_default : goal.returns-in_default
+returns-in_default g c = (statuses.WriteFault, c.ended.ensures.number, inl (inr (inr refl)))
 
 -- the words were had, and the reader and the writer are those that were given
 pub returns-in-Ok-words_given : goal.returns-in-Ok-words_given
