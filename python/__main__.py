@@ -5,7 +5,7 @@ come in its place.
 """
 import sys
 
-from hydroplan.__main__ import main
+from hydroplan.__main__ import run
 
 if __name__ == "__main__":
-    sys.exit(main(sys.argv[1:]))
+    sys.exit(run(sys.argv[1:]))

@@ -30,8 +30,6 @@ def main(words: Sequence[str]) -> int:
     name, rest = (words[0], words[1:]) if words else ("", words)
     if name in OF_THE_SCRIPT:
         return _main_of(OF_THE_SCRIPT[name])(*rest)
-    if name in (*TOOLS, "report", "export"):
-        _end_with_the_reader()
     needed = libraries_of(name, rest)
     if needed and not _has(name, needed, words):
         return 1
@@ -43,6 +41,13 @@ def main(words: Sequence[str]) -> int:
         return _run_package(PACKAGES_WITH_COMMANDS[name], words)
     print(f"usage: python3 -m hydroplan {'|'.join([*PACKAGES, *PACKAGES_WITH_COMMANDS, *TOOLS])} ..", file=sys.stderr)
     return 2
+
+
+def run(words: Sequence[str]) -> int:
+    """Runs a command as `main` does, in a process of its own: where nobody reads any more what it prints, that ends without a word."""
+    if words and words[0] in (*TOOLS, "report", "export"):
+        _end_with_the_reader()
+    return main(words)
 
 
 def libraries_of(name: str, rest: Sequence[str]) -> tuple[str, ...]:
@@ -95,4 +100,4 @@ def _run_package(package: str, words: Sequence[str]) -> int:
 
 
 if __name__ == "__main__":
-    sys.exit(main(sys.argv[1:]))
+    sys.exit(run(sys.argv[1:]))

@@ -1,6 +1,7 @@
 """Which libraries a command needs, and in which interpreter it runs; tests/script runs the commands themselves."""
 import contextlib
 import io
+import signal
 import sys
 import unittest
 from unittest import mock
@@ -56,6 +57,12 @@ class Interpreters(unittest.TestCase):
         with mock.patch.dict(commands.LIBRARIES, {"report": ("no_such_library",)}), contextlib.redirect_stderr(errors):
             self.assertEqual(commands.main(["report", "R"]), 1)
         self.assertRegex(errors.getvalue(), r"\Ahydroplan: report needs no_such_library, which \S+ has not got: .* for /usr/bin/python3\n\Z")
+
+    def test_a_caller_keeps_its_signals(self):
+        """Whoever calls `main` writes to pipes of its own, and would be ended where nobody reads one."""
+        with mock.patch.dict(commands.LIBRARIES, {"report": ("no_such_library",)}), contextlib.redirect_stderr(io.StringIO()):
+            commands.main(["report", "R"])
+        self.assertEqual(signal.getsignal(signal.SIGPIPE), signal.SIG_IGN)
 
 
 if __name__ == "__main__":
