@@ -238,7 +238,7 @@ class Liars(Folder):
 
     def test_silence(self) -> None:
         """It is busy with its first order for ever, so it is asked once."""
-        self.assert_named(lambda order, answer: RUNNING, "it is silent after", seconds=0.3, refused=1)
+        self.assert_named(lambda order, answer: RUNNING, "it is silent after", seconds=3, refused=1)
 
     def test_an_exception(self) -> None:
         self.assert_named(lambda order, answer: FAILED, "its answer is no bytes")
@@ -270,7 +270,7 @@ class Liars(Folder):
     def test_only_liars(self) -> None:
         """Nobody is left to ask: what was proved stays, and the run ends."""
         with self.assertRaisesRegex(FarmError, "no worker is left"):
-            farmed(example(self.NAME), self.room / "journal", PlainEngine("ab", {"a": tampered(8), "b": tampered(8)}), 9, 2, seconds=0.5)
+            farmed(example(self.NAME), self.room / "journal", PlainEngine("ab", {"a": tampered(8), "b": tampered(8)}), 9, 2, seconds=3)
         self.assertIn("total iterations 0", ran(example(self.NAME), "check", str(self.room / "journal")))
 
     def test_refusals_are_kept(self) -> None:
