@@ -1,6 +1,6 @@
 """The optima of examples/README.md, and the blocks of docs/MODELS.md.
 
-Those of Python are run in one namespace, and those of text have what the block before them printed.
+Blocks of Python are run in one namespace, and blocks of text have what the block before them printed.
 """
 from __future__ import annotations
 

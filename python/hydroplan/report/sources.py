@@ -73,7 +73,7 @@ def _bus_of(study: ShownStudy, series: Series) -> Optional[str]:
 def _of_kind(study: ShownStudy, sums: Sums, kind: str, found: Sequence[Series]) -> List[Source]:
     """The sources of a kind: one by one where they are few in the whole study, else the largest ones and the others together.
 
-    What is largest, and so has which colour, is taken from the whole study, also where a bus is drawn.
+    The largest sources, and so the colours, are those of the whole study, also where a bus is drawn.
     """
     sign, words = (-1 if kind in ("export", "charging") else 1), KIND_WORDS.get(kind, kind)
     if kind in TOGETHER:
