@@ -19,6 +19,13 @@ pub enum Harm {
     Fault,
 }
 
+/// A task, and its outcome over a journal of which no call fails.
+#[derive(Clone, Copy)]
+struct Unharmed<'a> {
+    task: Task<'a>,
+    outcome: &'a str,
+}
+
 /// A disk of these bytes that is harmed from this call on.
 pub fn harmed(alloc: Global, journal: &[u8], harm: Harm, call: u64) -> Result<MemDisk, RowFault> {
     match harm {
@@ -52,29 +59,27 @@ fn is_checked<R: Threads + Sync>(
 fn is_resumed<R: Threads + Sync>(
     rt: &R,
     alloc: Global,
-    task: Task<'_>,
+    unharmed: Unharmed<'_>,
     harmed: &MemDisk,
     how: Crash,
-    unharmed: &str,
 ) -> Result<bool, RowFault> {
     let mut left = harmed.crash(alloc, how)?;
-    let again = outcome(rt, alloc, task, &mut left)?;
-    Ok(again.as_str() == unharmed)
+    let again = outcome(rt, alloc, unharmed.task, &mut left)?;
+    Ok(again.as_str() == unharmed.outcome)
 }
 
 /// Tells whether both hold after each kind of crash.
 fn are_resumed<R: Threads + Sync>(
     rt: &R,
     alloc: Global,
-    task: Task<'_>,
+    unharmed: Unharmed<'_>,
     harmed: &MemDisk,
-    unharmed: &str,
 ) -> Result<bool, RowFault> {
     for how in [Crash::Kept, Crash::Lost, Crash::Torn] {
-        if !is_checked(rt, alloc, task, harmed, how)? {
+        if !is_checked(rt, alloc, unharmed.task, harmed, how)? {
             return Ok(false);
         }
-        if !is_resumed(rt, alloc, task, harmed, how, unharmed)? {
+        if !is_resumed(rt, alloc, unharmed, harmed, how)? {
             return Ok(false);
         }
     }
@@ -96,16 +101,15 @@ fn is_told(found: &str, failed: bool, unharmed: &str) -> bool {
 fn fails<R: Threads + Sync>(
     rt: &R,
     alloc: Global,
-    task: Task<'_>,
+    unharmed: Unharmed<'_>,
     disk: &mut MemDisk,
     call: u64,
-    unharmed: &str,
     shown: &mut String,
 ) -> Result<bool, RowFault> {
-    let found = outcome(rt, alloc, task, disk)?;
+    let found = outcome(rt, alloc, unharmed.task, disk)?;
     let failed = disk.calls() > call;
-    let told = is_told(found.as_str(), failed, unharmed);
-    if !told || !are_resumed(rt, alloc, task, disk, unharmed)? {
+    let told = is_told(found.as_str(), failed, unharmed.outcome);
+    if !told || !are_resumed(rt, alloc, unharmed, disk)? {
         write!(shown, "not resumed after call {call}: {found}")?;
     }
     Ok(failed)
@@ -130,10 +134,14 @@ pub fn resumed<R: Threads + Sync>(
     harm: Harm,
     unharmed: &str,
 ) -> Result<String, RowFault> {
+    let unharmed = Unharmed {
+        task,
+        outcome: unharmed,
+    };
     let mut shown = String::new(alloc);
     for call in 0..MOST {
         let mut disk = harmed(alloc, journal, harm, call)?;
-        if !fails(rt, alloc, task, &mut disk, call, unharmed, &mut shown)? {
+        if !fails(rt, alloc, unharmed, &mut disk, call, &mut shown)? {
             return Ok(summary(alloc, shown)?);
         }
     }

@@ -2,7 +2,7 @@
 use crate::devices::{Devices, disk, sink, source};
 use crate::fault::RowFault;
 use hp_outside::{FaultlessDisk, FaultlessSink, FaultlessSource, MemDisk, MemSink};
-use hp_run::{Status, number, run, run_safe, run_with, status_line};
+use hp_run::{Outside, Status, number, run, run_safe, run_with, status_line};
 use hp_solver::{Meeting, Solver, Zero};
 use std::alloc::Global;
 use std::fmt::Write;
@@ -47,7 +47,12 @@ fn own<R: Threads + Sync>(
 ) -> Result<Status, RowFault> {
     let words = words(alloc, task.command)?;
     let mut source = source(alloc, task.devices, task.problem)?;
-    Ok(run(rt, alloc, words.as_slice(), &mut source, journal, sink))
+    let outside = Outside {
+        problem: &mut source,
+        journal,
+        out: sink,
+    };
+    Ok(run(rt, alloc, words.as_slice(), outside))
 }
 
 /// Runs the task with another solver.
@@ -61,8 +66,12 @@ fn other<R: Threads + Sync, V: Solver>(
 ) -> Result<Status, RowFault> {
     let words = words(alloc, task.command)?;
     let mut source = source(alloc, task.devices, task.problem)?;
-    let words = words.as_slice();
-    Ok(run_with(rt, alloc, words, &mut source, journal, sink, solver))
+    let outside = Outside {
+        problem: &mut source,
+        journal,
+        out: sink,
+    };
+    Ok(run_with(rt, alloc, words.as_slice(), outside, solver))
 }
 
 fn push_bytes(text: &mut String, bytes: &[u8]) -> Result<(), RowFault> {
@@ -200,7 +209,12 @@ fn safe_status<R: Threads + Sync>(
     let mut source = FaultlessSource::new(problem.as_bytes().to_vec(alloc)?);
     let mut journal = FaultlessDisk::new(alloc, &[], 0)?;
     let mut sink = FaultlessSink::new();
-    Ok(run_safe(rt, alloc, words, &mut source, &mut journal, &mut sink))
+    let outside = Outside {
+        problem: &mut source,
+        journal: &mut journal,
+        out: &mut sink,
+    };
+    Ok(run_safe(rt, alloc, words, outside))
 }
 
 /// The number of the status of the task over objects of which no call fails.

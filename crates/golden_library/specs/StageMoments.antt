@@ -2,9 +2,8 @@
 use Rattle.std.specs.Prelude.{◌≡◌, ℕ, ◌<◌, ℤ, pos, ◌*ℤ◌, ◌≤ℤ◌, true, List, length}
 use Rattle.hp_problem.specs.Limits.{are_values}
 use Rattle.hp_problem.specs.Sealed.{Sealed, subproblem_of}
-use Rattle.hp_theory.specs.Problem.{S, node_at}
-use Rattle.hp_theory.specs.Tree.{InBox}
-use Rattle.hp_theory.specs.View.{problem_of}
+use Rattle.hp_theory.specs.Problem.{S}
+use Rattle.hp_cut.specs.AtNodes.{IsStateAt}
 
 -- a number at the scale of states, between two whole numbers
 abbrev pub IsBetween : ℤ → ℤ → ℤ → Type 0
@@ -14,4 +13,4 @@ IsBetween low high x = ((pos S *ℤ low) ≤ℤ x) × (x ≤ℤ (pos S *ℤ high
 pub record MayStand (p : Sealed) (m : ℕ) (own xi : List ℤ) : Type 0 where
   pub known : m < length p.raw.nodes
   pub values : are_values (subproblem_of p m) own ≡ true
-  pub state : InBox S (node_at (problem_of p) m).low (node_at (problem_of p) m).high xi
+  pub state : IsStateAt p m xi

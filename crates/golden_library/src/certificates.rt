@@ -1,7 +1,6 @@
 // Lists of certificates: the first fault, or the cut that they make.
 ghost use Rattle.std.specs.Prelude.{◌≤◌, length, sum, All};
-ghost use Rattle.hp_theory.specs.Fit.{Fit};
-ghost use Rattle.hp_theory.specs.View.{problem_of};
+ghost use Rattle.hp_cut.specs.AtNodes.{PoolsFit};
 
 use crate::fault::RowFault;
 use hp_cut::{Certificate, Cut, Pools};
@@ -82,7 +81,7 @@ fn is_made_with_two(
     list: &[Certificate],
     cut: &mut Cut,
 ) -> bool
-    requires fit { Fit (problem_of problem.now) (length problem.now.raw.nodes) pools.now.lists }
+    requires fit { PoolsFit problem.now pools.now.lists }
 {
     let weights = [bounded(first), bounded(second)];
     is_made_with(problem, pools, &weights, list, cut)
@@ -95,7 +94,7 @@ fn first_fault(
     node: u32,
     list: &[Certificate],
 ) -> Option<CertFault>
-    requires { Fit (problem_of problem.now) (length problem.now.raw.nodes) pools.now.lists }
+    requires { PoolsFit problem.now pools.now.lists }
 {
     if node as usize >= problem.raw().nodes.len() {
         return None;
@@ -105,7 +104,7 @@ fn first_fault(
 
 /// Tells whether the list is accepted at the first node; then its cut is written.
 fn is_made(problem: &Problem, pools: &Pools, list: &[Certificate], cut: &mut Cut) -> bool
-    requires { Fit (problem_of problem.now) (length problem.now.raw.nodes) pools.now.lists }
+    requires { PoolsFit problem.now pools.now.lists }
 {
     let raw = problem.raw();
     if raw.nodes.is_empty() || cut.beta.len() != raw.states.len() {
@@ -122,7 +121,7 @@ fn is_made(problem: &Problem, pools: &Pools, list: &[Certificate], cut: &mut Cut
 
 /// Like `is_made`, by one call.
 fn is_made_at_once(problem: &Problem, pools: &Pools, list: &[Certificate], cut: &mut Cut) -> bool
-    requires { Fit (problem_of problem.now) (length problem.now.raw.nodes) pools.now.lists }
+    requires { PoolsFit problem.now pools.now.lists }
 {
     let raw = problem.raw();
     if raw.nodes.is_empty() || cut.beta.len() != raw.states.len() {
@@ -139,7 +138,7 @@ fn is_made_with(
     list: &[Certificate],
     cut: &mut Cut,
 ) -> bool
-    requires fit { Fit (problem_of problem.now) (length problem.now.raw.nodes) pools.now.lists }
+    requires fit { PoolsFit problem.now pools.now.lists }
     requires positive { All (λ w. 1 ≤ w) weights.now }
     requires total { sum weights.now ≤ 65535 }
 {

@@ -1,19 +1,18 @@
 // Iterations of training from the base cuts.
 ghost use Rattle.std.specs.Prelude.{◌≡◌, ◌≤◌, ◌^◌, ℕ, true, length, IfOk};
-ghost use Rattle.hp_lp.specs.Ready.{AreReady};
-ghost use Rattle.hp_theory.specs.Fit.{Fit};
 ghost use Rattle.hp_theory.specs.Pools.{pool};
-ghost use Rattle.hp_theory.specs.View.{problem_of};
+ghost use Rattle.hp_cut.specs.AtNodes.{PoolsFit};
 
 use crate::fault::RowFault;
-use crate::lines::{push_dead, push_entries, push_sums};
-use hp_backward::SweepFault;
+use crate::lines::{push_entries, push_fault, push_sums};
 use hp_cut::{Entry, Pools};
 use hp_dual::base;
-use hp_lp::{SpareRows, Starts, prepare};
+use hp_lp::{Planner, Workspace, prepare};
+use hp_num::List;
 use hp_problem::Problem;
+use hp_settle::PlanFault;
 use hp_solver::Solver;
-use hp_train::batch_once_with;
+use hp_train::{Draw, iteration};
 use std::alloc::Global;
 use std::thread::Threads;
 
@@ -60,74 +59,67 @@ fn push_told(text: &mut String, entries: &[Entry], told: Told) -> Result<(), Row
     }
 }
 
-/// Takes one more iteration. A node without decisions is told in any case.
+/// Takes one more iteration, over pools with room for it.
 fn step<R: Threads + Sync, V: Solver>(
     rt: &R,
-    alloc: Global,
-    spare: &mut SpareRows,
-    problem: &Problem,
-    solver: &V,
-    starts: &Starts<V>,
-    plan: Plan,
+    work: &mut Workspace,
+    planner: &Planner<V>,
     pools: &mut Pools,
-    iteration: u32,
-    text: &mut String,
-) -> Result<(), RowFault>
-    requires fit { Fit (problem_of problem.now) (length problem.now.raw.nodes) pools.old.lists }
-    requires ready { AreReady (V.started solver.now) (V.suits solver.now) problem.now starts.now.items }
-    ensures fit { Fit (problem_of problem.now) (length problem.now.raw.nodes) pools.new.lists }
+    draw: Draw,
+) -> Result<List<Entry>, PlanFault>
+    requires fit { PoolsFit planner.now.problem.now pools.old.lists }
+    ensures fit { PoolsFit planner.now.problem.now pools.new.lists }
 {
-    let batch = plan.batch.clamp(1, 64);
-    let iteration = iteration.clamp(1, 2000);
+    let draw = Draw {
+        seed: draw.seed,
+        batch: draw.batch.clamp(1, 64),
+        iteration: draw.iteration.clamp(1, 2000),
+    };
     if !has_room(pools) {
-        return Err(RowFault::Memory);
+        return Err(PlanFault::Memory);
     }
-    match batch_once_with(
-        rt, alloc, spare, problem, solver, starts, pools, plan.seed, batch, iteration,
-    ) {
-        Ok(entries) => push_told(text, entries.as_slice(), plan.told),
-        Err(SweepFault::NoStage(dead)) => push_dead(text, &dead),
-        Err(SweepFault::Range { .. }) => Err(RowFault::Range),
-        Err(SweepFault::Memory) => Err(RowFault::Memory),
+    iteration(rt, work, planner, pools, draw)
+}
+
+/// Appends what an iteration gave at the level of detail that is asked. A node without decisions is told in any case.
+fn push_step(
+    text: &mut String,
+    stepped: Result<List<Entry>, PlanFault>,
+    told: Told,
+) -> Result<(), RowFault> {
+    match stepped {
+        Ok(entries) => push_told(text, entries.as_slice(), told),
+        Err(fault) => push_fault(text, fault),
     }
 }
 
 /// Takes the iterations of a plan, one after another, and appends what is told of them to the text.
 pub fn steps<R: Threads + Sync, V: Solver>(
     rt: &R,
-    alloc: Global,
-    problem: &Problem,
-    solver: &V,
-    starts: &Starts<V>,
-    plan: Plan,
+    work: &mut Workspace,
+    planner: &Planner<V>,
     pools: &mut Pools,
+    plan: Plan,
     text: &mut String,
 ) -> Result<(), RowFault>
-    requires fit { Fit (problem_of problem.now) (length problem.now.raw.nodes) pools.old.lists }
-    requires ready { AreReady (V.started solver.now) (V.suits solver.now) problem.now starts.now.items }
-    ensures fit { Fit (problem_of problem.now) (length problem.now.raw.nodes) pools.new.lists }
+    requires fit { PoolsFit planner.now.problem.now pools.old.lists }
+    ensures fit { PoolsFit planner.now.problem.now pools.new.lists }
 {
-    let mut spare = SpareRows::new(alloc);
     for done in 0..plan.count.min(2000) {
-        step(
-            rt,
-            alloc,
-            &mut spare,
-            problem,
-            solver,
-            starts,
-            plan,
-            pools,
-            done + 1,
-            text,
-        )?;
+        let draw = Draw {
+            seed: plan.seed,
+            batch: plan.batch,
+            iteration: done + 1,
+        };
+        let stepped = step(rt, work, planner, pools, draw);
+        push_step(text, stepped, plan.told)?;
     }
     Ok(())
 }
 
 /// Gives the pools of the base cuts, ready for stage problems.
 pub fn base_pools(alloc: Global, problem: &Problem) -> Result<Pools, RowFault>
-    ensures { IfOk result (λ p. Fit (problem_of problem.now) (length problem.now.raw.nodes) p.lists) }
+    ensures { IfOk result (λ p. PoolsFit problem.now p.lists) }
 {
     let mut pools = base(alloc, problem)?;
     prepare(alloc, problem, &mut pools)?;

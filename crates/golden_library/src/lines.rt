@@ -1,7 +1,7 @@
 // Lines that show entries and cuts.
 use crate::fault::RowFault;
 use hp_cut::{Certificate, Cut, Entry, EntryStep, Pools};
-use hp_settle::Dead;
+use hp_settle::{Dead, PlanFault};
 use std::fmt::Write;
 
 fn push_certificate(text: &mut String, certificate: &Certificate) -> Result<(), RowFault> {
@@ -78,7 +78,7 @@ fn push_node_cuts(text: &mut String, node: usize, cuts: &[Cut]) -> Result<(), Ro
 }
 
 /// Appends a node without decisions, and the multipliers that show it.
-pub fn push_dead(text: &mut String, dead: &Dead) -> Result<(), RowFault> {
+fn push_dead(text: &mut String, dead: &Dead) -> Result<(), RowFault> {
     write!(
         text,
         "no stage run {} node {} values {:?}",
@@ -93,6 +93,16 @@ pub fn push_dead(text: &mut String, dead: &Dead) -> Result<(), RowFault> {
         dead.rows.as_slice()
     )?;
     Ok(())
+}
+
+/// Appends a node without decisions that stops planning. Any other fault stops the row.
+pub fn push_fault(text: &mut String, fault: PlanFault) -> Result<(), RowFault> {
+    match fault {
+        PlanFault::NoStage(dead) => push_dead(text, &dead),
+        PlanFault::Range { .. } => Err(RowFault::Range),
+        PlanFault::DiskFault => Err(RowFault::File),
+        PlanFault::Memory => Err(RowFault::Memory),
+    }
 }
 
 /// Appends the cuts of all nodes.

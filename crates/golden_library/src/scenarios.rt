@@ -1,21 +1,20 @@
 // The answers to rows on simulation.
 ghost use Rattle.std.specs.Prelude.{length, All, IfOk};
-ghost use Rattle.hp_lp.specs.Ready.{AreReady};
 ghost use Rattle.hp_report.specs.Traces.{AreKnown};
-ghost use Rattle.hp_theory.specs.Fit.{Fit};
-ghost use Rattle.hp_theory.specs.View.{problem_of};
+ghost use Rattle.hp_cut.specs.AtNodes.{PoolsFit};
 
 use crate::fault::RowFault;
 use crate::iterations::{Plan, Told, base_pools, steps};
-use crate::lines::push_dead;
+use crate::lines::push_fault;
 use crate::solvers::{Named, by_name};
 use crate::words::{number, word};
 use hp_cut::Pools;
-use hp_forward::{StageFault, Trace};
-use hp_lp::Starts;
+use hp_forward::Trace;
+use hp_lp::{Planner, WarmStarts, Workspace};
 use hp_num::List;
 use hp_problem::Problem;
 use hp_report::trace_report;
+use hp_settle::PlanFault;
 use hp_sim::{simulate, validate};
 use hp_simplex::DualSimplex;
 use hp_solver::{Solver, Zero};
@@ -54,20 +53,17 @@ fn plan(words: &mut SplitWhitespace<'_>) -> Result<Plan, RowFault> {
 
 /// The traces of drawn scenarios, or of those that the problem stores.
 fn traced<V: Solver>(
-    alloc: Global,
-    problem: &Problem,
+    work: &mut Workspace,
+    planner: &Planner<V>,
     pools: &Pools,
-    solver: &V,
-    starts: &Starts<V>,
     drawn: Option<(u64, u32)>,
-) -> Result<List<Trace>, StageFault>
-    requires fit { Fit (problem_of problem.now) (length problem.now.raw.nodes) pools.now.lists }
-    requires ready { AreReady (V.started solver.now) (V.suits solver.now) problem.now starts.now.items }
-    ensures { IfOk result (All (AreKnown problem.now)) }
+) -> Result<List<Trace>, PlanFault>
+    requires { PoolsFit planner.now.problem.now pools.now.lists }
+    ensures { IfOk result (All (AreKnown planner.now.problem.now)) }
 {
     match drawn {
-        Some((seed, count)) => simulate(alloc, problem, pools, solver, starts, seed, count),
-        None => validate(alloc, problem, pools, solver, starts),
+        Some((seed, count)) => simulate(work, planner, pools, seed, count),
+        None => validate(work, planner, pools),
     }
 }
 
@@ -79,7 +75,7 @@ fn push_report(
     traces: &[Trace],
     text: &mut String,
 ) -> Result<(), RowFault>
-    requires fit { Fit (problem_of problem.now) (length problem.now.raw.nodes) pools.now.lists }
+    requires fit { PoolsFit problem.now pools.now.lists }
     requires known { All (AreKnown problem.now) traces.now }
 {
     let report = trace_report(alloc, problem, pools, traces)?;
@@ -90,21 +86,23 @@ fn push_report(
 
 /// Appends the report of scenarios over pools, or the node without decisions that stops them.
 fn push_traces<V: Solver>(
-    alloc: Global,
-    problem: &Problem,
+    work: &mut Workspace,
+    planner: &Planner<V>,
     pools: &Pools,
-    solver: &V,
-    starts: &Starts<V>,
     drawn: Option<(u64, u32)>,
     text: &mut String,
 ) -> Result<(), RowFault>
-    requires fit { Fit (problem_of problem.now) (length problem.now.raw.nodes) pools.now.lists }
-    requires ready { AreReady (V.started solver.now) (V.suits solver.now) problem.now starts.now.items }
+    requires { PoolsFit planner.now.problem.now pools.now.lists }
 {
-    match traced(alloc, problem, pools, solver, starts, drawn) {
-        Ok(traces) => push_report(alloc, problem, pools, traces.as_slice(), text),
-        Err(StageFault::NoStage(dead)) => push_dead(text, &dead),
-        Err(StageFault::Memory) => Err(RowFault::Memory),
+    match traced(work, planner, pools, drawn) {
+        Ok(traces) => push_report(
+            work.alloc(),
+            planner.problem(),
+            pools,
+            traces.as_slice(),
+            text,
+        ),
+        Err(fault) => push_fault(text, fault),
     }
 }
 
@@ -118,10 +116,11 @@ fn push_followed<R: Threads + Sync, V: Solver>(
     text: &mut String,
 ) -> Result<(), RowFault> {
     let mut pools = base_pools(alloc, problem)?;
-    let starts = Starts::new(alloc, problem, solver)?;
-    let plan = course.plan;
-    steps(rt, alloc, problem, solver, &starts, plan, &mut pools, text)?;
-    push_traces(alloc, problem, &pools, solver, &starts, course.drawn, text)
+    let starts = WarmStarts::new(alloc, problem, solver)?;
+    let planner = Planner::new(problem, solver, &starts);
+    let mut work = Workspace::new(alloc);
+    steps(rt, &mut work, &planner, &mut pools, course.plan, text)?;
+    push_traces(&mut work, &planner, &pools, course.drawn, text)
 }
 
 /// The number of scenarios.

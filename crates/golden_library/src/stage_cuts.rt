@@ -1,8 +1,9 @@
 // Cuts that fit, from answers that no solver gave.
 ghost use Rattle.std.specs.Prelude.{◌≡◌, ◌<◌, ◌^◌, length, IfOk};
-ghost use Rattle.hp_theory.specs.Fit.{CutFits, Fit};
+ghost use Rattle.hp_theory.specs.Fit.{CutFits};
 ghost use Rattle.hp_theory.specs.Problem.{node_at};
 ghost use Rattle.hp_theory.specs.View.{problem_of};
+ghost use Rattle.hp_cut.specs.AtNodes.{PoolsFit};
 
 use crate::fault::RowFault;
 use crate::stage_answers::answer;
@@ -26,7 +27,7 @@ fn certificates(
     turn: u32,
 ) -> Result<List<Certificate>, Memory>
     requires known { node < length problem.now.raw.nodes }
-    requires fit { Fit (problem_of problem.now) (length problem.now.raw.nodes) pools.now.lists }
+    requires fit { PoolsFit problem.now pools.now.lists }
 {
     let rows = problem.sub(node).rows.len();
     let answer = answer(alloc, rows, 0, turn)?;
@@ -46,7 +47,7 @@ fn made(
     turn: u32,
 ) -> Result<Cut, RowFault>
     requires known { node < length problem.now.raw.nodes }
-    requires fit { Fit (problem_of problem.now) (length problem.now.raw.nodes) pools.now.lists }
+    requires fit { PoolsFit problem.now pools.now.lists }
     ensures { IfOk result (CutFits (node_at (problem_of problem.now) node)) }
 {
     let list = certificates(alloc, problem, pools, node, turn)?;
@@ -67,8 +68,8 @@ fn add_cut(
     turn: u32,
 ) -> Result<(), RowFault>
     requires known { node < length problem.now.raw.nodes }
-    requires fit { Fit (problem_of problem.now) (length problem.now.raw.nodes) pools.old.lists }
-    ensures { Fit (problem_of problem.now) (length problem.now.raw.nodes) pools.new.lists }
+    requires fit { PoolsFit problem.now pools.old.lists }
+    ensures { PoolsFit problem.now pools.new.lists }
 {
     if pools.count(node) >= MOST_CUTS {
         return Err(RowFault::Memory);
@@ -87,8 +88,8 @@ pub fn add_cuts(
     count: u32,
 ) -> Result<(), RowFault>
     requires known { node < length problem.now.raw.nodes }
-    requires fit { Fit (problem_of problem.now) (length problem.now.raw.nodes) pools.old.lists }
-    ensures { Fit (problem_of problem.now) (length problem.now.raw.nodes) pools.new.lists }
+    requires fit { PoolsFit problem.now pools.old.lists }
+    ensures { PoolsFit problem.now pools.new.lists }
 {
     for turn in 0..count {
         add_cut(alloc, problem, pools, node, turn)?;

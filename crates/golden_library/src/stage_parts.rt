@@ -1,9 +1,8 @@
 // Parts of a stage problem, each done many times.
 ghost use Rattle.std.specs.Prelude.{◌<◌, length, IfOk};
 ghost use Rattle.hp_lp.specs.Nodes.{IsStageAt};
-ghost use Rattle.hp_theory.specs.Fit.{Fit};
-ghost use Rattle.hp_theory.specs.View.{problem_of};
 ghost use Rattle.golden_library.specs.StageMoments.{MayStand};
+ghost use Rattle.hp_cut.specs.AtNodes.{PoolsFit};
 
 use crate::fault::RowFault;
 use crate::iterations::base_pools;
@@ -13,7 +12,7 @@ use crate::stage_moments::{Moment, first, last};
 use crate::stage_texts::{push_certificate, push_program};
 use crate::words::count;
 use hp_cut::Pools;
-use hp_lp::{SpareRows, restate, stage_with};
+use hp_lp::{Workspace, set_sides, stage_problem};
 use hp_num::Memory;
 use hp_problem::Problem;
 use hp_settle::settle;
@@ -33,21 +32,19 @@ struct Counts {
 /// The node whose stage problem is measured.
 const NODE: u32 = 0;
 
-/// Builds the stage problem at a moment, in the workspace's buffers.
+/// Builds the stage problem at a moment, in the workspace's memory.
 fn stage_at<'a>(
-    alloc: Global,
-    spare: &mut SpareRows,
+    work: &mut Workspace,
     problem: &Problem,
     pools: &'a Pools,
     moment: &Moment,
 ) -> Result<StageLp<'a>, Memory>
-    requires fit { Fit (problem_of problem.now) (length problem.now.raw.nodes) pools.now.lists }
+    requires fit { PoolsFit problem.now pools.now.lists }
     requires moment { MayStand problem.now 0 moment.now.values.now moment.now.state }
     ensures { IfOk result (IsStageAt problem.now 0) }
 {
-    stage_with(
-        alloc,
-        spare,
+    stage_problem(
+        work,
         problem,
         pools,
         NODE,
@@ -59,22 +56,21 @@ fn stage_at<'a>(
 /// The stage problem, built so many times and once, each time in the memory of the one before, as along a path of
 /// training.
 fn built<'a>(
-    alloc: Global,
+    work: &mut Workspace,
     problem: &Problem,
     pools: &'a Pools,
     moment: &Moment,
     builds: u32,
 ) -> Result<StageLp<'a>, Memory>
-    requires fit { Fit (problem_of problem.now) (length problem.now.raw.nodes) pools.now.lists }
+    requires fit { PoolsFit problem.now pools.now.lists }
     requires moment { MayStand problem.now 0 moment.now.values.now moment.now.state }
     ensures { IfOk result (IsStageAt problem.now 0) }
 {
-    let mut spare = SpareRows::new(alloc);
     for _ in 0..builds {
-        let lp = stage_at(alloc, &mut spare, problem, pools, moment)?;
-        spare.give_back(lp);
+        let lp = stage_at(work, problem, pools, moment)?;
+        work.give_back(lp);
     }
-    stage_at(alloc, &mut spare, problem, pools, moment)
+    stage_at(work, problem, pools, moment)
 }
 
 /// Gives the stage problem the sides of a moment.
@@ -83,7 +79,7 @@ fn turn_to(problem: &Problem, moment: &Moment, lp: &mut StageLp)
     requires stage { IsStageAt problem.now 0 lp.old }
     ensures { IsStageAt problem.now 0 lp.new }
 {
-    restate(problem, NODE, moment.values, moment.state.as_slice(), lp);
+    set_sides(problem, NODE, moment.values, moment.state.as_slice(), lp);
 }
 
 /// Gives the stage problem the sides of one moment and of the other, so many times in turn.
@@ -110,7 +106,7 @@ fn settled(
     settles: u32,
 ) -> Result<Certificate, Memory>
     requires known { 0 < length problem.now.raw.nodes }
-    requires fit { Fit (problem_of problem.now) (length problem.now.raw.nodes) pools.now.lists }
+    requires fit { PoolsFit problem.now pools.now.lists }
 {
     for _ in 0..settles {
         settle(alloc, problem, pools, NODE, answer)?;
@@ -132,61 +128,50 @@ fn successor(problem: &Problem) -> Result<u32, RowFault>
     }
 }
 
-/// Appends the figures of the certificate of an answer for so many own rows of a stage problem with so many rows.
-fn push_settled(
-    alloc: Global,
-    problem: &Problem,
-    pools: &Pools,
-    own: usize,
-    rows: usize,
-    settles: u32,
-    text: &mut String,
-) -> Result<(), RowFault>
-    requires known { 0 < length problem.now.raw.nodes }
-    requires fit { Fit (problem_of problem.now) (length problem.now.raw.nodes) pools.now.lists }
-{
-    let answer = answer(alloc, own, rows.saturating_sub(own), 1)?;
-    let certificate = settled(alloc, problem, pools, &answer, settles)?;
-    push_certificate(text, &certificate)
+/// An answer for so many own rows of a stage problem with so many rows.
+fn answer_for(alloc: Global, own: usize, rows: usize) -> Result<Answer, Memory> {
+    answer(alloc, own, rows.saturating_sub(own), 1)
 }
 
-/// Appends the figures after each part, at two moments.
-fn push_parts(
+/// Gives the figures after each part, at two moments.
+fn parts(
     alloc: Global,
     problem: &Problem,
     pools: &Pools,
     first: &Moment,
     last: &Moment,
     counts: Counts,
-    text: &mut String,
-) -> Result<(), RowFault>
+) -> Result<String, RowFault>
     requires known { 0 < length problem.now.raw.nodes }
-    requires fit { Fit (problem_of problem.now) (length problem.now.raw.nodes) pools.now.lists }
+    requires fit { PoolsFit problem.now pools.now.lists }
     requires first { MayStand problem.now 0 first.now.values.now first.now.state }
     requires last { MayStand problem.now 0 last.now.values.now last.now.state }
 {
-    let mut lp = built(alloc, problem, pools, first, counts.builds)?;
-    push_program(alloc, text, &lp)?;
+    let mut text = String::new(alloc);
+    let mut work = Workspace::new(alloc);
+    let mut lp = built(&mut work, problem, pools, first, counts.builds)?;
+    push_program(alloc, &mut text, &lp)?;
     turned(problem, first, last, counts.sides, &mut lp);
-    push_program(alloc, text, &lp)?;
-    let (own, rows) = (lp.own(), lp.row_count());
-    push_settled(alloc, problem, pools, own, rows, counts.settles, text)
+    push_program(alloc, &mut text, &lp)?;
+    let answer = answer_for(alloc, lp.own(), lp.row_count())?;
+    let certificate = settled(alloc, problem, pools, &answer, counts.settles)?;
+    push_certificate(&mut text, &certificate)?;
+    Ok(text)
 }
 
-/// Appends the figures after each part over pools.
-fn push_stage(
+/// Gives the figures after each part over pools.
+fn stage(
     alloc: Global,
     problem: &Problem,
     pools: &Pools,
     counts: Counts,
-    text: &mut String,
-) -> Result<(), RowFault>
+) -> Result<String, RowFault>
     requires known { 0 < length problem.now.raw.nodes }
-    requires fit { Fit (problem_of problem.now) (length problem.now.raw.nodes) pools.now.lists }
+    requires fit { PoolsFit problem.now pools.now.lists }
 {
     let first = first(alloc, problem, NODE)?;
     let last = last(alloc, problem, NODE)?;
-    push_parts(alloc, problem, pools, &first, &last, counts, text)
+    parts(alloc, problem, pools, &first, &last, counts)
 }
 
 fn counts_of(words: &str) -> Result<Counts, RowFault> {
@@ -207,7 +192,5 @@ pub fn measured(alloc: Global, problem: &Problem, words: &str) -> Result<String,
     let node = successor(problem)?;
     let mut pools = base_pools(alloc, problem)?;
     add_cuts(alloc, problem, &mut pools, node, counts.cuts)?;
-    let mut text = String::new(alloc);
-    push_stage(alloc, problem, &pools, counts, &mut text)?;
-    Ok(text)
+    stage(alloc, problem, &pools, counts)
 }

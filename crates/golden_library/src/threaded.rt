@@ -3,6 +3,7 @@ ghost use Rattle.std.specs.Prelude.{◌≡◌, IfOk, OnOk};
 ghost use Rattle.hp_solver.specs.declared.programs.Program.{Program};
 ghost use Rattle.hp_solver.specs.declared.programs.Answer.{Answer};
 ghost use Rattle.hp_solver.specs.Proper.{IsProper, IsReference, Extends, IsLike};
+ghost use Rattle.hp_solver.specs.Solving.{Solving};
 
 use hp_num::Memory;
 use hp_solver::{Answer, Solver, StageLp};
@@ -20,13 +21,11 @@ impl<'a, V: Solver> Solver for Threaded<'a, V> {
 
     type Chain = V::Chain;
 
-    ghost started = { λ threaded lp. V.started threaded.solver.now lp };
-
-    ghost begun = { λ threaded start lp. V.begun threaded.solver.now start lp };
-
-    ghost next = { λ threaded chain lp. V.next threaded.solver.now chain lp };
+    ghost does = { λ threaded. V.does threaded.solver.now };
 
     ghost suits = { λ threaded start lp. V.suits threaded.solver.now start lp };
+
+    ghost suits_is_fact = { λ threaded start lp. V.suits_is_fact threaded.solver.now start lp };
 
     ghost fits = { λ threaded chain lp. V.fits threaded.solver.now chain lp };
 

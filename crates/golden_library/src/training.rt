@@ -1,7 +1,6 @@
 // The answers to rows on training.
 ghost use Rattle.std.specs.Prelude.{length};
-ghost use Rattle.hp_theory.specs.Fit.{Fit};
-ghost use Rattle.hp_theory.specs.View.{problem_of};
+ghost use Rattle.hp_cut.specs.AtNodes.{PoolsFit};
 
 use crate::fault::RowFault;
 use crate::iterations::{Plan, Told, base_pools, steps};
@@ -11,7 +10,7 @@ use crate::threaded::Threaded;
 use crate::twice::Twice;
 use crate::words::{number, word};
 use hp_cut::Pools;
-use hp_lp::Starts;
+use hp_lp::{Planner, WarmStarts, Workspace};
 use hp_problem::Problem;
 use hp_simplex::DualSimplex;
 use hp_solver::{Kind, Liar, Meeting, Solver, Zero};
@@ -39,7 +38,7 @@ fn plan(told: Told, words: &mut SplitWhitespace<'_>) -> Result<Plan, RowFault> {
 
 /// Appends all cuts, where everything is told, and the bound.
 fn push_end(text: &mut String, problem: &Problem, pools: &Pools, told: Told) -> Result<(), RowFault>
-    requires { Fit (problem_of problem.now) (length problem.now.raw.nodes) pools.now.lists }
+    requires { PoolsFit problem.now pools.now.lists }
 {
     if told == Told::Everything {
         push_cuts(text, pools)?;
@@ -58,8 +57,10 @@ fn push_trained<R: Threads + Sync, V: Solver>(
     text: &mut String,
 ) -> Result<(), RowFault> {
     let mut pools = base_pools(alloc, problem)?;
-    let starts = Starts::new(alloc, problem, solver)?;
-    steps(rt, alloc, problem, solver, &starts, plan, &mut pools, text)?;
+    let starts = WarmStarts::new(alloc, problem, solver)?;
+    let planner = Planner::new(problem, solver, &starts);
+    let mut work = Workspace::new(alloc);
+    steps(rt, &mut work, &planner, &mut pools, plan, text)?;
     push_end(text, problem, &pools, plan.told)
 }
 

@@ -3,6 +3,7 @@ ghost use Rattle.std.specs.Prelude.{◌≡◌, IfOk, OnOk};
 ghost use Rattle.hp_solver.specs.declared.programs.Program.{Program};
 ghost use Rattle.hp_solver.specs.declared.programs.Answer.{Answer};
 ghost use Rattle.hp_solver.specs.Proper.{IsProper, IsReference, Extends, IsLike};
+ghost use Rattle.hp_solver.specs.Solving.{Solving};
 
 use hp_num::Memory;
 use hp_solver::{Answer, Solver, StageLp};
@@ -20,13 +21,12 @@ impl<'a, V: Solver> Solver for Twice<'a, V> {
 
     type Chain = (V::Chain, V::Chain);
 
-    ghost started = { λ twice lp. V.started twice.solver.now lp };
-
-    ghost begun = { λ twice start lp. (V.begun twice.solver.now start lp, V.begun twice.solver.now start lp) };
-
-    ghost next = { λ twice chains lp. ((V.next twice.solver.now chains.0 lp).0, ((V.next twice.solver.now chains.0 lp).1, (V.next twice.solver.now chains.1 lp).1)) };
+    ghost does = { λ twice. let own = V.does twice.solver.now in
+        record { started = own.started; begun = λ start lp. (own.begun start lp, own.begun start lp); next = λ chains lp. ((own.next chains.0 lp).0, ((own.next chains.0 lp).1, (own.next chains.1 lp).1)) } };
 
     ghost suits = { λ twice start lp. V.suits twice.solver.now start lp };
+
+    ghost suits_is_fact = { λ twice start lp. V.suits_is_fact twice.solver.now start lp };
 
     ghost fits = { λ twice chains lp. V.fits twice.solver.now chains.0 lp × V.fits twice.solver.now chains.1 lp };
 

@@ -17,10 +17,12 @@ use Rattle.hp_settle.specs.Judging.{judge_of}
 use Rattle.hp_settle.specs.Settling.{settled_of}
 use Rattle.hp_settle.specs.Refutation.{NoDecision}
 use Rattle.hp_settle.proofs.JudgedDead.{judged_dead}
-use Rattle.hp_lp.specs.Chained.{Solving, stage_at, chain_answers}
+use Rattle.hp_solver.specs.Solving.{Solving}
+use Rattle.hp_lp.specs.Nodes.{stage_at}
+use Rattle.hp_lp.specs.Chained.{chain_answers}
 use Rattle.hp_backward.specs.declared.certified.Certified.{Certified}
-use Rattle.hp_backward.specs.declared.fault.SweepFault.{SweepFault}
-use Rattle.hp_backward.specs.declared.fault.SweepFault.TheVariants.{NoStage}
+use Rattle.hp_settle.specs.declared.plan_fault.PlanFault.{PlanFault}
+use Rattle.hp_settle.specs.declared.plan_fault.PlanFault.TheVariants.{NoStage}
 use Rattle.hp_backward.specs.Certifying.{values_at, first_half, second_half, answers_to, both, in_order, nothing, with_judged, certify, certify_all, in_chain, certified}
 
 same_ok : {A E : Type 0} (x y : A) → ◌≡◌ {A = Result A E} (Ok x) (Ok y) → x ≡ y
@@ -46,19 +48,19 @@ counted-answers_to v p pools m state [] = refl
 counted-answers_to v p pools m state (own ∷ values) = ap suc (counted_answers v.next _ (map (λ (own : List ℤ). stage_at p pools m own state) values) ∙ length-map values (λ (own : List ℤ). stage_at p pools m own state))
 
 -- two parts, one after the other
-certify-append : (step : Certified → List ℤ → Answer → Result Certified SweepFault) (found : Certified) (vs ws : List (List ℤ)) (xs ys : List Answer) → length xs ≡ length vs
+certify-append : (step : Certified → List ℤ → Answer → Result Certified PlanFault) (found : Certified) (vs ws : List (List ℤ)) (xs ys : List Answer) → length xs ≡ length vs
     → certify_all step found (vs ++ ws) (xs ++ ys) ≡ (certify_all step found vs xs >>= λ f. certify_all step f ws ys)
 certify-append step found [] ws [] ys e = refl
 certify-append step found [] ws (x ∷ xs) ys e = absurd (omega arith)
 certify-append step found (v ∷ vs) ws [] ys e = absurd (omega arith)
 certify-append step found (v ∷ vs) ws (x ∷ xs) ys e = by (λ f. certify-append step f vs ws xs ys (omega arith)) (step found v x)
   where
-    by : ((f : Certified) → certify_all step f (vs ++ ws) (xs ++ ys) ≡ (certify_all step f vs xs >>= λ f. certify_all step f ws ys)) → (r : Result Certified SweepFault) → (r >>= λ f. certify_all step f (vs ++ ws) (xs ++ ys)) ≡ ((r >>= λ f. certify_all step f vs xs) >>= λ f. certify_all step f ws ys)
+    by : ((f : Certified) → certify_all step f (vs ++ ws) (xs ++ ys) ≡ (certify_all step f vs xs >>= λ f. certify_all step f ws ys)) → (r : Result Certified PlanFault) → (r >>= λ f. certify_all step f (vs ++ ws) (xs ++ ys)) ≡ ((r >>= λ f. certify_all step f vs xs) >>= λ f. certify_all step f ws ys)
     by rest (Ok f) = rest f
     by rest (Err d) = refl
 
 module _ (pools : List (List Cut)) (n : Node) (k m : ℕ) (state : List ℤ) where
-  abbrev step : Certified → List ℤ → Answer → Result Certified SweepFault
+  abbrev step : Certified → List ℤ → Answer → Result Certified PlanFault
   step = certify pools n k m state
 
   -- with other certificates before
@@ -76,7 +78,7 @@ module _ (pools : List (List Cut)) (n : Node) (k m : ℕ) (state : List ℤ) whe
   all-both f g (v ∷ vs) [] = refl
   all-both f g (v ∷ vs) (a ∷ xs) = ap (λ r. r >>= λ next. certify_all step next vs xs) (certify-both f g v a) ∙ by (λ h. all-both f h vs xs) (certify pools n k m state g v a)
     where
-      by : ((h : Certified) → certify_all step (both f h) vs xs ≡ (certify_all step h vs xs >>= λ h. Ok (both f h))) → (r : Result Certified SweepFault) → ((r >>= λ h. Ok (both f h)) >>= λ next. certify_all step next vs xs) ≡ ((r >>= λ next. certify_all step next vs xs) >>= λ h. Ok (both f h))
+      by : ((h : Certified) → certify_all step (both f h) vs xs ≡ (certify_all step h vs xs >>= λ h. Ok (both f h))) → (r : Result Certified PlanFault) → ((r >>= λ h. Ok (both f h)) >>= λ next. certify_all step next vs xs) ≡ ((r >>= λ next. certify_all step next vs xs) >>= λ h. Ok (both f h))
       by rest (Ok h) = rest h
       by rest (Err d) = refl
 
@@ -87,7 +89,7 @@ module _ (pools : List (List Cut)) (n : Node) (k m : ℕ) (state : List ℤ) whe
       → certify_all step nothing (vs ++ ws) (xs ++ ys) ≡ (certify_all step nothing vs xs >>= λ f. certify_all step nothing ws ys >>= λ g. Ok (both f g))
   all-halves vs ws xs ys e = certify-append step nothing vs ws xs ys e ∙ by (certify_all step nothing vs xs)
     where
-      by : (r : Result Certified SweepFault) → (r >>= λ f. certify_all step f ws ys) ≡ (r >>= λ f. certify_all step nothing ws ys >>= λ g. Ok (both f g))
+      by : (r : Result Certified PlanFault) → (r >>= λ f. certify_all step f ws ys) ≡ (r >>= λ f. certify_all step nothing ws ys >>= λ g. Ok (both f g))
       by (Ok f) = ap (λ (h : Certified). certify_all step h ws ys) (after_nothing f) ∙ all-both f nothing ws ys
       by (Err d) = refl
 

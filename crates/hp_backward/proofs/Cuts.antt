@@ -13,13 +13,14 @@ use Rattle.hp_theory.specs.View.{problem_of}
 use Rattle.hp_theory.specs.Fit.{CutFits, Fit}
 use Rattle.hp_theory.specs.Pools.{pool, push}
 use Rattle.hp_theory.proofs.Appending.{push_at, kept_some}
+use Rattle.hp_cut.specs.AtNodes.{PoolsFit}
 use Rattle.hp_solver.specs.declared.programs.Answer.{Answer}
 use Rattle.hp_dual.specs.declared.fault.CertFault.{CertFault}
 use Rattle.hp_dual.specs.declared.fault.CertFault.TheVariants as faults
 use Rattle.hp_dual.specs.Acceptance.{fault_of, range_fault}
 use Rattle.hp_settle.specs.Settling.{settled_of}
 use Rattle.hp_settle.proofs.SettledNode.{only_range-sealed}
-use Rattle.hp_lp.specs.Chained.{Solving}
+use Rattle.hp_solver.specs.Solving.{Solving}
 use Rattle.hp_backward.specs.declared.certified.Certified.{Certified}
 use Rattle.hp_backward.specs.Certifying.{values_at, first_half, second_half, answers_to, answers_at, nothing, certified}
 use Rattle.hp_backward.specs.Sweeping.{popped}
@@ -55,7 +56,7 @@ counted_answers_at v p pools m state =
     omega (arith, length-append xs ys, counted-answers_to v p pools m state (first_half vs), counted-answers_to v p pools m state (second_half vs), whole)
 
 -- settled certificates can only be refused for their size
-pub settled_list : {Start Chain : Type 0} (v : Solving Start Chain) (p : Sealed) (pools : List (List Cut)) (k m : ℕ) (state : List ℤ) (found : Certified) → is_sealed p ≡ true → m < length p.raw.nodes → Fit (problem_of p) (length p.raw.nodes) pools
+pub settled_list : {Start Chain : Type 0} (v : Solving Start Chain) (p : Sealed) (pools : List (List Cut)) (k m : ℕ) (state : List ℤ) (found : Certified) → is_sealed p ≡ true → m < length p.raw.nodes → PoolsFit p pools
     → certified v p pools k m state ≡ Ok found → fault_of pools (node_at (problem_of p) m) found.list ≡ range_fault pools (node_at (problem_of p) m) found.list
 unfolding certified
 settled_list v p pools k m state found e h fit is =

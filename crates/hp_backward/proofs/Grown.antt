@@ -7,17 +7,17 @@ use Rattle.hp_problem.specs.Sealed.{Sealed}
 use Rattle.hp_theory.specs.declared.cut.Cut.{Cut}
 use Rattle.hp_theory.specs.Pools.{pool, push}
 use Rattle.hp_theory.proofs.Appending.{push_at}
-use Rattle.hp_lp.specs.Chained.{Solving}
+use Rattle.hp_solver.specs.Solving.{Solving}
 use Rattle.hp_sampler.specs.declared.steps.Step.{Step}
 use Rattle.hp_backward.specs.declared.certified.Certified.{Certified}
-use Rattle.hp_backward.specs.declared.fault.SweepFault.{SweepFault}
+use Rattle.hp_settle.specs.declared.plan_fault.PlanFault.{PlanFault}
 use Rattle.hp_backward.specs.Given.{AreDistinct}
 use Rattle.hp_backward.specs.Sweeping.{Swept, made_at, with_made, step_back, backwards, swept}
 
-same_ok : (x y : Swept) → ◌≡◌ {A = Result Swept SweepFault} (Ok x) (Ok y) → x ≡ y
+same_ok : (x y : Swept) → ◌≡◌ {A = Result Swept PlanFault} (Ok x) (Ok y) → x ≡ y
 same_ok x y e = cc
 
-no_ok : (f : SweepFault) (y : Swept) → ◌≡◌ {A = Result Swept SweepFault} (Err f) (Ok y) → ⊥
+no_ok : (f : PlanFault) (y : Swept) → ◌≡◌ {A = Result Swept PlanFault} (Err f) (Ok y) → ⊥
 no_ok f y e = cc
 
 module _ {Start Chain : Type 0} (v : Solving Start Chain) (p : Sealed) (k : ℕ) where
@@ -25,7 +25,7 @@ module _ {Start Chain : Type 0} (v : Solving Start Chain) (p : Sealed) (k : ℕ)
   unfolding step_back
   step_pushes before after visit is = by (made_at v p before.pools k visit.0.node visit.1) is
     where
-      by : (r : Result (Certified × Cut) SweepFault) → (r >>= λ made. Ok (with_made before visit.0.node made)) ≡ Ok after → (c : Cut) × (after.pools ≡ push before.pools visit.0.node c)
+      by : (r : Result (Certified × Cut) PlanFault) → (r >>= λ made. Ok (with_made before visit.0.node made)) ≡ Ok after → (c : Cut) × (after.pools ≡ push before.pools visit.0.node c)
       by (Ok made) w = (made.1, ap (λ (s : Swept). s.pools) (sym (same_ok (with_made before visit.0.node made) after w)))
       by (Err f) w = absurd (no_ok f after w)
 
@@ -35,7 +35,7 @@ module _ {Start Chain : Type 0} (v : Solving Start Chain) (p : Sealed) (k : ℕ)
   kept_elsewhere (s ∷ ss) (x ∷ xs) start after m is none =
       by (λ b e. kept_elsewhere ss xs start b m e (All-tail (λ (s : Step). s.node ≢ m) s ss none)) (All-head (λ (s : Step). s.node ≢ m) s ss none) (backwards (step_back v p k) (zip ss xs) start) refl is
     where
-      by : ((b : Swept) → backwards (step_back v p k) (zip ss xs) start ≡ Ok b → pool b.pools m ≡ pool start.pools m) → (s.node ≢ m) → (r : Result Swept SweepFault) → backwards (step_back v p k) (zip ss xs) start ≡ r
+      by : ((b : Swept) → backwards (step_back v p k) (zip ss xs) start ≡ Ok b → pool b.pools m ≡ pool start.pools m) → (s.node ≢ m) → (r : Result Swept PlanFault) → backwards (step_back v p k) (zip ss xs) start ≡ r
           → (r >>= λ b. step_back v p k b (s, x)) ≡ Ok after → pool after.pools m ≡ pool start.pools m
       by rest other (Ok b) e w =
           let q = step_pushes b after (s, x) w in
@@ -55,7 +55,7 @@ module _ {Start Chain : Type 0} (v : Solving Start Chain) (p : Sealed) (k : ℕ)
 
       by : ((b : Swept) → backwards (step_back v p k) (zip ss xs) start ≡ Ok b → length (pool b.pools m) ≤ length (pool start.pools m) + 1)
           → ((b : Swept) → backwards (step_back v p k) (zip ss xs) start ≡ Ok b → pool b.pools s.node ≡ pool start.pools s.node)
-          → (r : Result Swept SweepFault) → backwards (step_back v p k) (zip ss xs) start ≡ r → (r >>= λ b. step_back v p k b (s, x)) ≡ Ok after → length (pool after.pools m) ≤ length (pool start.pools m) + 1
+          → (r : Result Swept PlanFault) → backwards (step_back v p k) (zip ss xs) start ≡ r → (r >>= λ b. step_back v p k b (s, x)) ≡ Ok after → length (pool after.pools m) ≤ length (pool start.pools m) + 1
       by rest kept (Ok b) e w =
           let q = step_pushes b after (s, x) w in
           subst (λ (lists : List (List Cut)). length (pool lists m) ≤ length (pool start.pools m) + 1) (sym q.1)

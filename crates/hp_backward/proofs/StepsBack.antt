@@ -12,29 +12,30 @@ use Rattle.hp_theory.specs.View.{problem_of}
 use Rattle.hp_cut.specs.declared.entry.EntryStep.{EntryStep}
 use Rattle.hp_settle.specs.declared.judging.Dead.{Dead}
 use Rattle.hp_settle.specs.Refutation.{NoDecision}
-use Rattle.hp_lp.specs.Chained.{Solving}
+use Rattle.hp_solver.specs.Solving.{Solving}
 use Rattle.hp_sampler.specs.declared.steps.Step.{Step}
 use Rattle.hp_backward.specs.declared.certified.Certified.{Certified}
-use Rattle.hp_backward.specs.declared.fault.SweepFault.{SweepFault}
-use Rattle.hp_backward.specs.declared.fault.SweepFault.TheVariants.{NoStage, Range, Memory}
+use Rattle.hp_settle.specs.declared.plan_fault.PlanFault.{PlanFault}
+use Rattle.hp_settle.specs.declared.plan_fault.PlanFault.TheVariants.{NoStage, Range, DiskFault, Memory}
+use Rattle.hp_settle.specs.Faults.{IsDead, Stops}
 use Rattle.hp_backward.specs.Certifying.{values_at, answers_at, nothing, certified}
-use Rattle.hp_backward.specs.Sweeping.{Swept, within_range, made_at, with_made, step_back, backwards, swept, popped, taken_back, IsDead, Stops}
+use Rattle.hp_backward.specs.Sweeping.{Swept, within_range, made_at, with_made, step_back, backwards, swept, popped, taken_back}
 use Rattle.hp_backward.proofs.Certificates.{dead_there}
 use Rattle.hp_backward.proofs.Cuts.{popped-push}
 
-module _ {A : Type 0} (step : Swept → A → Result Swept SweepFault) where
+module _ {A : Type 0} (step : Swept → A → Result Swept PlanFault) where
   -- one step more
-  pub step_more : (xs : List A) (i : ℕ) (x : A) (start before : Swept) (r : Result Swept SweepFault) → i < length xs → x ≡ get_or xs i x → backwards step (drop (i + 1) xs) start ≡ Ok before → step before x ≡ r → backwards step (drop i xs) start ≡ r
+  pub step_more : (xs : List A) (i : ℕ) (x : A) (start before : Swept) (r : Result Swept PlanFault) → i < length xs → x ≡ get_or xs i x → backwards step (drop (i + 1) xs) start ≡ Ok before → step before x ≡ r → backwards step (drop i xs) start ≡ r
   step_more xs i x start before r h is done gives =
       ap (λ (ys : List A). backwards step ys start) (drop_more xs i x h)
-      ∙ ap (λ (s : Result Swept SweepFault). s >>= λ b. step b (get_or xs i x)) done
+      ∙ ap (λ (s : Result Swept PlanFault). s >>= λ b. step b (get_or xs i x)) done
       ∙ ap (λ (y : A). step before y) (sym is) ∙ gives
 
   -- a fault on the way is the fault of all
-  pub step_stops : (xs : List A) (i : ℕ) (start : Swept) (fault : SweepFault) → backwards step (drop i xs) start ≡ Err fault → backwards step xs start ≡ Err fault
+  pub step_stops : (xs : List A) (i : ℕ) (start : Swept) (fault : PlanFault) → backwards step (drop i xs) start ≡ Err fault → backwards step xs start ≡ Err fault
   step_stops xs zero start fault e = e
   step_stops [] (suc i) start fault e = e
-  step_stops (x ∷ xs) (suc i) start fault e = ap (λ (s : Result Swept SweepFault). s >>= λ b. step b x) (step_stops xs i start fault e)
+  step_stops (x ∷ xs) (suc i) start fault e = ap (λ (s : Result Swept PlanFault). s >>= λ b. step b x) (step_stops xs i start fault e)
 
 -- the step's node of a path and its state
 pub get_or-zip : {A B : Type 0} (xs : List A) (ys : List B) (i : ℕ) (d : A) (e : B) → i < length xs → i < length ys → (get_or xs i d, get_or ys i e) ≡ get_or (zip xs ys) i (get_or xs i d, get_or ys i e)
@@ -70,10 +71,10 @@ taken_less pools ss i left d e h = ap (λ (k : ℕ). taken_back pools (take k ss
 same_dead : (x y : Dead) → NoStage x ≡ NoStage y → x ≡ y
 same_dead x y e = cc
 
-same_err : {A : Type 0} (x y : SweepFault) → ◌≡◌ {A = Result A SweepFault} (Err x) (Err y) → x ≡ y
+same_err : {A : Type 0} (x y : PlanFault) → ◌≡◌ {A = Result A PlanFault} (Err x) (Err y) → x ≡ y
 same_err x y e = cc
 
-no_err : {A : Type 0} (x : A) (y : SweepFault) → ◌≡◌ {A = Result A SweepFault} (Ok x) (Err y) → ⊥
+no_err : {A : Type 0} (x : A) (y : PlanFault) → ◌≡◌ {A = Result A PlanFault} (Ok x) (Err y) → ⊥
 no_err x y e = cc
 
 module _ {Start Chain : Type 0} (v : Solving Start Chain) (p : Sealed) (k : ℕ) where
@@ -83,7 +84,7 @@ module _ {Start Chain : Type 0} (v : Solving Start Chain) (p : Sealed) (k : ℕ)
       let there = dead_there pools (node_at (problem_of p) m) k m state nothing (values_at p.raw m) (answers_at v p pools m state) d is in
       subst (λ (j : ℕ). NoDecision (node_at (problem_of p) j) d.values d.state) (sym there.0) there.1
 
-  abbrev ranged : List (List Cut) → ℕ → Certified → Result (Certified × Cut) SweepFault
+  abbrev ranged : List (List Cut) → ℕ → Certified → Result (Certified × Cut) PlanFault
   ranged pools m found = within_range k m (range_of pools (node_at (problem_of p) m) found.list) (found, cut_of pools (node_at (problem_of p) m) found.list)
 
   range_alive : (m : ℕ) (o : Option ℕ) (made : Certified × Cut) (d : Dead) → within_range k m o made ≡ Err (NoStage d) → ⊥
@@ -94,7 +95,7 @@ module _ {Start Chain : Type 0} (v : Solving Start Chain) (p : Sealed) (k : ℕ)
   unfolding made_at
   made_dead pools m state d is = by (certified v p pools k m state) refl is
     where
-      by : (r : Result Certified SweepFault) → certified v p pools k m state ≡ r
+      by : (r : Result Certified PlanFault) → certified v p pools k m state ≡ r
           → (r >>= ranged pools m) ≡ Err (NoStage d) → NoDecision (node_at (problem_of p) d.node) d.values d.state
       by (Ok found) e w = absurd (range_alive m _ _ d w)
       by (Err f) e w = certified_dead pools m state d (e ∙ ap Err (same_err {A = Certified × Cut} f (NoStage d) w))
@@ -103,7 +104,7 @@ module _ {Start Chain : Type 0} (v : Solving Start Chain) (p : Sealed) (k : ℕ)
   unfolding step_back
   step_dead before visit d is = by (made_at v p before.pools k visit.0.node visit.1) refl is
     where
-      by : (r : Result (Certified × Cut) SweepFault) → made_at v p before.pools k visit.0.node visit.1 ≡ r → (r >>= λ made. Ok (with_made before visit.0.node made)) ≡ Err (NoStage d) → NoDecision (node_at (problem_of p) d.node) d.values d.state
+      by : (r : Result (Certified × Cut) PlanFault) → made_at v p before.pools k visit.0.node visit.1 ≡ r → (r >>= λ made. Ok (with_made before visit.0.node made)) ≡ Err (NoStage d) → NoDecision (node_at (problem_of p) d.node) d.values d.state
       by (Ok made) e w = absurd (no_err (with_made before visit.0.node made) (NoStage d) w)
       by (Err f) e w = made_dead before.pools visit.0.node visit.1 d (e ∙ ap Err (same_err {A = Swept} f (NoStage d) w))
 
@@ -111,17 +112,18 @@ module _ {Start Chain : Type 0} (v : Solving Start Chain) (p : Sealed) (k : ℕ)
   backwards_dead [] start d is = absurd (no_err start (NoStage d) is)
   backwards_dead (x ∷ xs) start d is = by (λ e. backwards_dead xs start d e) (backwards (step_back v p k) xs start) refl is
     where
-      by : (backwards (step_back v p k) xs start ≡ Err (NoStage d) → NoDecision (node_at (problem_of p) d.node) d.values d.state) → (r : Result Swept SweepFault) → backwards (step_back v p k) xs start ≡ r
+      by : (backwards (step_back v p k) xs start ≡ Err (NoStage d) → NoDecision (node_at (problem_of p) d.node) d.values d.state) → (r : Result Swept PlanFault) → backwards (step_back v p k) xs start ≡ r
           → (r >>= λ b. step_back v p k b x) ≡ Err (NoStage d) → NoDecision (node_at (problem_of p) d.node) d.values d.state
       by rest (Ok b) e w = step_dead b x d w
       by rest (Err f) e w = rest (e ∙ w)
 
-  dead_fault : (xs : List (Step × List ℤ)) (start : Swept) (f : SweepFault) → Stops f (backwards (step_back v p k) xs start) → IsDead p f
+  dead_fault : (xs : List (Step × List ℤ)) (start : Swept) (f : PlanFault) → Stops f (backwards (step_back v p k) xs start) → IsDead p f
   dead_fault xs start (NoStage d) is = backwards_dead xs start d is
   dead_fault xs start (Range i m r) is = tt
+  dead_fault xs start DiskFault is = tt
   dead_fault xs start Memory is = tt
 
-  pub dead_swept : (pools : List (List Cut)) (path : List Step) (states : List (List ℤ)) (unsettled : ℕ) (f : SweepFault) → Stops f (swept v p pools k path states unsettled) → IsDead p f
+  pub dead_swept : (pools : List (List Cut)) (path : List Step) (states : List (List ℤ)) (unsettled : ℕ) (f : PlanFault) → Stops f (swept v p pools k path states unsettled) → IsDead p f
   unfolding swept
   dead_swept pools path states unsettled f s = dead_fault (zip path states) (record { pools = pools; steps = []; unsettled = unsettled }) f s
 
@@ -133,7 +135,8 @@ module _ {Start Chain : Type 0} (v : Solving Start Chain) (p : Sealed) (k : ℕ)
       ap₂ (λ (all : List (List ℤ)) (ss : List EntryStep). backwards (step_back v p k) (zip path all) (record { pools = pools; steps = ss; unsettled = unsettled })) (sym is) (sym none)
 
 -- a fault of a part that is one of the whole
-pub stops_through : {A B : Type 0} (f : SweepFault) (part : Result A SweepFault) (whole : Result B SweepFault) → ((e : SweepFault) → part ≡ Err e → whole ≡ Err e) → Stops f part → Stops f whole
+pub stops_through : {A B : Type 0} (f : PlanFault) (part : Result A PlanFault) (whole : Result B PlanFault) → ((e : PlanFault) → part ≡ Err e → whole ≡ Err e) → Stops f part → Stops f whole
 stops_through (NoStage d) part whole h s = h (NoStage d) s
 stops_through (Range i m r) part whole h s = h (Range i m r) s
+stops_through DiskFault part whole h s = s
 stops_through Memory part whole h s = tt

@@ -1,6 +1,6 @@
--- The backward part of an iteration of training, for one path: a cut for each of its nodes, the last first.
+-- The backward pass of one path in an iteration of training: a cut for each of its nodes, the last first.
 -- Source: Pereira and Pinto 1991.
-use Rattle.std.specs.Prelude.{◌≡◌, ℕ, ◌+◌, ◌-◌, ℤ, List, [], ◌∷◌, ◌++◌, length, take, set, zip, Option, Some, None, Result, Ok, Err}
+use Rattle.std.specs.Prelude.{ℕ, ◌+◌, ◌-◌, ℤ, List, [], ◌∷◌, ◌++◌, length, take, set, zip, Option, Some, None, Result, Ok, Err}
 use Rattle.hp_num.specs.Steps.{◌>>=◌}
 use Rattle.hp_problem.specs.Sealed.{Sealed}
 use Rattle.hp_theory.specs.declared.cut.Cut.{Cut}
@@ -11,12 +11,11 @@ use Rattle.hp_theory.specs.Range.{range_of}
 use Rattle.hp_theory.specs.View.{problem_of}
 use Rattle.hp_cut.specs.declared.entry.Entry.{Entry}
 use Rattle.hp_cut.specs.declared.entry.EntryStep.{EntryStep}
-use Rattle.hp_settle.specs.Refutation.{NoDecision}
-use Rattle.hp_lp.specs.Chained.{Solving}
+use Rattle.hp_settle.specs.declared.plan_fault.PlanFault.{PlanFault}
+use Rattle.hp_settle.specs.declared.plan_fault.PlanFault.TheVariants.{Range}
+use Rattle.hp_solver.specs.Solving.{Solving}
 use Rattle.hp_sampler.specs.declared.steps.Step.{Step}
 use Rattle.hp_backward.specs.declared.certified.Certified.{Certified}
-use Rattle.hp_backward.specs.declared.fault.SweepFault.{SweepFault}
-use Rattle.hp_backward.specs.declared.fault.SweepFault.TheVariants.{NoStage, Range, Memory}
 use Rattle.hp_backward.specs.Certifying.{certified}
 
 -- the state after some steps of a path: the pools, the entry's steps, and how many answers were of no use
@@ -26,12 +25,12 @@ pub record Swept : Type 0 where
   pub unsettled : ℕ
 
 -- the size of the certificates of the node m is in range, or passes it at a realization
-abbrev pub within_range : {A : Type 0} → ℕ → ℕ → Option ℕ → A → Result A SweepFault
+abbrev pub within_range : {A : Type 0} → ℕ → ℕ → Option ℕ → A → Result A PlanFault
 within_range k m None x = Ok x
 within_range k m (Some realization) x = Err (Range k m realization)
 
 -- the certificates of the node m at an incoming state, over these pools, and their cut
-unfoldable pub made_at : {Start Chain : Type 0} → Solving Start Chain → Sealed → List (List Cut) → ℕ → ℕ → List ℤ → Result (Certified × Cut) SweepFault
+unfoldable pub made_at : {Start Chain : Type 0} → Solving Start Chain → Sealed → List (List Cut) → ℕ → ℕ → List ℤ → Result (Certified × Cut) PlanFault
 made_at v p pools k m state =
     let n : Node = node_at (problem_of p) m in
     certified v p pools k m state >>= λ found. within_range k m (range_of pools n found.list) (found, cut_of pools n found.list)
@@ -45,27 +44,21 @@ with_made before m made = record {
 }
 
 -- a step back, at a node and its incoming state: the node's cut is made over the pools as they now are
-unfoldable pub step_back : {Start Chain : Type 0} → Solving Start Chain → Sealed → ℕ → Swept → Step × List ℤ → Result Swept SweepFault
+unfoldable pub step_back : {Start Chain : Type 0} → Solving Start Chain → Sealed → ℕ → Swept → Step × List ℤ → Result Swept PlanFault
 step_back v p k before visit = made_at v p before.pools k visit.0.node visit.1 >>= λ made. Ok (with_made before visit.0.node made)
 
 -- one after another, the last first
-abbrev pub backwards : {A : Type 0} → (Swept → A → Result Swept SweepFault) → List A → Swept → Result Swept SweepFault
+abbrev pub backwards : {A : Type 0} → (Swept → A → Result Swept PlanFault) → List A → Swept → Result Swept PlanFault
 backwards step [] start = Ok start
 backwards step (x ∷ xs) start = backwards step xs start >>= λ before. step before x
 
--- the path backwards in iteration k, from these pools, at the states and with the count of its walk forward
-unfoldable pub swept : {Start Chain : Type 0} → Solving Start Chain → Sealed → List (List Cut) → ℕ → List Step → List (List ℤ) → ℕ → Result Swept SweepFault
+-- the path backwards in iteration k, from these pools, at the states and with the count of its trajectory
+unfoldable pub swept : {Start Chain : Type 0} → Solving Start Chain → Sealed → List (List Cut) → ℕ → List Step → List (List ℤ) → ℕ → Result Swept PlanFault
 swept v p pools k path states unsettled = backwards (step_back v p k) (zip path states) (record { pools = pools; steps = []; unsettled = unsettled })
 
 -- the visible part of pools and an entry
 abbrev pub seen : List (List Cut) → Entry → Swept
 seen pools entry = record { pools = pools; steps = entry.steps; unsettled = entry.unsettled }
-
--- the fault at which the steps stop; want of memory is free
-abbrev pub Stops : {A : Type 0} → SweepFault → Result A SweepFault → Type 0
-Stops (NoStage dead) steps = steps ≡ Err (NoStage dead)
-Stops (Range k m r) steps = steps ≡ Err (Range k m r)
-Stops Memory steps = Unit {0}
 
 -- the pools without the last cut of the node m
 abbrev pub popped : List (List Cut) → ℕ → List (List Cut)
@@ -75,9 +68,3 @@ popped pools m = set pools m (take (length (pool pools m) - 1) (pool pools m))
 abbrev pub taken_back : List (List Cut) → List EntryStep → List (List Cut)
 taken_back pools [] = pools
 taken_back pools (s ∷ ss) = popped (taken_back pools ss) s.node
-
--- where a node is dead, no decisions exist there
-abbrev pub IsDead : Sealed → SweepFault → Type 0
-IsDead p (NoStage dead) = NoDecision (node_at (problem_of p) dead.node) dead.values dead.state
-IsDead p (Range k m r) = Unit {0}
-IsDead p Memory = Unit {0}

@@ -3,10 +3,8 @@
 
 mod certified;
 mod chains;
-pub mod fault;
-mod halves;
+pub mod passes;
 mod steps_back;
-pub mod sweeping;
+mod two_chains;
 
-pub use fault::SweepFault;
-pub use sweeping::{sweep, sweep_with};
+pub use passes::{Pass, backward_pass};

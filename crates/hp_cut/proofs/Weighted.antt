@@ -16,12 +16,12 @@ use Rattle.hp_theory.specs.Tree.{InBox}
 use Rattle.hp_theory.specs.Size.{magnitude}
 use Rattle.hp_theory.specs.Bound.{value}
 use Rattle.hp_theory.specs.Premises.{StartsIn, HaveCuts}
-use Rattle.hp_theory.specs.Fit.{Fit}
 use Rattle.hp_theory.specs.View.{problem_of, links_of}
 use Rattle.hp_theory.proofs.Views.{root-problem_of, initial-problem_of, link_weights-links_of, link_at, length-links_of}
 use Rattle.hp_theory.proofs.SealedPremises.{root_shaped-sealed, have_cuts-root}
 use Rattle.hp_theory.proofs.SizeToFit.{size_times}
 use Rattle.hp_theory.proofs.OneMore.{Added, total_step}
+use Rattle.hp_cut.specs.AtNodes.{PoolsFit}
 use Rattle.hp_num.proofs.Order.{le_refl}
 use Rattle.hp_cut.proofs.Reach.{start_box, total-weights}
 
@@ -116,5 +116,5 @@ pub root_some : (p : Sealed) → is_sealed p ≡ true → 0 < sum p.raw.root_wei
 root_some p e = subst (λ (k : ℕ). 0 < k) (root_weights p e) (root_shaped-sealed p e).some
 
 -- pools that fit have a cut for each successor of the root
-pub have_cuts-fit : (p : Sealed) (pools : List (List Cut)) → is_sealed p ≡ true → Fit (problem_of p) (length p.raw.nodes) pools → HaveCuts pools (problem_of p).root
+pub have_cuts-fit : (p : Sealed) (pools : List (List Cut)) → is_sealed p ≡ true → PoolsFit p pools → HaveCuts pools (problem_of p).root
 have_cuts-fit p pools e f = have_cuts-root p pools e f.some

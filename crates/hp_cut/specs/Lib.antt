@@ -4,3 +4,4 @@ pub mod Peaks
 pub mod FlatCuts
 pub mod Active
 pub mod Kept
+pub mod AtNodes

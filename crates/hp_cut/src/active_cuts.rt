@@ -38,6 +38,16 @@ struct Corners {
     greatest: i128,
 }
 
+/// The cuts of a list that are compared over a box: the list, the ends of the box, and the values at its corners of the cuts that
+/// were taken in.
+#[derive(Drop)]
+struct Compared<'a> {
+    cuts: &'a CutList<'a>,
+    lows: &'a [i64],
+    highs: &'a [i64],
+    corners: &'a [Corners],
+}
+
 /// Multiplies two numbers, always in range.
 fn product(a: i64, b: i64) -> i128
     ensures { result ≡ a *ℤ b }
@@ -134,64 +144,43 @@ fn lead(lows: &[i64], highs: &[i64], cuts: &CutList, first: u32, second: u32) ->
 }
 
 /// Tells whether the first of two cuts is nowhere the lesser over a box.
-fn is_over(
-    corners: &[Corners],
-    lows: &[i64],
-    highs: &[i64],
-    cuts: &CutList,
-    first: u32,
-    second: u32,
-) -> bool
-    requires there { second < length cuts.now }
+fn is_over(all: &Compared, first: u32, second: u32) -> bool
+    requires there { second < length all.now.cuts.now }
     requires before { first < second }
-    ensures { result ≡ true → Covers cuts.now lows.now highs.now first second }
+    ensures { result ≡ true → Covers all.now.cuts.now all.now.lows.now all.now.highs.now first second }
 {
-    if is_lesser(corners, first, second) {
+    if is_lesser(all.corners, first, second) {
         return false;
     }
-    match lead(lows, highs, cuts, first, second) {
+    match lead(all.lows, all.highs, all.cuts, first, second) {
         Some(least) => 0 <= least,
         None => false,
     }
 }
 
 /// Tells whether the first of two cuts is everywhere the greater over a box.
-fn is_above(
-    corners: &[Corners],
-    lows: &[i64],
-    highs: &[i64],
-    cuts: &CutList,
-    first: u32,
-    second: u32,
-) -> bool
-    requires first { first < length cuts.now }
-    requires second { second < length cuts.now }
-    ensures { result ≡ true → Covers cuts.now lows.now highs.now first second }
+fn is_above(all: &Compared, first: u32, second: u32) -> bool
+    requires first { first < length all.now.cuts.now }
+    requires second { second < length all.now.cuts.now }
+    ensures { result ≡ true → Covers all.now.cuts.now all.now.lows.now all.now.highs.now first second }
 {
-    if is_lesser(corners, first, second) {
+    if is_lesser(all.corners, first, second) {
         return false;
     }
-    match lead(lows, highs, cuts, first, second) {
+    match lead(all.lows, all.highs, all.cuts, first, second) {
         Some(least) => 0 < least,
         None => false,
     }
 }
 
 /// Tells whether one of the cuts covers the one at a place behind them.
-fn are_over(
-    corners: &[Corners],
-    lows: &[i64],
-    highs: &[i64],
-    cuts: &CutList,
-    places: &[u32],
-    place: u32,
-) -> bool
-    requires there { place < length cuts.now }
+fn are_over(all: &Compared, places: &[u32], place: u32) -> bool
+    requires there { place < length all.now.cuts.now }
     requires rising { AreRisingPlaces 0 place places.now }
-    ensures { result ≡ true → IsCovered cuts.now lows.now highs.now places.now place }
+    ensures { result ≡ true → IsCovered all.now.cuts.now all.now.lows.now all.now.highs.now places.now place }
 {
     for k in 0..places.len() {
-        if is_over(corners, lows, highs, cuts, places[k], place) {
+        if is_over(all, places[k], place) {
             return true;
         }
     }
@@ -199,24 +188,16 @@ fn are_over(
 }
 
 /// Puts those into the room that the cut at a place behind them is not everywhere above. [`Memory`] where memory was refused.
-fn keep_rest(
-    corners: &[Corners],
-    lows: &[i64],
-    highs: &[i64],
-    cuts: &CutList,
-    places: &[u32],
-    place: u32,
-    room: &mut Vec<u32>,
-) -> Result<(), Memory>
-    requires there { place < length cuts.now }
+fn keep_rest(all: &Compared, places: &[u32], place: u32, room: &mut Vec<u32>) -> Result<(), Memory>
+    requires there { place < length all.now.cuts.now }
     requires rising { AreRisingPlaces 0 place places.now }
     ensures rising { OnOk result (AreRisingPlaces 0 place room.new.items) }
-    ensures left { OnOk result ((k : ℕ) → k < length places.now → IsLeft cuts.now lows.now highs.now place room.new.items (get_or places.now k 0)) }
+    ensures left { OnOk result ((k : ℕ) → k < length places.now → IsLeft all.now.cuts.now all.now.lows.now all.now.highs.now place room.new.items (get_or places.now k 0)) }
 {
     room.clear();
     for k in 0..places.len() {
         let other = places[k];
-        if !is_above(corners, lows, highs, cuts, place, other) {
+        if !is_above(all, place, other) {
             room.push(other)?;
         }
     }
@@ -266,18 +247,16 @@ impl Active {
         let highs = self.highs.as_slice();
         push_corners(&mut self.corners, lows, highs, cuts, place)?;
         let corners = self.corners.as_slice();
-        if are_over(corners, lows, highs, cuts, self.places.as_slice(), place) {
-            return Ok(());
-        }
-        keep_rest(
-            corners,
+        let all = Compared {
+            cuts: &*cuts,
             lows,
             highs,
-            cuts,
-            self.places.as_slice(),
-            place,
-            &mut self.room,
-        )?;
+            corners,
+        };
+        if are_over(&all, self.places.as_slice(), place) {
+            return Ok(());
+        }
+        keep_rest(&all, self.places.as_slice(), place, &mut self.room)?;
         self.room.push(place)?;
         self.copies.fill(cuts, self.room.as_slice())?;
         std::mem::swap(&mut self.places, &mut self.room);

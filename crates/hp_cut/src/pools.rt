@@ -6,10 +6,10 @@ ghost use Rattle.hp_problem.specs.Sealed.{is_sealed};
 ghost use Rattle.hp_theory.specs.Problem.{node_at, link_weights};
 ghost use Rattle.hp_theory.specs.Tree.{InBox};
 ghost use Rattle.hp_theory.specs.Size.{magnitude};
-ghost use Rattle.hp_theory.specs.Fit.{Fit};
 ghost use Rattle.hp_theory.specs.Pools.{pool, no_cut, push, Sound};
 ghost use Rattle.hp_theory.specs.Bound.{value, weighted_value, bound, Under};
 ghost use Rattle.hp_theory.specs.View.{problem_of, links_of};
+ghost use Rattle.hp_cut.specs.AtNodes.{PoolsFit};
 ghost use Rattle.hp_cut.specs.FlatCuts.{packed_cut};
 ghost use Rattle.hp_cut.specs.Peaks.{peak_over};
 
@@ -163,7 +163,7 @@ impl Pools {
 
     /// The greatest value of a node's cuts at a whole state inside its box, at scale 2^24.
     pub fn value_at(&self, problem: &Problem, node: u32, state: &[i64]) -> i128
-        requires fit { Fit (problem_of problem.now) (length problem.now.raw.nodes) self.now.lists }
+        requires fit { PoolsFit problem.now self.now.lists }
         requires known { node < length problem.now.raw.nodes }
         requires inside { InBox 1 (node_at (problem_of problem.now) node).low
             (node_at (problem_of problem.now) node).high state.now }
@@ -176,7 +176,7 @@ impl Pools {
 
     // The sum of the weights of the root's successors times their values at the initial state.
     fn weighted(&self, problem: &Problem) -> i128
-        requires { Fit (problem_of problem.now) (length problem.now.raw.nodes) self.now.lists }
+        requires { PoolsFit problem.now self.now.lists }
         ensures { result ≡ weighted_value self.now.lists (problem_of problem.now).initial (problem_of problem.now).root }
     {
         let raw = problem.raw();
@@ -194,7 +194,7 @@ impl Pools {
     /// The bound of the pools, at scale 2^24: the average of the values of the root's successors at
     /// the initial state by the root's weights, rounded down (Pereira and Pinto 1991).
     pub fn bound(&self, problem: &Problem) -> i128
-        requires { Fit (problem_of problem.now) (length problem.now.raw.nodes) self.now.lists }
+        requires { PoolsFit problem.now self.now.lists }
         ensures value { result ≡ bound (problem_of problem.now) self.now.lists }
         ensures sound { Sound (problem_of problem.now) self.now.lists → Under (problem_of problem.now) result }
     {

@@ -6,10 +6,11 @@ use Rattle.hp_theory.specs.declared.cut.Cut.{Cut}
 use Rattle.hp_theory.specs.Problem.{Link, node_at}
 use Rattle.hp_theory.specs.View.{problem_of}
 use Rattle.hp_theory.specs.Pools.{pool}
-use Rattle.hp_theory.specs.Fit.{CutFits, Fit, FitFor}
+use Rattle.hp_theory.specs.Fit.{CutFits, FitFor}
 use Rattle.hp_theory.proofs.SealedPremises.{links-sealed, have_cuts-links}
+use Rattle.hp_cut.specs.AtNodes.{PoolsFit}
 
-pub fit_for-fit : (p : Sealed) (pools : List (List Cut)) (m : ℕ) → is_sealed p ≡ true → m < length p.raw.nodes → Fit (problem_of p) (length p.raw.nodes) pools → FitFor (problem_of p) (length p.raw.nodes) pools m
+pub fit_for-fit : (p : Sealed) (pools : List (List Cut)) (m : ℕ) → is_sealed p ≡ true → m < length p.raw.nodes → PoolsFit p pools → FitFor (problem_of p) (length p.raw.nodes) pools m
 fit_for-fit p pools m e h f = record {
   lists = f.lists;
   some = have_cuts-links p pools m e h f.some;

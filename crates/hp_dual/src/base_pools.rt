@@ -3,9 +3,10 @@ ghost use Rattle.std.specs.Prelude.{◌≡◌, ℕ, ◌<◌, ◌*◌, ◌^◌, p
 ghost use Rattle.hp_problem.specs.declared.raw.Row.{Row};
 ghost use Rattle.hp_theory.specs.Problem.{S, Link, node_at};
 ghost use Rattle.hp_theory.specs.Range.{based};
-ghost use Rattle.hp_theory.specs.Fit.{Fit, FitFor};
+ghost use Rattle.hp_theory.specs.Fit.{FitFor};
 ghost use Rattle.hp_theory.specs.Pools.{Sound, pool};
 ghost use Rattle.hp_theory.specs.View.{problem_of};
+ghost use Rattle.hp_cut.specs.AtNodes.{PoolsFit};
 ghost use Rattle.hp_dual.specs.declared.base_pools.BaseFault.TheVariants as faults;
 ghost use Rattle.hp_dual.specs.Bases.{certificate_of, GivesCut, AddsCut, Bases};
 
@@ -130,7 +131,7 @@ fn add_base_cut(
 /// multipliers of rows 0 and all weight on each successor's first cut). Each base cut holds, and its numbers stay small.
 pub fn base(alloc: Global, problem: &Problem) -> Result<Pools, BaseFault>
     ensures value { Bases result (based problem.now) }
-    ensures fit { IfOk result (λ p. Fit (problem_of problem.now) (length problem.now.raw.nodes) p.lists) }
+    ensures fit { IfOk result (λ p. PoolsFit problem.now p.lists) }
     ensures sound { IfOk result (λ p. Sound (problem_of problem.now) p.lists) }
 {
     let order = problem.order();

@@ -25,7 +25,7 @@ use Rattle.hp_theory.proofs.SealedOrder.{no_cycle-sealed}
 use Rattle.hp_theory.proofs.SealedParts.{Parts, parts, weighty}
 use Rattle.hp_theory.proofs.SealedPremises.{root_shaped-sealed}
 use Rattle.hp_theory.proofs.Views.{link_at, length-links_of, root-problem_of}
-use Rattle.hp_forward.specs.Given.{IsStateAt}
+use Rattle.hp_cut.specs.AtNodes.{IsStateAt}
 use Rattle.hp_forward.specs.Walking.{values_of}
 
 -- each step is at a node of a lower rank than the one before it

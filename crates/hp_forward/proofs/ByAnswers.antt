@@ -17,10 +17,11 @@ use Rattle.hp_settle.specs.declared.judging.Judged.TheVariants as judged
 use Rattle.hp_settle.specs.Judging.{judge_of}
 use Rattle.hp_settle.proofs.JudgedDead.{judged_dead}
 use Rattle.hp_forward.specs.declared.deciding.Decided.{Decided}
-use Rattle.hp_forward.specs.declared.deciding.StageFault.{StageFault}
-use Rattle.hp_forward.specs.declared.deciding.StageFault.TheVariants.{NoStage, Memory}
+use Rattle.hp_settle.specs.declared.plan_fault.PlanFault.{PlanFault}
+use Rattle.hp_settle.specs.declared.plan_fault.PlanFault.TheVariants.{NoStage, Range, DiskFault, Memory}
+use Rattle.hp_settle.specs.Faults.{Fails, Gives, OnNoStage, Refutes}
 use Rattle.hp_forward.specs.Deciding.{decided_of, decide_by, is_unsettled}
-use Rattle.hp_forward.specs.Given.{Fails, Gives, IsStateAt, OnNoStage, Refutes}
+use Rattle.hp_cut.specs.AtNodes.{IsStateAt}
 use Rattle.hp_forward.proofs.Boxes.{boxes-sealed, decisions_inside, nested-sealed, next_inside}
 use Rattle.hp_forward.proofs.Decisions.{lows, number_of}
 
@@ -72,18 +73,22 @@ no_err : (x : Decided) (d : Dead) → ok x ≡ err d → ⊥
 no_err x d h = cc
 
 -- a property of the defined answer holds of the given one, and so it is with a refutation
-pub if_given : {A : Type 0} (r : Result A StageFault) (defined : Result A Dead) (P : A → Type 0) → ((x : A) → defined ≡ Ok x → P x) → Gives r defined → IfOk r P
+pub if_given : {A : Type 0} (r : Result A PlanFault) (defined : Result A Dead) (P : A → Type 0) → ((x : A) → defined ≡ Ok x → P x) → Gives r defined → IfOk r P
 if_given (Ok x) defined P f g = f x g
 if_given (Err e) defined P f g = tt
 
-pub on_no_stage : {A : Type 0} (r : Result A StageFault) (defined : Result A Dead) (P : Dead → Type 0) → ((d : Dead) → defined ≡ Err d → P d) → Gives r defined → OnNoStage r P
+pub on_no_stage : {A : Type 0} (r : Result A PlanFault) (defined : Result A Dead) (P : Dead → Type 0) → ((d : Dead) → defined ≡ Err d → P d) → Gives r defined → OnNoStage r P
 on_no_stage (Ok x) defined P f g = tt
 on_no_stage (Err (NoStage d)) defined P f g = f d g
+on_no_stage (Err (Range k m r)) defined P f g = tt
+on_no_stage (Err DiskFault) defined P f g = tt
 on_no_stage (Err Memory) defined P f g = tt
 
 -- a refusal of one step is that of the whole
-pub fails_on : {A B : Type 0} (fault : StageFault) (step : Result A Dead) (whole : Result B Dead) → ((d : Dead) → step ≡ Err d → whole ≡ Err d) → Fails fault step → Fails fault whole
+pub fails_on : {A B : Type 0} (fault : PlanFault) (step : Result A Dead) (whole : Result B Dead) → ((d : Dead) → step ≡ Err d → whole ≡ Err d) → Fails fault step → Fails fault whole
 fails_on (NoStage d) step whole f h = f d h
+fails_on (Range k m r) step whole f h = absurd h
+fails_on DiskFault step whole f h = absurd h
 fails_on Memory step whole f h = tt
 
 module _ (p : Sealed) (e : is_sealed p ≡ true) (run m : ℕ) (h : m < length p.raw.nodes) (values state : List ℤ) (answer : Answer) where

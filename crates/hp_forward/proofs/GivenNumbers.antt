@@ -25,7 +25,7 @@ use Rattle.hp_lp.specs.Given as of
 use Rattle.hp_lp.specs.Nodes.{Stands}
 use Rattle.hp_lp.proofs.SealedStages.{boxed, of-sealed}
 use Rattle.hp_forward.specs.Amounts.{AreCosts, AreGiven, IsOver}
-use Rattle.hp_forward.specs.Given.{IsStateAt}
+use Rattle.hp_cut.specs.AtNodes.{IsStateAt}
 use Rattle.hp_forward.proofs.Boxes.{boxes-sealed}
 
 small_in : (x l u : ℤ) → (pos S *ℤ l) ≤ℤ x → x ≤ℤ (pos S *ℤ u) → nat_abs l ≤ 2 ^ 40 → nat_abs u ≤ 2 ^ 40 → nat_abs x ≤ 2 ^ 64

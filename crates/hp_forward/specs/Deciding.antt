@@ -14,7 +14,8 @@ use Rattle.hp_settle.specs.declared.judging.Judged.{Judged}
 use Rattle.hp_settle.specs.declared.judging.Judged.TheVariants as judged
 use Rattle.hp_settle.specs.Judging.{judge_of}
 use Rattle.hp_lp.specs.Stage.{whole}
-use Rattle.hp_lp.specs.Chained.{Solving, answered}
+use Rattle.hp_solver.specs.Solving.{Solving}
+use Rattle.hp_lp.specs.Chained.{stage_answer}
 use Rattle.hp_forward.specs.declared.deciding.Decided.{Decided}
 
 -- from the scale 2^32 of a solver to the scale 2^24, rounded down
@@ -62,5 +63,5 @@ decide_by p run m values state answer known =
 -- Decide: by the answer to the node's stage problem, in a chain of its own
 unfoldable pub decide_of : {Start Chain : Type 0} → Solving Start Chain → Sealed → List (List Cut) → ℕ → ℕ → List ℤ → List ℤ → Result Decided Dead
 decide_of v p pools run m values state =
-    let answer : Answer = answered v p pools m values state in
+    let answer : Answer = stage_answer v p pools m values state in
     decide_by p run m values state answer (judge_of (node_at (problem_of p) m) values state answer)

@@ -9,12 +9,12 @@ use Rattle.hp_theory.specs.Problem.{S}
 use Rattle.hp_theory.specs.Tree.{times_all}
 use Rattle.hp_theory.specs.View.{problem_of}
 use Rattle.hp_settle.specs.declared.judging.Dead.{Dead}
-use Rattle.hp_lp.specs.Chained.{Solving}
+use Rattle.hp_solver.specs.Solving.{Solving}
 use Rattle.hp_sampler.specs.declared.steps.Step.{Step}
-use Rattle.hp_sampler.specs.declared.steps.Walk.{Walk}
+use Rattle.hp_sampler.specs.declared.steps.Trajectory.{Trajectory}
 use Rattle.hp_forward.specs.declared.deciding.Decided.{Decided}
 use Rattle.hp_forward.specs.Deciding.{decide_of}
-use Rattle.hp_forward.specs.Given.{IsStateAt}
+use Rattle.hp_cut.specs.AtNodes.{IsStateAt}
 
 -- the values of a step's realization
 abbrev pub values_of : Raw → Step → List ℤ
@@ -24,19 +24,19 @@ abbrev pub one_if : Bool → ℕ
 one_if true = 1
 one_if false = 0
 
-abbrev pub no_walk : Walk
+abbrev pub no_walk : Trajectory
 no_walk = record { states = []; unsettled = 0 }
 
 -- with one step more, which began in this state
-abbrev pub walked : Walk → List ℤ → Decided → Walk
+abbrev pub walked : Trajectory → List ℤ → Decided → Trajectory
 walked walk state d = record { states = walk.states ++ state ∷ []; unsettled = walk.unsettled + one_if d.unsettled }
 
 -- one step: the walk with it, and the state that leaves its node
-abbrev pub step_on : (Step → List ℤ → Result Decided Dead) → Walk → List ℤ → Step → Result (Walk × List ℤ) Dead
+abbrev pub step_on : (Step → List ℤ → Result Decided Dead) → Trajectory → List ℤ → Step → Result (Trajectory × List ℤ) Dead
 step_on decide walk state s = decide s state >>= λ d. Ok (walked walk state d, d.next)
 
 -- a walk that has come to this state goes on through these steps; it stops where no decisions exist
-abbrev pub walk_on : (Step → List ℤ → Result Decided Dead) → Walk → List ℤ → List Step → Result Walk Dead
+abbrev pub walk_on : (Step → List ℤ → Result Decided Dead) → Trajectory → List ℤ → List Step → Result Trajectory Dead
 walk_on decide walk state [] = Ok walk
 walk_on decide walk state (s ∷ ss) = step_on decide walk state s >>= λ after. walk_on decide after.0 after.1 ss
 
@@ -45,7 +45,7 @@ abbrev pub decide_step : {Start Chain : Type 0} → Solving Start Chain → Seal
 decide_step v p pools run s state = decide_of v p pools run s.node (values_of p.raw s) state
 
 -- the walk along a path, from the initial state; all of it over the same pools
-unfoldable pub walk_of : {Start Chain : Type 0} → Solving Start Chain → Sealed → List (List Cut) → ℕ → List Step → Result Walk Dead
+unfoldable pub walk_of : {Start Chain : Type 0} → Solving Start Chain → Sealed → List (List Cut) → ℕ → List Step → Result Trajectory Dead
 walk_of v p pools run path = walk_on (decide_step v p pools run) no_walk (times_all S (problem_of p).initial) path
 
 -- the answers of f for each item in order, up to the first refusal
@@ -58,7 +58,7 @@ abbrev pub in_turn : {B E : Type 0} → Result (List B) E → Result (List B) E 
 in_turn first rest = first >>= λ ys. rest >>= λ zs. Ok (ys ++ zs)
 
 -- the walks along paths, one after another, all over the same pools
-abbrev pub walks_of : {Start Chain : Type 0} → Solving Start Chain → Sealed → List (List Cut) → ℕ → List (List Step) → Result (List Walk) Dead
+abbrev pub walks_of : {Start Chain : Type 0} → Solving Start Chain → Sealed → List (List Cut) → ℕ → List (List Step) → Result (List Trajectory) Dead
 walks_of v p pools run paths = each_of (walk_of v p pools run) paths
 
 -- each state lies in the box of its step's node
@@ -66,12 +66,12 @@ abbrev pub AreInside : Sealed → List Step → List (List ℤ) → Type 0
 AreInside p path states = All (λ (q : Step × List ℤ). IsStateAt p q.0.node q.1) (zip path states)
 
 -- a walk along this path: one state per step, each inside, and at most as many answers of no use
-pub record IsWalk (p : Sealed) (path : List Step) (walk : Walk) : Type 0 where
+pub record IsWalk (p : Sealed) (path : List Step) (walk : Trajectory) : Type 0 where
   pub count : length walk.states ≡ length path
   pub inside : AreInside p path walk.states
   pub unsettled : walk.unsettled ≤ length path
 
 -- for each path the walk along it
-pub record AreWalks (p : Sealed) (paths : List (List Step)) (walks : List Walk) : Type 0 where
+pub record AreWalks (p : Sealed) (paths : List (List Step)) (walks : List Trajectory) : Type 0 where
   pub count : length walks ≡ length paths
-  pub each : All (λ (q : List Step × Walk). IsWalk p q.0 q.1) (zip paths walks)
+  pub each : All (λ (q : List Step × Trajectory). IsWalk p q.0 q.1) (zip paths walks)

@@ -8,7 +8,7 @@ ghost use Rattle.hp_theory.specs.Tree.{InBox, left_side};
 ghost use Rattle.hp_theory.specs.View.{node_of, problem_of};
 ghost use Rattle.hp_forward.specs.Amounts.{AreCosts, AreGiven, IsOver};
 ghost use Rattle.hp_forward.specs.Costing.{above, below, miss_of, misses_of, residual_of, residuals_of, stage_cost_of};
-ghost use Rattle.hp_forward.specs.Given.{IsStateAt};
+ghost use Rattle.hp_cut.specs.AtNodes.{IsStateAt};
 
 use crate::amounts::{Costs, Given, Raised, Scaled, products_sum, terms_sum};
 use crate::deciding::scaled;

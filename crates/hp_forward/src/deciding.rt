@@ -5,23 +5,20 @@ ghost use Rattle.hp_problem.specs.declared.raw.Decision.{Decision};
 ghost use Rattle.hp_problem.specs.Limits.{are_values};
 ghost use Rattle.hp_problem.specs.Parts.{successors_at};
 ghost use Rattle.hp_problem.specs.Sealed.{subproblem_of};
-ghost use Rattle.hp_theory.specs.Fit.{Fit};
 ghost use Rattle.hp_theory.specs.Problem.{S, node_at};
 ghost use Rattle.hp_theory.specs.Tree.{InBox, next_state};
 ghost use Rattle.hp_theory.specs.View.{problem_of};
+ghost use Rattle.hp_cut.specs.AtNodes.{IsStateAt, PoolsFit};
 ghost use Rattle.hp_settle.specs.declared.judging.Judged.{Judged};
 ghost use Rattle.hp_lp.specs.Stage.{whole};
-ghost use Rattle.hp_lp.specs.Chained.{solving};
-ghost use Rattle.hp_lp.specs.Ready.{AreReady};
 ghost use Rattle.hp_forward.specs.Deciding.{boxed, decide_by, decide_of, decided_of, decision_at, rescaled};
-ghost use Rattle.hp_forward.specs.Given.{Gives, IsStateAt, OnNoStage, Refutes};
-ghost use Rattle.hp_forward.specs.declared.deciding.StageFault.TheVariants as faults;
+ghost use Rattle.hp_settle.specs.Faults.{Gives, OnNoStage, Refutes};
 
 use hp_cut::Pools;
-use hp_lp::{SpareRows, Starts, answered_with};
+use hp_lp::{Planner, Workspace, solve_stage};
 use hp_num::{List, Memory, floor_div};
 use hp_problem::{Decision, Problem, Subproblem};
-use hp_settle::{Dead, Judged, judge};
+use hp_settle::{Dead, Judged, PlanFault, judge};
 use hp_solver::fixed::ONE;
 use hp_solver::{Answer, Fx, Kind, Solver};
 use hp_theory::SCALE;
@@ -30,21 +27,17 @@ use std::alloc::Global;
 /// The ratio of the scale of a solver's numbers to that of decisions.
 const FINER: i128 = ONE / SCALE as i128;
 
-/// Why nothing is decided.
-#[derive(Drop)]
-pub enum StageFault {
-    /// No decisions exist at a node, its values and its incoming state, as multipliers of its rows show.
-    NoStage(Dead),
-    /// Memory was refused.
-    Memory,
-}
-
-impl From<Memory> for StageFault {
-    ghost from_gives = { λ _ e. e ≡ faults.Memory };
-
-    fn from(_: Memory) -> Self {
-        StageFault::Memory
-    }
+/// What comes into a stage.
+#[derive(Clone, Copy)]
+pub struct StageInput<'a> {
+    /// The number that a refutation carries: that of the iteration or of the scenario.
+    pub run: u32,
+    /// The node's number.
+    pub node: u32,
+    /// One value per random variable.
+    pub values: &'a [i64],
+    /// The incoming state, one number per state, at scale 2^24.
+    pub state: &'a [i128],
 }
 
 /// The decisions at a node, and the state that leaves it.
@@ -160,45 +153,28 @@ fn decided_of(
     })
 }
 
-/// A refutation at values and a state.
-fn dead_at(
-    alloc: Global,
-    run: u32,
-    node: u32,
-    values: &[i64],
-    state: &[i128],
-    rows: List<i64>,
-) -> Result<Dead, Memory>
-    ensures { IfOk result (λ dead. dead ≡ record { run = run; node = node; values = values.now; state = state.now; rows = rows }) }
-{
-    Ok(Dead {
-        run,
-        node,
-        values: List::from_vec(Vec::from_slice(alloc, values)?),
-        state: List::from_vec(Vec::from_slice(alloc, state)?),
-        rows,
-    })
-}
-
 /// Gives the refutation, or the decisions.
 fn decide_by(
     alloc: Global,
     problem: &Problem,
-    run: u32,
-    node: u32,
-    values: &[i64],
-    state: &[i128],
+    input: &StageInput,
     answer: &Answer,
     judged: Judged,
-) -> Result<Decided, StageFault>
-    requires { node < length problem.now.raw.nodes }
-    ensures { Gives result (decide_by problem.now run node values.now state.now answer.now judged) }
+) -> Result<Decided, PlanFault>
+    requires { input.now.node < length problem.now.raw.nodes }
+    ensures { Gives result (decide_by problem.now input.now.run input.now.node input.now.values.now input.now.state.now answer.now judged) }
 {
     match judged {
-        Judged::Found => Ok(decided_of(alloc, problem.sub(node), answer, false)?),
-        Judged::Unsettled => Ok(decided_of(alloc, problem.sub(node), answer, true)?),
+        Judged::Found => Ok(decided_of(alloc, problem.sub(input.node), answer, false)?),
+        Judged::Unsettled => Ok(decided_of(alloc, problem.sub(input.node), answer, true)?),
         Judged::Dead(rows) => {
-            Err(StageFault::NoStage(dead_at(alloc, run, node, values, state, rows)?))
+            let StageInput {
+                run,
+                node,
+                values,
+                state,
+            } = *input;
+            Err(PlanFault::NoStage(Dead::new(alloc, run, node, values, state, rows)?))
         }
     }
 }
@@ -207,72 +183,40 @@ fn decide_by(
 /// is solved in a chain of its own.
 ///
 /// A decision is the answer's number at scale 2^24, rounded down, and then the nearest in 2^24 times the decision's box;
-/// a missing number counts as the decision's least. `run` is the number that a refutation carries.
+/// a missing number counts as the decision's least.
 ///
 /// There is one value per random variable of the node's subproblem, each at most 2^40 in absolute value, and the state, at
-/// scale 2^24, lies in the node's box. `starts` was made for this problem and this solver.
+/// scale 2^24, lies in the node's box.
 ///
 /// NoStage exactly where the answer is judged dead: then no decisions exist there, in any fraction of a unit. Memory
 /// where memory was refused.
-pub fn decide<V: Solver>(
-    alloc: Global,
-    problem: &Problem,
-    pools: &Pools,
-    solver: &V,
-    starts: &Starts<V>,
-    run: u32,
-    node: u32,
-    values: &[i64],
-    state: &[i128],
-) -> Result<Decided, StageFault>
-    requires known { node < length problem.now.raw.nodes }
-    requires fit { Fit (problem_of problem.now) (length problem.now.raw.nodes) pools.now.lists }
-    requires values { are_values (subproblem_of problem.now node) values.now ≡ true }
-    requires state { IsStateAt problem.now node state.now }
-    requires ready { AreReady (V.started solver.now) (V.suits solver.now) problem.now starts.now.items }
-    ensures value { Gives result (decide_of (solving (V.started solver.now) (V.begun solver.now) (V.next solver.now)) problem.now pools.now.lists run node values.now state.now) }
-    ensures inside { let n = node_at (problem_of problem.now) node in
-        IfOk result (λ d. InBox S n.decision_low n.decision_high d.decisions) }
-    ensures next { IfOk result (λ d. (m : ℕ) → Contains (successors_at problem.now.raw node) m
-        → IsStateAt problem.now m d.next) }
-    ensures dead { OnNoStage result (Refutes problem.now) }
-{
-    let mut spare = SpareRows::new(alloc);
-    decide_with(
-        alloc, &mut spare, problem, pools, solver, starts, run, node, values, state,
-    )
-}
-
-/// Like [`decide`], in the workspace's buffers, which are free again afterwards. Its faults are those of [`decide`].
 #[tactic(auto, unfolding(crate::specs::Deciding::decide_of))]
-pub fn decide_with<V: Solver>(
-    alloc: Global,
-    spare: &mut SpareRows,
-    problem: &Problem,
+pub fn decide<V: Solver>(
+    work: &mut Workspace,
+    planner: &Planner<V>,
     pools: &Pools,
-    solver: &V,
-    starts: &Starts<V>,
-    run: u32,
-    node: u32,
-    values: &[i64],
-    state: &[i128],
-) -> Result<Decided, StageFault>
-    requires known { node < length problem.now.raw.nodes }
-    requires fit { Fit (problem_of problem.now) (length problem.now.raw.nodes) pools.now.lists }
-    requires values { are_values (subproblem_of problem.now node) values.now ≡ true }
-    requires state { IsStateAt problem.now node state.now }
-    requires ready { AreReady (V.started solver.now) (V.suits solver.now) problem.now starts.now.items }
-    ensures value { Gives result (decide_of (solving (V.started solver.now) (V.begun solver.now) (V.next solver.now)) problem.now pools.now.lists run node values.now state.now) }
-    ensures inside { let n = node_at (problem_of problem.now) node in
+    input: &StageInput,
+) -> Result<Decided, PlanFault>
+    requires known { input.now.node < length planner.now.problem.now.raw.nodes }
+    requires fit { PoolsFit planner.now.problem.now pools.now.lists }
+    requires values { are_values (subproblem_of planner.now.problem.now input.now.node) input.now.values.now ≡ true }
+    requires state { IsStateAt planner.now.problem.now input.now.node input.now.state.now }
+    ensures value { Gives result (decide_of (V.does planner.now.solver.now) planner.now.problem.now pools.now.lists input.now.run input.now.node input.now.values.now input.now.state.now) }
+    ensures inside { let n = node_at (problem_of planner.now.problem.now) input.now.node in
         IfOk result (λ d. InBox S n.decision_low n.decision_high d.decisions) }
-    ensures next { IfOk result (λ d. (m : ℕ) → Contains (successors_at problem.now.raw node) m
-        → IsStateAt problem.now m d.next) }
-    ensures dead { OnNoStage result (Refutes problem.now) }
+    ensures next { IfOk result (λ d. (m : ℕ) → Contains (successors_at planner.now.problem.now.raw input.now.node) m
+        → IsStateAt planner.now.problem.now m d.next) }
+    ensures dead { OnNoStage result (Refutes planner.now.problem.now) }
 {
+    let problem = planner.problem();
     let _ = problem.raw();
-    let answer = answered_with(
-        alloc, spare, problem, pools, solver, starts, node, values, state,
-    )?;
-    let judged = judge(alloc, problem, node, values, state, &answer)?;
-    decide_by(alloc, problem, run, node, values, state, &answer, judged)
+    let StageInput {
+        node,
+        values,
+        state,
+        ..
+    } = *input;
+    let answer = solve_stage(work, planner, pools, node, values, state)?;
+    let judged = judge(work.alloc(), problem, node, values, state, &answer)?;
+    decide_by(work.alloc(), problem, input, &answer, judged)
 }

@@ -4,15 +4,15 @@
 mod amounts;
 pub mod costing;
 pub mod deciding;
-pub mod halves;
+mod forward_pass;
 pub mod laws;
+mod passes;
 pub mod traces;
-pub mod walking;
 pub mod worked;
 
 pub use costing::{miss, residual, stage_cost};
-pub use deciding::{Decided, StageFault, decide, decide_with, next_state, scaled};
-pub use halves::{states_all, states_all_with};
-pub use hp_sampler::Walk;
+pub use deciding::{Decided, StageInput, decide, next_state, scaled};
+pub use forward_pass::initial_state;
+pub use hp_sampler::Trajectory;
+pub use passes::forward_passes;
 pub use traces::{Trace, TraceStep};
-pub use walking::states;

@@ -4,8 +4,8 @@ use Rattle.std.specs.List.{AllByRecursion}
 use Rattle.hp_problem.specs.Sealed.{Sealed, is_sealed}
 use Rattle.hp_theory.specs.declared.cut.Cut.{Cut}
 use Rattle.hp_theory.specs.Pools.{pool, push, Sound}
-use Rattle.hp_theory.specs.Fit.{Fit}
 use Rattle.hp_theory.specs.View.{problem_of}
+use Rattle.hp_cut.specs.AtNodes.{PoolsFit}
 use Rattle.hp_cut.specs.declared.entry.Entry.{Entry}
 use Rattle.hp_cut.specs.declared.entry.EntryStep.{EntryStep}
 use Rattle.hp_record.specs.Shape.{Writable}
@@ -49,7 +49,7 @@ module _ (p : Sealed) (P : List (List Cut) → Type 0) (more : (pools : List (Li
 
 module _ (p : Sealed) (sealed : is_sealed p ≡ true) where
   abbrev IsFit : List (List Cut) → Type 0
-  IsFit pools = Fit (problem_of p) (length p.raw.nodes) pools
+  IsFit pools = PoolsFit p pools
 
   pub step_fit : (k : ℕ) (pools new : List (List Cut)) (s : EntryStep) → Known p s → IsFit pools → step_added p k pools s ≡ Ok new → IsFit new
   step_fit = step_keeps p IsFit (λ pools s known none fit. fit_more p sealed pools s known none fit)

@@ -12,6 +12,7 @@ use Rattle.hp_theory.proofs.Appending.{push_at, push_sound, kept_some}
 use Rattle.hp_theory.proofs.Duality.{weak_duality}
 use Rattle.hp_theory.proofs.SizeToFit.{size_to_fit}
 use Rattle.hp_theory.proofs.SealedPremises.{shaped-sealed, narrow-sealed}
+use Rattle.hp_cut.specs.AtNodes.{PoolsFit}
 use Rattle.hp_cut.specs.declared.entry.EntryStep.{EntryStep}
 use Rattle.hp_dual.proofs.Accepted.{right-fault_of, size-fault_of}
 use Rattle.hp_load.proofs.Once.{here, here_same}
@@ -39,7 +40,7 @@ module _ (p : Sealed) (sealed : is_sealed p ≡ true) (pools : List (List Cut)) 
   cut_holds : Sound (problem_of p) pools → Holds (problem_of p) s.node (cut_of_step p pools s)
   cut_holds sound = weak_duality (problem_of p) pools s.node s.list (shaped-sealed p s.node sealed known) sound (right-fault_of pools (node_at (problem_of p) s.node) s.list none)
 
-  pub fit_more : Fit (problem_of p) (length p.raw.nodes) pools → Fit (problem_of p) (length p.raw.nodes) (push pools s.node (cut_of_step p pools s))
+  pub fit_more : PoolsFit p pools → PoolsFit p (push pools s.node (cut_of_step p pools s))
   fit_more fit = push_fit (problem_of p) (length p.raw.nodes) pools s.node (cut_of_step p pools s) fit cut_fits
 
   pub sound_more : Sound (problem_of p) pools → Sound (problem_of p) (push pools s.node (cut_of_step p pools s))

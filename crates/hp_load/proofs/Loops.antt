@@ -7,8 +7,7 @@ use Rattle.hp_num.specs.Steps.{◌>>=◌}
 use Rattle.hp_problem.specs.Sealed.{Sealed, is_sealed}
 use Rattle.hp_theory.specs.declared.cut.Cut.{Cut}
 use Rattle.hp_theory.specs.Pools.{pool}
-use Rattle.hp_theory.specs.Fit.{Fit}
-use Rattle.hp_theory.specs.View.{problem_of}
+use Rattle.hp_cut.specs.AtNodes.{PoolsFit}
 use Rattle.hp_cut.specs.declared.entry.Entry.{Entry}
 use Rattle.hp_cut.specs.declared.entry.EntryStep.{EntryStep}
 use Rattle.hp_record.specs.Shape.{Writable}
@@ -25,7 +24,7 @@ here_few n m = grind (arith, nat_tests)
 -- the steps from number i on are left
 pub record StepsLeft (p : Sealed) (k : ℕ) (old : List (List Cut)) (steps : List EntryStep) (i : ℕ) (pools : List (List Cut)) : Type 0 where
   pub so_far : steps_added p k pools (drop i steps) ≡ steps_added p k old steps
-  pub fit : Fit (problem_of p) (length p.raw.nodes) pools
+  pub fit : PoolsFit p pools
   pub few : (m : ℕ) → length (pool pools m) + (length steps - i) ≤ 2 ^ 24
 
 module _ (p : Sealed) (k : ℕ) (old : List (List Cut)) (steps : List EntryStep) (i : ℕ) (pools : List (List Cut)) (below : i < length steps) (this : EntryStep) (is : this ≡ get_or steps i this) (l : StepsLeft p k old steps i pools) where
@@ -50,7 +49,7 @@ steps_done p k old steps i pools all l = sym l.so_far ∙ ap (λ (ss : List Entr
 -- the entries from number i on are left
 pub record EntriesLeft (p : Sealed) (old : List (List Cut)) (entries : List Entry) (i : ℕ) (pools : List (List Cut)) : Type 0 where
   pub so_far : entries_added p pools (drop i entries) ≡ entries_added p old entries
-  pub fit : Fit (problem_of p) (length p.raw.nodes) pools
+  pub fit : PoolsFit p pools
   pub few : (m : ℕ) → length (pool pools m) + (length entries - i) ≤ 2 ^ 23
 
 module _ (p : Sealed) (old : List (List Cut)) (entries : List Entry) (i : ℕ) (pools : List (List Cut)) (below : i < length entries) (one : Entry) (is : one ≡ get_or entries i one) (l : EntriesLeft p old entries i pools) where

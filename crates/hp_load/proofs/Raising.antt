@@ -15,10 +15,11 @@ use Rattle.hp_theory.specs.Problem.{node_at}
 use Rattle.hp_theory.specs.Size.{magnitude}
 use Rattle.hp_theory.specs.Pools.{pool, push}
 use Rattle.hp_theory.specs.Bound.{value_of_cut, greatest, value}
-use Rattle.hp_theory.specs.Fit.{CutFits, Fit}
+use Rattle.hp_theory.specs.Fit.{CutFits}
 use Rattle.hp_theory.specs.View.{problem_of, links_of}
 use Rattle.hp_theory.proofs.OneMore.{Added}
 use Rattle.hp_theory.proofs.SizeToFit.{size_dot}
+use Rattle.hp_cut.specs.AtNodes.{PoolsFit}
 use Rattle.hp_cut.specs.Reaches.{Reaches}
 use Rattle.hp_cut.proofs.Reach.{reaches, all_reach}
 use Rattle.hp_cut.proofs.Weighted.{part, most, known, starts, next}
@@ -120,7 +121,7 @@ module _ (p : Sealed) (sealed : is_sealed p ≡ true) (i : ℕ) (below : i < len
   unfolding root_values
   value_read pools d = get_or-map (λ (m : ℕ). value pools m (initial_values p.raw)) p.raw.root i 0 d below
 
-  pub value_small : (pools : List (List Cut)) → Fit (problem_of p) (length p.raw.nodes) pools → magnitude (value pools (get_or p.raw.root i 0) (initial_values p.raw)) ≤ℤ pos (2 ^ 104)
+  pub value_small : (pools : List (List Cut)) → PoolsFit p pools → magnitude (value pools (get_or p.raw.root i 0) (initial_values p.raw)) ≤ℤ pos (2 ^ 104)
   value_small pools fit =
       let m = get_or p.raw.root i 0 in
       reach_small (initial_values p.raw) (pool pools m) (recursion_from_All (Reaches (initial_values p.raw)) (pool pools m)
@@ -131,7 +132,7 @@ unfolding root_values
 values_count p pools = length-map p.raw.root (λ (m : ℕ). value pools m (initial_values p.raw))
 
 -- one successor more, of what is read on the way
-pub next_value : (p : Sealed) (pools : List (List Cut)) (vs : List ℤ) (ws : List ℕ) (i : ℕ) (s w : ℤ) → is_sealed p ≡ true → Fit (problem_of p) (length p.raw.nodes) pools → vs ≡ root_values p pools → ws ≡ p.raw.root_weights → i < length vs
+pub next_value : (p : Sealed) (pools : List (List Cut)) (vs : List ℤ) (ws : List ℕ) (i : ℕ) (s w : ℤ) → is_sealed p ≡ true → PoolsFit p pools → vs ≡ root_values p pools → ws ≡ p.raw.root_weights → i < length vs
     → SFits w128 w → SFits w128 (get_or vs i (pos 0)) → w ≡ pos (get_or ws i 0)
     → total (part pools (initial_values p.raw)) (links_of p.raw.root p.raw.root_weights) ≡ s +ℤ total (part pools (initial_values p.raw)) (drop i (links_of p.raw.root p.raw.root_weights))
     → (magnitude s +ℤ total most (drop i (links_of p.raw.root p.raw.root_weights))) ≤ℤ total most (links_of p.raw.root p.raw.root_weights)
@@ -144,7 +145,7 @@ next_value p pools vs ws i s w sealed fit values weights inside fw fv we value r
     rw (weight, to_z-of_z w128 (get_or vs i (pos 0)) fv) (next p pools i s (get_or vs i (pos 0)) sealed below is small value room)
 
 -- the cut is appended, or memory was refused
-pub values_pushed : (p : Sealed) (pools new : List (List Cut)) (k : ℕ) (c : Cut) (old vs : List ℤ) (result : Result (Unit {0}) Memory) → k < length p.raw.nodes → Fit (problem_of p) (length p.raw.nodes) pools → old ≡ root_values p pools
+pub values_pushed : (p : Sealed) (pools new : List (List Cut)) (k : ℕ) (c : Cut) (old vs : List ℤ) (result : Result (Unit {0}) Memory) → k < length p.raw.nodes → PoolsFit p pools → old ≡ root_values p pools
     → vs ≡ raised k (value_of_cut c (initial_values p.raw)) p.raw.root old → new ≡ (if is_ok result then push pools k c else pools) → OnOk result (vs ≡ root_values p new)
 values_pushed p pools new k c old vs (Ok done) there fit is raise pushed =
     raise ∙ ap (λ (xs : List ℤ). raised k (value_of_cut c (initial_values p.raw)) p.raw.root xs) is

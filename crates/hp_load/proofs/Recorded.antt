@@ -6,11 +6,11 @@ use Rattle.std.proofs.lemmas.List.Sums.{sum_by-cons}
 use Rattle.hp_problem.specs.Sealed.{Sealed, is_sealed}
 use Rattle.hp_theory.specs.declared.cut.Cut.{Cut}
 use Rattle.hp_theory.specs.Pools.{Sound}
-use Rattle.hp_theory.specs.Fit.{Fit}
 use Rattle.hp_theory.specs.Bound.{bound, Under}
 use Rattle.hp_theory.specs.View.{problem_of}
 use Rattle.hp_theory.proofs.BoundBelow.{sound_bound}
 use Rattle.hp_theory.proofs.SealedPremises.{root_shaped-sealed}
+use Rattle.hp_cut.specs.AtNodes.{PoolsFit}
 use Rattle.hp_cut.specs.declared.entry.Entry.{Entry}
 use Rattle.hp_cut.proofs.Weighted.{have_cuts-fit}
 use Rattle.hp_record.specs.Shape.{Writable, EntryFits, IsBatch}
@@ -33,7 +33,7 @@ module _ (p : Sealed) (sealed : is_sealed p ≡ true) (batch i : ℕ) (es : List
   with_pools : (found : Found) (pools : List (List Cut)) → IsSound p batch i found → entries_added p found.pools es ≡ Ok pools
       → IsSound p batch (suc i) (record { pools = pools; bounds = found.bounds ++ bound (problem_of p) pools ∷ []; unsettled = found.unsettled + sum_by (λ (e : Entry). e.unsettled) es })
   with_pools found pools s added =
-      let fit : Fit (problem_of p) (length p.raw.nodes) pools = entries_fit p sealed found.pools pools es is_batch.each s.fit added in
+      let fit : PoolsFit p pools = entries_fit p sealed found.pools pools es is_batch.each s.fit added in
       let sound : Sound (problem_of p) pools = entries_sound p sealed found.pools pools es is_batch.each s.sound added in
       let under = sound_bound (problem_of p) pools (root_shaped-sealed p sealed) (have_cuts-fit p pools sealed fit) sound in
       record {

@@ -4,9 +4,9 @@ use Rattle.std.specs.List.{AllByRecursion}
 use Rattle.hp_problem.specs.Sealed.{Sealed}
 use Rattle.hp_theory.specs.declared.cut.Cut.{Cut}
 use Rattle.hp_theory.specs.Pools.{pool, Sound}
-use Rattle.hp_theory.specs.Fit.{Fit}
 use Rattle.hp_theory.specs.Bound.{Under}
 use Rattle.hp_theory.specs.View.{problem_of}
+use Rattle.hp_cut.specs.AtNodes.{PoolsFit}
 use Rattle.hp_cut.specs.declared.entry.Entry.{Entry}
 use Rattle.hp_record.specs.Backwards.{IsPathFromRoot, nodes_back}
 use Rattle.hp_load.specs.declared.loaded.Loaded.{Loaded}
@@ -29,7 +29,7 @@ pub record IsSound (p : Sealed) (batch i : ℕ) (found : Found) : Type 0 where
   -- each cut holds at its node
   pub sound : Sound (problem_of p) found.pools
   -- no number that is computed from the cuts leaves 128 bits
-  pub fit : Fit (problem_of p) (length p.raw.nodes) found.pools
+  pub fit : PoolsFit p found.pools
   -- each bound is at most the cost of each policy
   pub under : All (Under (problem_of p)) found.bounds
   pub count : length found.bounds ≡ i
@@ -42,7 +42,7 @@ pub record IsSafe (p : Sealed) (l : Loaded) : Type 0 where
   -- each cut holds at its node
   pub sound : Sound (problem_of p) l.pools.lists
   -- no number that is computed from the cuts leaves 128 bits
-  pub fit : Fit (problem_of p) (length p.raw.nodes) l.pools.lists
+  pub fit : PoolsFit p l.pools.lists
   -- each bound is at most the cost of each policy
   pub under : All (Under (problem_of p)) l.bounds
   pub few : length l.bounds ≤ 2000

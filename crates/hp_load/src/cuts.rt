@@ -1,9 +1,8 @@
 // The cuts of the steps of entries.
 ghost use Rattle.std.specs.Prelude.{◌≡◌, ◌≢◌, ◌<◌, ◌≤◌, ◌+◌, ◌^◌, ℕ, IfOk, IfErr, OnOk, length, All};
 ghost use Rattle.std.specs.List.{AllByRecursion};
-ghost use Rattle.hp_theory.specs.Fit.{Fit};
 ghost use Rattle.hp_theory.specs.Pools.{pool};
-ghost use Rattle.hp_theory.specs.View.{problem_of};
+ghost use Rattle.hp_cut.specs.AtNodes.{PoolsFit};
 ghost use Rattle.hp_cut.specs.declared.entry.EntryStep.{EntryStep};
 ghost use Rattle.hp_record.specs.Shape.{Writable};
 ghost use Rattle.hp_load.specs.declared.refusal.LoadFault.TheVariants as faults;
@@ -40,7 +39,7 @@ fn add_cut(
     step: &EntryStep,
 ) -> Result<(), LoadFault>
     requires known { step.now.node < length problem.now.raw.nodes }
-    requires fit { Fit (problem_of problem.now) (length problem.now.raw.nodes) pools.old.lists }
+    requires fit { PoolsFit problem.now pools.old.lists }
     requires few { length (pool pools.old.lists step.now.node) < 2 ^ 24 }
     requires values { values.old ≡ root_values problem.now pools.old.lists }
     ensures value { Gives (λ _. pools.new.lists) result (step_added problem.now iteration pools.old.lists step.now) }
@@ -70,7 +69,7 @@ fn add_steps(
     steps: &[EntryStep],
 ) -> Result<(), LoadFault>
     requires known { All (λ (s : EntryStep). s.node < length problem.now.raw.nodes) steps.now }
-    requires fit { Fit (problem_of problem.now) (length problem.now.raw.nodes) pools.old.lists }
+    requires fit { PoolsFit problem.now pools.old.lists }
     requires few { (m : ℕ) → length (pool pools.old.lists m) + length steps.now ≤ 2 ^ 24 }
     requires values { values.old ≡ root_values problem.now pools.old.lists }
     ensures value { Gives (λ _. pools.new.lists) result (steps_added problem.now iteration pools.old.lists steps.now) }
@@ -94,7 +93,7 @@ pub(crate) fn add_entries(
     entries: &[Entry],
 ) -> Result<(), LoadFault>
     requires writable { AllByRecursion (Writable problem.now) entries.now }
-    requires fit { Fit (problem_of problem.now) (length problem.now.raw.nodes) pools.old.lists }
+    requires fit { PoolsFit problem.now pools.old.lists }
     requires few { (m : ℕ) → length (pool pools.old.lists m) + length entries.now ≤ 2 ^ 23 }
     requires values { values.old ≡ root_values problem.now pools.old.lists }
     ensures value { Gives (λ _. pools.new.lists) result (entries_added problem.now pools.old.lists entries.now) }

@@ -12,6 +12,6 @@ mod values;
 pub mod worked;
 
 pub use loaded::Loaded;
-pub use loading::{first_gate, load, load_keep};
+pub use loading::{Asked, first_gate, load, load_keep};
 pub use records::unsettled;
 pub use refusal::{JournalRefusal, LoadFault};

@@ -13,7 +13,7 @@ ghost use Rattle.hp_journal.specs.Layout.{new_title};
 
 use crate::keeping::{Dropping, Keeper};
 use crate::loaded::Loaded;
-use crate::records::{Gathered, read_records};
+use crate::records::{Gathered, Layout, read_records};
 use crate::refusal::LoadFault;
 use crate::title::check_title;
 use crate::values::root_values;
@@ -23,6 +23,23 @@ use hp_num::List;
 use hp_outside::Disk;
 use hp_problem::Problem;
 use std::alloc::Global;
+
+/// The title that is asked of a journal.
+#[derive(Clone, Copy)]
+pub struct Asked<'a> {
+    /// Of the problem's bytes (SHA-256).
+    pub digest: &'a [u8; 32],
+    pub seed: Option<u64>,
+    /// The paths of an iteration, 1 to 64.
+    pub batch: Option<u16>,
+}
+
+/// The version of a journal, and the paths of its iterations.
+#[derive(Clone, Copy)]
+struct Version {
+    number: u16,
+    batch: u16,
+}
 
 // The version and the batch that a journal is born with.
 fn new_title(batch: Option<u16>) -> (u16, u16)
@@ -73,22 +90,25 @@ fn load_born<D: Disk, K: Keeper>(
     problem: &Problem,
     base: Pools,
     disk: &mut D,
-    version: u16,
-    batch: u16,
+    version: Version,
     keep: &mut K,
 ) -> Result<Loaded, LoadFault>
     requires base { based problem.now ≡ Ok base.lists }
-    requires version { ((version ≡ 1) × (batch ≡ 1)) ⊎ ((version ≡ 2) × (1 ≤ batch) × (batch ≤ 64)) }
+    requires version { ((version.number ≡ 1) × (version.batch ≡ 1)) ⊎ ((version.number ≡ 2) × (1 ≤ version.batch) × (version.batch ≤ 64)) }
     requires empty { IsKept (K.kept keep.old) [] }
     ensures value { IfSome (D.store disk.old).reads (λ bytes.
-        LoadsAs (K.kept keep.new) result (load_records problem.now base.lists bytes version batch)) }
+        LoadsAs (K.kept keep.new) result (load_records problem.now base.lists bytes version.number version.batch)) }
     ensures accepted { IfOk result (λ l. (lists : List (List Entry)) × IsKept (K.kept keep.new) lists × Accepted problem.now base.lists lists (found_in l)) }
     ensures safe { IfOk result (IsSafe problem.now) }
     ensures stays { Stays (D.store disk.old) (D.store disk.new) }
     ensures cause { DiskCause (D.faults disk.old) (D.faults disk.new) (result ≡ Err faults.DiskFault) }
 {
     let _ = problem.raw();
-    let first = first_gate(version);
+    let Version { number, batch } = version;
+    let layout = Layout {
+        first: first_gate(number),
+        batch,
+    };
     let values = root_values(alloc, problem, &base)?;
     let mut found = Gathered {
         pools: base,
@@ -96,7 +116,7 @@ fn load_born<D: Disk, K: Keeper>(
         bounds: List::new(alloc),
         unsettled: 0,
     };
-    let end = read_records(alloc, problem, disk, batch, first, &mut found, keep)?;
+    let end = read_records(alloc, problem, disk, layout, &mut found, keep)?;
     let Gathered {
         pools,
         values: _,
@@ -110,7 +130,7 @@ fn load_born<D: Disk, K: Keeper>(
         born: true,
         end: end.end,
         rest: end.rest,
-        version,
+        version: number,
         batch,
     })
 }
@@ -121,37 +141,35 @@ fn load_with<D: Disk, K: Keeper>(
     problem: &Problem,
     base: Pools,
     disk: &mut D,
-    digest: &[u8; 32],
-    seed: Option<u64>,
-    batch: Option<u16>,
+    asked: &Asked,
     keep: &mut K,
 ) -> Result<Loaded, LoadFault>
     requires base { based problem.now ≡ Ok base.lists }
-    requires batch { IfSome batch (λ b. (1 ≤ b) × (b ≤ 64)) }
+    requires batch { IfSome asked.now.batch (λ b. (1 ≤ b) × (b ≤ 64)) }
     requires empty { IsKept (K.kept keep.old) [] }
     ensures value { IfSome (D.store disk.old).reads (λ bytes.
-        LoadsAs (K.kept keep.new) result (load_of problem.now base.lists digest.now seed batch bytes)) }
+        LoadsAs (K.kept keep.new) result (load_of problem.now base.lists asked.now.digest.now asked.now.seed asked.now.batch bytes)) }
     ensures accepted { IfOk result (λ l. (lists : List (List Entry)) × IsKept (K.kept keep.new) lists × Accepted problem.now base.lists lists (found_in l)) }
     ensures safe { IfOk result (IsSafe problem.now) }
     ensures stays { Stays (D.store disk.old) (D.store disk.new) }
     ensures cause { DiskCause (D.faults disk.old) (D.faults disk.new) (result ≡ Err faults.DiskFault) }
 {
     match read_head(disk)? {
-        Head::Unborn { .. } => Ok(load_unborn(alloc, problem, base, batch)),
+        Head::Unborn { .. } => Ok(load_unborn(alloc, problem, base, asked.batch)),
         Head::Born {
-            version,
-            digest: kept,
-            seed: own,
-            batch: paths,
+            version: number,
+            digest,
+            seed,
+            batch,
         } => {
-            check_title(digest, seed, batch, &kept, own, paths)?;
-            load_born(alloc, problem, base, disk, version, paths, keep)
+            check_title(asked.digest, asked.seed, asked.batch, &digest, seed, batch)?;
+            load_born(alloc, problem, base, disk, Version { number, batch }, keep)
         }
     }
 }
 
 /// Loads a journal over the base cuts of a problem: each step of each record is checked by its certificates over the cuts so
-/// far, and its cut appended. A digest of the problem's bytes is asked, and perhaps a seed and a batch (1 to 64), which a
+/// far, and its cut appended. A digest of the problem's bytes is asked, and perhaps a seed and a batch, which a
 /// journal that is not born takes for its own.
 ///
 /// The refusals come in this order: those of the head; `OtherProblem`; `OtherSeed`; `OtherBatch`; then of each record
@@ -167,30 +185,19 @@ pub fn load<D: Disk>(
     problem: &Problem,
     base: Pools,
     disk: &mut D,
-    digest: &[u8; 32],
-    seed: Option<u64>,
-    batch: Option<u16>,
+    asked: &Asked,
 ) -> Result<Loaded, LoadFault>
     requires base { based problem.now ≡ Ok base.lists }
-    requires batch { IfSome batch (λ b. (1 ≤ b) × (b ≤ 64)) }
+    requires batch { IfSome asked.now.batch (λ b. (1 ≤ b) × (b ≤ 64)) }
     ensures value { IfSome (D.store disk.old).reads (λ bytes.
-        Gives seen result (outcome_of (load_of problem.now base.lists digest.now seed batch bytes))) }
+        Gives seen result (outcome_of (load_of problem.now base.lists asked.now.digest.now asked.now.seed asked.now.batch bytes))) }
 
     // Over any disk.
     ensures safe { IfOk result (IsSafe problem.now) }
     ensures stays { Stays (D.store disk.old) (D.store disk.new) }
     ensures cause { DiskCause (D.faults disk.old) (D.faults disk.new) (result ≡ Err faults.DiskFault) }
 {
-    load_with(
-        alloc,
-        problem,
-        base,
-        disk,
-        digest,
-        seed,
-        batch,
-        &mut Dropping,
-    )
+    load_with(alloc, problem, base, disk, asked, &mut Dropping)
 }
 
 /// Like [`load`], without an asked seed and batch, and keeps the entries of each record, in order. Over any disk these are
@@ -215,5 +222,10 @@ pub fn load_keep<D: Disk>(
     ensures stays { Stays (D.store disk.old) (D.store disk.new) }
     ensures cause { DiskCause (D.faults disk.old) (D.faults disk.new) (result ≡ Err faults.DiskFault) }
 {
-    load_with(alloc, problem, base, disk, digest, None, None, keep)
+    let asked = Asked {
+        digest,
+        seed: None,
+        batch: None,
+    };
+    load_with(alloc, problem, base, disk, &asked, keep)
 }

@@ -3,10 +3,9 @@ ghost use Rattle.std.specs.Prelude.{◌≡◌, ◌⊎◌, ◌≤◌, ◌<◌, �
 ghost use Rattle.std.specs.List.{AllByRecursion, sum_by};
 ghost use Rattle.hp_outside.specs.Disks.{Stays};
 ghost use Rattle.hp_problem.specs.Formulas.{too_much};
-ghost use Rattle.hp_theory.specs.Fit.{Fit};
 ghost use Rattle.hp_theory.specs.Pools.{pool};
 ghost use Rattle.hp_theory.specs.Range.{based};
-ghost use Rattle.hp_theory.specs.View.{problem_of};
+ghost use Rattle.hp_cut.specs.AtNodes.{PoolsFit};
 ghost use Rattle.hp_cut.specs.declared.entry.Entry.{Entry};
 ghost use Rattle.hp_record.specs.Shape.{IsBatch, Writable};
 ghost use Rattle.hp_record.specs.Reading.{read_batch};
@@ -42,6 +41,22 @@ pub(crate) struct Gathered {
     pub(crate) bounds: List<i128>,
     /// The sum of the unsettled solves that the entries state.
     pub(crate) unsettled: u64,
+}
+
+/// Where the records of a journal begin, and how many paths an iteration has.
+#[derive(Clone, Copy)]
+pub(crate) struct Layout {
+    /// The place of the first gate.
+    pub(crate) first: u64,
+    pub(crate) batch: u16,
+}
+
+/// The memory that one record lends the next: its payload, and the lists of its entries.
+#[derive(Drop)]
+struct Buffers {
+    alloc: Global,
+    spares: Spares,
+    payload: Vec<u8>,
 }
 
 /// Where the records end.
@@ -111,14 +126,12 @@ fn decode(
 
 // The entries of the record whose open gate stands at a place, and the place of the next gate.
 fn entries_behind<D: Disk>(
-    alloc: Global,
-    spares: &mut Spares,
+    buffers: &mut Buffers,
     problem: &Problem,
     disk: &mut D,
     batch: u16,
     iteration: u32,
     at: u64,
-    buffer: &mut Vec<u8>,
 ) -> Result<(List<Entry>, u64), LoadFault>
     requires near { at ≤ 2 ^ 40 }
     requires iteration { iteration ≤ 2001 }
@@ -132,8 +145,16 @@ fn entries_behind<D: Disk>(
     ensures cause { DiskCause (D.faults disk.old) (D.faults disk.new) (result ≡ Err faults.DiskFault) }
 {
     check_formulas(problem, iteration, batch)?;
-    let next = read_payload(disk, iteration, at, buffer)?;
-    let entries = decode(alloc, spares, problem, iteration, batch, buffer.as_slice())?;
+    let next = read_payload(disk, iteration, at, &mut buffers.payload)?;
+    let payload = buffers.payload.as_slice();
+    let entries = decode(
+        buffers.alloc,
+        &mut buffers.spares,
+        problem,
+        iteration,
+        batch,
+        payload,
+    )?;
     Ok((entries, next))
 }
 
@@ -160,7 +181,7 @@ fn add_record(
 ) -> Result<(), LoadFault>
     requires writable { AllByRecursion (Writable problem.now) entries.now }
     requires few { length entries.now ≤ 64 }
-    requires fit { Fit (problem_of problem.now) (length problem.now.raw.nodes) found.old.pools.lists }
+    requires fit { PoolsFit problem.now found.old.pools.lists }
     requires cuts { (m : ℕ) → length (pool found.old.pools.lists m) ≤ 2 ^ 22 }
     requires unsettled { found.old.unsettled ≤ 2 ^ 50 }
     requires values { found.old.values ≡ root_values problem.now found.old.pools.lists }
@@ -178,20 +199,18 @@ fn add_record(
 
 // Reads the record whose open gate stands at a place, and adds it; answers its entries and the place of the next gate.
 fn read_record<D: Disk>(
-    alloc: Global,
-    spares: &mut Spares,
+    buffers: &mut Buffers,
     problem: &Problem,
     disk: &mut D,
     batch: u16,
     at: u64,
-    buffer: &mut Vec<u8>,
     found: &mut Gathered,
 ) -> Result<(List<Entry>, u64), LoadFault>
     requires near { at ≤ 2 ^ 40 }
     requires some { 1 ≤ batch }
     requires batch { batch ≤ 64 }
     requires count { length found.old.bounds < 2000 }
-    requires fit { Fit (problem_of problem.now) (length problem.now.raw.nodes) found.old.pools.lists }
+    requires fit { PoolsFit problem.now found.old.pools.lists }
     requires cuts { (m : ℕ) → length (pool found.old.pools.lists m) ≤ 2 ^ 22 }
     requires unsettled { found.old.unsettled ≤ 2 ^ 50 }
     requires values { found.old.values ≡ root_values problem.now found.old.pools.lists }
@@ -205,10 +224,8 @@ fn read_record<D: Disk>(
     ensures cause { DiskCause (D.faults disk.old) (D.faults disk.new) (result ≡ Err faults.DiskFault) }
 {
     let iteration = found.bounds.len() as u32 + 1;
-    let (entries, next) = entries_behind(
-        alloc, spares, problem, disk, batch, iteration, at, buffer,
-    )?;
-    add_record(alloc, problem, entries.as_slice(), found)?;
+    let (entries, next) = entries_behind(buffers, problem, disk, batch, iteration, at)?;
+    add_record(buffers.alloc, problem, entries.as_slice(), found)?;
     Ok((entries, next))
 }
 
@@ -230,45 +247,38 @@ pub(crate) fn read_records<D: Disk, K: Keeper>(
     alloc: Global,
     problem: &Problem,
     disk: &mut D,
-    batch: u16,
-    first: u64,
+    layout: Layout,
     found: &mut Gathered,
     keep: &mut K,
 ) -> Result<End, LoadFault>
-    requires near { first ≤ 54 }
-    requires some { 1 ≤ batch }
-    requires batch { batch ≤ 64 }
+    requires near { layout.first ≤ 54 }
+    requires some { 1 ≤ layout.batch }
+    requires batch { layout.batch ≤ 64 }
     requires base { based problem.now ≡ Ok found.old.pools.lists }
     requires values { found.old.values ≡ root_values problem.now found.old.pools.lists }
     requires fresh { found_of found.old ≡ fresh found.old.pools.lists }
     requires empty { IsKept (K.kept keep.old) [] }
     ensures value { IfSome (D.store disk.old).reads (λ bytes.
-        EndsAs (K.kept keep.new) (found_of found.new) result (records_at problem.now batch bytes 2000 first (fresh found.old.pools.lists) [])) }
+        EndsAs (K.kept keep.new) (found_of found.new) result (records_at problem.now layout.batch bytes 2000 layout.first (fresh found.old.pools.lists) [])) }
     ensures accepted { IfOk result (λ e. (lists : List (List Entry)) × IsKept (K.kept keep.new) lists × Accepted problem.now found.old.pools.lists lists (found_of found.new)) }
-    ensures sound { IfOk result (λ e. (i : ℕ) × (i ≤ 2000) × IsSound problem.now batch i (found_of found.new)) }
+    ensures sound { IfOk result (λ e. (i : ℕ) × (i ≤ 2000) × IsSound problem.now layout.batch i (found_of found.new)) }
     ensures end { IfOk result (λ e. e.end ≤ 2 ^ 38) }
     ensures stays { Stays (D.store disk.old) (D.store disk.new) }
     ensures cause { DiskCause (D.faults disk.old) (D.faults disk.new) (result ≡ Err faults.DiskFault) }
 {
     let _ = problem.raw();
-    let mut buffer = Vec::new(alloc);
-    let mut spares = Spares::new(alloc);
-    let mut at = first;
+    let mut buffers = Buffers {
+        alloc,
+        spares: Spares::new(alloc),
+        payload: Vec::new(alloc),
+    };
+    let mut at = layout.first;
     for _ in 0..MOST_ITERATIONS {
         if let Some(rest) = rest_at(disk, at)? {
             return Ok(End { end: at, rest });
         }
-        let (entries, next) = read_record(
-            alloc,
-            &mut spares,
-            problem,
-            disk,
-            batch,
-            at,
-            &mut buffer,
-            found,
-        )?;
-        keep.keep(entries, &mut spares)?;
+        let (entries, next) = read_record(&mut buffers, problem, disk, layout.batch, at, found)?;
+        keep.keep(entries, &mut buffers.spares)?;
         at = next;
     }
     match rest_at(disk, at)? {

@@ -3,10 +3,11 @@ ghost use Rattle.std.specs.Prelude.{◌≡◌, ◌<◌, ◌^◌, pos, length, ge
 ghost use Rattle.std.specs.Int.{int_max};
 ghost use Rattle.hp_problem.specs.Sealed.{initial_values};
 ghost use Rattle.hp_theory.specs.Problem.{node_at};
-ghost use Rattle.hp_theory.specs.Fit.{CutFits, Fit};
+ghost use Rattle.hp_theory.specs.Fit.{CutFits};
 ghost use Rattle.hp_theory.specs.Pools.{pool, push};
 ghost use Rattle.hp_theory.specs.Bound.{bound, value_of_cut, weighted_value};
 ghost use Rattle.hp_theory.specs.View.{problem_of};
+ghost use Rattle.hp_cut.specs.AtNodes.{PoolsFit};
 ghost use Rattle.hp_load.specs.RootValues.{raised, root_values};
 
 use hp_cut::{Cut, Pools, root_weight, value_of_cut};
@@ -21,7 +22,7 @@ pub(crate) fn root_values(
     problem: &Problem,
     pools: &Pools,
 ) -> Result<List<i128>, Memory>
-    requires { Fit (problem_of problem.now) (length problem.now.raw.nodes) pools.now.lists }
+    requires { PoolsFit problem.now pools.now.lists }
     ensures { IfOk result (λ values. values ≡ root_values problem.now pools.now.lists) }
 {
     let state = problem.initial();
@@ -65,7 +66,7 @@ pub(crate) fn push_cut(
     cut: Cut,
 ) -> Result<(), Memory>
     requires known { node < length problem.now.raw.nodes }
-    requires fit { Fit (problem_of problem.now) (length problem.now.raw.nodes) pools.old.lists }
+    requires fit { PoolsFit problem.now pools.old.lists }
     requires fits { CutFits (node_at (problem_of problem.now) node) cut }
     requires few { length (pool pools.old.lists node) < 2 ^ 24 }
     requires values { values.old ≡ root_values problem.now pools.old.lists }
@@ -78,7 +79,7 @@ pub(crate) fn push_cut(
 
 // The sum of the weights of the root's successors times their values.
 fn weighted(problem: &Problem, pools: &Pools, values: &[i128]) -> i128
-    requires fit { Fit (problem_of problem.now) (length problem.now.raw.nodes) pools.now.lists }
+    requires fit { PoolsFit problem.now pools.now.lists }
     requires values { values.now ≡ root_values problem.now pools.now.lists }
     ensures { result ≡ weighted_value pools.now.lists (problem_of problem.now).initial (problem_of problem.now).root }
 {
@@ -93,7 +94,7 @@ fn weighted(problem: &Problem, pools: &Pools, values: &[i128]) -> i128
 
 /// The bound of pools of which these are the values of the root's successors, at scale 2^24.
 pub(crate) fn bound(problem: &Problem, pools: &Pools, values: &[i128]) -> i128
-    requires fit { Fit (problem_of problem.now) (length problem.now.raw.nodes) pools.now.lists }
+    requires fit { PoolsFit problem.now pools.now.lists }
     requires values { values.now ≡ root_values problem.now pools.now.lists }
     ensures { result ≡ bound (problem_of problem.now) pools.now.lists }
 {

@@ -23,7 +23,7 @@ use Rattle.hp_solver.specs.declared.programs.LpRow.{LpRow}
 use Rattle.hp_solver.specs.declared.programs.Program.{Program}
 use Rattle.hp_solver.specs.Proper.{IsProper, IsIdle, IsReference, Extends, IsLike, terms_of}
 use Rattle.hp_lp.specs.Stage.{decision_column, future_column, future_columns, own_row, cut_rows, stage_of}
-use Rattle.hp_lp.specs.Nodes.{Stands, stage_in, idle_column, quarters, reference_of, reference_in}
+use Rattle.hp_lp.specs.Nodes.{Stands, stage_in, idle_column, quarters, reference_of, reference_in, program_of, reference_at}
 use Rattle.hp_lp.proofs.ProperStages.{HasBox, box-decisions, sides-own, terms-own, proper-stage_of}
 use Rattle.hp_lp.proofs.SealedStages.{boxed}
 
@@ -197,6 +197,11 @@ proper_sealed p e m h pools v x lp is =
 
 pub like_sealed : (p : Sealed) → is_sealed p ≡ true → (m : ℕ) → m < length p.raw.nodes → (pools : List (List Cut)) (values state others next : List ℤ) (lp other : Program) → stage_in p pools m values state ≡ Some lp → stage_in p pools m others next ≡ Some other → IsLike lp other
 like_sealed p e m h pools v x w y lp other f g = like-stages (there p m e h).stands pools v x w y lp other f g
+
+pub reference_there : (p : Sealed) → is_sealed p ≡ true → (m : ℕ) → m < length p.raw.nodes → reference_in p m ≡ Some (reference_at p m)
+reference_there p e m h =
+    let is = reference_in-is (there p m e h).stands in
+    is ∙ sym (ap (λ (o : Option Program). Some (program_of o)) is)
 
 pub extends_sealed : (p : Sealed) → is_sealed p ≡ true → (m : ℕ) → m < length p.raw.nodes → (pools : List (List Cut)) (values state : List ℤ) (lp program : Program) → reference_in p m ≡ Some program → stage_in p pools m values state ≡ Some lp → Extends program lp
 extends_sealed p e m h pools v x lp program f g = extends-stage (there p m e h).stands pools v x lp program f g

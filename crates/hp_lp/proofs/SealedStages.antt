@@ -29,6 +29,7 @@ use Rattle.hp_theory.proofs.SizeToFit.{size_mul}
 use Rattle.hp_theory.proofs.Views.{link_at, length-links_of, low-node_of, high-node_of, links-node_of}
 use Rattle.hp_theory.proofs.SealedParts.{PartsFit, weighty, parts_given, linked, links_known, outs_known, numbers_counted, numbers_small}
 use Rattle.hp_theory.proofs.SealedPremises.{shaped-sealed}
+use Rattle.hp_cut.specs.AtNodes.{IsStateAt}
 use Rattle.hp_lp.specs.Spans.{Spans}
 use Rattle.hp_lp.specs.Nodes.{Stands, quarter, quarters}
 use Rattle.std.proofs.lemmas.List.Elements.{All-map}
@@ -203,7 +204,7 @@ module _ (p : Sealed) (e : is_sealed p ≡ true) (m : ℕ) (h : m < length p.raw
   unfolding S
   state_small x l u a b c d = omega (arith, ints, a, b, c, d)
 
-  inside : (state : List ℤ) → InBox S (node_at (problem_of p) m).low (node_at (problem_of p) m).high state → InBox S low high state
+  inside : (state : List ℤ) → IsStateAt p m state → InBox S low high state
   inside state b =
       let lows : (node_at (problem_of p) m).low ≡ low = ap (λ (x : Node). x.low) fit.is ∙ low-node_of n s low high in
       let highs : (node_at (problem_of p) m).high ≡ high = ap (λ (x : Node). x.high) fit.is ∙ high-node_of n s low high in
@@ -237,7 +238,7 @@ module _ (p : Sealed) (e : is_sealed p ≡ true) (m : ℕ) (h : m < length p.raw
       }
 
 -- the premises on the own rows of a node, at values and a state
-pub of-sealed : {p : Sealed} {m : ℕ} {n : nodes.Node} {s : Subproblem} (values state : List ℤ) → Stands p m n s → are_values (subproblem_of p m) values ≡ true → InBox S (node_at (problem_of p) m).low (node_at (problem_of p) m).high state → AreOf s values state
+pub of-sealed : {p : Sealed} {m : ℕ} {n : nodes.Node} {s : Subproblem} (values state : List ℤ) → Stands p m n s → are_values (subproblem_of p m) values ≡ true → IsStateAt p m state → AreOf s values state
 of-sealed {p} {m} {n} {s} values state t v x =
     let b = boxed t in
     let numbers = values_of p t.sealed m t.known n s b.low b.high b.fit values v t.the_subproblem in

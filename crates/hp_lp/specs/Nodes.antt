@@ -1,5 +1,5 @@
 -- The stage problems of a sealed problem's nodes.
-use Rattle.std.specs.Prelude.{◌≡◌, ℕ, ◌<◌, ◌^◌, true, ℤ, pos, ◌+ℤ◌, ◌*ℤ◌, List, [], ◌++◌, length, map, zip, get_or, Option, Some, slice_get, option_and_then}
+use Rattle.std.specs.Prelude.{◌≡◌, ℕ, ◌<◌, ◌^◌, true, ℤ, pos, ◌+ℤ◌, ◌*ℤ◌, List, [], ◌++◌, length, map, zip, get_or, Option, Some, None, slice_get, option_and_then}
 use Rattle.std.specs.Option.{option_map}
 use Rattle.hp_problem.specs.declared.raw.Node.{Node}
 use Rattle.hp_problem.specs.declared.raw.Subproblem.{Subproblem}
@@ -56,3 +56,19 @@ reference_of n s low high = record {
 -- the reference program of the node m
 unfoldable pub reference_in : Sealed → ℕ → Option Program
 reference_in p m = at_node p m (λ n s. reference_of n s (get_or p.lo m []) (get_or p.hi m []))
+
+-- the program at a number that is no node
+abbrev pub no_program : Program
+no_program = record { columns = []; rows = []; decisions = 0; own = 0 }
+
+abbrev pub program_of : Option Program → Program
+program_of None = no_program
+program_of (Some lp) = lp
+
+-- the stage problem of the node m over these pools, at these values and this state
+abbrev pub stage_at : Sealed → List (List Cut) → ℕ → List ℤ → List ℤ → Program
+stage_at p pools m values state = program_of (stage_in p pools m values state)
+
+-- the reference program of the node m
+abbrev pub reference_at : Sealed → ℕ → Program
+reference_at p m = program_of (reference_in p m)

@@ -1,7 +1,6 @@
 //! Stage problems: the linear programs that training solves at a node.
 #![tactic(auto)]
 
-pub mod answers;
 mod columns;
 mod cut_rows;
 mod cut_values;
@@ -10,17 +9,20 @@ mod out_boxes;
 mod outs;
 mod own_rows;
 mod packed_views;
+pub mod planner;
 pub mod preparing;
 pub mod references;
 mod scales;
-pub mod spare_rows;
+pub mod solving;
 pub mod stages;
-pub mod starts;
+pub mod warm_starts;
+pub mod workspace;
 mod written_rows;
 
-pub use answers::{answered, answered_with};
+pub use planner::Planner;
 pub use preparing::prepare;
 pub use references::reference;
-pub use spare_rows::SpareRows;
-pub use stages::{restate, stage, stage_with};
-pub use starts::Starts;
+pub use solving::solve_stage;
+pub use stages::{set_sides, stage_problem};
+pub use warm_starts::WarmStarts;
+pub use workspace::Workspace;

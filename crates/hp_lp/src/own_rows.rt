@@ -10,13 +10,12 @@ ghost use Rattle.hp_lp.specs.Stage.{whole, side_at, own_row};
 ghost use Rattle.hp_lp.specs.Given.{AreGiven, IsOver};
 
 use crate::scales::{CUT_SCALE, sum, whole};
-use crate::spare_rows::SpareRows;
+use crate::workspace::Workspace;
 use crate::written_rows::{RowParts, WrittenRows, cleared};
 use hp_num::{List, Memory};
 use hp_problem::Row;
 use hp_solver::fixed::ONE;
 use hp_solver::{Fx, LpRow, StageLp};
-use std::alloc::Global;
 
 // The product of a factor and a number of a state.
 fn state_product(factor: i64, number: i128) -> i128
@@ -171,8 +170,7 @@ impl RowParts for OwnRow<'_> {
 
 /// Writes the rows at the values and the state behind the others.
 pub(crate) fn push_own_rows(
-    alloc: Global,
-    spare: &mut SpareRows,
+    work: &mut Workspace,
     found: &mut WrittenRows,
     rows: &[Row],
     values: &[i64],
@@ -183,13 +181,13 @@ pub(crate) fn push_own_rows(
     ensures { OnOk result (found.new ≡ found.old ++ map (own_row values.now state.now) rows.now) }
 {
     for row in rows {
-        found.push(alloc, spare, &OwnRow { row, values, state })?;
+        found.push(work, &OwnRow { row, values, state })?;
     }
     Ok(())
 }
 
 // Gives own row i the sides of the values and the state.
-fn restate_row(row: &Row, values: &[i64], state: &[i128], i: usize, lp: &mut StageLp)
+fn set_row_sides(row: &Row, values: &[i64], state: &[i128], i: usize, lp: &mut StageLp)
     requires given { AreGiven values.now state.now }
     requires over { IsOver (length state.now) (length values.now) row.now }
     requires own { i < lp.old.own }
@@ -200,7 +198,7 @@ fn restate_row(row: &Row, values: &[i64], state: &[i128], i: usize, lp: &mut Sta
 }
 
 /// Gives the own rows of a stage problem the sides of the values and the state.
-pub(crate) fn restate_rows(rows: &[Row], values: &[i64], state: &[i128], lp: &mut StageLp)
+pub(crate) fn set_own_sides(rows: &[Row], values: &[i64], state: &[i128], lp: &mut StageLp)
     requires given { AreGiven values.now state.now }
     requires over { All (IsOver (length state.now) (length values.now)) rows.now }
     requires own { length rows.now ≡ lp.old.own }
@@ -211,6 +209,6 @@ pub(crate) fn restate_rows(rows: &[Row], values: &[i64], state: &[i128], lp: &mu
         → lp.new.rows ≡ map (own_row values.now state.now) rows.now ++ cuts }
 {
     for i in 0..rows.len() {
-        restate_row(&rows[i], values, state, i, lp);
+        set_row_sides(&rows[i], values, state, i, lp);
     }
 }

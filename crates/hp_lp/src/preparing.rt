@@ -1,7 +1,6 @@
 // Pools that are made ready for the stage problems of all nodes.
 ghost use Rattle.std.specs.Prelude.{◌≡◌, ◌<◌, length};
-ghost use Rattle.hp_theory.specs.Fit.{Fit};
-ghost use Rattle.hp_theory.specs.View.{problem_of};
+ghost use Rattle.hp_cut.specs.AtNodes.{PoolsFit};
 
 use crate::out_boxes::out_boxes;
 use crate::stages::StageNode;
@@ -13,7 +12,7 @@ use std::alloc::Global;
 // Makes the cuts of a node's successors ready for its stage problems.
 fn prepare_at(alloc: Global, problem: &Problem, pools: &mut Pools, node: u32) -> Result<(), Memory>
     requires known { node < length problem.now.raw.nodes }
-    requires fit { Fit (problem_of problem.now) (length problem.now.raw.nodes) pools.old.lists }
+    requires fit { PoolsFit problem.now pools.old.lists }
     ensures { pools.new ≡ pools.old }
 {
     let stage = StageNode::of(problem, node);
@@ -29,7 +28,7 @@ fn prepare_at(alloc: Global, problem: &Problem, pools: &mut Pools, node: u32) ->
 /// each of its predecessors the greatest of their values over the states that may leave it. Cuts that are appended later come
 /// in. [`Memory`] where memory was refused. The cuts and their room stay in either case.
 pub fn prepare(alloc: Global, problem: &Problem, pools: &mut Pools) -> Result<(), Memory>
-    requires fit { Fit (problem_of problem.now) (length problem.now.raw.nodes) pools.old.lists }
+    requires fit { PoolsFit problem.now pools.old.lists }
     ensures { pools.new ≡ pools.old }
 {
     let nodes = problem.raw().nodes.len() as u32;

@@ -8,8 +8,8 @@ ghost use Rattle.hp_lp.specs.Given.{HasReference};
 
 use crate::columns::decision_columns;
 use crate::own_rows::push_own_rows;
-use crate::spare_rows::SpareRows;
 use crate::stages::StageNode;
+use crate::workspace::Workspace;
 use crate::written_rows::WrittenRows;
 use hp_num::{List, Memory};
 use hp_problem::Problem;
@@ -69,17 +69,16 @@ fn reference_rows(
     ensures { IfOk result (λ found. found ≡ map (own_row (get_or stage.now.node.now.values 0 []) (quarters low.now high.now)) stage.now.subproblem.now.rows) }
 {
     let state = quarters(alloc, low, high)?;
-    let mut spare = SpareRows::new(alloc);
-    let mut rows = WrittenRows::new(alloc, &mut spare);
+    let mut work = Workspace::new(alloc);
+    let mut rows = WrittenRows::new(&mut work);
     push_own_rows(
-        alloc,
-        &mut spare,
+        &mut work,
         &mut rows,
         stage.subproblem.rows.as_slice(),
         first_values(stage),
         state.as_slice(),
     )?;
-    Ok(rows.into_list(&mut spare))
+    Ok(rows.into_list(&mut work))
 }
 
 // The reference program of the node in a box.

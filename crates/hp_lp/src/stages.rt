@@ -3,11 +3,8 @@ ghost use Rattle.std.specs.Prelude.{◌≡◌, ◌<◌, ◌≤◌, ◌++◌, ℤ
 ghost use Rattle.hp_problem.specs.Formulas.{successor_total};
 ghost use Rattle.hp_problem.specs.Limits.{are_values};
 ghost use Rattle.hp_problem.specs.Sealed.{subproblem_of};
-ghost use Rattle.hp_theory.specs.Fit.{Fit};
-ghost use Rattle.hp_theory.specs.Problem.{S, node_at};
-ghost use Rattle.hp_theory.specs.Tree.{InBox};
-ghost use Rattle.hp_theory.specs.View.{problem_of};
 ghost use Rattle.hp_theory.specs.declared.cut.Cut.{Cut};
+ghost use Rattle.hp_cut.specs.AtNodes.{IsStateAt, PoolsFit};
 ghost use Rattle.hp_solver.specs.Packed.{rows_of, IsView};
 ghost use Rattle.hp_solver.specs.Proper.{IsProper, IsLike};
 ghost use Rattle.hp_lp.specs.Stage.{decision_column, future_columns, own_row, cut_rows, stage_of};
@@ -16,9 +13,9 @@ ghost use Rattle.hp_lp.specs.Given.{AreOf, AreWithin};
 
 use crate::columns::{decision_columns, push_future_columns};
 use crate::cut_rows::push_cut_rows;
-use crate::own_rows::{push_own_rows, restate_rows};
+use crate::own_rows::{push_own_rows, set_own_sides};
 use crate::packed_views::packed_view;
-use crate::spare_rows::SpareRows;
+use crate::workspace::Workspace;
 use crate::written_rows::WrittenRows;
 use hp_cut::Pools;
 use hp_num::{List, Memory};
@@ -70,8 +67,7 @@ fn columns(alloc: Global, stage: &StageNode, pools: &Pools) -> Result<List<Colum
 
 // The node's own rows.
 fn own_rows(
-    alloc: Global,
-    spare: &mut SpareRows,
+    work: &mut Workspace,
     stage: &StageNode,
     values: &[i64],
     state: &[i128],
@@ -79,22 +75,20 @@ fn own_rows(
     requires { AreOf stage.now.subproblem.now values.now state.now }
     ensures { IfOk result (λ found. found ≡ map (own_row values.now state.now) stage.now.subproblem.now.rows) }
 {
-    let mut found = WrittenRows::new(alloc, spare);
+    let mut found = WrittenRows::new(work);
     push_own_rows(
-        alloc,
-        spare,
+        work,
         &mut found,
         stage.subproblem.rows.as_slice(),
         values,
         state,
     )?;
-    Ok(found.into_list(spare))
+    Ok(found.into_list(work))
 }
 
 // The node's own rows, and then the successors' cuts.
 fn rows(
-    alloc: Global,
-    spare: &mut SpareRows,
+    work: &mut Workspace,
     stage: &StageNode,
     pools: &Pools,
     values: &[i64],
@@ -105,24 +99,22 @@ fn rows(
     ensures { IfOk result (λ found. found ≡ map (own_row values.now state.now) stage.now.subproblem.now.rows
         ++ cut_rows stage.now.subproblem.now pools.now.lists (length stage.now.subproblem.now.decisions) stage.now.node.now.links) }
 {
-    let mut found = WrittenRows::new(alloc, spare);
+    let mut found = WrittenRows::new(work);
     push_own_rows(
-        alloc,
-        spare,
+        work,
         &mut found,
         stage.subproblem.rows.as_slice(),
         values,
         state,
     )?;
     push_cut_rows(
-        alloc,
-        spare,
+        work,
         &mut found,
         stage.subproblem,
         pools,
         stage.node.links.as_slice(),
     )?;
-    Ok(found.into_list(spare))
+    Ok(found.into_list(work))
 }
 
 // The columns with some rows, of which the first are the node's own.
@@ -142,8 +134,7 @@ fn program(stage: &StageNode, columns: List<Column>, rows: List<LpRow>) -> Progr
 // The stage problem of the node with its cuts as rows.
 #[tactic(auto, unfolding(crate::specs::Stage::stage_of))]
 fn listed_stage<'a>(
-    alloc: Global,
-    spare: &mut SpareRows,
+    work: &mut Workspace,
     stage: &StageNode,
     pools: &Pools,
     values: &[i64],
@@ -154,16 +145,15 @@ fn listed_stage<'a>(
     requires given { AreOf stage.now.subproblem.now values.now state.now }
     ensures { IfOk result (λ lp. lp ≡ stage_of pools.now.lists stage.now.node.now stage.now.subproblem.now values.now state.now) }
 {
-    let columns = columns(alloc, stage, pools)?;
-    let rows = rows(alloc, spare, stage, pools, values, state)?;
+    let columns = columns(work.alloc(), stage, pools)?;
+    let rows = rows(work, stage, pools, values, state)?;
     Ok(StageLp::of(program(stage, columns, rows)))
 }
 
 // The stage problem of the node with its cuts side by side.
 #[tactic(auto, unfolding(crate::specs::Stage::stage_of))]
 fn packed_stage<'a>(
-    alloc: Global,
-    spare: &mut SpareRows,
+    work: &mut Workspace,
     stage: &StageNode,
     pools: &Pools,
     cuts: PackedView<'a>,
@@ -177,15 +167,14 @@ fn packed_stage<'a>(
     requires view { IsView cuts }
     ensures { IfOk result (λ lp. lp ≡ stage_of pools.now.lists stage.now.node.now stage.now.subproblem.now values.now state.now) }
 {
-    let columns = columns(alloc, stage, pools)?;
-    let rows = own_rows(alloc, spare, stage, values, state)?;
+    let columns = columns(work.alloc(), stage, pools)?;
+    let rows = own_rows(work, stage, values, state)?;
     Ok(StageLp::with_cuts(program(stage, columns, rows), cuts))
 }
 
 // The stage problem of the node.
 fn stage_of<'a>(
-    alloc: Global,
-    spare: &mut SpareRows,
+    work: &mut Workspace,
     stage: &StageNode,
     pools: &'a Pools,
     values: &[i64],
@@ -196,19 +185,20 @@ fn stage_of<'a>(
     requires given { AreOf stage.now.subproblem.now values.now state.now }
     ensures { IfOk result (λ lp. lp ≡ stage_of pools.now.lists stage.now.node.now stage.now.subproblem.now values.now state.now) }
 {
-    match packed_view(alloc, stage, pools)? {
-        Some(cuts) => packed_stage(alloc, spare, stage, pools, cuts, values, state),
-        None => listed_stage(alloc, spare, stage, pools, values, state),
+    match packed_view(work.alloc(), stage, pools)? {
+        Some(cuts) => packed_stage(work, stage, pools, cuts, values, state),
+        None => listed_stage(work, stage, pools, values, state),
     }
 }
 
 /// Builds the stage problem of a node (Pereira and Pinto 1991): the cheapest decisions at these values and this state, with the
-/// cost of the future at each successor at least as high as its cuts. [`Memory`] where memory was refused.
+/// cost of the future at each successor at least as high as its cuts. Its rows are in the workspace's memory, until
+/// [`Workspace::give_back`]. [`Memory`] where memory was refused.
 ///
 /// There is one value per random variable of the node's subproblem, each at most 2^40 in absolute value, and the state,
 /// at scale 2^24, lies in the node's box.
-pub fn stage<'a>(
-    alloc: Global,
+pub fn stage_problem<'a>(
+    work: &mut Workspace,
     problem: &Problem,
     pools: &'a Pools,
     node: u32,
@@ -216,49 +206,27 @@ pub fn stage<'a>(
     state: &[i128],
 ) -> Result<StageLp<'a>, Memory>
     requires known { node < length problem.now.raw.nodes }
-    requires fit { Fit (problem_of problem.now) (length problem.now.raw.nodes) pools.now.lists }
+    requires fit { PoolsFit problem.now pools.now.lists }
     requires values { are_values (subproblem_of problem.now node) values.now ≡ true }
-    requires state { InBox S (node_at (problem_of problem.now) node).low (node_at (problem_of problem.now) node).high state.now }
-    ensures value { IfOk result (λ lp. stage_in problem.now pools.now.lists node values.now state.now ≡ Some lp) }
-    ensures proper { IfOk result IsProper }
-{
-    let mut spare = SpareRows::new(alloc);
-    stage_with(alloc, &mut spare, problem, pools, node, values, state)
-}
-
-/// Like [`stage`], in the workspace's buffers; [`SpareRows::give_back`] makes them free again. [`Memory`] where memory was
-/// refused.
-pub fn stage_with<'a>(
-    alloc: Global,
-    spare: &mut SpareRows,
-    problem: &Problem,
-    pools: &'a Pools,
-    node: u32,
-    values: &[i64],
-    state: &[i128],
-) -> Result<StageLp<'a>, Memory>
-    requires known { node < length problem.now.raw.nodes }
-    requires fit { Fit (problem_of problem.now) (length problem.now.raw.nodes) pools.now.lists }
-    requires values { are_values (subproblem_of problem.now node) values.now ≡ true }
-    requires state { InBox S (node_at (problem_of problem.now) node).low (node_at (problem_of problem.now) node).high state.now }
+    requires state { IsStateAt problem.now node state.now }
     ensures value { IfOk result (λ lp. stage_in problem.now pools.now.lists node values.now state.now ≡ Some lp) }
     ensures proper { IfOk result IsProper }
 {
     let stage = StageNode::of(problem, node);
-    stage_of(alloc, spare, &stage, pools, values, state)
+    stage_of(work, &stage, pools, values, state)
 }
 
 /// Gives a stage problem of a node the sides of other values and another state: it is then the stage problem of these, over the
-/// same pools. Values and state are as in [`stage`]. No memory is taken.
-pub fn restate(problem: &Problem, node: u32, values: &[i64], state: &[i128], lp: &mut StageLp)
+/// same pools. Values and state are as in [`stage_problem`]. No memory is taken.
+pub fn set_sides(problem: &Problem, node: u32, values: &[i64], state: &[i128], lp: &mut StageLp)
     requires known { node < length problem.now.raw.nodes }
     requires values { are_values (subproblem_of problem.now node) values.now ≡ true }
-    requires state { InBox S (node_at (problem_of problem.now) node).low (node_at (problem_of problem.now) node).high state.now }
+    requires state { IsStateAt problem.now node state.now }
     requires stage { IsStageAt problem.now node lp.old }
     ensures value { (pools : List (List Cut)) → (before now : List ℤ) → stage_in problem.now pools node before now ≡ Some lp.old
         → stage_in problem.now pools node values.now state.now ≡ Some lp.new }
     ensures like { IsLike lp.old lp.new }
 {
     let stage = StageNode::of(problem, node);
-    restate_rows(stage.subproblem.rows.as_slice(), values, state, lp);
+    set_own_sides(stage.subproblem.rows.as_slice(), values, state, lp);
 }

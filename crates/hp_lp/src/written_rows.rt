@@ -2,10 +2,9 @@
 ghost use Rattle.std.specs.Prelude.{◌≡◌, ◌≤◌, ◌∷◌, ◌++◌, [], length, take, IfOk, OnOk};
 ghost use Rattle.hp_solver.specs.declared.programs.LpRow.{LpRow};
 
-use crate::spare_rows::SpareRows;
+use crate::workspace::Workspace;
 use hp_num::{List, Memory};
 use hp_solver::{Fx, LpRow};
-use std::alloc::Global;
 use std::marker::Model;
 use std::mem;
 
@@ -45,13 +44,13 @@ pub(crate) trait RowParts {
 
 // Lets the rows behind so many go to those that are left over, the last first, so that a stage problem with more rows finds
 // each in its place again.
-fn let_go(spare: &mut SpareRows, rows: &mut Vec<LpRow>, count: usize)
+fn let_go(work: &mut Workspace, rows: &mut Vec<LpRow>, count: usize)
     requires { count ≤ length rows.old.items }
     ensures { rows.new.items ≡ take count rows.old.items }
 {
     for _ in count..rows.len() {
         if let Some(row) = rows.pop() {
-            spare.keep(row);
+            work.keep(row);
         }
     }
 }
@@ -68,11 +67,11 @@ pub(crate) fn cleared(terms: List<(u32, Fx)>, count: usize) -> Result<List<(u32,
 
 impl WrittenRows {
     /// Starts with no rows; those that are spare may be written over.
-    pub(crate) fn new(alloc: Global, spare: &mut SpareRows) -> WrittenRows
+    pub(crate) fn new(work: &mut Workspace) -> WrittenRows
         ensures { result ≡ [] }
     {
         WrittenRows {
-            rows: spare.take_rows(alloc),
+            rows: work.take_rows(),
             count: 0,
         }
     }
@@ -80,28 +79,27 @@ impl WrittenRows {
     /// Writes a row behind the others. [`Memory`] where memory was refused.
     pub(crate) fn push<P: RowParts>(
         &mut self,
-        alloc: Global,
-        spare: &mut SpareRows,
+        work: &mut Workspace,
         parts: &P,
     ) -> Result<(), Memory>
         requires { P.fit parts.now }
         ensures { OnOk result (self.new ≡ self.old ++ P.made parts.now ∷ []) }
     {
         if self.count == self.rows.len() {
-            self.rows.push(spare.take_row(alloc))?;
+            self.rows.push(work.take_row())?;
         }
-        let terms = mem::replace(&mut self.rows[self.count].terms, List::new(alloc));
+        let terms = mem::replace(&mut self.rows[self.count].terms, List::new(work.alloc()));
         self.rows[self.count] = parts.make(terms)?;
         self.count += 1;
         Ok(())
     }
 
     /// The rows as a list.
-    pub(crate) fn into_list(self, spare: &mut SpareRows) -> List<LpRow>
+    pub(crate) fn into_list(self, work: &mut Workspace) -> List<LpRow>
         ensures { result ≡ self }
     {
         let WrittenRows { mut rows, count } = self;
-        let_go(spare, &mut rows, count);
+        let_go(work, &mut rows, count);
         List::from_vec(rows)
     }
 }

@@ -17,10 +17,11 @@ use Rattle.hp_settle.specs.declared.judging.Dead.{Dead}
 use Rattle.hp_settle.specs.declared.judging.Judged.{Judged}
 use Rattle.hp_settle.specs.declared.judging.Judged.TheVariants as judged
 use Rattle.hp_settle.specs.Judging.{judge_of}
-use Rattle.hp_lp.specs.Chained.{Solving, answered}
+use Rattle.hp_solver.specs.Solving.{Solving}
+use Rattle.hp_lp.specs.Chained.{stage_answer}
 use Rattle.hp_forward.specs.declared.deciding.Decided.{Decided}
 use Rattle.hp_forward.specs.Deciding.{decide_of, decide_by, decided_of}
-use Rattle.hp_forward.specs.Given.{IsStateAt}
+use Rattle.hp_cut.specs.AtNodes.{IsStateAt}
 use Rattle.hp_forward.proofs.Boxes.{nested-sealed, next_inside}
 use Rattle.hp_forward.proofs.ByAnswers.{inside_by, viewed}
 use Rattle.hp_mend.specs.Deciding.{decide_mended_of, decided_as, if_found, mend}
@@ -80,7 +81,7 @@ mended_first n values x (Ok y) d e = record { before = y; here = refl; is = deci
 mended_first n values x (Err dead) d e = absurd (no_decided d dead (Err dead) refl e)
 
 module _ {Start Chain : Type 0} (v : Solving Start Chain) (p : Sealed) (pools : List (List Cut)) (run m : ℕ) (values x : List ℤ) where
-  by_answer : (d : Decided) → decide_of v p pools run m values x ≡ Ok d → decide_by p run m values x (answered v p pools m values x) (judge_of (node_at (problem_of p) m) values x (answered v p pools m values x)) ≡ Ok d
+  by_answer : (d : Decided) → decide_of v p pools run m values x ≡ Ok d → decide_by p run m values x (stage_answer v p pools m values x) (judge_of (node_at (problem_of p) m) values x (stage_answer v p pools m values x)) ≡ Ok d
   unfolding decide_of
   by_answer d e = e
 
@@ -97,7 +98,7 @@ module _ {Start Chain : Type 0} (v : Solving Start Chain) (p : Sealed) (pools : 
   pub inside_mended : is_sealed p ≡ true → m < length p.raw.nodes → (d : Decided) → decide_mended_of v p pools run m values x ≡ Ok d → InBox S (node_at (problem_of p) m).decision_low (node_at (problem_of p) m).decision_high d.decisions
   inside_mended sealed known d e =
       let first = first_of d e in
-      let answer : Answer = answered v p pools m values x in
+      let answer : Answer = stage_answer v p pools m values x in
       subst (Inside (node_at (problem_of p) m)) first.is
       (inside_mend (node_at (problem_of p) m) values x first.before
       (inside_by p sealed run m known values x answer (judge_of (node_at (problem_of p) m) values x answer) first.before (by_answer first.before first.here)))
@@ -106,7 +107,7 @@ module _ {Start Chain : Type 0} (v : Solving Start Chain) (p : Sealed) (pools : 
   pub next_mended : (d : Decided) → decide_mended_of v p pools run m values x ≡ Ok d → d.next ≡ next_state (node_at (problem_of p) m) d.decisions
   next_mended d e =
       let first = first_of d e in
-      let answer : Answer = answered v p pools m values x in
+      let answer : Answer = stage_answer v p pools m values x in
       subst (Leaves (node_at (problem_of p) m)) first.is
       (leaves_mend (node_at (problem_of p) m) values x first.before
       (leaves_by p run m values x answer (judge_of (node_at (problem_of p) m) values x answer) first.before (by_answer first.before first.here)))

@@ -9,7 +9,7 @@ use Rattle.hp_theory.specs.View.{problem_of}
 use Rattle.hp_solver.specs.declared.programs.Kind.{Kind}
 use Rattle.hp_solver.specs.declared.programs.Kind.TheVariants as kinds
 use Rattle.hp_settle.specs.declared.judging.Dead.{Dead}
-use Rattle.hp_lp.specs.Chained.{Solving}
+use Rattle.hp_solver.specs.Solving.{Solving}
 use Rattle.hp_forward.specs.declared.deciding.Decided.{Decided}
 use Rattle.hp_forward.specs.Deciding.{decide_of}
 use Rattle.hp_mend.specs.Mending.{mended_of}

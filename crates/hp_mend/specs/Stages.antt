@@ -6,7 +6,7 @@ use Rattle.hp_problem.specs.Sealed.{subproblem_of}
 use Rattle.hp_theory.specs.Problem.{S, Node, node_at}
 use Rattle.hp_theory.specs.Tree.{InBox}
 use Rattle.hp_theory.specs.View.{problem_of}
-use Rattle.hp_forward.specs.Given.{IsStateAt}
+use Rattle.hp_cut.specs.AtNodes.{IsStateAt}
 use Rattle.hp_mend.specs.declared.stage.Stage.{Stage}
 use Rattle.hp_mend.specs.Moves.{Frame, frame_of}
 

@@ -3,22 +3,21 @@ ghost use Rattle.std.specs.Prelude.{◌≡◌, ◌<◌, ℕ, true, length, Conta
 ghost use Rattle.hp_problem.specs.Limits.{are_values};
 ghost use Rattle.hp_problem.specs.Parts.{successors_at};
 ghost use Rattle.hp_problem.specs.Sealed.{subproblem_of};
-ghost use Rattle.hp_theory.specs.Fit.{Fit};
 ghost use Rattle.hp_theory.specs.Problem.{S, node_at};
 ghost use Rattle.hp_theory.specs.Tree.{InBox, next_state};
 ghost use Rattle.hp_theory.specs.View.{problem_of};
-ghost use Rattle.hp_lp.specs.Chained.{solving};
-ghost use Rattle.hp_lp.specs.Ready.{AreReady};
-ghost use Rattle.hp_forward.specs.Given.{Gives, IsStateAt, OnNoStage, Refutes};
+ghost use Rattle.hp_cut.specs.AtNodes.{IsStateAt, PoolsFit};
+ghost use Rattle.hp_settle.specs.Faults.{Gives, OnNoStage, Refutes};
 ghost use Rattle.hp_mend.specs.Deciding.{decide_mended_of, decided_as, mend};
 ghost use Rattle.hp_mend.specs.Mending.{mended_of};
 
 use crate::mending::mended;
 use hp_cut::Pools;
-use hp_forward::{Decided, StageFault, decide_with, next_state};
-use hp_lp::{SpareRows, Starts};
+use hp_forward::{Decided, StageInput, decide, next_state};
+use hp_lp::{Planner, Workspace};
 use hp_num::{List, Memory};
 use hp_problem::Problem;
+use hp_settle::PlanFault;
 use hp_solver::{Kind, Solver};
 use std::alloc::Global;
 
@@ -104,45 +103,41 @@ fn mend(
     }
 }
 
-/// Decides at a node, at values of its random variables and an incoming state, as [`hp_forward::decide_with`] does it, and
+/// Decides at a node, at values of its random variables and an incoming state, as [`hp_forward::decide`] does it, and
 /// mends the decisions where the answer is a point: gives them as [`mended`] does, together with the state that they leave.
 /// Decisions by any other answer stay as they are.
 ///
 /// Decisions and states are at scale 2^24, the decisions in 2^24 times their boxes. There is one value per random variable of
-/// the node's subproblem, each at most 2^40 in absolute value, and the state lies in the node's box. `starts` was made for this
-/// problem and this solver. The stage problem is in the workspace's buffers, which are free again afterwards. `run` is the
-/// number that a refutation carries.
+/// the node's subproblem, each at most 2^40 in absolute value, and the state lies in the node's box.
 ///
 /// NoStage exactly where the answer is judged dead: then no decisions exist there, in any fraction of a unit. Memory
 /// where memory was refused.
 #[tactic(auto, unfolding(crate::specs::Deciding::decide_mended_of))]
 pub fn decide_mended<V: Solver>(
-    alloc: Global,
-    spare: &mut SpareRows,
-    problem: &Problem,
+    work: &mut Workspace,
+    planner: &Planner<V>,
     pools: &Pools,
-    solver: &V,
-    starts: &Starts<V>,
-    run: u32,
-    node: u32,
-    values: &[i64],
-    state: &[i128],
-) -> Result<Decided, StageFault>
-    requires known { node < length problem.now.raw.nodes }
-    requires fit { Fit (problem_of problem.now) (length problem.now.raw.nodes) pools.now.lists }
-    requires values { are_values (subproblem_of problem.now node) values.now ≡ true }
-    requires state { IsStateAt problem.now node state.now }
-    requires ready { AreReady (V.started solver.now) (V.suits solver.now) problem.now starts.now.items }
-    ensures value { Gives result (decide_mended_of (solving (V.started solver.now) (V.begun solver.now) (V.next solver.now)) problem.now pools.now.lists run node values.now state.now) }
-    ensures inside { let n = node_at (problem_of problem.now) node in
+    input: &StageInput,
+) -> Result<Decided, PlanFault>
+    requires known { input.now.node < length planner.now.problem.now.raw.nodes }
+    requires fit { PoolsFit planner.now.problem.now pools.now.lists }
+    requires values { are_values (subproblem_of planner.now.problem.now input.now.node) input.now.values.now ≡ true }
+    requires state { IsStateAt planner.now.problem.now input.now.node input.now.state.now }
+    ensures value { Gives result (decide_mended_of (V.does planner.now.solver.now) planner.now.problem.now pools.now.lists input.now.run input.now.node input.now.values.now input.now.state.now) }
+    ensures inside { let n = node_at (problem_of planner.now.problem.now) input.now.node in
         IfOk result (λ d. InBox S n.decision_low n.decision_high d.decisions) }
-    ensures next { IfOk result (λ d. (m : ℕ) → Contains (successors_at problem.now.raw node) m
-        → IsStateAt problem.now m d.next) }
-    ensures dead { OnNoStage result (Refutes problem.now) }
+    ensures next { IfOk result (λ d. (m : ℕ) → Contains (successors_at planner.now.problem.now.raw input.now.node) m
+        → IsStateAt planner.now.problem.now m d.next) }
+    ensures dead { OnNoStage result (Refutes planner.now.problem.now) }
 {
+    let problem = planner.problem();
     let _ = problem.raw();
-    let decided = decide_with(
-        alloc, spare, problem, pools, solver, starts, run, node, values, state,
-    )?;
-    Ok(mend(alloc, problem, node, values, state, decided)?)
+    let decided = decide(work, planner, pools, input)?;
+    let StageInput {
+        node,
+        values,
+        state,
+        ..
+    } = *input;
+    Ok(mend(work.alloc(), problem, node, values, state, decided)?)
 }

@@ -6,7 +6,7 @@ ghost use Rattle.hp_problem.specs.Sealed.{subproblem_of};
 ghost use Rattle.hp_theory.specs.Problem.{S, node_at};
 ghost use Rattle.hp_theory.specs.Tree.{InBox, RowHolds};
 ghost use Rattle.hp_theory.specs.View.{problem_of};
-ghost use Rattle.hp_forward.specs.Given.{IsStateAt};
+ghost use Rattle.hp_cut.specs.AtNodes.{IsStateAt};
 ghost use Rattle.hp_mend.specs.Fixing.{all_fixed};
 ghost use Rattle.hp_mend.specs.Mending.{fresh, all_met, mended_of};
 ghost use Rattle.hp_mend.specs.Stages.{stage_node, frame_at, IsStage, AreInside};

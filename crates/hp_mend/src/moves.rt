@@ -13,6 +13,16 @@ use hp_forward::scaled;
 use hp_num::{List, Memory};
 use std::alloc::Global;
 
+/// A row for whose sake decisions move, on a level of a search.
+#[derive(Clone, Copy)]
+struct Aim<'a> {
+    stage: &'a Stage<'a>,
+    search: &'a Search,
+    /// Rows that a move harms can be fixed below.
+    deep: bool,
+    row: u32,
+}
+
 /// The decision of a number, 0 where there is none.
 pub(crate) fn number_at(numbers: &[i128], at: u32) -> i128
     ensures { result ≡ entry numbers.now at }
@@ -156,18 +166,21 @@ fn move_of(
 fn push_move(
     alloc: Global,
     moves: &mut List<Move>,
-    stage: &Stage,
-    search: &Search,
-    deep: bool,
-    row: u32,
+    aim: &Aim,
     at: u32,
     amount: i128,
 ) -> Result<(), Memory>
-    requires stage { IsStage stage.now }
-    requires inside { AreInside stage.now search.now.numbers }
+    requires stage { IsStage aim.now.stage.now }
+    requires inside { AreInside aim.now.stage.now aim.now.search.now.numbers }
     requires small { nat_abs amount ≤ 2 ^ 116 }
-    ensures { OnOk result (moves.new ≡ moves.old ++ moves_by (frame_at stage.now) deep search.now row at amount) }
+    ensures { OnOk result (moves.new ≡ moves.old ++ moves_by (frame_at aim.now.stage.now) aim.now.deep aim.now.search.now aim.now.row at amount) }
 {
+    let Aim {
+        stage,
+        search,
+        deep,
+        row,
+    } = *aim;
     if may_move(stage, search, at, amount) {
         let own = move_of(alloc, stage, search, row, at, amount)?;
         if deep || own.harm == 0 {
@@ -196,27 +209,24 @@ fn is_zero(factor: i64) -> bool
 fn push_both(
     alloc: Global,
     moves: &mut List<Move>,
-    stage: &Stage,
-    search: &Search,
-    deep: bool,
-    row: u32,
+    aim: &Aim,
     miss: i128,
     term: (u32, i64),
 ) -> Result<(), Memory>
-    requires stage { IsStage stage.now }
-    requires inside { AreInside stage.now search.now.numbers }
+    requires stage { IsStage aim.now.stage.now }
+    requires inside { AreInside aim.now.stage.now aim.now.search.now.numbers }
     requires small { nat_abs miss ≤ 2 ^ 115 }
     requires some { term.1 ≢ pos 0 }
-    ensures { OnOk result (moves.new ≡ moves.old ++ both_moves (frame_at stage.now) deep search.now row miss term) }
+    ensures { OnOk result (moves.new ≡ moves.old ++ both_moves (frame_at aim.now.stage.now) aim.now.deep aim.now.search.now aim.now.row miss term) }
 {
     let (at, factor) = term;
     let most = reaching(miss, factor);
     let beyond = directed(miss, factor, most);
-    push_move(alloc, moves, stage, search, deep, row, at, beyond)?;
+    push_move(alloc, moves, aim, at, beyond)?;
     let least = short_of(miss, factor);
     if is_other(least, most) {
         let short = directed(miss, factor, least);
-        push_move(alloc, moves, stage, search, deep, row, at, short)?;
+        push_move(alloc, moves, aim, at, short)?;
     }
     Ok(())
 }
@@ -225,22 +235,19 @@ fn push_both(
 fn push_moves(
     alloc: Global,
     moves: &mut List<Move>,
-    stage: &Stage,
-    search: &Search,
-    deep: bool,
-    row: u32,
+    aim: &Aim,
     miss: i128,
     term: (u32, i64),
 ) -> Result<(), Memory>
-    requires stage { IsStage stage.now }
-    requires inside { AreInside stage.now search.now.numbers }
+    requires stage { IsStage aim.now.stage.now }
+    requires inside { AreInside aim.now.stage.now aim.now.search.now.numbers }
     requires small { nat_abs miss ≤ 2 ^ 115 }
-    ensures { OnOk result (moves.new ≡ moves.old ++ moves_at (frame_at stage.now) deep search.now row miss term) }
+    ensures { OnOk result (moves.new ≡ moves.old ++ moves_at (frame_at aim.now.stage.now) aim.now.deep aim.now.search.now aim.now.row miss term) }
 {
     if is_zero(term.1) {
         return Ok(());
     }
-    push_both(alloc, moves, stage, search, deep, row, miss, term)
+    push_both(alloc, moves, aim, miss, term)
 }
 
 /// The moves of single decisions for the sake of a row, as its terms list them.
@@ -257,9 +264,15 @@ pub(crate) fn moves_of(
     ensures { IfOk result (λ moves. moves ≡ moves_of (frame_at stage.now) deep search.now row) }
 {
     let miss = miss_at(stage, search.numbers.as_slice(), row);
+    let aim = Aim {
+        stage,
+        search,
+        deep,
+        row,
+    };
     let mut moves = List::new(alloc);
     for term in terms_at(stage, row) {
-        push_moves(alloc, &mut moves, stage, search, deep, row, miss, *term)?;
+        push_moves(alloc, &mut moves, &aim, miss, *term)?;
     }
     Ok(moves)
 }

@@ -1,8 +1,7 @@
 // The report of the base cuts.
 ghost use Rattle.std.specs.Prelude.{◌≡◌, IfOk, length};
 ghost use Rattle.hp_report.specs.Report.{base_text};
-ghost use Rattle.hp_theory.specs.Fit.{Fit};
-ghost use Rattle.hp_theory.specs.View.{problem_of};
+ghost use Rattle.hp_cut.specs.AtNodes.{PoolsFit};
 
 use crate::cuts::{push_bound, push_cuts};
 use crate::head::push_head;
@@ -14,7 +13,7 @@ use std::alloc::Global;
 /// The report of the base cuts: the head, a line for each cut, and the line of the bound.
 #[tactic(auto, unfolding(crate::specs::Report::base_text))]
 pub fn base_report(alloc: Global, problem: &Problem, pools: &Pools) -> Result<Vec<u8>, Memory>
-    requires { Fit (problem_of problem.now) (length problem.now.raw.nodes) pools.now.lists }
+    requires { PoolsFit problem.now pools.now.lists }
     ensures { IfOk result (λ v. v.items ≡ base_text problem.now pools.now.lists) }
 {
     let mut out = Vec::new(alloc);

@@ -3,8 +3,8 @@ ghost use Rattle.std.specs.Prelude.{◌≡◌, IfOk, length};
 ghost use Rattle.hp_load.specs.Accepted.{IsSafe};
 ghost use Rattle.hp_report.specs.Report.{check_text};
 ghost use Rattle.hp_report.specs.SoundLines.{SoundLines};
-ghost use Rattle.hp_theory.specs.Fit.{Fit};
 ghost use Rattle.hp_theory.specs.View.{problem_of};
+ghost use Rattle.hp_cut.specs.AtNodes.{PoolsFit};
 
 use crate::cuts::{push_bound, push_cuts};
 use crate::head::push_head;
@@ -18,7 +18,7 @@ use std::alloc::Global;
 /// of the bound, and that of the bytes behind the last gate. It is sound line by line, whatever disk was loaded.
 #[tactic(auto, unfolding(crate::specs::Report::check_text))]
 pub fn check_report(alloc: Global, problem: &Problem, loaded: &Loaded) -> Result<Vec<u8>, Memory>
-    requires { Fit (problem_of problem.now) (length problem.now.raw.nodes) loaded.now.pools.lists }
+    requires { PoolsFit problem.now loaded.now.pools.lists }
     ensures text { IfOk result (λ v. v.items ≡ check_text problem.now loaded.now.pools.lists loaded.now.bounds loaded.now.unsettled loaded.now.rest) }
     ensures sound { IsSafe problem.now loaded.now → IfOk result (λ v. SoundLines (problem_of problem.now) v.items) }
 {

@@ -6,9 +6,9 @@ ghost use Rattle.hp_report.specs.Lines.{numbered};
 ghost use Rattle.hp_report.specs.Report.{word};
 ghost use Rattle.hp_report.specs.SoundLines.{SoundLines};
 ghost use Rattle.hp_report.specs.Traces.{AreKnown, cost_line, end_line, in_lines, kind_word, named_line, own_lines, random_lines, row_line, scenario_line, scenario_text, stage_line, step_text, trace_text, value_lines};
-ghost use Rattle.hp_theory.specs.Fit.{Fit};
 ghost use Rattle.hp_theory.specs.Pools.{Sound};
 ghost use Rattle.hp_theory.specs.View.{problem_of};
+ghost use Rattle.hp_cut.specs.AtNodes.{PoolsFit};
 
 use crate::cuts::{push_bound, push_word};
 use crate::head::push_head;
@@ -201,7 +201,7 @@ pub fn trace_report(
     pools: &Pools,
     traces: &[Trace],
 ) -> Result<Vec<u8>, Memory>
-    requires fit { Fit (problem_of problem.now) (length problem.now.raw.nodes) pools.now.lists }
+    requires fit { PoolsFit problem.now pools.now.lists }
     requires known { All (AreKnown problem.now) traces.now }
     ensures text { IfOk result (λ v. v.items ≡ trace_text problem.now pools.now.lists traces.now) }
     ensures sound { Sound (problem_of problem.now) pools.now.lists → IfOk result (λ v. SoundLines (problem_of problem.now) v.items) }

@@ -3,9 +3,9 @@ ghost use Rattle.std.specs.Prelude.{◌≡◌, All, IfOk, length};
 ghost use Rattle.hp_report.specs.Report.{train_text};
 ghost use Rattle.hp_report.specs.SoundLines.{SoundLines};
 ghost use Rattle.hp_theory.specs.Bound.{Under};
-ghost use Rattle.hp_theory.specs.Fit.{Fit};
 ghost use Rattle.hp_theory.specs.Pools.{Sound};
 ghost use Rattle.hp_theory.specs.View.{problem_of};
+ghost use Rattle.hp_cut.specs.AtNodes.{PoolsFit};
 
 use crate::cuts::push_bound;
 use crate::head::push_head;
@@ -19,7 +19,7 @@ use std::alloc::Global;
 /// It is sound line by line where the cuts and the bounds are.
 #[tactic(auto, unfolding(crate::specs::Report::train_text))]
 pub fn train_report(alloc: Global, problem: &Problem, loaded: &Loaded) -> Result<Vec<u8>, Memory>
-    requires { Fit (problem_of problem.now) (length problem.now.raw.nodes) loaded.now.pools.lists }
+    requires { PoolsFit problem.now loaded.now.pools.lists }
     ensures text { IfOk result (λ v. v.items ≡ train_text problem.now loaded.now.pools.lists loaded.now.bounds loaded.now.unsettled) }
     ensures sound { Sound (problem_of problem.now) loaded.now.pools.lists → All (Under (problem_of problem.now)) loaded.now.bounds
         → IfOk result (λ v. SoundLines (problem_of problem.now) v.items) }

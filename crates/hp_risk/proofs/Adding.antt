@@ -16,12 +16,12 @@ use Rattle.hp_theory.specs.Problem.{node_at}
 use Rattle.hp_theory.specs.Base.{base_list}
 use Rattle.hp_theory.specs.Bound.{bound}
 use Rattle.hp_theory.specs.Premises.{InOrder}
-use Rattle.hp_theory.specs.Fit.{Fit}
 use Rattle.hp_theory.proofs.SealedOrder.{in_order-sealed}
 use Rattle.hp_theory.proofs.SealedPremises.{root_shaped-sealed, have_cuts-root}
 use Rattle.hp_theory.proofs.SoundBase.{no_cuts}
 use Rattle.hp_cut.specs.Pooled.{Pooled}
 use Rattle.hp_theory.specs.View.{problem_of}
+use Rattle.hp_cut.specs.AtNodes.{PoolsFit}
 use Rattle.hp_cut.specs.declared.entry.Entry.{Entry}
 use Rattle.hp_cut.specs.declared.entry.EntryStep.{EntryStep}
 use Rattle.hp_record.specs.Backwards.{GoesOn, IsPathFromRoot, nodes_back}
@@ -96,7 +96,7 @@ at_index P (x ∷ xs) (suc i) d h lt = at_index P xs i d h.1 (omega arith)
 -- a property that one plane more keeps is kept by all
 module _ (p : Sealed) (x : Alternatives) (sealed : is_sealed p ≡ true) (listed : Listed p x.lists) where
   abbrev IsFit : Planes → Type 0
-  IsFit planes = Fit (problem_of p) (length p.raw.nodes) planes
+  IsFit planes = PoolsFit p planes
 
   abbrev IsRisk : Planes → Type 0
   IsRisk planes = RiskSound (problem_of p) x.lists planes
@@ -149,7 +149,7 @@ module _ (p : Sealed) (x : Alternatives) (sealed : is_sealed p ≡ true) (listed
     planes_hold (Err e) h = tt
 
     -- and so does the bound over them
-    pub planes_under : (result : Result Pooled RobustFault) → Plans result (planes_of p x lists) → IfOk result (λ planes. Fit (problem_of p) (length p.raw.nodes) planes.lists) → IfOk result (λ planes. RiskUnder (problem_of p) x.lists (bound (problem_of p) planes.lists))
+    pub planes_under : (result : Result Pooled RobustFault) → Plans result (planes_of p x lists) → IfOk result (λ planes. PoolsFit p planes.lists) → IfOk result (λ planes. RiskUnder (problem_of p) x.lists (bound (problem_of p) planes.lists))
     planes_under (Ok planes) h fit =
         risk_bound (problem_of p) x.lists planes.lists (root_shaped-sealed p sealed) (have_cuts-root p planes.lists sealed fit.some) (planes_risk lists planes.lists records h)
     planes_under (Err e) h fit = tt

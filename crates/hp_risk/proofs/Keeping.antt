@@ -17,6 +17,7 @@ use Rattle.hp_theory.proofs.Appending.{push_at, kept_some}
 use Rattle.hp_theory.proofs.SizeToFit.{size_to_fit_given}
 use Rattle.hp_theory.proofs.SealedPremises.{shaped-sealed, narrow-sealed}
 use Rattle.hp_theory.proofs.Views.{node_at-past}
+use Rattle.hp_cut.specs.AtNodes.{PoolsFit}
 use Rattle.hp_dual.proofs.Accepted.{right-fault_of, size-fault_of}
 use Rattle.hp_dual.specs.Acceptance.{fault_of}
 use Rattle.hp_risk.specs.declared.alternatives.Alternatives.{Alternatives}
@@ -100,10 +101,10 @@ module _ (p : Sealed) (x : Alternatives) (sealed : is_sealed p ≡ true) (listed
 
     -- one plane more
     module _ (k : ℕ) (new : List (List Cut)) (added : plane_added p x k planes m list ≡ Ok new) where
-      pub fit_more : Fit (problem_of p) (length p.raw.nodes) planes → Fit (problem_of p) (length p.raw.nodes) new
+      pub fit_more : PoolsFit p planes → PoolsFit p new
       fit_more f =
           let a = added_plane p x k planes m list new added in
-          subst (λ (q : List (List Cut)). Fit (problem_of p) (length p.raw.nodes) q) a.2 (push_fit (problem_of p) (length p.raw.nodes) planes m a.0 f (plane_fits a.0 a.1))
+          subst (λ (q : List (List Cut)). PoolsFit p q) a.2 (push_fit (problem_of p) (length p.raw.nodes) planes m a.0 f (plane_fits a.0 a.1))
 
       pub risk_more : RiskSound (problem_of p) x.lists planes → RiskSound (problem_of p) x.lists new
       risk_more s =

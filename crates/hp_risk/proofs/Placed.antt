@@ -16,6 +16,7 @@ use Rattle.hp_theory.specs.Premises.{InOrder}
 use Rattle.hp_theory.proofs.SoundBase.{no_cuts}
 use Rattle.hp_theory.proofs.Appending.{push_at}
 use Rattle.hp_theory.proofs.SealedOrder.{Fresh, in_order-sealed, fresh-sealed, ordered-sealed}
+use Rattle.hp_cut.specs.AtNodes.{PoolsFit}
 use Rattle.hp_risk.specs.declared.alternatives.Alternatives.{Alternatives}
 use Rattle.hp_risk.specs.declared.planes.RobustFault.{RobustFault}
 use Rattle.hp_risk.specs.Listed.{Listed}
@@ -135,5 +136,5 @@ module _ (p : Sealed) (x : Alternatives) (order : List ℕ) (i : ℕ) (planes : 
   pub base_done : length order ≤ i → base_planes p x ≡ Ok planes
   base_done all = each_done (base_added p x) planes order i (base_planes p x) all l.so_far
 
-  pub base_fits : length order ≤ i → Fit (problem_of p) (length p.raw.nodes) planes
+  pub base_fits : length order ≤ i → PoolsFit p planes
   base_fits all = placed_fit (problem_of p) (length p.raw.nodes) l.done planes (subst (λ (ms : List ℕ). Placed (problem_of p) (length p.raw.nodes) l.done ms planes) (drop_all i order all) l.placed)

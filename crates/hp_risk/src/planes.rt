@@ -1,10 +1,10 @@
 // Planes of the entries of a journal.
 ghost use Rattle.std.specs.Prelude.{◌≡◌, ◌<◌, length, All, IfOk, replicate, []};
 ghost use Rattle.std.specs.List.{AllByRecursion};
-ghost use Rattle.hp_theory.specs.Problem.{node_at};
 ghost use Rattle.hp_theory.specs.View.{problem_of};
-ghost use Rattle.hp_theory.specs.Fit.{Fit, FitFor};
+ghost use Rattle.hp_theory.specs.Fit.{FitFor};
 ghost use Rattle.hp_theory.specs.Bound.{bound};
+ghost use Rattle.hp_cut.specs.AtNodes.{PoolsFit};
 ghost use Rattle.hp_cut.specs.declared.entry.Entry.{Entry};
 ghost use Rattle.hp_cut.specs.declared.entry.EntryStep.{EntryStep};
 ghost use Rattle.hp_load.specs.Accepted.{IsRecord};
@@ -19,7 +19,6 @@ use crate::candidates::{failing, plane};
 use hp_cut::{Entry, EntryStep, Pools};
 use hp_num::{List, Memory};
 use hp_problem::Problem;
-use hp_theory::Certificate;
 use std::alloc::Global;
 
 /// More planes than a node ever has: 2,000 iterations of 64 paths, and its base plane.
@@ -64,14 +63,15 @@ fn add_plane(
     alternatives: &Alternatives,
     iteration: u32,
     planes: &mut Pools,
-    node: u32,
-    list: &[Certificate],
+    step: &EntryStep,
 ) -> Result<(), RobustFault>
-    requires known { node < length problem.now.raw.nodes }
+    requires known { step.now.node < length problem.now.raw.nodes }
     requires listed { Listed problem.now alternatives.now.lists }
-    requires fit { FitFor (problem_of problem.now) (length problem.now.raw.nodes) planes.old.lists node }
-    ensures { PlansTo planes.new.lists result (plane_added problem.now alternatives.now iteration planes.old.lists node list.now) }
+    requires fit { FitFor (problem_of problem.now) (length problem.now.raw.nodes) planes.old.lists step.now.node }
+    ensures { PlansTo planes.new.lists result (plane_added problem.now alternatives.now iteration planes.old.lists step.now.node step.now.list) }
 {
+    let node = step.node;
+    let list = step.list.as_slice();
     let lists = lists_at(alternatives, node);
     let Some(plane) = plane(alloc, problem, planes, node, list, lists)? else {
         let realization = failing(problem, planes, node, list, lists);
@@ -104,15 +104,8 @@ fn add_base(
     ensures { PlansTo planes.new.lists result (base_added problem.now alternatives.now planes.old.lists node) }
 {
     let list = base_list(alloc, problem, node)?;
-    add_plane(
-        alloc,
-        problem,
-        alternatives,
-        0,
-        planes,
-        node,
-        list.as_slice(),
-    )
+    let step = EntryStep { node, list };
+    add_plane(alloc, problem, alternatives, 0, planes, &step)
 }
 
 // A plane for each node, from its base certificates over the planes of its successors.
@@ -124,7 +117,7 @@ fn base_planes(
 ) -> Result<Pools, RobustFault>
     requires listed { Listed problem.now alternatives.now.lists }
     ensures value { Plans result (base_planes problem.now alternatives.now) }
-    ensures fit { IfOk result (λ planes. Fit (problem_of problem.now) (length problem.now.raw.nodes) planes.lists) }
+    ensures fit { IfOk result (λ planes. PoolsFit problem.now planes.lists) }
 {
     let order = problem.order();
     let mut planes = Pools::new(alloc, problem.raw().nodes.len() as u32)?;
@@ -145,20 +138,11 @@ fn add_step(
 ) -> Result<(), RobustFault>
     requires known { step.now.node < length problem.now.raw.nodes }
     requires listed { Listed problem.now alternatives.now.lists }
-    requires fit { Fit (problem_of problem.now) (length problem.now.raw.nodes) planes.old.lists }
+    requires fit { PoolsFit problem.now planes.old.lists }
     ensures { PlansTo planes.new.lists result (step_added problem.now alternatives.now iteration planes.old.lists step.now) }
 {
     let _ = problem.raw();
-    let list = step.list.as_slice();
-    add_plane(
-        alloc,
-        problem,
-        alternatives,
-        iteration,
-        planes,
-        step.node,
-        list,
-    )
+    add_plane(alloc, problem, alternatives, iteration, planes, step)
 }
 
 // Appends the planes of steps, one after the other.
@@ -172,7 +156,7 @@ fn add_steps(
 ) -> Result<(), RobustFault>
     requires known { All (λ (s : EntryStep). s.node < length problem.now.raw.nodes) steps.now }
     requires listed { Listed problem.now alternatives.now.lists }
-    requires fit { Fit (problem_of problem.now) (length problem.now.raw.nodes) planes.old.lists }
+    requires fit { PoolsFit problem.now planes.old.lists }
     ensures { PlansTo planes.new.lists result (each (step_added problem.now alternatives.now iteration) planes.old.lists steps.now) }
 {
     let _ = problem.raw();
@@ -193,7 +177,7 @@ fn add_entry(
 ) -> Result<(), RobustFault>
     requires known { All (λ (s : EntryStep). s.node < length problem.now.raw.nodes) entry.now.steps }
     requires listed { Listed problem.now alternatives.now.lists }
-    requires fit { Fit (problem_of problem.now) (length problem.now.raw.nodes) planes.old.lists }
+    requires fit { PoolsFit problem.now planes.old.lists }
     ensures { PlansTo planes.new.lists result (entry_added problem.now alternatives.now planes.old.lists entry.now) }
 {
     let steps = entry.steps.as_slice();
@@ -210,7 +194,7 @@ fn add_entries(
 ) -> Result<(), RobustFault>
     requires known { All (λ (e : Entry). All (λ (s : EntryStep). s.node < length problem.now.raw.nodes) e.steps) entries.now }
     requires listed { Listed problem.now alternatives.now.lists }
-    requires fit { Fit (problem_of problem.now) (length problem.now.raw.nodes) planes.old.lists }
+    requires fit { PoolsFit problem.now planes.old.lists }
     ensures { PlansTo planes.new.lists result (each (entry_added problem.now alternatives.now) planes.old.lists entries.now) }
 {
     let _ = problem.raw();
@@ -231,7 +215,7 @@ fn add_record(
 ) -> Result<(), RobustFault>
     requires paths { IsRecord problem.now entries.now }
     requires listed { Listed problem.now alternatives.now.lists }
-    requires fit { Fit (problem_of problem.now) (length problem.now.raw.nodes) planes.old.lists }
+    requires fit { PoolsFit problem.now planes.old.lists }
     ensures { PlansTo planes.new.lists result (entries_added problem.now alternatives.now planes.old.lists entries.now) }
 {
     let _ = problem.raw();
@@ -248,9 +232,9 @@ fn add_lists(
 ) -> Result<(), RobustFault>
     requires records { AllByRecursion (IsRecord problem.now) lists.now }
     requires listed { Listed problem.now alternatives.now.lists }
-    requires fit { Fit (problem_of problem.now) (length problem.now.raw.nodes) planes.old.lists }
+    requires fit { PoolsFit problem.now planes.old.lists }
     ensures value { PlansTo planes.new.lists result (each (entries_added problem.now alternatives.now) planes.old.lists lists.now) }
-    ensures fit { IfOk result (λ u. Fit (problem_of problem.now) (length problem.now.raw.nodes) planes.new.lists) }
+    ensures fit { IfOk result (λ u. PoolsFit problem.now planes.new.lists) }
 {
     let _ = problem.raw();
     for entries in lists {
@@ -270,7 +254,7 @@ fn planes_of(
     requires listed { Listed problem.now alternatives.now.lists }
     requires records { AllByRecursion (IsRecord problem.now) lists.now }
     ensures value { Plans result (planes_of problem.now alternatives.now lists.now) }
-    ensures fit { IfOk result (λ planes. Fit (problem_of problem.now) (length problem.now.raw.nodes) planes.lists) }
+    ensures fit { IfOk result (λ planes. PoolsFit problem.now planes.lists) }
 {
     let mut planes = base_planes(alloc, problem, alternatives)?;
     add_lists(alloc, problem, alternatives, &mut planes, lists)?;
@@ -294,7 +278,7 @@ pub fn robust(
     requires listed { Listed problem.now alternatives.now.lists }
     requires records { AllByRecursion (IsRecord problem.now) lists.now }
     ensures value { Plans result (planes_of problem.now alternatives.now lists.now) }
-    ensures fit { IfOk result (λ planes. Fit (problem_of problem.now) (length problem.now.raw.nodes) planes.lists) }
+    ensures fit { IfOk result (λ planes. PoolsFit problem.now planes.lists) }
     ensures holds { IfOk result (λ planes. RiskSound (problem_of problem.now) alternatives.now.lists planes.lists) }
     ensures worst { IfOk result (λ planes. RiskUnder (problem_of problem.now) alternatives.now.lists (bound (problem_of problem.now) planes.lists)) }
 {

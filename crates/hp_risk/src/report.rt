@@ -1,8 +1,7 @@
 // The report of planes.
 ghost use Rattle.std.specs.Prelude.{◌≡◌, ◌++◌, IfOk, OnOk, length};
-ghost use Rattle.hp_theory.specs.Fit.{Fit};
-ghost use Rattle.hp_theory.specs.View.{problem_of};
 ghost use Rattle.hp_risk.specs.Report.{plane_line, node_planes, plane_lines, worst_line, robust_text};
+ghost use Rattle.hp_cut.specs.AtNodes.{PoolsFit};
 
 use hp_cut::{Cut, Pools};
 use hp_num::Memory;
@@ -50,7 +49,7 @@ fn push_worst(out: &mut Vec<u8>, bound: i128) -> Result<(), Memory>
 /// The report of planes: the head, a line for each plane, and the line of the bound over the planes, at scale 2^24.
 #[tactic(auto, unfolding(crate::specs::Report::robust_text))]
 pub fn robust_report(alloc: Global, problem: &Problem, planes: &Pools) -> Result<Vec<u8>, Memory>
-    requires { Fit (problem_of problem.now) (length problem.now.raw.nodes) planes.now.lists }
+    requires { PoolsFit problem.now planes.now.lists }
     ensures { IfOk result (λ v. v.items ≡ robust_text problem.now planes.now.lists) }
 {
     let mut out = Vec::new(alloc);

@@ -10,8 +10,8 @@ use Rattle.hp_record.specs.Spelling.{spell}
 use Rattle.hp_journal.specs.Layout.{Title, new_title}
 use Rattle.hp_journal.specs.Mine.{Mine, born, half_open, short, shut, unborn}
 use Rattle.hp_load.specs.Load.{Outcome}
-use Rattle.hp_lp.specs.Chained.{Solving}
-use Rattle.hp_backward.specs.declared.fault.SweepFault.{SweepFault}
+use Rattle.hp_solver.specs.Solving.{Solving}
+use Rattle.hp_settle.specs.declared.plan_fault.PlanFault.{PlanFault}
 use Rattle.hp_report.specs.Report.{train_text}
 use Rattle.hp_train.specs.Continuing.{Continued}
 use Rattle.hp_train.specs.Resuming.{Resumes}
@@ -22,7 +22,7 @@ use Rattle.hp_train.proofs.Resumed.{resumed}
 use Rattle.hp_run.specs.AnyStops.{EndsAlike, IsAsked, Leaves, Reachable, Trains, nothing, stopped, whole}
 use Rattle.hp_run.specs.Causes.{expected, status_of}
 use Rattle.hp_run.specs.Journals.{IsResumed, LeavesMine}
-use Rattle.hp_run.specs.Outcome.{WithBase, report_at, status_of_stop, unless_stopped}
+use Rattle.hp_run.specs.Outcome.{WithBase, report_at, status_of_plan, unless_stopped}
 use Rattle.hp_run.specs.Run.{Devices, Tells}
 use Rattle.hp_run.specs.declared.status.Status.{Status}
 use Rattle.hp_run.specs.declared.status.Status.TheVariants.{Memory, TooLong}
@@ -105,9 +105,9 @@ module _ {Start Chain : Type 0} (v : Solving Start Chain) (bytes : List ℕ) (b 
   stands_for d content (stopped kept c before run) = left d kept content (stands_for d kept before) run
 
   -- what all iterations give, or where they stop
-  abbrev ending : Option SweepFault → Result (List ℕ) Status
+  abbrev ending : Option PlanFault → Result (List ℕ) Status
   ending None = Ok (train_text b.problem all.pools all.bounds (unsettled_in all.lists))
-  ending (Some fault) = Err (status_of_stop fault)
+  ending (Some fault) = Err (status_of_plan fault)
 
   reported : (j : ℕ) (kept : List ℕ) → Mine t ps j kept → report_at v (Train seed count batch) bytes kept ≡ ending all.stop
   reported j kept mine =
@@ -118,7 +118,7 @@ module _ {Start Chain : Type 0} (v : Solving Start Chain) (bytes : List ℕ) (b 
       ended_at v bytes b seed count batch asked.based kept o (ready v bytes kept seed count batch b j o q asked.room)
       ∙ alike o c q.pools q.bounds q.unsettled c.stop ∙ ap ending q.stop
     where
-      alike : (o : Outcome) (c : Continued) → c.pools ≡ all.pools → o.bounds ++ c.bounds ≡ all.bounds → o.unsettled + unsettled_in c.lists ≡ unsettled_in all.lists → (s : Option SweepFault) → unless_stopped b.problem o c s ≡ ending s
+      alike : (o : Outcome) (c : Continued) → c.pools ≡ all.pools → o.bounds ++ c.bounds ≡ all.bounds → o.unsettled + unsettled_in c.lists ≡ unsettled_in all.lists → (s : Option PlanFault) → unless_stopped b.problem o c s ≡ ending s
       alike o c pools bounds unsettled (Some fault) = refl
       alike o c pools bounds unsettled None =
           ap (λ (x : List (List Cut)). Ok (train_text b.problem x (o.bounds ++ c.bounds) (o.unsettled + unsettled_in c.lists))) pools

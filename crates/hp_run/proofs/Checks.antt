@@ -6,17 +6,17 @@ use Rattle.hp_fields.specs.Steps.{◌>>=◌}
 use Rattle.hp_outside.specs.Causes.{Rose}
 use Rattle.hp_theory.specs.declared.cut.Cut.{Cut}
 use Rattle.hp_theory.specs.Pools.{Sound}
-use Rattle.hp_theory.specs.Fit.{Fit}
 use Rattle.hp_theory.specs.Bound.{bound, Under}
 use Rattle.hp_theory.specs.View.{problem_of}
 use Rattle.hp_theory.proofs.BoundBelow.{sound_bound}
 use Rattle.hp_theory.proofs.SealedPremises.{root_shaped-sealed, have_cuts-root}
+use Rattle.hp_cut.specs.AtNodes.{PoolsFit}
 use Rattle.hp_load.specs.declared.loaded.Loaded.{Loaded}
 use Rattle.hp_load.specs.declared.refusal.LoadFault.{LoadFault}
 use Rattle.hp_load.specs.declared.refusal.LoadFault.TheVariants as faults
 use Rattle.hp_load.specs.Accepted.{IsSafe}
 use Rattle.hp_report.specs.Report.{base_text, check_text}
-use Rattle.hp_lp.specs.Chained.{Solving}
+use Rattle.hp_solver.specs.Solving.{Solving}
 use Rattle.hp_run.specs.Causes.{Lacks}
 use Rattle.hp_run.specs.Outcome.{WithBase, based_at, or_refused, checked, report_by, report_at, Checks, Reports, status_of_fault}
 use Rattle.hp_run.specs.SoundText.{IsSoundReport}
@@ -25,10 +25,10 @@ use Rattle.hp_run.specs.declared.task.Task.{Task}
 use Rattle.hp_run.specs.declared.task.Task.TheVariants.{Base, Check}
 
 -- the bound of sound cuts is under the cost of each policy
-pub bound_under : (p : Sealed) (pools : List (List Cut)) → is_sealed p ≡ true → Fit (problem_of p) (length p.raw.nodes) pools → Sound (problem_of p) pools → Under (problem_of p) (bound (problem_of p) pools)
+pub bound_under : (p : Sealed) (pools : List (List Cut)) → is_sealed p ≡ true → PoolsFit p pools → Sound (problem_of p) pools → Under (problem_of p) (bound (problem_of p) pools)
 bound_under p pools e fit sound = sound_bound (problem_of p) pools (root_shaped-sealed p e) (have_cuts-root p pools e fit.some) sound
 
-pub base_is_sound : (bytes : List ℕ) (p : Sealed) (pools : List (List Cut)) (text : List ℕ) → is_sealed p ≡ true → Fit (problem_of p) (length p.raw.nodes) pools → Sound (problem_of p) pools → text ≡ base_text p pools → IsSoundReport Base bytes p pools text
+pub base_is_sound : (bytes : List ℕ) (p : Sealed) (pools : List (List Cut)) (text : List ℕ) → is_sealed p ≡ true → PoolsFit p pools → Sound (problem_of p) pools → text ≡ base_text p pools → IsSoundReport Base bytes p pools text
 base_is_sound bytes p pools text e fit sound is = record { is = is; cuts = sound; bound = bound_under p pools e fit sound }
 
 pub check_is_sound : (bytes : List ℕ) (p : Sealed) (l : Loaded) (text : List ℕ) → is_sealed p ≡ true → IsSafe p l → text ≡ check_text p l.pools.lists l.bounds l.unsettled l.rest → IsSoundReport Check bytes p l.pools.lists text

@@ -5,15 +5,15 @@ use Rattle.hp_fields.specs.Steps.{◌>>=◌}
 use Rattle.hp_problem.specs.Sealed.{Sealed, is_sealed}
 use Rattle.hp_theory.specs.declared.cut.Cut.{Cut}
 use Rattle.hp_theory.specs.Bound.{bound}
-use Rattle.hp_theory.specs.Fit.{Fit}
 use Rattle.hp_theory.specs.Pools.{Sound}
 use Rattle.hp_theory.specs.Problem.{S}
 use Rattle.hp_theory.specs.Tree.{Forest, Policy}
 use Rattle.hp_theory.specs.View.{problem_of}
+use Rattle.hp_cut.specs.AtNodes.{PoolsFit}
 use Rattle.hp_load.specs.Load.{Outcome}
-use Rattle.hp_lp.specs.Chained.{Solving}
-use Rattle.hp_forward.specs.declared.deciding.StageFault.{StageFault}
-use Rattle.hp_forward.specs.Given.{Fails}
+use Rattle.hp_solver.specs.Solving.{Solving}
+use Rattle.hp_settle.specs.declared.plan_fault.PlanFault.{PlanFault}
+use Rattle.hp_settle.specs.Faults.{Fails}
 use Rattle.hp_tree.specs.declared.walking.Verdict.{Verdict}
 use Rattle.hp_tree.specs.declared.walking.Verdict.TheVariants.{Cost, Missed}
 use Rattle.hp_tree.specs.PolicyTree.{verdict_of}
@@ -22,9 +22,8 @@ use Rattle.hp_tree.specs.TooBig.{too_big_of}
 use Rattle.hp_tree.specs.Upper.{IsUpper}
 use Rattle.hp_tree.specs.Verdicts.{OnCost}
 use Rattle.hp_run.specs.Causes.{Lacks}
-use Rattle.hp_run.specs.Outcome.{Reports, WithBase, based_at, evaluated_for, loaded_within, or_refused, report_at, report_by, report_judged}
+use Rattle.hp_run.specs.Outcome.{Reports, WithBase, based_at, evaluated_for, loaded_within, or_refused, report_at, report_by, report_judged, status_of_plan}
 use Rattle.hp_run.specs.SoundText.{IsSoundReport, IsTwoSided}
-use Rattle.hp_run.specs.Loading.{status_of_stage}
 use Rattle.hp_run.specs.declared.status.Status.{Status}
 use Rattle.hp_run.specs.declared.task.Task.TheVariants.{Evaluate}
 use Rattle.hp_run.proofs.Checks.{bound_under}
@@ -32,13 +31,13 @@ use Rattle.hp_run.proofs.Loaded.{GoesOn, gone_on, not_decided}
 use Rattle.hp_run.proofs.LocatedVerdict.{verdict_located}
 
 two_sided : (p : Sealed) (pools : List (List Cut)) (verdict : Verdict) → Sound (problem_of p) pools
-    → (let r : Result Verdict StageFault = Ok verdict in OnCost r (λ upper. (f : Forest) × Policy (problem_of p) S f × IsUpper (problem_of p) f upper × (Sound (problem_of p) pools → bound (problem_of p) pools ≤ℤ upper)))
+    → (let r : Result Verdict PlanFault = Ok verdict in OnCost r (λ upper. (f : Forest) × Policy (problem_of p) S f × IsUpper (problem_of p) f upper × (Sound (problem_of p) pools → bound (problem_of p) pools ≤ℤ upper)))
     → IsTwoSided (problem_of p) pools verdict
 two_sided p pools (Cost upper) sound h = record { forest = h.0; policy = h.1; cost = h.2; bound = h.3 sound }
 two_sided p pools (Missed branches row residual) sound h = tt
 
-pub verdict_sound : (bytes : List ℕ) (p : Sealed) (pools : List (List Cut)) (verdict : Verdict) (text : List ℕ) → is_sealed p ≡ true → Fit (problem_of p) (length p.raw.nodes) pools → Sound (problem_of p) pools
-    → (let r : Result Verdict StageFault = Ok verdict in OnCost r (λ upper. (f : Forest) × Policy (problem_of p) S f × IsUpper (problem_of p) f upper × (Sound (problem_of p) pools → bound (problem_of p) pools ≤ℤ upper)))
+pub verdict_sound : (bytes : List ℕ) (p : Sealed) (pools : List (List Cut)) (verdict : Verdict) (text : List ℕ) → is_sealed p ≡ true → PoolsFit p pools → Sound (problem_of p) pools
+    → (let r : Result Verdict PlanFault = Ok verdict in OnCost r (λ upper. (f : Forest) × Policy (problem_of p) S f × IsUpper (problem_of p) f upper × (Sound (problem_of p) pools → bound (problem_of p) pools ≤ℤ upper)))
     → text ≡ verdict_text p pools verdict → IsSoundReport Evaluate bytes p pools text
 verdict_sound bytes p pools verdict text e fit sound sides is = record {
   is = (verdict, is, two_sided p pools verdict sound sides);
@@ -64,6 +63,6 @@ module _ {Start Chain : Type 0} (v : Solving Start Chain) (bytes : List ℕ) (b 
     verdict_reported verdict text e is = gone_on v Evaluate told bytes b (too_big_of b.problem) judge (judges based) o (Ok text) has (ap (report_judged b.problem o.pools) e ∙ ap (λ (x : List ℕ). Ok x) (sym is))
 
     -- a node without decisions
-    pub not_judged : (disk disk_now : ℕ) (f : StageFault) → Fails f (verdict_of v b.problem o.pools) → is_sealed b.problem ≡ true → Lacks v Evaluate told disk disk_now bytes (status_of_stage f)
+    pub not_judged : (disk disk_now : ℕ) (f : PlanFault) → Fails f (verdict_of v b.problem o.pools) → is_sealed b.problem ≡ true → Lacks v Evaluate told disk disk_now bytes (status_of_plan f)
     not_judged disk disk_now f fails sealed =
         not_decided v Evaluate told bytes b (too_big_of b.problem) judge (judges based) disk disk_now o f (verdict_of v b.problem o.pools) has (λ dead e. ap (report_judged b.problem o.pools) e) fails (verdict_located v b.problem sealed o.pools)

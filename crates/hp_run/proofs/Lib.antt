@@ -17,7 +17,7 @@ pub mod Loaded
 pub mod Simulated
 pub mod Evaluated
 pub mod Listed
-pub mod SoundDone
+pub mod Sounding
 pub mod SoundPlanes
 pub mod SoundVerdict
 pub mod Plans

@@ -6,15 +6,15 @@ use Rattle.hp_outside.specs.Causes.{Rose}
 use Rattle.hp_problem.specs.declared.refusal.Refusal.{Refusal}
 use Rattle.hp_problem.specs.Sealed.{Sealed, is_sealed}
 use Rattle.hp_theory.specs.declared.cut.Cut.{Cut}
-use Rattle.hp_theory.specs.Fit.{Fit}
 use Rattle.hp_theory.specs.Pools.{Sound}
 use Rattle.hp_theory.specs.View.{problem_of}
+use Rattle.hp_cut.specs.AtNodes.{PoolsFit}
 use Rattle.hp_cut.specs.declared.entry.Entry.{Entry}
 use Rattle.hp_load.specs.Load.{Outcome, load_of}
 use Rattle.hp_load.specs.Refusals.{Fails}
 use Rattle.hp_load.specs.declared.refusal.LoadFault.{LoadFault}
 use Rattle.hp_load.specs.declared.refusal.LoadFault.TheVariants as faults
-use Rattle.hp_lp.specs.Chained.{Solving}
+use Rattle.hp_solver.specs.Solving.{Solving}
 use Rattle.hp_risk.specs.declared.alternatives.Alternatives.{Alternatives}
 use Rattle.hp_risk.specs.Alternatives.{alternatives_of}
 use Rattle.hp_risk.specs.declared.planes.RobustFault.{RobustFault}
@@ -93,7 +93,7 @@ module _ {Start Chain : Type 0} (v : Solving Start Chain) (told : Option (List �
       pub planes_reported : (planes : List (List Cut)) (text : List ℕ) → planes_of b.problem x o.1 ≡ Ok planes → text ≡ robust_text b.problem planes → Reports v Robust told bytes (Ok text)
       planes_reported planes text e is = after (Ok text) (ap (report_planes b.problem) e ∙ ap (λ (t : List ℕ). Ok t) (sym is))
 
-pub planes_sound : (bytes : List ℕ) (p : Sealed) (pools : List (List Cut)) (x : Alternatives) (planes : List (List Cut)) (text : List ℕ) → is_sealed p ≡ true → Fit (problem_of p) (length p.raw.nodes) pools → Sound (problem_of p) pools → alternatives_of p bytes ≡ Ok x → IsWorst (problem_of p) x planes → text ≡ robust_text p planes → IsSoundReport Robust bytes p pools text
+pub planes_sound : (bytes : List ℕ) (p : Sealed) (pools : List (List Cut)) (x : Alternatives) (planes : List (List Cut)) (text : List ℕ) → is_sealed p ≡ true → PoolsFit p pools → Sound (problem_of p) pools → alternatives_of p bytes ≡ Ok x → IsWorst (problem_of p) x planes → text ≡ robust_text p planes → IsSoundReport Robust bytes p pools text
 planes_sound bytes p pools x planes text e fit sound listed worst is = record {
   is = (x, planes, listed, is, worst);
   cuts = sound;

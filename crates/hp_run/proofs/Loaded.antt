@@ -7,14 +7,14 @@ use Rattle.hp_problem.specs.declared.formulas.TooMuch as formulas
 use Rattle.hp_load.specs.declared.refusal.LoadFault.{LoadFault}
 use Rattle.hp_load.specs.declared.refusal.LoadFault.TheVariants as faults
 use Rattle.hp_load.specs.Load.{Outcome}
-use Rattle.hp_lp.specs.Chained.{Solving}
+use Rattle.hp_solver.specs.Solving.{Solving}
 use Rattle.hp_settle.specs.declared.judging.Dead.{Dead}
-use Rattle.hp_forward.specs.declared.deciding.StageFault.{StageFault}
-use Rattle.hp_forward.specs.declared.deciding.StageFault.TheVariants as stages
-use Rattle.hp_forward.specs.Given.{Fails}
+use Rattle.hp_settle.specs.declared.plan_fault.PlanFault.{PlanFault}
+use Rattle.hp_settle.specs.declared.plan_fault.PlanFault.TheVariants as plans
+use Rattle.hp_settle.specs.Faults.{Fails}
 use Rattle.hp_run.specs.Causes.{Lacks}
-use Rattle.hp_run.specs.Outcome.{Reads, ReadsJournal, Reports, Solves, WithBase, based_at, loaded_within, report_at, status_of_fault}
-use Rattle.hp_run.specs.Loading.{NotLoaded, status_of_stage}
+use Rattle.hp_run.specs.Outcome.{Reads, ReadsJournal, Reports, Solves, WithBase, based_at, loaded_within, report_at, status_of_fault, status_of_plan}
+use Rattle.hp_run.specs.Loading.{NotLoaded}
 use Rattle.hp_run.specs.Refuted.{DecidesAt}
 use Rattle.hp_run.specs.declared.status.Status.{Status}
 use Rattle.hp_run.specs.declared.status.Status.TheVariants.{JournalRefused, TooMuch, NoStage}
@@ -71,9 +71,11 @@ module _ {Start Chain : Type 0} (v : Solving Start Chain) (task : Task) (told : 
   gone_on o outcome has e = reports outcome (if_told (λ kept. loaded kept ≡ Ok o) (λ kept. (loaded kept >>= after) ≡ outcome) (λ kept h. goes (loaded kept) after o h ∙ e) has)
 
   -- a node without decisions
-  pub not_decided : {X : Type 0} (disk disk_now : ℕ) (o : Outcome) (f : StageFault) (decided : Result X Dead) → IfSome told (λ kept. loaded kept ≡ Ok o) → ((dead : Dead) → decided ≡ Err dead → after o ≡ Err (NoStage dead)) → Fails f decided
-      → IfErr decided (Located b.problem (DecidesAt task b.problem)) → Lacks v task told disk disk_now bytes (status_of_stage f)
-  not_decided disk disk_now o (stages.NoStage dead) decided has e fails there =
+  pub not_decided : {X : Type 0} (disk disk_now : ℕ) (o : Outcome) (f : PlanFault) (decided : Result X Dead) → IfSome told (λ kept. loaded kept ≡ Ok o) → ((dead : Dead) → decided ≡ Err dead → after o ≡ Err (NoStage dead)) → Fails f decided
+      → IfErr decided (Located b.problem (DecidesAt task b.problem)) → Lacks v task told disk disk_now bytes (status_of_plan f)
+  not_decided disk disk_now o (plans.NoStage dead) decided has e fails there =
       let here : Located b.problem (DecidesAt task b.problem) dead = err_as (Located b.problem (DecidesAt task b.problem)) decided (Err dead) fails there in
       (on.solves, gone_on o (Err (NoStage dead)) has (e dead fails), refuted_here task bytes b dead on.based here)
-  not_decided disk disk_now o stages.Memory decided has e fails there = tt
+  not_decided disk disk_now o (plans.Range k m r) decided has e fails there = absurd fails
+  not_decided disk disk_now o plans.DiskFault decided has e fails there = absurd fails
+  not_decided disk disk_now o plans.Memory decided has e fails there = tt

@@ -16,9 +16,10 @@ use Rattle.hp_settle.specs.declared.judging.Judged.TheVariants as judged
 use Rattle.hp_settle.specs.Judging.{first_dead, judge_of, judged_by, ray_rows}
 use Rattle.hp_settle.specs.Refutation.{refutes_of}
 use Rattle.hp_settle.proofs.Refuted.{refuted}
-use Rattle.hp_lp.specs.Chained.{Solving, answered}
+use Rattle.hp_solver.specs.Solving.{Solving}
+use Rattle.hp_lp.specs.Chained.{stage_answer}
 use Rattle.hp_forward.specs.Deciding.{decide_by, decide_of}
-use Rattle.hp_forward.specs.Given.{IsStateAt}
+use Rattle.hp_cut.specs.AtNodes.{IsStateAt}
 use Rattle.hp_mend.specs.Deciding.{decide_mended_of, mend}
 use Rattle.hp_run.specs.Outcome.{WithBase, based_at}
 use Rattle.hp_run.specs.Refuted.{DecidesAt, IsRefuted, moment_in}
@@ -74,7 +75,7 @@ module _ (p : Sealed) (P : Moment → Type 0) (m : ℕ) (values state : List ℤ
   module _ {Start Chain : Type 0} (v : Solving Start Chain) (pools : List (List Cut)) (run : ℕ) where
     pub decide_located : IfErr (decide_of v p pools run m values state) (Located p P)
     unfolding decide_of
-    decide_located = by_answer run (answered v p pools m values state) (judge_of (node_at (problem_of p) m) values state (answered v p pools m values state)) refl
+    decide_located = by_answer run (stage_answer v p pools m values state) (judge_of (node_at (problem_of p) m) values state (stage_answer v p pools m values state)) refl
 
     -- and mending leaves it as it is
     pub mended_located : IfErr (decide_mended_of v p pools run m values state) (Located p P)

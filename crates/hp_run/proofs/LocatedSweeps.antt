@@ -13,15 +13,15 @@ use Rattle.hp_solver.specs.declared.programs.Answer.{Answer}
 use Rattle.hp_settle.specs.declared.judging.Dead.{Dead}
 use Rattle.hp_settle.specs.declared.judging.Judged.{Judged}
 use Rattle.hp_settle.specs.declared.judging.Judged.TheVariants as judged
+use Rattle.hp_settle.specs.declared.plan_fault.PlanFault.{PlanFault}
+use Rattle.hp_settle.specs.declared.plan_fault.PlanFault.TheVariants.{NoStage, Range, DiskFault, Memory}
 use Rattle.hp_settle.specs.Judging.{judge_of}
 use Rattle.hp_settle.specs.Settling.{settled_of}
-use Rattle.hp_lp.specs.Chained.{Solving}
+use Rattle.hp_solver.specs.Solving.{Solving}
 use Rattle.hp_sampler.specs.declared.steps.Step.{Step}
 use Rattle.hp_sampler.specs.Drawn.{IsInRange}
-use Rattle.hp_forward.specs.Given.{IsStateAt}
+use Rattle.hp_cut.specs.AtNodes.{IsStateAt}
 use Rattle.hp_forward.specs.Walking.{AreInside}
-use Rattle.hp_backward.specs.declared.fault.SweepFault.{SweepFault}
-use Rattle.hp_backward.specs.declared.fault.SweepFault.TheVariants.{NoStage, Range, Memory}
 use Rattle.hp_backward.specs.Certifying.{answers_at, both, certified, certify, certify_all, nothing, values_at, with_judged}
 use Rattle.hp_backward.specs.Sweeping.{Swept, backwards, made_at, step_back, swept, with_made, within_range}
 use Rattle.hp_run.specs.Refuted.{IsRealized}
@@ -29,9 +29,10 @@ use Rattle.hp_run.proofs.Located.{Located, err_then, judged_refutes, located}
 use Rattle.hp_run.proofs.LocatedWalks.{values_realized}
 
 -- what holds of a refutation
-abbrev pub OnDead : (Dead → Type 0) → SweepFault → Type 0
+abbrev pub OnDead : (Dead → Type 0) → PlanFault → Type 0
 OnDead P (NoStage d) = P d
 OnDead P (Range k m r) = Unit {0}
+OnDead P DiskFault = Unit {0}
 OnDead P Memory = Unit {0}
 
 -- what was found of some realizations
@@ -54,7 +55,7 @@ module _ (p : Sealed) (pools : List (List Cut)) (k m : ℕ) (state : List ℤ) (
   abbrev n : Node
   n = node_at (problem_of p) m
 
-  abbrev Here : SweepFault → Type 0
+  abbrev Here : PlanFault → Type 0
   Here = OnDead (Located p (IsRealized p))
 
   abbrev Own : List ℤ → Type 0
@@ -90,7 +91,7 @@ module _ (p : Sealed) (pools : List (List Cut)) (k m : ℕ) (state : List ℤ) (
     made_located = err_then Here (certified v p pools k m state) (λ found. within_range k m (range_of pools n found.list) (found, cut_of pools n found.list)) certified_located (λ found is. within_located (range_of pools n found.list) (found, cut_of pools n found.list))
 
 module _ {Start Chain : Type 0} (v : Solving Start Chain) (p : Sealed) (sealed : is_sealed p ≡ true) (k : ℕ) where
-  abbrev Fault : SweepFault → Type 0
+  abbrev Fault : PlanFault → Type 0
   Fault = OnDead (Located p (IsRealized p))
 
   -- a step of a path, and a state in the box of its node

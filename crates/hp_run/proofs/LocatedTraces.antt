@@ -11,7 +11,7 @@ use Rattle.hp_theory.specs.Problem.{S}
 use Rattle.hp_theory.specs.Tree.{times_all}
 use Rattle.hp_theory.specs.View.{problem_of}
 use Rattle.hp_settle.specs.declared.judging.Dead.{Dead}
-use Rattle.hp_lp.specs.Chained.{Solving}
+use Rattle.hp_solver.specs.Solving.{Solving}
 use Rattle.hp_sampler.specs.declared.steps.Step.{Step}
 use Rattle.hp_sampler.specs.Drawn.{IsInRange, IsPath, path}
 use Rattle.hp_forward.specs.declared.deciding.Decided.{Decided}

@@ -5,17 +5,18 @@ use Rattle.hp_num.proofs.Sums.{All_head, All_tail}
 use Rattle.hp_problem.specs.Sealed.{Sealed, is_sealed}
 use Rattle.hp_theory.specs.declared.cut.Cut.{Cut}
 use Rattle.hp_settle.specs.declared.judging.Dead.{Dead}
-use Rattle.hp_lp.specs.Chained.{Solving}
+use Rattle.hp_settle.specs.declared.plan_fault.PlanFault.{PlanFault}
+use Rattle.hp_settle.specs.Faults.{or_dead}
+use Rattle.hp_solver.specs.Solving.{Solving}
 use Rattle.hp_sampler.specs.declared.steps.Step.{Step}
-use Rattle.hp_sampler.specs.declared.steps.Walk.{Walk}
+use Rattle.hp_sampler.specs.declared.steps.Trajectory.{Trajectory}
 use Rattle.hp_sampler.specs.Drawn.{IsPath, path}
 use Rattle.hp_forward.specs.Walking.{IsWalk, walks_of}
 use Rattle.hp_forward.proofs.Walks.{walks_are}
-use Rattle.hp_backward.specs.declared.fault.SweepFault.{SweepFault}
 use Rattle.hp_backward.specs.Sweeping.{swept}
 use Rattle.hp_train.specs.Continuing.{Continued, continued, with_iteration, with_step}
 use Rattle.hp_train.specs.Drawing.{first_stream, paths_from}
-use Rattle.hp_train.specs.Stepping.{Stepped, along, before_paths, entry_of, forwards, or_dead, step_of, with_path, with_walks}
+use Rattle.hp_train.specs.Stepping.{Stepped, along, before_paths, entry_of, forwards, step_of, with_path, with_walks}
 use Rattle.hp_run.specs.Refuted.{IsRealized}
 use Rattle.hp_run.proofs.Located.{Located, err_then}
 use Rattle.hp_run.proofs.LocatedSweeps.{OnDead, swept_located, zip_both}
@@ -36,20 +37,20 @@ module _ {A B E : Type 0} (step : B → A → Result B E) (R : A → Type 0) (Q 
   forwards_err (x ∷ xs) found all = err_then Q (step found x) (forwards step xs) (h found x (All_head R x xs all)) (λ next is. forwards_err xs next (All_tail R x xs all))
 
 module _ {Start Chain : Type 0} (v : Solving Start Chain) (p : Sealed) (sealed : is_sealed p ≡ true) where
-  abbrev Fault : SweepFault → Type 0
+  abbrev Fault : PlanFault → Type 0
   Fault = OnDead (Located p (IsRealized p))
 
   -- a path, and a walk along it
-  abbrev IsWalked : List Step × Walk → Type 0
+  abbrev IsWalked : List Step × Trajectory → Type 0
   IsWalked q = IsPath p q.0 × IsWalk p q.0 q.1
 
-  path_located : (k : ℕ) (before : Stepped) (walked : List Step × Walk) → IsWalked walked → IfErr (with_path v p k before walked) Fault
+  path_located : (k : ℕ) (before : Stepped) (walked : List Step × Trajectory) → IsWalked walked → IfErr (with_path v p k before walked) Fault
   unfolding with_path
   path_located k before walked h =
       err_then Fault (swept v p before.pools k walked.0 walked.1.states walked.1.unsettled) (λ s. Ok (record { pools = s.pools; entries = before.entries ++ entry_of k s ∷ [] }))
       (swept_located v p sealed k before.pools walked.0 walked.1.states walked.1.unsettled h.0.in_range h.1.inside) (λ s is. tt)
 
-  walks_swept : (pools : List (List Cut)) (k : ℕ) (paths : List (List Step)) (walks : List Walk) → All IsWalked (zip paths walks) → IfErr (with_walks v p pools k paths walks) Fault
+  walks_swept : (pools : List (List Cut)) (k : ℕ) (paths : List (List Step)) (walks : List Trajectory) → All IsWalked (zip paths walks) → IfErr (with_walks v p pools k paths walks) Fault
   unfolding with_walks
   walks_swept pools k paths walks all = forwards_err (with_path v p k) IsWalked Fault (path_located k) (zip paths walks) (before_paths pools) all
 
@@ -58,7 +59,7 @@ module _ {Start Chain : Type 0} (v : Solving Start Chain) (p : Sealed) (sealed :
   along_located pools k paths all =
       err_then Fault (or_dead (walks_of v p pools k paths)) (with_walks v p pools k paths) (dead_as (Located p (IsRealized p)) (walks_of v p pools k paths) (walks_located v p sealed pools k paths all))
       (λ walks is. walks_swept pools k paths walks
-      (zip_both (IsPath p) (λ (q : List Step × Walk). IsWalk p q.0 q.1) paths walks all (walks_are v p pools k sealed paths walks all (found_as (walks_of v p pools k paths) walks is)).each))
+      (zip_both (IsPath p) (λ (q : List Step × Trajectory). IsWalk p q.0 q.1) paths walks all (walks_are v p pools k sealed paths walks all (found_as (walks_of v p pools k paths) walks is)).each))
 
   paths_drawn : (seed stream n : ℕ) → All (IsPath p) (paths_from p seed stream n)
   paths_drawn seed stream zero = All-nil (IsPath p)
@@ -68,7 +69,7 @@ module _ {Start Chain : Type 0} (v : Solving Start Chain) (p : Sealed) (sealed :
   unfolding step_of
   step_located pools seed batch k = along_located pools k (paths_from p seed (first_stream batch k) batch) (paths_drawn seed (first_stream batch k) batch)
 
-  step_stops : (c : Continued) (r : Result Stepped SweepFault) → IfErr r Fault → IfSome (with_step p c r).stop Fault
+  step_stops : (c : Continued) (r : Result Stepped PlanFault) → IfErr r Fault → IfSome (with_step p c r).stop Fault
   step_stops c (Ok s) h = tt
   step_stops c (Err f) h = h
 
@@ -78,6 +79,6 @@ module _ {Start Chain : Type 0} (v : Solving Start Chain) (p : Sealed) (sealed :
   stop_located pools seed batch j zero = tt
   stop_located pools seed batch j (suc n) = by (continued v p pools seed batch j n) (continued v p pools seed batch j n).stop refl (stop_located pools seed batch j n)
     where
-      by : (c : Continued) (o : Option SweepFault) → c.stop ≡ o → IfSome c.stop Fault → IfSome (with_iteration v p seed batch (suc (j + n)) c o).stop Fault
+      by : (c : Continued) (o : Option PlanFault) → c.stop ≡ o → IfSome c.stop Fault → IfSome (with_iteration v p seed batch (suc (j + n)) c o).stop Fault
       by c (Some f) is h = h
       by c None is h = step_stops c (step_of v p c.pools seed batch (suc (j + n))) (step_located c.pools seed batch (suc (j + n)))

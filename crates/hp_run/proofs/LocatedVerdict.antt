@@ -15,12 +15,12 @@ use Rattle.hp_theory.proofs.SealedParts.{Parts, parts}
 use Rattle.hp_theory.proofs.SealedPremises.{leads-sealed, links-sealed, root-sealed}
 use Rattle.hp_theory.proofs.Views.{All-links_of, realizations-node_of, root-problem_of}
 use Rattle.hp_settle.specs.declared.judging.Dead.{Dead}
-use Rattle.hp_lp.specs.Chained.{Solving}
+use Rattle.hp_solver.specs.Solving.{Solving}
 use Rattle.hp_sampler.specs.declared.steps.Step.{Step}
 use Rattle.hp_sampler.proofs.Draws.{made_at, root_counted}
 use Rattle.hp_forward.specs.declared.deciding.Decided.{Decided}
 use Rattle.hp_forward.specs.Costing.{residuals_of}
-use Rattle.hp_forward.specs.Given.{IsStateAt}
+use Rattle.hp_cut.specs.AtNodes.{IsStateAt}
 use Rattle.hp_forward.proofs.Arcs.{start-sealed}
 use Rattle.hp_forward.proofs.Boxes.{nested-sealed, next_inside}
 use Rattle.hp_mend.specs.Deciding.{decide_mended_of}

@@ -12,14 +12,14 @@ use Rattle.hp_theory.specs.Tree.{times_all}
 use Rattle.hp_theory.specs.View.{problem_of}
 use Rattle.hp_theory.proofs.SealedParts.{Parts, parts, weighty}
 use Rattle.hp_settle.specs.declared.judging.Dead.{Dead}
-use Rattle.hp_lp.specs.Chained.{Solving}
+use Rattle.hp_solver.specs.Solving.{Solving}
 use Rattle.hp_sampler.specs.declared.steps.Step.{Step}
-use Rattle.hp_sampler.specs.declared.steps.Walk.{Walk}
+use Rattle.hp_sampler.specs.declared.steps.Trajectory.{Trajectory}
 use Rattle.hp_sampler.specs.Drawn.{IsInRange, IsPath, path}
 use Rattle.hp_sampler.proofs.PathFacts.{Drawn, drawn}
 use Rattle.hp_sampler.proofs.Draws.{made_at}
 use Rattle.hp_forward.specs.declared.deciding.Decided.{Decided}
-use Rattle.hp_forward.specs.Given.{IsStateAt}
+use Rattle.hp_cut.specs.AtNodes.{IsStateAt}
 use Rattle.hp_forward.specs.Walking.{decide_step, each_of, no_walk, values_of, walk_of, walk_on, walked, walks_of}
 use Rattle.hp_forward.proofs.Walks.{ComesTo, comes_first, comes_next, decides}
 use Rattle.hp_backward.specs.Certifying.{values_at}
@@ -56,13 +56,13 @@ module _ {Start Chain : Type 0} (v : Solving Start Chain) (p : Sealed) (sealed :
   Here = Located p (IsRealized p)
 
   -- the walk with a step, and what leaves it
-  abbrev after : Walk → List ℤ → Result Decided Dead → Result (Walk × List ℤ) Dead
+  abbrev after : Trajectory → List ℤ → Result Decided Dead → Result (Trajectory × List ℤ) Dead
   after walk state r = r >>= λ d. Ok (walked walk state d, d.next)
 
   step_located : (s : Step) (state : List ℤ) → IsInRange p.raw s → IsStateAt p s.node state → IfErr (decide s state) Here
   step_located s state r inside = decide_located p (IsRealized p) s.node (values_of p.raw s) state r.0 (s, r, refl) inside v pools run
 
-  walk_located : (walk : Walk) (state : List ℤ) (ss : List Step) → ComesTo p ss state → IfErr (walk_on decide walk state ss) Here
+  walk_located : (walk : Trajectory) (state : List ℤ) (ss : List Step) → ComesTo p ss state → IfErr (walk_on decide walk state ss) Here
   walk_located walk state [] c = tt
   walk_located walk state (s ∷ ss) c = by (λ d. walk_located (walked walk state d) d.next ss) (decide s state) refl
     where

@@ -24,7 +24,7 @@ use Rattle.hp_hydro.specs.Trees.{plan_of, tree_of}
 use Rattle.hp_accepts.specs.Plans.{Means}
 use Rattle.hp_accepts.proofs.Accepting.{made_means}
 use Rattle.hp_report.specs.SoundLines.{Above, Claims, Line, claims_of, lines_of}
-use Rattle.hp_lp.specs.Chained.{Solving}
+use Rattle.hp_solver.specs.Solving.{Solving}
 use Rattle.hp_run.specs.Causes.{Ends, Explains, ExplainsDescribed, ExplainsProblem, ExplainsTask, IfWritten}
 use Rattle.hp_run.specs.Outcome.{based_at, based_of}
 use Rattle.hp_run.specs.Meant.{CutOfFile, DescribedFile, IsFile, Meant, MeantText, claims_in}

@@ -7,7 +7,7 @@ use Rattle.hp_accepts.specs.Plans.{Means}
 use Rattle.hp_accepts.proofs.Accepting.{made_bound, made_means}
 use Rattle.hp_theory.specs.View.{problem_of}
 use Rattle.hp_report.specs.SoundLines.{Line, claims_of, first_word, lines_of}
-use Rattle.hp_lp.specs.Chained.{Solving}
+use Rattle.hp_solver.specs.Solving.{Solving}
 use Rattle.hp_run.specs.Causes.{Ends, Explains, ExplainsDescribed, IfWritten}
 use Rattle.hp_run.specs.Run.{Describes, PlanLine, PlanLines}
 use Rattle.hp_run.specs.SoundText.{PlaneHolds, SoundText, WorstHolds}

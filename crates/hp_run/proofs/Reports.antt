@@ -17,7 +17,7 @@ use Rattle.hp_report.proofs.SoundLines.{sound_lines, sound_check, sound_training
 use Rattle.hp_report.proofs.SoundTraces.{sound_traces}
 use Rattle.hp_fields.specs.Steps.{◌>>=◌}
 use Rattle.hp_problem.specs.declared.refusal.Refusal.{Refusal}
-use Rattle.hp_lp.specs.Chained.{Solving}
+use Rattle.hp_solver.specs.Solving.{Solving}
 use Rattle.hp_run.specs.Outcome.{IsRefused, Reports, WithBase, listed_at, with_alternatives, based_at, based_of, with_base, or_refused, report_by, report_at}
 use Rattle.hp_run.specs.SoundText.{IsSoundReport, PlaneHolds, SoundText, WorstHolds}
 use Rattle.hp_run.specs.Causes.{Ends, Explains, ExplainsDescribed, ExplainsProblem, ExplainsTask, Lacks, ReadAll, status_of, status_of_text, expected, expected_of, Completes}

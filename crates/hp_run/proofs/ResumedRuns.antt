@@ -24,8 +24,8 @@ use Rattle.hp_cut.specs.declared.entry.Entry.{Entry}
 use Rattle.hp_journal.specs.Layout.{IsTitle, Title, journal, new_title}
 use Rattle.hp_journal.specs.Mine.{Mine}
 use Rattle.hp_load.specs.Load.{Outcome, load_of, outcome_of}
-use Rattle.hp_lp.specs.Chained.{Solving}
-use Rattle.hp_backward.specs.declared.fault.SweepFault.{SweepFault}
+use Rattle.hp_solver.specs.Solving.{Solving}
+use Rattle.hp_settle.specs.declared.plan_fault.PlanFault.{PlanFault}
 use Rattle.hp_report.specs.Report.{train_text}
 use Rattle.hp_train.specs.Stepping.{Stepped, step_of}
 use Rattle.hp_train.specs.Continuing.{Continued, with_step, with_iteration, continued}
@@ -114,11 +114,11 @@ title_seed digest seed (Some b) = refl
 
 module _ {Start Chain : Type 0} (v : Solving Start Chain) where
   -- ---- at most one bound an iteration
-  step_few : (p : Sealed) (c : Continued) (r : Result Stepped SweepFault) (n : ℕ) → length c.bounds ≤ n → length (with_step p c r).bounds ≤ suc n
+  step_few : (p : Sealed) (c : Continued) (r : Result Stepped PlanFault) (n : ℕ) → length c.bounds ≤ n → length (with_step p c r).bounds ≤ suc n
   step_few p c (Ok s) n h = omega (arith, h, length-append c.bounds (bound (problem_of p) s.pools ∷ []))
   step_few p c (Err f) n h = omega (arith, h)
 
-  iteration_few : (p : Sealed) (seed batch k : ℕ) (c : Continued) (o : Option SweepFault) (n : ℕ) → length c.bounds ≤ n → length (with_iteration v p seed batch k c o).bounds ≤ suc n
+  iteration_few : (p : Sealed) (seed batch k : ℕ) (c : Continued) (o : Option PlanFault) (n : ℕ) → length c.bounds ≤ n → length (with_iteration v p seed batch k c o).bounds ≤ suc n
   iteration_few p seed batch k c None n h = step_few p c (step_of v p c.pools seed batch k) n h
   iteration_few p seed batch k c (Some f) n h = omega (arith, h)
 
@@ -180,7 +180,7 @@ module _ {Start Chain : Type 0} (v : Solving Start Chain) where
     unfolding ready_for
     ready r room = ap (λ (x : Result (Outcome × List (List Entry)) _). or_status (outcome_of x) >>= within_formulas p count) r.loads ∙ fits r room
 
-    printed : (c : Continued) (stop : Option SweepFault) (text : List ℕ) → unless_stopped p o c stop ≡ Ok text → (stop ≡ None) × (train_text p c.pools (o.bounds ++ c.bounds) (o.unsettled + unsettled_in c.lists) ≡ text)
+    printed : (c : Continued) (stop : Option PlanFault) (text : List ℕ) → unless_stopped p o c stop ≡ Ok text → (stop ≡ None) × (train_text p c.pools (o.bounds ++ c.bounds) (o.unsettled + unsettled_in c.lists) ≡ text)
     printed c None text h = (refl, same_ok (train_text p c.pools (o.bounds ++ c.bounds) (o.unsettled + unsettled_in c.lists)) text h)
     printed c (Some f) text h = absurd cc
 

@@ -6,21 +6,20 @@ use Rattle.hp_problem.specs.declared.formulas.TooMuch as formulas
 use Rattle.hp_problem.specs.Formulas.{too_wide}
 use Rattle.hp_problem.specs.Sealed.{Sealed, is_sealed}
 use Rattle.hp_theory.specs.declared.cut.Cut.{Cut}
-use Rattle.hp_theory.specs.Fit.{Fit}
 use Rattle.hp_theory.specs.Pools.{Sound}
 use Rattle.hp_theory.specs.View.{problem_of}
+use Rattle.hp_cut.specs.AtNodes.{PoolsFit}
 use Rattle.hp_load.specs.Load.{Outcome}
-use Rattle.hp_lp.specs.Chained.{Solving}
-use Rattle.hp_forward.specs.declared.deciding.StageFault.{StageFault}
+use Rattle.hp_solver.specs.Solving.{Solving}
+use Rattle.hp_settle.specs.declared.plan_fault.PlanFault.{PlanFault}
+use Rattle.hp_settle.specs.Faults.{Fails}
 use Rattle.hp_forward.specs.declared.traces.Trace.{Trace}
-use Rattle.hp_forward.specs.Given.{Fails}
 use Rattle.hp_report.specs.Traces.{trace_text}
 use Rattle.hp_sim.specs.Runs.{drawn_from}
 use Rattle.hp_sim.specs.Tracing.{traces_of}
 use Rattle.hp_run.specs.Causes.{Lacks}
-use Rattle.hp_run.specs.Outcome.{Reads, ReadsJournal, Reports, Solves, WithBase, based_at, count_of, loaded_within, or_refused, report_at, report_by, report_traced, runs_of, simulated_for, task_for}
+use Rattle.hp_run.specs.Outcome.{Reads, ReadsJournal, Reports, Solves, WithBase, based_at, count_of, loaded_within, or_refused, report_at, report_by, report_traced, runs_of, simulated_for, status_of_plan, task_for}
 use Rattle.hp_run.specs.SoundText.{IsReport, IsSoundReport}
-use Rattle.hp_run.specs.Loading.{status_of_stage}
 use Rattle.hp_run.specs.Refuted.{DecidesAt, IsRealized, IsStored}
 use Rattle.hp_run.specs.declared.simulating.Scenarios.{Scenarios}
 use Rattle.hp_run.specs.declared.simulating.Scenarios.TheVariants.{Drawn, Stored}
@@ -48,7 +47,7 @@ text_is : (scenarios : Scenarios) (bytes : List ℕ) (p : Sealed) (pools : List 
 text_is (Drawn seed count) bytes p pools traces text is = (traces, is)
 text_is Stored bytes p pools traces text is = (traces, is)
 
-pub scenarios_sound : (scenarios : Scenarios) (bytes : List ℕ) (p : Sealed) (pools : List (List Cut)) (traces : List Trace) (text : List ℕ) → is_sealed p ≡ true → Fit (problem_of p) (length p.raw.nodes) pools → Sound (problem_of p) pools → text ≡ trace_text p pools traces → IsSoundReport (task_for scenarios) bytes p pools text
+pub scenarios_sound : (scenarios : Scenarios) (bytes : List ℕ) (p : Sealed) (pools : List (List Cut)) (traces : List Trace) (text : List ℕ) → is_sealed p ≡ true → PoolsFit p pools → Sound (problem_of p) pools → text ≡ trace_text p pools traces → IsSoundReport (task_for scenarios) bytes p pools text
 scenarios_sound scenarios bytes p pools traces text e fit sound is = record {
   is = text_is scenarios bytes p pools traces text is;
   cuts = sound;
@@ -86,6 +85,6 @@ module _ {Start Chain : Type 0} (v : Solving Start Chain) (scenarios : Scenarios
     traces_reported traces text are is = gone_on v (task_for scenarios) told bytes b width follow (follows based) o (Ok text) has (ap (report_traced b.problem o.pools) are ∙ ap (λ (x : List ℕ). Ok x) (sym is))
 
     -- a node without decisions
-    pub not_traced : (disk disk_now : ℕ) (f : StageFault) → Fails f (traces_of v b.problem o.pools (runs_of b.problem scenarios)) → is_sealed b.problem ≡ true → Lacks v (task_for scenarios) told disk disk_now bytes (status_of_stage f)
+    pub not_traced : (disk disk_now : ℕ) (f : PlanFault) → Fails f (traces_of v b.problem o.pools (runs_of b.problem scenarios)) → is_sealed b.problem ≡ true → Lacks v (task_for scenarios) told disk disk_now bytes (status_of_plan f)
     not_traced disk disk_now f fails sealed =
         not_decided v (task_for scenarios) told bytes b width follow (follows based) disk disk_now o f (traces_of v b.problem o.pools (runs_of b.problem scenarios)) has (λ dead e. ap (report_traced b.problem o.pools) e) fails (traces_there v b.problem o.pools scenarios sealed)

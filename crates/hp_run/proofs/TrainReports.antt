@@ -12,12 +12,12 @@ use Rattle.hp_problem.specs.declared.formulas.TooMuch as formulas
 use Rattle.hp_problem.specs.Formulas.{too_much}
 use Rattle.hp_problem.specs.Sealed.{Sealed, is_sealed}
 use Rattle.hp_theory.specs.Pools.{Sound}
-use Rattle.hp_theory.specs.Fit.{Fit}
 use Rattle.hp_theory.specs.Bound.{Under}
 use Rattle.hp_theory.specs.View.{problem_of}
 use Rattle.hp_theory.proofs.BoundBelow.{sound_bound}
 use Rattle.hp_theory.proofs.SealedPremises.{root_shaped-sealed, have_cuts-root}
 use Rattle.hp_theory.specs.declared.cut.Cut.{Cut}
+use Rattle.hp_cut.specs.AtNodes.{PoolsFit}
 use Rattle.hp_cut.specs.declared.entry.Entry.{Entry}
 use Rattle.hp_journal.specs.Gates.{IsShutAt}
 use Rattle.hp_journal.specs.Head.{IsUnborn}
@@ -25,15 +25,16 @@ use Rattle.hp_journal.specs.Layout.{Title}
 use Rattle.hp_journal.proofs.Told.{told, known}
 use Rattle.hp_load.specs.declared.refusal.LoadFault.{LoadFault}
 use Rattle.hp_load.specs.Load.{Outcome, load_of, outcome_of}
-use Rattle.hp_lp.specs.Chained.{Solving}
-use Rattle.hp_backward.specs.declared.fault.SweepFault.{SweepFault}
-use Rattle.hp_backward.specs.declared.fault.SweepFault.TheVariants as sweeps
+use Rattle.hp_solver.specs.Solving.{Solving}
+use Rattle.hp_settle.specs.declared.plan_fault.PlanFault.{PlanFault}
+use Rattle.hp_settle.specs.declared.plan_fault.PlanFault.TheVariants as plans
 use Rattle.hp_report.specs.Report.{train_text}
 use Rattle.hp_train.specs.Continuing.{Continued}
-use Rattle.hp_train.specs.Training.{GoOnWith, MineFrom, StandsIn, grown_journal, iterations, title_of, trained, unsettled_in}
+use Rattle.hp_train.specs.Training as training
+use Rattle.hp_train.specs.Training.{GoOnWith, MineFrom, StandsIn, WhenWhole, grown_journal, iterations, title_of, trained, unsettled_in}
 use Rattle.hp_run.specs.Causes.{Lacks}
 use Rattle.hp_run.specs.Journals.{Leaves, LeavesMine, has_trained, is_refusal, status_of}
-use Rattle.hp_run.specs.Outcome.{WithBase, Reports, based_at, loaded_for, or_refused, or_status, ready_for, report_at, report_by, report_trained, status_of_stop, trained_for, unless_much, unless_stopped, within_formulas}
+use Rattle.hp_run.specs.Outcome.{WithBase, Reports, based_at, loaded_for, or_refused, or_status, ready_for, report_at, report_by, report_trained, status_of_plan, trained_for, unless_much, unless_stopped, within_formulas}
 use Rattle.hp_run.specs.SoundText.{IsSoundReport}
 use Rattle.hp_run.specs.Refuted.{IsRealized}
 use Rattle.hp_run.specs.Training.{ComesOfLoading, Refuses, StopsAs, WhenTrained}
@@ -153,7 +154,7 @@ module _ {Start Chain : Type 0} (v : Solving Start Chain) (bytes : List ℕ) (b 
         let c : Continued = iterations v b.problem seed count o in
         ended_at kept o (at_kept (λ k. ready k ≡ Ok o) kept e has) ∙ ap (unless_stopped b.problem o c) stop ∙ ap (λ (x : List ℕ). Ok x) (sym (text_trained b.problem o new c text same is_text))
 
-    stopped_reports : (o : Outcome) (f : SweepFault) → IfSome reads (λ kept. ready kept ≡ Ok o) → (iterations v b.problem seed count o).stop ≡ Some f → Reports v task reads bytes (Err (status_of_stop f))
+    stopped_reports : (o : Outcome) (f : PlanFault) → IfSome reads (λ kept. ready kept ≡ Ok o) → (iterations v b.problem seed count o).stop ≡ Some f → Reports v task reads bytes (Err (status_of_plan f))
     stopped_reports o f has stop = λ kept e. ended_at kept o (at_kept (λ k. ready k ≡ Ok o) kept e has) ∙ ap (unless_stopped b.problem o (iterations v b.problem seed count o)) stop
 
     refused_reports : (s : Status) → IfSome reads (λ kept. ready kept ≡ Err s) → Reports v task reads bytes (Err s)
@@ -188,14 +189,39 @@ module _ {Start Chain : Type 0} (v : Solving Start Chain) (bytes : List ℕ) (b 
     stopped_lacks A disk now o (ProblemRefused r) has stops rose sealed = absurd stops
     stopped_lacks A disk now o (JournalRefused r) has stops rose sealed = absurd stops
     stopped_lacks A disk now o (TooMuch t) has stops rose sealed = absurd stops
-    stopped_lacks A disk now o (Range k m r) has stops rose sealed = (tt, stopped_reports o (sweeps.Range k m r) has stops)
+    stopped_lacks A disk now o (Range k m r) has stops rose sealed = (tt, stopped_reports o (plans.Range k m r) has stops)
     stopped_lacks A disk now o (NoStage dead) has stops rose sealed =
         let there = stop_located v b.problem sealed o.pools seed o.batch (length o.bounds) (count - length o.bounds) in
-        let here = subst (λ (stop : Option SweepFault). IfSome stop (OnDead (Located b.problem (IsRealized b.problem)))) stops there in
-        (tt, stopped_reports o (sweeps.NoStage dead) has stops, refuted_here task bytes b dead is here)
+        let here = subst (λ (stop : Option PlanFault). IfSome stop (OnDead (Located b.problem (IsRealized b.problem)))) stops there in
+        (tt, stopped_reports o (plans.NoStage dead) has stops, refuted_here task bytes b dead is here)
     stopped_lacks A disk now o DiskFault has stops rose sealed = (tt, rose refl)
     stopped_lacks A disk now o WriteFault has stops rose sealed = absurd stops
     stopped_lacks A disk now o Memory has stops rose sealed = tt
+
+-- how training ends, by the fault that stopped it
+pub plan_stops : (A B : Type 0) (f : PlanFault) (stop : Option PlanFault) → (let r : Result A PlanFault = Err f in training.StopsAs r stop) → (let r : Result B Status = Err (status_of_plan f) in StopsAs r stop)
+plan_stops A B (plans.NoStage dead) stop h = h
+plan_stops A B (plans.Range k m r) stop h = h
+plan_stops A B plans.DiskFault stop h = tt
+plan_stops A B plans.Memory stop h = tt
+
+pub plan_whole : (A B : Type 0) (f : PlanFault) (P : Type 0) → (let r : Result A PlanFault = Err f in WhenWhole r P) → (let r : Result B Status = Err (status_of_plan f) in WhenTrained r P)
+plan_whole A B (plans.NoStage dead) P h = h
+plan_whole A B (plans.Range k m r) P h = h
+plan_whole A B plans.DiskFault P h = tt
+plan_whole A B plans.Memory P h = tt
+
+same_err : (B : Type 0) (s t : Status) → (let r : Result B Status = Err s in r ≡ Err t) → s ≡ t
+same_err B s t e = cc
+
+pub plan_disk : (A B : Type 0) (f : PlanFault) (s : Status) → s ≡ status_of_plan f → (let r : Result B Status = Err s in r ≡ Err DiskFault) → (let r : Result A PlanFault = Err f in r ≡ Err plans.DiskFault)
+plan_disk A B f s is e = by f (sym is ∙ same_err B s DiskFault e)
+  where
+    by : (f : PlanFault) → status_of_plan f ≡ DiskFault → (let r : Result A PlanFault = Err f in r ≡ Err plans.DiskFault)
+    by (plans.NoStage dead) e = absurd cc
+    by (plans.Range k m r) e = absurd cc
+    by plans.DiskFault e = refl
+    by plans.Memory e = absurd cc
 
 -- nothing was trained
 pub when_unloaded : (A : Type 0) (s : Status) (P : Type 0) → ComesOfLoading s → (let r : Result A Status = Err s in WhenTrained r P)
@@ -250,7 +276,7 @@ pub when_as : (A B : Type 0) (s : Status) (r : Result B Status) (P : Type 0) →
 when_as A B s r P is h = subst (λ (x : Result B Status). WhenTrained x P) (sym is) (when_same A B s P h)
 
 -- where iterations stop is no refusal
-pub stop_works : (A : Type 0) (s : Status) (stop : Option SweepFault) (P : Type 0) → (let r : Result A Status = Err s in StopsAs r stop) → is_refusal s ≡ true → P
+pub stop_works : (A : Type 0) (s : Status) (stop : Option PlanFault) (P : Type 0) → (let r : Result A Status = Err s in StopsAs r stop) → is_refusal s ≡ true → P
 stop_works A Done stop P h e = absurd h
 stop_works A Usage stop P h e = absurd h
 stop_works A ReadFault stop P h e = absurd h
@@ -321,7 +347,7 @@ pub rose_later : (a b c : ℕ) → a ≤ b → Rose b c → Rose a c
 rose_later a b c le rose = omega (arith, le, rose)
 
 -- sound cuts and bounds give a sound report
-pub train_is_sound : (bytes : List ℕ) (p : Sealed) (pools : List (List Cut)) (bounds : List ℤ) (unsettled seed count : ℕ) (batch : Option ℕ) (text : List ℕ) → is_sealed p ≡ true → Fit (problem_of p) (length p.raw.nodes) pools → Sound (problem_of p) pools → All (Under (problem_of p)) bounds → text ≡ train_text p pools bounds unsettled → IsSoundReport (Train seed count batch) bytes p pools text
+pub train_is_sound : (bytes : List ℕ) (p : Sealed) (pools : List (List Cut)) (bounds : List ℤ) (unsettled seed count : ℕ) (batch : Option ℕ) (text : List ℕ) → is_sealed p ≡ true → PoolsFit p pools → Sound (problem_of p) pools → All (Under (problem_of p)) bounds → text ≡ train_text p pools bounds unsettled → IsSoundReport (Train seed count batch) bytes p pools text
 train_is_sound bytes p pools bounds unsettled seed count batch text e fit sound under is = record {
   is = (bounds, unsettled, is, under);
   cuts = sound;

@@ -3,7 +3,7 @@ use Rattle.std.proofs.Common.{ℕ, List, Option, IfSome, refl}
 use Rattle.std.specs.Io.KnownBytes.{Consumes, IsAtEnd}
 use Rattle.hp_outside.specs.Disks.{Store}
 use Rattle.hp_journal.proofs.Told.{told, known}
-use Rattle.hp_lp.specs.Chained.{Solving}
+use Rattle.hp_solver.specs.Solving.{Solving}
 use Rattle.hp_run.specs.Journals.{Grows}
 use Rattle.hp_run.specs.declared.status.Status.{Status}
 use Rattle.hp_run.specs.declared.status.Status.TheVariants.{Done, WriteFault}

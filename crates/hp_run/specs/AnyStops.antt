@@ -7,7 +7,7 @@ use Rattle.hp_outside.specs.Disks.{Only}
 use Rattle.hp_problem.specs.Formulas.{too_much}
 use Rattle.hp_journal.specs.Layout.{journal, new_title}
 use Rattle.hp_journal.specs.Mine.{Unborn}
-use Rattle.hp_lp.specs.Chained.{Solving}
+use Rattle.hp_solver.specs.Solving.{Solving}
 use Rattle.hp_report.specs.Report.{train_text}
 use Rattle.hp_train.specs.Continuing.{Continued}
 use Rattle.hp_train.specs.Resuming.{unstopped}

@@ -6,7 +6,7 @@ use Rattle.hp_outside.specs.Disks.{Store}
 use Rattle.hp_gen.specs.Generated.{generated}
 use Rattle.hp_plants.specs.declared.refusal.HydroRefusal.{HydroRefusal}
 use Rattle.hp_hydro.specs.Text.{hydro_at}
-use Rattle.hp_lp.specs.Chained.{Solving}
+use Rattle.hp_solver.specs.Solving.{Solving}
 use Rattle.hp_run.specs.Outcome.{IsRefused, Makes, Reads, ReadsJournal, Reports, Solves, based_at, report_at}
 use Rattle.hp_run.specs.Refuted.{IsRefuted}
 use Rattle.hp_run.specs.SoundText.{SoundText}

@@ -8,7 +8,7 @@ use Rattle.hp_problem.specs.Formulas.{too_much}
 use Rattle.hp_journal.specs.Layout.{Title, journal, new_title}
 use Rattle.hp_journal.specs.Mine.{Mine}
 use Rattle.hp_load.specs.Load.{Outcome}
-use Rattle.hp_lp.specs.Chained.{Solving}
+use Rattle.hp_solver.specs.Solving.{Solving}
 use Rattle.hp_report.specs.Report.{train_text}
 use Rattle.hp_train.specs.Continuing.{Continued}
 use Rattle.hp_train.specs.Resuming.{unstopped}

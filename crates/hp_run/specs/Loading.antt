@@ -1,11 +1,9 @@
--- The answers of code that loads a journal, unless a formula is above its limit, and then makes decisions.
+-- The answers of code that loads a journal, unless a formula is above its limit.
 use Rattle.std.specs.Prelude.{◌≡◌, Result, Err, ⊤}
-use Rattle.hp_forward.specs.declared.deciding.StageFault.{StageFault}
-use Rattle.hp_forward.specs.declared.deciding.StageFault.TheVariants as stages
 use Rattle.hp_load.specs.declared.refusal.LoadFault.{LoadFault}
 use Rattle.hp_load.specs.declared.refusal.LoadFault.TheVariants as faults
 use Rattle.hp_run.specs.declared.status.Status.{Status}
-use Rattle.hp_run.specs.declared.status.Status.TheVariants.{JournalRefused, TooMuch, NoStage, Memory}
+use Rattle.hp_run.specs.declared.status.Status.TheVariants.{JournalRefused, TooMuch}
 
 -- the refusal or the formula that was defined; want of memory and a fault of the disk are free
 abbrev pub NotLoaded : {A : Type 0} → LoadFault → Result A Status → Type 0
@@ -13,8 +11,3 @@ NotLoaded (faults.Refused r) defined = defined ≡ Err (JournalRefused r)
 NotLoaded (faults.TooMuch t) defined = defined ≡ Err (TooMuch t)
 NotLoaded faults.DiskFault defined = ⊤
 NotLoaded faults.Memory defined = ⊤
-
--- how a run ends where decisions stop
-abbrev pub status_of_stage : StageFault → Status
-status_of_stage (stages.NoStage dead) = NoStage dead
-status_of_stage stages.Memory = Memory

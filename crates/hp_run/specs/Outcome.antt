@@ -16,12 +16,12 @@ use Rattle.hp_theory.specs.Range.{based}
 use Rattle.hp_load.specs.declared.refusal.LoadFault.{LoadFault}
 use Rattle.hp_load.specs.declared.refusal.LoadFault.TheVariants as faults
 use Rattle.hp_load.specs.Load.{Outcome, load_of, outcome_of}
-use Rattle.hp_lp.specs.Chained.{Solving}
-use Rattle.hp_backward.specs.declared.fault.SweepFault.{SweepFault}
-use Rattle.hp_backward.specs.declared.fault.SweepFault.TheVariants as sweeps
+use Rattle.hp_solver.specs.Solving.{Solving}
 use Rattle.hp_train.specs.Continuing.{Continued}
 use Rattle.hp_train.specs.Training.{iterations, unsettled_in}
 use Rattle.hp_settle.specs.declared.judging.Dead.{Dead}
+use Rattle.hp_settle.specs.declared.plan_fault.PlanFault.{PlanFault}
+use Rattle.hp_settle.specs.declared.plan_fault.PlanFault.TheVariants as plans
 use Rattle.hp_forward.specs.declared.traces.Trace.{Trace}
 use Rattle.hp_sim.specs.Runs.{drawn_from}
 use Rattle.hp_sim.specs.Tracing.{traces_of}
@@ -108,16 +108,17 @@ within_formulas p count o = unless_much (too_much p (max count (length o.bounds)
 unfoldable pub ready_for : Sealed → List (List Cut) → List ℕ → ℕ → ℕ → Option ℕ → List ℕ → Result Outcome Status
 ready_for p base digest seed count batch kept = or_status (outcome_of (load_of p base digest (Some seed) batch kept)) >>= within_formulas p count
 
--- how a run ends where iterations stop
-abbrev pub status_of_stop : SweepFault → Status
-status_of_stop (sweeps.NoStage dead) = NoStage dead
-status_of_stop (sweeps.Range k m r) = Range k m r
-status_of_stop sweeps.Memory = Memory
+-- how a run ends where planning stops
+abbrev pub status_of_plan : PlanFault → Status
+status_of_plan (plans.NoStage dead) = NoStage dead
+status_of_plan (plans.Range k m r) = Range k m r
+status_of_plan plans.DiskFault = DiskFault
+status_of_plan plans.Memory = Memory
 
 -- the report of iterations behind what was loaded, or where they stop
-abbrev pub unless_stopped : Sealed → Outcome → Continued → Option SweepFault → Result (List ℕ) Status
+abbrev pub unless_stopped : Sealed → Outcome → Continued → Option PlanFault → Result (List ℕ) Status
 unless_stopped p o c None = Ok (train_text p c.pools (o.bounds ++ c.bounds) (o.unsettled + unsettled_in c.lists))
-unless_stopped p o c (Some fault) = Err (status_of_stop fault)
+unless_stopped p o c (Some fault) = Err (status_of_plan fault)
 
 abbrev pub report_trained : Sealed → Outcome → Continued → Result (List ℕ) Status
 report_trained p o c = unless_stopped p o c c.stop

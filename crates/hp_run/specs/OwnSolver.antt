@@ -1,6 +1,6 @@
 -- The solver of the program: the warm simplex, which keeps a table along a chain.
 use Rattle.std.specs.Prelude.{Option}
-use Rattle.hp_lp.specs.Chained.{Solving}
+use Rattle.hp_solver.specs.Solving.{Solving}
 use Rattle.hp_warm_table.specs.declared.table.Table.{Table}
 use Rattle.hp_warm_simplex.specs.Chains.{begun_of, next_of, started_of}
 

@@ -4,11 +4,12 @@ use Rattle.hp_problem.specs.declared.raw.Moment.{Moment}
 use Rattle.hp_problem.specs.Sealed.{Sealed}
 use Rattle.hp_theory.specs.Problem.{node_at}
 use Rattle.hp_theory.specs.View.{problem_of}
+use Rattle.hp_cut.specs.AtNodes.{IsStateAt}
 use Rattle.hp_settle.specs.declared.judging.Dead.{Dead}
+use Rattle.hp_settle.specs.Faults.{Refutes}
 use Rattle.hp_settle.specs.Refutation.{refutes_of}
 use Rattle.hp_sampler.specs.declared.steps.Step.{Step}
 use Rattle.hp_sampler.specs.Drawn.{IsInRange}
-use Rattle.hp_forward.specs.Given.{IsStateAt, Refutes}
 use Rattle.hp_sim.specs.Runs.{moment_of}
 use Rattle.hp_run.specs.Outcome.{WithBase, based_at}
 use Rattle.hp_run.specs.declared.task.Task.{Task}

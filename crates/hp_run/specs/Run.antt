@@ -1,11 +1,12 @@
 -- A run of the program: one record, with a name for each thing that is promised.
 use Rattle.std.specs.Prelude.{◌≡◌, ◌⊎◌, ℕ, ℤ, true, false, List, String, ◌++◌, codes, take, All, Option, None, Some, IfSome, MatchOption, ⊤}
 use Rattle.std.specs.declared.alloc.Global.{Global}
+use Rattle.std.specs.Borrow.{MutBor}
 use Rattle.std.specs.Io.KnownBytes.{Appends}
 use Rattle.hp_outside.specs.Causes.{Rose, TakesFront}
 use Rattle.hp_outside.specs.Counted.{Counted, CountedFile}
 use Rattle.hp_outside.specs.Disks.{Store, Stays, untold}
-use Rattle.hp_lp.specs.Chained.{Solving}
+use Rattle.hp_solver.specs.Solving.{Solving}
 use Rattle.hp_run.specs.Causes.{Completes, Ends, Explains, IfWritten, Sounds, ends, writes_nothing}
 use Rattle.hp_run.specs.Journals.{Grows, IsResumed, LeavesMine, OfTask, OnlyReads, precedes_journal}
 use Rattle.hp_accepts.specs.Plans.{Means, UnderPlans}
@@ -17,6 +18,7 @@ use Rattle.hp_run.specs.OwnSolver.{own_solver}
 use Rattle.hp_run.specs.Outcome.{ReadsJournal}
 use Rattle.hp_run.specs.Status.{memory_line, status_line_text}
 use Rattle.hp_run.specs.Words.{IfPlanned, asked, journal_name, reads_problem, text_asked, writes_journal}
+use Rattle.hp_run.specs.declared.outside.Outside.{Outside}
 use Rattle.hp_run.specs.declared.job.Job.{Job}
 use Rattle.hp_run.specs.declared.job.Job.TheVariants.{Plan, Hydro, Generate}
 use Rattle.hp_run.specs.declared.status.Status.{Status}
@@ -42,6 +44,13 @@ pub record Devices (I D O : Type 0) : Type 0 where
 
 abbrev pub devices : {I D O : Type 0} → I → D → O → Devices I D O
 devices problem journal out = record { problem = problem; journal = journal; out = out }
+
+-- the three that a run is lent, before it and after it
+abbrev pub before : {I D O : Type 0} → Outside I D O → Devices I D O
+before lent = devices lent.problem.now lent.journal.now lent.out.now
+
+abbrev pub after : {I D O : Type 0} → MutBor I × (MutBor D × (MutBor O × ⊤)) → Devices I D O
+after lent = devices lent.0.now lent.1.0.now lent.1.1.0.now
 
 -- what is known of the three before a run and after it
 abbrev pub ends_of : {I D O : Type 0} → Tells I D O → Devices I D O → Devices I D O → Ends

@@ -1,7 +1,7 @@
 -- The answers of code that trains on a journal.
 use Rattle.std.specs.Prelude.{◌≡◌, Option, Some, None, Result, Ok, Err, ⊤}
-use Rattle.hp_backward.specs.declared.fault.SweepFault.{SweepFault}
-use Rattle.hp_backward.specs.declared.fault.SweepFault.TheVariants as sweeps
+use Rattle.hp_settle.specs.declared.plan_fault.PlanFault.{PlanFault}
+use Rattle.hp_settle.specs.declared.plan_fault.PlanFault.TheVariants as plans
 use Rattle.hp_run.specs.declared.status.Status.{Status}
 use Rattle.hp_run.specs.declared.status.Status.TheVariants.{Done, Usage, ReadFault, TooLong, HydroRefused, ProblemRefused, JournalRefused, TooMuch, Range, NoStage, DiskFault, WriteFault, Memory}
 
@@ -38,10 +38,10 @@ ComesOfLoading WriteFault = ⊥
 ComesOfLoading Memory = ⊤
 
 -- where iterations stop, as far as a status tells it
-abbrev pub StopsAs : {A : Type 0} → Result A Status → Option SweepFault → Type 0
+abbrev pub StopsAs : {A : Type 0} → Result A Status → Option PlanFault → Type 0
 StopsAs (Ok x) stop = stop ≡ None
-StopsAs (Err (Range k m r)) stop = stop ≡ Some (sweeps.Range k m r)
-StopsAs (Err (NoStage dead)) stop = stop ≡ Some (sweeps.NoStage dead)
+StopsAs (Err (Range k m r)) stop = stop ≡ Some (plans.Range k m r)
+StopsAs (Err (NoStage dead)) stop = stop ≡ Some (plans.NoStage dead)
 StopsAs (Err DiskFault) stop = ⊤
 StopsAs (Err Memory) stop = ⊤
 StopsAs (Err Done) stop = ⊥

@@ -6,7 +6,6 @@ ghost use Rattle.hp_problem.specs.declared.refusal.Refusal.{Refusal};
 ghost use Rattle.hp_hydro.specs.Text.{hydro_at};
 ghost use Rattle.hp_journal.specs.Layout.{new_title};
 ghost use Rattle.hp_journal.specs.Mine.{Mine};
-ghost use Rattle.hp_lp.specs.Chained.{solving};
 ghost use Rattle.hp_plants.specs.declared.refusal.HydroRefusal.{HydroRefusal};
 ghost use Rattle.hp_train.specs.Training.{payloads};
 ghost use Rattle.hp_run.specs.AnyStops.{EndsAlike, IsAsked, Reachable, Trains, whole};
@@ -46,20 +45,20 @@ pub fn described_file()
 pub fn any_stops<V: Solver, I: Source, D: Disk, O: Sink>(solver: &V)
     ensures stands { (bytes content : List ℕ) (b : WithBase) (seed count : ℕ) (batch : Option ℕ)
         → IsAsked bytes b seed batch count
-        → Reachable (solving (V.started solver.now) (V.begun solver.now) (V.next solver.now)) (telling I.left I.faults D.store D.faults O.taken O.faults) bytes seed batch count content
-        → (j : ℕ) × Mine (new_title (sha256 bytes) seed batch) (payloads (whole (solving (V.started solver.now) (V.begun solver.now) (V.next solver.now)) bytes b seed batch count).lists) j content }
+        → Reachable (V.does solver.now) (telling I.left I.faults D.store D.faults O.taken O.faults) bytes seed batch count content
+        → (j : ℕ) × Mine (new_title (sha256 bytes) seed batch) (payloads (whole (V.does solver.now) bytes b seed batch count).lists) j content }
     ensures ends { (bytes kept : List ℕ) (b : WithBase) (seed count : ℕ) (batch : Option ℕ) (old new : Devices I D O) (status : Status)
         → IsAsked bytes b seed batch count
-        → Reachable (solving (V.started solver.now) (V.begun solver.now) (V.next solver.now)) (telling I.left I.faults D.store D.faults O.taken O.faults) bytes seed batch count kept
-        → Trains (solving (V.started solver.now) (V.begun solver.now) (V.next solver.now)) (telling I.left I.faults D.store D.faults O.taken O.faults) bytes seed batch count kept old new status
-        → EndsAlike (solving (V.started solver.now) (V.begun solver.now) (V.next solver.now)) (telling I.left I.faults D.store D.faults O.taken O.faults) bytes b seed batch count old new status }
+        → Reachable (V.does solver.now) (telling I.left I.faults D.store D.faults O.taken O.faults) bytes seed batch count kept
+        → Trains (V.does solver.now) (telling I.left I.faults D.store D.faults O.taken O.faults) bytes seed batch count kept old new status
+        → EndsAlike (V.does solver.now) (telling I.left I.faults D.store D.faults O.taken O.faults) bytes b seed batch count old new status }
 {}
 
 /// Of fewer iterations the lists of entries are the first of those of more.
 pub fn first_lists<V: Solver>(solver: &V)
     ensures { (bytes : List ℕ) (b : WithBase) (seed fewer count : ℕ) (batch : Option ℕ) → fewer ≤ count
-        → (rest : List (List Entry)) × ((whole (solving (V.started solver.now) (V.begun solver.now) (V.next solver.now)) bytes b seed batch count).lists
-        ≡ (whole (solving (V.started solver.now) (V.begun solver.now) (V.next solver.now)) bytes b seed batch fewer).lists ++ rest) }
+        → (rest : List (List Entry)) × ((whole (V.does solver.now) bytes b seed batch count).lists
+        ≡ (whole (V.does solver.now) bytes b seed batch fewer).lists ++ rest) }
 {}
 
 /// The list of checks that docs/FORMAT.md has in words says which refusal comes. The bytes of a problem are refused exactly where

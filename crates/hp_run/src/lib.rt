@@ -10,6 +10,7 @@ mod journal_lines;
 pub mod laws;
 mod loading;
 mod outcome;
+mod outside;
 mod planes;
 mod program;
 mod reading;
@@ -24,6 +25,7 @@ mod training_lines;
 mod writing;
 
 pub use job::Job;
+pub use outside::Outside;
 pub use program::{execute, start};
 pub use status::{Status, number, status_line};
 pub use task::Task;

@@ -2,20 +2,17 @@
 ghost use Rattle.std.specs.Prelude.{◌≡◌, length, None, Ok, Err, IfOk, IfSome};
 ghost use Rattle.hp_num.specs.Steps.{GivesOr};
 ghost use Rattle.hp_outside.specs.Disks.{Stays};
-ghost use Rattle.hp_theory.specs.Fit.{Fit};
 ghost use Rattle.hp_theory.specs.Range.{based};
-ghost use Rattle.hp_theory.specs.View.{problem_of};
+ghost use Rattle.hp_cut.specs.AtNodes.{PoolsFit};
 ghost use Rattle.hp_journal.specs.Causes.{DiskCause};
 ghost use Rattle.hp_load.specs.Accepted.{IsSafe};
 ghost use Rattle.hp_load.specs.Load.{seen};
 ghost use Rattle.hp_load.specs.declared.refusal.LoadFault.TheVariants as faults;
-ghost use Rattle.hp_run.specs.Loading.{NotLoaded, status_of_stage};
+ghost use Rattle.hp_run.specs.Loading.{NotLoaded};
 ghost use Rattle.hp_run.specs.Outcome.{loaded_within, unless_much};
 
-use crate::status::Status;
 use hp_cut::Pools;
-use hp_forward::StageFault;
-use hp_load::{LoadFault, Loaded, load};
+use hp_load::{Asked, LoadFault, Loaded, load};
 use hp_lp::prepare;
 use hp_num::Memory;
 use hp_outside::Disk;
@@ -24,7 +21,7 @@ use std::alloc::Global;
 
 /// Makes the loaded pools ready for stage problems. [`Memory`] where memory was refused.
 pub(crate) fn prepared(alloc: Global, problem: &Problem, loaded: Loaded) -> Result<Loaded, Memory>
-    requires { Fit (problem_of problem.now) (length problem.now.raw.nodes) loaded.pools.lists }
+    requires { PoolsFit problem.now loaded.pools.lists }
     ensures { IfOk result (λ l. l ≡ loaded) }
 {
     let mut loaded = loaded;
@@ -64,17 +61,12 @@ pub(crate) fn load_within<D: Disk>(
     ensures stays { Stays (D.store journal.old) (D.store journal.new) }
     ensures cause { DiskCause (D.faults journal.old) (D.faults journal.new) (result ≡ Err faults.DiskFault) }
 {
-    let loaded = load(alloc, problem, pools, journal, digest, None, None)?;
+    let asked = Asked {
+        digest,
+        seed: None,
+        batch: None,
+    };
+    let loaded = load(alloc, problem, pools, journal, &asked)?;
     let loaded = unless_much(formula, loaded)?;
     Ok(prepared(alloc, problem, loaded)?)
-}
-
-/// How a run ends where decisions stop.
-pub(crate) fn status_of_stage(fault: StageFault) -> Status
-    ensures { result ≡ status_of_stage fault }
-{
-    match fault {
-        StageFault::NoStage(dead) => Status::NoStage(dead),
-        StageFault::Memory => Status::Memory,
-    }
 }

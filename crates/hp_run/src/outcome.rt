@@ -6,15 +6,14 @@ ghost use Rattle.hp_load.specs.declared.refusal.LoadFault.TheVariants as faults;
 ghost use Rattle.hp_outside.specs.Disks.{Stays};
 ghost use Rattle.hp_report.specs.Report.{base_text};
 ghost use Rattle.hp_sof.specs.Problem.{problem_at};
-ghost use Rattle.hp_theory.specs.Fit.{Fit};
 ghost use Rattle.hp_theory.specs.Pools.{Sound};
 ghost use Rattle.hp_theory.specs.Range.{based};
 ghost use Rattle.hp_theory.specs.View.{problem_of};
 ghost use Rattle.hp_theory.specs.declared.cut.Cut.{Cut};
-ghost use Rattle.hp_lp.specs.Chained.{solving};
+ghost use Rattle.hp_cut.specs.AtNodes.{PoolsFit};
 ghost use Rattle.hp_run.specs.Causes.{Lacks};
 ghost use Rattle.hp_run.specs.Journals.{KeepsJournal, Leaves, LeavesMine, precedes_journal, status_of};
-ghost use Rattle.hp_run.specs.Outcome.{based_at, based_of, checked, Checks, ReadsJournal, Reports, status_of_fault};
+ghost use Rattle.hp_run.specs.Outcome.{based_at, based_of, checked, Checks, ReadsJournal, Reports, status_of_fault, status_of_plan};
 ghost use Rattle.hp_run.specs.SoundText.{IsSoundReport, SoundText};
 ghost use Rattle.hp_run.specs.Words.{IsWithin};
 ghost use Rattle.hp_run.specs.declared.status.Status.TheVariants as statuses;
@@ -33,11 +32,20 @@ use hp_num::Memory;
 use hp_outside::Disk;
 use hp_problem::{Part, Place, Problem, RefusalKind};
 use hp_report::{base_report, check_report};
+use hp_settle::PlanFault;
 use hp_sof::{ReadRefusal, read_problem};
 use hp_solver::Solver;
 use sha2::{Digest, Sha256};
 use std::alloc::Global;
 use std::thread::Threads;
+
+/// A problem that is accepted: the bytes that it was read from, the problem itself, and its base cuts.
+#[derive(Drop)]
+pub(crate) struct Accepted<'a> {
+    pub(crate) bytes: &'a [u8],
+    pub(crate) problem: &'a Problem,
+    pub(crate) pools: Pools,
+}
 
 /// A problem with its base cuts.
 #[tactic(auto, unfolding(crate::specs::Outcome::based_of))]
@@ -45,7 +53,7 @@ fn based_of(alloc: Global, problem: Problem) -> Result<(Problem, Pools), ReadRef
     ensures value { Gives (λ b. record { problem = b.0; pools = b.1.lists }) result (based_of problem) }
     ensures same { IfOk result (λ b. b.0 ≡ problem) }
     ensures base { IfOk result (λ b. based b.0 ≡ Ok b.1.lists) }
-    ensures fit { IfOk result (λ b. Fit (problem_of b.0) (length b.0.raw.nodes) b.1.lists) }
+    ensures fit { IfOk result (λ b. PoolsFit b.0 b.1.lists) }
     ensures sound { IfOk result (λ b. Sound (problem_of b.0) b.1.lists) }
 {
     match base(alloc, &problem) {
@@ -63,7 +71,7 @@ fn based_at(alloc: Global, bytes: &[u8]) -> Result<(Problem, Pools), ReadRefusal
     ensures value { Gives (λ b. record { problem = b.0; pools = b.1.lists }) result (based_at bytes.now) }
     ensures read { IfOk result (λ b. problem_at bytes.now ≡ Ok b.0) }
     ensures base { IfOk result (λ b. based b.0 ≡ Ok b.1.lists) }
-    ensures fit { IfOk result (λ b. Fit (problem_of b.0) (length b.0.raw.nodes) b.1.lists) }
+    ensures fit { IfOk result (λ b. PoolsFit b.0 b.1.lists) }
     ensures sound { IfOk result (λ b. Sound (problem_of b.0) b.1.lists) }
 {
     let problem = read_problem(alloc, bytes)?;
@@ -72,26 +80,27 @@ fn based_at(alloc: Global, bytes: &[u8]) -> Result<(Problem, Pools), ReadRefusal
 
 /// The report of what a journal gives over the base cuts of the problem of these bytes.
 #[tactic(auto, unfolding(crate::specs::Outcome::checked))]
-fn check<D: Disk>(
-    alloc: Global,
-    bytes: &[u8],
-    problem: &Problem,
-    pools: Pools,
-    journal: &mut D,
-) -> Result<Vec<u8>, LoadFault>
-    requires base { based problem.now ≡ Ok pools.lists }
-    ensures value { IfSome (D.store journal.old).reads (λ kept. Checks (λ v. v.items) result (checked bytes.now (record { problem = problem.now; pools = pools.lists }) kept)) }
-    ensures sound { IfOk result (λ v. (cuts : List (List Cut)) × IsSoundReport tasks.Check bytes.now problem.now cuts v.items) }
+fn check<D: Disk>(alloc: Global, accepted: Accepted, journal: &mut D) -> Result<Vec<u8>, LoadFault>
+    requires base { based accepted.problem.now ≡ Ok accepted.pools.lists }
+    ensures value { IfSome (D.store journal.old).reads (λ kept. Checks (λ v. v.items) result (checked accepted.entry.bytes.now (record { problem = accepted.entry.problem.now; pools = accepted.entry.pools.lists }) kept)) }
+    ensures sound { IfOk result (λ v. (cuts : List (List Cut)) × IsSoundReport tasks.Check accepted.entry.bytes.now accepted.entry.problem.now cuts v.items) }
     ensures stays { Stays (D.store journal.old) (D.store journal.new) }
     ensures cause { DiskCause (D.faults journal.old) (D.faults journal.new) (result ≡ Err faults.DiskFault) }
 {
+    let problem = accepted.problem;
     let _ = problem.raw();
-    let digest = Sha256::digest(bytes);
-    let loaded = load(alloc, problem, pools, journal, &digest, None, None)?;
+    let digest = Sha256::digest(accepted.bytes);
+    let asked = hp_load::Asked {
+        digest: &digest,
+        seed: None,
+        batch: None,
+    };
+    let loaded = load(alloc, problem, accepted.pools, journal, &asked)?;
     let text = check_report(alloc, problem, &loaded)?;
     Ok(text)
 }
 
+/// How a run ends where a journal is not loaded.
 pub(crate) fn status_of_fault(fault: LoadFault) -> Status
     ensures { result ≡ status_of_fault fault }
 {
@@ -103,24 +112,42 @@ pub(crate) fn status_of_fault(fault: LoadFault) -> Status
     }
 }
 
+/// How a run ends where planning stops.
+pub(crate) fn status_of_plan(fault: PlanFault) -> Status
+    ensures { result ≡ status_of_plan fault }
+{
+    match fault {
+        PlanFault::NoStage(dead) => Status::NoStage(dead),
+        PlanFault::Range {
+            iteration,
+            node,
+            realization,
+        } => Status::Range {
+            iteration,
+            node,
+            realization,
+        },
+        PlanFault::DiskFault => Status::DiskFault,
+        PlanFault::Memory => Status::Memory,
+    }
+}
+
 /// The report of `check` over the base cuts of the problem of these bytes.
 fn report_check<D: Disk, V: Solver>(
     alloc: Global,
-    bytes: &[u8],
-    problem: &Problem,
-    pools: Pools,
+    accepted: Accepted,
     journal: &mut D,
     solver: &V,
 ) -> Result<Vec<u8>, Status>
-    requires read { based_at bytes.now ≡ Ok (record { problem = problem.now; pools = pools.lists }) }
-    requires base { based problem.now ≡ Ok pools.lists }
-    ensures report { IfOk result (λ v. Reports (solving (V.started solver.now) (V.begun solver.now) (V.next solver.now)) tasks.Check (D.store journal.old).reads bytes.now (Ok v.items)) }
-    ensures sound { IfOk result (λ v. (cuts : List (List Cut)) × IsSoundReport tasks.Check bytes.now problem.now cuts v.items) }
-    ensures lacks { IfErr result (λ s. Lacks (solving (V.started solver.now) (V.begun solver.now) (V.next solver.now)) tasks.Check (D.store journal.old).reads (D.faults journal.old) (D.faults journal.new) bytes.now s) }
+    requires read { based_at accepted.bytes.now ≡ Ok (record { problem = accepted.problem.now; pools = accepted.pools.lists }) }
+    requires base { based accepted.problem.now ≡ Ok accepted.pools.lists }
+    ensures report { IfOk result (λ v. Reports (V.does solver.now) tasks.Check (D.store journal.old).reads accepted.entry.bytes.now (Ok v.items)) }
+    ensures sound { IfOk result (λ v. (cuts : List (List Cut)) × IsSoundReport tasks.Check accepted.entry.bytes.now accepted.entry.problem.now cuts v.items) }
+    ensures lacks { IfErr result (λ s. Lacks (V.does solver.now) tasks.Check (D.store journal.old).reads (D.faults journal.old) (D.faults journal.new) accepted.entry.bytes.now s) }
     ensures stays { Stays (D.store journal.old) (D.store journal.new) }
     ensures later { D.faults journal.old ≤ D.faults journal.new }
 {
-    match check(alloc, bytes, problem, pools, journal) {
+    match check(alloc, accepted, journal) {
         Ok(text) => Ok(text),
         Err(fault) => {
             let _ = solver;
@@ -131,7 +158,7 @@ fn report_check<D: Disk, V: Solver>(
 
 /// The report of base cuts.
 fn report_base(alloc: Global, problem: &Problem, pools: Pools) -> Result<Vec<u8>, Status>
-    requires fit { Fit (problem_of problem.now) (length problem.now.raw.nodes) pools.lists }
+    requires fit { PoolsFit problem.now pools.lists }
     requires sound { Sound (problem_of problem.now) pools.lists }
     ensures text { IfOk result (λ v. v.items ≡ base_text problem.now pools.lists) }
     ensures sound { (bytes : List ℕ) → IfOk result (λ v. IsSoundReport tasks.Base bytes problem.now pools.lists v.items) }
@@ -149,45 +176,43 @@ fn report_by<R: Threads + Sync, D: Disk, V: Solver>(
     rt: &R,
     alloc: Global,
     task: Task,
-    bytes: &[u8],
-    problem: &Problem,
-    pools: Pools,
+    accepted: Accepted,
     journal: &mut D,
     solver: &V,
 ) -> Result<Vec<u8>, Status>
     requires within { IsWithin task }
-    requires read { based_at bytes.now ≡ Ok (record { problem = problem.now; pools = pools.lists }) }
-    requires known { problem_at bytes.now ≡ Ok problem.now }
-    requires base { based problem.now ≡ Ok pools.lists }
-    requires fit { Fit (problem_of problem.now) (length problem.now.raw.nodes) pools.lists }
-    requires sound { Sound (problem_of problem.now) pools.lists }
-    ensures report { IfOk result (λ v. Reports (solving (V.started solver.now) (V.begun solver.now) (V.next solver.now)) task (D.store journal.old).reads bytes.now (Ok v.items)) }
-    ensures sound { IfOk result (λ v. (cuts : List (List Cut)) × IsSoundReport task bytes.now problem.now cuts v.items) }
-    ensures lacks { IfErr result (λ s. Lacks (solving (V.started solver.now) (V.begun solver.now) (V.next solver.now)) task (D.store journal.old).reads (D.faults journal.old) (D.faults journal.new) bytes.now s) }
-    ensures grown { IfSome (D.store journal.old).reads (λ kept. Leaves (solving (V.started solver.now) (V.begun solver.now) (V.next solver.now)) result bytes.now kept (D.store journal.new) task) }
-    ensures any_moment { IfSome (D.store journal.old).reads (λ kept. LeavesMine (solving (V.started solver.now) (V.begun solver.now) (V.next solver.now)) bytes.now kept (D.store journal.old) (D.store journal.new) task) }
+    requires read { based_at accepted.bytes.now ≡ Ok (record { problem = accepted.problem.now; pools = accepted.pools.lists }) }
+    requires known { problem_at accepted.bytes.now ≡ Ok accepted.problem.now }
+    requires base { based accepted.problem.now ≡ Ok accepted.pools.lists }
+    requires fit { PoolsFit accepted.problem.now accepted.pools.lists }
+    requires sound { Sound (problem_of accepted.problem.now) accepted.pools.lists }
+    ensures report { IfOk result (λ v. Reports (V.does solver.now) task (D.store journal.old).reads accepted.entry.bytes.now (Ok v.items)) }
+    ensures sound { IfOk result (λ v. (cuts : List (List Cut)) × IsSoundReport task accepted.entry.bytes.now accepted.entry.problem.now cuts v.items) }
+    ensures lacks { IfErr result (λ s. Lacks (V.does solver.now) task (D.store journal.old).reads (D.faults journal.old) (D.faults journal.new) accepted.entry.bytes.now s) }
+    ensures grown { IfSome (D.store journal.old).reads (λ kept. Leaves (V.does solver.now) result accepted.entry.bytes.now kept (D.store journal.new) task) }
+    ensures any_moment { IfSome (D.store journal.old).reads (λ kept. LeavesMine (V.does solver.now) accepted.entry.bytes.now kept (D.store journal.old) (D.store journal.new) task) }
     ensures stays { KeepsJournal task result → Stays (D.store journal.old) (D.store journal.new) }
     ensures refused { precedes_journal (status_of result) ≡ true → journal.new ≡ journal.old }
     ensures untouched { ¬ (ReadsJournal task) → journal.new ≡ journal.old }
     ensures later { D.faults journal.old ≤ D.faults journal.new }
 {
     match task {
-        Task::Base => report_base(alloc, problem, pools),
+        Task::Base => report_base(alloc, accepted.problem, accepted.pools),
         Task::Train { seed, count, batch } => {
             let asked = Asked { seed, count, batch };
-            report_train(rt, alloc, bytes, problem, pools, journal, solver, asked)
+            report_train(rt, alloc, accepted, journal, solver, asked)
         }
-        Task::Check => report_check(alloc, bytes, problem, pools, journal, solver),
+        Task::Check => report_check(alloc, accepted, journal, solver),
         Task::Simulate { seed, count } => {
             let scenarios = Scenarios::Drawn { seed, count };
-            report_scenarios(alloc, bytes, problem, pools, journal, solver, scenarios)
+            report_scenarios(alloc, accepted, journal, solver, scenarios)
         }
         Task::Validate => {
             let scenarios = Scenarios::Stored;
-            report_scenarios(alloc, bytes, problem, pools, journal, solver, scenarios)
+            report_scenarios(alloc, accepted, journal, solver, scenarios)
         }
-        Task::Evaluate => report_evaluate(alloc, bytes, problem, pools, journal, solver),
-        Task::Robust => report_robust(alloc, bytes, problem, pools, journal, solver),
+        Task::Evaluate => report_evaluate(alloc, accepted, journal, solver),
+        Task::Robust => report_robust(alloc, accepted, journal, solver),
     }
 }
 
@@ -201,11 +226,11 @@ pub(crate) fn report_of<R: Threads + Sync, D: Disk, V: Solver>(
     solver: &V,
 ) -> Result<Vec<u8>, Status>
     requires { IsWithin task }
-    ensures report { IfOk result (λ v. Reports (solving (V.started solver.now) (V.begun solver.now) (V.next solver.now)) task (D.store journal.old).reads bytes.now (Ok v.items)) }
+    ensures report { IfOk result (λ v. Reports (V.does solver.now) task (D.store journal.old).reads bytes.now (Ok v.items)) }
     ensures sound { IfOk result (λ v. SoundText task bytes.now v.items) }
-    ensures lacks { IfErr result (λ s. Lacks (solving (V.started solver.now) (V.begun solver.now) (V.next solver.now)) task (D.store journal.old).reads (D.faults journal.old) (D.faults journal.new) bytes.now s) }
-    ensures grown { IfSome (D.store journal.old).reads (λ kept. Leaves (solving (V.started solver.now) (V.begun solver.now) (V.next solver.now)) result bytes.now kept (D.store journal.new) task) }
-    ensures any_moment { IfSome (D.store journal.old).reads (λ kept. LeavesMine (solving (V.started solver.now) (V.begun solver.now) (V.next solver.now)) bytes.now kept (D.store journal.old) (D.store journal.new) task) }
+    ensures lacks { IfErr result (λ s. Lacks (V.does solver.now) task (D.store journal.old).reads (D.faults journal.old) (D.faults journal.new) bytes.now s) }
+    ensures grown { IfSome (D.store journal.old).reads (λ kept. Leaves (V.does solver.now) result bytes.now kept (D.store journal.new) task) }
+    ensures any_moment { IfSome (D.store journal.old).reads (λ kept. LeavesMine (V.does solver.now) bytes.now kept (D.store journal.old) (D.store journal.new) task) }
     ensures stays { KeepsJournal task result → Stays (D.store journal.old) (D.store journal.new) }
     ensures refused { precedes_journal (status_of result) ≡ true → journal.new ≡ journal.old }
     ensures untouched { ¬ (ReadsJournal task) → journal.new ≡ journal.old }
@@ -216,5 +241,10 @@ pub(crate) fn report_of<R: Threads + Sync, D: Disk, V: Solver>(
         Err(ReadRefusal::Refused(refusal)) => return Err(Status::ProblemRefused(refusal)),
         Err(ReadRefusal::Memory) => return Err(Status::Memory),
     };
-    report_by(rt, alloc, task, bytes, &problem, pools, journal, solver)
+    let accepted = Accepted {
+        bytes,
+        problem: &problem,
+        pools,
+    };
+    report_by(rt, alloc, task, accepted, journal, solver)
 }

@@ -3,11 +3,12 @@ ghost use Rattle.std.specs.Prelude.{◌≡◌, ◌⊎◌, IfErr, IfOk};
 ghost use Rattle.std.specs.Process.{exit_status};
 ghost use Rattle.hp_words.specs.Commands.{texts};
 ghost use Rattle.hp_run.specs.OwnSolver.{own_solver};
-ghost use Rattle.hp_run.specs.Run.{Answers, CannotStart, IsRun, RunsOver, SaysLine, Shows, Starts, devices, journal_of, telling};
+ghost use Rattle.hp_run.specs.Run.{Answers, CannotStart, IsRun, RunsOver, SaysLine, Shows, Starts, after, before, journal_of, telling};
 ghost use Rattle.hp_run.specs.Status.{number_of};
 ghost use Rattle.hp_run.specs.Words.{asked, journal_name, writes_journal};
 
 use crate::help::own_text;
+use crate::outside::Outside;
 use crate::status::{Status, number, status_line};
 use crate::top::run;
 use crate::writing::{put, put_front};
@@ -49,16 +50,14 @@ pub fn execute<R: Threads + Sync, I: Source, D: Disk, O: Sink, E: Write>(
     rt: &R,
     alloc: Global,
     words: &[String],
-    problem: &mut I,
-    journal: &mut D,
-    out: &mut O,
+    outside: Outside<I, D, O>,
     errors: &mut E,
 ) -> ExitCode
     ensures { (status : Status) × (exit_status result ≡ number_of status)
-        × IsRun own_solver (asked words.now) (telling I.left I.faults D.store D.faults O.taken O.faults) (devices problem.old journal.old out.old) (devices problem.new journal.new out.new) status
+        × IsRun own_solver (asked words.now) (telling I.left I.faults D.store D.faults O.taken O.faults) (before outside.entry) (after outside.exit) status
         × SaysLine (E.contents errors.old) (E.contents errors.new) status }
 {
-    let status = run(rt, alloc, words, problem, journal, out);
+    let status = run(rt, alloc, words, outside);
     ended(alloc, &status, errors)
 }
 
@@ -178,7 +177,12 @@ where
 {
     match journal_of(rt, rt.alloc(), words) {
         Ok(mut journal) => {
-            let end = execute(rt, rt.alloc(), words, problem, &mut journal, out, errors);
+            let outside = Outside {
+                problem,
+                journal: &mut journal,
+                out,
+            };
+            let end = execute(rt, rt.alloc(), words, outside, errors);
             write_obstacle(journal.obstacle(), errors);
             end
         }

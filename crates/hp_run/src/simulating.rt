@@ -1,27 +1,26 @@
 // Simulation over the pools of a journal.
 ghost use Rattle.std.specs.Prelude.{◌≡◌, ◌≤◌, List, Ok, length, All, IfOk, IfErr};
 ghost use Rattle.hp_outside.specs.Disks.{Stays};
-ghost use Rattle.hp_theory.specs.Fit.{Fit};
 ghost use Rattle.hp_theory.specs.Range.{based};
-ghost use Rattle.hp_theory.specs.View.{problem_of};
 ghost use Rattle.hp_theory.specs.declared.cut.Cut.{Cut};
-ghost use Rattle.hp_lp.specs.Chained.{solving};
-ghost use Rattle.hp_forward.specs.Given.{Gives};
+ghost use Rattle.hp_cut.specs.AtNodes.{PoolsFit};
+ghost use Rattle.hp_settle.specs.Faults.{Gives};
 ghost use Rattle.hp_sim.specs.Tracing.{AreKnown, traces_of};
 ghost use Rattle.hp_run.specs.Causes.{Lacks};
 ghost use Rattle.hp_run.specs.Outcome.{Reports, based_at, count_of, runs_of, task_for};
 ghost use Rattle.hp_run.specs.SoundText.{IsSoundReport};
 
-use crate::loading::{load_within, status_of_stage};
-use crate::outcome::status_of_fault;
+use crate::loading::load_within;
+use crate::outcome::{Accepted, status_of_fault, status_of_plan};
 use crate::status::Status;
 use hp_cut::Pools;
-use hp_forward::{StageFault, Trace};
-use hp_lp::Starts;
+use hp_forward::Trace;
+use hp_lp::{Planner, WarmStarts, Workspace};
 use hp_num::{List, Memory};
 use hp_outside::Disk;
 use hp_problem::Problem;
 use hp_report::trace_report;
+use hp_settle::PlanFault;
 use hp_sim::{simulate, validate};
 use hp_solver::Solver;
 use sha2::{Digest, Sha256};
@@ -54,48 +53,47 @@ fn traced<V: Solver>(
     pools: &Pools,
     solver: &V,
     scenarios: Scenarios,
-) -> Result<List<Trace>, StageFault>
-    requires fit { Fit (problem_of problem.now) (length problem.now.raw.nodes) pools.now.lists }
-    ensures value { Gives result (traces_of (solving (V.started solver.now) (V.begun solver.now) (V.next solver.now)) problem.now pools.now.lists (runs_of problem.now scenarios)) }
+) -> Result<List<Trace>, PlanFault>
+    requires fit { PoolsFit problem.now pools.now.lists }
+    ensures value { Gives result (traces_of (V.does solver.now) problem.now pools.now.lists (runs_of problem.now scenarios)) }
     ensures known { IfOk result (All (AreKnown problem.now)) }
 {
-    let starts = Starts::new(alloc, problem, solver)?;
+    let starts = WarmStarts::new(alloc, problem, solver)?;
+    let planner = Planner::new(problem, solver, &starts);
+    let mut work = Workspace::new(alloc);
     match scenarios {
-        Scenarios::Drawn { seed, count } => {
-            simulate(alloc, problem, pools, solver, &starts, seed, count)
-        }
-        Scenarios::Stored => validate(alloc, problem, pools, solver, &starts),
+        Scenarios::Drawn { seed, count } => simulate(&mut work, &planner, pools, seed, count),
+        Scenarios::Stored => validate(&mut work, &planner, pools),
     }
 }
 
 /// The report of the scenarios over the pools that the journal gives with the problem of these bytes.
 pub(crate) fn report_scenarios<D: Disk, V: Solver>(
     alloc: Global,
-    bytes: &[u8],
-    problem: &Problem,
-    pools: Pools,
+    accepted: Accepted,
     journal: &mut D,
     solver: &V,
     scenarios: Scenarios,
 ) -> Result<Vec<u8>, Status>
-    requires read { based_at bytes.now ≡ Ok (record { problem = problem.now; pools = pools.lists }) }
-    requires base { based problem.now ≡ Ok pools.lists }
-    ensures report { IfOk result (λ v. Reports (solving (V.started solver.now) (V.begun solver.now) (V.next solver.now)) (task_for scenarios) (D.store journal.old).reads bytes.now (Ok v.items)) }
-    ensures sound { IfOk result (λ v. (cuts : List (List Cut)) × IsSoundReport (task_for scenarios) bytes.now problem.now cuts v.items) }
-    ensures lacks { IfErr result (λ s. Lacks (solving (V.started solver.now) (V.begun solver.now) (V.next solver.now)) (task_for scenarios) (D.store journal.old).reads (D.faults journal.old) (D.faults journal.new) bytes.now s) }
+    requires read { based_at accepted.bytes.now ≡ Ok (record { problem = accepted.problem.now; pools = accepted.pools.lists }) }
+    requires base { based accepted.problem.now ≡ Ok accepted.pools.lists }
+    ensures report { IfOk result (λ v. Reports (V.does solver.now) (task_for scenarios) (D.store journal.old).reads accepted.entry.bytes.now (Ok v.items)) }
+    ensures sound { IfOk result (λ v. (cuts : List (List Cut)) × IsSoundReport (task_for scenarios) accepted.entry.bytes.now accepted.entry.problem.now cuts v.items) }
+    ensures lacks { IfErr result (λ s. Lacks (V.does solver.now) (task_for scenarios) (D.store journal.old).reads (D.faults journal.old) (D.faults journal.new) accepted.entry.bytes.now s) }
     ensures stays { Stays (D.store journal.old) (D.store journal.new) }
     ensures later { D.faults journal.old ≤ D.faults journal.new }
 {
+    let problem = accepted.problem;
     let _ = problem.raw();
-    let digest = Sha256::digest(bytes);
+    let digest = Sha256::digest(accepted.bytes);
     let formula = problem.too_wide(count_of(problem, scenarios));
-    let loaded = match load_within(alloc, problem, pools, journal, &digest, formula) {
+    let loaded = match load_within(alloc, problem, accepted.pools, journal, &digest, formula) {
         Ok(loaded) => loaded,
         Err(fault) => return Err(status_of_fault(fault)),
     };
     let traces = match traced(alloc, problem, &loaded.pools, solver, scenarios) {
         Ok(traces) => traces,
-        Err(fault) => return Err(status_of_stage(fault)),
+        Err(fault) => return Err(status_of_plan(fault)),
     };
     match trace_report(alloc, problem, &loaded.pools, traces.as_slice()) {
         Ok(text) => Ok(text),

@@ -5,6 +5,7 @@ ghost use Rattle.hp_run.specs.Words.{asked};
 ghost use Rattle.hp_run.specs.declared.task.Task.{Task};
 
 use crate::job::Job;
+use crate::outside::Outside;
 use crate::status::Status;
 use crate::top::run;
 use hp_outside::{Disk, StdSink, StdSource};
@@ -23,5 +24,10 @@ pub(crate) fn run_over_memory<R: Threads + Sync, D: Disk>(
     ensures { (task : Task) → asked words.now ≡ Some (Job.Plan task) → result ≡ Status.Done
         → (text : List ℕ) × SoundText task problem.old.inner.now text × (out.new.inner.items ≡ out.old.inner.items ++ text) }
 {
-    run(rt, alloc, words, problem, journal, out)
+    let outside = Outside {
+        problem,
+        journal,
+        out,
+    };
+    run(rt, alloc, words, outside)
 }

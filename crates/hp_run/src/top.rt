@@ -1,19 +1,18 @@
 // The top call.
 ghost use Rattle.std.specs.Prelude.{◌≡◌, Some, IfSome, false, true};
 ghost use Rattle.hp_outside.specs.Disks.{Stays};
-ghost use Rattle.hp_lp.specs.Chained.{solving};
-ghost use Rattle.hp_run.specs.Causes.{Completes, Explains, ExplainsTask, Sounds, ends, writes_nothing};
-ghost use Rattle.hp_run.specs.Journals.{Grows, IsResumed, LeavesMine, OfTask, OnlyReads, TaskOnlyReads, precedes_journal};
-ghost use Rattle.hp_run.specs.Meant.{Meant};
+ghost use Rattle.hp_run.specs.Causes.{Explains, ExplainsTask, writes_nothing};
+ghost use Rattle.hp_run.specs.Journals.{Grows, LeavesMine, OfTask, OnlyReads, TaskOnlyReads, precedes_journal};
 ghost use Rattle.hp_run.specs.Outcome.{ReadsJournal};
 ghost use Rattle.hp_run.specs.OwnSolver.{own_solver};
-ghost use Rattle.hp_run.specs.Run.{Describes, IsRun, devices, telling};
+ghost use Rattle.hp_run.specs.Run.{IsRun, after, before, ends_of, telling};
 ghost use Rattle.hp_run.specs.Words.{IfPlanned, IsWithin, asked, reads_problem};
 
 use crate::describing::write_described;
 use crate::generating::write_problem;
 use crate::job::{Job, asked};
 use crate::outcome::report_of;
+use crate::outside::Outside;
 use crate::reading::{GatherFault, gather};
 use crate::status::Status;
 use crate::task::Task;
@@ -38,14 +37,12 @@ pub fn run_with<R: Threads + Sync, I: Source, D: Disk, O: Sink, V: Solver>(
     rt: &R,
     alloc: Global,
     words: &[String],
-    problem: &mut I,
-    journal: &mut D,
-    out: &mut O,
+    outside: Outside<I, D, O>,
     solver: &V,
 ) -> Status
-    ensures { IsRun (solving (V.started solver.now) (V.begun solver.now) (V.next solver.now)) (asked words.now) (telling I.left I.faults D.store D.faults O.taken O.faults) (devices problem.old journal.old out.old) (devices problem.new journal.new out.new) result }
+    ensures { IsRun (V.does solver.now) (asked words.now) (telling I.left I.faults D.store D.faults O.taken O.faults) (before outside.entry) (after outside.exit) result }
 {
-    acted(rt, alloc, words, problem, journal, out, solver)
+    act(rt, alloc, words, outside, solver)
 }
 
 /// Does what the words say, as [`run_with`] by the warm simplex.
@@ -53,13 +50,11 @@ pub fn run<R: Threads + Sync, I: Source, D: Disk, O: Sink>(
     rt: &R,
     alloc: Global,
     words: &[String],
-    problem: &mut I,
-    journal: &mut D,
-    out: &mut O,
+    outside: Outside<I, D, O>,
 ) -> Status
-    ensures { IsRun own_solver (asked words.now) (telling I.left I.faults D.store D.faults O.taken O.faults) (devices problem.old journal.old out.old) (devices problem.new journal.new out.new) result }
+    ensures { IsRun own_solver (asked words.now) (telling I.left I.faults D.store D.faults O.taken O.faults) (before outside.entry) (after outside.exit) result }
 {
-    run_with(rt, alloc, words, problem, journal, out, &WarmSimplex)
+    run_with(rt, alloc, words, outside, &WarmSimplex)
 }
 
 /// Does what the words say, as [`run`], over bytes in memory as the problem: it never ends as ReadFault.
@@ -67,68 +62,48 @@ pub fn run_safe<R: Threads + Sync, D: Disk, O: Sink>(
     rt: &R,
     alloc: Global,
     words: &[String],
-    problem: &mut FaultlessSource,
-    journal: &mut D,
-    out: &mut O,
+    outside: Outside<FaultlessSource, D, O>,
 ) -> Status
-    ensures run { IsRun own_solver (asked words.now) (telling (λ s. Some s) (λ s. 0) D.store D.faults O.taken O.faults) (devices problem.old journal.old out.old) (devices problem.new journal.new out.new) result }
+    ensures run { IsRun own_solver (asked words.now) (telling (λ s. Some s) (λ s. 0) D.store D.faults O.taken O.faults) (before outside.entry) (after outside.exit) result }
     ensures safe { ¬ (result ≡ Status.ReadFault) }
 {
-    run(rt, alloc, words, problem, journal, out)
+    run(rt, alloc, words, outside)
 }
 
-// Like `run_with`, with a clause for each promise.
-fn acted<R: Threads + Sync, I: Source, D: Disk, O: Sink, V: Solver>(
-    rt: &R,
-    alloc: Global,
-    words: &[String],
-    problem: &mut I,
-    journal: &mut D,
-    out: &mut O,
-    solver: &V,
-) -> Status
-    ensures cause { Explains (solving (V.started solver.now) (V.begun solver.now) (V.next solver.now)) (asked words.now) (ends I.left I.faults D.store D.faults O.taken O.faults problem.old problem.new journal.old journal.new out.old out.new) result }
-    ensures complete { Completes (solving (V.started solver.now) (V.begun solver.now) (V.next solver.now)) (asked words.now) (ends I.left I.faults D.store D.faults O.taken O.faults problem.old problem.new journal.old journal.new out.old out.new) result }
-    ensures sound { Sounds (asked words.now) (ends I.left I.faults D.store D.faults O.taken O.faults problem.old problem.new journal.old journal.new out.old out.new) result }
-    ensures means { Meant (asked words.now) (ends I.left I.faults D.store D.faults O.taken O.faults problem.old problem.new journal.old journal.new out.old out.new) result }
-    ensures described { Describes (asked words.now) (ends I.left I.faults D.store D.faults O.taken O.faults problem.old problem.new journal.old journal.new out.old out.new) result }
-    ensures unwritten { writes_nothing result ≡ true → out.new ≡ out.old }
-    ensures unread { reads_problem (asked words.now) ≡ false → problem.new ≡ problem.old }
-
-    // The journal.
-    ensures journal { OnlyReads (asked words.now) result → Stays (D.store journal.old) (D.store journal.new) }
-    ensures journal_unread { ¬ (IfPlanned (asked words.now) ReadsJournal) → journal.new ≡ journal.old }
-    ensures journal_later { precedes_journal result ≡ true → journal.new ≡ journal.old }
-    ensures grown { OfTask (I.left problem.old) (D.store journal.old).reads (asked words.now) (λ bytes kept. Grows (solving (V.started solver.now) (V.begun solver.now) (V.next solver.now)) result bytes kept (D.store journal.new)) }
-    ensures any_moment { OfTask (I.left problem.old) (D.store journal.old).reads (asked words.now) (λ bytes kept. LeavesMine (solving (V.started solver.now) (V.begun solver.now) (V.next solver.now)) bytes kept (D.store journal.old) (D.store journal.new)) }
-    ensures resumed { OfTask (I.left problem.old) (D.store journal.old).reads (asked words.now) (λ bytes kept. IsResumed (solving (V.started solver.now) (V.begun solver.now) (V.next solver.now)) result bytes kept (D.store journal.new) (O.taken out.old) (O.taken out.new)) }
-{
-    act(rt, alloc, words, problem, journal, out, solver)
-}
-
+// Like `run_with`, with a clause for each promise that does not follow from another.
 fn act<R: Threads + Sync, I: Source, D: Disk, O: Sink, V: Solver>(
     rt: &R,
     alloc: Global,
     words: &[String],
-    problem: &mut I,
-    journal: &mut D,
-    out: &mut O,
+    outside: Outside<I, D, O>,
     solver: &V,
 ) -> Status
-    ensures cause { Explains (solving (V.started solver.now) (V.begun solver.now) (V.next solver.now)) (asked words.now) (ends I.left I.faults D.store D.faults O.taken O.faults problem.old problem.new journal.old journal.new out.old out.new) result }
-    ensures unwritten { writes_nothing result ≡ true → out.new ≡ out.old }
-    ensures unread { reads_problem (asked words.now) ≡ false → problem.new ≡ problem.old }
+    ensures cause { Explains (V.does solver.now) (asked words.now) (ends_of (telling I.left I.faults D.store D.faults O.taken O.faults) (before outside.entry) (after outside.exit)) result }
+    ensures unwritten { writes_nothing result ≡ true → (after outside.exit).out ≡ (before outside.entry).out }
+    ensures unread { reads_problem (asked words.now) ≡ false → (after outside.exit).problem ≡ (before outside.entry).problem }
 
     // The journal.
-    ensures journal { OnlyReads (asked words.now) result → Stays (D.store journal.old) (D.store journal.new) }
-    ensures journal_unread { ¬ (IfPlanned (asked words.now) ReadsJournal) → journal.new ≡ journal.old }
-    ensures journal_later { precedes_journal result ≡ true → journal.new ≡ journal.old }
-    ensures grown { OfTask (I.left problem.old) (D.store journal.old).reads (asked words.now) (λ bytes kept. Grows (solving (V.started solver.now) (V.begun solver.now) (V.next solver.now)) result bytes kept (D.store journal.new)) }
-    ensures any_moment { OfTask (I.left problem.old) (D.store journal.old).reads (asked words.now) (λ bytes kept. LeavesMine (solving (V.started solver.now) (V.begun solver.now) (V.next solver.now)) bytes kept (D.store journal.old) (D.store journal.new)) }
+    ensures journal { OnlyReads (asked words.now) result → Stays (D.store (before outside.entry).journal) (D.store (after outside.exit).journal) }
+    ensures journal_unread { ¬ (IfPlanned (asked words.now) ReadsJournal) → (after outside.exit).journal ≡ (before outside.entry).journal }
+    ensures journal_later { precedes_journal result ≡ true → (after outside.exit).journal ≡ (before outside.entry).journal }
+    ensures grown { OfTask (I.left (before outside.entry).problem) (D.store (before outside.entry).journal).reads (asked words.now) (λ bytes kept. Grows (V.does solver.now) result bytes kept (D.store (after outside.exit).journal)) }
+    ensures any_moment { OfTask (I.left (before outside.entry).problem) (D.store (before outside.entry).journal).reads (asked words.now) (λ bytes kept. LeavesMine (V.does solver.now) bytes kept (D.store (before outside.entry).journal) (D.store (after outside.exit).journal)) }
 {
+    let Outside {
+        problem,
+        journal,
+        out,
+    } = outside;
     match asked(words) {
         None => Status::Usage,
-        Some(Job::Plan(task)) => plan(rt, alloc, task, problem, journal, out, solver),
+        Some(Job::Plan(task)) => {
+            let outside = Outside {
+                problem,
+                journal,
+                out,
+            };
+            plan(rt, alloc, task, outside, solver)
+        }
         Some(Job::Hydro) => write_described(alloc, problem, out),
         Some(
             Job::Generate {
@@ -145,22 +120,25 @@ fn plan<R: Threads + Sync, I: Source, D: Disk, O: Sink, V: Solver>(
     rt: &R,
     alloc: Global,
     task: Task,
-    problem: &mut I,
-    journal: &mut D,
-    out: &mut O,
+    outside: Outside<I, D, O>,
     solver: &V,
 ) -> Status
     requires { IsWithin task }
-    ensures cause { ExplainsTask (solving (V.started solver.now) (V.begun solver.now) (V.next solver.now)) task (ends I.left I.faults D.store D.faults O.taken O.faults problem.old problem.new journal.old journal.new out.old out.new) result }
-    ensures unwritten { writes_nothing result ≡ true → out.new ≡ out.old }
+    ensures cause { ExplainsTask (V.does solver.now) task (ends_of (telling I.left I.faults D.store D.faults O.taken O.faults) (before outside.entry) (after outside.exit)) result }
+    ensures unwritten { writes_nothing result ≡ true → (after outside.exit).out ≡ (before outside.entry).out }
 
     // The journal.
-    ensures journal { TaskOnlyReads task result → Stays (D.store journal.old) (D.store journal.new) }
-    ensures journal_unread { ¬ (ReadsJournal task) → journal.new ≡ journal.old }
-    ensures journal_later { precedes_journal result ≡ true → journal.new ≡ journal.old }
-    ensures grown { IfSome (I.left problem.old) (λ bytes. IfSome (D.store journal.old).reads (λ kept. Grows (solving (V.started solver.now) (V.begun solver.now) (V.next solver.now)) result bytes kept (D.store journal.new) task)) }
-    ensures any_moment { IfSome (I.left problem.old) (λ bytes. IfSome (D.store journal.old).reads (λ kept. LeavesMine (solving (V.started solver.now) (V.begun solver.now) (V.next solver.now)) bytes kept (D.store journal.old) (D.store journal.new) task)) }
+    ensures journal { TaskOnlyReads task result → Stays (D.store (before outside.entry).journal) (D.store (after outside.exit).journal) }
+    ensures journal_unread { ¬ (ReadsJournal task) → (after outside.exit).journal ≡ (before outside.entry).journal }
+    ensures journal_later { precedes_journal result ≡ true → (after outside.exit).journal ≡ (before outside.entry).journal }
+    ensures grown { IfSome (I.left (before outside.entry).problem) (λ bytes. IfSome (D.store (before outside.entry).journal).reads (λ kept. Grows (V.does solver.now) result bytes kept (D.store (after outside.exit).journal) task)) }
+    ensures any_moment { IfSome (I.left (before outside.entry).problem) (λ bytes. IfSome (D.store (before outside.entry).journal).reads (λ kept. LeavesMine (V.does solver.now) bytes kept (D.store (before outside.entry).journal) (D.store (after outside.exit).journal) task)) }
 {
+    let Outside {
+        problem,
+        journal,
+        out,
+    } = outside;
     let bytes = match gather(alloc, problem) {
         Ok(bytes) => bytes,
         Err(GatherFault::ReadFault) => return Status::ReadFault,

@@ -7,17 +7,16 @@ ghost use Rattle.hp_outside.specs.Disks.{Stays};
 ghost use Rattle.hp_outside.specs.Since.{Quiet, LeavesOnly};
 ghost use Rattle.hp_problem.specs.Formulas.{too_much};
 ghost use Rattle.hp_theory.specs.Bound.{Under};
-ghost use Rattle.hp_theory.specs.Fit.{Fit};
 ghost use Rattle.hp_theory.specs.Pools.{Sound};
 ghost use Rattle.hp_theory.specs.Range.{based};
 ghost use Rattle.hp_theory.specs.View.{problem_of};
 ghost use Rattle.hp_theory.specs.declared.cut.Cut.{Cut};
+ghost use Rattle.hp_cut.specs.AtNodes.{PoolsFit};
 ghost use Rattle.hp_journal.specs.Causes.{DiskCause};
 ghost use Rattle.hp_journal.specs.Gates.{IsShutAt};
 ghost use Rattle.hp_journal.specs.Head.{IsUnborn};
 ghost use Rattle.hp_load.specs.Accepted.{IsSafe};
 ghost use Rattle.hp_load.specs.Load.{Outcome, seen};
-ghost use Rattle.hp_lp.specs.Chained.{solving};
 ghost use Rattle.hp_train.specs.Training.{CanTrain, GoOnWith, MineFrom, StandsIn, grown_journal, iterations, title_of, trained};
 ghost use Rattle.hp_report.specs.Report.{train_text};
 ghost use Rattle.hp_run.specs.Causes.{Lacks};
@@ -29,17 +28,17 @@ ghost use Rattle.hp_run.specs.declared.status.Status.TheVariants as statuses;
 ghost use Rattle.hp_run.specs.declared.task.Task.TheVariants as tasks;
 
 use crate::loading::prepared;
-use crate::outcome::status_of_fault;
+use crate::outcome::{Accepted, status_of_fault, status_of_plan};
 use crate::status::Status;
 use hp_cut::Pools;
 use hp_load::{Loaded, load};
-use hp_lp::Starts;
+use hp_lp::{Planner, WarmStarts, Workspace};
 use hp_num::Memory;
 use hp_outside::Disk;
 use hp_problem::{Problem, TooMuch};
 use hp_report::train_report;
 use hp_solver::Solver;
-use hp_train::{TrainFault, train};
+use hp_train::{Training, train};
 use sha2::{Digest, Sha256};
 use std::alloc::Global;
 use std::thread::Threads;
@@ -84,15 +83,12 @@ fn load_for<D: Disk>(
     ensures cause { DiskCause (D.faults journal.old) (D.faults journal.new) (result ≡ Err statuses.DiskFault) }
     ensures own { IfErr result ComesOfLoading }
 {
-    match load(
-        alloc,
-        problem,
-        pools,
-        journal,
+    let title = hp_load::Asked {
         digest,
-        Some(asked.seed),
-        asked.batch,
-    ) {
+        seed: Some(asked.seed),
+        batch: asked.batch,
+    };
+    match load(alloc, problem, pools, journal, &title) {
         Ok(loaded) => match too_much(problem, asked.count, &loaded) {
             None => match prepared(alloc, problem, loaded) {
                 Ok(loaded) => Ok(loaded),
@@ -104,68 +100,39 @@ fn load_for<D: Disk>(
     }
 }
 
-/// Trains on what was loaded, once the solver has made ready for each node and what is pending on the disk is synced.
+/// Trains on what was loaded, once what is pending on the disk is synced.
 fn train_on<R: Threads + Sync, D: Disk, V: Solver>(
     rt: &R,
-    alloc: Global,
-    problem: &Problem,
-    solver: &V,
+    work: &mut Workspace,
+    planner: &Planner<V>,
     journal: &mut D,
-    digest: &[u8; 32],
-    asked: Asked,
+    training: &Training,
     loaded: &mut Loaded,
 ) -> Result<(), Status>
-    requires can { CanTrain problem.now asked.count (seen loaded.old) }
+    requires can { CanTrain planner.now.problem.now training.now.count (seen loaded.old) }
     requires unborn { loaded.old.born ≡ false → IfSome (D.store journal.old).reads IsUnborn }
     requires shut { loaded.old.born ≡ true → IfSome (D.store journal.old).reads (IsShutAt loaded.old.end) }
-    ensures stop { StopsAs result (iterations (solving (V.started solver.now) (V.begun solver.now) (V.next solver.now)) problem.now asked.seed asked.count (seen loaded.old)).stop }
-    ensures value { OnOk result (seen loaded.new ≡ trained (seen loaded.old) (iterations (solving (V.started solver.now) (V.begun solver.now) (V.next solver.now)) problem.now asked.seed asked.count (seen loaded.old))) }
+    ensures stop { StopsAs result (iterations (V.does planner.now.solver.now) planner.now.problem.now training.now.seed training.now.count (seen loaded.old)).stop }
+    ensures value { OnOk result (seen loaded.new ≡ trained (seen loaded.old) (iterations (V.does planner.now.solver.now) planner.now.problem.now training.now.seed training.now.count (seen loaded.old))) }
     ensures reads { WhenTrained result ((D.store journal.new).reads
-        ≡ option_map (λ kept. grown_journal digest.now asked.seed (seen loaded.old) kept (iterations (solving (V.started solver.now) (V.begun solver.now) (V.next solver.now)) problem.now asked.seed asked.count (seen loaded.old)).lists) (D.store journal.old).reads) }
+        ≡ option_map (λ kept. grown_journal training.now.digest.now training.now.seed (seen loaded.old) kept (iterations (V.does planner.now.solver.now) planner.now.problem.now training.now.seed training.now.count (seen loaded.old)).lists) (D.store journal.old).reads) }
     ensures quiet { WhenTrained result (Quiet (D.store journal.new)) }
     ensures any_moment { IfSome (D.store journal.old).reads (λ kept. (ps : List (List ℕ)) (j i : ℕ)
-        → StandsIn (title_of digest.now asked.seed (seen loaded.old)) (seen loaded.old) ps j kept
-        → GoOnWith j ps (iterations (solving (V.started solver.now) (V.begun solver.now) (V.next solver.now)) problem.now asked.seed asked.count (seen loaded.old)).lists
-        → i ≤ j → ((c : List ℕ) → (D.store journal.old).images c → MineFrom (title_of digest.now asked.seed (seen loaded.old)) ps i c)
-        → LeavesOnly (D.store journal.old) (D.store journal.new) (MineFrom (title_of digest.now asked.seed (seen loaded.old)) ps i)) }
+        → StandsIn (title_of training.now.digest.now training.now.seed (seen loaded.old)) (seen loaded.old) ps j kept
+        → GoOnWith j ps (iterations (V.does planner.now.solver.now) planner.now.problem.now training.now.seed training.now.count (seen loaded.old)).lists
+        → i ≤ j → ((c : List ℕ) → (D.store journal.old).images c → MineFrom (title_of training.now.digest.now training.now.seed (seen loaded.old)) ps i c)
+        → LeavesOnly (D.store journal.old) (D.store journal.new) (MineFrom (title_of training.now.digest.now training.now.seed (seen loaded.old)) ps i)) }
     ensures cause { DiskCause (D.faults journal.old) (D.faults journal.new) (result ≡ Err statuses.DiskFault) }
-    ensures fit { OnOk result (Fit (problem_of problem.now) (length problem.now.raw.nodes) loaded.new.pools.lists) }
-    ensures sound { Sound (problem_of problem.now) loaded.old.pools.lists → OnOk result (Sound (problem_of problem.now) loaded.new.pools.lists) }
-    ensures under { Sound (problem_of problem.now) loaded.old.pools.lists → All (Under (problem_of problem.now)) loaded.old.bounds → OnOk result (All (Under (problem_of problem.now)) loaded.new.bounds) }
+    ensures fit { OnOk result (PoolsFit planner.now.problem.now loaded.new.pools.lists) }
+    ensures sound { Sound (problem_of planner.now.problem.now) loaded.old.pools.lists → OnOk result (Sound (problem_of planner.now.problem.now) loaded.new.pools.lists) }
+    ensures under { Sound (problem_of planner.now.problem.now) loaded.old.pools.lists → All (Under (problem_of planner.now.problem.now)) loaded.old.bounds → OnOk result (All (Under (problem_of planner.now.problem.now)) loaded.new.bounds) }
 {
-    let Ok(starts) = Starts::new(alloc, problem, solver) else {
-        return Err(Status::Memory);
-    };
     let Ok(()) = journal.sync() else {
         return Err(Status::DiskFault);
     };
-    match train(
-        rt,
-        alloc,
-        problem,
-        solver,
-        &starts,
-        journal,
-        digest,
-        asked.seed,
-        asked.count,
-        loaded,
-    ) {
+    match train(rt, work, planner, journal, training, loaded) {
         Ok(()) => Ok(()),
-        Err(TrainFault::NoStage(dead)) => Err(Status::NoStage(dead)),
-        Err(
-            TrainFault::Range {
-                iteration,
-                node,
-                realization,
-            },
-        ) => Err(Status::Range {
-            iteration,
-            node,
-            realization,
-        }),
-        Err(TrainFault::DiskFault) => Err(Status::DiskFault),
-        Err(TrainFault::Memory) => Err(Status::Memory),
+        Err(fault) => Err(status_of_plan(fault)),
     }
 }
 
@@ -173,39 +140,39 @@ fn train_on<R: Threads + Sync, D: Disk, V: Solver>(
 pub(crate) fn report_train<R: Threads + Sync, D: Disk, V: Solver>(
     rt: &R,
     alloc: Global,
-    bytes: &[u8],
-    problem: &Problem,
-    pools: Pools,
+    accepted: Accepted,
     journal: &mut D,
     solver: &V,
     asked: Asked,
 ) -> Result<Vec<u8>, Status>
-    requires read { based_at bytes.now ≡ Ok (record { problem = problem.now; pools = pools.lists }) }
-    requires base { based problem.now ≡ Ok pools.lists }
+    requires read { based_at accepted.bytes.now ≡ Ok (record { problem = accepted.problem.now; pools = accepted.pools.lists }) }
+    requires base { based accepted.problem.now ≡ Ok accepted.pools.lists }
     requires count { asked.count ≤ 2000 }
     requires batch { IfSome asked.batch (λ b. (1 ≤ b) × (b ≤ 64)) }
-    ensures report { IfOk result (λ v. Reports (solving (V.started solver.now) (V.begun solver.now) (V.next solver.now)) (tasks.Train asked.seed asked.count asked.batch) (D.store journal.old).reads bytes.now (Ok v.items)) }
-    ensures sound { IfOk result (λ v. (cuts : List (List Cut)) × IsSoundReport (tasks.Train asked.seed asked.count asked.batch) bytes.now problem.now cuts v.items) }
-    ensures lacks { IfErr result (λ s. Lacks (solving (V.started solver.now) (V.begun solver.now) (V.next solver.now)) (tasks.Train asked.seed asked.count asked.batch) (D.store journal.old).reads (D.faults journal.old) (D.faults journal.new) bytes.now s) }
-    ensures grown { IfSome (D.store journal.old).reads (λ kept. (o : Outcome) → loaded_for bytes.now (record { problem = problem.now; pools = pools.lists }) asked.seed asked.batch kept ≡ Ok o
-        → WhenTrained result ((D.store journal.new).reads ≡ Some (grown_journal (sha256 bytes.now) asked.seed o kept (iterations (solving (V.started solver.now) (V.begun solver.now) (V.next solver.now)) problem.now asked.seed asked.count o).lists) × Quiet (D.store journal.new))) }
-    ensures any_moment { IfSome (D.store journal.old).reads (λ kept. LeavesMine (solving (V.started solver.now) (V.begun solver.now) (V.next solver.now)) bytes.now kept (D.store journal.old) (D.store journal.new) (tasks.Train asked.seed asked.count asked.batch)) }
+    ensures report { IfOk result (λ v. Reports (V.does solver.now) (tasks.Train asked.seed asked.count asked.batch) (D.store journal.old).reads accepted.entry.bytes.now (Ok v.items)) }
+    ensures sound { IfOk result (λ v. (cuts : List (List Cut)) × IsSoundReport (tasks.Train asked.seed asked.count asked.batch) accepted.entry.bytes.now accepted.entry.problem.now cuts v.items) }
+    ensures lacks { IfErr result (λ s. Lacks (V.does solver.now) (tasks.Train asked.seed asked.count asked.batch) (D.store journal.old).reads (D.faults journal.old) (D.faults journal.new) accepted.entry.bytes.now s) }
+    ensures grown { IfSome (D.store journal.old).reads (λ kept. (o : Outcome) → loaded_for accepted.entry.bytes.now (record { problem = accepted.entry.problem.now; pools = accepted.entry.pools.lists }) asked.seed asked.batch kept ≡ Ok o
+        → WhenTrained result ((D.store journal.new).reads ≡ Some (grown_journal (sha256 accepted.entry.bytes.now) asked.seed o kept (iterations (V.does solver.now) accepted.entry.problem.now asked.seed asked.count o).lists) × Quiet (D.store journal.new))) }
+    ensures any_moment { IfSome (D.store journal.old).reads (λ kept. LeavesMine (V.does solver.now) accepted.entry.bytes.now kept (D.store journal.old) (D.store journal.new) (tasks.Train asked.seed asked.count asked.batch)) }
     ensures stays { IfErr result (λ s. is_refusal s ≡ true → Stays (D.store journal.old) (D.store journal.new)) }
     ensures later { D.faults journal.old ≤ D.faults journal.new }
 {
+    let problem = accepted.problem;
     let _ = problem.raw();
-    let digest = Sha256::digest(bytes);
-    let mut loaded = load_for(alloc, problem, pools, journal, &digest, asked)?;
-    train_on(
-        rt,
-        alloc,
-        problem,
-        solver,
-        journal,
-        &digest,
-        asked,
-        &mut loaded,
-    )?;
+    let digest = Sha256::digest(accepted.bytes);
+    let mut loaded = load_for(alloc, problem, accepted.pools, journal, &digest, asked)?;
+    let Ok(starts) = WarmStarts::new(alloc, problem, solver) else {
+        return Err(Status::Memory);
+    };
+    let planner = Planner::new(problem, solver, &starts);
+    let mut work = Workspace::new(alloc);
+    let training = Training {
+        digest: &digest,
+        seed: asked.seed,
+        count: asked.count,
+    };
+    train_on(rt, &mut work, &planner, journal, &training, &mut loaded)?;
     match train_report(alloc, problem, &loaded) {
         Ok(text) => Ok(text),
         Err(Memory) => Err(Status::Memory),

@@ -12,7 +12,7 @@ pub struct Step {
 
 /// The states of one path forward.
 #[derive(Drop)]
-pub struct Walk {
+pub struct Trajectory {
     /// The incoming state of each step: one list per step, with one entry per state, at scale 2^24.
     pub states: List<List<i128>>,
     /// The number of solves on the way whose answers were of no use.

@@ -11,11 +11,11 @@ use Rattle.hp_theory.specs.declared.cut.Cut.{Cut}
 use Rattle.hp_theory.specs.declared.cut.Certificate.{Certificate}
 use Rattle.hp_theory.specs.Problem.{Node, node_at}
 use Rattle.hp_theory.specs.Pools.{pool}
-use Rattle.hp_theory.specs.Fit.{Fit}
 use Rattle.hp_theory.specs.View.{node_of, links_of, problem_of}
 use Rattle.hp_theory.specs.Certificates.{RightAt}
 use Rattle.hp_theory.proofs.SealedParts.{PartsFit, Parts, parts, parts_given, linked, links_known}
 use Rattle.hp_theory.proofs.SealedPremises.{leads-sealed, links-sealed}
+use Rattle.hp_cut.specs.AtNodes.{PoolsFit}
 use Rattle.hp_solver.specs.declared.fixed.Fx.{Fx}
 use Rattle.hp_solver.specs.declared.programs.Answer.{Answer}
 use Rattle.hp_dual.specs.Acceptance.{fault_of, range_fault}
@@ -28,10 +28,10 @@ if_ok P Q (Ok x) f h = f x h
 if_ok P Q (Err e) f h = h
 
 -- each successor has a weight and a cut
-pub have_cuts : (p : Sealed) (m : ℕ) (pools : List (List Cut)) → is_sealed p ≡ true → m < length p.raw.nodes → Fit (problem_of p) (length p.raw.nodes) pools → All (HasCuts pools) (node_at (problem_of p) m).links
+pub have_cuts : (p : Sealed) (m : ℕ) (pools : List (List Cut)) → is_sealed p ≡ true → m < length p.raw.nodes → PoolsFit p pools → All (HasCuts pools) (node_at (problem_of p) m).links
 have_cuts p m pools e h fit = λ i d l. ((leads-sealed p m e h i d l).0, fit.some (get_or (node_at (problem_of p) m).links i d).node (links-sealed p m e h i d l))
 
-pub only_range-sealed : (p : Sealed) (m : ℕ) (pools : List (List Cut)) (answers : List Answer) → is_sealed p ≡ true → m < length p.raw.nodes → Fit (problem_of p) (length p.raw.nodes) pools
+pub only_range-sealed : (p : Sealed) (m : ℕ) (pools : List (List Cut)) (answers : List Answer) → is_sealed p ≡ true → m < length p.raw.nodes → PoolsFit p pools
     → length answers ≡ length (node_at (problem_of p) m).realizations → fault_of pools (node_at (problem_of p) m) (map (settled_of pools (node_at (problem_of p) m)) answers) ≡ range_fault pools (node_at (problem_of p) m) (map (settled_of pools (node_at (problem_of p) m)) answers)
 only_range-sealed p m pools answers e h fit = settled_fault pools (node_at (problem_of p) m) answers (have_cuts p m pools e h fit)
 
@@ -42,7 +42,7 @@ unfolding node_of
 made_of pools n s low high duals = refl
 
 module _ (p : Sealed) (raw : Raw) (ns : List nodes.Node) (m : ℕ) (n : nodes.Node) (s : Subproblem) (pools : List (List Cut)) (e : is_sealed p ≡ true) (is : raw ≡ p.raw) (all : ns ≡ raw.nodes) (h : m < length p.raw.nodes) (at : n ≡ get_or ns m n)
-    (sub : subproblem_of p m ≡ Some s) (fit : Fit (problem_of p) (length p.raw.nodes) pools) where
+    (sub : subproblem_of p m ≡ Some s) (fit : PoolsFit p pools) where
   the_node : slice_get p.raw.nodes m ≡ Some n
   the_node = slice_get-get_or p.raw.nodes m n h ∙ ap Some (sym (at ∙ ap (λ (ks : List nodes.Node). get_or ks m n) (all ∙ ap (λ (r : Raw). r.nodes) is)))
 

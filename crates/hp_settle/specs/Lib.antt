@@ -4,3 +4,4 @@ pub mod Refutation
 pub mod Settling
 pub mod Kept
 pub mod SizedSums
+pub mod Faults

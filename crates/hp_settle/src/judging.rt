@@ -37,6 +37,29 @@ pub struct Dead {
     pub rows: List<i64>,
 }
 
+impl Dead {
+    /// A node without decisions at copies of these values and this state, as these rows show. [`Memory`] where memory was
+    /// refused.
+    pub fn new(
+        alloc: Global,
+        run: u32,
+        node: u32,
+        values: &[i64],
+        state: &[i128],
+        rows: List<i64>,
+    ) -> Result<Dead, Memory>
+        ensures { IfOk result (λ dead. dead ≡ record { run = run; node = node; values = values.now; state = state.now; rows = rows }) }
+    {
+        Ok(Dead {
+            run,
+            node,
+            values: List::from_vec(Vec::from_slice(alloc, values)?),
+            state: List::from_vec(Vec::from_slice(alloc, state)?),
+            rows,
+        })
+    }
+}
+
 /// 2^digits.
 fn power(digits: u32) -> u64
     requires { digits ≤ 56 }

@@ -3,6 +3,7 @@
 
 pub mod judging;
 pub mod laws;
+pub mod plan_fault;
 pub mod refutation;
 pub mod settling;
 pub mod settling_laws;
@@ -12,5 +13,6 @@ mod terms;
 pub mod worked;
 
 pub use judging::{Dead, Judged, judge};
+pub use plan_fault::PlanFault;
 pub use refutation::refutes;
 pub use settling::settle;

@@ -2,9 +2,9 @@
 ghost use Rattle.std.specs.Prelude.{◌≡◌, ℕ, ◌+◌, ◌-◌, ◌*◌, ◌<◌, ◌^◌, [], ◌∷◌, ◌++◌, length, map, min, drop, All, IfOk, OnOk};
 ghost use Rattle.hp_theory.specs.Problem.{S, node_at};
 ghost use Rattle.hp_theory.specs.Pools.{pool};
-ghost use Rattle.hp_theory.specs.Fit.{Fit};
 ghost use Rattle.hp_theory.specs.View.{links_of, problem_of};
 ghost use Rattle.hp_theory.specs.Certificates.{multipliers, RightAt};
+ghost use Rattle.hp_cut.specs.AtNodes.{PoolsFit};
 ghost use Rattle.hp_solver.specs.declared.fixed.Fx.{Fx};
 ghost use Rattle.hp_settle.specs.Kept.{kept_pairs, left_over};
 ghost use Rattle.hp_settle.specs.Settling.{dual_at, rescaled, clamped, row_over, rows_over, settled_rows, cut_multiplier, cut_multipliers, capped, missing, place_of_greatest, pairs_from, raised_pair, raised_first, topped, settled_pairs, settled_links, used_duals, settled_of};
@@ -334,7 +334,7 @@ pub fn settle(
     answer: &Answer,
 ) -> Result<Certificate, Memory>
     requires known { node < length problem.now.raw.nodes }
-    requires fit { Fit (problem_of problem.now) (length problem.now.raw.nodes) pools.now.lists }
+    requires fit { PoolsFit problem.now pools.now.lists }
     ensures value { IfOk result (λ c. c ≡ settled_of pools.now.lists (node_at (problem_of problem.now) node) answer.now) }
     ensures right { IfOk result (RightAt pools.now.lists (node_at (problem_of problem.now) node)) }
 {

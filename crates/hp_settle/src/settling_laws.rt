@@ -4,12 +4,12 @@ ghost use Rattle.hp_solver.specs.Numbers.{number};
 ghost use Rattle.hp_solver.specs.declared.programs.Answer.{Answer};
 ghost use Rattle.hp_theory.specs.Problem.{Link, Node, node_at};
 ghost use Rattle.hp_theory.specs.View.{problem_of};
-ghost use Rattle.hp_theory.specs.Fit.{Fit};
 ghost use Rattle.hp_problem.specs.Sealed.{Sealed, is_sealed};
 ghost use Rattle.hp_theory.specs.declared.cut.Cut.{Cut};
 ghost use Rattle.hp_theory.specs.Pools.{pool};
 ghost use Rattle.hp_theory.specs.Certificates.{Right};
 ghost use Rattle.hp_theory.specs.Examples.{reservoir, reservoir_certificate, negative_box};
+ghost use Rattle.hp_cut.specs.AtNodes.{PoolsFit};
 ghost use Rattle.hp_dual.specs.Acceptance.{fault_of, range_fault};
 ghost use Rattle.hp_settle.specs.Settling.{capped, missing, settled_rows, settled_pairs, settled_duals, settled_of};
 
@@ -25,7 +25,7 @@ pub fn settled_lists()
         → length answers ≡ length n.realizations
         → fault_of pools n (map (settled_of pools n) answers) ≡ range_fault pools n (map (settled_of pools n) answers) }
     ensures of_a_problem { (p : Sealed) (m : ℕ) (pools : List (List Cut)) (answers : List Answer)
-        → is_sealed p ≡ true → m < length p.raw.nodes → Fit (problem_of p) (length p.raw.nodes) pools
+        → is_sealed p ≡ true → m < length p.raw.nodes → PoolsFit p pools
         → length answers ≡ length (node_at (problem_of p) m).realizations
         → fault_of pools (node_at (problem_of p) m) (map (settled_of pools (node_at (problem_of p) m)) answers)
         ≡ range_fault pools (node_at (problem_of p) m) (map (settled_of pools (node_at (problem_of p) m)) answers) }

@@ -20,7 +20,7 @@ use Rattle.hp_theory.proofs.SealedParts.{Parts, parts}
 use Rattle.hp_settle.proofs.JudgedDead.{rows_at}
 use Rattle.hp_forward.specs.Amounts.{AreAmounts, AreCosts, AreFactors, AreGiven}
 use Rattle.hp_forward.specs.Costing.{stage_cost_of}
-use Rattle.hp_forward.specs.Given.{IsStateAt}
+use Rattle.hp_cut.specs.AtNodes.{IsStateAt}
 use Rattle.hp_forward.proofs.ByAnswers.{viewed}
 use Rattle.hp_forward.proofs.GivenNumbers.{costs_over, numbers_given}
 use Rattle.hp_forward.proofs.Products.{dot-times_all}

@@ -23,7 +23,7 @@ use Rattle.hp_theory.specs.Problem.{S}
 use Rattle.hp_theory.specs.Tree.{times_all}
 use Rattle.hp_theory.specs.View.{problem_of}
 use Rattle.hp_theory.proofs.SealedOrder.{no_cycle-sealed}
-use Rattle.hp_forward.specs.Given.{IsStateAt}
+use Rattle.hp_cut.specs.AtNodes.{IsStateAt}
 use Rattle.hp_forward.proofs.Arcs.{start-sealed, values-sealed}
 use Rattle.hp_sim.specs.Runs.{IsRun, moment_of}
 

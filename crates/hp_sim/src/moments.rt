@@ -3,25 +3,33 @@ ghost use Rattle.std.specs.Prelude.{◌≡◌, ◌<◌, ◌≤◌, ◌+◌, ◌^
 ghost use Rattle.hp_problem.specs.Limits.{are_values};
 ghost use Rattle.hp_problem.specs.Parts.{successors_at};
 ghost use Rattle.hp_problem.specs.Sealed.{subproblem_of};
-ghost use Rattle.hp_theory.specs.Fit.{Fit};
 ghost use Rattle.hp_theory.specs.Problem.{S, node_at};
 ghost use Rattle.hp_theory.specs.Tree.{InBox};
 ghost use Rattle.hp_theory.specs.View.{problem_of};
-ghost use Rattle.hp_lp.specs.Chained.{solving};
-ghost use Rattle.hp_lp.specs.Ready.{AreReady};
+ghost use Rattle.hp_cut.specs.AtNodes.{IsStateAt, PoolsFit};
+ghost use Rattle.hp_settle.specs.Faults.{GivesSeen, OnNoStage, Refutes};
 ghost use Rattle.hp_forward.specs.Costing.{residuals_of, stage_cost_of};
-ghost use Rattle.hp_forward.specs.Given.{GivesSeen, IsStateAt, OnNoStage, Refutes};
 ghost use Rattle.hp_forward.specs.declared.deciding.Decided.{Decided};
 ghost use Rattle.hp_sim.specs.Tracing.{decide_at, longer, step_on, traced};
 
 use hp_cut::Pools;
-use hp_forward::{Decided, StageFault, Trace, TraceStep, residual, stage_cost};
-use hp_lp::{SpareRows, Starts};
+use hp_forward::{Decided, StageInput, Trace, TraceStep, residual, stage_cost};
+use hp_lp::{Planner, Workspace};
 use hp_mend::decide_mended;
 use hp_num::{List, Memory};
 use hp_problem::{Moment, Problem};
+use hp_settle::PlanFault;
 use hp_solver::{Kind, Solver};
 use std::alloc::Global;
+use std::mem;
+
+/// How far a run has come.
+#[derive(Drop)]
+pub(crate) struct Progress {
+    pub(crate) trace: Trace,
+    /// The state that comes into the next moment.
+    pub(crate) state: List<i128>,
+}
 
 /// Copies the items into a new list.
 pub(crate) fn copied<T: Copy + Drop>(alloc: Global, items: &[T]) -> Result<List<T>, Memory>
@@ -140,52 +148,43 @@ fn add_step(trace: &mut Trace, step: TraceStep) -> Result<(), Memory>
     trace.steps.push(step)
 }
 
-/// Adds a moment to a trace that has come to a state, and gives the state that leaves the moment's node. The stage problem is
-/// in the workspace's buffers.
+/// Goes on through a moment of a run: adds it to the trace, and comes to the state that leaves the moment's node. A refutation
+/// carries the run's number.
 pub(crate) fn step_on<V: Solver>(
-    alloc: Global,
-    spare: &mut SpareRows,
-    problem: &Problem,
+    work: &mut Workspace,
+    planner: &Planner<V>,
     pools: &Pools,
-    solver: &V,
-    starts: &Starts<V>,
     run: u32,
-    trace: &mut Trace,
-    state: List<i128>,
     moment: &Moment,
-) -> Result<List<i128>, StageFault>
-    requires known { moment.now.node < length problem.now.raw.nodes }
-    requires values { are_values (subproblem_of problem.now moment.now.node) moment.now.values ≡ true }
-    requires state { IsStateAt problem.now moment.now.node state }
-    requires fit { Fit (problem_of problem.now) (length problem.now.raw.nodes) pools.now.lists }
-    requires ready { AreReady (V.started solver.now) (V.suits solver.now) problem.now starts.now.items }
-    requires room { nat_abs trace.old.cost ≤ 2 ^ 126 }
-    ensures value { GivesSeen (λ next. (trace.new, next)) result (step_on problem.now (decide_at (solving (V.started solver.now) (V.begun solver.now) (V.next solver.now)) problem.now pools.now.lists run) trace.old state moment.now) }
-    ensures next { IfOk result (λ next. (m : ℕ) → Contains (successors_at problem.now.raw moment.now.node) m
-        → IsStateAt problem.now m next) }
-    ensures small { IfOk result (λ _. nat_abs trace.new.cost ≤ nat_abs trace.old.cost + 2 ^ 115) }
-    ensures dead { OnNoStage result (Refutes problem.now) }
+    progress: &mut Progress,
+) -> Result<(), PlanFault>
+    requires known { moment.now.node < length planner.now.problem.now.raw.nodes }
+    requires values { are_values (subproblem_of planner.now.problem.now moment.now.node) moment.now.values ≡ true }
+    requires state { IsStateAt planner.now.problem.now moment.now.node progress.old.state }
+    requires fit { PoolsFit planner.now.problem.now pools.now.lists }
+    requires room { nat_abs progress.old.trace.cost ≤ 2 ^ 126 }
+    ensures value { GivesSeen (λ _. (progress.new.trace, progress.new.state)) result (step_on planner.now.problem.now (decide_at (V.does planner.now.solver.now) planner.now.problem.now pools.now.lists run) progress.old.trace progress.old.state moment.now) }
+    ensures next { IfOk result (λ _. (m : ℕ) → Contains (successors_at planner.now.problem.now.raw moment.now.node) m
+        → IsStateAt planner.now.problem.now m progress.new.state) }
+    ensures small { IfOk result (λ _. nat_abs progress.new.trace.cost ≤ nat_abs progress.old.trace.cost + 2 ^ 115) }
+    ensures dead { OnNoStage result (Refutes planner.now.problem.now) }
 {
-    let decided = decide_mended(
-        alloc,
-        spare,
-        problem,
-        pools,
-        solver,
-        starts,
+    let input = StageInput {
         run,
-        moment.node,
-        moment.values.as_slice(),
-        state.as_slice(),
-    )?;
+        node: moment.node,
+        values: moment.values.as_slice(),
+        state: progress.state.as_slice(),
+    };
+    let decided = decide_mended(work, planner, pools, &input)?;
+    let state = mem::replace(&mut progress.state, decided.next);
     let step = traced(
-        alloc,
-        problem,
+        work.alloc(),
+        planner.problem(),
         moment,
         state,
         decided.kind,
         decided.decisions,
     )?;
-    add_step(trace, step)?;
-    Ok(decided.next)
+    add_step(&mut progress.trace, step)?;
+    Ok(())
 }

@@ -1,21 +1,18 @@
 // Traces of drawn scenarios, and of those that a problem stores.
 ghost use Rattle.std.specs.Prelude.{◌≡◌, ◌≤◌, length, All, IfOk};
-ghost use Rattle.hp_theory.specs.Fit.{Fit};
-ghost use Rattle.hp_theory.specs.View.{problem_of};
-ghost use Rattle.hp_lp.specs.Chained.{solving};
-ghost use Rattle.hp_lp.specs.Ready.{AreReady};
-ghost use Rattle.hp_forward.specs.Given.{Gives, OnNoStage, Refutes};
+ghost use Rattle.hp_settle.specs.Faults.{Gives, OnNoStage, Refutes};
 ghost use Rattle.hp_sim.specs.Runs.{IsRun, drawn_from};
 ghost use Rattle.hp_sim.specs.Tracing.{AreKnown, traces_of};
+ghost use Rattle.hp_cut.specs.AtNodes.{PoolsFit};
 
 use crate::runs::{drawn, trace_of};
 use hp_cut::Pools;
-use hp_forward::{StageFault, Trace};
-use hp_lp::{SpareRows, Starts};
+use hp_forward::Trace;
+use hp_lp::{Planner, Workspace};
 use hp_num::List;
 use hp_problem::{Moment, Problem};
+use hp_settle::PlanFault;
 use hp_solver::Solver;
-use std::alloc::Global;
 
 /// Gives the traces of drawn scenarios, from scenario 0 on: of each step its node and values, the incoming state, the decisions
 /// there over these pools, by how much they miss each row, and the cost of the stage; and the sum of these costs. States,
@@ -23,41 +20,27 @@ use std::alloc::Global;
 ///
 /// Scenario i follows the path that the seed and stream 2^32 + i draw, from the initial state, and each step is decided once,
 /// as [`hp_mend::decide_mended`] does it: by the answer to the stage problem, rounded down and brought into the boxes, and
-/// where that answer is a point, mended to meet the rows as [`hp_mend::mended`] does it. `starts` was made for this problem and
-/// this solver.
+/// where that answer is a point, mended to meet the rows as [`hp_mend::mended`] does it.
 ///
 /// One trace per scenario, with one step per node of its path. NoStage exactly at the first step, in order of
 /// scenarios, where no decisions exist, as the multipliers that it carries show; its `run` is the number of the
 /// scenario. Memory where memory was refused.
 pub fn simulate<V: Solver>(
-    alloc: Global,
-    problem: &Problem,
+    work: &mut Workspace,
+    planner: &Planner<V>,
     pools: &Pools,
-    solver: &V,
-    starts: &Starts<V>,
     seed: u64,
     count: u32,
-) -> Result<List<Trace>, StageFault>
-    requires fit { Fit (problem_of problem.now) (length problem.now.raw.nodes) pools.now.lists }
-    requires ready { AreReady (V.started solver.now) (V.suits solver.now) problem.now starts.now.items }
-    ensures value { Gives result (traces_of (solving (V.started solver.now) (V.begun solver.now) (V.next solver.now)) problem.now pools.now.lists (drawn_from problem.now seed 0 count)) }
-    ensures known { IfOk result (All (AreKnown problem.now)) }
-    ensures dead { OnNoStage result (Refutes problem.now) }
+) -> Result<List<Trace>, PlanFault>
+    requires fit { PoolsFit planner.now.problem.now pools.now.lists }
+    ensures value { Gives result (traces_of (V.does planner.now.solver.now) planner.now.problem.now pools.now.lists (drawn_from planner.now.problem.now seed 0 count)) }
+    ensures known { IfOk result (All (AreKnown planner.now.problem.now)) }
+    ensures dead { OnNoStage result (Refutes planner.now.problem.now) }
 {
-    let mut traces = List::new(alloc);
-    let mut spare = SpareRows::new(alloc);
+    let mut traces = List::new(work.alloc());
     for scenario in 0..count {
-        let run = drawn(alloc, problem, seed, scenario)?;
-        traces.push(trace_of(
-            alloc,
-            &mut spare,
-            problem,
-            pools,
-            solver,
-            starts,
-            scenario,
-            run.as_slice(),
-        )?)?;
+        let run = drawn(work.alloc(), planner.problem(), seed, scenario)?;
+        traces.push(trace_of(work, planner, pools, scenario, run.as_slice())?)?;
     }
     Ok(traces)
 }
@@ -74,29 +57,23 @@ fn stored(problem: &Problem) -> &[List<Moment>]
 /// The traces of the scenarios that a problem stores, in their order and with their own values; the rest is as in
 /// [`simulate`].
 ///
-/// `starts` was made for this problem and this solver. NoStage exactly at the first step, in order of scenarios, where no
-/// decisions exist, with the number of the scenario as its `run`. Memory where memory was refused.
+/// NoStage exactly at the first step, in order of scenarios, where no decisions exist, with the number of the scenario as its
+/// `run`. Memory where memory was refused.
 pub fn validate<V: Solver>(
-    alloc: Global,
-    problem: &Problem,
+    work: &mut Workspace,
+    planner: &Planner<V>,
     pools: &Pools,
-    solver: &V,
-    starts: &Starts<V>,
-) -> Result<List<Trace>, StageFault>
-    requires fit { Fit (problem_of problem.now) (length problem.now.raw.nodes) pools.now.lists }
-    requires ready { AreReady (V.started solver.now) (V.suits solver.now) problem.now starts.now.items }
-    ensures value { Gives result (traces_of (solving (V.started solver.now) (V.begun solver.now) (V.next solver.now)) problem.now pools.now.lists problem.now.raw.scenarios) }
-    ensures known { IfOk result (All (AreKnown problem.now)) }
-    ensures dead { OnNoStage result (Refutes problem.now) }
+) -> Result<List<Trace>, PlanFault>
+    requires fit { PoolsFit planner.now.problem.now pools.now.lists }
+    ensures value { Gives result (traces_of (V.does planner.now.solver.now) planner.now.problem.now pools.now.lists planner.now.problem.now.raw.scenarios) }
+    ensures known { IfOk result (All (AreKnown planner.now.problem.now)) }
+    ensures dead { OnNoStage result (Refutes planner.now.problem.now) }
 {
-    let scenarios = stored(problem);
-    let mut traces = List::new(alloc);
-    let mut spare = SpareRows::new(alloc);
+    let scenarios = stored(planner.problem());
+    let mut traces = List::new(work.alloc());
     for scenario in 0..scenarios.len() as u32 {
         let run = scenarios[scenario as usize].as_slice();
-        traces.push(trace_of(
-            alloc, &mut spare, problem, pools, solver, starts, scenario, run,
-        )?)?;
+        traces.push(trace_of(work, planner, pools, scenario, run)?)?;
     }
     Ok(traces)
 }

@@ -1,5 +1,6 @@
 // The boxed dual simplex method, on a table that is pivoted in place.
 ghost use Rattle.std.specs.Prelude.{◌≡◌, ◌+◌, ◌*◌, ◌^◌, ◌<◌, ℕ, length, IfOk, OnOk, ⊤};
+ghost use Rattle.std.specs.Coded.{Unit-prop};
 ghost use Rattle.hp_solver.specs.declared.programs.Program.{Program};
 ghost use Rattle.hp_solver.specs.declared.programs.Answer.{Answer};
 ghost use Rattle.hp_solver.specs.Proper.{IsProper, IsReference, Extends, IsLike};
@@ -204,13 +205,11 @@ impl Solver for DualSimplex {
 
     type Chain = Room;
 
-    ghost started = { λ _ _. tt };
-
-    ghost begun = { λ _ _ _. tt };
-
-    ghost next = { λ _ _ lp. (solve_of lp, tt) };
+    ghost does = { λ _. record { started = λ _. tt; begun = λ _ _. tt; next = λ _ lp. (solve_of lp, tt) } };
 
     ghost suits = { λ _ _ _. ⊤ };
+
+    ghost suits_is_fact = { λ _ _ _. Unit-prop };
 
     ghost fits = { λ _ _ _. ⊤ };
 

@@ -10,6 +10,17 @@ use hp_solver::{Fx, Program};
 // 2^-12.
 const LEAST_FACTOR: u128 = 1 << 20;
 
+/// A column of the dictionary, as the row of the variable that leaves meets it.
+#[derive(Clone, Copy)]
+struct PricedColumn {
+    /// The factor that stands there in the row.
+    factor: Fx,
+    /// The variable of the column.
+    place: Nonbasic,
+    /// Its reduced cost.
+    cost: Fx,
+}
+
 // Tells whether both bounds are there and equal.
 fn are_equal(low: Option<Fx>, high: Option<Fx>) -> bool
     ensures { result ≡ are_equal low high }
@@ -123,16 +134,14 @@ fn entering_step(
     lp: &Program,
     above: bool,
     best: Option<Entering>,
-    column: usize,
-    factor: Fx,
-    place: Nonbasic,
-    cost: Fx,
+    j: usize,
+    column: PricedColumn,
 ) -> Option<Option<Entering>>
-    ensures { result ≡ entering_step lp.now above best column factor place cost }
+    ensures { result ≡ entering_step lp.now above best j column.factor column.place column.cost }
 {
-    if is_eligible(lp, above, factor, place) {
-        let ratio = ratio_of(factor, place, cost)?;
-        Some(chosen(best, column, place.variable, ratio))
+    if is_eligible(lp, above, column.factor, column.place) {
+        let ratio = ratio_of(column.factor, column.place, column.cost)?;
+        Some(chosen(best, j, column.place.variable, ratio))
     } else {
         Some(best)
     }
@@ -153,7 +162,12 @@ pub fn entering(
 {
     let mut best = None;
     for j in 0..row.len() {
-        best = entering_step(lp, above, best, j, row[j], nonbasic[j], costs[j])?;
+        let column = PricedColumn {
+            factor: row[j],
+            place: nonbasic[j],
+            cost: costs[j],
+        };
+        best = entering_step(lp, above, best, j, column)?;
     }
     Some(best)
 }

@@ -7,3 +7,4 @@ pub mod StageLps
 pub mod Proper
 pub mod Answers
 pub mod Chains
+pub mod Solving

@@ -3,13 +3,14 @@ ghost use Rattle.std.specs.Prelude.{◌≡◌, IfOk, OnOk};
 ghost use Rattle.hp_solver.specs.declared.programs.Program.{Program};
 ghost use Rattle.hp_solver.specs.declared.programs.Answer.{Answer};
 ghost use Rattle.hp_solver.specs.Proper.{IsProper, IsReference, Extends, IsLike};
+ghost use Rattle.hp_solver.specs.Solving.{Solving};
 
 use crate::programs::Answer;
 use crate::stage_lp::StageLp;
 use hp_num::Memory;
 use std::alloc::Global;
 
-/// A solver, known by three functions: the start that it makes for a node, the state of a chain of solves before its first
+/// A solver, known by what it does: the start that it makes for a node, the state of a chain of solves before its first
 /// program, and the answer to a program with the state of the chain after it. The answers need not be right.
 pub trait Solver: Sync {
     /// The start that is made for a node, before any solve.
@@ -18,17 +19,14 @@ pub trait Solver: Sync {
     /// The state of a chain of solves.
     type Chain: Drop + Send;
 
-    /// The start that is made by a program.
-    ghost started: { Self → Program → Self.Start };
-
-    /// The state of a chain that begins with a program, before that program.
-    ghost begun: { Self → Self.Start → Program → Self.Chain };
-
-    /// The answer to a program, and the state of the chain after it.
-    ghost next: { Self → Self.Chain → Program → Answer × Self.Chain };
+    /// What the solver does.
+    ghost does: { Self → Solving Self.Start Self.Chain };
 
     /// Whether a chain may begin with a program.
     ghost suits: { Self → Self.Start → Program → Type 0 };
+
+    /// That has one proof at most.
+    ghost suits_is_fact: { (solver : Self) (start : Self.Start) (lp : Program) → IsProp (suits solver start lp) };
 
     /// Whether a chain may take a program.
     ghost fits: { Self → Self.Chain → Program → Type 0 };
@@ -38,7 +36,7 @@ pub trait Solver: Sync {
     fn start(&self, alloc: Global, lp: &StageLp) -> Result<Self::Start, Memory>
         requires proper { IsProper lp.now }
         requires reference { IsReference lp.now }
-        ensures made { IfOk result (λ made. made ≡ started self.now lp.now) }
+        ensures made { IfOk result (λ made. made ≡ (does self.now).started lp.now) }
         ensures suits { IfOk result (λ made. (other : Program) → Extends lp.now other
             → suits self.now made other) };
 
@@ -47,7 +45,7 @@ pub trait Solver: Sync {
     fn begin(&self, alloc: Global, start: &Self::Start, lp: &StageLp) -> Result<Self::Chain, Memory>
         requires proper { IsProper lp.now }
         requires suits { suits self.now start.now lp.now }
-        ensures made { IfOk result (λ made. made ≡ begun self.now start.now lp.now) }
+        ensures made { IfOk result (λ made. made ≡ (does self.now).begun start.now lp.now) }
         ensures fits { IfOk result (λ made. (other : Program) → IsLike lp.now other
             → fits self.now made other) };
 
@@ -56,8 +54,8 @@ pub trait Solver: Sync {
     fn solve(&self, alloc: Global, chain: &mut Self::Chain, lp: &StageLp) -> Result<Answer, Memory>
         requires proper { IsProper lp.now }
         requires fits { fits self.now chain.old lp.now }
-        ensures answer { IfOk result (λ found. found ≡ (next self.now chain.old lp.now).0) }
-        ensures chain { OnOk result (chain.new ≡ (next self.now chain.old lp.now).1) }
+        ensures answer { IfOk result (λ found. found ≡ ((does self.now).next chain.old lp.now).0) }
+        ensures chain { OnOk result (chain.new ≡ ((does self.now).next chain.old lp.now).1) }
         ensures fits { OnOk result ((other : Program) → IsLike lp.now other
             → fits self.now chain.new other) };
 

@@ -1,5 +1,6 @@
 // Solvers that solve nothing, for tests.
 ghost use Rattle.std.specs.Prelude.{◌≡◌, IfOk, OnOk, take, ⊤};
+ghost use Rattle.std.specs.Coded.{Unit-prop};
 ghost use Rattle.hp_solver.specs.declared.programs.Program.{Program};
 ghost use Rattle.hp_solver.specs.declared.programs.Answer.{Answer};
 ghost use Rattle.hp_solver.specs.Proper.{IsProper, IsReference, Extends, IsLike};
@@ -34,13 +35,11 @@ impl Solver for Zero {
 
     type Chain = ();
 
-    ghost started = { λ _ _. tt };
-
-    ghost begun = { λ _ _ _. tt };
-
-    ghost next = { λ _ _ lp. (zero_of lp, tt) };
+    ghost does = { λ _. record { started = λ _. tt; begun = λ _ _. tt; next = λ _ lp. (zero_of lp, tt) } };
 
     ghost suits = { λ _ _ _. ⊤ };
+
+    ghost suits_is_fact = { λ _ _ _. Unit-prop };
 
     ghost fits = { λ _ _ _. ⊤ };
 
@@ -88,13 +87,11 @@ impl Solver for Liar {
 
     type Chain = ();
 
-    ghost started = { λ _ _. tt };
-
-    ghost begun = { λ _ _ _. tt };
-
-    ghost next = { λ liar _ _. (liar.answer, tt) };
+    ghost does = { λ liar. record { started = λ _. tt; begun = λ _ _. tt; next = λ _ _. (liar.answer, tt) } };
 
     ghost suits = { λ _ _ _. ⊤ };
+
+    ghost suits_is_fact = { λ _ _ _. Unit-prop };
 
     ghost fits = { λ _ _ _. ⊤ };
 
@@ -185,13 +182,11 @@ impl Solver for Meeting {
 
     type Chain = ();
 
-    ghost started = { λ _ _. tt };
-
-    ghost begun = { λ _ _ _. tt };
-
-    ghost next = { λ _ _ lp. (zero_of lp, tt) };
+    ghost does = { λ _. record { started = λ _. tt; begun = λ _ _. tt; next = λ _ lp. (zero_of lp, tt) } };
 
     ghost suits = { λ _ _ _. ⊤ };
+
+    ghost suits_is_fact = { λ _ _ _. Unit-prop };
 
     ghost fits = { λ _ _ _. ⊤ };
 

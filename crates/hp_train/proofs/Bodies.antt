@@ -5,14 +5,13 @@ use Rattle.std.specs.List.{AllByRecursion}
 use Rattle.hp_problem.specs.Formulas.{too_much}
 use Rattle.hp_problem.specs.Sealed.{Sealed, is_sealed}
 use Rattle.hp_theory.specs.declared.cut.Cut.{Cut}
-use Rattle.hp_theory.specs.Fit.{Fit}
 use Rattle.hp_theory.specs.Pools.{pool}
-use Rattle.hp_theory.specs.View.{problem_of}
+use Rattle.hp_cut.specs.AtNodes.{PoolsFit}
 use Rattle.hp_cut.specs.declared.entry.Entry.{Entry}
 use Rattle.hp_record.specs.Shape.{Writable}
 use Rattle.hp_record.specs.Spelling.{spell}
 use Rattle.hp_journal.specs.Layout.{body_of}
-use Rattle.hp_lp.specs.Chained.{Solving}
+use Rattle.hp_solver.specs.Solving.{Solving}
 use Rattle.hp_train.specs.Stepping.{Stepped, step_of}
 use Rattle.hp_train.proofs.Formulas.{is_recorded}
 
@@ -22,7 +21,7 @@ pub record IsWritten (p : Sealed) (es : List Entry) : Type 0 where
   pub short : length (spell es) ≤ 2 ^ 26
   pub few : length es ≤ 64
 
-pub is_written : {Start Chain : Type 0} (v : Solving Start Chain) (p : Sealed) (pools : List (List Cut)) (seed batch k : ℕ) (s : Stepped) → is_sealed p ≡ true → Fit (problem_of p) (length p.raw.nodes) pools
+pub is_written : {Start Chain : Type 0} (v : Solving Start Chain) (p : Sealed) (pools : List (List Cut)) (seed batch k : ℕ) (s : Stepped) → is_sealed p ≡ true → PoolsFit p pools
     → batch ≤ 64 → 1 ≤ k → k ≤ 2000 → ((m : ℕ) → length (pool pools m) ≤ 1 + (k - 1) * batch) → too_much p k batch ≡ None
     → step_of v p pools seed batch k ≡ Ok s → IsWritten p s.entries
 is_written v p pools seed batch zero s sealed fit most first last cuts room step = absurd (omega (arith, first))

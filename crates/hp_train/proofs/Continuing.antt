@@ -7,8 +7,8 @@ use Rattle.hp_theory.specs.declared.cut.Cut.{Cut}
 use Rattle.hp_theory.specs.Bound.{bound}
 use Rattle.hp_theory.specs.View.{problem_of}
 use Rattle.hp_cut.specs.declared.entry.Entry.{Entry}
-use Rattle.hp_lp.specs.Chained.{Solving}
-use Rattle.hp_backward.specs.declared.fault.SweepFault.{SweepFault}
+use Rattle.hp_solver.specs.Solving.{Solving}
+use Rattle.hp_settle.specs.declared.plan_fault.PlanFault.{PlanFault}
 use Rattle.hp_train.specs.Stepping.{Stepped, step_of}
 use Rattle.hp_train.specs.Continuing.{Continued, with_step, with_iteration, continued}
 
@@ -24,14 +24,14 @@ module _ {Start Chain : Type 0} (v : Solving Start Chain) (p : Sealed) (pools : 
   one_more n = refl
 
   -- an iteration that gives something, or stops
-  pub goes_on : (n : ℕ) (r : Result Stepped SweepFault) → (after n).stop ≡ None → step_of v p (after n).pools seed batch (suc (j + n)) ≡ r → after (suc n) ≡ with_step p (after n) r
-  goes_on n r running is = one_more n ∙ ap (λ (o : Option SweepFault). with_iteration v p seed batch (suc (j + n)) (after n) o) running ∙ ap (λ (s : Result Stepped SweepFault). with_step p (after n) s) is
+  pub goes_on : (n : ℕ) (r : Result Stepped PlanFault) → (after n).stop ≡ None → step_of v p (after n).pools seed batch (suc (j + n)) ≡ r → after (suc n) ≡ with_step p (after n) r
+  goes_on n r running is = one_more n ∙ ap (λ (o : Option PlanFault). with_iteration v p seed batch (suc (j + n)) (after n) o) running ∙ ap (λ (s : Result Stepped PlanFault). with_step p (after n) s) is
 
   -- once stopped it stays
-  stays_one : (n : ℕ) (f : SweepFault) → (after n).stop ≡ Some f → after (suc n) ≡ after n
-  stays_one n f stopped = one_more n ∙ ap (λ (o : Option SweepFault). with_iteration v p seed batch (suc (j + n)) (after n) o) stopped
+  stays_one : (n : ℕ) (f : PlanFault) → (after n).stop ≡ Some f → after (suc n) ≡ after n
+  stays_one n f stopped = one_more n ∙ ap (λ (o : Option PlanFault). with_iteration v p seed batch (suc (j + n)) (after n) o) stopped
 
-  pub stays : (m n : ℕ) (f : SweepFault) → n ≤ m → (after n).stop ≡ Some f → after m ≡ after n
+  pub stays : (m n : ℕ) (f : PlanFault) → n ≤ m → (after n).stop ≡ Some f → after m ≡ after n
   stays zero n f below stopped = let e : n ≡ 0 = omega arith in ap after (sym e)
   stays (suc m) n f below stopped = elim (cases_eq n (suc m)) [
     | inl same ↦ ap after (sym same)
@@ -39,11 +39,11 @@ module _ {Start Chain : Type 0} (v : Solving Start Chain) (p : Sealed) (pools : 
   ]
 
   -- the lists that are there stay in front
-  more_step : (c : Continued) (r : Result Stepped SweepFault) → (rest : List (List Entry)) × ((with_step p c r).lists ≡ c.lists ++ rest)
+  more_step : (c : Continued) (r : Result Stepped PlanFault) → (rest : List (List Entry)) × ((with_step p c r).lists ≡ c.lists ++ rest)
   more_step c (Ok s) = (s.entries ∷ [], refl)
   more_step c (Err f) = ([], sym (append-nil c.lists))
 
-  more : (k : ℕ) (c : Continued) (o : Option SweepFault) → (rest : List (List Entry)) × ((with_iteration v p seed batch k c o).lists ≡ c.lists ++ rest)
+  more : (k : ℕ) (c : Continued) (o : Option PlanFault) → (rest : List (List Entry)) × ((with_iteration v p seed batch k c o).lists ≡ c.lists ++ rest)
   more k c None = more_step c (step_of v p c.pools seed batch k)
   more k c (Some f) = ([], sym (append-nil c.lists))
 
@@ -65,11 +65,11 @@ module _ {Start Chain : Type 0} (v : Solving Start Chain) (p : Sealed) (pools : 
       (front.0, front.1 ∙ ap (λ (ls : List (List Entry)). ls ++ front.0) lists ∙ append_assoc (after n).lists (s.entries ∷ []) front.0)
 
   -- while it runs, each iteration has its entries and its bound
-  step_counted : (c : Continued) (r : Result Stepped SweepFault) (n : ℕ) → (with_step p c r).stop ≡ None → (length c.lists ≡ n) × (length c.bounds ≡ n) → (length (with_step p c r).lists ≡ suc n) × (length (with_step p c r).bounds ≡ suc n)
+  step_counted : (c : Continued) (r : Result Stepped PlanFault) (n : ℕ) → (with_step p c r).stop ≡ None → (length c.lists ≡ n) × (length c.bounds ≡ n) → (length (with_step p c r).lists ≡ suc n) × (length (with_step p c r).bounds ≡ suc n)
   step_counted c (Ok s) n running h = (omega (arith, length-append c.lists (s.entries ∷ []), h.0), omega (arith, length-append c.bounds (bound (problem_of p) s.pools ∷ []), h.1))
   step_counted c (Err f) n running h = absurd (some_none f running)
 
-  iteration_counted : (k : ℕ) (c : Continued) (o : Option SweepFault) (n : ℕ) → c.stop ≡ o → (with_iteration v p seed batch k c o).stop ≡ None → (c.stop ≡ None → (length c.lists ≡ n) × (length c.bounds ≡ n)) → (length (with_iteration v p seed batch k c o).lists ≡ suc n) × (length (with_iteration v p seed batch k c o).bounds ≡ suc n)
+  iteration_counted : (k : ℕ) (c : Continued) (o : Option PlanFault) (n : ℕ) → c.stop ≡ o → (with_iteration v p seed batch k c o).stop ≡ None → (c.stop ≡ None → (length c.lists ≡ n) × (length c.bounds ≡ n)) → (length (with_iteration v p seed batch k c o).lists ≡ suc n) × (length (with_iteration v p seed batch k c o).bounds ≡ suc n)
   iteration_counted k c None n is running h = step_counted c (step_of v p c.pools seed batch k) n running (h is)
   iteration_counted k c (Some f) n is running h = absurd (some_none f (sym is ∙ running))
 

@@ -11,10 +11,9 @@ use Rattle.hp_problem.specs.Formulas.{above, or_then, cut_numbers, dictionary, f
 use Rattle.hp_problem.specs.Parts.{own_subproblem}
 use Rattle.hp_problem.specs.Sealed.{Sealed, is_sealed}
 use Rattle.hp_theory.specs.declared.cut.Cut.{Cut}
-use Rattle.hp_theory.specs.Fit.{Fit}
 use Rattle.hp_theory.specs.Pools.{pool}
-use Rattle.hp_theory.specs.View.{problem_of}
-use Rattle.hp_lp.specs.Chained.{Solving}
+use Rattle.hp_cut.specs.AtNodes.{PoolsFit}
+use Rattle.hp_solver.specs.Solving.{Solving}
 use Rattle.hp_record.specs.Spelling.{spell}
 use Rattle.hp_record.proofs.Lengths.{text_length}
 use Rattle.hp_train.specs.Stepping.{Stepped, step_of}
@@ -115,7 +114,7 @@ pub record IsRecorded (p : Sealed) (batch j : ℕ) (pools : List (List Cut)) (s 
   pub iteration : IsIteration p (suc j) batch (suc j * batch + 1) pools s
   pub short : length (spell s.entries) ≤ 2 ^ 26
 
-pub is_recorded : {Start Chain : Type 0} (v : Solving Start Chain) (p : Sealed) → is_sealed p ≡ true → (pools : List (List Cut)) (seed batch j count : ℕ) (s : Stepped) → Fit (problem_of p) (length p.raw.nodes) pools → ((m : ℕ) → length (pool pools m) ≤ 1 + j * batch)
+pub is_recorded : {Start Chain : Type 0} (v : Solving Start Chain) (p : Sealed) → is_sealed p ≡ true → (pools : List (List Cut)) (seed batch j count : ℕ) (s : Stepped) → PoolsFit p pools → ((m : ℕ) → length (pool pools m) ≤ 1 + j * batch)
     → suc j ≤ count → count ≤ 2000 → batch ≤ 64 → too_much p count batch ≡ None → step_of v p pools seed batch (suc j) ≡ Ok s → IsRecorded p batch j pools s
 is_recorded v p sealed pools seed batch j count s fit few now last paths kept e =
     let here : suc j * batch ≤ 2000 * batch = mul-le-mul_right batch (at_most now last) in

@@ -10,10 +10,10 @@ use Rattle.hp_outside.specs.Since.{Quiet, LeavesOnly}
 use Rattle.hp_outside.proofs.RunsOfCalls.{then_on}
 use Rattle.hp_problem.specs.Sealed.{Sealed}
 use Rattle.hp_theory.specs.declared.cut.Cut.{Cut}
-use Rattle.hp_theory.specs.Fit.{Fit}
 use Rattle.hp_theory.specs.Bound.{bound, Under}
 use Rattle.hp_theory.specs.Pools.{pool, Sound}
 use Rattle.hp_theory.specs.View.{problem_of}
+use Rattle.hp_cut.specs.AtNodes.{PoolsFit}
 use Rattle.hp_cut.specs.declared.entry.Entry.{Entry}
 use Rattle.hp_record.specs.Spelling.{spell}
 use Rattle.hp_journal.specs.Layout.{Title, body_of, journal, records}
@@ -21,13 +21,13 @@ use Rattle.hp_journal.specs.Mine.{GrownFrom, shut}
 use Rattle.hp_journal.proofs.Told.{told, known, mapped, map_same, begins}
 use Rattle.hp_load.specs.declared.loaded.Loaded.{Loaded}
 use Rattle.hp_load.specs.Load.{Outcome, first_gate, seen}
-use Rattle.hp_lp.specs.Chained.{Solving}
-use Rattle.hp_backward.specs.declared.fault.SweepFault.{SweepFault}
+use Rattle.hp_solver.specs.Solving.{Solving}
+use Rattle.hp_settle.specs.declared.plan_fault.PlanFault.{PlanFault}
 use Rattle.hp_train.specs.Stepping.{Stepped, step_of}
 use Rattle.hp_train.specs.Continuing.{Continued, before_any, with_step, continued}
-use Rattle.hp_train.specs.declared.fault.TrainFault.{TrainFault}
-use Rattle.hp_train.specs.declared.fault.TrainFault.TheVariants as faults
-use Rattle.hp_train.specs.Iterating.{EndsShut, Stops, behind, iterated, with_stepped}
+use Rattle.hp_settle.specs.declared.plan_fault.PlanFault.TheVariants as faults
+use Rattle.hp_settle.specs.Faults.{Stops}
+use Rattle.hp_train.specs.Iterating.{EndsShut, behind, iterated, with_stepped}
 use Rattle.hp_train.specs.Training.{GoOnWith, StopsAs, WhenWhole, last_gate, payloads, trained, unsettled_in}
 use Rattle.hp_train.proofs.Continuing.{goes_on, next_list, stays}
 use Rattle.hp_train.proofs.Placed.{parted, behind_none, behind_ends, behind_more, behind_journal, records_longer, payloads-append}
@@ -105,7 +105,7 @@ module _ {Start Chain : Type 0} (v : Solving Start Chain) (p : Sealed) (seed : �
   pub record HasIterated (n : ℕ) (old new : Loaded) : Type 0 where
     pub value : seen new ≡ trained (seen old) (after old n)
     pub running : (after old n).stop ≡ None
-    pub fit : Fit (problem_of p) (length p.raw.nodes) new.pools.lists
+    pub fit : PoolsFit p new.pools.lists
     pub cuts : (m : ℕ) → length (pool new.pools.lists m) ≤ 1 + (length old.bounds + n) * old.batch
     pub sound : Sound (problem_of p) old.pools.lists → Sound (problem_of p) new.pools.lists
     pub under : Sound (problem_of p) old.pools.lists → All (Under (problem_of p)) old.bounds → All (Under (problem_of p)) new.bounds
@@ -119,7 +119,7 @@ module _ {Start Chain : Type 0} (v : Solving Start Chain) (p : Sealed) (seed : �
       let e : l.end + 0 ≡ l.end = omega arith in
       rw (born, rest, append-nil l.bounds, u, e) refl
 
-  pub iterated_none : (l : Loaded) → l.born ≡ true → l.rest ≡ 0 → Fit (problem_of p) (length p.raw.nodes) l.pools.lists → ((m : ℕ) → length (pool l.pools.lists m) ≤ 1 + length l.bounds * l.batch) → HasIterated 0 l l
+  pub iterated_none : (l : Loaded) → l.born ≡ true → l.rest ≡ 0 → PoolsFit p l.pools.lists → ((m : ℕ) → length (pool l.pools.lists m) ≤ 1 + length l.bounds * l.batch) → HasIterated 0 l l
   unfolding continued
   iterated_none l born rest fit cuts = record {
     value = record_is l born rest;
@@ -183,7 +183,7 @@ module _ {Start Chain : Type 0} (v : Solving Start Chain) (p : Sealed) (seed : �
   only_stops (Err e) g f h = ap Err (same_err e f h)
 
   -- an iteration stopped
-  pub was_stopped : (n k : ℕ) (old mid : Loaded) (f : SweepFault) → HasIterated n old mid → k ≡ suc (length old.bounds + n) → iterated v p mid seed k ≡ Err f → after old (suc n) ≡ with_step p (after old n) (Err f)
+  pub was_stopped : (n k : ℕ) (old mid : Loaded) (f : PlanFault) → HasIterated n old mid → k ≡ suc (length old.bounds + n) → iterated v p mid seed k ≡ Err f → after old (suc n) ≡ with_step p (after old n) (Err f)
   unfolding iterated
   was_stopped n k old mid f has number is =
       let pools : mid.pools.lists ≡ (after old n).pools = ap (λ (x : Outcome). x.pools) has.value in
@@ -192,7 +192,7 @@ module _ {Start Chain : Type 0} (v : Solving Start Chain) (p : Sealed) (seed : �
       goes_on v p old.pools.lists seed old.batch (length old.bounds) n (Err f) has.running (rw (sym pools, sym batch, sym number) step)
 
   -- the last iterations stop where one does
-  pub all_stopped : (n left : ℕ) (old : Loaded) (f : SweepFault) → suc n ≤ left → after old (suc n) ≡ with_step p (after old n) (Err f) → after old left ≡ with_step p (after old n) (Err f)
+  pub all_stopped : (n left : ℕ) (old : Loaded) (f : PlanFault) → suc n ≤ left → after old (suc n) ≡ with_step p (after old n) (Err f) → after old left ≡ with_step p (after old n) (Err f)
   all_stopped n left old f below is = stays v p old.pools.lists seed old.batch (length old.bounds) left (suc n) f below (ap (λ (c : Continued). c.stop) is) ∙ is
 
   -- the entries of the next iteration stand behind those before it
@@ -202,7 +202,7 @@ module _ {Start Chain : Type 0} (v : Solving Start Chain) (p : Sealed) (seed : �
   -- one iteration more was done
   pub iterated_more : (n : ℕ) (old mid mid' new : Loaded) (body : List ℕ) → HasIterated n old mid → WasStepped n old mid body (seen mid') → seen new ≡ moved (seen mid') (mid.end + length body)
       → length body ≤ 2 ^ 26 + 5
-      → Fit (problem_of p) (length p.raw.nodes) mid'.pools.lists
+      → PoolsFit p mid'.pools.lists
       → ((m : ℕ) → length (pool mid'.pools.lists m) ≤ 1 + suc (length old.bounds + n) * mid.batch)
       → (Sound (problem_of p) mid.pools.lists → Sound (problem_of p) mid'.pools.lists)
       → (Sound (problem_of p) mid.pools.lists → All (Under (problem_of p)) mid.bounds → All (Under (problem_of p)) mid'.bounds)
@@ -216,7 +216,7 @@ module _ {Start Chain : Type 0} (v : Solving Start Chain) (p : Sealed) (seed : �
       record {
         value = is ∙ ap (λ (o : Outcome). moved o (mid.end + length body)) w.outcome ∙ value_more old mid (after old n) w.s body has.value w.spells ∙ ap (λ (c : Continued). trained (seen old) c) (sym more);
         running = ap (λ (c : Continued). c.stop) more;
-        fit = subst (λ (x : List (List Cut)). Fit (problem_of p) (length p.raw.nodes) x) (sym pools) fit;
+        fit = subst (λ (x : List (List Cut)). PoolsFit p x) (sym pools) fit;
         cuts = λ m. subst (λ (b : ℕ). length (pool new.pools.lists m) ≤ 1 + (length old.bounds + suc n) * b) batch (subst (λ (x : List (List Cut)). length (pool x m) ≤ 1 + (length old.bounds + suc n) * mid.batch) (sym pools) (subst (λ (k : ℕ). length (pool mid'.pools.lists m) ≤ 1 + k * mid.batch) (omega arith) (cuts m)));
         sound = λ s. subst (λ (x : List (List Cut)). Sound (problem_of p) x) (sym pools) (sound (has.sound s));
         under = λ s u. subst (λ (x : List ℤ). All (Under (problem_of p)) x) (sym bounds) (under (has.sound s) (has.under s u));
@@ -243,13 +243,13 @@ module _ (old mid new : Store) (at : ℕ) (lists final : List (List Entry)) (es 
       (subst (λ (n : ℕ). new.reads ≡ option_map (λ bytes. take n bytes ++ 1 ∷ body) mid.reads) place reads)))
 
 -- where iterations stop
-pub stops_as : {X : Type 0} (Y : Type 0) (fault : TrainFault) (r : Result X SweepFault) (stop : Option SweepFault) → Stops fault r → ((f : SweepFault) → r ≡ Err f → stop ≡ Some f) → (let y : Result Y TrainFault = Err fault in StopsAs y stop)
+pub stops_as : {X : Type 0} (Y : Type 0) (fault : PlanFault) (r : Result X PlanFault) (stop : Option PlanFault) → Stops fault r → ((f : PlanFault) → r ≡ Err f → stop ≡ Some f) → (let y : Result Y PlanFault = Err fault in StopsAs y stop)
 stops_as Y (faults.NoStage dead) r stop h so = so _ h
 stops_as Y (faults.Range k m i) r stop h so = so _ h
 stops_as Y faults.DiskFault r stop h so = tt
 stops_as Y faults.Memory r stop h so = tt
 
-pub when_whole : {X : Type 0} (Y : Type 0) (fault : TrainFault) (r : Result X SweepFault) (P : Type 0) → Stops fault r → ((f : SweepFault) → r ≡ Err f → P) → (let y : Result Y TrainFault = Err fault in WhenWhole y P)
+pub when_whole : {X : Type 0} (Y : Type 0) (fault : PlanFault) (r : Result X PlanFault) (P : Type 0) → Stops fault r → ((f : PlanFault) → r ≡ Err f → P) → (let y : Result Y PlanFault = Err fault in WhenWhole y P)
 when_whole Y (faults.NoStage dead) r P h so = so _ h
 when_whole Y (faults.Range k m i) r P h so = so _ h
 when_whole Y faults.DiskFault r P h so = tt

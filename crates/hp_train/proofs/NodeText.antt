@@ -13,11 +13,11 @@ use Rattle.hp_problem.specs.Sealed.{Sealed, is_sealed, subproblem_of}
 use Rattle.hp_theory.specs.declared.cut.Cut.{Cut}
 use Rattle.hp_theory.specs.declared.cut.Certificate.{Certificate}
 use Rattle.hp_theory.specs.Problem.{Realization, Link, Node, node_at}
-use Rattle.hp_theory.specs.Fit.{Fit}
 use Rattle.hp_theory.specs.Pools.{pool}
 use Rattle.hp_theory.specs.View.{problem_of, links_of, realizations_of}
 use Rattle.hp_theory.proofs.SealedParts.{Parts, parts, linked, weighty}
 use Rattle.hp_theory.proofs.Views.{All-links_of, length-links_of, links-node_of, rows-node_of, realizations-node_of}
+use Rattle.hp_cut.specs.AtNodes.{PoolsFit}
 use Rattle.hp_solver.specs.declared.programs.Answer.{Answer}
 use Rattle.hp_settle.specs.declared.judging.Judged.{Judged}
 use Rattle.hp_settle.specs.declared.judging.Judged.TheVariants as judged
@@ -25,7 +25,7 @@ use Rattle.hp_settle.specs.Judging.{judge_of}
 use Rattle.hp_settle.specs.Settling.{settled_of}
 use Rattle.hp_settle.proofs.SettledNode.{have_cuts}
 use Rattle.hp_cut.specs.declared.entry.EntryStep.{EntryStep}
-use Rattle.hp_lp.specs.Chained.{Solving}
+use Rattle.hp_solver.specs.Solving.{Solving}
 use Rattle.hp_backward.specs.Certifying.{values_at, first_half, second_half, answers_to, answers_at, nothing, with_judged, certify, certify_all, certified}
 use Rattle.hp_backward.proofs.Certificates.{counted-answers_to, listed}
 use Rattle.hp_backward.proofs.NodeValues.{values_here}
@@ -111,7 +111,7 @@ pub record StepText (p : Sealed) (most : ℕ) (s : EntryStep) : Type 0 where
   pub fits : StepFits s
   pub within : StepWithin most s
 
-module _ {Start Chain : Type 0} (v : Solving Start Chain) (p : Sealed) (sealed : is_sealed p ≡ true) (pools : List (List Cut)) (k m : ℕ) (state : List ℤ) (known : m < length p.raw.nodes) (fit : Fit (problem_of p) (length p.raw.nodes) pools)
+module _ {Start Chain : Type 0} (v : Solving Start Chain) (p : Sealed) (sealed : is_sealed p ≡ true) (pools : List (List Cut)) (k m : ℕ) (state : List ℤ) (known : m < length p.raw.nodes) (fit : PoolsFit p pools)
     (most : ℕ) (small : most < 2 ^ 32) (few : (j : ℕ) → length (pool pools j) ≤ most) (found : Certified) (is : certified v p pools k m state ≡ Ok found) where
   abbrev n : Node
   n = node_at (problem_of p) m

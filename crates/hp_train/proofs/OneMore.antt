@@ -4,10 +4,10 @@ use Rattle.std.specs.Option.{option_map}
 use Rattle.hp_outside.specs.Disks.{Store}
 use Rattle.hp_outside.specs.Since.{Quiet, LeavesOnly}
 use Rattle.hp_problem.specs.Sealed.{Sealed}
-use Rattle.hp_theory.specs.Fit.{Fit}
 use Rattle.hp_theory.specs.Bound.{Under}
 use Rattle.hp_theory.specs.Pools.{pool, Sound}
 use Rattle.hp_theory.specs.View.{problem_of}
+use Rattle.hp_cut.specs.AtNodes.{PoolsFit}
 use Rattle.hp_cut.specs.declared.entry.Entry.{Entry}
 use Rattle.hp_record.specs.Spelling.{spell}
 use Rattle.hp_journal.specs.Layout.{Title, IsBody, body_of, journal, records}
@@ -15,11 +15,11 @@ use Rattle.hp_journal.specs.Mine.{GrownFrom}
 use Rattle.hp_journal.proofs.Growing.{body_short}
 use Rattle.hp_load.specs.declared.loaded.Loaded.{Loaded}
 use Rattle.hp_load.specs.Load.{Outcome, seen}
-use Rattle.hp_lp.specs.Chained.{Solving}
-use Rattle.hp_backward.specs.declared.fault.SweepFault.{SweepFault}
+use Rattle.hp_solver.specs.Solving.{Solving}
+use Rattle.hp_settle.specs.declared.plan_fault.PlanFault.{PlanFault}
 use Rattle.hp_train.specs.Continuing.{Continued, with_step}
-use Rattle.hp_train.specs.declared.fault.TrainFault.{TrainFault}
-use Rattle.hp_train.specs.Iterating.{EndsShut, Stops, behind, iterated}
+use Rattle.hp_settle.specs.Faults.{Stops}
+use Rattle.hp_train.specs.Iterating.{EndsShut, behind, iterated}
 use Rattle.hp_train.specs.Training.{GoOnWith, StopsAs, WhenWhole, payloads}
 use Rattle.hp_train.proofs.Continuing.{goes_on}
 use Rattle.hp_train.proofs.Grows.{HasIterated, HasRecorded, LeavesAppended, WasStepped, after, all_stopped, gate_is, iterated_more, list_more, moment_on, moved, recorded_ends, recorded_on, stops_as, was_stepped, was_stopped, when_whole}
@@ -33,15 +33,15 @@ module _ {Start Chain : Type 0} {v : Solving Start Chain} {p : Sealed} {seed n :
   abbrev final : List (List Entry)
   final = (after v p seed old left).lists
 
-  all_ended : (f : SweepFault) → iterated v p mid seed k ≡ Err f → after v p seed old left ≡ with_step p (after v p seed old n) (Err f)
+  all_ended : (f : PlanFault) → iterated v p mid seed k ≡ Err f → after v p seed old left ≡ with_step p (after v p seed old n) (Err f)
   all_ended f is = all_stopped v p seed n left old f below (was_stopped v p seed n k old mid f has number is)
 
   -- where it stops, all of them stop
-  pub next_stops : (Y : Type 0) (fault : TrainFault) → Stops fault (iterated v p mid seed k) → (let y : Result Y TrainFault = Err fault in StopsAs y (after v p seed old left).stop)
+  pub next_stops : (Y : Type 0) (fault : PlanFault) → Stops fault (iterated v p mid seed k) → (let y : Result Y PlanFault = Err fault in StopsAs y (after v p seed old left).stop)
   next_stops Y fault h = stops_as Y fault (iterated v p mid seed k) (after v p seed old left).stop h (λ f is. ap (λ (x : Continued). x.stop) (all_ended f is))
 
   -- and the journal has all records that come
-  pub next_reads : (Y : Type 0) (fault : TrainFault) (before now : Store) → HasRecorded before now old.end done final → Stops fault (iterated v p mid seed k) → (let y : Result Y TrainFault = Err fault in WhenWhole y (now.reads ≡ option_map (behind old.end final) before.reads))
+  pub next_reads : (Y : Type 0) (fault : PlanFault) (before now : Store) → HasRecorded before now old.end done final → Stops fault (iterated v p mid seed k) → (let y : Result Y PlanFault = Err fault in WhenWhole y (now.reads ≡ option_map (behind old.end final) before.reads))
   next_reads Y fault before now recorded h = when_whole Y fault (iterated v p mid seed k) (now.reads ≡ option_map (behind old.end final) before.reads) h
       (λ f is. subst (λ (x : Continued). now.reads ≡ option_map (behind old.end x.lists) before.reads) (sym (all_ended f is)) recorded.reads)
 
@@ -86,7 +86,7 @@ module _ {Start Chain : Type 0} {v : Solving Start Chain} {p : Sealed} {seed n :
     -- the loaded journal ends behind its record
     pub next_iterated : (new : Loaded) (end : ℕ) (bytes : List ℕ) → bytes ≡ body → end ≡ m.end + length bytes → seen new ≡ moved v p seed (seen m) end
         → IsBody body
-        → Fit (problem_of p) (length p.raw.nodes) m.pools.lists
+        → PoolsFit p m.pools.lists
         → ((i : ℕ) → length (pool m.pools.lists i) ≤ 1 + k * mid.batch)
         → (Sound (problem_of p) mid.pools.lists → Sound (problem_of p) m.pools.lists)
         → (Sound (problem_of p) mid.pools.lists → All (Under (problem_of p)) mid.bounds → All (Under (problem_of p)) m.bounds)

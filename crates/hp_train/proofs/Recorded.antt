@@ -10,8 +10,8 @@ use Rattle.hp_theory.specs.Range.{based}
 use Rattle.hp_theory.specs.Pools.{pool}
 use Rattle.hp_theory.specs.View.{problem_of}
 use Rattle.hp_cut.specs.declared.entry.Entry.{Entry}
-use Rattle.hp_lp.specs.Chained.{Solving}
-use Rattle.hp_backward.specs.declared.fault.SweepFault.{SweepFault}
+use Rattle.hp_solver.specs.Solving.{Solving}
+use Rattle.hp_settle.specs.declared.plan_fault.PlanFault.{PlanFault}
 use Rattle.hp_record.specs.Shape.{IsBatch}
 use Rattle.hp_record.specs.Spelling.{spell}
 use Rattle.hp_load.specs.Cuts.{entries_added}
@@ -97,7 +97,7 @@ module _ {Start Chain : Type 0} (v : Solving Start Chain) (p : Sealed) (sealed :
   none_yet = recorded_none p base batch sealed is (after 0) refl refl
 
   -- the next iteration, by what it gave
-  next_by : (n : ℕ) (r : Result Stepped SweepFault) → suc n ≤ count → (after n).stop ≡ None → step_of v p (after n).pools seed batch (suc n) ≡ r → Good n → AreRecorded p base batch (with_step p (after n) r)
+  next_by : (n : ℕ) (r : Result Stepped PlanFault) → suc n ≤ count → (after n).stop ≡ None → step_of v p (after n).pools seed batch (suc n) ≡ r → Good n → AreRecorded p base batch (with_step p (after n) r)
   next_by n (Err f) below running gives good = record { read = good.read; sound = good.sound; added = good.added }
   next_by n (Ok s) below running gives good =
       let c : Continued = after n in
@@ -106,7 +106,7 @@ module _ {Start Chain : Type 0} (v : Solving Start Chain) (p : Sealed) (sealed :
       recorded_more p base batch sealed paths c s n good there (too_much-fewer p (suc n) count batch below room)
       (is_recorded v p sealed c.pools seed batch n count s good.sound.fit cuts below few paths room gives)
 
-  next : (n : ℕ) (o : Option SweepFault) → suc n ≤ count → (after n).stop ≡ o → Good n → Good (suc n)
+  next : (n : ℕ) (o : Option PlanFault) → suc n ≤ count → (after n).stop ≡ o → Good n → Good (suc n)
   next n (Some f) below stopped good = subst (AreRecorded p base batch) (sym (stays v p base seed batch 0 (suc n) n f (omega arith) stopped)) good
   next n None below running good =
       let same : suc (0 + n) ≡ suc n = omega arith in

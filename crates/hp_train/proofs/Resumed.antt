@@ -15,7 +15,7 @@ use Rattle.hp_journal.specs.Layout.{Title, IsTitle, front, journal, new_title, b
 use Rattle.hp_journal.specs.Mine.{Unborn, Grown, shut, half_open, Mine, unborn, born}
 use Rattle.hp_load.specs.Load as loads
 use Rattle.hp_load.specs.Load.{Outcome, load_of}
-use Rattle.hp_lp.specs.Chained.{Solving}
+use Rattle.hp_solver.specs.Solving.{Solving}
 use Rattle.hp_train.specs.Continuing.{Continued, continued}
 use Rattle.hp_train.specs.Resuming.{Resumes, unstopped}
 use Rattle.hp_train.specs.Training.{StandsIn, grown_journal, loaded_front, iterations, payloads, title_of, unsettled_in}

@@ -7,8 +7,8 @@ use Rattle.hp_theory.specs.declared.cut.Cut.{Cut}
 use Rattle.hp_theory.specs.Bound.{bound}
 use Rattle.hp_theory.specs.View.{problem_of}
 use Rattle.hp_cut.specs.declared.entry.Entry.{Entry}
-use Rattle.hp_lp.specs.Chained.{Solving}
-use Rattle.hp_backward.specs.declared.fault.SweepFault.{SweepFault}
+use Rattle.hp_solver.specs.Solving.{Solving}
+use Rattle.hp_settle.specs.declared.plan_fault.PlanFault.{PlanFault}
 use Rattle.hp_train.specs.Stepping.{Stepped, step_of}
 use Rattle.hp_train.specs.Continuing.{Continued, before_any, with_step, with_iteration, continued}
 use Rattle.hp_train.proofs.Continuing.{goes_on, stays, in_front, counted}
@@ -20,17 +20,17 @@ joined b r = record { pools = r.pools; lists = b.lists ++ r.lists; bounds = b.bo
 
 joined_none : (c : Continued) → c.stop ≡ None → c ≡ joined c (before_any c.pools)
 joined_none c running =
-    ap (λ (o : Option SweepFault). record { pools = c.pools; lists = c.lists; bounds = c.bounds; stop = o }) running
+    ap (λ (o : Option PlanFault). record { pools = c.pools; lists = c.lists; bounds = c.bounds; stop = o }) running
     ∙ ap₂ (λ (ls : List (List Entry)) (bs : List ℤ). record { pools = c.pools; lists = ls; bounds = bs; stop = None }) (sym (append-nil c.lists)) (sym (append-nil c.bounds))
 
 module _ {Start Chain : Type 0} (v : Solving Start Chain) (p : Sealed) (seed batch : ℕ) where
-  joined_step : (b r : Continued) (s : Result Stepped SweepFault) → with_step p (joined b r) s ≡ joined b (with_step p r s)
+  joined_step : (b r : Continued) (s : Result Stepped PlanFault) → with_step p (joined b r) s ≡ joined b (with_step p r s)
   joined_step b r (Ok s) =
       ap₂ (λ (ls : List (List Entry)) (bs : List ℤ). record { pools = s.pools; lists = ls; bounds = bs; stop = None })
       (append_assoc b.lists r.lists (s.entries ∷ [])) (append_assoc b.bounds r.bounds (bound (problem_of p) s.pools ∷ []))
   joined_step b r (Err f) = refl
 
-  joined_iteration : (k : ℕ) (b r : Continued) (o : Option SweepFault) → with_iteration v p seed batch k (joined b r) o ≡ joined b (with_iteration v p seed batch k r o)
+  joined_iteration : (k : ℕ) (b r : Continued) (o : Option PlanFault) → with_iteration v p seed batch k (joined b r) o ≡ joined b (with_iteration v p seed batch k r o)
   joined_iteration k b r None = joined_step b r (step_of v p r.pools seed batch k)
   joined_iteration k b r (Some f) = refl
 
@@ -68,11 +68,11 @@ module _ {Start Chain : Type 0} (v : Solving Start Chain) (p : Sealed) (seed bat
         ∙ ap (joined (after j)) (sym (more_rest j n))
 
     -- where an iteration has stopped, fewer lists are there
-    fewer_step : (n : ℕ) (f : SweepFault) (r : Result Stepped SweepFault) → length (after n).lists ≡ n → (with_step p (after n) r).stop ≡ Some f → length (with_step p (after n) r).lists < suc n
+    fewer_step : (n : ℕ) (f : PlanFault) (r : Result Stepped PlanFault) → length (after n).lists ≡ n → (with_step p (after n) r).stop ≡ Some f → length (with_step p (after n) r).lists < suc n
     fewer_step n f (Ok s) count stopped = absurd (none_some f stopped)
     fewer_step n f (Err g) count stopped = omega (arith, count)
 
-    fewer_more : (n : ℕ) (f : SweepFault) (o : Option SweepFault) → (after n).stop ≡ o → ((g : SweepFault) → (after n).stop ≡ Some g → length (after n).lists < n) → (after (suc n)).stop ≡ Some f → length (after (suc n)).lists < suc n
+    fewer_more : (n : ℕ) (f : PlanFault) (o : Option PlanFault) → (after n).stop ≡ o → ((g : PlanFault) → (after n).stop ≡ Some g → length (after n).lists < n) → (after (suc n)).stop ≡ Some f → length (after (suc n)).lists < suc n
     fewer_more n f None running before stopped =
         let is = goes_on v p pools seed batch 0 n (step_of v p (after n).pools seed batch (suc (0 + n))) running refl in
         subst (λ (c : Continued). length c.lists < suc n) (sym is) (fewer_step n f (step_of v p (after n).pools seed batch (suc (0 + n))) (counted v p pools seed batch 0 n running).0 (ap (λ (c : Continued). c.stop) (sym is) ∙ stopped))
@@ -80,7 +80,7 @@ module _ {Start Chain : Type 0} (v : Solving Start Chain) (p : Sealed) (seed bat
         let same = stays v p pools seed batch 0 (suc n) n g (omega arith) is in
         omega (arith, ap (λ (c : Continued). length c.lists) same, before g is)
 
-    fewer : (n : ℕ) (f : SweepFault) → (after n).stop ≡ Some f → length (after n).lists < n
+    fewer : (n : ℕ) (f : PlanFault) → (after n).stop ≡ Some f → length (after n).lists < n
     unfolding continued
     fewer zero f stopped = absurd (none_some f stopped)
     fewer (suc n) f stopped = fewer_more n f (after n).stop refl (λ g is. fewer n g is) stopped
@@ -89,7 +89,7 @@ module _ {Start Chain : Type 0} (v : Solving Start Chain) (p : Sealed) (seed bat
     pub few_lists : (n : ℕ) → length (after n).lists ≤ n
     few_lists n = by (after n).stop refl
       where
-        by : (o : Option SweepFault) → (after n).stop ≡ o → length (after n).lists ≤ n
+        by : (o : Option PlanFault) → (after n).stop ≡ o → length (after n).lists ≤ n
         by None running = omega (arith, (counted v p pools seed batch 0 n running).0)
         by (Some f) stopped = omega (arith, fewer n f stopped)
 
@@ -97,7 +97,7 @@ module _ {Start Chain : Type 0} (v : Solving Start Chain) (p : Sealed) (seed bat
     pub running_before : (m j : ℕ) → j ≤ length (after m).lists → (after j).stop ≡ None
     running_before m j there = by (after j).stop refl
       where
-        by : (o : Option SweepFault) → (after j).stop ≡ o → (after j).stop ≡ None
+        by : (o : Option PlanFault) → (after j).stop ≡ o → (after j).stop ≡ None
         by None running = running
         by (Some f) stopped =
             let same = stays v p pools seed batch 0 m j f (omega (arith, there, few_lists m)) stopped in

@@ -7,15 +7,15 @@ use Rattle.hp_problem.specs.Sealed.{Sealed, is_sealed}
 use Rattle.hp_theory.specs.declared.cut.Cut.{Cut}
 use Rattle.hp_theory.specs.declared.cut.Certificate.{Certificate}
 use Rattle.hp_theory.specs.Problem.{Node, node_at}
-use Rattle.hp_theory.specs.Fit.{Fit}
 use Rattle.hp_theory.specs.Pools.{pool, push}
 use Rattle.hp_theory.specs.CutOf.{cut_of}
 use Rattle.hp_theory.specs.Range.{range_of}
 use Rattle.hp_theory.specs.View.{problem_of}
+use Rattle.hp_cut.specs.AtNodes.{PoolsFit}
 use Rattle.hp_cut.specs.declared.entry.EntryStep.{EntryStep}
 use Rattle.hp_dual.specs.declared.fault.CertFault.{CertFault}
 use Rattle.hp_dual.specs.declared.fault.CertFault.TheVariants as faults
-use Rattle.hp_lp.specs.Chained.{Solving}
+use Rattle.hp_solver.specs.Solving.{Solving}
 use Rattle.hp_sampler.specs.declared.steps.Step.{Step}
 use Rattle.hp_sampler.specs.Drawn.{IsInRange}
 use Rattle.hp_backward.specs.Certifying.{certified}
@@ -68,7 +68,7 @@ accepted : (p : Sealed) (k : ℕ) (pools : List (List Cut)) (s : EntryStep) (fau
 accepted p k pools s fault none = ap (λ (f : Option CertFault). unless_fault k s.node f (push pools s.node (cut_of_step p pools s))) none
 
 module _ {Start Chain : Type 0} (v : Solving Start Chain) (p : Sealed) (sealed : is_sealed p ≡ true) (k : ℕ) where
-  made : (most : ℕ) (before : Swept) (m : ℕ) (state : List ℤ) (found : Certified) → m < length p.raw.nodes → Fit (problem_of p) (length p.raw.nodes) before.pools → most < 2 ^ 32 → ((j : ℕ) → length (pool before.pools j) ≤ most)
+  made : (most : ℕ) (before : Swept) (m : ℕ) (state : List ℤ) (found : Certified) → m < length p.raw.nodes → PoolsFit p before.pools → most < 2 ^ 32 → ((j : ℕ) → length (pool before.pools j) ≤ most)
       → certified v p before.pools k m state ≡ Ok found → range_of before.pools (node_at (problem_of p) m) found.list ≡ None → StepMade p k most before m (with_made before m (found, cut_of before.pools (node_at (problem_of p) m) found.list))
   unfolding step_added
   made most before m state found known fit small few is inside =
@@ -81,7 +81,7 @@ module _ {Start Chain : Type 0} (v : Solving Start Chain) (p : Sealed) (sealed :
         few = omega (arith, certified_few v p sealed before.pools k m state known fit most small few found is);
       }
 
-  step_made : (most : ℕ) (before after : Swept) (visit : Step × List ℤ) → visit.0.node < length p.raw.nodes → Fit (problem_of p) (length p.raw.nodes) before.pools → most < 2 ^ 32 → ((j : ℕ) → length (pool before.pools j) ≤ most)
+  step_made : (most : ℕ) (before after : Swept) (visit : Step × List ℤ) → visit.0.node < length p.raw.nodes → PoolsFit p before.pools → most < 2 ^ 32 → ((j : ℕ) → length (pool before.pools j) ≤ most)
       → step_back v p k before visit ≡ Ok after → StepMade p k most before visit.0.node after
   unfolding step_back made_at
   step_made most before after visit known fit small few e =
@@ -95,13 +95,13 @@ module _ {Start Chain : Type 0} (v : Solving Start Chain) (p : Sealed) (sealed :
 
   -- the state after some steps of a path, the last ones
   pub record SweptText (pools : List (List Cut)) (most unsettled : ℕ) (ss : List Step) (after : Swept) : Type 0 where
-    pub fit : Fit (problem_of p) (length p.raw.nodes) after.pools
+    pub fit : PoolsFit p after.pools
     pub added : steps_added p k pools after.steps ≡ Ok after.pools
     pub nodes : nodes_back after.steps ≡ map (λ (s : Step). s.node) ss
     pub texts : AllByRecursion (StepText p most) after.steps
     pub few : after.unsettled ≤ unsettled + length ss * 100
 
-  module _ (pools : List (List Cut)) (most unsettled : ℕ) (fit : Fit (problem_of p) (length p.raw.nodes) pools) (small : most < 2 ^ 32) (few : (j : ℕ) → length (pool pools j) + 1 ≤ most) where
+  module _ (pools : List (List Cut)) (most unsettled : ℕ) (fit : PoolsFit p pools) (small : most < 2 ^ 32) (few : (j : ℕ) → length (pool pools j) + 1 ≤ most) where
     begins : SweptText pools most unsettled [] (record { pools = pools; steps = []; unsettled = unsettled })
     unfolding steps_added
     begins = record { fit = fit; added = refl; nodes = refl; texts = tt; few = omega arith }

@@ -11,19 +11,19 @@ use Rattle.hp_journal.specs.Layout.{Title, IsTitle, journal}
 use Rattle.hp_journal.specs.Mine.{GrownFrom}
 use Rattle.hp_journal.proofs.Told.{told, known, mapped}
 use Rattle.hp_load.specs.Load.{Outcome}
-use Rattle.hp_lp.specs.Chained.{Solving}
+use Rattle.hp_solver.specs.Solving.{Solving}
 use Rattle.hp_train.specs.Continuing.{Continued, continued}
 use Rattle.hp_train.specs.Iterating.{EndsShut, behind}
 use Rattle.hp_train.specs.Training.{GoOnWith, MineFrom, StandsIn, WhenWhole, grown_journal, iterations, last_gate, loaded_front, opened, title_of}
-use Rattle.hp_train.specs.declared.fault.TrainFault.{TrainFault}
-use Rattle.hp_train.specs.declared.fault.TrainFault.TheVariants as faults
+use Rattle.hp_settle.specs.declared.plan_fault.PlanFault.{PlanFault}
+use Rattle.hp_settle.specs.declared.plan_fault.PlanFault.TheVariants as faults
 use Rattle.hp_train.proofs.Opened.{behind_front, front_ends, front_length, front_stands, grown_mine}
 
 -- the iterations behind what was loaded, once the end is ready
 same_iterations : {Start Chain : Type 0} (v : Solving Start Chain) (p : Sealed) (seed count : ℕ) (o m : Outcome) (left : ℕ) → m ≡ opened o → left ≡ count - length m.bounds → continued v p m.pools seed m.batch (length m.bounds) left ≡ iterations v p seed count o
 same_iterations v p seed count o m left is so = subst (λ (x : Outcome). left ≡ count - length x.bounds → continued v p x.pools seed x.batch (length x.bounds) left ≡ iterations v p seed count o) (sym is) (λ h. ap (λ (n : ℕ). continued v p o.pools seed o.batch (length o.bounds) n) h) so
 
-pub when_also : {A : Type 0} (r : Result A TrainFault) (P Q : Type 0) → WhenWhole r P → (P → Q) → WhenWhole r Q
+pub when_also : {A : Type 0} (r : Result A PlanFault) (P Q : Type 0) → WhenWhole r P → (P → Q) → WhenWhole r Q
 when_also (Ok x) P Q h so = so h
 when_also (Err (faults.NoStage dead)) P Q h so = so h
 when_also (Err (faults.Range k m i)) P Q h so = so h

@@ -8,21 +8,21 @@ use Rattle.std.proofs.lemmas.Slice.Zip.{length-zip}
 use Rattle.hp_num.specs.Steps.{◌>>=◌}
 use Rattle.hp_problem.specs.Sealed.{Sealed, is_sealed}
 use Rattle.hp_theory.specs.declared.cut.Cut.{Cut}
-use Rattle.hp_theory.specs.Fit.{Fit}
 use Rattle.hp_theory.specs.Pools.{pool}
-use Rattle.hp_theory.specs.View.{problem_of}
+use Rattle.hp_cut.specs.AtNodes.{PoolsFit}
 use Rattle.hp_cut.specs.declared.entry.Entry.{Entry}
 use Rattle.hp_cut.specs.declared.entry.EntryStep.{EntryStep}
 use Rattle.hp_settle.specs.declared.judging.Dead.{Dead}
-use Rattle.hp_lp.specs.Chained.{Solving}
+use Rattle.hp_settle.specs.Faults.{or_dead}
+use Rattle.hp_solver.specs.Solving.{Solving}
 use Rattle.hp_sampler.specs.declared.steps.Step.{Step}
-use Rattle.hp_sampler.specs.declared.steps.Walk.{Walk}
+use Rattle.hp_sampler.specs.declared.steps.Trajectory.{Trajectory}
 use Rattle.hp_sampler.specs.Drawn.{path, IsPath, Follows, FollowsArcs, StartsAtRoot}
 use Rattle.hp_sampler.proofs.PathFacts.{drawn}
 use Rattle.hp_forward.specs.Walking.{IsWalk, AreWalks, walks_of}
 use Rattle.hp_forward.proofs.Arcs.{path_short}
 use Rattle.hp_forward.proofs.Walks.{walks_are}
-use Rattle.hp_backward.specs.declared.fault.SweepFault.{SweepFault}
+use Rattle.hp_settle.specs.declared.plan_fault.PlanFault.{PlanFault}
 use Rattle.hp_backward.specs.Sweeping.{Swept, swept}
 use Rattle.hp_backward.proofs.PathNodes.{distinct-path}
 use Rattle.hp_record.specs.Backwards.{GoesOn, IsPathFromRoot, nodes_back}
@@ -33,7 +33,7 @@ use Rattle.hp_load.specs.Cuts.{steps_added, entries_added}
 use Rattle.hp_load.proofs.Binding.{bind_ok, bind_on}
 use Rattle.hp_load.proofs.Adding.{entries_fit, entries_count, entry_count}
 use Rattle.hp_train.specs.Drawing.{paths_from, first_stream}
-use Rattle.hp_train.specs.Stepping.{Stepped, entry_of, with_path, forwards, or_dead, with_walks, along, step_of, before_paths}
+use Rattle.hp_train.specs.Stepping.{Stepped, entry_of, with_path, forwards, with_walks, along, step_of, before_paths}
 use Rattle.hp_train.proofs.NodeText.{StepText}
 use Rattle.hp_train.proofs.SweptText.{SweptText, swept_text}
 use Rattle.hp_train.proofs.Answered.{same_ok}
@@ -70,7 +70,7 @@ pub record EntryText (p : Sealed) (k most : ℕ) (e : Entry) : Type 0 where
   pub within : PairsWithin most e
 
 -- a path with its walk
-abbrev IsWalked : Sealed → List Step × Walk → Type 0
+abbrev IsWalked : Sealed → List Step × Trajectory → Type 0
 IsWalked p q = IsPath p q.0 × IsWalk p q.0 q.1
 
 -- the outcome of paths that are swept one after another
@@ -102,7 +102,7 @@ wider p k n most e le t = record {
 }
 
 module _ {Start Chain : Type 0} (v : Solving Start Chain) (p : Sealed) (sealed : is_sealed p ≡ true) (k : ℕ) (number : k < 2 ^ 32) where
-  entry_text : (most : ℕ) (pools : List (List Cut)) (walked : List Step × Walk) (after : Swept) → IsWalked p walked → SweptText v p sealed k pools most walked.1.unsettled walked.0 after → EntryText p k most (entry_of k after)
+  entry_text : (most : ℕ) (pools : List (List Cut)) (walked : List Step × Trajectory) (after : Swept) → IsWalked p walked → SweptText v p sealed k pools most walked.1.unsettled walked.0 after → EntryText p k most (entry_of k after)
   entry_text most pools walked after w t =
       let path : IsPathFromRoot p (nodes_back after.steps) = subst (IsPathFromRoot p) (sym t.nodes) (from_root p walked.0 w.0.starts w.0.follows) in
       let short = path_short p walked.0 sealed w.0 in
@@ -114,8 +114,8 @@ module _ {Start Chain : Type 0} (v : Solving Start Chain) (p : Sealed) (sealed :
       }
 
   -- one path more
-  path_added : (n : ℕ) (found after : Stepped) (walked : List Step × Walk) → IsWalked p walked → Fit (problem_of p) (length p.raw.nodes) found.pools → n + 1 < 2 ^ 32 → ((m : ℕ) → length (pool found.pools m) ≤ n) → with_path v p k found walked ≡ Ok after
-      → (e : Entry) × (after.entries ≡ found.entries ++ e ∷ []) × EntryText p k (n + 1) e × (steps_added p k found.pools e.steps ≡ Ok after.pools) × Fit (problem_of p) (length p.raw.nodes) after.pools
+  path_added : (n : ℕ) (found after : Stepped) (walked : List Step × Trajectory) → IsWalked p walked → PoolsFit p found.pools → n + 1 < 2 ^ 32 → ((m : ℕ) → length (pool found.pools m) ≤ n) → with_path v p k found walked ≡ Ok after
+      → (e : Entry) × (after.entries ≡ found.entries ++ e ∷ []) × EntryText p k (n + 1) e × (steps_added p k found.pools e.steps ≡ Ok after.pools) × PoolsFit p after.pools
   unfolding with_path
   path_added n found after walked w fit small few e =
       let made : Swept → Stepped = λ s. record { pools = s.pools; entries = found.entries ++ entry_of k s ∷ [] } in
@@ -127,10 +127,10 @@ module _ {Start Chain : Type 0} (v : Solving Start Chain) (p : Sealed) (sealed :
         sym (ap (λ (s : Stepped). s.entries) is),
         entry_text (n + 1) found.pools walked b.0 w t,
         t.added ∙ ap (λ (q : List (List Cut)). Ok q) pools,
-        subst (λ (q : List (List Cut)). Fit (problem_of p) (length p.raw.nodes) q) pools t.fit,
+        subst (λ (q : List (List Cut)). PoolsFit p q) pools t.fit,
       )
 
-  paths_added : (zs : List (List Step × Walk)) (n most : ℕ) (found after : Stepped) → All (IsWalked p) zs → Fit (problem_of p) (length p.raw.nodes) found.pools → ((m : ℕ) → length (pool found.pools m) ≤ n) → n + length zs ≤ most → most < 2 ^ 32
+  paths_added : (zs : List (List Step × Trajectory)) (n most : ℕ) (found after : Stepped) → All (IsWalked p) zs → PoolsFit p found.pools → ((m : ℕ) → length (pool found.pools m) ≤ n) → n + length zs ≤ most → most < 2 ^ 32
       → forwards (with_path v p k) zs found ≡ Ok after → Added p k most (length zs) found after
   unfolding entries_added
   paths_added [] n most found after w fit few le small e =
@@ -155,10 +155,10 @@ pub record IsIteration (p : Sealed) (k batch most : ℕ) (pools : List (List Cut
   pub written : IsBatch p k batch s.entries
   pub pairs : AllByRecursion (PairsWithin most) s.entries
   pub added : entries_added p pools s.entries ≡ Ok s.pools
-  pub fit : Fit (problem_of p) (length p.raw.nodes) s.pools
+  pub fit : PoolsFit p s.pools
   pub few : (m : ℕ) → length (pool s.pools m) ≤ most
 
-iteration_from : (p : Sealed) → is_sealed p ≡ true → (k batch n most count : ℕ) (pools : List (List Cut)) (s : Stepped) → Fit (problem_of p) (length p.raw.nodes) pools → ((m : ℕ) → length (pool pools m) ≤ n) → n + batch ≤ most → count ≡ batch → Added p k most count (before_paths pools) s
+iteration_from : (p : Sealed) → is_sealed p ≡ true → (k batch n most count : ℕ) (pools : List (List Cut)) (s : Stepped) → PoolsFit p pools → ((m : ℕ) → length (pool pools m) ≤ n) → n + batch ≤ most → count ≡ batch → Added p k most count (before_paths pools) s
     → IsIteration p k batch most pools s
 iteration_from p sealed k batch n most count pools s fit few le paths a =
     let texts : AllByRecursion (EntryText p k most) s.entries = subst (AllByRecursion (EntryText p k most)) (sym a.is) a.texts in
@@ -178,20 +178,20 @@ iteration_from p sealed k batch n most count pools s fit few le paths a =
       few = λ m. omega (arith, few m, le, counted, entries_count p sealed pools s.pools s.entries m writable added);
     }
 
-walks_there : (walks : Result (List Walk) Dead) (f : List Walk → Result Stepped SweepFault) (s : Stepped) → (or_dead walks >>= f) ≡ Ok s → (ws : List Walk) × (walks ≡ Ok ws) × (f ws ≡ Ok s)
+walks_there : (walks : Result (List Trajectory) Dead) (f : List Trajectory → Result Stepped PlanFault) (s : Stepped) → (or_dead walks >>= f) ≡ Ok s → (ws : List Trajectory) × (walks ≡ Ok ws) × (f ws ≡ Ok s)
 walks_there (Ok ws) f s e = (ws, refl, e)
 walks_there (Err dead) f s e = absurd cc
 
 module _ {Start Chain : Type 0} (v : Solving Start Chain) (p : Sealed) (sealed : is_sealed p ≡ true) where
-  each_walked : (paths : List (List Step)) (walks : List Walk) → All (IsPath p) paths → All (λ (q : List Step × Walk). IsWalk p q.0 q.1) (zip paths walks) → All (IsWalked p) (zip paths walks)
+  each_walked : (paths : List (List Step)) (walks : List Trajectory) → All (IsPath p) paths → All (λ (q : List Step × Trajectory). IsWalk p q.0 q.1) (zip paths walks) → All (IsWalked p) (zip paths walks)
   each_walked [] walks a w = All-nil (IsWalked p)
   each_walked (x ∷ paths) [] a w = All-nil (IsWalked p)
   each_walked (x ∷ paths) (y ∷ walks) a w =
-      All-cons (IsWalked p) (x, y) (zip paths walks) (All-head (IsPath p) x paths a, All-head (λ (q : List Step × Walk). IsWalk p q.0 q.1) (x, y) (zip paths walks) w)
-      (each_walked paths walks (All-tail (IsPath p) x paths a) (All-tail (λ (q : List Step × Walk). IsWalk p q.0 q.1) (x, y) (zip paths walks) w))
+      All-cons (IsWalked p) (x, y) (zip paths walks) (All-head (IsPath p) x paths a, All-head (λ (q : List Step × Trajectory). IsWalk p q.0 q.1) (x, y) (zip paths walks) w)
+      (each_walked paths walks (All-tail (IsPath p) x paths a) (All-tail (λ (q : List Step × Trajectory). IsWalk p q.0 q.1) (x, y) (zip paths walks) w))
 
   -- An iteration of training over pools that fit, with at most n cuts at each node.
-  pub is_iteration : (pools : List (List Cut)) (seed batch k n most : ℕ) (s : Stepped) → Fit (problem_of p) (length p.raw.nodes) pools → ((m : ℕ) → length (pool pools m) ≤ n) → n + batch ≤ most → most < 2 ^ 32 → k < 2 ^ 32
+  pub is_iteration : (pools : List (List Cut)) (seed batch k n most : ℕ) (s : Stepped) → PoolsFit p pools → ((m : ℕ) → length (pool pools m) ≤ n) → n + batch ≤ most → most < 2 ^ 32 → k < 2 ^ 32
       → step_of v p pools seed batch k ≡ Ok s → IsIteration p k batch most pools s
   unfolding step_of along with_walks
   is_iteration pools seed batch k n most s fit few le small number e =
@@ -199,6 +199,6 @@ module _ {Start Chain : Type 0} (v : Solving Start Chain) (p : Sealed) (sealed :
       let drawn = paths_drawn p sealed seed (first_stream batch k) batch in
       let b = walks_there (walks_of v p pools k paths) (with_walks v p pools k paths) s e in
       let are : AreWalks p paths b.0 = walks_are v p pools k sealed paths b.0 drawn b.1 in
-      let zs : List (List Step × Walk) = zip paths b.0 in
+      let zs : List (List Step × Trajectory) = zip paths b.0 in
       let count : length zs ≡ batch = omega (arith, length-zip paths b.0, are.count, length-paths_from p seed (first_stream batch k) batch) in
       iteration_from p sealed k batch n most (length zs) pools s fit few le count (paths_added v p sealed k number zs n most (before_paths pools) s (each_walked paths b.0 drawn are.each) fit few (omega (arith, le, count)) small b.2)

@@ -6,8 +6,8 @@ use Rattle.hp_theory.specs.declared.cut.Cut.{Cut}
 use Rattle.hp_theory.specs.Bound.{bound}
 use Rattle.hp_theory.specs.View.{problem_of}
 use Rattle.hp_cut.specs.declared.entry.Entry.{Entry}
-use Rattle.hp_lp.specs.Chained.{Solving}
-use Rattle.hp_backward.specs.declared.fault.SweepFault.{SweepFault}
+use Rattle.hp_solver.specs.Solving.{Solving}
+use Rattle.hp_settle.specs.declared.plan_fault.PlanFault.{PlanFault}
 use Rattle.hp_train.specs.Stepping.{Stepped, step_of}
 
 -- the outcome of some iterations: the last pools, the entries of each, the bound after each, and the fault at which the next one stopped,
@@ -16,18 +16,18 @@ pub record Continued : Type 0 where
   pub pools : List (List Cut)
   pub lists : List (List Entry)
   pub bounds : List ℤ
-  pub stop : Option SweepFault
+  pub stop : Option PlanFault
 
 abbrev pub before_any : List (List Cut) → Continued
 before_any pools = record { pools = pools; lists = []; bounds = []; stop = None }
 
 -- with the outcome of an iteration more
-abbrev pub with_step : Sealed → Continued → Result Stepped SweepFault → Continued
+abbrev pub with_step : Sealed → Continued → Result Stepped PlanFault → Continued
 with_step p c (Ok s) = record { pools = s.pools; lists = c.lists ++ s.entries ∷ []; bounds = c.bounds ++ bound (problem_of p) s.pools ∷ []; stop = None }
 with_step p c (Err fault) = record { pools = c.pools; lists = c.lists; bounds = c.bounds; stop = Some fault }
 
 -- with iteration k, unless training has stopped
-abbrev pub with_iteration : {Start Chain : Type 0} → Solving Start Chain → Sealed → ℕ → ℕ → ℕ → Continued → Option SweepFault → Continued
+abbrev pub with_iteration : {Start Chain : Type 0} → Solving Start Chain → Sealed → ℕ → ℕ → ℕ → Continued → Option PlanFault → Continued
 with_iteration v p seed batch k c (Some fault) = c
 with_iteration v p seed batch k c None = with_step p c (step_of v p c.pools seed batch k)
 

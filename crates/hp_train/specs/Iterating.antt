@@ -1,5 +1,5 @@
 -- One iteration on a journal, and the loaded outcome after it.
-use Rattle.std.specs.Prelude.{◌≡◌, ◌<◌, ℕ, ◌+◌, List, [], ◌∷◌, ◌++◌, length, take, Result, Ok, Err}
+use Rattle.std.specs.Prelude.{◌≡◌, ◌<◌, ℕ, ◌+◌, List, [], ◌∷◌, ◌++◌, length, take, Result, Ok}
 use Rattle.std.specs.List.{sum_by}
 use Rattle.hp_num.specs.Steps.{◌>>=◌}
 use Rattle.hp_problem.specs.Sealed.{Sealed}
@@ -10,11 +10,8 @@ use Rattle.hp_record.specs.Spelling.{spell}
 use Rattle.hp_journal.specs.Layout.{body_of, records}
 use Rattle.hp_load.specs.declared.loaded.Loaded.{Loaded}
 use Rattle.hp_load.specs.Load.{Outcome}
-use Rattle.hp_lp.specs.Chained.{Solving}
-use Rattle.hp_backward.specs.declared.fault.SweepFault.{SweepFault}
-use Rattle.hp_backward.specs.declared.fault.SweepFault.TheVariants as sweeps
-use Rattle.hp_train.specs.declared.fault.TrainFault.{TrainFault}
-use Rattle.hp_train.specs.declared.fault.TrainFault.TheVariants.{NoStage, Range, DiskFault, Memory}
+use Rattle.hp_solver.specs.Solving.{Solving}
+use Rattle.hp_settle.specs.declared.plan_fault.PlanFault.{PlanFault}
 use Rattle.hp_train.specs.Stepping.{Stepped, step_of}
 use Rattle.hp_train.specs.Training.{payloads}
 
@@ -32,15 +29,8 @@ with_stepped p l s = record {
 }
 
 -- with iteration k, and the bytes behind the gate of its record
-unfoldable pub iterated : {Start Chain : Type 0} → Solving Start Chain → Sealed → Loaded → ℕ → ℕ → Result (Outcome × List ℕ) SweepFault
+unfoldable pub iterated : {Start Chain : Type 0} → Solving Start Chain → Sealed → Loaded → ℕ → ℕ → Result (Outcome × List ℕ) PlanFault
 iterated v p l seed k = step_of v p l.pools.lists seed l.batch k >>= λ s. Ok (with_stepped p l s, body_of (spell s.entries))
-
--- the fault at which iterations stop; a fault of the disk and want of memory are free
-abbrev pub Stops : {A : Type 0} → TrainFault → Result A SweepFault → Type 0
-Stops (NoStage dead) iterations = iterations ≡ Err (sweeps.NoStage dead)
-Stops (Range k m r) iterations = iterations ≡ Err (sweeps.Range k m r)
-Stops DiskFault iterations = Unit {0}
-Stops Memory iterations = Unit {0}
 
 -- the records of these lists behind the gate at a place, and a gate of 0 behind them
 abbrev pub behind : ℕ → List (List Entry) → List ℕ → List ℕ

@@ -4,7 +4,7 @@ use Rattle.hp_problem.specs.Sealed.{Sealed}
 use Rattle.hp_theory.specs.declared.cut.Cut.{Cut}
 use Rattle.hp_journal.specs.Layout.{Title, journal}
 use Rattle.hp_load.specs.Load.{Outcome, load_of}
-use Rattle.hp_lp.specs.Chained.{Solving}
+use Rattle.hp_solver.specs.Solving.{Solving}
 use Rattle.hp_train.specs.Continuing.{Continued, continued}
 use Rattle.hp_train.specs.Training.{StandsIn, grown_journal, iterations, payloads, title_of, unsettled_in}
 

@@ -3,26 +3,21 @@ use Rattle.std.specs.Prelude.{◌≡◌, ◌⊎◌, ℕ, ◌+◌, ◌-◌, ◌*�
 use Rattle.std.specs.List.{sum_by}
 use Rattle.hp_problem.specs.Sealed.{Sealed}
 use Rattle.hp_problem.specs.Formulas.{too_much}
-use Rattle.hp_theory.specs.Fit.{Fit}
 use Rattle.hp_theory.specs.Pools.{pool}
-use Rattle.hp_theory.specs.Problem.{node_at}
-use Rattle.hp_theory.specs.View.{problem_of}
-use Rattle.hp_settle.specs.Refutation.{NoDecision}
+use Rattle.hp_cut.specs.AtNodes.{PoolsFit}
+use Rattle.hp_settle.specs.declared.plan_fault.PlanFault.{PlanFault}
+use Rattle.hp_settle.specs.declared.plan_fault.PlanFault.TheVariants.{NoStage, Range, DiskFault, Memory}
 use Rattle.hp_cut.specs.declared.entry.Entry.{Entry}
 use Rattle.hp_record.specs.Spelling.{spell}
 use Rattle.hp_journal.specs.Layout.{Title, front, records}
 use Rattle.hp_journal.specs.Mine.{Unborn, Grown, Mine}
 use Rattle.hp_load.specs.Load.{Outcome, first_gate}
-use Rattle.hp_backward.specs.declared.fault.SweepFault.{SweepFault}
-use Rattle.hp_backward.specs.declared.fault.SweepFault.TheVariants as sweeps
-use Rattle.hp_train.specs.declared.fault.TrainFault.{TrainFault}
-use Rattle.hp_train.specs.declared.fault.TrainFault.TheVariants.{NoStage, Range, DiskFault, Memory}
-use Rattle.hp_lp.specs.Chained.{Solving}
+use Rattle.hp_solver.specs.Solving.{Solving}
 use Rattle.hp_train.specs.Continuing.{Continued, continued}
 
 -- the premises of training on the loaded outcome, with so many iterations to come to in all
 pub record CanTrain (p : Sealed) (count : ℕ) (o : Outcome) : Type 0 where
-  pub fit : Fit (problem_of p) (length p.raw.nodes) o.pools
+  pub fit : PoolsFit p o.pools
   pub iterations : count ≤ 2000
   pub few : length o.bounds ≤ 2000
   -- the base cut, and at most one for each path
@@ -91,24 +86,17 @@ abbrev pub GoOnWith : ℕ → List (List ℕ) → List (List Entry) → Type 0
 GoOnWith j ps lists = (j ≤ length ps) × (more : List (List ℕ)) × (drop j ps ≡ payloads lists ++ more)
 
 -- the fault at which the iterations stop, if they do; a fault of the disk and want of memory are free
-abbrev pub StopsAs : {A : Type 0} → Result A TrainFault → Option SweepFault → Type 0
+abbrev pub StopsAs : {A : Type 0} → Result A PlanFault → Option PlanFault → Type 0
 StopsAs (Ok x) stop = stop ≡ None
-StopsAs (Err (NoStage dead)) stop = stop ≡ Some (sweeps.NoStage dead)
-StopsAs (Err (Range k m r)) stop = stop ≡ Some (sweeps.Range k m r)
+StopsAs (Err (NoStage dead)) stop = stop ≡ Some (NoStage dead)
+StopsAs (Err (Range k m r)) stop = stop ≡ Some (Range k m r)
 StopsAs (Err DiskFault) stop = Unit {0}
 StopsAs (Err Memory) stop = Unit {0}
 
 -- a property once all iterations are done that the definition has
-abbrev pub WhenWhole : {A : Type 0} → Result A TrainFault → Type 0 → Type 0
+abbrev pub WhenWhole : {A : Type 0} → Result A PlanFault → Type 0 → Type 0
 WhenWhole (Ok x) P = P
 WhenWhole (Err (NoStage dead)) P = P
 WhenWhole (Err (Range k m r)) P = P
 WhenWhole (Err DiskFault) P = Unit {0}
 WhenWhole (Err Memory) P = Unit {0}
-
--- where a node is dead, no decisions exist there
-abbrev pub IsDead : Sealed → TrainFault → Type 0
-IsDead p (NoStage dead) = NoDecision (node_at (problem_of p) dead.node) dead.values dead.state
-IsDead p (Range k m r) = Unit {0}
-IsDead p DiskFault = Unit {0}
-IsDead p Memory = Unit {0}

@@ -8,7 +8,6 @@ ghost use Rattle.hp_cut.specs.declared.entry.Entry.{Entry};
 ghost use Rattle.hp_journal.specs.Layout.{IsTitle, journal, new_title};
 ghost use Rattle.hp_journal.specs.Mine.{Mine};
 ghost use Rattle.hp_load.specs.Load.{Outcome, load_of};
-ghost use Rattle.hp_lp.specs.Chained.{solving};
 ghost use Rattle.hp_train.specs.Resuming.{Resumes, unstopped};
 ghost use Rattle.hp_train.specs.Stored.{StandsThere};
 ghost use Rattle.hp_train.specs.Training.{GoOnWith, StandsIn, grown_journal, payloads, title_of};
@@ -25,8 +24,8 @@ pub fn resume_equals_unstopped<V: Solver>(solver: &V)
     ensures { (p : Sealed) (base : List (List Cut)) (digest : List ℕ) (seed count : ℕ) (asked : Option ℕ) (j : ℕ) (bytes : List ℕ)
         → is_sealed p ≡ true → based p ≡ Ok base → IsTitle (new_title digest seed asked)
         → count ≤ 2000 → too_much p count (new_title digest seed asked).batch ≡ None
-        → Mine (new_title digest seed asked) (payloads (unstopped (solving (V.started solver.now) (V.begun solver.now) (V.next solver.now)) p base (new_title digest seed asked) count).lists) j bytes
-        → (o : Outcome) × Resumes (solving (V.started solver.now) (V.begun solver.now) (V.next solver.now)) p base (new_title digest seed asked) asked count j bytes o }
+        → Mine (new_title digest seed asked) (payloads (unstopped (V.does solver.now) p base (new_title digest seed asked) count).lists) j bytes
+        → (o : Outcome) × Resumes (V.does solver.now) p base (new_title digest seed asked) asked count j bytes o }
 {}
 
 /// The loaded lists stand in the bytes: a born journal has its head, with the asked seed and batch where they are asked, then

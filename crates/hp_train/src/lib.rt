@@ -3,12 +3,10 @@
 
 mod counts;
 mod drawing;
-mod fault;
+pub mod iterations;
 pub mod laws;
 mod opening;
-pub mod stepping;
 pub mod training;
 
-pub use fault::TrainFault;
-pub use stepping::{batch_once, batch_once_with};
-pub use training::train;
+pub use iterations::{Draw, iteration};
+pub use training::{Training, train};

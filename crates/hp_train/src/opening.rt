@@ -1,5 +1,5 @@
 // The journal's end, made ready for the next record.
-ghost use Rattle.std.specs.Prelude.{◌≡◌, ◌⊎◌, ◌≤◌, ◌^◌, ◌++◌, ◌∷◌, [], ℕ, List, true, false, take, length, is_some, option_map, IfOk, IfSome, OnOk, None, Some};
+ghost use Rattle.std.specs.Prelude.{◌≡◌, ◌⊎◌, ◌<◌, ◌≤◌, ◌^◌, ◌++◌, ◌∷◌, [], ℕ, List, true, false, take, length, is_some, option_map, IfOk, IfSome, OnOk, None, Some};
 ghost use Rattle.hp_outside.specs.Causes.{HasCause};
 ghost use Rattle.hp_outside.specs.Since.{Quiet, LeavesOnly};
 ghost use Rattle.hp_journal.specs.Gates.{IsShutAt};
@@ -91,6 +91,8 @@ pub(crate) fn open_end<D: Disk>(
     requires unborn { loaded.old.born ≡ false → IfSome (D.store disk.old).reads IsUnborn }
     requires shut { loaded.old.born ≡ true → IfSome (D.store disk.old).reads (IsShutAt loaded.old.end) }
     requires quiet { Quiet (D.store disk.old) }
+    ensures digest { length digest.now ≡ 32 }
+    ensures seed { seed < 2 ^ 64 }
     ensures value { OnOk result (seen loaded.new ≡ opened (seen loaded.old)) }
     ensures reads { OnOk result ((D.store disk.new).reads
         ≡ option_map (λ bytes. loaded_front digest.now seed (seen loaded.old) bytes ++ 0 ∷ []) (D.store disk.old).reads) }

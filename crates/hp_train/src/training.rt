@@ -4,10 +4,10 @@ ghost use Rattle.std.specs.List.{AllByRecursion};
 ghost use Rattle.hp_num.specs.Steps.{GivesOr};
 ghost use Rattle.hp_outside.specs.Since.{Quiet, LeavesOnly};
 ghost use Rattle.hp_problem.specs.Formulas.{too_much};
-ghost use Rattle.hp_theory.specs.Fit.{Fit};
 ghost use Rattle.hp_theory.specs.Pools.{pool, Sound};
 ghost use Rattle.hp_theory.specs.Bound.{Under};
 ghost use Rattle.hp_theory.specs.View.{problem_of};
+ghost use Rattle.hp_cut.specs.AtNodes.{PoolsFit};
 ghost use Rattle.hp_cut.specs.declared.entry.Entry.{Entry};
 ghost use Rattle.hp_record.specs.Shape.{Writable};
 ghost use Rattle.hp_record.specs.Spelling.{spell};
@@ -17,37 +17,42 @@ ghost use Rattle.hp_journal.specs.Head.{IsUnborn};
 ghost use Rattle.hp_journal.specs.Layout.{IsBody, Title, body_of, journal};
 ghost use Rattle.hp_journal.specs.Mine.{GrownFrom};
 ghost use Rattle.hp_load.specs.Load.{seen};
-ghost use Rattle.hp_lp.specs.Chained.{solving};
-ghost use Rattle.hp_lp.specs.Ready.{AreReady};
+ghost use Rattle.hp_settle.specs.Faults.{IsDead, Stops};
+ghost use Rattle.hp_settle.specs.declared.plan_fault.PlanFault.TheVariants.{DiskFault};
 ghost use Rattle.hp_train.specs.Continuing.{continued};
-ghost use Rattle.hp_train.specs.Growing.{Extends};
-ghost use Rattle.hp_train.specs.Iterating.{EndsShut, Stops, behind, iterated};
-ghost use Rattle.hp_train.specs.Stepping.{seen as stepped, step_of};
-ghost use Rattle.hp_train.specs.Training.{CanTrain, GoOnWith, IsDead, MineFrom, StandsIn, StopsAs, WhenWhole, grown_journal, iterations, title_of, trained};
-ghost use Rattle.hp_train.specs.declared.fault.TrainFault.TheVariants.{DiskFault};
+ghost use Rattle.hp_train.specs.Iterating.{EndsShut, behind, iterated};
+ghost use Rattle.hp_train.specs.Training.{CanTrain, GoOnWith, MineFrom, StandsIn, StopsAs, WhenWhole, grown_journal, iterations, title_of, trained};
 
-use crate::fault::TrainFault;
+use crate::iterations::{Draw, iteration};
 use crate::opening::open_end;
-use crate::stepping::batch_once_with;
-use hp_backward::SweepFault;
-use hp_cut::{Entry, Pools};
+use hp_cut::Entry;
 use hp_journal::append;
 use hp_load::{Loaded, unsettled};
-use hp_lp::{SpareRows, Starts};
+use hp_lp::{Planner, Workspace};
 use hp_num::{List, Memory};
 use hp_outside::Disk;
 use hp_problem::Problem;
 use hp_record::encode_batch;
+use hp_settle::PlanFault;
 use hp_solver::Solver;
 use std::alloc::Global;
 use std::thread::Threads;
 
-/// The fixed parts of a training run: the problem, the solver with its starts, and the seed of the paths.
+/// What a training is asked to do.
+#[derive(Drop)]
+pub struct Training<'a> {
+    /// The digest of the problem's bytes.
+    pub digest: &'a [u8; 32],
+    /// The seed of the paths.
+    pub seed: u64,
+    /// The number of iterations to come to in all.
+    pub count: u32,
+}
+
+/// The fixed parts of a training run: the planner, and the seed of the paths.
 #[derive(Drop)]
 struct Course<'a, V: Solver> {
-    problem: &'a Problem,
-    solver: &'a V,
-    starts: &'a Starts<V>,
+    planner: &'a Planner<'a, V>,
     seed: u64,
 }
 
@@ -65,95 +70,44 @@ fn body_of(alloc: Global, problem: &Problem, entries: &[Entry]) -> Result<Vec<u8
     Ok(body)
 }
 
-/// An iteration over the pools.
-fn stepped<R: Threads + Sync, V: Solver>(
-    rt: &R,
-    alloc: Global,
-    spare: &mut SpareRows,
-    course: &Course<V>,
-    pools: &mut Pools,
-    batch: u16,
-    number: u32,
-) -> Result<List<Entry>, TrainFault>
-    requires fit { Fit (problem_of course.now.problem.now) (length course.now.problem.now.raw.nodes) pools.old.lists }
-    requires few { (m : ℕ) → length (pool pools.old.lists m) ≤ 2 ^ 23 }
-    requires ready { AreReady (V.started course.now.solver.now) (V.suits course.now.solver.now) course.now.problem.now course.now.starts.now.items }
-    requires first { 1 ≤ number }
-    requires last { number ≤ 2000 }
-    requires paths { 1 ≤ batch }
-    requires most { batch ≤ 64 }
-    ensures value { GivesOr Stops (stepped pools.new.lists) result
-        (step_of (solving (V.started course.now.solver.now) (V.begun course.now.solver.now) (V.next course.now.solver.now)) course.now.problem.now pools.old.lists course.now.seed batch number) }
-    ensures extends { Extends batch pools.old.lists pools.new.lists }
-    ensures own { IfErr result (λ fault. fault ≢ DiskFault) }
-    ensures dead { IfErr result (IsDead course.now.problem.now) }
-    ensures fit { Fit (problem_of course.now.problem.now) (length course.now.problem.now.raw.nodes) pools.new.lists }
-    ensures sound { Sound (problem_of course.now.problem.now) pools.old.lists → Sound (problem_of course.now.problem.now) pools.new.lists }
-{
-    match batch_once_with(
-        rt,
-        alloc,
-        spare,
-        course.problem,
-        course.solver,
-        course.starts,
-        pools,
-        course.seed,
-        batch,
-        number,
-    ) {
-        Ok(entries) => Ok(entries),
-        Err(SweepFault::NoStage(dead)) => Err(TrainFault::NoStage(dead)),
-        Err(
-            SweepFault::Range {
-                iteration,
-                node,
-                realization,
-            },
-        ) => Err(TrainFault::Range {
-            iteration,
-            node,
-            realization,
-        }),
-        Err(SweepFault::Memory) => Err(TrainFault::Memory),
-    }
-}
-
 /// Runs an iteration: adds its cuts, its bound and its counts to `loaded`, and gives the bytes behind the gate of its record.
 #[tactic(auto, unfolding(crate::specs::Iterating::iterated))]
 fn iterate<R: Threads + Sync, V: Solver>(
     rt: &R,
-    alloc: Global,
-    spare: &mut SpareRows,
+    work: &mut Workspace,
     course: &Course<V>,
     loaded: &mut Loaded,
     number: u32,
-) -> Result<Vec<u8>, TrainFault>
-    requires fit { Fit (problem_of course.now.problem.now) (length course.now.problem.now.raw.nodes) loaded.old.pools.lists }
-    requires ready { AreReady (V.started course.now.solver.now) (V.suits course.now.solver.now) course.now.problem.now course.now.starts.now.items }
+) -> Result<Vec<u8>, PlanFault>
+    requires fit { PoolsFit course.now.planner.now.problem.now loaded.old.pools.lists }
     requires first { 1 ≤ number }
     requires last { number ≤ 2000 }
     requires paths { 1 ≤ loaded.old.batch }
     requires most { loaded.old.batch ≤ 64 }
     requires cuts { (m : ℕ) → length (pool loaded.old.pools.lists m) ≤ 1 + (number - 1) * loaded.old.batch }
-    requires room { too_much course.now.problem.now number loaded.old.batch ≡ None }
+    requires room { too_much course.now.planner.now.problem.now number loaded.old.batch ≡ None }
     requires unsettled { loaded.old.unsettled ≤ 2 ^ 60 }
     ensures value { GivesOr Stops (λ body. (seen loaded.new, body.items)) result
-        (iterated (solving (V.started course.now.solver.now) (V.begun course.now.solver.now) (V.next course.now.solver.now)) course.now.problem.now loaded.old course.now.seed number) }
+        (iterated (V.does course.now.planner.now.solver.now) course.now.planner.now.problem.now loaded.old course.now.seed number) }
     ensures body { IfOk result (λ body. IsBody body.items) }
     ensures cuts { (m : ℕ) → length (pool loaded.new.pools.lists m) ≤ 1 + number * loaded.old.batch }
     ensures own { IfErr result (λ fault. fault ≢ DiskFault) }
-    ensures dead { IfErr result (IsDead course.now.problem.now) }
-    ensures fit { Fit (problem_of course.now.problem.now) (length course.now.problem.now.raw.nodes) loaded.new.pools.lists }
-    ensures sound { Sound (problem_of course.now.problem.now) loaded.old.pools.lists → Sound (problem_of course.now.problem.now) loaded.new.pools.lists }
-    ensures under { Sound (problem_of course.now.problem.now) loaded.old.pools.lists → All (Under (problem_of course.now.problem.now)) loaded.old.bounds → OnOk result (All (Under (problem_of course.now.problem.now)) loaded.new.bounds) }
+    ensures dead { IfErr result (IsDead course.now.planner.now.problem.now) }
+    ensures fit { PoolsFit course.now.planner.now.problem.now loaded.new.pools.lists }
+    ensures sound { Sound (problem_of course.now.planner.now.problem.now) loaded.old.pools.lists → Sound (problem_of course.now.planner.now.problem.now) loaded.new.pools.lists }
+    ensures under { Sound (problem_of course.now.planner.now.problem.now) loaded.old.pools.lists → All (Under (problem_of course.now.planner.now.problem.now)) loaded.old.bounds → OnOk result (All (Under (problem_of course.now.planner.now.problem.now)) loaded.new.bounds) }
     ensures unsettled { IfOk result (λ _. loaded.new.unsettled ≤ loaded.old.unsettled + 2 ^ 38) }
 {
-    let _ = course.problem.raw();
-    let batch = loaded.batch;
-    let entries = stepped(rt, alloc, spare, course, &mut loaded.pools, batch, number)?;
-    let body = body_of(alloc, course.problem, entries.as_slice())?;
-    loaded.bounds.push(loaded.pools.bound(course.problem))?;
+    let problem = course.planner.problem();
+    let _ = problem.raw();
+    let draw = Draw {
+        seed: course.seed,
+        batch: loaded.batch,
+        iteration: number,
+    };
+    let entries = iteration(rt, work, course.planner, &mut loaded.pools, draw)?;
+    let body = body_of(work.alloc(), problem, entries.as_slice())?;
+    loaded.bounds.push(loaded.pools.bound(problem))?;
     loaded.unsettled += unsettled(entries.as_slice());
     Ok(body)
 }
@@ -161,46 +115,44 @@ fn iterate<R: Threads + Sync, V: Solver>(
 /// Runs so many iterations, each with its record behind the shut gate at the journal's end.
 fn iterate_all<R: Threads + Sync, D: Disk, V: Solver>(
     rt: &R,
-    alloc: Global,
+    work: &mut Workspace,
     course: &Course<V>,
     disk: &mut D,
     loaded: &mut Loaded,
     left: u32,
-) -> Result<(), TrainFault>
-    requires fit { Fit (problem_of course.now.problem.now) (length course.now.problem.now.raw.nodes) loaded.old.pools.lists }
-    requires ready { AreReady (V.started course.now.solver.now) (V.suits course.now.solver.now) course.now.problem.now course.now.starts.now.items }
+) -> Result<(), PlanFault>
+    requires fit { PoolsFit course.now.planner.now.problem.now loaded.old.pools.lists }
     requires last { length loaded.old.bounds + left ≤ 2000 }
     requires paths { 1 ≤ loaded.old.batch }
     requires most { loaded.old.batch ≤ 64 }
     requires cuts { (m : ℕ) → length (pool loaded.old.pools.lists m) ≤ 1 + length loaded.old.bounds * loaded.old.batch }
-    requires room { too_much course.now.problem.now (length loaded.old.bounds + left) loaded.old.batch ≡ None }
+    requires room { too_much course.now.planner.now.problem.now (length loaded.old.bounds + left) loaded.old.batch ≡ None }
     requires unsettled { loaded.old.unsettled ≤ 2 ^ 50 }
     requires open { loaded.old.born ≡ true }
     requires whole { loaded.old.rest ≡ 0 }
     requires near { loaded.old.end ≤ 2 ^ 38 }
     requires end { IfSome (D.store disk.old).reads (EndsShut loaded.old.end) }
     requires quiet { Quiet (D.store disk.old) }
-    ensures stop { StopsAs result (continued (solving (V.started course.now.solver.now) (V.begun course.now.solver.now) (V.next course.now.solver.now)) course.now.problem.now loaded.old.pools.lists course.now.seed loaded.old.batch (length loaded.old.bounds) left).stop }
-    ensures value { OnOk result (seen loaded.new ≡ trained (seen loaded.old) (continued (solving (V.started course.now.solver.now) (V.begun course.now.solver.now) (V.next course.now.solver.now)) course.now.problem.now loaded.old.pools.lists course.now.seed loaded.old.batch (length loaded.old.bounds) left)) }
+    ensures stop { StopsAs result (continued (V.does course.now.planner.now.solver.now) course.now.planner.now.problem.now loaded.old.pools.lists course.now.seed loaded.old.batch (length loaded.old.bounds) left).stop }
+    ensures value { OnOk result (seen loaded.new ≡ trained (seen loaded.old) (continued (V.does course.now.planner.now.solver.now) course.now.planner.now.problem.now loaded.old.pools.lists course.now.seed loaded.old.batch (length loaded.old.bounds) left)) }
     ensures reads { WhenWhole result ((D.store disk.new).reads
-        ≡ option_map (behind loaded.old.end (continued (solving (V.started course.now.solver.now) (V.begun course.now.solver.now) (V.next course.now.solver.now)) course.now.problem.now loaded.old.pools.lists course.now.seed loaded.old.batch (length loaded.old.bounds) left).lists) (D.store disk.old).reads) }
+        ≡ option_map (behind loaded.old.end (continued (V.does course.now.planner.now.solver.now) course.now.planner.now.problem.now loaded.old.pools.lists course.now.seed loaded.old.batch (length loaded.old.bounds) left).lists) (D.store disk.old).reads) }
     ensures quiet { WhenWhole result (Quiet (D.store disk.new)) }
     ensures any_moment { IfSome (D.store disk.old).reads (λ bytes. (t : Title) (ps : List (List ℕ)) (j : ℕ)
         → bytes ≡ journal t (take j ps) 0 []
-        → GoOnWith j ps (continued (solving (V.started course.now.solver.now) (V.begun course.now.solver.now) (V.next course.now.solver.now)) course.now.problem.now loaded.old.pools.lists course.now.seed loaded.old.batch (length loaded.old.bounds) left).lists
+        → GoOnWith j ps (continued (V.does course.now.planner.now.solver.now) course.now.planner.now.problem.now loaded.old.pools.lists course.now.seed loaded.old.batch (length loaded.old.bounds) left).lists
         → LeavesOnly (D.store disk.old) (D.store disk.new) (GrownFrom t ps j)) }
     ensures tells { is_some (D.store disk.new).reads ≡ is_some (D.store disk.old).reads }
     ensures cause { DiskCause (D.faults disk.old) (D.faults disk.new) (result ≡ Err DiskFault) }
-    ensures dead { IfErr result (IsDead course.now.problem.now) }
-    ensures fit { OnOk result (Fit (problem_of course.now.problem.now) (length course.now.problem.now.raw.nodes) loaded.new.pools.lists) }
-    ensures sound { Sound (problem_of course.now.problem.now) loaded.old.pools.lists → OnOk result (Sound (problem_of course.now.problem.now) loaded.new.pools.lists) }
-    ensures under { Sound (problem_of course.now.problem.now) loaded.old.pools.lists → All (Under (problem_of course.now.problem.now)) loaded.old.bounds → OnOk result (All (Under (problem_of course.now.problem.now)) loaded.new.bounds) }
+    ensures dead { IfErr result (IsDead course.now.planner.now.problem.now) }
+    ensures fit { OnOk result (PoolsFit course.now.planner.now.problem.now loaded.new.pools.lists) }
+    ensures sound { Sound (problem_of course.now.planner.now.problem.now) loaded.old.pools.lists → OnOk result (Sound (problem_of course.now.planner.now.problem.now) loaded.new.pools.lists) }
+    ensures under { Sound (problem_of course.now.planner.now.problem.now) loaded.old.pools.lists → All (Under (problem_of course.now.planner.now.problem.now)) loaded.old.bounds → OnOk result (All (Under (problem_of course.now.planner.now.problem.now)) loaded.new.bounds) }
 {
-    let _ = course.problem.raw();
+    let _ = course.planner.problem().raw();
     let before = loaded.bounds.len() as u32;
-    let mut spare = SpareRows::new(alloc);
     for done in 0..left {
-        let body = iterate(rt, alloc, &mut spare, course, loaded, before + done + 1)?;
+        let body = iterate(rt, work, course, loaded, before + done + 1)?;
         loaded.end = append(disk, loaded.end, body.as_slice())?;
     }
     Ok(())
@@ -211,61 +163,54 @@ fn iterate_all<R: Threads + Sync, D: Disk, V: Solver>(
 /// it is made first, and else its end is repaired. No iteration is done where `count` are there.
 ///
 /// `loaded` is what the journal gives with this digest of the problem's bytes and this seed, and nothing is pending on the
-/// disk. `starts` was made for this problem and this solver. After Ok `loaded` has the cuts, the bounds and the count of all
+/// disk. After Ok `loaded` has the cuts, the bounds and the count of all
 /// iterations, and the journal ends at its gate of 0.
 ///
-/// [`TrainFault::NoStage`] and [`TrainFault::Range`] come exactly where an iteration stops so; the records of those before it
-/// stand in the journal. [`TrainFault::DiskFault`] comes only where the disk's count of faults rose; [`TrainFault::Memory`]
+/// [`PlanFault::NoStage`] and [`PlanFault::Range`] come exactly where an iteration stops so; the records of those before it
+/// stand in the journal. [`PlanFault::DiskFault`] comes only where the disk's count of faults rose; [`PlanFault::Memory`]
 /// where memory was refused. A crash at any moment leaves a journal of the records that were loaded and of the first of those
 /// that training adds. After a fault nothing is promised of `loaded`.
 pub fn train<R: Threads + Sync, D: Disk, V: Solver>(
     rt: &R,
-    alloc: Global,
-    problem: &Problem,
-    solver: &V,
-    starts: &Starts<V>,
+    work: &mut Workspace,
+    planner: &Planner<V>,
     disk: &mut D,
-    digest: &[u8; 32],
-    seed: u64,
-    count: u32,
+    training: &Training,
     loaded: &mut Loaded,
-) -> Result<(), TrainFault>
-    requires can { CanTrain problem.now count (seen loaded.old) }
-    requires ready { AreReady (V.started solver.now) (V.suits solver.now) problem.now starts.now.items }
+) -> Result<(), PlanFault>
+    requires can { CanTrain planner.now.problem.now training.now.count (seen loaded.old) }
     requires unborn { loaded.old.born ≡ false → IfSome (D.store disk.old).reads IsUnborn }
     requires shut { loaded.old.born ≡ true → IfSome (D.store disk.old).reads (IsShutAt loaded.old.end) }
     requires quiet { Quiet (D.store disk.old) }
 
     // It stops exactly where the iterations do.
-    ensures stop { StopsAs result (iterations (solving (V.started solver.now) (V.begun solver.now) (V.next solver.now)) problem.now seed count (seen loaded.old)).stop }
-    ensures value { OnOk result (seen loaded.new ≡ trained (seen loaded.old) (iterations (solving (V.started solver.now) (V.begun solver.now) (V.next solver.now)) problem.now seed count (seen loaded.old))) }
+    ensures stop { StopsAs result (iterations (V.does planner.now.solver.now) planner.now.problem.now training.now.seed training.now.count (seen loaded.old)).stop }
+    ensures value { OnOk result (seen loaded.new ≡ trained (seen loaded.old) (iterations (V.does planner.now.solver.now) planner.now.problem.now training.now.seed training.now.count (seen loaded.old))) }
 
     // The journal has the records that were loaded, and one for each iteration.
     ensures reads { WhenWhole result ((D.store disk.new).reads
-        ≡ option_map (λ bytes. grown_journal digest.now seed (seen loaded.old) bytes (iterations (solving (V.started solver.now) (V.begun solver.now) (V.next solver.now)) problem.now seed count (seen loaded.old)).lists) (D.store disk.old).reads) }
+        ≡ option_map (λ bytes. grown_journal training.now.digest.now training.now.seed (seen loaded.old) bytes (iterations (V.does planner.now.solver.now) planner.now.problem.now training.now.seed training.now.count (seen loaded.old)).lists) (D.store disk.old).reads) }
     ensures quiet { WhenWhole result (Quiet (D.store disk.new)) }
 
     // A crash at any moment leaves the records that were loaded, and the first of those that are added.
     ensures any_moment { IfSome (D.store disk.old).reads (λ bytes. (ps : List (List ℕ)) (j : ℕ)
-        → StandsIn (title_of digest.now seed (seen loaded.old)) (seen loaded.old) ps j bytes
-        → GoOnWith j ps (iterations (solving (V.started solver.now) (V.begun solver.now) (V.next solver.now)) problem.now seed count (seen loaded.old)).lists
-        → LeavesOnly (D.store disk.old) (D.store disk.new) (MineFrom (title_of digest.now seed (seen loaded.old)) ps j)) }
+        → StandsIn (title_of training.now.digest.now training.now.seed (seen loaded.old)) (seen loaded.old) ps j bytes
+        → GoOnWith j ps (iterations (V.does planner.now.solver.now) planner.now.problem.now training.now.seed training.now.count (seen loaded.old)).lists
+        → LeavesOnly (D.store disk.old) (D.store disk.new) (MineFrom (title_of training.now.digest.now training.now.seed (seen loaded.old)) ps j)) }
     ensures tells { is_some (D.store disk.new).reads ≡ is_some (D.store disk.old).reads }
     ensures cause { DiskCause (D.faults disk.old) (D.faults disk.new) (result ≡ Err DiskFault) }
 
     // For every solver and over any disk.
-    ensures dead { IfErr result (IsDead problem.now) }
-    ensures fit { OnOk result (Fit (problem_of problem.now) (length problem.now.raw.nodes) loaded.new.pools.lists) }
-    ensures sound { Sound (problem_of problem.now) loaded.old.pools.lists → OnOk result (Sound (problem_of problem.now) loaded.new.pools.lists) }
-    ensures under { Sound (problem_of problem.now) loaded.old.pools.lists → All (Under (problem_of problem.now)) loaded.old.bounds → OnOk result (All (Under (problem_of problem.now)) loaded.new.bounds) }
+    ensures dead { IfErr result (IsDead planner.now.problem.now) }
+    ensures fit { OnOk result (PoolsFit planner.now.problem.now loaded.new.pools.lists) }
+    ensures sound { Sound (problem_of planner.now.problem.now) loaded.old.pools.lists → OnOk result (Sound (problem_of planner.now.problem.now) loaded.new.pools.lists) }
+    ensures under { Sound (problem_of planner.now.problem.now) loaded.old.pools.lists → All (Under (problem_of planner.now.problem.now)) loaded.old.bounds → OnOk result (All (Under (problem_of planner.now.problem.now)) loaded.new.bounds) }
 {
-    open_end(disk, digest, seed, loaded)?;
+    open_end(disk, training.digest, training.seed, loaded)?;
     let course = Course {
-        problem,
-        solver,
-        starts,
-        seed,
+        planner,
+        seed: training.seed,
     };
-    let left = count.saturating_sub(loaded.bounds.len() as u32);
-    iterate_all(rt, alloc, &course, disk, loaded, left)
+    let left = training.count.saturating_sub(loaded.bounds.len() as u32);
+    iterate_all(rt, work, &course, disk, loaded, left)
 }

@@ -11,7 +11,7 @@ use Rattle.hp_theory.specs.Tree.{InBox}
 use Rattle.hp_theory.specs.View.{links_of, problem_of}
 use Rattle.hp_theory.proofs.SealedPremises.{known-sealed}
 use Rattle.hp_forward.specs.Costing.{stage_cost_of}
-use Rattle.hp_forward.specs.Given.{IsStateAt}
+use Rattle.hp_cut.specs.AtNodes.{IsStateAt}
 use Rattle.hp_tree.specs.declared.costs.Walked.{Walked}
 use Rattle.hp_tree.specs.declared.walking.Fault.{Fault}
 use Rattle.hp_tree.specs.PolicyTree.{Stop}

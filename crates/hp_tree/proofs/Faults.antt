@@ -2,6 +2,7 @@
 use Rattle.std.proofs.Common.{◌≡◌, ◌∙◌, ℕ, zero, suc, ◌+◌, ℤ, List, Result, Ok, Err, IfOk, refl, sym, ap, subst, arith}
 use Rattle.hp_num.specs.Steps.{◌>>=◌}
 use Rattle.hp_settle.specs.declared.judging.Dead.{Dead}
+use Rattle.hp_settle.specs.declared.plan_fault.PlanFault.TheVariants as plans
 use Rattle.hp_problem.specs.Sealed.{Sealed}
 use Rattle.hp_theory.specs.View.{problem_of}
 use Rattle.hp_theory.specs.Problem.{Link, Node, Problem, node_at, realization_weight, successor_weight}
@@ -19,20 +20,26 @@ use Rattle.hp_tree.specs.Verdicts.{OnDead, Stops}
 
 -- a fault that stops one thing stops another
 pub stops_on : {A B : Type 0} (f : Fault) (a : Result A Stop) (b : Result B Stop) → ((s : Stop) → a ≡ Err s → b ≡ Err s) → Stops f a → Stops f b
-stops_on (faults.NoStage d) a b h g = h (dead d) g
 stops_on (faults.Missed m) a b h g = h (missed m) g
-stops_on faults.Memory a b h g = tt
+stops_on (faults.Stopped (plans.NoStage d)) a b h g = h (dead d) g
+stops_on (faults.Stopped (plans.Range k m r)) a b h g = absurd g
+stops_on (faults.Stopped plans.DiskFault) a b h g = absurd g
+stops_on (faults.Stopped plans.Memory) a b h g = tt
 
 -- and so it is with what holds of a refutation
 pub dead_on : (A B : Type 0) (f : Fault) (P : Dead → Type 0) → OnDead {A = A} (Err f) P → OnDead {A = B} (Err f) P
-dead_on A B (faults.NoStage d) P h = h
 dead_on A B (faults.Missed m) P h = tt
-dead_on A B faults.Memory P h = tt
+dead_on A B (faults.Stopped (plans.NoStage d)) P h = h
+dead_on A B (faults.Stopped (plans.Range k m r)) P h = tt
+dead_on A B (faults.Stopped plans.DiskFault) P h = tt
+dead_on A B (faults.Stopped plans.Memory) P h = tt
 
-pub dead_behind : (A B : Type 0) (f : Fault) (r : Result A Fault) (P : Dead → Type 0) → ((d : Dead) → f ≡ faults.NoStage d → r ≡ Err (faults.NoStage d)) → OnDead r P → OnDead {A = B} (Err f) P
-dead_behind A B (faults.NoStage d) r P h o = subst (λ (r : Result A Fault). OnDead r P) (h d refl) o
+pub dead_behind : (A B : Type 0) (f : Fault) (r : Result A Fault) (P : Dead → Type 0) → ((d : Dead) → f ≡ faults.Stopped (plans.NoStage d) → r ≡ Err (faults.Stopped (plans.NoStage d))) → OnDead r P → OnDead {A = B} (Err f) P
 dead_behind A B (faults.Missed m) r P h o = tt
-dead_behind A B faults.Memory r P h o = tt
+dead_behind A B (faults.Stopped (plans.NoStage d)) r P h o = subst (λ (r : Result A Fault). OnDead r P) (h d refl) o
+dead_behind A B (faults.Stopped (plans.Range k m i)) r P h o = tt
+dead_behind A B (faults.Stopped plans.DiskFault) r P h o = tt
+dead_behind A B (faults.Stopped plans.Memory) r P h o = tt
 
 -- a property of an answer
 pub ok_of : {A E : Type 0} (r : Result A E) (x : A) (P : A → Type 0) → r ≡ Ok x → IfOk r P → P x

@@ -11,7 +11,7 @@ use Rattle.hp_theory.specs.Problem.{S, node_at}
 use Rattle.hp_theory.specs.Tree.{RowHolds}
 use Rattle.hp_theory.specs.View.{problem_of}
 use Rattle.hp_settle.specs.declared.judging.Dead.{Dead}
-use Rattle.hp_lp.specs.Chained.{Solving}
+use Rattle.hp_solver.specs.Solving.{Solving}
 use Rattle.hp_sampler.specs.declared.steps.Step.{Step}
 use Rattle.hp_forward.specs.declared.deciding.Decided.{Decided}
 use Rattle.hp_forward.specs.Costing.{residual_of, residuals_of}

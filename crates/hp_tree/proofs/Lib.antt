@@ -19,4 +19,5 @@ pub mod Trees
 pub mod Steps
 pub mod Rooted
 pub mod Faults
+pub mod Planned
 pub mod WorkedUppers

@@ -11,7 +11,7 @@ use Rattle.hp_theory.specs.Problem.{S, Link, link_weights}
 use Rattle.hp_theory.specs.Tree.{times_all}
 use Rattle.hp_theory.specs.View.{links_of, problem_of}
 use Rattle.hp_theory.proofs.Views.{link_weights-links_of, root-problem_of}
-use Rattle.hp_forward.specs.Given.{IsStateAt}
+use Rattle.hp_cut.specs.AtNodes.{IsStateAt}
 use Rattle.hp_forward.proofs.Arcs.{start-sealed}
 use Rattle.hp_tree.specs.declared.costs.Walked.{Walked}
 use Rattle.hp_tree.specs.PolicyTree.{Deciding, Stop}

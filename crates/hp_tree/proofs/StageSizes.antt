@@ -16,7 +16,7 @@ use Rattle.hp_theory.specs.Tree.{InBox}
 use Rattle.hp_theory.specs.View.{node_of, problem_of}
 use Rattle.hp_theory.proofs.SealedParts.{Parts, parts, numbers_counted}
 use Rattle.hp_forward.specs.Costing.{stage_cost_of}
-use Rattle.hp_forward.specs.Given.{IsStateAt}
+use Rattle.hp_cut.specs.AtNodes.{IsStateAt}
 use Rattle.hp_tree.specs.Small.{most_cost}
 use Rattle.hp_tree.specs.TooBig.{sizes, reach, reaches, stage_size, node_size, most_size}
 

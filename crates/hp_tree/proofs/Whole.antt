@@ -11,7 +11,6 @@ use Rattle.hp_problem.specs.Sealed.{Sealed, is_sealed, graph_of}
 use Rattle.hp_theory.specs.declared.cut.Cut.{Cut}
 use Rattle.hp_theory.specs.Bound.{bound}
 use Rattle.hp_theory.specs.Cost.{policy_cost}
-use Rattle.hp_theory.specs.Fit.{Fit}
 use Rattle.hp_theory.specs.Fraction.{Fraction}
 use Rattle.hp_theory.specs.Pools.{Sound}
 use Rattle.hp_theory.specs.Problem.{S, Link, link_weights}
@@ -21,12 +20,13 @@ use Rattle.hp_theory.proofs.BoundBelow.{sound_bound}
 use Rattle.hp_theory.proofs.Denominators.{positive_policy}
 use Rattle.hp_theory.proofs.SealedPremises.{root-sealed, root_shaped-sealed}
 use Rattle.hp_theory.proofs.Views.{All-links_of, root-problem_of}
+use Rattle.hp_cut.specs.AtNodes.{PoolsFit}
 use Rattle.hp_cut.proofs.Weighted.{have_cuts-fit}
 use Rattle.hp_settle.specs.declared.judging.Dead.{Dead}
-use Rattle.hp_lp.specs.Chained.{Solving}
+use Rattle.hp_settle.specs.declared.plan_fault.PlanFault.{PlanFault}
+use Rattle.hp_settle.specs.Faults.{Gives}
+use Rattle.hp_solver.specs.Solving.{Solving}
 use Rattle.hp_sampler.proofs.Draws.{root_counted}
-use Rattle.hp_forward.specs.declared.deciding.StageFault.{StageFault}
-use Rattle.hp_forward.specs.Given.{Gives}
 use Rattle.hp_tree.specs.declared.costs.Walked.{Walked}
 use Rattle.hp_tree.specs.declared.walking.Missed.{Missed}
 use Rattle.hp_tree.specs.declared.walking.Verdict.{Verdict}
@@ -147,13 +147,13 @@ module _ (p : Sealed) (e : is_sealed p ≡ true) where
     abbrev pub TwoSided : List (List Cut) → ℤ → Type 0
     TwoSided pools upper = (f : Forest) × Policy (problem_of p) S f × IsUpper (problem_of p) f upper × (Sound (problem_of p) pools → bound (problem_of p) pools ≤ℤ upper)
 
-    policy_sides : (pools : List (List Cut)) → Fit (problem_of p) (length p.raw.nodes) pools → (f : Forest) → Policy (problem_of p) S f → TwoSided pools (upper_of (problem_of p) f)
+    policy_sides : (pools : List (List Cut)) → PoolsFit p pools → (f : Forest) → Policy (problem_of p) S f → TwoSided pools (upper_of (problem_of p) f)
     policy_sides pools fit f policy =
         let some = positive_policy p S f e S_some in
         let upper = upper_is (problem_of p) f some in
         (f, policy, upper, λ sound. under_upper (problem_of p) f (bound (problem_of p) pools) (upper_of (problem_of p) f) some (sound_bound (problem_of p) pools (root_shaped-sealed p e) (have_cuts-fit p pools e fit) sound S f S_some policy) upper)
 
-    pub two_sided : (pools : List (List Cut)) → Fit (problem_of p) (length p.raw.nodes) pools → (r : Result Verdict StageFault) → Gives r (judged (problem_of p) (tree >>= λ f. Ok f.0)) → OnCost r (TwoSided pools)
+    pub two_sided : (pools : List (List Cut)) → PoolsFit p pools → (r : Result Verdict PlanFault) → Gives r (judged (problem_of p) (tree >>= λ f. Ok f.0)) → OnCost r (TwoSided pools)
     two_sided pools fit r g = by tree r (policy_feasible p e decide law p.longest root_ranks) g
       where
         cost_same : (x y : ℤ) (r : Result Verdict Dead) → r ≡ Ok (verdicts.Cost x) → r ≡ Ok (verdicts.Cost y) → x ≡ y
@@ -165,7 +165,7 @@ module _ (p : Sealed) (e : is_sealed p ≡ true) where
         no_cost_missed : (x : ℤ) (m : Missed) (r : Result Verdict Dead) → r ≡ Ok (verdicts.Missed (reverse m.branches) m.row m.residual) → r ≡ Ok (verdicts.Cost x) → ⊥
         no_cost_missed x m r e f = cc
 
-        by : (b : Grown Forest) (r : Result Verdict StageFault) → IfOk b (λ (f : Forest × ℕ). Policy (problem_of p) S f.0) → Gives r (judged (problem_of p) (b >>= λ f. Ok f.0)) → OnCost r (TwoSided pools)
+        by : (b : Grown Forest) (r : Result Verdict PlanFault) → IfOk b (λ (f : Forest × ℕ). Policy (problem_of p) S f.0) → Gives r (judged (problem_of p) (b >>= λ f. Ok f.0)) → OnCost r (TwoSided pools)
         by (Ok f) (Ok (verdicts.Cost u)) h g = subst (TwoSided pools) (cost_same (upper_of (problem_of p) f.0) u (Ok (verdicts.Cost (upper_of (problem_of p) f.0))) refl g) (policy_sides pools fit f.0 h)
         by (Err (dead d)) (Ok (verdicts.Cost u)) h g = absurd (no_cost_dead u d (Err d) refl g)
         by (Err (missed m)) (Ok (verdicts.Cost u)) h g = absurd (no_cost_missed u m (Ok (verdicts.Missed (reverse m.branches) m.row m.residual)) refl g)
@@ -181,6 +181,6 @@ module _ {Start Chain : Type 0} (v : Solving Start Chain) (p : Sealed) (e : is_s
   pub verdict_by_cost : verdict_of v p pools ≡ rounded (root_cost (decide_branch v p pools) (problem_of p) p.longest)
   verdict_by_cost = verdict_by_tree ∙ same_verdict p e (decide_branch v p pools) (lawful v p pools e)
 
-  pub sides_by_verdict : Fit (problem_of p) (length p.raw.nodes) pools → (r : Result Verdict StageFault) → Gives r (verdict_of v p pools)
+  pub sides_by_verdict : PoolsFit p pools → (r : Result Verdict PlanFault) → Gives r (verdict_of v p pools)
       → OnCost r (λ upper. (f : Forest) × Policy (problem_of p) S f × IsUpper (problem_of p) f upper × (Sound (problem_of p) pools → bound (problem_of p) pools ≤ℤ upper))
   sides_by_verdict fit r g = two_sided p e (decide_branch v p pools) (lawful v p pools e) pools fit r (subst (λ (x : Result Verdict Dead). Gives r x) verdict_by_tree g)

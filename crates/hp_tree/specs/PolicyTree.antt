@@ -9,7 +9,7 @@ use Rattle.hp_theory.specs.Problem.{S, Realization, Link, Problem, node_at}
 use Rattle.hp_theory.specs.Tree.{Tree, Forest, no_branch, branch, no_tree, tree, times_all}
 use Rattle.hp_theory.specs.View.{problem_of}
 use Rattle.hp_settle.specs.declared.judging.Dead.{Dead}
-use Rattle.hp_lp.specs.Chained.{Solving}
+use Rattle.hp_solver.specs.Solving.{Solving}
 use Rattle.hp_sampler.specs.declared.steps.Step.{Step}
 use Rattle.hp_forward.specs.declared.deciding.Decided.{Decided}
 use Rattle.hp_forward.specs.Costing.{residuals_of}

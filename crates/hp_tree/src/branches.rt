@@ -3,35 +3,31 @@ ghost use Rattle.std.specs.Prelude.{◌≡◌, ◌<◌, ◌∷◌, [], ℕ, ℤ,
 ghost use Rattle.hp_problem.specs.Limits.{are_values};
 ghost use Rattle.hp_problem.specs.Parts.{successors_at};
 ghost use Rattle.hp_problem.specs.Sealed.{subproblem_of};
-ghost use Rattle.hp_theory.specs.Fit.{Fit};
 ghost use Rattle.hp_theory.specs.Problem.{S, node_at};
 ghost use Rattle.hp_theory.specs.Tree.{InBox};
 ghost use Rattle.hp_theory.specs.View.{problem_of};
-ghost use Rattle.hp_lp.specs.Chained.{solving};
-ghost use Rattle.hp_lp.specs.Ready.{AreReady};
+ghost use Rattle.hp_cut.specs.AtNodes.{IsStateAt, PoolsFit};
+ghost use Rattle.hp_settle.specs.Faults.{Refutes};
 ghost use Rattle.hp_forward.specs.Costing.{residuals_of};
-ghost use Rattle.hp_forward.specs.Given.{IsStateAt, Refutes};
 ghost use Rattle.hp_tree.specs.PolicyTree.{decide_branch, first_missed, unless_missed};
 ghost use Rattle.hp_tree.specs.Verdicts.{GivesWalk, OnDead};
 
 use crate::walking::{Fault, Missed};
 use hp_cut::Pools;
-use hp_forward::{Decided, StageFault, residual};
-use hp_lp::{SpareRows, Starts};
+use hp_forward::{Decided, StageInput, residual};
+use hp_lp::{Planner, Workspace};
 use hp_mend::decide_mended;
-use hp_num::{List, Memory};
+use hp_num::List;
 use hp_problem::Problem;
 use hp_sampler::Step;
 use hp_solver::Solver;
 use std::alloc::Global;
 
-/// The fixed parts of a walk: the problem, its pools, and the solver with its starts.
+/// The fixed parts of a walk: the planner and the pools.
 #[derive(Drop)]
 pub(crate) struct Course<'a, V: Solver> {
-    pub(crate) problem: &'a Problem,
+    pub(crate) planner: &'a Planner<'a, V>,
     pub(crate) pools: &'a Pools,
-    pub(crate) solver: &'a V,
-    pub(crate) starts: &'a Starts<V>,
 }
 
 /// The number of rows of a node.
@@ -89,48 +85,34 @@ fn unless_missed(
     }
 }
 
-/// Decides at a branch, after so many others, and mends the decisions where a point was found.
+/// Decides at a branch, after as many others as the input's `run` says, and mends the decisions where a point was found.
 #[tactic(auto, unfolding(crate::specs::PolicyTree::decide_branch))]
 pub(crate) fn decide_branch<V: Solver>(
-    alloc: Global,
+    work: &mut Workspace,
     course: &Course<V>,
-    run: u32,
-    step: Step,
-    values: &[i64],
-    state: &[i128],
+    realization: u32,
+    input: &StageInput,
 ) -> Result<Decided, Fault>
-    requires known { step.node < length course.now.problem.now.raw.nodes }
-    requires values { are_values (subproblem_of course.now.problem.now step.node) values.now ≡ true }
-    requires state { IsStateAt course.now.problem.now step.node state.now }
-    requires fit { Fit (problem_of course.now.problem.now) (length course.now.problem.now.raw.nodes) course.now.pools.now.lists }
-    requires ready { AreReady (V.started course.now.solver.now) (V.suits course.now.solver.now) course.now.problem.now course.now.starts.now.items }
-    ensures value { GivesWalk result (decide_branch (solving (V.started course.now.solver.now) (V.begun course.now.solver.now) (V.next course.now.solver.now)) course.now.problem.now course.now.pools.now.lists run step values.now state.now) }
-    ensures inside { let n = node_at (problem_of course.now.problem.now) step.node in
+    requires known { input.now.node < length course.now.planner.now.problem.now.raw.nodes }
+    requires values { are_values (subproblem_of course.now.planner.now.problem.now input.now.node) input.now.values.now ≡ true }
+    requires state { IsStateAt course.now.planner.now.problem.now input.now.node input.now.state.now }
+    requires fit { PoolsFit course.now.planner.now.problem.now course.now.pools.now.lists }
+    ensures value { GivesWalk result (decide_branch (V.does course.now.planner.now.solver.now) course.now.planner.now.problem.now course.now.pools.now.lists input.now.run (record { node = input.now.node; realization = realization }) input.now.values.now input.now.state.now) }
+    ensures inside { let n = node_at (problem_of course.now.planner.now.problem.now) input.now.node in
         IfOk result (λ d. InBox S n.decision_low n.decision_high d.decisions) }
-    ensures next { IfOk result (λ d. (m : ℕ) → Contains (successors_at course.now.problem.now.raw step.node) m
-        → IsStateAt course.now.problem.now m d.next) }
-    ensures dead { OnDead result (Refutes course.now.problem.now) }
+    ensures next { let p = course.now.planner.now.problem.now in
+        IfOk result (λ d. (m : ℕ) → Contains (successors_at p.raw input.now.node) m
+        → IsStateAt p m d.next) }
+    ensures dead { OnDead result (Refutes course.now.planner.now.problem.now) }
 {
-    let problem = course.problem;
-    let mut spare = SpareRows::new(alloc);
-    let decided = decide_mended(
-        alloc,
-        &mut spare,
-        problem,
-        course.pools,
-        course.solver,
-        course.starts,
-        run,
-        step.node,
-        values,
-        state,
-    )?;
+    let decided = decide_mended(work, course.planner, course.pools, input)?;
+    let node = input.node;
     let missed = first_missed(
-        problem,
-        step.node,
+        course.planner.problem(),
+        node,
         decided.decisions.as_slice(),
-        state,
-        values,
+        input.state,
+        input.values,
     );
-    unless_missed(alloc, step, missed, decided)
+    unless_missed(work.alloc(), Step { node, realization }, missed, decided)
 }

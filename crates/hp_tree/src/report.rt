@@ -1,10 +1,9 @@
 // The report of a verdict.
 ghost use Rattle.std.specs.Prelude.{◌≡◌, ◌++◌, OnOk, IfOk, codes, length};
 ghost use Rattle.std.specs.List.{flat_map};
-ghost use Rattle.hp_theory.specs.Fit.{Fit};
-ghost use Rattle.hp_theory.specs.View.{problem_of};
 ghost use Rattle.hp_report.specs.Report.{word};
 ghost use Rattle.hp_tree.specs.Report.{branch_line, verdict_lines, verdict_text};
+ghost use Rattle.hp_cut.specs.AtNodes.{PoolsFit};
 
 use crate::walking::Verdict;
 use hp_cut::Pools;
@@ -67,7 +66,7 @@ pub fn verdict_report(
     pools: &Pools,
     verdict: &Verdict,
 ) -> Result<Vec<u8>, Memory>
-    requires { Fit (problem_of problem.now) (length problem.now.raw.nodes) pools.now.lists }
+    requires { PoolsFit problem.now pools.now.lists }
     ensures { IfOk result (λ v. v.items ≡ verdict_text problem.now pools.now.lists verdict.now) }
 {
     let mut out = Vec::new(alloc);

@@ -1,13 +1,11 @@
 // The walk through the tree of the policy.
 ghost use Rattle.std.specs.Prelude.{◌≡◌};
-ghost use Rattle.hp_forward.specs.declared.deciding.StageFault.TheVariants as stages;
+ghost use Rattle.hp_settle.specs.declared.plan_fault.PlanFault.TheVariants as plans;
 ghost use Rattle.hp_tree.specs.declared.walking.Fault.TheVariants as faults;
-ghost use Rattle.hp_tree.specs.Verdicts.{fault_of};
 
-use hp_forward::StageFault;
 use hp_num::{List, Memory};
 use hp_sampler::Step;
-use hp_settle::Dead;
+use hp_settle::PlanFault;
 
 /// The cost of the whole policy, or the first row that it misses.
 #[derive(Drop)]
@@ -39,26 +37,22 @@ pub(crate) struct Missed {
 // Why a walk ends before its end.
 #[derive(Drop)]
 pub(crate) enum Fault {
-    NoStage(Dead),
     Missed(Missed),
-    Memory,
+    Stopped(PlanFault),
 }
 
 impl From<Memory> for Fault {
-    ghost from_gives = { λ _ e. e ≡ faults.Memory };
+    ghost from_gives = { λ _ e. e ≡ faults.Stopped plans.Memory };
 
     fn from(_: Memory) -> Self {
-        Fault::Memory
+        Fault::Stopped(PlanFault::Memory)
     }
 }
 
-impl From<StageFault> for Fault {
-    ghost from_gives = { λ f e. e ≡ fault_of f };
+impl From<PlanFault> for Fault {
+    ghost from_gives = { λ f e. e ≡ faults.Stopped f };
 
-    fn from(fault: StageFault) -> Self {
-        match fault {
-            StageFault::NoStage(dead) => Fault::NoStage(dead),
-            StageFault::Memory => Fault::Memory,
-        }
+    fn from(fault: PlanFault) -> Self {
+        Fault::Stopped(fault)
     }
 }

@@ -17,6 +17,17 @@ use hp_warm_table::numbers::bits;
 use hp_warm_table::{Cell, Scales, Table};
 use std::alloc::Global;
 
+/// A basic variable of a table that violates a bound, and that nothing brings back to it.
+#[derive(Clone, Copy)]
+struct Stuck<'a> {
+    table: &'a Table,
+    /// The cells by which it depends on the nonbasic variables, one for each place.
+    line: &'a [Cell],
+    variable: usize,
+    /// Whether it is above its upper bound, and else below its lower one.
+    above: bool,
+}
+
 // The factor of the violated variable's own row.
 fn own_factor(above: bool) -> i64
     ensures value { result ≡ own_factor above }
@@ -35,20 +46,20 @@ fn turned(above: bool, cell: Cell) -> i64
 
 // The scaled factor of a row.
 #[tactic(auto, unfolding(crate::specs::Ray::factor_at))]
-fn factor_at(table: &Table, line: &[Cell], variable: usize, above: bool, row: usize) -> i64
-    requires sized { IsTable table.now }
-    requires line { length line.now ≡ length table.now.costs }
-    requires row { row < length table.now.rows }
-    ensures value { result ≡ factor_at table.now line.now variable above row }
+fn factor_at(stuck: &Stuck, row: usize) -> i64
+    requires sized { IsTable stuck.now.table.now }
+    requires line { length stuck.now.line.now ≡ length stuck.now.table.now.costs }
+    requires row { row < length stuck.now.table.now.rows }
+    ensures value { result ≡ factor_at stuck.now.table.now stuck.now.line.now stuck.now.variable stuck.now.above row }
     ensures small { nat_abs result < 2 ^ 60 }
 {
-    let slack = slack_of(table, row);
-    if slack == variable {
-        return own_factor(above);
+    let slack = slack_of(stuck.table, row);
+    if slack == stuck.variable {
+        return own_factor(stuck.above);
     }
-    match place_of(table, slack) {
+    match place_of(stuck.table, slack) {
         None => 0,
-        Some(place) => turned(above, line[place]),
+        Some(place) => turned(stuck.above, stuck.line[place]),
     }
 }
 
@@ -77,45 +88,29 @@ fn with_digits(best: Option<i64>, factor: i64, exponent: i32) -> Option<i64>
 }
 
 // The greatest digits and exponent of all factors other than 0.
-fn greatest(
-    table: &Table,
-    line: &[Cell],
-    variable: usize,
-    above: bool,
-    exponents: &[i32],
-) -> Option<i64>
-    requires sized { IsTable table.now }
-    requires line { length line.now ≡ length table.now.costs }
-    requires rows { length exponents.now ≤ length table.now.rows }
-    ensures value { result ≡ greatest_from table.now line.now variable above 0 None exponents.now }
+fn greatest(stuck: &Stuck, exponents: &[i32]) -> Option<i64>
+    requires sized { IsTable stuck.now.table.now }
+    requires line { length stuck.now.line.now ≡ length stuck.now.table.now.costs }
+    requires rows { length exponents.now ≤ length stuck.now.table.now.rows }
+    ensures value { result ≡ greatest_from stuck.now.table.now stuck.now.line.now stuck.now.variable stuck.now.above 0 None exponents.now }
     ensures small { IfSome result (λ b. nat_abs b ≤ 2 ^ 32) }
 {
     let mut best = None;
     for i in 0..exponents.len() {
-        best = with_digits(
-            best,
-            factor_at(table, line, variable, above, i),
-            exponents[i],
-        );
+        best = with_digits(best, factor_at(stuck, i), exponents[i]);
     }
     best
 }
 
 // The most binary digits that a factor of one of the own rows has once it is no longer scaled, if one is not 0.
 #[tactic(auto, unfolding(crate::specs::Ray::top_of))]
-fn top_of(table: &Table, line: &[Cell], variable: usize, above: bool, own: usize) -> Option<i64>
-    requires sized { IsTable table.now }
-    requires line { length line.now ≡ length table.now.costs }
-    ensures value { result ≡ top_of table.now line.now variable above own }
+fn top_of(stuck: &Stuck, own: usize) -> Option<i64>
+    requires sized { IsTable stuck.now.table.now }
+    requires line { length stuck.now.line.now ≡ length stuck.now.table.now.costs }
+    ensures value { result ≡ top_of stuck.now.table.now stuck.now.line.now stuck.now.variable stuck.now.above own }
     ensures small { IfSome result (λ top. nat_abs top ≤ 2 ^ 32) }
 {
-    greatest(
-        table,
-        line,
-        variable,
-        above,
-        front(table.scales.rows.as_slice(), own),
-    )
+    greatest(stuck, front(stuck.table.scales.rows.as_slice(), own))
 }
 
 // Gives the power of two by which the factor of a row is multiplied.
@@ -128,76 +123,56 @@ fn ray_exponent(scales: &Scales, row: usize, top: i64) -> i64
 }
 
 // The factor of a row, no longer scaled, so that the greatest has 60 digits. It is always there.
-fn unscaled(
-    table: &Table,
-    line: &[Cell],
-    variable: usize,
-    above: bool,
-    top: i64,
-    own: usize,
-    row: usize,
-) -> Option<i128>
-    requires sized { IsTable table.now }
-    requires line { length line.now ≡ length table.now.costs }
-    requires own { own ≤ length table.now.rows }
+fn unscaled(stuck: &Stuck, top: i64, own: usize, row: usize) -> Option<i128>
+    requires sized { IsTable stuck.now.table.now }
+    requires line { length stuck.now.line.now ≡ length stuck.now.table.now.costs }
+    requires own { own ≤ length stuck.now.table.now.rows }
     requires row { row < own }
-    requires top { Some top ≡ top_of table.now line.now variable above own }
+    requires top { Some top ≡ top_of stuck.now.table.now stuck.now.line.now stuck.now.variable stuck.now.above own }
     requires small { nat_abs top ≤ 2 ^ 32 }
-    ensures value { result ≡ shift_of (factor_at table.now line.now variable above row) ((entry table.now.scales.rows row +ℤ pos 60) -ℤ top) }
+    ensures value { result ≡ shift_of (factor_at stuck.now.table.now stuck.now.line.now stuck.now.variable stuck.now.above row) ((entry stuck.now.table.now.scales.rows row +ℤ pos 60) -ℤ top) }
     ensures there { IsSome result }
 {
-    let factor = i128::from(factor_at(table, line, variable, above, row));
-    shift_by(factor, ray_exponent(&table.scales, row, top))
+    let factor = i128::from(factor_at(stuck, row));
+    shift_by(factor, ray_exponent(&stuck.table.scales, row, top))
 }
 
 // The dual of a row. It is always there.
 #[tactic(auto, unfolding(crate::specs::Ray::ray_dual))]
-fn ray_dual(
-    table: &Table,
-    line: &[Cell],
-    variable: usize,
-    above: bool,
-    top: i64,
-    own: usize,
-    number: usize,
-    row: &LpRow,
-) -> Option<Fx>
-    requires sized { IsTable table.now }
-    requires line { length line.now ≡ length table.now.costs }
-    requires own { own ≤ length table.now.rows }
+fn ray_dual(stuck: &Stuck, top: i64, own: usize, number: usize, row: &LpRow) -> Option<Fx>
+    requires sized { IsTable stuck.now.table.now }
+    requires line { length stuck.now.line.now ≡ length stuck.now.table.now.costs }
+    requires own { own ≤ length stuck.now.table.now.rows }
     requires row { number < own }
-    requires top { Some top ≡ top_of table.now line.now variable above own }
+    requires top { Some top ≡ top_of stuck.now.table.now stuck.now.line.now stuck.now.variable stuck.now.above own }
     requires small { nat_abs top ≤ 2 ^ 32 }
-    ensures value { result ≡ ray_dual table.now line.now variable above top number row.now }
+    ensures value { result ≡ ray_dual stuck.now.table.now stuck.now.line.now stuck.now.variable stuck.now.above top number row.now }
     ensures there { IsSome result }
 {
-    let dual = unscaled(table, line, variable, above, top, own, number)?;
+    let dual = unscaled(stuck, top, own, number)?;
     Some(clipped(row, Fx(dual)))
 }
 
 // The duals of the own rows.
 fn ray_duals(
     alloc: Global,
-    table: &Table,
-    line: &[Cell],
-    variable: usize,
-    above: bool,
+    stuck: &Stuck,
     top: i64,
     lp: &StageLp,
 ) -> Result<Option<List<Fx>>, Memory>
-    requires sized { IsTable table.now }
-    requires line { length line.now ≡ length table.now.costs }
-    requires own { lp.now.own ≤ length table.now.rows }
-    requires top { Some top ≡ top_of table.now line.now variable above lp.now.own }
+    requires sized { IsTable stuck.now.table.now }
+    requires line { length stuck.now.line.now ≡ length stuck.now.table.now.costs }
+    requires own { lp.now.own ≤ length stuck.now.table.now.rows }
+    requires top { Some top ≡ top_of stuck.now.table.now stuck.now.line.now stuck.now.variable stuck.now.above lp.now.own }
     requires small { nat_abs top ≤ 2 ^ 32 }
-    ensures value { IfOk result (λ found. found ≡ ray_duals table.now line.now variable above lp.now top) }
+    ensures value { IfOk result (λ found. found ≡ ray_duals stuck.now.table.now stuck.now.line.now stuck.now.variable stuck.now.above lp.now top) }
     ensures there { IfOk result (λ found. IsSome found) }
 {
     let own = lp.own();
     let rows = own_rows(lp);
     let mut found = with_room(alloc, rows.len())?;
     for i in 0..rows.len() {
-        match ray_dual(table, line, variable, above, top, own, i, &rows[i]) {
+        match ray_dual(stuck, top, own, i, &rows[i]) {
             Some(dual) => found.push(dual)?,
             None => return Ok(None),
         }
@@ -239,10 +214,16 @@ pub fn ray(
     ensures answer { IfOk result (λ answer. answer ≡ ray_of table.now line.now variable above lp.now) }
     ensures duals { OnOk result (IfSome (top_of table.now line.now variable above lp.now.own) (λ top. IsSome (ray_duals table.now line.now variable above lp.now top))) }
 {
-    let Some(top) = top_of(table, line, variable, above, lp.own()) else {
+    let stuck = Stuck {
+        table: &*table,
+        line: &*line,
+        variable,
+        above,
+    };
+    let Some(top) = top_of(&stuck, lp.own()) else {
         return Ok(None);
     };
-    match ray_duals(alloc, table, line, variable, above, top, lp)? {
+    match ray_duals(alloc, &stuck, top, lp)? {
         None => Ok(None),
         Some(duals) => where_proved(alloc, lp, duals),
     }

@@ -8,3 +8,8 @@ pub mod Sized
 pub mod Terms
 pub mod Values
 pub mod Worked
+pub mod Keeping
+pub mod Sizes
+pub mod Standing
+pub mod Tightening
+pub mod WorkedRebuild

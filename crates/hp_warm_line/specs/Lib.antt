@@ -4,3 +4,6 @@ pub mod Move
 pub mod Pivot
 pub mod Refine
 pub mod Sparse
+pub mod Clean
+pub mod Standings
+pub mod Tighten

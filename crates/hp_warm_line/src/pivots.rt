@@ -10,6 +10,7 @@ ghost use Rattle.hp_warm_table.specs.Updates.{Gives, moved_row};
 ghost use Rattle.hp_warm_table.specs.Sparse.{sparse};
 ghost use Rattle.hp_warm_line.specs.Pivot.{minus_one, inverse_of, turned, turned_line, moved_or_kept, entered, flipped, exchanged, eliminated, replaced, pivoted};
 
+use crate::moves::Swap;
 use crate::sums::plus;
 use hp_num::List;
 use hp_warm_table::numbers::{bits, power, product, quotient};
@@ -193,52 +194,54 @@ fn turn_line(line: &mut List<Cell>, place: usize) -> bool
     turn(line.as_mut_slice(), place)
 }
 
+/// The entering variable's line, by which the lines of the other basic columns change in a pivot.
+#[derive(Clone, Copy)]
+struct Elimination<'a> {
+    /// The place of each variable that is not basic before the pivot.
+    places: &'a [Option<usize>],
+    /// The variable that leaves.
+    leaving: usize,
+    /// The place where it goes.
+    place: usize,
+    /// The line of the variable that enters.
+    entering: &'a [Cell],
+    /// The cells of that line that are not 0, with their places.
+    steps: &'a [(usize, Cell)],
+}
+
 // The line of column k after the pivot.
 #[tactic(auto, unfolding(crate::specs::Pivot::moved_or_kept), using(crate::proofs::Lines::kept_line))]
-fn move_line(
-    lines: &mut Square,
-    places: &[Option<usize>],
-    leaving: usize,
-    place: usize,
-    entering: &[Cell],
-    steps: &[(usize, Cell)],
-    k: usize,
-) -> bool
-    requires steps { steps.now ≡ sparse 0 entering.now }
+fn move_line(lines: &mut Square, by: &Elimination, k: usize) -> bool
+    requires steps { by.now.steps.now ≡ sparse 0 by.now.entering.now }
     requires there { k < length lines.old }
-    requires places { k < length places.now }
-    requires place { place < length lines.old }
-    requires width { length entering.now ≡ length lines.old }
+    requires places { k < length by.now.places.now }
+    requires place { by.now.place < length lines.old }
+    requires width { length by.now.entering.now ≡ length lines.old }
     ensures count { length lines.new ≡ length lines.old }
     ensures moved { Gives result (option_map (slice_set lines.old k)
-        (moved_or_kept places.now leaving place entering.now k (get_or lines.old k []))) lines.new }
+        (moved_or_kept by.now.places.now by.now.leaving by.now.place by.now.entering.now k (get_or lines.old k [])))
+        lines.new }
 {
-    if places[k].is_none() && k != leaving {
-        lines.move_row(k, place, entering, steps)
+    if by.places[k].is_none() && k != by.leaving {
+        lines.move_row(k, by.place, by.entering, by.steps)
     } else {
         true
     }
 }
 
 // The lines of all columns after the pivot, but for that of the entering one.
-fn move_lines(
-    lines: &mut Square,
-    places: &[Option<usize>],
-    leaving: usize,
-    place: usize,
-    entering: &[Cell],
-    steps: &[(usize, Cell)],
-) -> bool
-    requires steps { steps.now ≡ sparse 0 entering.now }
-    requires places { length lines.old ≤ length places.now }
-    requires place { place < length lines.old }
-    requires width { length entering.now ≡ length lines.old }
+fn move_lines(lines: &mut Square, by: &Elimination) -> bool
+    requires steps { by.now.steps.now ≡ sparse 0 by.now.entering.now }
+    requires places { length lines.old ≤ length by.now.places.now }
+    requires place { by.now.place < length lines.old }
+    requires width { length by.now.entering.now ≡ length lines.old }
     ensures count { length lines.new ≡ length lines.old }
     ensures moved { Gives result
-        (each_from (moved_or_kept places.now leaving place entering.now) 0 lines.old) lines.new }
+        (each_from (moved_or_kept by.now.places.now by.now.leaving by.now.place by.now.entering.now) 0 lines.old)
+        lines.new }
 {
     for k in 0..lines.size() {
-        if !move_line(lines, places, leaving, place, entering, steps, k) {
+        if !move_line(lines, by, k) {
             return false;
         }
     }
@@ -322,7 +325,14 @@ fn eliminate_by(
     ensures eliminated { Gives result (eliminated table.old line.now leaving place) table.new }
 {
     let places = table.basis.places.as_slice();
-    if !move_lines(&mut table.lines, places, leaving, place, line, steps) {
+    let by = Elimination {
+        places,
+        leaving,
+        place,
+        entering: line,
+        steps,
+    };
+    if !move_lines(&mut table.lines, &by) {
         return false;
     }
     move_reduced(&mut table.reduced, place, line, steps)
@@ -379,26 +389,24 @@ fn replace(
 }
 
 /// Pivots: a basic variable, with its line, leaves for the variable at a place, and stands at its upper bound where it was
-/// above that. The variables at some more places, the flips, change their bounds. `line` is for work after that, and `steps`,
-/// as many places with cells as columns, too. The answer is false exactly where a number of it has an absolute value of 2^60 or
-/// more: the basis is then as before, and nothing is promised of the reduced costs and of the lines. All else of the table
-/// stays.
+/// above that. The variables at some more places, the flips, change their bounds. What the swap says of a violation plays no
+/// part. `line` is for work after that, and `steps`, as many places with cells as columns, too. The answer is false exactly
+/// where a number of it has an absolute value of 2^60 or more: the basis is then as before, and nothing is promised of the
+/// reduced costs and of the lines. All else of the table stays.
 #[tactic(auto, unfolding(crate::specs::Pivot::pivoted, crate::specs::Pivot::replaced))]
 pub fn pivot(
     table: &mut Table,
     line: &mut List<Cell>,
     steps: &mut List<(usize, Cell)>,
-    leaving: usize,
-    above: bool,
-    place: usize,
+    swap: Swap,
     flips: &[usize],
 ) -> bool
     requires sized { IsTable table.old }
     requires width { length line.old ≡ length table.old.costs }
     requires steps { length steps.old ≡ length table.old.costs }
-    requires there { leaving < variables table.old }
-    requires place { place < length table.old.costs }
-    requires pivot { 0 < nat_abs (entry line.old place) }
+    requires there { swap.leaving < variables table.old }
+    requires place { swap.place < length table.old.costs }
+    requires pivot { 0 < nat_abs (entry line.old swap.place) }
     requires flips { All (λ j. j < length table.old.costs) flips.now }
     ensures sized { IsTable table.new }
     ensures width { length line.new ≡ length line.old }
@@ -406,15 +414,22 @@ pub fn pivot(
     ensures kept { table.new
         ≡ with_basis table.old table.new.basis table.new.reduced table.new.lines }
     ensures stopped { result ≡ false → table.new.basis ≡ table.old.basis }
-    ensures pivoted { Gives result (pivoted table.old line.old leaving above place flips.now)
+    ensures pivoted { Gives result (pivoted table.old line.old swap.leaving swap.above swap.place flips.now)
         table.new }
 {
-    if !turn_line(line, place) {
+    if !turn_line(line, swap.place) {
         return false;
     }
-    if !eliminate(table, line.as_slice(), steps, leaving, place) {
+    if !eliminate(table, line.as_slice(), steps, swap.leaving, swap.place) {
         return false;
     }
-    replace(table, line.as_slice(), leaving, above, place, flips);
+    replace(
+        table,
+        line.as_slice(),
+        swap.leaving,
+        swap.above,
+        swap.place,
+        flips,
+    );
     true
 }

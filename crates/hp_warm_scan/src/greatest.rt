@@ -7,7 +7,7 @@ ghost use Rattle.hp_warm_scale.specs.Walks.{walk};
 ghost use Rattle.hp_warm_scale.specs.Waiting.{last_column, waits};
 ghost use Rattle.hp_warm_scan.specs.Values.{is_greater, greatest_step, greatest_cuts, AreWithin, AreCuts, IsWithin};
 
-use crate::packed::{take_packed, write_leaving};
+use crate::packed::{Lookup, take_packed, write_leaving};
 use crate::values::cut_value;
 use hp_num::{List, Memory};
 use hp_solver::{Cuts, LpRow, PackedView, StageLp};
@@ -48,23 +48,23 @@ fn take_row(
     }
 }
 
-// Looks at cuts that are listed. The first is the program's row `first`.
-fn take_rows(
-    greatest: &mut [Option<(usize, i128)>],
-    waiting: &[bool],
-    states: &[i128],
-    first: usize,
-    cuts: &[LpRow],
-)
-    requires few { first + length cuts.now < 2 ^ 64 }
+// Looks at cuts that are listed.
+fn take_rows(greatest: &mut [Option<(usize, i128)>], lookup: &Lookup, cuts: &[LpRow])
+    requires few { lookup.now.first + length cuts.now < 2 ^ 64 }
     requires columns { All (λ (r : LpRow). IfSome (last_column r.terms) (λ j. j < length greatest.old)) cuts.now }
-    requires waiting { length waiting.now ≡ length greatest.old }
-    requires within { All (λ (r : LpRow). waits waiting.now r ≡ true → IsWithin states.now r) cuts.now }
-    ensures value { greatest.new ≡ walk (λ i bests (r : LpRow). greatest_step waiting.now states.now i bests r) first greatest.old cuts.now }
+    requires waiting { length lookup.now.waiting.now ≡ length greatest.old }
+    requires within { All (λ (r : LpRow). waits lookup.now.waiting.now r ≡ true → IsWithin lookup.now.states.now r) cuts.now }
+    ensures value { greatest.new ≡ walk (λ i bests (r : LpRow). greatest_step lookup.now.waiting.now lookup.now.states.now i bests r) lookup.now.first greatest.old cuts.now }
     ensures count { length greatest.new ≡ length greatest.old }
 {
     for k in 0..cuts.len() {
-        take_row(greatest, waiting, states, first + k, &cuts[k]);
+        take_row(
+            greatest,
+            lookup.waiting,
+            lookup.states,
+            lookup.first + k,
+            &cuts[k],
+        );
     }
 }
 
@@ -80,50 +80,46 @@ fn rows_before(lp: &StageLp) -> usize
 // Looks at all cuts, of which each is written as a row first.
 fn take_written(
     greatest: &mut [Option<(usize, i128)>],
-    waiting: &[bool],
-    states: &[i128],
-    first: usize,
+    lookup: &Lookup,
     lp: &StageLp,
     row: &mut LpRow,
 ) -> Result<(), Memory>
-    requires columns { All (λ (r : LpRow). IfSome (last_column r.terms) (λ j. j < length greatest.old)) (drop first lp.now.rows) }
-    requires waiting { length waiting.now ≡ length greatest.old }
-    requires within { All (λ (r : LpRow). waits waiting.now r ≡ true → IsWithin states.now r) (drop first lp.now.rows) }
-    ensures value { OnOk result (greatest.new ≡ walk (λ i bests (r : LpRow). greatest_step waiting.now states.now i bests r) first greatest.old (drop first lp.now.rows)) }
+    requires columns { All (λ (r : LpRow). IfSome (last_column r.terms) (λ j. j < length greatest.old)) (drop lookup.now.first lp.now.rows) }
+    requires waiting { length lookup.now.waiting.now ≡ length greatest.old }
+    requires within { All (λ (r : LpRow). waits lookup.now.waiting.now r ≡ true → IsWithin lookup.now.states.now r) (drop lookup.now.first lp.now.rows) }
+    ensures value { OnOk result (greatest.new ≡ walk (λ i bests (r : LpRow). greatest_step lookup.now.waiting.now lookup.now.states.now i bests r) lookup.now.first greatest.old (drop lookup.now.first lp.now.rows)) }
     ensures count { length greatest.new ≡ length greatest.old }
 {
-    for i in first..lp.row_count() {
+    for i in lookup.first..lp.row_count() {
         lp.write_row(i, row)?;
-        take_row(greatest, waiting, states, i, row);
+        take_row(greatest, lookup.waiting, lookup.states, i, row);
     }
     Ok(())
 }
 
-// Looks at all cuts, where these stand side by side. The first is the program's row `first`.
+// Looks at all cuts, where these stand side by side.
 fn take_view(
     greatest: &mut [Option<(usize, i128)>],
-    waiting: &[bool],
-    states: &[i128],
-    first: usize,
+    lookup: &Lookup,
     lp: &StageLp,
     view: &PackedView,
     leaving: &mut List<i64>,
     row: &mut LpRow,
 ) -> Result<(), Memory>
     requires view { IsView view.now }
-    requires cuts { rows_of view.now ≡ drop first lp.now.rows }
-    requires rows { first + length (rows_of view.now) < 2 ^ 64 }
-    requires columns { All (λ (r : LpRow). IfSome (last_column r.terms) (λ j. j < length greatest.old)) (drop first lp.now.rows) }
-    requires waiting { length waiting.now ≡ length greatest.old }
-    requires within { All (λ (r : LpRow). waits waiting.now r ≡ true → IsWithin states.now r) (drop first lp.now.rows) }
-    ensures value { OnOk result (greatest.new ≡ walk (λ i bests (r : LpRow). greatest_step waiting.now states.now i bests r) first greatest.old (drop first lp.now.rows)) }
+    requires cuts { rows_of view.now ≡ drop lookup.now.first lp.now.rows }
+    requires rows { lookup.now.first + length (rows_of view.now) < 2 ^ 64 }
+    requires columns { All (λ (r : LpRow). IfSome (last_column r.terms) (λ j. j < length greatest.old)) (drop lookup.now.first lp.now.rows) }
+    requires waiting { length lookup.now.waiting.now ≡ length greatest.old }
+    requires within { All (λ (r : LpRow). waits lookup.now.waiting.now r ≡ true → IsWithin lookup.now.states.now r) (drop lookup.now.first lp.now.rows) }
+    ensures value { OnOk result (greatest.new ≡ walk (λ i bests (r : LpRow). greatest_step lookup.now.waiting.now lookup.now.states.now i bests r) lookup.now.first greatest.old (drop lookup.now.first lp.now.rows)) }
     ensures count { length greatest.new ≡ length greatest.old }
 {
-    if write_leaving(states, view.outs.as_slice(), leaving)? {
-        take_packed(greatest, waiting, states, leaving.as_slice(), first, view);
+    if write_leaving(lookup.states, view.outs.as_slice(), leaving)? {
+        take_packed(greatest, lookup, leaving.as_slice(), view);
         Ok(())
     } else {
-        take_written(greatest, waiting, states, first, lp, row)
+        take_written(greatest, lookup, lp, row)
     }
 }
 
@@ -145,14 +141,17 @@ fn take_all(
     ensures count { length greatest.new ≡ length greatest.old }
 {
     let first = rows_before(lp);
+    let lookup = Lookup {
+        waiting: &*waiting,
+        states: &*states,
+        first,
+    };
     match lp.cuts() {
         Cuts::Listed(cuts) => {
-            take_rows(greatest, waiting, states, first, cuts);
+            take_rows(greatest, &lookup, cuts);
             Ok(())
         }
-        Cuts::Packed(view) => {
-            take_view(greatest, waiting, states, first, lp, view, leaving, row)
-        }
+        Cuts::Packed(view) => take_view(greatest, &lookup, lp, view, leaving, row),
     }
 }
 

@@ -17,6 +17,15 @@ use crate::values::{plus, product, raised};
 use hp_num::{List, Memory};
 use hp_solver::{CutList, Out, PackedCuts, PackedView};
 
+/// Cuts among which the greatest are looked up: the columns in which cuts wait, the states at which they are compared, and the
+/// program's row of the first.
+#[derive(Clone, Copy)]
+pub(crate) struct Lookup<'a> {
+    pub(crate) waiting: &'a [bool],
+    pub(crate) states: &'a [i128],
+    pub(crate) first: usize,
+}
+
 // Gives the number, or 0 where 64 bits do not hold it.
 fn short_or_zero(number: i128) -> i64
     ensures { result ≡ short_or_zero number }
@@ -279,53 +288,54 @@ fn front(leaving: &[i64], count: usize) -> &[i64]
 // Looks at a successor's cuts, where these wait.
 fn take_successor(
     greatest: &mut [Option<(usize, i128)>],
-    waiting: &[bool],
-    states: &[i128],
+    lookup: &Lookup,
     leaving: &[i64],
-    first: usize,
     outs: &[Out],
     column: usize,
     cuts: &PackedCuts,
 )
     requires count { length leaving.now ≡ 50 }
-    requires rows { first + length cuts.now < 2 ^ 64 }
-    requires leaving { leaving.now ≡ leaving_of states.now outs.now }
-    requires waiting { length waiting.now ≡ length greatest.old }
-    requires within { All (λ (r : LpRow). waits waiting.now r ≡ true → IsWithin states.now r) (map (packed_row outs.now column) cuts.now) }
-    ensures value { greatest.new ≡ walk (λ i bests (r : LpRow). greatest_step waiting.now states.now i bests r) first greatest.old (map (packed_row outs.now column) cuts.now) }
+    requires rows { lookup.now.first + length cuts.now < 2 ^ 64 }
+    requires leaving { leaving.now ≡ leaving_of lookup.now.states.now outs.now }
+    requires waiting { length lookup.now.waiting.now ≡ length greatest.old }
+    requires within { All (λ (r : LpRow). waits lookup.now.waiting.now r ≡ true → IsWithin lookup.now.states.now r) (map (packed_row outs.now column) cuts.now) }
+    ensures value { greatest.new ≡ walk (λ i bests (r : LpRow). greatest_step lookup.now.waiting.now lookup.now.states.now i bests r) lookup.now.first greatest.old (map (packed_row outs.now column) cuts.now) }
     ensures count { length greatest.new ≡ length greatest.old }
 {
-    if is_waiting(waiting, column) {
+    if is_waiting(lookup.waiting, column) {
         let leaving = front(leaving, cuts.states());
-        greatest[column] = take_best(greatest[column], first, cuts, leaving);
+        greatest[column] = take_best(greatest[column], lookup.first, cuts, leaving);
     }
 }
 
-/// Looks at all cuts that stand side by side. The first is the program's row `first`.
+/// Looks at all cuts that stand side by side.
 pub(crate) fn take_packed(
     greatest: &mut [Option<(usize, i128)>],
-    waiting: &[bool],
-    states: &[i128],
+    lookup: &Lookup,
     leaving: &[i64],
-    first: usize,
     view: &PackedView,
 )
     requires view { IsView view.now }
-    requires rows { first + length (rows_of view.now) < 2 ^ 64 }
+    requires rows { lookup.now.first + length (rows_of view.now) < 2 ^ 64 }
     requires count { length leaving.now ≡ 50 }
-    requires leaving { leaving.now ≡ leaving_of states.now view.now.outs }
-    requires waiting { length waiting.now ≡ length greatest.old }
-    requires within { All (λ (r : LpRow). waits waiting.now r ≡ true → IsWithin states.now r) (rows_of view.now) }
-    ensures value { greatest.new ≡ walk (λ i bests (r : LpRow). greatest_step waiting.now states.now i bests r) first greatest.old (rows_of view.now) }
+    requires leaving { leaving.now ≡ leaving_of lookup.now.states.now view.now.outs }
+    requires waiting { length lookup.now.waiting.now ≡ length greatest.old }
+    requires within { All (λ (r : LpRow). waits lookup.now.waiting.now r ≡ true → IsWithin lookup.now.states.now r) (rows_of view.now) }
+    ensures value { greatest.new ≡ walk (λ i bests (r : LpRow). greatest_step lookup.now.waiting.now lookup.now.states.now i bests r) lookup.now.first greatest.old (rows_of view.now) }
     ensures count { length greatest.new ≡ length greatest.old }
 {
     let outs = view.outs.as_slice();
     let cuts = view.cuts.as_slice();
-    let mut row = first;
+    let mut row = lookup.first;
     for k in 0..cuts.len() {
         let column = view.first as usize + k;
         let cuts = &cuts[k];
-        take_successor(greatest, waiting, states, leaving, row, outs, column, cuts);
+        let here = Lookup {
+            waiting: lookup.waiting,
+            states: lookup.states,
+            first: row,
+        };
+        take_successor(greatest, &here, leaving, outs, column, cuts);
         row += cuts.len();
     }
 }

@@ -39,10 +39,21 @@ pub enum Scan {
 /// Lists for the work of scans, kept from one to the next. No scan depends on what they hold.
 #[derive(Drop)]
 pub struct Room {
+    work: ScanWork,
+}
+
+// What a scan works out on its way, from the point of the table to the rows that come in.
+#[derive(Drop)]
+struct ScanWork {
+    // The point of the table.
     point: List<Fx>,
+    // The decisions at that point at which cuts are compared.
     states: List<i128>,
+    // The states that leave the stage.
     leaving: List<i64>,
+    // For each column the row of the greatest of its cuts that wait, and its value.
     greatest: List<Option<(usize, i128)>>,
+    // The last row that was looked at.
     added: AddedRow,
 }
 
@@ -64,7 +75,7 @@ impl Model for Room {
 impl Room {
     /// Makes lists that hold nothing.
     pub fn new(alloc: Global) -> Room {
-        Room {
+        let work = ScanWork {
             point: List::new(alloc),
             states: List::new(alloc),
             leaving: List::new(alloc),
@@ -73,7 +84,8 @@ impl Room {
                 row: blank_row(alloc),
                 scaled: List::new(alloc),
             },
-        }
+        };
+        Room { work }
     }
 }
 
@@ -281,46 +293,31 @@ fn bring_in(
 
 // Writes for each column the greatest of its cuts that wait. False where a number on the way leaves 128 bits.
 #[tactic(auto, unfolding(crate::specs::Values::states_of))]
-fn look_up(
-    lp: &StageLp,
-    table: &Table,
-    point: &mut List<Fx>,
-    states: &mut List<i128>,
-    leaving: &mut List<i64>,
-    greatest: &mut List<Option<(usize, i128)>>,
-    row: &mut LpRow,
-) -> Result<bool, Memory>
+fn look_up(lp: &StageLp, table: &Table, work: &mut ScanWork) -> Result<bool, Memory>
     requires proper { IsProper lp.now }
     requires fits { Fits table.now lp.now }
-    ensures value { IfOk result (λ whole. Gives whole (option_map (greatest_cuts lp.now table.now.cuts.waiting) (states_of table.now lp.now)) greatest.new) }
-    ensures cuts { IfOk result (λ whole. whole ≡ true → AreCuts lp.now greatest.new) }
+    ensures value { IfOk result (λ whole. Gives whole (option_map (greatest_cuts lp.now table.now.cuts.waiting) (states_of table.now lp.now)) work.new.greatest) }
+    ensures cuts { IfOk result (λ whole. whole ≡ true → AreCuts lp.now work.new.greatest) }
 {
-    if !points(table, lp, point)? {
+    if !points(table, lp, &mut work.point)? {
         return Ok(false);
     }
-    write_states(point.as_slice(), states)?;
+    write_states(work.point.as_slice(), &mut work.states)?;
     write_greatest(
-        greatest,
+        &mut work.greatest,
         table.cuts.waiting.as_slice(),
-        states.as_slice(),
+        work.states.as_slice(),
         lp,
-        leaving,
-        row,
+        &mut work.leaving,
+        &mut work.added.row,
     )?;
     Ok(true)
 }
 
-// Scans the cuts as `scan_cuts` does, over lists for the work.
+/// Brings in the greatest waiting cut of each successor at the point of a table, where it is not in yet and the point
+/// violates it. [`Memory`] where memory was refused: nothing is promised of the table then.
 #[tactic(auto, unfolding(crate::specs::Scan::scan_of))]
-fn scan_with(
-    lp: &StageLp,
-    table: &mut Table,
-    point: &mut List<Fx>,
-    states: &mut List<i128>,
-    leaving: &mut List<i64>,
-    greatest: &mut List<Option<(usize, i128)>>,
-    added: &mut AddedRow,
-) -> Result<Scan, Memory>
+pub fn scan_cuts(lp: &StageLp, table: &mut Table, room: &mut Room) -> Result<Scan, Memory>
     requires proper { IsProper lp.now }
     requires fits { Fits table.old lp.now }
     ensures value { IfOk result (λ scan. Scans scan (scan_of lp.now table.old) table.old table.new) }
@@ -330,28 +327,13 @@ fn scan_with(
     if table.rows.len() == lp.row_count() {
         return Ok(Scan::Rests);
     }
-    if !look_up(lp, table, point, states, leaving, greatest, &mut added.row)? {
+    if !look_up(lp, table, &mut room.work)? {
         return Ok(Scan::Stops);
     }
-    bring_in(lp, table, greatest.as_slice(), added)
-}
-
-/// Brings in the greatest waiting cut of each successor at the point of a table, where it is not in yet and the point
-/// violates it. [`Memory`] where memory was refused: nothing is promised of the table then.
-pub fn scan_cuts(lp: &StageLp, table: &mut Table, room: &mut Room) -> Result<Scan, Memory>
-    requires proper { IsProper lp.now }
-    requires fits { Fits table.old lp.now }
-    ensures value { IfOk result (λ scan. Scans scan (scan_of lp.now table.old) table.old table.new) }
-    ensures fits { OnOk result (Fits table.new lp.now) }
-    ensures grows { OnOk result (Grows table.old table.new) }
-{
-    scan_with(
+    bring_in(
         lp,
         table,
-        &mut room.point,
-        &mut room.states,
-        &mut room.leaving,
-        &mut room.greatest,
-        &mut room.added,
+        room.work.greatest.as_slice(),
+        &mut room.work.added,
     )
 }

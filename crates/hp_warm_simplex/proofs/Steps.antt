@@ -10,7 +10,7 @@ use Rattle.hp_warm_simplex.specs.declared.violations.Violation.{Violation}
 use Rattle.hp_solver.specs.declared.programs.Program.{Program}
 use Rattle.hp_solver.specs.declared.programs.Answer.{Answer}
 use Rattle.hp_warm_simplex.specs.Violations.{Rests, PassesOver, violation_of, value_at, by_place, joined, violations_step, violations_from, next_violation}
-use Rattle.hp_warm_simplex.specs.Turns.{Glance, passes, mends, shows, stops, glance_of, Look, rests, takes, finds, fails, by_glance, by_next, look_from, Turn, pivots, settles, ends, Went, went, by_turn, turn_of, turns}
+use Rattle.hp_warm_simplex.specs.Turns.{Inspection, passes, mends, shows, stops, inspection_of, Survey, rests, takes, finds, fails, by_inspection, by_next, survey_from, Turn, pivots, settles, ends, Went, went, by_turn, turn_of, turns}
 use Rattle.hp_warm_simplex.specs.Steps.{Halts, Ends}
 
 pub violations_on : (t : Table) (vs next : List Violation) (v count : ℕ) (whole : Bool) → v < count → whole ≡ true → Gives whole (violations_step t vs v) next → violations_from t vs v (count - v) ≡ violations_from t next (v + 1) (count - (v + 1))
@@ -56,32 +56,32 @@ pub kept_step : (t : Table) (v : ℕ) → get_or t.basis.places v None ≡ None 
 unfolding violations_step
 kept_step t v e k vs = ap (by_place t vs v) e ∙ joined_none t vs v (value_at t v) k
 
-module _ (lp : Program) (t : Table) (vs : List Violation) (whole : Look) (limit i : ℕ) (last : Option Violation) where
+module _ (lp : Program) (t : Table) (vs : List Violation) (whole : Survey) (limit i : ℕ) (last : Option Violation) where
   -- the violation that is looked at next, by what it comes to
-  looked : (v : Violation) (g : Glance) → i < limit → Some v ≡ next_violation last vs → glance_of lp t v ≡ g → whole ≡ look_from lp t vs (limit - i) last → whole ≡ by_glance (look_from lp t vs (limit - (i + 1)) (Some v)) g
-  looked v g h e k w =
+  surveyed : (v : Violation) (g : Inspection) → i < limit → Some v ≡ next_violation last vs → inspection_of lp t v ≡ g → whole ≡ survey_from lp t vs (limit - i) last → whole ≡ by_inspection (survey_from lp t vs (limit - (i + 1)) (Some v)) g
+  surveyed v g h e k w =
       let left : limit - i ≡ suc (limit - (i + 1)) = omega arith in
-      w ∙ ap (λ (n : ℕ). look_from lp t vs n last) left ∙ ap (by_next (λ (u : Violation). by_glance (look_from lp t vs (limit - (i + 1)) (Some u)) (glance_of lp t u)) last) (sym e) ∙ ap (by_glance (look_from lp t vs (limit - (i + 1)) (Some v))) k
+      w ∙ ap (λ (n : ℕ). survey_from lp t vs n last) left ∙ ap (by_next (λ (u : Violation). by_inspection (survey_from lp t vs (limit - (i + 1)) (Some u)) (inspection_of lp t u)) last) (sym e) ∙ ap (by_inspection (survey_from lp t vs (limit - (i + 1)) (Some v))) k
 
-  pub look_passes : (v : Violation) → i < limit → Some v ≡ next_violation last vs → glance_of lp t v ≡ passes → whole ≡ look_from lp t vs (limit - i) last → whole ≡ look_from lp t vs (limit - (i + 1)) (Some v)
-  look_passes v h e k w = looked v passes h e k w
+  pub survey_passes : (v : Violation) → i < limit → Some v ≡ next_violation last vs → inspection_of lp t v ≡ passes → whole ≡ survey_from lp t vs (limit - i) last → whole ≡ survey_from lp t vs (limit - (i + 1)) (Some v)
+  survey_passes v h e k w = surveyed v passes h e k w
 
-  pub look_takes : (v : Violation) (swap : Swap) (line : List ℤ) (flips : List ℕ) → i < limit → Some v ≡ next_violation last vs → glance_of lp t v ≡ mends swap line flips → whole ≡ look_from lp t vs (limit - i) last → whole ≡ takes swap line flips
-  look_takes v swap line flips h n k w = looked v (mends swap line flips) h n k w
+  pub survey_takes : (v : Violation) (swap : Swap) (line : List ℤ) (flips : List ℕ) → i < limit → Some v ≡ next_violation last vs → inspection_of lp t v ≡ mends swap line flips → whole ≡ survey_from lp t vs (limit - i) last → whole ≡ takes swap line flips
+  survey_takes v swap line flips h n k w = surveyed v (mends swap line flips) h n k w
 
-  pub look_finds : (v : Violation) (a : Answer) → i < limit → Some v ≡ next_violation last vs → glance_of lp t v ≡ shows a → whole ≡ look_from lp t vs (limit - i) last → whole ≡ finds a
-  look_finds v a h e k w = looked v (shows a) h e k w
+  pub survey_finds : (v : Violation) (a : Answer) → i < limit → Some v ≡ next_violation last vs → inspection_of lp t v ≡ shows a → whole ≡ survey_from lp t vs (limit - i) last → whole ≡ finds a
+  survey_finds v a h e k w = surveyed v (shows a) h e k w
 
-  pub look_fails : (v : Violation) → i < limit → Some v ≡ next_violation last vs → glance_of lp t v ≡ stops → whole ≡ look_from lp t vs (limit - i) last → whole ≡ fails
-  look_fails v h e k w = looked v stops h e k w
+  pub survey_fails : (v : Violation) → i < limit → Some v ≡ next_violation last vs → inspection_of lp t v ≡ stops → whole ≡ survey_from lp t vs (limit - i) last → whole ≡ fails
+  survey_fails v h e k w = surveyed v stops h e k w
 
-  pub look_rests : i < limit → None ≡ next_violation last vs → whole ≡ look_from lp t vs (limit - i) last → whole ≡ rests (is_some last)
-  look_rests h e w =
+  pub survey_rests : i < limit → None ≡ next_violation last vs → whole ≡ survey_from lp t vs (limit - i) last → whole ≡ rests (is_some last)
+  survey_rests h e w =
       let left : limit - i ≡ suc (limit - (i + 1)) = omega arith in
-      w ∙ ap (λ (n : ℕ). look_from lp t vs n last) left ∙ ap (by_next (λ (u : Violation). by_glance (look_from lp t vs (limit - (i + 1)) (Some u)) (glance_of lp t u)) last) (sym e)
+      w ∙ ap (λ (n : ℕ). survey_from lp t vs n last) left ∙ ap (by_next (λ (u : Violation). by_inspection (survey_from lp t vs (limit - (i + 1)) (Some u)) (inspection_of lp t u)) last) (sym e)
 
-  pub look_over : limit ≤ i → whole ≡ look_from lp t vs (limit - i) last → whole ≡ rests (is_some last)
-  look_over h w = let none : limit - i ≡ 0 = omega arith in w ∙ ap (λ (n : ℕ). look_from lp t vs n last) none
+  pub survey_over : limit ≤ i → whole ≡ survey_from lp t vs (limit - i) last → whole ≡ rests (is_some last)
+  survey_over h w = let none : limit - i ≡ 0 = omega arith in w ∙ ap (λ (n : ℕ). survey_from lp t vs n last) none
 
 -- one turn of several
 pub turn_on : (lp : Program) (whole : Went) (limit i : ℕ) (fresh : Bool) (t : Table) (turn : Turn) → i < limit → turn_of lp fresh t ≡ turn → whole ≡ turns lp (limit - i) fresh t → whole ≡ by_turn (turns lp (limit - (i + 1))) turn

@@ -3,8 +3,8 @@ use Rattle.std.proofs.Common.{◌≡◌, Bool, true, false, Option, Some, None, 
 use Rattle.hp_solver.specs.declared.programs.Program.{Program}
 use Rattle.hp_solver.specs.declared.programs.Answer.{Answer}
 use Rattle.hp_warm_table.specs.declared.table.Table.{Table}
-use Rattle.hp_warm_rebuild.specs.Clean.{clean_of}
-use Rattle.hp_warm_rebuild.specs.Standings.{rebuilt_of}
+use Rattle.hp_warm_line.specs.Clean.{clean_of}
+use Rattle.hp_warm_line.specs.Standings.{rebuilt_of}
 use Rattle.hp_warm_scale.specs.Walks.{Gives}
 use Rattle.hp_warm_scale.specs.Fitting.{Fits}
 use Rattle.hp_warm_simplex.specs.Fitting.{IsHeld}

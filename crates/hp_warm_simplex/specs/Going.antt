@@ -5,7 +5,7 @@ use Rattle.hp_warm_table.specs.declared.table.Table.{Table}
 use Rattle.hp_warm_table.specs.Kept.{with_values, with_work}
 use Rattle.hp_warm_line.specs.Refine.{refined}
 use Rattle.hp_warm_scale.specs.Appending.{sided, with_bounds}
-use Rattle.hp_warm_rebuild.specs.Standings.{rebuilt_of}
+use Rattle.hp_warm_line.specs.Standings.{rebuilt_of}
 use Rattle.hp_warm_simplex.specs.Turns.{Went, went, turns}
 
 -- nothing is known yet of the answer that will be found

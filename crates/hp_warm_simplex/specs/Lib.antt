@@ -4,3 +4,4 @@ pub mod Going
 pub mod Steps
 pub mod Turns
 pub mod Violations
+pub mod Suiting

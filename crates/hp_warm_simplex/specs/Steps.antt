@@ -6,44 +6,44 @@ use Rattle.hp_warm_table.specs.declared.table.Table.{Table}
 use Rattle.hp_warm_table.specs.Shape.{variables}
 use Rattle.hp_warm_line.specs.declared.moves.Swap.{Swap}
 use Rattle.hp_warm_answers.specs.Enters.{AreThere}
-use Rattle.hp_warm_simplex.specs.declared.looking.Glance.{Glance}
-use Rattle.hp_warm_simplex.specs.declared.looking.Glance.TheVariants as glances
-use Rattle.hp_warm_simplex.specs.declared.looking.Look.{Look}
-use Rattle.hp_warm_simplex.specs.declared.looking.Look.TheVariants as looks
+use Rattle.hp_warm_simplex.specs.declared.inspecting.Inspection.{Inspection}
+use Rattle.hp_warm_simplex.specs.declared.inspecting.Inspection.TheVariants as inspections
+use Rattle.hp_warm_simplex.specs.declared.inspecting.Survey.{Survey}
+use Rattle.hp_warm_simplex.specs.declared.inspecting.Survey.TheVariants as surveys
 use Rattle.hp_warm_simplex.specs.declared.turns.Turn.{Turn}
 use Rattle.hp_warm_simplex.specs.declared.turns.Turn.TheVariants as steps
 use Rattle.hp_warm_simplex.specs.Fitting.{IsHeld}
 use Rattle.hp_warm_simplex.specs.Turns as turns
 
 -- with the line and the flips that are left
-abbrev pub Glances : Glance → turns.Glance → List ℤ → List ℕ → Type 0
-Glances glances.Passes g line flips = g ≡ turns.passes
-Glances (glances.Mends swap) g line flips = g ≡ turns.mends swap line flips
-Glances (glances.Shows a) g line flips = g ≡ turns.shows a
-Glances glances.Stops g line flips = g ≡ turns.stops
+abbrev pub Inspects : Inspection → turns.Inspection → List ℤ → List ℕ → Type 0
+Inspects inspections.Passes g line flips = g ≡ turns.passes
+Inspects (inspections.Mends swap) g line flips = g ≡ turns.mends swap line flips
+Inspects (inspections.Shows a) g line flips = g ≡ turns.shows a
+Inspects inspections.Stops g line flips = g ≡ turns.stops
 
 -- a variable and a place of the table, whose cell is not small, and places that flip, fewer than there are
 abbrev pub Enters : Table → List ℤ → List ℕ → Swap → Type 0
 Enters t line flips s = (s.leaving < variables t) × (s.place < length t.costs) × (2 ^ 24 ≤ nat_abs (entry line s.place)) × (length flips < length t.costs) × AreThere t flips
 
-abbrev pub GlancesInside : Glance → Table → List ℤ → List ℕ → Type 0
-GlancesInside glances.Passes t line flips = ⊤
-GlancesInside (glances.Mends swap) t line flips = Enters t line flips swap
-GlancesInside (glances.Shows a) t line flips = ⊤
-GlancesInside glances.Stops t line flips = ⊤
+abbrev pub InspectsInside : Inspection → Table → List ℤ → List ℕ → Type 0
+InspectsInside inspections.Passes t line flips = ⊤
+InspectsInside (inspections.Mends swap) t line flips = Enters t line flips swap
+InspectsInside (inspections.Shows a) t line flips = ⊤
+InspectsInside inspections.Stops t line flips = ⊤
 
 -- with the line and the flips that are left
-abbrev pub Looks : Look → turns.Look → List ℤ → List ℕ → Type 0
-Looks (looks.Rests passed) l line flips = l ≡ turns.rests passed
-Looks (looks.Mends swap) l line flips = l ≡ turns.takes swap line flips
-Looks (looks.Shows a) l line flips = l ≡ turns.finds a
-Looks looks.Stops l line flips = l ≡ turns.fails
+abbrev pub Surveys : Survey → turns.Survey → List ℤ → List ℕ → Type 0
+Surveys (surveys.Rests passed) l line flips = l ≡ turns.rests passed
+Surveys (surveys.Mends swap) l line flips = l ≡ turns.takes swap line flips
+Surveys (surveys.Shows a) l line flips = l ≡ turns.finds a
+Surveys surveys.Stops l line flips = l ≡ turns.fails
 
-abbrev pub LooksInside : Look → Table → List ℤ → List ℕ → Type 0
-LooksInside (looks.Rests passed) t line flips = ⊤
-LooksInside (looks.Mends swap) t line flips = Enters t line flips swap
-LooksInside (looks.Shows a) t line flips = ⊤
-LooksInside looks.Stops t line flips = ⊤
+abbrev pub SurveysInside : Survey → Table → List ℤ → List ℕ → Type 0
+SurveysInside (surveys.Rests passed) t line flips = ⊤
+SurveysInside (surveys.Mends swap) t line flips = Enters t line flips swap
+SurveysInside (surveys.Shows a) t line flips = ⊤
+SurveysInside surveys.Stops t line flips = ⊤
 
 -- the turn ends without an answer, with the program, the rows and the basis of this table
 abbrev pub Halts : turns.Turn → Table → Type 0

@@ -21,13 +21,13 @@ use Rattle.hp_warm_simplex.specs.Violations.{violations_of, next_violation}
 
 -- the outcome of one violation: nothing can be done; it is mended, by the variable that enters for it, its line and the places that flip;
 -- it shows by its ray that no point keeps all bounds; or a number is out of range
-pub data Glance : Type 0 where
-  passes : Glance
-  mends : Swap → List ℤ → List ℕ → Glance
-  shows : Answer → Glance
-  stops : Glance
+pub data Inspection : Type 0 where
+  passes : Inspection
+  mends : Swap → List ℤ → List ℕ → Inspection
+  shows : Answer → Inspection
+  stops : Inspection
 
-abbrev pub by_ray : Option Answer → Glance
+abbrev pub by_ray : Option Answer → Inspection
 by_ray None = passes
 by_ray (Some a) = shows a
 
@@ -36,51 +36,51 @@ abbrev pub swap_at : Violation → ℕ × ℤ → Swap
 swap_at v e = record { leaving = v.variable; above = v.above; place = e.0; rest = e.1 }
 
 -- by the place that enters, else by the ray
-abbrev pub by_place : Violation → Option Answer → List ℤ → List ℕ → Option (ℕ × ℤ) → Glance
+abbrev pub by_place : Violation → Option Answer → List ℤ → List ℕ → Option (ℕ × ℤ) → Inspection
 by_place v ray line flips None = by_ray ray
 by_place v ray line flips (Some e) = mends (swap_at v e) line flips
 
-abbrev pub by_entry : Violation → Option Answer → List ℤ → Entry → Glance
+abbrev pub by_entry : Violation → Option Answer → List ℤ → Entry → Inspection
 by_entry v ray line entry = by_place v ray line entry.1 entry.0
 
-abbrev pub by_line : Program → Table → Violation → Option (List ℤ) → Glance
+abbrev pub by_line : Program → Table → Violation → Option (List ℤ) → Inspection
 by_line lp t v None = stops
 by_line lp t v (Some line) = by_entry v (ray_of t line v.variable v.above lp) line (enter_of t line v.above v.amount)
 
-unfoldable pub glance_of : Program → Table → Violation → Glance
-glance_of lp t v = by_line lp t v (line_of t v.variable)
+unfoldable pub inspection_of : Program → Table → Violation → Inspection
+inspection_of lp t v = by_line lp t v (line_of t v.variable)
 
 -- the outcome of all violations: none can be mended, and some were passed over or none; this one is; one shows that no point keeps all
 -- bounds; or a number is out of range
-pub data Look : Type 0 where
-  rests : Bool → Look
-  takes : Swap → List ℤ → List ℕ → Look
-  finds : Answer → Look
-  fails : Look
+pub data Survey : Type 0 where
+  rests : Bool → Survey
+  takes : Swap → List ℤ → List ℕ → Survey
+  finds : Answer → Survey
+  fails : Survey
 
--- a violation by its glance, where `after` is the outcome of those after it
-abbrev pub by_glance : Look → Glance → Look
-by_glance after passes = after
-by_glance after (mends swap line flips) = takes swap line flips
-by_glance after (shows a) = finds a
-by_glance after stops = fails
+-- a violation by its inspection, where `after` is the outcome of those after it
+abbrev pub by_inspection : Survey → Inspection → Survey
+by_inspection after passes = after
+by_inspection after (mends swap line flips) = takes swap line flips
+by_inspection after (shows a) = finds a
+by_inspection after stops = fails
 
 -- where none is left, all up to the last one were passed over
-abbrev pub by_next : (Violation → Look) → Option Violation → Option Violation → Look
+abbrev pub by_next : (Violation → Survey) → Option Violation → Option Violation → Survey
 by_next go last None = rests (is_some last)
 by_next go last (Some v) = go v
 
 -- the violations behind the last one, at most `count` of them, the greatest first
-abbrev pub look_from : Program → Table → List Violation → ℕ → Option Violation → Look
-look_from lp t vs zero last = rests (is_some last)
-look_from lp t vs (suc count) last = by_next (λ v. by_glance (look_from lp t vs count (Some v)) (glance_of lp t v)) last (next_violation last vs)
+abbrev pub survey_from : Program → Table → List Violation → ℕ → Option Violation → Survey
+survey_from lp t vs zero last = rests (is_some last)
+survey_from lp t vs (suc count) last = by_next (λ v. by_inspection (survey_from lp t vs count (Some v)) (inspection_of lp t v)) last (next_violation last vs)
 
-abbrev pub by_violations : Program → Table → Option (List Violation) → Look
+abbrev pub by_violations : Program → Table → Option (List Violation) → Survey
 by_violations lp t None = fails
-by_violations lp t (Some vs) = look_from lp t vs (length vs) None
+by_violations lp t (Some vs) = survey_from lp t vs (length vs) None
 
-unfoldable pub look_of : Program → Table → Look
-look_of lp t = by_violations lp t (violations_of t)
+unfoldable pub survey_of : Program → Table → Survey
+survey_of lp t = by_violations lp t (violations_of t)
 
 -- the outcome of a turn: a pivot; a point that is as exact as its table, refined or with rows of cuts more; or the end, with an answer or
 -- without. Of the table of an end without one its program, its rows and its basis count, as it was when the turn began
@@ -143,15 +143,15 @@ asked lp passed t = by_scan lp passed (length t.rows) (scan_of lp t)
 abbrev pub at_rest : Program → Bool → Bool → Table → Turn
 at_rest lp fresh passed t = if fresh then asked lp passed t else by_values t (refined t)
 
-abbrev pub by_look : Program → Bool → Table → Look → Turn
-by_look lp fresh t (rests passed) = at_rest lp fresh passed t
-by_look lp fresh t (takes swap line flips) = swapped t swap line flips
-by_look lp fresh t (finds a) = ends (Some a) t
-by_look lp fresh t fails = ends None t
+abbrev pub by_survey : Program → Bool → Table → Survey → Turn
+by_survey lp fresh t (rests passed) = at_rest lp fresh passed t
+by_survey lp fresh t (takes swap line flips) = swapped t swap line flips
+by_survey lp fresh t (finds a) = ends (Some a) t
+by_survey lp fresh t fails = ends None t
 
 -- one turn on a table whose point is fresh, that is refined since the last pivot, or not
 unfoldable pub turn_of : Program → Bool → Table → Turn
-turn_of lp fresh t = by_look lp fresh t (look_of lp t)
+turn_of lp fresh t = by_survey lp fresh t (survey_of lp t)
 
 -- how turns end: with an answer or without, and the table then
 pub record Went : Type 0 where

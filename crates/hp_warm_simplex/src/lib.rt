@@ -3,7 +3,7 @@
 
 mod attempts;
 mod going;
-mod looking;
+mod inspecting;
 pub mod turns;
 pub mod violations;
 pub mod warm;

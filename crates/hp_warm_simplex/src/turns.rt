@@ -10,7 +10,7 @@ ghost use Rattle.hp_warm_simplex.specs.Fitting.{IsHeld, KeepsOwn, IsRoomy};
 ghost use Rattle.hp_warm_simplex.specs.Turns.{swapped, by_values, closed_of, finishing, asked, at_rest, turn_of, turns};
 ghost use Rattle.hp_warm_simplex.specs.Steps.{Enters, Takes, Ends};
 
-use crate::looking::{Look, inspect_all};
+use crate::inspecting::{Fitted, Survey, inspect_all};
 use crate::violations::{Violation, violations};
 use hp_num::{List, Memory};
 use hp_solver::{Answer, StageLp};
@@ -67,15 +67,7 @@ fn exchange(table: &mut Table, room: &mut Room, swap: Swap) -> Turn
     if !move_point(table, room.line.as_slice(), &mut room.shifts, swap, flips) {
         return Turn::Stops;
     }
-    if !pivot(
-        table,
-        &mut room.line,
-        &mut room.steps,
-        swap.leaving,
-        swap.above,
-        swap.place,
-        flips,
-    ) {
+    if !pivot(table, &mut room.line, &mut room.steps, swap, flips) {
         return Turn::Stops;
     }
     Turn::Pivots
@@ -178,7 +170,7 @@ fn rest(
 }
 
 // Takes one turn, on a table whose point is fresh, that is refined since the last pivot, or not.
-#[tactic(auto, unfolding(crate::specs::Turns::turn_of, crate::specs::Turns::look_of), using(crate::proofs::Fitting::still_fits))]
+#[tactic(auto, unfolding(crate::specs::Turns::turn_of, crate::specs::Turns::survey_of), using(crate::proofs::Fitting::still_fits))]
 fn take_turn(
     alloc: Global,
     lp: &StageLp,
@@ -198,19 +190,22 @@ fn take_turn(
         return Ok(Turn::Stops);
     }
     let all = room.violations.as_slice();
+    let fitted = Fitted {
+        lp: &*lp,
+        table: &*table,
+    };
     match inspect_all(
         alloc,
-        lp,
-        table,
+        &fitted,
         all,
         &mut room.line,
         &mut room.flips,
         &mut room.candidates,
     )? {
-        Look::Rests(passed) => rest(alloc, lp, table, room, fresh, passed),
-        Look::Mends(swap) => Ok(exchange(table, room, swap)),
-        Look::Shows(answer) => Ok(Turn::Ends(answer)),
-        Look::Stops => Ok(Turn::Stops),
+        Survey::Rests(passed) => rest(alloc, lp, table, room, fresh, passed),
+        Survey::Mends(swap) => Ok(exchange(table, room, swap)),
+        Survey::Shows(answer) => Ok(Turn::Ends(answer)),
+        Survey::Stops => Ok(Turn::Stops),
     }
 }
 

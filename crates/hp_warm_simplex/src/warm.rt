@@ -6,6 +6,7 @@ ghost use Rattle.hp_solver.specs.Proper.{IsProper, IsReference, Extends, IsLike}
 ghost use Rattle.hp_warm_scale.specs.First.{first_of};
 ghost use Rattle.hp_warm_scale.specs.Fitting.{Suits, Fits};
 ghost use Rattle.hp_warm_simplex.specs.Going.{go_of};
+ghost use Rattle.hp_warm_simplex.specs.Suiting.{suits_is_fact};
 ghost use Rattle.hp_warm_simplex.specs.Chains.{readied, started_of, begun_of, next_of};
 
 use crate::attempts::{is_good, next_answer, widened};
@@ -125,13 +126,11 @@ impl Solver for WarmSimplex {
 
     type Chain = Chain;
 
-    ghost started = { λ _ lp. started_of lp };
-
-    ghost begun = { λ _ start lp. begun_of start lp };
-
-    ghost next = { λ _ chain lp. next_of chain lp };
+    ghost does = { λ _. record { started = started_of; begun = begun_of; next = next_of } };
 
     ghost suits = { λ _ start lp. IfSome start (λ t. Suits t lp) };
+
+    ghost suits_is_fact = { λ _ start lp. suits_is_fact start lp };
 
     ghost fits = { λ _ chain lp. IfSome chain (λ t. Fits t lp) };
 

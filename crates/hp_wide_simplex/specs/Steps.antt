@@ -3,9 +3,9 @@ use Rattle.std.specs.Prelude.{◌≡◌, ◌<◌, ◌≤◌, ◌^◌, nat_abs, l
 use Rattle.hp_num.specs.Sums.{entry}
 use Rattle.hp_wide_table.specs.Shape.{variables}
 use Rattle.hp_wide_table.specs.declared.table.Table.{Table}
-use Rattle.hp_wide_simplex.specs.declared.looking.Mend.{Mend}
-use Rattle.hp_wide_simplex.specs.declared.looking.Look.{Look}
-use Rattle.hp_wide_simplex.specs.declared.looking.Look.TheVariants as looks
+use Rattle.hp_wide_simplex.specs.declared.inspecting.Mend.{Mend}
+use Rattle.hp_wide_simplex.specs.declared.inspecting.Inspection.{Inspection}
+use Rattle.hp_wide_simplex.specs.declared.inspecting.Inspection.TheVariants as inspections
 use Rattle.hp_wide_simplex.specs.declared.turns.Turn.{Turn}
 use Rattle.hp_wide_simplex.specs.declared.turns.Turn.TheVariants as steps
 use Rattle.hp_wide_simplex.specs.Turns as turns
@@ -18,11 +18,11 @@ pub record Mends (t : Table) (m : Mend) : Type 0 where
   pub cell : 2 ^ 40 ≤ nat_abs (entry m.line m.place)
   pub flips : All (λ j. j < length t.costs) m.flips
 
-abbrev pub IsInside : Table → Look → Type 0
-IsInside t looks.Rests = ⊤
-IsInside t (looks.Mends m) = Mends t m
-IsInside t (looks.Shows a) = ⊤
-IsInside t looks.Stops = ⊤
+abbrev pub IsInside : Table → Inspection → Type 0
+IsInside t inspections.Rests = ⊤
+IsInside t (inspections.Mends m) = Mends t m
+IsInside t (inspections.Shows a) = ⊤
+IsInside t inspections.Stops = ⊤
 
 -- the turn leaves the new table
 abbrev pub Takes : Turn → turns.Turn → Table → Type 0

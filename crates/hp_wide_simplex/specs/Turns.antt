@@ -6,9 +6,9 @@ use Rattle.hp_wide_table.specs.declared.table.Table.{Table}
 use Rattle.hp_wide_table.specs.Kept.{with_values}
 use Rattle.hp_wide_simplex.specs.declared.entering.Entry.{Entry}
 use Rattle.hp_wide_simplex.specs.declared.violations.Violation.{Violation}
-use Rattle.hp_wide_simplex.specs.declared.looking.Mend.{Mend}
-use Rattle.hp_wide_simplex.specs.declared.looking.Look.{Look}
-use Rattle.hp_wide_simplex.specs.declared.looking.Look.TheVariants as looks
+use Rattle.hp_wide_simplex.specs.declared.inspecting.Mend.{Mend}
+use Rattle.hp_wide_simplex.specs.declared.inspecting.Inspection.{Inspection}
+use Rattle.hp_wide_simplex.specs.declared.inspecting.Inspection.TheVariants as inspections
 use Rattle.hp_wide_simplex.specs.Refine.{refined}
 use Rattle.hp_wide_simplex.specs.Line.{line_of}
 use Rattle.hp_wide_simplex.specs.Pivot.{pivoted}
@@ -17,54 +17,54 @@ use Rattle.hp_wide_simplex.specs.Ray.{ray_of}
 use Rattle.hp_wide_simplex.specs.Found.{finished_of}
 use Rattle.hp_wide_simplex.specs.Violations.{violations_of, next_violation}
 
-abbrev pub by_ray : Option Answer → Look
-by_ray None = looks.Rests
-by_ray (Some a) = looks.Shows a
+abbrev pub by_ray : Option Answer → Inspection
+by_ray None = inspections.Rests
+by_ray (Some a) = inspections.Shows a
 
 abbrev pub mend : Violation → List ℤ → ℕ → List ℕ → Mend
 mend v line e flips = record { violation = v; line = line; place = e; flips = flips }
 
 -- a place that enters, else the ray
-abbrev pub by_place : Option Answer → Violation → List ℤ → List ℕ → Option ℕ → Look
+abbrev pub by_place : Option Answer → Violation → List ℤ → List ℕ → Option ℕ → Inspection
 by_place ray v line flips None = by_ray ray
-by_place ray v line flips (Some e) = looks.Mends (mend v line e flips)
+by_place ray v line flips (Some e) = inspections.Mends (mend v line e flips)
 
-abbrev pub by_entry : Option Answer → Violation → List ℤ → Option Entry → Look
-by_entry ray v line None = looks.Stops
+abbrev pub by_entry : Option Answer → Violation → List ℤ → Option Entry → Inspection
+by_entry ray v line None = inspections.Stops
 by_entry ray v line (Some e) = by_place ray v line e.flips e.place
 
-abbrev pub by_line : Program → Table → Violation → Option (List ℤ) → Look
-by_line lp t v None = looks.Stops
+abbrev pub by_line : Program → Table → Violation → Option (List ℤ) → Inspection
+by_line lp t v None = inspections.Stops
 by_line lp t v (Some line) = by_entry (ray_of t line v.variable v.above lp) v line (enter_of t line v.above v.amount)
 
 -- the outcome of one violation: nothing can be done; it is mended; it shows by its ray that no point keeps all bounds; or a number is out
 -- of range
-unfoldable pub look_at : Program → Table → Violation → Look
-look_at lp t v = by_line lp t v (line_of t v.variable)
+unfoldable pub inspection_at : Program → Table → Violation → Inspection
+inspection_at lp t v = by_line lp t v (line_of t v.variable)
 
 -- where nothing can be done, the outcome of `after`
-abbrev pub or_after : Look → Look → Look
-or_after after looks.Rests = after
-or_after after (looks.Mends m) = looks.Mends m
-or_after after (looks.Shows a) = looks.Shows a
-or_after after looks.Stops = looks.Stops
+abbrev pub or_after : Inspection → Inspection → Inspection
+or_after after inspections.Rests = after
+or_after after (inspections.Mends m) = inspections.Mends m
+or_after after (inspections.Shows a) = inspections.Shows a
+or_after after inspections.Stops = inspections.Stops
 
-abbrev pub by_next : (Violation → Look) → Option Violation → Look
-by_next go None = looks.Rests
+abbrev pub by_next : (Violation → Inspection) → Option Violation → Inspection
+by_next go None = inspections.Rests
 by_next go (Some v) = go v
 
 -- the violations behind the last one, at most `count` of them, the greatest first
-abbrev pub look_from : Program → Table → List Violation → ℕ → Option Violation → Look
-look_from lp t vs zero last = looks.Rests
-look_from lp t vs (suc count) last = by_next (λ v. or_after (look_from lp t vs count (Some v)) (look_at lp t v)) (next_violation last vs)
+abbrev pub inspection_from : Program → Table → List Violation → ℕ → Option Violation → Inspection
+inspection_from lp t vs zero last = inspections.Rests
+inspection_from lp t vs (suc count) last = by_next (λ v. or_after (inspection_from lp t vs count (Some v)) (inspection_at lp t v)) (next_violation last vs)
 
-abbrev pub by_violations : Program → Table → Option (List Violation) → Look
-by_violations lp t None = looks.Stops
-by_violations lp t (Some vs) = look_from lp t vs (length vs) None
+abbrev pub by_violations : Program → Table → Option (List Violation) → Inspection
+by_violations lp t None = inspections.Stops
+by_violations lp t (Some vs) = inspection_from lp t vs (length vs) None
 
 -- the outcome of all violations
-unfoldable pub look_of : Program → Table → Look
-look_of lp t = by_violations lp t (violations_of t)
+unfoldable pub inspection_of : Program → Table → Inspection
+inspection_of lp t = by_violations lp t (violations_of t)
 
 -- the outcome of a turn: a pivot, nothing, a ray, or a number out of range
 pub data Turn : Type 0 where
@@ -80,16 +80,16 @@ by_pivot (Some u) = pivots u
 unfoldable pub mended : Table → Mend → Option Table
 mended t m = pivoted t m.line m.violation.variable m.violation.above m.place m.flips
 
-abbrev pub by_look : Table → Look → Turn
-by_look t looks.Rests = idles t
-by_look t (looks.Mends m) = by_pivot (mended t m)
-by_look t (looks.Shows a) = ends a
-by_look t looks.Stops = halts
+abbrev pub by_inspection : Table → Inspection → Turn
+by_inspection t inspections.Rests = idles t
+by_inspection t (inspections.Mends m) = by_pivot (mended t m)
+by_inspection t (inspections.Shows a) = ends a
+by_inspection t inspections.Stops = halts
 
 -- on the table with the values of its basis
 abbrev pub by_values : Program → Table → Option (List ℤ) → Turn
 by_values lp t None = halts
-by_values lp t (Some x) = by_look (with_values t x) (look_of lp (with_values t x))
+by_values lp t (Some x) = by_inspection (with_values t x) (inspection_of lp (with_values t x))
 
 unfoldable pub turn_of : Program → Table → Turn
 turn_of lp t = by_values lp t (refined t)

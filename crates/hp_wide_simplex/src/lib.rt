@@ -4,8 +4,8 @@
 pub mod entering;
 pub mod finishing;
 pub mod found;
+pub mod inspecting;
 pub mod line;
-pub mod looking;
 pub mod pivots;
 pub mod points;
 pub mod ray;

@@ -22,6 +22,17 @@ use hp_wide_table::numbers::shift;
 use hp_wide_table::{Cell, Table};
 use std::alloc::Global;
 
+/// A basic variable of a table that violates a bound, and that nothing brings back to it.
+#[derive(Clone, Copy)]
+struct Stuck<'a> {
+    table: &'a Table,
+    /// The cells by which it depends on the nonbasic variables, one for each place.
+    line: &'a [Cell],
+    variable: usize,
+    /// Whether it is above its upper bound, and else below its lower one.
+    above: bool,
+}
+
 // The factor of the violated variable's own row.
 fn own_factor(above: bool) -> i128
     ensures value { result ≡ own_factor above }
@@ -40,20 +51,20 @@ fn turned(above: bool, cell: Cell) -> i128
 
 // The scaled factor of a row.
 #[tactic(auto, unfolding(crate::specs::Ray::factor_at))]
-fn factor_at(table: &Table, line: &[Cell], variable: usize, above: bool, row: usize) -> i128
-    requires sized { IsTable table.now }
-    requires line { length line.now ≡ length table.now.costs }
-    requires row { row < length table.now.rows }
-    ensures value { result ≡ factor_at table.now line.now variable above row }
+fn factor_at(stuck: &Stuck, row: usize) -> i128
+    requires sized { IsTable stuck.now.table.now }
+    requires line { length stuck.now.line.now ≡ length stuck.now.table.now.costs }
+    requires row { row < length stuck.now.table.now.rows }
+    ensures value { result ≡ factor_at stuck.now.table.now stuck.now.line.now stuck.now.variable stuck.now.above row }
     ensures small { nat_abs result < 2 ^ 124 }
 {
-    let slack = slack_of(table, row);
-    if slack == variable {
-        return own_factor(above);
+    let slack = slack_of(stuck.table, row);
+    if slack == stuck.variable {
+        return own_factor(stuck.above);
     }
-    match place_of(table, slack) {
+    match place_of(stuck.table, slack) {
         None => 0,
-        Some(place) => turned(above, line[place]),
+        Some(place) => turned(stuck.above, stuck.line[place]),
     }
 }
 
@@ -96,42 +107,32 @@ fn with_digits(best: Option<i32>, factor: i128, exponent: i32) -> Option<i32>
 }
 
 // The greatest digits and exponent of all factors other than 0 of the first rows, which have these exponents.
-fn greatest(
-    table: &Table,
-    line: &[Cell],
-    variable: usize,
-    above: bool,
-    exponents: &[i32],
-) -> Option<i32>
-    requires sized { IsTable table.now }
-    requires line { length line.now ≡ length table.now.costs }
-    requires rows { length exponents.now ≤ length table.now.rows }
+fn greatest(stuck: &Stuck, exponents: &[i32]) -> Option<i32>
+    requires sized { IsTable stuck.now.table.now }
+    requires line { length stuck.now.line.now ≡ length stuck.now.table.now.costs }
+    requires rows { length exponents.now ≤ length stuck.now.table.now.rows }
     requires small { AreRowScales exponents.now }
-    ensures value { result ≡ greatest_from table.now line.now variable above 0 None exponents.now }
+    ensures value { result ≡ greatest_from stuck.now.table.now stuck.now.line.now stuck.now.variable stuck.now.above 0 None exponents.now }
     ensures small { IfSome result (λ b. nat_abs b ≤ 2000) }
 {
     let mut best = None;
     for i in 0..exponents.len() {
-        best = with_digits(
-            best,
-            factor_at(table, line, variable, above, i),
-            exponents[i],
-        );
+        best = with_digits(best, factor_at(stuck, i), exponents[i]);
     }
     best
 }
 
 // The most binary digits that a factor of the first `own` rows has once it is no longer scaled.
 #[tactic(auto, unfolding(crate::specs::Ray::top_of))]
-fn top_of(table: &Table, line: &[Cell], variable: usize, above: bool, own: usize) -> Option<i32>
-    requires sized { IsTable table.now }
-    requires line { length line.now ≡ length table.now.costs }
-    requires own { own ≤ length table.now.rows }
-    ensures value { result ≡ top_of table.now line.now variable above own }
+fn top_of(stuck: &Stuck, own: usize) -> Option<i32>
+    requires sized { IsTable stuck.now.table.now }
+    requires line { length stuck.now.line.now ≡ length stuck.now.table.now.costs }
+    requires own { own ≤ length stuck.now.table.now.rows }
+    ensures value { result ≡ top_of stuck.now.table.now stuck.now.line.now stuck.now.variable stuck.now.above own }
     ensures small { IfSome result (λ b. nat_abs b ≤ 2000) }
 {
-    let (exponents, _) = table.scales.rows.as_slice().split_at(own);
-    greatest(table, line, variable, above, exponents)
+    let (exponents, _) = stuck.table.scales.rows.as_slice().split_at(own);
+    greatest(stuck, exponents)
 }
 
 // Gives the power of two by which the factor of a row is multiplied.
@@ -153,45 +154,34 @@ fn narrow_shift(number: i128, exponent: i32) -> Option<i128>
 
 // The multiplier of a row.
 #[tactic(auto, unfolding(crate::specs::Ray::ray_dual))]
-fn ray_dual(
-    table: &Table,
-    line: &[Cell],
-    variable: usize,
-    above: bool,
-    top: i32,
-    number: usize,
-    row: &LpRow,
-) -> Option<Fx>
-    requires sized { IsTable table.now }
-    requires line { length line.now ≡ length table.now.costs }
-    requires row { number < length table.now.rows }
+fn ray_dual(stuck: &Stuck, top: i32, number: usize, row: &LpRow) -> Option<Fx>
+    requires sized { IsTable stuck.now.table.now }
+    requires line { length stuck.now.line.now ≡ length stuck.now.table.now.costs }
+    requires row { number < length stuck.now.table.now.rows }
     requires small { nat_abs top ≤ 2000 }
-    ensures { result ≡ ray_dual table.now line.now variable above top number row.now }
+    ensures { result ≡ ray_dual stuck.now.table.now stuck.now.line.now stuck.now.variable stuck.now.above top number row.now }
 {
-    let factor = factor_at(table, line, variable, above, number);
-    let exponent = ray_exponent(&table.scales, number, top);
+    let factor = factor_at(stuck, number);
+    let exponent = ray_exponent(&stuck.table.scales, number, top);
     Some(clipped(row, Fx(narrow_shift(factor, exponent)?)))
 }
 
 // The multipliers of some rows, which are the first ones. None where 128 bits do not hold one.
 fn row_duals(
     alloc: Global,
-    table: &Table,
-    line: &[Cell],
-    variable: usize,
-    above: bool,
+    stuck: &Stuck,
     top: i32,
     rows: &[LpRow],
 ) -> Result<Option<List<Fx>>, Memory>
-    requires sized { IsTable table.now }
-    requires line { length line.now ≡ length table.now.costs }
-    requires rows { length rows.now ≤ length table.now.rows }
+    requires sized { IsTable stuck.now.table.now }
+    requires line { length stuck.now.line.now ≡ length stuck.now.table.now.costs }
+    requires rows { length rows.now ≤ length stuck.now.table.now.rows }
     requires small { nat_abs top ≤ 2000 }
-    ensures { IfOk result (λ found. found ≡ each_from (ray_dual table.now line.now variable above top) 0 rows.now) }
+    ensures { IfOk result (λ found. found ≡ each_from (ray_dual stuck.now.table.now stuck.now.line.now stuck.now.variable stuck.now.above top) 0 rows.now) }
 {
     let mut found = with_room(alloc, rows.len())?;
     for i in 0..rows.len() {
-        match ray_dual(table, line, variable, above, top, i, &rows[i]) {
+        match ray_dual(stuck, top, i, &rows[i]) {
             Some(dual) => found.push(dual)?,
             None => return Ok(None),
         }
@@ -203,21 +193,18 @@ fn row_duals(
 #[tactic(auto, unfolding(crate::specs::Ray::ray_duals))]
 fn ray_duals(
     alloc: Global,
-    table: &Table,
-    line: &[Cell],
-    variable: usize,
-    above: bool,
+    stuck: &Stuck,
     lp: &StageLp,
     top: i32,
 ) -> Result<Option<List<Fx>>, Memory>
-    requires fits { Fits table.now lp.now }
+    requires fits { Fits stuck.now.table.now lp.now }
     requires proper { IsProper lp.now }
-    requires line { length line.now ≡ length table.now.costs }
+    requires line { length stuck.now.line.now ≡ length stuck.now.table.now.costs }
     requires small { nat_abs top ≤ 2000 }
-    ensures { IfOk result (λ found. found ≡ ray_duals table.now line.now variable above lp.now top) }
+    ensures { IfOk result (λ found. found ≡ ray_duals stuck.now.table.now stuck.now.line.now stuck.now.variable stuck.now.above lp.now top) }
 {
     let own = lp.own_rows();
-    row_duals(alloc, table, line, variable, above, top, own)
+    row_duals(alloc, stuck, top, own)
 }
 
 // The answer by multipliers, where they prove that no point keeps all own rows.
@@ -253,10 +240,16 @@ pub fn ray(
     requires line { length line.now ≡ length table.now.costs }
     ensures { IfOk result (λ answer. answer ≡ ray_of table.now line.now variable above lp.now) }
 {
-    let Some(top) = top_of(table, line, variable, above, lp.own()) else {
+    let stuck = Stuck {
+        table: &*table,
+        line: &*line,
+        variable,
+        above,
+    };
+    let Some(top) = top_of(&stuck, lp.own()) else {
         return Ok(None);
     };
-    match ray_duals(alloc, table, line, variable, above, lp, top)? {
+    match ray_duals(alloc, &stuck, lp, top)? {
         None => Ok(None),
         Some(duals) => where_proved(alloc, lp, duals),
     }

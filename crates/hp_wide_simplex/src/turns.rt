@@ -3,10 +3,10 @@ ghost use Rattle.std.specs.Prelude.{◌≡◌, false, IfOk};
 ghost use Rattle.hp_solver.specs.Proper.{IsProper};
 ghost use Rattle.hp_wide_table.specs.Shape.{Fits};
 ghost use Rattle.hp_wide_simplex.specs.Steps.{Mends, Takes};
-ghost use Rattle.hp_wide_simplex.specs.Turns.{by_pivot, mended, by_look, look_of, turn_of, turns};
+ghost use Rattle.hp_wide_simplex.specs.Turns.{by_pivot, mended, by_inspection, inspection_of, turn_of, turns};
 
 use crate::found::finish;
-use crate::looking::{Look, Mend, look_over};
+use crate::inspecting::{Inspection, Mend, inspect_table};
 use crate::pivots::pivot;
 use crate::points::refine;
 use hp_num::Memory;
@@ -59,13 +59,13 @@ fn mend_table(alloc: Global, lp: &StageLp, table: &mut Table) -> Result<Turn, Me
     requires fits { Fits table.old lp.now }
     requires proper { IsProper lp.now }
     ensures fits { Fits table.new lp.now }
-    ensures turn { IfOk result (λ turn. Takes turn (by_look table.old (look_of lp.now table.old)) table.new) }
+    ensures turn { IfOk result (λ turn. Takes turn (by_inspection table.old (inspection_of lp.now table.old)) table.new) }
 {
-    match look_over(alloc, lp, table)? {
-        Look::Rests => Ok(Turn::Idles),
-        Look::Mends(mend) => Ok(exchange(lp, table, mend)),
-        Look::Shows(answer) => Ok(Turn::Ends(answer)),
-        Look::Stops => Ok(Turn::Stops),
+    match inspect_table(alloc, lp, table)? {
+        Inspection::Rests => Ok(Turn::Idles),
+        Inspection::Mends(mend) => Ok(exchange(lp, table, mend)),
+        Inspection::Shows(answer) => Ok(Turn::Ends(answer)),
+        Inspection::Stops => Ok(Turn::Stops),
     }
 }
 

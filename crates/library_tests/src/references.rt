@@ -1,6 +1,6 @@
 // The program by which a solver makes the start of a node.
 use crate::problems::KEEPING;
-use hp_lp::{Starts, reference};
+use hp_lp::{WarmStarts, reference};
 use hp_num::Memory;
 use hp_problem::Problem;
 use hp_sof::read_problem;
@@ -19,14 +19,14 @@ fn is_balance(row: &LpRow) -> bool {
 
 // The state of the reference program is 2.5, so its decision is 3.5.
 fn is_ready(alloc: Global, problem: &Problem) -> Result<bool, Memory> {
-    let starts = Starts::new(alloc, problem, &Zero)?;
+    let _ = WarmStarts::new(alloc, problem, &Zero)?;
     if problem.raw().nodes.is_empty() {
         return Ok(false);
     }
     let program = reference(alloc, problem, 0)?;
     let columns = program.columns().iter().all(is_kept);
     let rows = program.own_rows().iter().all(is_balance);
-    Ok(columns && rows && *starts.at(0) == ())
+    Ok(columns && rows)
 }
 
 fn keeping_is_ready(alloc: Global) -> bool {

@@ -1,7 +1,6 @@
 use Rattle.std.proofs.Common.{length}
-use Rattle.hp_theory.specs.Fit.{Fit}
-use Rattle.hp_theory.specs.View.{problem_of}
+use Rattle.hp_cut.specs.AtNodes.{PoolsFit}
 use Rattle.golden_library.proofs.stage_cuts.add_cuts.Given as goal
 
 abbrev pub invariant-loop-turn : goal.invariant-loop-turn
-invariant-loop-turn l = Fit (problem_of l.problem) (length l.problem.raw.nodes) l.pools.lists
+invariant-loop-turn l = PoolsFit l.problem l.pools.lists

@@ -7,4 +7,4 @@ use Rattle.hp_cut.proofs.active_cuts.is_above.Goals as goal
 pub returns-in-Some : goal.returns-in-Some
 returns-in-Some c = λ more.
     let fits : SFits w128 c.in-Some.least = search rules in
-    leads c.args.cuts.now c.args.lows.now c.args.highs.now c.args.first c.args.second c.in-Some.least _ (to_z-of_z w128 c.in-Some.least fits) more c.in-Some.ensures
+    leads c.args.all.now.cuts.now c.args.all.now.lows.now c.args.all.now.highs.now c.args.first c.args.second c.in-Some.least _ (to_z-of_z w128 c.in-Some.least fits) more c.in-Some.ensures

@@ -12,12 +12,12 @@ loop-k-preserved c = elim c.if-not-is_above.branch [
       let put : c.if-not-is_above.room.items ≡ c.loop-k.room.items ++ get_or c.args.places.now c.loop-k.k 0 ∷ [] = ap (λ (v : Vec ℕ Global). v.items) w.room-is ∙ w.in_ok-push.ensures.items in
       record {
         rising = rising_kept c.args.places.now c.loop-k.room.items c.if-not-is_above.room.items c.args.place c.loop-k.k (get_or c.args.places.now c.loop-k.k 0) c.requires.rising c.loop-k-test.true refl put c.loop-k.invariant.rising;
-        left = left_kept c.args.cuts.now c.args.lows.now c.args.highs.now c.args.places.now c.loop-k.room.items c.if-not-is_above.room.items c.args.place c.loop-k.k (get_or c.args.places.now c.loop-k.k 0) refl put c.loop-k.invariant.left;
+        left = left_kept c.args.all.now.cuts.now c.args.all.now.lows.now c.args.all.now.highs.now c.args.places.now c.loop-k.room.items c.if-not-is_above.room.items c.args.place c.loop-k.k (get_or c.args.places.now c.loop-k.k 0) refl put c.loop-k.invariant.left;
       }
   | else-not-is_above w ↦
       let same : c.if-not-is_above.room.items ≡ c.loop-k.room.items = ap (λ (v : Vec ℕ Global). v.items) w.room-is in
       rw same (record {
         rising = rising_dropped c.args.places.now c.loop-k.room.items c.args.place c.loop-k.k c.requires.rising c.loop-k-test.true c.loop-k.invariant.rising;
-        left = left_dropped c.args.cuts.now c.args.lows.now c.args.highs.now c.args.places.now c.loop-k.room.items c.args.place c.loop-k.k (c.is_above.ensures w.if-not-is_above.false) c.loop-k.invariant.left;
+        left = left_dropped c.args.all.now.cuts.now c.args.all.now.lows.now c.args.all.now.highs.now c.args.places.now c.loop-k.room.items c.args.place c.loop-k.k (c.is_above.ensures w.if-not-is_above.false) c.loop-k.invariant.left;
       })
 ]

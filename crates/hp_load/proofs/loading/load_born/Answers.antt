@@ -17,19 +17,19 @@ returns-in_err-end-clause-value g c =
     let f = c.in_err-end.field-0.0 in
     let p = c.args.problem.now in
     let base = c.args.base.lists in
-    let first = c.first_gate-first.result in
+    let first = c.first_gate.result in
     let r = (g.D.Disk.store c.args.disk.now).reads in
-    rw (e.1, e.2) (told r (λ b is. born_fails p base b c.args.version c.args.batch first c.first_gate-first.ensures.value f (known (λ b. Fails f (records_at p c.args.batch b 2000 first (fresh base) [])) r b is c.in_err-end.ensures.value)))
+    rw (e.1, e.2) (told r (λ b is. born_fails p base b c.args.version.number c.args.version.batch first c.first_gate.ensures.value f (known (λ b. Fails f (records_at p c.args.version.batch b 2000 first (fresh base) [])) r b is c.in_err-end.ensures.value)))
 
 pub returns-clause-value : goal.returns-clause-value
 returns-clause-value g c =
     let p = c.args.problem.now in
     let base = c.args.base.lists in
-    let first = c.first_gate-first.result in
+    let first = c.first_gate.result in
     let kept = g.K.Keeper.kept c.read_records.new.keep in
     let found = c.read_records.new.found in
     let end = c.in_ok-end.end in
-    let l : Loaded = record { pools = found.pools; bounds = found.bounds; unsettled = found.unsettled; born = true; end = end.end; rest = end.rest; version = c.args.version; batch = c.args.batch } in
+    let l : Loaded = record { pools = found.pools; bounds = found.bounds; unsettled = found.unsettled; born = true; end = end.end; rest = end.rest; version = c.args.version.number; batch = c.args.version.batch } in
     let r = (g.D.Disk.store c.args.disk.now).reads in
-    told r (λ b is. born_loads p base b c.args.version c.args.batch first c.first_gate-first.ensures.value kept end l refl
-    (known (λ b. EndsAs kept (found_of found) (Ok end) (records_at p c.args.batch b 2000 first (fresh base) [])) r b is c.in_ok-end.ensures.value))
+    told r (λ b is. born_loads p base b c.args.version.number c.args.version.batch first c.first_gate.ensures.value kept end l refl
+    (known (λ b. EndsAs kept (found_of found) (Ok end) (records_at p c.args.version.batch b 2000 first (fresh base) [])) r b is c.in_ok-end.ensures.value))

@@ -15,7 +15,7 @@ returns-in_err-read_head-clause-value g c =
     let e = err_from_is_err_and c.from_residual.result c.from_residual.ensures.1 in
     let f = c.in_err-read_head.field-0.0 in
     let r = (g.D.Disk.store c.args.disk.now).reads in
-    rw (e.1, e.2) (told r (λ b is. head_bad c.args.problem.now c.args.base.lists c.args.digest.now c.args.seed c.args.batch b f (known (λ b. (no_head f ≡ head_of b) ⊎ (no_head f ≡ no_head heads.DiskFault)) r b is c.in_err-read_head.ensures.value)))
+    rw (e.1, e.2) (told r (λ b is. head_bad c.args.problem.now c.args.base.lists c.args.asked.now.digest.now c.args.asked.now.seed c.args.asked.now.batch b f (known (λ b. (no_head f ≡ head_of b) ⊎ (no_head f ≡ no_head heads.DiskFault)) r b is c.in_err-read_head.ensures.value)))
 
 pub returns-in_err-check_title-in-Born-clause-value : goal.returns-in_err-check_title-in-Born-clause-value
 returns-in_err-check_title-in-Born-clause-value g c =
@@ -25,13 +25,13 @@ returns-in_err-check_title-in-Born-clause-value g c =
     let b = c.in-Born in
     let p = c.args.problem.now in
     let base = c.args.base.lists in
-    let d = c.args.digest.now in
-    let seed = c.args.seed in
-    let batch = c.args.batch in
+    let d = c.args.asked.now.digest.now in
+    let seed = c.args.asked.now.seed in
+    let batch = c.args.asked.now.batch in
     let r = (g.D.Disk.store c.args.disk.now).reads in
     rw (e.1, e.2) (told r (λ bytes is.
     let good = head_good p base d seed batch bytes h (known (λ x. (a_head h ≡ head_of x) ⊎ (a_head h ≡ no_head heads.DiskFault)) r bytes is c.in_ok-read_head.ensures.value) in
-    let from = title_bad p base d seed batch bytes f b.version b.own b.paths b.kept (fails_from f (title_asked d seed batch b.kept b.own b.paths) c.in_err-check_title-in-Born.ensures.value) in
+    let from = title_bad p base d seed batch bytes f b.number b.seed b.batch b.digest (fails_from f (title_asked d seed batch b.digest b.seed b.batch) c.in_err-check_title-in-Born.ensures.value) in
     subst (Fails f) (sym (good ∙ ap (λ (k : Head). load_from p base d seed batch bytes k) b.is)) from))
 
 pub returns-in-Unborn-clause-value : goal.returns-in-Unborn-clause-value
@@ -39,9 +39,9 @@ returns-in-Unborn-clause-value g c =
     let h = c.in_ok-read_head.field-0 in
     let p = c.args.problem.now in
     let base = c.args.base.lists in
-    let d = c.args.digest.now in
-    let seed = c.args.seed in
-    let batch = c.args.batch in
+    let d = c.args.asked.now.digest.now in
+    let seed = c.args.asked.now.seed in
+    let batch = c.args.asked.now.batch in
     let r = (g.D.Disk.store c.args.disk.now).reads in
     told r (λ bytes is.
     let good = head_good p base d seed batch bytes h (known (λ x. (a_head h ≡ head_of x) ⊎ (a_head h ≡ no_head heads.DiskFault)) r bytes is c.in_ok-read_head.ensures.value) in
@@ -53,13 +53,13 @@ returns-in_ok-check_title-in-Born-clause-value g c =
     let b = c.in-Born in
     let p = c.args.problem.now in
     let base = c.args.base.lists in
-    let d = c.args.digest.now in
-    let seed = c.args.seed in
-    let batch = c.args.batch in
+    let d = c.args.asked.now.digest.now in
+    let seed = c.args.asked.now.seed in
+    let batch = c.args.asked.now.batch in
     let kept = g.K.Keeper.kept c.load_born.new.keep in
     let r = (g.D.Disk.store c.args.disk.now).reads in
     let mid = (g.D.Disk.store c.read_head.new.disk).reads in
     told r (λ bytes is.
     let good = head_good p base d seed batch bytes h (known (λ x. (a_head h ≡ head_of x) ⊎ (a_head h ≡ no_head heads.DiskFault)) r bytes is c.in_ok-read_head.ensures.value) in
-    let all = good ∙ ap (λ (k : Head). load_from p base d seed batch bytes k) b.is ∙ title_good p base d seed batch bytes b.version b.own b.paths b.kept (sym c.in_ok-check_title-in-Born.ensures.value) in
-    subst (LoadsAs kept c.load_born.result) (sym all) (known (λ x. LoadsAs kept c.load_born.result (load_records p base x b.version b.paths)) mid bytes (c.read_head.ensures.stays.reads ∙ is) c.load_born.ensures.value))
+    let all = good ∙ ap (λ (k : Head). load_from p base d seed batch bytes k) b.is ∙ title_good p base d seed batch bytes b.number b.seed b.batch b.digest (sym c.in_ok-check_title-in-Born.ensures.value) in
+    subst (LoadsAs kept c.load_born.result) (sym all) (known (λ x. LoadsAs kept c.load_born.result (load_records p base x b.number b.batch)) mid bytes (c.read_head.ensures.stays.reads ∙ is) c.load_born.ensures.value))

@@ -34,7 +34,7 @@ returns-in_err-entries-clause-value g c =
     let r = (g.D.Disk.store c.args.disk.now).reads in
     rw (e.1, e.2) (told r (λ b is. entries_bad p c.args.batch k c.args.at b (sym c.in_ok-check_formulas.ensures.value) bytes
     (known (λ b. with_fault (of_payload k) (payload_of b c.args.at) ≡ Ok bytes) r b is c.in_ok-next.ensures.value) f
-    (subst (λ (l : List ℕ). Fails f (with_fault (λ place. of_entries k (Bad place)) (read_batch p k c.args.batch l))) c.as_slice.ensures.value c.in_err-entries.ensures.value)))
+    (subst (λ (l : List ℕ). Fails f (with_fault (λ place. of_entries k (Bad place)) (read_batch p k c.args.batch l))) c.as_slice-payload.ensures.value c.in_err-entries.ensures.value)))
 
 pub returns-clause-value : goal.returns-clause-value
 returns-clause-value g c =
@@ -44,4 +44,4 @@ returns-clause-value g c =
     let r = (g.D.Disk.store c.args.disk.now).reads in
     told r (λ b is. entries_read p c.args.batch k c.args.at b (sym c.in_ok-check_formulas.ensures.value) bytes
     (known (λ b. with_fault (of_payload k) (payload_of b c.args.at) ≡ Ok bytes) r b is c.in_ok-next.ensures.value) c.in_ok-entries.entries c.in_ok-next.next
-    (ap (λ (l : List ℕ). with_fault (λ place. of_entries k (Bad place)) (read_batch p k c.args.batch l)) (sym c.as_slice.ensures.value) ∙ c.in_ok-entries.ensures.value) c.in_ok-next.ensures.next)
+    (ap (λ (l : List ℕ). with_fault (λ place. of_entries k (Bad place)) (read_batch p k c.args.batch l)) (sym c.as_slice-payload.ensures.value) ∙ c.in_ok-entries.ensures.value) c.in_ok-next.ensures.next)

@@ -12,7 +12,7 @@ loop-init g c =
     let base = c.args.found.now.pools.lists in
     let r = (g.D.Disk.store c.args.disk.now).reads in
     let kept = g.K.Keeper.kept c.args.keep.now in (
-      subst (λ (f : Found). Reached p base c.args.batch c.args.first r kept 0 c.args.first f) (sym c.requires.fresh) (reached_none p base c.args.batch c.args.first r kept c.raw.ensures.sealed c.requires.base c.requires.near c.requires.empty),
+      subst (λ (f : Found). Reached p base c.args.layout.batch c.args.layout.first r kept 0 c.args.layout.first f) (sym c.requires.fresh) (reached_none p base c.args.layout.batch c.args.layout.first r kept c.raw.ensures.sealed c.requires.base c.requires.near c.requires.empty),
       stays_same (g.D.Disk.store c.args.disk.now),
       omega arith,
       c.requires.values,
@@ -24,14 +24,14 @@ returns-in_err-rest-clause-value g c =
     let l = c.loop in
     let r = (g.D.Disk.store c.args.disk.now).reads in
     let f = c.in_err-rest.field-0.0 in
-    rw (e.1, e.2) (reached_fault c.args.problem.now c.args.found.now.pools.lists c.args.batch c.args.first r (g.K.Keeper.kept l.keep) l.counter l.at (found_of l.found) l.invariant.0 f
+    rw (e.1, e.2) (reached_fault c.args.problem.now c.args.found.now.pools.lists c.args.layout.batch c.args.layout.first r (g.K.Keeper.kept l.keep) l.counter l.at (found_of l.found) l.invariant.0 f
     (same_bytes (λ b. Fails f (rest_at b l.at)) r (g.D.Disk.store l.disk).reads l.invariant.1.reads c.in_err-rest.ensures.value))
 
 pub returns-in-Some-clause-value : goal.returns-in-Some-clause-value
 returns-in-Some-clause-value g c =
     let l = c.loop in
     let r = (g.D.Disk.store c.args.disk.now).reads in
-    reached_shut c.args.problem.now c.args.found.now.pools.lists c.args.batch c.args.first r (g.K.Keeper.kept l.keep) l.counter l.at (found_of l.found) l.invariant.0 c.in-Some.rest
+    reached_shut c.args.problem.now c.args.found.now.pools.lists c.args.layout.batch c.args.layout.first r (g.K.Keeper.kept l.keep) l.counter l.at (found_of l.found) l.invariant.0 c.in-Some.rest
     (subst (λ (o : Option ℕ). IfSome r (λ b. rest_at b l.at ≡ Ok o)) c.in-Some.is (same_bytes (λ b. rest_at b l.at ≡ Ok c.in_ok-rest.field-0) r (g.D.Disk.store l.disk).reads l.invariant.1.reads c.in_ok-rest.ensures.value))
 
 pub returns-in_err-entries-clause-value : goal.returns-in_err-entries-clause-value
@@ -43,8 +43,8 @@ returns-in_err-entries-clause-value g c =
     let f = c.in_err-entries.field-0.0 in
     let none : c.in_ok-rest.field-0 ≡ None = search rules in
     let ajar = subst (λ (o : Option ℕ). IfSome r (λ b. rest_at b l.at ≡ Ok o)) none (same_bytes (λ b. rest_at b l.at ≡ Ok c.in_ok-rest.field-0) r (g.D.Disk.store l.disk).reads l.invariant.1.reads c.in_ok-rest.ensures.value) in
-    rw (e.1, e.2) (reached_bad p c.args.found.now.pools.lists c.args.batch c.args.first r (g.K.Keeper.kept l.keep) l.counter l.at (found_of l.found) l.invariant.0 ajar c.loop-test.true f
-    (same_bytes (λ b. Fails f (record_at p c.args.batch b l.at (found_of l.found))) r (g.D.Disk.store c.rest_at.new.disk).reads (c.rest_at.ensures.stays.reads ∙ l.invariant.1.reads) c.in_err-entries.ensures.value))
+    rw (e.1, e.2) (reached_bad p c.args.found.now.pools.lists c.args.layout.batch c.args.layout.first r (g.K.Keeper.kept l.keep) l.counter l.at (found_of l.found) l.invariant.0 ajar c.loop-test.true f
+    (same_bytes (λ b. Fails f (record_at p c.args.layout.batch b l.at (found_of l.found))) r (g.D.Disk.store c.rest_at.new.disk).reads (c.rest_at.ensures.stays.reads ∙ l.invariant.1.reads) c.in_err-entries.ensures.value))
 
 pub loop-preserved : goal.loop-preserved
 loop-preserved g c =
@@ -56,8 +56,8 @@ loop-preserved g c =
     let es = c.in_ok-entries.entries in
     let next = c.in_ok-entries.next in
     let more = found_of c.read_record.new.found in (
-      reached_more p c.args.found.now.pools.lists c.args.batch c.args.first r (g.K.Keeper.kept l.keep) l.counter l.at (found_of l.found) l.invariant.0 ajar c.loop-test.true c.raw.ensures.sealed c.requires.batch next es more (g.K.Keeper.kept c.keep.new.self)
-          (same_bytes (λ b. record_at p c.args.batch b l.at (found_of l.found) ≡ Ok (es, next, more)) r (g.D.Disk.store c.rest_at.new.disk).reads (c.rest_at.ensures.stays.reads ∙ l.invariant.1.reads) c.in_ok-entries.ensures.value)
+      reached_more p c.args.found.now.pools.lists c.args.layout.batch c.args.layout.first r (g.K.Keeper.kept l.keep) l.counter l.at (found_of l.found) l.invariant.0 ajar c.loop-test.true c.raw.ensures.sealed c.requires.batch next es more (g.K.Keeper.kept c.keep.new.self)
+          (same_bytes (λ b. record_at p c.args.layout.batch b l.at (found_of l.found) ≡ Ok (es, next, more)) r (g.D.Disk.store c.rest_at.new.disk).reads (c.rest_at.ensures.stays.reads ∙ l.invariant.1.reads) c.in_ok-entries.ensures.value)
           c.in_ok-entries.ensures.batch c.in_ok-entries.ensures.added c.in_ok-entries.ensures.next c.in_ok-keep.ensures,
       stays_on (g.D.Disk.store c.args.disk.now) (g.D.Disk.store l.disk) (g.D.Disk.store c.read_record.new.disk) l.invariant.1 (stays_on (g.D.Disk.store l.disk) (g.D.Disk.store c.rest_at.new.disk) (g.D.Disk.store c.read_record.new.disk) c.rest_at.ensures.stays c.read_record.ensures.stays),
       omega (arith, l.invariant.2, c.rest_at.ensures.cause.later, c.read_record.ensures.cause.later),
@@ -70,20 +70,20 @@ returns-in_err-rest-2-clause-value g c =
     let l = c.loop in
     let r = (g.D.Disk.store c.args.disk.now).reads in
     let f = c.in_err-rest-2.field-0.0 in
-    rw (e.1, e.2) (reached_fault c.args.problem.now c.args.found.now.pools.lists c.args.batch c.args.first r (g.K.Keeper.kept l.keep) l.counter l.at (found_of l.found) l.invariant.0 f
+    rw (e.1, e.2) (reached_fault c.args.problem.now c.args.found.now.pools.lists c.args.layout.batch c.args.layout.first r (g.K.Keeper.kept l.keep) l.counter l.at (found_of l.found) l.invariant.0 f
     (same_bytes (λ b. Fails f (rest_at b l.at)) r (g.D.Disk.store l.disk).reads l.invariant.1.reads c.in_err-rest-2.ensures.value))
 
 pub returns-in-Some-2-clause-value : goal.returns-in-Some-2-clause-value
 returns-in-Some-2-clause-value g c =
     let l = c.loop in
     let r = (g.D.Disk.store c.args.disk.now).reads in
-    reached_shut c.args.problem.now c.args.found.now.pools.lists c.args.batch c.args.first r (g.K.Keeper.kept l.keep) l.counter l.at (found_of l.found) l.invariant.0 c.in-Some-2.rest
+    reached_shut c.args.problem.now c.args.found.now.pools.lists c.args.layout.batch c.args.layout.first r (g.K.Keeper.kept l.keep) l.counter l.at (found_of l.found) l.invariant.0 c.in-Some-2.rest
     (subst (λ (o : Option ℕ). IfSome r (λ b. rest_at b l.at ≡ Ok o)) c.in-Some-2.is (same_bytes (λ b. rest_at b l.at ≡ Ok c.in_ok-rest-2.field-0) r (g.D.Disk.store l.disk).reads l.invariant.1.reads c.in_ok-rest-2.ensures.value))
 
 pub returns-clause-value : goal.returns-clause-value
 returns-clause-value g c =
     let l = c.loop in
     let r = (g.D.Disk.store c.args.disk.now).reads in
-    reached_many c.args.problem.now c.args.found.now.pools.lists c.args.batch c.args.first r (g.K.Keeper.kept l.keep) l.counter l.at (found_of l.found) l.invariant.0
+    reached_many c.args.problem.now c.args.found.now.pools.lists c.args.layout.batch c.args.layout.first r (g.K.Keeper.kept l.keep) l.counter l.at (found_of l.found) l.invariant.0
     (subst (λ (o : Option ℕ). IfSome r (λ b. rest_at b l.at ≡ Ok o)) c.in-None.is (same_bytes (λ b. rest_at b l.at ≡ Ok c.in_ok-rest-2.field-0) r (g.D.Disk.store l.disk).reads l.invariant.1.reads c.in_ok-rest-2.ensures.value))
     (omega (arith, c.loop-test.false))

@@ -1,21 +1,31 @@
-use Rattle.std.proofs.Common.{◌≡◌, Ok}
-use Rattle.hp_lp.specs.Chained.{solving}
-use Rattle.hp_mend.specs.Deciding.{decide_mended_of}
+use Rattle.std.proofs.Common.{◌≡◌, ◌∙◌, true, Ok, ap, subst}
+use Rattle.hp_problem.specs.Sealed.{Sealed, is_sealed}
+use Rattle.hp_theory.specs.Problem.{node_at}
+use Rattle.hp_theory.specs.View.{problem_of}
+use Rattle.hp_mend.specs.Deciding.{decide_mended_of, mend}
 use Rattle.hp_mend.proofs.MendedDecisions.{inside_mended, mended_from, successors_mended}
 use Rattle.hp_mend.proofs.deciding.decide_mended.Goals as goal
 
 pub returns-clause-inside : goal.returns-clause-inside
 returns-clause-inside g c =
-    let v = solving (g.V.Solver.started c.args.solver.now) (g.V.Solver.begun c.args.solver.now) (g.V.Solver.next c.args.solver.now) in
-    let p = c.args.problem.now in
-    let is : decide_mended_of v p c.args.pools.now.lists c.args.run c.args.node c.args.values.now c.args.state.now ≡ Ok c.in_ok-mend.field-0 =
-    mended_from v p c.args.pools.now.lists c.args.run c.args.node c.args.values.now c.args.state.now c.in_ok-decided.decided c.in_ok-mend.field-0 c.in_ok-decided.ensures.value c.in_ok-mend.ensures in
-    inside_mended v p c.args.pools.now.lists c.args.run c.args.node c.args.values.now c.args.state.now c.raw.ensures.sealed c.requires.known c.in_ok-mend.field-0 is
+    let v = g.V.Solver.does c.args.planner.now.solver.now in
+    let p = c.args.planner.now.problem.now in
+    let i = c.args.input.now in
+    let pools = c.args.pools.now.lists in
+    let sealed = subst (λ (q : Sealed). is_sealed q ≡ true) c.problem-problem.ensures c.raw.ensures.sealed in
+    let mended = c.in_ok-mend.ensures ∙ ap (λ (q : Sealed). mend (node_at (problem_of q) i.node) i.values.now i.state.now c.in_ok-decided.decided) c.problem-problem.ensures in
+    let is : decide_mended_of v p pools i.run i.node i.values.now i.state.now ≡ Ok c.in_ok-mend.field-0 =
+    mended_from v p pools i.run i.node i.values.now i.state.now c.in_ok-decided.decided c.in_ok-mend.field-0 c.in_ok-decided.ensures.value mended in
+    inside_mended v p pools i.run i.node i.values.now i.state.now sealed c.requires.known c.in_ok-mend.field-0 is
 
 pub returns-clause-next : goal.returns-clause-next
 returns-clause-next g c =
-    let v = solving (g.V.Solver.started c.args.solver.now) (g.V.Solver.begun c.args.solver.now) (g.V.Solver.next c.args.solver.now) in
-    let p = c.args.problem.now in
-    let is : decide_mended_of v p c.args.pools.now.lists c.args.run c.args.node c.args.values.now c.args.state.now ≡ Ok c.in_ok-mend.field-0 =
-    mended_from v p c.args.pools.now.lists c.args.run c.args.node c.args.values.now c.args.state.now c.in_ok-decided.decided c.in_ok-mend.field-0 c.in_ok-decided.ensures.value c.in_ok-mend.ensures in
-    successors_mended v p c.args.pools.now.lists c.args.run c.args.node c.args.values.now c.args.state.now c.raw.ensures.sealed c.requires.known c.in_ok-mend.field-0 is
+    let v = g.V.Solver.does c.args.planner.now.solver.now in
+    let p = c.args.planner.now.problem.now in
+    let i = c.args.input.now in
+    let pools = c.args.pools.now.lists in
+    let sealed = subst (λ (q : Sealed). is_sealed q ≡ true) c.problem-problem.ensures c.raw.ensures.sealed in
+    let mended = c.in_ok-mend.ensures ∙ ap (λ (q : Sealed). mend (node_at (problem_of q) i.node) i.values.now i.state.now c.in_ok-decided.decided) c.problem-problem.ensures in
+    let is : decide_mended_of v p pools i.run i.node i.values.now i.state.now ≡ Ok c.in_ok-mend.field-0 =
+    mended_from v p pools i.run i.node i.values.now i.state.now c.in_ok-decided.decided c.in_ok-mend.field-0 c.in_ok-decided.ensures.value mended in
+    successors_mended v p pools i.run i.node i.values.now i.state.now sealed c.requires.known c.in_ok-mend.field-0 is

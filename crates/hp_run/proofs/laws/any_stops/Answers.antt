@@ -1,11 +1,10 @@
-use Rattle.hp_lp.specs.Chained.{solving}
 use Rattle.hp_run.specs.Run.{telling}
 use Rattle.hp_run.proofs.AnyStops.{ends_alike, stands_for}
 use Rattle.hp_run.proofs.laws.any_stops.Goals as goal
 
 pub returns : goal.returns
 returns g c =
-    let v = solving (g.V.Solver.started c.args.solver.now) (g.V.Solver.begun c.args.solver.now) (g.V.Solver.next c.args.solver.now) in
+    let v = g.V.Solver.does c.args.solver.now in
     let t = telling g.I.Source.left g.I.Source.faults g.D.Disk.store g.D.Disk.faults g.O.Sink.taken g.O.Sink.faults in
     record {
       stands = λ bytes content b seed count batch asked from. stands_for v bytes b seed batch count asked t content from;

@@ -4,7 +4,6 @@ use Rattle.hp_fields.specs.Steps as steps
 use Rattle.hp_cut.specs.declared.entry.Entry.{Entry}
 use Rattle.hp_load.specs.Load.{Outcome, load_of, seen}
 use Rattle.hp_load.specs.Refusals.{Fails}
-use Rattle.hp_lp.specs.Chained.{solving}
 use Rattle.hp_risk.specs.Alternatives.{alternatives_of}
 use Rattle.hp_run.specs.Outcome.{WithBase}
 use Rattle.hp_run.proofs.Listed.{lists_refused, no_planes, not_kept, planes_reported, planes_sound}
@@ -12,39 +11,39 @@ use Rattle.hp_run.proofs.planes.report_robust.Goals as goal
 
 pub returns-in-Err-Refused-clause-lacks : goal.returns-in-Err-Refused-clause-lacks
 returns-in-Err-Refused-clause-lacks g c =
-    let v = solving (g.V.Solver.started c.args.solver.now) (g.V.Solver.begun c.args.solver.now) (g.V.Solver.next c.args.solver.now) in
-    let b : WithBase = record { problem = c.args.problem.now; pools = c.args.pools.lists } in
-    let refused = subst (λ (f : ReadRefusal). steps.Fails f (alternatives_of b.problem c.args.bytes.now)) c.in-Err-Refused.field-0-is c.in-Err-Refused.ensures.value in
-    rw c.in-Err-Refused.refusal-is (lists_refused v (g.D.Disk.store c.args.journal.now).reads c.args.bytes.now b c.requires.read c.in-Err-Refused.refusal refused)
+    let v = g.V.Solver.does c.args.solver.now in
+    let b : WithBase = record { problem = c.args.accepted.problem.now; pools = c.args.accepted.pools.lists } in
+    let refused = subst (λ (f : ReadRefusal). steps.Fails f (alternatives_of b.problem c.args.accepted.bytes.now)) c.in-Err-Refused.field-0-is c.in-Err-Refused.ensures.value in
+    rw c.in-Err-Refused.refusal-is (lists_refused v (g.D.Disk.store c.args.journal.now).reads c.args.accepted.bytes.now b c.requires.read c.in-Err-Refused.refusal refused)
 
 pub returns-in-Err-clause-lacks : goal.returns-in-Err-clause-lacks
 returns-in-Err-clause-lacks g c =
-    let v = solving (g.V.Solver.started c.args.solver.now) (g.V.Solver.begun c.args.solver.now) (g.V.Solver.next c.args.solver.now) in
-    let b : WithBase = record { problem = c.args.problem.now; pools = c.args.pools.lists } in
+    let v = g.V.Solver.does c.args.solver.now in
+    let b : WithBase = record { problem = c.args.accepted.problem.now; pools = c.args.accepted.pools.lists } in
     let kept = (g.D.Disk.store c.args.journal.now).reads in
     let told = subst (λ (d : List ℕ). IfSome kept (λ k. Fails c.in-Err.fault (load_of b.problem b.pools d None None k))) c.digest-digest.ensures c.in-Err.ensures.value in
-    rw c.status_of_fault.ensures (not_kept v kept c.args.bytes.now b c.requires.read c.in-Ok.alternatives c.in-Ok.ensures.value _ _ c.in-Err.fault c.in-Err.ensures.cause.failed told)
+    rw c.status_of_fault.ensures (not_kept v kept c.args.accepted.bytes.now b c.requires.read c.in-Ok.alternatives c.in-Ok.ensures.value _ _ c.in-Err.fault c.in-Err.ensures.cause.failed told)
 
 pub returns-in-Err-robust-clause-lacks : goal.returns-in-Err-robust-clause-lacks
 returns-in-Err-robust-clause-lacks g c =
-    let v = solving (g.V.Solver.started c.args.solver.now) (g.V.Solver.begun c.args.solver.now) (g.V.Solver.next c.args.solver.now) in
-    let b : WithBase = record { problem = c.args.problem.now; pools = c.args.pools.lists } in
+    let v = g.V.Solver.does c.args.solver.now in
+    let b : WithBase = record { problem = c.args.accepted.problem.now; pools = c.args.accepted.pools.lists } in
     let kept = (g.D.Disk.store c.args.journal.now).reads in
     let o : Outcome × List (List Entry) = (seen c.in-Ok-load_keep.loaded, c.load_keep.new.keep) in
     let told = subst (λ (d : List ℕ). IfSome kept (λ k. load_of b.problem b.pools d None None k ≡ Ok o)) c.digest-digest.ensures c.in-Ok-load_keep.ensures.value in
-    rw c.status_of_planes.ensures (no_planes v kept c.args.bytes.now b c.requires.read c.in-Ok.alternatives c.in-Ok.ensures.value o told _ _ c.in-Err-robust.fault c.in-Err-robust.ensures.value)
+    rw c.status_of_planes.ensures (no_planes v kept c.args.accepted.bytes.now b c.requires.read c.in-Ok.alternatives c.in-Ok.ensures.value o told _ _ c.in-Err-robust.fault c.in-Err-robust.ensures.value)
 
 pub returns-in-Ok-robust_report-clause-report : goal.returns-in-Ok-robust_report-clause-report
 returns-in-Ok-robust_report-clause-report g c =
-    let v = solving (g.V.Solver.started c.args.solver.now) (g.V.Solver.begun c.args.solver.now) (g.V.Solver.next c.args.solver.now) in
-    let b : WithBase = record { problem = c.args.problem.now; pools = c.args.pools.lists } in
+    let v = g.V.Solver.does c.args.solver.now in
+    let b : WithBase = record { problem = c.args.accepted.problem.now; pools = c.args.accepted.pools.lists } in
     let kept = (g.D.Disk.store c.args.journal.now).reads in
     let o : Outcome × List (List Entry) = (seen c.in-Ok-load_keep.loaded, c.load_keep.new.keep) in
     let told = subst (λ (d : List ℕ). IfSome kept (λ k. load_of b.problem b.pools d None None k ≡ Ok o)) c.digest-digest.ensures c.in-Ok-load_keep.ensures.value in
-    planes_reported v kept c.args.bytes.now b c.requires.read c.in-Ok.alternatives c.in-Ok.ensures.value o told c.in-Ok-robust.planes.lists c.in-Ok-robust_report.text.items c.in-Ok-robust.ensures.value c.in-Ok-robust_report.ensures
+    planes_reported v kept c.args.accepted.bytes.now b c.requires.read c.in-Ok.alternatives c.in-Ok.ensures.value o told c.in-Ok-robust.planes.lists c.in-Ok-robust_report.text.items c.in-Ok-robust.ensures.value c.in-Ok-robust_report.ensures
 
 pub returns-in-Ok-robust_report-clause-sound : goal.returns-in-Ok-robust_report-clause-sound
 returns-in-Ok-robust_report-clause-sound g c =
     let safe = c.in-Ok-load_keep.ensures.safe in
     let made = c.in-Ok-robust.ensures in
-    (c.in-Ok-load_keep.loaded.pools.lists, planes_sound c.args.bytes.now c.args.problem.now c.in-Ok-load_keep.loaded.pools.lists c.in-Ok.alternatives c.in-Ok-robust.planes.lists c.in-Ok-robust_report.text.items c.raw.ensures.sealed safe.fit safe.sound c.in-Ok.ensures.value (record { holds = made.holds; under = made.worst }) c.in-Ok-robust_report.ensures)
+    (c.in-Ok-load_keep.loaded.pools.lists, planes_sound c.args.accepted.bytes.now c.args.accepted.problem.now c.in-Ok-load_keep.loaded.pools.lists c.in-Ok.alternatives c.in-Ok-robust.planes.lists c.in-Ok-robust_report.text.items c.raw.ensures.sealed safe.fit safe.sound c.in-Ok.ensures.value (record { holds = made.holds; under = made.worst }) c.in-Ok-robust_report.ensures)

@@ -13,8 +13,8 @@ returns-in-Ok g c =
       run.ensures.0,
       run.ensures.1,
       inr (
-        run.new.journal,
-        subst (λ (d : CountedFile). IsRun own_solver (asked c.args.words.now) (telling_streams g.I.Read.remaining g.O.Write.contents) (devices c.args.problem.now d c.args.out.now) (devices run.new.problem run.new.journal run.new.out) run.ensures.0)
+        run.new.outside.1.0,
+        subst (λ (d : CountedFile). IsRun own_solver (asked c.args.words.now) (telling_streams g.I.Read.remaining g.O.Write.contents) (devices c.args.problem.now d c.args.out.now) (devices run.new.outside.0 run.new.outside.1.0 run.new.outside.1.1.0) run.ensures.0)
             c.in-Ok.ensures run.ensures.2,
       ),
     )

@@ -1,4 +1,4 @@
-use Rattle.hp_run.proofs.SoundDone.{sound_done}
+use Rattle.hp_run.proofs.Sounding.{sound_done}
 use Rattle.hp_run.proofs.told.run_over_memory.Goals as goal
 
 pub returns : goal.returns

@@ -1,5 +1,4 @@
 use Rattle.std.proofs.Common.{List, ℕ, IfSome, refl, subst}
-use Rattle.hp_lp.specs.Chained.{solving}
 use Rattle.hp_run.specs.Journals.{Grows}
 use Rattle.hp_run.specs.declared.status.Status.TheVariants.{Done}
 use Rattle.hp_run.proofs.Reports.{lacks_explains}
@@ -11,8 +10,8 @@ returns-in-Err-clause-cause g c = lacks_explains _ _ _ c.in-Ok.bytes.items c.in-
 
 pub returns-clause-grown : goal.returns-clause-grown
 returns-clause-grown g c =
-    let v = solving (g.V.Solver.started c.args.solver.now) (g.V.Solver.begun c.args.solver.now) (g.V.Solver.next c.args.solver.now) in
-    let old = g.D.Disk.store c.args.journal.now in
+    let v = g.V.Solver.does c.args.solver.now in
+    let old = g.D.Disk.store c.args.outside.journal.now in
     let new = g.D.Disk.store c.report_of.new.journal in
     let bytes = c.in-Ok.bytes.items in
     let task = c.args.task in

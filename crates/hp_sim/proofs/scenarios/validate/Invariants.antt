@@ -1,10 +1,9 @@
 use Rattle.std.proofs.Common.{◌≡◌, [], drop, All}
-use Rattle.hp_lp.specs.Chained.{solving}
 use Rattle.hp_sim.specs.Tracing.{AreKnown, trace_of, traces_on}
 use Rattle.hp_sim.proofs.scenarios.validate.Given as goal
 
 abbrev pub invariant-loop-scenario : goal.invariant-loop-scenario
 invariant-loop-scenario g l = record {
-  value : traces_on (trace_of (solving (g.V.Solver.started l.solver) (g.V.Solver.begun l.solver) (g.V.Solver.next l.solver)) l.problem l.pools.lists) l.traces l.scenario (drop l.scenario l.scenarios) ≡ traces_on (trace_of (solving (g.V.Solver.started l.solver) (g.V.Solver.begun l.solver) (g.V.Solver.next l.solver)) l.problem l.pools.lists) [] 0 l.scenarios;
-  known : All (AreKnown l.problem) l.traces;
+  value : traces_on (trace_of (g.V.Solver.does l.planner.solver.now) l.planner.problem.now l.pools.lists) l.traces l.scenario (drop l.scenario l.scenarios) ≡ traces_on (trace_of (g.V.Solver.does l.planner.solver.now) l.planner.problem.now l.pools.lists) [] 0 l.scenarios;
+  known : All (AreKnown l.planner.problem.now) l.traces;
 }

@@ -3,7 +3,6 @@ use Rattle.std.proofs.lemmas.Result.{err_from_is_err_and}
 use Rattle.hp_problem.specs.Formulas.{too_much}
 use Rattle.hp_load.specs.declared.loaded.Loaded.{Loaded}
 use Rattle.hp_load.specs.Load.{Outcome}
-use Rattle.hp_lp.specs.Chained.{solving}
 use Rattle.hp_train.specs.Continuing.{continued}
 use Rattle.hp_train.proofs.Formulas.{too_much-fewer}
 use Rattle.hp_train.proofs.Grows.{after, iterated_none, recorded_none}
@@ -13,8 +12,8 @@ use Rattle.hp_train.proofs.training.iterate_all.Goals as goal
 pub loop-done-init : goal.loop-done-init
 unfolding continued
 loop-done-init g c =
-    let p = c.args.course.now.problem.now in
-    let v = solving (g.V.Solver.started c.args.course.now.solver.now) (g.V.Solver.begun c.args.course.now.solver.now) (g.V.Solver.next c.args.course.now.solver.now) in
+    let p = c.args.course.now.planner.now.problem.now in
+    let v = g.V.Solver.does c.args.course.now.planner.now.solver.now in
     let seed = c.args.course.now.seed in
     let old = c.args.loaded.now in
     let s = g.D.Disk.store c.args.disk.now in
@@ -26,7 +25,7 @@ loop-done-init g c =
 
 pub iterate-requires-clause-room : goal.iterate-requires-clause-room
 iterate-requires-clause-room g c κs within =
-    let p = c.args.course.now.problem.now in
+    let p = c.args.course.now.planner.now.problem.now in
     let old = c.args.loaded.now in
     let batch : c.loop-done.loaded.batch ≡ old.batch = ap (λ (o : Outcome). o.batch) c.loop-done.invariant.iterated.value in
     subst (λ (b : ℕ). too_much p (c.len-before.result + c.loop-done.done + 1) b ≡ None) (sym batch)

@@ -1,13 +1,12 @@
 use Rattle.std.proofs.Common.{◌≤◌, length}
-use Rattle.hp_lp.specs.Chained.{solving}
 use Rattle.hp_train.specs.Continuing.{continued}
 use Rattle.hp_train.proofs.Grows.{HasIterated, HasRecorded}
 use Rattle.hp_train.proofs.training.iterate_all.Given as goal
 
 abbrev pub invariant-loop-done : goal.invariant-loop-done
 invariant-loop-done g l =
-    let p = l.course.problem.now in
-    let v = solving (g.V.Solver.started l.course.solver.now) (g.V.Solver.begun l.course.solver.now) (g.V.Solver.next l.course.solver.now) in
+    let p = l.course.planner.now.problem.now in
+    let v = g.V.Solver.does l.course.planner.now.solver.now in
     let first = l.initial.loaded in
     record {
       iterated : HasIterated v p l.course.seed l.done first l.loaded;

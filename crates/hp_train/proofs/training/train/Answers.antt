@@ -1,45 +1,47 @@
-use Rattle.std.proofs.Common.{◌≡◌, ℕ, ◌-◌, List, length, rules, sym, ap, subst, ◌∙◌}
+use Rattle.std.proofs.Common.{◌≡◌, ◌<◌, ◌^◌, ℕ, ◌-◌, List, length, sym, ap, subst, ◌∙◌}
 use Rattle.hp_theory.specs.declared.cut.Cut.{Cut}
 use Rattle.hp_theory.specs.Pools.{Sound}
 use Rattle.hp_theory.specs.View.{problem_of}
 use Rattle.hp_journal.specs.Layout.{IsTitle}
 use Rattle.hp_load.specs.Load.{Outcome, seen}
-use Rattle.hp_lp.specs.Chained.{solving}
 use Rattle.hp_train.specs.Training.{iterations, title_of}
 use Rattle.hp_train.proofs.Trained.{first_moments, ready_ends, trained_moments, trained_reads, when_also}
 use Rattle.hp_train.proofs.training.train.Goals as goal
 
 pub returns-in_err-open_end-clause-any_moment : goal.returns-in_err-open_end-clause-any_moment
 returns-in_err-open_end-clause-any_moment g c =
-    let p = c.args.problem.now in
-    let v = solving (g.V.Solver.started c.args.solver.now) (g.V.Solver.begun c.args.solver.now) (g.V.Solver.next c.args.solver.now) in
+    let p = c.args.planner.now.problem.now in
+    let v = g.V.Solver.does c.args.planner.now.solver.now in
     let o = seen c.args.loaded.now in
     let m = seen c.open_end.new.loaded in
     let old = g.D.Disk.store c.args.disk.now in
     let mid = g.D.Disk.store c.open_end.new.disk in
-    first_moments c.args.digest.now c.args.seed o old mid (iterations v p c.args.seed c.args.count o).lists c.open_end.ensures.any_moment
+    first_moments c.args.training.now.digest.now c.args.training.now.seed o old mid (iterations v p c.args.training.now.seed c.args.training.now.count o).lists c.open_end.ensures.any_moment
 
 pub iterate_all-requires-clause-end : goal.iterate_all-requires-clause-end
 iterate_all-requires-clause-end g c κs within =
     let o = seen c.args.loaded.now in
-    let long : length c.args.digest.now ≡ 32 = search rules in
-    let title : IsTitle (title_of c.args.digest.now c.args.seed o) = record { digest = long; seed = c.ranges.seed.fits; version = c.requires.can.version } in
-    ready_ends c.args.digest.now c.args.seed o title (g.D.Disk.store c.args.disk.now).reads (g.D.Disk.store c.open_end.new.disk).reads c.open_end.new.loaded.end c.requires.shut c.in_ok-open_end.ensures.reads (ap (λ (x : Outcome). x.end) c.in_ok-open_end.ensures.value)
+    let long : length c.args.training.now.digest.now ≡ 32 = c.open_end.ensures.digest in
+    let fits : c.args.training.now.seed < 2 ^ 64 = c.open_end.ensures.seed in
+    let title : IsTitle (title_of c.args.training.now.digest.now c.args.training.now.seed o) = record { digest = long; seed = fits; version = c.requires.can.version } in
+    ready_ends c.args.training.now.digest.now c.args.training.now.seed o title (g.D.Disk.store c.args.disk.now).reads (g.D.Disk.store c.open_end.new.disk).reads c.open_end.new.loaded.end c.requires.shut c.in_ok-open_end.ensures.reads (ap (λ (x : Outcome). x.end) c.in_ok-open_end.ensures.value)
 
 pub returns-clause-reads : goal.returns-clause-reads
 returns-clause-reads g c =
     let o = seen c.args.loaded.now in
-    let long : length c.args.digest.now ≡ 32 = search rules in
-    let title : IsTitle (title_of c.args.digest.now c.args.seed o) = record { digest = long; seed = c.ranges.seed.fits; version = c.requires.can.version } in
+    let long : length c.args.training.now.digest.now ≡ 32 = c.open_end.ensures.digest in
+    let fits : c.args.training.now.seed < 2 ^ 64 = c.open_end.ensures.seed in
+    let title : IsTitle (title_of c.args.training.now.digest.now c.args.training.now.seed o) = record { digest = long; seed = fits; version = c.requires.can.version } in
     when_also c.iterate_all.result _ _ c.iterate_all.ensures.reads
-    (trained_reads (solving (g.V.Solver.started c.args.solver.now) (g.V.Solver.begun c.args.solver.now) (g.V.Solver.next c.args.solver.now)) c.args.problem.now c.args.digest.now c.args.seed c.args.count o (seen c.open_end.new.loaded) c.saturating_sub-left.result c.in_ok-open_end.ensures.value (c.saturating_sub-left.ensures ∙ ap (λ (n : ℕ). c.args.count - n) c.len.ensures) title (g.D.Disk.store c.args.disk.now) (g.D.Disk.store c.open_end.new.disk) (g.D.Disk.store c.iterate_all.new.disk) c.in_ok-open_end.ensures.reads c.requires.shut)
+    (trained_reads (g.V.Solver.does c.args.planner.now.solver.now) c.args.planner.now.problem.now c.args.training.now.digest.now c.args.training.now.seed c.args.training.now.count o (seen c.open_end.new.loaded) c.saturating_sub-left.result c.in_ok-open_end.ensures.value (c.saturating_sub-left.ensures ∙ ap (λ (n : ℕ). c.args.training.now.count - n) c.len.ensures) title (g.D.Disk.store c.args.disk.now) (g.D.Disk.store c.open_end.new.disk) (g.D.Disk.store c.iterate_all.new.disk) c.in_ok-open_end.ensures.reads c.requires.shut)
 
 pub returns-clause-any_moment : goal.returns-clause-any_moment
 returns-clause-any_moment g c =
     let o = seen c.args.loaded.now in
-    let long : length c.args.digest.now ≡ 32 = search rules in
-    let title : IsTitle (title_of c.args.digest.now c.args.seed o) = record { digest = long; seed = c.ranges.seed.fits; version = c.requires.can.version } in
-    trained_moments (solving (g.V.Solver.started c.args.solver.now) (g.V.Solver.begun c.args.solver.now) (g.V.Solver.next c.args.solver.now)) c.args.problem.now c.args.digest.now c.args.seed c.args.count o (seen c.open_end.new.loaded) c.saturating_sub-left.result c.in_ok-open_end.ensures.value (c.saturating_sub-left.ensures ∙ ap (λ (n : ℕ). c.args.count - n) c.len.ensures) title (g.D.Disk.store c.args.disk.now) (g.D.Disk.store c.open_end.new.disk) (g.D.Disk.store c.iterate_all.new.disk) c.in_ok-open_end.ensures.reads c.open_end.ensures.any_moment c.iterate_all.ensures.any_moment
+    let long : length c.args.training.now.digest.now ≡ 32 = c.open_end.ensures.digest in
+    let fits : c.args.training.now.seed < 2 ^ 64 = c.open_end.ensures.seed in
+    let title : IsTitle (title_of c.args.training.now.digest.now c.args.training.now.seed o) = record { digest = long; seed = fits; version = c.requires.can.version } in
+    trained_moments (g.V.Solver.does c.args.planner.now.solver.now) c.args.planner.now.problem.now c.args.training.now.digest.now c.args.training.now.seed c.args.training.now.count o (seen c.open_end.new.loaded) c.saturating_sub-left.result c.in_ok-open_end.ensures.value (c.saturating_sub-left.ensures ∙ ap (λ (n : ℕ). c.args.training.now.count - n) c.len.ensures) title (g.D.Disk.store c.args.disk.now) (g.D.Disk.store c.open_end.new.disk) (g.D.Disk.store c.iterate_all.new.disk) c.in_ok-open_end.ensures.reads c.open_end.ensures.any_moment c.iterate_all.ensures.any_moment
 
 pub returns-clause-sound : goal.returns-clause-sound
-returns-clause-sound g c = λ sound. c.iterate_all.ensures.sound (subst (λ (x : List (List Cut)). Sound (problem_of c.args.problem.now) x) (sym (ap (λ (x : Outcome). x.pools) c.in_ok-open_end.ensures.value)) sound)
+returns-clause-sound g c = λ sound. c.iterate_all.ensures.sound (subst (λ (x : List (List Cut)). Sound (problem_of c.args.planner.now.problem.now) x) (sym (ap (λ (x : Outcome). x.pools) c.in_ok-open_end.ensures.value)) sound)

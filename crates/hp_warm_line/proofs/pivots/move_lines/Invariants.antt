@@ -7,5 +7,5 @@ use Rattle.hp_warm_line.proofs.pivots.move_lines.Given as goal
 abbrev pub invariant-loop-k : goal.invariant-loop-k
 invariant-loop-k l = record {
   count : length l.lines ≡ length l.fn.lines;
-  moved : each_from (moved_or_kept l.places l.leaving l.place l.entering) 0 l.fn.lines ≡ behind (take l.k l.lines) (each_from (moved_or_kept l.places l.leaving l.place l.entering) l.k (drop l.k l.lines));
+  moved : each_from (moved_or_kept l.by.places.now l.by.leaving l.by.place l.by.entering.now) 0 l.fn.lines ≡ behind (take l.k l.lines) (each_from (moved_or_kept l.by.places.now l.by.leaving l.by.place l.by.entering.now) l.k (drop l.k l.lines));
 }

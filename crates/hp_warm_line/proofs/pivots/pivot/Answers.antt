@@ -7,6 +7,6 @@ use Rattle.hp_warm_line.proofs.pivots.pivot.Goals as goal
 pub returns-clause-sized : goal.returns-clause-sized
 returns-clause-sized c =
     subst IsTable (sym c.replace.ensures.replaced)
-    (sized_replaced c.eliminate.new.table c.as_slice-2.result.now c.args.leaving c.args.above c.args.place c.args.flips.now c.eliminate.ensures.sized
-    (subst (λ (t : Table). c.args.leaving < variables t) (sym c.eliminate.ensures.kept) c.requires.there)
-    (subst (λ (t : Table). c.args.place < length t.costs) (sym c.eliminate.ensures.kept) c.requires.place))
+    (sized_replaced c.eliminate.new.table c.as_slice-2.result.now c.args.swap.leaving c.args.swap.above c.args.swap.place c.args.flips.now c.eliminate.ensures.sized
+    (subst (λ (t : Table). c.args.swap.leaving < variables t) (sym c.eliminate.ensures.kept) c.requires.there)
+    (subst (λ (t : Table). c.args.swap.place < length t.costs) (sym c.eliminate.ensures.kept) c.requires.place))

@@ -8,8 +8,8 @@ use Rattle.hp_warm_scan.proofs.packed.take_packed.Given as goal
 
 abbrev pub invariant-loop-k : goal.invariant-loop-k
 invariant-loop-k l = record {
-  value : walk (λ i bests (r : LpRow). greatest_step l.waiting l.states i bests r) l.first l.fn.greatest (packed_rows l.outs l.view.first l.cuts) ≡ walk (λ i bests (r : LpRow). greatest_step l.waiting l.states i bests r) l.row l.greatest (packed_rows l.outs (l.view.first + l.k) (drop l.k l.cuts));
-  within : All (λ (r : LpRow). waits l.waiting r ≡ true → IsWithin l.states r) (packed_rows l.outs (l.view.first + l.k) (drop l.k l.cuts));
+  value : walk (λ i bests (r : LpRow). greatest_step l.lookup.waiting.now l.lookup.states.now i bests r) l.lookup.first l.fn.greatest (packed_rows l.outs l.view.first l.cuts) ≡ walk (λ i bests (r : LpRow). greatest_step l.lookup.waiting.now l.lookup.states.now i bests r) l.row l.greatest (packed_rows l.outs (l.view.first + l.k) (drop l.k l.cuts));
+  within : All (λ (r : LpRow). waits l.lookup.waiting.now r ≡ true → IsWithin l.lookup.states.now r) (packed_rows l.outs (l.view.first + l.k) (drop l.k l.cuts));
   count : length l.greatest ≡ length l.fn.greatest;
-  rows : l.row + length (packed_rows l.outs (l.view.first + l.k) (drop l.k l.cuts)) ≡ l.first + length (packed_rows l.outs l.view.first l.cuts);
+  rows : l.row + length (packed_rows l.outs (l.view.first + l.k) (drop l.k l.cuts)) ≡ l.lookup.first + length (packed_rows l.outs l.view.first l.cuts);
 }

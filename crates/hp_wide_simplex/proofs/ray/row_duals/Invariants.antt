@@ -5,4 +5,4 @@ use Rattle.hp_wide_simplex.specs.Ray.{ray_dual}
 use Rattle.hp_wide_simplex.proofs.ray.row_duals.Given as goal
 
 abbrev pub invariant-loop-i : goal.invariant-loop-i
-invariant-loop-i l = each_from (ray_dual l.table l.line l.variable l.above l.top) 0 l.rows ≡ behind l.found (each_from (ray_dual l.table l.line l.variable l.above l.top) l.i (drop l.i l.rows))
+invariant-loop-i l = each_from (ray_dual l.stuck.table.now l.stuck.line.now l.stuck.variable l.stuck.above l.top) 0 l.rows ≡ behind l.found (each_from (ray_dual l.stuck.table.now l.stuck.line.now l.stuck.variable l.stuck.above l.top) l.i (drop l.i l.rows))

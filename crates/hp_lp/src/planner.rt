@@ -1,0 +1,72 @@
+// A problem with a solver that is ready for it.
+ghost use Rattle.std.specs.Prelude.{◌≡◌, ◌<◌, length, IfOk};
+ghost use Rattle.std.specs.Coded.{Coded-set};
+ghost use Rattle.hp_solver.specs.declared.programs.Program.{Program};
+ghost use Rattle.hp_solver.specs.Proper.{IsLike};
+ghost use Rattle.hp_lp.specs.Chained.{begun_at};
+ghost use Rattle.hp_lp.specs.Nodes.{IsStageAt};
+ghost use Rattle.hp_lp.specs.Ready.{AreReady, AreReady-prop};
+
+use crate::warm_starts::WarmStarts;
+use hp_num::Memory;
+use hp_problem::Problem;
+use hp_solver::{Solver, StageLp};
+use std::alloc::Global;
+
+/// A problem with a solver, and what the solver made ready for each of its nodes.
+#[derive(Drop)]
+pub struct Planner<'a, V: Solver> {
+    problem: &'a Problem,
+    solver: &'a V,
+    starts: &'a WarmStarts<V>,
+    // The starts were made for this problem by this solver.
+    ghost ready: { AreReady (V.does solver.now) (V.suits solver.now) problem.now starts.now.items } by { AreReady-prop (V.does solver.now) (V.suits solver.now) problem.now starts.now.items (λ x y. Coded-set V.Start.code x y) (V.suits_is_fact solver.now) },
+}
+
+impl<'a, V: Solver> Planner<'a, V> {
+    /// A problem with a solver and the starts that it made for this problem.
+    pub fn new(problem: &'a Problem, solver: &'a V, starts: &'a WarmStarts<V>) -> Planner<'a, V>
+        requires { AreReady (V.does solver.now) (V.suits solver.now) problem.now starts.now.items }
+        ensures problem { result.problem.now ≡ problem.now }
+        ensures solver { result.solver.now ≡ solver.now }
+    {
+        Planner {
+            problem,
+            solver,
+            starts,
+        }
+    }
+
+    /// The problem.
+    pub fn problem(&self) -> &'a Problem
+        ensures { result.now ≡ self.now.problem.now }
+    {
+        self.problem
+    }
+
+    /// The solver.
+    pub fn solver(&self) -> &'a V
+        ensures { result.now ≡ self.now.solver.now }
+    {
+        self.solver
+    }
+
+    /// The starts.
+    pub fn starts(&self) -> &'a WarmStarts<V>
+        ensures ready { AreReady (V.does self.now.solver.now) (V.suits self.now.solver.now) self.now.problem.now result.now.items }
+    {
+        self.starts
+    }
+
+    /// Begins a chain of a node with one of its stage problems, by the start of the node. The chain may take this stage problem
+    /// and each that [`set_sides`](crate::set_sides) makes of it. [`Memory`] where memory was refused.
+    pub fn begin(&self, alloc: Global, node: u32, lp: &StageLp) -> Result<V::Chain, Memory>
+        requires known { node < length self.now.problem.now.raw.nodes }
+        requires stage { IsStageAt self.now.problem.now node lp.now }
+        ensures made { IfOk result (λ chain. chain ≡ begun_at (V.does self.now.solver.now) self.now.problem.now node lp.now) }
+        ensures fits { IfOk result (λ chain. (other : Program) → IsLike lp.now other → V.fits self.now.solver.now chain other) }
+    {
+        let _ = self.problem.raw();
+        self.solver.begin(alloc, self.starts.at(node), lp)
+    }
+}

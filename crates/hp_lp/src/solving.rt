@@ -1,0 +1,36 @@
+// Answers to the stage problem of a node.
+ghost use Rattle.std.specs.Prelude.{◌≡◌, ◌<◌, true, length, IfOk};
+ghost use Rattle.hp_problem.specs.Limits.{are_values};
+ghost use Rattle.hp_problem.specs.Sealed.{subproblem_of};
+ghost use Rattle.hp_cut.specs.AtNodes.{IsStateAt, PoolsFit};
+ghost use Rattle.hp_lp.specs.Chained.{stage_answer};
+
+use crate::planner::Planner;
+use crate::stages::stage_problem;
+use crate::workspace::Workspace;
+use hp_cut::Pools;
+use hp_num::Memory;
+use hp_solver::{Answer, Solver};
+
+/// Solves the stage problem of a node at values and a state, in a chain of its own, and gives the answer. Values and state are
+/// as in [`stage_problem`]. [`Memory`] where memory was refused.
+pub fn solve_stage<V: Solver>(
+    work: &mut Workspace,
+    planner: &Planner<V>,
+    pools: &Pools,
+    node: u32,
+    values: &[i64],
+    state: &[i128],
+) -> Result<Answer, Memory>
+    requires known { node < length planner.now.problem.now.raw.nodes }
+    requires fit { PoolsFit planner.now.problem.now pools.now.lists }
+    requires values { are_values (subproblem_of planner.now.problem.now node) values.now ≡ true }
+    requires state { IsStateAt planner.now.problem.now node state.now }
+    ensures { IfOk result (λ a. a ≡ stage_answer (V.does planner.now.solver.now) planner.now.problem.now pools.now.lists node values.now state.now) }
+{
+    let lp = stage_problem(work, planner.problem(), pools, node, values, state)?;
+    let mut chain = planner.begin(work.alloc(), node, &lp)?;
+    let answer = planner.solver().solve(work.alloc(), &mut chain, &lp);
+    work.give_back(lp);
+    answer
+}

@@ -1,0 +1,52 @@
+// The starts that a solver makes for the nodes of a problem.
+ghost use Rattle.std.specs.Prelude.{◌≡◌, ◌<◌, length, IfOk, Some, slice_get};
+ghost use Rattle.hp_lp.specs.Ready.{AreReady};
+
+use crate::references::reference;
+use hp_num::{List, Memory};
+use hp_problem::Problem;
+use hp_solver::Solver;
+use std::alloc::Global;
+
+/// The starts that a solver makes for the nodes of a problem, one for each, before any solve.
+#[derive(Drop)]
+pub struct WarmStarts<V: Solver> {
+    items: List<V::Start>,
+}
+
+impl<V: Solver> WarmStarts<V> {
+    /// Has the solver make the start of each node, by the node's reference program. A chain may begin from there with each
+    /// stage problem of the node. [`Memory`] where memory was refused.
+    pub fn new(alloc: Global, problem: &Problem, solver: &V) -> Result<WarmStarts<V>, Memory>
+        ensures { IfOk result (λ made. AreReady (V.does solver.now) (V.suits solver.now) problem.now made.items) }
+    {
+        Ok(WarmStarts {
+            items: started(alloc, problem, solver)?,
+        })
+    }
+
+    /// Lends the start of a node.
+    pub(crate) fn at(&self, node: u32) -> &V::Start
+        requires { node < length self.now.items }
+        ensures { slice_get self.now.items node ≡ Some result.now }
+    {
+        &self.items.as_slice()[node as usize]
+    }
+}
+
+// Has the solver make a start for each node.
+fn started<V: Solver>(
+    alloc: Global,
+    problem: &Problem,
+    solver: &V,
+) -> Result<List<V::Start>, Memory>
+    ensures { IfOk result (λ made. AreReady (V.does solver.now) (V.suits solver.now) problem.now made) }
+{
+    let nodes = problem.raw().nodes.len() as u32;
+    let mut made = List::new(alloc);
+    for node in 0..nodes {
+        let program = reference(alloc, problem, node)?;
+        made.push(solver.start(alloc, &program)?)?;
+    }
+    Ok(made)
+}

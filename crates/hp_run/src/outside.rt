@@ -1,0 +1,9 @@
+// What a run works on.
+
+/// A source that holds a problem, a journal, and a sink.
+#[derive(Drop)]
+pub struct Outside<'a, I, D, O> {
+    pub problem: &'a mut I,
+    pub journal: &'a mut D,
+    pub out: &'a mut O,
+}

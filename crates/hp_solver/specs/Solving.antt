@@ -1,0 +1,9 @@
+-- What a solver does.
+use Rattle.hp_solver.specs.declared.programs.Program.{Program}
+use Rattle.hp_solver.specs.declared.programs.Answer.{Answer}
+
+-- a solver, known by three functions: the start that it makes for a node by a program, the state of a chain that begins with a program, before that program, and the answer to a program with the state of the chain after it
+pub record Solving (Start Chain : Type 0) : Type 0 where
+  pub started : Program → Start
+  pub begun : Start → Program → Chain
+  pub next : Chain → Program → Answer × Chain

@@ -1,9 +1,0 @@
-use Rattle.std.proofs.Common.{◌≡◌, ◌-◌, length, None}
-use Rattle.hp_warm_simplex.specs.Turns.{look_from}
-use Rattle.hp_warm_simplex.proofs.looking.inspect_all.Given as goal
-
-abbrev pub invariant-loop-violation : goal.invariant-loop-violation
-invariant-loop-violation l = record {
-  line : length l.line ≡ length l.fn.line;
-  look : look_from l.lp l.table l.violations (length l.violations) None ≡ look_from l.lp l.table l.violations (length l.violations - l._violation) l.last;
-}
