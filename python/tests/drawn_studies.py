@@ -16,6 +16,14 @@ STEPS = 1 << 12
 TOO_COARSE = "RoundedTooFar"
 
 
+class WrongStudy(AssertionError):
+    """A study that does not mean what it says: what is wrong, and its files by their names."""
+
+    def __init__(self, fault, files):
+        super().__init__(fault + "\n" + "\n".join(f"# {name}\n{text}" for name, text in files.items()))
+        self.files = files
+
+
 class Drawing:
     """What a draw asks of `random.Random`, by hypothesis: each number evenly, and the simplest has the fewest features."""
 
@@ -48,7 +56,7 @@ def studies(draw):
 
 
 def compared_studies(count, own_words, decorate=lambda test: test, **chosen):
-    """Compares so many studies: how many ended how. AssertionError shows the smallest study found that does not mean what it says.
+    """Compares so many studies: how many ended how. WrongStudy has the smallest study found that does not mean what it says.
 
     `own_words` gives further words that are counted of what is known of a study.
     """
@@ -61,7 +69,8 @@ def compared_studies(count, own_words, decorate=lambda test: test, **chosen):
         known = comparison(files)
         found.update(["too coarse"] if known is None else [known.ending(), known.rounded, *own_words(known)])
         fault = "" if known is None else known.fault()
-        assert not fault, fault + "\n" + "\n".join(f"# {name}\n{text}" for name, text in files.items())
+        if fault:
+            raise WrongStudy(fault, files)
 
     one()
     return found

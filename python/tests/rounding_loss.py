@@ -15,7 +15,8 @@ is the least cost of the stage; rounding loses this, and no more:
 - `_places`: a decision is rounded down to a multiple of 1/S, so a cut is made less than 1/S beside the state for which the node before
   asks. There it is less by the difference of two slopes, at most.
 
-Nothing here is for the tolerances of a solver in floating point: who compares has to allow for these.
+Nothing here is for the tolerances of a solver in floating point: who compares has to allow for these. Nor is anything for answers that are a
+little beside the best ones, which the solver takes for good (`test_weak_answers`): no study is known whose bound is lower for them.
 """
 from __future__ import annotations
 

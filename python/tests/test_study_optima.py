@@ -1,4 +1,5 @@
-"""Studies drawn at random: certified bounds beside the least cost that HiGHS finds, and balances recomputed from decisions.csv.
+"""Studies drawn at random: the compiled problems and their certified bounds beside the least cost that HiGHS finds, and balances recomputed from
+decisions.csv.
 
 Each study is a folder of study.toml and CSV files. A second reading of these files alone gives the extensive form; docs/STUDIES.md and
 docs/PLANTS.md are all that the two have in common. Hypothesis draws the compared ones, the same each time; `many_studies` draws thousands
@@ -113,20 +114,23 @@ class Optima(InFolders):
             self.assertEqual(compared(folder).fault(), "")
 
     def test_a_price_that_is_wrong_by_a_hundredth_is_found(self):
-        # the same folder beside a case in which one price is another: the bound is not that case's optimum, wherever the price counts
-        counted = found = 0
+        # the same folder beside a case in which one price is another: the problem's optimum and the bound are not that case's, where it counts
+        counted = by_problem = by_bound = 0
         for seed in range(6):
             with self.study(drawn(seed)) as folder:
                 own, case = compared(folder), read_case(folder)
             for it, member in ((it, member) for kind, member in PRICES for it in case.elements if it.KIND == kind and getattr(it, member)):
                 right = getattr(it, member)
                 setattr(it, member, dearer(right))
-                off = abs(Extensive(case).optimum() - float(own.optimum))
+                optimum = Fraction(Extensive(case).optimum())
                 setattr(it, member, right)
-                counted += off > 1e-7 * max(1, abs(own.optimum))
-                found += off > float(own.loss + 2 * own.near)
+                if abs(optimum - own.optimum) <= Fraction(1, 10**7) * max(1, abs(own.optimum)):
+                    continue
+                counted += 1
+                by_problem += abs(optimum - own.meant) > own.near
+                by_bound += not own.bound - own.near <= optimum <= own.bound + own.loss + own.near
         self.assertGreaterEqual(counted, 12)
-        self.assertEqual(found, counted)
+        self.assertEqual((by_problem, by_bound), (counted, counted))
 
 
 @needs_tomllib

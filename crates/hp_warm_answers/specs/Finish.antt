@@ -89,9 +89,9 @@ sides_from t j s (v ∷ vs) = sides_from t (suc j) (plus_side t j s v) vs
 abbrev pub least_cost : Table → List ℤ → ℤ
 least_cost t qs = sides_from t 0 (columns_from t 0 (pos 0) qs) t.basis.nonbasic
 
--- whether the cost of the point exceeds the least one by more than 2^-18 of both and 2^-16
+-- whether the cost of the point exceeds the least one by more than 2^-26 of both and 2^-16
 abbrev pub is_apart : ℤ → ℤ → Bool
-is_apart p d = int_lt (floor_over (magnitude p +ℤ magnitude d) (2 ^ 18) +ℤ pos (2 ^ 56)) (p -ℤ d)
+is_apart p d = int_lt (floor_over (magnitude p +ℤ magnitude d) (2 ^ 26) +ℤ pos (2 ^ 56)) (p -ℤ d)
 
 abbrev pub is_weak : Table → List ℤ → Bool
 is_weak t qs = is_apart (point_cost t) (least_cost t qs)

@@ -261,9 +261,9 @@ fn size_of(cost: i128, least: i128) -> i128
 // Computes by how much costs of this size may differ.
 fn tolerance(size: i128) -> i128
     requires small { nat_abs size ≤ 3597 * 2 ^ 115 }
-    ensures { result ≡ floor_over size (2 ^ 18) +ℤ pos (2 ^ 56) }
+    ensures { result ≡ floor_over size (2 ^ 26) +ℤ pos (2 ^ 56) }
 {
-    floor_div(size, 1 << 18) + (1 << 56)
+    floor_div(size, 1 << 26) + (1 << 56)
 }
 
 // Computes by how much a cost exceeds the least one.
@@ -337,7 +337,7 @@ fn new_costs(
 }
 
 /// Computes the reduced costs of a table afresh from the duals of its rows, which are clipped, and sets whether they are not to
-/// be trusted: where the cost of the point exceeds the least cost of all points, by these duals, by more than 2^-18 of both and
+/// be trusted: where the cost of the point exceeds the least cost of all points, by these duals, by more than 2^-26 of both and
 /// 2^-16. False, with the table as it was, where a reduced cost leaves the range of cells. [`Memory`] where memory was refused,
 /// with the table as it was.
 #[tactic(auto, unfolding(crate::specs::Finish::finish_of))]

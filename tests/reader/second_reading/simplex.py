@@ -14,6 +14,10 @@ from .program import FINER, FOUND, Answer, CutName, Program, Row
 from .table import Table
 
 
+TRUSTED = 26
+"""The binary digits to which the cost of a point and what its duals show have to be the same, or the answer is weak."""
+
+
 @dataclass(frozen=True)
 class Violation:
     """A basic variable that is outside its bounds: by how much, and the sign 1 below its low and -1 above its high."""
@@ -232,7 +236,7 @@ def finish(table: Table) -> None:
     for row, place in slacks:
         if table.reduced[place] != 0:
             dual += table.reduced[place] * (table.row_lows if table.reduced[place] > 0 else table.row_highs)[row]
-    table.weak = primal - dual > ((abs(primal) + abs(dual)) >> 18) + numbers.gap
+    table.weak = primal - dual > ((abs(primal) + abs(dual)) >> TRUSTED) + numbers.gap
 
 
 def column_point(table: Table, program: Program, column: int) -> int:
