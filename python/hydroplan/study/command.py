@@ -11,11 +11,13 @@ from typing import Any, Dict, List, Optional, Sequence
 
 from hydroplan.tools.shown_names import shown_name
 
+from ..clamped import clamped_rows
 from ..errors import HydroplanError, NoStageSolution, TrainingInterrupted
 from ..limits import sizes
 from ..plants.element import Element
 from ..tables import package
 from .dead_ends import dead_end
+from .kept_journal import KeptJournal
 from .results_folder import RESULTS, write_results
 from .study import Study, read_study
 from .study_training import train_study
@@ -73,12 +75,24 @@ def _run(study: Study, quiet: bool) -> None:
     try:
         training, journal = train_study(study, _say, not quiet)
         _say(f"trained: {training.stopped}")
+        _warn_of_clamped(study, journal)
         found = write_results(study, training, journal)
     except NoStageSolution as fault:
         raise dead_end(study, fault) from fault
     _write_report(study, study.folder / RESULTS)
     print("\n".join(map(shown_name, [*_result_lines(found), f"results: {study.folder / RESULTS}"])))
     _say(f"done in {time.monotonic() - begun:.0f} seconds")
+
+
+def _warn_of_clamped(study: Study, journal: KeptJournal) -> None:
+    """Warns where a row is worth more than its multiplier can say."""
+    rows = clamped_rows(study.compiled, journal.path)
+    if rows:
+        others = f" and of {len(rows) - 1} more" if len(rows) > 1 else ""
+        _say(
+            f"warning: one unit of the row {rows[0][1]!r} of stage {rows[0][0]!r}{others} is worth more money than 64 bits hold, so the bound may stay "
+            "far below the least cost; a coarser resolution.cost ends this (docs/GUIDE.md, section 6)"
+        )
 
 
 def _write_report(study: Study, results: Path) -> None:
