@@ -15,7 +15,7 @@ from model_support import TOP
 
 from hydroplan.farm import work
 from hydroplan.farm.engine import DONE, FAILED, GONE, RUNNING
-from hydroplan.farm.errors import WorkerFault
+from hydroplan.farm.errors import WorkerFault, WorkerLeft
 from hydroplan.farm.train_command import Words, train
 
 PROGRAM = TOP / "bin" / "hydroplan-x86_64-linux"
@@ -87,6 +87,10 @@ class Folder(unittest.TestCase):
 Lie = Callable[[Dict[str, object], bytes], object]
 
 
+# of a worker that leaves when it is done, before its answer is had
+LEFT = "left"
+
+
 class PlainCall:
     """A call that is done at once: what the worker says of it."""
 
@@ -97,6 +101,8 @@ class PlainCall:
         return self._found if self._found in (RUNNING, GONE, FAILED) else DONE
 
     def answer(self, most: int) -> bytes:
+        if self._found == LEFT:
+            raise WorkerLeft("it left before its answer could be had")
         if not isinstance(self._found, bytes) or len(self._found) > most:
             raise WorkerFault("its answer is no bytes, or more than were asked for")
         return self._found

@@ -8,7 +8,7 @@ import unittest
 from pathlib import Path
 from typing import Callable, Dict, List
 
-from farm_support import Folder, PlainEngine, bound_of, copied, example, farmed, ran, trained
+from farm_support import LEFT, Folder, PlainEngine, bound_of, copied, example, farmed, ran, trained
 
 from hydroplan.farm import work
 from hydroplan.farm.engine import FAILED, GONE, RUNNING
@@ -254,12 +254,12 @@ class Liars(Folder):
         self.assert_named(lambda order, answer: b"P", "is not asked: it has another program", refused=1)
 
     def test_a_worker_that_leaves_is_not_blamed(self) -> None:
-        """It leaves with its first order and comes back: no refusal is counted."""
+        """It leaves with its first order, twice more when it is done, and comes back: no refusal is counted."""
         gone: List[int] = []
 
         def leave(order: Dict[str, object], answer: bytes) -> object:
             gone.append(1)
-            return GONE if len(gone) < 4 else answer
+            return (GONE, LEFT, LEFT)[len(gone) - 1] if len(gone) < 4 else answer
 
         engine = PlainEngine("abc", {"b": leave})
         _, said = farmed(example(self.NAME), self.room / "journal", engine, self.COUNT, self.PARTS)

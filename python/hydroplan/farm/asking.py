@@ -6,7 +6,7 @@ from dataclasses import dataclass
 from typing import Callable, Dict, Iterator, List, Optional, Sequence, Set, Tuple, Union
 
 from .engine import DONE, FAILED, GONE, RUNNING, Call, Engine
-from .errors import FarmError, WorkerFault
+from .errors import FarmError, WorkerFault, WorkerLeft
 from .plan import MOST_REFUSALS, Plan
 from .work import BROKEN, LACKING, OTHER_PROGRAM, PROGRAM_FAILED, SIMULATED, TRAINED, Order
 
@@ -125,8 +125,12 @@ class Asking:
                 silent = WorkerFault(f"it is silent after {took:.0f} seconds")
                 yield Came(part, given.address, given.name, silent, took, given.is_whole)
             elif state in (DONE, FAILED):
+                answer = _answer(given)
+                if isinstance(answer, WorkerLeft):
+                    self._lose(part, given)
+                    continue
                 del self._given[part]
-                yield Came(part, given.address, given.name, _answer(given), took, given.is_whole)
+                yield Came(part, given.address, given.name, answer, took, given.is_whole)
                 given.call.drop()
 
     def read(self, came: Came) -> Optional[Tuple[bytes, bytes]]:
@@ -168,10 +172,10 @@ class Asking:
         self._given.clear()
 
 
-def _answer(given: Given) -> Answer:
+def _answer(given: Given) -> Union[Answer, WorkerLeft]:
     try:
         return given.call.answer(given.most)
-    except WorkerFault as fault:
+    except (WorkerFault, WorkerLeft) as fault:
         return fault
 
 

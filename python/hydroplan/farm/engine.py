@@ -11,7 +11,7 @@ import warnings
 from contextlib import suppress
 from typing import Any, Callable, Dict, Iterable, Optional, Protocol
 
-from .errors import FarmError, WorkerFault
+from .errors import FarmError, WorkerFault, WorkerLeft
 from .work import Order, answer, forget
 
 NOT_RUN = 1
@@ -30,7 +30,7 @@ class Call(Protocol):
         """RUNNING, DONE, FAILED where it raised an exception, or GONE where its worker left."""
 
     def answer(self, most: int) -> bytes:
-        """What came of a call that is done; WorkerFault where that is no bytes, or more than so many."""
+        """What came of a call that is done; WorkerFault where that is no bytes, or more than so many, WorkerLeft where its worker left with it."""
 
     def drop(self) -> None:
         """Forgets the call. The worker may be busy with it for a while."""
@@ -85,15 +85,24 @@ class DaskCall:
         size = sum(self._client.nbytes([self.future.key], summary=False).values())
         if size > most + 1024:
             raise WorkerFault(f"it sent {size:,} bytes, where {most:,} are the most")
-        try:
-            found = self.future.result(timeout=60)
-        except WorkerFault:
-            raise
-        except Exception as fault:  # whatever its answer may be
-            raise WorkerFault(f"its answer could not be had ({type(fault).__name__})") from None
+        found = self._result()
         if not isinstance(found, bytes) or len(found) > most:
             raise WorkerFault("its answer is no bytes, or more than were asked for")
         return found
+
+    def _result(self) -> object:
+        """What the task gave, asked for until a minute is over: a worker that was killed when it was done does not give it any more."""
+        for _ in range(60):
+            try:
+                return self.future.result(timeout=1)
+            except WorkerFault:
+                raise
+            except Exception as fault:  # whatever its answer may be
+                if self._address not in self._workers():
+                    raise WorkerLeft("it left before its answer could be had") from None
+                if type(fault).__name__ != "TimeoutError":
+                    raise WorkerFault(f"its answer could not be had ({type(fault).__name__})") from None
+        raise WorkerFault("its answer could not be had within a minute")
 
     def drop(self) -> None:
         """As `Call.drop`."""

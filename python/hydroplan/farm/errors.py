@@ -22,3 +22,7 @@ class RecordFault(HydroplanError):
 
 class WorkerFault(HydroplanError):
     """What is wrong with what a worker sent, or that it sent nothing. The message says which."""
+
+
+class WorkerLeft(HydroplanError):
+    """A worker left when it was done, before its answer could be had."""
