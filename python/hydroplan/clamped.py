@@ -41,7 +41,7 @@ def _shape(compiled: Compiled) -> List[NodeSize]:
 
 
 def _payloads(file: BinaryIO) -> Iterator[bytes]:
-    """The payloads of an open journal, up to its first gate that is shut."""
+    """The payloads of an open journal, up to its first commit byte other than 1."""
     front = file.read(11)
     file.seek(HEAD_BYTES.get(int.from_bytes(front[9:11], "big"), len(front)))
     while file.read(1) == b"\x01":

@@ -83,7 +83,7 @@ class Training(Folder):
         self.assertIn("total iterations 21 unsettled", report[-2])
 
     def test_behind_what_an_interrupted_round_left(self) -> None:
-        """Bytes of records behind the last gate, which is shut, are as if they were not there."""
+        """Bytes of records behind the last commit byte, which is 0, are as if they were not there."""
         self.farm("five_reservoirs", PlainEngine("ab"), 20, 2, "whole")
         self.farm("five_reservoirs", PlainEngine("ab"), 6, 2)
         whole, journal = (self.room / "whole").read_bytes(), self.room / "journal"

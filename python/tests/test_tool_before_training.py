@@ -14,7 +14,7 @@ from hydroplan.tools.before_training import NO_COPY, main
 
 
 def head(version=1):
-    """A head without records, and without its gate."""
+    """A header without records, and without the commit byte behind it."""
     batch = b"\0\2" if version == 2 else b""
     return b"\1HYDPLAN1" + version.to_bytes(2, "big") + bytes(32) + (7).to_bytes(8, "big") + batch
 
@@ -26,11 +26,11 @@ def record(iteration, payload=b"payload"):
 
 
 def journal(records, version=1, last=b"\0"):
-    """A journal of so many records, and what stands at its last gate and behind it."""
+    """A journal of so many records, and what stands at its last commit byte and behind it."""
     return head(version) + b"".join(b"\1" + record(at) for at in range(1, records + 1)) + last
 
 
-GATE = 51
+COMMIT_BYTE = 51
 LENGTH = 1 + len(record(1))
 
 
@@ -78,25 +78,25 @@ class Silent(InFolder):
 
 
 class Warned(InFolder):
-    def test_a_gate_that_was_changed(self):
+    def test_a_commit_byte_that_was_changed(self):
         data = bytearray(journal(60))
-        place = GATE + 4 * LENGTH
+        place = COMMIT_BYTE + 4 * LENGTH
         data[place] = 65
         status, said, names = self.looked_at(data)
         self.assertEqual((status, names), (0, ["J", "J.kept"]))
         self.assertEqual((self.folder / "J.kept").read_bytes(), data)
         first, second = said.splitlines()
-        # of each record 5 is the first behind the gate: 56 records in all, each of 15 bytes and its gate, but for the gate that was read
+        # record 5 is the first behind that byte: 56 records in all, each of 15 bytes and its commit byte, but for the one that was read
         self.assertEqual(LENGTH, 16)
         for part in ("4 records that count", f"{56 * 16:,} bytes", f"gate at byte {place:,} holds 65", "56 whole records"):
             self.assertIn(part, first)
         self.assertTrue(first.startswith(f"hydroplan: warning: {self.file} has "))
         self.assertEqual(second, f"hydroplan: training cuts these bytes off: the journal as it is stays in {self.file}.kept")
 
-    def test_the_gate_before_the_last_record_but_one_is_the_last_that_is_told(self):
+    def test_the_commit_byte_before_the_last_record_but_one_is_the_last_that_is_told(self):
         for back, told in ((1, False), (2, True)):
             data = bytearray(journal(9))
-            data[GATE + (9 - back) * LENGTH] = 0
+            data[COMMIT_BYTE + (9 - back) * LENGTH] = 0
             status, said, _ = self.looked_at(data)
             self.assertEqual((status, "warning" in said), (0, told))
 
@@ -152,7 +152,7 @@ class Warned(InFolder):
 
 class Streaming(InFolder):
     def test_a_long_journal_is_read_by_its_heads(self):
-        place = GATE
+        place = COMMIT_BYTE
         with self.file.open("wb") as file:
             file.write(head())
             for at in range(1, 201):

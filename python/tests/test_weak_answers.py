@@ -106,7 +106,7 @@ class Problem(StudyFolder):
             strict, loose = trained(problem), trained(problem, LOOSER)
             self.assertTrue(least - rounding(problem, strict) - near <= bound(strict) <= least + near)
             self.assertLess(bound(loose), least - rounding(problem, loose) - near)
-            self.assertEqual((strict.unsettled, loose.unsettled), (0, 0))
+            self.assertEqual((strict.unanswered, loose.unanswered), (0, 0))
 
     def test_the_program_makes_the_cuts_of_the_stricter_limit(self):
         for number, problem in enumerate((DEAR, LAKE)):

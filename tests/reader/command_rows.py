@@ -10,7 +10,7 @@ from dataclasses import dataclass
 from pathlib import Path
 from typing import List, Optional, Sequence, Tuple
 
-from second_reading.journal import Kept, is_born, journal_of
+from second_reading.journal import Kept, is_committed, journal_of
 from second_reading.problem import problem_of
 from second_reading.reports import Tree, bound_line, policy_of, train_lines
 from second_reading.stages import NoDecision
@@ -83,7 +83,7 @@ def command_rows() -> List[CommandRow]:
 def trained(text: bytes, before: bytes, words: Sequence[str]) -> Tuple[List[str], bytes]:
     """The report of `train JOURNAL SEED COUNT [BATCH]` and the journal afterwards."""
     problem, asked = problem_of(text), int(words[3]) if len(words) > 3 else None
-    if is_born(before):
+    if is_committed(before):
         kept = Kept(before, problem)
         training, batch = kept.training, kept.batch
     else:
@@ -95,7 +95,7 @@ def trained(text: bytes, before: bytes, words: Sequence[str]) -> Tuple[List[str]
 def followed(text: bytes, before: bytes, command: str, words: Sequence[str]) -> List[str]:
     """The report of a command that follows the policy of a journal."""
     problem = problem_of(text)
-    policy = policy_of(Kept(before, problem).training if is_born(before) else Training(problem, 0))
+    policy = policy_of(Kept(before, problem).training if is_committed(before) else Training(problem, 0))
     if command == "evaluate":
         return Tree(policy).lines()
     scenarios = problem.scenarios if command == "validate" else policy.drawn(int(words[0]), int(words[1]))
@@ -129,7 +129,7 @@ def measured(line: str) -> List[str]:
     _, _, name, _, seed, batch, count = line.split()
     training = Training(problem_of((LIBRARY / "data" / name).read_bytes()), int(seed), int(batch))
     training.train(int(count))
-    lines = [f"iteration {entry.iteration} solves {sum(1 + len(made) for _, made in entry.steps)} unsettled {entry.unsettled}"
+    lines = [f"iteration {entry.iteration} solves {sum(1 + len(made) for _, made in entry.steps)} unsettled {entry.unanswered}"
              for entries in training.records for entry in entries]
     stopped = training.stopped
     if stopped is not None and isinstance(stopped.cause, NoDecision):

@@ -4,7 +4,7 @@ import unittest
 from second_reading.node import Node, StageRow, Successor
 from second_reading.node import UNIT as S
 from second_reading.program import FOUND, RAY, STUCK, Answer
-from second_reading.settling import Certificate, judged, refutes, settled, settled_cuts
+from second_reading.settling import Certificate, certificate_of_duals, classified, refutes, settled_cuts
 
 
 class Cuts(unittest.TestCase):
@@ -43,23 +43,23 @@ class Certificates(unittest.TestCase):
     def test_rows(self):
         """Multipliers are rounded down, within 64 bits; a positive one without low and a negative one without high are 0."""
         duals = (511, -1, -257, 0, S << 8, 2 * S << 8)
-        self.assertEqual(settled(self.node, Answer(FOUND, (), duals)), Certificate((1, -1, -2), (((1, S),), ((0, 2 * S),))))
+        self.assertEqual(certificate_of_duals(self.node, Answer(FOUND, (), duals)), Certificate((1, -1, -2), (((1, S),), ((0, 2 * S),))))
         duals = (-1, 1 << 80, 1 << 80, 0, 0, 0)
-        self.assertEqual(settled(self.node, Answer(FOUND, (), duals)).rows, (0, 0, (1 << 63) - 1))
-        self.assertEqual(settled(self.node, Answer(FOUND, (), (0, -(1 << 80), 0, 0, 0, 0))).rows, (0, -(1 << 63), 0))
+        self.assertEqual(certificate_of_duals(self.node, Answer(FOUND, (), duals)).rows, (0, 0, (1 << 63) - 1))
+        self.assertEqual(certificate_of_duals(self.node, Answer(FOUND, (), (0, -(1 << 80), 0, 0, 0, 0))).rows, (0, -(1 << 63), 0))
 
     def test_without_duals(self):
         for kind in (RAY, STUCK):
             answer = Answer(kind, (), (1 << 50,) * 6)
-            self.assertEqual(settled(self.node, answer), Certificate((0, 0, 0), (((0, S),), ((0, 2 * S),))))
+            self.assertEqual(certificate_of_duals(self.node, answer), Certificate((0, 0, 0), (((0, S),), ((0, 2 * S),))))
 
 
-class Judging(unittest.TestCase):
+class Classifying(unittest.TestCase):
     def test_first_scale_counts(self):
         """u >= 5 in the box [0, 3]: 1 leaves S*5 - S*3, also without any digit dropped."""
         node = Node(((0, 3),), (0,), (StageRow(5, None, ((0, 1),)),))
-        self.assertEqual(judged(node, (), (), Answer(RAY, (0,), (1 << 59,))), ("Dead", [1 << 59]))
-        self.assertEqual(judged(node, (), (), Answer(RAY, (0,), (0,))), ("Unsettled", None))
+        self.assertEqual(classified(node, (), (), Answer(RAY, (0,), (1 << 59,))), ("Infeasible", [1 << 59]))
+        self.assertEqual(classified(node, (), (), Answer(RAY, (0,), (0,))), ("Unanswered", None))
 
     def test_scale_for_its_size(self):
         """2^30 * u >= 2^50 + 1 with u at most 2^20. The sizes of its two products are 2^24 * y * (2^51 + 1) together.
@@ -67,7 +67,7 @@ class Judging(unittest.TestCase):
         With y = 2^59 or 2^55 that is 2^130 or more; with 2^51 it is a little above 2^126.
         """
         node = Node(((0, 1 << 20),), (0,), (StageRow((1 << 50) + 1, None, ((0, 1 << 30),)),))
-        self.assertEqual(judged(node, (), (), Answer(RAY, (0,), (1 << 59,))), ("Dead", [1 << 51]))
+        self.assertEqual(classified(node, (), (), Answer(RAY, (0,), (1 << 59,))), ("Infeasible", [1 << 51]))
 
     def test_state_and_values(self):
         """u + 2*x + 3*w <= 10 with u in [1, 4], x = 3/2 and w = 2: -1 leaves -(10 - 6 - 3) + 1 = 0; with x finer by one, 2."""
@@ -78,5 +78,5 @@ class Judging(unittest.TestCase):
 
     def test_other_answers(self):
         node = Node(((0, 3),), (0,), (StageRow(5, None, ((0, 1),)),))
-        self.assertEqual(judged(node, (), (), Answer(FOUND, (0,), (1 << 59,)))[0], "Found")
-        self.assertEqual(judged(node, (), (), Answer(STUCK, (0,), (1 << 59,)))[0], "Unsettled")
+        self.assertEqual(classified(node, (), (), Answer(FOUND, (0,), (1 << 59,)))[0], "Found")
+        self.assertEqual(classified(node, (), (), Answer(STUCK, (0,), (1 << 59,)))[0], "Unanswered")

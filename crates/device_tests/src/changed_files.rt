@@ -1,6 +1,7 @@
 // A disk over a real file that others change while it is written.
+use hp_file_disk::{FileDisk, Lock, Obstacle};
 use hp_num::{Memory, Name};
-use hp_outside::{Disk, Failed, FileDisk, Lock, Obstacle};
+use hp_outside::{Disk, Failed};
 use std::alloc::Global;
 use std::fs::{OpenFile, OpenOptions};
 use std::io;

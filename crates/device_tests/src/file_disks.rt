@@ -3,8 +3,9 @@
 ghost use Rattle.std.specs.Prelude.{◌≤◌, ◌+◌, ◌^◌};
 
 use crate::disks::holds;
+use hp_file_disk::{FileDisk, Lock, Obstacle};
 use hp_num::{Memory, Name};
-use hp_outside::{Disk, Failed, FileDisk, Lock, Obstacle};
+use hp_outside::{Disk, Failed};
 use std::alloc::{Allocator, Global};
 use std::cell::Cell;
 use std::fs::{Metadata, OpenFile, OpenOptions};

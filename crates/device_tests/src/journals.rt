@@ -1,6 +1,6 @@
 // Journals, byte by byte.
 
-// A journal of version 1 with the seed 7 and two records of 44 bytes: gates at 51, 100 and 149.
+// A journal of version 1 with the seed 7 and two records of 44 bytes: commit bytes at 51, 100 and 149.
 pub(crate) const TWO_RECORDS: &[u8; 150] =
     b"\x01HYDPLAN1\x00\x01dddddddddddddddddddddddddddddddd\x00\x00\x00\x00\x00\x00\x00\x07\
 \x01\x00\x00\x00\x2caaaaaaaaaaaaaaaaaaaaaaaaaaaaaaaaaaaaaaaaaaaa\

@@ -1,7 +1,10 @@
 // A journal's head, and its records up to its end.
 use crate::journals::{BATCHES, TWO_RECORDS};
 use crate::silent_disks::disk_of;
-use hp_journal::{Gate, GateFault, Head, HeadFault, PayloadFault, payload, read_gate, read_head};
+use hp_journal::{
+    CommitByte, CommitByteFault, Head, HeadFault, PayloadFault, payload, read_commit_byte,
+    read_head,
+};
 use hp_num::Memory;
 use hp_outside::Disk;
 use std::alloc::Global;
@@ -10,18 +13,18 @@ use std::test::Fail;
 // How a journal is read to its end.
 #[derive(Clone, Copy, Debug, PartialEq, Eq)]
 enum Ending {
-    Unborn,
+    Uncommitted,
     NotAJournal,
     Short(u64),
     Whole(u64),
     Other,
 }
 
-// Reads the record behind one gate after another, up to three.
+// Reads the record behind one commit byte after another, up to three.
 fn read_to_end<D: Disk>(disk: &mut D, buffer: &mut Vec<u8>) -> Ending {
     let mut at = match read_head(disk) {
-        Ok(Head::Unborn { .. }) => return Ending::Unborn,
-        Ok(Head::Born { .. }) => 51,
+        Ok(Head::Uncommitted { .. }) => return Ending::Uncommitted,
+        Ok(Head::Committed { .. }) => 51,
         Err(HeadFault::NotAJournal) => return Ending::NotAJournal,
         Err(HeadFault::Short { place }) => return Ending::Short(place),
         Err(_) => return Ending::Other,
@@ -30,11 +33,11 @@ fn read_to_end<D: Disk>(disk: &mut D, buffer: &mut Vec<u8>) -> Ending {
         if at > 1000 {
             return Ending::Other;
         }
-        match read_gate(disk, at) {
-            Ok(Gate::Shut { rest }) => return Ending::Whole(rest),
-            Ok(Gate::Ajar) => {}
-            Err(GateFault::Short { place }) => return Ending::Short(place),
-            Err(GateFault::DiskFault) => return Ending::Other,
+        match read_commit_byte(disk, at) {
+            Ok(CommitByte::Shut { tail }) => return Ending::Whole(tail),
+            Ok(CommitByte::Ajar) => {}
+            Err(CommitByteFault::Short { place }) => return Ending::Short(place),
+            Err(CommitByteFault::DiskFault) => return Ending::Other,
         }
         match payload(disk, at, buffer) {
             Ok(next) => at = next,
@@ -48,7 +51,7 @@ fn read_to_end<D: Disk>(disk: &mut D, buffer: &mut Vec<u8>) -> Ending {
 // How the journal of two records ends that is cut to this length.
 fn cut_ending(len: usize) -> Ending {
     match len {
-        0..=1 => Ending::Unborn,
+        0..=1 => Ending::Uncommitted,
         2..=8 => Ending::NotAJournal,
         9..=51 => Ending::Short(len as u64),
         52..=55 => Ending::Short(52),
@@ -91,19 +94,19 @@ fn changed_head(
 
 #[test]
 fn reads_heads(rt: HostRuntime) -> Result<(), Fail> {
-    let born = Head::Born {
+    let committed = Head::Committed {
         version: 2,
         digest: [100; 32],
         seed: 7,
         batch: 2,
     };
     let cases: [(&[u8], usize, u8, Result<Head, HeadFault>); 7] = [
-        (BATCHES, 52, 2, Ok(born)),
+        (BATCHES, 52, 2, Ok(committed)),
         (BATCHES, 52, 65, Err(HeadFault::BadBatch { batch: 65 })),
         (BATCHES, 10, 3, Err(HeadFault::OtherVersion { version: 3 })),
-        (BATCHES, 0, 7, Ok(Head::Unborn { length: 54 })),
+        (BATCHES, 0, 7, Ok(Head::Uncommitted { length: 54 })),
         (&BATCHES[..53], 52, 2, Err(HeadFault::Short { place: 53 })),
-        (b"X", 0, b'X', Ok(Head::Unborn { length: 1 })),
+        (b"X", 0, b'X', Ok(Head::Uncommitted { length: 1 })),
         (b"hello", 0, b'h', Err(HeadFault::NotAJournal)),
     ];
     for (bytes, at, value, head) in cases {

@@ -1,7 +1,7 @@
 // Journals that are made and extended, with a crash after any call.
 use crate::journals::{BATCHES, NO_RECORDS};
 use crate::silent_disks::Silent;
-use hp_journal::{Gate, Head, append, give_birth, read_gate, read_head, recover};
+use hp_journal::{CommitByte, Head, append, commit_header, read_commit_byte, read_head, recover};
 use hp_num::Memory;
 use hp_outside::{Crash, Failed};
 use std::alloc::Global;
@@ -9,8 +9,8 @@ use std::process::Abort;
 use std::test::Fail;
 
 // Tells whether a crash may leave these bytes of a file that becomes the journal without records: it is not
-// born yet, or only its birth byte is another.
-fn may_be_left_of_birth(bytes: &[u8]) -> bool {
+// committed yet, or only its header's commit byte is another.
+fn may_be_left_of_header_commit(bytes: &[u8]) -> bool {
     bytes.len() <= 1
         || (bytes.first() == Some(&0) && bytes.len() <= 54)
         || bytes.get(1..) == NO_RECORDS.get(1..)
@@ -19,14 +19,14 @@ fn may_be_left_of_birth(bytes: &[u8]) -> bool {
 // Makes a journal of what a crash left, where it is none yet.
 fn reborn(disk: &mut Silent) -> Result<(), Failed> {
     match read_head(disk) {
-        Ok(Head::Unborn { .. }) => give_birth(disk, &[100; 32], 7, None),
+        Ok(Head::Uncommitted { .. }) => commit_header(disk, &[100; 32], 7, None),
         _ => Ok(()),
     }
 }
 
 // Tells whether a crash may leave this disk, and it becomes the journal without records.
 fn comes_to_life(left: &mut Silent) -> bool {
-    may_be_left_of_birth(left.bytes())
+    may_be_left_of_header_commit(left.bytes())
         && reborn(left).is_ok()
         && left.bytes() == NO_RECORDS.as_slice()
 }
@@ -44,45 +44,45 @@ fn lives_after_each(alloc: Global, disk: &Silent) -> Result<bool, Memory> {
     )
 }
 
-// Gives birth with a stop after so many calls, and once more to what each crash leaves. Whether the first went through, and
+// Commits the header with a stop after so many calls, and once more to what each crash leaves. Whether the first went through, and
 // each crash left what it may.
-fn births(alloc: Global, bytes: &[u8], calls: u64) -> Result<(bool, bool), Memory> {
+fn header_commits(alloc: Global, bytes: &[u8], calls: u64) -> Result<(bool, bool), Memory> {
     let mut disk = Silent::stopped(alloc, bytes, calls)?;
-    let outcome = give_birth(&mut disk, &[100; 32], 7, None);
+    let outcome = commit_header(&mut disk, &[100; 32], 7, None);
     Ok((outcome.is_ok(), lives_after_each(alloc, &disk)?))
 }
 
 // Birth goes through where it has so many calls.
-fn assert_born(rt: &impl Abort, alloc: Global, bytes: &[u8], most: u64) -> Result<(), Memory> {
+fn assert_committed(rt: &impl Abort, alloc: Global, bytes: &[u8], most: u64) -> Result<(), Memory> {
     for calls in 0..=most {
-        let found = births(alloc, bytes, calls)?;
+        let found = header_commits(alloc, bytes, calls)?;
         assert_eq!(rt; found, (calls == most, true), "after {calls} calls");
     }
     Ok(())
 }
 
 #[test]
-fn is_born_after_any_crash(rt: HostRuntime) -> Result<(), Fail> {
-    assert_born(&rt, rt.alloc(), b"", 7)?;
-    assert_born(&rt, rt.alloc(), b"X", 8)?;
-    assert_born(&rt, rt.alloc(), &[0; 54], 8)?;
+fn is_committed_after_any_crash(rt: HostRuntime) -> Result<(), Fail> {
+    assert_committed(&rt, rt.alloc(), b"", 7)?;
+    assert_committed(&rt, rt.alloc(), b"X", 8)?;
+    assert_committed(&rt, rt.alloc(), &[0; 54], 8)?;
     Ok(())
 }
 
-fn is_born_whole(disk: &mut Silent) -> bool {
-    give_birth(disk, &[100; 32], 7, Some(2)).is_ok() && disk.bytes() == BATCHES.as_slice()
+fn is_committed_whole(disk: &mut Silent) -> bool {
+    commit_header(disk, &[100; 32], 7, Some(2)).is_ok() && disk.bytes() == BATCHES.as_slice()
 }
 
 #[test]
-fn is_born_with_batches(rt: HostRuntime) -> Result<(), Fail> {
-    assert!(rt; is_born_whole(&mut Silent::stopped(rt.alloc(), b"", 100)?));
+fn is_committed_with_batches(rt: HostRuntime) -> Result<(), Fail> {
+    assert!(rt; is_committed_whole(&mut Silent::stopped(rt.alloc(), b"", 100)?));
     Ok(())
 }
 
 // The body of a record of two bytes.
 const BODY: &[u8; 7] = b"\x00\x00\x00\x02xy\x00";
 
-// Tells whether a crash may leave these bytes of the journal without records that gets the record: its gate is
+// Tells whether a crash may leave these bytes of the journal without records that gets the record: its commit byte is
 // 0, or the record's body stands whole behind it.
 fn may_be_left_of_growth(bytes: &[u8]) -> bool {
     bytes.get(..51) == NO_RECORDS.get(..51)
@@ -91,8 +91,8 @@ fn may_be_left_of_growth(bytes: &[u8]) -> bool {
 
 // Adds the record to what a crash left, where it has none.
 fn regrown(disk: &mut Silent) -> Result<(), Failed> {
-    match read_gate(disk, 51) {
-        Ok(Gate::Shut { .. }) => {
+    match read_commit_byte(disk, 51) {
+        Ok(CommitByte::Shut { .. }) => {
             recover(disk, 51)?;
             append(disk, 51, BODY).map(|_| ())
         }

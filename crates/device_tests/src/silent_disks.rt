@@ -1,7 +1,7 @@
 // A disk in memory that tells nothing of its bytes.
 ghost use Rattle.std.specs.Prelude.{◌≡◌, ◌≤◌, ◌^◌, length, IfOk};
 ghost use Rattle.hp_outside.specs.Causes.{HasCause};
-ghost use Rattle.hp_outside.specs.Disks.{untold, untold_lawful};
+ghost use Rattle.hp_outside.specs.Disks.{unobservable, unobservable_lawful};
 ghost use Rattle.hp_outside.specs.MemoryDisks.{reads};
 
 use hp_num::Memory;
@@ -45,13 +45,13 @@ impl Silent {
 }
 
 impl Disk for Silent {
-    ghost store = { λ s. untold };
+    ghost store = { λ s. unobservable };
 
     ghost readable = { λ s. 2 ^ 64 };
 
     ghost faults = { λ s. s.disk.faults };
 
-    ghost lawful = { λ s. untold_lawful };
+    ghost lawful = { λ s. unobservable_lawful };
 
     fn len(&mut self) -> Result<u64, Failed>
         ensures readable { IfOk result (λ n. n ≤ 2 ^ 64) }

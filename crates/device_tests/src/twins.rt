@@ -1,7 +1,8 @@
 // The calls of a file's disk, over a disk in memory that is taken for a file.
 use crate::disks::holds;
+use hp_file_disk::{DiskFile, TwinDisk};
 use hp_num::Memory;
-use hp_outside::{Disk, DiskFile, Failed, MemDisk, TwinDisk};
+use hp_outside::{Disk, Failed, MemDisk};
 use std::alloc::Global;
 use std::test::Fail;
 

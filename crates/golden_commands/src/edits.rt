@@ -4,11 +4,11 @@ use std::alloc::Global;
 
 /// The text, with its first `<UNIT*TIMES>` written out.
 fn repeated(alloc: Global, text: &str) -> Result<String, RowFault> {
-    let Some((before, rest)) = text.split_once("<") else {
+    let Some((before, tail)) = text.split_once("<") else {
         return Ok(String::from_str(alloc, text)?);
     };
-    let (unit, rest) = rest.split_once("*").ok_or(RowFault::Form)?;
-    let (times, after) = rest.split_once(">").ok_or(RowFault::Form)?;
+    let (unit, tail) = tail.split_once("*").ok_or(RowFault::Form)?;
+    let (times, after) = tail.split_once(">").ok_or(RowFault::Form)?;
     let times = times.parse::<usize>().map_err(|_| RowFault::Form)?;
     let units = unit.repeat(alloc, times)?;
     Ok(format!(in alloc; "{before}{units}{after}")?)

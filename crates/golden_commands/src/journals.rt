@@ -21,9 +21,9 @@ pub struct Asked<'a> {
 
 /// The journal of a question `DISK SINK MORE HEX`.
 pub fn parsed(question: &str) -> Option<Asked<'_>> {
-    let (disk, rest) = question.split_once(" ")?;
-    let (sink, rest) = rest.split_once(" ")?;
-    let (further, digits) = rest.split_once(" ")?;
+    let (disk, tail) = question.split_once(" ")?;
+    let (sink, tail) = tail.split_once(" ")?;
+    let (further, digits) = tail.split_once(" ")?;
     Some(Asked {
         disk,
         sink,

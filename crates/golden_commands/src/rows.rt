@@ -72,9 +72,9 @@ fn kind_of(word: &str) -> Option<Kind> {
 
 /// KIND NAME PROBLEM, and further words.
 fn parsed(line: &str) -> Option<Row<'_>> {
-    let (first, rest) = line.split_once(" ")?;
-    let (name, rest) = rest.split_once(" ")?;
-    let (problem, words) = rest.split_once(" ").unwrap_or((rest, ""));
+    let (first, tail) = line.split_once(" ")?;
+    let (name, tail) = tail.split_once(" ")?;
+    let (problem, words) = tail.split_once(" ").unwrap_or((tail, ""));
     let kind = kind_of(first)?;
     Some(Row {
         kind,
@@ -125,7 +125,7 @@ fn over<R: Threads + Sync>(
 }
 
 /// The text of a run, compared.
-fn judged<R: Threads + Sync>(
+fn classified<R: Threads + Sync>(
     rt: &R,
     alloc: Global,
     kind: Run,
@@ -184,7 +184,7 @@ fn answer<R: Threads + Sync + Files + AllocGlobal>(
     let task = task(problem, row.words);
     match row.kind {
         Kind::Shown(kind) => text_of(rt, alloc, kind, task),
-        Kind::Compared(kind) => judged(rt, alloc, kind, task, expected),
+        Kind::Compared(kind) => classified(rt, alloc, kind, task, expected),
         Kind::Table(question) => Ok(compared(rt, alloc, question, problem, expected)?),
         Kind::Journal(course) => over_file(rt, alloc, course, problem, row.words, expected),
     }

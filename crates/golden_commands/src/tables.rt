@@ -55,8 +55,8 @@ fn edited_line<R: Threads + Sync>(
 
 /// The numbers `MOST READ WRITE`: what a read takes at most, and the numbers of a read and a write that fail.
 fn three(text: &str) -> Option<(usize, u64, u64)> {
-    let (most, rest) = text.split_once(" ")?;
-    let (read, write) = rest.split_once(" ")?;
+    let (most, tail) = text.split_once(" ")?;
+    let (read, write) = tail.split_once(" ")?;
     Some((
         most.parse::<usize>().ok()?,
         read.parse::<u64>().ok()?,

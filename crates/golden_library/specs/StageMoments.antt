@@ -1,16 +1,16 @@
 -- Where a stage problem may be made.
 use Rattle.std.specs.Prelude.{◌≡◌, ℕ, ◌<◌, ℤ, pos, ◌*ℤ◌, ◌≤ℤ◌, true, List, length}
-use Rattle.hp_problem.specs.Limits.{are_values}
-use Rattle.hp_problem.specs.Sealed.{Sealed, subproblem_of}
+use Rattle.hp_parts.specs.Limits.{are_values}
+use Rattle.hp_problem.specs.Validated.{Validated, subproblem_of}
 use Rattle.hp_theory.specs.Problem.{S}
 use Rattle.hp_cut.specs.AtNodes.{IsStateAt}
 
 -- a number at the scale of states, between two whole numbers
-abbrev pub IsBetween : ℤ → ℤ → ℤ → Type 0
-IsBetween low high x = ((pos S *ℤ low) ≤ℤ x) × (x ≤ℤ (pos S *ℤ high))
+abbrev pub IsStateBetween : ℤ → ℤ → ℤ → Type 0
+IsStateBetween low high x = ((pos S *ℤ low) ≤ℤ x) × (x ≤ℤ (pos S *ℤ high))
 
 -- values and a state of the node m
-pub record MayStand (p : Sealed) (m : ℕ) (own xi : List ℤ) : Type 0 where
-  pub known : m < length p.raw.nodes
+pub record MayStand (p : Validated) (m : ℕ) (own xi : List ℤ) : Type 0 where
+  pub known : m < length p.parts.nodes
   pub values : are_values (subproblem_of p m) own ≡ true
   pub state : IsStateAt p m xi

@@ -1,10 +1,11 @@
 // Lists of certificates: the first fault, or the cut that they make.
-ghost use Rattle.std.specs.Prelude.{◌≤◌, length, sum, All};
+ghost use Rattle.std.specs.Prelude.{◌≤◌, sum, All};
 ghost use Rattle.hp_cut.specs.AtNodes.{PoolsFit};
 
 use crate::fault::RowFault;
 use hp_cut::{Certificate, Cut, Pools};
-use hp_dual::{CertFault, accept, accept_into, accept_with, base, make_into, make_with};
+use hp_cut_making::CertFault;
+use hp_dual::{accept, accept_into, accept_with, base, make_into, make_with};
 use hp_num::List;
 use hp_problem::Problem;
 use serde_json::Value;
@@ -96,7 +97,7 @@ fn first_fault(
 ) -> Option<CertFault>
     requires { PoolsFit problem.now pools.now.lists }
 {
-    if node as usize >= problem.raw().nodes.len() {
+    if node as usize >= problem.parts().nodes.len() {
         return None;
     }
     accept(problem, pools, node, list).err()
@@ -106,8 +107,8 @@ fn first_fault(
 fn is_made(problem: &Problem, pools: &Pools, list: &[Certificate], cut: &mut Cut) -> bool
     requires { PoolsFit problem.now pools.now.lists }
 {
-    let raw = problem.raw();
-    if raw.nodes.is_empty() || cut.beta.len() != raw.states.len() {
+    let parts = problem.parts();
+    if parts.nodes.is_empty() || cut.beta.len() != parts.states.len() {
         return false;
     }
     match accept(problem, pools, 0, list) {
@@ -123,8 +124,8 @@ fn is_made(problem: &Problem, pools: &Pools, list: &[Certificate], cut: &mut Cut
 fn is_made_at_once(problem: &Problem, pools: &Pools, list: &[Certificate], cut: &mut Cut) -> bool
     requires { PoolsFit problem.now pools.now.lists }
 {
-    let raw = problem.raw();
-    if raw.nodes.is_empty() || cut.beta.len() != raw.states.len() {
+    let parts = problem.parts();
+    if parts.nodes.is_empty() || cut.beta.len() != parts.states.len() {
         return false;
     }
     accept_into(problem, pools, 0, list, cut).is_ok()
@@ -142,11 +143,11 @@ fn is_made_with(
     requires positive { All (λ w. 1 ≤ w) weights.now }
     requires total { sum weights.now ≤ 65535 }
 {
-    let raw = problem.raw();
-    if raw.nodes.is_empty() || cut.beta.len() != raw.states.len() {
+    let parts = problem.parts();
+    if parts.nodes.is_empty() || cut.beta.len() != parts.states.len() {
         return false;
     }
-    let own = &raw.nodes.as_slice()[0];
+    let own = &parts.nodes.as_slice()[0];
     if own.weights.len() != weights.len() {
         return false;
     }
@@ -162,7 +163,7 @@ fn is_made_with(
 /// A cut of the problem's states, with 0 throughout.
 fn blank(alloc: Global, problem: &Problem) -> Result<Cut, RowFault> {
     let mut beta = List::new(alloc);
-    for _ in problem.raw().states.as_slice() {
+    for _ in problem.parts().states.as_slice() {
         beta.push(0)?;
     }
     Ok(Cut { alpha: 0, beta })

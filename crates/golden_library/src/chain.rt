@@ -1,5 +1,5 @@
 // Programs solved one after another.
-ghost use Rattle.std.specs.Prelude.{◌≡◌, ◌<◌, true, length, IfOk};
+ghost use Rattle.std.specs.Prelude.{◌≡◌, ◌<◌, true, IfOk};
 ghost use Rattle.hp_solver.specs.declared.programs.Program.{Program};
 ghost use Rattle.hp_solver.specs.Proper.{IsProper, IsReference, Extends, IsLike};
 

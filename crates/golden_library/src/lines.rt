@@ -1,7 +1,7 @@
 // Lines that show entries and cuts.
 use crate::fault::RowFault;
 use hp_cut::{Certificate, Cut, Entry, EntryStep, Pools};
-use hp_settle::{Dead, PlanFault};
+use hp_settle::{Infeasibility, PlanFault};
 use std::fmt::Write;
 
 fn push_certificate(text: &mut String, certificate: &Certificate) -> Result<(), RowFault> {
@@ -25,7 +25,7 @@ fn push_entry(text: &mut String, entry: &Entry) -> Result<(), RowFault> {
     write!(
         text,
         "iteration {} unsettled {}\n",
-        entry.iteration, entry.unsettled
+        entry.iteration, entry.unanswered
     )?;
     for step in entry.steps.as_slice() {
         push_step(text, step)?;
@@ -58,7 +58,7 @@ pub fn push_sums(text: &mut String, entries: &[Entry]) -> Result<(), RowFault> {
             "iteration {} solves {} unsettled {}\n",
             entry.iteration,
             solves(entry),
-            entry.unsettled
+            entry.unanswered
         )?;
     }
     Ok(())
@@ -78,19 +78,19 @@ fn push_node_cuts(text: &mut String, node: usize, cuts: &[Cut]) -> Result<(), Ro
 }
 
 /// Appends a node without decisions, and the multipliers that show it.
-fn push_dead(text: &mut String, dead: &Dead) -> Result<(), RowFault> {
+fn push_infeasible(text: &mut String, infeasible: &Infeasibility) -> Result<(), RowFault> {
     write!(
         text,
         "no stage run {} node {} values {:?}",
-        dead.run,
-        dead.node,
-        dead.values.as_slice()
+        infeasible.run,
+        infeasible.node,
+        infeasible.values.as_slice()
     )?;
     write!(
         text,
         " state {:?} rows {:?}\n",
-        dead.state.as_slice(),
-        dead.rows.as_slice()
+        infeasible.state.as_slice(),
+        infeasible.rows.as_slice()
     )?;
     Ok(())
 }
@@ -98,7 +98,7 @@ fn push_dead(text: &mut String, dead: &Dead) -> Result<(), RowFault> {
 /// Appends a node without decisions that stops planning. Any other fault stops the row.
 pub fn push_fault(text: &mut String, fault: PlanFault) -> Result<(), RowFault> {
     match fault {
-        PlanFault::NoStage(dead) => push_dead(text, &dead),
+        PlanFault::Infeasible(infeasible) => push_infeasible(text, &infeasible),
         PlanFault::Range { .. } => Err(RowFault::Range),
         PlanFault::DiskFault => Err(RowFault::File),
         PlanFault::Memory => Err(RowFault::Memory),

@@ -3,7 +3,7 @@ use crate::fault::RowFault;
 use hp_solver::Fx;
 use hp_solver::fixed::ONE;
 
-/// A number of F, as `-5`, or what stands for itself, as `1431655765raw`.
+/// A number of F, as `-5`, or what stands for itself, as `1431655765parts`.
 pub fn number(word: &str) -> Result<Fx, RowFault> {
     let (digits, unit) = match word.split_once("raw") {
         Some((digits, "")) => (digits, 1),

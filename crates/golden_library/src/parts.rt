@@ -1,6 +1,7 @@
 // The parts of a problem, written out.
 use crate::fault::RowFault;
-use hp_problem::{Moment, Node, Problem, Raw, Row, Subproblem};
+use hp_parts::{Moment, Node, ProblemParts, Row, Subproblem};
+use hp_problem::Problem;
 use std::alloc::{AllocError, Global};
 use std::fmt::Write;
 
@@ -48,8 +49,8 @@ fn push_subproblem(text: &mut String, subproblem: &Subproblem) -> Result<(), All
     writeln!(text, "high {:?}", subproblem.high.as_slice())
 }
 
-fn push_subproblems(text: &mut String, raw: &Raw) -> Result<(), AllocError> {
-    for subproblem in raw.subs.as_slice() {
+fn push_subproblems(text: &mut String, parts: &ProblemParts) -> Result<(), AllocError> {
+    for subproblem in parts.subs.as_slice() {
         push_subproblem(text, subproblem)?;
     }
     Ok(())
@@ -63,22 +64,25 @@ fn push_values(text: &mut String, node: &Node) -> Result<(), AllocError> {
 }
 
 fn push_node(text: &mut String, node: &Node) -> Result<(), AllocError> {
-    let (links, weights) = (node.links.as_slice(), node.link_weights.as_slice());
+    let (successors, weights) = (
+        node.successors.as_slice(),
+        node.successor_weights.as_slice(),
+    );
     write!(text, "node {} {} ", node.name.as_str(), node.sub)?;
     write!(text, "{:?} ", node.weights.as_slice())?;
-    writeln!(text, "{links:?} {weights:?} {}", node.stop)?;
+    writeln!(text, "{successors:?} {weights:?} {}", node.stop)?;
     push_values(text, node)
 }
 
-fn push_nodes(text: &mut String, raw: &Raw) -> Result<(), AllocError> {
-    for node in raw.nodes.as_slice() {
+fn push_nodes(text: &mut String, parts: &ProblemParts) -> Result<(), AllocError> {
+    for node in parts.nodes.as_slice() {
         push_node(text, node)?;
     }
     Ok(())
 }
 
-fn push_states(text: &mut String, raw: &Raw) -> Result<(), AllocError> {
-    for state in raw.states.as_slice() {
+fn push_states(text: &mut String, parts: &ProblemParts) -> Result<(), AllocError> {
+    for state in parts.states.as_slice() {
         writeln!(text, "state {} {}", state.name.as_str(), state.initial)?;
     }
     Ok(())
@@ -92,8 +96,8 @@ fn push_scenario(text: &mut String, steps: &[Moment]) -> Result<(), AllocError> 
     Ok(())
 }
 
-fn push_scenarios(text: &mut String, raw: &Raw) -> Result<(), AllocError> {
-    for scenario in raw.scenarios.as_slice() {
+fn push_scenarios(text: &mut String, parts: &ProblemParts) -> Result<(), AllocError> {
+    for scenario in parts.scenarios.as_slice() {
         push_scenario(text, scenario.as_slice())?;
     }
     Ok(())
@@ -101,7 +105,7 @@ fn push_scenarios(text: &mut String, raw: &Raw) -> Result<(), AllocError> {
 
 fn push_boxes(text: &mut String, problem: &Problem) -> Result<(), AllocError> {
     for node in problem.order() {
-        if (*node as usize) < problem.raw().nodes.len() {
+        if (*node as usize) < problem.parts().nodes.len() {
             let (low, high) = (problem.lo(*node), problem.hi(*node));
             writeln!(
                 text,
@@ -113,23 +117,23 @@ fn push_boxes(text: &mut String, problem: &Problem) -> Result<(), AllocError> {
     Ok(())
 }
 
-fn push_parts(text: &mut String, raw: &Raw) -> Result<(), AllocError> {
-    push_states(text, raw)?;
+fn push_parts(text: &mut String, parts: &ProblemParts) -> Result<(), AllocError> {
+    push_states(text, parts)?;
     writeln!(
         text,
         "root {:?} {:?}",
-        raw.root.as_slice(),
-        raw.root_weights.as_slice()
+        parts.root.as_slice(),
+        parts.root_weights.as_slice()
     )?;
-    push_subproblems(text, raw)?;
-    push_nodes(text, raw)?;
-    push_scenarios(text, raw)
+    push_subproblems(text, parts)?;
+    push_nodes(text, parts)?;
+    push_scenarios(text, parts)
 }
 
 /// Writes all parts of a problem, then its longest path, and the box of each node in order.
 pub fn parts(alloc: Global, problem: &Problem) -> Result<String, RowFault> {
     let mut text = String::new(alloc);
-    push_parts(&mut text, problem.raw())?;
+    push_parts(&mut text, problem.parts())?;
     writeln!(text, "longest {}", problem.longest())?;
     push_boxes(&mut text, problem)?;
     Ok(text)

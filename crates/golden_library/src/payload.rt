@@ -7,7 +7,7 @@ use hp_record::decode_batch;
 use std::alloc::Global;
 use std::str::SplitWhitespace;
 
-/// The fields of an entry before its multipliers: its iteration, what was unsettled, its steps and the step's node.
+/// The fields of an entry before its multipliers: its iteration, what was unanswered, its steps and the step's node.
 const FIELDS: [u8; 12] = [0, 0, 0, 1, 0, 0, 0, 0, 0, 1, 0, 0];
 
 /// Bytes of the multipliers of 100 realizations with 200 rows each.

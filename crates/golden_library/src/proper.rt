@@ -1,5 +1,5 @@
 // Whether a program is one that a solver takes.
-ghost use Rattle.std.specs.Prelude.{◌≡◌, ◌≤ℤ◌, ℕ, true, length, All, IfSome};
+ghost use Rattle.std.specs.Prelude.{◌≡◌, ◌≤ℤ◌, true, All, IfSome};
 ghost use Rattle.hp_solver.specs.declared.fixed.Fx.{Fx};
 ghost use Rattle.hp_solver.specs.declared.programs.Column.{Column};
 ghost use Rattle.hp_solver.specs.declared.programs.LpRow.{LpRow};

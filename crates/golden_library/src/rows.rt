@@ -74,9 +74,9 @@ fn kind_of(word: &str) -> Option<Kind> {
 
 /// KIND NAME FILE, and further words.
 fn parsed(line: &str) -> Option<Row<'_>> {
-    let (first, rest) = line.split_once(" ")?;
-    let (_name, rest) = rest.split_once(" ")?;
-    let (file, words) = rest.split_once(" ").unwrap_or((rest, ""));
+    let (first, tail) = line.split_once(" ")?;
+    let (_name, tail) = tail.split_once(" ")?;
+    let (file, words) = tail.split_once(" ").unwrap_or((tail, ""));
     let kind = kind_of(first)?;
     Some(Row { kind, file, words })
 }

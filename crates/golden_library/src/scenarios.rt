@@ -1,6 +1,6 @@
 // The answers to rows on simulation.
-ghost use Rattle.std.specs.Prelude.{length, All, IfOk};
-ghost use Rattle.hp_report.specs.Traces.{AreKnown};
+ghost use Rattle.std.specs.Prelude.{All, IfOk};
+ghost use Rattle.hp_report.specs.Traces.{AreTraceStepsKnown};
 ghost use Rattle.hp_cut.specs.AtNodes.{PoolsFit};
 
 use crate::fault::RowFault;
@@ -59,7 +59,7 @@ fn traced<V: Solver>(
     drawn: Option<(u64, u32)>,
 ) -> Result<List<Trace>, PlanFault>
     requires { PoolsFit planner.now.problem.now pools.now.lists }
-    ensures { IfOk result (All (AreKnown planner.now.problem.now)) }
+    ensures { IfOk result (All (AreTraceStepsKnown planner.now.problem.now)) }
 {
     match drawn {
         Some((seed, count)) => simulate(work, planner, pools, seed, count),
@@ -76,7 +76,7 @@ fn push_report(
     text: &mut String,
 ) -> Result<(), RowFault>
     requires fit { PoolsFit problem.now pools.now.lists }
-    requires known { All (AreKnown problem.now) traces.now }
+    requires known { All (AreTraceStepsKnown problem.now) traces.now }
 {
     let report = trace_report(alloc, problem, pools, traces)?;
     let report = from_utf8(report.as_slice()).map_err(|_| RowFault::Form)?;
@@ -127,7 +127,7 @@ fn push_followed<R: Threads + Sync, V: Solver>(
 fn count_of(problem: &Problem, drawn: Option<(u64, u32)>) -> u32 {
     match drawn {
         Some((_, count)) => count,
-        None => u32::try_from(problem.raw().scenarios.len()).unwrap_or(u32::MAX),
+        None => u32::try_from(problem.parts().scenarios.len()).unwrap_or(u32::MAX),
     }
 }
 

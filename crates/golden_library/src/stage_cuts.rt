@@ -1,5 +1,5 @@
 // Cuts that fit, from answers that no solver gave.
-ghost use Rattle.std.specs.Prelude.{◌≡◌, ◌<◌, ◌^◌, length, IfOk};
+ghost use Rattle.std.specs.Prelude.{◌<◌, length, IfOk};
 ghost use Rattle.hp_theory.specs.Fit.{CutFits};
 ghost use Rattle.hp_theory.specs.Problem.{node_at};
 ghost use Rattle.hp_theory.specs.View.{problem_of};
@@ -11,7 +11,7 @@ use hp_cut::{Cut, Pools};
 use hp_dual::{accept_into, no_slopes};
 use hp_num::{List, Memory};
 use hp_problem::Problem;
-use hp_settle::settle;
+use hp_settle::certificate_of_duals;
 use hp_theory::Certificate;
 use std::alloc::Global;
 
@@ -26,14 +26,14 @@ fn certificates(
     node: u32,
     turn: u32,
 ) -> Result<List<Certificate>, Memory>
-    requires known { node < length problem.now.raw.nodes }
+    requires known { node < length problem.now.parts.nodes }
     requires fit { PoolsFit problem.now pools.now.lists }
 {
     let rows = problem.sub(node).rows.len();
     let answer = answer(alloc, rows, 0, turn)?;
     let mut list = List::new(alloc);
     for _ in problem.node(node).weights.as_slice() {
-        list.push(settle(alloc, problem, pools, node, &answer)?)?;
+        list.push(certificate_of_duals(alloc, problem, pools, node, &answer)?)?;
     }
     Ok(list)
 }
@@ -46,12 +46,12 @@ fn made(
     node: u32,
     turn: u32,
 ) -> Result<Cut, RowFault>
-    requires known { node < length problem.now.raw.nodes }
+    requires known { node < length problem.now.parts.nodes }
     requires fit { PoolsFit problem.now pools.now.lists }
     ensures { IfOk result (CutFits (node_at (problem_of problem.now) node)) }
 {
     let list = certificates(alloc, problem, pools, node, turn)?;
-    let mut cut = no_slopes(alloc, problem.raw().states.len())?;
+    let mut cut = no_slopes(alloc, problem.parts().states.len())?;
     match accept_into(problem, pools, node, list.as_slice(), &mut cut) {
         Ok(()) => Ok(cut),
         Err(_) => Err(RowFault::Range),
@@ -67,7 +67,7 @@ fn add_cut(
     node: u32,
     turn: u32,
 ) -> Result<(), RowFault>
-    requires known { node < length problem.now.raw.nodes }
+    requires known { node < length problem.now.parts.nodes }
     requires fit { PoolsFit problem.now pools.old.lists }
     ensures { PoolsFit problem.now pools.new.lists }
 {
@@ -87,7 +87,7 @@ pub fn add_cuts(
     node: u32,
     count: u32,
 ) -> Result<(), RowFault>
-    requires known { node < length problem.now.raw.nodes }
+    requires known { node < length problem.now.parts.nodes }
     requires fit { PoolsFit problem.now pools.old.lists }
     ensures { PoolsFit problem.now pools.new.lists }
 {

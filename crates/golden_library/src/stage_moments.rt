@@ -1,15 +1,15 @@
 // Values and states that a node's stage problem is made at.
-ghost use Rattle.std.specs.Prelude.{◌≡◌, ◌<◌, ◌*ℤ◌, pos, true, length, IfOk};
-ghost use Rattle.hp_problem.specs.Limits.{is_small, are_small, are_numbers};
-ghost use Rattle.hp_theory.specs.Problem.{S, node_at};
+ghost use Rattle.std.specs.Prelude.{◌≡◌, ◌<◌, true, length, IfOk};
+ghost use Rattle.hp_parts.specs.Limits.{is_small, are_small, are_numbers};
+ghost use Rattle.hp_theory.specs.Problem.{S};
 ghost use Rattle.hp_theory.specs.Tree.{InBox};
-ghost use Rattle.hp_theory.specs.View.{problem_of};
-ghost use Rattle.golden_library.specs.StageMoments.{IsBetween, MayStand};
+ghost use Rattle.golden_library.specs.StageMoments.{IsStateBetween, MayStand};
 
 use crate::fault::RowFault;
+use hp_forward::scaled;
 use hp_num::{List, Memory};
-use hp_problem::{GREATEST_NUMBER, Problem};
-use hp_theory::SCALE;
+use hp_parts::GREATEST_NUMBER;
+use hp_problem::Problem;
 use std::alloc::Global;
 
 /// A quarter of the scale of states.
@@ -23,16 +23,8 @@ pub struct Moment<'a> {
     pub state: List<i128>,
 }
 
-/// A number at the scale of states.
-#[tactic(auto, unfolding(hp_theory::specs::Problem::S))]
-fn scaled(number: i64) -> i128
-    ensures { result ≡ pos S *ℤ number }
-{
-    i128::from(SCALE) * i128::from(number)
-}
-
 fn is_between(low: i64, high: i64, state: i128) -> bool
-    ensures { result ≡ true → IsBetween low high state }
+    ensures { result ≡ true → IsStateBetween low high state }
 {
     scaled(low) <= state && state <= scaled(high)
 }
@@ -90,10 +82,10 @@ fn checked<'a>(
     values: &'a [i64],
     state: List<i128>,
 ) -> Result<Moment<'a>, RowFault>
-    requires { node < length problem.now.raw.nodes }
+    requires { node < length problem.now.parts.nodes }
     ensures { IfOk result (λ moment. MayStand problem.now node moment.values.now moment.state) }
 {
-    let _ = problem.raw();
+    let _ = problem.parts();
     let fits = are_numbers(values, problem.sub(node).randoms.len());
     if fits && is_inside(problem.lo(node), problem.hi(node), state.as_slice()) {
         Ok(Moment { values, state })
@@ -104,7 +96,7 @@ fn checked<'a>(
 
 /// The values of a node's first realization, low in its box.
 pub fn first(alloc: Global, problem: &Problem, node: u32) -> Result<Moment<'_>, RowFault>
-    requires { node < length problem.now.raw.nodes }
+    requires { node < length problem.now.parts.nodes }
     ensures { IfOk result (λ moment. MayStand problem.now node moment.values.now moment.state) }
 {
     let all = problem.node(node).values.as_slice();
@@ -115,7 +107,7 @@ pub fn first(alloc: Global, problem: &Problem, node: u32) -> Result<Moment<'_>, 
 
 /// The values of a node's last realization, high in its box.
 pub fn last(alloc: Global, problem: &Problem, node: u32) -> Result<Moment<'_>, RowFault>
-    requires { node < length problem.now.raw.nodes }
+    requires { node < length problem.now.parts.nodes }
     ensures { IfOk result (λ moment. MayStand problem.now node moment.values.now moment.state) }
 {
     let all = problem.node(node).values.as_slice();

@@ -15,7 +15,7 @@ use hp_cut::Pools;
 use hp_lp::{Workspace, set_sides, stage_problem};
 use hp_num::Memory;
 use hp_problem::Problem;
-use hp_settle::settle;
+use hp_settle::certificate_of_duals;
 use hp_solver::{Answer, StageLp};
 use hp_theory::Certificate;
 use std::alloc::Global;
@@ -105,24 +105,28 @@ fn settled(
     answer: &Answer,
     settles: u32,
 ) -> Result<Certificate, Memory>
-    requires known { 0 < length problem.now.raw.nodes }
+    requires known { 0 < length problem.now.parts.nodes }
     requires fit { PoolsFit problem.now pools.now.lists }
 {
     for _ in 0..settles {
-        settle(alloc, problem, pools, NODE, answer)?;
+        certificate_of_duals(alloc, problem, pools, NODE, answer)?;
     }
-    settle(alloc, problem, pools, NODE, answer)
+    certificate_of_duals(alloc, problem, pools, NODE, answer)
 }
 
 /// The first successor of the node.
 fn successor(problem: &Problem) -> Result<u32, RowFault>
-    ensures { IfOk result (λ m. m < length problem.now.raw.nodes) }
+    ensures { IfOk result (λ m. m < length problem.now.parts.nodes) }
 {
-    let nodes = problem.raw().nodes.as_slice();
+    let nodes = problem.parts().nodes.as_slice();
     let node = nodes.first().ok_or(RowFault::NoSuccessor)?;
-    let link = *node.links.as_slice().first().ok_or(RowFault::NoSuccessor)?;
-    if (link as usize) < nodes.len() {
-        Ok(link)
+    let successor = *node
+        .successors
+        .as_slice()
+        .first()
+        .ok_or(RowFault::NoSuccessor)?;
+    if (successor as usize) < nodes.len() {
+        Ok(successor)
     } else {
         Err(RowFault::NoSuccessor)
     }
@@ -142,7 +146,7 @@ fn parts(
     last: &Moment,
     counts: Counts,
 ) -> Result<String, RowFault>
-    requires known { 0 < length problem.now.raw.nodes }
+    requires known { 0 < length problem.now.parts.nodes }
     requires fit { PoolsFit problem.now pools.now.lists }
     requires first { MayStand problem.now 0 first.now.values.now first.now.state }
     requires last { MayStand problem.now 0 last.now.values.now last.now.state }
@@ -166,7 +170,7 @@ fn stage(
     pools: &Pools,
     counts: Counts,
 ) -> Result<String, RowFault>
-    requires known { 0 < length problem.now.raw.nodes }
+    requires known { 0 < length problem.now.parts.nodes }
     requires fit { PoolsFit problem.now pools.now.lists }
 {
     let first = first(alloc, problem, NODE)?;

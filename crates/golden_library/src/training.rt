@@ -1,5 +1,4 @@
 // The answers to rows on training.
-ghost use Rattle.std.specs.Prelude.{length};
 ghost use Rattle.hp_cut.specs.AtNodes.{PoolsFit};
 
 use crate::fault::RowFault;

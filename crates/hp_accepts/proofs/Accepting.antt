@@ -1,7 +1,7 @@
 -- Read accepts the text of a hydro problem, and gives what the plants mean.
 use Rattle.std.proofs.Common.{◌≡◌, ◌↔◌, ℕ, ℤ, List, Result, Ok, IfOk, IsOk, is_ok, sym, ap, subst, ◌∙◌, arith}
-use Rattle.hp_problem.specs.Sealed.{Sealed}
-use Rattle.hp_problem.specs.declared.refusal.Refusal.{Refusal}
+use Rattle.hp_problem.specs.Validated.{Validated}
+use Rattle.hp_parts.specs.declared.refusal.Refusal.{Refusal}
 use Rattle.hp_theory.specs.Range.{based}
 use Rattle.hp_accepts.proofs.Based.{base_form}
 use Rattle.hp_sof.specs.Problem.{problem_at}
@@ -19,7 +19,7 @@ use Rattle.hp_plants.proofs.Fits.{plants_at-Ok}
 use Rattle.hp_hydro.specs.Made.{problem_of_plants}
 use Rattle.hp_hydro.specs.Plan.{Workable}
 use Rattle.hp_hydro.specs.PlanCost.{plan_cost}
-use Rattle.hp_hydro.specs.Trees.{plan_of, tree_of}
+use Rattle.hp_hydro.specs.Trees.{plan_forest}
 use Rattle.hp_hydro.specs.Text.{hydro_data, hydro_text, hydro_at}
 use Rattle.hp_hydro.proofs.Costs.{tree_of_cost}
 use Rattle.hp_hydro.proofs.Described.{short}
@@ -29,25 +29,25 @@ use Rattle.hp_fields.specs.Fields.{json_at}
 use Rattle.hp_accepts.specs.Plans.{Means, UnderPlans}
 use Rattle.hp_accepts.proofs.Printed.{text_read}
 use Rattle.hp_accepts.proofs.Written.{hydro_fair}
-use Rattle.hp_accepts.proofs.Raws.{node_form, raw_form, raw_read}
+use Rattle.hp_accepts.proofs.AllParts.{node_form, parts_form, problem_parts_read}
 use Rattle.hp_accepts.proofs.Subproblems.{form}
 use Rattle.hp_accepts.proofs.Boxing.{arranged_is}
-use Rattle.hp_accepts.proofs.Meaning.{many, lows, highs, is_chain, sealed_form, same_problem}
+use Rattle.hp_accepts.proofs.Meaning.{many, lows, highs, is_chain, validated_form, same_problem}
 
 module _ (h : Plants) (i : IsPlants h) where
   json_read : json_at (hydro_text h) ≡ Ok (hydro_data h)
   unfolding hydro_text
   json_read = let p = (hydro_plain h).shallow in text_read (hydro_data h) (hydro_fair h i) (omega (arith, p))
 
-  pub problem_read : problem_at (hydro_text h) ≡ Ok (sealed_form h i)
+  pub problem_read : problem_at (hydro_text h) ≡ Ok (validated_form h i)
   unfolding problem_at
-  problem_read = rw (raw_read h i (hydro_text h) json_read) (arranged_is (raw_form h i) (node_form h i) (form h i) (many h i) (lows h i) (highs h i) (is_chain h i))
+  problem_read = rw (problem_parts_read h i (hydro_text h) json_read) (arranged_is (parts_form h i) (node_form h i) (form h i) (many h i) (lows h i) (highs h i) (is_chain h i))
 
-  pub accepted : (s : Sealed) × (problem_at (hydro_text h) ≡ Ok s) × (problem_of s ≡ problem_of_plants h)
-  accepted = (sealed_form h i, problem_read, same_problem h i)
+  pub accepted : (s : Validated) × (problem_at (hydro_text h) ≡ Ok s) × (problem_of s ≡ problem_of_plants h)
+  accepted = (validated_form h i, problem_read, same_problem h i)
 
   pub base_fits : IfOk (problem_at (hydro_text h)) (λ s. IsOk (based s))
-  base_fits = subst (λ (r : Result Sealed Refusal). IfOk r (λ s. IsOk (based s))) (sym problem_read) (ap is_ok (base_form h i).1)
+  base_fits = subst (λ (r : Result Validated Refusal). IfOk r (λ s. IsOk (based s))) (sym problem_read) (ap is_ok (base_form h i).1)
 
 -- the text that a description gives
 made_of : (bytes text : List ℕ) → hydro_at bytes ≡ Ok text → (h : Plants) × (plants_at bytes ≡ Ok h) × IsPlants h × (hydro_text h ≡ text)
@@ -61,14 +61,14 @@ pub made_based : (bytes text : List ℕ) → hydro_at bytes ≡ Ok text → IfOk
 made_based bytes text e = let m = made_of bytes text e in subst (λ (t : List ℕ). IfOk (problem_at t) (λ s. IsOk (based s))) m.3 (base_fits m.0 m.2)
 
 -- the meaning of plants is a fact about the problem that their text gives
-means_of : (bytes text : List ℕ) (h : Plants) (s : Sealed) → IsPlants h → plants_at bytes ≡ Ok h → problem_at text ≡ Ok s → problem_of s ≡ problem_of_plants h → Means bytes text
+means_of : (bytes text : List ℕ) (h : Plants) (s : Validated) → IsPlants h → plants_at bytes ≡ Ok h → problem_at text ≡ Ok s → problem_of s ≡ problem_of_plants h → Means bytes text
 means_of bytes text h s i described read same = record {
   plants = h;
   problem = s;
   described = described;
   read = read;
-  workable = λ units plan. subst (λ (q : Problem). Workable h units plan ↔ Policy q units (tree_of h units plan)) (sym same) (workable h units (short h i) plan);
-  cost = λ units plan. subst (λ (q : Problem). plan_cost h units plan ≡ policy_cost q units (tree_of h units plan)) (sym same) (sym (tree_of_cost h units plan i.some_stages));
+  workable = λ units plan. subst (λ (q : Problem). Workable h units plan ↔ Policy q units (plan_forest h units plan)) (sym same) (workable h units (short h i) plan);
+  cost = λ units plan. subst (λ (q : Problem). plan_cost h units plan ≡ policy_cost q units (plan_forest h units plan)) (sym same) (sym (tree_of_cost h units plan i.some_stages));
   policy = λ units forest p. tree_of_plan h units (short h i) forest i.some_stages (subst (λ (q : Problem). Policy q units forest) same p);
 }
 
@@ -78,19 +78,19 @@ made_means bytes text e =
     let a = accepted m.0 m.2 in
     means_of bytes text m.0 a.0 m.2 m.1 (subst (λ (t : List ℕ). problem_at t ≡ Ok a.0) m.3 a.1) a.2
 
-same_sealed : (x y : Sealed) → ◌≡◌ {A = Result Sealed Refusal} (Ok x) (Ok y) → x ≡ y
-same_sealed x y e = cc
+same_validated : (x y : Validated) → ◌≡◌ {A = Result Validated Refusal} (Ok x) (Ok y) → x ≡ y
+same_validated x y e = cc
 
 -- a bound on each policy is one on each workable plan
-pub made_bound : (bytes text : List ℕ) (s : Sealed) (b : ℤ) → hydro_at bytes ≡ Ok text → problem_at text ≡ Ok s → Under (problem_of s) b → UnderPlans bytes b
+pub made_bound : (bytes text : List ℕ) (s : Validated) (b : ℤ) → hydro_at bytes ≡ Ok text → problem_at text ≡ Ok s → Under (problem_of s) b → UnderPlans bytes b
 made_bound bytes text s b e read under = λ plants units plan described some works.
     let m = made_means bytes text e in
     let least : Fraction = record { up = b; under = S } in
     let same : m.plants ≡ plants = Ok-is m.plants plants (sym m.described ∙ described) in
-    let this : m.problem ≡ s = same_sealed m.problem s (sym m.read ∙ read) in
-    let tree : Forest = tree_of m.plants units plan in
+    let this : m.problem ≡ s = same_validated m.problem s (sym m.read ∙ read) in
+    let tree : Forest = plan_forest m.plants units plan in
     let policy : Policy (problem_of m.problem) units tree = (m.workable units plan).0 (subst (λ (h : Plants). Workable h units plan) (sym same) works) in
-    let bounded : (p : Sealed) → p ≡ s → Policy (problem_of p) units tree → least ≤ᶠ policy_cost (problem_of p) units tree
-    = λ p is f. subst (λ (q : Sealed). least ≤ᶠ policy_cost (problem_of q) units tree) (sym is) (under units tree some (subst (λ (q : Sealed). Policy (problem_of q) units tree) is f)) in
+    let bounded : (p : Validated) → p ≡ s → Policy (problem_of p) units tree → least ≤ᶠ policy_cost (problem_of p) units tree
+    = λ p is f. subst (λ (q : Validated). least ≤ᶠ policy_cost (problem_of q) units tree) (sym is) (under units tree some (subst (λ (q : Validated). Policy (problem_of q) units tree) is f)) in
     let cost : least ≤ᶠ plan_cost m.plants units plan = subst (λ (c : Fraction). least ≤ᶠ c) (sym (m.cost units plan)) (bounded m.problem this policy) in
     subst (λ (h : Plants). least ≤ᶠ plan_cost h units plan) same cost

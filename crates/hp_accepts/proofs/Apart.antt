@@ -12,7 +12,7 @@ use Rattle.hp_plants.specs.declared.plants.Thermal.{Thermal}
 use Rattle.hp_plants.specs.declared.plants.Line.{Line}
 use Rattle.hp_plants.specs.declared.plants.Plants.{Plants}
 use Rattle.hp_plants.specs.Described.{IsPlants}
-use Rattle.hp_hydro.specs.Layout.{volume_of, after, turbine_of, spill_of, thermal_of, line_of, inflow_of, reservoir, thermal, line, bus, travel, all_reservoirs, all_thermals, all_lines, all_buses, steps}
+use Rattle.hp_hydro.specs.Layout.{volume_of, after, turbine_of, spill_of, thermal_of, line_of, inflow_of, numbered_reservoir, thermal, line, bus, travel, all_reservoirs, all_thermals, all_lines, all_buses, steps}
 use Rattle.hp_hydro.specs.Columns.{Column, before, random, decided, way_columns, reservoir_columns, bus_columns, columns, named, staged, before_name, after_name, variable_name, chance_name, column_name}
 use Rattle.hp_hydro.proofs.Described.{short}
 use Rattle.hp_accepts.proofs.Named.{Distinct}
@@ -24,7 +24,7 @@ pub apart_of : (a b : List ℕ) → slice_cmp nat_cmp a b ≡ Less → bytes_eq 
 apart_of a b e = sym (is_eq-slice_cmp a b) ∙ ap is_eq e
 
 module _ (h : Plants) (i : IsPlants h) where
-  pub reservoirs_rise : (j k : ℕ) → j < k → k < length h.reservoirs → slice_cmp nat_cmp (reservoir h j).name (reservoir h k).name ≡ Less
+  pub reservoirs_rise : (j k : ℕ) → j < k → k < length h.reservoirs → slice_cmp nat_cmp (numbered_reservoir h j).name (numbered_reservoir h k).name ≡ Less
   reservoirs_rise j k p q = pair_get (λ (r : Reservoir). r.name) h.reservoirs j k _ (risen (λ (r : Reservoir). r.name) h.reservoirs i.names.reservoirs) p q
 
   pub thermals_rise : (j k : ℕ) → j < k → k < length h.thermals → slice_cmp nat_cmp (thermal h j).name (thermal h k).name ≡ Less
@@ -82,7 +82,7 @@ module _ (h : Plants) where
   abbrev five : ℕ → List Column
   five j = before (volume_of j) ∷ random (inflow_of j) ∷ decided (after (volume_of j)) ∷ decided (turbine_of j) ∷ decided (spill_of j) ∷ []
 
-  reservoir_block : (j : ℕ) → AllByRecursion (Block (reservoir h j).name) (reservoir_columns h j)
+  reservoir_block : (j : ℕ) → AllByRecursion (Block (numbered_reservoir h j).name) (reservoir_columns h j)
   unfolding reservoir_columns column_name before_name after_name variable_name chance_name
   reservoir_block j =
       all_append _ (five j) (flat_map (way_columns j) (steps (travel h j)))
@@ -111,8 +111,8 @@ module _ (h : Plants) where
   -- ---- across kinds, by their first letters
 
   record First (l : ℕ) (c : Column) : Type 0 where
-    rest : List ℕ
-    name : column_name h c ≡ l ∷ rest
+    tail : List ℕ
+    name : column_name h c ≡ l ∷ tail
 
   -- a first letter that is none of `d`, `g`, `l` and `u`
   record OfReservoir (c : Column) : Type 0 where
@@ -124,7 +124,7 @@ module _ (h : Plants) where
     no_u : nat_eq letter 117 ≡ false
 
   apart_first : (l m : ℕ) (c d : Column) → nat_eq l m ≡ false → First l c → First m d → Apart c d
-  apart_first l m c d e f g = ap₂ bytes_eq f.name g.name ∙ ap (λ z. z && bytes_eq f.rest g.rest) e
+  apart_first l m c d e f g = ap₂ bytes_eq f.name g.name ∙ ap (λ z. z && bytes_eq f.tail g.tail) e
 
   abbrev rs : List Column
   rs = flat_map (reservoir_columns h) (all_reservoirs h)
@@ -143,24 +143,24 @@ module _ (h : Plants) where
   of_reservoirs =
       all_flat_map OfReservoir (reservoir_columns h) (all_reservoirs h) (all_of (λ j. AllByRecursion OfReservoir (reservoir_columns h j)) (λ j.
       all_append OfReservoir (five j) (flat_map (way_columns j) (steps (travel h j)))
-      (record { letter = 105; first = record { rest = 58 ∷ (reservoir h j).name; name = refl }; no_d = refl; no_g = refl; no_l = refl; no_u = refl }, (record { letter = 119; first = record { rest = 58 ∷ (reservoir h j).name; name = refl }; no_d = refl; no_g = refl; no_l = refl; no_u = refl }, (record { letter = 111; first = record { rest = 58 ∷ (reservoir h j).name; name = refl }; no_d = refl; no_g = refl; no_l = refl; no_u = refl }, (record { letter = 113; first = record { rest = 58 ∷ (reservoir h j).name; name = refl }; no_d = refl; no_g = refl; no_l = refl; no_u = refl }, (record { letter = 122; first = record { rest = 58 ∷ (reservoir h j).name; name = refl }; no_d = refl; no_g = refl; no_l = refl; no_u = refl }, tt)))))
+      (record { letter = 105; first = record { tail = 58 ∷ (numbered_reservoir h j).name; name = refl }; no_d = refl; no_g = refl; no_l = refl; no_u = refl }, (record { letter = 119; first = record { tail = 58 ∷ (numbered_reservoir h j).name; name = refl }; no_d = refl; no_g = refl; no_l = refl; no_u = refl }, (record { letter = 111; first = record { tail = 58 ∷ (numbered_reservoir h j).name; name = refl }; no_d = refl; no_g = refl; no_l = refl; no_u = refl }, (record { letter = 113; first = record { tail = 58 ∷ (numbered_reservoir h j).name; name = refl }; no_d = refl; no_g = refl; no_l = refl; no_u = refl }, (record { letter = 122; first = record { tail = 58 ∷ (numbered_reservoir h j).name; name = refl }; no_d = refl; no_g = refl; no_l = refl; no_u = refl }, tt)))))
       (all_flat_map OfReservoir (way_columns j) (steps (travel h j)) (all_of (λ k. AllByRecursion OfReservoir (way_columns j k)) (λ k.
-      (record { letter = 97; first = record { rest = digit k ∷ 58 ∷ (reservoir h j).name; name = refl }; no_d = refl; no_g = refl; no_l = refl; no_u = refl }, (record { letter = 98; first = record { rest = digit k ∷ 58 ∷ (reservoir h j).name; name = refl }; no_d = refl; no_g = refl; no_l = refl; no_u = refl }, tt))) (steps (travel h j)))))
+      (record { letter = 97; first = record { tail = digit k ∷ 58 ∷ (numbered_reservoir h j).name; name = refl }; no_d = refl; no_g = refl; no_l = refl; no_u = refl }, (record { letter = 98; first = record { tail = digit k ∷ 58 ∷ (numbered_reservoir h j).name; name = refl }; no_d = refl; no_g = refl; no_l = refl; no_u = refl }, tt))) (steps (travel h j)))))
       (all_reservoirs h))
 
   of_thermals : AllByRecursion (First 103) ts
   unfolding column_name variable_name named
-  of_thermals = all_map (First 103) (λ i. decided (thermal_of i)) (all_thermals h) (all_of (λ i. First 103 (decided (thermal_of i))) (λ i. record { rest = 58 ∷ (thermal h i).name; name = refl }) (all_thermals h))
+  of_thermals = all_map (First 103) (λ i. decided (thermal_of i)) (all_thermals h) (all_of (λ i. First 103 (decided (thermal_of i))) (λ i. record { tail = 58 ∷ (thermal h i).name; name = refl }) (all_thermals h))
 
   of_lines : AllByRecursion (First 108) ls
   unfolding column_name variable_name named
-  of_lines = all_map (First 108) (λ l. decided (line_of l)) (all_lines h) (all_of (λ l. First 108 (decided (line_of l))) (λ l. record { rest = 58 ∷ (line h l).name; name = refl }) (all_lines h))
+  of_lines = all_map (First 108) (λ l. decided (line_of l)) (all_lines h) (all_of (λ l. First 108 (decided (line_of l))) (λ l. record { tail = 58 ∷ (line h l).name; name = refl }) (all_lines h))
 
   of_buses : AllByRecursion (λ c. First 100 c ⊎ First 117 c) bs
   unfolding column_name variable_name chance_name named
   of_buses =
       all_flat_map (λ c. First 100 c ⊎ First 117 c) bus_columns (all_buses h) (all_of (λ b. AllByRecursion (λ c. First 100 c ⊎ First 117 c) (bus_columns b))
-      (λ b. (inl (record { rest = 58 ∷ (bus h b).name; name = refl }), (inr (record { rest = 58 ∷ (bus h b).name; name = refl }), tt))) (all_buses h))
+      (λ b. (inl (record { tail = 58 ∷ (bus h b).name; name = refl }), (inr (record { tail = 58 ∷ (bus h b).name; name = refl }), tt))) (all_buses h))
 
   beside_buses : (l : ℕ) (c d : Column) → nat_eq l 100 ≡ false → nat_eq l 117 ≡ false → First l c → First 100 d ⊎ First 117 d → Apart c d
   beside_buses l c d e f g (inl k) = apart_first l 100 c d e g k
@@ -168,7 +168,7 @@ module _ (h : Plants) where
 
   -- as soon as plants of one kind have different names
   record PlantsApart : Type 0 where
-    reservoirs : (j k : ℕ) → j < k → k < length h.reservoirs → bytes_eq (reservoir h j).name (reservoir h k).name ≡ false
+    reservoirs : (j k : ℕ) → j < k → k < length h.reservoirs → bytes_eq (numbered_reservoir h j).name (numbered_reservoir h k).name ≡ false
     thermals : (j k : ℕ) → j < k → k < length h.thermals → bytes_eq (thermal h j).name (thermal h k).name ≡ false
     lines : (j k : ℕ) → j < k → k < length h.lines → bytes_eq (line h j).name (line h k).name ≡ false
     buses : (j k : ℕ) → j < k → k < length h.buses → bytes_eq (bus h j).name (bus h k).name ≡ false
@@ -185,7 +185,7 @@ module _ (h : Plants) where
       (pair_append Apart rs ts
       (pair_flat_map Apart (reservoir_columns h) (all_reservoirs h) (all_of (λ j. Pairwise Apart (reservoir_columns h j)) (λ j. let most = few j in reservoir_apart j (omega arith)) (all_reservoirs h))
       (pair_numbers (λ j k. Across Apart (reservoir_columns h j) (reservoir_columns h k)) (length h.reservoirs)
-      (λ j k l m. across_blocks (reservoir h j).name (reservoir h k).name (p.reservoirs j k l m) (reservoir_columns h j) (reservoir_columns h k) (reservoir_block j) (reservoir_block k))))
+      (λ j k l m. across_blocks (numbered_reservoir h j).name (numbered_reservoir h k).name (p.reservoirs j k l m) (reservoir_columns h j) (reservoir_columns h k) (reservoir_block j) (reservoir_block k))))
       (pair_map Apart (λ i. decided (thermal_of i)) (all_thermals h) (pair_numbers _ (length h.thermals) (λ j k l m. p.thermals j k l m)))
       (all_weaker OfReservoir (λ c. AllByRecursion (Apart c) ts) (λ c o. all_weaker (First 103) (Apart c) (λ d f. apart_first o.letter 103 c d o.no_g o.first f) ts of_thermals) rs of_reservoirs))
       (pair_map Apart (λ l. decided (line_of l)) (all_lines h) (pair_numbers _ (length h.lines) (λ j k l m. p.lines j k l m)))
@@ -203,7 +203,7 @@ module _ (h : Plants) where
 pub distinct_columns : (h : Plants) → IsPlants h → Distinct (column_name h) (columns h)
 distinct_columns h i =
     columns_apart h (record {
-      reservoirs = λ j k l m. apart_of (reservoir h j).name (reservoir h k).name (reservoirs_rise h i j k l m);
+      reservoirs = λ j k l m. apart_of (numbered_reservoir h j).name (numbered_reservoir h k).name (reservoirs_rise h i j k l m);
       thermals = λ j k l m. apart_of (thermal h j).name (thermal h k).name (thermals_rise h i j k l m);
       lines = λ j k l m. apart_of (line h j).name (line h k).name (lines_rise h i j k l m);
       buses = λ j k l m. apart_of (bus h j).name (bus h k).name (buses_rise h i j k l m);

@@ -18,20 +18,20 @@ use Rattle.hp_theory.proofs.Ranges.{some_pos}
 use Rattle.hp_plants.specs.declared.plants.Inflow.{Inflow}
 use Rattle.hp_plants.specs.declared.plants.Stage.{Stage}
 use Rattle.hp_plants.specs.declared.plants.Plants.{Plants}
-use Rattle.hp_plants.specs.Stages.{total_weight}
+use Rattle.hp_plants.specs.Stages.{total_inflow_weight}
 use Rattle.hp_plants.specs.Described.{IsInflow, IsPlants}
-use Rattle.hp_hydro.specs.Layout.{Store, volume_of, way_of, Variable, after, turbine_of, spill_of, thermal_of, line_of, deficit_of, Chance, thermal, bus, stores, variables, chances, least, greatest, cost_of, store_low}
+use Rattle.hp_hydro.specs.Layout.{HydroStore, volume_of, way_of, Variable, after, turbine_of, spill_of, thermal_of, line_of, deficit_of, Chance, thermal, bus, stores, hydro_variables, chances, variable_least, variable_greatest, cost_of, store_low}
 use Rattle.hp_hydro.specs.Rows.{no_store, no_chance}
 use Rattle.hp_hydro.specs.Made.{realization, following, stage_node, node_from}
-use Rattle.hp_hydro.specs.Nodes.{stage}
+use Rattle.hp_hydro.specs.Nodes.{hydro_stage}
 use Rattle.hp_gen.proofs.Basing.{Tame, MayBeTame, all_based, no_cuts_zero}
 use Rattle.hp_accepts.proofs.Pairs.{all_weaker}
 use Rattle.hp_accepts.proofs.Listing.{OfVariables, each_variable}
 use Rattle.hp_accepts.proofs.Stands.{boxes, reservoir_is, thermal_is, bus_is}
 use Rattle.hp_accepts.proofs.Constraints.{IsBox}
 use Rattle.hp_accepts.proofs.Used.{few_variables}
-use Rattle.hp_accepts.proofs.Raws.{stage_is}
-use Rattle.hp_accepts.proofs.Meaning.{many, sealed_form, same_problem}
+use Rattle.hp_accepts.proofs.AllParts.{stage_is}
+use Rattle.hp_accepts.proofs.Meaning.{many, validated_form, same_problem}
 
 -- ---- lists of zeros
 
@@ -45,7 +45,7 @@ dot_small [] ys = refl
 dot_small (c ∷ cs) [] = refl
 dot_small (c ∷ cs) (y ∷ ys) = ap₂ ◌+ℤ◌ (zero-*ℤ y) (dot_small cs ys)
 
-entry_none : (ss : List Store) (k : ℕ) → entry (map no_store ss) k ≡ pos 0
+entry_none : (ss : List HydroStore) (k : ℕ) → entry (map no_store ss) k ≡ pos 0
 entry_none [] k = refl
 entry_none (s ∷ ss) zero = refl
 entry_none (s ∷ ss) (suc k) = entry_none ss k
@@ -66,11 +66,11 @@ sum_most : (n : ℕ) (f : ℕ → ℤ) (most : ℕ) → ((j : ℕ) → f j ≤�
 sum_most zero f most e = omega (arith, ints)
 sum_most (suc n) f most e =
     let first = e 0 in
-    let rest = sum_most n (λ j. f (suc j)) most (λ j. e (suc j)) in
-    omega (arith, ints, first, rest)
+    let tail = sum_most n (λ j. f (suc j)) most (λ j. e (suc j)) in
+    omega (arith, ints, first, tail)
 
 module _ (h : Plants) (i : IsPlants h) where
-  free : (v : Variable) → cost_of h v *ℤ least h v ≡ pos 0
+  free : (v : Variable) → cost_of h v *ℤ variable_least h v ≡ pos 0
   free (after s) = zero-*ℤ (store_low h s)
   free (turbine_of j) = refl
   free (spill_of j) = refl
@@ -78,13 +78,13 @@ module _ (h : Plants) (i : IsPlants h) where
   free (line_of l) = refl
   free (deficit_of b) = *ℤ-zero (bus h b).deficit_cost
 
-  not_negative : OfVariables h (λ v. (pos 0 ≤ℤ cost_of h v) × (pos 0 ≤ℤ greatest h v))
+  not_negative : OfVariables h (λ v. (pos 0 ≤ℤ cost_of h v) × (pos 0 ≤ℤ variable_greatest h v))
   not_negative =
       let b = (boxes h i).variables in
       let above : (low high : ℤ) → pos 0 ≤ℤ low → IsBox low high → pos 0 ≤ℤ high = λ low high z x. let o = x.order in omega (arith, ints, o, z) in
       record {
-        volume = λ j p. (some_pos 0, above (store_low h (volume_of j)) (greatest h (after (volume_of j))) (reservoir_is h i j p).low.low (b.volume j p));
-        way = λ j k p low high. (some_pos 0, above (pos 0) (greatest h (after (way_of j k))) (some_pos 0) (b.way j k p low high));
+        volume = λ j p. (some_pos 0, above (store_low h (volume_of j)) (variable_greatest h (after (volume_of j))) (reservoir_is h i j p).low.low (b.volume j p));
+        way = λ j k p low high. (some_pos 0, above (pos 0) (variable_greatest h (after (way_of j k))) (some_pos 0) (b.way j k p low high));
         turbine = λ j p. (some_pos 0, (b.turbine j p).order);
         spill = λ j p. (some_pos 0, (b.spill j p).order);
         thermal = λ n p. ((thermal_is h i n p).cost.low, (b.thermal n p).order);
@@ -92,8 +92,8 @@ module _ (h : Plants) (i : IsPlants h) where
         deficit = λ n p. ((bus_is h i n p).deficit_cost.low, (b.deficit n p).order);
       }
 
-  all_not_negative : AllByRecursion (λ v. (pos 0 ≤ℤ cost_of h v) × (pos 0 ≤ℤ greatest h v)) (variables h)
-  all_not_negative = each_variable h (λ v. (pos 0 ≤ℤ cost_of h v) × (pos 0 ≤ℤ greatest h v)) not_negative
+  all_not_negative : AllByRecursion (λ v. (pos 0 ≤ℤ cost_of h v) × (pos 0 ≤ℤ variable_greatest h v)) (hydro_variables h)
+  all_not_negative = each_variable h (λ v. (pos 0 ≤ℤ cost_of h v) × (pos 0 ≤ℤ variable_greatest h v)) not_negative
 
   -- ---- sizes
 
@@ -110,31 +110,31 @@ module _ (h : Plants) (i : IsPlants h) where
   costly high cost a b c d = product_most (max 1 (max 0 (nat_abs high))) (nat_abs cost) (omega (arith, ints, a, b)) (omega (arith, ints, c, d))
 
   abbrev IsMost : Variable → Type 0
-  IsMost v = (reach_of (least h v) (greatest h v) *ℤ magnitude (cost_of h v)) ≤ℤ pos (2 ^ 40)
+  IsMost v = (reach_of (variable_least h v) (variable_greatest h v) *ℤ magnitude (cost_of h v)) ≤ℤ pos (2 ^ 40)
 
   most_of : OfVariables h IsMost
   most_of = record {
-    volume = λ j p. costless (reach_of (least h (after (volume_of j))) (greatest h (after (volume_of j))));
-    way = λ j k p low high. costless (reach_of (least h (after (way_of j k))) (greatest h (after (way_of j k))));
-    turbine = λ j p. costless (reach_of (pos 0) (greatest h (turbine_of j)));
-    spill = λ j p. costless (reach_of (pos 0) (greatest h (spill_of j)));
+    volume = λ j p. costless (reach_of (variable_least h (after (volume_of j))) (variable_greatest h (after (volume_of j))));
+    way = λ j k p low high. costless (reach_of (variable_least h (after (way_of j k))) (variable_greatest h (after (way_of j k))));
+    turbine = λ j p. costless (reach_of (pos 0) (variable_greatest h (turbine_of j)));
+    spill = λ j p. costless (reach_of (pos 0) (variable_greatest h (spill_of j)));
     thermal = λ n p. let t = thermal_is h i n p in costly (thermal h n).high (thermal h n).cost t.high.low t.high.high t.cost.low t.cost.high;
-    line = λ l p. costless (reach_of (pos 0) (greatest h (line_of l)));
+    line = λ l p. costless (reach_of (pos 0) (variable_greatest h (line_of l)));
     deficit = λ n p. let b = bus_is h i n p in costly (pos (2 ^ 20)) (bus h n).deficit_cost (omega (arith, ints)) (omega (arith, ints)) b.deficit_cost.low b.deficit_cost.high;
   }
 
-  reach_entries : (vs : List Variable) → AllByRecursion IsMost vs → (j : ℕ) → (reach (map (least h) vs) (map (greatest h) vs) j *ℤ magnitude (entry (map (cost_of h) vs) j)) ≤ℤ pos (2 ^ 40)
+  reach_entries : (vs : List Variable) → AllByRecursion IsMost vs → (j : ℕ) → (reach (map (variable_least h) vs) (map (variable_greatest h) vs) j *ℤ magnitude (entry (map (cost_of h) vs) j)) ≤ℤ pos (2 ^ 40)
   reach_entries [] a j = costless (pos 1)
   reach_entries (v ∷ vs) a zero = a.0
   reach_entries (v ∷ vs) a (suc j) = reach_entries vs a.1 j
 
   abbrev costs_size : ℤ
-  costs_size = sum_to (length (map (cost_of h) (variables h))) (λ j. reach (map (least h) (variables h)) (map (greatest h) (variables h)) j *ℤ magnitude (entry (map (cost_of h) (variables h)) j))
+  costs_size = sum_to (length (map (cost_of h) (hydro_variables h))) (λ j. reach (map (variable_least h) (hydro_variables h)) (map (variable_greatest h) (hydro_variables h)) j *ℤ magnitude (entry (map (cost_of h) (hydro_variables h)) j))
 
   costs_small : costs_size ≤ℤ pos (2 ^ 48)
   costs_small =
-      let most = sum_most (length (map (cost_of h) (variables h))) (λ j. reach (map (least h) (variables h)) (map (greatest h) (variables h)) j *ℤ magnitude (entry (map (cost_of h) (variables h)) j)) (2 ^ 40) (reach_entries (variables h) (each_variable h IsMost most_of)) in
-      let count = length-map (variables h) (cost_of h) in
+      let most = sum_most (length (map (cost_of h) (hydro_variables h))) (λ j. reach (map (variable_least h) (hydro_variables h)) (map (variable_greatest h) (hydro_variables h)) j *ℤ magnitude (entry (map (cost_of h) (hydro_variables h)) j)) (2 ^ 40) (reach_entries (hydro_variables h) (each_variable h IsMost most_of)) in
+      let count = length-map (hydro_variables h) (cost_of h) in
       let few = few_variables h i in
       omega (arith, ints, most, count, few)
 
@@ -165,23 +165,23 @@ module _ (h : Plants) (i : IsPlants h) where
 
   -- ---- nodes
 
-  tame_node : (m : ℕ) → m < many h i → (k : ℕ) (ss : List Stage) → Tame (stage_node h (stage h m) (following k ss))
-  unfolding stage_node total_weight
+  tame_node : (m : ℕ) → m < many h i → (k : ℕ) (ss : List Stage) → Tame (stage_node h (hydro_stage h m) (following k ss))
+  unfolding stage_node total_inflow_weight
   tame_node m p k ss =
       let s = stage_is h i m p in
-      let total = weights_are (stage h m).demand (stage h m).inflows in
-      let some = some_weight (stage h m).inflows s.some_inflows s.inflows in
+      let total = weights_are (hydro_stage h m).demand (hydro_stage h m).inflows in
+      let some = some_weight (hydro_stage h m).inflows s.some_inflows s.inflows in
       let few = s.weights in
       let q : ℕ = weight_of_successors 0 (following k ss) in
-      let w : ℕ = weight_of_realizations (map (realization h (stage h m).demand) (stage h m).inflows) in
+      let w : ℕ = weight_of_realizations (map (realization h (hydro_stage h m).demand) (hydro_stage h m).inflows) in
       record {
         constant = refl;
         randoms = dot_none (chances h);
         randoms_small = dot_small (chances h);
         states = entry_none (stores h);
-        lows = both_entries (cost_of h) (least h) free (variables h);
-        highs = each_entry (λ z. pos 0 ≤ℤ z) (greatest h) (some_pos 0) (variables h) (all_weaker (λ v. (pos 0 ≤ℤ cost_of h v) × (pos 0 ≤ℤ greatest h v)) (λ v. pos 0 ≤ℤ greatest h v) (λ v b. b.1) (variables h) all_not_negative);
-        costs = each_entry (λ z. pos 0 ≤ℤ z) (cost_of h) (some_pos 0) (variables h) (all_weaker (λ v. (pos 0 ≤ℤ cost_of h v) × (pos 0 ≤ℤ greatest h v)) (λ v. pos 0 ≤ℤ cost_of h v) (λ v b. b.0) (variables h) all_not_negative);
+        lows = both_entries (cost_of h) (variable_least h) free (hydro_variables h);
+        highs = each_entry (λ z. pos 0 ≤ℤ z) (variable_greatest h) (some_pos 0) (hydro_variables h) (all_weaker (λ v. (pos 0 ≤ℤ cost_of h v) × (pos 0 ≤ℤ variable_greatest h v)) (λ v. pos 0 ≤ℤ variable_greatest h v) (λ v b. b.1) (hydro_variables h) all_not_negative);
+        costs = each_entry (λ z. pos 0 ≤ℤ z) (cost_of h) (some_pos 0) (hydro_variables h) (all_weaker (λ v. (pos 0 ≤ℤ cost_of h v) × (pos 0 ≤ℤ variable_greatest h v)) (λ v. pos 0 ≤ℤ cost_of h v) (λ v b. b.0) (hydro_variables h) all_not_negative);
         weights = some_divisor q w (one_successor k ss) (omega (arith, total, some));
         fits = far_within (w * (S * S * q)) costs_size (factor_fits q w (one_successor k ss) (omega (arith, total, few))) (le_scale (w * (S * S * q)) costs_size (pos (2 ^ 48)) costs_small);
       }
@@ -190,8 +190,8 @@ module _ (h : Plants) (i : IsPlants h) where
   may_node m (inl p) = subst (λ (ss : List Stage). MayBeTame (node_from h m ss)) (sym (drop-cons h.stages m (record { demand = []; inflows = [] }) p)) (inr (tame_node m p (suc m) (drop (suc m) h.stages)))
   may_node m (inr p) = subst (λ (ss : List Stage). MayBeTame (node_from h m ss)) (sym (drop_of_length-le h.stages p)) (inl refl)
 
-  pub base_form : (all : List (List Cut)) × (based (sealed_form h i) ≡ Ok all)
+  pub base_form : (all : List (List Cut)) × (based (validated_form h i) ≡ Ok all)
   unfolding based
   base_form =
-      let s = sealed_form h i in
-      all_based (problem_of s) (λ m. subst (λ (p : Problem). MayBeTame (node_at p m)) (sym (same_problem h i)) (may_node m (cases_lt m (many h i)))) s.order (replicate (length s.raw.nodes) []) (no_cuts_zero (length s.raw.nodes))
+      let s = validated_form h i in
+      all_based (problem_of s) (λ m. subst (λ (p : Problem). MayBeTame (node_at p m)) (sym (same_problem h i)) (may_node m (cases_lt m (many h i)))) s.order (replicate (length s.parts.nodes) []) (no_cuts_zero (length s.parts.nodes))

@@ -4,7 +4,7 @@ use Rattle.std.specs.List.{list_any, range_with_len}
 use Rattle.std.proofs.lemmas.Bool.{cases_lt, ne_eqb, lt-ltb}
 use Rattle.std.proofs.lemmas.Bool.Decides.{nat_tests}
 use Rattle.std.proofs.lemmas.List.FromFn.{length-map-range_with_len, get_or-map-range_with_len}
-use Rattle.hp_paths.specs.Paths.{numbers, links_at, within, reached, in_cycle, first_in_cycle, first_unreached}
+use Rattle.hp_paths.specs.Paths.{numbers, arcs_from, within, reached, in_cycle, first_in_cycle, first_unreached}
 
 -- the next node of n nodes
 abbrev pub next : ℕ → ℕ → List ℕ
@@ -21,26 +21,26 @@ get_or-past [] m h = refl
 get_or-past (x ∷ xs) zero h = absurd (omega arith)
 get_or-past (x ∷ xs) (suc m) h = get_or-past xs m (omega arith)
 
-pub links_within : (n m : ℕ) → m < n → links_at (chain n) m ≡ next n m
-links_within n m h = get_or-map-range_with_len (next n) 0 n m m [] h (omega arith)
+pub successors_within : (n m : ℕ) → m < n → arcs_from (chain n) m ≡ next n m
+successors_within n m h = get_or-map-range_with_len (next n) 0 n m m [] h (omega arith)
 
-links_past : (n m : ℕ) → n ≤ m → links_at (chain n) m ≡ []
-links_past n m h = get_or-past (chain n) m (omega (arith, length-chain n))
+successors_past : (n m : ℕ) → n ≤ m → arcs_from (chain n) m ≡ []
+successors_past n m h = get_or-past (chain n) m (omega (arith, length-chain n))
 
 pub itself : (m : ℕ) → (m == m) ≡ true
 itself m = grind (arith, nat_tests)
 
 -- a step leads to nothing where the next node leads to nothing
-none_on : (n k m j : ℕ) → within (chain n) k (suc m) j ≡ false → list_any (λ l. within (chain n) k l j) (links_at (chain n) m) ≡ false
+none_on : (n k m j : ℕ) → within (chain n) k (suc m) j ≡ false → list_any (λ l. within (chain n) k l j) (arcs_from (chain n) m) ≡ false
 none_on n k m j e = by (cases_lt m n)
   where
     more : (b : Bool) → list_any (λ l. within (chain n) k l j) (if b then suc m ∷ [] else []) ≡ false
     more true = rw e refl
     more false = refl
 
-    by : (m < n) ⊎ (n ≤ m) → list_any (λ l. within (chain n) k l j) (links_at (chain n) m) ≡ false
-    by (inl p) = rw (links_within n m p) (more (nat_lt (suc m) n))
-    by (inr p) = rw (links_past n m p) refl
+    by : (m < n) ⊎ (n ≤ m) → list_any (λ l. within (chain n) k l j) (arcs_from (chain n) m) ≡ false
+    by (inl p) = rw (successors_within n m p) (more (nat_lt (suc m) n))
+    by (inr p) = rw (successors_past n m p) refl
 
 -- no path leads back
 away : (n k m j : ℕ) → j < m → within (chain n) k m j ≡ false
@@ -51,8 +51,8 @@ not_back : (n m : ℕ) → in_cycle (chain n) m ≡ false
 unfolding reached
 not_back n m = none_on n (length (chain n)) m m (away n (length (chain n)) (suc m) m (omega arith))
 
-some_on : (n k m j : ℕ) → suc m < n → within (chain n) k (suc m) j ≡ true → list_any (λ l. within (chain n) k l j) (links_at (chain n) m) ≡ true
-some_on n k m j p e = rw (links_within n m (omega arith), lt-ltb (suc m) n p, e) refl
+some_on : (n k m j : ℕ) → suc m < n → within (chain n) k (suc m) j ≡ true → list_any (λ l. within (chain n) k l j) (arcs_from (chain n) m) ≡ true
+some_on n k m j p e = rw (successors_within n m (omega arith), lt-ltb (suc m) n p, e) refl
 
 or_right : (a b : Bool) → b ≡ true → (a || b) ≡ true
 or_right true b e = refl

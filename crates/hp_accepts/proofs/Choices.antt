@@ -10,8 +10,8 @@ use Rattle.hp_paths.specs.Paths.{numbers}
 use Rattle.hp_plants.specs.declared.plants.Reservoir.{Reservoir}
 use Rattle.hp_plants.specs.declared.plants.Travel.{Travel}
 use Rattle.hp_plants.specs.declared.plants.Plants.{Plants}
-use Rattle.hp_plants.specs.Grid.{states_of, travel_stages}
-use Rattle.hp_hydro.specs.Layout.{travel_of, Store, volume_of, way_of, Variable, after, turbine_of, spill_of, thermal_of, line_of, deficit_of, Chance, inflow_of, demand_of, reservoir, travel, all_reservoirs, all_thermals, all_lines, all_buses, steps, ways, stores, variables_of, variables, chances, place_of}
+use Rattle.hp_plants.specs.Grid.{state_count, travel_stages}
+use Rattle.hp_hydro.specs.Layout.{travel_of, HydroStore, volume_of, way_of, Variable, after, turbine_of, spill_of, thermal_of, line_of, deficit_of, Chance, inflow_of, demand_of, numbered_reservoir, travel, all_reservoirs, all_thermals, all_lines, all_buses, steps, ways, stores, variables_of, hydro_variables, chances, layout_place}
 use Rattle.hp_hydro.specs.Columns.{Column, before, random, decided, way_columns, reservoir_columns, bus_columns, columns}
 use Rattle.hp_hydro.proofs.Lists.{All-left, All-right, each_all, each_flat}
 use Rattle.hp_hydro.proofs.Places.{map_map, run_variables}
@@ -52,7 +52,7 @@ module _ (h : Plants) where
       ap (λ ys. decided (after (volume_of j)) ∷ decided (turbine_of j) ∷ decided (spill_of j) ∷ ys)
       (filter_flat is_choice (way_columns j) (steps (travel h j)) ∙ flat_single (λ k. decided (after (way_of j k))) (steps (travel h j)) ∙ sym (map_map decided (λ k. after (way_of j k)) (steps (travel h j))))
 
-  pub choices : filter is_choice (columns h) ≡ map decided (variables h)
+  pub choices : filter is_choice (columns h) ≡ map decided (hydro_variables h)
   unfolding columns
   choices =
       let rs : List Column = flat_map (reservoir_columns h) (all_reservoirs h) in
@@ -70,7 +70,7 @@ module _ (h : Plants) where
 
 module _ (h : Plants) where
   -- a property of all states holds of each
-  pub of_stores : (P : Store → Type 0) → AllByRecursion P (stores h) → ((j : ℕ) → travel h j ≤ 3) → OfStores h P
+  pub of_stores : (P : HydroStore → Type 0) → AllByRecursion P (stores h) → ((j : ℕ) → travel h j ≤ 3) → OfStores h P
   of_stores P a few =
       let all : All P (flat_map (ways h) (steps 3) ++ map volume_of (all_reservoirs h)) = All-from_recursion P (stores h) a in
       record {
@@ -98,10 +98,10 @@ module _ (h : Plants) where
       }
 
   -- a variable stands at its place
-  pub placed : (v : Variable) (k : ℕ) → slice_get (variables h) k ≡ Some v → place_of h v ≡ k
+  pub placed : (v : Variable) (k : ℕ) → slice_get (hydro_variables h) k ≡ Some v → layout_place h v ≡ k
   placed v k at =
-      let less = inside (variables h) k at in
-      sym (mapped (variables h) k at) ∙ ap (λ (ks : List ℕ). get_or ks k 0) (run_variables h) ∙ get_or-range_with_len 0 (length (variables h)) k 0 less ∙ none k
+      let less = inside (hydro_variables h) k at in
+      sym (mapped (hydro_variables h) k at) ∙ ap (λ (ks : List ℕ). get_or ks k 0) (run_variables h) ∙ get_or-range_with_len 0 (length (hydro_variables h)) k 0 less ∙ none k
     where
       none : (n : ℕ) → 0 + n ≡ n
       none n = omega arith
@@ -111,9 +111,9 @@ module _ (h : Plants) where
       inside (w ∷ ws) zero at = omega arith
       inside (w ∷ ws) (suc k) at = let less = inside ws k at in omega arith
 
-      mapped : (vs : List Variable) (k : ℕ) → slice_get vs k ≡ Some v → get_or (map (place_of h) vs) k 0 ≡ place_of h v
+      mapped : (vs : List Variable) (k : ℕ) → slice_get vs k ≡ Some v → get_or (map (layout_place h) vs) k 0 ≡ layout_place h v
       mapped [] k at = absurd cc
-      mapped (w ∷ ws) zero at = ap (place_of h) (some_is w v at)
+      mapped (w ∷ ws) zero at = ap (layout_place h) (some_is w v at)
       mapped (w ∷ ws) (suc k) at = mapped ws k at
 
 -- ---- how many there are
@@ -128,8 +128,8 @@ sum_more a b c (n ∷ ns) e =
     let first = sum_by-cons (λ k. k) (a n) (map a ns) in
     let second = sum_by-cons (λ k. k) (b n) (map b ns) in
     let here = e n in
-    let rest = sum_more a b c ns e in
-    first ∙ ap₂ ◌+◌ here rest ∙ regroup c (b n) (length ns) (sum (map b ns)) ∙ ap (λ (k : ℕ). c * length (n ∷ ns) + k) (sym second)
+    let tail = sum_more a b c ns e in
+    first ∙ ap₂ ◌+◌ here tail ∙ regroup c (b n) (length ns) (sum (map b ns)) ∙ ap (λ (k : ℕ). c * length (n ∷ ns) + k) (sym second)
   where
     regroup : (c x l s : ℕ) → c + x + (c * l + s) ≡ c * suc l + (x + s)
     regroup c x l s = omega arith
@@ -144,17 +144,17 @@ module _ (h : Plants) where
 
   travels_by : map (travel h) (all_reservoirs h) ≡ map (λ (r : Reservoir). travel_stages r.downstream) h.reservoirs
   travels_by =
-      map_ext (travel h) (λ j. travel_stages (reservoir h j).downstream) (all_reservoirs h) (λ j. same_travel (reservoir h j).downstream)
-      ∙ sym (map_map (λ (r : Reservoir). travel_stages r.downstream) (reservoir h) (all_reservoirs h))
-      ∙ ap (map (λ (r : Reservoir). travel_stages r.downstream)) (sym (fill_by_all (reservoir h) h.reservoirs (length h.reservoirs) (reservoir h (length h.reservoirs)) refl (λ k p. inside h.reservoirs k p)))
+      map_ext (travel h) (λ j. travel_stages (numbered_reservoir h j).downstream) (all_reservoirs h) (λ j. same_travel (numbered_reservoir h j).downstream)
+      ∙ sym (map_map (λ (r : Reservoir). travel_stages r.downstream) (numbered_reservoir h) (all_reservoirs h))
+      ∙ ap (map (λ (r : Reservoir). travel_stages r.downstream)) (sym (fill_by_all (numbered_reservoir h) h.reservoirs (length h.reservoirs) (numbered_reservoir h (length h.reservoirs)) refl (λ k p. inside h.reservoirs k p)))
     where
-      inside : (rs : List Reservoir) (k : ℕ) → k < length rs → get_or rs k (reservoir h (length h.reservoirs)) ≡ get_or rs k (record { name = []; bus = 0; low = pos 0; high = pos 0; initial = pos 0; turbine = pos 0; spill = pos 0; factor = pos 0; downstream = None })
+      inside : (rs : List Reservoir) (k : ℕ) → k < length rs → get_or rs k (numbered_reservoir h (length h.reservoirs)) ≡ get_or rs k (record { name = []; bus = 0; low = pos 0; high = pos 0; initial = pos 0; turbine = pos 0; spill = pos 0; factor = pos 0; downstream = None })
       inside [] k p = absurd (omega arith)
       inside (r ∷ rs) zero p = refl
       inside (r ∷ rs) (suc k) p = inside rs k (omega arith)
 
-  pub travels_are : length h.reservoirs + travels ≡ states_of h.reservoirs
-  unfolding states_of
+  pub travels_are : length h.reservoirs + travels ≡ state_count h.reservoirs
+  unfolding state_count
   travels_are = ap (λ (ns : List ℕ). length h.reservoirs + sum ns) travels_by
 
   ways_length : (j : ℕ) → length (variables_of h j) ≡ 3 + travel h j
@@ -163,8 +163,8 @@ module _ (h : Plants) where
   kind_length : (f : ℕ → Variable) (n : ℕ) → length (map f (numbers n)) ≡ n
   kind_length f n = length-map (numbers n) f ∙ length-range_with_len 0 n
 
-  pub length-variables : length (variables h) ≡ 3 * length h.reservoirs + travels + length h.thermals + length h.lines + length h.buses
-  length-variables =
+  pub length-hydro_variables : length (hydro_variables h) ≡ 3 * length h.reservoirs + travels + length h.thermals + length h.lines + length h.buses
+  length-hydro_variables =
       let vs : List Variable = flat_map (variables_of h) (all_reservoirs h) in
       let a = length-append (vs ++ map thermal_of (all_thermals h) ++ map line_of (all_lines h)) (map deficit_of (all_buses h)) in
       let b = length-append (vs ++ map thermal_of (all_thermals h)) (map line_of (all_lines h)) in

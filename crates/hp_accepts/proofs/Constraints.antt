@@ -4,11 +4,11 @@ use Rattle.std.specs.List.{AllByRecursion, flat_map}
 use Rattle.std.proofs.lemmas.Int.{ints}
 use Rattle.serde_json.specs.Data.{Data}
 use Rattle.serde_json.specs.View.{items_of}
-use Rattle.hp_problem.specs.declared.raw.Row.{Row}
-use Rattle.hp_problem.specs.declared.raw.Decision.{Decision}
-use Rattle.hp_problem.specs.declared.refusal.Refusal.{Refusal}
-use Rattle.hp_problem.specs.declared.refusal.Part.TheVariants as parts
-use Rattle.hp_problem.specs.declared.refusal.Place.{Place}
+use Rattle.hp_parts.specs.declared.parts.Row.{Row}
+use Rattle.hp_parts.specs.declared.parts.Decision.{Decision}
+use Rattle.hp_parts.specs.declared.refusal.Refusal.{Refusal}
+use Rattle.hp_parts.specs.declared.refusal.Part.TheVariants as part_kinds
+use Rattle.hp_parts.specs.declared.refusal.Place.{Place}
 use Rattle.hp_fields.specs.Steps.{◌>>=◌, walk_items, walk_list}
 use Rattle.hp_fields.specs.Fields as fields
 use Rattle.hp_fields.specs.Limits as limits
@@ -31,7 +31,7 @@ abbrev pub Constraints : Type 0
 Constraints = TypeOf (constraint.no_constraints 0)
 
 abbrev pub Variables : Type 0
-Variables = Takes boxes.variable_at
+Variables = Takes boxes.variable_box_at
 
 abbrev pub between : ℤ → ℤ → Sides
 between low high = record { low = Some low; high = Some high }
@@ -84,7 +84,7 @@ module _ {A : Type 0} (name : A → List ℕ) (g : A → Role) (xs before chance
 
   module _ (all : AllStand) where
     row_is : (f : A → ℤ) → rows.row_of vars (map f xs) (between (pos 0) (pos 0)) ≡ zero_row f
-    unfolding rows.row_of rows.picked
+    unfolding rows.row_of rows.picked_coefficients
     row_is f = rw (picked_are name f xs before all.coming, picked_are name f xs chances all.unknown, picked_are name f xs decided all.chosen) refl
 
     -- the terms stand among the variables, and each factor is small
@@ -111,10 +111,10 @@ module _ {A : Type 0} (name : A → List ℕ) (g : A → Role) (xs before chance
     -- ---- bounds
 
     bound_read : (p i : ℕ) (b : A → Sides) (rs : List Row) (x : A) (low high : ℤ) → Stands name xs x → b x ≡ sides.no_sides → roles.is_random (Some (g x)) ≡ false → IsBox low high
-        → constraint.constraint_at vars p (found (map b xs) rs) i (forms.bound (name x) low high) ≡ Ok (found (map (λ y. cond (same name x y) (between low high) (b y)) xs) rs)
-    unfolding constraint.constraint_at constraint.bounded constraint.joined_at constraint.narrowed function.function_at fields.present_at fields.object_at forms.bound forms.single forms.interval
+        → constraint.constraint_at vars p (found (map b xs) rs) i (forms.variable_bound (name x) low high) ≡ Ok (found (map (λ y. cond (same name x y) (between low high) (b y)) xs) rs)
+    unfolding constraint.constraint_at constraint.bounded constraint.joined_at constraint.narrowed function.function_at fields.present_at fields.object_at forms.variable_bound forms.single forms.interval
     bound_read p i b rs x low high sx none known box =
-        rw (single_read, sx, interval_read (fields.place parts.Constraint p i 0) low high box, found_at name g x xs (place name xs x) sx, known, found_at name b x xs (place name xs x) sx, none)
+        rw (single_read, sx, interval_read (fields.place part_kinds.Constraint p i 0) low high box, found_at name g x xs (place name xs x) sx, known, found_at name b x xs (place name xs x) sx, none)
         (ap (λ (bs : List Sides). Ok (found bs rs)) (changed_at name b (λ y. between low high) x xs (place name xs x) d sx))
 
     pub record IsBounded (low high : A → ℤ) (x : A) : Type 0 where
@@ -127,13 +127,13 @@ module _ {A : Type 0} (name : A → List ℕ) (g : A → Role) (xs before chance
     still_none b s x (y ∷ ys) apart all = (ap (λ q. cond q (s x) (b y)) apart.0 ∙ all.0, still_none b s x ys apart.1 all.1)
 
     bounds_walk : (p : ℕ) (rs : List Row) (low high : A → ℤ) (ys : List A) → AllByRecursion (IsBounded low high) ys → Distinct name ys → (b : A → Sides) → AllByRecursion (λ y. b y ≡ sides.no_sides) ys → (i : ℕ)
-        → walk_items (constraint.constraint_at vars p) (found (map b xs) rs) i (items_of (map (λ y. forms.bound (name y) (low y) (high y)) ys))
+        → walk_items (constraint.constraint_at vars p) (found (map b xs) rs) i (items_of (map (λ y. forms.variable_bound (name y) (low y) (high y)) ys))
         ≡ Ok (found (map (given name (λ y. between (low y) (high y)) b ys) xs) rs)
     unfolding walk_items
     bounds_walk p rs low high [] all apart b none i = refl
     bounds_walk p rs low high (y ∷ ys) all apart b none i =
         let next : A → Sides = λ z. cond (same name y z) (between (low y) (high y)) (b z) in
-        ap (λ (r : Result Constraints Refusal). r >>= λ c. walk_items (constraint.constraint_at vars p) c (suc i) (items_of (map (λ z. forms.bound (name z) (low z) (high z)) ys)))
+        ap (λ (r : Result Constraints Refusal). r >>= λ c. walk_items (constraint.constraint_at vars p) c (suc i) (items_of (map (λ z. forms.variable_bound (name z) (low z) (high z)) ys)))
         (bound_read p i b rs y (low y) (high y) all.0.stands none.0 all.0.known all.0.box)
         ∙ bounds_walk p rs low high ys all.1 apart.1 next (still_none b (λ z. between (low z) (high z)) y ys apart.0 none.1) (suc i)
 
@@ -162,12 +162,12 @@ module _ {A : Type 0} (name : A → List ℕ) (g : A → Role) (xs before chance
 
     -- all rows and then all bounds
     pub constraints_read : (p : ℕ) (tss : List (List (ℤ × A))) (low high : A → ℤ) (ys : List A) → AllByRecursion IsSum tss → AllByRecursion (IsBounded low high) ys → Distinct name ys
-        → constraint.constraints_at vars p (items_of (map (λ ts. forms.row 0 (map (term_of name) ts)) tss ++ map (λ y. forms.bound (name y) (low y) (high y)) ys))
+        → constraint.constraints_at vars p (items_of (map (λ ts. forms.row 0 (map (term_of name) ts)) tss ++ map (λ y. forms.variable_bound (name y) (low y) (high y)) ys))
         ≡ Ok (found (map (given name (λ y. between (low y) (high y)) (λ y. sides.no_sides) ys) xs) (map (λ ts. zero_row (factor name ts)) tss))
     unfolding constraint.constraints_at
     constraints_read p tss low high ys sums all apart =
         let front : List Data = map (λ ts. forms.row 0 (map (term_of name) ts)) tss in
-        let back : List Data = map (λ y. forms.bound (name y) (low y) (high y)) ys in
+        let back : List Data = map (λ y. forms.variable_bound (name y) (low y) (high y)) ys in
         ap (λ (c : Constraints). walk_items (constraint.constraint_at vars p) c 0 (items_of (front ++ back))) (nothing_yet xs)
         ∙ walk_append (constraint.constraint_at vars p) front back (found (map (λ y. sides.no_sides) xs) []) 0
         ∙ ap (λ (r : Result Constraints Refusal). r >>= λ next. walk_items (constraint.constraint_at vars p) next (0 + length front) (items_of back)) (rows_walk p (map (λ y. sides.no_sides) xs) tss sums [] 0)
@@ -177,14 +177,14 @@ module _ {A : Type 0} (name : A → List ℕ) (g : A → Role) (xs before chance
 
     boxes_walk : (p : ℕ) (s : A → Sides) (c : A → ℤ) (box : A → List Decision) → ((found : List Decision) (at : Place) (y : A) (k : ℕ) → At name xs k y → boxes.box_at at found (Some (g y)) (name y) (s y) (c y) ≡ Ok (found ++ box y))
         → (ys : List A) (found : List Decision) (i : ℕ) → ((k : ℕ) (y : A) → At name ys k y → At name xs (i + k) y)
-        → walk_list (boxes.variable_at vars p (map s xs) (map c xs)) found i (map name ys) ≡ Ok (found ++ flat_map box ys)
-    unfolding walk_list boxes.variable_at
+        → walk_list (boxes.variable_box_at vars p (map s xs) (map c xs)) found i (map name ys) ≡ Ok (found ++ flat_map box ys)
+    unfolding walk_list boxes.variable_box_at
     boxes_walk p s c box go [] found i h = ap Ok (sym (append-nil found))
     boxes_walk p s c box go (y ∷ ys) found i h =
         let none : i + 0 ≡ i = omega arith in
         let here : At name xs i y = subst (λ (j : ℕ). At name xs j y) none (h 0 y refl) in
-        let step : boxes.variable_at vars p (map s xs) (map c xs) found i (name y) ≡ Ok (found ++ box y) = rw (found_at name g y xs i here, found_at name s y xs i here, entry_at name c y xs i here) (go found (fields.place parts.Variable p i 0) y i here) in
-        ap (λ (r : Result (List Decision) Refusal). r >>= λ next. walk_list (boxes.variable_at vars p (map s xs) (map c xs)) next (suc i) (map name ys)) step
+        let step : boxes.variable_box_at vars p (map s xs) (map c xs) found i (name y) ≡ Ok (found ++ box y) = rw (found_at name g y xs i here, found_at name s y xs i here, entry_at name c y xs i here) (go found (fields.place part_kinds.Variable p i 0) y i here) in
+        ap (λ (r : Result (List Decision) Refusal). r >>= λ next. walk_list (boxes.variable_box_at vars p (map s xs) (map c xs)) next (suc i) (map name ys)) step
         ∙ boxes_walk p s c box go ys (found ++ box y) (suc i) (λ k z at. let more : i + suc k ≡ suc i + k = omega arith in subst (λ (j : ℕ). At name xs j z) more (h (suc k) z at))
         ∙ ap Ok (append_assoc found (box y) (flat_map box ys))
 

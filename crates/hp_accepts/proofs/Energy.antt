@@ -8,10 +8,10 @@ use Rattle.hp_num.proofs.Ring.{ring, var, num, ◌⊕◌, ◌⊗◌, ⊖}
 use Rattle.hp_paths.specs.Paths.{numbers}
 use Rattle.hp_plants.specs.declared.plants.Plants.{Plants}
 use Rattle.hp_plants.specs.Described.{IsPlants}
-use Rattle.hp_hydro.specs.Layout.{volume_of, way_of, after, turbine_of, spill_of, thermal_of, line_of, deficit_of, inflow_of, demand_of, reservoir, thermal, line, bus, travel, all_reservoirs, all_thermals, all_lines, all_buses, cost_of}
+use Rattle.hp_hydro.specs.Layout.{volume_of, way_of, after, turbine_of, spill_of, thermal_of, line_of, deficit_of, inflow_of, demand_of, numbered_reservoir, thermal, line, bus, travel, all_reservoirs, all_thermals, all_lines, all_buses, cost_of}
 use Rattle.hp_hydro.specs.Rows.{way_decided, way_before, no_chance, bus_decided, no_store, bus_asked}
 use Rattle.hp_hydro.specs.Columns.{Column, before, random, decided, named, before_name, after_name, variable_name, chance_name, column_name}
-use Rattle.hp_hydro.specs.Stage.{Sum, way_sum, turbined_at, burned_at, arriving_at, leaving_at, bus_sum, cost_sum}
+use Rattle.hp_hydro.specs.Stage.{Sum, way_sum, turbined_at, burned_at, arriving_at, leaving_at, bus_sum, hydro_cost_sum}
 use Rattle.hp_hydro.proofs.Described.{short}
 use Rattle.hp_hydro.proofs.Flow.{same_at, same_below}
 use Rattle.hp_hydro.proofs.Lists.{total_none, total_same, total_below}
@@ -104,9 +104,9 @@ module _ (h : Plants) (i : IsPlants h) where
 
   -- ---- energy
 
-  turbined_is : (b j : ℕ) (d : Column) → F h i (turbined_at h b j) d ≡ same_place (reservoir h j).bus b *ℤ pick h i (decided (turbine_of j)) d (reservoir h j).factor
+  turbined_is : (b j : ℕ) (d : Column) → F h i (turbined_at h b j) d ≡ same_place (numbered_reservoir h j).bus b *ℤ pick h i (decided (turbine_of j)) d (numbered_reservoir h j).factor
   unfolding turbined_at
-  turbined_is b j d = if_sum h i ((reservoir h j).bus == b) _ d ∙ ap (λ (z : ℤ). if (reservoir h j).bus == b then z else pos 0) (+ℤ_idr _) ∙ by_number (reservoir h j).bus b _
+  turbined_is b j d = if_sum h i ((numbered_reservoir h j).bus == b) _ d ∙ ap (λ (z : ℤ). if (numbered_reservoir h j).bus == b then z else pos 0) (+ℤ_idr _) ∙ by_number (numbered_reservoir h j).bus b _
 
   burned_is : (b n : ℕ) (d : Column) → F h i (burned_at h b n) d ≡ same_place (thermal h n).bus b *ℤ pick h i (decided (thermal_of n)) d (pos 1)
   unfolding burned_at
@@ -150,8 +150,8 @@ module _ (h : Plants) (i : IsPlants h) where
   energy_of b (random c) = bus_asked b c
   energy_of b (decided v) = bus_decided h b v
 
-  no_turbine : (b : ℕ) (d : Column) → ((j : ℕ) → pick h i (decided (turbine_of j)) d (reservoir h j).factor ≡ pos 0) → F h i (flat_map (turbined_at h b) (all_reservoirs h)) d ≡ pos 0
-  no_turbine b d = no_part (turbined_at h b) (λ j. same_place (reservoir h j).bus b) (λ j. pick h i (decided (turbine_of j)) d (reservoir h j).factor) (all_reservoirs h) d (λ j. turbined_is b j d)
+  no_turbine : (b : ℕ) (d : Column) → ((j : ℕ) → pick h i (decided (turbine_of j)) d (numbered_reservoir h j).factor ≡ pos 0) → F h i (flat_map (turbined_at h b) (all_reservoirs h)) d ≡ pos 0
+  no_turbine b d = no_part (turbined_at h b) (λ j. same_place (numbered_reservoir h j).bus b) (λ j. pick h i (decided (turbine_of j)) d (numbered_reservoir h j).factor) (all_reservoirs h) d (λ j. turbined_is b j d)
 
   no_thermal : (b : ℕ) (d : Column) → ((j : ℕ) → pick h i (decided (thermal_of j)) d (pos 1) ≡ pos 0) → F h i (flat_map (burned_at h b) (all_thermals h)) d ≡ pos 0
   no_thermal b d = no_part (burned_at h b) (λ j. same_place (thermal h j).bus b) (λ j. pick h i (decided (thermal_of j)) d (pos 1)) (all_thermals h) d (λ j. burned_is b j d)
@@ -165,7 +165,7 @@ module _ (h : Plants) (i : IsPlants h) where
   pub energy : (b : ℕ) → b < length h.buses → OfColumns h (λ d. F h i (bus_sum h b) d ≡ energy_of b d)
   unfolding column_name before_name variable_name after_name chance_name named
   energy b here =
-      let none : (d : Column) (u w : ℤ) → ((j : ℕ) → pick h i (decided (turbine_of j)) d (reservoir h j).factor ≡ pos 0) → ((j : ℕ) → pick h i (decided (thermal_of j)) d (pos 1) ≡ pos 0)
+      let none : (d : Column) (u w : ℤ) → ((j : ℕ) → pick h i (decided (turbine_of j)) d (numbered_reservoir h j).factor ≡ pos 0) → ((j : ℕ) → pick h i (decided (thermal_of j)) d (pos 1) ≡ pos 0)
       → ((j : ℕ) → pick h i (decided (line_of j)) d (pos 1) ≡ pos 0) → ((j : ℕ) → pick h i (decided (line_of j)) d (negsuc 0) ≡ pos 0) → pick h i (decided (deficit_of b)) d (pos 1) ≡ u → pick h i (random (demand_of b)) d (negsuc 0) ≡ w
       → F h i (bus_sum h b) d ≡ u +ℤ w =
       λ d u w e1 e2 e3 e4 e5 e6. energy_is b d (pos 0) (pos 0) (pos 0) (pos 0) u w (no_turbine b d e1) (no_thermal b d e2) (no_arrival b d e3) (no_leaving b d e4) e5 e6
@@ -185,10 +185,10 @@ module _ (h : Plants) (i : IsPlants h) where
           way = λ n k p low high. none (decided (after (way_of n k))) (pos 0) (pos 0) (λ j. refl) (λ j. refl) (λ j. refl) (λ j. refl) refl refl;
           turbine = λ n p.
               let d : Column = decided (turbine_of n) in
-              energy_is b d (same_place (reservoir h n).bus b *ℤ (reservoir h n).factor) (pos 0) (pos 0) (pos 0) (pos 0) (pos 0)
-              (one_part (turbined_at h b) (λ j. same_place (reservoir h j).bus b) (λ j. pick h i (decided (turbine_of j)) d (reservoir h j).factor) (λ j. (reservoir h j).factor) (length h.reservoirs) n d p (λ j. turbined_is b j d) (λ j q. of_reservoirs h i j n q p (reservoir h j).factor))
+              energy_is b d (same_place (numbered_reservoir h n).bus b *ℤ (numbered_reservoir h n).factor) (pos 0) (pos 0) (pos 0) (pos 0) (pos 0)
+              (one_part (turbined_at h b) (λ j. same_place (numbered_reservoir h j).bus b) (λ j. pick h i (decided (turbine_of j)) d (numbered_reservoir h j).factor) (λ j. (numbered_reservoir h j).factor) (length h.reservoirs) n d p (λ j. turbined_is b j d) (λ j q. of_reservoirs h i j n q p (numbered_reservoir h j).factor))
               (no_thermal b d (λ j. refl)) (no_arrival b d (λ j. refl)) (no_leaving b d (λ j. refl)) refl refl
-              ∙ ring ((same_place (reservoir h n).bus b *ℤ (reservoir h n).factor) ∷ []) (var 0 ⊕ num (pos 0) ⊕ num (pos 0) ⊕ num (pos 0) ⊕ (num (pos 0) ⊕ (num (pos 0) ⊕ num (pos 0)))) (var 0) tt;
+              ∙ ring ((same_place (numbered_reservoir h n).bus b *ℤ (numbered_reservoir h n).factor) ∷ []) (var 0 ⊕ num (pos 0) ⊕ num (pos 0) ⊕ num (pos 0) ⊕ (num (pos 0) ⊕ (num (pos 0) ⊕ num (pos 0)))) (var 0) tt;
           spill = λ n p. none (decided (spill_of n)) (pos 0) (pos 0) (λ j. refl) (λ j. refl) (λ j. refl) (λ j. refl) refl refl;
           thermal = λ n p.
               let d : Column = decided (thermal_of n) in
@@ -216,16 +216,16 @@ module _ (h : Plants) (i : IsPlants h) where
   costs_of (random c) = pos 0
   costs_of (decided v) = cost_of h v
 
-  costs_are : (d : Column) (g u : ℤ) → total (λ n. pick h i (decided (thermal_of n)) d (thermal h n).cost) (all_thermals h) ≡ g → total (λ b. pick h i (decided (deficit_of b)) d (bus h b).deficit_cost) (all_buses h) ≡ u → F h i (cost_sum h) d ≡ g +ℤ u
-  unfolding cost_sum
+  costs_are : (d : Column) (g u : ℤ) → total (λ n. pick h i (decided (thermal_of n)) d (thermal h n).cost) (all_thermals h) ≡ g → total (λ b. pick h i (decided (deficit_of b)) d (bus h b).deficit_cost) (all_buses h) ≡ u → F h i (hydro_cost_sum h) d ≡ g +ℤ u
+  unfolding hydro_cost_sum
   costs_are d g u e1 e2 =
       F-append h i (map (λ n. ((thermal h n).cost, decided (thermal_of n))) (all_thermals h)) (map (λ b. ((bus h b).deficit_cost, decided (deficit_of b))) (all_buses h)) d
       ∙ ap₂ ◌+ℤ◌ (F-map h i (λ n. ((thermal h n).cost, decided (thermal_of n))) (all_thermals h) d ∙ e1) (F-map h i (λ b. ((bus h b).deficit_cost, decided (deficit_of b))) (all_buses h) d ∙ e2)
 
-  pub costs : OfColumns h (λ d. F h i (cost_sum h) d ≡ costs_of d)
+  pub costs : OfColumns h (λ d. F h i (hydro_cost_sum h) d ≡ costs_of d)
   unfolding column_name before_name variable_name after_name chance_name named
   costs =
-      let none : (d : Column) → ((n : ℕ) → pick h i (decided (thermal_of n)) d (thermal h n).cost ≡ pos 0) → ((b : ℕ) → pick h i (decided (deficit_of b)) d (bus h b).deficit_cost ≡ pos 0) → F h i (cost_sum h) d ≡ pos 0 =
+      let none : (d : Column) → ((n : ℕ) → pick h i (decided (thermal_of n)) d (thermal h n).cost ≡ pos 0) → ((b : ℕ) → pick h i (decided (deficit_of b)) d (bus h b).deficit_cost ≡ pos 0) → F h i (hydro_cost_sum h) d ≡ pos 0 =
       λ d e1 e2. costs_are d (pos 0) (pos 0) (total_none _ (all_thermals h) e1) (total_none _ (all_buses h) e2) in
       record {
         stores = record { volume = λ n p. none (before (volume_of n)) (λ j. refl) (λ j. refl); way = λ n k p low high. none (before (way_of n k)) (λ j. refl) (λ j. refl) };

@@ -4,7 +4,7 @@ use Rattle.std.specs.List.{AllByRecursion}
 use Rattle.json.proofs.Printed.Utf8.{IsUtf8-are_ascii, are_ascii}
 use Rattle.serde_json.specs.Data.{Data, Members}
 use Rattle.serde_json.specs.View.{items_of}
-use Rattle.hp_forms.specs.Listed.{members_by, whole, integer}
+use Rattle.hp_forms.specs.Listed.{members_by, whole_data, integer}
 use Rattle.hp_forms.specs.Stage as forms
 use Rattle.hp_forms.specs.Nodes as nodes
 use Rattle.hp_accepts.specs.Fair.{AllAbove, Fair, FairItems, FairMembers}
@@ -13,7 +13,7 @@ use Rattle.hp_accepts.proofs.Pairs.{Pairwise, Before}
 
 -- ---- values
 
-pub whole_fair : (n : ℕ) → n < 2 ^ 64 → Fair (whole n)
+pub whole_fair : (n : ℕ) → n < 2 ^ 64 → Fair (whole_data n)
 whole_fair n h = h
 
 pub integer_fair : (z : ℤ) → IsSmall z → Fair (integer z)
@@ -54,8 +54,8 @@ pub row_fair : (ts : List Data) → AllByRecursion Fair ts → Fair (forms.row 0
 unfolding forms.row forms.equal_to
 row_fair ts a = (lit (codes "function") refl, (refl, tt), affine_fair ts a, (lit (codes "set") refl, tt, (lit (codes "type") refl, (refl, tt), lit (codes "EqualTo") refl, (lit (codes "value") refl, tt, whole_fair 0 (omega arith), tt)), tt))
 
-pub bound_fair : (name : List ℕ) (low high : ℤ) → IsUtf8 name → IsSmall low → IsSmall high → Fair (forms.bound name low high)
-unfolding forms.bound forms.single forms.interval
+pub bound_fair : (name : List ℕ) (low high : ℤ) → IsUtf8 name → IsSmall low → IsSmall high → Fair (forms.variable_bound name low high)
+unfolding forms.variable_bound forms.single forms.interval
 bound_fair name low high u l g = (
   lit (codes "function") refl,
   (refl, tt),
@@ -71,20 +71,20 @@ pub state_fair : (incoming outgoing : List ℕ) → IsUtf8 incoming → IsUtf8 o
 unfolding forms.state_between
 state_fair incoming outgoing u w = (lit (codes "in") refl, (refl, tt), u, (lit (codes "out") refl, tt, w, tt))
 
-pub program_fair : (constraints : List Data) (objective : Data) (variables : List Data) → AllByRecursion Fair constraints → Fair objective → AllByRecursion Fair variables → Fair (forms.program_of constraints objective variables)
-unfolding forms.program_of
+pub program_fair : (constraints : List Data) (objective : Data) (variables : List Data) → AllByRecursion Fair constraints → Fair objective → AllByRecursion Fair variables → Fair (forms.program_form constraints objective variables)
+unfolding forms.program_form
 program_fair constraints objective variables c o v = (lit (codes "constraints") refl, (refl, (refl, tt)), items_fair constraints c, (lit (codes "objective") refl, (refl, tt), o, (lit (codes "variables") refl, tt, items_fair variables v, tt)))
 
-pub subproblem_fair : (randoms : List Data) (states : Members) (program : Data) → AllByRecursion Fair randoms → FairMembers states → Fair program → Fair (forms.subproblem_of randoms states program)
-unfolding forms.subproblem_of
+pub subproblem_fair : (randoms : List Data) (states : Members) (program : Data) → AllByRecursion Fair randoms → FairMembers states → Fair program → Fair (forms.subproblem_form randoms states program)
+unfolding forms.subproblem_form
 subproblem_fair randoms states program r s p = (lit (codes "random_variables") refl, (refl, (refl, tt)), items_fair randoms r, (lit (codes "state_variables") refl, (refl, tt), s, (lit (codes "subproblem") refl, tt, p, tt)))
 
-pub realization_fair : (weight : ℕ) (support : Members) → weight < 2 ^ 64 → FairMembers support → Fair (nodes.realization_of weight support)
-unfolding nodes.realization_of
+pub realization_fair : (weight : ℕ) (support : Members) → weight < 2 ^ 64 → FairMembers support → Fair (nodes.realization_form weight support)
+unfolding nodes.realization_form
 realization_fair weight support w s = (lit (codes "probability") refl, (refl, tt), whole_fair weight w, (lit (codes "support") refl, tt, s, tt))
 
-pub node_fair : (realizations : List Data) (successors : Members) → AllByRecursion Fair realizations → FairMembers successors → Fair (nodes.node_of realizations successors)
-unfolding nodes.node_of
+pub node_fair : (realizations : List Data) (successors : Members) → AllByRecursion Fair realizations → FairMembers successors → Fair (nodes.node_form realizations successors)
+unfolding nodes.node_form
 node_fair realizations successors r s = (lit (codes "realizations") refl, (refl, (refl, tt)), items_fair realizations r, (lit (codes "subproblem") refl, (refl, tt), lit (codes "p") refl, (lit (codes "successors") refl, tt, s, tt)))
 
 pub root_fair : (initial successors : Members) → FairMembers initial → FairMembers successors → Fair (nodes.root_of initial successors)
@@ -95,8 +95,8 @@ version_fair : Fair nodes.version
 unfolding nodes.version
 version_fair = (lit (codes "major") refl, (refl, tt), whole_fair 1 (omega arith), (lit (codes "minor") refl, tt, whole_fair 0 (omega arith), tt))
 
-pub problem_fair : (all : Members) (root subproblem : Data) → FairMembers all → Fair root → Fair subproblem → Fair (nodes.problem_of all root subproblem)
-unfolding nodes.problem_of
+pub problem_fair : (all : Members) (root subproblem : Data) → FairMembers all → Fair root → Fair subproblem → Fair (nodes.problem_form all root subproblem)
+unfolding nodes.problem_form
 problem_fair all root subproblem a r s = (
   lit (codes "nodes") refl,
   (refl, (refl, (refl, tt))),

@@ -19,7 +19,7 @@ pub mod Stands
 pub mod Fit
 pub mod Used
 pub mod Subproblems
-pub mod Raws
+pub mod AllParts
 pub mod Meaning
 pub mod Fairness
 pub mod Written

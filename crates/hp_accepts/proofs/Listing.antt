@@ -5,7 +5,7 @@ use Rattle.std.proofs.lemmas.Bool.{leb-true}
 use Rattle.std.proofs.lemmas.List.Elements.{All-from_recursion, recursion_from_All}
 use Rattle.hp_paths.specs.Paths.{numbers}
 use Rattle.hp_plants.specs.declared.plants.Plants.{Plants}
-use Rattle.hp_hydro.specs.Layout.{Store, volume_of, way_of, Variable, after, turbine_of, spill_of, thermal_of, line_of, deficit_of, Chance, inflow_of, demand_of, travel, all_reservoirs, all_thermals, all_lines, all_buses, steps, ways, stores, variables_of, variables, chances}
+use Rattle.hp_hydro.specs.Layout.{HydroStore, volume_of, way_of, Variable, after, turbine_of, spill_of, thermal_of, line_of, deficit_of, Chance, inflow_of, demand_of, travel, all_reservoirs, all_thermals, all_lines, all_buses, steps, ways, stores, variables_of, hydro_variables, chances}
 use Rattle.hp_hydro.specs.Columns.{Column, before, random, decided, way_columns, reservoir_columns, bus_columns, columns}
 use Rattle.hp_hydro.proofs.Lists.{All-left, All-right, each_all, each_flat}
 use Rattle.hp_accepts.proofs.Pairs.{Somewhere, all_somewhere, all_append, all_map, all_flat_map, all_numbers}
@@ -15,11 +15,11 @@ use Rattle.hp_accepts.proofs.Pairs.{Somewhere, all_somewhere, all_append, all_ma
 pub all_steps : (P : ℕ → Type 0) (n : ℕ) → ((k : ℕ) → 1 ≤ k → k ≤ n → P k) → AllByRecursion P (steps n)
 all_steps P n h = all_map P suc (numbers n) (all_numbers (λ k. P (suc k)) n (λ k p. h (suc k) (omega arith) (omega arith)))
 
-pub record OfStores (h : Plants) (P : Store → Type 0) : Type 0 where
+pub record OfStores (h : Plants) (P : HydroStore → Type 0) : Type 0 where
   pub volume : (j : ℕ) → j < length h.reservoirs → P (volume_of j)
   pub way : (j k : ℕ) → j < length h.reservoirs → 1 ≤ k → k ≤ travel h j → P (way_of j k)
 
-pub each_store : (h : Plants) (P : Store → Type 0) → OfStores h P → AllByRecursion P (stores h)
+pub each_store : (h : Plants) (P : HydroStore → Type 0) → OfStores h P → AllByRecursion P (stores h)
 each_store h P f =
     all_append P (flat_map (ways h) (steps 3)) (map volume_of (all_reservoirs h))
     (all_flat_map P (ways h) (steps 3) (all_steps (λ k. AllByRecursion P (ways h k)) 3 (λ k low high. all_flat_map P (λ j. if nat_le k (travel h j) then way_of j k ∷ [] else []) (all_reservoirs h) (all_numbers _ (length h.reservoirs) (λ j p. one (nat_le k (travel h j)) j k (λ e. f.way j k p low (leb-true k (travel h j) e)))))))
@@ -48,7 +48,7 @@ pub record OfVariables (h : Plants) (P : Variable → Type 0) : Type 0 where
   pub line : (l : ℕ) → l < length h.lines → P (line_of l)
   pub deficit : (b : ℕ) → b < length h.buses → P (deficit_of b)
 
-pub each_variable : (h : Plants) (P : Variable → Type 0) → OfVariables h P → AllByRecursion P (variables h)
+pub each_variable : (h : Plants) (P : Variable → Type 0) → OfVariables h P → AllByRecursion P (hydro_variables h)
 each_variable h P f =
     let rs : List Variable = flat_map (variables_of h) (all_reservoirs h) in
     let ts : List Variable = map thermal_of (all_thermals h) in

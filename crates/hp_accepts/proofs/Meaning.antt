@@ -8,29 +8,29 @@ use Rattle.std.proofs.lemmas.List.{length-map}
 use Rattle.std.proofs.Math.Seq.{drop-cons}
 use Rattle.hp_num.specs.Sums.{entry}
 use Rattle.hp_paths.specs.Paths.{numbers}
-use Rattle.hp_problem.specs.declared.raw.State.{State}
-use Rattle.hp_problem.specs.declared.raw.Decision.{Decision}
-use Rattle.hp_problem.specs.declared.raw.Node as raws
-use Rattle.hp_problem.specs.Sealed.{Sealed, initial_values}
-use Rattle.hp_theory.specs.Problem.{Link, Node, node_at}
-use Rattle.hp_theory.specs.View.{realizations_of, links_of, node_of, problem_of}
+use Rattle.hp_parts.specs.declared.parts.State.{State}
+use Rattle.hp_parts.specs.declared.parts.Decision.{Decision}
+use Rattle.hp_parts.specs.declared.parts.Node as all_parts
+use Rattle.hp_problem.specs.Validated.{Validated, initial_values}
+use Rattle.hp_theory.specs.Problem.{Successor, Node, node_at}
+use Rattle.hp_theory.specs.View.{realizations_of, successors_of, node_of, problem_of}
 use Rattle.hp_theory.proofs.Views.{node_at-problem_of, node_at-past}
 use Rattle.hp_plants.specs.declared.plants.Inflow.{Inflow}
 use Rattle.hp_plants.specs.declared.plants.Stage.{Stage}
 use Rattle.hp_plants.specs.declared.plants.Plants.{Plants}
 use Rattle.hp_plants.specs.Described.{IsPlants}
-use Rattle.hp_hydro.specs.Layout.{Store, volume_of, way_of, Variable, after, stores, variables, chances, chance_value, store_low, store_high, store_initial, store_place, least, greatest}
+use Rattle.hp_hydro.specs.Layout.{HydroStore, volume_of, way_of, Variable, after, stores, hydro_variables, chances, chance_value, store_low, store_high, store_initial, store_place, variable_least, variable_greatest}
 use Rattle.hp_hydro.specs.Made.{following, stage_node, node_from, problem_of_plants}
 use Rattle.hp_hydro.specs.Columns.{state_name}
-use Rattle.hp_hydro.specs.Nodes.{stage}
+use Rattle.hp_hydro.specs.Nodes.{hydro_stage}
 use Rattle.hp_hydro.proofs.Places.{map_map}
 use Rattle.hp_accepts.proofs.Named.{map_alike, map_ext, some_is}
 use Rattle.hp_accepts.proofs.Listing.{OfStores, each_store}
 use Rattle.hp_accepts.proofs.Stands.{reservoir_is, boxes}
 use Rattle.hp_accepts.proofs.Subproblems.{form, choice_of, after_there}
-use Rattle.hp_accepts.proofs.Raws.{node_form, raw_form}
+use Rattle.hp_accepts.proofs.AllParts.{node_form, parts_form}
 use Rattle.hp_accepts.proofs.Chain.{next}
-use Rattle.hp_accepts.proofs.Boxing.{Inside, IsChain, sealed, low_at, high_at, node_there}
+use Rattle.hp_accepts.proofs.Boxing.{Inside, IsChain, validated, low_at, high_at, node_there}
 
 -- ---- lists
 
@@ -73,25 +73,25 @@ module _ (h : Plants) (i : IsPlants h) where
   ordered : OfStores h (λ s. store_low h s ≤ℤ store_high h s)
   ordered = let b = (boxes h i).stores in record { volume = λ j p. (b.volume j p).order; way = λ j k p low high. (b.way j k p low high).order }
 
-  initials : initial_values (raw_form h i) ≡ map (store_initial h) (stores h)
+  initials : initial_values (parts_form h i) ≡ map (store_initial h) (stores h)
   initials = map_map (λ (s : State). s.initial) (λ s. record { name = state_name h s; initial = store_initial h s }) (stores h)
 
-  outs_at : (x : Variable → ℤ) (f : Decision → ℤ) (b : Store → ℤ) → ((v : Variable) → f (choice_of h i v) ≡ x v) → ((s : Store) → x (after s) ≡ b s) → map (λ o. entry (map f (form h i).decisions) o) (form h i).outs ≡ map b (stores h)
+  outs_at : (x : Variable → ℤ) (f : Decision → ℤ) (b : HydroStore → ℤ) → ((v : Variable) → f (choice_of h i v) ≡ x v) → ((s : HydroStore) → x (after s) ≡ b s) → map (λ o. entry (map f (form h i).decisions) o) (form h i).outs ≡ map b (stores h)
   outs_at x f b e1 e2 =
-      let values : map f (map (choice_of h i) (variables h)) ≡ map x (variables h) = map_map f (choice_of h i) (variables h) ∙ map_ext (λ v. f (choice_of h i v)) x (variables h) e1 in
+      let values : map f (map (choice_of h i) (hydro_variables h)) ≡ map x (hydro_variables h) = map_map f (choice_of h i) (hydro_variables h) ∙ map_ext (λ v. f (choice_of h i v)) x (hydro_variables h) e1 in
       ap (λ (zs : List ℤ). map (λ o. entry zs o) (map (store_place h) (stores h))) values
-      ∙ map_map (λ o. entry (map x (variables h)) o) (store_place h) (stores h)
-      ∙ map_alike (λ s. entry (map x (variables h)) (store_place h s)) b (stores h)
-      (each_store h (λ s. entry (map x (variables h)) (store_place h s) ≡ b s)
+      ∙ map_map (λ o. entry (map x (hydro_variables h)) o) (store_place h) (stores h)
+      ∙ map_alike (λ s. entry (map x (hydro_variables h)) (store_place h s)) b (stores h)
+      (each_store h (λ s. entry (map x (hydro_variables h)) (store_place h s) ≡ b s)
       (let t = after_there h i in record {
-        volume = λ j p. entry_there x (variables h) (store_place h (volume_of j)) (after (volume_of j)) (t.volume j p) ∙ e2 (volume_of j);
-        way = λ j k p low high. entry_there x (variables h) (store_place h (way_of j k)) (after (way_of j k)) (t.way j k p low high) ∙ e2 (way_of j k);
+        volume = λ j p. entry_there x (hydro_variables h) (store_place h (volume_of j)) (after (volume_of j)) (t.volume j p) ∙ e2 (volume_of j);
+        way = λ j k p low high. entry_there x (hydro_variables h) (store_place h (way_of j k)) (after (way_of j k)) (t.way j k p low high) ∙ e2 (way_of j k);
       }))
 
-  graph_is : (ns : List ℕ) → map (λ (n : raws.Node). n.links) (map (node_form h i) ns) ≡ map (next many) ns
-  graph_is ns = map_map (λ (n : raws.Node). n.links) (node_form h i) ns
+  graph_is : (ns : List ℕ) → map (λ (n : all_parts.Node). n.successors) (map (node_form h i) ns) ≡ map (next many) ns
+  graph_is ns = map_map (λ (n : all_parts.Node). n.successors) (node_form h i) ns
 
-  pub is_chain : IsChain (raw_form h i) (node_form h i) (form h i) many lows highs
+  pub is_chain : IsChain (parts_form h i) (node_form h i) (form h i) many lows highs
   is_chain = record {
     some = i.some_stages;
     nodes = refl;
@@ -101,8 +101,8 @@ module _ (h : Plants) (i : IsPlants h) where
     graph = graph_is (numbers many);
     low = sym (map_map Some (store_low h) (stores h));
     high = sym (map_map Some (store_high h) (stores h));
-    out_low = outs_at (least h) (λ (d : Decision). d.low) (store_low h) (λ v. refl) (λ s. refl);
-    out_high = outs_at (greatest h) (λ (d : Decision). d.high) (store_high h) (λ v. refl) (λ s. refl);
+    out_low = outs_at (variable_least h) (λ (d : Decision). d.low) (store_low h) (λ v. refl) (λ s. refl);
+    out_high = outs_at (variable_greatest h) (λ (d : Decision). d.high) (store_high h) (λ v. refl) (λ s. refl);
     states = length-map (stores h) (λ s. record { name = state_name h s; initial = store_initial h s }) ∙ sym (length-map (stores h) (store_low h));
     as_many = length-map (stores h) (store_high h) ∙ sym (length-map (stores h) (store_low h));
     ordered = orders (store_low h) (store_high h) (stores h) (each_store h (λ s. store_low h s ≤ℤ store_high h s) ordered);
@@ -110,12 +110,12 @@ module _ (h : Plants) (i : IsPlants h) where
   }
 
   -- the problem that is read
-  abbrev pub sealed_form : Sealed
-  sealed_form = sealed (raw_form h i) (node_form h i) (form h i) many lows highs is_chain
+  abbrev pub validated_form : Validated
+  validated_form = validated (parts_form h i) (node_form h i) (form h i) many lows highs is_chain
 
   -- ---- its nodes
 
-  following_by : (m : ℕ) (ss : List Stage) (n : ℕ) → n ≡ m + length ss → links_of (if nat_lt m n then m ∷ [] else []) (if nat_lt m n then 1 ∷ [] else []) ≡ following m ss
+  following_by : (m : ℕ) (ss : List Stage) (n : ℕ) → n ≡ m + length ss → successors_of (if nat_lt m n then m ∷ [] else []) (if nat_lt m n then 1 ∷ [] else []) ≡ following m ss
   following_by m [] n e = let no : nat_lt m n ≡ false = none in rw no refl
     where
       none : nat_lt m n ≡ false
@@ -129,37 +129,37 @@ module _ (h : Plants) (i : IsPlants h) where
   later_length : (m : ℕ) → m < many → many ≡ suc m + length (drop (suc m) h.stages)
   later_length m p = let l = length-drop (suc m) h.stages in omega (arith, l, p)
 
-  node_is : (m : ℕ) → m < many → node_of (node_form h i m) (form h i) lows highs ≡ stage_node h (stage h m) (following (suc m) (drop (suc m) h.stages))
+  node_is : (m : ℕ) → m < many → node_of (node_form h i m) (form h i) lows highs ≡ stage_node h (hydro_stage h m) (following (suc m) (drop (suc m) h.stages))
   unfolding node_of stage_node
   node_is m p =
       rw (
-        map_map (λ (d : Decision). d.low) (choice_of h i) (variables h),
-        map_map (λ (d : Decision). d.high) (choice_of h i) (variables h),
-        map_map (λ (d : Decision). d.cost) (choice_of h i) (variables h),
-        realizations_made (λ (f : Inflow). f.weight) (λ (f : Inflow). map (chance_value (stage h m).demand f.water) (chances h)) (stage h m).inflows,
+        map_map (λ (d : Decision). d.low) (choice_of h i) (hydro_variables h),
+        map_map (λ (d : Decision). d.high) (choice_of h i) (hydro_variables h),
+        map_map (λ (d : Decision). d.cost) (choice_of h i) (hydro_variables h),
+        realizations_made (λ (f : Inflow). f.weight) (λ (f : Inflow). map (chance_value (hydro_stage h m).demand f.water) (chances h)) (hydro_stage h m).inflows,
         following_by (suc m) (drop (suc m) h.stages) many (later_length m p),
       ) refl
 
-  same_node : (m : ℕ) → (m < many) ⊎ (many ≤ m) → node_at (problem_of sealed_form) m ≡ node_from h m (drop m h.stages)
+  same_node : (m : ℕ) → (m < many) ⊎ (many ≤ m) → node_at (problem_of validated_form) m ≡ node_from h m (drop m h.stages)
   same_node m (inl p) =
-      node_at-problem_of sealed_form m (node_form h i m) (form h i) (node_there (node_form h i) many m p) refl
-      ∙ ap₂ (node_of (node_form h i m) (form h i)) (low_at (raw_form h i) (node_form h i) (form h i) many lows highs is_chain m p) (high_at (raw_form h i) (node_form h i) (form h i) many lows highs is_chain m p)
+      node_at-problem_of validated_form m (node_form h i m) (form h i) (node_there (node_form h i) many m p) refl
+      ∙ ap₂ (node_of (node_form h i m) (form h i)) (low_at (parts_form h i) (node_form h i) (form h i) many lows highs is_chain m p) (high_at (parts_form h i) (node_form h i) (form h i) many lows highs is_chain m p)
       ∙ node_is m p ∙ sym (ap (node_from h m) (drop-cons h.stages m (record { demand = []; inflows = [] }) p))
   same_node m (inr p) =
-      node_at-past sealed_form m (past (node_form h i) 0 many m p) ∙ sym (ap (node_from h m) (drop_of_length-le h.stages p))
+      node_at-past validated_form m (past (node_form h i) 0 many m p) ∙ sym (ap (node_from h m) (drop_of_length-le h.stages p))
     where
-      past : (f : ℕ → raws.Node) (a n m : ℕ) → n ≤ m → slice_get (map f (range_with_len a n)) m ≡ None
+      past : (f : ℕ → all_parts.Node) (a n m : ℕ) → n ≤ m → slice_get (map f (range_with_len a n)) m ≡ None
       past f a zero m p = refl
       past f a (suc n) zero p = absurd (omega arith)
       past f a (suc n) (suc m) p = past f (a + 1) n m (omega arith)
 
-  first_following : (ss : List Stage) → 0 < length ss → links_of (0 ∷ []) (1 ∷ []) ≡ following 0 ss
+  first_following : (ss : List Stage) → 0 < length ss → successors_of (0 ∷ []) (1 ∷ []) ≡ following 0 ss
   first_following [] p = absurd (omega arith)
   first_following (s ∷ ss) p = refl
 
-  pub same_problem : problem_of sealed_form ≡ problem_of_plants h
+  pub same_problem : problem_of validated_form ≡ problem_of_plants h
   unfolding problem_of
   same_problem =
-      ap₂ (λ (ns : ℕ → Node) (r : List Link × List ℤ). record { nodes = ns; root = r.0; initial = r.1 })
+      ap₂ (λ (ns : ℕ → Node) (r : List Successor × List ℤ). record { nodes = ns; root = r.0; initial = r.1 })
       (fun_ext (λ m. same_node m (cases_lt m many)))
-      (ap₂ (λ (r : List Link) (z : List ℤ). (r, z)) (first_following h.stages i.some_stages) initials)
+      (ap₂ (λ (r : List Successor) (z : List ℤ). (r, z)) (first_following h.stages i.some_stages) initials)

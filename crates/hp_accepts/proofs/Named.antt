@@ -87,8 +87,8 @@ module _ {A : Type 0} (name : A → List ℕ) where
   changed_at {B} f g x (y ∷ ys) zero d at =
       let e = some_is y x at in
       let here : same x y ≡ true = subst (λ w. bytes_eq (name x) (name w) ≡ true) (sym e) (equal_names (name x)) in
-      let rest : AllByRecursion (λ z. same x z ≡ false) ys = subst (λ w. AllByRecursion (λ z. same w z ≡ false) ys) e d.0 in
-      rw here (ap₂ ◌∷◌ (ap g (sym e)) (unchanged f g x ys rest))
+      let tail : AllByRecursion (λ z. same x z ≡ false) ys = subst (λ w. AllByRecursion (λ z. same w z ≡ false) ys) e d.0 in
+      rw here (ap₂ ◌∷◌ (ap g (sym e)) (unchanged f g x ys tail))
   changed_at f g x (y ∷ ys) (suc k) d at = rw (turned y x (apart_at y x ys k d.0 at)) (ap (λ zs. f y ∷ zs) (changed_at f g x ys k d.1 at))
 
   -- two of one name are one

@@ -6,7 +6,7 @@ use Rattle.std.specs.Ordering.{ordering_then}
 use Rattle.std.proofs.lemmas.Bool.Decides.{nat_tests}
 use Rattle.std.proofs.lemmas.Cmp.{nat_list_cmp_total}
 use Rattle.hp_num.proofs.Tests.{and_first, and_second}
-use Rattle.hp_problem.specs.Distinct.{rises, is_before}
+use Rattle.hp_parts.specs.Distinct.{rises, is_before}
 use Rattle.hp_paths.specs.Paths.{numbers}
 
 -- R of each thing and each later one
@@ -133,8 +133,8 @@ module _ {A : Type 0} (name : A → List ℕ) where
   risen (x ∷ []) e = (tt, tt)
   risen (x ∷ y ∷ xs) e =
       let first = less_of (name x) (name y) (and_first (before x y) (rises before (y ∷ xs)) e) in
-      let rest = risen (y ∷ xs) (and_second (before x y) (rises before (y ∷ xs)) e) in
-      ((first, all_later x y xs first rest.0), rest)
+      let tail = risen (y ∷ xs) (and_second (before x y) (rises before (y ∷ xs)) e) in
+      ((first, all_later x y xs first tail.0), tail)
 
   all_get : (x : A) (ys : List A) (j : ℕ) (d : A) → AllByRecursion (Before name x) ys → j < length ys → Before name x (get_or ys j d)
   all_get x [] j d a h = absurd (omega arith)

@@ -21,11 +21,11 @@ use Rattle.serde_json.proofs.Numbers.{number_of-decimal, number_of-negative}
 use Rattle.serde_json.proofs.Texts.{print-outline}
 use Rattle.hp_fields.specs.Fields.{json_at}
 use Rattle.hp_forms.proofs.Newline.{tokens-newline}
-use Rattle.hp_accepts.specs.Fair.{IsWhole, AllAbove, Fair, FairItems, FairMembers}
+use Rattle.hp_accepts.specs.Fair.{IsWholeNumber, AllAbove, Fair, FairItems, FairMembers}
 
 -- ---- numbers
 
-whole_read : (n : Num) → IsWhole n → number_of (number_text n) ≡ Some n
+whole_read : (n : Num) → IsWholeNumber n → number_of (number_text n) ≡ Some n
 whole_read (unsigned n) h = number_of-decimal n h
 whole_read (negative (pos n)) h = absurd h
 whole_read (negative (negsuc n)) h = number_of-negative n h
@@ -35,12 +35,12 @@ whole_read (float x) h = absurd h
 
 abbrev joined : Members → Members → Members
 joined no_members ms = ms
-joined (member k d rest) ms = member k d (joined rest ms)
+joined (member k d tail) ms = member k d (joined tail ms)
 
 -- each key of the first is below each of the second
 abbrev AllBelow : Members → Members → Type 0
 AllBelow no_members ms = Unit {0}
-AllBelow (member k d rest) ms = AllAbove k ms × AllBelow rest ms
+AllBelow (member k d tail) ms = AllAbove k ms × AllBelow tail ms
 
 put_last : (found : Members) (k : List ℕ) (d : Data) (ms : Members) → AllBelow found (member k d ms) → put k d found ≡ joined found (member k d no_members)
 put_last no_members k d ms h = refl
@@ -74,7 +74,7 @@ mutual
     where
       joined_nothing : (found : Members) → found ≡ joined found no_members
       joined_nothing no_members = refl
-      joined_nothing (member l e rest) = ap (member l e) (joined_nothing rest)
+      joined_nothing (member l e tail) = ap (member l e) (joined_nothing tail)
   members_back found (member k d ms) below h =
       rw (value_back d h.2, put_last found k d ms below) (members_back (joined found (member k d no_members)) ms (below_joined found k d ms below h.1) h.3 ∙ ap Some (joined_more found k d ms))
 
@@ -126,7 +126,7 @@ ascii_one x h = IsUtf8-from_ascii (x ∷ []) (λ i. at i)
     at zero = h
     at (suc i) = omega arith
 
-whole_utf8 : (n : Num) → IsWhole n → IsUtf8 (number_text n)
+whole_utf8 : (n : Num) → IsWholeNumber n → IsUtf8 (number_text n)
 whole_utf8 (unsigned n) h = IsUtf8-from_ascii (decimal n) (IsAscii-decimal n h)
 whole_utf8 (negative (pos n)) h = absurd h
 whole_utf8 (negative (negsuc n)) h = IsUtf8-from_ascii (signed_decimal (negsuc n)) (IsAscii-signed (negsuc n) h)

@@ -5,7 +5,7 @@ use Rattle.hp_paths.specs.Paths.{numbers}
 use Rattle.hp_forms.specs.Listed.{digit}
 use Rattle.hp_plants.specs.declared.plants.Plants.{Plants}
 use Rattle.hp_plants.specs.Described.{IsPlants}
-use Rattle.hp_hydro.specs.Layout.{Store, volume_of, way_of, after, Chance, inflow_of, demand_of, reservoir, bus, travel, all_reservoirs, all_buses, steps, ways, stores, chances}
+use Rattle.hp_hydro.specs.Layout.{HydroStore, volume_of, way_of, after, Chance, inflow_of, demand_of, numbered_reservoir, bus, travel, all_reservoirs, all_buses, steps, ways, stores, chances}
 use Rattle.hp_hydro.specs.Columns.{Column, before, random, decided, named, state_name, before_name, after_name, variable_name, chance_name, column_name}
 use Rattle.hp_accepts.proofs.Named.{Distinct}
 use Rattle.hp_accepts.proofs.Pairs.{first_less, later_less, Pairwise, Across, Before, all_weaker, all_of, all_map, all_flat_map, pair_append, pair_map, pair_flat_map, pair_numbers}
@@ -23,30 +23,30 @@ all_if P true x p = (p, tt)
 all_if P false x p = tt
 
 module _ (h : Plants) (i : IsPlants h) where
-  abbrev Rises : Store → Store → Type 0
+  abbrev Rises : HydroStore → HydroStore → Type 0
   Rises s t = Before (state_name h) s t
 
   nearer_first : (j k n m : ℕ) → k < m → m ≤ 9 → Rises (way_of j k) (way_of n m)
   unfolding state_name named
-  nearer_first j k n m p q = later_less 112 (digit k ∷ 58 ∷ (reservoir h j).name) (digit m ∷ 58 ∷ (reservoir h n).name) (first_less (digit k) (digit m) (58 ∷ (reservoir h j).name) (58 ∷ (reservoir h n).name) (digit_less k m p q))
+  nearer_first j k n m p q = later_less 112 (digit k ∷ 58 ∷ (numbered_reservoir h j).name) (digit m ∷ 58 ∷ (numbered_reservoir h n).name) (first_less (digit k) (digit m) (58 ∷ (numbered_reservoir h j).name) (58 ∷ (numbered_reservoir h n).name) (digit_less k m p q))
 
   one_distance : (k j n : ℕ) → j < n → n < length h.reservoirs → Rises (way_of j k) (way_of n k)
   unfolding state_name named
-  one_distance k j n p q = later_less 112 (digit k ∷ 58 ∷ (reservoir h j).name) (digit k ∷ 58 ∷ (reservoir h n).name) (later_less (digit k) (58 ∷ (reservoir h j).name) (58 ∷ (reservoir h n).name) (later_less 58 (reservoir h j).name (reservoir h n).name (reservoirs_rise h i j n p q)))
+  one_distance k j n p q = later_less 112 (digit k ∷ 58 ∷ (numbered_reservoir h j).name) (digit k ∷ 58 ∷ (numbered_reservoir h n).name) (later_less (digit k) (58 ∷ (numbered_reservoir h j).name) (58 ∷ (numbered_reservoir h n).name) (later_less 58 (numbered_reservoir h j).name (numbered_reservoir h n).name (reservoirs_rise h i j n p q)))
 
   volume_last : (j k n : ℕ) → Rises (way_of j k) (volume_of n)
   unfolding state_name named
-  volume_last j k n = first_less 112 118 (digit k ∷ 58 ∷ (reservoir h j).name) (58 ∷ (reservoir h n).name) (omega arith)
+  volume_last j k n = first_less 112 118 (digit k ∷ 58 ∷ (numbered_reservoir h j).name) (58 ∷ (numbered_reservoir h n).name) (omega arith)
 
   volumes_rise : (j n : ℕ) → j < n → n < length h.reservoirs → Rises (volume_of j) (volume_of n)
   unfolding state_name named
-  volumes_rise j n p q = later_less 118 (58 ∷ (reservoir h j).name) (58 ∷ (reservoir h n).name) (later_less 58 (reservoir h j).name (reservoir h n).name (reservoirs_rise h i j n p q))
+  volumes_rise j n p q = later_less 118 (58 ∷ (numbered_reservoir h j).name) (58 ∷ (numbered_reservoir h n).name) (later_less 58 (numbered_reservoir h j).name (numbered_reservoir h n).name (reservoirs_rise h i j n p q))
 
-  abbrev at_way : ℕ → ℕ → List Store
+  abbrev at_way : ℕ → ℕ → List HydroStore
   at_way k j = if nat_le k (travel h j) then way_of j k ∷ [] else []
 
   -- each way k is one of a reservoir
-  all_ways : (P : Store → Type 0) (k : ℕ) → ((j : ℕ) → P (way_of j k)) → AllByRecursion P (ways h k)
+  all_ways : (P : HydroStore → Type 0) (k : ℕ) → ((j : ℕ) → P (way_of j k)) → AllByRecursion P (ways h k)
   all_ways P k f = all_flat_map P (at_way k) (all_reservoirs h) (all_of (λ j. AllByRecursion P (at_way k j)) (λ j. all_if P (nat_le k (travel h j)) (way_of j k) (f j)) (all_reservoirs h))
 
   pub stores_rise : Pairwise (Before (state_name h)) (stores h)
@@ -74,11 +74,11 @@ module _ (h : Plants) (i : IsPlants h) where
 
   inflows_rise : (j n : ℕ) → j < n → n < length h.reservoirs → Before (chance_name h) (inflow_of j) (inflow_of n)
   unfolding chance_name named
-  inflows_rise j n p q = later_less 119 (58 ∷ (reservoir h j).name) (58 ∷ (reservoir h n).name) (later_less 58 (reservoir h j).name (reservoir h n).name (reservoirs_rise h i j n p q))
+  inflows_rise j n p q = later_less 119 (58 ∷ (numbered_reservoir h j).name) (58 ∷ (numbered_reservoir h n).name) (later_less 58 (numbered_reservoir h j).name (numbered_reservoir h n).name (reservoirs_rise h i j n p q))
 
   inflow_last : (j n : ℕ) → Before (chance_name h) (demand_of j) (inflow_of n)
   unfolding chance_name named
-  inflow_last j n = first_less 100 119 (58 ∷ (bus h j).name) (58 ∷ (reservoir h n).name) (omega arith)
+  inflow_last j n = first_less 100 119 (58 ∷ (bus h j).name) (58 ∷ (numbered_reservoir h n).name) (omega arith)
 
   pub supports_rise : Pairwise (Before (chance_name h)) supports
   supports_rise =
@@ -93,42 +93,42 @@ module _ (h : Plants) (i : IsPlants h) where
   abbrev Apart : Column → Column → Type 0
   Apart c d = bytes_eq (column_name h c) (column_name h d) ≡ false
 
-  like_before : (s t : Store) → bytes_eq (column_name h (before s)) (column_name h (before t)) ≡ bytes_eq (state_name h s) (state_name h t)
+  like_before : (s t : HydroStore) → bytes_eq (column_name h (before s)) (column_name h (before t)) ≡ bytes_eq (state_name h s) (state_name h t)
   unfolding state_name column_name before_name named
   like_before (volume_of j) (volume_of n) = refl
   like_before (volume_of j) (way_of n m) = refl
   like_before (way_of j k) (volume_of n) = refl
   like_before (way_of j k) (way_of n m) = refl
 
-  like_after : (s t : Store) → bytes_eq (column_name h (decided (after s))) (column_name h (decided (after t))) ≡ bytes_eq (state_name h s) (state_name h t)
+  like_after : (s t : HydroStore) → bytes_eq (column_name h (decided (after s))) (column_name h (decided (after t))) ≡ bytes_eq (state_name h s) (state_name h t)
   unfolding state_name column_name variable_name after_name named
   like_after (volume_of j) (volume_of n) = refl
   like_after (volume_of j) (way_of n m) = refl
   like_after (way_of j k) (volume_of n) = refl
   like_after (way_of j k) (way_of n m) = refl
 
-  pub before_after : (s t : Store) → Apart (before s) (decided (after t))
+  pub before_after : (s t : HydroStore) → Apart (before s) (decided (after t))
   unfolding column_name variable_name before_name after_name named
   before_after (volume_of j) (volume_of n) = refl
   before_after (volume_of j) (way_of n m) = refl
   before_after (way_of j k) (volume_of n) = refl
   before_after (way_of j k) (way_of n m) = refl
 
-  pub after_before : (s t : Store) → Apart (decided (after s)) (before t)
+  pub after_before : (s t : HydroStore) → Apart (decided (after s)) (before t)
   unfolding column_name variable_name before_name after_name named
   after_before (volume_of j) (volume_of n) = refl
   after_before (volume_of j) (way_of n m) = refl
   after_before (way_of j k) (volume_of n) = refl
   after_before (way_of j k) (way_of n m) = refl
 
-  pub before_random : (s : Store) (c : Chance) → Apart (before s) (random c)
+  pub before_random : (s : HydroStore) (c : Chance) → Apart (before s) (random c)
   unfolding column_name before_name chance_name named
   before_random (volume_of j) (inflow_of n) = refl
   before_random (volume_of j) (demand_of n) = refl
   before_random (way_of j k) (inflow_of n) = refl
   before_random (way_of j k) (demand_of n) = refl
 
-  pub after_random : (s : Store) (c : Chance) → Apart (decided (after s)) (random c)
+  pub after_random : (s : HydroStore) (c : Chance) → Apart (decided (after s)) (random c)
   unfolding column_name variable_name after_name chance_name named
   after_random (volume_of j) (inflow_of n) = refl
   after_random (volume_of j) (demand_of n) = refl
@@ -136,14 +136,14 @@ module _ (h : Plants) (i : IsPlants h) where
   after_random (way_of j k) (demand_of n) = refl
 
   -- the variables that states use
-  abbrev pub used : List Store → List Column
+  abbrev pub used : List HydroStore → List Column
   used ss = both (column_name h) before (λ s. decided (after s)) ss
 
-  beside_used : (s : Store) (c : Column) (ts : List Store) → AllByRecursion (λ t. Apart c (before t) × Apart c (decided (after t))) ts → AllByRecursion (Apart c) (used ts)
+  beside_used : (s : HydroStore) (c : Column) (ts : List HydroStore) → AllByRecursion (λ t. Apart c (before t) × Apart c (decided (after t))) ts → AllByRecursion (Apart c) (used ts)
   beside_used s c [] a = tt
   beside_used s c (t ∷ ts) a = (a.0.0, (a.0.1, beside_used s c ts a.1))
 
-  used_apart : (ss : List Store) → Pairwise Rises ss → Pairwise Apart (used ss)
+  used_apart : (ss : List HydroStore) → Pairwise Rises ss → Pairwise Apart (used ss)
   used_apart [] p = tt
   used_apart (s ∷ ss) p =
       ((before_after s s, beside_used s (before s) ss (all_weaker (Rises s) (λ t. Apart (before s) (before t) × Apart (before s) (decided (after t))) (λ t e. (like_before s t ∙ apart_of (state_name h s) (state_name h t) e, before_after s t)) ss p.0)), (beside_used s (decided (after s)) ss (all_weaker (Rises s) (λ t. Apart (decided (after s)) (before t) × Apart (decided (after s)) (decided (after t))) (λ t e. (after_before s t, like_after s t ∙ apart_of (state_name h s) (state_name h t) e)) ss p.0), used_apart ss p.1))
@@ -153,7 +153,7 @@ module _ (h : Plants) (i : IsPlants h) where
 
   inflows_apart : (j n : ℕ) → j < n → n < length h.reservoirs → Apart (random (inflow_of j)) (random (inflow_of n))
   unfolding column_name chance_name named
-  inflows_apart j n p q = apart_of (reservoir h j).name (reservoir h n).name (reservoirs_rise h i j n p q)
+  inflows_apart j n p q = apart_of (numbered_reservoir h j).name (numbered_reservoir h n).name (reservoirs_rise h i j n p q)
 
   demands_apart : (j n : ℕ) → j < n → n < length h.buses → Apart (random (demand_of j)) (random (demand_of n))
   unfolding column_name chance_name named

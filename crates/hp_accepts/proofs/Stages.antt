@@ -11,10 +11,10 @@ use Rattle.serde_json.specs.Data.{Data, Members, no_members}
 use Rattle.serde_json.specs.Events.{items_len}
 use Rattle.serde_json.specs.Find.{get_member}
 use Rattle.serde_json.specs.View.{items_of}
-use Rattle.hp_problem.specs.declared.refusal.Part.{Part}
-use Rattle.hp_problem.specs.declared.refusal.Part.TheVariants as parts
-use Rattle.hp_problem.specs.declared.refusal.Place.{Place}
-use Rattle.hp_problem.specs.declared.refusal.Refusal.{Refusal}
+use Rattle.hp_parts.specs.declared.refusal.Part.{Part}
+use Rattle.hp_parts.specs.declared.refusal.Part.TheVariants as part_kinds
+use Rattle.hp_parts.specs.declared.refusal.Place.{Place}
+use Rattle.hp_parts.specs.declared.refusal.Refusal.{Refusal}
 use Rattle.hp_paths.specs.Paths.{numbers}
 use Rattle.hp_fields.specs.Steps.{◌>>=◌, walk_items}
 use Rattle.hp_fields.specs.Fields as fields
@@ -24,7 +24,7 @@ use Rattle.hp_sof.specs.Values as values
 use Rattle.hp_sof.specs.Realizations as realizations
 use Rattle.hp_sof.specs.Nodes as nodes
 use Rattle.hp_sof.specs.Subproblems as subproblems
-use Rattle.hp_forms.specs.Listed.{members_from, members_by, whole, integer, digit}
+use Rattle.hp_forms.specs.Listed.{members_from, members_by, whole_data, integer, digit}
 use Rattle.hp_forms.specs.Nodes as forms
 use Rattle.hp_hydro.specs.Nodes.{node_name}
 use Rattle.hp_accepts.proofs.Types.{Finds, TypeOf}
@@ -70,14 +70,14 @@ module _ {A : Type 0} (key : A → List ℕ) (value : A → ℤ) (all : List A) 
     pub there : slice_get all number ≡ Some x
     pub small : IsSmall (value x)
 
-  value_read : (p : Place) (found : List ℤ) (x : A) → Pairwise (Before key) all → HasValue x → values.value_at p (members_by key (λ y. integer (value y)) all) found (key x) ≡ Ok (found ++ value x ∷ [])
-  unfolding values.value_at fields.present_at
+  value_read : (p : Place) (found : List ℤ) (x : A) → Pairwise (Before key) all → HasValue x → values.random_value_at p (members_by key (λ y. integer (value y)) all) found (key x) ≡ Ok (found ++ value x ∷ [])
+  unfolding values.random_value_at fields.present_at
   value_read p found x rise v = rw (member_found key (λ y. integer (value y)) all v.number x rise v.there, integer_read p (value x) v.small) refl
 
   pub values_read : (part : Part) (a b : ℕ) → Pairwise (Before key) all → (xs : List A) → AllByRecursion HasValue xs → values.values_at part a b (map key xs) (members_by key (λ y. integer (value y)) all) ≡ Ok (map value xs)
   unfolding values.values_at
   values_read part a b rise xs have =
-      list_grow HasValue value (λ (found : List ℤ) (i : ℕ) (name : List ℕ). values.value_at (fields.place part a b i) (members_by key (λ y. integer (value y)) all) found name) key
+      list_grow HasValue value (λ (found : List ℤ) (i : ℕ) (name : List ℕ). values.random_value_at (fields.place part a b i) (members_by key (λ y. integer (value y)) all) found name) key
       (λ found i x v. value_read (fields.place part a b i) found x rise v) xs have [] 0
 
 -- ---- realizations
@@ -89,7 +89,7 @@ not_less w some = by (int_lt (pos w) (pos 1)) refl
     by true e = absurd (omega (arith, ints))
     by false e = refl
 
-pub weight_read : (p : Place) (w : ℕ) → 0 < w → w ≤ 2 ^ 40 → fields.weight_at p (whole w) ≡ Ok (pos w)
+pub weight_read : (p : Place) (w : ℕ) → 0 < w → w ≤ 2 ^ 40 → fields.weight_at p (whole_data w) ≡ Ok (pos w)
 unfolding fields.weight_at fields.whole_at
 weight_read p w some few = rw (le-leb w (2 ^ 40) few, not_less w some) refl
 
@@ -97,14 +97,14 @@ module _ {R : Type 0} (weight : R → ℕ) (support : R → Members) (made : R �
   pub record IsRead (n : ℕ) (r : R) : Type 0 where
     pub some : 0 < weight r
     pub few : weight r ≤ 2 ^ 40
-    pub values : (k : ℕ) → values.values_at parts.Support n k randoms (support r) ≡ Ok (made r)
+    pub values : (k : ℕ) → values.values_at part_kinds.Support n k randoms (support r) ≡ Ok (made r)
 
   abbrev data_of : R → Data
-  data_of r = forms.realization_of (weight r) (support r)
+  data_of r = forms.realization_form (weight r) (support r)
 
   realization_read : (n : ℕ) (ws : List ℕ) (vs : List (List ℤ)) (k : ℕ) (r : R) → IsRead n r
       → realizations.realization_at n randoms (record { weights = ws; values = vs }) k (data_of r) ≡ Ok (record { weights = ws ++ weight r ∷ []; values = vs ++ made r ∷ [] })
-  unfolding realizations.realization_at forms.realization_of fields.object_at fields.present_at limits.members_at
+  unfolding realizations.realization_at forms.realization_form fields.object_at fields.present_at limits.members_at
   realization_read n ws vs k r is = rw (weight_read (realizations.at_realization n k) (weight r) is.some is.few, is.values k) refl
 
   realizations_walk : (n : ℕ) (rs : List R) → AllByRecursion (IsRead n) rs → (ws : List ℕ) (vs : List (List ℤ)) (k : ℕ)

@@ -11,9 +11,9 @@ use Rattle.hp_plants.specs.declared.plants.Travel.{Travel}
 use Rattle.hp_plants.specs.declared.plants.Plants.{Plants}
 use Rattle.hp_plants.specs.Fields.{Within}
 use Rattle.hp_plants.specs.Described.{IsAmount, IsBus, IsReservoir, IsThermal, IsLine, IsPlants}
-use Rattle.hp_hydro.specs.Layout.{volume_of, way_of, after, turbine_of, spill_of, thermal_of, deficit_of, demand_of, reservoir, thermal, line, bus, travel, travel_of, all_reservoirs, all_thermals, all_lines, all_buses, store_low, store_high, least, greatest}
+use Rattle.hp_hydro.specs.Layout.{volume_of, way_of, after, turbine_of, spill_of, thermal_of, deficit_of, demand_of, numbered_reservoir, thermal, line, bus, travel, travel_of, all_reservoirs, all_thermals, all_lines, all_buses, store_low, store_high, variable_least, variable_greatest}
 use Rattle.hp_hydro.specs.Columns.{Column, before, random, decided, columns, column_name}
-use Rattle.hp_hydro.specs.Stage.{Sum, coming_by, coming, water_sum, way_sum, turbined_at, burned_at, arriving_at, leaving_at, bus_sum, cost_sum}
+use Rattle.hp_hydro.specs.Stage.{Sum, coming_by, coming, water_sum, way_sum, turbined_at, burned_at, arriving_at, leaving_at, bus_sum, hydro_cost_sum}
 use Rattle.hp_accepts.proofs.Named.{Stands, stands}
 use Rattle.hp_accepts.proofs.Functions.{IsSmall, IsTerm, factor}
 use Rattle.hp_accepts.proofs.Constraints.{IsBox}
@@ -56,7 +56,7 @@ module _ (h : Plants) where
 
 flat_short : {A : Type 0} (f : ℕ → List A) (most : ℕ) (ns : List ℕ) → ((n : ℕ) → length (f n) ≤ most) → length (flat_map f ns) ≤ most * length ns
 flat_short f most [] e = omega arith
-flat_short f most (n ∷ ns) e = let here = e n in let rest = flat_short f most ns e in let both = length-append (f n) (flat_map f ns) in omega (arith, here, rest, both)
+flat_short f most (n ∷ ns) e = let here = e n in let tail = flat_short f most ns e in let both = length-append (f n) (flat_map f ns) in omega (arith, here, tail, both)
 
 one_or_none : {A : Type 0} (b : Bool) (x : A) → length (if b then x ∷ [] else []) ≤ 1
 one_or_none true x = omega arith
@@ -68,7 +68,7 @@ module _ (h : Plants) (i : IsPlants h) where
 
   -- ---- plants
 
-  pub reservoir_is : (j : ℕ) → j < length h.reservoirs → IsReservoir (length h.buses) (length h.reservoirs) (reservoir h j)
+  pub reservoir_is : (j : ℕ) → j < length h.reservoirs → IsReservoir (length h.buses) (length h.reservoirs) (numbered_reservoir h j)
   reservoir_is j p = each-at (IsReservoir (length h.buses) (length h.reservoirs)) h.reservoirs j _ i.reservoirs p
 
   pub thermal_is : (j : ℕ) → j < length h.thermals → IsThermal (length h.buses) (thermal h j)
@@ -85,12 +85,12 @@ module _ (h : Plants) (i : IsPlants h) where
   abbrev pub low_of : Column → ℤ
   low_of (before s) = store_low h s
   low_of (random c) = pos 0
-  low_of (decided v) = least h v
+  low_of (decided v) = variable_least h v
 
   abbrev pub high_of : Column → ℤ
   high_of (before s) = store_high h s
   high_of (random c) = pos 0
-  high_of (decided v) = greatest h v
+  high_of (decided v) = variable_greatest h v
 
   up_to : (z : ℤ) → IsAmount z → IsBox (pos 0) z
   up_to z a = let low = a.low in let high = a.high in record { order = a.low; low_small = omega arith; high_small = omega (arith, ints, low, high) }
@@ -114,10 +114,10 @@ module _ (h : Plants) (i : IsPlants h) where
       record { order = omega (arith, ints, a, b); low_small = omega (arith, ints, pl, ph); high_small = omega (arith, ints, ql, qh) }
 
   volume_box : (j : ℕ) → j < length h.reservoirs → IsBox (store_low h (volume_of j)) (store_high h (volume_of j))
-  volume_box j p = let r = reservoir_is j p in level_box (reservoir h j).low (reservoir h j).high (reservoir h j).initial r.low r.high r.initial
+  volume_box j p = let r = reservoir_is j p in level_box (numbered_reservoir h j).low (numbered_reservoir h j).high (numbered_reservoir h j).initial r.low r.high r.initial
 
   way_box : (j k : ℕ) → j < length h.reservoirs → IsBox (store_low h (way_of j k)) (store_high h (way_of j k))
-  way_box j k p = let r = reservoir_is j p in sum_box (reservoir h j).turbine (reservoir h j).spill r.turbine r.spill
+  way_box j k p = let r = reservoir_is j p in sum_box (numbered_reservoir h j).turbine (numbered_reservoir h j).spill r.turbine r.spill
 
   nothing_box : IsBox (pos 0) (pos 0)
   nothing_box = record { order = omega (arith, ints); low_small = omega arith; high_small = omega arith }
@@ -129,8 +129,8 @@ module _ (h : Plants) (i : IsPlants h) where
     variables = record {
       volume = volume_box;
       way = λ j k p low high. way_box j k p;
-      turbine = λ j p. up_to (reservoir h j).turbine (reservoir_is j p).turbine;
-      spill = λ j p. up_to (reservoir h j).spill (reservoir_is j p).spill;
+      turbine = λ j p. up_to (numbered_reservoir h j).turbine (reservoir_is j p).turbine;
+      spill = λ j p. up_to (numbered_reservoir h j).spill (reservoir_is j p).spill;
       thermal = λ n p. up_to (thermal h n).high (thermal_is n p).high;
       line = λ l p. up_to (line h l).high (line_is l p).high;
       deficit = λ b p. record { order = omega (arith, ints); low_small = omega arith; high_small = omega arith };
@@ -162,9 +162,9 @@ module _ (h : Plants) (i : IsPlants h) where
 
   coming_good : (j n : ℕ) → n < length h.reservoirs → AllByRecursion Good (coming h j n)
   unfolding coming
-  coming_good j n p = by (reservoir h n).downstream refl
+  coming_good j n p = by (numbered_reservoir h n).downstream refl
     where
-      by : (o : Option Travel) → (reservoir h n).downstream ≡ o → AllByRecursion Good (coming_by n o j)
+      by : (o : Option Travel) → (numbered_reservoir h n).downstream ≡ o → AllByRecursion Good (coming_by n o j)
       by None e = tt
       by (Some t) e = there (t.target == j)
         where
@@ -181,7 +181,7 @@ module _ (h : Plants) (i : IsPlants h) where
 
   coming_short : (j n : ℕ) → length (coming h j n) ≤ 2
   unfolding coming
-  coming_short j n = by (reservoir h n).downstream
+  coming_short j n = by (numbered_reservoir h n).downstream
     where
       two : (b c : Bool) → length {A = ℤ × Column} (if b then (if c then (negsuc 0, decided (turbine_of n)) ∷ (negsuc 0, decided (spill_of n)) ∷ [] else (negsuc 0, before (way_of n 1)) ∷ []) else []) ≤ 2
       two true true = omega arith
@@ -266,8 +266,8 @@ module _ (h : Plants) (i : IsPlants h) where
         few = omega (arith, a, c, d, e, n1, n2, n3, l1, l2, l3, l4, m1, m2, m3);
       }
 
-  pub cost_few : IsFew (cost_sum h)
-  unfolding cost_sum
+  pub cost_few : IsFew (hydro_cost_sum h)
+  unfolding hydro_cost_sum
   cost_few =
       let f : ℕ → ℤ × Column = λ n. ((thermal h n).cost, decided (thermal_of n)) in
       let g : ℕ → ℤ × Column = λ b. ((bus h b).deficit_cost, decided (deficit_of b)) in

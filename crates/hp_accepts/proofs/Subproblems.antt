@@ -7,11 +7,11 @@ use Rattle.std.proofs.lemmas.List.FromFn.{length-range_with_len}
 use Rattle.serde_json.specs.Data.{Data, string}
 use Rattle.serde_json.specs.View.{items_of}
 use Rattle.hp_paths.specs.Paths.{numbers}
-use Rattle.hp_problem.specs.declared.raw.Decision.{Decision}
-use Rattle.hp_problem.specs.declared.raw.Row.{Row}
-use Rattle.hp_problem.specs.declared.raw.Subproblem.{Subproblem}
-use Rattle.hp_problem.specs.declared.refusal.Part.TheVariants as parts
-use Rattle.hp_problem.specs.declared.refusal.Place.{Place}
+use Rattle.hp_parts.specs.declared.parts.Decision.{Decision}
+use Rattle.hp_parts.specs.declared.parts.Row.{Row}
+use Rattle.hp_parts.specs.declared.parts.Subproblem.{Subproblem}
+use Rattle.hp_parts.specs.declared.refusal.Part.TheVariants as part_kinds
+use Rattle.hp_parts.specs.declared.refusal.Place.{Place}
 use Rattle.hp_fields.specs.Fields as fields
 use Rattle.hp_fields.specs.Limits as limits
 use Rattle.hp_subproblem.specs.Boxes as boxes
@@ -22,16 +22,16 @@ use Rattle.hp_subproblem.specs.Roles as roles
 use Rattle.hp_subproblem.specs.Rows as rows
 use Rattle.hp_subproblem.specs.Sides as sides
 use Rattle.hp_subproblem.specs.StageParts.{StageParts, stage_parts_at, array_under, object_under}
-use Rattle.hp_subproblem.specs.Subproblem.{variables_at, number_of, outs_of, few_rows_at, subproblem_of, filled_at, subproblem_at}
+use Rattle.hp_subproblem.specs.Subproblem.{variables_at, decision_number_of, outs_of, few_rows_at, subproblem_from_parts, filled_at, read_subproblem_at}
 use Rattle.hp_forms.specs.Stage as forms
 use Rattle.hp_plants.specs.declared.plants.Plants.{Plants}
 use Rattle.hp_plants.specs.Described.{IsPlants}
-use Rattle.hp_hydro.specs.Layout.{Store, volume_of, way_of, Variable, after, turbine_of, spill_of, thermal_of, line_of, deficit_of, Chance, travel, all_reservoirs, all_buses, steps, stores, variables, chances, store_low, store_high, store_initial, store_place, least, greatest, cost_of}
+use Rattle.hp_hydro.specs.Layout.{HydroStore, volume_of, way_of, Variable, after, turbine_of, spill_of, thermal_of, line_of, deficit_of, Chance, travel, all_reservoirs, all_buses, steps, stores, hydro_variables, chances, store_low, store_high, store_initial, store_place, variable_least, variable_greatest, cost_of}
 use Rattle.hp_hydro.specs.Rows as made
-use Rattle.hp_hydro.specs.Columns.{Column, before, random, decided, columns, before_name, chance_name, variable_name, column_name}
+use Rattle.hp_hydro.specs.Columns.{Column, before, random, decided, columns, chance_name, variable_name, column_name}
 use Rattle.hp_hydro.specs.Columns as text_names
 use Rattle.hp_hydro.specs.Stage as text
-use Rattle.hp_hydro.specs.Stage.{Sum, water_sum, way_sum, bus_sum, cost_sum}
+use Rattle.hp_hydro.specs.Stage.{Sum, water_sum, way_sum, bus_sum, hydro_cost_sum}
 use Rattle.hp_hydro.proofs.Places.{map_map}
 use Rattle.hp_accepts.proofs.Named.{Distinct, Stands, place, found_at, some_is, map_alike}
 use Rattle.hp_accepts.proofs.Pairs.{Somewhere, all_append, all_weaker, all_flat_map, all_map, all_numbers, all_of}
@@ -65,13 +65,13 @@ module _ (h : Plants) (i : IsPlants h) where
   parts_of = record {
     states = text.states h;
     randoms = items_of (text.random_variables h);
-    variables = items_of (map (text.variable_of h) (columns h));
+    variables = items_of (map (text.column_variable h) (columns h));
     objective = text.objective h;
     constraints = items_of (text.constraints h);
   }
 
   parts_read : (p : Place) → stage_parts_at p (text.subproblem h) ≡ Ok parts_of
-  unfolding stage_parts_at array_under object_under fields.present_at fields.object_at fields.array_at limits.members_at limits.items_at text.subproblem text.program text.objective forms.subproblem_of forms.program_of forms.least_sum
+  unfolding stage_parts_at array_under object_under fields.present_at fields.object_at fields.array_at limits.members_at limits.items_at text.subproblem text.program text.objective forms.subproblem_form forms.program_form forms.least_sum
   parts_read p = refl
 
   randoms_read : (p : ℕ) (is os : List ℕ) → randoms.randoms_at (map (column_name h) xs) p (uses.uses (map (first h i) xs) is os [] []) (items_of (text.random_variables h))
@@ -98,9 +98,9 @@ module _ (h : Plants) (i : IsPlants h) where
 
   -- ---- costs
 
-  costs_read : (p : ℕ) → objective.objective_at (map (column_name h) xs) p (text.objective h) ≡ Ok (record { single = None; coefficients = map (factor (column_name h) (cost_sum h)) xs; constant = pos 0 })
+  costs_read : (p : ℕ) → objective.objective_at (map (column_name h) xs) p (text.objective h) ≡ Ok (record { single = None; coefficients = map (factor (column_name h) (hydro_cost_sum h)) xs; constant = pos 0 })
   unfolding objective.objective_at objective.costs_at fields.present_at fields.string_at text.objective forms.least_sum
-  costs_read p = rw (sum_read, distinct h i, terms_of h i (cost_sum h) (cost_few h i), small_of h i (cost_sum h) (cost_few h i)) refl
+  costs_read p = rw (sum_read, distinct h i, terms_of h i (hydro_cost_sum h) (cost_few h i), small_of h i (hydro_cost_sum h) (cost_few h i)) refl
 
   -- ---- rows and bounds
 
@@ -111,7 +111,7 @@ module _ (h : Plants) (i : IsPlants h) where
   row_of ts = forms.row 0 (map (term_of (column_name h)) ts)
 
   pub rows_are : text.rows h ≡ map row_of sums
-  unfolding text.rows text.way_rows text.zero_row
+  unfolding text.rows text.way_constraints text.zero_row
   rows_are =
       let a : List Sum = map (water_sum h) (all_reservoirs h) in
       let b : List Sum = flat_map (λ j. map (way_sum h j) (steps (travel h j))) (all_reservoirs h) in
@@ -127,7 +127,7 @@ module _ (h : Plants) (i : IsPlants h) where
   is_bounded (decided v) = true
 
   abbrev pub bound_of : Column → Data
-  bound_of c = forms.bound (column_name h c) (low_of h i c) (high_of h i c)
+  bound_of c = forms.variable_bound (column_name h c) (low_of h i c) (high_of h i c)
 
   pub bounds_are : (cs : List Column) → flat_map (text.bounds_of h) cs ≡ map bound_of (filter is_bounded cs)
   unfolding text.bounds_of column_name
@@ -140,7 +140,7 @@ module _ (h : Plants) (i : IsPlants h) where
   all_stand = record {
     coming = all_map (Stands (column_name h) xs) before (stores h) (each_store h (λ s. Stands (column_name h) xs (before s)) (standing h i).stores);
     unknown = all_map (Stands (column_name h) xs) random (chances h) (each_chance h (λ c. Stands (column_name h) xs (random c)) (standing h i).chances);
-    chosen = all_map (Stands (column_name h) xs) decided (variables h) (each_variable h (λ v. Stands (column_name h) xs (decided v)) (standing h i).variables);
+    chosen = all_map (Stands (column_name h) xs) decided (hydro_variables h) (each_variable h (λ v. Stands (column_name h) xs (decided v)) (standing h i).variables);
   }
 
   abbrev pub IsRead : Sum → Type 0
@@ -220,12 +220,12 @@ module _ (h : Plants) (i : IsPlants h) where
   -- ---- boxes
 
   abbrev pub choice_of : Variable → Decision
-  choice_of v = record { name = variable_name h v; low = least h v; high = greatest h v; cost = cost_of h v }
+  choice_of v = record { name = variable_name h v; low = variable_least h v; high = variable_greatest h v; cost = cost_of h v }
 
   abbrev box : Column → List Decision
   box (before s) = []
   box (random c) = []
-  box (decided v) = record { name = column_name h (decided v); low = least h v; high = greatest h v; cost = factor (column_name h) (cost_sum h) (decided v) } ∷ []
+  box (decided v) = record { name = column_name h (decided v); low = variable_least h v; high = variable_greatest h v; cost = factor (column_name h) (hydro_cost_sum h) (decided v) } ∷ []
 
   -- where the bounds of a variable are between its sides
   bounded_at : (y : Column) (k : ℕ) → slice_get xs k ≡ Some y → is_bounded y ≡ true → sides_of y ≡ between (low_of h i y) (high_of h i y)
@@ -246,20 +246,20 @@ module _ (h : Plants) (i : IsPlants h) where
   unfolding boxes.incoming_at
   incoming_read at found low high b = rw (ordered_read at low high b.order) refl
 
-  box_read : (found : List Decision) (at : Place) (y : Column) (k : ℕ) → slice_get xs k ≡ Some y → boxes.box_at at found (Some (role_of y)) (column_name h y) (sides_of y) (factor (column_name h) (cost_sum h) y) ≡ Ok (found ++ box y)
+  box_read : (found : List Decision) (at : Place) (y : Column) (k : ℕ) → slice_get xs k ≡ Some y → boxes.box_at at found (Some (role_of y)) (column_name h y) (sides_of y) (factor (column_name h) (hydro_cost_sum h) y) ≡ Ok (found ++ box y)
   unfolding boxes.box_at uses.incoming uses.outgoing uses.random
   box_read found at (before s) k there = rw (bounded_at (before s) k there refl) (incoming_read at found (store_low h s) (store_high h s) (box_known (before s) k there) ∙ ap Ok (sym (append-nil found)))
   box_read found at (random c) k there = ap Ok (sym (append-nil found))
-  box_read found at (decided (after s)) k there = rw (bounded_at (decided (after s)) k there refl) (decision_read at found (column_name h (decided (after s))) (store_low h s) (store_high h s) (factor (column_name h) (cost_sum h) (decided (after s))) (box_known (decided (after s)) k there))
-  box_read found at (decided (turbine_of j)) k there = rw (bounded_at (decided (turbine_of j)) k there refl) (decision_read at found (column_name h (decided (turbine_of j))) (pos 0) (greatest h (turbine_of j)) (factor (column_name h) (cost_sum h) (decided (turbine_of j))) (box_known (decided (turbine_of j)) k there))
-  box_read found at (decided (spill_of j)) k there = rw (bounded_at (decided (spill_of j)) k there refl) (decision_read at found (column_name h (decided (spill_of j))) (pos 0) (greatest h (spill_of j)) (factor (column_name h) (cost_sum h) (decided (spill_of j))) (box_known (decided (spill_of j)) k there))
-  box_read found at (decided (thermal_of n)) k there = rw (bounded_at (decided (thermal_of n)) k there refl) (decision_read at found (column_name h (decided (thermal_of n))) (pos 0) (greatest h (thermal_of n)) (factor (column_name h) (cost_sum h) (decided (thermal_of n))) (box_known (decided (thermal_of n)) k there))
-  box_read found at (decided (line_of l)) k there = rw (bounded_at (decided (line_of l)) k there refl) (decision_read at found (column_name h (decided (line_of l))) (pos 0) (greatest h (line_of l)) (factor (column_name h) (cost_sum h) (decided (line_of l))) (box_known (decided (line_of l)) k there))
-  box_read found at (decided (deficit_of b)) k there = rw (bounded_at (decided (deficit_of b)) k there refl) (decision_read at found (column_name h (decided (deficit_of b))) (pos 0) (greatest h (deficit_of b)) (factor (column_name h) (cost_sum h) (decided (deficit_of b))) (box_known (decided (deficit_of b)) k there))
+  box_read found at (decided (after s)) k there = rw (bounded_at (decided (after s)) k there refl) (decision_read at found (column_name h (decided (after s))) (store_low h s) (store_high h s) (factor (column_name h) (hydro_cost_sum h) (decided (after s))) (box_known (decided (after s)) k there))
+  box_read found at (decided (turbine_of j)) k there = rw (bounded_at (decided (turbine_of j)) k there refl) (decision_read at found (column_name h (decided (turbine_of j))) (pos 0) (variable_greatest h (turbine_of j)) (factor (column_name h) (hydro_cost_sum h) (decided (turbine_of j))) (box_known (decided (turbine_of j)) k there))
+  box_read found at (decided (spill_of j)) k there = rw (bounded_at (decided (spill_of j)) k there refl) (decision_read at found (column_name h (decided (spill_of j))) (pos 0) (variable_greatest h (spill_of j)) (factor (column_name h) (hydro_cost_sum h) (decided (spill_of j))) (box_known (decided (spill_of j)) k there))
+  box_read found at (decided (thermal_of n)) k there = rw (bounded_at (decided (thermal_of n)) k there refl) (decision_read at found (column_name h (decided (thermal_of n))) (pos 0) (variable_greatest h (thermal_of n)) (factor (column_name h) (hydro_cost_sum h) (decided (thermal_of n))) (box_known (decided (thermal_of n)) k there))
+  box_read found at (decided (line_of l)) k there = rw (bounded_at (decided (line_of l)) k there refl) (decision_read at found (column_name h (decided (line_of l))) (pos 0) (variable_greatest h (line_of l)) (factor (column_name h) (hydro_cost_sum h) (decided (line_of l))) (box_known (decided (line_of l)) k there))
+  box_read found at (decided (deficit_of b)) k there = rw (bounded_at (decided (deficit_of b)) k there refl) (decision_read at found (column_name h (decided (deficit_of b))) (pos 0) (variable_greatest h (deficit_of b)) (factor (column_name h) (hydro_cost_sum h) (decided (deficit_of b))) (box_known (decided (deficit_of b)) k there))
 
-  boxes_are : (p : ℕ) → boxes.boxes_at (form_vars h i) p (map sides_of xs) (map (factor (column_name h) (cost_sum h)) xs) ≡ Ok (flat_map box xs)
+  boxes_are : (p : ℕ) → boxes.boxes_at (form_vars h i) p (map sides_of xs) (map (factor (column_name h) (hydro_cost_sum h)) xs) ≡ Ok (flat_map box xs)
   boxes_are p =
-      boxes_read (column_name h) role_of xs (map before (stores h)) (ps h i) (decs h i) (map (λ s. decided (after s)) (stores h)) (map (chance_name h) (chances h)) (distinct h i) all_stand p sides_of (factor (column_name h) (cost_sum h)) box box_read
+      boxes_read (column_name h) role_of xs (map before (stores h)) (ps h i) (decs h i) (map (λ s. decided (after s)) (stores h)) (map (chance_name h) (chances h)) (distinct h i) all_stand p sides_of (factor (column_name h) (hydro_cost_sum h)) box box_read
 
   boxes_kept : (cs : List Column) → flat_map box cs ≡ flat_map box (filter is_choice cs)
   boxes_kept [] = refl
@@ -267,22 +267,22 @@ module _ (h : Plants) (i : IsPlants h) where
   boxes_kept (random c ∷ cs) = boxes_kept cs
   boxes_kept (decided v ∷ cs) = ap (λ (ds : List Decision). box (decided v) ++ ds) (boxes_kept cs)
 
-  boxes_chosen : (vs : List Variable) → AllByRecursion (λ v. factor (column_name h) (cost_sum h) (decided v) ≡ cost_of h v) vs → flat_map box (map decided vs) ≡ map choice_of vs
+  boxes_chosen : (vs : List Variable) → AllByRecursion (λ v. factor (column_name h) (hydro_cost_sum h) (decided v) ≡ cost_of h v) vs → flat_map box (map decided vs) ≡ map choice_of vs
   unfolding column_name
   boxes_chosen [] a = refl
-  boxes_chosen (v ∷ vs) a = ap₂ (λ (c : ℤ) (ds : List Decision). record { name = variable_name h v; low = least h v; high = greatest h v; cost = c } ∷ ds) a.0 (boxes_chosen vs a.1)
+  boxes_chosen (v ∷ vs) a = ap₂ (λ (c : ℤ) (ds : List Decision). record { name = variable_name h v; low = variable_least h v; high = variable_greatest h v; cost = c } ∷ ds) a.0 (boxes_chosen vs a.1)
 
-  choices_are : flat_map box xs ≡ map choice_of (variables h)
+  choices_are : flat_map box xs ≡ map choice_of (hydro_variables h)
   choices_are =
       boxes_kept xs ∙ ap (flat_map box) (choices h)
-      ∙ boxes_chosen (variables h) (each_variable h (λ v. factor (column_name h) (cost_sum h) (decided v) ≡ cost_of h v) (costs h i).variables)
+      ∙ boxes_chosen (hydro_variables h) (each_variable h (λ v. factor (column_name h) (hydro_cost_sum h) (decided v) ≡ cost_of h v) (costs h i).variables)
 
   -- ---- the whole
 
   -- the subproblem that is read
   abbrev pub form : Subproblem
   form = record {
-    decisions = map choice_of (variables h);
+    decisions = map choice_of (hydro_variables h);
     outs = map (store_place h) (stores h);
     randoms = map (chance_name h) (chances h);
     rows = made.all_rows h;
@@ -293,18 +293,18 @@ module _ (h : Plants) (i : IsPlants h) where
     high = map (λ s. Some (store_high h s)) (stores h);
   }
 
-  row_made : (ts : Sum) (a : Variable → ℤ) (b : Store → ℤ) (g : Chance → ℤ) → AllByRecursion (λ v. factor (column_name h) ts (decided v) ≡ a v) (variables h) → AllByRecursion (λ s. factor (column_name h) ts (before s) ≡ b s) (stores h)
+  row_made : (ts : Sum) (a : Variable → ℤ) (b : HydroStore → ℤ) (g : Chance → ℤ) → AllByRecursion (λ v. factor (column_name h) ts (decided v) ≡ a v) (hydro_variables h) → AllByRecursion (λ s. factor (column_name h) ts (before s) ≡ b s) (stores h)
       → AllByRecursion (λ c. factor (column_name h) ts (random c) ≡ g c) (chances h) → row_form ts ≡ made.row_with h a b g
   row_made ts a b g e1 e2 e3 =
       let f = factor (column_name h) ts in
-      let one = map_map f decided (variables h) ∙ map_alike (λ v. f (decided v)) a (variables h) e1 in
+      let one = map_map f decided (hydro_variables h) ∙ map_alike (λ v. f (decided v)) a (hydro_variables h) e1 in
       let two = map_map f before (stores h) ∙ map_alike (λ s. f (before s)) b (stores h) e2 in
       let three = map_map f random (chances h) ∙ map_alike (λ c. f (random c)) g (chances h) e3 in
       ap₂ (λ (x : List (ℕ × ℤ)) (y : List (ℕ × ℤ) × List (ℕ × ℤ)). record { low = Some (pos 0); high = Some (pos 0); decisions = x; states = y.0; randoms = y.1 })
-      (ap (rows.terms_from 0) one ∙ terms_same 0 (map a (variables h)))
+      (ap (rows.terms_from 0) one ∙ terms_same 0 (map a (hydro_variables h)))
       (ap₂ (λ (y z : List (ℕ × ℤ)). (y, z)) (ap (rows.terms_from 0) two ∙ terms_same 0 (map b (stores h))) (ap (rows.terms_from 0) three ∙ terms_same 0 (map g (chances h))))
 
-  row_of_columns : (ts : Sum) (a : Variable → ℤ) (b : Store → ℤ) (g : Chance → ℤ) → OfVariables h (λ v. factor (column_name h) ts (decided v) ≡ a v) → OfStores h (λ s. factor (column_name h) ts (before s) ≡ b s)
+  row_of_columns : (ts : Sum) (a : Variable → ℤ) (b : HydroStore → ℤ) (g : Chance → ℤ) → OfVariables h (λ v. factor (column_name h) ts (decided v) ≡ a v) → OfStores h (λ s. factor (column_name h) ts (before s) ≡ b s)
       → OfChances h (λ c. factor (column_name h) ts (random c) ≡ g c) → row_form ts ≡ made.row_with h a b g
   row_of_columns ts a b g e1 e2 e3 = row_made ts a b g (each_variable h _ e1) (each_store h _ e2) (each_chance h _ e3)
 
@@ -349,19 +349,19 @@ module _ (h : Plants) (i : IsPlants h) where
   distinct_choices : Distinct (column_name h) (decs h i)
   distinct_choices = subst (Distinct (column_name h)) (choices h) (pair_filter _ is_choice xs (distinct h i))
 
-  after_number : (z : Store) → (k : ℕ) × (slice_get xs k ≡ Some (decided (after z))) → Stands (column_name h) xs (decided (after z)) → number_of (map (place (column_name h) xs) (decs h i)) (place (column_name h) xs (decided (after z))) ≡ store_place h z
+  after_number : (z : HydroStore) → (k : ℕ) × (slice_get xs k ≡ Some (decided (after z))) → Stands (column_name h) xs (decided (after z)) → decision_number_of (map (place (column_name h) xs) (decs h i)) (place (column_name h) xs (decided (after z))) ≡ store_place h z
   after_number z s stands =
       let there : Somewhere (decs h i) (decided (after z)) = subst (λ (cs : List Column). Somewhere cs (decided (after z))) (choices h) (filter_at is_choice xs s.0 (decided (after z)) s.1 refl) in
-      number_at (column_name h) xs (decs h i) there.0 (decided (after z)) all_stand.chosen distinct_choices stands there.1 ∙ sym (placed h (after z) there.0 (unmapped (variables h) there.0 (after z) there.1))
+      number_at (column_name h) xs (decs h i) there.0 (decided (after z)) all_stand.chosen distinct_choices stands there.1 ∙ sym (placed h (after z) there.0 (unmapped (hydro_variables h) there.0 (after z) there.1))
 
-  after_at : (z : Store) → (k : ℕ) × (slice_get xs k ≡ Some (decided (after z))) → slice_get (variables h) (store_place h z) ≡ Some (after z)
+  after_at : (z : HydroStore) → (k : ℕ) × (slice_get xs k ≡ Some (decided (after z))) → slice_get (hydro_variables h) (store_place h z) ≡ Some (after z)
   after_at z s =
       let there : Somewhere (decs h i) (decided (after z)) = subst (λ (cs : List Column). Somewhere cs (decided (after z))) (choices h) (filter_at is_choice xs s.0 (decided (after z)) s.1 refl) in
-      let back = unmapped (variables h) there.0 (after z) there.1 in
-      subst (λ (k : ℕ). slice_get (variables h) k ≡ Some (after z)) (sym (placed h (after z) there.0 back)) back
+      let back = unmapped (hydro_variables h) there.0 (after z) there.1 in
+      subst (λ (k : ℕ). slice_get (hydro_variables h) k ≡ Some (after z)) (sym (placed h (after z) there.0 back)) back
 
   -- each state after the stage stands at its place
-  pub after_there : OfStores h (λ z. slice_get (variables h) (store_place h z) ≡ Some (after z))
+  pub after_there : OfStores h (λ z. slice_get (hydro_variables h) (store_place h z) ≡ Some (after z))
   after_there =
       let w = somewhere h in
       record { volume = λ j p. after_at (volume_of j) (w.variables.volume j p); way = λ j k p low high. after_at (way_of j k) (w.variables.way j k p low high) }
@@ -371,7 +371,7 @@ module _ (h : Plants) (i : IsPlants h) where
   outs_are =
       let w = somewhere h in
       let s = standing h i in
-      let f : ℕ → ℕ = number_of (map (place (column_name h) xs) (decs h i)) in
+      let f : ℕ → ℕ = decision_number_of (map (place (column_name h) xs) (decs h i)) in
       ap (map f) (map_map (place (column_name h) xs) (λ z. decided (after z)) (stores h)) ∙ map_map f (λ z. place (column_name h) xs (decided (after z))) (stores h)
       ∙ map_alike (λ z. f (place (column_name h) xs (decided (after z)))) (store_place h) (stores h)
       (each_store h (λ z. f (place (column_name h) xs (decided (after z))) ≡ store_place h z) (record {
@@ -379,40 +379,40 @@ module _ (h : Plants) (i : IsPlants h) where
         way = λ j k p low high. after_number (way_of j k) (w.variables.way j k p low high) (s.variables.way j k p low high);
       }))
 
-  side_at : (z : Store) → Stands (column_name h) xs (before z) → boxes.sides_of (map sides_of xs) (place (column_name h) xs (before z)) ≡ between (store_low h z) (store_high h z)
+  side_at : (z : HydroStore) → Stands (column_name h) xs (before z) → boxes.sides_of (map sides_of xs) (place (column_name h) xs (before z)) ≡ between (store_low h z) (store_high h z)
   side_at z stands = ap (λ (o : Option Sides). unwrap_or o sides.no_sides) (found_at (column_name h) sides_of (before z) xs (place (column_name h) xs (before z)) stands) ∙ bounded_at (before z) (place (column_name h) xs (before z)) stands refl
 
   all_before : AllByRecursion (λ s. Stands (column_name h) xs (before s)) (stores h)
   all_before = each_store h (λ s. Stands (column_name h) xs (before s)) (standing h i).stores
 
-  lows_are : boxes.lows_of (map sides_of xs) (map (place (column_name h) xs) (map before (stores h))) ≡ map (λ s. Some (store_low h s)) (stores h)
-  unfolding boxes.lows_of
+  lows_are : boxes.given_low_bounds (map sides_of xs) (map (place (column_name h) xs) (map before (stores h))) ≡ map (λ s. Some (store_low h s)) (stores h)
+  unfolding boxes.given_low_bounds
   lows_are =
       let f : ℕ → Option ℤ = λ v. (boxes.sides_of (map sides_of xs) v).low in
       ap (map f) (map_map (place (column_name h) xs) before (stores h)) ∙ map_map f (λ z. place (column_name h) xs (before z)) (stores h)
       ∙ map_alike (λ z. f (place (column_name h) xs (before z))) (λ s. Some (store_low h s)) (stores h) (all_weaker (λ z. Stands (column_name h) xs (before z)) (λ z. f (place (column_name h) xs (before z)) ≡ Some (store_low h z)) (λ z s. ap (λ (r : Sides). r.low) (side_at z s)) (stores h) all_before)
 
-  highs_are : boxes.highs_of (map sides_of xs) (map (place (column_name h) xs) (map before (stores h))) ≡ map (λ s. Some (store_high h s)) (stores h)
-  unfolding boxes.highs_of
+  highs_are : boxes.given_high_bounds (map sides_of xs) (map (place (column_name h) xs) (map before (stores h))) ≡ map (λ s. Some (store_high h s)) (stores h)
+  unfolding boxes.given_high_bounds
   highs_are =
       let f : ℕ → Option ℤ = λ v. (boxes.sides_of (map sides_of xs) v).high in
       ap (map f) (map_map (place (column_name h) xs) before (stores h)) ∙ map_map f (λ z. place (column_name h) xs (before z)) (stores h)
       ∙ map_alike (λ z. f (place (column_name h) xs (before z))) (λ s. Some (store_high h s)) (stores h) (all_weaker (λ z. Stands (column_name h) xs (before z)) (λ z. f (place (column_name h) xs (before z)) ≡ Some (store_high h z)) (λ z s. ap (λ (r : Sides). r.high) (side_at z s)) (stores h) all_before)
 
-  state_costs_are : rows.picked (map (place (column_name h) xs) (map before (stores h))) (map (factor (column_name h) (cost_sum h)) xs) ≡ map made.no_store (stores h)
-  unfolding rows.picked
+  state_costs_are : rows.picked_coefficients (map (place (column_name h) xs) (map before (stores h))) (map (factor (column_name h) (hydro_cost_sum h)) xs) ≡ map made.no_store (stores h)
+  unfolding rows.picked_coefficients
   state_costs_are =
-      picked_are (column_name h) (factor (column_name h) (cost_sum h)) xs (map before (stores h)) all_stand.coming ∙ map_map (factor (column_name h) (cost_sum h)) before (stores h)
-      ∙ map_alike (λ s. factor (column_name h) (cost_sum h) (before s)) made.no_store (stores h) (each_store h _ (costs h i).stores)
+      picked_are (column_name h) (factor (column_name h) (hydro_cost_sum h)) xs (map before (stores h)) all_stand.coming ∙ map_map (factor (column_name h) (hydro_cost_sum h)) before (stores h)
+      ∙ map_alike (λ s. factor (column_name h) (hydro_cost_sum h) (before s)) made.no_store (stores h) (each_store h _ (costs h i).stores)
 
-  random_costs_are : rows.picked (map (place (column_name h) xs) (ps h i)) (map (factor (column_name h) (cost_sum h)) xs) ≡ map made.no_chance (chances h)
-  unfolding rows.picked
+  random_costs_are : rows.picked_coefficients (map (place (column_name h) xs) (ps h i)) (map (factor (column_name h) (hydro_cost_sum h)) xs) ≡ map made.no_chance (chances h)
+  unfolding rows.picked_coefficients
   random_costs_are =
-      picked_are (column_name h) (factor (column_name h) (cost_sum h)) xs (ps h i) all_stand.unknown ∙ map_map (factor (column_name h) (cost_sum h)) random (chances h)
-      ∙ map_alike (λ c. factor (column_name h) (cost_sum h) (random c)) made.no_chance (chances h) (each_chance h _ (costs h i).chances)
+      picked_are (column_name h) (factor (column_name h) (hydro_cost_sum h)) xs (ps h i) all_stand.unknown ∙ map_map (factor (column_name h) (hydro_cost_sum h)) random (chances h)
+      ∙ map_alike (λ c. factor (column_name h) (hydro_cost_sum h) (random c)) made.no_chance (chances h) (each_chance h _ (costs h i).chances)
 
-  pub subproblem_read : (p : ℕ) → subproblem_at (states_are h i) p (codes "p") (text.subproblem h) ≡ Ok form
-  unfolding subproblem_at filled_at few_rows_at subproblem_of fields.key_at
+  pub subproblem_read : (p : ℕ) → read_subproblem_at (states_are h i) p (codes "p") (text.subproblem h) ≡ Ok form
+  unfolding read_subproblem_at filled_at few_rows_at subproblem_from_parts fields.key_at
   subproblem_read p =
-      rw (parts_read (fields.place parts.Subproblem p 0 0), variables_read p, costs_read p, constraints_are p, le-leb (length (map row_form sums)) 200 few_rows, boxes_are p)
+      rw (parts_read (fields.place part_kinds.Subproblem p 0 0), variables_read p, costs_read p, constraints_are p, le-leb (length (map row_form sums)) 200 few_rows, boxes_are p)
       (rw (choices_are, outs_are, rows_made, state_costs_are, random_costs_are, lows_are, highs_are) refl)

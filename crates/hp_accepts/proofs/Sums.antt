@@ -11,7 +11,7 @@ use Rattle.hp_forms.specs.Listed.{digit}
 use Rattle.hp_plants.specs.declared.plants.Travel.{Travel}
 use Rattle.hp_plants.specs.declared.plants.Plants.{Plants}
 use Rattle.hp_plants.specs.Described.{IsPlants}
-use Rattle.hp_hydro.specs.Layout.{volume_of, way_of, after, turbine_of, spill_of, thermal_of, line_of, deficit_of, inflow_of, demand_of, reservoir, thermal, line, bus, travel, travel_of, leads, leads_by, all_reservoirs}
+use Rattle.hp_hydro.specs.Layout.{volume_of, way_of, after, turbine_of, spill_of, thermal_of, line_of, deficit_of, inflow_of, demand_of, numbered_reservoir, thermal, line, bus, travel, travel_of, leads, leads_by, all_reservoirs}
 use Rattle.hp_hydro.specs.Rows.{leads_at_once, water_decided, water_before, water_flowing}
 use Rattle.hp_hydro.specs.Columns.{Column, before, random, decided, named, before_name, after_name, variable_name, chance_name, column_name}
 use Rattle.hp_hydro.specs.Stage.{Sum, coming_by, coming, water_sum}
@@ -99,8 +99,8 @@ module _ (h : Plants) (i : IsPlants h) where
   F-map f [] d = refl
   F-map f (n ∷ ns) d = ap (λ (z : ℤ). pick (f n).1 d (f n).0 +ℤ z) (F-map f ns d)
 
-  pub of_reservoirs : (j k : ℕ) → j < length h.reservoirs → k < length h.reservoirs → (z : ℤ) → cond (bytes_eq (reservoir h j).name (reservoir h k).name) z (pos 0) ≡ same_place j k *ℤ z
-  of_reservoirs = pick_by (λ j. (reservoir h j).name) (length h.reservoirs) (λ j k p q. apart_of (reservoir h j).name (reservoir h k).name (reservoirs_rise h i j k p q))
+  pub of_reservoirs : (j k : ℕ) → j < length h.reservoirs → k < length h.reservoirs → (z : ℤ) → cond (bytes_eq (numbered_reservoir h j).name (numbered_reservoir h k).name) z (pos 0) ≡ same_place j k *ℤ z
+  of_reservoirs = pick_by (λ j. (numbered_reservoir h j).name) (length h.reservoirs) (λ j k p q. apart_of (numbered_reservoir h j).name (numbered_reservoir h k).name (reservoirs_rise h i j k p q))
 
   pub of_thermals : (j k : ℕ) → j < length h.thermals → k < length h.thermals → (z : ℤ) → cond (bytes_eq (thermal h j).name (thermal h k).name) z (pos 0) ≡ same_place j k *ℤ z
   of_thermals = pick_by (λ j. (thermal h j).name) (length h.thermals) (λ j k p q. apart_of (thermal h j).name (thermal h k).name (thermals_rise h i j k p q))
@@ -112,10 +112,10 @@ module _ (h : Plants) (i : IsPlants h) where
   of_buses = pick_by (λ j. (bus h j).name) (length h.buses) (λ j k p q. apart_of (bus h j).name (bus h k).name (buses_rise h i j k p q))
 
   pub of_ways : (j k n m : ℕ) → j < length h.reservoirs → n < length h.reservoirs → k ≤ 9 → m ≤ 9 → (z : ℤ)
-      → cond (nat_eq (digit k) (digit m) && bytes_eq (reservoir h j).name (reservoir h n).name) z (pos 0) ≡ same_place k m *ℤ (same_place j n *ℤ z)
+      → cond (nat_eq (digit k) (digit m) && bytes_eq (numbered_reservoir h j).name (numbered_reservoir h n).name) z (pos 0) ≡ same_place k m *ℤ (same_place j n *ℤ z)
   of_ways j k n m p q low high z =
-      both_tests (nat_eq (digit k) (digit m)) (bytes_eq (reservoir h j).name (reservoir h n).name) z
-      ∙ pick_digit k m low high (cond (bytes_eq (reservoir h j).name (reservoir h n).name) z (pos 0)) ∙ ap (λ (y : ℤ). same_place k m *ℤ y) (of_reservoirs j n p q z)
+      both_tests (nat_eq (digit k) (digit m)) (bytes_eq (numbered_reservoir h j).name (numbered_reservoir h n).name) z
+      ∙ pick_digit k m low high (cond (bytes_eq (numbered_reservoir h j).name (numbered_reservoir h n).name) z (pos 0)) ∙ ap (λ (y : ℤ). same_place k m *ℤ y) (of_reservoirs j n p q z)
 
   -- ---- water that comes from others
 
@@ -148,7 +148,7 @@ module _ (h : Plants) (i : IsPlants h) where
   coming_none j d e1 e2 e3 =
       F-flat (coming h j) (all_reservoirs h) d
       ∙ total_none (λ n. F (coming h j n) d) (all_reservoirs h)
-      (λ n. coming_is (reservoir h n).downstream n j d (pos 0) (pos 0) (pos 0) (e1 n) (e2 n) (e3 n)
+      (λ n. coming_is (numbered_reservoir h n).downstream n j d (pos 0) (pos 0) (pos 0) (e1 n) (e2 n) (e3 n)
       ∙ ring (leads h n j ∷ same_place 0 (travel h n) ∷ []) (var 0 ⊗ (var 1 ⊗ (num (pos 0) ⊕ num (pos 0)) ⊕ (num (pos 1) ⊕ ⊖ (var 1)) ⊗ num (pos 0))) (num (pos 0)) tt)
 
   coming_turbine : (j n : ℕ) → n < length h.reservoirs → F (flat_map (coming h j) (all_reservoirs h)) (decided (turbine_of n)) ≡ neg_ℤ (leads_at_once h n j)
@@ -156,7 +156,7 @@ module _ (h : Plants) (i : IsPlants h) where
   coming_turbine j n p =
       F-flat (coming h j) (all_reservoirs h) (decided (turbine_of n))
       ∙ total_below (length h.reservoirs) (λ m. F (coming h j m) (decided (turbine_of n))) (λ m. same_place n m *ℤ neg_ℤ (leads_at_once h m j))
-      (λ m q. coming_is (reservoir h m).downstream m j (decided (turbine_of n)) (same_place m n *ℤ negsuc 0) (pos 0) (pos 0) (of_reservoirs m n q p (negsuc 0)) refl refl
+      (λ m q. coming_is (numbered_reservoir h m).downstream m j (decided (turbine_of n)) (same_place m n *ℤ negsuc 0) (pos 0) (pos 0) (of_reservoirs m n q p (negsuc 0)) refl refl
       ∙ ap (λ (s : ℤ). leads h m j *ℤ (same_place 0 (travel h m) *ℤ (s *ℤ negsuc 0 +ℤ pos 0) +ℤ (pos 1 -ℤ same_place 0 (travel h m)) *ℤ pos 0)) (same_turned m n)
       ∙ ring (leads h m j ∷ same_place 0 (travel h m) ∷ same_place n m ∷ []) (var 0 ⊗ (var 1 ⊗ (var 2 ⊗ num (negsuc 0) ⊕ num (pos 0)) ⊕ (num (pos 1) ⊕ ⊖ (var 1)) ⊗ num (pos 0))) (var 2 ⊗ ⊖ (var 1 ⊗ var 0)) tt)
       ∙ total_same (length h.reservoirs) n (λ m. neg_ℤ (leads_at_once h m j)) p
@@ -166,7 +166,7 @@ module _ (h : Plants) (i : IsPlants h) where
   coming_spill j n p =
       F-flat (coming h j) (all_reservoirs h) (decided (spill_of n))
       ∙ total_below (length h.reservoirs) (λ m. F (coming h j m) (decided (spill_of n))) (λ m. same_place n m *ℤ neg_ℤ (leads_at_once h m j))
-      (λ m q. coming_is (reservoir h m).downstream m j (decided (spill_of n)) (pos 0) (same_place m n *ℤ negsuc 0) (pos 0) refl (of_reservoirs m n q p (negsuc 0)) refl
+      (λ m q. coming_is (numbered_reservoir h m).downstream m j (decided (spill_of n)) (pos 0) (same_place m n *ℤ negsuc 0) (pos 0) refl (of_reservoirs m n q p (negsuc 0)) refl
       ∙ ap (λ (s : ℤ). leads h m j *ℤ (same_place 0 (travel h m) *ℤ (pos 0 +ℤ s *ℤ negsuc 0) +ℤ (pos 1 -ℤ same_place 0 (travel h m)) *ℤ pos 0)) (same_turned m n)
       ∙ ring (leads h m j ∷ same_place 0 (travel h m) ∷ same_place n m ∷ []) (var 0 ⊗ (var 1 ⊗ (num (pos 0) ⊕ var 2 ⊗ num (negsuc 0)) ⊕ (num (pos 1) ⊕ ⊖ (var 1)) ⊗ num (pos 0))) (var 2 ⊗ ⊖ (var 1 ⊗ var 0)) tt)
       ∙ total_same (length h.reservoirs) n (λ m. neg_ℤ (leads_at_once h m j)) p
@@ -178,7 +178,7 @@ module _ (h : Plants) (i : IsPlants h) where
       let far : same_place 0 (travel h n) ≡ pos 0 = same_below 0 (travel h n) (omega arith) in
       F-flat (coming h j) (all_reservoirs h) (before (way_of n m))
       ∙ total_below (length h.reservoirs) (λ k. F (coming h j k) (before (way_of n m))) (λ k. same_place n k *ℤ (neg_ℤ ((pos 1 -ℤ same_place 0 (travel h k)) *ℤ (same_place 1 m *ℤ leads h k j))))
-      (λ k q. coming_is (reservoir h k).downstream k j (before (way_of n m)) (pos 0) (pos 0) (same_place 1 m *ℤ (same_place k n *ℤ negsuc 0)) refl refl (of_ways k 1 n m q p (omega arith) (omega arith) (negsuc 0))
+      (λ k q. coming_is (numbered_reservoir h k).downstream k j (before (way_of n m)) (pos 0) (pos 0) (same_place 1 m *ℤ (same_place k n *ℤ negsuc 0)) refl refl (of_ways k 1 n m q p (omega arith) (omega arith) (negsuc 0))
       ∙ ap (λ (s : ℤ). leads h k j *ℤ (same_place 0 (travel h k) *ℤ (pos 0 +ℤ pos 0) +ℤ (pos 1 -ℤ same_place 0 (travel h k)) *ℤ (same_place 1 m *ℤ (s *ℤ negsuc 0)))) (same_turned k n)
       ∙ ring (leads h k j ∷ same_place 0 (travel h k) ∷ same_place n k ∷ same_place 1 m ∷ []) (var 0 ⊗ (var 1 ⊗ (num (pos 0) ⊕ num (pos 0)) ⊕ (num (pos 1) ⊕ ⊖ (var 1)) ⊗ (var 3 ⊗ (var 2 ⊗ num (negsuc 0))))) (var 2 ⊗ ⊖ ((num (pos 1) ⊕ ⊖ (var 1)) ⊗ (var 3 ⊗ var 0))) tt)
       ∙ total_same (length h.reservoirs) n (λ k. neg_ℤ ((pos 1 -ℤ same_place 0 (travel h k)) *ℤ (same_place 1 m *ℤ leads h k j))) p

@@ -7,24 +7,24 @@ use Rattle.std.proofs.lemmas.List.FromFn.{length-range_with_len}
 use Rattle.serde_json.specs.Data.{Data}
 use Rattle.serde_json.specs.Events.{items_len}
 use Rattle.serde_json.specs.View.{items_of}
-use Rattle.hp_problem.specs.declared.raw.State.{State}
+use Rattle.hp_parts.specs.declared.parts.State.{State}
 use Rattle.hp_subproblem.specs.Decisions as decisions
 use Rattle.hp_subproblem.specs.Rows as rows
 use Rattle.hp_plants.specs.declared.plants.Plants.{Plants}
 use Rattle.hp_plants.specs.Described.{IsPlants}
 use Rattle.hp_hydro.specs.Terms as terms
-use Rattle.hp_hydro.specs.Layout.{Store, volume_of, way_of, Variable, after, turbine_of, spill_of, thermal_of, line_of, deficit_of, Chance, inflow_of, demand_of, all_reservoirs, all_buses, stores, variables, chances, store_initial}
+use Rattle.hp_hydro.specs.Layout.{HydroStore, volume_of, way_of, Variable, after, turbine_of, spill_of, thermal_of, line_of, deficit_of, Chance, inflow_of, demand_of, all_reservoirs, all_buses, stores, hydro_variables, chances, store_initial}
 use Rattle.hp_hydro.specs.Columns.{Column, before, random, decided, columns, state_name, chance_name, column_name}
 use Rattle.hp_hydro.proofs.Described.{short}
 use Rattle.hp_accepts.proofs.Named.{same, Distinct, Stands, place, found_at, one_of, some_is, map_alike}
 use Rattle.hp_accepts.proofs.Pairs.{Somewhere, all_somewhere, Pairwise, all_weaker, all_map, all_of}
 use Rattle.hp_accepts.proofs.Uses as uses
-use Rattle.hp_accepts.proofs.Uses.{Role, given, given_by, given_in, Respects, IsFree, FitsState, names_read, states_read, randoms_walk, places_are, picked_are, number_at, both}
-use Rattle.hp_accepts.proofs.Constraints.{Sides, between, vars, zero_row, AllStand, IsSum, IsBounded, constraints_read, boxes_read}
+use Rattle.hp_accepts.proofs.Uses.{Role, given, given_by, given_in, Respects, FitsState, places_are}
+use Rattle.hp_accepts.proofs.Constraints.{vars}
 use Rattle.hp_accepts.proofs.Listing.{OfStores, OfChances, OfColumns, each_store, each_chance, each_column}
 use Rattle.hp_accepts.proofs.Apart.{distinct_columns}
 use Rattle.hp_accepts.proofs.Rising.{used, before_random, after_random}
-use Rattle.hp_accepts.proofs.Choices.{is_choice, choices, of_stores, of_chances, length-variables, travels_are}
+use Rattle.hp_accepts.proofs.Choices.{is_choice, choices, of_stores, of_chances, length-hydro_variables, travels_are}
 use Rattle.hp_accepts.proofs.Fit.{IsFit, fit_columns}
 use Rattle.hp_accepts.proofs.Stands.{more_of, standing}
 
@@ -72,7 +72,7 @@ all_got P [] k x a at = absurd cc
 all_got P (y ∷ ys) zero x a at = subst P (some_is y x at) a.0
 all_got P (y ∷ ys) (suc k) x a at = all_got P ys k x a.1 at
 
-pub terms_same : (k : ℕ) (zs : List ℤ) → rows.terms_from k zs ≡ terms.terms_from k zs
+pub terms_same : (k : ℕ) (zs : List ℤ) → rows.terms_from k zs ≡ terms.terms_from_place k zs
 terms_same k [] = refl
 terms_same k (z ∷ zs) = rw (terms_same (k + 1) zs) refl
 
@@ -119,13 +119,13 @@ module _ (h : Plants) (i : IsPlants h) where
   abbrev pub ps : List Column
   ps = map random (chances h)
 
-  all_used : (P : Column → Type 0) (ss : List Store) → AllByRecursion (λ s. P (before s) × P (decided (after s))) ss → AllByRecursion P (used h i ss)
+  all_used : (P : Column → Type 0) (ss : List HydroStore) → AllByRecursion (λ s. P (before s) × P (decided (after s))) ss → AllByRecursion P (used h i ss)
   all_used P [] a = tt
   all_used P (s ∷ ss) a = (a.0.0, (a.0.1, all_used P ss a.1))
 
-  used_at : (ss : List Store) (k : ℕ) (s : Store) → slice_get ss k ≡ Some s → Somewhere (used h i ss) (before s) × Somewhere (used h i ss) (decided (after s))
+  used_at : (ss : List HydroStore) (k : ℕ) (s : HydroStore) → slice_get ss k ≡ Some s → Somewhere (used h i ss) (before s) × Somewhere (used h i ss) (decided (after s))
   used_at [] k s at = absurd cc
-  used_at (t ∷ ss) zero s at = ((0, ap (λ (r : Store). Some (before r)) (some_is t s at)), (1, ap (λ (r : Store). Some (decided (after r))) (some_is t s at)))
+  used_at (t ∷ ss) zero s at = ((0, ap (λ (r : HydroStore). Some (before r)) (some_is t s at)), (1, ap (λ (r : HydroStore). Some (decided (after r))) (some_is t s at)))
   used_at (t ∷ ss) (suc k) s at = let r = used_at ss k s at in ((suc (suc r.0.0), r.0.1), (suc (suc r.1.0), r.1.1))
 
   standing_used : AllByRecursion (Stands (column_name h) (columns h)) us
@@ -169,7 +169,7 @@ module _ (h : Plants) (i : IsPlants h) where
   finals =
       let s = standing h i in
       let t = somewhere_store in
-      let store : (z : Store) → Somewhere (stores h) z → Somewhere us (before z) × Somewhere us (decided (after z)) = λ z w. used_at (stores h) w.0 z w.1 in
+      let store : (z : HydroStore) → Somewhere (stores h) z → Somewhere us (before z) × Somewhere us (decided (after z)) = λ z w. used_at (stores h) w.0 z w.1 in
       record {
         stores = record { volume = λ j p. in_states (before (volume_of j)) (s.stores.volume j p) (store (volume_of j) (t.volume j p)).0; way = λ j k p low high. in_states (before (way_of j k)) (s.stores.way j k p low high) (store (way_of j k) (t.way j k p low high)).0 };
         chances = record { inflow = λ j p. in_randoms (random (inflow_of j)) (s.chances.inflow j p) (chances_at.inflow j p); demand = λ b p. in_randoms (random (demand_of b)) (s.chances.demand b p) (chances_at.demand b p) };
@@ -190,10 +190,10 @@ module _ (h : Plants) (i : IsPlants h) where
   -- ---- variables
 
   abbrev pub vs : List Variable
-  vs = variables h
+  vs = hydro_variables h
 
   abbrev pub decs : List Column
-  decs = map decided (variables h)
+  decs = map decided (hydro_variables h)
 
   pub decided_are : filter (λ y. decisions.is_decision (role_of y)) xs ≡ decs
   decided_are = filter_ext (λ y. decisions.is_decision (role_of y)) is_choice xs role_decides ∙ choices h
@@ -201,9 +201,9 @@ module _ (h : Plants) (i : IsPlants h) where
   places_decided : decisions.decisions_from 0 (map role_of xs) ≡ map (place (column_name h) xs) decs
   places_decided = places_are (column_name h) role_of xs distinct ∙ ap (map (place (column_name h) xs)) decided_are
 
-  pub few_variables : length (variables h) ≤ 200
+  pub few_variables : length (hydro_variables h) ≤ 200
   few_variables =
-      let n = length-variables h in
+      let n = length-hydro_variables h in
       let t = travels_are h in
       let s = i.few_states in
       let r = i.few_reservoirs in

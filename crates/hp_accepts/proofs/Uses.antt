@@ -7,9 +7,9 @@ use Rattle.std.proofs.lemmas.List.{length-map}
 use Rattle.serde_json.specs.Data.{Data, string}
 use Rattle.serde_json.specs.View.{items_of}
 use Rattle.hp_num.specs.Sums.{entry}
-use Rattle.hp_problem.specs.declared.refusal.Refusal.{Refusal}
-use Rattle.hp_problem.specs.declared.refusal.Part.TheVariants as parts
-use Rattle.hp_problem.specs.declared.refusal.Place.{Place}
+use Rattle.hp_parts.specs.declared.refusal.Refusal.{Refusal}
+use Rattle.hp_parts.specs.declared.refusal.Part.TheVariants as part_kinds
+use Rattle.hp_parts.specs.declared.refusal.Place.{Place}
 use Rattle.hp_fields.specs.Steps.{◌>>=◌, walk_items, walk_members}
 use Rattle.hp_fields.specs.Fields as fields
 use Rattle.hp_fields.specs.Limits as limits
@@ -18,7 +18,7 @@ use Rattle.hp_subproblem.specs.Roles as roles
 use Rattle.hp_subproblem.specs.States as states
 use Rattle.hp_subproblem.specs.Randoms as randoms
 use Rattle.hp_subproblem.specs.Decisions as decisions
-use Rattle.hp_subproblem.specs.Subproblem.{number_of}
+use Rattle.hp_subproblem.specs.Subproblem.{decision_number_of}
 use Rattle.hp_forms.specs.Listed.{members_by}
 use Rattle.hp_forms.specs.Stage as forms
 use Rattle.hp_accepts.proofs.Types.{Entries, TypeOf}
@@ -47,8 +47,8 @@ free = nth (roles.unused 1).roles 0 (omega arith)
 
 -- the roles of two variables after a state that goes from the first to the second
 unfoldable pub of_state : List Role
-unfolding states.state_at roles.taken_at fields.present_at fields.string_at limits.known_at forms.state_between
-of_state = (found_or (roles.unused 2) (states.state_at ((97 ∷ []) ∷ (98 ∷ []) ∷ []) 0 (roles.unused 2) 0 [] (forms.state_between (97 ∷ []) (98 ∷ [])))).roles
+unfolding states.uses_of_state_at roles.taken_at fields.present_at fields.string_at limits.known_at forms.state_between
+of_state = (found_or (roles.unused 2) (states.uses_of_state_at ((97 ∷ []) ∷ (98 ∷ []) ∷ []) 0 (roles.unused 2) 0 [] (forms.state_between (97 ∷ []) (98 ∷ [])))).roles
 
 unfoldable pub of_random : List Role
 unfolding randoms.random_at roles.taken_at fields.string_at limits.known_at
@@ -156,11 +156,11 @@ module _ {A : Type 0} (name : A → List ℕ) where
 
   state_read : (p : ℕ) (g f : A → Role) (xs : List A) (is os ps : List ℕ) (ns : List (List ℕ)) (i : ℕ) (k : List ℕ) (x y : A) → Distinct name xs → Stands name xs x → Stands name xs y
       → IsFree (f x) → IsFree (f y) → same name x y ≡ false → g x ≡ incoming → g y ≡ outgoing
-      → states.state_at (map name xs) p (uses (map f xs) is os ps ns) i k (forms.state_between (name x) (name y))
+      → states.uses_of_state_at (map name xs) p (uses (map f xs) is os ps ns) i k (forms.state_between (name x) (name y))
       ≡ Ok (uses (map (λ z. cond (same name y z) (g y) (cond (same name x z) (g x) (f z))) xs) (is ++ place name xs x ∷ []) (os ++ place name xs y ∷ []) ps ns)
-  unfolding states.state_at fields.present_at fields.string_at limits.known_at forms.state_between incoming outgoing
+  unfolding states.uses_of_state_at fields.present_at fields.string_at limits.known_at forms.state_between incoming outgoing
   state_read p g f xs is os ps ns i k x y d sx sy fx fy apart e1 e2 =
-      let at : Place = fields.place parts.State p i 0 in
+      let at : Place = fields.place part_kinds.State p i 0 in
       let first : A → Role = λ z. cond (same name x z) incoming (f z) in
       let left : IsFree (first y) = subst (λ b. IsFree (cond b incoming (f y))) (sym apart) fy in
       rw (e1, e2, known name x xs sx, known name y xs sy, taken_read at f (λ z. incoming) x xs d sx fx, taken_read at first (λ z. outgoing) y xs d sy left) refl
@@ -178,7 +178,7 @@ module _ {A : Type 0} (name : A → List ℕ) where
 
   states_walk : {S : Type 0} (p : ℕ) (g : A → Role) (xs : List A) (key : S → List ℕ) (ins outs : S → A) → Distinct name xs → (ss : List S) → AllByRecursion (λ s. FitsState xs g (ins s) (outs s)) ss
       → (f : A → Role) → AllByRecursion (λ x. IsFree (f x)) (both ins outs ss) → Distinct name (both ins outs ss) → (is os ps : List ℕ) (ns : List (List ℕ)) (i : ℕ)
-      → walk_members (states.state_at (map name xs) p) (uses (map f xs) is os ps ns) i (members_by key (λ s. forms.state_between (name (ins s)) (name (outs s))) ss)
+      → walk_members (states.uses_of_state_at (map name xs) p) (uses (map f xs) is os ps ns) i (members_by key (λ s. forms.state_between (name (ins s)) (name (outs s))) ss)
       ≡ Ok (uses (map (given g f (both ins outs ss)) xs) (is ++ map (λ s. place name xs (ins s)) ss) (os ++ map (λ s. place name xs (outs s)) ss) ps ns)
   unfolding walk_members
   states_walk p g xs key ins outs d [] fits f frees apart is os ps ns i = ap₂ (λ (a b : List ℕ). Ok (uses (map f xs) a b ps ns)) (sym (append-nil is)) (sym (append-nil os))
@@ -187,7 +187,7 @@ module _ {A : Type 0} (name : A → List ℕ) where
       let y : A = outs s in
       let first : A → Role = λ z. cond (same name x z) (g x) (f z) in
       let next : A → Role = λ z. cond (same name y z) (g y) (first z) in
-      ap (λ (r : Result Uses Refusal). r >>= λ u. walk_members (states.state_at (map name xs) p) u (suc i) (members_by key (λ t. forms.state_between (name (ins t)) (name (outs t))) ss))
+      ap (λ (r : Result Uses Refusal). r >>= λ u. walk_members (states.uses_of_state_at (map name xs) p) u (suc i) (members_by key (λ t. forms.state_between (name (ins t)) (name (outs t))) ss))
       (state_read p g f xs is os ps ns i (key s) x y d fits.0.first fits.0.second frees.0 frees.1.0 apart.0.0 fits.0.comes fits.0.goes)
       ∙ states_walk p g xs key ins outs d ss fits.1 next
       (still_free first g y (both ins outs ss) apart.1.0 (still_free f g x (both ins outs ss) apart.0.1 frees.1.1)) apart.1.1 (is ++ place name xs x ∷ []) (os ++ place name xs y ∷ []) ps ns (suc i)
@@ -210,9 +210,9 @@ module _ {A : Type 0} (name : A → List ℕ) where
 
   pub states_read : {S : Type 0} (p : ℕ) (g : A → Role) (xs : List A) (key : S → List ℕ) (ins outs : S → A) (initial : S → ℤ) → Distinct name xs → (ss : List S) → AllByRecursion (λ s. FitsState xs g (ins s) (outs s)) ss
       → Distinct name (both ins outs ss)
-      → states.states_at (map (λ s. record { name = key s; initial = initial s }) ss) (map name xs) p (roles.unused (length (map name xs))) (members_by key (λ s. forms.state_between (name (ins s)) (name (outs s))) ss)
+      → states.uses_of_states_at (map (λ s. record { name = key s; initial = initial s }) ss) (map name xs) p (roles.unused (length (map name xs))) (members_by key (λ s. forms.state_between (name (ins s)) (name (outs s))) ss)
       ≡ Ok (uses (map (given g (λ y. free) (both ins outs ss)) xs) (map (λ s. place name xs (ins s)) ss) (map (λ s. place name xs (outs s)) ss) [] [])
-  unfolding states.states_at states.each_state_at
+  unfolding states.uses_of_states_at states.each_state_at
   states_read p g xs key ins outs initial d ss fits apart =
       rw (keys_are key (λ s. forms.state_between (name (ins s)) (name (outs s))) initial ss, none_used xs) (states_walk p g xs key ins outs d ss fits (λ y. free) (all_free (both ins outs ss)) apart [] [] [] [] 0)
 
@@ -221,7 +221,7 @@ module _ {A : Type 0} (name : A → List ℕ) where
   random_read : (p : ℕ) (g f : A → Role) (xs : List A) (is os ps : List ℕ) (ns : List (List ℕ)) (i : ℕ) (x : A) → Distinct name xs → Stands name xs x → IsFree (f x) → g x ≡ random
       → randoms.random_at (map name xs) p (uses (map f xs) is os ps ns) i (string (name x)) ≡ Ok (uses (map (λ z. cond (same name x z) (g x) (f z)) xs) is os (ps ++ place name xs x ∷ []) (ns ++ name x ∷ []))
   unfolding randoms.random_at fields.string_at limits.known_at random
-  random_read p g f xs is os ps ns i x d sx fx e = rw (e, known name x xs sx, taken_read (fields.place parts.Random p i 0) f (λ z. random) x xs d sx fx) refl
+  random_read p g f xs is os ps ns i x d sx fx e = rw (e, known name x xs sx, taken_read (fields.place part_kinds.Random p i 0) f (λ z. random) x xs d sx fx) refl
 
   pub randoms_walk : {C : Type 0} (p : ℕ) (g : A → Role) (xs : List A) (at : C → A) → Distinct name xs → (cs : List C) → AllByRecursion (λ c. Stands name xs (at c) × (g (at c) ≡ random)) cs
       → (f : A → Role) → AllByRecursion (λ c. IsFree (f (at c))) cs → Distinct name (map at cs) → (is os ps : List ℕ) (ns : List (List ℕ)) (i : ℕ)
@@ -291,7 +291,7 @@ module _ {A : Type 0} (name : A → List ℕ) where
   within_list (y ∷ ys) (suc k) c at = let less = within_list ys k c at in omega arith
 
   -- the number of a decision
-  pub number_at : (xs ys : List A) (k : ℕ) (c : A) → AllByRecursion (Stands name xs) ys → Distinct name ys → Stands name xs c → At name ys k c → number_of (map (place name xs) ys) (place name xs c) ≡ k
-  unfolding number_of
+  pub number_at : (xs ys : List A) (k : ℕ) (c : A) → AllByRecursion (Stands name xs) ys → Distinct name ys → Stands name xs c → At name ys k c → decision_number_of (map (place name xs) ys) (place name xs c) ≡ k
+  unfolding decision_number_of
   number_at xs ys k c all d sc at =
       rw (number_or_len xs ys k c all d sc at, length-map ys (place name xs), lt-ltb k (length ys) (within_list ys k c at)) refl

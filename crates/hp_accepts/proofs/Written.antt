@@ -6,7 +6,7 @@ use Rattle.std.proofs.lemmas.Bool.{cases_lt}
 use Rattle.std.proofs.lemmas.Int.{ints}
 use Rattle.std.proofs.lemmas.Str.{IsUtf8-from_ascii}
 use Rattle.serde_json.specs.Data.{Data, string, no_members, member}
-use Rattle.hp_forms.specs.Listed.{members_from, members_by, whole, integer, digit}
+use Rattle.hp_forms.specs.Listed.{members_from, members_by, whole_data, integer, digit}
 use Rattle.hp_plants.specs.declared.plants.Inflow.{Inflow}
 use Rattle.hp_plants.specs.declared.plants.Plants.{Plants}
 use Rattle.hp_plants.specs.Stages.{least_inflow}
@@ -14,10 +14,10 @@ use Rattle.hp_plants.specs.Described.{IsInflow, IsPlants, AreEntries}
 use Rattle.hp_hydro.specs.Layout.{way_of, inflow_of, demand_of, all_reservoirs, all_buses, stores, chances, chance_value, store_initial}
 use Rattle.hp_hydro.specs.Columns.{Column, columns, state_name, chance_name, variable_name, column_name}
 use Rattle.hp_hydro.specs.Stage as text
-use Rattle.hp_hydro.specs.Stage.{Sum, cost_sum}
+use Rattle.hp_hydro.specs.Stage.{Sum, hydro_cost_sum}
 use Rattle.hp_hydro.specs.Nodes as made
-use Rattle.hp_hydro.specs.Nodes.{node_name, link_to, stage}
-use Rattle.hp_hydro.specs.Text.{initial_values, root, hydro_data}
+use Rattle.hp_hydro.specs.Nodes.{node_name, successor_to, hydro_stage}
+use Rattle.hp_hydro.specs.Text.{hydro_initial_values, hydro_root, hydro_data}
 use Rattle.hp_accepts.specs.Fair.{AllAbove, Fair, FairMembers}
 use Rattle.hp_accepts.proofs.Named.{place}
 use Rattle.hp_accepts.proofs.Functions.{IsTerm, term_of}
@@ -29,7 +29,7 @@ use Rattle.hp_accepts.proofs.Fit.{IsFit, fit_columns, fit_stores, fit_chances}
 use Rattle.hp_accepts.proofs.Stands.{more_of, boxes, low_of, high_of, terms_of, cost_few}
 use Rattle.hp_accepts.proofs.Used.{all_got, all_passing}
 use Rattle.hp_accepts.proofs.Subproblems.{sums, IsRead, all_read, rows_are, bounds_are, is_bounded, row_of, bound_of}
-use Rattle.hp_accepts.proofs.Raws.{entry_small, initial_small, stage_is, weight_within, weights_small}
+use Rattle.hp_accepts.proofs.AllParts.{entry_small, initial_small, stage_is, weight_within, weights_small}
 use Rattle.hp_accepts.proofs.Fairness.{whole_fair, integer_fair, members_fair, variable_fair, term_fair, row_fair, bound_fair, least_sum_fair, state_fair, program_fair, subproblem_fair, realization_fair, node_fair, root_fair, problem_fair}
 
 -- ---- names of nodes rise
@@ -124,10 +124,10 @@ module _ (h : Plants) (i : IsPlants h) where
   program_is_fair : Fair (text.program h)
   unfolding text.program text.constraints text.objective
   program_is_fair =
-      program_fair (text.rows h ++ flat_map (text.bounds_of h) (columns h)) (text.objective h) (map (text.variable_of h) (columns h))
+      program_fair (text.rows h ++ flat_map (text.bounds_of h) (columns h)) (text.objective h) (map (text.column_variable h) (columns h))
       (all_append Fair (text.rows h) (flat_map (text.bounds_of h) (columns h)) rows_fair bounds_fair)
-      (least_sum_fair (map (text.term_of h) (cost_sum h)) (terms_fair (cost_sum h) (terms_of h i (cost_sum h) (cost_few h i))))
-      (all_map Fair (text.variable_of h) (columns h) (all_weaker (λ c. IsUtf8 (column_name h c)) (λ c. Fair (text.variable_of h c)) (λ c u. variable_fair (column_name h c) u) (columns h) all_utf8))
+      (least_sum_fair (map (text.column_term h) (hydro_cost_sum h)) (terms_fair (hydro_cost_sum h) (terms_of h i (hydro_cost_sum h) (cost_few h i))))
+      (all_map Fair (text.column_variable h) (columns h) (all_weaker (λ c. IsUtf8 (column_name h c)) (λ c. Fair (text.column_variable h c)) (λ c u. variable_fair (column_name h c) u) (columns h) all_utf8))
 
   states_fair : FairMembers (text.states h)
   unfolding text.states column_name variable_name
@@ -149,11 +149,11 @@ module _ (h : Plants) (i : IsPlants h) where
 
   -- ---- nodes and the root
 
-  link_fair : (m : ℕ) → FairMembers (link_to h m)
-  unfolding link_to
-  link_fair m = by (nat_lt m (length h.stages))
+  successor_fair : (m : ℕ) → FairMembers (successor_to h m)
+  unfolding successor_to
+  successor_fair m = by (nat_lt m (length h.stages))
     where
-      by : (b : Bool) → FairMembers (if b then member (node_name m) (whole 1) no_members else no_members)
+      by : (b : Bool) → FairMembers (if b then member (node_name m) (whole_data 1) no_members else no_members)
       by true = (node_utf8 m, tt, whole_fair 1 (omega arith), tt)
       by false = tt
 
@@ -166,8 +166,8 @@ module _ (h : Plants) (i : IsPlants h) where
       (all_map _ demand_of (all_buses h) (all_numbers (λ b. IsUtf8 (chance_name h (demand_of b)) × Fair (integer (chance_value demand water (demand_of b)))) (length h.buses) (λ b p. ((f.demand b p).utf8, integer_fair _ (entry_small h i (length h.buses) (pos 0) demand b d (omega (arith, ints)) p)))))
       (all_map _ inflow_of (all_reservoirs h) (all_numbers (λ j. IsUtf8 (chance_name h (inflow_of j)) × Fair (integer (chance_value demand water (inflow_of j)))) (length h.reservoirs) (λ j p. ((f.inflow j p).utf8, integer_fair _ (entry_small h i (length h.reservoirs) least_inflow water j w (omega (arith, ints)) p))))))
 
-  inflows_fair : (demand : List ℤ) (fs : List Inflow) → AreEntries (length h.buses) (pos 0) demand → AllByRecursion (IsInflow (length h.reservoirs)) fs → AllByRecursion (λ (f : Inflow). f.weight ≤ 65535) fs → AllByRecursion Fair (map (made.realization h demand) fs)
-  unfolding made.realization
+  inflows_fair : (demand : List ℤ) (fs : List Inflow) → AreEntries (length h.buses) (pos 0) demand → AllByRecursion (IsInflow (length h.reservoirs)) fs → AllByRecursion (λ (f : Inflow). f.weight ≤ 65535) fs → AllByRecursion Fair (map (made.node_realization h demand) fs)
+  unfolding made.node_realization
   inflows_fair demand [] d a b = tt
   inflows_fair demand (f ∷ fs) d a b = (realization_fair f.weight (made.support h demand f.water) (let w = b.0 in omega (arith, w)) (support_fair demand f.water d a.0.water), inflows_fair demand fs d a.1 b.1)
 
@@ -175,25 +175,25 @@ module _ (h : Plants) (i : IsPlants h) where
   unfolding made.node
   node_is_fair m p =
       let s = stage_is h i m p in
-      node_fair (map (made.realization h (stage h m).demand) (stage h m).inflows) (link_to h (suc m))
-      (inflows_fair (stage h m).demand (stage h m).inflows s.demand s.inflows (weight_within h i (stage h m).inflows 65535 (weights_small h i m p))) (link_fair (suc m))
+      node_fair (map (made.node_realization h (hydro_stage h m).demand) (hydro_stage h m).inflows) (successor_to h (suc m))
+      (inflows_fair (hydro_stage h m).demand (hydro_stage h m).inflows s.demand s.inflows (weight_within h i (hydro_stage h m).inflows 65535 (weights_small h i m p))) (successor_fair (suc m))
 
   nodes_fair : FairMembers (made.nodes h)
   unfolding made.nodes
   nodes_fair = numbered_fair (made.node h) 0 (length h.stages) (let f = i.few_stages in omega (arith, f)) (λ m p. node_is_fair m (omega (arith, p)))
 
-  root_is_fair : Fair (root h)
-  unfolding root initial_values
+  root_is_fair : Fair (hydro_root h)
+  unfolding hydro_root hydro_initial_values
   root_is_fair =
       let f = fit_stores h i in
       let s = initial_small h i in
-      root_fair (members_by (state_name h) (λ z. integer (store_initial h z)) (stores h)) (link_to h 0)
+      root_fair (members_by (state_name h) (λ z. integer (store_initial h z)) (stores h)) (successor_to h 0)
       (members_fair (state_name h) (λ z. integer (store_initial h z)) (stores h) (stores_rise h i) (each_store h (λ z. IsUtf8 (state_name h z) × Fair (integer (store_initial h z))) (record {
         volume = λ j p. ((f.volume j p).utf8, integer_fair _ (s.volume j p));
         way = λ j k p low high. ((f.way j k p low high).utf8, integer_fair (store_initial h (way_of j k)) (s.way j k p low high));
       })))
-      (link_fair 0)
+      (successor_fair 0)
 
   pub hydro_fair : Fair (hydro_data h)
   unfolding hydro_data
-  hydro_fair = problem_fair (made.nodes h) (root h) (text.subproblem h) nodes_fair root_is_fair subproblem_is_fair
+  hydro_fair = problem_fair (made.nodes h) (hydro_root h) (text.subproblem h) nodes_fair root_is_fair subproblem_is_fair

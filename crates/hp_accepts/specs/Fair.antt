@@ -8,11 +8,11 @@ use Rattle.serde_json.specs.Data.{Num, unsigned, negative, float, Data, null, bo
 use Rattle.hp_fields.specs.Fields.{keys_of}
 
 -- a whole number of 64 bits
-abbrev pub IsWhole : Num → Type 0
-IsWhole (unsigned n) = n < 2 ^ 64
-IsWhole (negative (pos n)) = ⊥
-IsWhole (negative (negsuc n)) = n < 2 ^ 63
-IsWhole (float x) = ⊥
+abbrev pub IsWholeNumber : Num → Type 0
+IsWholeNumber (unsigned n) = n < 2 ^ 64
+IsWholeNumber (negative (pos n)) = ⊥
+IsWholeNumber (negative (negsuc n)) = n < 2 ^ 63
+IsWholeNumber (float x) = ⊥
 
 -- each key is above k
 abbrev pub AllAbove : List ℕ → Members → Type 0
@@ -23,7 +23,7 @@ abbrev mutual
   pub Fair : Data → Type 0
   Fair null = Unit {0}
   Fair (boolean b) = Unit {0}
-  Fair (number n) = IsWhole n
+  Fair (number n) = IsWholeNumber n
   Fair (string s) = IsUtf8 s
   Fair (array ds) = FairItems ds
   Fair (object ms) = FairMembers ms

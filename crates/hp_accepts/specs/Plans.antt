@@ -1,6 +1,6 @@
 -- The meaning of a text that is made of a description, for its plans.
 use Rattle.std.specs.Prelude.{◌≡◌, ◌↔◌, ℕ, ◌<◌, ℤ, List, Ok}
-use Rattle.hp_problem.specs.Sealed.{Sealed}
+use Rattle.hp_problem.specs.Validated.{Validated}
 use Rattle.hp_sof.specs.Problem.{problem_at}
 use Rattle.hp_theory.specs.Cost.{policy_cost}
 use Rattle.hp_theory.specs.Fraction.{◌≤ᶠ◌}
@@ -11,18 +11,18 @@ use Rattle.hp_plants.specs.declared.plants.Plants.{Plants}
 use Rattle.hp_plants.specs.Plants.{plants_at}
 use Rattle.hp_hydro.specs.Plan.{Plan, Workable}
 use Rattle.hp_hydro.specs.PlanCost.{plan_cost}
-use Rattle.hp_hydro.specs.Trees.{plan_of, tree_of}
+use Rattle.hp_hydro.specs.Trees.{plan_of, plan_forest}
 
 -- The description gives plants and the text a problem, such that a plan for the plants is workable exactly where its tree is a policy of
 -- the problem, and costs what the tree costs; and each policy is the tree of a plan.
 pub record Means (description text : List ℕ) : Type 0 where
   pub plants : Plants
-  pub problem : Sealed
+  pub problem : Validated
   pub described : plants_at description ≡ Ok plants
   pub read : problem_at text ≡ Ok problem
-  pub workable : (units : ℕ) (plan : Plan) → Workable plants units plan ↔ Policy (problem_of problem) units (tree_of plants units plan)
-  pub cost : (units : ℕ) (plan : Plan) → plan_cost plants units plan ≡ policy_cost (problem_of problem) units (tree_of plants units plan)
-  pub policy : (units : ℕ) (forest : Forest) → Policy (problem_of problem) units forest → tree_of plants units (plan_of plants forest) ≡ forest
+  pub workable : (units : ℕ) (plan : Plan) → Workable plants units plan ↔ Policy (problem_of problem) units (plan_forest plants units plan)
+  pub cost : (units : ℕ) (plan : Plan) → plan_cost plants units plan ≡ policy_cost (problem_of problem) units (plan_forest plants units plan)
+  pub policy : (units : ℕ) (forest : Forest) → Policy (problem_of problem) units forest → plan_forest plants units (plan_of plants forest) ≡ forest
 
 -- b / S is at most the cost of each workable plan for the description, in any units
 abbrev pub UnderPlans : List ℕ → ℤ → Type 0

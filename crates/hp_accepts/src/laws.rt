@@ -2,7 +2,7 @@
 ghost use Rattle.std.specs.Prelude.{◌≡◌, ◌≤◌, ℕ, ℤ, List, [], ◌∷◌, ◌++◌, length, Ok, IfOk, IsOk};
 ghost use Rattle.serde_json.specs.Data.{Data, depth};
 ghost use Rattle.serde_json.specs.Written.{compact_text};
-ghost use Rattle.hp_problem.specs.Sealed.{Sealed};
+ghost use Rattle.hp_problem.specs.Validated.{Validated};
 ghost use Rattle.hp_fields.specs.Fields.{json_at};
 ghost use Rattle.hp_sof.specs.Problem.{problem_at};
 ghost use Rattle.hp_theory.specs.Range.{based};
@@ -10,7 +10,7 @@ ghost use Rattle.hp_theory.specs.Bound.{Under};
 ghost use Rattle.hp_theory.specs.View.{problem_of};
 ghost use Rattle.hp_plants.specs.declared.plants.Plants.{Plants};
 ghost use Rattle.hp_plants.specs.Described.{IsPlants};
-ghost use Rattle.hp_hydro.specs.Layout.{stores, variables, chances};
+ghost use Rattle.hp_hydro.specs.Layout.{stores, hydro_variables, chances};
 ghost use Rattle.hp_hydro.specs.Rows.{all_rows};
 ghost use Rattle.hp_hydro.specs.Made.{problem_of_plants};
 ghost use Rattle.hp_hydro.specs.Text.{hydro_text, hydro_at};
@@ -26,7 +26,7 @@ pub fn text_read()
 /// Its base cuts are in range.
 pub fn accepted()
     ensures problem { (h : Plants) → IsPlants h
-        → (s : Sealed) × (problem_at (hydro_text h) ≡ Ok s) × (problem_of s ≡ problem_of_plants h) }
+        → (s : Validated) × (problem_at (hydro_text h) ≡ Ok s) × (problem_of s ≡ problem_of_plants h) }
     ensures base_fits { (h : Plants) → IsPlants h
         → IfOk (problem_at (hydro_text h)) (λ s. IsOk (based s)) }
 {}
@@ -43,14 +43,14 @@ pub fn made_accepted()
 /// of each workable plan.
 pub fn made_means()
     ensures plans { (bytes text : List ℕ) → hydro_at bytes ≡ Ok text → Means bytes text }
-    ensures bound { (bytes text : List ℕ) (s : Sealed) (b : ℤ)
+    ensures bound { (bytes text : List ℕ) (s : Validated) (b : ℤ)
         → hydro_at bytes ≡ Ok text → problem_at text ≡ Ok s → Under (problem_of s) b → UnderPlans bytes b }
 {}
 
 /// The counts of a problem that is made of plants are within the limits of the reader.
 pub fn within_limits()
     ensures states { (h : Plants) → IsPlants h → length (stores h) ≤ 50 }
-    ensures decisions { (h : Plants) → IsPlants h → length (variables h) ≤ 200 }
+    ensures decisions { (h : Plants) → IsPlants h → length (hydro_variables h) ≤ 200 }
     ensures randoms { (h : Plants) → IsPlants h → length (chances h) ≤ 50 }
     ensures rows { (h : Plants) → IsPlants h → length (all_rows h) ≤ 200 }
 {}

@@ -1,7 +1,7 @@
 -- A chain of a node's realizations, by the program with which it began.
 use Rattle.std.proofs.Common.{◌≡◌, ℕ, ℤ, List, [], ◌∷◌, map, Option, Some, None, slice_get, ap, sym, ◌∙◌}
 use Rattle.std.specs.Prelude.{unwrap_or}
-use Rattle.hp_problem.specs.Sealed.{Sealed}
+use Rattle.hp_problem.specs.Validated.{Validated}
 use Rattle.hp_theory.specs.declared.cut.Cut.{Cut}
 use Rattle.hp_solver.specs.declared.programs.Program.{Program}
 use Rattle.hp_solver.specs.Chains.{answers}
@@ -13,7 +13,7 @@ use Rattle.hp_backward.specs.Certifying.{answers_to}
 no_first : (own : List ℤ) → None ≡ Some own → ⊥
 no_first own e = cc
 
-pub begins : {Start Chain : Type 0} (v : Solving Start Chain) (p : Sealed) (pools : List (List Cut)) (m : ℕ) (state : List ℤ) (values : List (List ℤ)) (own : List ℤ) (lp : Program) (chain : Chain)
+pub begins : {Start Chain : Type 0} (v : Solving Start Chain) (p : Validated) (pools : List (List Cut)) (m : ℕ) (state : List ℤ) (values : List (List ℤ)) (own : List ℤ) (lp : Program) (chain : Chain)
     → slice_get values 0 ≡ Some own → stage_in p pools m own state ≡ Some lp → chain ≡ begun_at v p m lp
     → answers v.next chain (map (λ (o : List ℤ). stage_at p pools m o state) values) ≡ answers_to v p pools m state values
 unfolding chain_answers

@@ -5,7 +5,7 @@ use Rattle.std.specs.Option.{option_map}
 use Rattle.std.proofs.Math.Seq.{take-append_seam}
 use Rattle.std.proofs.lemmas.List.{length-set, take-append-drop}
 use Rattle.std.proofs.lemmas.List.Elements.{All-push}
-use Rattle.hp_problem.specs.Sealed.{Sealed, is_sealed}
+use Rattle.hp_problem.specs.Validated.{Validated, is_validated}
 use Rattle.hp_theory.specs.declared.cut.Cut.{Cut}
 use Rattle.hp_theory.specs.declared.cut.Certificate.{Certificate}
 use Rattle.hp_theory.specs.Problem.{Node, Problem, node_at}
@@ -15,14 +15,14 @@ use Rattle.hp_theory.specs.Pools.{pool, push}
 use Rattle.hp_theory.proofs.Appending.{push_at, kept_some}
 use Rattle.hp_cut.specs.AtNodes.{PoolsFit}
 use Rattle.hp_solver.specs.declared.programs.Answer.{Answer}
-use Rattle.hp_dual.specs.declared.fault.CertFault.{CertFault}
-use Rattle.hp_dual.specs.declared.fault.CertFault.TheVariants as faults
-use Rattle.hp_dual.specs.Acceptance.{fault_of, range_fault}
+use Rattle.hp_cut_making.specs.declared.fault.CertFault.{CertFault}
+use Rattle.hp_cut_making.specs.declared.fault.CertFault.TheVariants as faults
+use Rattle.hp_cut_making.specs.Acceptance.{fault_of, range_fault}
 use Rattle.hp_settle.specs.Settling.{settled_of}
-use Rattle.hp_settle.proofs.SettledNode.{only_range-sealed}
+use Rattle.hp_settle.proofs.SettledNode.{only_range-validated}
 use Rattle.hp_solver.specs.Solving.{Solving}
 use Rattle.hp_backward.specs.declared.certified.Certified.{Certified}
-use Rattle.hp_backward.specs.Certifying.{values_at, first_half, second_half, answers_to, answers_at, nothing, certified}
+use Rattle.hp_backward.specs.Certifying.{node_values_at, first_half, second_half, answers_to, answers_at, nothing_certified, certified}
 use Rattle.hp_backward.specs.Sweeping.{popped}
 use Rattle.hp_backward.proofs.Certificates.{counted-answers_to, listed}
 use Rattle.hp_backward.proofs.NodeValues.{values_here}
@@ -43,28 +43,28 @@ last_off cs c =
 
 pub popped-push : (pools : List (List Cut)) (m : ℕ) (c : Cut) → popped (push pools m c) m ≡ pools
 popped-push [] m c = refl
-popped-push (cs ∷ rest) zero c = ap (λ (ds : List Cut). ds ∷ rest) (last_off cs c)
-popped-push (cs ∷ rest) (suc m) c = ap (λ (more : List (List Cut)). cs ∷ more) (popped-push rest m c)
+popped-push (cs ∷ tail) zero c = ap (λ (ds : List Cut). ds ∷ tail) (last_off cs c)
+popped-push (cs ∷ tail) (suc m) c = ap (λ (more : List (List Cut)). cs ∷ more) (popped-push tail m c)
 
 -- as many answers as realizations
-counted_answers_at : {Start Chain : Type 0} (v : Solving Start Chain) (p : Sealed) (pools : List (List Cut)) (m : ℕ) (state : List ℤ) → length (answers_at v p pools m state) ≡ length (values_at p.raw m)
+counted_answers_at : {Start Chain : Type 0} (v : Solving Start Chain) (p : Validated) (pools : List (List Cut)) (m : ℕ) (state : List ℤ) → length (answers_at v p pools m state) ≡ length (node_values_at p.parts m)
 counted_answers_at v p pools m state =
-    let vs : List (List ℤ) = values_at p.raw m in
+    let vs : List (List ℤ) = node_values_at p.parts m in
     let xs : List Answer = answers_to v p pools m state (first_half vs) in
     let ys : List Answer = answers_to v p pools m state (second_half vs) in
     let whole : length (first_half vs) + length (second_half vs) ≡ length vs = sym (length-append (first_half vs) (second_half vs)) ∙ ap (λ (all : List (List ℤ)). length all) (take-append-drop (length vs / 2) vs) in
     omega (arith, length-append xs ys, counted-answers_to v p pools m state (first_half vs), counted-answers_to v p pools m state (second_half vs), whole)
 
 -- settled certificates can only be refused for their size
-pub settled_list : {Start Chain : Type 0} (v : Solving Start Chain) (p : Sealed) (pools : List (List Cut)) (k m : ℕ) (state : List ℤ) (found : Certified) → is_sealed p ≡ true → m < length p.raw.nodes → PoolsFit p pools
+pub settled_list : {Start Chain : Type 0} (v : Solving Start Chain) (p : Validated) (pools : List (List Cut)) (k m : ℕ) (state : List ℤ) (found : Certified) → is_validated p ≡ true → m < length p.parts.nodes → PoolsFit p pools
     → certified v p pools k m state ≡ Ok found → fault_of pools (node_at (problem_of p) m) found.list ≡ range_fault pools (node_at (problem_of p) m) found.list
 unfolding certified
 settled_list v p pools k m state found e h fit is =
     let n : Node = node_at (problem_of p) m in
     let xs : List Answer = answers_at v p pools m state in
-    let count : length xs ≡ length (values_at p.raw m) = counted_answers_at v p pools m state in
-    let list : found.list ≡ map (settled_of pools n) xs = listed pools n k m state nothing (values_at p.raw m) xs found count is in
-    subst (λ (l : List Certificate). fault_of pools n l ≡ range_fault pools n l) (sym list) (only_range-sealed p m pools xs e h fit (count ∙ (values_here p m e h).count))
+    let count : length xs ≡ length (node_values_at p.parts m) = counted_answers_at v p pools m state in
+    let list : found.list ≡ map (settled_of pools n) xs = listed pools n k m state nothing_certified (node_values_at p.parts m) xs found count is in
+    subst (λ (l : List Certificate). fault_of pools n l ≡ range_fault pools n l) (sym list) (only_range-validated p m pools xs e h fit (count ∙ (values_here p m e h).count))
 
 -- where no fault of the size comes, the size is in range
 pub none_past : (o : Option ℕ) → option_map faults.Range o ≡ None → o ≡ None

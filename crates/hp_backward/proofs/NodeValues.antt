@@ -1,4 +1,4 @@
--- The values of a sealed problem's nodes.
+-- The values of a validated problem's nodes.
 use Rattle.std.proofs.Common.{◌≡◌, ℕ, ◌<◌, ◌≤◌, ℤ, true, List, [], length, zip, get_or, All, Option, Some, slice_get, option_and_then, ap, sym, subst, ◌∙◌, arith}
 use Rattle.std.specs.List.{list_all}
 use Rattle.std.proofs.lemmas.Bool.Decides.{nat_tests}
@@ -7,18 +7,18 @@ use Rattle.std.proofs.lemmas.List.{get_or-map, length-map}
 use Rattle.std.proofs.lemmas.Option.{get_or_from_slice_get}
 use Rattle.std.proofs.lemmas.Slice.Zip.{length-zip}
 use Rattle.hp_num.proofs.Tests.{all_at}
-use Rattle.hp_problem.specs.declared.raw.Node as nodes
-use Rattle.hp_problem.specs.declared.raw.Subproblem.{Subproblem}
-use Rattle.hp_problem.specs.Limits.{realizations_fit, are_numbers, are_values}
-use Rattle.hp_problem.specs.Sealed.{Sealed, is_sealed, subproblem_of}
+use Rattle.hp_parts.specs.declared.parts.Node as nodes
+use Rattle.hp_parts.specs.declared.parts.Subproblem.{Subproblem}
+use Rattle.hp_parts.specs.Limits.{realizations_fit, are_numbers, are_values}
+use Rattle.hp_problem.specs.Validated.{Validated, is_validated, subproblem_of}
 use Rattle.hp_theory.specs.Problem.{Realization, Node, node_at}
 use Rattle.hp_theory.specs.View.{problem_of, realizations_of}
 use Rattle.hp_theory.proofs.Views.{realizations-node_of}
-use Rattle.hp_theory.proofs.SealedParts.{parts, weighty}
-use Rattle.hp_backward.specs.Certifying.{values_at}
+use Rattle.hp_theory.proofs.ValidatedParts.{parts_of_node, weighty}
+use Rattle.hp_backward.specs.Certifying.{node_values_at}
 
 -- the values of the node m: one list per realization, at most 100, each of the node's random variables
-pub record NodeValues (p : Sealed) (m : ℕ) (values : List (List ℤ)) : Type 0 where
+pub record NodeValues (p : Validated) (m : ℕ) (values : List (List ℤ)) : Type 0 where
   pub fit : All (λ own. are_values (subproblem_of p m) own ≡ true) values
   pub some : 0 < length values
   pub few : length values ≤ 100
@@ -27,14 +27,14 @@ pub record NodeValues (p : Sealed) (m : ℕ) (values : List (List ℤ)) : Type 0
 numbers : (n : nodes.Node) (randoms : ℕ) → realizations_fit randoms n ≡ true → list_all (are_numbers randoms) n.values ≡ true
 numbers n randoms e = grind (arith, nat_tests, common_steps)
 
-pub values_here : (p : Sealed) (m : ℕ) → is_sealed p ≡ true → m < length p.raw.nodes → NodeValues p m (values_at p.raw m)
+pub values_here : (p : Validated) (m : ℕ) → is_validated p ≡ true → m < length p.parts.nodes → NodeValues p m (node_values_at p.parts m)
 values_here p m e h =
-    let q = parts p m e h in
+    let q = parts_of_node p m e h in
     let n : nodes.Node = q.node in
     let s : Subproblem = q.subproblem in
     let w = weighty n (length s.randoms) q.fit.realizations in
-    let at : values_at p.raw m ≡ n.values = get_or-map (λ (k : nodes.Node). k.values) p.raw.nodes m n [] h ∙ ap (λ (k : nodes.Node). k.values) (get_or_from_slice_get p.raw.nodes m n n q.fit.the_node) in
-    let sub : subproblem_of p m ≡ Some s = ap (λ (o : Option nodes.Node). option_and_then (λ (k : nodes.Node). slice_get p.raw.subs k.sub) o) q.fit.the_node ∙ q.fit.the_subproblem in
+    let at : node_values_at p.parts m ≡ n.values = get_or-map (λ (k : nodes.Node). k.values) p.parts.nodes m n [] h ∙ ap (λ (k : nodes.Node). k.values) (get_or_from_slice_get p.parts.nodes m n n q.fit.the_node) in
+    let sub : subproblem_of p m ≡ Some s = ap (λ (o : Option nodes.Node). option_and_then (λ (k : nodes.Node). slice_get p.parts.subs k.sub) o) q.fit.the_node ∙ q.fit.the_subproblem in
     let rs : (node_at (problem_of p) m).realizations ≡ realizations_of n.weights n.values = ap (λ (k : Node). k.realizations) q.fit.is ∙ realizations-node_of n s q.low q.high in
     subst (NodeValues p m) (sym at)
     (record {
@@ -45,5 +45,5 @@ values_here p m e h =
     })
 
 -- the values that were read
-pub values_read : (p : Sealed) (m : ℕ) (ns : List nodes.Node) (n : nodes.Node) (values : List (List ℤ)) → m < length p.raw.nodes → ns ≡ p.raw.nodes → values ≡ (get_or ns m n).values → values ≡ values_at p.raw m
-values_read p m ns n values h all is = is ∙ ap (λ (ks : List nodes.Node). (get_or ks m n).values) all ∙ sym (get_or-map (λ (k : nodes.Node). k.values) p.raw.nodes m n [] h)
+pub values_read : (p : Validated) (m : ℕ) (ns : List nodes.Node) (n : nodes.Node) (values : List (List ℤ)) → m < length p.parts.nodes → ns ≡ p.parts.nodes → values ≡ (get_or ns m n).values → values ≡ node_values_at p.parts m
+values_read p m ns n values h all is = is ∙ ap (λ (ks : List nodes.Node). (get_or ks m n).values) all ∙ sym (get_or-map (λ (k : nodes.Node). k.values) p.parts.nodes m n [] h)

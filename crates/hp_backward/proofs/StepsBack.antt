@@ -2,7 +2,7 @@
 use Rattle.std.proofs.Common.{◌≡◌, ℕ, zero, suc, ◌+◌, ◌<◌, ℤ, List, [], ◌∷◌, ◌++◌, length, take, drop, zip, get_or, Option, Some, None, Result, Ok, Err, refl, ap, ap₂, sym, subst, ◌∙◌, arith}
 use Rattle.std.proofs.lemmas.List.{drop_more}
 use Rattle.hp_num.specs.Steps.{◌>>=◌}
-use Rattle.hp_problem.specs.Sealed.{Sealed}
+use Rattle.hp_problem.specs.Validated.{Validated}
 use Rattle.hp_theory.specs.declared.cut.Cut.{Cut}
 use Rattle.hp_theory.specs.Problem.{node_at}
 use Rattle.hp_theory.specs.CutOf.{cut_of}
@@ -10,17 +10,17 @@ use Rattle.hp_theory.specs.Range.{range_of}
 use Rattle.hp_theory.specs.Pools.{push}
 use Rattle.hp_theory.specs.View.{problem_of}
 use Rattle.hp_cut.specs.declared.entry.EntryStep.{EntryStep}
-use Rattle.hp_settle.specs.declared.judging.Dead.{Dead}
-use Rattle.hp_settle.specs.Refutation.{NoDecision}
+use Rattle.hp_settle.specs.declared.classifying.Infeasibility.{Infeasibility}
+use Rattle.hp_settle.specs.Farkas.{NoDecision}
 use Rattle.hp_solver.specs.Solving.{Solving}
-use Rattle.hp_sampler.specs.declared.steps.Step.{Step}
+use Rattle.hp_sampler.specs.declared.steps.PathStep.{PathStep}
 use Rattle.hp_backward.specs.declared.certified.Certified.{Certified}
 use Rattle.hp_settle.specs.declared.plan_fault.PlanFault.{PlanFault}
-use Rattle.hp_settle.specs.declared.plan_fault.PlanFault.TheVariants.{NoStage, Range, DiskFault, Memory}
-use Rattle.hp_settle.specs.Faults.{IsDead, Stops}
-use Rattle.hp_backward.specs.Certifying.{values_at, answers_at, nothing, certified}
+use Rattle.hp_settle.specs.declared.plan_fault.PlanFault.TheVariants.{Infeasible, Range, DiskFault, Memory}
+use Rattle.hp_settle.specs.Faults.{IsInfeasible, Stops}
+use Rattle.hp_backward.specs.Certifying.{node_values_at, answers_at, nothing_certified, certified}
 use Rattle.hp_backward.specs.Sweeping.{Swept, within_range, made_at, with_made, step_back, backwards, swept, popped, taken_back}
-use Rattle.hp_backward.proofs.Certificates.{dead_there}
+use Rattle.hp_backward.proofs.Certificates.{infeasible_there}
 use Rattle.hp_backward.proofs.Cuts.{popped-push}
 
 module _ {A : Type 0} (step : Swept → A → Result Swept PlanFault) where
@@ -45,7 +45,7 @@ get_or-zip (x ∷ xs) (y ∷ ys) zero d e h k = refl
 get_or-zip (x ∷ xs) (y ∷ ys) (suc i) d e h k = get_or-zip xs ys i d e (omega arith) (omega arith)
 
 -- the visit at a state that was read
-pub visit_at : (path : List Step) (states : List (List ℤ)) (i : ℕ) (none : Step) (x : List ℤ) → i < length path → i < length states → x ≡ get_or states i x → (get_or path i none, x) ≡ get_or (zip path states) i (get_or path i none, x)
+pub visit_at : (path : List PathStep) (states : List (List ℤ)) (i : ℕ) (none : PathStep) (x : List ℤ) → i < length path → i < length states → x ≡ get_or states i x → (get_or path i none, x) ≡ get_or (zip path states) i (get_or path i none, x)
 visit_at path states i none x h k is = ap (λ (y : List ℤ). (get_or path i none, y)) is ∙ get_or-zip path states i none x h k ∙ ap (λ (y : List ℤ). get_or (zip path states) i (get_or path i none, y)) (sym is)
 
 -- taking back
@@ -67,9 +67,9 @@ take_last (s ∷ ss) (suc i) d h = ap (λ (more : List EntryStep). s ∷ more) (
 pub taken_less : (pools : List (List Cut)) (ss : List EntryStep) (i left : ℕ) (d : EntryStep) → left ≡ suc i → i < length ss → taken_back pools (take left ss) ≡ taken_back (popped pools (get_or ss i d).node) (take i ss)
 taken_less pools ss i left d e h = ap (λ (k : ℕ). taken_back pools (take k ss)) e ∙ ap (taken_back pools) (take_last ss i d h) ∙ taken-append pools (take i ss) (get_or ss i d)
 
--- where a node is dead, it has no decisions
-same_dead : (x y : Dead) → NoStage x ≡ NoStage y → x ≡ y
-same_dead x y e = cc
+-- where a node is infeasible, it has no decisions
+same_infeasible : (x y : Infeasibility) → Infeasible x ≡ Infeasible y → x ≡ y
+same_infeasible x y e = cc
 
 same_err : {A : Type 0} (x y : PlanFault) → ◌≡◌ {A = Result A PlanFault} (Err x) (Err y) → x ≡ y
 same_err x y e = cc
@@ -77,66 +77,66 @@ same_err x y e = cc
 no_err : {A : Type 0} (x : A) (y : PlanFault) → ◌≡◌ {A = Result A PlanFault} (Ok x) (Err y) → ⊥
 no_err x y e = cc
 
-module _ {Start Chain : Type 0} (v : Solving Start Chain) (p : Sealed) (k : ℕ) where
-  certified_dead : (pools : List (List Cut)) (m : ℕ) (state : List ℤ) (d : Dead) → certified v p pools k m state ≡ Err (NoStage d) → NoDecision (node_at (problem_of p) d.node) d.values d.state
+module _ {Start Chain : Type 0} (v : Solving Start Chain) (p : Validated) (k : ℕ) where
+  certified_infeasible : (pools : List (List Cut)) (m : ℕ) (state : List ℤ) (d : Infeasibility) → certified v p pools k m state ≡ Err (Infeasible d) → NoDecision (node_at (problem_of p) d.node) d.values d.state
   unfolding certified
-  certified_dead pools m state d is =
-      let there = dead_there pools (node_at (problem_of p) m) k m state nothing (values_at p.raw m) (answers_at v p pools m state) d is in
+  certified_infeasible pools m state d is =
+      let there = infeasible_there pools (node_at (problem_of p) m) k m state nothing_certified (node_values_at p.parts m) (answers_at v p pools m state) d is in
       subst (λ (j : ℕ). NoDecision (node_at (problem_of p) j) d.values d.state) (sym there.0) there.1
 
   abbrev ranged : List (List Cut) → ℕ → Certified → Result (Certified × Cut) PlanFault
   ranged pools m found = within_range k m (range_of pools (node_at (problem_of p) m) found.list) (found, cut_of pools (node_at (problem_of p) m) found.list)
 
-  range_alive : (m : ℕ) (o : Option ℕ) (made : Certified × Cut) (d : Dead) → within_range k m o made ≡ Err (NoStage d) → ⊥
-  range_alive m None made d is = no_err made (NoStage d) is
+  range_alive : (m : ℕ) (o : Option ℕ) (made : Certified × Cut) (d : Infeasibility) → within_range k m o made ≡ Err (Infeasible d) → ⊥
+  range_alive m None made d is = no_err made (Infeasible d) is
   range_alive m (Some r) made d is = cc
 
-  made_dead : (pools : List (List Cut)) (m : ℕ) (state : List ℤ) (d : Dead) → made_at v p pools k m state ≡ Err (NoStage d) → NoDecision (node_at (problem_of p) d.node) d.values d.state
+  made_infeasible : (pools : List (List Cut)) (m : ℕ) (state : List ℤ) (d : Infeasibility) → made_at v p pools k m state ≡ Err (Infeasible d) → NoDecision (node_at (problem_of p) d.node) d.values d.state
   unfolding made_at
-  made_dead pools m state d is = by (certified v p pools k m state) refl is
+  made_infeasible pools m state d is = by (certified v p pools k m state) refl is
     where
       by : (r : Result Certified PlanFault) → certified v p pools k m state ≡ r
-          → (r >>= ranged pools m) ≡ Err (NoStage d) → NoDecision (node_at (problem_of p) d.node) d.values d.state
+          → (r >>= ranged pools m) ≡ Err (Infeasible d) → NoDecision (node_at (problem_of p) d.node) d.values d.state
       by (Ok found) e w = absurd (range_alive m _ _ d w)
-      by (Err f) e w = certified_dead pools m state d (e ∙ ap Err (same_err {A = Certified × Cut} f (NoStage d) w))
+      by (Err f) e w = certified_infeasible pools m state d (e ∙ ap Err (same_err {A = Certified × Cut} f (Infeasible d) w))
 
-  step_dead : (before : Swept) (visit : Step × List ℤ) (d : Dead) → step_back v p k before visit ≡ Err (NoStage d) → NoDecision (node_at (problem_of p) d.node) d.values d.state
+  step_infeasible : (before : Swept) (visit : PathStep × List ℤ) (d : Infeasibility) → step_back v p k before visit ≡ Err (Infeasible d) → NoDecision (node_at (problem_of p) d.node) d.values d.state
   unfolding step_back
-  step_dead before visit d is = by (made_at v p before.pools k visit.0.node visit.1) refl is
+  step_infeasible before visit d is = by (made_at v p before.pools k visit.0.node visit.1) refl is
     where
-      by : (r : Result (Certified × Cut) PlanFault) → made_at v p before.pools k visit.0.node visit.1 ≡ r → (r >>= λ made. Ok (with_made before visit.0.node made)) ≡ Err (NoStage d) → NoDecision (node_at (problem_of p) d.node) d.values d.state
-      by (Ok made) e w = absurd (no_err (with_made before visit.0.node made) (NoStage d) w)
-      by (Err f) e w = made_dead before.pools visit.0.node visit.1 d (e ∙ ap Err (same_err {A = Swept} f (NoStage d) w))
+      by : (r : Result (Certified × Cut) PlanFault) → made_at v p before.pools k visit.0.node visit.1 ≡ r → (r >>= λ made. Ok (with_made before visit.0.node made)) ≡ Err (Infeasible d) → NoDecision (node_at (problem_of p) d.node) d.values d.state
+      by (Ok made) e w = absurd (no_err (with_made before visit.0.node made) (Infeasible d) w)
+      by (Err f) e w = made_infeasible before.pools visit.0.node visit.1 d (e ∙ ap Err (same_err {A = Swept} f (Infeasible d) w))
 
-  backwards_dead : (xs : List (Step × List ℤ)) (start : Swept) (d : Dead) → backwards (step_back v p k) xs start ≡ Err (NoStage d) → NoDecision (node_at (problem_of p) d.node) d.values d.state
-  backwards_dead [] start d is = absurd (no_err start (NoStage d) is)
-  backwards_dead (x ∷ xs) start d is = by (λ e. backwards_dead xs start d e) (backwards (step_back v p k) xs start) refl is
+  backwards_infeasible : (xs : List (PathStep × List ℤ)) (start : Swept) (d : Infeasibility) → backwards (step_back v p k) xs start ≡ Err (Infeasible d) → NoDecision (node_at (problem_of p) d.node) d.values d.state
+  backwards_infeasible [] start d is = absurd (no_err start (Infeasible d) is)
+  backwards_infeasible (x ∷ xs) start d is = by (λ e. backwards_infeasible xs start d e) (backwards (step_back v p k) xs start) refl is
     where
-      by : (backwards (step_back v p k) xs start ≡ Err (NoStage d) → NoDecision (node_at (problem_of p) d.node) d.values d.state) → (r : Result Swept PlanFault) → backwards (step_back v p k) xs start ≡ r
-          → (r >>= λ b. step_back v p k b x) ≡ Err (NoStage d) → NoDecision (node_at (problem_of p) d.node) d.values d.state
-      by rest (Ok b) e w = step_dead b x d w
-      by rest (Err f) e w = rest (e ∙ w)
+      by : (backwards (step_back v p k) xs start ≡ Err (Infeasible d) → NoDecision (node_at (problem_of p) d.node) d.values d.state) → (r : Result Swept PlanFault) → backwards (step_back v p k) xs start ≡ r
+          → (r >>= λ b. step_back v p k b x) ≡ Err (Infeasible d) → NoDecision (node_at (problem_of p) d.node) d.values d.state
+      by tail (Ok b) e w = step_infeasible b x d w
+      by tail (Err f) e w = tail (e ∙ w)
 
-  dead_fault : (xs : List (Step × List ℤ)) (start : Swept) (f : PlanFault) → Stops f (backwards (step_back v p k) xs start) → IsDead p f
-  dead_fault xs start (NoStage d) is = backwards_dead xs start d is
-  dead_fault xs start (Range i m r) is = tt
-  dead_fault xs start DiskFault is = tt
-  dead_fault xs start Memory is = tt
+  infeasible_fault : (xs : List (PathStep × List ℤ)) (start : Swept) (f : PlanFault) → Stops f (backwards (step_back v p k) xs start) → IsInfeasible p f
+  infeasible_fault xs start (Infeasible d) is = backwards_infeasible xs start d is
+  infeasible_fault xs start (Range i m r) is = tt
+  infeasible_fault xs start DiskFault is = tt
+  infeasible_fault xs start Memory is = tt
 
-  pub dead_swept : (pools : List (List Cut)) (path : List Step) (states : List (List ℤ)) (unsettled : ℕ) (f : PlanFault) → Stops f (swept v p pools k path states unsettled) → IsDead p f
+  pub infeasible_swept : (pools : List (List Cut)) (path : List PathStep) (states : List (List ℤ)) (unanswered : ℕ) (f : PlanFault) → Stops f (swept v p pools k path states unanswered) → IsInfeasible p f
   unfolding swept
-  dead_swept pools path states unsettled f s = dead_fault (zip path states) (record { pools = pools; steps = []; unsettled = unsettled }) f s
+  infeasible_swept pools path states unanswered f s = infeasible_fault (zip path states) (record { pools = pools; steps = []; unanswered = unanswered }) f s
 
   -- the states and the steps as they were read
-  pub swept-by : (pools : List (List Cut)) (path : List Step) (read states : List (List ℤ)) (steps : List EntryStep) (unsettled : ℕ) → read ≡ states → steps ≡ []
-      → swept v p pools k path states unsettled ≡ backwards (step_back v p k) (zip path read) (record { pools = pools; steps = steps; unsettled = unsettled })
+  pub swept-by : (pools : List (List Cut)) (path : List PathStep) (read states : List (List ℤ)) (steps : List EntryStep) (unanswered : ℕ) → read ≡ states → steps ≡ []
+      → swept v p pools k path states unanswered ≡ backwards (step_back v p k) (zip path read) (record { pools = pools; steps = steps; unanswered = unanswered })
   unfolding swept
-  swept-by pools path read states steps unsettled is none =
-      ap₂ (λ (all : List (List ℤ)) (ss : List EntryStep). backwards (step_back v p k) (zip path all) (record { pools = pools; steps = ss; unsettled = unsettled })) (sym is) (sym none)
+  swept-by pools path read states steps unanswered is none =
+      ap₂ (λ (all : List (List ℤ)) (ss : List EntryStep). backwards (step_back v p k) (zip path all) (record { pools = pools; steps = ss; unanswered = unanswered })) (sym is) (sym none)
 
 -- a fault of a part that is one of the whole
 pub stops_through : {A B : Type 0} (f : PlanFault) (part : Result A PlanFault) (whole : Result B PlanFault) → ((e : PlanFault) → part ≡ Err e → whole ≡ Err e) → Stops f part → Stops f whole
-stops_through (NoStage d) part whole h s = h (NoStage d) s
+stops_through (Infeasible d) part whole h s = h (Infeasible d) s
 stops_through (Range i m r) part whole h s = h (Range i m r) s
 stops_through DiskFault part whole h s = s
 stops_through Memory part whole h s = tt

@@ -1,29 +1,29 @@
 -- The premises of the visit of a node.
 use Rattle.std.specs.Prelude.{◌≡◌, ◌≢◌, ℕ, ◌<◌, ℤ, List, [], ◌∷◌, length, Some, All, ⊤}
-use Rattle.hp_problem.specs.Sealed.{Sealed}
+use Rattle.hp_problem.specs.Validated.{Validated}
 use Rattle.hp_theory.specs.declared.cut.Cut.{Cut}
 use Rattle.hp_cut.specs.AtNodes.{IsStateAt, PoolsFit}
 use Rattle.hp_solver.specs.declared.programs.Program.{Program}
-use Rattle.hp_sampler.specs.declared.steps.Step.{Step}
+use Rattle.hp_sampler.specs.declared.steps.PathStep.{PathStep}
 use Rattle.hp_lp.specs.Nodes.{stage_in}
 
 -- a node of the problem, a state in its box, and pools that fit
-pub record CanVisit (p : Sealed) (pools : List (List Cut)) (m : ℕ) (state : List ℤ) : Type 0 where
-  pub known : m < length p.raw.nodes
+pub record CanVisit (p : Validated) (pools : List (List Cut)) (m : ℕ) (state : List ℤ) : Type 0 where
+  pub known : m < length p.parts.nodes
   pub fit : PoolsFit p pools
   pub inside : IsStateAt p m state
 
 -- a stage problem of the node m over these pools, at some values and state
-pub record IsStageOver (p : Sealed) (pools : List (List Cut)) (m : ℕ) (lp : Program) : Type 0 where
+pub record IsStageOver (p : Validated) (pools : List (List Cut)) (m : ℕ) (lp : Program) : Type 0 where
   pub values : List ℤ
   pub state : List ℤ
   pub is : stage_in p pools m values state ≡ Some lp
 
 -- the state lies in the box of the step's node
-abbrev pub IsInside : Sealed → Step × List ℤ → Type 0
-IsInside p visit = IsStateAt p visit.0.node visit.1
+abbrev pub IsVisitInside : Validated → PathStep × List ℤ → Type 0
+IsVisitInside p visit = IsStateAt p visit.0.node visit.1
 
 -- no two steps are at the same node
-abbrev pub AreDistinct : List Step → Type 0
+abbrev pub AreDistinct : List PathStep → Type 0
 AreDistinct [] = ⊤
-AreDistinct (s ∷ ss) = All (λ (t : Step). t.node ≢ s.node) ss × AreDistinct ss
+AreDistinct (s ∷ ss) = All (λ (t : PathStep). t.node ≢ s.node) ss × AreDistinct ss

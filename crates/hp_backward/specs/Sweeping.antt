@@ -2,7 +2,7 @@
 -- Source: Pereira and Pinto 1991.
 use Rattle.std.specs.Prelude.{ℕ, ◌+◌, ◌-◌, ℤ, List, [], ◌∷◌, ◌++◌, length, take, set, zip, Option, Some, None, Result, Ok, Err}
 use Rattle.hp_num.specs.Steps.{◌>>=◌}
-use Rattle.hp_problem.specs.Sealed.{Sealed}
+use Rattle.hp_problem.specs.Validated.{Validated}
 use Rattle.hp_theory.specs.declared.cut.Cut.{Cut}
 use Rattle.hp_theory.specs.Problem.{Node, node_at}
 use Rattle.hp_theory.specs.Pools.{pool, push}
@@ -14,7 +14,7 @@ use Rattle.hp_cut.specs.declared.entry.EntryStep.{EntryStep}
 use Rattle.hp_settle.specs.declared.plan_fault.PlanFault.{PlanFault}
 use Rattle.hp_settle.specs.declared.plan_fault.PlanFault.TheVariants.{Range}
 use Rattle.hp_solver.specs.Solving.{Solving}
-use Rattle.hp_sampler.specs.declared.steps.Step.{Step}
+use Rattle.hp_sampler.specs.declared.steps.PathStep.{PathStep}
 use Rattle.hp_backward.specs.declared.certified.Certified.{Certified}
 use Rattle.hp_backward.specs.Certifying.{certified}
 
@@ -22,7 +22,7 @@ use Rattle.hp_backward.specs.Certifying.{certified}
 pub record Swept : Type 0 where
   pub pools : List (List Cut)
   pub steps : List EntryStep
-  pub unsettled : ℕ
+  pub unanswered : ℕ
 
 -- the size of the certificates of the node m is in range, or passes it at a realization
 abbrev pub within_range : {A : Type 0} → ℕ → ℕ → Option ℕ → A → Result A PlanFault
@@ -30,7 +30,7 @@ within_range k m None x = Ok x
 within_range k m (Some realization) x = Err (Range k m realization)
 
 -- the certificates of the node m at an incoming state, over these pools, and their cut
-unfoldable pub made_at : {Start Chain : Type 0} → Solving Start Chain → Sealed → List (List Cut) → ℕ → ℕ → List ℤ → Result (Certified × Cut) PlanFault
+unfoldable pub made_at : {Start Chain : Type 0} → Solving Start Chain → Validated → List (List Cut) → ℕ → ℕ → List ℤ → Result (Certified × Cut) PlanFault
 made_at v p pools k m state =
     let n : Node = node_at (problem_of p) m in
     certified v p pools k m state >>= λ found. within_range k m (range_of pools n found.list) (found, cut_of pools n found.list)
@@ -40,11 +40,11 @@ abbrev pub with_made : Swept → ℕ → Certified × Cut → Swept
 with_made before m made = record {
   pools = push before.pools m made.1;
   steps = before.steps ++ record { node = m; list = made.0.list } ∷ [];
-  unsettled = before.unsettled + made.0.unsettled;
+  unanswered = before.unanswered + made.0.unanswered;
 }
 
 -- a step back, at a node and its incoming state: the node's cut is made over the pools as they now are
-unfoldable pub step_back : {Start Chain : Type 0} → Solving Start Chain → Sealed → ℕ → Swept → Step × List ℤ → Result Swept PlanFault
+unfoldable pub step_back : {Start Chain : Type 0} → Solving Start Chain → Validated → ℕ → Swept → PathStep × List ℤ → Result Swept PlanFault
 step_back v p k before visit = made_at v p before.pools k visit.0.node visit.1 >>= λ made. Ok (with_made before visit.0.node made)
 
 -- one after another, the last first
@@ -53,12 +53,12 @@ backwards step [] start = Ok start
 backwards step (x ∷ xs) start = backwards step xs start >>= λ before. step before x
 
 -- the path backwards in iteration k, from these pools, at the states and with the count of its trajectory
-unfoldable pub swept : {Start Chain : Type 0} → Solving Start Chain → Sealed → List (List Cut) → ℕ → List Step → List (List ℤ) → ℕ → Result Swept PlanFault
-swept v p pools k path states unsettled = backwards (step_back v p k) (zip path states) (record { pools = pools; steps = []; unsettled = unsettled })
+unfoldable pub swept : {Start Chain : Type 0} → Solving Start Chain → Validated → List (List Cut) → ℕ → List PathStep → List (List ℤ) → ℕ → Result Swept PlanFault
+swept v p pools k path states unanswered = backwards (step_back v p k) (zip path states) (record { pools = pools; steps = []; unanswered = unanswered })
 
 -- the visible part of pools and an entry
 abbrev pub seen : List (List Cut) → Entry → Swept
-seen pools entry = record { pools = pools; steps = entry.steps; unsettled = entry.unsettled }
+seen pools entry = record { pools = pools; steps = entry.steps; unanswered = entry.unanswered }
 
 -- the pools without the last cut of the node m
 abbrev pub popped : List (List Cut) → ℕ → List (List Cut)

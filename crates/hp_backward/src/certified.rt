@@ -1,19 +1,19 @@
 // Certificates of a node's realizations, from a solver's answers.
 ghost use Rattle.std.specs.Prelude.{◌≡◌, ◌+◌, ◌<◌, ◌≤◌, ◌-◌, ◌^◌, true, length, IfOk};
-ghost use Rattle.hp_problem.specs.Limits.{are_values};
-ghost use Rattle.hp_problem.specs.Sealed.{subproblem_of};
+ghost use Rattle.hp_parts.specs.Limits.{are_values};
+ghost use Rattle.hp_problem.specs.Validated.{subproblem_of};
 ghost use Rattle.hp_num.specs.Steps.{GivesOr};
 ghost use Rattle.hp_theory.specs.Problem.{node_at};
 ghost use Rattle.hp_theory.specs.View.{problem_of};
 ghost use Rattle.hp_cut.specs.AtNodes.{PoolsFit};
 ghost use Rattle.hp_settle.specs.Faults.{Stops};
-ghost use Rattle.hp_backward.specs.Certifying.{certify, nothing};
+ghost use Rattle.hp_backward.specs.Certifying.{certify, nothing_certified};
 ghost use Rattle.hp_backward.specs.Given.{CanVisit, IsStageOver};
 
 use hp_cut::Pools;
 use hp_lp::{Planner, Workspace, stage_problem};
 use hp_num::{List, Memory};
-use hp_settle::{Dead, Judged, PlanFault, judge, settle};
+use hp_settle::{Classified, Infeasibility, PlanFault, certificate_of_duals, classify};
 use hp_solver::{Answer, Solver, StageLp};
 use hp_theory::Certificate;
 use std::alloc::Global;
@@ -35,17 +35,17 @@ pub(crate) struct Certified {
     /// In the order of the realizations.
     pub(crate) list: List<Certificate>,
     /// The number of answers that were of no use.
-    pub(crate) unsettled: u32,
+    pub(crate) unanswered: u32,
 }
 
 impl Certified {
     /// No certificates.
     pub(crate) fn nothing(alloc: Global) -> Certified
-        ensures { result ≡ nothing }
+        ensures { result ≡ nothing_certified }
     {
         Certified {
             list: List::new(alloc),
-            unsettled: 0,
+            unanswered: 0,
         }
     }
 }
@@ -67,7 +67,7 @@ impl<'a, V: Solver> Visit<'a, V> {
         )
     }
 
-    /// Certifies one more realization: judges its answer, and settles it to a certificate.
+    /// Certifies one more realization: classifies its answer, and settles it to a certificate.
     #[tactic(auto, unfolding(crate::specs::Certifying::certify))]
     pub(crate) fn certify(
         &self,
@@ -76,22 +76,29 @@ impl<'a, V: Solver> Visit<'a, V> {
         answer: &Answer,
         found: &mut Certified,
     ) -> Result<(), PlanFault>
-        requires known { self.now.node < length self.now.planner.now.problem.now.raw.nodes }
+        requires known { self.now.node < length self.now.planner.now.problem.now.parts.nodes }
         requires fit { PoolsFit self.now.planner.now.problem.now self.now.pools.now.lists }
-        requires few { found.old.unsettled < 2 ^ 32 - 1 }
+        requires few { found.old.unanswered < 2 ^ 32 - 1 }
         ensures value { GivesOr Stops (λ _. found.new) result (certify self.now.pools.now.lists (node_at (problem_of self.now.planner.now.problem.now) self.now.node) self.now.iteration self.now.node self.now.state.now found.old values.now answer.now) }
-        ensures few { found.new.unsettled ≤ found.old.unsettled + 1 }
+        ensures few { found.new.unanswered ≤ found.old.unanswered + 1 }
     {
         let problem = self.planner.problem();
-        match judge(alloc, problem, self.node, values, self.state, answer)? {
-            Judged::Found => {}
-            Judged::Unsettled => found.unsettled += 1,
-            Judged::Dead(rows) => {
-                let dead = Dead::new(alloc, self.iteration, self.node, values, self.state, rows)?;
-                return Err(PlanFault::NoStage(dead));
+        match classify(alloc, problem, self.node, values, self.state, answer)? {
+            Classified::Found => {}
+            Classified::Unanswered => found.unanswered += 1,
+            Classified::Infeasibility(rows) => {
+                let infeasible = Infeasibility::new(
+                    alloc,
+                    self.iteration,
+                    self.node,
+                    values,
+                    self.state,
+                    rows,
+                )?;
+                return Err(PlanFault::Infeasible(infeasible));
             }
         }
-        let certificate = settle(alloc, problem, self.pools, self.node, answer)?;
+        let certificate = certificate_of_duals(alloc, problem, self.pools, self.node, answer)?;
         found.list.push(certificate)?;
         Ok(())
     }

@@ -1,15 +1,15 @@
 // Realizations of a node, solved one after another in a chain.
 ghost use Rattle.std.specs.Prelude.{◌≡◌, ◌<◌, ◌≤◌, ℤ, true, List, length, map, All, IfOk, OnOk};
 ghost use Rattle.hp_num.specs.Steps.{GivesOr};
-ghost use Rattle.hp_problem.specs.Limits.{are_values};
-ghost use Rattle.hp_problem.specs.Sealed.{subproblem_of};
+ghost use Rattle.hp_parts.specs.Limits.{are_values};
+ghost use Rattle.hp_problem.specs.Validated.{subproblem_of};
 ghost use Rattle.hp_theory.specs.Problem.{node_at};
 ghost use Rattle.hp_theory.specs.View.{problem_of};
 ghost use Rattle.hp_solver.specs.declared.programs.Program.{Program};
 ghost use Rattle.hp_solver.specs.Proper.{IsLike};
 ghost use Rattle.hp_solver.specs.Chains.{answers};
 ghost use Rattle.hp_lp.specs.Nodes.{stage_at};
-ghost use Rattle.hp_backward.specs.Certifying.{certify, certify_all, in_chain, nothing};
+ghost use Rattle.hp_backward.specs.Certifying.{certify, certify_all, in_chain, nothing_certified};
 ghost use Rattle.hp_settle.specs.Faults.{Stops};
 ghost use Rattle.hp_backward.specs.Given.{CanVisit, IsStageOver};
 
@@ -35,9 +35,9 @@ fn certify_in_chain<V: Solver>(
     requires fits { (other : Program) → IsLike lp.old other → V.fits here.now.planner.now.solver.now chain other }
     ensures stage { OnOk result (IsStageOver here.now.planner.now.problem.now here.now.pools.now.lists here.now.node lp.new) }
     ensures value { GivesOr Stops (λ found. found) result
-        (certify_all (certify here.now.pools.now.lists (node_at (problem_of here.now.planner.now.problem.now) here.now.node) here.now.iteration here.now.node here.now.state.now) nothing values.now
+        (certify_all (certify here.now.pools.now.lists (node_at (problem_of here.now.planner.now.problem.now) here.now.node) here.now.iteration here.now.node here.now.state.now) nothing_certified values.now
         (answers (V.does here.now.planner.now.solver.now).next chain (map (λ (own : List ℤ). stage_at here.now.planner.now.problem.now here.now.pools.now.lists here.now.node own here.now.state.now) values.now))) }
-    ensures few { IfOk result (λ found. found.unsettled ≤ length values.now) }
+    ensures few { IfOk result (λ found. found.unanswered ≤ length values.now) }
 {
     let mut chain = chain;
     let mut found = Certified::nothing(alloc);
@@ -65,7 +65,7 @@ pub(crate) fn certify_over<V: Solver>(
     ensures stage { OnOk result (IsStageOver here.now.planner.now.problem.now here.now.pools.now.lists here.now.node lp.new) }
     ensures value { GivesOr Stops (λ found. found) result
         (in_chain (V.does here.now.planner.now.solver.now) here.now.planner.now.problem.now here.now.pools.now.lists here.now.iteration here.now.node here.now.state.now values.now) }
-    ensures few { IfOk result (λ found. found.unsettled ≤ length values.now) }
+    ensures few { IfOk result (λ found. found.unanswered ≤ length values.now) }
 {
     let Some(first) = values.first() else {
         return Ok(Certified::nothing(alloc));
@@ -87,7 +87,7 @@ pub(crate) fn certify_each<V: Solver>(
     requires few { length values.now ≤ 100 }
     ensures value { GivesOr Stops (λ found. found) result
         (in_chain (V.does here.now.planner.now.solver.now) here.now.planner.now.problem.now here.now.pools.now.lists here.now.iteration here.now.node here.now.state.now values.now) }
-    ensures few { IfOk result (λ found. found.unsettled ≤ length values.now) }
+    ensures few { IfOk result (λ found. found.unanswered ≤ length values.now) }
 {
     let Some(first) = values.first() else {
         return Ok(Certified::nothing(alloc));

@@ -5,17 +5,17 @@ ghost use Rattle.hp_theory.specs.Pools.{pool, Sound};
 ghost use Rattle.hp_theory.specs.View.{problem_of};
 ghost use Rattle.hp_cut.specs.AtNodes.{PoolsFit};
 ghost use Rattle.hp_cut.specs.declared.entry.EntryStep.{EntryStep};
-ghost use Rattle.hp_sampler.specs.declared.steps.Step.{Step};
+ghost use Rattle.hp_sampler.specs.declared.steps.PathStep.{PathStep};
 ghost use Rattle.hp_sampler.specs.Drawn.{IsInRange, IsPath};
-ghost use Rattle.hp_backward.specs.Given.{AreDistinct, IsInside};
-ghost use Rattle.hp_settle.specs.Faults.{IsDead, Stops};
+ghost use Rattle.hp_backward.specs.Given.{AreDistinct, IsVisitInside};
+ghost use Rattle.hp_settle.specs.Faults.{IsInfeasible, Stops};
 ghost use Rattle.hp_backward.specs.Sweeping.{backwards, seen, step_back, swept, taken_back};
 
 use crate::steps_back::{Reached, step_back};
 use hp_cut::{Entry, EntryStep, Pools};
 use hp_lp::{Planner, Workspace};
 use hp_num::List;
-use hp_sampler::{Step, Trajectory};
+use hp_sampler::{PathStep, Trajectory};
 use hp_settle::PlanFault;
 use hp_solver::Solver;
 use std::thread::Threads;
@@ -44,13 +44,13 @@ fn go_back<R: Threads, V: Solver>(
     entry: &mut Entry,
 ) -> Result<(), PlanFault>
     requires fit { PoolsFit planner.now.problem.now pools.old.lists }
-    requires known { All (IsInRange planner.now.problem.now.raw) pass.now.path.now }
+    requires known { All (IsInRange planner.now.problem.now.parts) pass.now.path.now }
     requires distinct { AreDistinct pass.now.path.now }
     requires short { length pass.now.path.now ≤ 1000 }
-    requires few { All (λ (s : Step). length (pool pools.old.lists s.node) < 2 ^ 24) pass.now.path.now }
+    requires few { All (λ (s : PathStep). length (pool pools.old.lists s.node) < 2 ^ 24) pass.now.path.now }
     requires states { length pass.now.trajectory.now.states ≡ length pass.now.path.now }
-    requires inside { All (IsInside planner.now.problem.now) (zip pass.now.path.now pass.now.trajectory.now.states) }
-    requires unsettled { entry.old.unsettled ≤ 1000 }
+    requires inside { All (IsVisitInside planner.now.problem.now) (zip pass.now.path.now pass.now.trajectory.now.states) }
+    requires unanswered { entry.old.unanswered ≤ 1000 }
     requires steps { entry.old.steps ≡ [] }
     ensures value { GivesOr Stops (λ _. seen pools.new.lists entry.new) result
         (backwards (step_back (V.does planner.now.solver.now) planner.now.problem.now entry.old.iteration) (zip pass.now.path.now pass.now.trajectory.now.states) (seen pools.old.lists entry.old)) }
@@ -77,7 +77,7 @@ fn go_back<R: Threads, V: Solver>(
 #[derive(Drop)]
 pub struct Pass<'a> {
     pub iteration: u32,
-    pub path: &'a [Step],
+    pub path: &'a [PathStep],
     /// One state per step of the path.
     pub trajectory: &'a Trajectory,
 }
@@ -89,7 +89,7 @@ pub struct Pass<'a> {
 /// The first half of a node's realizations, rounded down, and the rest are two chains of solves beside each other. The
 /// entry counts the answers that were of no use, those of the forward pass with them.
 ///
-/// NoStage at the first realization, in this order, that is shown to have no decisions; Range where the size of a
+/// Infeasible at the first realization, in this order, that is shown to have no decisions; Range where the size of a
 /// node's certificates passes 2^127 - 1; [`PlanFault::Memory`] where memory was refused. After each of these the cuts
 /// of the pools are as before.
 ///
@@ -104,24 +104,24 @@ pub fn backward_pass<R: Threads, V: Solver>(
 ) -> Result<Entry, PlanFault>
     requires fit { PoolsFit planner.now.problem.now pools.old.lists }
     requires path { IsPath planner.now.problem.now pass.now.path.now }
-    requires few { All (λ (s : Step). length (pool pools.old.lists s.node) < 2 ^ 24) pass.now.path.now }
+    requires few { All (λ (s : PathStep). length (pool pools.old.lists s.node) < 2 ^ 24) pass.now.path.now }
     requires states { length pass.now.trajectory.now.states ≡ length pass.now.path.now }
-    requires inside { All (IsInside planner.now.problem.now) (zip pass.now.path.now pass.now.trajectory.now.states) }
-    requires unsettled { pass.now.trajectory.now.unsettled ≤ 1000 }
+    requires inside { All (IsVisitInside planner.now.problem.now) (zip pass.now.path.now pass.now.trajectory.now.states) }
+    requires unanswered { pass.now.trajectory.now.unanswered ≤ 1000 }
     ensures value { GivesOr Stops (seen pools.new.lists) result
-        (swept (V.does planner.now.solver.now) planner.now.problem.now pools.old.lists pass.now.iteration pass.now.path.now pass.now.trajectory.now.states pass.now.trajectory.now.unsettled) }
+        (swept (V.does planner.now.solver.now) planner.now.problem.now pools.old.lists pass.now.iteration pass.now.path.now pass.now.trajectory.now.states pass.now.trajectory.now.unanswered) }
     ensures iteration { IfOk result (λ entry. entry.iteration ≡ pass.now.iteration) }
     ensures kept { OnErr result (pools.new.lists ≡ pools.old.lists) }
     ensures grown { (m : ℕ) → length (pool pools.new.lists m) ≤ length (pool pools.old.lists m) + 1 }
-    ensures others { (m : ℕ) → All (λ (s : Step). s.node ≢ m) pass.now.path.now → pool pools.new.lists m ≡ pool pools.old.lists m }
-    ensures dead { IfErr result (IsDead planner.now.problem.now) }
+    ensures others { (m : ℕ) → All (λ (s : PathStep). s.node ≢ m) pass.now.path.now → pool pools.new.lists m ≡ pool pools.old.lists m }
+    ensures infeasible { IfErr result (IsInfeasible planner.now.problem.now) }
     ensures fit { PoolsFit planner.now.problem.now pools.new.lists }
     ensures sound { Sound (problem_of planner.now.problem.now) pools.old.lists → Sound (problem_of planner.now.problem.now) pools.new.lists }
 {
-    let _ = planner.problem().raw();
+    let _ = planner.problem().parts();
     let mut entry = Entry {
         iteration: pass.iteration,
-        unsettled: pass.trajectory.unsettled,
+        unanswered: pass.trajectory.unanswered,
         steps: List::new(work.alloc()),
     };
     match go_back(rt, work, planner, pools, pass, &mut entry) {

@@ -9,7 +9,7 @@ ghost use Rattle.hp_theory.specs.Range.{range_of};
 ghost use Rattle.hp_theory.specs.View.{problem_of};
 ghost use Rattle.hp_cut.specs.AtNodes.{PoolsFit};
 ghost use Rattle.hp_cut.specs.declared.entry.EntryStep.{EntryStep};
-ghost use Rattle.hp_dual.specs.Acceptance.{fault_of, range_fault};
+ghost use Rattle.hp_cut_making.specs.Acceptance.{fault_of, range_fault};
 ghost use Rattle.hp_backward.specs.Given.{CanVisit};
 ghost use Rattle.hp_settle.specs.Faults.{Stops};
 ghost use Rattle.hp_backward.specs.Sweeping.{made_at, seen, step_back, taken_back, within_range};
@@ -17,10 +17,11 @@ ghost use Rattle.hp_backward.specs.Sweeping.{made_at, seen, step_back, taken_bac
 use crate::certified::{Certified, Visit};
 use crate::two_chains::certified;
 use hp_cut::{Cut, Entry, EntryStep, Pools};
-use hp_dual::{CertFault, accept_into};
+use hp_cut_making::CertFault;
+use hp_dual::accept_into;
 use hp_lp::{Planner, Workspace};
 use hp_num::{List, Memory};
-use hp_sampler::Step;
+use hp_sampler::PathStep;
 use hp_settle::PlanFault;
 use hp_solver::Solver;
 use hp_theory::Certificate;
@@ -33,11 +34,11 @@ fn write_cut<V: Solver>(
     list: &[Certificate],
     cut: &mut Cut,
 ) -> Result<(), PlanFault>
-    requires known { here.now.node < length here.now.planner.now.problem.now.raw.nodes }
-    requires fit { FitFor (problem_of here.now.planner.now.problem.now) (length here.now.planner.now.problem.now.raw.nodes) here.now.pools.now.lists here.now.node }
+    requires known { here.now.node < length here.now.planner.now.problem.now.parts.nodes }
+    requires fit { FitFor (problem_of here.now.planner.now.problem.now) (length here.now.planner.now.problem.now.parts.nodes) here.now.pools.now.lists here.now.node }
     requires settled { fault_of here.now.pools.now.lists (node_at (problem_of here.now.planner.now.problem.now) here.now.node) list.now
         ≡ range_fault here.now.pools.now.lists (node_at (problem_of here.now.planner.now.problem.now) here.now.node) list.now }
-    requires slopes { length cut.old.beta ≡ length here.now.planner.now.problem.now.raw.states }
+    requires slopes { length cut.old.beta ≡ length here.now.planner.now.problem.now.parts.states }
     ensures value { let n = node_at (problem_of here.now.planner.now.problem.now) here.now.node in
         GivesOr Stops (λ _. cut.new) result (within_range here.now.iteration here.now.node (range_of here.now.pools.now.lists n list.now) (cut_of here.now.pools.now.lists n list.now)) }
     ensures fits { IfOk result (λ _. CutFits (node_at (problem_of here.now.planner.now.problem.now) here.now.node) cut.new) }
@@ -66,8 +67,8 @@ fn flat(alloc: Global, states: usize) -> Result<Cut, Memory>
 
 /// The cut of settled certificates.
 fn cut_of<V: Solver>(alloc: Global, here: &Visit<V>, list: &[Certificate]) -> Result<Cut, PlanFault>
-    requires known { here.now.node < length here.now.planner.now.problem.now.raw.nodes }
-    requires fit { FitFor (problem_of here.now.planner.now.problem.now) (length here.now.planner.now.problem.now.raw.nodes) here.now.pools.now.lists here.now.node }
+    requires known { here.now.node < length here.now.planner.now.problem.now.parts.nodes }
+    requires fit { FitFor (problem_of here.now.planner.now.problem.now) (length here.now.planner.now.problem.now.parts.nodes) here.now.pools.now.lists here.now.node }
     requires settled { fault_of here.now.pools.now.lists (node_at (problem_of here.now.planner.now.problem.now) here.now.node) list.now
         ≡ range_fault here.now.pools.now.lists (node_at (problem_of here.now.planner.now.problem.now) here.now.node) list.now }
     ensures value { let n = node_at (problem_of here.now.planner.now.problem.now) here.now.node in
@@ -75,7 +76,7 @@ fn cut_of<V: Solver>(alloc: Global, here: &Visit<V>, list: &[Certificate]) -> Re
     ensures fits { IfOk result (CutFits (node_at (problem_of here.now.planner.now.problem.now) here.now.node)) }
     ensures holds { IfOk result (λ cut. Sound (problem_of here.now.planner.now.problem.now) here.now.pools.now.lists → Holds (problem_of here.now.planner.now.problem.now) here.now.node cut) }
 {
-    let mut cut = flat(alloc, here.planner.problem().raw().states.len())?;
+    let mut cut = flat(alloc, here.planner.problem().parts().states.len())?;
     write_cut(here, list, &mut cut)?;
     Ok(cut)
 }
@@ -90,11 +91,11 @@ fn made_at<R: Threads, V: Solver>(
     requires { CanVisit here.now.planner.now.problem.now here.now.pools.now.lists here.now.node here.now.state.now }
     ensures value { GivesOr Stops (λ made. made) result
         (made_at (V.does here.now.planner.now.solver.now) here.now.planner.now.problem.now here.now.pools.now.lists here.now.iteration here.now.node here.now.state.now) }
-    ensures few { IfOk result (λ made. made.0.unsettled ≤ 100) }
+    ensures few { IfOk result (λ made. made.0.unanswered ≤ 100) }
     ensures fits { IfOk result (λ made. CutFits (node_at (problem_of here.now.planner.now.problem.now) here.now.node) made.1) }
     ensures holds { IfOk result (λ made. Sound (problem_of here.now.planner.now.problem.now) here.now.pools.now.lists → Holds (problem_of here.now.planner.now.problem.now) here.now.node made.1) }
 {
-    let _ = here.planner.problem().raw();
+    let _ = here.planner.problem().parts();
     let found = certified(rt, work, here)?;
     let cut = cut_of(work.alloc(), here, found.list.as_slice())?;
     Ok((found, cut))
@@ -103,7 +104,7 @@ fn made_at<R: Threads, V: Solver>(
 /// A step of a path, and the state in which the trajectory reaches it.
 #[derive(Drop)]
 pub(crate) struct Reached<'a> {
-    pub(crate) step: Step,
+    pub(crate) step: PathStep,
     /// At scale 2^24, one entry per state.
     pub(crate) state: &'a [i128],
 }
@@ -121,15 +122,15 @@ pub(crate) fn step_back<R: Threads, V: Solver>(
 ) -> Result<(), PlanFault>
     requires visit { CanVisit planner.now.problem.now pools.old.lists reached.now.step.node reached.now.state.now }
     requires few { length (pool pools.old.lists reached.now.step.node) < 2 ^ 24 }
-    requires room { entry.old.unsettled + 100 < 2 ^ 32 }
+    requires room { entry.old.unanswered + 100 < 2 ^ 32 }
     ensures value { GivesOr Stops (λ _. seen pools.new.lists entry.new) result
         (step_back (V.does planner.now.solver.now) planner.now.problem.now entry.old.iteration (seen pools.old.lists entry.old) (reached.now.step, reached.now.state.now)) }
     ensures kept { OnErr result (pools.new.lists ≡ pools.old.lists) }
     ensures steps { OnErr result (entry.new.steps ≡ entry.old.steps) }
     ensures taken { OnOk result (taken_back pools.new.lists entry.new.steps ≡ taken_back pools.old.lists entry.old.steps) }
     ensures others { OnOk result ((k : ℕ) → k ≢ reached.now.step.node → pool pools.new.lists k ≡ pool pools.old.lists k) }
-    ensures known { OnOk result (All (λ (s : EntryStep). s.node < length planner.now.problem.now.raw.nodes) entry.old.steps → All (λ (s : EntryStep). s.node < length planner.now.problem.now.raw.nodes) entry.new.steps) }
-    ensures added { OnOk result (entry.new.unsettled ≤ entry.old.unsettled + 100) }
+    ensures known { OnOk result (All (λ (s : EntryStep). s.node < length planner.now.problem.now.parts.nodes) entry.old.steps → All (λ (s : EntryStep). s.node < length planner.now.problem.now.parts.nodes) entry.new.steps) }
+    ensures added { OnOk result (entry.new.unanswered ≤ entry.old.unanswered + 100) }
     ensures iteration { entry.new.iteration ≡ entry.old.iteration }
     ensures fit { OnOk result (PoolsFit planner.now.problem.now pools.new.lists) }
     ensures sound { OnOk result (Sound (problem_of planner.now.problem.now) pools.old.lists → Sound (problem_of planner.now.problem.now) pools.new.lists) }
@@ -149,6 +150,6 @@ pub(crate) fn step_back<R: Threads, V: Solver>(
         list: found.list,
     })?;
     pools.push(node, cut)?;
-    entry.unsettled += found.unsettled;
+    entry.unanswered += found.unanswered;
     Ok(())
 }

@@ -3,10 +3,10 @@ ghost use Rattle.std.specs.Prelude.{◌≡◌, ◌+◌, ◌<◌, ◌≤◌, true
 ghost use Rattle.hp_backward.specs.declared.certified.Certified.{Certified};
 ghost use Rattle.hp_settle.specs.declared.plan_fault.PlanFault.{PlanFault};
 ghost use Rattle.hp_num.specs.Steps.{GivesOr};
-ghost use Rattle.hp_problem.specs.Limits.{are_values};
-ghost use Rattle.hp_problem.specs.Sealed.{subproblem_of};
+ghost use Rattle.hp_parts.specs.Limits.{are_values};
+ghost use Rattle.hp_problem.specs.Validated.{subproblem_of};
 ghost use Rattle.hp_lp.specs.Ready.{AreReady};
-ghost use Rattle.hp_backward.specs.Certifying.{both, certified, first_half, in_chain, in_order, second_half, values_at};
+ghost use Rattle.hp_backward.specs.Certifying.{both_certified, certified, first_half, in_chain, in_order, second_half, node_values_at};
 ghost use Rattle.hp_settle.specs.Faults.{Stops};
 ghost use Rattle.hp_backward.specs.Given.{CanVisit, IsStageOver};
 
@@ -22,13 +22,13 @@ use std::thread::{Threads, join};
 
 /// The values of a node's realizations.
 fn values_of(problem: &Problem, node: u32) -> &[List<i64>]
-    requires { node < length problem.now.raw.nodes }
-    ensures value { result.now ≡ values_at problem.now.raw node }
+    requires { node < length problem.now.parts.nodes }
+    ensures value { result.now ≡ node_values_at problem.now.parts node }
     ensures fit { All (λ own. are_values (subproblem_of problem.now node) own ≡ true) result.now }
     ensures some { 0 < length result.now }
     ensures few { length result.now ≤ 100 }
 {
-    problem.raw().nodes.as_slice()[node as usize]
+    problem.parts().nodes.as_slice()[node as usize]
         .values
         .as_slice()
 }
@@ -44,15 +44,15 @@ fn halves(values: &[List<i64>]) -> (&[List<i64>], &[List<i64>])
 
 /// The certificates of two parts, one after the other.
 fn joined(first: Certified, second: Certified) -> Result<Certified, Memory>
-    requires { first.unsettled + second.unsettled ≤ 100 }
-    ensures { IfOk result (λ found. found ≡ both first second) }
+    requires { first.unanswered + second.unanswered ≤ 100 }
+    ensures { IfOk result (λ found. found ≡ both_certified first second) }
 {
     let mut list = first.list.into_vec();
-    let mut rest = second.list.into_vec();
-    list.append(&mut rest)?;
+    let mut tail = second.list.into_vec();
+    list.append(&mut tail)?;
     Ok(Certified {
         list: List::from_vec(list),
-        unsettled: first.unsettled + second.unsettled,
+        unanswered: first.unanswered + second.unanswered,
     })
 }
 
@@ -61,11 +61,11 @@ fn both(
     first: Result<Certified, PlanFault>,
     second: Result<Certified, PlanFault>,
 ) -> Result<Certified, PlanFault>
-    requires { IfOk first (λ f. IfOk second (λ g. f.unsettled + g.unsettled ≤ 100)) }
+    requires { IfOk first (λ f. IfOk second (λ g. f.unanswered + g.unanswered ≤ 100)) }
     ensures value { (one other : Result Certified PlanFault)
         → GivesOr Stops (λ f. f) first one → GivesOr Stops (λ g. g) second other
         → GivesOr Stops (λ found. found) result (in_order one other) }
-    ensures few { IfOk result (λ found. found.unsettled ≤ 100) }
+    ensures few { IfOk result (λ found. found.unanswered ≤ 100) }
 {
     Ok(joined(first?, second?)?)
 }
@@ -85,7 +85,7 @@ fn beside_each_other<R: Threads, V: Solver>(
     ensures value { GivesOr Stops (λ found. found) result (in_order
         (in_chain (V.does here.now.planner.now.solver.now) here.now.planner.now.problem.now here.now.pools.now.lists here.now.iteration here.now.node here.now.state.now left.now)
         (in_chain (V.does here.now.planner.now.solver.now) here.now.planner.now.problem.now here.now.pools.now.lists here.now.iteration here.now.node here.now.state.now right.now)) }
-    ensures few { IfOk result (λ found. found.unsettled ≤ 100) }
+    ensures few { IfOk result (λ found. found.unanswered ≤ 100) }
 {
     let planner = here.planner;
     let (problem, solver, starts) = (planner.problem(), planner.solver(), planner.starts());
@@ -99,7 +99,7 @@ fn beside_each_other<R: Threads, V: Solver>(
             requires few { length left.now ≤ 100 }
             ensures value { GivesOr Stops (λ found. found) result
                 (in_chain (V.does solver.entry.now) problem.entry.now pools.entry.now.lists iteration node state.entry.now left.entry.now) }
-            ensures few { IfOk result (λ found. found.unsettled ≤ length left.entry.now) }
+            ensures few { IfOk result (λ found. found.unanswered ≤ length left.entry.now) }
         {
             let planner = Planner::new(problem, solver, starts);
             let here = Visit {
@@ -118,7 +118,7 @@ fn beside_each_other<R: Threads, V: Solver>(
             requires few { length right.now ≤ 100 }
             ensures value { GivesOr Stops (λ found. found) result
                 (in_chain (V.does solver.entry.now) problem.entry.now pools.entry.now.lists iteration node state.entry.now right.entry.now) }
-            ensures few { IfOk result (λ found. found.unsettled ≤ length right.entry.now) }
+            ensures few { IfOk result (λ found. found.unanswered ≤ length right.entry.now) }
         {
             let planner = Planner::new(problem, solver, starts);
             let here = Visit {
@@ -150,7 +150,7 @@ fn one_after_the_other<V: Solver>(
     ensures value { GivesOr Stops (λ found. found) result (in_order
         (in_chain (V.does here.now.planner.now.solver.now) here.now.planner.now.problem.now here.now.pools.now.lists here.now.iteration here.now.node here.now.state.now left.now)
         (in_chain (V.does here.now.planner.now.solver.now) here.now.planner.now.problem.now here.now.pools.now.lists here.now.iteration here.now.node here.now.state.now right.now)) }
-    ensures few { IfOk result (λ found. found.unsettled ≤ 100) }
+    ensures few { IfOk result (λ found. found.unanswered ≤ 100) }
 {
     let first = certify_over(alloc, here, left, lp)?;
     let second = certify_over(alloc, here, right, lp)?;
@@ -174,7 +174,7 @@ fn in_two_chains<R: Threads, V: Solver>(
     ensures value { GivesOr Stops (λ found. found) result (in_order
         (in_chain (V.does here.now.planner.now.solver.now) here.now.planner.now.problem.now here.now.pools.now.lists here.now.iteration here.now.node here.now.state.now left.now)
         (in_chain (V.does here.now.planner.now.solver.now) here.now.planner.now.problem.now here.now.pools.now.lists here.now.iteration here.now.node here.now.state.now right.now)) }
-    ensures few { IfOk result (λ found. found.unsettled ≤ 100) }
+    ensures few { IfOk result (λ found. found.unanswered ≤ 100) }
 {
     if here
         .planner
@@ -198,7 +198,7 @@ pub(crate) fn certified<R: Threads, V: Solver>(
     requires { CanVisit here.now.planner.now.problem.now here.now.pools.now.lists here.now.node here.now.state.now }
     ensures value { GivesOr Stops (λ found. found) result
         (certified (V.does here.now.planner.now.solver.now) here.now.planner.now.problem.now here.now.pools.now.lists here.now.iteration here.now.node here.now.state.now) }
-    ensures few { IfOk result (λ found. found.unsettled ≤ 100) }
+    ensures few { IfOk result (λ found. found.unanswered ≤ 100) }
 {
     let values = values_of(here.planner.problem(), here.node);
     let (left, right) = halves(values);

@@ -6,7 +6,7 @@ use Rattle.std.proofs.Math.Seq.{get_or-append_seam}
 use Rattle.std.proofs.lemmas.List.{length-append}
 use Rattle.std.proofs.lemmas.Int.{ints}
 use Rattle.hp_solver.specs.PackedCut.{PackedCut, no_packed_cut}
-use Rattle.hp_solver.specs.Covering.{value_of, cut_at, IsBefore, Covers, IsCovered, AreRisingPlaces, CoverAll}
+use Rattle.hp_solver.specs.Covering.{value_of, packed_cut_at, IsBefore, Covers, IsCovered, AreRisingPlaces, CoverAll}
 use Rattle.hp_cut.specs.Active.{CoverFirst, IsLeft, AreFirst, IsActive}
 use Rattle.hp_cut.specs.declared.active_cuts.Active.{Active}
 
@@ -43,10 +43,10 @@ before_trans i j k x y z (inr h) (inl g) = inl (omega (arith, ints, h.0, g))
 before_trans i j k x y z (inr h) (inr g) = inr (omega (arith, ints, h.0, g.0), omega (arith, h.1, g.1))
 
 covers_refl : (all : List PackedCut) (lows highs : List ℤ) (i : ℕ) → Covers all lows highs i i
-covers_refl all lows highs i = λ xs inside. before_refl i (value_of (cut_at all i) xs)
+covers_refl all lows highs i = λ xs inside. before_refl i (value_of (packed_cut_at all i) xs)
 
 covers_trans : (all : List PackedCut) (lows highs : List ℤ) (i j k : ℕ) → Covers all lows highs i j → Covers all lows highs j k → Covers all lows highs i k
-covers_trans all lows highs i j k a b = λ xs inside. before_trans i j k (value_of (cut_at all i) xs) (value_of (cut_at all j) xs) (value_of (cut_at all k) xs) (a xs inside) (b xs inside)
+covers_trans all lows highs i j k a b = λ xs inside. before_trans i j k (value_of (packed_cut_at all i) xs) (value_of (packed_cut_at all j) xs) (value_of (packed_cut_at all k) xs) (a xs inside) (b xs inside)
 
 -- a covered cut stays so with more places
 pub covered_more : (all : List PackedCut) (lows highs : List ℤ) (ps qs : List ℕ) (j : ℕ) → IsCovered all lows highs ps j → IsCovered all lows highs (ps ++ qs) j
@@ -154,7 +154,7 @@ all_first all lows highs ps n first e = record {
 }
 
 -- cuts that cover all cover these among more
-same_cut : (all : List PackedCut) (c : PackedCut) (i : ℕ) → i < length all → cut_at all i ≡ cut_at (all ++ c ∷ []) i
+same_cut : (all : List PackedCut) (c : PackedCut) (i : ℕ) → i < length all → packed_cut_at all i ≡ packed_cut_at (all ++ c ∷ []) i
 same_cut all c i h = sym (get_or-append all (c ∷ []) no_packed_cut i h)
 
 pub first_more : (all : List PackedCut) (c : PackedCut) (lows highs : List ℤ) (ps : List ℕ) → CoverAll all ps lows highs → CoverFirst (all ++ c ∷ []) (length all) ps lows highs
@@ -167,8 +167,8 @@ first_more all c lows highs ps whole = record {
     more j h own = record {
       by = own.by;
       there = own.there;
-      covers = λ xs inside. subst (λ (d : PackedCut). IsBefore (get_or ps own.by 0) (value_of (cut_at (all ++ c ∷ []) (get_or ps own.by 0)) xs) j (value_of d xs)) (same_cut all c j h)
-          (subst (λ (d : PackedCut). IsBefore (get_or ps own.by 0) (value_of d xs) j (value_of (cut_at all j) xs)) (same_cut all c (get_or ps own.by 0) (place_below 0 (length all) own.by ps whole.rising own.there)) (own.covers xs inside));
+      covers = λ xs inside. subst (λ (d : PackedCut). IsBefore (get_or ps own.by 0) (value_of (packed_cut_at (all ++ c ∷ []) (get_or ps own.by 0)) xs) j (value_of d xs)) (same_cut all c j h)
+          (subst (λ (d : PackedCut). IsBefore (get_or ps own.by 0) (value_of d xs) j (value_of (packed_cut_at all j) xs)) (same_cut all c (get_or ps own.by 0) (place_below 0 (length all) own.by ps whole.rising own.there)) (own.covers xs inside));
     }
 
 -- the cover of cuts that are read
@@ -179,7 +179,7 @@ pub with_read : (all : List PackedCut) (lows highs los his : List ℤ) (ps qs ro
 with_read all lows highs los his ps qs room new p el eh eq before rising left put = first_with all lows highs ps room new p before rising (rw (el, eh, eq) at left) put
 
 -- the cuts at places are the same among more cuts
-pub same_cuts : (all : List PackedCut) (c : PackedCut) (least : ℕ) (ps : List ℕ) → AreRisingPlaces least (length all) ps → map (cut_at all) ps ≡ map (cut_at (all ++ c ∷ [])) ps
+pub same_cuts : (all : List PackedCut) (c : PackedCut) (least : ℕ) (ps : List ℕ) → AreRisingPlaces least (length all) ps → map (packed_cut_at all) ps ≡ map (packed_cut_at (all ++ c ∷ [])) ps
 same_cuts all c least [] r = refl
 same_cuts all c least (p ∷ ps) r = ap₂ (λ (x : PackedCut) (xs : List PackedCut). x ∷ xs) (same_cut all c p r.1) (same_cuts all c (suc p) ps r.2)
 

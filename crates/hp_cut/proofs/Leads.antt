@@ -7,7 +7,7 @@ use Rattle.hp_num.proofs.Ring.{ring, var, ◌⊕◌, ◌⊗◌, ⊖}
 use Rattle.hp_num.proofs.Order.{le_refl, le_add, le_trans, le_of_eq, box_least_is}
 use Rattle.hp_num.proofs.Sums.{sum_add, sum_times, sum_le, dot_sum}
 use Rattle.hp_solver.specs.PackedCut.{PackedCut}
-use Rattle.hp_solver.specs.Covering.{value_of, cut_at, AreInside, Covers}
+use Rattle.hp_solver.specs.Covering.{value_of, packed_cut_at, AreInside, Covers}
 use lib.Signed.{lt_z}
 use Rattle.hp_cut.specs.Active.{lesser_over, IsLead}
 
@@ -59,7 +59,7 @@ lead_read lows highs xs ys a b d v ex ey same wide ed is =
     is_lead lows highs a b v (rw (ex, ey) at same) (rw ex at wide) (rw (ex, ey, ed) at is)
 
 -- a lead of more than nothing
-pub leads : (all : List PackedCut) (lows highs : List ℤ) (i j : ℕ) (v w : ℤ) → w ≡ v → lt_z (pos 0) w ≡ true → IsLead lows highs (cut_at all i) (cut_at all j) v → Covers all lows highs i j
+pub leads : (all : List PackedCut) (lows highs : List ℤ) (i j : ℕ) (v w : ℤ) → w ≡ v → lt_z (pos 0) w ≡ true → IsLead lows highs (packed_cut_at all i) (packed_cut_at all j) v → Covers all lows highs i j
 leads all lows highs i j v w e h lead = λ xs inside.
     let more : pos 0 <ℤ v = omega (arith, ints, rw e at h) in
-    inl (more_than v (value_of (cut_at all i) xs) (value_of (cut_at all j) xs) more (lead xs inside))
+    inl (more_than v (value_of (packed_cut_at all i) xs) (value_of (packed_cut_at all j) xs) more (lead xs inside))

@@ -2,7 +2,7 @@ mod Replaced
 pub mod Products
 pub mod Reach
 pub mod Weighted
-pub mod RaisedPeaks
+pub mod RaisedBoxMaxima
 pub mod MoreCuts
 pub mod ShortSlopes
 pub mod Ends

@@ -15,7 +15,7 @@ cuts_of_more n (g ∷ hs) bs h own e is =
     let whole : suc (length hs) * n ≡ n + length hs * n = omega arith in
     let left : length (drop n bs) ≡ length hs * n = omega (arith, e, whole, length-drop n bs) in
     let fits : n ≤ length bs = omega (arith, e, whole) in
-    ap₂ (λ (ss : List ℤ) (rest : List PackedCut). record { height = g; slopes = ss } ∷ rest)
+    ap₂ (λ (ss : List ℤ) (tail : List PackedCut). record { height = g; slopes = ss } ∷ tail)
     (take-append-le n bs own fits)
     (ap (cuts_of n (hs ++ h ∷ [])) (drop-append-le n bs own fits) ∙ cuts_of_more n hs (drop n bs) h own left is)
 

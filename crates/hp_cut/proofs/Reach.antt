@@ -6,12 +6,12 @@ use Rattle.hp_num.specs.Sums.{sum_to, total, entry, dot}
 use Rattle.hp_num.proofs.Ring.{ring, var, num, ◌⊕◌, ◌⊗◌}
 use Rattle.hp_num.proofs.Order.{le_refl, le_trans, le_add, le_scale}
 use Rattle.hp_theory.specs.declared.cut.Cut.{Cut}
-use Rattle.hp_theory.specs.Problem.{Link, Node, Problem, link_weights}
+use Rattle.hp_theory.specs.Problem.{Successor, Node, Problem, successor_weights}
 use Rattle.hp_theory.specs.Tree.{InBox}
 use Rattle.hp_theory.specs.Size.{magnitude, magnitudes, reach}
 use Rattle.hp_theory.specs.Fit.{CutFits, cut_size}
 use Rattle.hp_theory.specs.Premises.{StartsIn}
-use Rattle.hp_cut.specs.Reaches.{Reaches, value_size}
+use Rattle.hp_cut.specs.Reaches.{CutReaches, value_size}
 
 dot_below : (bs xs : List ℤ) (r : ℕ → ℤ) → length bs ≡ length xs → ((k : ℕ) → k < length xs → magnitude (entry xs k) ≤ℤ r k) → dot (magnitudes bs) (magnitudes xs) ≤ℤ sum_to (length bs) (λ k. magnitude (entry bs k) *ℤ r k)
 dot_below [] xs r e h = le_refl (pos 0)
@@ -23,7 +23,7 @@ dot_below (b ∷ bs) (x ∷ xs) r e h =
 inside_reach : (l x h : ℤ) → (pos 1 *ℤ l) ≤ℤ x → x ≤ℤ (pos 1 *ℤ h) → magnitude x ≤ℤ pos (max 1 (max (nat_abs l) (nat_abs h)))
 inside_reach l x h p q = omega (arith, ints)
 
-pub reaches : (n : Node) (x : List ℤ) (c : Cut) → InBox 1 n.low n.high x → CutFits n c → Reaches x c
+pub reaches : (n : Node) (x : List ℤ) (c : Cut) → InBox 1 n.low n.high x → CutFits n c → CutReaches x c
 reaches n x c b f =
     let count : length c.beta ≡ length x = f.slopes ∙ sym b.count in
     let below : dot (magnitudes c.beta) (magnitudes x) ≤ℤ sum_to (length c.beta) (λ k. magnitude (entry c.beta k) *ℤ reach n.low n.high k) =
@@ -36,7 +36,7 @@ reaches n x c b f =
           (subst (λ (z : ℤ). dot (magnitudes c.beta) (magnitudes x) ≤ℤ z) same below)) f.small;
     }
 
-pub all_reach : (n : Node) (x : List ℤ) (cs : List Cut) → InBox 1 n.low n.high x → All (CutFits n) cs → All (Reaches x) cs
+pub all_reach : (n : Node) (x : List ℤ) (cs : List Cut) → InBox 1 n.low n.high x → All (CutFits n) cs → All (CutReaches x) cs
 all_reach n x cs b f = λ k d h. reaches n x (get_or cs k d) b (f k d h)
 
 one_mul_le : (a b : ℤ) → a ≤ℤ b → (pos 1 *ℤ a) ≤ℤ b
@@ -50,9 +50,9 @@ pub start_box : (p : Problem) (n : Node) → StartsIn p n → InBox 1 n.low n.hi
 start_box p n s = record { count = s.count; above = λ k h. one_mul_le (entry n.low k) (entry p.initial k) (s.lows k h); below = λ k h. le_one_mul (entry p.initial k) (entry n.high k) (s.highs k h) }
 
 -- weights times one number
-pub total-weights : (c : ℕ) (ls : List Link) → total (λ (l : Link). pos l.weight *ℤ pos c) ls ≡ pos (sum (link_weights ls)) *ℤ pos c
+pub total-weights : (c : ℕ) (ls : List Successor) → total (λ (l : Successor). pos l.weight *ℤ pos c) ls ≡ pos (sum (successor_weights ls)) *ℤ pos c
 total-weights c [] = ring (pos c ∷ []) (num (pos 0)) (num (pos 0) ⊗ var 0) tt
 total-weights c (l ∷ ls) =
     ap (λ (k : ℤ). pos l.weight *ℤ pos c +ℤ k) (total-weights c ls)
-    ∙ ring (pos l.weight ∷ pos c ∷ pos (sum (link_weights ls)) ∷ []) (var 0 ⊗ var 1 ⊕ var 2 ⊗ var 1) ((var 0 ⊕ var 2) ⊗ var 1) tt
-    ∙ ap (λ (k : ℕ). pos k *ℤ pos c) (sym (sum_by-cons (λ k. k) l.weight (link_weights ls)))
+    ∙ ring (pos l.weight ∷ pos c ∷ pos (sum (successor_weights ls)) ∷ []) (var 0 ⊗ var 1 ⊕ var 2 ⊗ var 1) ((var 0 ⊕ var 2) ⊗ var 1) tt
+    ∙ ap (λ (k : ℕ). pos k *ℤ pos c) (sym (sum_by-cons (λ k. k) l.weight (successor_weights ls)))

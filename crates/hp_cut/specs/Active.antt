@@ -3,7 +3,7 @@ use Rattle.std.specs.Prelude.{◌≡◌, ℕ, ◌<◌, ◌^◌, ℤ, pos, ◌+�
 use Rattle.std.specs.Int.{int_min}
 use Rattle.hp_num.specs.Sums.{entry}
 use Rattle.hp_solver.specs.PackedCut.{PackedCut}
-use Rattle.hp_solver.specs.Covering.{value_of, cut_at, AreInside, Covers, IsCovered, AreRisingPlaces, CoverAll}
+use Rattle.hp_solver.specs.Covering.{value_of, packed_cut_at, AreInside, Covers, IsCovered, AreRisingPlaces, CoverAll}
 use Rattle.hp_cut.specs.declared.active_cuts.Active.{Active}
 
 -- the lesser product of a difference of slopes with an end of the box of the state k
@@ -26,9 +26,9 @@ IsLeft all lows highs p places q = IsCovered all lows highs places q ⊎ Covers 
 -- these cover the first cuts of a list, and stand side by side once more
 pub record AreFirst (all : List PackedCut) (count : ℕ) (a : Active) : Type 0 where
   pub cover : CoverFirst all count a.places.items a.lows.items a.highs.items
-  pub same : a.copies ≡ map (cut_at all) a.places.items
+  pub same : a.copies ≡ map (packed_cut_at all) a.places.items
 
 -- these cover all cuts of a list, and stand side by side once more
 pub record IsActive (all : List PackedCut) (a : Active) : Type 0 where
   pub cover : CoverAll all a.places.items a.lows.items a.highs.items
-  pub same : a.copies ≡ map (cut_at all) a.places.items
+  pub same : a.copies ≡ map (packed_cut_at all) a.places.items

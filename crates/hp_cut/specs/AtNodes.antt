@@ -1,6 +1,6 @@
--- What calls at a node ask for.
+-- Premises of calls at a node.
 use Rattle.std.specs.Prelude.{ℕ, ℤ, List, length}
-use Rattle.hp_problem.specs.Sealed.{Sealed}
+use Rattle.hp_problem.specs.Validated.{Validated}
 use Rattle.hp_theory.specs.declared.cut.Cut.{Cut}
 use Rattle.hp_theory.specs.Fit.{Fit}
 use Rattle.hp_theory.specs.Problem.{S, node_at}
@@ -8,9 +8,9 @@ use Rattle.hp_theory.specs.Tree.{InBox}
 use Rattle.hp_theory.specs.View.{problem_of}
 
 -- the pools fit the problem: one for each node, of cuts within its range
-abbrev pub PoolsFit : Sealed → List (List Cut) → Type 0
-PoolsFit p pools = Fit (problem_of p) (length p.raw.nodes) pools
+abbrev pub PoolsFit : Validated → List (List Cut) → Type 0
+PoolsFit p pools = Fit (problem_of p) (length p.parts.nodes) pools
 
 -- a state, at scale S, in the box of the node m
-abbrev pub IsStateAt : Sealed → ℕ → List ℤ → Type 0
+abbrev pub IsStateAt : Validated → ℕ → List ℤ → Type 0
 IsStateAt p m x = InBox S (node_at (problem_of p) m).low (node_at (problem_of p) m).high x

@@ -2,15 +2,15 @@
 use Rattle.std.specs.Prelude.{◌≤◌, ◌^◌, List, length, map, All, Option, IfSome}
 use Rattle.hp_theory.specs.declared.cut.Cut.{Cut}
 use Rattle.hp_cut.specs.declared.flat_cuts.FlatCuts.{FlatCuts}
-use Rattle.hp_cut.specs.declared.peaks.Peak.{Peak}
+use Rattle.hp_cut.specs.declared.box_maxima.BoxMaximum.{BoxMaximum}
 use Rattle.hp_cut.specs.declared.active_cuts.Active.{Active}
 use Rattle.hp_cut.specs.FlatCuts.{packed_cut, IsFlat}
 use Rattle.hp_cut.specs.Active.{IsActive}
-use Rattle.hp_cut.specs.Peaks.{IsPeak}
+use Rattle.hp_cut.specs.BoxMaxima.{IsBoxMaximum}
 
--- at most 2^24 cuts, the same side by side, their peaks over some boxes, and those that cover them over a box
-pub record IsKept (cuts : List Cut) (beside : FlatCuts) (tops : List Peak) (chosen : Option Active) : Type 0 where
+-- at most 2^24 cuts, the same side by side, their box maxima over some boxes, and those that cover them over a box
+pub record AreCutsKept (cuts : List Cut) (beside : FlatCuts) (tops : List BoxMaximum) (chosen : Option Active) : Type 0 where
   pub few : length cuts ≤ 2 ^ 24
   pub flat : IsFlat cuts beside
-  pub peaks : All (IsPeak cuts) tops
+  pub box_maxima : All (IsBoxMaximum cuts) tops
   pub active : IfSome chosen (IsActive (map packed_cut cuts))

@@ -1,6 +1,6 @@
 pub mod Pooled
 pub mod Reaches
-pub mod Peaks
+pub mod BoxMaxima
 pub mod FlatCuts
 pub mod Active
 pub mod Kept

@@ -8,6 +8,6 @@ use Rattle.hp_theory.specs.Size.{magnitude, magnitudes}
 abbrev pub value_size : Cut → List ℤ → ℤ
 value_size c x = magnitude c.alpha +ℤ dot (magnitudes c.beta) (magnitudes x)
 
-pub record Reaches (x : List ℤ) (c : Cut) : Type 0 where
+pub record CutReaches (x : List ℤ) (c : Cut) : Type 0 where
   pub slopes : length c.beta ≡ length x
   pub small : value_size c x ≤ℤ pos (2 ^ 104)

@@ -3,11 +3,11 @@ ghost use Rattle.std.specs.Prelude.{◌≡◌, ◌<◌, ◌+◌, ℕ, ◌+ℤ◌
 ghost use Rattle.std.specs.Int.{int_min};
 ghost use Rattle.hp_num.specs.Sums.{sum_to};
 ghost use Rattle.hp_solver.specs.PackedCut.{PackedCut};
-ghost use Rattle.hp_solver.specs.Covering.{cut_at, AreRisingPlaces, IsCovered, Covers, AreActive};
+ghost use Rattle.hp_solver.specs.Covering.{packed_cut_at, AreRisingPlaces, IsCovered, Covers, AreActive};
 ghost use Rattle.hp_cut.specs.Active.{lesser_over, IsLead, IsLeft, AreFirst, IsActive};
 
+use crate::box_maxima::{OutBox, sum};
 use crate::copies::Copies;
-use crate::peaks::{OutBox, sum};
 use hp_num::Memory;
 use hp_solver::{ActiveCuts, CutList};
 use std::alloc::Global;
@@ -132,7 +132,7 @@ fn sum_over(
 fn lead(lows: &[i64], highs: &[i64], cuts: &CutList, first: u32, second: u32) -> Option<i128>
     requires first { first < length cuts.now }
     requires second { second < length cuts.now }
-    ensures { IfSome result (IsLead lows.now highs.now (cut_at cuts.now first) (cut_at cuts.now second)) }
+    ensures { IfSome result (IsLead lows.now highs.now (packed_cut_at cuts.now first) (packed_cut_at cuts.now second)) }
 {
     let slopes = cuts.slopes(first as usize);
     let others = cuts.slopes(second as usize);

@@ -1,6 +1,6 @@
 // Copies of some cuts of a node, side by side in memory.
 ghost use Rattle.std.specs.Prelude.{◌≡◌, ◌∷◌, ◌++◌, ◌<◌, ℕ, [], length, map, All, OnOk};
-ghost use Rattle.hp_solver.specs.Covering.{cut_at};
+ghost use Rattle.hp_solver.specs.Covering.{packed_cut_at};
 
 use hp_num::Memory;
 use hp_solver::CutList;
@@ -70,7 +70,7 @@ impl Copies {
     /// fewer slopes than the others, and where there are too many.
     fn push(&mut self, cuts: &CutList, place: u32) -> Result<(), Memory>
         requires { place < length cuts.now }
-        ensures { OnOk result (self.new ≡ self.old ++ cut_at cuts.now place ∷ []) }
+        ensures { OnOk result (self.new ≡ self.old ++ packed_cut_at cuts.now place ∷ []) }
     {
         let height = cuts.height(place as usize);
         let own = cuts.slopes(place as usize);
@@ -91,7 +91,7 @@ impl Copies {
     /// where a cut has more or fewer slopes than the others.
     pub(crate) fn fill(&mut self, cuts: &CutList, places: &[u32]) -> Result<(), Memory>
         requires { All (λ (p : ℕ). p < length cuts.now) places.now }
-        ensures { OnOk result (self.new ≡ map (cut_at cuts.now) places.now) }
+        ensures { OnOk result (self.new ≡ map (packed_cut_at cuts.now) places.now) }
     {
         self.clear();
         for k in 0..places.len() {

@@ -3,8 +3,8 @@ ghost use Rattle.std.specs.Prelude.{◌≡◌, ◌^◌, ◌<◌, ℤ, pos, ◌+�
 ghost use Rattle.std.specs.Int.{int_max};
 ghost use Rattle.hp_num.specs.Sums.{dot};
 ghost use Rattle.hp_theory.specs.Size.{magnitude, magnitudes};
-ghost use Rattle.hp_theory.specs.Bound.{value_of_cut, greatest};
-ghost use Rattle.hp_cut.specs.Reaches.{Reaches};
+ghost use Rattle.hp_theory.specs.Bound.{value_of_cut, greatest_cut_value};
+ghost use Rattle.hp_cut.specs.Reaches.{CutReaches};
 
 use hp_num::add_product;
 use hp_theory::Cut;
@@ -31,7 +31,7 @@ fn add(a: i128, b: i128) -> i128
 
 /// The value of a cut at a state: alpha + beta·x, at scale 2^24.
 pub fn value_of_cut(cut: &Cut, state: &[i64]) -> i128
-    requires { Reaches state.now cut.now }
+    requires { CutReaches state.now cut.now }
     ensures value { result ≡ value_of_cut cut.now state.now }
     ensures small { magnitude result ≤ℤ pos (2 ^ 104) }
 {
@@ -41,8 +41,8 @@ pub fn value_of_cut(cut: &Cut, state: &[i64]) -> i128
 /// The greatest value of some cuts at a state, at scale 2^24.
 pub(crate) fn greatest(cuts: &[Cut], state: &[i64]) -> i128
     requires some { 0 < length cuts.now }
-    requires reach { All (Reaches state.now) cuts.now }
-    ensures value { result ≡ greatest cuts.now state.now }
+    requires reach { All (CutReaches state.now) cuts.now }
+    ensures value { result ≡ greatest_cut_value cuts.now state.now }
     ensures small { magnitude result ≤ℤ pos (2 ^ 104) }
 {
     let mut i = cuts.len() - 1;

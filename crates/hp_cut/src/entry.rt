@@ -17,7 +17,7 @@ pub struct Entry {
     /// The number of the iteration, from 1.
     pub iteration: u32,
     /// The number of solves of the path, forward and backward, that gave an answer that was of no use.
-    pub unsettled: u32,
+    pub unanswered: u32,
     /// One step per node of the path, the last node first.
     pub steps: List<EntryStep>,
 }

@@ -2,16 +2,16 @@
 #![tactic(auto)]
 
 mod active_cuts;
+pub mod box_maxima;
 mod copies;
 mod cut_value;
 pub mod entry;
 mod flat_cuts;
-pub mod peaks;
 mod pool;
 pub mod pools;
 
+pub use box_maxima::OutBox;
 pub use cut_value::value_of_cut;
 pub use entry::{Entry, EntryStep};
 pub use hp_theory::{Certificate, Cut};
-pub use peaks::OutBox;
 pub use pools::{Pools, root_weight};

@@ -3,11 +3,11 @@ ghost use Rattle.std.specs.Prelude.{◌≡◌, ◌≤◌, ◌<◌, ◌+◌, ◌-
 ghost use Rattle.hp_theory.specs.declared.cut.Cut.{Cut};
 ghost use Rattle.hp_cut.specs.FlatCuts.{packed_cut, IsFlat};
 ghost use Rattle.hp_cut.specs.Active.{AreFirst, IsActive};
-ghost use Rattle.hp_cut.specs.Peaks.{peak_over, IsPeak};
+ghost use Rattle.hp_cut.specs.BoxMaxima.{box_maximum_over, IsBoxMaximum};
 
 use crate::active_cuts::{Active, lent};
+use crate::box_maxima::{BoxMaximum, OutBox};
 use crate::flat_cuts::FlatCuts;
-use crate::peaks::{OutBox, Peak};
 use hp_num::Memory;
 use hp_solver::PackedCuts;
 use hp_theory::Cut;
@@ -18,7 +18,7 @@ use std::marker::Model;
 /// hundredths of a second, and the time grows with the square.
 const MOST_COMPARED: usize = 1 << 12;
 
-/// The most peaks that a pool keeps. The predecessors of a node mostly share one box.
+/// The most box maxima that a pool keeps. The predecessors of a node mostly share one box.
 const MOST_PEAKS: usize = 8;
 
 /// The cuts of a node, at most 2^24, and the lists that are kept of them so that stage problems are built in less time.
@@ -27,51 +27,51 @@ pub(crate) struct Pool {
     cuts: Vec<Cut>,
     /// The cuts side by side.
     flat: FlatCuts,
-    /// The peaks over some boxes.
-    peaks: Vec<Peak>,
+    /// The box maxima over some boxes.
+    box_maxima: Vec<BoxMaximum>,
     /// The cuts that cover the others over a box.
     active: Option<Active>,
 }
 
 impl Model for Pool {
     ghost use Rattle.std.specs.Prelude.{◌-◌, vec_len, vec_capacity};
-    ghost use Rattle.hp_cut.specs.Kept.{IsKept};
+    ghost use Rattle.hp_cut.specs.Kept.{AreCutsKept};
     ghost use Rattle.hp_cut.specs.Pooled.{PooledCuts};
 
     ghost Value = { PooledCuts };
 
     ghost view = { λ p. record { cuts = p.cuts.items; spare = vec_capacity p.cuts - vec_len p.cuts } };
 
-    ghost invariant = { λ p. IsKept p.cuts.items p.flat p.peaks.items p.active };
+    ghost invariant = { λ p. AreCutsKept p.cuts.items p.flat p.box_maxima.items p.active };
 }
 
-/// Updates each peak with a new cut. False where a product or a sum leaves i128.
-fn raise_all(peaks: &mut [Peak], cut: &Cut) -> bool
-    ensures { result ≡ true → (cuts : List Cut) → All (IsPeak cuts) peaks.old → All (IsPeak (cuts ++ cut.now ∷ [])) peaks.new }
+/// Updates each box maximum with a new cut. False where a product or a sum leaves i128.
+fn raise_all(box_maxima: &mut [BoxMaximum], cut: &Cut) -> bool
+    ensures { result ≡ true → (cuts : List Cut) → All (IsBoxMaximum cuts) box_maxima.old → All (IsBoxMaximum (cuts ++ cut.now ∷ [])) box_maxima.new }
 {
-    for i in 0..peaks.len() {
-        if !peaks[i].raise(cut) {
+    for i in 0..box_maxima.len() {
+        if !box_maxima[i].raise(cut) {
             return false;
         }
     }
     true
 }
 
-/// Updates each peak with a new cut, and drops all of them where a product or a sum leaves i128.
-fn raise_or_clear(peaks: &mut Vec<Peak>, cut: &Cut)
-    ensures { (cuts : List Cut) → All (IsPeak cuts) peaks.old.items → All (IsPeak (cuts ++ cut.now ∷ [])) peaks.new.items }
+/// Updates each box maximum with a new cut, and drops all of them where a product or a sum leaves i128.
+fn raise_or_clear(box_maxima: &mut Vec<BoxMaximum>, cut: &Cut)
+    ensures { (cuts : List Cut) → All (IsBoxMaximum cuts) box_maxima.old.items → All (IsBoxMaximum (cuts ++ cut.now ∷ [])) box_maxima.new.items }
 {
-    if !raise_all(peaks.as_mut_slice(), cut) {
-        peaks.clear();
+    if !raise_all(box_maxima.as_mut_slice(), cut) {
+        box_maxima.clear();
     }
 }
 
-/// Finds the greatest value over a box, where one of the peaks is over it.
-fn peak_in(peaks: &[Peak], boxes: &[OutBox]) -> Option<i128>
-    ensures { IfSome result (λ peak. (cuts : List Cut) → All (IsPeak cuts) peaks.now → peak ≡ peak_over boxes.now cuts) }
+/// Finds the greatest value over a box, where one of the box maxima is over it.
+fn box_maximum_in(box_maxima: &[BoxMaximum], boxes: &[OutBox]) -> Option<i128>
+    ensures { IfSome result (λ box_maximum. (cuts : List Cut) → All (IsBoxMaximum cuts) box_maxima.now → box_maximum ≡ box_maximum_over boxes.now cuts) }
 {
-    for peak in peaks {
-        if let Some(value) = peak.over(boxes) {
+    for box_maximum in box_maxima {
+        if let Some(value) = box_maximum.over(boxes) {
             return Some(value);
         }
     }
@@ -125,7 +125,7 @@ impl Pool {
         Pool {
             cuts: Vec::new(alloc),
             flat: FlatCuts::none(alloc),
-            peaks: Vec::new(alloc),
+            box_maxima: Vec::new(alloc),
             active: None,
         }
     }
@@ -149,7 +149,7 @@ impl Pool {
         ensures room { 1 ≤ self.old.spare → IsOk result }
         ensures taken { self.old.spare ≤ self.new.spare + 1 }
     {
-        raise_or_clear(&mut self.peaks, &cut);
+        raise_or_clear(&mut self.box_maxima, &cut);
         self.flat.add(&cut);
         match self.cuts.push(cut) {
             Ok(()) => {
@@ -157,7 +157,7 @@ impl Pool {
                 Ok(())
             }
             Err(_) => {
-                self.peaks.clear();
+                self.box_maxima.clear();
                 self.flat.forget();
                 Err(Memory)
             }
@@ -169,7 +169,7 @@ impl Pool {
         ensures cuts { self.new.cuts ≡ take count self.old.cuts }
         ensures freed { self.old.spare + (length self.old.cuts - count) ≡ self.new.spare }
     {
-        self.peaks.clear();
+        self.box_maxima.clear();
         self.flat.forget();
         self.active = None;
         self.cuts.truncate(count as usize);
@@ -199,17 +199,17 @@ impl Pool {
         }
     }
 
-    /// Keeps the peak over a box from now on; none of no cuts, none where a product or a sum leaves i128, and none behind the
+    /// Keeps the box maximum over a box from now on; none of no cuts, none where a product or a sum leaves i128, and none behind the
     /// eighth. [`Memory`] where memory was refused. The cuts and their room stay.
-    pub(crate) fn keep_peak(&mut self, alloc: Global, boxes: &[OutBox]) -> Result<(), Memory>
+    pub(crate) fn keep_box_maximum(&mut self, alloc: Global, boxes: &[OutBox]) -> Result<(), Memory>
         ensures { self.new ≡ self.old }
     {
-        let is_full = self.peaks.len() >= MOST_PEAKS;
-        if is_full || peak_in(self.peaks.as_slice(), boxes).is_some() {
+        let is_full = self.box_maxima.len() >= MOST_PEAKS;
+        if is_full || box_maximum_in(self.box_maxima.as_slice(), boxes).is_some() {
             return Ok(());
         }
-        if let Some(peak) = Peak::of(alloc, boxes, self.cuts.as_slice())? {
-            self.peaks.push(peak)?;
+        if let Some(box_maximum) = BoxMaximum::of(alloc, boxes, self.cuts.as_slice())? {
+            self.box_maxima.push(box_maximum)?;
         }
         Ok(())
     }
@@ -236,9 +236,9 @@ impl Pool {
     }
 
     /// Gives the greatest value over a box, where it is kept.
-    pub(crate) fn peak(&self, boxes: &[OutBox]) -> Option<i128>
-        ensures { IfSome result (λ peak. peak ≡ peak_over boxes.now self.now.cuts) }
+    pub(crate) fn box_maximum(&self, boxes: &[OutBox]) -> Option<i128>
+        ensures { IfSome result (λ box_maximum. box_maximum ≡ box_maximum_over boxes.now self.now.cuts) }
     {
-        peak_in(self.peaks.as_slice(), boxes)
+        box_maximum_in(self.box_maxima.as_slice(), boxes)
     }
 }

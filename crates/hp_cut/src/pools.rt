@@ -1,20 +1,19 @@
 // Pools of cuts.
-ghost use Rattle.std.specs.Int.{w128};
-ghost use Rattle.std.specs.Prelude.{◌≡◌, ◌≢◌, ◌+◌, ◌-◌, ◌<◌, ◌≤◌, ◌^◌, ◌*◌, ℕ, ℤ, pos, ◌+ℤ◌, ◌*ℤ◌, ◌≤ℤ◌, [], length, map, sum, true, replicate, get_or, set, take, if◌then◌else◌, is_ok, IfOk, IfSome, OnOk, IsOk};
+ghost use Rattle.std.specs.Prelude.{◌≡◌, ◌≢◌, ◌+◌, ◌-◌, ◌<◌, ◌≤◌, ◌^◌, ◌*◌, ℕ, ℤ, pos, ◌≤ℤ◌, [], length, map, sum, true, replicate, get_or, set, take, if◌then◌else◌, is_ok, IfOk, IfSome, OnOk, IsOk};
 ghost use Rattle.hp_num.specs.Sums.{total};
-ghost use Rattle.hp_problem.specs.Sealed.{is_sealed};
-ghost use Rattle.hp_theory.specs.Problem.{node_at, link_weights};
+ghost use Rattle.hp_problem.specs.Validated.{is_validated};
+ghost use Rattle.hp_theory.specs.Problem.{node_at, successor_weights};
 ghost use Rattle.hp_theory.specs.Tree.{InBox};
 ghost use Rattle.hp_theory.specs.Size.{magnitude};
 ghost use Rattle.hp_theory.specs.Pools.{pool, no_cut, push, Sound};
 ghost use Rattle.hp_theory.specs.Bound.{value, weighted_value, bound, Under};
-ghost use Rattle.hp_theory.specs.View.{problem_of, links_of};
+ghost use Rattle.hp_theory.specs.View.{problem_of};
 ghost use Rattle.hp_cut.specs.AtNodes.{PoolsFit};
 ghost use Rattle.hp_cut.specs.FlatCuts.{packed_cut};
-ghost use Rattle.hp_cut.specs.Peaks.{peak_over};
+ghost use Rattle.hp_cut.specs.BoxMaxima.{box_maximum_over};
 
+use crate::box_maxima::OutBox;
 use crate::cut_value::greatest;
-use crate::peaks::OutBox;
 use crate::pool::Pool;
 use hp_num::{Memory, add_product, floor_div};
 use hp_problem::Problem;
@@ -142,15 +141,15 @@ impl Pools {
         let pool = &mut self.lists[node as usize];
         pool.keep_flat(alloc);
         pool.keep_active(alloc, boxes)?;
-        pool.keep_peak(alloc, boxes)
+        pool.keep_box_maximum(alloc, boxes)
     }
 
     /// The greatest value of a node's cuts over a box, one entry per state, at scale 2^24, where it is kept.
-    pub fn peak(&self, node: usize, boxes: &[OutBox]) -> Option<i128>
+    pub fn box_maximum(&self, node: usize, boxes: &[OutBox]) -> Option<i128>
         requires { node < length self.now.lists }
-        ensures { IfSome result (λ peak. peak ≡ peak_over boxes.now (pool self.now.lists node)) }
+        ensures { IfSome result (λ box_maximum. box_maximum ≡ box_maximum_over boxes.now (pool self.now.lists node)) }
     {
-        self.lists[node].peak(boxes)
+        self.lists[node].box_maximum(boxes)
     }
 
     /// The cuts of a node side by side, where they are kept.
@@ -164,7 +163,7 @@ impl Pools {
     /// The greatest value of a node's cuts at a whole state inside its box, at scale 2^24.
     pub fn value_at(&self, problem: &Problem, node: u32, state: &[i64]) -> i128
         requires fit { PoolsFit problem.now self.now.lists }
-        requires known { node < length problem.now.raw.nodes }
+        requires known { node < length problem.now.parts.nodes }
         requires inside { InBox 1 (node_at (problem_of problem.now) node).low
             (node_at (problem_of problem.now) node).high state.now }
         ensures value { result ≡ value self.now.lists node state.now }
@@ -179,10 +178,10 @@ impl Pools {
         requires { PoolsFit problem.now self.now.lists }
         ensures { result ≡ weighted_value self.now.lists (problem_of problem.now).initial (problem_of problem.now).root }
     {
-        let raw = problem.raw();
+        let parts = problem.parts();
         let state = problem.initial();
-        let nodes = raw.root.as_slice();
-        let weights = raw.root_weights.as_slice();
+        let nodes = parts.root.as_slice();
+        let weights = parts.root_weights.as_slice();
         let mut sum: i128 = 0;
         for i in 0..nodes.len() {
             let value = self.value_at(problem, nodes[i], state);
@@ -204,11 +203,11 @@ impl Pools {
 
 /// The sum of the weights of the root's successors.
 pub fn root_weight(problem: &Problem) -> i128
-    ensures value { result ≡ pos (sum (link_weights (problem_of problem.now).root)) }
+    ensures value { result ≡ pos (sum (successor_weights (problem_of problem.now).root)) }
     ensures some { pos 1 ≤ℤ result }
-    ensures sealed { is_sealed problem.now ≡ true }
+    ensures validated { is_validated problem.now ≡ true }
 {
-    i128::from(total(problem.raw().root_weights.as_slice()))
+    i128::from(total(problem.parts().root_weights.as_slice()))
 }
 
 fn total(weights: &[u32]) -> u64

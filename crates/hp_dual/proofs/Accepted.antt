@@ -5,23 +5,23 @@ use Rattle.std.specs.Option.{option_map}
 use Rattle.std.proofs.lemmas.Grind.{common_steps}
 use Rattle.std.proofs.lemmas.Bool.Decides.{nat_tests}
 use Rattle.std.proofs.lemmas.List.Elements.{All-nil, All-cons, All-head, All-tail}
-use Rattle.hp_problem.specs.declared.raw.Row.{Row}
+use Rattle.hp_parts.specs.declared.parts.Row.{Row}
 use Rattle.hp_theory.specs.declared.cut.Cut.{Cut}
 use Rattle.hp_theory.specs.declared.cut.Certificate.{Certificate}
-use Rattle.hp_theory.specs.Problem.{S, Link, Node}
+use Rattle.hp_theory.specs.Problem.{S, Successor, Node}
 use Rattle.hp_theory.specs.Pools.{pool}
 use Rattle.hp_theory.specs.Certificates.{SignRight, Rising, multipliers, PairsRight, RightAt, Right}
 use Rattle.hp_theory.specs.Size.{size_of}
 use Rattle.hp_theory.specs.Range.{range_of}
 use Rattle.hp_theory.proofs.Ranges.{within-range_of}
-use Rattle.hp_dual.specs.declared.fault.CertFault.{CertFault}
-use Rattle.hp_dual.specs.declared.fault.CertFault.TheVariants.{Shape, Sign, Cutless, Sum, Range}
-use Rattle.hp_dual.specs.Acceptance.{or_then, is_shaped, first_unshaped, shape_fault, is_sign, sign_fault, is_pair, pair_fault, sum_fault, links_fault, certificates_fault, right_fault, range_fault, fault_of}
+use Rattle.hp_cut_making.specs.declared.fault.CertFault.{CertFault}
+use Rattle.hp_cut_making.specs.declared.fault.CertFault.TheVariants.{Shape, Sign, Cutless, Sum, Range}
+use Rattle.hp_cut_making.specs.Acceptance.{or_then_fault, is_shaped, first_unshaped, shape_fault, is_sign, sign_fault, is_pair, pair_fault, sum_fault, successors_fault, certificates_fault, right_fault, range_fault, fault_of}
 
 -- a fault that is not there
-pub none-or_then : (a b : Option CertFault) → or_then a b ≡ None → (a ≡ None) × (b ≡ None)
-none-or_then None b e = (refl, e)
-none-or_then (Some f) b e = absurd (no e)
+pub none-or_then_fault : (a b : Option CertFault) → or_then_fault a b ≡ None → (a ≡ None) × (b ≡ None)
+none-or_then_fault None b e = (refl, e)
+none-or_then_fault (Some f) b e = absurd (no e)
   where
     no : (let o : Option CertFault = Some f in o ≡ None) → ⊥
     no h = cc
@@ -35,7 +35,7 @@ none-if false x f e = absurd (no e)
 
 -- shapes
 abbrev pub IsShaped : Node → Certificate → Type 0
-IsShaped n c = (length c.rows ≡ length n.rows) × (length c.cuts ≡ length n.links)
+IsShaped n c = (length c.rows ≡ length n.rows) × (length c.cuts ≡ length n.successors)
 
 shaped : (n : Node) (c : Certificate) → is_shaped n c ≡ true → IsShaped n c
 shaped n c e = grind (arith, nat_tests, common_steps)
@@ -100,39 +100,39 @@ right-pair_fault r i count e least [] h = record {
 right-pair_fault r i count e least (s ∷ ss) h =
     let t = none-if (is_pair least count s) (pair_fault r i count (suc e) (s.0 + 1) ss) (Cutless r i e) h in
     let here : IsPair least count s = right_pair least count s t.0 in
-    let rest : Pairs count (s.0 + 1) ss = right-pair_fault r i count (suc e) (s.0 + 1) ss t.1 in
+    let tail : Pairs count (s.0 + 1) ss = right-pair_fault r i count (suc e) (s.0 + 1) ss t.1 in
     record {
       first = λ l. here.0;
-      rising = rising_more s ss rest.first rest.rising;
-      there = All-cons (λ (s : ℕ × ℕ). s.0 < count) s ss here.1 rest.there;
-      positive = All-cons (λ (s : ℕ × ℕ). 0 < s.1) s ss here.2 rest.positive;
+      rising = rising_more s ss tail.first tail.rising;
+      there = All-cons (λ (s : ℕ × ℕ). s.0 < count) s ss here.1 tail.there;
+      positive = All-cons (λ (s : ℕ × ℕ). 0 < s.1) s ss here.2 tail.positive;
     }
 
-right-sum_fault : (r i : ℕ) (link : Link) (ss : List (ℕ × ℕ)) → sum_fault r i link ss ≡ None → multipliers ss ≡ S * link.weight
-right-sum_fault r i link ss e = same (multipliers ss) (S * link.weight) (none-if (multipliers ss == S * link.weight) None (Sum r i) e).0
+right-sum_fault : (r i : ℕ) (successor : Successor) (ss : List (ℕ × ℕ)) → sum_fault r i successor ss ≡ None → multipliers ss ≡ S * successor.weight
+right-sum_fault r i successor ss e = same (multipliers ss) (S * successor.weight) (none-if (multipliers ss == S * successor.weight) None (Sum r i) e).0
   where
     same : (a b : ℕ) → (a == b) ≡ true → a ≡ b
     same a b h = grind (arith, nat_tests)
 
-right-links_fault : (pools : List (List Cut)) (r i : ℕ) (qs : List (Link × List (ℕ × ℕ))) → links_fault pools r i qs ≡ None → All (PairsRight pools) qs
-right-links_fault pools r i [] e = All-nil (PairsRight pools)
-right-links_fault pools r i (q ∷ qs) e =
-    let a = none-or_then (pair_fault r i (length (pool pools q.0.node)) 0 0 q.1) (or_then (sum_fault r i q.0 q.1) (links_fault pools r (suc i) qs)) e in
-    let b = none-or_then (sum_fault r i q.0 q.1) (links_fault pools r (suc i) qs) a.1 in
+right-successors_fault : (pools : List (List Cut)) (r i : ℕ) (qs : List (Successor × List (ℕ × ℕ))) → successors_fault pools r i qs ≡ None → All (PairsRight pools) qs
+right-successors_fault pools r i [] e = All-nil (PairsRight pools)
+right-successors_fault pools r i (q ∷ qs) e =
+    let a = none-or_then_fault (pair_fault r i (length (pool pools q.0.node)) 0 0 q.1) (or_then_fault (sum_fault r i q.0 q.1) (successors_fault pools r (suc i) qs)) e in
+    let b = none-or_then_fault (sum_fault r i q.0 q.1) (successors_fault pools r (suc i) qs) a.1 in
     let pairs : Pairs (length (pool pools q.0.node)) 0 q.1 = right-pair_fault r i (length (pool pools q.0.node)) 0 0 q.1 a.0 in
     All-cons (PairsRight pools) q qs
     (record { rising = pairs.rising; there = pairs.there; positive = pairs.positive; sum = right-sum_fault r i q.0 q.1 b.0 })
-    (right-links_fault pools r (suc i) qs b.1)
+    (right-successors_fault pools r (suc i) qs b.1)
 
 -- certificates
 right-certificates_fault : (pools : List (List Cut)) (n : Node) (r : ℕ) (list : List Certificate) → All (IsShaped n) list → certificates_fault pools n r list ≡ None → All (RightAt pools n) list
 right-certificates_fault pools n r [] h e = All-nil (RightAt pools n)
 right-certificates_fault pools n r (c ∷ cs) h e =
-    let a = none-or_then (sign_fault r 0 (zip n.rows c.rows)) (or_then (links_fault pools r 0 (zip n.links c.cuts)) (certificates_fault pools n (suc r) cs)) e in
-    let b = none-or_then (links_fault pools r 0 (zip n.links c.cuts)) (certificates_fault pools n (suc r) cs) a.1 in
+    let a = none-or_then_fault (sign_fault r 0 (zip n.rows c.rows)) (or_then_fault (successors_fault pools r 0 (zip n.successors c.cuts)) (certificates_fault pools n (suc r) cs)) e in
+    let b = none-or_then_fault (successors_fault pools r 0 (zip n.successors c.cuts)) (certificates_fault pools n (suc r) cs) a.1 in
     let s : IsShaped n c = All-head (IsShaped n) c cs h in
     All-cons (RightAt pools n) c cs
-    (record { rows = s.0; links = s.1; signs = right-sign_fault r 0 (zip n.rows c.rows) a.0; pairs = right-links_fault pools r 0 (zip n.links c.cuts) b.0 })
+    (record { rows = s.0; successors = s.1; signs = right-sign_fault r 0 (zip n.rows c.rows) a.0; pairs = right-successors_fault pools r 0 (zip n.successors c.cuts) b.0 })
     (right-certificates_fault pools n (suc r) cs (All-tail (IsShaped n) c cs h) b.1)
 
 -- a list without faults before its size is right
@@ -151,32 +151,32 @@ none-option_map (Some r) h = absurd (no h)
     no h = cc
 
 module _ (pools : List (List Cut)) (n : Node) (list : List Certificate) (e : fault_of pools n list ≡ None) where
-  none-shape : (shape_fault n list ≡ None) × (or_then (certificates_fault pools n 0 list) (range_fault pools n list) ≡ None)
+  none-shape : (shape_fault n list ≡ None) × (or_then_fault (certificates_fault pools n 0 list) (range_fault pools n list) ≡ None)
   unfolding fault_of
-  none-shape = none-or_then (shape_fault n list) (or_then (certificates_fault pools n 0 list) (range_fault pools n list)) e
+  none-shape = none-or_then_fault (shape_fault n list) (or_then_fault (certificates_fault pools n 0 list) (range_fault pools n list)) e
 
-  none-rest : (certificates_fault pools n 0 list ≡ None) × (range_fault pools n list ≡ None)
-  none-rest = none-or_then (certificates_fault pools n 0 list) (range_fault pools n list) none-shape.1
+  none-tail : (certificates_fault pools n 0 list ≡ None) × (range_fault pools n list ≡ None)
+  none-tail = none-or_then_fault (certificates_fault pools n 0 list) (range_fault pools n list) none-shape.1
 
   pub right-fault_of : Right pools n list
-  right-fault_of = right-walk pools n list none-shape.0 none-rest.0
+  right-fault_of = right-walk pools n list none-shape.0 none-tail.0
 
   pub size-fault_of : size_of pools n list ≤ℤ pos (2 ^ 127 - 1)
-  size-fault_of = within-range_of pools n list (none-option_map (range_of pools n list) none-rest.1)
+  size-fault_of = within-range_of pools n list (none-option_map (range_of pools n list) none-tail.1)
 
 -- the first fault: that before the size, or the size's
-or_then-or_then : (a b c : Option CertFault) → or_then a (or_then b c) ≡ or_then (or_then a b) c
-or_then-or_then None b c = refl
-or_then-or_then (Some f) b c = refl
+or_then_fault-or_then_fault : (a b c : Option CertFault) → or_then_fault a (or_then_fault b c) ≡ or_then_fault (or_then_fault a b) c
+or_then_fault-or_then_fault None b c = refl
+or_then_fault-or_then_fault (Some f) b c = refl
 
 module _ (pools : List (List Cut)) (n : Node) (list : List Certificate) where
   pub fault-right : (f : CertFault) → right_fault pools n list ≡ Some f → fault_of pools n list ≡ Some f
   unfolding fault_of
-  fault-right f e = or_then-or_then (shape_fault n list) (certificates_fault pools n 0 list) (range_fault pools n list) ∙ ap (λ (o : Option CertFault). or_then o (range_fault pools n list)) e
+  fault-right f e = or_then_fault-or_then_fault (shape_fault n list) (certificates_fault pools n 0 list) (range_fault pools n list) ∙ ap (λ (o : Option CertFault). or_then_fault o (range_fault pools n list)) e
 
   pub fault-size : right_fault pools n list ≡ None → fault_of pools n list ≡ range_fault pools n list
   unfolding fault_of
-  fault-size e = or_then-or_then (shape_fault n list) (certificates_fault pools n 0 list) (range_fault pools n list) ∙ ap (λ (o : Option CertFault). or_then o (range_fault pools n list)) e
+  fault-size e = or_then_fault-or_then_fault (shape_fault n list) (certificates_fault pools n 0 list) (range_fault pools n list) ∙ ap (λ (o : Option CertFault). or_then_fault o (range_fault pools n list)) e
 
   pub fault-range : shape_fault n list ≡ None → certificates_fault pools n 0 list ≡ None → fault_of pools n list ≡ range_fault pools n list
   unfolding fault_of

@@ -1,37 +1,37 @@
 -- The base certificates of a node: the certificate of its parts, and the cut that they make.
 use Rattle.std.proofs.Common.{◌≡◌, ℕ, ◌*◌, ◌<◌, ℤ, pos, List, [], ◌∷◌, length, map, None, refl, sym, ap, ◌∙◌, arith}
 use Rattle.std.specs.Option.{option_map}
-use Rattle.hp_problem.specs.declared.raw.Row.{Row}
-use Rattle.hp_problem.specs.declared.raw.Node as nodes
-use Rattle.hp_problem.specs.declared.raw.Subproblem.{Subproblem}
-use Rattle.hp_problem.specs.Sealed.{Sealed}
+use Rattle.hp_parts.specs.declared.parts.Row.{Row}
+use Rattle.hp_parts.specs.declared.parts.Node as nodes
+use Rattle.hp_parts.specs.declared.parts.Subproblem.{Subproblem}
+use Rattle.hp_problem.specs.Validated.{Validated}
 use Rattle.hp_theory.specs.declared.cut.Cut.{Cut}
 use Rattle.hp_theory.specs.declared.cut.Certificate.{Certificate}
-use Rattle.hp_theory.specs.Problem.{S, Realization, Link, Node, node_at, with_weights}
-use Rattle.hp_theory.specs.View.{node_of, links_of, realizations_of, problem_of}
+use Rattle.hp_theory.specs.Problem.{S, Realization, Successor, Node, node_at, with_weights}
+use Rattle.hp_theory.specs.View.{node_of, successors_of, realizations_of, problem_of}
 use Rattle.hp_theory.specs.Certificates.{Right}
 use Rattle.hp_theory.specs.CutOf.{cut_of}
 use Rattle.hp_theory.specs.Range.{range_of}
 use Rattle.hp_theory.specs.Base.{base_list}
 use Rattle.hp_theory.specs.Fit.{FitFor}
-use Rattle.hp_theory.proofs.SealedPremises.{leads-sealed}
+use Rattle.hp_theory.proofs.ValidatedPremises.{leads-validated}
 use Rattle.hp_theory.proofs.SoundBase.{base_right}
-use Rattle.hp_dual.specs.declared.fault.CertFault.TheVariants.{Range}
-use Rattle.hp_dual.specs.Acceptance.{fault_of}
+use Rattle.hp_cut_making.specs.declared.fault.CertFault.TheVariants.{Range}
+use Rattle.hp_cut_making.specs.Acceptance.{fault_of}
 use Rattle.hp_dual.specs.Bases.{certificate_of}
-use Rattle.hp_dual.specs.Parts.{Cuttable, repeated}
+use Rattle.hp_cut_making.specs.Parts.{Cuttable, repeated}
 use Rattle.hp_dual.proofs.Faultless.{right-range_fault}
-use Rattle.hp_dual.proofs.GivenNode.{length-realizations}
-use Rattle.hp_dual.specs.NodeParts.{NodeParts}
+use Rattle.hp_cut_making.proofs.GivenNode.{length-realizations}
+use Rattle.hp_cut_making.specs.NodeParts.{NodeParts}
 use Rattle.hp_dual.proofs.AcceptedCuts.{cuttable_none}
-use Rattle.hp_dual.proofs.OwnWeights.{OwnWeights}
-use Rattle.hp_dual.proofs.PartsOfNode.{own_weighted}
+use Rattle.hp_cut_making.proofs.OwnWeights.{OwnWeights}
+use Rattle.hp_cut_making.proofs.PartsOfNode.{own_weighted}
 
 -- the certificates that are made
 abbrev FirstCut : ℕ → List (ℕ × ℕ)
 FirstCut w = (0, S * w) ∷ []
 
-first_cuts : (ms ws : List ℕ) → length ws ≡ length ms → map FirstCut ws ≡ map (λ (l : Link). FirstCut l.weight) (links_of ms ws)
+first_cuts : (ms ws : List ℕ) → length ws ≡ length ms → map FirstCut ws ≡ map (λ (l : Successor). FirstCut l.weight) (successors_of ms ws)
 first_cuts [] [] e = refl
 first_cuts [] (w ∷ ws) e = absurd (omega arith)
 first_cuts (m ∷ ms) [] e = absurd (omega arith)
@@ -43,22 +43,22 @@ each c [] (r ∷ rs) e = absurd (omega arith)
 each c (w ∷ ws) [] e = absurd (omega arith)
 each c (w ∷ ws) (r ∷ rs) e = ap (λ (cs : List Certificate). c ∷ cs) (each c ws rs (omega arith))
 
-pub made_list : (n : nodes.Node) (s : Subproblem) (low high : List ℤ) (ws : List ℕ) → length n.link_weights ≡ length n.links → length ws ≡ length (node_of n s low high).realizations → repeated (certificate_of n s) ws ≡ base_list (node_of n s low high)
+pub made_list : (n : nodes.Node) (s : Subproblem) (low high : List ℤ) (ws : List ℕ) → length n.successor_weights ≡ length n.successors → length ws ≡ length (node_of n s low high).realizations → repeated (certificate_of n s) ws ≡ base_list (node_of n s low high)
 unfolding node_of
 made_list n s low high ws e h =
     each (certificate_of n s) ws (realizations_of n.weights n.values) h
-    ∙ ap (λ (c : Certificate). map (λ (r : Realization). c) (realizations_of n.weights n.values)) (ap (λ (cuts : List (List (ℕ × ℕ))). record { rows = map (λ (row : Row). pos 0) s.rows; cuts = cuts }) (first_cuts n.links n.link_weights e))
+    ∙ ap (λ (c : Certificate). map (λ (r : Realization). c) (realizations_of n.weights n.values)) (ap (λ (cuts : List (List (ℕ × ℕ))). record { rows = map (λ (row : Row). pos 0) s.rows; cuts = cuts }) (first_cuts n.successors n.successor_weights e))
 
--- the certificates that are made for a node of a sealed problem, with its own weights
-module _ (p : Sealed) (m : ℕ) (pools qs : List (List Cut)) (ws vs : List ℕ) (n : nodes.Node) (s : Subproblem) (low high : List ℤ) (c : Certificate) (parts : NodeParts p m qs vs n s low high) (h : m < length p.raw.nodes) (own : OwnWeights ws (node_at (problem_of p) m))
-    (weights : vs ≡ ws) (same : qs ≡ pools) (is : c ≡ certificate_of n s) (f : FitFor (problem_of p) (length p.raw.nodes) pools m) where
+-- the certificates that are made for a node of a validated problem, with its own weights
+module _ (p : Validated) (m : ℕ) (pools qs : List (List Cut)) (ws vs : List ℕ) (n : nodes.Node) (s : Subproblem) (low high : List ℤ) (c : Certificate) (parts : NodeParts p m qs vs n s low high) (h : m < length p.parts.nodes) (own : OwnWeights ws (node_at (problem_of p) m))
+    (weights : vs ≡ ws) (same : qs ≡ pools) (is : c ≡ certificate_of n s) (f : FitFor (problem_of p) (length p.parts.nodes) pools m) where
   node_based : with_weights vs (node_of n s low high) ≡ node_at (problem_of p) m
   node_based = own_weighted p m qs ws vs n s low high parts weights own.own
 
   list_based : repeated c vs ≡ base_list (node_at (problem_of p) m)
   list_based =
       let count = parts.sized.count ∙ sym (length-realizations n s low high parts.sized.values) in
-      ap (λ (x : Certificate). repeated x vs) is ∙ made_list n s low high vs parts.sized.link_weights count ∙ ap base_list (sym parts.is)
+      ap (λ (x : Certificate). repeated x vs) is ∙ made_list n s low high vs parts.sized.successor_weights count ∙ ap base_list (sym parts.is)
 
   pub range_same : range_of qs (with_weights vs (node_of n s low high)) (repeated c vs) ≡ range_of pools (node_at (problem_of p) m) (base_list (node_at (problem_of p) m))
   range_same = λ i. range_of (same i) (node_based i) (list_based i)
@@ -67,7 +67,7 @@ module _ (p : Sealed) (m : ℕ) (pools qs : List (List Cut)) (ws vs : List ℕ) 
   cut_same = λ i. cut_of (same i) (node_based i) (list_based i)
 
   right_based : Right pools (node_at (problem_of p) m) (base_list (node_at (problem_of p) m))
-  right_based = base_right pools (node_at (problem_of p) m) (λ k d i. ((leads-sealed p m parts.sealed h k d i).0, f.some k d i))
+  right_based = base_right pools (node_at (problem_of p) m) (λ k d i. ((leads-validated p m parts.validated h k d i).0, f.some k d i))
 
   -- where their size is in range they make a cut
   pub cuttable_same : range_of qs (with_weights vs (node_of n s low high)) (repeated c vs) ≡ None → Cuttable qs n s low vs (repeated c vs)

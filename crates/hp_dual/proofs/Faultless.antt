@@ -5,17 +5,17 @@ use Rattle.std.specs.Option.{option_map}
 use Rattle.std.proofs.lemmas.Grind.{common_steps}
 use Rattle.std.proofs.lemmas.Bool.Decides.{nat_tests}
 use Rattle.std.proofs.lemmas.List.Elements.{All-head, All-tail}
-use Rattle.hp_problem.specs.declared.raw.Row.{Row}
+use Rattle.hp_parts.specs.declared.parts.Row.{Row}
 use Rattle.hp_theory.specs.declared.cut.Cut.{Cut}
 use Rattle.hp_theory.specs.declared.cut.Certificate.{Certificate}
-use Rattle.hp_theory.specs.Problem.{S, Link, Node}
+use Rattle.hp_theory.specs.Problem.{S, Successor, Node}
 use Rattle.hp_theory.specs.Pools.{pool}
 use Rattle.hp_theory.specs.Certificates.{SignRight, Rising, multipliers, PairsRight, RightAt, Right}
 use Rattle.hp_theory.specs.CutOf.{divisor}
 use Rattle.hp_theory.specs.Size.{size_of}
 use Rattle.hp_theory.proofs.Ranges.{none-range_of}
-use Rattle.hp_dual.specs.declared.fault.CertFault.TheVariants.{Range}
-use Rattle.hp_dual.specs.Acceptance.{is_shaped, first_unshaped, is_sign, sign_fault, is_pair, pair_fault, sum_fault, links_fault, certificates_fault, range_fault, fault_of}
+use Rattle.hp_cut_making.specs.declared.fault.CertFault.TheVariants.{Range}
+use Rattle.hp_cut_making.specs.Acceptance.{is_shaped, first_unshaped, is_sign, sign_fault, is_pair, pair_fault, sum_fault, successors_fault, certificates_fault, range_fault, fault_of}
 use Rattle.hp_dual.proofs.Accepted.{fault-range}
 
 eq-test : (a b : ℕ) → a ≡ b → (a == b) ≡ true
@@ -23,7 +23,7 @@ eq-test a b h = grind (arith, nat_tests)
 
 -- shapes
 shaped : (pools : List (List Cut)) (n : Node) (c : Certificate) → RightAt pools n c → is_shaped n c ≡ true
-shaped pools n c h = rw (eq-test (length c.rows) (length n.rows) h.rows, eq-test (length c.cuts) (length n.links) h.links) refl
+shaped pools n c h = rw (eq-test (length c.rows) (length n.rows) h.rows, eq-test (length c.cuts) (length n.successors) h.successors) refl
 
 none-first_unshaped : (pools : List (List Cut)) (n : Node) (r : ℕ) (list : List Certificate) → All (RightAt pools n) list → first_unshaped n r list ≡ None
 none-first_unshaped pools n r [] h = refl
@@ -64,22 +64,22 @@ none-pair_fault r i count e least (s ∷ ss) f t a b =
     rw (right_pair least count s (f (omega arith)) (All-head (λ (s : ℕ × ℕ). s.0 < count) s ss a) (All-head (λ (s : ℕ × ℕ). 0 < s.1) s ss b))
     (none-pair_fault r i count (suc e) (s.0 + 1) ss (rising_first s ss t) (rising_tail s ss t) (All-tail (λ (s : ℕ × ℕ). s.0 < count) s ss a) (All-tail (λ (s : ℕ × ℕ). 0 < s.1) s ss b))
 
-none-sum_fault : (r i : ℕ) (link : Link) (ss : List (ℕ × ℕ)) → multipliers ss ≡ S * link.weight → sum_fault r i link ss ≡ None
-none-sum_fault r i link ss e = rw (eq-test (multipliers ss) (S * link.weight) e) refl
+none-sum_fault : (r i : ℕ) (successor : Successor) (ss : List (ℕ × ℕ)) → multipliers ss ≡ S * successor.weight → sum_fault r i successor ss ≡ None
+none-sum_fault r i successor ss e = rw (eq-test (multipliers ss) (S * successor.weight) e) refl
 
-none-links_fault : (pools : List (List Cut)) (r i : ℕ) (qs : List (Link × List (ℕ × ℕ))) → All (PairsRight pools) qs → links_fault pools r i qs ≡ None
-none-links_fault pools r i [] h = refl
-none-links_fault pools r i (q ∷ qs) h =
+none-successors_fault : (pools : List (List Cut)) (r i : ℕ) (qs : List (Successor × List (ℕ × ℕ))) → All (PairsRight pools) qs → successors_fault pools r i qs ≡ None
+none-successors_fault pools r i [] h = refl
+none-successors_fault pools r i (q ∷ qs) h =
     let p : PairsRight pools q = All-head (PairsRight pools) q qs h in
     rw (none-pair_fault r i (length (pool pools q.0.node)) 0 0 q.1 (λ l. omega arith) p.rising p.there p.positive, none-sum_fault r i q.0 q.1 p.sum)
-    (none-links_fault pools r (suc i) qs (All-tail (PairsRight pools) q qs h))
+    (none-successors_fault pools r (suc i) qs (All-tail (PairsRight pools) q qs h))
 
 -- certificates
 none-certificates_fault : (pools : List (List Cut)) (n : Node) (r : ℕ) (list : List Certificate) → All (RightAt pools n) list → certificates_fault pools n r list ≡ None
 none-certificates_fault pools n r [] h = refl
 none-certificates_fault pools n r (c ∷ cs) h =
     let p : RightAt pools n c = All-head (RightAt pools n) c cs h in
-    rw (none-sign_fault r 0 (zip n.rows c.rows) p.signs, none-links_fault pools r 0 (zip n.links c.cuts) p.pairs)
+    rw (none-sign_fault r 0 (zip n.rows c.rows) p.signs, none-successors_fault pools r 0 (zip n.successors c.cuts) p.pairs)
     (none-certificates_fault pools n (suc r) cs (All-tail (RightAt pools n) c cs h))
 
 -- the only fault that is left

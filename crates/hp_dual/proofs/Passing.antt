@@ -20,8 +20,8 @@ few-range_from (z ∷ zs) sum r k e = step (int_le (sum +ℤ z) (pos (2 ^ 127 - 
     same a b h = cc
 
     step : (b : Bool) → (range_from (sum +ℤ z) (suc r) zs ≡ Some k → k < r + suc (length zs)) → (if b then range_from (sum +ℤ z) (suc r) zs else Some r) ≡ Some k → k < r + suc (length zs)
-    step true rest h = rest h
-    step false rest h = omega (arith, same r k h)
+    step true tail h = tail h
+    step false tail h = omega (arith, same r k h)
 
 pub few-range_of : (pools : List (List Cut)) (n : Node) (list : List Certificate) (r : ℕ) → range_of pools n list ≡ Some r → r ≤ length list
 few-range_of pools n list r e =

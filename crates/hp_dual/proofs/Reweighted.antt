@@ -4,9 +4,9 @@ use Rattle.std.specs.Prelude.{is_none, is_some, slice_get}
 use Rattle.std.specs.Option.{option_map}
 use Rattle.std.proofs.lemmas.List.Elements.{All-cons, All-nil}
 use Rattle.hp_num.proofs.Sums.{All_head, All_tail}
-use Rattle.hp_problem.specs.declared.raw.Node as nodes
-use Rattle.hp_problem.specs.declared.raw.Subproblem.{Subproblem}
-use Rattle.hp_problem.specs.Sealed.{Sealed, is_sealed, subproblem_of}
+use Rattle.hp_parts.specs.declared.parts.Node as nodes
+use Rattle.hp_parts.specs.declared.parts.Subproblem.{Subproblem}
+use Rattle.hp_problem.specs.Validated.{Validated, is_validated, subproblem_of}
 use Rattle.hp_theory.specs.declared.cut.Cut.{Cut}
 use Rattle.hp_theory.specs.declared.cut.Certificate.{Certificate}
 use Rattle.hp_theory.specs.Problem.{Realization, Node, node_at, with_weights, reweighted}
@@ -14,17 +14,17 @@ use Rattle.hp_theory.specs.View.{node_of, problem_of}
 use Rattle.hp_theory.specs.CutOf.{cut_of}
 use Rattle.hp_theory.specs.Fit.{CutFits}
 use Rattle.hp_theory.specs.Range.{range_of}
-use Rattle.hp_theory.proofs.SealedPremises.{shaped-sealed, narrow-sealed}
+use Rattle.hp_theory.proofs.ValidatedPremises.{shaped-validated, narrow-validated}
 use Rattle.hp_theory.proofs.SizeToFit.{size_to_fit_given}
-use Rattle.hp_dual.specs.declared.fault.CertFault.{CertFault}
-use Rattle.hp_dual.specs.declared.fault.CertFault.TheVariants.{Shape, Range}
+use Rattle.hp_cut_making.specs.declared.fault.CertFault.{CertFault}
+use Rattle.hp_cut_making.specs.declared.fault.CertFault.TheVariants.{Shape, Range}
 use Rattle.hp_dual.specs.declared.reweighting.shares.Share.{Share}
-use Rattle.hp_dual.specs.Acceptance.{or_then, is_shaped, first_unshaped, shape_fault, sign_fault, links_fault, certificates_fault, right_fault, fault_of}
-use Rattle.hp_dual.specs.Reweighting.{Weighs, cut_with}
+use Rattle.hp_cut_making.specs.Acceptance.{or_then_fault, is_shaped, first_unshaped, shape_fault, sign_fault, successors_fault, certificates_fault, right_fault, fault_of}
+use Rattle.hp_cut_making.specs.Reweighting.{Weighs, cut_with}
 use Rattle.hp_dual.specs.Shares.{SharesAt, SharesOf}
-use Rattle.hp_dual.proofs.Accepted.{none-or_then, shaped-shape_fault, fault-right, fault-size, size-fault_of}
-use Rattle.hp_dual.proofs.GivenNode.{realizations-given}
-use Rattle.hp_dual.proofs.SealedCuttable.{given_weight}
+use Rattle.hp_dual.proofs.Accepted.{none-or_then_fault, shaped-shape_fault, fault-right, fault-size, size-fault_of}
+use Rattle.hp_cut_making.proofs.GivenNode.{realizations-given}
+use Rattle.hp_cut_making.proofs.ValidatedCuttable.{given_weight}
 
 -- a property that follows for the value of a result
 pub if_ok : {A E : Type 0} (P Q : A → Type 0) (r : Result A E) → ((x : A) → P x → Q x) → IfOk r P → IfOk r Q
@@ -39,7 +39,7 @@ module _ (pools : List (List Cut)) (ws : List ℕ) (k : Node) where
 
   certificates-given : (r : ℕ) (list : List Certificate) → certificates_fault pools (with_weights ws k) r list ≡ certificates_fault pools k r list
   certificates-given r [] = refl
-  certificates-given r (c ∷ cs) = ap (λ (o : Option CertFault). or_then (sign_fault r 0 (zip k.rows c.rows)) (or_then (links_fault pools r 0 (zip k.links c.cuts)) o)) (certificates-given (suc r) cs)
+  certificates-given r (c ∷ cs) = ap (λ (o : Option CertFault). or_then_fault (sign_fault r 0 (zip k.rows c.rows)) (or_then_fault (successors_fault pools r 0 (zip k.successors c.cuts)) o)) (certificates-given (suc r) cs)
 
   length-given : (ws : List ℕ) (rs : List Realization) → length ws ≡ length rs → length (reweighted ws rs) ≡ length rs
   length-given [] [] e = refl
@@ -49,16 +49,16 @@ module _ (pools : List (List Cut)) (ws : List ℕ) (k : Node) where
 
   pub right-given : (list : List Certificate) → length ws ≡ length k.realizations → right_fault pools (with_weights ws k) list ≡ right_fault pools k list
   right-given list e =
-      ap (λ (o : Option CertFault). or_then (if length list == length (with_weights ws k).realizations then o else Some (Shape (min (length list) (length (with_weights ws k).realizations)))) (certificates_fault pools (with_weights ws k) 0 list)) (unshaped-given 0 list)
-      ∙ ap (λ (n : ℕ). or_then (if length list == n then first_unshaped k 0 list else Some (Shape (min (length list) n))) (certificates_fault pools (with_weights ws k) 0 list)) (length-given ws k.realizations e)
-      ∙ ap (λ (o : Option CertFault). or_then (shape_fault k list) o) (certificates-given 0 list)
+      ap (λ (o : Option CertFault). or_then_fault (if length list == length (with_weights ws k).realizations then o else Some (Shape (min (length list) (length (with_weights ws k).realizations)))) (certificates_fault pools (with_weights ws k) 0 list)) (unshaped-given 0 list)
+      ∙ ap (λ (n : ℕ). or_then_fault (if length list == n then first_unshaped k 0 list else Some (Shape (min (length list) n))) (certificates_fault pools (with_weights ws k) 0 list)) (length-given ws k.realizations e)
+      ∙ ap (λ (o : Option CertFault). or_then_fault (shape_fault k list) o) (certificates-given 0 list)
 
 -- one certificate for each weight
 pub right_count : (pools : List (List Cut)) (n : nodes.Node) (s : Subproblem) (low high : List ℤ) (ws : List ℕ) (list : List Certificate) → length ws ≡ length n.weights → length n.values ≡ length n.weights
     → right_fault pools (with_weights ws (node_of n s low high)) list ≡ None → length list ≡ length ws
 right_count pools n s low high ws list e f right =
     let k : Node = with_weights ws (node_of n s low high) in
-    (shaped-shape_fault k list (none-or_then (shape_fault k list) (certificates_fault pools k 0 list) right).0).0 ∙ realizations-given n s low high ws e f
+    (shaped-shape_fault k list (none-or_then_fault (shape_fault k list) (certificates_fault pools k 0 list) right).0).0 ∙ realizations-given n s low high ws e f
 
 pub none_of : (o : Option ℕ) → is_some o ≡ false → o ≡ None
 none_of None e = refl
@@ -98,7 +98,7 @@ module _ (pools : List (List Cut)) (k : Node) (list : List Certificate) (ws : Li
     accepted e = fault-size pools (with_weights ws k) list right ∙ ap (option_map Range) e
 
 -- a cut fits
-module _ (p : Sealed) (m : ℕ) (e : is_sealed p ≡ true) (h : m < length p.raw.nodes) (pools : List (List Cut)) (list : List Certificate) where
+module _ (p : Validated) (m : ℕ) (e : is_validated p ≡ true) (h : m < length p.parts.nodes) (pools : List (List Cut)) (list : List Certificate) where
   abbrev here : Node
   here = node_at (problem_of p) m
 
@@ -108,7 +108,7 @@ module _ (p : Sealed) (m : ℕ) (e : is_sealed p ≡ true) (h : m < length p.raw
     where
       by : (o : Option CertFault) → fault_of pools (with_weights ws here) list ≡ o → IfSome (if is_none o then Some (cut_of pools (with_weights ws here) list) else None) (CutFits here)
       by None is =
-          size_to_fit_given pools ws here list (shaped-sealed p m e h).successors (given_weight p m ws e h w.count w.positive) (narrow-sealed p m e h) (size-fault_of pools (with_weights ws here) list is)
+          size_to_fit_given pools ws here list (shaped-validated p m e h).successors (given_weight p m ws e h w.count w.positive) (narrow-validated p m e h) (size-fault_of pools (with_weights ws here) list is)
       by (Some f) is = tt
 
   pub cuts_fit : (lists : List (List ℕ)) → All (Weighs here) lists → All (λ (cut : Option Cut). IfSome cut (CutFits here)) (map (cut_with pools here list) lists)
@@ -123,11 +123,11 @@ same_of {A = A} o x y e f = some_same x y (sym e ∙ f)
     some_same : (x y : A) → (let o : Option A = Some x in o ≡ Some y) → x ≡ y
     some_same x y h = cc
 
-pub shares_by_parts : (p : Sealed) (m : ℕ) (pools : List (List Cut)) (list : List Certificate) (n : nodes.Node) (s : Subproblem) (low high : List ℤ) → slice_get p.raw.nodes m ≡ Some n → subproblem_of p m ≡ Some s → slice_get p.lo m ≡ Some low → slice_get p.hi m ≡ Some high
+pub shares_by_parts : (p : Validated) (m : ℕ) (pools : List (List Cut)) (list : List Certificate) (n : nodes.Node) (s : Subproblem) (low high : List ℤ) → slice_get p.parts.nodes m ≡ Some n → subproblem_of p m ≡ Some s → slice_get p.lo m ≡ Some low → slice_get p.hi m ≡ Some high
     → (shares : Option (List Share)) → SharesOf pools n s low high (node_at (problem_of p) m) list shares → SharesAt p m pools list shares
 shares_by_parts p m pools list n s low high en es el eh shares h = λ n' s' low' high' fn fs fl fh.
     let k : Node = node_at (problem_of p) m in
     subst (λ (x : List ℤ). SharesOf pools n' s' low' x k list shares) (same_of (slice_get p.hi m) high high' eh fh)
     (subst (λ (x : List ℤ). SharesOf pools n' s' x high k list shares) (same_of (slice_get p.lo m) low low' el fl)
     (subst (λ (x : Subproblem). SharesOf pools n' x low high k list shares) (same_of (subproblem_of p m) s s' es fs)
-    (subst (λ (x : nodes.Node). SharesOf pools x s low high k list shares) (same_of (slice_get p.raw.nodes m) n n' en fn) h)))
+    (subst (λ (x : nodes.Node). SharesOf pools x s low high k list shares) (same_of (slice_get p.parts.nodes m) n n' en fn) h)))

@@ -7,10 +7,10 @@ use Rattle.std.proofs.lemmas.Bool.{cases_lt}
 use Rattle.std.proofs.lemmas.Int.{ints}
 use Rattle.std.proofs.lemmas.List.{get_or_append_left, get_or_push, get_or_default, length-append, length-map}
 use Rattle.hp_num.specs.Sums.{total}
-use Rattle.hp_problem.specs.declared.raw.Decision.{Decision}
-use Rattle.hp_problem.specs.declared.raw.Node as nodes
-use Rattle.hp_problem.specs.declared.raw.Subproblem.{Subproblem}
-use Rattle.hp_problem.specs.Limits.{subproblem_fits}
+use Rattle.hp_parts.specs.declared.parts.Decision.{Decision}
+use Rattle.hp_parts.specs.declared.parts.Node as nodes
+use Rattle.hp_parts.specs.declared.parts.Subproblem.{Subproblem}
+use Rattle.hp_parts.specs.Limits.{subproblem_fits}
 use Rattle.hp_theory.specs.declared.cut.Cut.{Cut}
 use Rattle.hp_theory.specs.declared.cut.Certificate.{Certificate}
 use Rattle.hp_theory.specs.Problem.{Realization, Node, with_weights}
@@ -18,26 +18,26 @@ use Rattle.hp_theory.specs.View.{node_of}
 use Rattle.hp_theory.specs.CutOf.{scale, alpha_at}
 use Rattle.hp_theory.specs.Size.{magnitude, reach}
 use Rattle.hp_dual.specs.declared.reweighting.shares.Share.{Share}
-use Rattle.hp_dual.specs.Congruent.{Congruent}
-use Rattle.hp_dual.specs.Parts.{lows, highs, Limited, ReducedFit}
+use Rattle.hp_cut_making.specs.Congruent.{Congruent}
+use Rattle.hp_cut_making.specs.Parts.{lows, highs, Limited, ReducedFit}
 use Rattle.hp_dual.specs.Shares.{IsShare, Shares}
-use Rattle.hp_dual.specs.Sized.{Sized}
-use Rattle.hp_dual.specs.SizeByTerms.{certificate_amount, weighted_amount}
-use Rattle.hp_dual.proofs.Congruence.{sum_step, same_add, same_times}
-use Rattle.hp_dual.proofs.InSize.{reduced_of_terms}
+use Rattle.hp_cut_making.specs.Sized.{Sized}
+use Rattle.hp_cut_making.specs.SizeByTerms.{certificate_amount, weighted_amount}
+use Rattle.hp_cut_making.proofs.Congruence.{sum_step, same_add, same_times}
+use Rattle.hp_cut_making.proofs.InSize.{reduced_of_terms}
 use Rattle.hp_dual.proofs.Realizations.{next}
 use Rattle.hp_dual.proofs.SizeWhole.{stage_is}
-use Rattle.hp_dual.proofs.Viewed.{reduced-node_of, alpha-node_of}
-use Rattle.hp_dual.proofs.Weighted.{weighted_inside, weighted_at}
+use Rattle.hp_cut_making.proofs.Viewed.{reduced-node_of, alpha-node_of}
+use Rattle.hp_cut_making.proofs.Weighted.{weighted_inside, weighted_at}
 
 -- the reduced costs of a certificate whose terms are in range
-pub reduced_of_amount : (pools : List (List Cut)) (n : nodes.Node) (s : Subproblem) (low high values : List ℤ) (c : Certificate) → subproblem_fits (length low) s ≡ true → length n.link_weights ≡ length n.links
+pub reduced_of_amount : (pools : List (List Cut)) (n : nodes.Node) (s : Subproblem) (low high values : List ℤ) (c : Certificate) → subproblem_fits (length low) s ≡ true → length n.successor_weights ≡ length n.successors
     → certificate_amount n s low high pools (values, c) < 2 ^ 127 → ReducedFit (scale (node_of n s [] [])) pools n s c
 unfolding node_of
-reduced_of_amount pools n s low high values c fits links small = λ j h.
+reduced_of_amount pools n s low high values c fits successors small = λ j h.
     let m : Node = node_of n s low high in
-    subst (λ (d : ℤ). (reach (lows s) (highs s) j *ℤ magnitude d) ≤ℤ pos (2 ^ 127 - 1)) (reduced-node_of n s low high pools c links j)
-    (reduced_of_terms pools m values c (subst (λ (z : ℤ). z ≤ℤ pos (2 ^ 127 - 1)) (sym (stage_is pools n s low high values c fits links)) (below (certificate_amount n s low high pools (values, c)) small)) j
+    subst (λ (d : ℤ). (reach (lows s) (highs s) j *ℤ magnitude d) ≤ℤ pos (2 ^ 127 - 1)) (reduced-node_of n s low high pools c successors j)
+    (reduced_of_terms pools m values c (subst (λ (z : ℤ). z ≤ℤ pos (2 ^ 127 - 1)) (sym (stage_is pools n s low high values c fits successors)) (below (certificate_amount n s low high pools (values, c)) small)) j
     (subst (λ (k : ℕ). j < k) (sym (length-map s.decisions (λ (d : Decision). d.cost))) h))
   where
     below : (a : ℕ) → a < 2 ^ 127 → pos a ≤ℤ pos (2 ^ 127 - 1)
@@ -114,7 +114,7 @@ module _ (pools : List (List Cut)) (n : nodes.Node) (s : Subproblem) (low high :
         let f : Realization × Certificate → ℤ = λ (q : Realization × Certificate). pos q.0.weight *ℤ alpha_at pools m q.0.values q.1 in
         let each : length list ≡ length n.weights = listed ∙ sized.count in
         let here : get_or (zip m.realizations list) r d ≡ (record { weight = get_or ws r 0; values = values }, certificate) = weighted_at ws n.weights n.values list sized.count limits.values each r d h in
-        let alpha : Congruent share.constant (alpha_at pools m values certificate) = own.constant (in_range size w e small) ∙ ap (int_wrap w128) (sym (alpha-node_of n s [] [] pools certificate limits.links values)) in
+        let alpha : Congruent share.constant (alpha_at pools m values certificate) = own.constant (in_range size w e small) ∙ ap (int_wrap w128) (sym (alpha-node_of n s [] [] pools certificate limits.successors values)) in
         sum_step f (zip m.realizations list) r d constant sum (pos w *ℤ alpha_at pools m values certificate) (weighted_inside ws n.weights n.values list sized.count limits.values each r h) so_far
         (more ∙ same_add constant (pos w *ℤ share.constant) constant (pos w *ℤ alpha_at pools m values certificate) refl (same_times (pos w) share.constant (pos w) (alpha_at pools m values certificate) refl alpha))
         (ap (λ (k : ℕ). int_wrap w128 (pos k *ℤ alpha_at pools m values certificate)) e ∙ ap (λ (q : Realization × Certificate). int_wrap w128 (f q)) (sym here))

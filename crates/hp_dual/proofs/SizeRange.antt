@@ -10,8 +10,8 @@ use Rattle.hp_num.specs.declared.size.Size.{Size}
 use Rattle.hp_num.proofs.Order.{le_trans, le_scale, floor_at_most}
 use Rattle.hp_num.proofs.Sums.{sum_ext, total_le, All_head}
 use Rattle.hp_num.proofs.Fronts.{sum_some}
-use Rattle.hp_problem.specs.declared.raw.Node as nodes
-use Rattle.hp_problem.specs.declared.raw.Subproblem.{Subproblem}
+use Rattle.hp_parts.specs.declared.parts.Node as nodes
+use Rattle.hp_parts.specs.declared.parts.Subproblem.{Subproblem}
 use Rattle.hp_theory.specs.declared.cut.Cut.{Cut}
 use Rattle.hp_theory.specs.declared.cut.Certificate.{Certificate}
 use Rattle.hp_theory.specs.Problem.{S, Node, Realization, reweighted, with_weights, weight_of_realizations}
@@ -20,10 +20,10 @@ use Rattle.hp_theory.specs.CutOf.{divisor, remainder, slope, beta_sum}
 use Rattle.hp_theory.specs.Size.{magnitude, reach, alpha_size, beta_size, realization_size, remainder_size}
 use Rattle.hp_theory.specs.Range.{range_from, range_of}
 use Rattle.hp_theory.proofs.Ranges.{int_le-true, int_le-false, some_alpha, some_beta, some_mul}
-use Rattle.hp_dual.specs.Parts.{slope_size}
-use Rattle.hp_dual.specs.Sized.{Sized, Passes, unboxed, remainders_amount}
-use Rattle.hp_dual.specs.SizeByTerms.{Adds, link_weight, weighted_amount}
-use Rattle.hp_dual.proofs.SizeParts.{pos-sum_by, pos-count_by}
+use Rattle.hp_cut_making.specs.Parts.{slope_size}
+use Rattle.hp_cut_making.specs.Sized.{Sized, Passes, unboxed, remainders_amount}
+use Rattle.hp_cut_making.specs.SizeByTerms.{AddsSize, total_successor_weight, weighted_amount}
+use Rattle.hp_cut_making.proofs.SizeParts.{pos-sum_by, pos-count_by}
 use Rattle.hp_dual.proofs.SizeWhole.{stage_is}
 
 -- the remainder of a quotient that is rounded down
@@ -97,11 +97,11 @@ some_weight [] h p = absurd (omega arith)
 some_weight (w ∷ ws) h p = let one = All_head (λ (k : ℕ). 1 ≤ k) w ws p in let c = sum_by-cons (λ (k : ℕ). k) w ws in omega (arith, one, c)
 
 module _ (pools : List (List Cut)) (n : nodes.Node) (s : Subproblem) (low high : List ℤ) (ws : List ℕ) (sized : Sized pools n s low ws) where
-  pub divisor_is : divisor (unboxed ws n s) ≡ S * link_weight n * sum ws
+  pub divisor_is : divisor (unboxed ws n s) ≡ S * total_successor_weight n * sum ws
   unfolding node_of
-  divisor_is = ap (λ (k : ℕ). S * link_weight n * k) (given_weight ws n.weights n.values sized.count sized.values)
+  divisor_is = ap (λ (k : ℕ). S * total_successor_weight n * k) (given_weight ws n.weights n.values sized.count sized.values)
 
-  pub divisor_some : 0 < S * link_weight n * sum ws
+  pub divisor_some : 0 < S * total_successor_weight n * sum ws
   unfolding S
   divisor_some = mul-pos (mul-pos (omega arith) sized.scale) (some_weight ws (omega (arith, sized.count, sized.some)) sized.positive)
 
@@ -121,7 +121,7 @@ module _ (pools : List (List Cut)) (n : nodes.Node) (s : Subproblem) (low high :
   realizations_are : (list : List Certificate) → map (realization_size pools (with_weights ws (node_of n s low high))) (zip (with_weights ws (node_of n s low high)).realizations list) ≡ map (λ q. pos (weighted_amount n s low high pools q)) (zip ws (zip n.values list))
   unfolding node_of
   realizations_are list =
-      given (realization_size pools (with_weights ws (node_of n s low high))) (λ q. pos (weighted_amount n s low high pools q)) (λ w v c. ap (λ (z : ℤ). pos w *ℤ z) (stage_is pools n s low high v c sized.subproblem sized.link_weights)) ws n.weights n.values list sized.count sized.values
+      given (realization_size pools (with_weights ws (node_of n s low high))) (λ q. pos (weighted_amount n s low high pools q)) (λ w v c. ap (λ (z : ℤ). pos w *ℤ z) (stage_is pools n s low high v c sized.subproblem sized.successor_weights)) ws n.weights n.values list sized.count sized.values
 
   -- the parts of the size
   pub range_is : (list : List Certificate) → range_of pools (with_weights ws (node_of n s low high)) list ≡ range_from (pos 0) 0 (map (λ q. pos (weighted_amount n s low high pools q)) (zip ws (zip n.values list)) ++ pos (remainders_amount ws n s low list) ∷ [])
@@ -187,7 +187,7 @@ module _ (pools : List (List Cut)) (n : nodes.Node) (s : Subproblem) (low high :
     onward t is h = range_is list ∙ ranges_on (weighted_amount n s low high pools) (zip ws (zip n.values list)) tail 0 0 (omega (arith, is, h)) ∙ ap₂ (λ (k l : ℕ). range_from (pos k) l tail) (omega (arith, is)) (omega (arith, counted))
 
     -- only the remainders do, or nothing
-    pub range_ends : (t : ℕ) (r : Option Size) → t ≡ sum_by (weighted_amount n s low high pools) (zip ws (zip n.values list)) → t < 2 ^ 127 → Adds t r (remainders_amount ws n s low list) → range_of pools (with_weights ws (node_of n s low high)) list ≡ ended (length list) r
+    pub range_ends : (t : ℕ) (r : Option Size) → t ≡ sum_by (weighted_amount n s low high pools) (zip ws (zip n.values list)) → t < 2 ^ 127 → AddsSize t r (remainders_amount ws n s low list) → range_of pools (with_weights ws (node_of n s low high)) list ≡ ended (length list) r
     unfolding tail
     range_ends t (Some z) is h a = onward t is h ∙ range_last-in t (length list) (remainders_amount ws n s low list) (omega (arith, a, z.in_range))
     range_ends t None is h a = onward t is h ∙ range_last-out t (length list) (remainders_amount ws n s low list) a

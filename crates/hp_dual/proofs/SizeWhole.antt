@@ -9,23 +9,23 @@ use lib.IntN.{*ℤ-zero}
 use Rattle.hp_num.specs.Sums.{sum_to, total, entry, dot, coefficient, placed}
 use Rattle.hp_num.proofs.Ring.{ring, var, ◌⊕◌, ◌⊗◌}
 use Rattle.hp_num.proofs.Sums.{sum_ext, sum_zero, sum_add, sum_times, total_ext, total_add}
-use Rattle.hp_problem.specs.Limits.{terms_fit, row_fits, subproblem_fits}
-use Rattle.hp_problem.specs.declared.raw.Decision.{Decision}
-use Rattle.hp_problem.specs.declared.raw.Row.{Row}
-use Rattle.hp_problem.specs.declared.raw.Subproblem.{Subproblem}
-use Rattle.hp_problem.specs.declared.raw.Node as nodes
+use Rattle.hp_parts.specs.Limits.{terms_fit, row_fits, subproblem_fits}
+use Rattle.hp_parts.specs.declared.parts.Decision.{Decision}
+use Rattle.hp_parts.specs.declared.parts.Row.{Row}
+use Rattle.hp_parts.specs.declared.parts.Subproblem.{Subproblem}
+use Rattle.hp_parts.specs.declared.parts.Node as nodes
 use Rattle.hp_theory.specs.declared.cut.Cut.{Cut}
 use Rattle.hp_theory.specs.declared.cut.Certificate.{Certificate}
-use Rattle.hp_theory.specs.Problem.{S, Link}
-use Rattle.hp_theory.specs.View.{links_of, node_of}
+use Rattle.hp_theory.specs.Problem.{S, Successor}
+use Rattle.hp_theory.specs.View.{successors_of, node_of}
 use Rattle.hp_theory.specs.Certificates.{cut_at}
 use Rattle.hp_theory.specs.CutOf.{side}
 use Rattle.hp_theory.specs.Pools.{pool}
 use Rattle.hp_theory.specs.Size.{magnitude, magnitudes, terms_size, coefficient_size, reach, alpha_size, beta_size}
 use Rattle.hp_theory.proofs.Lists.{All-zip}
-use Rattle.hp_theory.proofs.SealedParts.{counted}
-use Rattle.hp_dual.specs.SizeByTerms.{over_decisions, over_box, over_values, terms_by, numbers_by, scaled_row, rows_amount, decision_amount, pair_amount, link_amount, links_amount, link_weight, certificate_amount}
-use Rattle.hp_dual.proofs.SizeParts.{pos-sum_by, total_ext_all, row_terms, cut_terms, terms_of, reach-decisions, decision_costs, numbers_at, random_costs, found_cut}
+use Rattle.hp_theory.proofs.ValidatedParts.{counted}
+use Rattle.hp_cut_making.specs.SizeByTerms.{over_decisions, over_box, over_values, terms_by, numbers_by, scaled_row, rows_amount, decision_amount, pair_amount, successor_amount, successors_amount, total_successor_weight, certificate_amount}
+use Rattle.hp_cut_making.proofs.SizeParts.{pos-sum_by, total_ext_all, row_terms, cut_terms, terms_of, reach-decisions, decision_costs, numbers_at, random_costs, found_cut}
 
 -- a sum over variables of sums over a list
 exchange : {A : Type 0} (n : ℕ) (x : ℕ → ℤ) (g : A → ℕ → ℤ) (qs : List A) → sum_to n (λ j. x j *ℤ total (λ q. g q j) qs) ≡ total (λ q. sum_to n (λ j. x j *ℤ g q j)) qs
@@ -88,40 +88,40 @@ module _ (ds : List Decision) (low high values : List ℤ) where
       ∙ sym (pos-sum_by (scaled_row ds low high values) qs)
 
   module _ (pools : List (List Cut)) (outs : List ℕ) (e : list_all (λ o. nat_lt o (length ds)) outs ≡ true) where
-    one_pair : (l : Link) (s : ℕ × ℕ) → pos s.1 *ℤ magnitude (cut_at pools l s).alpha +ℤ pos s.1 *ℤ sum_to (length ds) (λ j. decided j *ℤ coefficient_size (placed outs (cut_at pools l s).beta) j) ≡ pos (pair_amount ds outs (pool pools l.node) s)
+    one_pair : (l : Successor) (s : ℕ × ℕ) → pos s.1 *ℤ magnitude (cut_at pools l s).alpha +ℤ pos s.1 *ℤ sum_to (length ds) (λ j. decided j *ℤ coefficient_size (placed outs (cut_at pools l s).beta) j) ≡ pos (pair_amount ds outs (pool pools l.node) s)
     one_pair l s =
         let c : Cut = cut_at pools l s in
         ap (λ (k : ℤ). pos s.1 *ℤ magnitude c.alpha +ℤ pos s.1 *ℤ k) (cut_terms (length ds) (over_decisions ds) outs c.beta e)
         ∙ ring (pos s.1 ∷ magnitude c.alpha ∷ pos (terms_by (over_decisions ds) (zip outs c.beta)) ∷ []) (var 0 ⊗ var 1 ⊕ var 0 ⊗ var 2) (var 0 ⊗ (var 1 ⊕ var 2)) tt
         ∙ ap (λ (k : ℕ). pos (s.1 * k)) (sym (found_cut ds outs (pool pools l.node) s.0))
 
-    one_link : (q : Link × List (ℕ × ℕ)) → total (λ (s : ℕ × ℕ). pos s.1 *ℤ magnitude (cut_at pools q.0 s).alpha) q.1 +ℤ sum_to (length ds) (λ j. decided j *ℤ total (λ (s : ℕ × ℕ). pos s.1 *ℤ coefficient_size (placed outs (cut_at pools q.0 s).beta) j) q.1)
-        ≡ pos (link_amount ds outs pools (q.0.node, q.1))
-    one_link q =
+    one_successor : (q : Successor × List (ℕ × ℕ)) → total (λ (s : ℕ × ℕ). pos s.1 *ℤ magnitude (cut_at pools q.0 s).alpha) q.1 +ℤ sum_to (length ds) (λ j. decided j *ℤ total (λ (s : ℕ × ℕ). pos s.1 *ℤ coefficient_size (placed outs (cut_at pools q.0 s).beta) j) q.1)
+        ≡ pos (successor_amount ds outs pools (q.0.node, q.1))
+    one_successor q =
         let a : ℕ × ℕ → ℤ = λ s. pos s.1 *ℤ magnitude (cut_at pools q.0 s).alpha in
         let b : ℕ × ℕ → ℤ = λ s. pos s.1 *ℤ sum_to (length ds) (λ j. decided j *ℤ coefficient_size (placed outs (cut_at pools q.0 s).beta) j) in
         ap (λ (k : ℤ). total a q.1 +ℤ k) (exchange_scaled (length ds) decided (λ (s : ℕ × ℕ). pos s.1) (λ (s : ℕ × ℕ) j. coefficient_size (placed outs (cut_at pools q.0 s).beta) j) q.1)
         ∙ sym (total_add a b q.1) ∙ total_ext (λ s. a s +ℤ b s) (λ s. pos (pair_amount ds outs (pool pools q.0.node) s)) q.1 (one_pair q.0) ∙ sym (pos-sum_by (pair_amount ds outs (pool pools q.0.node)) q.1)
 
-    all_links : (qs : List (Link × List (ℕ × ℕ)))
-        → total (λ (q : Link × List (ℕ × ℕ)). total (λ (s : ℕ × ℕ). pos s.1 *ℤ magnitude (cut_at pools q.0 s).alpha) q.1) qs
-        +ℤ sum_to (length ds) (λ j. decided j *ℤ total (λ (q : Link × List (ℕ × ℕ)). total (λ (s : ℕ × ℕ). pos s.1 *ℤ coefficient_size (placed outs (cut_at pools q.0 s).beta) j) q.1) qs)
-        ≡ pos (sum_by (λ (q : Link × List (ℕ × ℕ)). link_amount ds outs pools (q.0.node, q.1)) qs)
-    all_links qs =
-        let a : Link × List (ℕ × ℕ) → ℤ = λ q. total (λ (s : ℕ × ℕ). pos s.1 *ℤ magnitude (cut_at pools q.0 s).alpha) q.1 in
-        let g : Link × List (ℕ × ℕ) → ℕ → ℤ = λ q j. total (λ (s : ℕ × ℕ). pos s.1 *ℤ coefficient_size (placed outs (cut_at pools q.0 s).beta) j) q.1 in
-        let b : Link × List (ℕ × ℕ) → ℤ = λ q. sum_to (length ds) (λ j. decided j *ℤ g q j) in
-        let f : Link × List (ℕ × ℕ) → ℕ = λ q. link_amount ds outs pools (q.0.node, q.1) in
+    all_successors : (qs : List (Successor × List (ℕ × ℕ)))
+        → total (λ (q : Successor × List (ℕ × ℕ)). total (λ (s : ℕ × ℕ). pos s.1 *ℤ magnitude (cut_at pools q.0 s).alpha) q.1) qs
+        +ℤ sum_to (length ds) (λ j. decided j *ℤ total (λ (q : Successor × List (ℕ × ℕ)). total (λ (s : ℕ × ℕ). pos s.1 *ℤ coefficient_size (placed outs (cut_at pools q.0 s).beta) j) q.1) qs)
+        ≡ pos (sum_by (λ (q : Successor × List (ℕ × ℕ)). successor_amount ds outs pools (q.0.node, q.1)) qs)
+    all_successors qs =
+        let a : Successor × List (ℕ × ℕ) → ℤ = λ q. total (λ (s : ℕ × ℕ). pos s.1 *ℤ magnitude (cut_at pools q.0 s).alpha) q.1 in
+        let g : Successor × List (ℕ × ℕ) → ℕ → ℤ = λ q j. total (λ (s : ℕ × ℕ). pos s.1 *ℤ coefficient_size (placed outs (cut_at pools q.0 s).beta) j) q.1 in
+        let b : Successor × List (ℕ × ℕ) → ℤ = λ q. sum_to (length ds) (λ j. decided j *ℤ g q j) in
+        let f : Successor × List (ℕ × ℕ) → ℕ = λ q. successor_amount ds outs pools (q.0.node, q.1) in
         ap (λ (k : ℤ). total a qs +ℤ k) (exchange (length ds) decided g qs)
-        ∙ sym (total_add a b qs) ∙ total_ext (λ q. a q +ℤ b q) (λ q. pos (f q)) qs one_link ∙ sym (pos-sum_by f qs)
+        ∙ sym (total_add a b qs) ∙ total_ext (λ q. a q +ℤ b q) (λ q. pos (f q)) qs one_successor ∙ sym (pos-sum_by f qs)
 
--- the links by their nodes alone
-linked : (f : ℕ × List (ℕ × ℕ) → ℕ) (ms ws : List ℕ) (cuts : List (List (ℕ × ℕ))) → length ws ≡ length ms → sum_by (λ (q : Link × List (ℕ × ℕ)). f (q.0.node, q.1)) (zip (links_of ms ws) cuts) ≡ sum_by f (zip ms cuts)
+-- the arcs by their nodes alone
+linked : (f : ℕ × List (ℕ × ℕ) → ℕ) (ms ws : List ℕ) (cuts : List (List (ℕ × ℕ))) → length ws ≡ length ms → sum_by (λ (q : Successor × List (ℕ × ℕ)). f (q.0.node, q.1)) (zip (successors_of ms ws) cuts) ≡ sum_by f (zip ms cuts)
 linked f [] ws cuts e = refl
 linked f (m ∷ ms) [] cuts e = absurd (omega arith)
 linked f (m ∷ ms) (w ∷ ws) [] e = refl
 linked f (m ∷ ms) (w ∷ ws) (c ∷ cs) e =
-    sum_by-cons (λ (q : Link × List (ℕ × ℕ)). f (q.0.node, q.1)) (record { node = m; weight = w }, c) (zip (links_of ms ws) cs)
+    sum_by-cons (λ (q : Successor × List (ℕ × ℕ)). f (q.0.node, q.1)) (record { node = m; weight = w }, c) (zip (successors_of ms ws) cs)
     ∙ ap (λ (k : ℕ). f (m, c) + k) (linked f ms ws cs (omega arith)) ∙ sym (sum_by-cons f (m, c) (zip ms cs))
 
 -- sums of multiples
@@ -148,7 +148,7 @@ assemble s q fixed random r0 rd rx pa pp costs states rows pairs e f =
     ∙ ap₂ (λ (k l : ℤ). k +ℤ s *ℤ (l +ℤ (s *ℤ q) *ℤ (fixed +ℤ costs +ℤ states +ℤ random))) f e
 
 -- all of a realization but its weight
-pub stage_is : (pools : List (List Cut)) (n : nodes.Node) (s : Subproblem) (low high values : List ℤ) (c : Certificate) → subproblem_fits (length low) s ≡ true → length n.link_weights ≡ length n.links
+pub stage_is : (pools : List (List Cut)) (n : nodes.Node) (s : Subproblem) (low high values : List ℤ) (c : Certificate) → subproblem_fits (length low) s ≡ true → length n.successor_weights ≡ length n.successors
     → alpha_size pools (node_of n s low high) values c +ℤ sum_to (length (node_of n s low high).low) (λ k. reach (node_of n s low high).low (node_of n s low high).high k *ℤ beta_size (node_of n s low high) c k)
     ≡ pos (certificate_amount n s low high pools (values, c))
 unfolding node_of
@@ -156,25 +156,25 @@ stage_is pools n s low high values c fits same =
     let ds : List Decision = s.decisions in
     let dn : ℕ = length ds in
     let sn : ℕ = length low in
-    let sc : ℤ = pos (S * S * link_weight n) in
+    let sc : ℤ = pos (S * S * total_successor_weight n) in
     let qs : List (Row × ℤ) = zip s.rows c.rows in
-    let ls : List (Link × List (ℕ × ℕ)) = zip (links_of n.links n.link_weights) c.cuts in
+    let ls : List (Successor × List (ℕ × ℕ)) = zip (successors_of n.successors n.successor_weights) c.cuts in
     let m : ℕ → ℤ = reach (map (λ (d : Decision). d.low) ds) (map (λ (d : Decision). d.high) ds) in
     let dm : ℕ → ℤ = λ j. pos (over_decisions ds j) in
     let x : ℕ → ℤ = λ k. pos (over_box low high k) in
     let aj : ℕ → ℤ = λ j. magnitude (entry (map (λ (d : Decision). d.cost) ds) j) in
     let bj : ℕ → ℤ = λ j. total (λ (q : Row × ℤ). magnitude q.1 *ℤ magnitude (coefficient q.0.decisions j)) qs in
-    let pj : ℕ → ℤ = λ j. total (λ (q : Link × List (ℕ × ℕ)). total (λ (t : ℕ × ℕ). pos t.1 *ℤ coefficient_size (placed s.outs (cut_at pools q.0 t).beta) j) q.1) ls in
+    let pj : ℕ → ℤ = λ j. total (λ (q : Successor × List (ℕ × ℕ)). total (λ (t : ℕ × ℕ). pos t.1 *ℤ coefficient_size (placed s.outs (cut_at pools q.0 t).beta) j) q.1) ls in
     let ek : ℕ → ℤ = λ k. magnitude (entry s.state_costs k) in
     let bk : ℕ → ℤ = λ k. total (λ (q : Row × ℤ). magnitude q.1 *ℤ magnitude (coefficient q.0.states k)) qs in
     let fixed : ℤ = magnitude s.constant in
     let random : ℤ = dot (magnitudes s.random_costs) (magnitudes values) in
     let r0 : ℤ = total (λ (q : Row × ℤ). magnitude q.1 *ℤ (magnitude (side q.0 q.1) +ℤ terms_size q.0.randoms (entry values))) qs in
-    let pa : ℤ = total (λ (q : Link × List (ℕ × ℕ)). total (λ (t : ℕ × ℕ). pos t.1 *ℤ magnitude (cut_at pools q.0 t).alpha) q.1) ls in
+    let pa : ℤ = total (λ (q : Successor × List (ℕ × ℕ)). total (λ (t : ℕ × ℕ). pos t.1 *ℤ magnitude (cut_at pools q.0 t).alpha) q.1) ls in
     let rows : r0 +ℤ sum_to dn (λ j. dm j *ℤ bj j) +ℤ sum_to sn (λ k. x k *ℤ bk k) ≡ pos (rows_amount ds low high values s.rows c.rows) =
     all_rows ds low high values qs (All-zip (Placed dn sn) s.rows c.rows (rows_placed s sn fits)) in
-    let pairs : pa +ℤ sum_to dn (λ j. dm j *ℤ pj j) ≡ pos (links_amount ds s.outs pools n.links c.cuts) =
-    all_links ds low high values pools s.outs (outs_placed s sn fits) ls ∙ ap pos (linked (link_amount ds s.outs pools) n.links n.link_weights c.cuts same) in
+    let pairs : pa +ℤ sum_to dn (λ j. dm j *ℤ pj j) ≡ pos (successors_amount ds s.outs pools n.successors c.cuts) =
+    all_successors ds low high values pools s.outs (outs_placed s sn fits) ls ∙ ap pos (linked (successor_amount ds s.outs pools) n.successors n.successor_weights c.cuts same) in
     let first : sum_to (length (map (λ (d : Decision). d.cost) ds)) (λ j. m j *ℤ (sc *ℤ aj j +ℤ pos S *ℤ bj j +ℤ pj j)) ≡ sc *ℤ pos (sum_by decision_amount ds) +ℤ pos S *ℤ sum_to dn (λ j. dm j *ℤ bj j) +ℤ sum_to dn (λ j. dm j *ℤ pj j) =
     ap (λ (k : ℕ). sum_to k (λ j. m j *ℤ (sc *ℤ aj j +ℤ pos S *ℤ bj j +ℤ pj j))) (length-map ds (λ (d : Decision). d.cost))
     ∙ sum_ext dn (λ j. m j *ℤ (sc *ℤ aj j +ℤ pos S *ℤ bj j +ℤ pj j)) (λ j. dm j *ℤ (sc *ℤ aj j +ℤ pos S *ℤ bj j +ℤ pj j)) (λ j p. ap (λ (k : ℤ). k *ℤ (sc *ℤ aj j +ℤ pos S *ℤ bj j +ℤ pj j)) (reach-decisions ds j))
@@ -183,6 +183,6 @@ stage_is pools n s low high values c fits same =
     split_two sn x ek bk sc (pos S)
     ∙ ap (λ (k : ℤ). sc *ℤ k +ℤ pos S *ℤ sum_to sn (λ k. x k *ℤ bk k)) (ap (λ (k : ℕ). sum_to k (λ j. x j *ℤ ek j)) (sym (counted s sn fits).0) ∙ numbers_at (over_box low high) s.state_costs) in
     ap₂ (λ (k l : ℤ). sc *ℤ (fixed +ℤ random) +ℤ pos S *ℤ r0 +ℤ pa +ℤ k +ℤ l) first second
-    ∙ assemble (pos S) (pos (link_weight n)) fixed random r0 (sum_to dn (λ j. dm j *ℤ bj j)) (sum_to sn (λ k. x k *ℤ bk k)) pa (sum_to dn (λ j. dm j *ℤ pj j)) (pos (sum_by decision_amount ds)) (pos (numbers_by (over_box low high) s.state_costs))
-    (pos (rows_amount ds low high values s.rows c.rows)) (pos (links_amount ds s.outs pools n.links c.cuts)) rows pairs
-    ∙ ap (λ (k : ℤ). pos (links_amount ds s.outs pools n.links c.cuts) +ℤ pos S *ℤ (pos (rows_amount ds low high values s.rows c.rows) +ℤ (pos S *ℤ pos (link_weight n)) *ℤ (fixed +ℤ pos (sum_by decision_amount ds) +ℤ pos (numbers_by (over_box low high) s.state_costs) +ℤ k))) (random_costs s.random_costs values)
+    ∙ assemble (pos S) (pos (total_successor_weight n)) fixed random r0 (sum_to dn (λ j. dm j *ℤ bj j)) (sum_to sn (λ k. x k *ℤ bk k)) pa (sum_to dn (λ j. dm j *ℤ pj j)) (pos (sum_by decision_amount ds)) (pos (numbers_by (over_box low high) s.state_costs))
+    (pos (rows_amount ds low high values s.rows c.rows)) (pos (successors_amount ds s.outs pools n.successors c.cuts)) rows pairs
+    ∙ ap (λ (k : ℤ). pos (successors_amount ds s.outs pools n.successors c.cuts) +ℤ pos S *ℤ (pos (rows_amount ds low high values s.rows c.rows) +ℤ (pos S *ℤ pos (total_successor_weight n)) *ℤ (fixed +ℤ pos (sum_by decision_amount ds) +ℤ pos (numbers_by (over_box low high) s.state_costs) +ℤ k))) (random_costs s.random_costs values)

@@ -1,8 +1,8 @@
 -- The base cuts as they are made: the certificates, one node more, and the answer.
 use Rattle.std.specs.Prelude.{◌≡◌, ℕ, ◌*◌, pos, List, [], ◌∷◌, map, Some, None, Result, Ok, Err}
-use Rattle.hp_problem.specs.declared.raw.Row.{Row}
-use Rattle.hp_problem.specs.declared.raw.Node as nodes
-use Rattle.hp_problem.specs.declared.raw.Subproblem.{Subproblem}
+use Rattle.hp_parts.specs.declared.parts.Row.{Row}
+use Rattle.hp_parts.specs.declared.parts.Node as nodes
+use Rattle.hp_parts.specs.declared.parts.Subproblem.{Subproblem}
 use Rattle.hp_theory.specs.declared.cut.Cut.{Cut}
 use Rattle.hp_theory.specs.declared.cut.Certificate.{Certificate}
 use Rattle.hp_theory.specs.Problem.{S, Node}
@@ -16,7 +16,7 @@ use Rattle.hp_dual.specs.declared.base_pools.BaseFault.TheVariants.{Range, Memor
 
 -- all rows 0, and for each successor its first cut with all of its weight
 abbrev pub certificate_of : nodes.Node → Subproblem → Certificate
-certificate_of n s = record { rows = map (λ (row : Row). pos 0) s.rows; cuts = map (λ (w : ℕ). (0, S * w) ∷ []) n.link_weights }
+certificate_of n s = record { rows = map (λ (row : Row). pos 0) s.rows; cuts = map (λ (w : ℕ). (0, S * w) ∷ []) n.successor_weights }
 
 -- the base cut of the node m, or the realization at which its size passes the range; want of memory is free
 abbrev pub GivesCut : ℕ → List (List Cut) → Node → Result Cut BaseFault → Type 0

@@ -1,9 +1,9 @@
 -- The shares of a list of certificates: the size and the constant of each realization, which no weight changes.
 use Rattle.std.specs.Prelude.{◌≡◌, ℕ, ◌^◌, ◌<◌, ℤ, List, [], length, get_or, min, slice_get, zip, IsSome, Option, Some, None, Result, Ok, Err}
 use Rattle.std.specs.List.{sum_by}
-use Rattle.hp_problem.specs.declared.raw.Node as nodes
-use Rattle.hp_problem.specs.declared.raw.Subproblem.{Subproblem}
-use Rattle.hp_problem.specs.Sealed.{Sealed, subproblem_of}
+use Rattle.hp_parts.specs.declared.parts.Node as nodes
+use Rattle.hp_parts.specs.declared.parts.Subproblem.{Subproblem}
+use Rattle.hp_problem.specs.Validated.{Validated, subproblem_of}
 use Rattle.hp_theory.specs.declared.cut.Cut.{Cut}
 use Rattle.hp_theory.specs.declared.cut.Certificate.{Certificate}
 use Rattle.hp_theory.specs.Problem.{Node, node_at}
@@ -11,16 +11,16 @@ use Rattle.hp_theory.specs.CutOf.{scale, alpha_sum}
 use Rattle.hp_theory.specs.View.{node_of, problem_of}
 use Rattle.hp_dual.specs.declared.reweighting.shares.Share.{Share}
 use Rattle.hp_dual.specs.declared.reweighting.weighted.Sums.{Sums}
-use Rattle.hp_dual.specs.Acceptance.{right_fault}
-use Rattle.hp_dual.specs.Congruent.{Congruent}
-use Rattle.hp_dual.specs.Parts.{constant_at}
-use Rattle.hp_dual.specs.SizeByTerms.{certificate_amount, weighted_amount}
-use Rattle.hp_dual.specs.Sized.{Passes, unboxed}
+use Rattle.hp_cut_making.specs.Acceptance.{right_fault}
+use Rattle.hp_cut_making.specs.Congruent.{Congruent}
+use Rattle.hp_cut_making.specs.Parts.{constant_at_scale}
+use Rattle.hp_cut_making.specs.SizeByTerms.{certificate_amount, weighted_amount}
+use Rattle.hp_cut_making.specs.Sized.{Passes, unboxed}
 
 -- the size of a certificate at these values, none above 2^127, and A_r where it is below that
 pub record IsShare (pools : List (List Cut)) (n : nodes.Node) (s : Subproblem) (low high values : List ℤ) (c : Certificate) (share : Share) : Type 0 where
   pub size : share.size ≡ min (certificate_amount n s low high pools (values, c)) (2 ^ 127)
-  pub constant : share.size < 2 ^ 127 → Congruent share.constant (constant_at (scale (node_of n s [] [])) pools n s values c)
+  pub constant : share.size < 2 ^ 127 → Congruent share.constant (constant_at_scale (scale (node_of n s [] [])) pools n s values c)
 
 -- a share for each realization
 pub record Shares (pools : List (List Cut)) (n : nodes.Node) (s : Subproblem) (low high : List ℤ) (list : List Certificate) (shares : List Share) : Type 0 where
@@ -39,6 +39,6 @@ SumsTo pools n s low high ws list (Ok sums) =
 SumsTo pools n s low high ws list (Err r) = Passes (weighted_amount n s low high pools) (zip ws (zip n.values list)) r
 
 -- shares by the parts of the node m
-abbrev pub SharesAt : Sealed → ℕ → List (List Cut) → List Certificate → Option (List Share) → Type 0
-SharesAt p m pools list shares = (n : nodes.Node) (s : Subproblem) (low high : List ℤ) → slice_get p.raw.nodes m ≡ Some n → subproblem_of p m ≡ Some s → slice_get p.lo m ≡ Some low → slice_get p.hi m ≡ Some high
+abbrev pub SharesAt : Validated → ℕ → List (List Cut) → List Certificate → Option (List Share) → Type 0
+SharesAt p m pools list shares = (n : nodes.Node) (s : Subproblem) (low high : List ℤ) → slice_get p.parts.nodes m ≡ Some n → subproblem_of p m ≡ Some s → slice_get p.lo m ≡ Some low → slice_get p.hi m ≡ Some high
     → SharesOf pools n s low high (node_at (problem_of p) m) list shares

@@ -1,7 +1,7 @@
 // The base cuts of a problem.
 ghost use Rattle.std.specs.Prelude.{◌≡◌, ℕ, ◌<◌, ◌*◌, ◌^◌, pos, IfOk, length, [], ◌∷◌, map, All};
-ghost use Rattle.hp_problem.specs.declared.raw.Row.{Row};
-ghost use Rattle.hp_theory.specs.Problem.{S, Link, node_at};
+ghost use Rattle.hp_parts.specs.declared.parts.Row.{Row};
+ghost use Rattle.hp_theory.specs.Problem.{S, Successor, node_at};
 ghost use Rattle.hp_theory.specs.Range.{based};
 ghost use Rattle.hp_theory.specs.Fit.{FitFor};
 ghost use Rattle.hp_theory.specs.Pools.{Sound, pool};
@@ -10,12 +10,13 @@ ghost use Rattle.hp_cut.specs.AtNodes.{PoolsFit};
 ghost use Rattle.hp_dual.specs.declared.base_pools.BaseFault.TheVariants as faults;
 ghost use Rattle.hp_dual.specs.Bases.{certificate_of, GivesCut, AddsCut, Bases};
 
-use crate::cut_making::write_repeated_cut;
-use crate::node_at::{NodeAt, own_weights};
 use crate::size::repeated_range;
 use hp_cut::{Cut, Pools};
+use hp_cut_making::node_at::{NodeAt, own_weights};
+use hp_cut_making::write_repeated_cut;
 use hp_num::{List, Memory};
-use hp_problem::{Node, Problem, Row, Subproblem};
+use hp_parts::{Node, Row, Subproblem};
+use hp_problem::Problem;
 use hp_theory::{Certificate, SCALE};
 use std::alloc::Global;
 
@@ -74,7 +75,7 @@ pub fn base_certificate(alloc: Global, node: &Node, sub: &Subproblem) -> Result<
     ensures value { IfOk result (λ c. c ≡ certificate_of node.now sub.now) }
 {
     let rows = no_multipliers(alloc, sub.rows.as_slice())?;
-    let cuts = first_cuts(alloc, node.link_weights.as_slice())?;
+    let cuts = first_cuts(alloc, node.successor_weights.as_slice())?;
     Ok(Certificate { rows, cuts })
 }
 
@@ -93,8 +94,8 @@ pub fn no_slopes(alloc: Global, states: usize) -> Result<Cut, Memory>
 /// The base cut of a node over the cuts of its successors. All realizations have the same certificate, whose pairs are
 /// read once.
 fn base_cut(alloc: Global, problem: &Problem, pools: &Pools, node: u32) -> Result<Cut, BaseFault>
-    requires known { node < length problem.now.raw.nodes }
-    requires fit { FitFor (problem_of problem.now) (length problem.now.raw.nodes) pools.now.lists node }
+    requires known { node < length problem.now.parts.nodes }
+    requires fit { FitFor (problem_of problem.now) (length problem.now.parts.nodes) pools.now.lists node }
     ensures { GivesCut node pools.now.lists (node_at (problem_of problem.now) node) result }
 {
     let here = NodeAt::of(problem, pools, node, own_weights(problem, node));
@@ -115,8 +116,8 @@ fn add_base_cut(
     pools: &mut Pools,
     node: u32,
 ) -> Result<(), BaseFault>
-    requires known { node < length problem.now.raw.nodes }
-    requires fit { FitFor (problem_of problem.now) (length problem.now.raw.nodes) pools.old.lists node }
+    requires known { node < length problem.now.parts.nodes }
+    requires fit { FitFor (problem_of problem.now) (length problem.now.parts.nodes) pools.old.lists node }
     requires few { length (pool pools.old.lists node) < 2 ^ 24 }
     ensures { AddsCut node pools.old.lists (node_at (problem_of problem.now) node) pools.new.lists result }
 {
@@ -135,7 +136,7 @@ pub fn base(alloc: Global, problem: &Problem) -> Result<Pools, BaseFault>
     ensures sound { IfOk result (λ p. Sound (problem_of problem.now) p.lists) }
 {
     let order = problem.order();
-    let mut pools = Pools::new(alloc, problem.raw().nodes.len() as u32)?;
+    let mut pools = Pools::new(alloc, problem.parts().nodes.len() as u32)?;
     for node in order {
         add_base_cut(alloc, problem, &mut pools, *node)?;
     }

@@ -1,6 +1,6 @@
 // Absolute values, of numbers and of the numbers in a box.
 ghost use Rattle.std.specs.Prelude.{◌≡◌, nat_abs};
-ghost use Rattle.hp_dual.specs.SizeByTerms.{span};
+ghost use Rattle.hp_cut_making.specs.SizeByTerms.{span};
 
 /// The absolute value.
 pub fn absolute(x: i64) -> u128

@@ -7,28 +7,32 @@ use Rattle.std.proofs.lemmas.List.Folds.{list_all-append}
 use Rattle.std.proofs.lemmas.Int.{ints}
 use Rattle.serde_json.specs.Data.{Data, Items, no_items, item, Members, no_members, member}
 use Rattle.serde_json.specs.Events.{items_len, members_len}
-use Rattle.hp_problem.specs.declared.refusal.Refusal.{Refusal}
-use Rattle.hp_problem.specs.declared.refusal.RefusalKind.{RefusalKind}
-use Rattle.hp_problem.specs.declared.refusal.RefusalKind.TheVariants as kinds
-use Rattle.hp_problem.specs.declared.refusal.Place.{Place}
-use Rattle.hp_problem.specs.Limits.{is_small, is_name}
+use Rattle.hp_parts.specs.declared.refusal.Refusal.{Refusal}
+use Rattle.hp_parts.specs.declared.refusal.RefusalKind.{RefusalKind}
+use Rattle.hp_parts.specs.declared.refusal.RefusalKind.TheVariants as kinds
+use Rattle.hp_parts.specs.declared.refusal.Place.{Place}
+use Rattle.hp_parts.specs.Limits.{is_small, is_name}
 use Rattle.hp_fields.specs.Steps.{◌>>=◌, walk_items, walk_members, walk_list}
-use Rattle.hp_fields.specs.Fields.{refuse, key_at, string_at, weight_at, whole_at, keys_of}
+use Rattle.hp_fields.specs.Fields.{fault_at, refuse, key_at, string_at, weight_at, whole_at, keys_of}
 use Rattle.hp_fields.specs.Limits.{name_at, limited_at, known_at}
 use Rattle.hp_fields.proofs.Answered.{step-Ok, whole_at-Ok, limited_at-Ok}
 
 -- an Ok says that a step and those after it are Ok
-pub then-Ok : {A B G : Type 0} (r : Result A Refusal) (f : A → Result B Refusal) (y : B) → (r >>= f) ≡ Ok y → ((x : A) → r ≡ Ok x → f x ≡ Ok y → G) → G
+pub then-Ok : {A B E G : Type 0} (r : Result A E) (f : A → Result B E) (y : B) → (r >>= f) ≡ Ok y → ((x : A) → r ≡ Ok x → f x ≡ Ok y → G) → G
 then-Ok (Ok x) f y e next = next x refl e
 then-Ok (Err r) f y e next = absurd cc
 
-pub Ok-is : {A : Type 0} (x y : A) → ◌≡◌ {A = Result A Refusal} (Ok x) (Ok y) → x ≡ y
+pub Ok-is : {A E : Type 0} (x y : A) → ◌≡◌ {A = Result A E} (Ok x) (Ok y) → x ≡ y
 Ok-is x y e = cc
+
+-- a test that refuses where it fails, with any refusal
+pub tested-Ok : {A E : Type 0} (b : Bool) (r : Result A E) (refusal : E) (y : A) → (if b then r else Err refusal) ≡ Ok y → (b ≡ true) × (r ≡ Ok y)
+tested-Ok true r refusal y e = (refl, e)
+tested-Ok false r refusal y e = cc
 
 -- a test that refuses where it fails
 pub test-Ok : {A : Type 0} (b : Bool) (r : Result A Refusal) (kind : RefusalKind) (p : Place) (y : A) → (if b then r else refuse kind p) ≡ Ok y → (b ≡ true) × (r ≡ Ok y)
-test-Ok true r kind p y e = (refl, e)
-test-Ok false r kind p y e = cc
+test-Ok b r kind p y e = tested-Ok b r (fault_at kind p) y e
 
 -- a test that refuses where it holds
 pub unless-Ok : {A : Type 0} (b : Bool) (r : Result A Refusal) (kind : RefusalKind) (p : Place) (y : A) → (if b then refuse kind p else r) ≡ Ok y → (b ≡ false) × (r ≡ Ok y)

@@ -2,14 +2,13 @@
 use Rattle.std.proofs.Common.{◌≡◌, ◌≤◌, ◌^◌, ℕ, ℤ, pos, Bool, true, false, cond, Result, Ok, Err, unsigned_abs, nat_le, refl, subst}
 use Rattle.std.proofs.lemmas.Bool.{leb-true}
 use Rattle.serde_json.specs.Data.{unsigned, negative, float, Data, null, boolean, number, string, array, object}
-use Rattle.hp_problem.specs.declared.refusal.Refusal.{Refusal}
-use Rattle.hp_problem.specs.declared.refusal.RefusalKind.TheVariants as kinds
-use Rattle.hp_problem.specs.declared.refusal.Place.{Place}
+use Rattle.hp_parts.specs.declared.refusal.RefusalKind.TheVariants as kinds
+use Rattle.hp_parts.specs.declared.refusal.Place.{Place}
 use Rattle.hp_fields.specs.Steps.{◌>>=◌}
 use Rattle.hp_fields.specs.Fields.{whole_at, refuse}
 use Rattle.hp_fields.specs.Limits.{limited_at}
 
-pub step-Ok : {A B : Type 0} (r : Result A Refusal) (f : A → Result B Refusal) (y : B) → (r >>= f) ≡ Ok y → (x : A) × (r ≡ Ok x) × (f x ≡ Ok y)
+pub step-Ok : {A B E : Type 0} (r : Result A E) (f : A → Result B E) (y : B) → (r >>= f) ≡ Ok y → (x : A) × (r ≡ Ok x) × (f x ≡ Ok y)
 step-Ok (Ok x) f y e = (x, refl, e)
 step-Ok (Err r) f y e = cc
 

@@ -9,7 +9,7 @@ use Rattle.std.proofs.lemmas.Cmp.{nat_list_cmp_total}
 use Rattle.std.proofs.lemmas.Slice.Eq.{bytes_eq-Decides}
 use Rattle.std.proofs.lemmas.List.Quantifiers.{position-Some}
 use Rattle.hp_num.proofs.Tests.{and_first, and_second}
-use Rattle.hp_problem.specs.Distinct.{rises, are_distinct, is_before}
+use Rattle.hp_parts.specs.Distinct.{rises, are_distinct, is_before}
 
 -- ---- facts of each entry
 
@@ -40,8 +40,8 @@ each-none test [] e = tt
 each-none test (x ∷ xs) e = by (test x) refl e (each-none test xs)
   where
     by : (b : Bool) → test x ≡ b → (b || list_any test xs) ≡ false → (list_any test xs ≡ false → AllByRecursion (λ x. test x ≡ false) xs) → (test x ≡ false) × AllByRecursion (λ x. test x ≡ false) xs
-    by true is h rest = cc
-    by false is h rest = (is, rest h)
+    by true is h tail = cc
+    by false is h tail = (is, tail h)
 
 pub list_all-map : {A B : Type 0} (f : A → B) (test : B → Bool) (xs : List A) → list_all test (map f xs) ≡ list_all (λ x. test (f x)) xs
 list_all-map f test [] = refl
@@ -177,5 +177,5 @@ rises-numbers names (i ∷ j ∷ ns) sorted all rising =
     let more = and_second (nat_lt i (length names)) (list_all (λ n. nat_lt n (length names)) (j ∷ ns)) all in
     let within = ltb-true i (length names) (and_first (nat_lt i (length names)) (list_all (λ n. nat_lt n (length names)) (j ∷ ns)) all) in
     let first = and_first (is_before (name_of names i) (name_of names j)) (rises is_before (map (name_of names) (j ∷ ns))) rising in
-    let rest = and_second (is_before (name_of names i) (name_of names j)) (rises is_before (map (name_of names) (j ∷ ns))) rising in
-    and_from (nat_lt i j) (rises nat_lt (j ∷ ns)) (earlier names i j sorted within first) (rises-numbers names (j ∷ ns) sorted more rest)
+    let tail = and_second (is_before (name_of names i) (name_of names j)) (rises is_before (map (name_of names) (j ∷ ns))) rising in
+    and_from (nat_lt i j) (rises nat_lt (j ∷ ns)) (earlier names i j sorted within first) (rises-numbers names (j ∷ ns) sorted more tail)

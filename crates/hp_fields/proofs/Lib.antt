@@ -1,5 +1,6 @@
 pub mod Texts
 pub mod Walks
+pub mod Instances
 pub mod Named
 pub mod InOrder
 pub mod Accepted

@@ -1,5 +1,5 @@
 -- Each object of a JSON value that was read has its keys in rising order, so each of them once.
-use Rattle.std.proofs.Common.{◌≡◌, ◌≤◌, ◌<◌, ◌+◌, ℕ, suc, ◌||◌, List, [], ◌∷◌, length, Bool, true, false, cond, not, Option, Some, None, option_map, option_and_then, IfSome, Ok, Ordering, Less, Equal, Greater, nat_cmp, is_eq, bytes_eq, position, nat_lt, refl, sym, ap, subst, ◌∙◌, arith}
+use Rattle.std.proofs.Common.{◌≡◌, ◌≤◌, ◌<◌, ◌+◌, ℕ, suc, ◌||◌, List, [], ◌∷◌, length, Bool, true, false, cond, not, Option, Some, None, option_map, option_and_then, IfSome, ok_or, if◌then◌else◌, Ok, Ordering, Less, Equal, Greater, nat_cmp, is_eq, bytes_eq, position, nat_lt, refl, sym, ap, subst, ◌∙◌, arith}
 use Rattle.std.specs.Cmp.Lexicographic.{slice_cmp}
 use Rattle.std.specs.List.{AllByRecursion, IsDistinct, list_any, position_or_len}
 use Rattle.std.specs.List.Sorted.{IsStrictlySortedBy}
@@ -15,14 +15,17 @@ use Rattle.std.proofs.lemmas.Slice.Eq.{bytes_eq-Decides}
 use Rattle.json.specs.Json as json
 use Rattle.json.specs.Lex.{tokens}
 use Rattle.serde_json.specs.Data.{Data, null, boolean, number, string, array, object, Items, no_items, item, Members, no_members, member, put}
-use Rattle.serde_json.specs.Find.{get, get_member}
+use Rattle.serde_json.specs.Find.{as_object, get, get_member}
 use Rattle.serde_json.specs.Read.{of_json, of_items, of_members, number_of, max_depth, read}
-use Rattle.hp_problem.specs.declared.refusal.RefusalKind.TheVariants as kinds
-use Rattle.hp_problem.specs.declared.refusal.Place.{Place}
-use Rattle.hp_fields.specs.Fields.{keys_of, json_at, json_or, whole, present_at, object_at}
+use Rattle.hp_parts.specs.declared.refusal.RefusalKind.TheVariants as kinds
+use Rattle.hp_parts.specs.declared.refusal.Place.{Place}
+use Rattle.hp_fields.specs.Values.{spelled, object_or, members_or}
+use Rattle.hp_fields.specs.Fields.{fault_at, keys_of, json_at, whole, present_at, object_at}
 use Rattle.hp_fields.specs.Limits.{members_at}
-use Rattle.hp_fields.proofs.Accepted.{Ok-is, test-Ok, AllMembers}
+use Rattle.hp_fields.proofs.Accepted.{Ok-is, AllMembers}
 use Rattle.hp_fields.proofs.Distinct.{Sorted}
+use Rattle.hp_fields.proofs.Instances.{members_is}
+use Rattle.hp_fields.proofs.Texts.{json_is}
 
 -- each key is above k
 abbrev AllAbove : List ℕ → Members → Type 0
@@ -109,10 +112,6 @@ mutual
   of_members-rising (json.member k j ms) found m =
       IfSome-then Rising RisingMembers (λ d. of_members ms (put k d found)) (of_json j) (of_json-rising j) (λ d r. of_members-rising ms (put k d found) (rising-put k d found r m))
 
-json_or-rising : (o : Option Data) (d : Data) → IfSome o Rising → json_or o ≡ Ok d → Rising d
-json_or-rising None d h e = cc
-json_or-rising (Some x) d h e = subst Rising (Ok-is x d e) h
-
 -- the text without its conversion
 abbrev parsed : List ℕ → Option json.Json
 parsed text = option_and_then (λ p. json.if_last p.0 p.1) (json.value max_depth (tokens text))
@@ -120,9 +119,21 @@ parsed text = option_and_then (λ p. json.if_last p.0 p.1) (json.value max_depth
 read-rising : (text : List ℕ) → IfSome (read text) Rising
 read-rising text = IfSome-then (λ j. Unit {0}) Rising of_json (parsed text) (IfSome-any (parsed text)) (λ j h. of_json-rising j)
 
+pub spelled-rising : (bytes : List ℕ) → IfSome (spelled bytes) Rising
+unfolding spelled
+spelled-rising bytes = by (is_utf8 bytes)
+  where
+    by : (b : Bool) → IfSome (if b then read bytes else None) Rising
+    by true = read-rising bytes
+    by false = tt
+
+-- what is there, or else a refusal
+pub present-rising : {A E : Type 0} (P : A → Type 0) (refusal : E) (o : Option A) (x : A) → IfSome o P → ok_or o refusal ≡ Ok x → P x
+present-rising P refusal None x h e = cc
+present-rising P refusal (Some y) x h e = subst P (Ok-is y x e) h
+
 pub json_at-rising : (bytes : List ℕ) (d : Data) → json_at bytes ≡ Ok d → Rising d
-unfolding json_at
-json_at-rising bytes d e = json_or-rising (read bytes) d (read-rising bytes) (test-Ok (is_utf8 bytes) (json_or (read bytes)) kinds.NotJson whole d e).1
+json_at-rising bytes d e = present-rising Rising (fault_at kinds.NotJson whole) (spelled bytes) d (spelled-rising bytes) (sym (json_is bytes) ∙ e)
 
 -- ---- what is looked up
 
@@ -143,24 +154,33 @@ get-rising k (string s) r = tt
 get-rising k (array ds) r = tt
 get-rising k (object ms) r = get_member-rising k ms r
 
+as_object-rising : (d : Data) → Rising d → IfSome (as_object d) RisingMembers
+as_object-rising null r = tt
+as_object-rising (boolean b) r = tt
+as_object-rising (number n) r = tt
+as_object-rising (string s) r = tt
+as_object-rising (array ds) r = tt
+as_object-rising (object ms) r = r
+
+pub object_or-rising : {E : Type 0} (refusal : E) (d : Data) (ms : Members) → Rising d → object_or refusal d ≡ Ok ms → RisingMembers ms
+unfolding object_or
+object_or-rising refusal d ms r e = present-rising RisingMembers refusal (as_object d) ms (as_object-rising d r) e
+
+pub members_or-rising : {E : Type 0} (refusal : E) (o : Option Data) (ms : Members) → IfSome o Rising → members_or refusal o ≡ Ok ms → RisingMembers ms
+unfolding members_or
+members_or-rising refusal None ms h e = subst RisingMembers (Ok-is no_members ms e) tt
+members_or-rising refusal (Some d) ms h e = object_or-rising refusal d ms h e
+
 pub present_at-rising : (p : Place) (o : Option Data) (d : Data) → IfSome o Rising → present_at p o ≡ Ok d → Rising d
 unfolding present_at
-present_at-rising p None d h e = cc
-present_at-rising p (Some x) d h e = subst Rising (Ok-is x d e) h
+present_at-rising p o d h e = present-rising Rising (fault_at kinds.Shape p) o d h e
 
 pub object_at-rising : (p : Place) (d : Data) (ms : Members) → Rising d → object_at p d ≡ Ok ms → RisingMembers ms
-unfolding object_at
-object_at-rising p null ms r e = cc
-object_at-rising p (boolean b) ms r e = cc
-object_at-rising p (number n) ms r e = cc
-object_at-rising p (string s) ms r e = cc
-object_at-rising p (array ds) ms r e = cc
-object_at-rising p (object x) ms r e = subst RisingMembers (Ok-is x ms e) r
+unfolding object_at object_or
+object_at-rising p d ms r e = object_or-rising (fault_at kinds.Shape p) d ms r e
 
 pub members_at-rising : (p : Place) (o : Option Data) (ms : Members) → IfSome o Rising → members_at p o ≡ Ok ms → RisingMembers ms
-unfolding members_at
-members_at-rising p None ms h e = subst RisingMembers (Ok-is no_members ms e) tt
-members_at-rising p (Some d) ms h e = object_at-rising p d ms h e
+members_at-rising p o ms h e = members_or-rising (fault_at kinds.Shape p) o ms h (sym (members_is p o) ∙ e)
 
 pub each-rising : (ms : Members) → RisingMembers ms → AllMembers (λ k d. Rising d) ms
 each-rising no_members m = tt
@@ -182,8 +202,8 @@ any_from_place test [] h = absurd (omega arith)
 any_from_place test (x ∷ xs) h = by (test x) h (any_from_place test xs)
   where
     by : (b : Bool) → cond (not b) (1 + position_or_len test xs) 0 < suc (length xs) → (position_or_len test xs < length xs → list_any test xs ≡ true) → (b || list_any test xs) ≡ true
-    by true l rest = refl
-    by false l rest = rest (omega arith)
+    by true l tail = refl
+    by false l tail = tail (omega arith)
 
 -- a name with a number is among the names
 pub known-position : (names : List (List ℕ)) (k : List ℕ) (i : ℕ) → position (bytes_eq k) names ≡ Some i → (i < length names) × (is_member bytes_eq names k ≡ true)
@@ -198,8 +218,8 @@ among P [] q all e = cc
 among P (k ∷ ks) q all e = by (bytes_eq q k) refl e (among P ks q all.1)
   where
     by : (b : Bool) → bytes_eq q k ≡ b → (b || is_member bytes_eq ks q) ≡ true → (is_member bytes_eq ks q ≡ true → P q) → P q
-    by true same h rest = subst P (sym ((bytes_eq-Decides q k).0 same)) all.0
-    by false same h rest = rest h
+    by true same h tail = subst P (sym ((bytes_eq-Decides q k).0 same)) all.0
+    by false same h tail = tail h
 
 -- rising keys that are all known are at most as many as the names
 pub few_keys : (names : List (List ℕ)) (ms : Members) → RisingMembers ms → AllByRecursion (λ k. is_member bytes_eq names k ≡ true) (keys_of ms) → length (keys_of ms) ≤ length names

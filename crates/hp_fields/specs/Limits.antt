@@ -1,9 +1,9 @@
 -- Limits that names and numbers keep, and members and items that may be absent.
 use Rattle.std.specs.Prelude.{ℕ, ◌^◌, ℤ, List, Option, Some, None, Result, Ok, nat_le, unsigned_abs, if◌then◌else◌}
 use Rattle.serde_json.specs.Data.{Data, Items, no_items, Members, no_members}
-use Rattle.hp_problem.specs.declared.refusal.Refusal.{Refusal}
-use Rattle.hp_problem.specs.declared.refusal.RefusalKind.TheVariants as kinds
-use Rattle.hp_problem.specs.declared.refusal.Place.{Place}
+use Rattle.hp_parts.specs.declared.refusal.Refusal.{Refusal}
+use Rattle.hp_parts.specs.declared.refusal.RefusalKind.TheVariants as kinds
+use Rattle.hp_parts.specs.declared.refusal.Place.{Place}
 use Rattle.hp_fields.specs.Steps.{◌>>=◌}
 use Rattle.hp_fields.specs.Fields.{refuse, key_at, string_at, object_at, array_at}
 

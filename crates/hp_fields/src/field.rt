@@ -6,38 +6,26 @@ ghost use Rattle.serde_json.specs.View.{view, members_view, items_view};
 ghost use Rattle.hp_fields.specs.Steps.{Gives, Shows};
 ghost use Rattle.hp_fields.specs.Fields.{whole_at, weight_at, key_at, string_at, object_at, array_at, present_at};
 
+use crate::limits::limited;
 use crate::refusal::ReadRefusal;
+use crate::values::{array_or, integer_or, object_or, present_or, string_or};
 use hp_num::Name;
-use hp_problem::limits::{GREATEST_NUMBER, NAME_BYTES};
-use hp_problem::{Place, Refusal, RefusalKind};
+use hp_parts::{NAME_BYTES, Place, Refusal, RefusalKind};
 use serde_json::{Map, Value};
 use std::alloc::Global;
 
 /// A whole number of at most 2^40 in absolute value: Shape where the value is no number,
 /// NotWhole where it is given as neither an i64 nor a u64, TooLarge past the limit.
-#[tactic(auto, unfolding(crate::specs::Fields::whole_at))]
+#[tactic(auto, using(crate::proofs::Instances::whole_is))]
 pub fn whole(value: &Value, place: Place) -> Result<i64, Refusal>
     ensures { result ≡ whole_at place (view value.now) }
 {
-    let Some(number) = value.as_number() else {
-        return Err(RefusalKind::Shape.at(place));
-    };
-    match number.as_i64() {
-        Some(whole) => {
-            if whole.unsigned_abs() <= GREATEST_NUMBER {
-                Ok(whole)
-            } else {
-                Err(RefusalKind::TooLarge.at(place))
-            }
-        }
-        None => {
-            if number.is_u64() {
-                Err(RefusalKind::TooLarge.at(place))
-            } else {
-                Err(RefusalKind::NotWhole.at(place))
-            }
-        }
-    }
+    let number = integer_or(
+        value,
+        RefusalKind::Shape.at(place),
+        RefusalKind::NotWhole.at(place),
+    )?;
+    limited(number, place)
 }
 
 /// A weight: a whole number, with the refusals of [`whole`], of at least 1, else Weight.
@@ -64,48 +52,36 @@ pub fn key(alloc: Global, text: &str, place: Place) -> Result<Name, ReadRefusal>
 }
 
 /// A value that has to be there, else Shape.
-#[tactic(auto, unfolding(crate::specs::Fields::present_at))]
+#[tactic(auto, unfolding(crate::specs::Fields::present_at, crate::specs::Values::present_or))]
 pub fn present<'v>(value: Option<&'v Value>, place: Place) -> Result<&'v Value, Refusal>
     ensures { Shows (λ v. view v.now) result
         (present_at place (option_map (λ v. view v.now) value.entry)) }
 {
-    match value {
-        Some(value) => Ok(value),
-        None => Err(RefusalKind::Shape.at(place)),
-    }
+    present_or(value, RefusalKind::Shape.at(place))
 }
 
 /// A string, else Shape.
-#[tactic(auto, unfolding(crate::specs::Fields::string_at))]
+#[tactic(auto, unfolding(crate::specs::Fields::string_at, crate::specs::Values::string_or))]
 pub fn string(value: &Value, place: Place) -> Result<&str, Refusal>
     ensures { Shows (λ s. s.now) result (string_at place (view value.now)) }
 {
-    match value.as_str() {
-        Some(text) => Ok(text),
-        None => Err(RefusalKind::Shape.at(place)),
-    }
+    string_or(value, RefusalKind::Shape.at(place))
 }
 
 /// An object, else Shape.
-#[tactic(auto, unfolding(crate::specs::Fields::object_at))]
+#[tactic(auto, unfolding(crate::specs::Fields::object_at, crate::specs::Values::object_or))]
 pub fn object(value: &Value, place: Place) -> Result<&Map<String, Value>, Refusal>
     ensures { Shows (λ m. members_view m.now.entries) result (object_at place (view value.now)) }
 {
-    match value.as_object() {
-        Some(members) => Ok(members),
-        None => Err(RefusalKind::Shape.at(place)),
-    }
+    object_or(value, RefusalKind::Shape.at(place))
 }
 
 /// An array, else Shape.
-#[tactic(auto, unfolding(crate::specs::Fields::array_at))]
+#[tactic(auto, unfolding(crate::specs::Fields::array_at, crate::specs::Values::array_or))]
 pub fn array(value: &Value, place: Place) -> Result<&[Value], Refusal>
     ensures { Shows (λ items. items_view items.now) result (array_at place (view value.now)) }
 {
-    match value.as_array() {
-        Some(items) => Ok(items.as_slice()),
-        None => Err(RefusalKind::Shape.at(place)),
-    }
+    array_or(value, RefusalKind::Shape.at(place))
 }
 
 /// Counts the members.

@@ -1,14 +1,16 @@
-//! Fields of JSON values at a place: numbers, names, texts, objects and arrays, each with its first refusal.
+//! Fields of JSON values: parts with any refusal, and those of a problem file at a place, each with its first refusal.
 #![tactic(auto)]
 
 pub mod field;
+pub mod json_value;
 pub mod limits;
 pub mod names;
 pub mod refusal;
-pub mod text;
+pub mod values;
 
 pub use field::{array, count, key, member, object, present, string, weight, whole};
+pub use json_value::json;
 pub use limits::{few, items, known, limited, members, name, short};
 pub use names::{Names, keys};
 pub use refusal::ReadRefusal;
-pub use text::json;
+pub use values::{array_or, integer_or, members_or, object_or, present_or, spelled, string_or};

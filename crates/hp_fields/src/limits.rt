@@ -5,10 +5,10 @@ ghost use Rattle.hp_fields.specs.Steps.{Shows};
 ghost use Rattle.hp_fields.specs.Fields.{key_at};
 ghost use Rattle.hp_fields.specs.Limits.{name_at, limited_at, known_at, members_at, items_at};
 
-use crate::field::{array, object, string};
+use crate::field::{array, string};
+use crate::values::members_or;
 use hp_num::Memory;
-use hp_problem::limits::{GREATEST_NUMBER, NAME_BYTES, PROBLEM_BYTES};
-use hp_problem::{Place, Refusal, RefusalKind};
+use hp_parts::{GREATEST_NUMBER, NAME_BYTES, PROBLEM_BYTES, Place, Refusal, RefusalKind};
 use serde_json::{Map, Value};
 
 /// A text of at most 128 bytes, else TooLarge.
@@ -54,7 +54,7 @@ pub fn known(number: Option<usize>, place: Place) -> Result<usize, Refusal>
 }
 
 /// An object's members, else Shape; those of `none`, which has none, where the object is absent.
-#[tactic(auto, unfolding(crate::specs::Limits::members_at))]
+#[tactic(auto, using(crate::proofs::Instances::members_is))]
 pub fn members<'v>(
     value: Option<&'v Value>,
     none: &'v Map<String, Value>,
@@ -64,10 +64,7 @@ pub fn members<'v>(
     ensures { Shows (λ m. members_view m.now.entries) result
         (members_at place (option_map (λ v. view v.now) value.entry)) }
 {
-    match value {
-        Some(value) => object(value, place),
-        None => Ok(none),
-    }
+    members_or(value, none, RefusalKind::Shape.at(place))
 }
 
 /// An array's items, else Shape; none where it is absent.

@@ -3,7 +3,7 @@ ghost use Rattle.std.specs.Prelude.{◌≡◌};
 ghost use Rattle.hp_fields.specs.declared.refusal.ReadRefusal.TheVariants as refusals;
 
 use hp_num::Memory;
-use hp_problem::Refusal;
+use hp_parts::Refusal;
 use std::alloc::{AllocError, AllocFailed};
 
 /// Why nothing was read.

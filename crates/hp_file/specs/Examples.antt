@@ -2,7 +2,7 @@
 use Rattle.std.specs.Prelude.{ℕ, ℤ, List, ◌++◌, map, Bool, Option, option_map, codes}
 use Rattle.serde_json.specs.Data.{Data}
 use Rattle.serde_json.specs.Read.{read}
-use Rattle.hp_file.specs.File.{Name, Function, Constraint, Node, File, ◌>>=◌}
+use Rattle.hp_file.specs.File.{Name, Function, Constraint, FileNode, File, ◌>>=◌}
 
 -- the value that f gives of the document in a text
 unfoldable pub said : {A : Type 0} → (Data → Option A) → List ℕ → Option A
@@ -17,8 +17,8 @@ abbrev pub tested : ℕ → List ℤ → Option Constraint → Option (List Bool
 tested units zs = option_map (λ (c : Constraint). map (λ z. c units (λ v. z)) zs)
 
 -- the value that f gives of the node k of a file
-abbrev pub at_node : {A : Type 0} → (Node → A) → Name → Option File → Option A
-at_node f k file = file >>= λ (g : File). option_map f (g.nodes k)
+abbrev pub at_node_example : {A : Type 0} → (FileNode → A) → Name → Option File → Option A
+at_node_example f k file = file >>= λ (g : File). option_map f (g.nodes k)
 
 -- ---- functions
 
@@ -46,8 +46,8 @@ quadratic = codes "{\"type\":\"ScalarQuadraticFunction\",\"terms\":[],\"quadrati
 abbrev pub lies_in : List ℕ → List ℕ
 lies_in set = codes "{\"function\":{\"type\":\"Variable\",\"name\":\"q\"},\"set\":" ++ set ++ codes "}"
 
-unfoldable pub equal_to : List ℕ
-equal_to = lies_in (codes "{\"type\":\"EqualTo\",\"value\":3}")
+unfoldable pub equal_to_example : List ℕ
+equal_to_example = lies_in (codes "{\"type\":\"EqualTo\",\"value\":3}")
 
 unfoldable pub greater_than : List ℕ
 greater_than = lies_in (codes "{\"type\":\"GreaterThan\",\"lower\":3}")
@@ -55,14 +55,14 @@ greater_than = lies_in (codes "{\"type\":\"GreaterThan\",\"lower\":3}")
 unfoldable pub less_than : List ℕ
 less_than = lies_in (codes "{\"type\":\"LessThan\",\"upper\":3}")
 
-unfoldable pub interval : List ℕ
-interval = lies_in (codes "{\"type\":\"Interval\",\"lower\":3,\"upper\":5}")
+unfoldable pub interval_example : List ℕ
+interval_example = lies_in (codes "{\"type\":\"Interval\",\"lower\":3,\"upper\":5}")
 
 unfoldable pub crossed_interval : List ℕ
 crossed_interval = lies_in (codes "{\"type\":\"Interval\",\"lower\":5,\"upper\":3}")
 
-unfoldable pub integer : List ℕ
-integer = lies_in (codes "{\"type\":\"Integer\"}")
+unfoldable pub integer_example : List ℕ
+integer_example = lies_in (codes "{\"type\":\"Integer\"}")
 
 -- q + 1 is at least 3
 unfoldable pub with_constant : List ℕ
@@ -70,11 +70,11 @@ with_constant = codes "{\"function\":{\"type\":\"ScalarAffineFunction\",\"terms\
 
 -- ---- objectives
 
-unfoldable pub least : List ℕ
-least = codes "{\"sense\":\"min\",\"function\":{\"type\":\"Variable\",\"name\":\"q\"}}"
+unfoldable pub least_example : List ℕ
+least_example = codes "{\"sense\":\"min\",\"function\":{\"type\":\"Variable\",\"name\":\"q\"}}"
 
-unfoldable pub greatest : List ℕ
-greatest = codes "{\"sense\":\"max\",\"function\":{\"type\":\"Variable\",\"name\":\"q\"}}"
+unfoldable pub greatest_example : List ℕ
+greatest_example = codes "{\"sense\":\"max\",\"function\":{\"type\":\"Variable\",\"name\":\"q\"}}"
 
 unfoldable pub feasible : List ℕ
 feasible = codes "{\"sense\":\"feasibility\"}"

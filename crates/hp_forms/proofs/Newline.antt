@@ -89,11 +89,11 @@ lex-newline : (c : Bool) (ts : List Token) → ArePrintable ts → lex between (
 unfolding lex print_from ArePrintable
 lex-newline c [] h = refl
 lex-newline c (t ∷ ts) h =
-    let rest = print_from (ends t) ts in
-    ap (lex between) (append_assoc (separator c t) (token_text t ++ rest) newline ∙ ap (λ l. separator c t ++ l) (append_assoc (token_text t) rest newline))
-    ∙ first_of_all c t (rest ++ newline) h.0 (λ e. ap (λ b. ends_word (print_from b ts ++ newline)) e ∙ ended_newline ts)
+    let tail = print_from (ends t) ts in
+    ap (lex between) (append_assoc (separator c t) (token_text t ++ tail) newline ∙ ap (λ l. separator c t ++ l) (append_assoc (token_text t) tail newline))
+    ∙ first_of_all c t (tail ++ newline) h.0 (λ e. ap (λ b. ends_word (print_from b ts ++ newline)) e ∙ ended_newline ts)
     ∙ ap (λ l. cond (c && begins t) (comma ∷ []) [] ++ (token_lexemes t ++ l)) (lex-newline (ends t) ts h.1)
-    ∙ sym (first_of_all c t rest h.0 (λ e. ap (λ b. ends_word (print_from b ts)) e ∙ ended ts))
+    ∙ sym (first_of_all c t tail h.0 (λ e. ap (λ b. ends_word (print_from b ts)) e ∙ ended ts))
 
 pub tokens-newline : (ts : List Token) → ArePrintable ts → tokens (print ts ++ newline) ≡ tokens (print ts)
 tokens-newline ts h = ap (punctuate fresh) (lex-newline false ts h)
@@ -108,26 +108,26 @@ joined (t ∷ ts) us h k = (h.0, joined ts us h.1 k)
 mutual
   unfolding ArePrintable
 
-  of_value : (j : Json) (rest : List Token) → ArePrintableOrBad (json_tokens j ++ rest) → ArePrintable (json_tokens j) × ArePrintableOrBad rest
-  of_value json.null rest h = ((tt, tt), h.1)
-  of_value (json.boolean b) rest h = ((tt, tt), h.1)
-  of_value (json.number s) rest h = ((h.0, tt), h.1)
-  of_value (json.string s) rest h = ((tt, tt), h.1)
-  of_value (json.array js) rest h = let r = of_items js rest h.1 in ((tt, r.0), r.1)
-  of_value (json.object ms) rest h = let r = of_members ms rest h.1 in ((tt, r.0), r.1)
+  of_value : (j : Json) (tail : List Token) → ArePrintableOrBad (json_tokens j ++ tail) → ArePrintable (json_tokens j) × ArePrintableOrBad tail
+  of_value json.null tail h = ((tt, tt), h.1)
+  of_value (json.boolean b) tail h = ((tt, tt), h.1)
+  of_value (json.number s) tail h = ((h.0, tt), h.1)
+  of_value (json.string s) tail h = ((tt, tt), h.1)
+  of_value (json.array js) tail h = let r = of_items js tail h.1 in ((tt, r.0), r.1)
+  of_value (json.object ms) tail h = let r = of_members ms tail h.1 in ((tt, r.0), r.1)
 
-  of_items : (js : Items) (rest : List Token) → ArePrintableOrBad (items_tokens js ++ rest) → ArePrintable (items_tokens js) × ArePrintableOrBad rest
-  of_items json.no_items rest h = ((tt, tt), h.1)
-  of_items (json.item j js) rest h =
-      let r = of_value j (items_tokens js ++ rest) (subst ArePrintableOrBad (append_assoc (json_tokens j) (items_tokens js) rest) h) in
-      let s = of_items js rest r.1 in
+  of_items : (js : Items) (tail : List Token) → ArePrintableOrBad (items_tokens js ++ tail) → ArePrintable (items_tokens js) × ArePrintableOrBad tail
+  of_items json.no_items tail h = ((tt, tt), h.1)
+  of_items (json.item j js) tail h =
+      let r = of_value j (items_tokens js ++ tail) (subst ArePrintableOrBad (append_assoc (json_tokens j) (items_tokens js) tail) h) in
+      let s = of_items js tail r.1 in
       (joined (json_tokens j) (items_tokens js) r.0 s.0, s.1)
 
-  of_members : (ms : Members) (rest : List Token) → ArePrintableOrBad (members_tokens ms ++ rest) → ArePrintable (members_tokens ms) × ArePrintableOrBad rest
-  of_members json.no_members rest h = ((tt, tt), h.1)
-  of_members (json.member k j ms) rest h =
-      let r = of_value j (members_tokens ms ++ rest) (subst ArePrintableOrBad (append_assoc (json_tokens j) (members_tokens ms) rest) h.1) in
-      let s = of_members ms rest r.1 in
+  of_members : (ms : Members) (tail : List Token) → ArePrintableOrBad (members_tokens ms ++ tail) → ArePrintable (members_tokens ms) × ArePrintableOrBad tail
+  of_members json.no_members tail h = ((tt, tt), h.1)
+  of_members (json.member k j ms) tail h =
+      let r = of_value j (members_tokens ms ++ tail) (subst ArePrintableOrBad (append_assoc (json_tokens j) (members_tokens ms) tail) h.1) in
+      let s = of_members ms tail r.1 in
       ((tt, joined (json_tokens j) (members_tokens ms) r.0 s.0), s.1)
 
 printable : (text : List ℕ) (j : Json) → tokens text ≡ json_tokens j → ArePrintable (tokens text)

@@ -5,7 +5,7 @@ use Rattle.std.specs.List.{flat_map}
 use Rattle.serde_json.specs.Data.{Data, string, array, object, Members, no_members, member, depth, items_depth, members_depth}
 use Rattle.serde_json.specs.View.{items_of}
 use Rattle.serde_json.specs.Written.{has_float, items_have_float, members_have_float}
-use Rattle.hp_forms.specs.Listed.{members_from, members_by, whole, integer}
+use Rattle.hp_forms.specs.Listed.{members_from, members_by, whole_data, integer}
 use Rattle.hp_forms.specs.Stage as stage
 use Rattle.hp_forms.specs.Nodes as nodes
 
@@ -25,7 +25,7 @@ pub record PlainMembers (levels : ℕ) (ms : Members) : Type 0 where
 pub deeper : (k l : ℕ) (d : Data) → k ≤ l → Plain k d → Plain l d
 deeper k l d h p = record { whole = p.whole; shallow = omega arith }
 
-pub plain_whole : (k n : ℕ) → Plain k (whole n)
+pub plain_whole : (k n : ℕ) → Plain k (whole_data n)
 plain_whole k n = record { whole = refl; shallow = omega arith }
 
 pub plain_string : (k : ℕ) (s : List ℕ) → Plain k (string s)
@@ -102,8 +102,8 @@ unfolding stage.row stage.equal_to
 row_plain value ts p =
     plain_object 3 _ (with_member 3 _ _ _ (affine_plain ts p) (with_member 3 _ _ _ (plain_object 2 _ (with_member 2 _ _ _ (plain_string 2 _) (with_member 2 _ _ _ (plain_whole 2 value) (none 2)))) (none 3)))
 
-pub bound_plain : (name : List ℕ) (low high : ℤ) → Plain 4 (stage.bound name low high)
-unfolding stage.bound stage.single stage.interval
+pub bound_plain : (name : List ℕ) (low high : ℤ) → Plain 4 (stage.variable_bound name low high)
+unfolding stage.variable_bound stage.single stage.interval
 bound_plain name low high =
     plain_object 3 _ (with_member 3 _ _ _ (plain_object 2 _ (with_member 2 _ _ _ (plain_string 2 name) (with_member 2 _ _ _ (plain_string 2 _) (none 2))))
     (with_member 3 _ _ _ (plain_object 2 _ (with_member 2 _ _ _ (plain_integer 2 low) (with_member 2 _ _ _ (plain_string 2 _) (with_member 2 _ _ _ (plain_integer 2 high) (none 2))))) (none 3)))
@@ -116,25 +116,25 @@ pub state_plain : (incoming outgoing : List ℕ) → Plain 1 (stage.state_betwee
 unfolding stage.state_between
 state_plain incoming outgoing = plain_object 0 _ (with_member 0 _ _ _ (plain_string 0 _) (with_member 0 _ _ _ (plain_string 0 _) (none 0)))
 
-pub program_plain : (constraints : List Data) (objective : Data) (variables : List Data) → PlainList 4 constraints → Plain 4 objective → PlainList 1 variables → Plain 6 (stage.program_of constraints objective variables)
-unfolding stage.program_of
+pub program_plain : (constraints : List Data) (objective : Data) (variables : List Data) → PlainList 4 constraints → Plain 4 objective → PlainList 1 variables → Plain 6 (stage.program_form constraints objective variables)
+unfolding stage.program_form
 program_plain constraints objective variables p q r =
     plain_object 5 _ (with_member 5 _ _ _ (plain_array 4 constraints p) (with_member 5 _ _ _ (deeper 4 5 objective (omega arith) q)
     (with_member 5 _ _ _ (deeper 2 5 (array (items_of variables)) (omega arith) (plain_array 1 variables r)) (none 5))))
 
-pub subproblem_plain : (randoms : List Data) (states : Members) (program : Data) → PlainList 0 randoms → PlainMembers 1 states → Plain 6 program → Plain 7 (stage.subproblem_of randoms states program)
-unfolding stage.subproblem_of
+pub subproblem_plain : (randoms : List Data) (states : Members) (program : Data) → PlainList 0 randoms → PlainMembers 1 states → Plain 6 program → Plain 7 (stage.subproblem_form randoms states program)
+unfolding stage.subproblem_form
 subproblem_plain randoms states program p q r =
     plain_object 6 _ (with_member 6 _ _ _ (deeper 1 6 (array (items_of randoms)) (omega arith) (plain_array 0 randoms p)) (with_member 6 _ _ _ (deeper 2 6 (object states) (omega arith) (plain_object 1 states q)) (with_member 6 _ _ _ r (none 6))))
 
 -- ---- nodes, and the whole
 
-pub realization_plain : (weight : ℕ) (support : Members) → PlainMembers 0 support → Plain 2 (nodes.realization_of weight support)
-unfolding nodes.realization_of
+pub realization_plain : (weight : ℕ) (support : Members) → PlainMembers 0 support → Plain 2 (nodes.realization_form weight support)
+unfolding nodes.realization_form
 realization_plain weight support p = plain_object 1 _ (with_member 1 _ _ _ (plain_whole 1 weight) (with_member 1 _ _ _ (plain_object 0 support p) (none 1)))
 
-pub node_plain : (realizations : List Data) (successors : Members) → PlainList 2 realizations → PlainMembers 0 successors → Plain 4 (nodes.node_of realizations successors)
-unfolding nodes.node_of
+pub node_plain : (realizations : List Data) (successors : Members) → PlainList 2 realizations → PlainMembers 0 successors → Plain 4 (nodes.node_form realizations successors)
+unfolding nodes.node_form
 node_plain realizations successors p q =
     plain_object 3 _ (with_member 3 _ _ _ (plain_array 2 realizations p) (with_member 3 _ _ _ (plain_string 3 _) (with_member 3 _ _ _ (deeper 1 3 (object successors) (omega arith) (plain_object 0 successors q)) (none 3))))
 
@@ -146,8 +146,8 @@ version_plain : Plain 1 nodes.version
 unfolding nodes.version
 version_plain = plain_object 0 _ (with_member 0 _ _ _ (plain_whole 0 1) (with_member 0 _ _ _ (plain_whole 0 0) (none 0)))
 
-pub problem_plain : (all : Members) (root subproblem : Data) → PlainMembers 4 all → Plain 2 root → Plain 7 subproblem → Plain 9 (nodes.problem_of all root subproblem)
-unfolding nodes.problem_of
+pub problem_plain : (all : Members) (root subproblem : Data) → PlainMembers 4 all → Plain 2 root → Plain 7 subproblem → Plain 9 (nodes.problem_form all root subproblem)
+unfolding nodes.problem_form
 problem_plain all root subproblem p q r =
     plain_object 8 _ (with_member 8 _ _ _ (deeper 5 8 (object all) (omega arith) (plain_object 4 all p)) (with_member 8 _ _ _ (deeper 2 8 root (omega arith) q)
     (with_member 8 _ _ _ (plain_object 7 _ (with_member 7 _ _ _ r (none 7))) (with_member 8 _ _ _ (deeper 1 8 nodes.version (omega arith) version_plain) (none 8)))))

@@ -5,7 +5,7 @@ use Rattle.std.specs.Cmp.Lexicographic.{slice_cmp}
 use Rattle.std.specs.Ordering.{is_lt}
 use Rattle.std.proofs.lemmas.Cmp.{nat_list_cmp_total}
 use Rattle.serde_json.specs.Data.{Data, no_members, member, put}
-use Rattle.hp_problem.specs.Distinct.{rises, is_before}
+use Rattle.hp_parts.specs.Distinct.{rises, is_before}
 use Rattle.hp_forms.specs.Listed.{members_by, put_by}
 use Rattle.hp_forms.proofs.Orders.{above_from_below}
 

@@ -13,8 +13,8 @@ abbrev pub members_by : {A : Type 0} → (A → List ℕ) → (A → Data) → L
 members_by key value [] = no_members
 members_by key value (x ∷ xs) = member (key x) (value x) (members_by key value xs)
 
-abbrev pub whole : ℕ → Data
-whole n = number (unsigned n)
+abbrev pub whole_data : ℕ → Data
+whole_data n = number (unsigned n)
 
 abbrev pub integer : ℤ → Data
 integer z = number (of_integer z)

@@ -2,7 +2,7 @@
 use Rattle.std.specs.Prelude.{ℕ, ℤ, List, codes}
 use Rattle.serde_json.specs.Data.{Data, string, array, object, Members, no_members, member}
 use Rattle.serde_json.specs.View.{items_of}
-use Rattle.hp_forms.specs.Listed.{whole, integer}
+use Rattle.hp_forms.specs.Listed.{whole_data, integer}
 
 unfoldable pub variable : List ℕ → Data
 variable name = object (member (codes "name") (string name) no_members)
@@ -12,10 +12,10 @@ term coefficient name = object (member (codes "coefficient") (integer coefficien
 
 -- the sum of the terms
 unfoldable pub affine : List Data → Data
-affine terms = object (member (codes "constant") (whole 0) (member (codes "terms") (array (items_of terms)) (member (codes "type") (string (codes "ScalarAffineFunction")) no_members)))
+affine terms = object (member (codes "constant") (whole_data 0) (member (codes "terms") (array (items_of terms)) (member (codes "type") (string (codes "ScalarAffineFunction")) no_members)))
 
 unfoldable pub equal_to : ℕ → Data
-equal_to value = object (member (codes "type") (string (codes "EqualTo")) (member (codes "value") (whole value) no_members))
+equal_to value = object (member (codes "type") (string (codes "EqualTo")) (member (codes "value") (whole_data value) no_members))
 
 -- the sum of the terms is the value
 unfoldable pub row : ℕ → List Data → Data
@@ -28,8 +28,8 @@ unfoldable pub interval : ℤ → ℤ → Data
 interval low high = object (member (codes "lower") (integer low) (member (codes "type") (string (codes "Interval")) (member (codes "upper") (integer high) no_members)))
 
 -- the variable is from low to high
-unfoldable pub bound : List ℕ → ℤ → ℤ → Data
-bound name low high = object (member (codes "function") (single name) (member (codes "set") (interval low high) no_members))
+unfoldable pub variable_bound : List ℕ → ℤ → ℤ → Data
+variable_bound name low high = object (member (codes "function") (single name) (member (codes "set") (interval low high) no_members))
 
 -- the least sum of the terms is sought
 unfoldable pub least_sum : List Data → Data
@@ -39,14 +39,14 @@ least_sum terms = object (member (codes "function") (affine terms) (member (code
 unfoldable pub state_between : List ℕ → List ℕ → Data
 state_between incoming outgoing = object (member (codes "in") (string incoming) (member (codes "out") (string outgoing) no_members))
 
-unfoldable pub program_of : List Data → Data → List Data → Data
-program_of constraints objective variables = object (
+unfoldable pub program_form : List Data → Data → List Data → Data
+program_form constraints objective variables = object (
     member (codes "constraints") (array (items_of constraints))
     (member (codes "objective") objective
     (member (codes "variables") (array (items_of variables)) no_members)))
 
-unfoldable pub subproblem_of : List Data → Members → Data → Data
-subproblem_of randoms states program = object (
+unfoldable pub subproblem_form : List Data → Members → Data → Data
+subproblem_form randoms states program = object (
     member (codes "random_variables") (array (items_of randoms))
     (member (codes "state_variables") (object states)
     (member (codes "subproblem") program no_members)))

@@ -1,33 +1,33 @@
 // The nodes and the file as a whole.
 ghost use Rattle.std.specs.Prelude.{◌≡◌, map, IfOk};
 ghost use Rattle.serde_json.specs.View.{view, members_view};
-ghost use Rattle.hp_forms.specs.Nodes.{realization_of, node_of, root_of, version, problem_of};
+ghost use Rattle.hp_forms.specs.Nodes.{realization_form, node_form, root_of, version, problem_form};
 
 use serde_json::{Map, Value, json};
 use std::alloc::{AllocError, Global};
 
 /// A realization of some weight. [`AllocError`] where memory was refused, as of all functions here.
-#[tactic(auto, unfolding(crate::specs::Nodes::realization_of))]
+#[tactic(auto, unfolding(crate::specs::Nodes::realization_form))]
 pub fn realization(
     alloc: Global,
     weight: u32,
     support: Map<String, Value>,
 ) -> Result<Value, AllocError>
-    ensures { IfOk result (λ v. view v ≡ realization_of weight (members_view support.entries)) }
+    ensures { IfOk result (λ v. view v ≡ realization_form weight (members_view support.entries)) }
 {
     let support = Value::Object(support);
     json!(in alloc; {"probability": weight, "support": support})
 }
 
 /// A node with the subproblem `p`.
-#[tactic(auto, unfolding(crate::specs::Nodes::node_of))]
+#[tactic(auto, unfolding(crate::specs::Nodes::node_form))]
 pub fn node(
     alloc: Global,
     realizations: Vec<Value>,
     successors: Map<String, Value>,
 ) -> Result<Value, AllocError>
     ensures { IfOk result (λ v. view v
-        ≡ node_of (map view realizations.items) (members_view successors.entries)) }
+        ≡ node_form (map view realizations.items) (members_view successors.entries)) }
 {
     let successors = Value::Object(successors);
     json!(in alloc; {
@@ -59,7 +59,7 @@ pub fn version(alloc: Global) -> Result<Value, AllocError>
 }
 
 /// A problem file whose nodes all have the subproblem `p`.
-#[tactic(auto, unfolding(crate::specs::Nodes::problem_of))]
+#[tactic(auto, unfolding(crate::specs::Nodes::problem_form))]
 pub fn problem(
     alloc: Global,
     nodes: Map<String, Value>,
@@ -67,7 +67,7 @@ pub fn problem(
     subproblem: Value,
 ) -> Result<Value, AllocError>
     ensures { IfOk result (λ v. view v
-        ≡ problem_of (members_view nodes.entries) (view root) (view subproblem)) }
+        ≡ problem_form (members_view nodes.entries) (view root) (view subproblem)) }
 {
     let nodes = Value::Object(nodes);
     let version = version(alloc)?;

@@ -3,7 +3,7 @@ ghost use Rattle.std.specs.Prelude.{◌≡◌, [], ◌∷◌, ◌++◌, map, IfO
 ghost use Rattle.serde_json.specs.Data.{string, put};
 ghost use Rattle.serde_json.specs.View.{view, members_view};
 ghost use Rattle.hp_forms.specs.Listed.{integer};
-ghost use Rattle.hp_forms.specs.Stage.{variable, term, affine, equal_to, row, single, interval, bound, least_sum, state_between, program_of, subproblem_of};
+ghost use Rattle.hp_forms.specs.Stage.{variable, term, affine, equal_to, row, single, interval, variable_bound, least_sum, state_between, program_form, subproblem_form};
 
 use serde_json::{Map, Value, json};
 use std::alloc::{AllocError, Global};
@@ -64,9 +64,9 @@ fn interval(alloc: Global, low: i64, high: i64) -> Result<Value, AllocError>
 }
 
 /// The bound that says that a variable is from `low` to `high`.
-#[tactic(auto, unfolding(crate::specs::Stage::bound))]
+#[tactic(auto, unfolding(crate::specs::Stage::variable_bound))]
 pub fn bound(alloc: Global, name: &str, low: i64, high: i64) -> Result<Value, AllocError>
-    ensures { IfOk result (λ v. view v ≡ bound name.now low high) }
+    ensures { IfOk result (λ v. view v ≡ variable_bound name.now low high) }
 {
     let function = single(alloc, name)?;
     let set = interval(alloc, low, high)?;
@@ -91,7 +91,7 @@ pub fn state_between(alloc: Global, incoming: &str, outgoing: &str) -> Result<Va
 }
 
 /// The program of a subproblem.
-#[tactic(auto, unfolding(crate::specs::Stage::program_of))]
+#[tactic(auto, unfolding(crate::specs::Stage::program_form))]
 pub fn program(
     alloc: Global,
     constraints: Vec<Value>,
@@ -99,13 +99,13 @@ pub fn program(
     variables: Vec<Value>,
 ) -> Result<Value, AllocError>
     ensures { IfOk result (λ v. view v
-        ≡ program_of (map view constraints.items) (view objective) (map view variables.items)) }
+        ≡ program_form (map view constraints.items) (view objective) (map view variables.items)) }
 {
     json!(in alloc; {"variables": variables, "objective": objective, "constraints": constraints})
 }
 
 /// A subproblem: its random variables, its states and its program.
-#[tactic(auto, unfolding(crate::specs::Stage::subproblem_of))]
+#[tactic(auto, unfolding(crate::specs::Stage::subproblem_form))]
 pub fn subproblem(
     alloc: Global,
     randoms: Vec<Value>,
@@ -113,7 +113,7 @@ pub fn subproblem(
     program: Value,
 ) -> Result<Value, AllocError>
     ensures { IfOk result (λ v. view v
-        ≡ subproblem_of (map view randoms.items) (members_view states.entries) (view program)) }
+        ≡ subproblem_form (map view randoms.items) (members_view states.entries) (view program)) }
 {
     let states = Value::Object(states);
     json!(in alloc; {"state_variables": states, "random_variables": randoms, "subproblem": program})
@@ -157,7 +157,7 @@ pub fn push_bound(
     high: i64,
 ) -> Result<(), AllocError>
     ensures { OnOk result (map view list.new.items
-        ≡ map view list.old.items ++ bound name.now low high ∷ []) }
+        ≡ map view list.old.items ++ variable_bound name.now low high ∷ []) }
 {
     Ok(list.push(bound(alloc, name, low, high)?)?)
 }

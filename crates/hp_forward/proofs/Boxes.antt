@@ -8,23 +8,23 @@ use Rattle.std.proofs.lemmas.List.{get_or-map, get_or_default, length-map}
 use Rattle.hp_num.specs.Sums.{entry}
 use Rattle.hp_num.proofs.Order.{le_trans, le_scale}
 use Rattle.hp_num.proofs.Tests.{all_at, some_of}
-use Rattle.hp_problem.specs.declared.raw.Decision.{Decision}
-use Rattle.hp_problem.specs.declared.raw.Node as nodes
-use Rattle.hp_problem.specs.declared.raw.Subproblem.{Subproblem}
-use Rattle.hp_problem.specs.Limits.{decision_fits}
-use Rattle.hp_problem.specs.Parts.{successors_at}
-use Rattle.hp_problem.specs.Sealed.{Sealed, is_sealed}
-use Rattle.hp_problem.proofs.SubproblemFacts.{decisions-subproblem_fits}
+use Rattle.hp_parts.specs.declared.parts.Decision.{Decision}
+use Rattle.hp_parts.specs.declared.parts.Node as nodes
+use Rattle.hp_parts.specs.declared.parts.Subproblem.{Subproblem}
+use Rattle.hp_parts.specs.Limits.{decision_fits}
+use Rattle.hp_parts.specs.Parts.{successors_at}
+use Rattle.hp_problem.specs.Validated.{Validated, is_validated}
+use Rattle.hp_parts.proofs.SubproblemFacts.{decisions-subproblem_fits}
 use Rattle.hp_sampler.proofs.Draws.{made_at}
 use Rattle.hp_solver.specs.declared.fixed.Fx.{Fx}
-use Rattle.hp_theory.specs.Problem.{S, Link, Node, node_at}
+use Rattle.hp_theory.specs.Problem.{S, Successor, Node, node_at}
 use Rattle.hp_theory.specs.Premises.{Nested}
 use Rattle.hp_theory.specs.Tree.{InBox, next_state}
-use Rattle.hp_theory.specs.View.{node_of, links_of, problem_of}
-use Rattle.hp_theory.proofs.SealedParts.{Parts, parts, linked}
-use Rattle.hp_theory.proofs.SealedPremises.{shaped-sealed}
-use Rattle.hp_theory.proofs.Views.{link_at, length-links_of, links-node_of}
-use Rattle.hp_forward.specs.Deciding.{decision_at, decisions_at}
+use Rattle.hp_theory.specs.View.{node_of, successors_of, problem_of}
+use Rattle.hp_theory.proofs.ValidatedParts.{Parts, parts_of_node, linked}
+use Rattle.hp_theory.proofs.ValidatedPremises.{shaped-validated}
+use Rattle.hp_theory.proofs.Views.{successor_at, length-successors_of, successors-node_of}
+use Rattle.hp_forward.specs.Deciding.{decision_from_point, decisions_from_point}
 use Rattle.hp_forward.proofs.Decisions.{length-table, entry-table}
 
 -- the box of the decision j of a node: its ends are in order and small
@@ -53,13 +53,13 @@ count-node_of : (n : nodes.Node) (s : Subproblem) (low high : List ℤ) → leng
 unfolding node_of
 count-node_of n s low high = length-map s.decisions (λ (d : Decision). d.low)
 
-pub boxes-sealed : (p : Sealed) (m : ℕ) → is_sealed p ≡ true → m < length p.raw.nodes → (j : ℕ) → j < length (node_at (problem_of p) m).decision_low → HasBox (node_at (problem_of p) m) j
-boxes-sealed p m e h j k =
-    let q : Parts p m = parts p m e h in
+pub boxes-validated : (p : Validated) (m : ℕ) → is_validated p ≡ true → m < length p.parts.nodes → (j : ℕ) → j < length (node_at (problem_of p) m).decision_low → HasBox (node_at (problem_of p) m) j
+boxes-validated p m e h j k =
+    let q : Parts p m = parts_of_node p m e h in
     let count = ap (λ (n : Node). length n.decision_low) q.fit.is ∙ count-node_of q.node q.subproblem q.low q.high in
     subst (λ (n : Node). HasBox n j) (sym q.fit.is)
-    (box-node_of q.node q.subproblem q.low q.high (length p.raw.states) j (omega (arith, k, count))
-    (λ i d l. all_at decision_fits q.subproblem.decisions i d (decisions-subproblem_fits (length p.raw.states) q.subproblem q.fit.subproblem) l))
+    (box-node_of q.node q.subproblem q.low q.high (length p.parts.states) j (omega (arith, k, count))
+    (λ i d l. all_at decision_fits q.subproblem.decisions i d (decisions-subproblem_fits (length p.parts.states) q.subproblem q.fit.subproblem) l))
 
 -- the nearest number in a box is in it
 boxed_above : (z l h : ℤ) → l ≤ℤ int_max (int_min z h) l
@@ -69,9 +69,9 @@ boxed_below : (z l h : ℤ) → l ≤ℤ h → int_max (int_min z h) l ≤ℤ h
 boxed_below z l h k = omega (arith, ints, clamps, k)
 
 -- decisions are in their boxes
-pub decisions_inside : (n : Node) (point : List Fx) → ((j : ℕ) → j < length n.decision_low → HasBox n j) → InBox S n.decision_low n.decision_high (decisions_at n point)
+pub decisions_inside : (n : Node) (point : List Fx) → ((j : ℕ) → j < length n.decision_low → HasBox n j) → InBox S n.decision_low n.decision_high (decisions_from_point n point)
 decisions_inside n point boxes =
-    let f : ℕ → ℤ = λ j. decision_at point j (entry n.decision_low j) (entry n.decision_high j) in
+    let f : ℕ → ℤ = λ j. decision_from_point point j (entry n.decision_low j) (entry n.decision_high j) in
     record {
       count = length-table (length n.decision_low) f;
       above = λ j h. subst (λ (z : ℤ). (pos S *ℤ entry n.decision_low j) ≤ℤ z) (sym (entry-table (length n.decision_low) f j h)) (boxed_above _ (pos S *ℤ entry n.decision_low j) (pos S *ℤ entry n.decision_high j));
@@ -89,16 +89,16 @@ next_inside n k u nested b = record {
     at : (j : ℕ) → j < length k.low → entry (next_state n u) j ≡ entry u (get_or n.outs j 0)
     at j h = get_or-map (λ o. entry u o) n.outs j 0 (pos 0) (omega (arith, h, nested.count))
 
-pub nested-sealed : (p : Sealed) (m k : ℕ) → is_sealed p ≡ true → m < length p.raw.nodes → Contains (successors_at p.raw m) k → Nested (node_at (problem_of p) m) (node_at (problem_of p) k)
-nested-sealed p m k e h c =
-    let q : Parts p m = parts p m e h in
-    let l = linked q.node (length p.raw.nodes) q.fit.links in
-    let own : successors_at p.raw m ≡ q.node.links = made_at (λ (n : nodes.Node). n.links) p.raw.nodes m q.node [] q.fit.the_node in
+pub nested-validated : (p : Validated) (m k : ℕ) → is_validated p ≡ true → m < length p.parts.nodes → Contains (successors_at p.parts m) k → Nested (node_at (problem_of p) m) (node_at (problem_of p) k)
+nested-validated p m k e h c =
+    let q : Parts p m = parts_of_node p m e h in
+    let l = linked q.node (length p.parts.nodes) q.fit.successors in
+    let own : successors_at p.parts m ≡ q.node.successors = made_at (λ (n : nodes.Node). n.successors) p.parts.nodes m q.node [] q.fit.the_node in
     let i : ℕ = c.0 in
-    let inside : i < length q.node.links = subst (λ (ks : List ℕ). i < length ks) own c.1 in
-    let no_link : Link = record { node = 0; weight = 0 } in
-    let links : (node_at (problem_of p) m).links ≡ links_of q.node.links q.node.link_weights = ap (λ (n : Node). n.links) q.fit.is ∙ links-node_of q.node q.subproblem q.low q.high in
-    let there : i < length (node_at (problem_of p) m).links = subst (λ (ls : List Link). i < length ls) (sym links) (omega (arith, inside, length-links_of q.node.links q.node.link_weights l.1)) in
-    let at : get_or (node_at (problem_of p) m).links i no_link ≡ record { node = get_or q.node.links i 0; weight = get_or q.node.link_weights i 0 } = ap (λ (ls : List Link). get_or ls i no_link) links ∙ link_at q.node.links q.node.link_weights i no_link l.1 inside in
-    let is : get_or q.node.links i 0 ≡ k = get_or_default q.node.links i 0 k inside ∙ ap (λ (ks : List ℕ). get_or ks i k) (sym own) ∙ c.2 in
-    subst (λ (x : ℕ). Nested (node_at (problem_of p) m) (node_at (problem_of p) x)) (ap (λ (x : Link). x.node) at ∙ is) ((shaped-sealed p m e h).nested i no_link there)
+    let inside : i < length q.node.successors = subst (λ (ks : List ℕ). i < length ks) own c.1 in
+    let no_successor : Successor = record { node = 0; weight = 0 } in
+    let successors : (node_at (problem_of p) m).successors ≡ successors_of q.node.successors q.node.successor_weights = ap (λ (n : Node). n.successors) q.fit.is ∙ successors-node_of q.node q.subproblem q.low q.high in
+    let there : i < length (node_at (problem_of p) m).successors = subst (λ (ls : List Successor). i < length ls) (sym successors) (omega (arith, inside, length-successors_of q.node.successors q.node.successor_weights l.1)) in
+    let at : get_or (node_at (problem_of p) m).successors i no_successor ≡ record { node = get_or q.node.successors i 0; weight = get_or q.node.successor_weights i 0 } = ap (λ (ls : List Successor). get_or ls i no_successor) successors ∙ successor_at q.node.successors q.node.successor_weights i no_successor l.1 inside in
+    let is : get_or q.node.successors i 0 ≡ k = get_or_default q.node.successors i 0 k inside ∙ ap (λ (ks : List ℕ). get_or ks i k) (sym own) ∙ c.2 in
+    subst (λ (x : ℕ). Nested (node_at (problem_of p) m) (node_at (problem_of p) x)) (ap (λ (x : Successor). x.node) at ∙ is) ((shaped-validated p m e h).nested i no_successor there)

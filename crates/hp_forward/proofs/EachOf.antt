@@ -6,7 +6,7 @@ use Rattle.hp_num.specs.Steps.{◌>>=◌}
 use Rattle.hp_num.proofs.Sums.{All_head, All_tail}
 use Rattle.hp_forward.specs.Walking.{each_of, in_turn}
 
-none_first : {B E : Type 0} (rest : Result (List B) E) → rest ≡ in_turn (Ok []) rest
+none_first : {B E : Type 0} (tail : Result (List B) E) → tail ≡ in_turn (Ok []) tail
 none_first (Ok zs) = refl
 none_first (Err e) = refl
 
@@ -64,20 +64,20 @@ module _ {A B E : Type 0} (f : A → Result B E) where
     each_holds P h (x ∷ xs) ys all e = by (λ zs. each_holds P h xs zs (All_tail Q x xs all)) (f x) refl (each_of f xs) refl
       where
         by : ((zs : List B) → each_of f xs ≡ Ok zs → Each P xs zs) → (r : Result B E) → f x ≡ r → (s : Result (List B) E) → each_of f xs ≡ s → Each P (x ∷ xs) ys
-        by rest (Err d) is s ss = absurd (no (sym (stopped x xs d is) ∙ e))
+        by tail (Err d) is s ss = absurd (no (sym (stopped x xs d is) ∙ e))
           where
             no : Err d ≡ Ok ys → ⊥
             no g = cc
-        by rest (Ok y) is (Err d) ss = absurd (no (sym (both is ss) ∙ e))
+        by tail (Ok y) is (Err d) ss = absurd (no (sym (both is ss) ∙ e))
           where
             both : f x ≡ Ok y → each_of f xs ≡ Err d → each_of f (x ∷ xs) ≡ Err d
             both a b = rw (a, b) refl
 
             no : Err d ≡ Ok ys → ⊥
             no g = cc
-        by rest (Ok y) is (Ok zs) ss =
-            let tail = rest zs ss in
-            subst (λ (us : List B). Each P (x ∷ xs) us) (ok_same (y ∷ zs) ys (sym (both is ss) ∙ e)) (record { count = ap suc tail.count; each = All-cons (λ (q : A × B). P q.0 q.1) (x, y) (zip xs zs) (h x y (All_head Q x xs all) is) tail.each })
+        by tail (Ok y) is (Ok zs) ss =
+            let behind = tail zs ss in
+            subst (λ (us : List B). Each P (x ∷ xs) us) (ok_same (y ∷ zs) ys (sym (both is ss) ∙ e)) (record { count = ap suc behind.count; each = All-cons (λ (q : A × B). P q.0 q.1) (x, y) (zip xs zs) (h x y (All_head Q x xs all) is) behind.each })
           where
             both : f x ≡ Ok y → each_of f xs ≡ Ok zs → each_of f (x ∷ xs) ≡ Ok (y ∷ zs)
             both a b = rw (a, b) refl
@@ -91,12 +91,12 @@ module _ {A B E : Type 0} (f : A → Result B E) where
     each_refuses D h (x ∷ xs) d all e = by (each_refuses D h xs d (All_tail Q x xs all)) (f x) refl (each_of f xs) refl
       where
         by : (each_of f xs ≡ Err d → D d) → (r : Result B E) → f x ≡ r → (s : Result (List B) E) → each_of f xs ≡ s → D d
-        by rest (Err c) is s ss = subst D (refusal_same {B = B} c d (sym (stopped x xs c is) ∙ e)) (h x c (All_head Q x xs all) is)
-        by rest (Ok y) is (Err c) ss = rest (ss ∙ sym (both is ss) ∙ e)
+        by tail (Err c) is s ss = subst D (refusal_same {B = B} c d (sym (stopped x xs c is) ∙ e)) (h x c (All_head Q x xs all) is)
+        by tail (Ok y) is (Err c) ss = tail (ss ∙ sym (both is ss) ∙ e)
           where
             both : f x ≡ Ok y → each_of f xs ≡ Err c → each_of f (x ∷ xs) ≡ Err c
             both a b = rw (a, b) refl
-        by rest (Ok y) is (Ok zs) ss = absurd (no (sym (both is ss) ∙ e))
+        by tail (Ok y) is (Ok zs) ss = absurd (no (sym (both is ss) ∙ e))
           where
             both : f x ≡ Ok y → each_of f xs ≡ Ok zs → each_of f (x ∷ xs) ≡ Ok (y ∷ zs)
             both a b = rw (a, b) refl

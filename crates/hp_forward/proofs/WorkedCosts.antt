@@ -4,7 +4,7 @@ use Rattle.hp_solver.specs.Numbers.{number}
 use Rattle.hp_theory.specs.Problem.{S}
 use Rattle.hp_theory.specs.Examples.{reservoir}
 use Rattle.hp_forward.specs.Costing.{residual_of, residuals_of, stage_cost_of}
-use Rattle.hp_forward.specs.Deciding.{decisions_at}
+use Rattle.hp_forward.specs.Deciding.{decisions_from_point}
 
 pub both_met : residuals_of (reservoir 1) (pos 0 ∷ pos 83886080 ∷ pos 67108864 ∷ []) (pos 67108864 ∷ []) (pos 1 ∷ []) ≡ pos 0 ∷ pos 0 ∷ []
 unfolding S residual_of
@@ -18,6 +18,6 @@ pub both_missed : residuals_of (reservoir 1) (pos 0 ∷ pos 67108864 ∷ pos 671
 unfolding S residual_of
 both_missed = refl
 
-pub three_decided : decisions_at (reservoir 1) (map number (pos 511 ∷ pos (2 ^ 40) ∷ [])) ≡ pos 1 ∷ pos 134217728 ∷ pos 0 ∷ []
+pub three_decided : decisions_from_point (reservoir 1) (map number (pos 511 ∷ pos (2 ^ 40) ∷ [])) ≡ pos 1 ∷ pos 134217728 ∷ pos 0 ∷ []
 unfolding S
 three_decided = refl

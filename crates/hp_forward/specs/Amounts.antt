@@ -1,9 +1,9 @@
 -- Rows and costs over numbers that are small enough for 128 bits.
 use Rattle.std.specs.Prelude.{◌≡◌, ◌≤◌, ◌^◌, ℤ, true, nat_abs, List, length, map, All}
-use Rattle.hp_problem.specs.declared.raw.Row.{Row}
-use Rattle.hp_problem.specs.declared.raw.Decision.{Decision}
-use Rattle.hp_problem.specs.declared.raw.Subproblem.{Subproblem}
-use Rattle.hp_problem.specs.Limits.{terms_fit}
+use Rattle.hp_parts.specs.declared.parts.Row.{Row}
+use Rattle.hp_parts.specs.declared.parts.Decision.{Decision}
+use Rattle.hp_parts.specs.declared.parts.Subproblem.{Subproblem}
+use Rattle.hp_parts.specs.Limits.{terms_fit}
 use Rattle.hp_theory.specs.Problem.{S}
 use Rattle.hp_theory.specs.Tree.{times_all}
 
@@ -18,13 +18,13 @@ pub record AreFactors (cs xs : List ℤ) : Type 0 where
   pub small : All (λ z. nat_abs z ≤ 2 ^ 40) cs
 
 -- decisions, a state and values for a node
-pub record AreGiven (u x values : List ℤ) : Type 0 where
+pub record AreStageAmounts (u x values : List ℤ) : Type 0 where
   pub of_decisions : AreAmounts u
   pub of_state : AreAmounts x
   pub of_values : AreAmounts (times_all S values)
 
 -- the terms of a row are over these
-pub record IsOver (u x values : List ℤ) (row : Row) : Type 0 where
+pub record AreTermsOver (u x values : List ℤ) (row : Row) : Type 0 where
   pub decisions : terms_fit (length u) 0 row.decisions ≡ true
   pub states : terms_fit (length x) 0 row.states ≡ true
   pub randoms : terms_fit (length (times_all S values)) 0 row.randoms ≡ true

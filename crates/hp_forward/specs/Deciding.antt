@@ -1,67 +1,67 @@
--- The decisions at a node by the answer to its stage problem, or the refutation where there are none.
+-- The decisions at a node by the answer to its stage problem, or the infeasibility where there are none.
 use Rattle.std.specs.Prelude.{ℕ, ◌^◌, ◌/◌, ℤ, pos, ◌*ℤ◌, Bool, true, false, List, length, get_or, Result, Ok, Err}
 use Rattle.std.specs.Int.{int_min, int_max}
 use Rattle.hp_num.specs.Sums.{entry, table, floor_over}
-use Rattle.hp_problem.specs.Sealed.{Sealed}
+use Rattle.hp_problem.specs.Validated.{Validated}
 use Rattle.hp_theory.specs.declared.cut.Cut.{Cut}
 use Rattle.hp_theory.specs.Problem.{S, Node, node_at}
 use Rattle.hp_theory.specs.Tree.{next_state}
 use Rattle.hp_theory.specs.View.{problem_of}
 use Rattle.hp_solver.specs.declared.fixed.Fx.{Fx}
 use Rattle.hp_solver.specs.declared.programs.Answer.{Answer}
-use Rattle.hp_settle.specs.declared.judging.Dead.{Dead}
-use Rattle.hp_settle.specs.declared.judging.Judged.{Judged}
-use Rattle.hp_settle.specs.declared.judging.Judged.TheVariants as judged
-use Rattle.hp_settle.specs.Judging.{judge_of}
-use Rattle.hp_lp.specs.Stage.{whole}
+use Rattle.hp_settle.specs.declared.classifying.Infeasibility.{Infeasibility}
+use Rattle.hp_settle.specs.declared.classifying.Classified.{Classified}
+use Rattle.hp_settle.specs.declared.classifying.Classified.TheVariants as classified
+use Rattle.hp_settle.specs.Classifying.{classify_of}
+use Rattle.hp_lp.specs.Stage.{whole_fixed}
 use Rattle.hp_solver.specs.Solving.{Solving}
 use Rattle.hp_lp.specs.Chained.{stage_answer}
 use Rattle.hp_forward.specs.declared.deciding.Decided.{Decided}
 
 -- from the scale 2^32 of a solver to the scale 2^24, rounded down
-abbrev pub rescaled : Fx → ℤ
-rescaled x = floor_over x.0 (2 ^ 32 / 2 ^ 24)
+abbrev pub rescaled_decision : Fx → ℤ
+rescaled_decision x = floor_over x.0 (2 ^ 32 / 2 ^ 24)
 
 -- the nearest number in S times the box
-abbrev pub boxed : ℤ → ℤ → ℤ → ℤ
-boxed low high z = int_max (int_min z (pos S *ℤ high)) (pos S *ℤ low)
+abbrev pub boxed_decision : ℤ → ℤ → ℤ → ℤ
+boxed_decision low high z = int_max (int_min z (pos S *ℤ high)) (pos S *ℤ low)
 
 -- the decision j with its box; where its value is missing it is the least
-abbrev pub decision_at : List Fx → ℕ → ℤ → ℤ → ℤ
-decision_at point j low high = boxed low high (rescaled (get_or point j (whole low)))
+abbrev pub decision_from_point : List Fx → ℕ → ℤ → ℤ → ℤ
+decision_from_point point j low high = boxed_decision low high (rescaled_decision (get_or point j (whole_fixed low)))
 
 -- the decisions of a node at a point, at scale S
-abbrev pub decisions_at : Node → List Fx → List ℤ
-decisions_at n point = table (length n.decision_low) (λ j. decision_at point j (entry n.decision_low j) (entry n.decision_high j))
+abbrev pub decisions_from_point : Node → List Fx → List ℤ
+decisions_from_point n point = table (length n.decision_low) (λ j. decision_from_point point j (entry n.decision_low j) (entry n.decision_high j))
 
 -- no point was found, and nothing was shown
-abbrev pub is_unsettled : Judged → Bool
-is_unsettled judged.Found = false
-is_unsettled judged.Unsettled = true
-is_unsettled (judged.Dead ys) = false
+abbrev pub is_unanswered : Classified → Bool
+is_unanswered classified.Found = false
+is_unanswered classified.Unanswered = true
+is_unanswered (classified.Infeasibility ys) = false
 
--- the decisions by an answer and its judgement; the state that leaves the node is the decisions at its outs
-abbrev pub decided_of : Node → Answer → Judged → Decided
+-- the decisions by an answer and its classification; the state that leaves the node is the decisions at its outs
+abbrev pub decided_of : Node → Answer → Classified → Decided
 decided_of n answer known = record {
   kind = answer.kind;
-  unsettled = is_unsettled known;
-  decisions = decisions_at n answer.point;
-  next = next_state n (decisions_at n answer.point);
+  unanswered = is_unanswered known;
+  decisions = decisions_from_point n answer.point;
+  next = next_state n (decisions_from_point n answer.point);
 }
 
--- the refutation where there is one, and else the decisions
-abbrev pub unless_dead : (List ℤ → Dead) → Decided → Judged → Result Decided Dead
-unless_dead dead decided judged.Found = Ok decided
-unless_dead dead decided judged.Unsettled = Ok decided
-unless_dead dead decided (judged.Dead ys) = Err (dead ys)
+-- the infeasibility where there is one, and else the decisions
+abbrev pub unless_infeasible : (List ℤ → Infeasibility) → Decided → Classified → Result Decided Infeasibility
+unless_infeasible infeasible decided classified.Found = Ok decided
+unless_infeasible infeasible decided classified.Unanswered = Ok decided
+unless_infeasible infeasible decided (classified.Infeasibility ys) = Err (infeasible ys)
 
--- the decisions at the node m, the values and the state, or the refutation in the run of this number
-abbrev pub decide_by : Sealed → ℕ → ℕ → List ℤ → List ℤ → Answer → Judged → Result Decided Dead
+-- the decisions at the node m, the values and the state, or the infeasibility in the run of this number
+abbrev pub decide_by : Validated → ℕ → ℕ → List ℤ → List ℤ → Answer → Classified → Result Decided Infeasibility
 decide_by p run m values state answer known =
-    unless_dead (λ ys. record { run = run; node = m; values = values; state = state; rows = ys }) (decided_of (node_at (problem_of p) m) answer known) known
+    unless_infeasible (λ ys. record { run = run; node = m; values = values; state = state; rows = ys }) (decided_of (node_at (problem_of p) m) answer known) known
 
 -- Decide: by the answer to the node's stage problem, in a chain of its own
-unfoldable pub decide_of : {Start Chain : Type 0} → Solving Start Chain → Sealed → List (List Cut) → ℕ → ℕ → List ℤ → List ℤ → Result Decided Dead
+unfoldable pub decide_of : {Start Chain : Type 0} → Solving Start Chain → Validated → List (List Cut) → ℕ → ℕ → List ℤ → List ℤ → Result Decided Infeasibility
 decide_of v p pools run m values state =
     let answer : Answer = stage_answer v p pools m values state in
-    decide_by p run m values state answer (judge_of (node_at (problem_of p) m) values state answer)
+    decide_by p run m values state answer (classify_of (node_at (problem_of p) m) values state answer)

@@ -1,14 +1,14 @@
 // Sums of products with numbers at scale 2^24.
 ghost use Rattle.std.specs.Prelude.{◌≡◌, ◌<◌, ◌≤◌, ◌^◌, ℤ, ◌+ℤ◌, ◌*ℤ◌, List, length, map, nat_abs, true};
 ghost use Rattle.hp_num.specs.Sums.{at_terms, dot, entry};
-ghost use Rattle.hp_problem.specs.Limits.{terms_fit};
-ghost use Rattle.hp_problem.specs.declared.raw.Decision.{Decision};
+ghost use Rattle.hp_parts.specs.Limits.{terms_fit};
+ghost use Rattle.hp_parts.specs.declared.parts.Decision.{Decision};
 ghost use Rattle.hp_theory.specs.Problem.{S};
 ghost use Rattle.hp_theory.specs.Tree.{times_all};
 ghost use Rattle.hp_forward.specs.Amounts.{AreAmounts, AreFactors};
 
 use crate::deciding::scaled;
-use hp_problem::Decision;
+use hp_parts::Decision;
 
 /// Whole factors in order.
 pub(crate) trait Factors {
@@ -19,8 +19,8 @@ pub(crate) trait Factors {
         ensures { result ≡ entry (factors self.now) index };
 }
 
-/// Numbers in order, at scale 2^24.
-pub(crate) trait Numbers {
+/// Amounts in order, at scale 2^24.
+pub(crate) trait Amounts {
     ghost numbers: { Self → List ℤ };
 
     fn at(&self, index: usize) -> i128
@@ -28,13 +28,13 @@ pub(crate) trait Numbers {
         ensures { result ≡ entry (numbers self.now) index };
 }
 
-/// Numbers at scale 2^24.
+/// Amounts at scale 2^24.
 #[derive(Clone, Copy)]
 pub(crate) struct Scaled<'a> {
     pub(crate) numbers: &'a [i128],
 }
 
-impl Numbers for Scaled<'_> {
+impl Amounts for Scaled<'_> {
     ghost numbers = { λ s. s.numbers.now };
 
     fn at(&self, index: usize) -> i128 {
@@ -48,7 +48,7 @@ pub(crate) struct Raised<'a> {
     pub(crate) values: &'a [i64],
 }
 
-impl Numbers for Raised<'_> {
+impl Amounts for Raised<'_> {
     ghost numbers = { λ r. times_all S r.values.now };
 
     fn at(&self, index: usize) -> i128 {
@@ -104,7 +104,7 @@ fn more(sum: i128, summand: i128) -> i128
 }
 
 /// The sum of terms at numbers.
-pub(crate) fn terms_sum<N: Numbers>(terms: &[(u32, i64)], numbers: &N) -> i128
+pub(crate) fn terms_sum<N: Amounts>(terms: &[(u32, i64)], numbers: &N) -> i128
     requires amounts { AreAmounts (N.numbers numbers.now) }
     requires fit { terms_fit (length (N.numbers numbers.now)) 0 terms.now ≡ true }
     ensures value { result ≡ at_terms terms.now (entry (N.numbers numbers.now)) }
@@ -118,7 +118,7 @@ pub(crate) fn terms_sum<N: Numbers>(terms: &[(u32, i64)], numbers: &N) -> i128
 }
 
 /// The sum of the products of as many factors with numbers.
-pub(crate) fn products_sum<F: Factors, N: Numbers>(count: usize, factors: &F, numbers: &N) -> i128
+pub(crate) fn products_sum<F: Factors, N: Amounts>(count: usize, factors: &F, numbers: &N) -> i128
     requires count { count ≡ length (F.factors factors.now) }
     requires amounts { AreAmounts (N.numbers numbers.now) }
     requires factors { AreFactors (F.factors factors.now) (N.numbers numbers.now) }

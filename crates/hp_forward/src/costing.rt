@@ -1,18 +1,19 @@
 // Residuals of rows, and costs of stages.
 ghost use Rattle.std.specs.Prelude.{◌≡◌, ◌<◌, ◌≤◌, ◌^◌, ℤ, List, pos, ◌+ℤ◌, length, get_or, nat_abs, true};
-ghost use Rattle.hp_problem.specs.Limits.{are_values};
-ghost use Rattle.hp_problem.specs.Sealed.{subproblem_of};
-ghost use Rattle.hp_problem.specs.declared.raw.Node as nodes;
+ghost use Rattle.hp_parts.specs.Limits.{are_values};
+ghost use Rattle.hp_problem.specs.Validated.{subproblem_of};
+ghost use Rattle.hp_parts.specs.declared.parts.Node as nodes;
 ghost use Rattle.hp_theory.specs.Problem.{S, node_at};
 ghost use Rattle.hp_theory.specs.Tree.{InBox, left_side};
 ghost use Rattle.hp_theory.specs.View.{node_of, problem_of};
-ghost use Rattle.hp_forward.specs.Amounts.{AreCosts, AreGiven, IsOver};
-ghost use Rattle.hp_forward.specs.Costing.{above, below, miss_of, misses_of, residual_of, residuals_of, stage_cost_of};
+ghost use Rattle.hp_forward.specs.Amounts.{AreCosts, AreStageAmounts, AreTermsOver};
+ghost use Rattle.hp_forward.specs.Costing.{above_high, below_low, miss_of, misses_of, residual_of, residuals_of, stage_cost_of};
 ghost use Rattle.hp_cut.specs.AtNodes.{IsStateAt};
 
 use crate::amounts::{Costs, Given, Raised, Scaled, products_sum, terms_sum};
 use crate::deciding::scaled;
-use hp_problem::{Problem, Row, Subproblem};
+use hp_parts::{Row, Subproblem};
+use hp_problem::Problem;
 
 /// The sum of three numbers.
 fn sum_of_three(a: i128, b: i128, c: i128) -> i128
@@ -36,8 +37,8 @@ fn sum_of_two(a: i128, b: i128) -> i128
 
 /// The left side of a row, at scale 2^24.
 fn left_side(row: &Row, decisions: &[i128], state: &[i128], values: &[i64]) -> i128
-    requires given { AreGiven decisions.now state.now values.now }
-    requires over { IsOver decisions.now state.now values.now row.now }
+    requires given { AreStageAmounts decisions.now state.now values.now }
+    requires over { AreTermsOver decisions.now state.now values.now row.now }
     ensures value { result ≡ left_side S values.now state.now decisions.now row.now }
     ensures small { nat_abs result ≤ 2 ^ 114 }
 {
@@ -50,7 +51,7 @@ fn left_side(row: &Row, decisions: &[i128], state: &[i128], values: &[i64]) -> i
 /// Gives by how much the left side lies below the lower side.
 fn below(low: Option<i64>, left: i128) -> i128
     requires { nat_abs left ≤ 2 ^ 114 }
-    ensures value { result ≡ below low left }
+    ensures value { result ≡ below_low low left }
     ensures small { nat_abs result ≤ 2 ^ 115 }
 {
     match low {
@@ -62,7 +63,7 @@ fn below(low: Option<i64>, left: i128) -> i128
 /// Gives by how much the left side lies above the upper side.
 fn above(high: Option<i64>, left: i128) -> i128
     requires { nat_abs left ≤ 2 ^ 114 }
-    ensures value { result ≡ above high left }
+    ensures value { result ≡ above_high high left }
     ensures small { nat_abs result ≤ 2 ^ 115 }
 {
     match high {
@@ -74,8 +75,8 @@ fn above(high: Option<i64>, left: i128) -> i128
 /// Gives by how much the decisions miss a row.
 #[tactic(auto, unfolding(crate::specs::Costing::residual_of))]
 fn residual_of(row: &Row, decisions: &[i128], state: &[i128], values: &[i64]) -> i128
-    requires given { AreGiven decisions.now state.now values.now }
-    requires over { IsOver decisions.now state.now values.now row.now }
+    requires given { AreStageAmounts decisions.now state.now values.now }
+    requires over { AreTermsOver decisions.now state.now values.now row.now }
     ensures { result ≡ residual_of row.now decisions.now state.now values.now }
 {
     let left = left_side(row, decisions, state, values);
@@ -95,14 +96,14 @@ pub fn residual(
     state: &[i128],
     values: &[i64],
 ) -> i128
-    requires known { node < length problem.now.raw.nodes }
+    requires known { node < length problem.now.parts.nodes }
     requires row { row < length (node_at (problem_of problem.now) node).rows }
     requires decisions { InBox S (node_at (problem_of problem.now) node).decision_low (node_at (problem_of problem.now) node).decision_high decisions.now }
     requires state { IsStateAt problem.now node state.now }
     requires values { are_values (subproblem_of problem.now node) values.now ≡ true }
     ensures { result ≡ get_or (residuals_of (node_at (problem_of problem.now) node) decisions.now state.now values.now) row (pos 0) }
 {
-    let _ = problem.raw();
+    let _ = problem.parts();
     let own = &problem.sub(node).rows.as_slice()[row as usize];
     residual_of(own, decisions, state, values)
 }
@@ -110,8 +111,8 @@ pub fn residual(
 /// Gives by how much the left side of a row has to rise to meet it, negative where it has to fall.
 #[tactic(auto, unfolding(crate::specs::Costing::miss_of))]
 fn miss_of(row: &Row, decisions: &[i128], state: &[i128], values: &[i64]) -> i128
-    requires given { AreGiven decisions.now state.now values.now }
-    requires over { IsOver decisions.now state.now values.now row.now }
+    requires given { AreStageAmounts decisions.now state.now values.now }
+    requires over { AreTermsOver decisions.now state.now values.now row.now }
     ensures value { result ≡ miss_of row.now decisions.now state.now values.now }
     ensures small { nat_abs result ≤ 2 ^ 115 }
 {
@@ -135,7 +136,7 @@ pub fn miss(
     state: &[i128],
     values: &[i64],
 ) -> i128
-    requires known { node < length problem.now.raw.nodes }
+    requires known { node < length problem.now.parts.nodes }
     requires row { row < length (node_at (problem_of problem.now) node).rows }
     requires decisions { InBox S (node_at (problem_of problem.now) node).decision_low (node_at (problem_of problem.now) node).decision_high decisions.now }
     requires state { IsStateAt problem.now node state.now }
@@ -143,14 +144,14 @@ pub fn miss(
     ensures value { result ≡ get_or (misses_of (node_at (problem_of problem.now) node) decisions.now state.now values.now) row (pos 0) }
     ensures small { nat_abs result ≤ 2 ^ 115 }
 {
-    let _ = problem.raw();
+    let _ = problem.parts();
     let own = &problem.sub(node).rows.as_slice()[row as usize];
     miss_of(own, decisions, state, values)
 }
 
 /// Gives the cost of a stage of a subproblem.
 fn cost_of(subproblem: &Subproblem, decisions: &[i128], state: &[i128], values: &[i64]) -> i128
-    requires given { AreGiven decisions.now state.now values.now }
+    requires given { AreStageAmounts decisions.now state.now values.now }
     requires costs { AreCosts decisions.now state.now values.now subproblem.now }
     ensures { (n : nodes.Node) (low high : List ℤ)
         → result ≡ stage_cost_of (node_of n subproblem.now low high) decisions.now state.now values.now }
@@ -188,12 +189,12 @@ pub fn stage_cost(
     state: &[i128],
     values: &[i64],
 ) -> i128
-    requires known { node < length problem.now.raw.nodes }
+    requires known { node < length problem.now.parts.nodes }
     requires decisions { InBox S (node_at (problem_of problem.now) node).decision_low (node_at (problem_of problem.now) node).decision_high decisions.now }
     requires state { IsStateAt problem.now node state.now }
     requires values { are_values (subproblem_of problem.now node) values.now ≡ true }
     ensures { result ≡ stage_cost_of (node_at (problem_of problem.now) node) decisions.now state.now values.now }
 {
-    let _ = problem.raw();
+    let _ = problem.parts();
     cost_of(problem.sub(node), decisions, state, values)
 }

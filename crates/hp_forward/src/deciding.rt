@@ -1,24 +1,25 @@
 // Decisions at a node.
 ghost use Rattle.std.specs.Prelude.{◌≡◌, ◌<◌, ◌≤◌, ◌^◌, ◌/◌, ℕ, ℤ, pos, ◌*ℤ◌, true, length, get_or, map, nat_abs, Contains, Some, IfOk};
 ghost use Rattle.hp_num.specs.Sums.{entry, floor_over, table};
-ghost use Rattle.hp_problem.specs.declared.raw.Decision.{Decision};
-ghost use Rattle.hp_problem.specs.Limits.{are_values};
-ghost use Rattle.hp_problem.specs.Parts.{successors_at};
-ghost use Rattle.hp_problem.specs.Sealed.{subproblem_of};
+ghost use Rattle.hp_parts.specs.declared.parts.Decision.{Decision};
+ghost use Rattle.hp_parts.specs.Limits.{are_values};
+ghost use Rattle.hp_parts.specs.Parts.{successors_at};
+ghost use Rattle.hp_problem.specs.Validated.{subproblem_of};
 ghost use Rattle.hp_theory.specs.Problem.{S, node_at};
 ghost use Rattle.hp_theory.specs.Tree.{InBox, next_state};
 ghost use Rattle.hp_theory.specs.View.{problem_of};
 ghost use Rattle.hp_cut.specs.AtNodes.{IsStateAt, PoolsFit};
-ghost use Rattle.hp_settle.specs.declared.judging.Judged.{Judged};
-ghost use Rattle.hp_lp.specs.Stage.{whole};
-ghost use Rattle.hp_forward.specs.Deciding.{boxed, decide_by, decide_of, decided_of, decision_at, rescaled};
-ghost use Rattle.hp_settle.specs.Faults.{Gives, OnNoStage, Refutes};
+ghost use Rattle.hp_settle.specs.declared.classifying.Classified.{Classified};
+ghost use Rattle.hp_lp.specs.Stage.{whole_fixed};
+ghost use Rattle.hp_forward.specs.Deciding.{boxed_decision, decide_by, decide_of, decided_of, decision_from_point, rescaled_decision};
+ghost use Rattle.hp_settle.specs.Faults.{GivesOrRefutes, OnNoStage, Refutes};
 
 use hp_cut::Pools;
 use hp_lp::{Planner, Workspace, solve_stage};
 use hp_num::{List, Memory, floor_div};
-use hp_problem::{Decision, Problem, Subproblem};
-use hp_settle::{Dead, Judged, PlanFault, judge};
+use hp_parts::{Decision, Subproblem};
+use hp_problem::Problem;
+use hp_settle::{Classified, Infeasibility, PlanFault, classify};
 use hp_solver::fixed::ONE;
 use hp_solver::{Answer, Fx, Kind, Solver};
 use hp_theory::SCALE;
@@ -27,10 +28,10 @@ use std::alloc::Global;
 /// The ratio of the scale of a solver's numbers to that of decisions.
 const FINER: i128 = ONE / SCALE as i128;
 
-/// What comes into a stage.
+/// The input of a stage.
 #[derive(Clone, Copy)]
 pub struct StageInput<'a> {
-    /// The number that a refutation carries: that of the iteration or of the scenario.
+    /// The number that an infeasibility carries: that of the iteration or of the scenario.
     pub run: u32,
     /// The node's number.
     pub node: u32,
@@ -46,7 +47,7 @@ pub struct Decided {
     /// The kind of the answer to the stage problem.
     pub kind: Kind,
     /// The answer is of no use: no point was found, and nothing was shown.
-    pub unsettled: bool,
+    pub unanswered: bool,
     /// One number per decision, at scale 2^24, in 2^24 times its box.
     pub decisions: List<i128>,
     /// The state that leaves the node, one number per state, at scale 2^24.
@@ -55,7 +56,7 @@ pub struct Decided {
 
 /// The value of a decision in a point, and its least value where it is missing.
 fn value_at(point: &[Fx], at: usize, low: i64) -> i128
-    ensures { result ≡ (get_or point.now at (whole low)).0 }
+    ensures { result ≡ (get_or point.now at (whole_fixed low)).0 }
 {
     match point.get(at) {
         Some(value) => value.0,
@@ -81,13 +82,13 @@ fn rescaled(value: i128) -> i128
 
 /// The nearest number in the box.
 fn boxed(decision: &Decision, number: i128) -> i128
-    ensures { result ≡ boxed decision.now.low decision.now.high number }
+    ensures { result ≡ boxed_decision decision.now.low decision.now.high number }
 {
     number.min(scaled(decision.high)).max(scaled(decision.low))
 }
 
 fn decision_at(point: &[Fx], at: usize, decision: &Decision) -> i128
-    ensures { result ≡ decision_at point.now at decision.now.low decision.now.high }
+    ensures { result ≡ decision_from_point point.now at decision.now.low decision.now.high }
 {
     boxed(decision, rescaled(value_at(point, at, decision.low)))
 }
@@ -96,7 +97,7 @@ fn decision_at(point: &[Fx], at: usize, decision: &Decision) -> i128
 fn decisions_at(alloc: Global, decisions: &[Decision], point: &[Fx]) -> Result<List<i128>, Memory>
     ensures { let lows = map (λ (d : Decision). d.low) decisions.now in
         let highs = map (λ (d : Decision). d.high) decisions.now in
-        IfOk result (λ found. found ≡ table (length lows) (λ j. decision_at point.now j (entry lows j) (entry highs j))) }
+        IfOk result (λ found. found ≡ table (length lows) (λ j. decision_from_point point.now j (entry lows j) (entry highs j))) }
 {
     let mut found = List::new(alloc);
     for (j, decision) in decisions.iter().enumerate() {
@@ -132,12 +133,12 @@ fn decided_of(
     alloc: Global,
     subproblem: &Subproblem,
     answer: &Answer,
-    unsettled: bool,
+    unanswered: bool,
 ) -> Result<Decided, Memory>
     ensures { let lows = map (λ (d : Decision). d.low) subproblem.now.decisions in
         let highs = map (λ (d : Decision). d.high) subproblem.now.decisions in
-        let u = table (length lows) (λ j. decision_at answer.now.point j (entry lows j) (entry highs j)) in
-        IfOk result (λ found. found ≡ record { kind = answer.now.kind; unsettled = unsettled; decisions = u; next = map (λ o. entry u o) subproblem.now.outs }) }
+        let u = table (length lows) (λ j. decision_from_point answer.now.point j (entry lows j) (entry highs j)) in
+        IfOk result (λ found. found ≡ record { kind = answer.now.kind; unanswered = unanswered; decisions = u; next = map (λ o. entry u o) subproblem.now.outs }) }
 {
     let decisions = decisions_at(
         alloc,
@@ -147,34 +148,34 @@ fn decided_of(
     let next = next_state(alloc, subproblem.outs.as_slice(), decisions.as_slice())?;
     Ok(Decided {
         kind: answer.kind,
-        unsettled,
+        unanswered,
         decisions,
         next,
     })
 }
 
-/// Gives the refutation, or the decisions.
+/// Gives the infeasibility, or the decisions.
 fn decide_by(
     alloc: Global,
     problem: &Problem,
     input: &StageInput,
     answer: &Answer,
-    judged: Judged,
+    classified: Classified,
 ) -> Result<Decided, PlanFault>
-    requires { input.now.node < length problem.now.raw.nodes }
-    ensures { Gives result (decide_by problem.now input.now.run input.now.node input.now.values.now input.now.state.now answer.now judged) }
+    requires { input.now.node < length problem.now.parts.nodes }
+    ensures { GivesOrRefutes result (decide_by problem.now input.now.run input.now.node input.now.values.now input.now.state.now answer.now classified) }
 {
-    match judged {
-        Judged::Found => Ok(decided_of(alloc, problem.sub(input.node), answer, false)?),
-        Judged::Unsettled => Ok(decided_of(alloc, problem.sub(input.node), answer, true)?),
-        Judged::Dead(rows) => {
+    match classified {
+        Classified::Found => Ok(decided_of(alloc, problem.sub(input.node), answer, false)?),
+        Classified::Unanswered => Ok(decided_of(alloc, problem.sub(input.node), answer, true)?),
+        Classified::Infeasibility(rows) => {
             let StageInput {
                 run,
                 node,
                 values,
                 state,
             } = *input;
-            Err(PlanFault::NoStage(Dead::new(alloc, run, node, values, state, rows)?))
+            Err(PlanFault::Infeasible(Infeasibility::new(alloc, run, node, values, state, rows)?))
         }
     }
 }
@@ -188,7 +189,7 @@ fn decide_by(
 /// There is one value per random variable of the node's subproblem, each at most 2^40 in absolute value, and the state, at
 /// scale 2^24, lies in the node's box.
 ///
-/// NoStage exactly where the answer is judged dead: then no decisions exist there, in any fraction of a unit. Memory
+/// Infeasible exactly where the answer is classified as infeasible: then no decisions exist there, in any fraction of a unit. Memory
 /// where memory was refused.
 #[tactic(auto, unfolding(crate::specs::Deciding::decide_of))]
 pub fn decide<V: Solver>(
@@ -197,19 +198,19 @@ pub fn decide<V: Solver>(
     pools: &Pools,
     input: &StageInput,
 ) -> Result<Decided, PlanFault>
-    requires known { input.now.node < length planner.now.problem.now.raw.nodes }
+    requires known { input.now.node < length planner.now.problem.now.parts.nodes }
     requires fit { PoolsFit planner.now.problem.now pools.now.lists }
     requires values { are_values (subproblem_of planner.now.problem.now input.now.node) input.now.values.now ≡ true }
     requires state { IsStateAt planner.now.problem.now input.now.node input.now.state.now }
-    ensures value { Gives result (decide_of (V.does planner.now.solver.now) planner.now.problem.now pools.now.lists input.now.run input.now.node input.now.values.now input.now.state.now) }
+    ensures value { GivesOrRefutes result (decide_of (V.does planner.now.solver.now) planner.now.problem.now pools.now.lists input.now.run input.now.node input.now.values.now input.now.state.now) }
     ensures inside { let n = node_at (problem_of planner.now.problem.now) input.now.node in
         IfOk result (λ d. InBox S n.decision_low n.decision_high d.decisions) }
-    ensures next { IfOk result (λ d. (m : ℕ) → Contains (successors_at planner.now.problem.now.raw input.now.node) m
+    ensures next { IfOk result (λ d. (m : ℕ) → Contains (successors_at planner.now.problem.now.parts input.now.node) m
         → IsStateAt planner.now.problem.now m d.next) }
-    ensures dead { OnNoStage result (Refutes planner.now.problem.now) }
+    ensures infeasible { OnNoStage result (Refutes planner.now.problem.now) }
 {
     let problem = planner.problem();
-    let _ = problem.raw();
+    let _ = problem.parts();
     let StageInput {
         node,
         values,
@@ -217,6 +218,6 @@ pub fn decide<V: Solver>(
         ..
     } = *input;
     let answer = solve_stage(work, planner, pools, node, values, state)?;
-    let judged = judge(work.alloc(), problem, node, values, state, &answer)?;
-    decide_by(work.alloc(), problem, input, &answer, judged)
+    let classified = classify(work.alloc(), problem, node, values, state, &answer)?;
+    decide_by(work.alloc(), problem, input, &answer, classified)
 }

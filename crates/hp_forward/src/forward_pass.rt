@@ -1,35 +1,35 @@
 // Forward passes along paths, by the decisions at each step.
 ghost use Rattle.std.specs.Prelude.{◌≡◌, ◌<◌, ◌≤◌, ◌+◌, ◌-◌, ◌^◌, ℕ, List, Ok, length, true, Contains, IfOk};
-ghost use Rattle.hp_problem.specs.Limits.{are_values};
-ghost use Rattle.hp_problem.specs.Parts.{successors_at};
-ghost use Rattle.hp_problem.specs.Sealed.{subproblem_of};
+ghost use Rattle.hp_parts.specs.Limits.{are_values};
+ghost use Rattle.hp_parts.specs.Parts.{successors_at};
+ghost use Rattle.hp_problem.specs.Validated.{subproblem_of};
 ghost use Rattle.hp_theory.specs.Problem.{S};
 ghost use Rattle.hp_theory.specs.Tree.{times_all};
 ghost use Rattle.hp_theory.specs.View.{problem_of};
 ghost use Rattle.hp_cut.specs.AtNodes.{IsStateAt, PoolsFit};
 ghost use Rattle.hp_sampler.specs.declared.steps.Trajectory.{Trajectory};
 ghost use Rattle.hp_sampler.specs.Drawn.{IsInRange, IsPath};
-ghost use Rattle.hp_settle.specs.Faults.{Gives, GivesSeen, OnNoStage, Refutes};
-ghost use Rattle.hp_forward.specs.Walking.{AreInside, decide_step, step_on, values_of, walk_of};
+ghost use Rattle.hp_settle.specs.Faults.{GivesOrRefutes, GivesSeen, OnNoStage, Refutes};
+ghost use Rattle.hp_forward.specs.Walking.{AreStatesInside, decide_step, step_on, values_of, trajectory_of};
 
 use crate::deciding::{StageInput, decide, scaled};
 use hp_cut::Pools;
 use hp_lp::{Planner, Workspace};
 use hp_num::{List, Memory};
 use hp_problem::Problem;
-use hp_sampler::{Step, Trajectory};
+use hp_sampler::{PathStep, Trajectory};
 use hp_settle::PlanFault;
 use hp_solver::Solver;
 use std::alloc::Global;
 use std::mem;
 
 /// The values of a step's realization.
-fn values_of(problem: &Problem, step: Step) -> &[i64]
-    requires { IsInRange problem.now.raw step }
-    ensures value { result.now ≡ values_of problem.now.raw step }
+fn values_of(problem: &Problem, step: PathStep) -> &[i64]
+    requires { IsInRange problem.now.parts step }
+    ensures value { result.now ≡ values_of problem.now.parts step }
     ensures fit { are_values (subproblem_of problem.now step.node) result.now ≡ true }
 {
-    let _ = problem.raw();
+    let _ = problem.parts();
     let node = problem.node(step.node);
     node.values.as_slice()[step.realization as usize].as_slice()
 }
@@ -66,17 +66,17 @@ fn step_on<V: Solver>(
     planner: &Planner<V>,
     pools: &Pools,
     run: u32,
-    step: Step,
+    step: PathStep,
     progress: &mut Progress,
 ) -> Result<(), PlanFault>
-    requires range { IsInRange planner.now.problem.now.raw step }
+    requires range { IsInRange planner.now.problem.now.parts step }
     requires fit { PoolsFit planner.now.problem.now pools.now.lists }
     requires state { IsStateAt planner.now.problem.now step.node progress.old.state }
-    requires room { progress.old.trajectory.unsettled < 2 ^ 32 - 1 }
+    requires room { progress.old.trajectory.unanswered < 2 ^ 32 - 1 }
     ensures value { GivesSeen (λ _. (progress.new.trajectory, progress.new.state)) result (step_on (decide_step (V.does planner.now.solver.now) planner.now.problem.now pools.now.lists run) progress.old.trajectory progress.old.state step) }
-    ensures next { IfOk result (λ _. (m : ℕ) → Contains (successors_at planner.now.problem.now.raw step.node) m
+    ensures next { IfOk result (λ _. (m : ℕ) → Contains (successors_at planner.now.problem.now.parts step.node) m
         → IsStateAt planner.now.problem.now m progress.new.state) }
-    ensures dead { OnNoStage result (Refutes planner.now.problem.now) }
+    ensures infeasible { OnNoStage result (Refutes planner.now.problem.now) }
 {
     let input = StageInput {
         run,
@@ -87,39 +87,39 @@ fn step_on<V: Solver>(
     let decided = decide(work, planner, pools, &input)?;
     let state = mem::replace(&mut progress.state, decided.next);
     progress.trajectory.states.push(state)?;
-    progress.trajectory.unsettled += u32::from(decided.unsettled);
+    progress.trajectory.unanswered += u32::from(decided.unanswered);
     Ok(())
 }
 
 /// Passes forward along a path: gives the incoming state of each step, from the initial state on, by the decisions at each step
-/// over the same pools, and the number of answers that were of no use. `run` is the number that a refutation carries.
+/// over the same pools, and the number of answers that were of no use. `run` is the number that an infeasibility carries.
 ///
 /// The path is one of the problem's graph. Each state lies in the box of its step's node.
 ///
-/// NoStage exactly at the first step where [`decide`] gives it; Memory where memory was refused.
-#[tactic(auto, unfolding(crate::specs::Walking::walk_of))]
+/// Infeasible exactly at the first step where [`decide`] gives it; Memory where memory was refused.
+#[tactic(auto, unfolding(crate::specs::Walking::trajectory_of))]
 pub(crate) fn forward_pass<V: Solver>(
     work: &mut Workspace,
     planner: &Planner<V>,
     pools: &Pools,
     run: u32,
-    path: &[Step],
+    path: &[PathStep],
 ) -> Result<Trajectory, PlanFault>
     requires path { IsPath planner.now.problem.now path.now }
     requires fit { PoolsFit planner.now.problem.now pools.now.lists }
-    ensures value { Gives result (walk_of (V.does planner.now.solver.now) planner.now.problem.now pools.now.lists run path.now) }
+    ensures value { GivesOrRefutes result (trajectory_of (V.does planner.now.solver.now) planner.now.problem.now pools.now.lists run path.now) }
     ensures count { IfOk result (λ walk. length walk.states ≡ length path.now) }
-    ensures inside { IfOk result (λ walk. AreInside planner.now.problem.now path.now walk.states) }
-    ensures unsettled { IfOk result (λ walk. walk.unsettled ≤ length path.now) }
-    ensures dead { OnNoStage result (Refutes planner.now.problem.now) }
+    ensures inside { IfOk result (λ walk. AreStatesInside planner.now.problem.now path.now walk.states) }
+    ensures unanswered { IfOk result (λ walk. walk.unanswered ≤ length path.now) }
+    ensures infeasible { OnNoStage result (Refutes planner.now.problem.now) }
 {
     let problem = planner.problem();
-    let _ = problem.raw();
+    let _ = problem.parts();
     let state = initial_state(work.alloc(), problem)?;
     let mut progress = Progress {
         trajectory: Trajectory {
             states: List::new(work.alloc()),
-            unsettled: 0,
+            unanswered: 0,
         },
         state,
     };

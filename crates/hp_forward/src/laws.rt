@@ -1,6 +1,6 @@
 // The meaning of residuals. A law is the contract of a function with an empty body.
 ghost use Rattle.std.specs.Prelude.{◌≡◌, ◌↔◌, ℤ, pos, ◌≤ℤ◌, List};
-ghost use Rattle.hp_problem.specs.declared.raw.Row.{Row};
+ghost use Rattle.hp_parts.specs.declared.parts.Row.{Row};
 ghost use Rattle.hp_theory.specs.Problem.{S};
 ghost use Rattle.hp_theory.specs.Tree.{RowHolds};
 ghost use Rattle.hp_forward.specs.Costing.{residual_of};

@@ -1,9 +1,9 @@
 // Forward passes along several paths, in two halves beside each other.
 ghost use Rattle.std.specs.Prelude.{◌≡◌, ◌++◌, ◌/◌, List, length, take, drop, All, IfOk, Result};
-ghost use Rattle.hp_settle.specs.declared.judging.Dead.{Dead};
-ghost use Rattle.hp_settle.specs.Faults.{Gives, OnNoStage, Refutes};
+ghost use Rattle.hp_settle.specs.declared.classifying.Infeasibility.{Infeasibility};
+ghost use Rattle.hp_settle.specs.Faults.{GivesOrRefutes, OnNoStage, Refutes};
 ghost use Rattle.hp_lp.specs.Ready.{AreReady};
-ghost use Rattle.hp_sampler.specs.declared.steps.Step.{Step};
+ghost use Rattle.hp_sampler.specs.declared.steps.PathStep.{PathStep};
 ghost use Rattle.hp_sampler.specs.declared.steps.Trajectory.{Trajectory};
 ghost use Rattle.hp_sampler.specs.Drawn.{IsPath};
 ghost use Rattle.hp_forward.specs.Walking.{AreWalks, in_turn, walks_of};
@@ -14,7 +14,7 @@ use hp_cut::Pools;
 use hp_lp::{Planner, Workspace};
 use hp_num::{List, Memory};
 use hp_problem::Problem;
-use hp_sampler::{Step, Trajectory};
+use hp_sampler::{PathStep, Trajectory};
 use hp_settle::PlanFault;
 use hp_solver::Solver;
 use std::alloc::Global;
@@ -26,11 +26,11 @@ fn passes_in_order<V: Solver>(
     planner: &Planner<V>,
     pools: &Pools,
     run: u32,
-    paths: &[List<Step>],
+    paths: &[List<PathStep>],
 ) -> Result<List<Trajectory>, PlanFault>
     requires paths { All (IsPath planner.now.problem.now) paths.now }
     requires fit { PoolsFit planner.now.problem.now pools.now.lists }
-    ensures { Gives result (walks_of (V.does planner.now.solver.now) planner.now.problem.now pools.now.lists run paths.now) }
+    ensures { GivesOrRefutes result (walks_of (V.does planner.now.solver.now) planner.now.problem.now pools.now.lists run paths.now) }
 {
     let mut found = List::new(work.alloc());
     for path in paths {
@@ -40,7 +40,10 @@ fn passes_in_order<V: Solver>(
 }
 
 /// The first half of the paths, rounded down, and the rest.
-fn split<'a>(problem: &Problem, paths: &'a [List<Step>]) -> (&'a [List<Step>], &'a [List<Step>])
+fn split<'a>(
+    problem: &Problem,
+    paths: &'a [List<PathStep>],
+) -> (&'a [List<PathStep>], &'a [List<PathStep>])
     requires { All (IsPath problem.now) paths.now }
     ensures front { result.0.now ≡ take (length paths.now / 2) paths.now }
     ensures back { result.1.now ≡ drop (length paths.now / 2) paths.now }
@@ -51,11 +54,11 @@ fn split<'a>(problem: &Problem, paths: &'a [List<Step>]) -> (&'a [List<Step>], &
 }
 
 /// Joins two lists, one after the other.
-fn joined(first: List<Trajectory>, rest: List<Trajectory>) -> Result<List<Trajectory>, Memory>
-    ensures { IfOk result (λ walks. walks ≡ first ++ rest) }
+fn joined(first: List<Trajectory>, tail: List<Trajectory>) -> Result<List<Trajectory>, Memory>
+    ensures { IfOk result (λ walks. walks ≡ first ++ tail) }
 {
     let mut items = first.into_vec();
-    let mut more = rest.into_vec();
+    let mut more = tail.into_vec();
     items.append(&mut more)?;
     Ok(List::from_vec(items))
 }
@@ -63,11 +66,11 @@ fn joined(first: List<Trajectory>, rest: List<Trajectory>) -> Result<List<Trajec
 /// The trajectories of both parts, or the refusal of the first that refuses.
 fn in_turn(
     first: Result<List<Trajectory>, PlanFault>,
-    rest: Result<List<Trajectory>, PlanFault>,
+    tail: Result<List<Trajectory>, PlanFault>,
 ) -> Result<List<Trajectory>, PlanFault>
-    ensures { (ones others : Result (List Trajectory) Dead) → Gives first ones → Gives rest others → Gives result (in_turn ones others) }
+    ensures { (ones others : Result (List Trajectory) Infeasibility) → GivesOrRefutes first ones → GivesOrRefutes tail others → GivesOrRefutes result (in_turn ones others) }
 {
-    Ok(joined(first?, rest?)?)
+    Ok(joined(first?, tail?)?)
 }
 
 /// Passes forward along paths, the first half of them, rounded down, beside the rest.
@@ -77,21 +80,21 @@ fn passes_beside<R: Threads + Sync, V: Solver>(
     planner: &Planner<V>,
     pools: &Pools,
     run: u32,
-    paths: &[List<Step>],
+    paths: &[List<PathStep>],
 ) -> Result<List<Trajectory>, PlanFault>
     requires paths { All (IsPath planner.now.problem.now) paths.now }
     requires fit { PoolsFit planner.now.problem.now pools.now.lists }
-    ensures { Gives result (walks_of (V.does planner.now.solver.now) planner.now.problem.now pools.now.lists run paths.now) }
+    ensures { GivesOrRefutes result (walks_of (V.does planner.now.solver.now) planner.now.problem.now pools.now.lists run paths.now) }
 {
     let (problem, solver, starts) = (planner.problem(), planner.solver(), planner.starts());
     let (front, back) = split(problem, paths);
-    let (first, rest) = join(
+    let (first, tail) = join(
         rt,
         || -> Result<List<Trajectory>, PlanFault>
             requires paths { All (IsPath problem.now) front.now }
             requires fit { PoolsFit problem.now pools.now.lists }
             requires ready { AreReady (V.does solver.now) (V.suits solver.now) problem.now starts.now.items }
-            ensures { Gives result (walks_of (V.does solver.entry.now) problem.entry.now pools.entry.now.lists run front.entry.now) }
+            ensures { GivesOrRefutes result (walks_of (V.does solver.entry.now) problem.entry.now pools.entry.now.lists run front.entry.now) }
         {
             let planner = Planner::new(problem, solver, starts);
             passes_in_order(&mut Workspace::new(alloc), &planner, pools, run, front)
@@ -100,23 +103,23 @@ fn passes_beside<R: Threads + Sync, V: Solver>(
             requires paths { All (IsPath problem.now) back.now }
             requires fit { PoolsFit problem.now pools.now.lists }
             requires ready { AreReady (V.does solver.now) (V.suits solver.now) problem.now starts.now.items }
-            ensures { Gives result (walks_of (V.does solver.entry.now) problem.entry.now pools.entry.now.lists run back.entry.now) }
+            ensures { GivesOrRefutes result (walks_of (V.does solver.entry.now) problem.entry.now pools.entry.now.lists run back.entry.now) }
         {
             let planner = Planner::new(problem, solver, starts);
             passes_in_order(&mut Workspace::new(alloc), &planner, pools, run, back)
         },
     );
-    in_turn(first, rest)
+    in_turn(first, tail)
 }
 
 /// Passes forward along each of these paths, in their order: gives for each the incoming state of each step, from the initial
 /// state on, by the decisions at each step over the same pools, as [`decide`](crate::decide) makes them, and the number of
-/// answers that were of no use. `run` is the number that a refutation carries.
+/// answers that were of no use. `run` is the number that an infeasibility carries.
 ///
 /// The first half of the paths, rounded down, and the rest are gone through beside each other, one path alone on no other
 /// thread; the answer is that of one path after another. Each path is one of the problem's graph.
 ///
-/// NoStage exactly at the first step of the first path where [`decide`](crate::decide) gives it; Memory where memory was
+/// Infeasible exactly at the first step of the first path where [`decide`](crate::decide) gives it; Memory where memory was
 /// refused.
 pub fn forward_passes<R: Threads + Sync, V: Solver>(
     rt: &R,
@@ -124,15 +127,15 @@ pub fn forward_passes<R: Threads + Sync, V: Solver>(
     planner: &Planner<V>,
     pools: &Pools,
     run: u32,
-    paths: &[List<Step>],
+    paths: &[List<PathStep>],
 ) -> Result<List<Trajectory>, PlanFault>
     requires paths { All (IsPath planner.now.problem.now) paths.now }
     requires fit { PoolsFit planner.now.problem.now pools.now.lists }
-    ensures value { Gives result (walks_of (V.does planner.now.solver.now) planner.now.problem.now pools.now.lists run paths.now) }
+    ensures value { GivesOrRefutes result (walks_of (V.does planner.now.solver.now) planner.now.problem.now pools.now.lists run paths.now) }
     ensures walks { IfOk result (AreWalks planner.now.problem.now paths.now) }
-    ensures dead { OnNoStage result (Refutes planner.now.problem.now) }
+    ensures infeasible { OnNoStage result (Refutes planner.now.problem.now) }
 {
-    let _ = planner.problem().raw();
+    let _ = planner.problem().parts();
     if paths.len() < 2 {
         return passes_in_order(work, planner, pools, run, paths);
     }

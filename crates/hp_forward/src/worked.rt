@@ -3,7 +3,7 @@ ghost use Rattle.std.specs.Prelude.{◌≡◌, ◌^◌, pos, [], ◌∷◌, map}
 ghost use Rattle.hp_solver.specs.Numbers.{number};
 ghost use Rattle.hp_theory.specs.Examples.{reservoir};
 ghost use Rattle.hp_forward.specs.Costing.{residuals_of, stage_cost_of};
-ghost use Rattle.hp_forward.specs.Deciding.{decisions_at};
+ghost use Rattle.hp_forward.specs.Deciding.{decisions_from_point};
 
 /// From volume 4, at inflow 1, a turbine at 5 and 4 of thermal power meet both rows, and cost 20; a turbine at 4 leaves 1
 /// of water and 1 of demand. A point's numbers are rounded down and brought into the boxes, and a missing one is the
@@ -12,5 +12,5 @@ pub fn worked_rows()
     ensures met { residuals_of (reservoir 1) (pos 0 ∷ pos 83886080 ∷ pos 67108864 ∷ []) (pos 67108864 ∷ []) (pos 1 ∷ []) ≡ pos 0 ∷ pos 0 ∷ [] }
     ensures cost { stage_cost_of (reservoir 1) (pos 0 ∷ pos 83886080 ∷ pos 67108864 ∷ []) (pos 67108864 ∷ []) (pos 1 ∷ []) ≡ pos 335544320 }
     ensures missed { residuals_of (reservoir 1) (pos 0 ∷ pos 67108864 ∷ pos 67108864 ∷ []) (pos 67108864 ∷ []) (pos 1 ∷ []) ≡ pos 16777216 ∷ pos 16777216 ∷ [] }
-    ensures decided { decisions_at (reservoir 1) (map number (pos 511 ∷ pos (2 ^ 40) ∷ [])) ≡ pos 1 ∷ pos 134217728 ∷ pos 0 ∷ [] }
+    ensures decided { decisions_from_point (reservoir 1) (map number (pos 511 ∷ pos (2 ^ 40) ∷ [])) ≡ pos 1 ∷ pos 134217728 ∷ pos 0 ∷ [] }
 {}

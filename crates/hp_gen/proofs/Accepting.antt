@@ -13,24 +13,24 @@ use Rattle.serde_json.specs.Read.{read, max_depth}
 use Rattle.serde_json.specs.Written.{IsInOrder}
 use Rattle.hp_num.specs.Sums.{sum_to, entry, dot}
 use Rattle.hp_paths.specs.Paths.{numbers}
-use Rattle.hp_problem.specs.declared.raw.Decision.{Decision}
-use Rattle.hp_problem.specs.declared.raw.Node as nodes
-use Rattle.hp_problem.specs.Sealed.{Sealed}
+use Rattle.hp_parts.specs.declared.parts.Decision.{Decision}
+use Rattle.hp_parts.specs.declared.parts.Node as nodes
+use Rattle.hp_problem.specs.Validated.{Validated}
 use Rattle.hp_fields.specs.Fields.{json_at}
 use Rattle.hp_sof.specs.Problem.{problem_at}
 use Rattle.hp_theory.specs.declared.cut.Cut.{Cut}
 use Rattle.hp_theory.specs.Problem.{S, node_at, weight_of_successors}
 use Rattle.hp_theory.specs.Range.{based}
 use Rattle.hp_theory.specs.Size.{magnitude, magnitudes, reach}
-use Rattle.hp_theory.specs.View.{node_of, links_of, problem_of}
+use Rattle.hp_theory.specs.View.{node_of, successors_of, problem_of}
 use Rattle.hp_theory.proofs.Ranges.{some_pos}
 use Rattle.hp_theory.proofs.Views.{node_at-problem_of, node_at-past}
-use Rattle.hp_gen.specs.Names.{stage_of, kind_of}
+use Rattle.hp_gen.specs.Names.{stage_number, kind_of}
 use Rattle.hp_gen.specs.Stage as stage
 use Rattle.hp_gen.specs.Generated.{problem}
 use Rattle.hp_gen.proofs.Subproblems.{form, decision, decision_list, each}
-use Rattle.hp_gen.proofs.Reading.{node_form, link_by, raw_read}
-use Rattle.hp_gen.proofs.Boxing.{sealed_form, arranged_form}
+use Rattle.hp_gen.proofs.Reading.{node_form, successor_by, problem_parts_read}
+use Rattle.hp_gen.proofs.Boxing.{validated_form, arranged_form}
 use Rattle.hp_forms.proofs.Newline.{read-newline}
 use Rattle.hp_gen.proofs.Plain.{problem_plain}
 use Rattle.hp_gen.proofs.Basing.{Tame, MayBeTame, all_based, no_cuts_zero}
@@ -48,9 +48,9 @@ one_more name high cost ds t = (refl, some_pos high, some_pos cost, t)
 abbrev of_reservoir : ℕ → List Decision
 of_reservoir j = decision (stage.outgoing j) 100 0 ∷ decision (stage.turbined j) 30 0 ∷ decision (stage.spilled j) 10000 0 ∷ []
 
-tame_from : (js : List ℕ) (rest : List Decision) → TameDecisions rest → TameDecisions (flat_map of_reservoir js ++ rest)
-tame_from [] rest t = t
-tame_from (j ∷ js) rest t = one_more _ 100 0 _ (one_more _ 30 0 _ (one_more _ 10000 0 _ (tame_from js rest t)))
+tame_from : (js : List ℕ) (tail : List Decision) → TameDecisions tail → TameDecisions (flat_map of_reservoir js ++ tail)
+tame_from [] tail t = t
+tame_from (j ∷ js) tail t = one_more _ 100 0 _ (one_more _ 30 0 _ (one_more _ 10000 0 _ (tame_from js tail t)))
 
 tame_decisions : (count : ℕ) → TameDecisions (decision_list count)
 unfolding TameDecisions
@@ -115,7 +115,7 @@ weighs : (b : Bool) → (1 ≤ cond b 3 1) × (cond b 3 1 ≤ 3)
 weighs true = (omega arith, omega arith)
 weighs false = (omega arith, omega arith)
 
-weigh_by : (b : Bool) (i : ℕ) → (1 ≤ weight_of_successors (link_by b i).stop (links_of (link_by b i).nodes (link_by b i).weights)) × (weight_of_successors (link_by b i).stop (links_of (link_by b i).nodes (link_by b i).weights) ≤ 6)
+weigh_by : (b : Bool) (i : ℕ) → (1 ≤ weight_of_successors (successor_by b i).stop (successors_of (successor_by b i).nodes (successor_by b i).weights)) × (weight_of_successors (successor_by b i).stop (successors_of (successor_by b i).nodes (successor_by b i).weights) ≤ 6)
 weigh_by true i =
     let dry = weighs (kind_of i == 0) in
     let wet = weighs (kind_of i == 1) in
@@ -142,7 +142,7 @@ module _ (word : ℕ → ℕ) (stages count : ℕ) (some : 1 ≤ count) (few : c
   tame_node : (i : ℕ) (lo hi : List ℤ) → Tame (node_of (node_form word stages count i) (form count) lo hi)
   unfolding node_of
   tame_node i lo hi =
-      let q = weigh_by (nat_lt (stage_of i) stages) i in
+      let q = weigh_by (nat_lt (stage_number i) stages) i in
       record {
         constant = refl;
         randoms = dot_repeated count;
@@ -162,18 +162,18 @@ module _ (word : ℕ → ℕ) (stages count : ℕ) (some : 1 ≤ count) (few : c
   got f i (suc n) (suc m) = got f (i + 1) n m
 
   may_node : (m : ℕ) → (slice_get (map (node_form word stages count) (numbers (2 * stages))) m ≡ None) ⊎ ((j : ℕ) × (slice_get (map (node_form word stages count) (numbers (2 * stages))) m ≡ Some (node_form word stages count j)))
-      → MayBeTame (node_at (problem_of (sealed_form word stages count some few)) m)
-  may_node m (inl e) = inl (node_at-past (sealed_form word stages count some few) m e)
+      → MayBeTame (node_at (problem_of (validated_form word stages count some few)) m)
+  may_node m (inl e) = inl (node_at-past (validated_form word stages count some few) m e)
   may_node m (inr (j, e)) =
-      let s = sealed_form word stages count some few in
+      let s = validated_form word stages count some few in
       let is = node_at-problem_of s m (node_form word stages count j) (form count) e refl in
       inr (subst Tame (sym is) (tame_node j (get_or s.lo m []) (get_or s.hi m [])))
 
-  base_form : (all : List (List Cut)) × (based (sealed_form word stages count some few) ≡ Ok all)
+  base_form : (all : List (List Cut)) × (based (validated_form word stages count some few) ≡ Ok all)
   unfolding based
   base_form =
-      let s = sealed_form word stages count some few in
-      all_based (problem_of s) (λ m. may_node m (got (node_form word stages count) 0 (2 * stages) m)) s.order (replicate (length s.raw.nodes) []) (no_cuts_zero (length s.raw.nodes))
+      let s = validated_form word stages count some few in
+      all_based (problem_of s) (λ m. may_node m (got (node_form word stages count) 0 (2 * stages) m)) s.order (replicate (length s.parts.nodes) []) (no_cuts_zero (length s.parts.nodes))
 
 -- ---- the text
 
@@ -182,11 +182,11 @@ unfolding json_at
 json_read text word stages count utf8 e = rw (is_utf8-from_IsUtf8 text utf8, e) refl
 
 pub text_read : (text : List ℕ) (word : ℕ → ℕ) (stages count : ℕ) (s1 : 1 ≤ stages) (s2 : stages ≤ 500) (c1 : 1 ≤ count) (c2 : count ≤ 10) → IsUtf8 text → read text ≡ Some (problem word stages count)
-    → (p : Sealed) × (problem_at text ≡ Ok p) × (all : List (List Cut)) × (based p ≡ Ok all)
+    → (p : Validated) × (problem_at text ≡ Ok p) × (all : List (List Cut)) × (based p ≡ Ok all)
 unfolding problem_at
 text_read text word stages count s1 s2 c1 c2 utf8 e =
     let b = base_form word stages count c1 c2 in
-    (sealed_form word stages count c1 c2, rw (raw_read word stages count text s1 s2 c1 c2 (json_read text word stages count utf8 e)) (arranged_form word stages count c1 c2), b.0, b.1)
+    (validated_form word stages count c1 c2, rw (problem_parts_read word stages count text s1 s2 c1 c2 (json_read text word stages count utf8 e)) (arranged_form word stages count c1 c2), b.0, b.1)
 
 newline_ascii : (i : ℕ) → get_or (10 ∷ []) i 0 < 128
 newline_ascii zero = omega arith
@@ -195,7 +195,7 @@ newline_ascii (suc i) = omega arith
 -- the text that was printed for the problem, and a newline
 pub printed_read : (printed text : List ℕ) (d : Data) (word : ℕ → ℕ) (stages count : ℕ) → 1 ≤ stages → stages ≤ 500 → 1 ≤ count → count ≤ 10 → d ≡ problem word stages count
     → IsUtf8 printed → printed ≡ print (tokens printed) → IsInOrder printed d → (depth d ≤ max_depth → read printed ≡ Some d) → text ≡ printed ++ 10 ∷ []
-    → (p : Sealed) × (problem_at text ≡ Ok p) × (all : List (List Cut)) × (based p ≡ Ok all)
+    → (p : Validated) × (problem_at text ≡ Ok p) × (all : List (List Cut)) × (based p ≡ Ok all)
 printed_read printed text d word stages count s1 s2 c1 c2 is utf8 compact order back whole =
     let shallow : depth (problem word stages count) ≤ 9 = (problem_plain word stages count).shallow in
     let levels : depth d ≤ 127 = subst (λ (e : Data). depth e ≤ 127) (sym is) (omega arith) in

@@ -4,29 +4,29 @@ use Rattle.std.specs.List.{list_any, find, range_with_len}
 use Rattle.std.proofs.lemmas.Bool.{cases_lt, ne_eqb, lt-ltb}
 use Rattle.std.proofs.lemmas.Bool.Decides.{nat_tests}
 use Rattle.std.proofs.lemmas.List.FromFn.{length-map-range_with_len, get_or-map-range_with_len}
-use Rattle.hp_paths.specs.Paths.{numbers, links_at, within, reached, in_cycle, first_in_cycle, first_unreached}
+use Rattle.hp_paths.specs.Paths.{numbers, arcs_from, within, reached, in_cycle, first_in_cycle, first_unreached}
 use Rattle.hp_paths.specs.Ranks.{ranks, by_rank, longest_from}
-use Rattle.hp_problem.specs.declared.raw.Node.{Node}
-use Rattle.hp_problem.specs.declared.raw.Raw.{Raw}
-use Rattle.hp_problem.specs.Sealed.{graph_of}
+use Rattle.hp_parts.specs.declared.parts.Node.{Node}
+use Rattle.hp_parts.specs.declared.parts.ProblemParts.{ProblemParts}
+use Rattle.hp_problem.specs.Validated.{graph_of}
 use Rattle.hp_graph.specs.Arranged.{ordered, unless_cycle, unless_unreached}
-use Rattle.hp_gen.specs.Names.{stage_of}
-use Rattle.hp_gen.proofs.Reading.{node_form, link_form, raw_form}
+use Rattle.hp_gen.specs.Names.{stage_number}
+use Rattle.hp_gen.proofs.Reading.{node_form, successor_form, parts_form}
 
--- ---- links
+-- ---- arcs
 
-abbrev links_of : ℕ → ℕ → List ℕ
-links_of stages i = (link_form stages i).nodes
+abbrev successors_of : ℕ → ℕ → List ℕ
+successors_of stages i = (successor_form stages i).nodes
 
 abbrev graph : ℕ → List (List ℕ)
-graph stages = map (links_of stages) (numbers (2 * stages))
+graph stages = map (successors_of stages) (numbers (2 * stages))
 
-graph_is : (word : ℕ → ℕ) (stages count : ℕ) (ns : List ℕ) → map (λ (n : Node). n.links) (map (node_form word stages count) ns) ≡ map (links_of stages) ns
+graph_is : (word : ℕ → ℕ) (stages count : ℕ) (ns : List ℕ) → map (λ (n : Node). n.successors) (map (node_form word stages count) ns) ≡ map (successors_of stages) ns
 graph_is word stages count [] = refl
-graph_is word stages count (n ∷ ns) = ap (λ (ls : List (List ℕ)). links_of stages n ∷ ls) (graph_is word stages count ns)
+graph_is word stages count (n ∷ ns) = ap (λ (ls : List (List ℕ)). successors_of stages n ∷ ls) (graph_is word stages count ns)
 
 length-graph : (stages : ℕ) → length (graph stages) ≡ 2 * stages
-length-graph stages = length-map-range_with_len (links_of stages) 0 (2 * stages)
+length-graph stages = length-map-range_with_len (successors_of stages) 0 (2 * stages)
 
 get_or-past : (xs : List (List ℕ)) (m : ℕ) → length xs ≤ m → get_or xs m [] ≡ []
 get_or-past [] m h = refl
@@ -34,23 +34,23 @@ get_or-past (x ∷ xs) zero h = absurd (omega arith)
 get_or-past (x ∷ xs) (suc m) h = get_or-past xs m (omega arith)
 
 abbrev next_pair : ℕ → List ℕ
-next_pair m = (2 * stage_of m) ∷ (2 * stage_of m + 1) ∷ []
+next_pair m = (2 * stage_number m) ∷ (2 * stage_number m + 1) ∷ []
 
-links_next : (stages m : ℕ) → m < 2 * stages → stage_of m < stages → links_at (graph stages) m ≡ next_pair m
-links_next stages m h l = get_or-map-range_with_len (links_of stages) 0 (2 * stages) m m [] h (omega arith) ∙ rw (lt-ltb (stage_of m) stages l, links_of) refl
+successors_next : (stages m : ℕ) → m < 2 * stages → stage_number m < stages → arcs_from (graph stages) m ≡ next_pair m
+successors_next stages m h l = get_or-map-range_with_len (successors_of stages) 0 (2 * stages) m m [] h (omega arith) ∙ rw (lt-ltb (stage_number m) stages l, successors_of) refl
 
-either_links : (b : Bool) (stages m : ℕ) → nat_lt (stage_of m) stages ≡ b → (links_of stages m ≡ []) ⊎ (links_of stages m ≡ next_pair m)
-either_links true stages m e = inr (rw (e, links_of) refl)
-either_links false stages m e = inl (rw (e, links_of) refl)
+either_successors : (b : Bool) (stages m : ℕ) → nat_lt (stage_number m) stages ≡ b → (successors_of stages m ≡ []) ⊎ (successors_of stages m ≡ next_pair m)
+either_successors true stages m e = inr (rw (e, successors_of) refl)
+either_successors false stages m e = inl (rw (e, successors_of) refl)
 
-links_cases : (stages m : ℕ) → (m < 2 * stages) ⊎ (2 * stages ≤ m) → (links_at (graph stages) m ≡ []) ⊎ (links_at (graph stages) m ≡ next_pair m)
-links_cases stages m (inl h) = rw (get_or-map-range_with_len (links_of stages) 0 (2 * stages) m m [] h (omega arith)) (either_links (nat_lt (stage_of m) stages) stages m refl)
-links_cases stages m (inr h) = inl (get_or-past (graph stages) m (omega (arith, length-graph stages)))
+successors_cases : (stages m : ℕ) → (m < 2 * stages) ⊎ (2 * stages ≤ m) → (arcs_from (graph stages) m ≡ []) ⊎ (arcs_from (graph stages) m ≡ next_pair m)
+successors_cases stages m (inl h) = rw (get_or-map-range_with_len (successors_of stages) 0 (2 * stages) m m [] h (omega arith)) (either_successors (nat_lt (stage_number m) stages) stages m refl)
+successors_cases stages m (inr h) = inl (get_or-past (graph stages) m (omega (arith, length-graph stages)))
 
 -- ---- no cycle
 
 module _ (stages : ℕ) where
-  none_of : (p : ℕ → Bool) (m : ℕ) → (links_at (graph stages) m ≡ []) ⊎ (links_at (graph stages) m ≡ next_pair m) → p (2 * stage_of m) ≡ false → p (2 * stage_of m + 1) ≡ false → list_any p (links_at (graph stages) m) ≡ false
+  none_of : (p : ℕ → Bool) (m : ℕ) → (arcs_from (graph stages) m ≡ []) ⊎ (arcs_from (graph stages) m ≡ next_pair m) → p (2 * stage_number m) ≡ false → p (2 * stage_number m + 1) ≡ false → list_any p (arcs_from (graph stages) m) ≡ false
   none_of p m (inl e) a b = rw e refl
   none_of p m (inr e) a b = rw (e, a, b) refl
 
@@ -58,12 +58,12 @@ module _ (stages : ℕ) where
   away : (n k m : ℕ) → m < k → within (graph stages) n k m ≡ false
   away zero k m h = ne_eqb k m (λ e. omega arith)
   away (suc n) k m h =
-      rw (ne_eqb k m (λ e. omega arith)) (none_of (λ j. within (graph stages) n j m) k (links_cases stages k (cases_lt k (2 * stages))) (away n (2 * stage_of k) m (omega arith)) (away n (2 * stage_of k + 1) m (omega arith)))
+      rw (ne_eqb k m (λ e. omega arith)) (none_of (λ j. within (graph stages) n j m) k (successors_cases stages k (cases_lt k (2 * stages))) (away n (2 * stage_number k) m (omega arith)) (away n (2 * stage_number k + 1) m (omega arith)))
 
   not_back : (m : ℕ) → in_cycle (graph stages) m ≡ false
   unfolding reached
   not_back m =
-      none_of (λ k. within (graph stages) (length (graph stages)) k m) m (links_cases stages m (cases_lt m (2 * stages))) (away (length (graph stages)) (2 * stage_of m) m (omega arith)) (away (length (graph stages)) (2 * stage_of m + 1) m (omega arith))
+      none_of (λ k. within (graph stages) (length (graph stages)) k m) m (successors_cases stages m (cases_lt m (2 * stages))) (away (length (graph stages)) (2 * stage_number m) m (omega arith)) (away (length (graph stages)) (2 * stage_number m + 1) m (omega arith))
 
   -- ---- all nodes are reached
 
@@ -83,18 +83,18 @@ module _ (stages : ℕ) where
   or_left false b h = absurd (cc)
 
   -- one step on to either node of the next stage
-  step_dry : (n k m : ℕ) → k < 2 * stages → stage_of k < stages → within (graph stages) n (2 * stage_of k) m ≡ true → within (graph stages) (suc n) k m ≡ true
-  step_dry n k m h l e = or_right (k == m) _ (rw (links_next stages k h l, e) refl)
+  step_dry : (n k m : ℕ) → k < 2 * stages → stage_number k < stages → within (graph stages) n (2 * stage_number k) m ≡ true → within (graph stages) (suc n) k m ≡ true
+  step_dry n k m h l e = or_right (k == m) _ (rw (successors_next stages k h l, e) refl)
 
-  step_wet : (n k m : ℕ) → k < 2 * stages → stage_of k < stages → within (graph stages) n (2 * stage_of k + 1) m ≡ true → within (graph stages) (suc n) k m ≡ true
-  step_wet n k m h l e = or_right (k == m) _ (rw (links_next stages k h l, e) (or_right (within (graph stages) n (2 * stage_of k) m) true refl))
+  step_wet : (n k m : ℕ) → k < 2 * stages → stage_number k < stages → within (graph stages) n (2 * stage_number k + 1) m ≡ true → within (graph stages) (suc n) k m ≡ true
+  step_wet n k m h l e = or_right (k == m) _ (rw (successors_next stages k h l, e) (or_right (within (graph stages) n (2 * stage_number k) m) true refl))
 
   -- from the dry node of one stage to the dry node d stages later
   to_dry : (d n a : ℕ) → d ≤ n → a + d < stages → within (graph stages) n (2 * a) (2 * (a + d)) ≡ true
   to_dry zero n a h l = let e : a + 0 ≡ a = omega arith in rw e (itself n (2 * a))
   to_dry (suc d) zero a h l = absurd (omega arith)
   to_dry (suc d) (suc n) a h l =
-      let s : stage_of (2 * a) ≡ a + 1 = omega arith in
+      let s : stage_number (2 * a) ≡ a + 1 = omega arith in
       let e : a + suc d ≡ (a + 1) + d = omega arith in
       step_dry n (2 * a) (2 * (a + suc d)) (omega arith) (omega arith) (rw (s, e) (to_dry d n (a + 1) (omega arith) (omega arith)))
 
@@ -102,10 +102,10 @@ module _ (stages : ℕ) where
   to_wet zero n a some h l = absurd (omega arith)
   to_wet (suc d) zero a some h l = absurd (omega arith)
   to_wet (suc zero) (suc n) a some h l =
-      let s : stage_of (2 * a) ≡ a + 1 = omega arith in
+      let s : stage_number (2 * a) ≡ a + 1 = omega arith in
       step_wet n (2 * a) (2 * (a + 1) + 1) (omega arith) (omega arith) (rw s (itself n (2 * (a + 1) + 1)))
   to_wet (suc (suc d)) (suc n) a some h l =
-      let s : stage_of (2 * a) ≡ a + 1 = omega arith in
+      let s : stage_number (2 * a) ≡ a + 1 = omega arith in
       let e : a + suc (suc d) ≡ (a + 1) + suc d = omega arith in
       step_dry n (2 * a) (2 * (a + suc (suc d)) + 1) (omega arith) (omega arith) (rw (s, e) (to_wet (suc d) n (a + 1) (omega arith) (omega arith) (omega arith)))
 
@@ -143,15 +143,15 @@ pub none_unreached : (stages : ℕ) → first_unreached (graph stages) (0 ∷ 1 
 unfolding first_unreached
 none_unreached stages = none_left (reached (graph stages) (0 ∷ 1 ∷ [])) 0 (length (graph stages)) (λ m l. all_reached stages m (omega (arith, length-graph stages)))
 
-graph_same : (word : ℕ → ℕ) (stages count : ℕ) → graph_of (raw_form word stages count) ≡ graph stages
+graph_same : (word : ℕ → ℕ) (stages count : ℕ) → graph_of (parts_form word stages count) ≡ graph stages
 graph_same word stages count = graph_is word stages count (numbers (2 * stages))
 
-abbrev pub order_form : Raw → List ℕ × ℕ
-order_form raw = (by_rank (ranks (graph_of raw)), longest_from (ranks (graph_of raw)) raw.root)
+abbrev pub order_form : ProblemParts → List ℕ × ℕ
+order_form parts = (by_rank (ranks (graph_of parts)), longest_from (ranks (graph_of parts)) parts.root)
 
-pub ordered_form : (word : ℕ → ℕ) (stages count : ℕ) → ordered (raw_form word stages count) ≡ Ok (order_form (raw_form word stages count))
+pub ordered_form : (word : ℕ → ℕ) (stages count : ℕ) → ordered (parts_form word stages count) ≡ Ok (order_form (parts_form word stages count))
 unfolding ordered
 ordered_form word stages count =
-    let raw = raw_form word stages count in
-    ap (unless_cycle raw) (ap first_in_cycle (graph_same word stages count) ∙ no_cycle stages)
-    ∙ ap (unless_unreached raw) (ap (λ (g : List (List ℕ)). first_unreached g (0 ∷ 1 ∷ [])) (graph_same word stages count) ∙ none_unreached stages)
+    let parts = parts_form word stages count in
+    ap (unless_cycle parts) (ap first_in_cycle (graph_same word stages count) ∙ no_cycle stages)
+    ∙ ap (unless_unreached parts) (ap (λ (g : List (List ℕ)). first_unreached g (0 ∷ 1 ∷ [])) (graph_same word stages count) ∙ none_unreached stages)

@@ -9,14 +9,14 @@ use Rattle.hp_num.proofs.Fronts.{total-zip_map}
 use Rattle.hp_num.proofs.Order.{le_scale}
 use Rattle.hp_num.proofs.Ring.{ring, var, num, ◌⊕◌, ◌⊗◌, ⊖}
 use Rattle.hp_num.proofs.Sums.{sum_ext, sum_zero, sum_times, total_ext}
-use Rattle.hp_problem.specs.declared.raw.Row.{Row}
+use Rattle.hp_parts.specs.declared.parts.Row.{Row}
 use Rattle.hp_theory.specs.declared.cut.Cut.{Cut}
 use Rattle.hp_theory.specs.declared.cut.Certificate.{Certificate}
 use Rattle.hp_theory.specs.Base.{base_certificate, base_list}
 use Rattle.hp_theory.specs.Certificates.{cut_at}
 use Rattle.hp_theory.specs.CutOf.{scale, over_pairs, over_rows, reduced_cost, box_least, alpha_at, beta_at, alpha_sum, beta_sum, divisor, slope, remainder, cut_of, side}
 use Rattle.hp_theory.specs.Pools.{pool, no_cut, push}
-use Rattle.hp_theory.specs.Problem.{S, Realization, Link, Node, Problem, no_node, node_at, weight_of_realizations, realization_weight, successor_weight}
+use Rattle.hp_theory.specs.Problem.{S, Realization, Successor, Node, Problem, no_node, node_at, weight_of_realizations, realization_weight, successor_weight}
 use Rattle.hp_theory.specs.Range.{range_of, unless, base_from}
 use Rattle.hp_theory.specs.Size.{magnitude, magnitudes, terms_size, coefficient_size, reach, rows_size, reduced_size, alpha_size, beta_size, realization_size, remainder_size, size_of}
 use Rattle.hp_theory.proofs.Ranges.{none-range_of, some_mul}
@@ -84,7 +84,7 @@ placed_small (p ∷ ps) (x ∷ xs) j h = ap₂ ◌+ℤ◌ (ap (λ (z : ℤ). mag
 module _ (pools : List (List Cut)) (z : ZeroPools pools) where
   pairs_zero : (n : Node) (c : Certificate) (f : Cut → ℤ) → ((cut : Cut) → Zero cut → f cut ≡ pos 0) → over_pairs pools n c f ≡ pos 0
   pairs_zero n c f h =
-      total_zero (λ (q : Link × List (ℕ × ℕ)). total (λ (s : ℕ × ℕ). pos s.1 *ℤ f (cut_at pools q.0 s)) q.1) (zip n.links c.cuts)
+      total_zero (λ (q : Successor × List (ℕ × ℕ)). total (λ (s : ℕ × ℕ). pos s.1 *ℤ f (cut_at pools q.0 s)) q.1) (zip n.successors c.cuts)
       (λ q. total_zero (λ (s : ℕ × ℕ). pos s.1 *ℤ f (cut_at pools q.0 s)) q.1 (λ s. ap (λ (y : ℤ). pos s.1 *ℤ y) (h (cut_at pools q.0 s) (z.each q.0.node s.0)) ∙ times_zero (pos s.1)))
 
 rows_zero : (rows : List Row) (f : Row → ℤ → ℤ) → total (λ (q : Row × ℤ). q.1 *ℤ f q.0 q.1) (zip rows (map (λ (row : Row). pos 0) rows)) ≡ pos 0
@@ -264,5 +264,5 @@ pub all_based : (p : Problem) → ((m : ℕ) → MayBeTame (node_at p m)) → (m
 all_based p good [] pools z = (pools, refl)
 all_based p good (m ∷ ms) pools z =
     let cut = cut_of pools (node_at p m) (base_list (node_at p m)) in
-    let rest = all_based p good ms (push pools m cut) (push_zero pools m cut z (may_zero pools z (node_at p m) (good m))) in
-    (rest.0, ap (λ (o : Option ℕ). unless o m (base_from p ms (push pools m cut))) (may_range pools z (node_at p m) (good m)) ∙ rest.1)
+    let tail = all_based p good ms (push pools m cut) (push_zero pools m cut z (may_zero pools z (node_at p m) (good m))) in
+    (tail.0, ap (λ (o : Option ℕ). unless o m (base_from p ms (push pools m cut))) (may_range pools z (node_at p m) (good m)) ∙ tail.1)

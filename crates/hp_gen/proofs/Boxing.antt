@@ -5,18 +5,18 @@ use Rattle.std.proofs.lemmas.Int.{ints, clamps}
 use Rattle.hp_num.specs.Sums.{entry}
 use Rattle.hp_paths.specs.Paths.{numbers}
 use Rattle.hp_paths.specs.Ranks.{predecessors}
-use Rattle.hp_problem.specs.declared.raw.State.{State}
-use Rattle.hp_problem.specs.declared.raw.Node.{Node}
-use Rattle.hp_problem.specs.declared.raw.Raw.{Raw}
-use Rattle.hp_problem.specs.Sealed.{Sealed, graph_of, out_lows, out_highs, initial_values}
+use Rattle.hp_parts.specs.declared.parts.State.{State}
+use Rattle.hp_parts.specs.declared.parts.Node.{Node}
+use Rattle.hp_parts.specs.declared.parts.ProblemParts.{ProblemParts}
+use Rattle.hp_problem.specs.Validated.{Validated, graph_of, out_lows, out_highs, initial_values}
 use Rattle.hp_graph.specs.declared.side.Side.{Side}
 use Rattle.hp_graph.specs.declared.side.Side.TheVariants.{Low, High}
-use Rattle.hp_graph.specs.Hull.{outer, outermost, ends, end_at, start_at, incoming, hull, given, given_in, encloses, has_gap, first_gap, gap_in, sides}
+use Rattle.hp_graph.specs.Hull.{outer, outermost, hull_ends, end_at, start_at, incoming, hull, given, given_in, encloses, has_gap, first_gap, gap_in, sides}
 use Rattle.hp_graph.specs.Arranged.{unless_gap, with_order, with_boxes, boxed, arranged}
 use Rattle.hp_theory.proofs.Ranges.{int_le-true}
-use Rattle.hp_gen.specs.Stage.{state_name}
+use Rattle.hp_gen.specs.Stage.{reservoir_state_name}
 use Rattle.hp_gen.proofs.Subproblems.{form, each}
-use Rattle.hp_gen.proofs.Reading.{raw_form}
+use Rattle.hp_gen.proofs.Reading.{parts_form}
 use Rattle.hp_gen.proofs.Arranging.{none_found, order_form, ordered_form}
 
 pub record Inside (z : ℤ) : Type 0 where
@@ -112,22 +112,22 @@ if_in true o p = p
 if_in false o p = tt
 
 module _ (word : ℕ → ℕ) (stages count : ℕ) (some : 1 ≤ count) (few : count ≤ 10) where
-  abbrev raw : Raw
-  raw = raw_form word stages count
+  abbrev parts : ProblemParts
+  parts = parts_form word stages count
 
-  side_end : (side : Side) (s m : ℕ) → Inside (end_at raw.nodes (ends side raw) s m)
-  side_end Low s m = subst (λ (es : List ℤ). Inside (end_at raw.nodes (es ∷ []) s m)) (sym (lows_out count some few)) (end_in (replicate count (pos 0)) (repeated_in (pos 0) zero_in count) raw.nodes s m)
-  side_end High s m = subst (λ (es : List ℤ). Inside (end_at raw.nodes (es ∷ []) s m)) (sym (highs_out count some few)) (end_in (replicate count (pos 100)) (repeated_in (pos 100) hundred_in count) raw.nodes s m)
+  side_end : (side : Side) (s m : ℕ) → Inside (end_at parts.nodes (hull_ends side parts) s m)
+  side_end Low s m = subst (λ (es : List ℤ). Inside (end_at parts.nodes (es ∷ []) s m)) (sym (lows_out count some few)) (end_in (replicate count (pos 0)) (repeated_in (pos 0) zero_in count) parts.nodes s m)
+  side_end High s m = subst (λ (es : List ℤ). Inside (end_at parts.nodes (es ∷ []) s m)) (sym (highs_out count some few)) (end_in (replicate count (pos 100)) (repeated_in (pos 100) hundred_in count) parts.nodes s m)
 
-  incoming_in : (side : Side) (n s : ℕ) → AllInside (incoming side raw n s)
+  incoming_in : (side : Side) (n s : ℕ) → AllInside (incoming side parts n s)
   incoming_in side n s =
-      cons_in (start_at raw n s) (map (end_at raw.nodes (ends side raw) s) (predecessors (graph_of raw) n))
-      (if_in (list_any (λ m. m == n) raw.root) (slice_get (initial_values raw) s) (initial_in state_name (numbers count) s))
-      (map_in (end_at raw.nodes (ends side raw) s) (side_end side s) (predecessors (graph_of raw) n))
+      cons_in (start_at parts n s) (map (end_at parts.nodes (hull_ends side parts) s) (predecessors (graph_of parts) n))
+      (if_in (list_any (λ m. m == n) parts.root) (slice_get (initial_values parts) s) (initial_in reservoir_state_name (numbers count) s))
+      (map_in (end_at parts.nodes (hull_ends side parts) s) (side_end side s) (predecessors (graph_of parts) n))
 
-  hull_in : (side : Side) (n s : ℕ) → Inside (entry (hull side raw n) s)
+  hull_in : (side : Side) (n s : ℕ) → Inside (entry (hull side parts n) s)
   unfolding hull
-  hull_in side n s = entry_in (λ k. outermost side (incoming side raw n k)) (λ k. outermost_in side (incoming side raw n k) (incoming_in side n k)) (numbers (length raw.states)) s
+  hull_in side n s = entry_in (λ k. outermost side (incoming side parts n k)) (λ k. outermost_in side (incoming side parts n k) (incoming_in side n k)) (numbers (length parts.states)) s
 
   -- ---- the given bounds enclose it
 
@@ -160,23 +160,23 @@ module _ (word : ℕ → ℕ) (stages count : ℕ) (some : 1 ≤ count) (few : c
   both_enclose : (a b : Bool) → a ≡ true → b ≡ true → not (a && b) ≡ false
   both_enclose a b p q = rw (p, q) refl
 
-  no_gap : (n s : ℕ) → has_gap raw n s ≡ false
+  no_gap : (n s : ℕ) → has_gap parts n s ≡ false
   no_gap n s =
-      both_enclose (encloses Low (given Low raw n s) (entry (hull Low raw n) s)) (encloses High (given High raw n s) (entry (hull High raw n) s))
-      (low_at (slice_get raw.nodes n) s (entry (hull Low raw n) s) (hull_in Low n s)) (high_at (slice_get raw.nodes n) s (entry (hull High raw n) s) (hull_in High n s))
+      both_enclose (encloses Low (given Low parts n s) (entry (hull Low parts n) s)) (encloses High (given High parts n s) (entry (hull High parts n) s))
+      (low_at (slice_get parts.nodes n) s (entry (hull Low parts n) s) (hull_in Low n s)) (high_at (slice_get parts.nodes n) s (entry (hull High parts n) s) (hull_in High n s))
 
-  no_first_gap : (ns : List ℕ) → first_gap raw ns ≡ None
+  no_first_gap : (ns : List ℕ) → first_gap parts ns ≡ None
   no_first_gap [] = refl
-  no_first_gap (n ∷ ns) = ap (λ (o : Option ℕ). gap_in n o (first_gap raw ns)) (none_found (has_gap raw n) (numbers (length raw.states)) (no_gap n)) ∙ no_first_gap ns
+  no_first_gap (n ∷ ns) = ap (λ (o : Option ℕ). gap_in n o (first_gap parts ns)) (none_found (has_gap parts n) (numbers (length parts.states)) (no_gap n)) ∙ no_first_gap ns
 
-  boxed_form : boxed raw ≡ Ok (sides Low raw, sides High raw)
+  boxed_form : boxed parts ≡ Ok (sides Low parts, sides High parts)
   unfolding boxed
-  boxed_form = ap (unless_gap raw) (no_first_gap (numbers (length raw.nodes)))
+  boxed_form = ap (unless_gap parts) (no_first_gap (numbers (length parts.nodes)))
 
   -- the problem of the parts
-  abbrev pub sealed_form : Sealed
-  sealed_form = record { raw = raw; order = (order_form raw).0; longest = (order_form raw).1; lo = sides Low raw; hi = sides High raw }
+  abbrev pub validated_form : Validated
+  validated_form = record { parts = parts; order = (order_form parts).0; longest = (order_form parts).1; lo = sides Low parts; hi = sides High parts }
 
-  pub arranged_form : arranged raw ≡ Ok sealed_form
+  pub arranged_form : arranged parts ≡ Ok validated_form
   unfolding arranged
-  arranged_form = ap (with_order raw) (ordered_form word stages count) ∙ ap (with_boxes raw (order_form raw)) boxed_form
+  arranged_form = ap (with_order parts) (ordered_form word stages count) ∙ ap (with_boxes parts (order_form parts)) boxed_form

@@ -2,10 +2,10 @@
 use Rattle.std.proofs.Common.{◌≡◌, ℕ, zero, suc, ◌*◌, ◌≤◌, pos, List, [], ◌∷◌, ◌++◌, map, codes, replicate, Some, Result, Ok, Err, refl, arith}
 use Rattle.std.specs.List.{flat_map}
 use Rattle.std.specs.Prelude.{⊤}
-use Rattle.hp_problem.specs.declared.raw.State.{State}
-use Rattle.hp_problem.specs.declared.raw.Decision.{Decision}
-use Rattle.hp_problem.specs.declared.raw.Subproblem.{Subproblem}
-use Rattle.hp_problem.specs.declared.refusal.Refusal.{Refusal}
+use Rattle.hp_parts.specs.declared.parts.State.{State}
+use Rattle.hp_parts.specs.declared.parts.Decision.{Decision}
+use Rattle.hp_parts.specs.declared.parts.Subproblem.{Subproblem}
+use Rattle.hp_parts.specs.declared.refusal.Refusal.{Refusal}
 use Rattle.hp_paths.specs.Paths.{numbers}
 use Rattle.hp_fields.specs.Fields as fields
 use Rattle.hp_fields.specs.Limits as limits
@@ -22,13 +22,13 @@ use Rattle.hp_subproblem.specs.Sides as sides
 use Rattle.hp_subproblem.specs.StageParts as parts
 use Rattle.hp_subproblem.specs.States as states
 use Rattle.hp_subproblem.specs.Variables as variables
-use Rattle.hp_subproblem.specs.Subproblem.{variables_at, number_of, outs_of, few_rows_at, subproblem_of, filled_at, subproblem_at}
+use Rattle.hp_subproblem.specs.Subproblem.{variables_at, decision_number_of, outs_of, few_rows_at, subproblem_from_parts, filled_at, read_subproblem_at}
 use Rattle.hp_forms.specs.Stage as forms
 use Rattle.hp_gen.specs.Names.{reservoir_name}
 use Rattle.hp_gen.specs.Stage as stage
 
 abbrev pub state_list : ℕ → List State
-state_list count = map (λ j. record { name = stage.state_name j; initial = pos 50 }) (numbers count)
+state_list count = map (λ j. record { name = stage.reservoir_state_name j; initial = pos 50 }) (numbers count)
 
 abbrev no_subproblem : Subproblem
 no_subproblem = record { decisions = []; outs = []; randoms = []; rows = []; constant = pos 0; state_costs = []; random_costs = []; low = []; high = [] }
@@ -38,11 +38,11 @@ or_none (Ok s) = s
 or_none (Err e) = no_subproblem
 
 unfoldable pub sub : ℕ → Subproblem
-sub count = or_none (subproblem_at (state_list count) 0 (codes "p") (stage.subproblem count))
+sub count = or_none (read_subproblem_at (state_list count) 0 (codes "p") (stage.generated_subproblem count))
 
 -- the definitions that unfold to compute the reader on the subproblem
 unfoldable reading : ⊤
-unfolding sub subproblem_at variables_at number_of outs_of few_rows_at subproblem_of filled_at walk_members walk_items walk_list fields.whole_at fields.key_at fields.present_at fields.object_at fields.array_at fields.string_at limits.name_at limits.limited_at limits.known_at limits.members_at limits.items_at boxes.bound_at boxes.decision_at boxes.incoming_at boxes.box_at boxes.variable_at boxes.boxes_at boxes.lows_of boxes.highs_of constraint.narrowed constraint.bounded constraint.joined_at constraint.constraint_at constraint.constraints_at decisions.decisions_at function.variable_function_at function.raised function.term_at function.terms_at function.constant_at function.coefficient_at function.coefficients_at function.affine_function_at function.function_at objective.costs_at objective.objective_at randoms.random_at randoms.each_random_at randoms.randoms_at roles.taken_at rows.picked rows.row_of sides.ordered_at sides.side_at sides.equal_at sides.greater_at sides.less_at sides.interval_at sides.set_at sides.shifted_side_at sides.shifted_at parts.array_under parts.object_under parts.stage_parts_at states.state_at states.each_state_at states.states_at variables.variable_at variables.names_at forms.variable forms.term forms.affine forms.equal_to forms.row forms.single forms.interval forms.bound forms.least_sum forms.state_between forms.program_of forms.subproblem_of stage.variables_of stage.variables stage.from_above stage.balance_terms stage.power_terms stage.bounds_of stage.constraints stage.objective stage.program stage.subproblem reservoir_name
+unfolding sub read_subproblem_at variables_at decision_number_of outs_of few_rows_at subproblem_from_parts filled_at walk_members walk_items walk_list fields.whole_at fields.key_at fields.present_at fields.object_at fields.array_at fields.string_at limits.name_at limits.limited_at limits.known_at limits.members_at limits.items_at boxes.bound_at boxes.decision_at boxes.incoming_at boxes.box_at boxes.variable_box_at boxes.boxes_at boxes.given_low_bounds boxes.given_high_bounds constraint.narrowed constraint.bounded constraint.joined_at constraint.constraint_at constraint.constraints_at decisions.decisions_at function.variable_function_at function.raised function.term_at function.terms_at function.constant_at function.coefficient_at function.coefficients_at function.affine_function_at function.function_at objective.costs_at objective.objective_at randoms.random_at randoms.each_random_at randoms.randoms_at roles.taken_at rows.picked_coefficients rows.row_of sides.ordered_at sides.side_at sides.equal_at sides.greater_at sides.less_at sides.interval_at sides.set_at sides.shifted_side_at sides.shifted_at parts.array_under parts.object_under parts.stage_parts_at states.uses_of_state_at states.each_state_at states.uses_of_states_at variables.variable_at variables.names_at forms.variable forms.term forms.affine forms.equal_to forms.row forms.single forms.interval forms.variable_bound forms.least_sum forms.state_between forms.program_form forms.subproblem_form stage.reservoir_variables stage.generated_variables stage.from_above stage.balance_terms stage.power_terms stage.reservoir_bounds stage.generated_constraints stage.generated_objective stage.generated_program stage.generated_subproblem reservoir_name
 reading = tt
 
 -- ---- the subproblem that is read
@@ -84,7 +84,7 @@ each P a b c d e f g h i j (suc (suc (suc (suc (suc (suc (suc (suc (suc (suc zer
 each P a b c d e f g h i j (suc (suc (suc (suc (suc (suc (suc (suc (suc (suc (suc n))))))))))) low high = absurd (omega arith)
 
 abbrev Reads : ℕ → Type 0
-Reads count = subproblem_at (state_list count) 0 (codes "p") (stage.subproblem count) ≡ Ok (form count)
+Reads count = read_subproblem_at (state_list count) 0 (codes "p") (stage.generated_subproblem count) ≡ Ok (form count)
 
 reads1 : Reads 1
 unfolding reading
@@ -126,5 +126,5 @@ reads10 : Reads 10
 unfolding reading
 reads10 = refl
 
-pub subproblem_read : (count : ℕ) → 1 ≤ count → count ≤ 10 → subproblem_at (state_list count) 0 (codes "p") (stage.subproblem count) ≡ Ok (form count)
+pub subproblem_read : (count : ℕ) → 1 ≤ count → count ≤ 10 → read_subproblem_at (state_list count) 0 (codes "p") (stage.generated_subproblem count) ≡ Ok (form count)
 subproblem_read = each Reads reads1 reads2 reads3 reads4 reads5 reads6 reads7 reads8 reads9 reads10

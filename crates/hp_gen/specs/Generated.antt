@@ -3,25 +3,25 @@ use Rattle.std.specs.Prelude.{ℕ, ◌^◌, List, [], ◌∷◌, ◌++◌}
 use Rattle.serde_json.specs.Data.{Data, Members}
 use Rattle.serde_json.specs.Written.{compact_text}
 use Rattle.hp_sampler.specs.Drawn.{stream_of, word_in}
-use Rattle.hp_forms.specs.Listed.{members_from, whole}
-use Rattle.hp_forms.specs.Nodes.{root_of, problem_of}
-use Rattle.hp_gen.specs.Stage.{state_name, subproblem}
-use Rattle.hp_gen.specs.Nodes.{pair, nodes}
+use Rattle.hp_forms.specs.Listed.{members_from, whole_data}
+use Rattle.hp_forms.specs.Nodes.{root_of, problem_form}
+use Rattle.hp_gen.specs.Stage.{reservoir_state_name, generated_subproblem}
+use Rattle.hp_gen.specs.Nodes.{pair, generated_nodes}
 
 -- each reservoir begins with 50
-abbrev pub initial_values : ℕ → Members
-initial_values count = members_from state_name (λ j. whole 50) 0 count
+abbrev pub generated_initial_values : ℕ → Members
+generated_initial_values count = members_from reservoir_state_name (λ j. whole_data 50) 0 count
 
 -- the horizon begins dry as often as wet
 abbrev pub first_nodes : Members
 first_nodes = pair 0 1 1
 
-unfoldable pub root : ℕ → Data
-root count = root_of (initial_values count) first_nodes
+unfoldable pub generated_root : ℕ → Data
+generated_root count = root_of (generated_initial_values count) first_nodes
 
 -- the problem of so many stages and reservoirs whose inflows come from these words
 unfoldable pub problem : (ℕ → ℕ) → ℕ → ℕ → Data
-problem word stages count = problem_of (nodes word stages count) (root count) (subproblem count)
+problem word stages count = problem_form (generated_nodes word stages count) (generated_root count) (generated_subproblem count)
 
 -- the words of a seed: the stream 2^33 of ChaCha20
 abbrev pub words : ℕ → ℕ → ℕ

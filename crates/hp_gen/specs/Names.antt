@@ -7,13 +7,13 @@ unfoldable pub reservoir_name : List ℕ → ℕ → List ℕ
 reservoir_name letter j = letter ++ digit ((j + 1) / 10) ∷ digit (j + 1) ∷ []
 
 -- the nodes are numbered stage by stage, the dry one first
-abbrev pub stage_of : ℕ → ℕ
-stage_of i = i / 2 + 1
+abbrev pub stage_number : ℕ → ℕ
+stage_number i = i / 2 + 1
 
 -- 0 of a dry node, 1 of a wet one
 abbrev pub kind_of : ℕ → ℕ
 kind_of i = i % 2
 
 -- the name of the node i: the stage with three digits, from 001, and the kind
-unfoldable pub node_name : ℕ → List ℕ
-node_name i = codes "s" ++ digit (stage_of i / 100) ∷ digit (stage_of i / 10) ∷ digit (stage_of i) ∷ [] ++ codes "w" ++ digit (kind_of i) ∷ []
+unfoldable pub generated_node_name : ℕ → List ℕ
+generated_node_name i = codes "s" ++ digit (stage_number i / 100) ∷ digit (stage_number i / 10) ∷ digit (stage_number i) ∷ [] ++ codes "w" ++ digit (kind_of i) ∷ []

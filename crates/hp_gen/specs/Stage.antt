@@ -5,12 +5,12 @@ use Rattle.serde_json.specs.Data.{Data, string, Members}
 use Rattle.hp_paths.specs.Paths.{numbers}
 use Rattle.hp_gen.specs.Names.{reservoir_name}
 use Rattle.hp_forms.specs.Listed.{members_from}
-use Rattle.hp_forms.specs.Stage.{variable, term, row, bound, least_sum, state_between, program_of, subproblem_of}
+use Rattle.hp_forms.specs.Stage.{variable, term, row, variable_bound, least_sum, state_between, program_form, subproblem_form}
 
 -- ---- variables: of each reservoir the volumes before and after, inflow, turbined water and spill; then three sources of power
 
-abbrev pub incoming : ℕ → List ℕ
-incoming j = reservoir_name (codes "i") j
+abbrev pub incoming_name : ℕ → List ℕ
+incoming_name j = reservoir_name (codes "i") j
 
 abbrev pub inflow_name : ℕ → List ℕ
 inflow_name j = reservoir_name (codes "w") j
@@ -24,14 +24,14 @@ turbined j = reservoir_name (codes "q") j
 abbrev pub spilled : ℕ → List ℕ
 spilled j = reservoir_name (codes "z") j
 
-abbrev pub state_name : ℕ → List ℕ
-state_name j = reservoir_name (codes "v") j
+abbrev pub reservoir_state_name : ℕ → List ℕ
+reservoir_state_name j = reservoir_name (codes "v") j
 
-unfoldable pub variables_of : ℕ → List Data
-variables_of j = variable (incoming j) ∷ variable (inflow_name j) ∷ variable (outgoing j) ∷ variable (turbined j) ∷ variable (spilled j) ∷ []
+unfoldable pub reservoir_variables : ℕ → List Data
+reservoir_variables j = variable (incoming_name j) ∷ variable (inflow_name j) ∷ variable (outgoing j) ∷ variable (turbined j) ∷ variable (spilled j) ∷ []
 
-unfoldable pub variables : ℕ → List Data
-variables count = flat_map variables_of (numbers count) ++ variable (codes "g") ∷ variable (codes "h") ∷ variable (codes "k") ∷ []
+unfoldable pub generated_variables : ℕ → List Data
+generated_variables count = flat_map reservoir_variables (numbers count) ++ variable (codes "g") ∷ variable (codes "h") ∷ variable (codes "k") ∷ []
 
 -- ---- constraints
 
@@ -42,7 +42,7 @@ from_above j = if nat_lt 0 j then term (negsuc 0) (turbined (j - 1)) ∷ term (n
 -- the water of the reservoir j: the volume after, turbined and spilled water, less the volume before, the inflow and the water from above
 unfoldable pub balance_terms : ℕ → List Data
 balance_terms j =
-    term (pos 1) (outgoing j) ∷ term (pos 1) (turbined j) ∷ term (pos 1) (spilled j) ∷ term (negsuc 0) (incoming j) ∷ term (negsuc 0) (inflow_name j) ∷ [] ++ from_above j
+    term (pos 1) (outgoing j) ∷ term (pos 1) (turbined j) ∷ term (pos 1) (spilled j) ∷ term (negsuc 0) (incoming_name j) ∷ term (negsuc 0) (inflow_name j) ∷ [] ++ from_above j
 
 abbrev pub balance : ℕ → Data
 balance j = row 0 (balance_terms j)
@@ -55,30 +55,30 @@ power_terms count = map (λ j. term (pos 1) (turbined j)) (numbers count) ++ ter
 abbrev pub load : ℕ → Data
 load count = row (25 * count) (power_terms count)
 
-unfoldable pub bounds_of : ℕ → List Data
-bounds_of j = bound (incoming j) (pos 0) (pos 100) ∷ bound (outgoing j) (pos 0) (pos 100) ∷ bound (turbined j) (pos 0) (pos 30) ∷ bound (spilled j) (pos 0) (pos 10000) ∷ []
+unfoldable pub reservoir_bounds : ℕ → List Data
+reservoir_bounds j = variable_bound (incoming_name j) (pos 0) (pos 100) ∷ variable_bound (outgoing j) (pos 0) (pos 100) ∷ variable_bound (turbined j) (pos 0) (pos 30) ∷ variable_bound (spilled j) (pos 0) (pos 10000) ∷ []
 
-unfoldable pub constraints : ℕ → List Data
-constraints count =
-    map balance (numbers count) ++ load count ∷ [] ++ flat_map bounds_of (numbers count)
-    ++ bound (codes "g") (pos 0) (pos (10 * count)) ∷ bound (codes "h") (pos 0) (pos (10 * count)) ∷ bound (codes "k") (pos 0) (pos (40 * count)) ∷ []
+unfoldable pub generated_constraints : ℕ → List Data
+generated_constraints count =
+    map balance (numbers count) ++ load count ∷ [] ++ flat_map reservoir_bounds (numbers count)
+    ++ variable_bound (codes "g") (pos 0) (pos (10 * count)) ∷ variable_bound (codes "h") (pos 0) (pos (10 * count)) ∷ variable_bound (codes "k") (pos 0) (pos (40 * count)) ∷ []
 
 -- ---- objective, states and random variables
 
-unfoldable pub objective : Data
-objective = least_sum (term (pos 5) (codes "g") ∷ term (pos 20) (codes "h") ∷ term (pos 200) (codes "k") ∷ [])
+unfoldable pub generated_objective : Data
+generated_objective = least_sum (term (pos 5) (codes "g") ∷ term (pos 20) (codes "h") ∷ term (pos 200) (codes "k") ∷ [])
 
-abbrev pub state : ℕ → Data
-state j = state_between (incoming j) (outgoing j)
+abbrev pub generated_state : ℕ → Data
+generated_state j = state_between (incoming_name j) (outgoing j)
 
-abbrev pub states : ℕ → Members
-states count = members_from state_name state 0 count
+abbrev pub generated_states : ℕ → Members
+generated_states count = members_from reservoir_state_name generated_state 0 count
 
-abbrev pub random_variables : ℕ → List Data
-random_variables count = map (λ j. string (inflow_name j)) (numbers count)
+abbrev pub generated_random_variables : ℕ → List Data
+generated_random_variables count = map (λ j. string (inflow_name j)) (numbers count)
 
-unfoldable pub program : ℕ → Data
-program count = program_of (constraints count) objective (variables count)
+unfoldable pub generated_program : ℕ → Data
+generated_program count = program_form (generated_constraints count) generated_objective (generated_variables count)
 
-unfoldable pub subproblem : ℕ → Data
-subproblem count = subproblem_of (random_variables count) (states count) (program count)
+unfoldable pub generated_subproblem : ℕ → Data
+generated_subproblem count = subproblem_form (generated_random_variables count) (generated_states count) (generated_program count)

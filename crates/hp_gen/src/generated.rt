@@ -1,10 +1,10 @@
 // The text of a generated problem.
 ghost use Rattle.std.specs.Prelude.{◌≡◌, ◌≤◌, IfOk, IsOk};
 ghost use Rattle.serde_json.specs.View.{view, members_view};
-ghost use Rattle.hp_sampler.specs.Drawn.{stream_of, word_in};
+ghost use Rattle.hp_sampler.specs.Drawn.{stream_of};
 ghost use Rattle.hp_sof.specs.Problem.{problem_at};
 ghost use Rattle.hp_theory.specs.Range.{based};
-ghost use Rattle.hp_gen.specs.Generated.{initial_values, root, problem, words, generated};
+ghost use Rattle.hp_gen.specs.Generated.{generated_initial_values, generated_root, problem, words, generated};
 
 use crate::names::reservoir_name;
 use crate::nodes::{nodes, pair};
@@ -17,7 +17,7 @@ use std::alloc::{AllocError, Global};
 
 fn initial_values(alloc: Global, reservoirs: u32) -> Result<Map<String, Value>, AllocError>
     requires { reservoirs ≤ 10 }
-    ensures { IfOk result (λ m. members_view m.entries ≡ initial_values reservoirs) }
+    ensures { IfOk result (λ m. members_view m.entries ≡ generated_initial_values reservoirs) }
 {
     let mut map = Map::new(alloc);
     for reservoir in 0..reservoirs {
@@ -27,10 +27,10 @@ fn initial_values(alloc: Global, reservoirs: u32) -> Result<Map<String, Value>, 
     Ok(map)
 }
 
-#[tactic(auto, unfolding(crate::specs::Generated::root))]
+#[tactic(auto, unfolding(crate::specs::Generated::generated_root))]
 fn root(alloc: Global, reservoirs: u32) -> Result<Value, AllocError>
     requires { reservoirs ≤ 10 }
-    ensures { IfOk result (λ v. view v ≡ root reservoirs) }
+    ensures { IfOk result (λ v. view v ≡ generated_root reservoirs) }
 {
     let states = initial_values(alloc, reservoirs)?;
     let successors = pair(alloc, 0, 1, 1)?;

@@ -1,6 +1,6 @@
 // Names of nodes and of a reservoir's quantities.
-ghost use Rattle.std.specs.Prelude.{◌≡◌, ◌+◌, ◌<◌, ◌≤◌, [], ◌∷◌, IsAscii};
-ghost use Rattle.hp_gen.specs.Names.{reservoir_name, node_name};
+ghost use Rattle.std.specs.Prelude.{◌≡◌, ◌+◌, ◌<◌, [], ◌∷◌, IsAscii};
+ghost use Rattle.hp_gen.specs.Names.{reservoir_name, generated_node_name};
 
 use hp_forms::digit;
 
@@ -16,10 +16,10 @@ pub(crate) fn reservoir_name(letter: u8, reservoir: u32) -> [u8; 3]
 }
 
 // The name of a node: its stage with three digits, from 001, and its kind.
-#[tactic(auto, unfolding(crate::specs::Names::node_name))]
+#[tactic(auto, unfolding(crate::specs::Names::generated_node_name))]
 pub(crate) fn node_name(node: u32) -> [u8; 6]
     requires { node < 2000 }
-    ensures value { result ≡ node_name node }
+    ensures value { result ≡ generated_node_name node }
     ensures ascii { IsAscii result }
 {
     let stage = node / 2 + 1;

@@ -2,7 +2,7 @@
 ghost use Rattle.std.specs.Prelude.{◌≡◌, ◌+◌, ◌*◌, ◌^◌, ◌<◌, ◌≤◌, map, IfOk};
 ghost use Rattle.serde_json.specs.View.{view, members_view};
 ghost use Rattle.hp_sampler.specs.Drawn.{word_in};
-ghost use Rattle.hp_gen.specs.Nodes.{inflow, support, realization, realizations, weight, pair, successors, node, nodes};
+ghost use Rattle.hp_gen.specs.Nodes.{inflow, inflow_support, generated_realization, realizations, kind_weight, pair, successors, generated_node, generated_nodes};
 
 use crate::names::{node_name, reservoir_name};
 use crate::words::next;
@@ -23,7 +23,7 @@ fn inflow(words: &mut ChaCha20Rng, kind: u32) -> u32
 }
 
 // Builds a realization: one inflow per reservoir.
-#[tactic(auto, unfolding(crate::specs::Nodes::support))]
+#[tactic(auto, unfolding(crate::specs::Nodes::inflow_support))]
 fn support(
     alloc: Global,
     words: &mut ChaCha20Rng,
@@ -33,7 +33,7 @@ fn support(
     requires few { reservoirs ≤ 10 }
     requires place { words.old.word_pos + reservoirs ≤ 2 ^ 40 }
     ensures value { IfOk result (λ m. members_view m.entries
-        ≡ support (word_in words.old) words.old.word_pos kind reservoirs) }
+        ≡ inflow_support (word_in words.old) words.old.word_pos kind reservoirs) }
     ensures later { IfOk result (λ _. words.new
         ≡ record words.old { word_pos = words.old.word_pos + reservoirs }) }
 {
@@ -46,7 +46,7 @@ fn support(
     Ok(map)
 }
 
-#[tactic(auto, unfolding(crate::specs::Nodes::realization))]
+#[tactic(auto, unfolding(crate::specs::Nodes::generated_realization))]
 fn realization(
     alloc: Global,
     words: &mut ChaCha20Rng,
@@ -56,7 +56,7 @@ fn realization(
     requires few { reservoirs ≤ 10 }
     requires place { words.old.word_pos + reservoirs ≤ 2 ^ 40 }
     ensures value { IfOk result (λ v. view v
-        ≡ realization (word_in words.old) words.old.word_pos kind reservoirs) }
+        ≡ generated_realization (word_in words.old) words.old.word_pos kind reservoirs) }
     ensures later { IfOk result (λ _. words.new
         ≡ record words.old { word_pos = words.old.word_pos + reservoirs }) }
 {
@@ -89,7 +89,7 @@ fn realizations(
 
 // The weight of a successor of one kind after a node of another.
 fn weight(kind: u32, next: u32) -> u32
-    ensures { result ≡ weight kind next }
+    ensures { result ≡ kind_weight kind next }
 {
     if kind == next { 3 } else { 1 }
 }
@@ -128,7 +128,7 @@ fn successors(alloc: Global, stages: u32, node: u32) -> Result<Map<String, Value
 }
 
 // A node, with the next words.
-#[tactic(auto, unfolding(crate::specs::Nodes::node))]
+#[tactic(auto, unfolding(crate::specs::Nodes::generated_node))]
 fn node(
     alloc: Global,
     words: &mut ChaCha20Rng,
@@ -140,7 +140,7 @@ fn node(
     requires stages { stages ≤ 500 }
     requires number { number < 2 * stages }
     requires place { words.old.word_pos ≡ number * (10 * reservoirs) }
-    ensures value { IfOk result (λ v. view v ≡ node (word_in words.old) stages reservoirs number) }
+    ensures value { IfOk result (λ v. view v ≡ generated_node (word_in words.old) stages reservoirs number) }
     ensures later { IfOk result (λ _. words.new
         ≡ record words.old { word_pos = words.old.word_pos + 10 * reservoirs }) }
 {
@@ -151,7 +151,7 @@ fn node(
 }
 
 // Builds all nodes, stage by stage.
-#[tactic(auto, unfolding(crate::specs::Nodes::nodes))]
+#[tactic(auto, unfolding(crate::specs::Nodes::generated_nodes))]
 pub(crate) fn nodes(
     alloc: Global,
     words: &mut ChaCha20Rng,
@@ -162,7 +162,7 @@ pub(crate) fn nodes(
     requires stages { stages ≤ 500 }
     requires place { words.old.word_pos ≡ 0 }
     ensures { IfOk result (λ m. members_view m.entries
-        ≡ nodes (word_in words.old) stages reservoirs) }
+        ≡ generated_nodes (word_in words.old) stages reservoirs) }
 {
     let mut map = Map::new(alloc);
     for number in 0..2 * stages {

@@ -1,11 +1,9 @@
 // The subproblem of each stage.
 ghost use Rattle.std.specs.Prelude.{◌≡◌, ◌+◌, ◌*◌, ◌<◌, ◌≤◌, ◌++◌, map, IfOk, OnOk};
 ghost use Rattle.std.specs.List.{flat_map};
-ghost use Rattle.serde_json.specs.Data.{string};
 ghost use Rattle.serde_json.specs.View.{view, members_view};
 ghost use Rattle.hp_paths.specs.Paths.{numbers};
-ghost use Rattle.hp_forms.specs.Listed.{members_from};
-ghost use Rattle.hp_gen.specs.Stage.{variables_of, variables, from_above, balance_terms, power_terms, bounds_of, balance, constraints, objective, state, state_name, states, random_variables, program, subproblem};
+ghost use Rattle.hp_gen.specs.Stage.{reservoir_variables, generated_variables, from_above, balance_terms, power_terms, reservoir_bounds, balance, generated_constraints, generated_objective, generated_state, generated_states, generated_random_variables, generated_program, generated_subproblem};
 
 use crate::names::reservoir_name;
 use hp_forms::{least_sum, push_bound, push_term, push_variable, row, state_between, text_of};
@@ -13,11 +11,11 @@ use serde_json::{Map, Value};
 use std::alloc::{AllocError, Global};
 
 // The variables of one more reservoir.
-#[tactic(auto, unfolding(crate::specs::Stage::variables_of))]
+#[tactic(auto, unfolding(crate::specs::Stage::reservoir_variables))]
 fn push_variables_of(alloc: Global, list: &mut Vec<Value>, reservoir: u32) -> Result<(), AllocError>
     requires { reservoir < 10 }
     ensures { OnOk result (map view list.new.items
-        ≡ map view list.old.items ++ variables_of reservoir) }
+        ≡ map view list.old.items ++ reservoir_variables reservoir) }
 {
     push_variable(alloc, list, text_of(&reservoir_name(b'i', reservoir)))?;
     push_variable(alloc, list, text_of(&reservoir_name(b'w', reservoir)))?;
@@ -26,10 +24,10 @@ fn push_variables_of(alloc: Global, list: &mut Vec<Value>, reservoir: u32) -> Re
     push_variable(alloc, list, text_of(&reservoir_name(b'z', reservoir)))
 }
 
-#[tactic(auto, using(hp_forms::proofs::Counted::flat_more), unfolding(crate::specs::Stage::variables))]
+#[tactic(auto, using(hp_forms::proofs::Counted::flat_more), unfolding(crate::specs::Stage::generated_variables))]
 fn variables(alloc: Global, reservoirs: u32) -> Result<Vec<Value>, AllocError>
     requires { reservoirs ≤ 10 }
-    ensures { IfOk result (λ list. map view list.items ≡ variables reservoirs) }
+    ensures { IfOk result (λ list. map view list.items ≡ generated_variables reservoirs) }
 {
     let mut list = Vec::new(alloc);
     for reservoir in 0..reservoirs {
@@ -116,9 +114,9 @@ fn power_terms(alloc: Global, reservoirs: u32) -> Result<Vec<Value>, AllocError>
     Ok(list)
 }
 
-#[tactic(auto, unfolding(crate::specs::Stage::objective))]
+#[tactic(auto, unfolding(crate::specs::Stage::generated_objective))]
 fn objective(alloc: Global) -> Result<Value, AllocError>
-    ensures { IfOk result (λ v. view v ≡ objective) }
+    ensures { IfOk result (λ v. view v ≡ generated_objective) }
 {
     let mut list = Vec::new(alloc);
     push_term(alloc, &mut list, 5, "g")?;
@@ -142,11 +140,11 @@ fn balances(alloc: Global, reservoirs: u32) -> Result<Vec<Value>, AllocError>
 }
 
 // The bounds of one more reservoir.
-#[tactic(auto, unfolding(crate::specs::Stage::bounds_of))]
+#[tactic(auto, unfolding(crate::specs::Stage::reservoir_bounds))]
 fn push_bounds_of(alloc: Global, list: &mut Vec<Value>, reservoir: u32) -> Result<(), AllocError>
     requires { reservoir < 10 }
     ensures { OnOk result (map view list.new.items
-        ≡ map view list.old.items ++ bounds_of reservoir) }
+        ≡ map view list.old.items ++ reservoir_bounds reservoir) }
 {
     push_bound(
         alloc,
@@ -183,7 +181,7 @@ fn push_bounds_of(alloc: Global, list: &mut Vec<Value>, reservoir: u32) -> Resul
 fn push_bounds(alloc: Global, list: &mut Vec<Value>, reservoirs: u32) -> Result<(), AllocError>
     requires { reservoirs ≤ 10 }
     ensures { OnOk result (map view list.new.items
-        ≡ map view list.old.items ++ flat_map bounds_of (numbers reservoirs)) }
+        ≡ map view list.old.items ++ flat_map reservoir_bounds (numbers reservoirs)) }
 {
     for reservoir in 0..reservoirs {
         push_bounds_of(alloc, list, reservoir)?;
@@ -191,10 +189,10 @@ fn push_bounds(alloc: Global, list: &mut Vec<Value>, reservoirs: u32) -> Result<
     Ok(())
 }
 
-#[tactic(auto, unfolding(crate::specs::Stage::constraints))]
+#[tactic(auto, unfolding(crate::specs::Stage::generated_constraints))]
 fn constraints(alloc: Global, reservoirs: u32) -> Result<Vec<Value>, AllocError>
     requires { reservoirs ≤ 10 }
-    ensures { IfOk result (λ list. map view list.items ≡ constraints reservoirs) }
+    ensures { IfOk result (λ list. map view list.items ≡ generated_constraints reservoirs) }
 {
     let mut list = balances(alloc, reservoirs)?;
     let terms = power_terms(alloc, reservoirs)?;
@@ -208,7 +206,7 @@ fn constraints(alloc: Global, reservoirs: u32) -> Result<Vec<Value>, AllocError>
 
 fn state(alloc: Global, reservoir: u32) -> Result<Value, AllocError>
     requires { reservoir < 10 }
-    ensures { IfOk result (λ v. view v ≡ state reservoir) }
+    ensures { IfOk result (λ v. view v ≡ generated_state reservoir) }
 {
     let incoming = reservoir_name(b'i', reservoir);
     let outgoing = reservoir_name(b'o', reservoir);
@@ -217,7 +215,7 @@ fn state(alloc: Global, reservoir: u32) -> Result<Value, AllocError>
 
 fn states(alloc: Global, reservoirs: u32) -> Result<Map<String, Value>, AllocError>
     requires { reservoirs ≤ 10 }
-    ensures { IfOk result (λ m. members_view m.entries ≡ states reservoirs) }
+    ensures { IfOk result (λ m. members_view m.entries ≡ generated_states reservoirs) }
 {
     let mut map = Map::new(alloc);
     for reservoir in 0..reservoirs {
@@ -231,7 +229,7 @@ fn states(alloc: Global, reservoirs: u32) -> Result<Map<String, Value>, AllocErr
 #[tactic(auto, using(hp_forms::proofs::Counted::map_more))]
 fn random_variables(alloc: Global, reservoirs: u32) -> Result<Vec<Value>, AllocError>
     requires { reservoirs ≤ 10 }
-    ensures { IfOk result (λ list. map view list.items ≡ random_variables reservoirs) }
+    ensures { IfOk result (λ list. map view list.items ≡ generated_random_variables reservoirs) }
 {
     let mut list = Vec::new(alloc);
     for reservoir in 0..reservoirs {
@@ -241,10 +239,10 @@ fn random_variables(alloc: Global, reservoirs: u32) -> Result<Vec<Value>, AllocE
     Ok(list)
 }
 
-#[tactic(auto, unfolding(crate::specs::Stage::program))]
+#[tactic(auto, unfolding(crate::specs::Stage::generated_program))]
 fn program(alloc: Global, reservoirs: u32) -> Result<Value, AllocError>
     requires { reservoirs ≤ 10 }
-    ensures { IfOk result (λ v. view v ≡ program reservoirs) }
+    ensures { IfOk result (λ v. view v ≡ generated_program reservoirs) }
 {
     let variables = variables(alloc, reservoirs)?;
     let objective = objective(alloc)?;
@@ -253,10 +251,10 @@ fn program(alloc: Global, reservoirs: u32) -> Result<Value, AllocError>
 }
 
 // The subproblem of each node.
-#[tactic(auto, unfolding(crate::specs::Stage::subproblem))]
+#[tactic(auto, unfolding(crate::specs::Stage::generated_subproblem))]
 pub(crate) fn subproblem(alloc: Global, reservoirs: u32) -> Result<Value, AllocError>
     requires { reservoirs ≤ 10 }
-    ensures { IfOk result (λ v. view v ≡ subproblem reservoirs) }
+    ensures { IfOk result (λ v. view v ≡ generated_subproblem reservoirs) }
 {
     let states = states(alloc, reservoirs)?;
     let randoms = random_variables(alloc, reservoirs)?;

@@ -6,57 +6,57 @@ use Rattle.std.proofs.lemmas.Int.{ints}
 use Rattle.std.proofs.lemmas.List.FromFn.{get_or-map-range_with_len}
 use Rattle.hp_num.specs.Sums.{entry}
 use Rattle.hp_num.proofs.Tests.{and_first, and_second, both}
-use Rattle.hp_paths.specs.Paths.{numbers, links_at}
+use Rattle.hp_paths.specs.Paths.{numbers, arcs_from}
 use Rattle.hp_paths.specs.Ranks.{predecessors}
 use Rattle.hp_paths.proofs.Falling.{numbered}
 use Rattle.hp_paths.proofs.Leading.{leading}
-use Rattle.hp_problem.specs.declared.raw.Raw.{Raw}
-use Rattle.hp_problem.specs.Sealed.{graph_of, initial_values, at_most}
+use Rattle.hp_parts.specs.declared.parts.ProblemParts.{ProblemParts}
+use Rattle.hp_problem.specs.Validated.{graph_of, initial_values, at_most}
 use Rattle.hp_graph.specs.declared.side.Side.{Side}
 use Rattle.hp_graph.specs.declared.side.Side.TheVariants.{Low, High}
-use Rattle.hp_graph.specs.Hull.{ends, end_at, start_at, incoming, outermost, hull, given, encloses, has_gap, first_gap, gap_in, side_of}
+use Rattle.hp_graph.specs.Hull.{hull_ends, end_at, start_at, incoming, outermost, hull, given, encloses, has_gap, first_gap, gap_in, box_side}
 use Rattle.hp_graph.proofs.Outside.{Outside, outside-is_outside, further, outermost_of}
 use Rattle.hp_graph.proofs.Listed.{none_found}
 
-hull_at : (side : Side) (raw : Raw) (n s : ℕ) → s < length raw.states → entry (hull side raw n) s ≡ outermost side (incoming side raw n s)
+hull_at : (side : Side) (parts : ProblemParts) (n s : ℕ) → s < length parts.states → entry (hull side parts n) s ≡ outermost side (incoming side parts n s)
 unfolding hull
-hull_at side raw n s l = get_or-map-range_with_len (λ k. outermost side (incoming side raw n k)) 0 (length raw.states) s s (pos 0) l (omega arith)
+hull_at side parts n s l = get_or-map-range_with_len (λ k. outermost side (incoming side parts n k)) 0 (length parts.states) s s (pos 0) l (omega arith)
 
-side_at : (side : Side) (raw : Raw) (n s : ℕ) → s < length raw.states → entry (side_of side raw n) s ≡ unwrap_or (given side raw n s) (entry (hull side raw n) s)
-side_at side raw n s l = get_or-map-range_with_len (λ k. unwrap_or (given side raw n k) (entry (hull side raw n) k)) 0 (length raw.states) s s (pos 0) l (omega arith)
+side_at : (side : Side) (parts : ProblemParts) (n s : ℕ) → s < length parts.states → entry (box_side side parts n) s ≡ unwrap_or (given side parts n s) (entry (hull side parts n) s)
+side_at side parts n s l = get_or-map-range_with_len (λ k. unwrap_or (given side parts n k) (entry (hull side parts n) k)) 0 (length parts.states) s s (pos 0) l (omega arith)
 
 -- no node with a gap
-gap_free : (raw : Raw) (ns : List ℕ) (n : ℕ) → first_gap raw ns ≡ None → Contains ns n → find (has_gap raw n) (numbers (length raw.states)) ≡ None
-gap_free raw [] n e c = absurd (omega (arith, c.1))
-gap_free raw (m ∷ ns) n e c = by (find (has_gap raw m) (numbers (length raw.states))) refl e c (λ f d. gap_free raw ns n f d)
+gap_free : (parts : ProblemParts) (ns : List ℕ) (n : ℕ) → first_gap parts ns ≡ None → Contains ns n → find (has_gap parts n) (numbers (length parts.states)) ≡ None
+gap_free parts [] n e c = absurd (omega (arith, c.1))
+gap_free parts (m ∷ ns) n e c = by (find (has_gap parts m) (numbers (length parts.states))) refl e c (λ f d. gap_free parts ns n f d)
   where
-    by : (o : Option ℕ) → find (has_gap raw m) (numbers (length raw.states)) ≡ o → gap_in m o (first_gap raw ns) ≡ None → Contains (m ∷ ns) n → (first_gap raw ns ≡ None → Contains ns n → find (has_gap raw n) (numbers (length raw.states)) ≡ None)
-        → find (has_gap raw n) (numbers (length raw.states)) ≡ None
+    by : (o : Option ℕ) → find (has_gap parts m) (numbers (length parts.states)) ≡ o → gap_in m o (first_gap parts ns) ≡ None → Contains (m ∷ ns) n → (first_gap parts ns ≡ None → Contains ns n → find (has_gap parts n) (numbers (length parts.states)) ≡ None)
+        → find (has_gap parts n) (numbers (length parts.states)) ≡ None
     by (Some s) f g d go = absurd (no g)
       where
         no : ◌≡◌ {A = Option (ℕ × ℕ)} (Some (m, s)) None → ⊥
         no h = cc
-    by None f g (zero, l, s) go = subst (λ k. find (has_gap raw k) (numbers (length raw.states)) ≡ None) s f
+    by None f g (zero, l, s) go = subst (λ k. find (has_gap parts k) (numbers (length parts.states)) ≡ None) s f
     by None f g (suc k, l, s) go = go g (k, omega arith, s)
 
 -- where no node has a gap, each given bound encloses the hull
-enclosed : (side : Side) (raw : Raw) (n s : ℕ) → first_gap raw (numbers (length raw.nodes)) ≡ None → n < length raw.nodes → s < length raw.states → encloses side (given side raw n s) (entry (hull side raw n) s) ≡ true
-enclosed side raw n s e h l = by side
+enclosed : (side : Side) (parts : ProblemParts) (n s : ℕ) → first_gap parts (numbers (length parts.nodes)) ≡ None → n < length parts.nodes → s < length parts.states → encloses side (given side parts n s) (entry (hull side parts n) s) ≡ true
+enclosed side parts n s e h l = by side
   where
     low : Bool
-    low = encloses Low (given Low raw n s) (entry (hull Low raw n) s)
+    low = encloses Low (given Low parts n s) (entry (hull Low parts n) s)
 
     high : Bool
-    high = encloses High (given High raw n s) (entry (hull High raw n) s)
+    high = encloses High (given High parts n s) (entry (hull High parts n) s)
 
     free : (a : Bool) → not a ≡ false → a ≡ true
     free true f = refl
     free false f = cc
 
     all : (low && high) ≡ true
-    all = free (low && high) (none_found (has_gap raw n) (numbers (length raw.states)) s (gap_free raw (numbers (length raw.nodes)) n e (numbered (length raw.nodes) n h)) (numbered (length raw.states) s l))
+    all = free (low && high) (none_found (has_gap parts n) (numbers (length parts.states)) s (gap_free parts (numbers (length parts.nodes)) n e (numbered (length parts.nodes) n h)) (numbered (length parts.states) s l))
 
-    by : (x : Side) → encloses x (given x raw n s) (entry (hull x raw n) s) ≡ true
+    by : (x : Side) → encloses x (given x parts n s) (entry (hull x parts n) s) ≡ true
     by Low = and_first low high all
     by High = and_second low high all
 
@@ -66,12 +66,12 @@ bound_outside High None h e = omega (arith, ints)
 bound_outside side (Some b) h e = outside-is_outside side b h e
 
 -- the side of the box lies at whatever comes in or further out
-pub holds_incoming : (side : Side) (raw : Raw) (n s : ℕ) (y : ℤ) → first_gap raw (numbers (length raw.nodes)) ≡ None → n < length raw.nodes → s < length raw.states → Contains (incoming side raw n s) y → Outside side (entry (side_of side raw n) s) y
-holds_incoming side raw n s y e h l c =
-    subst (λ z. Outside side z y) (sym (side_at side raw n s l))
-    (further side (unwrap_or (given side raw n s) (entry (hull side raw n) s)) (entry (hull side raw n) s) y
-    (bound_outside side (given side raw n s) (entry (hull side raw n) s) (enclosed side raw n s e h l))
-    (subst (λ z. Outside side z y) (sym (hull_at side raw n s l)) (outermost_of side (incoming side raw n s) y c)))
+pub holds_incoming : (side : Side) (parts : ProblemParts) (n s : ℕ) (y : ℤ) → first_gap parts (numbers (length parts.nodes)) ≡ None → n < length parts.nodes → s < length parts.states → Contains (incoming side parts n s) y → Outside side (entry (box_side side parts n) s) y
+holds_incoming side parts n s y e h l c =
+    subst (λ z. Outside side z y) (sym (side_at side parts n s l))
+    (further side (unwrap_or (given side parts n s) (entry (hull side parts n) s)) (entry (hull side parts n) s) y
+    (bound_outside side (given side parts n s) (entry (hull side parts n) s) (enclosed side parts n s e h l))
+    (subst (λ z. Outside side z y) (sym (hull_at side parts n s l)) (outermost_of side (incoming side parts n s) y c)))
 
 map_member : {A : Type 0} (f : ℕ → A) (xs : List ℕ) (x : ℕ) → Contains xs x → Contains (map f xs) (f x)
 map_member f [] x c = absurd (omega (arith, c.1))
@@ -79,19 +79,19 @@ map_member f (y ∷ xs) x (zero, l, e) = (zero, omega arith, ap f e)
 map_member f (y ∷ xs) x (suc k, l, e) = let c = map_member f xs x (k, omega arith, e) in (suc c.0, omega (arith, c.1), c.2)
 
 -- the state that a predecessor lets out comes in
-pub end_comes_in : (side : Side) (raw : Raw) (p n s : ℕ) → Contains (links_at (graph_of raw) p) n → Contains (incoming side raw n s) (end_at raw.nodes (ends side raw) s p)
-end_comes_in side raw p n s c = behind (start_at raw n s) (map_member (end_at raw.nodes (ends side raw) s) (predecessors (graph_of raw) n) p (leading (graph_of raw) p n c))
+pub end_comes_in : (side : Side) (parts : ProblemParts) (p n s : ℕ) → Contains (arcs_from (graph_of parts) p) n → Contains (incoming side parts n s) (end_at parts.nodes (hull_ends side parts) s p)
+end_comes_in side parts p n s c = behind (start_at parts n s) (map_member (end_at parts.nodes (hull_ends side parts) s) (predecessors (graph_of parts) n) p (leading (graph_of parts) p n c))
   where
-    behind : (o : Option ℤ) → Contains (map (end_at raw.nodes (ends side raw) s) (predecessors (graph_of raw) n)) (end_at raw.nodes (ends side raw) s p)
-        → Contains (cons_option o (map (end_at raw.nodes (ends side raw) s) (predecessors (graph_of raw) n))) (end_at raw.nodes (ends side raw) s p)
+    behind : (o : Option ℤ) → Contains (map (end_at parts.nodes (hull_ends side parts) s) (predecessors (graph_of parts) n)) (end_at parts.nodes (hull_ends side parts) s p)
+        → Contains (cons_option o (map (end_at parts.nodes (hull_ends side parts) s) (predecessors (graph_of parts) n))) (end_at parts.nodes (hull_ends side parts) s p)
     behind None d = d
     behind (Some x) d = (suc d.0, omega (arith, d.1), d.2)
 
 -- the initial value comes in where the root leads
-pub start_comes_in : (side : Side) (raw : Raw) (n s : ℕ) (x : ℤ) → list_any (λ m. m == n) raw.root ≡ true → slice_get (initial_values raw) s ≡ Some x → Contains (incoming side raw n s) x
-start_comes_in side raw n s x c e =
-    let start : start_at raw n s ≡ Some x = ap (λ b. if b then slice_get (initial_values raw) s else None) c ∙ e in
-    subst (λ o. Contains (cons_option o (map (end_at raw.nodes (ends side raw) s) (predecessors (graph_of raw) n))) x) (sym start) (0, omega arith, refl)
+pub start_comes_in : (side : Side) (parts : ProblemParts) (n s : ℕ) (x : ℤ) → list_any (λ m. m == n) parts.root ≡ true → slice_get (initial_values parts) s ≡ Some x → Contains (incoming side parts n s) x
+start_comes_in side parts n s x c e =
+    let start : start_at parts n s ≡ Some x = ap (λ b. if b then slice_get (initial_values parts) s else None) c ∙ e in
+    subst (λ o. Contains (cons_option o (map (end_at parts.nodes (hull_ends side parts) s) (predecessors (graph_of parts) n))) x) (sym start) (0, omega arith, refl)
 
 -- lists whose numbers do not pass those beside them
 pub at_most_each : (xs ys : List ℤ) → ((k : ℕ) → k < length xs → k < length ys → entry xs k ≤ℤ entry ys k) → at_most xs ys ≡ true

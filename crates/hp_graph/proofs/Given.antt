@@ -8,14 +8,14 @@ use Rattle.std.proofs.lemmas.Option.{slice_get_within, get_or_from_slice_get}
 use Rattle.hp_num.specs.Sums.{entry}
 use Rattle.hp_num.proofs.Tests.{both}
 use Rattle.hp_paths.specs.Paths.{numbers}
-use Rattle.hp_problem.specs.declared.raw.Raw.{Raw}
-use Rattle.hp_problem.specs.declared.raw.Node.{Node}
-use Rattle.hp_problem.specs.declared.raw.Subproblem.{Subproblem}
-use Rattle.hp_problem.specs.Parts.{own_subproblem}
-use Rattle.hp_problem.specs.Sealed.{is_given, are_given, given_lows, given_highs, bounds_stand}
+use Rattle.hp_parts.specs.declared.parts.ProblemParts.{ProblemParts}
+use Rattle.hp_parts.specs.declared.parts.Node.{Node}
+use Rattle.hp_parts.specs.declared.parts.Subproblem.{Subproblem}
+use Rattle.hp_parts.specs.Parts.{own_subproblem}
+use Rattle.hp_problem.specs.Validated.{is_given, are_given, given_lows, given_highs, bounds_stand}
 use Rattle.hp_graph.specs.declared.side.Side.{Side}
 use Rattle.hp_graph.specs.declared.side.Side.TheVariants.{Low, High}
-use Rattle.hp_graph.specs.Hull.{given, given_in, hull, side_of, sides}
+use Rattle.hp_graph.specs.Hull.{given, given_in, hull, box_side, sides}
 
 -- a test of pairs that each two entries at one place pass
 zip_each : {A B : Type 0} (test : A × B → Bool) (xs : List A) (ys : List B) → ((i : ℕ) (x : A) (y : B) → slice_get xs i ≡ Some x → slice_get ys i ≡ Some y → test (x, y) ≡ true) → list_all test (zip xs ys) ≡ true
@@ -44,23 +44,23 @@ given_bound High None s b e = get_or_from_slice_get [] s b None e
 given_bound Low (Some t) s b e = get_or_from_slice_get t.low s b None e
 given_bound High (Some t) s b e = get_or_from_slice_get t.high s b None e
 
-given_at : (side : Side) (raw : Raw) (m s : ℕ) (n : Node) (b : Option ℤ) → slice_get raw.nodes m ≡ Some n → slice_get (bounds_in side (own_subproblem raw n)) s ≡ Some b → given side raw m s ≡ b
-given_at side raw m s n b is e = ap (λ (o : Option Node). given_in side (option_and_then (λ (k : Node). slice_get raw.subs k.sub) o) s) is ∙ given_bound side (own_subproblem raw n) s b e
+given_at : (side : Side) (parts : ProblemParts) (m s : ℕ) (n : Node) (b : Option ℤ) → slice_get parts.nodes m ≡ Some n → slice_get (bounds_in side (own_subproblem parts n)) s ≡ Some b → given side parts m s ≡ b
+given_at side parts m s n b is e = ap (λ (o : Option Node). given_in side (option_and_then (λ (k : Node). slice_get parts.subs k.sub) o) s) is ∙ given_bound side (own_subproblem parts n) s b e
 
 -- the bounds of the node m are the side of its box
-side_given : (side : Side) (raw : Raw) (m : ℕ) (n : Node) → slice_get raw.nodes m ≡ Some n → are_given (bounds_in side (own_subproblem raw n)) (side_of side raw m) ≡ true
-side_given side raw m n is =
-    zip_each (λ (p : Option ℤ × ℤ). is_given p.0 p.1) (bounds_in side (own_subproblem raw n)) (side_of side raw m)
+side_given : (side : Side) (parts : ProblemParts) (m : ℕ) (n : Node) → slice_get parts.nodes m ≡ Some n → are_given (bounds_in side (own_subproblem parts n)) (box_side side parts m) ≡ true
+side_given side parts m n is =
+    zip_each (λ (p : Option ℤ × ℤ). is_given p.0 p.1) (bounds_in side (own_subproblem parts n)) (box_side side parts m)
     (λ s b z e f.
-    let made = made_at (λ k. unwrap_or (given side raw m k) (entry (hull side raw m) k)) (length raw.states) s z f in
+    let made = made_at (λ k. unwrap_or (given side parts m k) (entry (hull side parts m) k)) (length parts.states) s z f in
     subst (λ x. is_given b x ≡ true) (sym made.1)
-    (subst (λ o. is_given o (unwrap_or (given side raw m s) (entry (hull side raw m) s)) ≡ true) (given_at side raw m s n b is e) (given_or (given side raw m s) (entry (hull side raw m) s))))
+    (subst (λ o. is_given o (unwrap_or (given side parts m s) (entry (hull side parts m) s)) ≡ true) (given_at side parts m s n b is e) (given_or (given side parts m s) (entry (hull side parts m) s))))
 
-sides_given : (side : Side) (raw : Raw) → list_all (λ (p : Node × List ℤ). are_given (bounds_in side (own_subproblem raw p.0)) p.1) (zip raw.nodes (sides side raw)) ≡ true
-sides_given side raw =
-    zip_each (λ (p : Node × List ℤ). are_given (bounds_in side (own_subproblem raw p.0)) p.1) raw.nodes (sides side raw)
-    (λ m n zs e f. subst (λ xs. are_given (bounds_in side (own_subproblem raw n)) xs ≡ true) (sym (made_at (side_of side raw) (length raw.nodes) m zs f).1) (side_given side raw m n e))
+sides_given : (side : Side) (parts : ProblemParts) → list_all (λ (p : Node × List ℤ). are_given (bounds_in side (own_subproblem parts p.0)) p.1) (zip parts.nodes (sides side parts)) ≡ true
+sides_given side parts =
+    zip_each (λ (p : Node × List ℤ). are_given (bounds_in side (own_subproblem parts p.0)) p.1) parts.nodes (sides side parts)
+    (λ m n zs e f. subst (λ xs. are_given (bounds_in side (own_subproblem parts n)) xs ≡ true) (sym (made_at (box_side side parts) (length parts.nodes) m zs f).1) (side_given side parts m n e))
 
-pub bounds_stand-sides : (raw : Raw) → bounds_stand raw (sides Low raw) (sides High raw) ≡ true
+pub bounds_stand-sides : (parts : ProblemParts) → bounds_stand parts (sides Low parts) (sides High parts) ≡ true
 unfolding bounds_stand
-bounds_stand-sides raw = both _ (list_all (λ (p : Node × List ℤ). are_given (given_highs (own_subproblem raw p.0)) p.1) (zip raw.nodes (sides High raw))) (sides_given Low raw) (sides_given High raw)
+bounds_stand-sides parts = both _ (list_all (λ (p : Node × List ℤ). are_given (given_highs (own_subproblem parts p.0)) p.1) (zip parts.nodes (sides High parts))) (sides_given Low parts) (sides_given High parts)

@@ -1,23 +1,28 @@
 // The hull and the box of the states that come into a node.
-ghost use Rattle.std.specs.Prelude.{◌≡◌, ◌≤◌, ◌<◌, ℤ, pos, [], ◌∷◌, List, length, map, IfOk, slice_get, option_and_then, unwrap_or, ◌==◌, if◌then◌else◌, Option, Some, None, get_or};
+ghost use Rattle.std.specs.Prelude.{◌≡◌, ◌≤◌, ◌<◌, [], List, length, map, IfOk, slice_get, option_and_then, unwrap_or, ◌==◌, if◌then◌else◌, Option, Some, None, get_or};
 ghost use Rattle.std.specs.List.{list_any, fold, cons_option};
 ghost use Rattle.hp_paths.specs.Paths.{numbers};
 ghost use Rattle.hp_paths.specs.Ranks.{predecessors};
-ghost use Rattle.hp_problem.specs.Sealed.{graph_of, initial_values};
-ghost use Rattle.hp_graph.specs.Hull.{outer, outermost, ends, end_at, start_at, incoming, hull, hulls};
+ghost use Rattle.hp_problem.specs.Validated.{graph_of, initial_values};
+ghost use Rattle.hp_graph.specs.Hull.{outer, outermost, hull_ends, end_at, start_at, hull, hulls};
 
 use crate::side::{Side, outer};
 use hp_num::{List, Memory};
-use hp_problem::{Node, Raw, out_highs, out_lows};
+use hp_parts::{Node, ProblemParts};
+use hp_problem::{out_highs, out_lows};
 use std::alloc::Global;
 
 // Gives one list per subproblem with one entry per state.
-pub(crate) fn ends(alloc: Global, side: Side, raw: &Raw) -> Result<List<List<i64>>, Memory>
-    ensures { IfOk result (λ l. l ≡ ends side raw.now) }
+pub(crate) fn ends(
+    alloc: Global,
+    side: Side,
+    parts: &ProblemParts,
+) -> Result<List<List<i64>>, Memory>
+    ensures { IfOk result (λ l. l ≡ hull_ends side parts.now) }
 {
     match side {
-        Side::Low => out_lows(alloc, raw.subs.as_slice()),
-        Side::High => out_highs(alloc, raw.subs.as_slice()),
+        Side::Low => out_lows(alloc, parts.subs.as_slice()),
+        Side::High => out_highs(alloc, parts.subs.as_slice()),
     }
 }
 
@@ -56,23 +61,23 @@ fn outermost_from(
 fn leads_to(root: &[u32], node: u32) -> bool
     ensures { result ≡ list_any (λ m. m == node) root.now }
 {
-    root.iter().any(|link| *link == node)
+    root.iter().any(|successor| *successor == node)
 }
 
-fn initial_value(raw: &Raw, state: usize) -> Option<i64>
-    ensures { result ≡ slice_get (initial_values raw.now) state }
+fn initial_value(parts: &ProblemParts, state: usize) -> Option<i64>
+    ensures { result ≡ slice_get (initial_values parts.now) state }
 {
-    match raw.states.as_slice().get(state) {
+    match parts.states.as_slice().get(state) {
         Some(state) => Some(state.initial),
         None => None,
     }
 }
 
-fn start_at(raw: &Raw, node: u32, state: usize) -> Option<i64>
-    ensures { result ≡ start_at raw.now node state }
+fn start_at(parts: &ProblemParts, node: u32, state: usize) -> Option<i64>
+    ensures { result ≡ start_at parts.now node state }
 {
-    if leads_to(raw.root.as_slice(), node) {
-        initial_value(raw, state)
+    if leads_to(parts.root.as_slice(), node) {
+        initial_value(parts, state)
     } else {
         None
     }
@@ -92,9 +97,9 @@ fn outermost(
 {
     match (start, into) {
         (Some(start), into) => outermost_from(side, start, nodes, ends, state, into),
-        (None, [first, rest @ ..]) => {
+        (None, [first, tail @ ..]) => {
             let first = end_at(nodes, ends, state, *first);
-            outermost_from(side, first, nodes, ends, state, rest)
+            outermost_from(side, first, nodes, ends, state, tail)
         }
         (None, []) => 0,
     }
@@ -105,19 +110,19 @@ fn outermost(
 fn hull_of(
     alloc: Global,
     side: Side,
-    raw: &Raw,
+    parts: &ProblemParts,
     outs: &[List<i64>],
     node: u32,
     into: &[u32],
 ) -> Result<List<i64>, Memory>
-    requires outs { outs.now ≡ ends side raw.now }
-    requires into { into.now ≡ predecessors (graph_of raw.now) node }
-    ensures { IfOk result (λ l. l ≡ hull side raw.now node) }
+    requires outs { outs.now ≡ hull_ends side parts.now }
+    requires into { into.now ≡ predecessors (graph_of parts.now) node }
+    ensures { IfOk result (λ l. l ≡ hull side parts.now node) }
 {
     let mut found = List::new(alloc);
-    for state in 0..raw.states.len() {
-        let start = start_at(raw, node, state);
-        let nodes = raw.nodes.as_slice();
+    for state in 0..parts.states.len() {
+        let start = start_at(parts, node, state);
+        let nodes = parts.nodes.as_slice();
         found.push(outermost(side, start, nodes, outs, state, into))?;
     }
     Ok(found)
@@ -135,18 +140,18 @@ pub(crate) fn list_at<T>(lists: &[List<T>], at: usize) -> &[T]
 pub(crate) fn hulls(
     alloc: Global,
     side: Side,
-    raw: &Raw,
+    parts: &ProblemParts,
     into: &[List<u32>],
 ) -> Result<List<List<i64>>, Memory>
-    requires into { into.now ≡ map (predecessors (graph_of raw.now)) (numbers (length raw.now.nodes)) }
-    requires count { length raw.now.nodes ≤ 1000 }
-    ensures { IfOk result (λ l. l ≡ hulls side raw.now) }
+    requires into { into.now ≡ map (predecessors (graph_of parts.now)) (numbers (length parts.now.nodes)) }
+    requires count { length parts.now.nodes ≤ 1000 }
+    ensures { IfOk result (λ l. l ≡ hulls side parts.now) }
 {
-    let outs = ends(alloc, side, raw)?;
+    let outs = ends(alloc, side, parts)?;
     let mut found = List::new(alloc);
-    for node in 0..raw.nodes.len() {
+    for node in 0..parts.nodes.len() {
         let into = list_at(into, node);
-        found.push(hull_of(alloc, side, raw, outs.as_slice(), node as u32, into)?)?;
+        found.push(hull_of(alloc, side, parts, outs.as_slice(), node as u32, into)?)?;
     }
     Ok(found)
 }

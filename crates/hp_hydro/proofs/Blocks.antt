@@ -6,16 +6,16 @@ use Rattle.hp_num.proofs.Fronts.{total-append}
 use Rattle.hp_num.proofs.Sums.{total_ext}
 use Rattle.hp_num.proofs.Ring.{ring, var, ◌⊕◌, ⊖}
 use Rattle.hp_plants.specs.declared.plants.Plants.{Plants}
-use Rattle.hp_hydro.specs.Layout.{Store, volume_of, way_of, Variable, after, turbine_of, spill_of, thermal_of, line_of, deficit_of, Chance, inflow_of, demand_of, travel, all_reservoirs, all_thermals, all_lines, all_buses, steps, ways, stores, variables_of, variables, chances}
+use Rattle.hp_hydro.specs.Layout.{HydroStore, volume_of, way_of, Variable, after, turbine_of, spill_of, thermal_of, line_of, deficit_of, Chance, inflow_of, demand_of, travel, all_reservoirs, all_thermals, all_lines, all_buses, steps, ways, stores, variables_of, hydro_variables, chances}
 use Rattle.hp_hydro.proofs.Lists.{total-map, total-flat_map}
 
 -- the terms of a reservoir's variables
 abbrev pub of_reservoir : Plants → (Variable → ℤ) → ℕ → ℤ
 of_reservoir h f i = f (after (volume_of i)) +ℤ (f (turbine_of i) +ℤ (f (spill_of i) +ℤ total (λ k. f (after (way_of i k))) (steps (travel h i))))
 
-pub total-variables : (h : Plants) (f : Variable → ℤ) → total f (variables h)
+pub total-hydro_variables : (h : Plants) (f : Variable → ℤ) → total f (hydro_variables h)
     ≡ total (of_reservoir h f) (all_reservoirs h) +ℤ total (λ i. f (thermal_of i)) (all_thermals h) +ℤ total (λ l. f (line_of l)) (all_lines h) +ℤ total (λ b. f (deficit_of b)) (all_buses h)
-total-variables h f =
+total-hydro_variables h f =
     let rs : List Variable = flat_map (variables_of h) (all_reservoirs h) in
     let ts : List Variable = map thermal_of (all_thermals h) in
     let ls : List Variable = map line_of (all_lines h) in
@@ -27,19 +27,19 @@ total-variables h f =
     block i = ap (λ (z : ℤ). f (after (volume_of i)) +ℤ (f (turbine_of i) +ℤ (f (spill_of i) +ℤ z))) (total-map f (λ k. after (way_of i k)) (steps (travel h i)))
 
 -- the terms of the water that is k stages away
-abbrev pub of_way : Plants → (Store → ℤ) → ℕ → ℤ
+abbrev pub of_way : Plants → (HydroStore → ℤ) → ℕ → ℤ
 of_way h f k = total (λ i. if nat_le k (travel h i) then f (way_of i k) else pos 0) (all_reservoirs h)
 
-one_way : (b : Bool) (f : Store → ℤ) (s : Store) → total f (if b then s ∷ [] else []) ≡ (if b then f s else pos 0)
+one_way : (b : Bool) (f : HydroStore → ℤ) (s : HydroStore) → total f (if b then s ∷ [] else []) ≡ (if b then f s else pos 0)
 one_way true f s = +ℤ_idr (f s)
 one_way false f s = refl
 
-total-ways : (h : Plants) (f : Store → ℤ) (k : ℕ) → total f (ways h k) ≡ of_way h f k
+total-ways : (h : Plants) (f : HydroStore → ℤ) (k : ℕ) → total f (ways h k) ≡ of_way h f k
 total-ways h f k =
     total-flat_map f (λ i. if nat_le k (travel h i) then way_of i k ∷ [] else []) (all_reservoirs h)
     ∙ total_ext (λ i. total f (if nat_le k (travel h i) then way_of i k ∷ [] else [])) (λ i. if nat_le k (travel h i) then f (way_of i k) else pos 0) (all_reservoirs h) (λ i. one_way (nat_le k (travel h i)) f (way_of i k))
 
-pub total-stores : (h : Plants) (f : Store → ℤ) → total f (stores h) ≡ of_way h f 1 +ℤ (of_way h f 2 +ℤ (of_way h f 3 +ℤ pos 0)) +ℤ total (λ i. f (volume_of i)) (all_reservoirs h)
+pub total-stores : (h : Plants) (f : HydroStore → ℤ) → total f (stores h) ≡ of_way h f 1 +ℤ (of_way h f 2 +ℤ (of_way h f 3 +ℤ pos 0)) +ℤ total (λ i. f (volume_of i)) (all_reservoirs h)
 total-stores h f =
     total-append f (flat_map (ways h) (steps 3)) (map volume_of (all_reservoirs h))
     ∙ ap₂ ◌+ℤ◌ (total-flat_map f (ways h) (steps 3) ∙ total_ext (λ k. total f (ways h k)) (of_way h f) (steps 3) (total-ways h f)) (total-map f volume_of (all_reservoirs h))

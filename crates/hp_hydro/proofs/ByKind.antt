@@ -1,9 +1,9 @@
 -- Laws about all variables, states and rows, shown kind by kind.
 use Rattle.std.proofs.Common.{◌≡◌, ℕ, suc, ◌<◌, List, [], ◌∷◌, ◌++◌, length, map, flat_map, All, Bool, true, false, nat_le, if◌then◌else◌, refl, arith, leb-true}
 use Rattle.std.proofs.lemmas.List.Elements.{All-nil, All-cons, All-append}
-use Rattle.hp_problem.specs.declared.raw.Row.{Row}
+use Rattle.hp_parts.specs.declared.parts.Row.{Row}
 use Rattle.hp_plants.specs.declared.plants.Plants.{Plants}
-use Rattle.hp_hydro.specs.Layout.{Store, volume_of, way_of, Variable, after, turbine_of, spill_of, thermal_of, line_of, deficit_of, travel, all_reservoirs, all_thermals, all_lines, all_buses, steps, ways, stores, variables_of, variables}
+use Rattle.hp_hydro.specs.Layout.{HydroStore, volume_of, way_of, Variable, after, turbine_of, spill_of, thermal_of, line_of, deficit_of, travel, all_reservoirs, all_thermals, all_lines, all_buses, steps, ways, stores, variables_of, hydro_variables}
 use Rattle.hp_hydro.specs.Rows.{water_row, way_row, way_rows, bus_row, all_rows}
 use Rattle.hp_hydro.proofs.Lists.{All-left, All-right, all_each, each_all, all_flat, each_flat, all_steps, each_step}
 
@@ -17,7 +17,7 @@ pub record Each (h : Plants) (P : Variable → Type 0) : Type 0 where
   pub lines : (l : ℕ) → l < length h.lines → P (line_of l)
   pub deficits : (b : ℕ) → b < length h.buses → P (deficit_of b)
 
-pub all_variables : (h : Plants) (P : Variable → Type 0) → Each h P → All P (variables h)
+pub all_variables : (h : Plants) (P : Variable → Type 0) → Each h P → All P (hydro_variables h)
 all_variables h P e =
     let rs : List Variable = flat_map (variables_of h) (all_reservoirs h) in
     let ts : List Variable = map thermal_of (all_thermals h) in
@@ -32,7 +32,7 @@ all_variables h P e =
         All-cons P (after (volume_of j)) (turbine_of j ∷ spill_of j ∷ far) (e.volumes j p)
         (All-cons P (turbine_of j) (spill_of j ∷ far) (e.turbines j p) (All-cons P (spill_of j) far (e.spills j p) (all_steps P (λ k. after (way_of j k)) (travel h j) (λ m q. e.ways j m p q))))
 
-pub each_variable : (h : Plants) (P : Variable → Type 0) → All P (variables h) → Each h P
+pub each_variable : (h : Plants) (P : Variable → Type 0) → All P (hydro_variables h) → Each h P
 each_variable h P a =
     let rs : List Variable = flat_map (variables_of h) (all_reservoirs h) in
     let ts : List Variable = map thermal_of (all_thermals h) in
@@ -55,13 +55,13 @@ each_variable h P a =
     far j b = λ k d p. b (suc (suc (suc k))) d (omega arith)
 
 -- P holds of each state
-pub all_stores : (h : Plants) (P : Store → Type 0) → ((j : ℕ) → j < length h.reservoirs → P (volume_of j)) → ((j m : ℕ) → j < length h.reservoirs → m < travel h j → P (way_of j (suc m))) → All P (stores h)
+pub all_stores : (h : Plants) (P : HydroStore → Type 0) → ((j : ℕ) → j < length h.reservoirs → P (volume_of j)) → ((j m : ℕ) → j < length h.reservoirs → m < travel h j → P (way_of j (suc m))) → All P (stores h)
 all_stores h P v w =
     All-append P (flat_map (ways h) (steps 3)) (map volume_of (all_reservoirs h))
     (All-append P (ways h 1) (ways h 2 ++ (ways h 3 ++ [])) (away 0) (All-append P (ways h 2) (ways h 3 ++ []) (away 1) (All-append P (ways h 3) [] (away 2) (All-nil P))))
     (all_each P volume_of (length h.reservoirs) v)
   where
-    one : (b : Bool) (s : Store) → (b ≡ true → P s) → All P (if b then s ∷ [] else [])
+    one : (b : Bool) (s : HydroStore) → (b ≡ true → P s) → All P (if b then s ∷ [] else [])
     one true s f = All-cons P s [] (f refl) (All-nil P)
     one false s f = All-nil P
 

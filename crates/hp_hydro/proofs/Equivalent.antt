@@ -1,15 +1,15 @@
 -- A plan is workable where its tree is a policy, and each policy is the tree of its plan: inductions over the stages.
 use Rattle.std.proofs.Common.{◌≡◌, ◌↔◌, ℕ, zero, suc, ◌<◌, ◌≤◌, ℤ, List, [], ◌∷◌, length, map, drop, refl, sym, ap, subst, ◌∙◌, arith}
 use Rattle.std.proofs.lemmas.List.Elements.{All-nil, All-cons}
-use Rattle.hp_theory.specs.Problem.{Link, Problem, node_at}
+use Rattle.hp_theory.specs.Problem.{Successor, Problem, node_at}
 use Rattle.hp_theory.specs.Tree.{Tree, Forest, no_branch, branch, no_tree, tree, Decides, FeasibleTree, FeasibleForest, Policy, next_state}
 use Rattle.hp_plants.specs.declared.plants.Inflow.{Inflow}
 use Rattle.hp_plants.specs.declared.plants.Stage.{Stage}
 use Rattle.hp_plants.specs.declared.plants.Plants.{Plants}
 use Rattle.hp_hydro.specs.Layout.{travel}
 use Rattle.hp_hydro.specs.Made.{realization, following, stage_node, node_from, problem_of_plants}
-use Rattle.hp_hydro.specs.Plan.{Choice, Plan, no_plan, choose, Later, the_end, later, Moment, moment, Past, InBounds, PastInBounds, Works, WorksAfter, WorksLater, Workable}
-use Rattle.hp_hydro.specs.Trees.{ahead, full, branches_of, later_of, tree_of, choice_of, plan_in, later_in, plan_of}
+use Rattle.hp_hydro.specs.Plan.{Choice, Plan, no_plan, choose, LaterPlan, the_end, later, Moment, moment, Past, InBounds, PastInBounds, Works, WorksAfter, WorksLater, Workable}
+use Rattle.hp_hydro.specs.Trees.{ahead, full, branches_of, later_of, plan_forest, choice_of, plan_in, later_in, plan_of}
 use Rattle.hp_hydro.proofs.OneStage.{works_from, works_to, full_from, next_ahead, first_ahead}
 
 one_less : {A : Type 0} (m : ℕ) (xs : List A) → drop (suc m) xs ≡ drop 1 (drop m xs)
@@ -18,8 +18,8 @@ one_less (suc m) [] = refl
 one_less (suc m) (x ∷ xs) = one_less m xs
 
 -- the stages after the one that is first of those left
-pub next_left : {A : Type 0} (m : ℕ) (xs : List A) (x : A) (rest : List A) → drop m xs ≡ x ∷ rest → drop (suc m) xs ≡ rest
-next_left m xs x rest e = one_less m xs ∙ ap (drop 1) e
+pub next_left : {A : Type 0} (m : ℕ) (xs : List A) (x : A) (tail : List A) → drop m xs ≡ x ∷ tail → drop (suc m) xs ≡ tail
+next_left m xs x tail e = one_less m xs ∙ ap (drop 1) e
 
 module _ (h : Plants) (units : ℕ) (short : (j : ℕ) → travel h j ≤ 3) where
   abbrev made : Problem
@@ -38,11 +38,11 @@ module _ (h : Plants) (units : ℕ) (short : (j : ℕ) → travel h j ≤ 3) whe
   -- the tree at the node m is the tree at its stage
   at_node : (m : ℕ) (s : Stage) (stages : List Stage) (past : Past) (t : Tree) → drop m h.stages ≡ s ∷ stages → IsTree m s stages past s.inflows t → FeasibleTree made units (node_at made m) (node_at made m).realizations (ahead h units past) t
   unfolding stage_node
-  at_node m s stages past t e f = subst (λ (rest : List Stage). FeasibleTree made units (node_from h m rest) (node_from h m rest).realizations (ahead h units past) t) (sym e) f
+  at_node m s stages past t e f = subst (λ (tail : List Stage). FeasibleTree made units (node_from h m tail) (node_from h m tail).realizations (ahead h units past) t) (sym e) f
 
   from_node : (m : ℕ) (s : Stage) (stages : List Stage) (past : Past) (t : Tree) → drop m h.stages ≡ s ∷ stages → FeasibleTree made units (node_at made m) (node_at made m).realizations (ahead h units past) t → IsTree m s stages past s.inflows t
   unfolding stage_node
-  from_node m s stages past t e f = subst (λ (rest : List Stage). FeasibleTree made units (node_from h m rest) (node_from h m rest).realizations (ahead h units past) t) e f
+  from_node m s stages past t e f = subst (λ (tail : List Stage). FeasibleTree made units (node_from h m tail) (node_from h m tail).realizations (ahead h units past) t) e f
 
   -- ---- a workable plan's tree is a policy
 
@@ -60,7 +60,7 @@ module _ (h : Plants) (units : ℕ) (short : (j : ℕ) → travel h j ≤ 3) whe
       tree_to m s stages past is p e b w.2,
     )
 
-    forest_to : (m : ℕ) (stages : List Stage) (past : Past) (l : Later) → drop m h.stages ≡ stages → PastInBounds h units past → WorksLater h units stages past l → IsForest m stages past (later_of h units stages past l)
+    forest_to : (m : ℕ) (stages : List Stage) (past : Past) (l : LaterPlan) → drop m h.stages ≡ stages → PastInBounds h units past → WorksLater h units stages past l → IsForest m stages past (later_of h units stages past l)
     forest_to m [] past the_end e b w = tt
     forest_to m (s ∷ stages) past the_end e b w = w
     forest_to m [] past (later p) e b w = w
@@ -84,7 +84,7 @@ module _ (h : Plants) (units : ℕ) (short : (j : ℕ) → travel h j ≤ 3) whe
           tree_from m s stages past is p e b f.2,
         )
 
-    forest_from : (m : ℕ) (stages : List Stage) (past : Past) (l : Later) → drop m h.stages ≡ stages → PastInBounds h units past → IsForest m stages past (later_of h units stages past l) → WorksLater h units stages past l
+    forest_from : (m : ℕ) (stages : List Stage) (past : Past) (l : LaterPlan) → drop m h.stages ≡ stages → PastInBounds h units past → IsForest m stages past (later_of h units stages past l) → WorksLater h units stages past l
     forest_from m [] past the_end e b f = tt
     forest_from m (s ∷ stages) past the_end e b f = f
     forest_from m [] past (later p) e b f = f
@@ -94,10 +94,10 @@ module _ (h : Plants) (units : ℕ) (short : (j : ℕ) → travel h j ≤ 3) whe
   none_bounded : PastInBounds h units []
   none_bounded = All-nil (λ (n : Moment). InBounds h units n.choice)
 
-  pub workable : (p : Plan) → Workable h units p ↔ Policy made units (tree_of h units p)
+  pub workable : (p : Plan) → Workable h units p ↔ Policy made units (plan_forest h units p)
   workable p = (
-    λ w. subst (λ x. FeasibleForest made units (following 0 h.stages) x (tree_of h units p)) (sym (first_ahead h units)) (forest_to 0 h.stages [] (later p) refl none_bounded w),
-    λ f. forest_from 0 h.stages [] (later p) refl none_bounded (subst (λ x. FeasibleForest made units (following 0 h.stages) x (tree_of h units p)) (first_ahead h units) f),
+    λ w. subst (λ x. FeasibleForest made units (following 0 h.stages) x (plan_forest h units p)) (sym (first_ahead h units)) (forest_to 0 h.stages [] (later p) refl none_bounded w),
+    λ f. forest_from 0 h.stages [] (later p) refl none_bounded (subst (λ x. FeasibleForest made units (following 0 h.stages) x (plan_forest h units p)) (first_ahead h units) f),
   )
 
   -- ---- a policy is the tree of its plan
@@ -113,12 +113,12 @@ module _ (h : Plants) (units : ℕ) (short : (j : ℕ) → travel h j ≤ 3) whe
     tree_back m s stages past [] (branch u g t) e b f = absurd f
     tree_back m s stages past (i ∷ is) (branch u g t) e b f =
         let c : Choice = choice_of h u in
-        let links : List Link = following (suc m) stages in
-        let own : u ≡ full h units past (moment i c) = full_from h units s links past i.water short u f.0 in
-        let w : Works h units s.demand past (moment i c) = works_from h units s links past i.water short c (subst (λ (v : List ℤ). Decides units (stage_node h s links) (realization h s.demand i).values (ahead h units past) v) own f.0) in
+        let successors : List Successor = following (suc m) stages in
+        let own : u ≡ full h units past (moment i c) = full_from h units s successors past i.water short u f.0 in
+        let w : Works h units s.demand past (moment i c) = works_from h units s successors past i.water short c (subst (λ (v : List ℤ). Decides units (stage_node h s successors) (realization h s.demand i).values (ahead h units past) v) own f.0) in
         same_branch (full h units past (moment i c)) u (later_of h units stages (moment i c ∷ past) (later_in h g)) g (branches_of h units stages past is (plan_in h t)) t (sym own)
         (forest_back (suc m) stages (moment i c ∷ past) g e (more i c past w.bounds b)
-        (subst (λ x. FeasibleForest made units links x g) (ap (next_state (stage_node h s links)) own ∙ next_ahead h units s links past i.water short (moment i c)) f.1))
+        (subst (λ x. FeasibleForest made units successors x g) (ap (next_state (stage_node h s successors)) own ∙ next_ahead h units s successors past i.water short (moment i c)) f.1))
         (tree_back m s stages past is t e b f.2)
 
     forest_back : (m : ℕ) (stages : List Stage) (past : Past) (g : Forest) → drop m h.stages ≡ stages → PastInBounds h units past → IsForest m stages past g → later_of h units stages past (later_in h g) ≡ g
@@ -133,5 +133,5 @@ module _ (h : Plants) (units : ℕ) (short : (j : ℕ) → travel h j ≤ 3) whe
   policy_back (s ∷ stages) no_tree e z f = absurd f
   policy_back (s ∷ stages) (tree t g) e z f = forest_back 0 (s ∷ stages) [] (tree t g) e none_bounded f
 
-  pub tree_of_plan : (g : Forest) → 0 < length h.stages → Policy made units g → tree_of h units (plan_of h g) ≡ g
+  pub tree_of_plan : (g : Forest) → 0 < length h.stages → Policy made units g → plan_forest h units (plan_of h g) ≡ g
   tree_of_plan g z f = policy_back h.stages g refl z (subst (λ x. FeasibleForest made units (following 0 h.stages) x g) (first_ahead h units) f)

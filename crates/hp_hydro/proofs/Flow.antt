@@ -4,7 +4,7 @@ use Rattle.hp_num.specs.Sums.{total, same_place}
 use Rattle.hp_num.proofs.Sums.{total_ext, total_add}
 use Rattle.hp_num.proofs.Ring.{ring, var, num, ◌⊕◌, ◌⊗◌}
 use Rattle.hp_plants.specs.declared.plants.Plants.{Plants}
-use Rattle.hp_hydro.specs.Layout.{reservoir, travel, leads, all_reservoirs}
+use Rattle.hp_hydro.specs.Layout.{numbered_reservoir, travel, leads, all_reservoirs}
 use Rattle.hp_hydro.specs.Rows.{leads_at_once}
 use Rattle.hp_hydro.specs.Plan.{Moment, Past, released, gained, arrived, volume}
 use Rattle.hp_hydro.specs.Trees.{left_ago}
@@ -82,7 +82,7 @@ volume_next h units j here past =
     let rs : List ℕ = all_reservoirs h in
     let a : ℕ → ℤ = λ i. leads_at_once h i j *ℤ released i here in
     let old : ℕ → ℤ = λ i. leads h i j *ℤ arrived h i past in
-    let first : ℤ = pos units *ℤ (reservoir h j).initial in
+    let first : ℤ = pos units *ℤ (numbered_reservoir h j).initial in
     ap (λ (z : ℤ). first +ℤ (gained units j here +ℤ total (gained units j) past) +ℤ z)
     (total_ext (λ i. leads h i j *ℤ arrived h i (here ∷ past)) (λ i. a i +ℤ from_ways h j past i +ℤ old i) rs (arrivals h j here past)
     ∙ total_add (λ i. a i +ℤ from_ways h j past i) old rs ∙ ap (λ (z : ℤ). z +ℤ total old rs) (total_add a (from_ways h j past) rs))

@@ -5,33 +5,33 @@ use Rattle.hp_num.specs.Sums.{total, same_place, entry}
 use Rattle.hp_num.proofs.Sums.{total_ext, total_add, total_times}
 use Rattle.hp_num.proofs.Ring.{ring, var, num, ◌⊕◌, ◌⊗◌, ⊖}
 use Rattle.hp_plants.specs.declared.plants.Plants.{Plants}
-use Rattle.hp_hydro.specs.Layout.{Store, volume_of, way_of, Variable, thermal_of, line_of, deficit_of, Chance, reservoir, travel, leads, all_reservoirs, all_thermals, all_lines, all_buses, steps, stores, variables, chances, chance_value}
+use Rattle.hp_hydro.specs.Layout.{HydroStore, volume_of, way_of, Variable, thermal_of, line_of, deficit_of, Chance, numbered_reservoir, travel, leads, all_reservoirs, all_thermals, all_lines, all_buses, steps, stores, hydro_variables, chances, chance_value}
 use Rattle.hp_hydro.specs.Rows.{leads_at_once, water_decided, water_before, water_flowing, way_decided, way_before, no_chance, bus_decided, no_store, bus_asked}
 use Rattle.hp_hydro.specs.Plan.{Choice, Moment, Past, volume, served}
 use Rattle.hp_hydro.specs.Trees.{left_ago, ahead_of, value_with}
 use Rattle.hp_hydro.proofs.Lists.{total_none, total_same, total_step}
-use Rattle.hp_hydro.proofs.Blocks.{of_reservoir, total-variables, of_way, total-stores, total-chances, none, total-neg, if_none}
+use Rattle.hp_hydro.proofs.Blocks.{of_reservoir, total-hydro_variables, of_way, total-stores, total-chances, none, total-neg, if_none}
 use Rattle.hp_hydro.proofs.Flow.{above_leb, if_false, from_ways, volume_next, from_further, way_next}
 
 -- the sum of a row's three parts
-abbrev pub left_of : Plants → ℕ → (Variable → ℤ) → (Store → ℤ) → (Chance → ℤ) → (Variable → ℤ) → (Store → ℤ) → (Chance → ℤ) → ℤ
-left_of h units a b g x s v = total (λ d. a d *ℤ x d) (variables h) +ℤ total (λ d. b d *ℤ s d) (stores h) +ℤ pos units *ℤ total (λ d. g d *ℤ v d) (chances h)
+abbrev pub left_of : Plants → ℕ → (Variable → ℤ) → (HydroStore → ℤ) → (Chance → ℤ) → (Variable → ℤ) → (HydroStore → ℤ) → (Chance → ℤ) → ℤ
+left_of h units a b g x s v = total (λ d. a d *ℤ x d) (hydro_variables h) +ℤ total (λ d. b d *ℤ s d) (stores h) +ℤ pos units *ℤ total (λ d. g d *ℤ v d) (chances h)
 
 -- the water that leaves reservoir i by a choice
 abbrev out_of : Choice → ℕ → ℤ
 out_of c i = c.turbine i +ℤ c.spill i
 
 -- no factor is of a thermal, a line or a deficit
-reservoirs_only : (h : Plants) (f : Variable → ℤ) → ((i : ℕ) → f (thermal_of i) ≡ pos 0) → ((l : ℕ) → f (line_of l) ≡ pos 0) → ((b : ℕ) → f (deficit_of b) ≡ pos 0) → total f (variables h) ≡ total (of_reservoir h f) (all_reservoirs h)
+reservoirs_only : (h : Plants) (f : Variable → ℤ) → ((i : ℕ) → f (thermal_of i) ≡ pos 0) → ((l : ℕ) → f (line_of l) ≡ pos 0) → ((b : ℕ) → f (deficit_of b) ≡ pos 0) → total f (hydro_variables h) ≡ total (of_reservoir h f) (all_reservoirs h)
 reservoirs_only h f t l d =
-    total-variables h f
+    total-hydro_variables h f
     ∙ ap₂ ◌+ℤ◌ (ap₂ ◌+ℤ◌ (ap₂ ◌+ℤ◌ refl (total_none (λ i. f (thermal_of i)) (all_thermals h) t)) (total_none (λ k. f (line_of k)) (all_lines h) l)) (total_none (λ b. f (deficit_of b)) (all_buses h) d)
     ∙ ring (total (of_reservoir h f) (all_reservoirs h) ∷ []) (var 0 ⊕ num (pos 0) ⊕ num (pos 0) ⊕ num (pos 0)) (var 0) tt
 
 -- ---- water
 
-module _ (h : Plants) (units j : ℕ) (c : Choice) (next : Store → ℤ) (within : j < length h.reservoirs) where
-  water_variables : total (λ d. water_decided h j d *ℤ value_with c next d) (variables h) ≡ next (volume_of j) +ℤ out_of c j +ℤ neg_ℤ (total (λ i. leads_at_once h i j *ℤ out_of c i) (all_reservoirs h))
+module _ (h : Plants) (units j : ℕ) (c : Choice) (next : HydroStore → ℤ) (within : j < length h.reservoirs) where
+  water_variables : total (λ d. water_decided h j d *ℤ value_with c next d) (hydro_variables h) ≡ next (volume_of j) +ℤ out_of c j +ℤ neg_ℤ (total (λ i. leads_at_once h i j *ℤ out_of c i) (all_reservoirs h))
   water_variables =
       let f : Variable → ℤ = λ d. water_decided h j d *ℤ value_with c next d in
       let lost : ℕ → ℤ = λ i. leads_at_once h i j *ℤ out_of c i in
@@ -49,7 +49,7 @@ module _ (h : Plants) (units j : ℕ) (c : Choice) (next : Store → ℤ) (withi
 
   water_stores : (past : Past) → total (λ s. water_before h j s *ℤ ahead_of h units past s) (stores h) ≡ neg_ℤ (total (from_ways h j past) (all_reservoirs h)) +ℤ neg_ℤ (volume h units past j)
   water_stores past =
-      let f : Store → ℤ = λ s. water_before h j s *ℤ ahead_of h units past s in
+      let f : HydroStore → ℤ = λ s. water_before h j s *ℤ ahead_of h units past s in
       total-stores h f
       ∙ ap₂ ◌+ℤ◌ (ap₂ ◌+ℤ◌ (total_ext (λ i. if nat_le 1 (travel h i) then f (way_of i 1) else pos 0) (λ i. neg_ℤ (from_ways h j past i)) (all_reservoirs h) (λ i. near (nat_le 1 (travel h i)) (leads h i j) (left_ago i (travel h i - 1) past)) ∙ total-neg (from_ways h j past) (all_reservoirs h))
       (ap₂ ◌+ℤ◌ (far 2 refl) (ap (λ (z : ℤ). z +ℤ pos 0) (far 3 refl))))
@@ -116,15 +116,15 @@ beyond (suc (suc (suc k))) n y h t z =
     ∙ ap neg_ℤ (sym (if_false (nat_le (suc (suc (suc (suc k)))) n) (y (suc (suc (suc (suc k))))) (above_leb (suc (suc (suc (suc k)))) n (omega arith))))
 
 -- the term of reservoir i where its water is k stages away
-abbrev kept : Plants → ℕ → ℕ → Choice → (Store → ℤ) → ℕ → ℤ
+abbrev kept : Plants → ℕ → ℕ → Choice → (HydroStore → ℤ) → ℕ → ℤ
 kept h j k c next i = neg_ℤ (same_place k (travel h j) *ℤ out_of c i) +ℤ total (λ m. same_place k m *ℤ next (way_of i m)) (steps (travel h i))
 
 -- the terms of the water that was l stages away
 abbrev shown : Plants → ℕ → ℕ → Past → ℕ → ℤ
 shown h j k past l = if nat_le l (travel h j) then neg_ℤ (same_place (suc k) l *ℤ left_ago j (travel h j - l) past) else pos 0
 
-module _ (h : Plants) (units j m : ℕ) (c : Choice) (next : Store → ℤ) (within : j < length h.reservoirs) (under : m < travel h j) (short : travel h j ≤ 3) where
-  way_variables : total (λ d. way_decided h j (suc m) d *ℤ value_with c next d) (variables h) ≡ neg_ℤ (same_place (suc m) (travel h j) *ℤ out_of c j) +ℤ next (way_of j (suc m))
+module _ (h : Plants) (units j m : ℕ) (c : Choice) (next : HydroStore → ℤ) (within : j < length h.reservoirs) (under : m < travel h j) (short : travel h j ≤ 3) where
+  way_variables : total (λ d. way_decided h j (suc m) d *ℤ value_with c next d) (hydro_variables h) ≡ neg_ℤ (same_place (suc m) (travel h j) *ℤ out_of c j) +ℤ next (way_of j (suc m))
   way_variables =
       let f : Variable → ℤ = λ d. way_decided h j (suc m) d *ℤ value_with c next d in
       reservoirs_only h f (λ i. none (c.thermal i)) (λ l. none (c.line l)) (λ b. none (c.deficit b))
@@ -176,17 +176,17 @@ module _ (h : Plants) (units j m : ℕ) (c : Choice) (next : Store → ℤ) (wit
 
 -- ---- buses
 
-module _ (h : Plants) (units b : ℕ) (c : Choice) (next : Store → ℤ) (within : b < length h.buses) where
-  bus_variables : total (λ d. bus_decided h b d *ℤ value_with c next d) (variables h) ≡ served h c b
+module _ (h : Plants) (units b : ℕ) (c : Choice) (next : HydroStore → ℤ) (within : b < length h.buses) where
+  bus_variables : total (λ d. bus_decided h b d *ℤ value_with c next d) (hydro_variables h) ≡ served h c b
   bus_variables =
       let f : Variable → ℤ = λ d. bus_decided h b d *ℤ value_with c next d in
-      total-variables h f
-      ∙ ap₂ ◌+ℤ◌ (ap₂ ◌+ℤ◌ (ap₂ ◌+ℤ◌ (total_ext (of_reservoir h f) (λ j. same_place (reservoir h j).bus b *ℤ (reservoir h j).factor *ℤ c.turbine j) (all_reservoirs h) block) refl) refl)
+      total-hydro_variables h f
+      ∙ ap₂ ◌+ℤ◌ (ap₂ ◌+ℤ◌ (ap₂ ◌+ℤ◌ (total_ext (of_reservoir h f) (λ j. same_place (numbered_reservoir h j).bus b *ℤ (numbered_reservoir h j).factor *ℤ c.turbine j) (all_reservoirs h) block) refl) refl)
       (total_same (length h.buses) b c.deficit within)
     where
-      block : (i : ℕ) → of_reservoir h (λ d. bus_decided h b d *ℤ value_with c next d) i ≡ same_place (reservoir h i).bus b *ℤ (reservoir h i).factor *ℤ c.turbine i
+      block : (i : ℕ) → of_reservoir h (λ d. bus_decided h b d *ℤ value_with c next d) i ≡ same_place (numbered_reservoir h i).bus b *ℤ (numbered_reservoir h i).factor *ℤ c.turbine i
       block i =
-          let s : ℤ = same_place (reservoir h i).bus b *ℤ (reservoir h i).factor in
+          let s : ℤ = same_place (numbered_reservoir h i).bus b *ℤ (numbered_reservoir h i).factor in
           ap (λ (z : ℤ). pos 0 *ℤ next (volume_of i) +ℤ (s *ℤ c.turbine i +ℤ (pos 0 *ℤ c.spill i +ℤ z))) (total_none (λ k. pos 0 *ℤ next (way_of i k)) (steps (travel h i)) (λ k. none (next (way_of i k))))
           ∙ ring (s ∷ next (volume_of i) ∷ c.turbine i ∷ c.spill i ∷ []) (num (pos 0) ⊗ var 1 ⊕ (var 0 ⊗ var 2 ⊕ (num (pos 0) ⊗ var 3 ⊕ num (pos 0)))) (var 0 ⊗ var 2) tt
 
@@ -198,7 +198,7 @@ module _ (h : Plants) (units b : ℕ) (c : Choice) (next : Store → ℤ) (withi
       ∙ +ℤ_idl (neg_ℤ (entry demand b))
 
   -- the energy balance of a bus: the energy that is made, less the demand
-  pub left_bus : (demand water : List ℤ) (before : Store → ℤ) → left_of h units (bus_decided h b) no_store (bus_asked b) (value_with c next) before (chance_value demand water) ≡ served h c b -ℤ pos units *ℤ entry demand b
+  pub left_bus : (demand water : List ℤ) (before : HydroStore → ℤ) → left_of h units (bus_decided h b) no_store (bus_asked b) (value_with c next) before (chance_value demand water) ≡ served h c b -ℤ pos units *ℤ entry demand b
   left_bus demand water before =
       ap₂ ◌+ℤ◌ (ap₂ ◌+ℤ◌ bus_variables (total_none (λ s. pos 0 *ℤ before s) (stores h) (λ s. none (before s)))) (ap (λ (z : ℤ). pos units *ℤ z) (bus_chances demand water))
       ∙ ring (served h c b ∷ pos units ∷ entry demand b ∷ []) (var 0 ⊕ num (pos 0) ⊕ var 1 ⊗ ⊖ (var 2)) (var 0 ⊕ ⊖ (var 1 ⊗ var 2)) tt

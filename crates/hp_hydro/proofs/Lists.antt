@@ -10,7 +10,7 @@ use Rattle.hp_num.specs.Sums.{sum_to, total, entry, at_terms, Term, same_place}
 use Rattle.hp_num.proofs.Sums.{sum_same}
 use Rattle.hp_num.proofs.Fronts.{total-append}
 use Rattle.hp_paths.specs.Paths.{numbers}
-use Rattle.hp_hydro.specs.Terms.{terms_from}
+use Rattle.hp_hydro.specs.Terms.{terms_from_place}
 use Rattle.hp_hydro.specs.Layout.{steps}
 
 -- ---- sums
@@ -58,16 +58,16 @@ one_term : (b : Bool) (x : ℤ) (k : ℕ) (ts : List Term) (f : ℕ → ℤ) →
 one_term true x k ts f d = sym (ap (λ (z : ℤ). z *ℤ f k +ℤ at_terms ts f) (d.0 refl) ∙ ap (λ (z : ℤ). z +ℤ at_terms ts f) (zero-*ℤ (f k)) ∙ +ℤ_idl (at_terms ts f))
 one_term false x k ts f d = refl
 
-terms_weigh : {A : Type 0} (c y : A → ℤ) (f : ℕ → ℤ) (k : ℕ) (ds : List A) → ((i : ℕ) (d : A) → i < length ds → f (k + i) ≡ y (get_or ds i d)) → at_terms (terms_from k (map c ds)) f ≡ total (λ d. c d *ℤ y d) ds
+terms_weigh : {A : Type 0} (c y : A → ℤ) (f : ℕ → ℤ) (k : ℕ) (ds : List A) → ((i : ℕ) (d : A) → i < length ds → f (k + i) ≡ y (get_or ds i d)) → at_terms (terms_from_place k (map c ds)) f ≡ total (λ d. c d *ℤ y d) ds
 terms_weigh c y f k [] h = refl
 terms_weigh c y f k (d ∷ ds) h =
     let first : k ≡ k + 0 = omega arith in
-    one_term (int_eq (c d) (pos 0)) (c d) k (terms_from (k + 1) (map c ds)) f (Decides-int_eq (c d) (pos 0))
+    one_term (int_eq (c d) (pos 0)) (c d) k (terms_from_place (k + 1) (map c ds)) f (Decides-int_eq (c d) (pos 0))
     ∙ ap₂ ◌+ℤ◌ (ap (λ (z : ℤ). c d *ℤ z) (ap f first ∙ h 0 d (omega arith)))
     (terms_weigh c y f (k + 1) ds (λ i e p. let next : k + 1 + i ≡ k + suc i = omega arith in ap f next ∙ h (suc i) e (omega arith)))
 
 -- the sum of a row's terms
-pub terms_sum : {A : Type 0} (c y : A → ℤ) (ds : List A) → at_terms (terms_from 0 (map c ds)) (entry (map y ds)) ≡ total (λ d. c d *ℤ y d) ds
+pub terms_sum : {A : Type 0} (c y : A → ℤ) (ds : List A) → at_terms (terms_from_place 0 (map c ds)) (entry (map y ds)) ≡ total (λ d. c d *ℤ y d) ds
 terms_sum c y ds = terms_weigh c y (entry (map y ds)) 0 ds (λ i d p. let none : 0 + i ≡ i = omega arith in ap (entry (map y ds)) none ∙ entry-map y ds i d p)
 
 -- ---- what holds of each

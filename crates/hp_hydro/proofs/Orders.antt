@@ -10,15 +10,15 @@ use Rattle.hp_plants.specs.declared.plants.Bus.{Bus}
 use Rattle.hp_plants.specs.declared.plants.Reservoir.{Reservoir}
 use Rattle.hp_plants.specs.declared.plants.Plants.{Plants}
 use Rattle.hp_plants.specs.Described.{IsPlants}
-use Rattle.hp_hydro.specs.Layout.{Store, volume_of, way_of, inflow_of, demand_of, reservoir, bus, travel, all_reservoirs, all_buses, way_at, ways, stores}
+use Rattle.hp_hydro.specs.Layout.{HydroStore, volume_of, way_of, inflow_of, demand_of, numbered_reservoir, bus, travel, all_reservoirs, all_buses, way_at, ways, stores}
 use Rattle.hp_hydro.specs.Columns.{named, state_name, chance_name}
 use Rattle.hp_hydro.specs.Nodes.{node_name}
 
-abbrev volumes : Plants → List Store
+abbrev volumes : Plants → List HydroStore
 volumes h = map volume_of (all_reservoirs h)
 
 module _ (h : Plants) (known : IsPlants h) where
-  reservoirs_rise : (i j : ℕ) → i < j → j < length h.reservoirs → Before (reservoir h i).name (reservoir h j).name
+  reservoirs_rise : (i j : ℕ) → i < j → j < length h.reservoirs → Before (numbered_reservoir h i).name (numbered_reservoir h j).name
   reservoirs_rise i j l m = before_at (λ (r : Reservoir). r.name) h.reservoirs i j _ (rises_next (λ (r : Reservoir). r.name) h.reservoirs known.names.reservoirs) l m
 
   buses_rise : (i j : ℕ) → i < j → j < length h.buses → Before (bus h i).name (bus h j).name
@@ -38,16 +38,16 @@ module _ (h : Plants) (known : IsPlants h) where
       (λ i j l m. each_if (λ x. AllByRecursion (λ y. Before (state_name h x) (state_name h y)) (way_at h k j)) (nat_le k (travel h i)) (way_of i k)
       (each_if (λ y. Before (state_name h (way_of i k)) (state_name h y)) (nat_le k (travel h j)) (way_of j k) (r i j l m)))
 
-  ways_before : (k : ℕ) (ys : List Store) → ((i : ℕ) → AllByRecursion (λ y. Before (state_name h (way_of i k)) (state_name h y)) ys) → AllBefore (state_name h) (ways h k) ys
+  ways_before : (k : ℕ) (ys : List HydroStore) → ((i : ℕ) → AllByRecursion (λ y. Before (state_name h (way_of i k)) (state_name h y)) ys) → AllBefore (state_name h) (ways h k) ys
   ways_before k ys b =
       each_of_all (λ x. AllByRecursion (λ y. Before (state_name h x) (state_name h y)) ys) (way_at h k) (length h.reservoirs)
       (λ i l. each_if (λ x. AllByRecursion (λ y. Before (state_name h x) (state_name h y)) ys) (nat_le k (travel h i)) (way_of i k) (b i))
 
   -- a property of all water that is k stages away, and of all volumes
-  each_way : (P : Store → Type 0) (k : ℕ) → ((j : ℕ) → P (way_of j k)) → AllByRecursion P (ways h k)
+  each_way : (P : HydroStore → Type 0) (k : ℕ) → ((j : ℕ) → P (way_of j k)) → AllByRecursion P (ways h k)
   each_way P k p = each_of_all P (way_at h k) (length h.reservoirs) (λ j l. each_if P (nat_le k (travel h j)) (way_of j k) (p j))
 
-  each_volume : (P : Store → Type 0) → ((j : ℕ) → P (volume_of j)) → AllByRecursion P (volumes h)
+  each_volume : (P : HydroStore → Type 0) → ((j : ℕ) → P (volume_of j)) → AllByRecursion P (volumes h)
   each_volume P p = each_of_map P volume_of (length h.reservoirs) (λ j l. p j)
 
   third_rises : Rises (state_name h) (ways h 3 ++ volumes h)
@@ -61,14 +61,14 @@ module _ (h : Plants) (known : IsPlants h) where
   second_rises =
       rises_append (state_name h) (ways h 2) (ways h 3 ++ volumes h) (ways_rise 2 reservoirs_rise) third_rises
       (ways_before 2 (ways h 3 ++ volumes h)
-      (λ i. let P : Store → Type 0 = λ y. Before (state_name h (way_of i 2)) (state_name h y) in each_append P (ways h 3) (volumes h) (each_way P 3 (λ j. refl)) (each_volume P (λ j. refl))))
+      (λ i. let P : HydroStore → Type 0 = λ y. Before (state_name h (way_of i 2)) (state_name h y) in each_append P (ways h 3) (volumes h) (each_way P 3 (λ j. refl)) (each_volume P (λ j. refl))))
 
   first_rises : Rises (state_name h) (ways h 1 ++ (ways h 2 ++ (ways h 3 ++ volumes h)))
   unfolding state_name named
   first_rises =
       rises_append (state_name h) (ways h 1) (ways h 2 ++ (ways h 3 ++ volumes h)) (ways_rise 1 reservoirs_rise) second_rises
       (ways_before 1 (ways h 2 ++ (ways h 3 ++ volumes h))
-      (λ i. let P : Store → Type 0 = λ y. Before (state_name h (way_of i 1)) (state_name h y) in
+      (λ i. let P : HydroStore → Type 0 = λ y. Before (state_name h (way_of i 1)) (state_name h y) in
       each_append P (ways h 2) (ways h 3 ++ volumes h) (each_way P 2 (λ j. refl)) (each_append P (ways h 3) (volumes h) (each_way P 3 (λ j. refl)) (each_volume P (λ j. refl)))))
 
   regrouped : stores h ≡ ways h 1 ++ (ways h 2 ++ (ways h 3 ++ volumes h))
@@ -76,7 +76,7 @@ module _ (h : Plants) (known : IsPlants h) where
       let a = ways h 1 in
       let b = ways h 2 in
       let c = ways h 3 in
-      append_assoc a (b ++ (c ++ [])) (volumes h) ∙ ap (λ (l : List Store). a ++ l) (append_assoc b (c ++ []) (volumes h) ∙ ap (λ (l : List Store). b ++ (l ++ volumes h)) (append-nil c))
+      append_assoc a (b ++ (c ++ [])) (volumes h) ∙ ap (λ (l : List HydroStore). a ++ l) (append_assoc b (c ++ []) (volumes h) ∙ ap (λ (l : List HydroStore). b ++ (l ++ volumes h)) (append-nil c))
 
   pub stores_rise : Rises (state_name h) (stores h)
   stores_rise = subst (Rises (state_name h)) (sym regrouped) first_rises

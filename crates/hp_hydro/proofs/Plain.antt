@@ -11,27 +11,27 @@ use Rattle.hp_hydro.specs.Layout.{inflow_of, demand_of, all_reservoirs, all_buse
 use Rattle.hp_hydro.specs.Columns.{Column, before, random, decided, columns, state_name, chance_name}
 use Rattle.hp_hydro.specs.Stage as stage
 use Rattle.hp_hydro.specs.Nodes as nodes
-use Rattle.hp_hydro.specs.Text.{initial_values, root, hydro_data}
+use Rattle.hp_hydro.specs.Text.{hydro_initial_values, hydro_root, hydro_data}
 
 module _ (h : Plants) where
-  terms_plain : (s : stage.Sum) → PlainList 1 (map (stage.term_of h) s)
-  terms_plain s = mapped 1 (stage.term_of h) (λ t. plain.term_plain _ _) s
+  terms_plain : (s : stage.Sum) → PlainList 1 (map (stage.column_term h) s)
+  terms_plain s = mapped 1 (stage.column_term h) (λ t. plain.term_plain _ _) s
 
   row_plain : (s : stage.Sum) → Plain 4 (stage.zero_row h s)
   unfolding stage.zero_row
-  row_plain s = plain.row_plain 0 (map (stage.term_of h) s) (terms_plain s)
+  row_plain s = plain.row_plain 0 (map (stage.column_term h) s) (terms_plain s)
 
-  ways_plain : (j : ℕ) → PlainList 4 (stage.way_rows h j)
-  unfolding stage.way_rows
+  ways_plain : (j : ℕ) → PlainList 4 (stage.way_constraints h j)
+  unfolding stage.way_constraints
   ways_plain j = mapped 4 (λ k. stage.zero_row h (stage.way_sum h j k)) (λ k. row_plain _) (steps (travel h j))
 
   rows_plain : PlainList 4 (stage.rows h)
   unfolding stage.rows
   rows_plain =
       let water = map (λ j. stage.zero_row h (stage.water_sum h j)) (all_reservoirs h) in
-      let ways = flat_map (stage.way_rows h) (all_reservoirs h) in
+      let ways = flat_map (stage.way_constraints h) (all_reservoirs h) in
       let buses = map (λ b. stage.zero_row h (stage.bus_sum h b)) (all_buses h) in
-      appended 4 (water ++ ways) buses (appended 4 water ways (mapped 4 (λ j. stage.zero_row h (stage.water_sum h j)) (λ j. row_plain _) (all_reservoirs h)) (flattened 4 (stage.way_rows h) ways_plain (all_reservoirs h)))
+      appended 4 (water ++ ways) buses (appended 4 water ways (mapped 4 (λ j. stage.zero_row h (stage.water_sum h j)) (λ j. row_plain _) (all_reservoirs h)) (flattened 4 (stage.way_constraints h) ways_plain (all_reservoirs h)))
       (mapped 4 (λ b. stage.zero_row h (stage.bus_sum h b)) (λ b. row_plain _) (all_buses h))
 
   bounds_plain : (c : Column) → PlainList 4 (stage.bounds_of h c)
@@ -46,11 +46,11 @@ module _ (h : Plants) where
 
   objective_plain : Plain 4 (stage.objective h)
   unfolding stage.objective
-  objective_plain = plain.least_sum_plain (map (stage.term_of h) (stage.cost_sum h)) (terms_plain (stage.cost_sum h))
+  objective_plain = plain.least_sum_plain (map (stage.column_term h) (stage.hydro_cost_sum h)) (terms_plain (stage.hydro_cost_sum h))
 
   program_plain : Plain 6 (stage.program h)
   unfolding stage.program
-  program_plain = plain.program_plain (stage.constraints h) (stage.objective h) (map (stage.variable_of h) (columns h)) constraints_plain objective_plain (mapped 1 (stage.variable_of h) (λ c. plain.variable_plain _) (columns h))
+  program_plain = plain.program_plain (stage.constraints h) (stage.objective h) (map (stage.column_variable h) (columns h)) constraints_plain objective_plain (mapped 1 (stage.column_variable h) (λ c. plain.variable_plain _) (columns h))
 
   randoms_plain : PlainList 0 (stage.random_variables h)
   unfolding stage.random_variables
@@ -70,28 +70,28 @@ module _ (h : Plants) where
   unfolding nodes.support
   support_plain demand water = listed_by 0 (chance_name h) (λ c. integer (chance_value demand water c)) (λ c. plain_integer 0 _) (map demand_of (all_buses h) ++ map inflow_of (all_reservoirs h))
 
-  realization_plain : (demand : List ℤ) (i : Inflow) → Plain 2 (nodes.realization h demand i)
-  unfolding nodes.realization
+  realization_plain : (demand : List ℤ) (i : Inflow) → Plain 2 (nodes.node_realization h demand i)
+  unfolding nodes.node_realization
   realization_plain demand i = plain.realization_plain i.weight (nodes.support h demand i.water) (support_plain demand i.water)
 
-  link_plain : (m : ℕ) → PlainMembers 0 (nodes.link_to h m)
-  unfolding nodes.link_to
-  link_plain m = either_members 0 (nat_lt m (length h.stages)) _ (with_member 0 _ _ _ (plain_whole 0 1) (none 0))
+  successor_plain : (m : ℕ) → PlainMembers 0 (nodes.successor_to h m)
+  unfolding nodes.successor_to
+  successor_plain m = either_members 0 (nat_lt m (length h.stages)) _ (with_member 0 _ _ _ (plain_whole 0 1) (none 0))
 
   node_plain : (m : ℕ) → Plain 4 (nodes.node h m)
   unfolding nodes.node
   node_plain m =
-      plain.node_plain (map (nodes.realization h (nodes.stage h m).demand) (nodes.stage h m).inflows) (nodes.link_to h (suc m))
-      (mapped 2 (nodes.realization h (nodes.stage h m).demand) (realization_plain (nodes.stage h m).demand) (nodes.stage h m).inflows) (link_plain (suc m))
+      plain.node_plain (map (nodes.node_realization h (nodes.hydro_stage h m).demand) (nodes.hydro_stage h m).inflows) (nodes.successor_to h (suc m))
+      (mapped 2 (nodes.node_realization h (nodes.hydro_stage h m).demand) (realization_plain (nodes.hydro_stage h m).demand) (nodes.hydro_stage h m).inflows) (successor_plain (suc m))
 
   nodes_plain : PlainMembers 4 (nodes.nodes h)
   unfolding nodes.nodes
   nodes_plain = listed 4 nodes.node_name (nodes.node h) node_plain 0 (length h.stages)
 
-  root_plain : Plain 2 (root h)
-  unfolding root initial_values
-  root_plain = plain.root_plain (initial_values h) (nodes.link_to h 0) (listed_by 0 (state_name h) (λ s. integer (store_initial h s)) (λ s. plain_integer 0 _) (stores h)) (link_plain 0)
+  root_plain : Plain 2 (hydro_root h)
+  unfolding hydro_root hydro_initial_values
+  root_plain = plain.root_plain (hydro_initial_values h) (nodes.successor_to h 0) (listed_by 0 (state_name h) (λ s. integer (store_initial h s)) (λ s. plain_integer 0 _) (stores h)) (successor_plain 0)
 
   pub hydro_plain : Plain 9 (hydro_data h)
   unfolding hydro_data
-  hydro_plain = plain.problem_plain (nodes.nodes h) (root h) (stage.subproblem h) nodes_plain root_plain subproblem_plain
+  hydro_plain = plain.problem_plain (nodes.nodes h) (hydro_root h) (stage.subproblem h) nodes_plain root_plain subproblem_plain

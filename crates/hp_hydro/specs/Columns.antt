@@ -3,11 +3,11 @@ use Rattle.std.specs.Prelude.{ℕ, List, [], ◌∷◌, ◌++◌, map, codes}
 use Rattle.std.specs.List.{flat_map}
 use Rattle.hp_forms.specs.Listed.{digit}
 use Rattle.hp_plants.specs.declared.plants.Plants.{Plants}
-use Rattle.hp_hydro.specs.Layout.{Store, volume_of, way_of, Variable, after, turbine_of, spill_of, thermal_of, line_of, deficit_of, Chance, inflow_of, demand_of, reservoir, thermal, line, bus, travel, all_reservoirs, all_thermals, all_lines, all_buses, steps}
+use Rattle.hp_hydro.specs.Layout.{HydroStore, volume_of, way_of, Variable, after, turbine_of, spill_of, thermal_of, line_of, deficit_of, Chance, inflow_of, demand_of, numbered_reservoir, thermal, line, bus, travel, all_reservoirs, all_thermals, all_lines, all_buses, steps}
 
 pub data Column : Type 0 where
   -- a state before the stage
-  before : Store → Column
+  before : HydroStore → Column
   -- a random variable
   random : Chance → Column
   -- a decision of the stage
@@ -40,30 +40,30 @@ abbrev pub staged : ℕ → ℕ → List ℕ
 staged letter k = letter ∷ digit k ∷ []
 
 -- the state
-unfoldable pub state_name : Plants → Store → List ℕ
-state_name h (volume_of j) = named (codes "v") (reservoir h j).name
-state_name h (way_of j k) = named (staged 112 k) (reservoir h j).name
+unfoldable pub state_name : Plants → HydroStore → List ℕ
+state_name h (volume_of j) = named (codes "v") (numbered_reservoir h j).name
+state_name h (way_of j k) = named (staged 112 k) (numbered_reservoir h j).name
 
 -- the state before a stage
-unfoldable pub before_name : Plants → Store → List ℕ
-before_name h (volume_of j) = named (codes "i") (reservoir h j).name
-before_name h (way_of j k) = named (staged 97 k) (reservoir h j).name
+unfoldable pub before_name : Plants → HydroStore → List ℕ
+before_name h (volume_of j) = named (codes "i") (numbered_reservoir h j).name
+before_name h (way_of j k) = named (staged 97 k) (numbered_reservoir h j).name
 
 -- the state after a stage
-unfoldable pub after_name : Plants → Store → List ℕ
-after_name h (volume_of j) = named (codes "o") (reservoir h j).name
-after_name h (way_of j k) = named (staged 98 k) (reservoir h j).name
+unfoldable pub after_name : Plants → HydroStore → List ℕ
+after_name h (volume_of j) = named (codes "o") (numbered_reservoir h j).name
+after_name h (way_of j k) = named (staged 98 k) (numbered_reservoir h j).name
 
 unfoldable pub variable_name : Plants → Variable → List ℕ
 variable_name h (after s) = after_name h s
-variable_name h (turbine_of j) = named (codes "q") (reservoir h j).name
-variable_name h (spill_of j) = named (codes "z") (reservoir h j).name
+variable_name h (turbine_of j) = named (codes "q") (numbered_reservoir h j).name
+variable_name h (spill_of j) = named (codes "z") (numbered_reservoir h j).name
 variable_name h (thermal_of i) = named (codes "g") (thermal h i).name
 variable_name h (line_of l) = named (codes "l") (line h l).name
 variable_name h (deficit_of b) = named (codes "u") (bus h b).name
 
 unfoldable pub chance_name : Plants → Chance → List ℕ
-chance_name h (inflow_of j) = named (codes "w") (reservoir h j).name
+chance_name h (inflow_of j) = named (codes "w") (numbered_reservoir h j).name
 chance_name h (demand_of b) = named (codes "d") (bus h b).name
 
 unfoldable pub column_name : Plants → Column → List ℕ

@@ -1,6 +1,6 @@
 -- Small descriptions that were worked out by hand.
 use Rattle.std.specs.Prelude.{ℕ, ℤ, pos, negsuc, List, [], ◌∷◌, ◌++◌, codes, Some, None}
-use Rattle.hp_problem.specs.declared.raw.Row.{Row}
+use Rattle.hp_parts.specs.declared.parts.Row.{Row}
 use Rattle.hp_theory.specs.Problem.{Node}
 use Rattle.hp_plants.specs.declared.plants.Plants.{Plants}
 use Rattle.hp_hydro.specs.Plan.{Choice, Moment, Plan, choose, no_plan, the_end}
@@ -34,8 +34,8 @@ cascade n = record {
       ∷ record { demand = pos 8 ∷ []; inflows = record { weight = 1; water = pos 0 ∷ pos 1 ∷ [] } ∷ [] } ∷ [];
 }
 
-abbrev pub zero_row : List (ℕ × ℤ) → List (ℕ × ℤ) → List (ℕ × ℤ) → Row
-zero_row ds ss rs = record { low = Some (pos 0); high = Some (pos 0); decisions = ds; states = ss; randoms = rs }
+abbrev pub zero_row_example : List (ℕ × ℤ) → List (ℕ × ℤ) → List (ℕ × ℤ) → Row
+zero_row_example ds ss rs = record { low = Some (pos 0); high = Some (pos 0); decisions = ds; states = ss; randoms = rs }
 
 -- 3 go through each turbine and 1 past it, with 7 and 2 flowing in; then nothing, with 0 and 1
 abbrev pub moving : Moment
@@ -58,7 +58,7 @@ one_stage_node = record {
   low = [];
   high = [];
   realizations = record { weight = 1; values = pos 9 ∷ [] } ∷ [];
-  links = [];
+  successors = [];
   stop = 0;
 }
 
@@ -69,26 +69,26 @@ two_stages_node = record {
   decision_high = pos 10 ∷ pos 4 ∷ pos 3 ∷ pos 7 ∷ pos 7 ∷ pos 20 ∷ pos 8 ∷ pos 9 ∷ pos 1048576 ∷ [];
   costs = pos 0 ∷ pos 0 ∷ pos 0 ∷ pos 0 ∷ pos 0 ∷ pos 0 ∷ pos 0 ∷ pos 0 ∷ pos 200 ∷ [];
   outs = 3 ∷ 4 ∷ 0 ∷ 5 ∷ [];
-  rows = zero_row ((0, pos 1) ∷ (1, pos 1) ∷ (2, pos 1) ∷ []) ((2, negsuc 0) ∷ []) ((0, negsuc 0) ∷ [])
-      ∷ zero_row ((5, pos 1) ∷ (6, pos 1) ∷ (7, pos 1) ∷ []) ((0, negsuc 0) ∷ (3, negsuc 0) ∷ []) ((1, negsuc 0) ∷ [])
-      ∷ zero_row ((3, pos 1) ∷ []) ((1, negsuc 0) ∷ []) []
-      ∷ zero_row ((1, negsuc 0) ∷ (2, negsuc 0) ∷ (4, pos 1) ∷ []) [] []
-      ∷ zero_row ((1, pos 2) ∷ (6, pos 3) ∷ (8, pos 1) ∷ []) [] ((2, negsuc 0) ∷ []) ∷ [];
+  rows = zero_row_example ((0, pos 1) ∷ (1, pos 1) ∷ (2, pos 1) ∷ []) ((2, negsuc 0) ∷ []) ((0, negsuc 0) ∷ [])
+      ∷ zero_row_example ((5, pos 1) ∷ (6, pos 1) ∷ (7, pos 1) ∷ []) ((0, negsuc 0) ∷ (3, negsuc 0) ∷ []) ((1, negsuc 0) ∷ [])
+      ∷ zero_row_example ((3, pos 1) ∷ []) ((1, negsuc 0) ∷ []) []
+      ∷ zero_row_example ((1, negsuc 0) ∷ (2, negsuc 0) ∷ (4, pos 1) ∷ []) [] []
+      ∷ zero_row_example ((1, pos 2) ∷ (6, pos 3) ∷ (8, pos 1) ∷ []) [] ((2, negsuc 0) ∷ []) ∷ [];
   constant = pos 0;
   state_costs = pos 0 ∷ pos 0 ∷ pos 0 ∷ pos 0 ∷ [];
   random_costs = pos 0 ∷ pos 0 ∷ pos 0 ∷ [];
   low = pos 0 ∷ pos 0 ∷ pos 1 ∷ pos 0 ∷ [];
   high = pos 7 ∷ pos 7 ∷ pos 10 ∷ pos 20 ∷ [];
   realizations = record { weight = 1; values = pos 7 ∷ pos 2 ∷ pos 9 ∷ [] } ∷ record { weight = 3; values = negsuc 0 ∷ pos 0 ∷ pos 9 ∷ [] } ∷ [];
-  links = record { node = 1; weight = 1 } ∷ [];
+  successors = record { node = 1; weight = 1 } ∷ [];
   stop = 0;
 }
 
 -- the rows where it is there at once: decisions o:a, q:a, z:a, o:b, q:b, z:b, u:x; states v:a, v:b
 abbrev pub at_once_rows : List Row
-at_once_rows = zero_row ((0, pos 1) ∷ (1, pos 1) ∷ (2, pos 1) ∷ []) ((0, negsuc 0) ∷ []) ((0, negsuc 0) ∷ [])
-    ∷ zero_row ((1, negsuc 0) ∷ (2, negsuc 0) ∷ (3, pos 1) ∷ (4, pos 1) ∷ (5, pos 1) ∷ []) ((1, negsuc 0) ∷ []) ((1, negsuc 0) ∷ [])
-    ∷ zero_row ((1, pos 2) ∷ (4, pos 3) ∷ (6, pos 1) ∷ []) [] ((2, negsuc 0) ∷ []) ∷ []
+at_once_rows = zero_row_example ((0, pos 1) ∷ (1, pos 1) ∷ (2, pos 1) ∷ []) ((0, negsuc 0) ∷ []) ((0, negsuc 0) ∷ [])
+    ∷ zero_row_example ((1, negsuc 0) ∷ (2, negsuc 0) ∷ (3, pos 1) ∷ (4, pos 1) ∷ (5, pos 1) ∷ []) ((1, negsuc 0) ∷ []) ((1, negsuc 0) ∷ [])
+    ∷ zero_row_example ((1, pos 2) ∷ (4, pos 3) ∷ (6, pos 1) ∷ []) [] ((2, negsuc 0) ∷ []) ∷ []
 
 -- the problem of the one stage, as it is written
 unfoldable pub one_stage_text : List ℕ

@@ -1,10 +1,10 @@
 -- The problem made from a hydro description: one node a stage, each the next one's predecessor.
 use Rattle.std.specs.Prelude.{ℕ, suc, ℤ, pos, List, [], ◌∷◌, map, drop}
-use Rattle.hp_theory.specs.Problem.{Realization, Link, Node, Problem, no_node}
+use Rattle.hp_theory.specs.Problem.{Realization, Successor, Node, Problem, no_node}
 use Rattle.hp_plants.specs.declared.plants.Inflow.{Inflow}
 use Rattle.hp_plants.specs.declared.plants.Stage.{Stage}
 use Rattle.hp_plants.specs.declared.plants.Plants.{Plants}
-use Rattle.hp_hydro.specs.Layout.{stores, variables, chances, store_low, store_high, store_initial, store_place, least, greatest, cost_of, chance_value}
+use Rattle.hp_hydro.specs.Layout.{stores, hydro_variables, chances, store_low, store_high, store_initial, store_place, variable_least, variable_greatest, cost_of, chance_value}
 use Rattle.hp_hydro.specs.Rows.{all_rows, no_store, no_chance}
 
 -- the inflow's water and the stage's demand
@@ -12,15 +12,15 @@ abbrev pub realization : Plants → List ℤ → Inflow → Realization
 realization h demand i = record { weight = i.weight; values = map (chance_value demand i.water) (chances h) }
 
 -- the node m, where stages are left from there on
-abbrev pub following : ℕ → List Stage → List Link
+abbrev pub following : ℕ → List Stage → List Successor
 following m [] = []
 following m (s ∷ later) = record { node = m; weight = 1 } ∷ []
 
-unfoldable pub stage_node : Plants → Stage → List Link → Node
-stage_node h s links = record {
-  decision_low = map (least h) (variables h);
-  decision_high = map (greatest h) (variables h);
-  costs = map (cost_of h) (variables h);
+unfoldable pub stage_node : Plants → Stage → List Successor → Node
+stage_node h s successors = record {
+  decision_low = map (variable_least h) (hydro_variables h);
+  decision_high = map (variable_greatest h) (hydro_variables h);
+  costs = map (cost_of h) (hydro_variables h);
   outs = map (store_place h) (stores h);
   rows = all_rows h;
   constant = pos 0;
@@ -29,7 +29,7 @@ stage_node h s links = record {
   low = map (store_low h) (stores h);
   high = map (store_high h) (stores h);
   realizations = map (realization h s.demand) s.inflows;
-  links = links;
+  successors = successors;
   stop = 0;
 }
 

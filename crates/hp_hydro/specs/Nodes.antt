@@ -1,8 +1,8 @@
 -- The text of the nodes: one for each stage.
 use Rattle.std.specs.Prelude.{ℕ, suc, ◌/◌, ℤ, List, [], ◌∷◌, ◌++◌, length, map, get_or, codes, nat_lt, if◌then◌else◌}
 use Rattle.serde_json.specs.Data.{Data, Members, no_members, member}
-use Rattle.hp_forms.specs.Listed.{members_from, members_by, whole, integer, digit}
-use Rattle.hp_forms.specs.Nodes.{realization_of, node_of}
+use Rattle.hp_forms.specs.Listed.{members_from, members_by, whole_data, integer, digit}
+use Rattle.hp_forms.specs.Nodes.{realization_form, node_form}
 use Rattle.hp_plants.specs.declared.plants.Inflow.{Inflow}
 use Rattle.hp_plants.specs.declared.plants.Stage.{Stage}
 use Rattle.hp_plants.specs.declared.plants.Plants.{Plants}
@@ -17,19 +17,19 @@ node_name m = codes "s" ++ digit (suc m / 100) ∷ digit (suc m / 10) ∷ digit 
 unfoldable pub support : Plants → List ℤ → List ℤ → Members
 support h demand water = members_by (chance_name h) (λ c. integer (chance_value demand water c)) (map demand_of (all_buses h) ++ map inflow_of (all_reservoirs h))
 
-unfoldable pub realization : Plants → List ℤ → Inflow → Data
-realization h demand i = realization_of i.weight (support h demand i.water)
+unfoldable pub node_realization : Plants → List ℤ → Inflow → Data
+node_realization h demand i = realization_form i.weight (support h demand i.water)
 
 -- the node m, none after the last one
-unfoldable pub link_to : Plants → ℕ → Members
-link_to h m = if nat_lt m (length h.stages) then member (node_name m) (whole 1) no_members else no_members
+unfoldable pub successor_to : Plants → ℕ → Members
+successor_to h m = if nat_lt m (length h.stages) then member (node_name m) (whole_data 1) no_members else no_members
 
-abbrev pub stage : Plants → ℕ → Stage
-stage h m = get_or h.stages m (record { demand = []; inflows = [] })
+abbrev pub hydro_stage : Plants → ℕ → Stage
+hydro_stage h m = get_or h.stages m (record { demand = []; inflows = [] })
 
 -- the node m, which the next one follows
 unfoldable pub node : Plants → ℕ → Data
-node h m = node_of (map (realization h (stage h m).demand) (stage h m).inflows) (link_to h (suc m))
+node h m = node_form (map (node_realization h (hydro_stage h m).demand) (hydro_stage h m).inflows) (successor_to h (suc m))
 
 unfoldable pub nodes : Plants → Members
 nodes h = members_from node_name (node h) 0 (length h.stages)

@@ -6,7 +6,7 @@ use Rattle.hp_plants.specs.declared.plants.Inflow.{Inflow}
 use Rattle.hp_plants.specs.declared.plants.Stage.{Stage}
 use Rattle.hp_plants.specs.declared.plants.Plants.{Plants}
 use Rattle.hp_hydro.specs.Layout.{thermal, bus, all_thermals, all_buses}
-use Rattle.hp_hydro.specs.Plan.{Choice, Plan, no_plan, choose, Later, the_end, later}
+use Rattle.hp_hydro.specs.Plan.{Choice, Plan, no_plan, choose, LaterPlan, the_end, later}
 
 -- of thermals and deficits, divided by N
 abbrev pub choice_cost : Plants → ℕ → Choice → Fraction
@@ -18,16 +18,16 @@ inflow_weight (i ∷ is) = i.weight + inflow_weight is
 
 abbrev mutual
   -- the sum over the branches of weight * (choice + the cost of later stages)
-  pub branches_cost : Plants → ℕ → List Stage → List Inflow → Plan → Fraction
-  branches_cost h units stages is no_plan = nothing
-  branches_cost h units stages [] (choose c l p) = nothing
-  branches_cost h units stages (i ∷ is) (choose c l p) = plus (times i.weight (plus (choice_cost h units c) (later_cost h units stages l))) (branches_cost h units stages is p)
+  pub inflow_branches_cost : Plants → ℕ → List Stage → List Inflow → Plan → Fraction
+  inflow_branches_cost h units stages is no_plan = nothing
+  inflow_branches_cost h units stages [] (choose c l p) = nothing
+  inflow_branches_cost h units stages (i ∷ is) (choose c l p) = plus (times i.weight (plus (choice_cost h units c) (later_cost h units stages l))) (inflow_branches_cost h units stages is p)
 
   -- the sum over the total of the weights
-  pub later_cost : Plants → ℕ → List Stage → Later → Fraction
+  pub later_cost : Plants → ℕ → List Stage → LaterPlan → Fraction
   later_cost h units stages the_end = nothing
   later_cost h units [] (later p) = nothing
-  later_cost h units (s ∷ stages) (later p) = over (branches_cost h units stages s.inflows p) (inflow_weight s.inflows)
+  later_cost h units (s ∷ stages) (later p) = over (inflow_branches_cost h units stages s.inflows p) (inflow_weight s.inflows)
 
 abbrev pub plan_cost : Plants → ℕ → Plan → Fraction
 plan_cost h units p = later_cost h units h.stages (later p)

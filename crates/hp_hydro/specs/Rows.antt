@@ -2,19 +2,19 @@
 use Rattle.std.specs.Prelude.{ℕ, suc, ℤ, pos, ◌*ℤ◌, ◌-ℤ◌, neg_ℤ, List, ◌++◌, map, Some}
 use Rattle.std.specs.List.{flat_map}
 use Rattle.hp_num.specs.Sums.{same_place}
-use Rattle.hp_problem.specs.declared.raw.Row.{Row}
-use Rattle.hp_hydro.specs.Terms.{terms_from}
+use Rattle.hp_parts.specs.declared.parts.Row.{Row}
+use Rattle.hp_hydro.specs.Terms.{terms_from_place}
 use Rattle.hp_plants.specs.declared.plants.Plants.{Plants}
-use Rattle.hp_hydro.specs.Layout.{Store, volume_of, way_of, Variable, after, turbine_of, spill_of, thermal_of, line_of, deficit_of, Chance, inflow_of, demand_of, reservoir, thermal, line, travel, leads, all_reservoirs, all_buses, steps, stores, variables, chances}
+use Rattle.hp_hydro.specs.Layout.{HydroStore, volume_of, way_of, Variable, after, turbine_of, spill_of, thermal_of, line_of, deficit_of, Chance, inflow_of, demand_of, numbered_reservoir, thermal, line, travel, leads, all_reservoirs, all_buses, steps, stores, hydro_variables, chances}
 
 -- the sum with these factors is 0
-abbrev pub row_with : Plants → (Variable → ℤ) → (Store → ℤ) → (Chance → ℤ) → Row
+abbrev pub row_with : Plants → (Variable → ℤ) → (HydroStore → ℤ) → (Chance → ℤ) → Row
 row_with h a b g = record {
   low = Some (pos 0);
   high = Some (pos 0);
-  decisions = terms_from 0 (map a (variables h));
-  states = terms_from 0 (map b (stores h));
-  randoms = terms_from 0 (map g (chances h));
+  decisions = terms_from_place 0 (map a (hydro_variables h));
+  states = terms_from_place 0 (map b (stores h));
+  randoms = terms_from_place 0 (map g (chances h));
 }
 
 -- ---- water of reservoir j: o + q + z - i - w, less the q and z of reservoirs that lead to j at once, less the water that arrives from the
@@ -24,7 +24,7 @@ row_with h a b g = record {
 abbrev pub leads_at_once : Plants → ℕ → ℕ → ℤ
 leads_at_once h i j = same_place 0 (travel h i) *ℤ leads h i j
 
-abbrev pub water_after : ℕ → Store → ℤ
+abbrev pub water_after : ℕ → HydroStore → ℤ
 water_after j (volume_of i) = same_place j i
 water_after j (way_of i k) = pos 0
 
@@ -36,7 +36,7 @@ water_decided h j (thermal_of i) = pos 0
 water_decided h j (line_of l) = pos 0
 water_decided h j (deficit_of b) = pos 0
 
-abbrev pub water_before : Plants → ℕ → Store → ℤ
+abbrev pub water_before : Plants → ℕ → HydroStore → ℤ
 water_before h j (volume_of i) = neg_ℤ (same_place j i)
 water_before h j (way_of i k) = neg_ℤ (same_place 1 k *ℤ leads h i j)
 
@@ -49,7 +49,7 @@ water_row h j = row_with h (water_decided h j) (water_before h j) (water_flowing
 
 -- ---- water of reservoir j under way: the water k stages away was k + 1 away before, or left in this stage
 
-abbrev pub way_after : ℕ → ℕ → Store → ℤ
+abbrev pub way_after : ℕ → ℕ → HydroStore → ℤ
 way_after j k (volume_of i) = pos 0
 way_after j k (way_of i m) = same_place j i *ℤ same_place k m
 
@@ -63,7 +63,7 @@ way_decided h j k (line_of l) = pos 0
 way_decided h j k (deficit_of b) = pos 0
 
 -- none is further away than it travels
-abbrev pub way_before : ℕ → ℕ → Store → ℤ
+abbrev pub way_before : ℕ → ℕ → HydroStore → ℤ
 way_before j k (volume_of i) = pos 0
 way_before j k (way_of i m) = neg_ℤ (same_place j i *ℤ same_place (suc k) m)
 
@@ -77,13 +77,13 @@ way_row h j k = row_with h (way_decided h j k) (way_before j k) no_chance
 
 abbrev pub bus_decided : Plants → ℕ → Variable → ℤ
 bus_decided h b (after s) = pos 0
-bus_decided h b (turbine_of j) = same_place (reservoir h j).bus b *ℤ (reservoir h j).factor
+bus_decided h b (turbine_of j) = same_place (numbered_reservoir h j).bus b *ℤ (numbered_reservoir h j).factor
 bus_decided h b (spill_of j) = pos 0
 bus_decided h b (thermal_of i) = same_place (thermal h i).bus b
 bus_decided h b (line_of l) = same_place (line h l).target b -ℤ same_place (line h l).source b
 bus_decided h b (deficit_of c) = same_place b c
 
-abbrev pub no_store : Store → ℤ
+abbrev pub no_store : HydroStore → ℤ
 no_store s = pos 0
 
 abbrev pub bus_asked : ℕ → Chance → ℤ

@@ -3,7 +3,7 @@ use Rattle.std.specs.Prelude.{ℕ, List, [], ◌∷◌, ◌++◌, Result, Ok}
 use Rattle.serde_json.specs.Data.{Data, Members}
 use Rattle.serde_json.specs.Written.{compact_text}
 use Rattle.hp_forms.specs.Listed.{members_by, integer}
-use Rattle.hp_forms.specs.Nodes.{root_of, problem_of}
+use Rattle.hp_forms.specs.Nodes.{root_of, problem_form}
 use Rattle.hp_plants.specs.declared.plants.Plants.{Plants}
 use Rattle.hp_plants.specs.declared.refusal.HydroRefusal.{HydroRefusal}
 use Rattle.hp_plants.specs.Plants.{plants_at}
@@ -11,17 +11,17 @@ use Rattle.hp_plants.specs.Steps.{◌>>=◌}
 use Rattle.hp_hydro.specs.Layout.{stores, store_initial}
 use Rattle.hp_hydro.specs.Columns.{state_name}
 use Rattle.hp_hydro.specs.Stage.{subproblem}
-use Rattle.hp_hydro.specs.Nodes.{link_to, nodes}
+use Rattle.hp_hydro.specs.Nodes.{successor_to, nodes}
 
-unfoldable pub initial_values : Plants → Members
-initial_values h = members_by (state_name h) (λ s. integer (store_initial h s)) (stores h)
+unfoldable pub hydro_initial_values : Plants → Members
+hydro_initial_values h = members_by (state_name h) (λ s. integer (store_initial h s)) (stores h)
 
 -- the horizon begins with the first stage
-unfoldable pub root : Plants → Data
-root h = root_of (initial_values h) (link_to h 0)
+unfoldable pub hydro_root : Plants → Data
+hydro_root h = root_of (hydro_initial_values h) (successor_to h 0)
 
 unfoldable pub hydro_data : Plants → Data
-hydro_data h = problem_of (nodes h) (root h) (subproblem h)
+hydro_data h = problem_form (nodes h) (hydro_root h) (subproblem h)
 
 -- the compact text of the problem, and a newline
 unfoldable pub hydro_text : Plants → List ℕ

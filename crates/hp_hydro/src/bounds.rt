@@ -2,12 +2,12 @@
 ghost use Rattle.std.specs.Prelude.{◌≡◌, ◌++◌, [], ◌∷◌, map, OnOk};
 ghost use Rattle.std.specs.List.{flat_map};
 ghost use Rattle.serde_json.specs.View.{view};
-ghost use Rattle.hp_forms.specs.Stage.{bound};
+ghost use Rattle.hp_forms.specs.Stage.{variable_bound};
 ghost use Rattle.hp_plants.specs.Described.{IsPlants};
-ghost use Rattle.hp_hydro.specs.Layout.{reservoir, thermal, line, way_of, store_low, store_high, store_initial};
+ghost use Rattle.hp_hydro.specs.Layout.{numbered_reservoir, thermal, line, way_of, store_low, store_high, store_initial};
 ghost use Rattle.hp_hydro.specs.Columns.{column_name};
 ghost use Rattle.hp_hydro.specs.Stage.{bounds_of};
-ghost use Rattle.hp_hydro.specs.Seen.{store_of, column_of};
+ghost use Rattle.hp_hydro.specs.Seen.{seen_store, seen_column};
 
 use crate::columns::{Column, Store};
 use crate::names::column_name;
@@ -32,11 +32,11 @@ struct Amounts {
 
 // The amounts of a reservoir; nothing where none has this number.
 fn amounts_of(plants: &Plants, j: usize) -> Amounts
-    ensures low { result.low ≡ (reservoir plants.now j).low }
-    ensures high { result.high ≡ (reservoir plants.now j).high }
-    ensures initial { result.initial ≡ (reservoir plants.now j).initial }
-    ensures turbine { result.turbine ≡ (reservoir plants.now j).turbine }
-    ensures spill { result.spill ≡ (reservoir plants.now j).spill }
+    ensures low { result.low ≡ (numbered_reservoir plants.now j).low }
+    ensures high { result.high ≡ (numbered_reservoir plants.now j).high }
+    ensures initial { result.initial ≡ (numbered_reservoir plants.now j).initial }
+    ensures turbine { result.turbine ≡ (numbered_reservoir plants.now j).turbine }
+    ensures spill { result.spill ≡ (numbered_reservoir plants.now j).spill }
 {
     if j >= plants.reservoirs.len() {
         return Amounts {
@@ -68,7 +68,7 @@ fn most_released(plants: &Plants, j: usize) -> i64
 
 /// The least of a state.
 pub(crate) fn store_low(plants: &Plants, store: Store) -> i64
-    ensures { result ≡ store_low plants.now (store_of store) }
+    ensures { result ≡ store_low plants.now (seen_store store) }
 {
     match store {
         Store::Volume(j) => amounts_of(plants, j).low,
@@ -79,7 +79,7 @@ pub(crate) fn store_low(plants: &Plants, store: Store) -> i64
 /// The most of a state.
 pub(crate) fn store_high(plants: &Plants, store: Store) -> i64
     requires { IsPlants plants.now }
-    ensures { result ≡ store_high plants.now (store_of store) }
+    ensures { result ≡ store_high plants.now (seen_store store) }
 {
     match store {
         Store::Volume(j) => amounts_of(plants, j).high,
@@ -89,7 +89,7 @@ pub(crate) fn store_high(plants: &Plants, store: Store) -> i64
 
 /// A state before the first stage.
 pub(crate) fn store_initial(plants: &Plants, store: Store) -> i64
-    ensures { result ≡ store_initial plants.now (store_of store) }
+    ensures { result ≡ store_initial plants.now (seen_store store) }
 {
     match store {
         Store::Volume(j) => amounts_of(plants, j).initial,
@@ -129,7 +129,7 @@ fn push_between(
     high: i64,
 ) -> Result<(), AllocError>
     ensures { OnOk result (map view list.new.items
-        ≡ map view list.old.items ++ bound (column_name plants.now (column_of column)) low high ∷ []) }
+        ≡ map view list.old.items ++ variable_bound (column_name plants.now (seen_column column)) low high ∷ []) }
 {
     let name = column_name(alloc, plants, column)?;
     push_bound(alloc, list, name.as_str(), low, high)
@@ -145,7 +145,7 @@ fn push_store_bounds(
 ) -> Result<(), AllocError>
     requires { IsPlants plants.now }
     ensures { OnOk result (map view list.new.items ≡ map view list.old.items
-        ++ bound (column_name plants.now (column_of column)) (store_low plants.now (store_of store)) (store_high plants.now (store_of store)) ∷ []) }
+        ++ variable_bound (column_name plants.now (seen_column column)) (store_low plants.now (seen_store store)) (store_high plants.now (seen_store store)) ∷ []) }
 {
     let low = store_low(plants, store);
     let high = store_high(plants, store);
@@ -162,7 +162,7 @@ fn push_bounds_of(
 ) -> Result<(), AllocError>
     requires { IsPlants plants.now }
     ensures { OnOk result (map view list.new.items
-        ≡ map view list.old.items ++ bounds_of plants.now (column_of column)) }
+        ≡ map view list.old.items ++ bounds_of plants.now (seen_column column)) }
 {
     match column {
         Column::Before(store) => push_store_bounds(alloc, plants, list, column, store),
@@ -202,7 +202,7 @@ pub(crate) fn push_bounds(
 ) -> Result<(), AllocError>
     requires { IsPlants plants.now }
     ensures { OnOk result (map view list.new.items
-        ≡ map view list.old.items ++ flat_map (bounds_of plants.now) (map column_of columns.now)) }
+        ≡ map view list.old.items ++ flat_map (bounds_of plants.now) (map seen_column columns.now)) }
 {
     for column in columns {
         push_bounds_of(alloc, plants, list, *column)?;

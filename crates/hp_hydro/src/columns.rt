@@ -3,7 +3,7 @@ ghost use Rattle.std.specs.Prelude.{◌≡◌, ◌++◌, map, IfOk, OnOk};
 ghost use Rattle.std.specs.List.{flat_map};
 ghost use Rattle.hp_hydro.specs.Layout.{all_reservoirs, all_thermals, all_lines, all_buses, volume_of, thermal_of, line_of, travel, steps, way_at, ways, stores};
 ghost use Rattle.hp_hydro.specs.Columns.{decided, way_columns, reservoir_columns, bus_columns, columns};
-ghost use Rattle.hp_hydro.specs.Seen.{store_of, column_of};
+ghost use Rattle.hp_hydro.specs.Seen.{seen_store, seen_column};
 
 use crate::plants::travel;
 use hp_plants::Plants;
@@ -52,8 +52,8 @@ pub(crate) enum Random {
 
 // The water that is so many stages away from a reservoir whose water travels so far.
 fn push_way(list: &mut Vec<Store>, plants: &Plants, away: u32, j: usize) -> Result<(), AllocError>
-    ensures { OnOk result (map store_of list.new.items
-        ≡ map store_of list.old.items ++ way_at plants.now away j) }
+    ensures { OnOk result (map seen_store list.new.items
+        ≡ map seen_store list.old.items ++ way_at plants.now away j) }
 {
     if away > travel(plants, j) {
         return Ok(());
@@ -63,8 +63,8 @@ fn push_way(list: &mut Vec<Store>, plants: &Plants, away: u32, j: usize) -> Resu
 
 // The water that is so many stages away, from each reservoir whose water travels so far.
 fn push_ways(list: &mut Vec<Store>, plants: &Plants, away: u32) -> Result<(), AllocError>
-    ensures { OnOk result (map store_of list.new.items
-        ≡ map store_of list.old.items ++ ways plants.now away) }
+    ensures { OnOk result (map seen_store list.new.items
+        ≡ map seen_store list.old.items ++ ways plants.now away) }
 {
     for j in 0..plants.reservoirs.len() {
         push_way(list, plants, away, j)?;
@@ -73,8 +73,8 @@ fn push_ways(list: &mut Vec<Store>, plants: &Plants, away: u32) -> Result<(), Al
 }
 
 fn push_volumes(list: &mut Vec<Store>, plants: &Plants) -> Result<(), AllocError>
-    ensures { OnOk result (map store_of list.new.items
-        ≡ map store_of list.old.items ++ map volume_of (all_reservoirs plants.now)) }
+    ensures { OnOk result (map seen_store list.new.items
+        ≡ map seen_store list.old.items ++ map volume_of (all_reservoirs plants.now)) }
 {
     for j in 0..plants.reservoirs.len() {
         list.push(Store::Volume(j))?;
@@ -84,7 +84,7 @@ fn push_volumes(list: &mut Vec<Store>, plants: &Plants) -> Result<(), AllocError
 
 /// Gives all states, in the order of their names. [`AllocError`] where memory was refused.
 pub(crate) fn stores(alloc: Global, plants: &Plants) -> Result<Vec<Store>, AllocError>
-    ensures { IfOk result (λ list. map store_of list.items ≡ stores plants.now) }
+    ensures { IfOk result (λ list. map seen_store list.items ≡ stores plants.now) }
 {
     let mut list = Vec::new(alloc);
     push_ways(&mut list, plants, 1)?;
@@ -96,8 +96,8 @@ pub(crate) fn stores(alloc: Global, plants: &Plants) -> Result<Vec<Store>, Alloc
 
 // Appends the columns of the water under way from a reservoir.
 fn push_way_columns(list: &mut Vec<Column>, plants: &Plants, j: usize) -> Result<(), AllocError>
-    ensures { OnOk result (map column_of list.new.items
-        ≡ map column_of list.old.items ++ flat_map (way_columns j) (steps (travel plants.now j))) }
+    ensures { OnOk result (map seen_column list.new.items
+        ≡ map seen_column list.old.items ++ flat_map (way_columns j) (steps (travel plants.now j))) }
 {
     for k in 0..travel(plants, j) {
         let store = Store::Way(j, k + 1);
@@ -113,8 +113,8 @@ fn push_reservoir_columns(
     plants: &Plants,
     j: usize,
 ) -> Result<(), AllocError>
-    ensures { OnOk result (map column_of list.new.items
-        ≡ map column_of list.old.items ++ reservoir_columns plants.now j) }
+    ensures { OnOk result (map seen_column list.new.items
+        ≡ map seen_column list.old.items ++ reservoir_columns plants.now j) }
 {
     list.push(Column::Before(Store::Volume(j)))?;
     list.push(Column::Inflow(j))?;
@@ -125,8 +125,8 @@ fn push_reservoir_columns(
 }
 
 fn push_all_reservoirs(list: &mut Vec<Column>, plants: &Plants) -> Result<(), AllocError>
-    ensures { OnOk result (map column_of list.new.items
-        ≡ map column_of list.old.items ++ flat_map (reservoir_columns plants.now) (all_reservoirs plants.now)) }
+    ensures { OnOk result (map seen_column list.new.items
+        ≡ map seen_column list.old.items ++ flat_map (reservoir_columns plants.now) (all_reservoirs plants.now)) }
 {
     for j in 0..plants.reservoirs.len() {
         push_reservoir_columns(list, plants, j)?;
@@ -135,8 +135,8 @@ fn push_all_reservoirs(list: &mut Vec<Column>, plants: &Plants) -> Result<(), Al
 }
 
 fn push_all_thermals(list: &mut Vec<Column>, plants: &Plants) -> Result<(), AllocError>
-    ensures { OnOk result (map column_of list.new.items
-        ≡ map column_of list.old.items ++ map (λ i. decided (thermal_of i)) (all_thermals plants.now)) }
+    ensures { OnOk result (map seen_column list.new.items
+        ≡ map seen_column list.old.items ++ map (λ i. decided (thermal_of i)) (all_thermals plants.now)) }
 {
     for i in 0..plants.thermals.len() {
         list.push(Column::Thermal(i))?;
@@ -145,8 +145,8 @@ fn push_all_thermals(list: &mut Vec<Column>, plants: &Plants) -> Result<(), Allo
 }
 
 fn push_all_lines(list: &mut Vec<Column>, plants: &Plants) -> Result<(), AllocError>
-    ensures { OnOk result (map column_of list.new.items
-        ≡ map column_of list.old.items ++ map (λ l. decided (line_of l)) (all_lines plants.now)) }
+    ensures { OnOk result (map seen_column list.new.items
+        ≡ map seen_column list.old.items ++ map (λ l. decided (line_of l)) (all_lines plants.now)) }
 {
     for l in 0..plants.lines.len() {
         list.push(Column::Line(l))?;
@@ -155,8 +155,8 @@ fn push_all_lines(list: &mut Vec<Column>, plants: &Plants) -> Result<(), AllocEr
 }
 
 fn push_all_buses(list: &mut Vec<Column>, plants: &Plants) -> Result<(), AllocError>
-    ensures { OnOk result (map column_of list.new.items
-        ≡ map column_of list.old.items ++ flat_map bus_columns (all_buses plants.now)) }
+    ensures { OnOk result (map seen_column list.new.items
+        ≡ map seen_column list.old.items ++ flat_map bus_columns (all_buses plants.now)) }
 {
     for b in 0..plants.buses.len() {
         list.push(Column::Demand(b))?;
@@ -168,7 +168,7 @@ fn push_all_buses(list: &mut Vec<Column>, plants: &Plants) -> Result<(), AllocEr
 /// Gives all variables of a stage. [`AllocError`] where memory was refused.
 #[tactic(auto, unfolding(crate::specs::Columns::columns))]
 pub(crate) fn columns(alloc: Global, plants: &Plants) -> Result<Vec<Column>, AllocError>
-    ensures { IfOk result (λ list. map column_of list.items ≡ columns plants.now) }
+    ensures { IfOk result (λ list. map seen_column list.items ≡ columns plants.now) }
 {
     let mut list = Vec::new(alloc);
     push_all_reservoirs(&mut list, plants)?;

@@ -4,12 +4,12 @@
 mod bounds;
 mod columns;
 pub mod laws;
+mod making;
 mod names;
 mod nodes;
 mod plants;
 mod rows;
 mod stage;
-mod text;
 pub mod worked;
 
-pub use text::make;
+pub use making::make;

@@ -2,7 +2,7 @@
 ghost use Rattle.std.specs.Prelude.{◌≡◌, ◌<◌, IfOk, string_bytes};
 ghost use Rattle.hp_hydro.specs.Layout.{inflow_of, demand_of};
 ghost use Rattle.hp_hydro.specs.Columns.{named, staged, state_name, before_name, after_name, column_name, chance_name, variable_name};
-ghost use Rattle.hp_hydro.specs.Seen.{store_of, column_of, chance_of};
+ghost use Rattle.hp_hydro.specs.Seen.{seen_store, seen_column, chance_of};
 
 use crate::columns::{Column, Random, Store};
 use crate::plants::{bus_name, line_name, reservoir_name, thermal_name};
@@ -33,7 +33,7 @@ fn staged(alloc: Global, letter: u8, stages: u32, name: &str) -> Result<String, 
 /// Gives the name of a state. [`AllocError`] where memory was refused, as of all functions here.
 #[tactic(auto, unfolding(crate::specs::Columns::state_name))]
 pub(crate) fn state_name(alloc: Global, plants: &Plants, store: Store) -> Result<String, AllocError>
-    ensures { IfOk result (λ s. string_bytes s ≡ state_name plants.now (store_of store)) }
+    ensures { IfOk result (λ s. string_bytes s ≡ state_name plants.now (seen_store store)) }
 {
     match store {
         Store::Volume(j) => named(alloc, "v", reservoir_name(plants, j)),
@@ -48,7 +48,7 @@ pub(crate) fn before_name(
     plants: &Plants,
     store: Store,
 ) -> Result<String, AllocError>
-    ensures { IfOk result (λ s. string_bytes s ≡ before_name plants.now (store_of store)) }
+    ensures { IfOk result (λ s. string_bytes s ≡ before_name plants.now (seen_store store)) }
 {
     match store {
         Store::Volume(j) => named(alloc, "i", reservoir_name(plants, j)),
@@ -59,7 +59,7 @@ pub(crate) fn before_name(
 /// Gives the name of the variable that is a state after the stage.
 #[tactic(auto, unfolding(crate::specs::Columns::after_name))]
 pub(crate) fn after_name(alloc: Global, plants: &Plants, store: Store) -> Result<String, AllocError>
-    ensures { IfOk result (λ s. string_bytes s ≡ after_name plants.now (store_of store)) }
+    ensures { IfOk result (λ s. string_bytes s ≡ after_name plants.now (seen_store store)) }
 {
     match store {
         Store::Volume(j) => named(alloc, "o", reservoir_name(plants, j)),
@@ -105,7 +105,7 @@ pub(crate) fn column_name(
     plants: &Plants,
     column: Column,
 ) -> Result<String, AllocError>
-    ensures { IfOk result (λ s. string_bytes s ≡ column_name plants.now (column_of column)) }
+    ensures { IfOk result (λ s. string_bytes s ≡ column_name plants.now (seen_column column)) }
 {
     match column {
         Column::Before(store) => before_name(alloc, plants, store),

@@ -7,7 +7,7 @@ ghost use Rattle.hp_paths.specs.Paths.{numbers};
 ghost use Rattle.hp_forms.specs.Listed.{put_by, integer};
 ghost use Rattle.hp_plants.specs.Described.{IsPlants, IsStage};
 ghost use Rattle.hp_hydro.specs.Columns.{chance_name};
-ghost use Rattle.hp_hydro.specs.Nodes.{node_name, support, realization, link_to, node, nodes};
+ghost use Rattle.hp_hydro.specs.Nodes.{node_name, support, node_realization, successor_to, node, nodes};
 ghost use Rattle.hp_hydro.specs.Seen.{chance_of};
 
 use crate::columns::Random;
@@ -88,7 +88,7 @@ fn support(
     Ok(map)
 }
 
-#[tactic(auto, unfolding(crate::specs::Nodes::realization))]
+#[tactic(auto, unfolding(crate::specs::Nodes::node_realization))]
 fn realization(
     alloc: Global,
     plants: &Plants,
@@ -98,7 +98,7 @@ fn realization(
     requires plants { IsPlants plants.now }
     requires demand { length demand.now ≡ length plants.now.buses }
     requires water { length inflow.now.water ≡ length plants.now.reservoirs }
-    ensures { IfOk result (λ v. view v ≡ realization plants.now demand.now inflow.now) }
+    ensures { IfOk result (λ v. view v ≡ node_realization plants.now demand.now inflow.now) }
 {
     let support = support(alloc, plants, demand, inflow.water.as_slice())?;
     hp_forms::realization(alloc, inflow.weight, support)
@@ -109,7 +109,7 @@ fn realizations(alloc: Global, plants: &Plants, stage: &Stage) -> Result<Vec<Val
     requires plants { IsPlants plants.now }
     requires stage { IsStage (length plants.now.buses) (length plants.now.reservoirs) stage.now }
     ensures { IfOk result (λ list. map view list.items
-        ≡ map (realization plants.now stage.now.demand) stage.now.inflows) }
+        ≡ map (node_realization plants.now stage.now.demand) stage.now.inflows) }
 {
     let mut list = Vec::new(alloc);
     for inflow in stage.inflows.as_slice() {
@@ -120,14 +120,14 @@ fn realizations(alloc: Global, plants: &Plants, stage: &Stage) -> Result<Vec<Val
 
 /// The node of a number with weight 1, none after the last one. [`AllocError`] where memory was refused, as of all
 /// functions here.
-#[tactic(auto, unfolding(crate::specs::Nodes::link_to))]
-pub(crate) fn link_to(
+#[tactic(auto, unfolding(crate::specs::Nodes::successor_to))]
+pub(crate) fn successor_to(
     alloc: Global,
     plants: &Plants,
     node: usize,
 ) -> Result<Map<String, Value>, AllocError>
     requires { length plants.now.stages ≤ 100 }
-    ensures { IfOk result (λ m. members_view m.entries ≡ link_to plants.now node) }
+    ensures { IfOk result (λ m. members_view m.entries ≡ successor_to plants.now node) }
 {
     let mut map = Map::new(alloc);
     if node >= plants.stages.len() {
@@ -146,7 +146,7 @@ fn node(alloc: Global, plants: &Plants, m: usize) -> Result<Value, AllocError>
     ensures { IfOk result (λ v. view v ≡ node plants.now m) }
 {
     let realizations = realizations(alloc, plants, &plants.stages.as_slice()[m])?;
-    let next = link_to(alloc, plants, m + 1)?;
+    let next = successor_to(alloc, plants, m + 1)?;
     hp_forms::node(alloc, realizations, next)
 }
 

@@ -1,12 +1,12 @@
 // The plants by their numbers. A number that is no plant's has no name, and nothing of it is there.
 ghost use Rattle.std.specs.Prelude.{◌≡◌, ◌<◌, length};
-ghost use Rattle.hp_hydro.specs.Layout.{reservoir, thermal, line, bus, travel};
+ghost use Rattle.hp_hydro.specs.Layout.{numbered_reservoir, thermal, line, bus, travel};
 
 use hp_plants::{Bus, Line, Plants, Reservoir, Thermal};
 
 pub(crate) fn reservoir(plants: &Plants, j: usize) -> &Reservoir
     requires { j < length plants.now.reservoirs }
-    ensures { result.now ≡ reservoir plants.now j }
+    ensures { result.now ≡ numbered_reservoir plants.now j }
 {
     &plants.reservoirs.as_slice()[j]
 }
@@ -46,7 +46,7 @@ pub(crate) fn travel(plants: &Plants, j: usize) -> u32
 }
 
 pub(crate) fn reservoir_name(plants: &Plants, j: usize) -> &str
-    ensures { result.now ≡ (reservoir plants.now j).name }
+    ensures { result.now ≡ (numbered_reservoir plants.now j).name }
 {
     if j < plants.reservoirs.len() {
         reservoir(plants, j).name.as_str()

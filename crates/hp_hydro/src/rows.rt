@@ -1,9 +1,9 @@
 // The rows of a stage and its objective: each variable with its factor.
 ghost use Rattle.std.specs.Prelude.{◌≡◌, ◌<◌, [], ◌∷◌, ◌++◌, length, map, IfOk, OnOk, if◌then◌else◌};
 ghost use Rattle.serde_json.specs.View.{view};
-ghost use Rattle.hp_hydro.specs.Stage.{term_of, coming, water_sum, way_source, way_sum, bus_sum, cost_sum, zero_row};
+ghost use Rattle.hp_hydro.specs.Stage.{column_term, coming, water_sum, way_source, way_sum, bus_sum, hydro_cost_sum, zero_row};
 ghost use Rattle.hp_hydro.specs.Parts.{count_of, sum_at, part_sum};
-ghost use Rattle.hp_hydro.specs.Seen.{column_of};
+ghost use Rattle.hp_hydro.specs.Seen.{seen_column};
 
 use crate::columns::{Column, Store};
 use crate::names::column_name;
@@ -22,7 +22,7 @@ fn push(
     column: Column,
 ) -> Result<(), AllocError>
     ensures { OnOk result (map view list.new.items
-        ≡ map view list.old.items ++ term_of plants.now (coefficient, column_of column) ∷ []) }
+        ≡ map view list.old.items ++ column_term plants.now (coefficient, seen_column column) ∷ []) }
 {
     let name = column_name(alloc, plants, column)?;
     push_term(alloc, list, coefficient, name.as_str())
@@ -38,7 +38,7 @@ fn push_where(
     column: Column,
 ) -> Result<(), AllocError>
     ensures { OnOk result (map view list.new.items ≡ map view list.old.items
-        ++ map (term_of plants.now) (if there then (coefficient, column_of column) ∷ [] else [])) }
+        ++ map (column_term plants.now) (if there then (coefficient, seen_column column) ∷ [] else [])) }
 {
     if !there {
         return Ok(());
@@ -90,7 +90,7 @@ fn push_coming(
 ) -> Result<(), AllocError>
     requires { i < length plants.now.reservoirs }
     ensures { OnOk result (map view list.new.items
-        ≡ map view list.old.items ++ map (term_of plants.now) (coming plants.now j i)) }
+        ≡ map view list.old.items ++ map (column_term plants.now) (coming plants.now j i)) }
 {
     let Some(travel) = reservoir(plants, i).downstream else {
         return Ok(());
@@ -115,7 +115,7 @@ fn push_part(
     at: usize,
 ) -> Result<(), AllocError>
     requires { at < count_of plants.now part }
-    ensures { OnOk result (map view list.new.items ≡ map view list.old.items ++ map (term_of plants.now) (sum_at plants.now part at)) }
+    ensures { OnOk result (map view list.new.items ≡ map view list.old.items ++ map (column_term plants.now) (sum_at plants.now part at)) }
 {
     match part {
         Part::Coming(j) => push_coming(alloc, plants, list, j, at),
@@ -155,7 +155,7 @@ fn push_all(
     part: Part,
 ) -> Result<(), AllocError>
     ensures { OnOk result (map view list.new.items
-        ≡ map view list.old.items ++ map (term_of plants.now) (part_sum plants.now part)) }
+        ≡ map view list.old.items ++ map (column_term plants.now) (part_sum plants.now part)) }
 {
     for at in 0..count(plants, part) {
         push_part(alloc, plants, list, part, at)?;
@@ -168,7 +168,7 @@ fn push_all(
 #[tactic(auto, unfolding(crate::specs::Stage::water_sum))]
 fn water_terms(alloc: Global, plants: &Plants, j: usize) -> Result<Vec<Value>, AllocError>
     ensures { IfOk result (λ list. map view list.items
-        ≡ map (term_of plants.now) (water_sum plants.now j)) }
+        ≡ map (column_term plants.now) (water_sum plants.now j)) }
 {
     let mut list = Vec::new(alloc);
     push(alloc, plants, &mut list, 1, Column::After(Store::Volume(j)))?;
@@ -208,7 +208,7 @@ fn push_way_source(
 ) -> Result<(), AllocError>
     requires { away < 4 }
     ensures { OnOk result (map view list.new.items
-        ≡ map view list.old.items ++ map (term_of plants.now) (way_source plants.now j away)) }
+        ≡ map view list.old.items ++ map (column_term plants.now) (way_source plants.now j away)) }
 {
     if away < travel(plants, j) {
         return push(
@@ -227,7 +227,7 @@ fn push_way_source(
 fn way_terms(alloc: Global, plants: &Plants, j: usize, away: u32) -> Result<Vec<Value>, AllocError>
     requires { away < 4 }
     ensures { IfOk result (λ list. map view list.items
-        ≡ map (term_of plants.now) (way_sum plants.now j away)) }
+        ≡ map (column_term plants.now) (way_sum plants.now j away)) }
 {
     let mut list = Vec::new(alloc);
     push(
@@ -261,7 +261,7 @@ pub(crate) fn way_row(
 #[tactic(auto, unfolding(crate::specs::Stage::bus_sum))]
 fn bus_terms(alloc: Global, plants: &Plants, b: usize) -> Result<Vec<Value>, AllocError>
     ensures { IfOk result (λ list. map view list.items
-        ≡ map (term_of plants.now) (bus_sum plants.now b)) }
+        ≡ map (column_term plants.now) (bus_sum plants.now b)) }
 {
     let mut list = Vec::new(alloc);
     push_all(alloc, plants, &mut list, Part::Turbined(b))?;
@@ -285,10 +285,10 @@ pub(crate) fn bus_row(alloc: Global, plants: &Plants, b: usize) -> Result<Value,
 // ---- costs
 
 /// Gives the costs of thermals and of deficits.
-#[tactic(auto, unfolding(crate::specs::Stage::cost_sum))]
+#[tactic(auto, unfolding(crate::specs::Stage::hydro_cost_sum))]
 pub(crate) fn cost_terms(alloc: Global, plants: &Plants) -> Result<Vec<Value>, AllocError>
     ensures { IfOk result (λ list. map view list.items
-        ≡ map (term_of plants.now) (cost_sum plants.now)) }
+        ≡ map (column_term plants.now) (hydro_cost_sum plants.now)) }
 {
     let mut list = Vec::new(alloc);
     push_all(alloc, plants, &mut list, Part::ThermalCost)?;

@@ -8,9 +8,9 @@ ghost use Rattle.hp_paths.specs.Paths.{numbers};
 ghost use Rattle.hp_plants.specs.Described.{IsPlants};
 ghost use Rattle.hp_hydro.specs.Layout.{all_reservoirs, all_buses, travel, stores};
 ghost use Rattle.hp_hydro.specs.Columns.{state_name, chance_name, columns};
-ghost use Rattle.hp_hydro.specs.Stage.{water_sum, bus_sum, zero_row, way_rows, rows, constraints, objective, variable_of, state, states, random_variables, program, subproblem};
+ghost use Rattle.hp_hydro.specs.Stage.{water_sum, bus_sum, zero_row, way_constraints, rows, constraints, objective, column_variable, state, states, random_variables, program, subproblem};
 ghost use Rattle.hp_hydro.specs.Chances.{chance_count};
-ghost use Rattle.hp_hydro.specs.Seen.{store_of, column_of, chance_of};
+ghost use Rattle.hp_hydro.specs.Seen.{seen_store, seen_column, chance_of};
 
 use crate::bounds::push_bounds;
 use crate::columns::{Column, Random, Store, columns, stores};
@@ -35,7 +35,7 @@ fn push_water_rows(alloc: Global, plants: &Plants, list: &mut Vec<Value>) -> Res
 }
 
 // The rows of the water under way from a reservoir.
-#[tactic(auto, unfolding(crate::specs::Stage::way_rows))]
+#[tactic(auto, unfolding(crate::specs::Stage::way_constraints))]
 fn push_way_rows(
     alloc: Global,
     plants: &Plants,
@@ -44,7 +44,7 @@ fn push_way_rows(
 ) -> Result<(), AllocError>
     requires { travel plants.now j ≤ 3 }
     ensures { OnOk result (map view list.new.items
-        ≡ map view list.old.items ++ way_rows plants.now j) }
+        ≡ map view list.old.items ++ way_constraints plants.now j) }
 {
     for k in 0..travel(plants, j) {
         list.push(way_row(alloc, plants, j, k + 1)?)?;
@@ -59,7 +59,7 @@ fn push_all_way_rows(
 ) -> Result<(), AllocError>
     requires { IsPlants plants.now }
     ensures { OnOk result (map view list.new.items
-        ≡ map view list.old.items ++ flat_map (way_rows plants.now) (all_reservoirs plants.now)) }
+        ≡ map view list.old.items ++ flat_map (way_constraints plants.now) (all_reservoirs plants.now)) }
 {
     for j in 0..plants.reservoirs.len() {
         push_way_rows(alloc, plants, list, j)?;
@@ -92,7 +92,7 @@ fn rows(alloc: Global, plants: &Plants) -> Result<Vec<Value>, AllocError>
 #[tactic(auto, unfolding(crate::specs::Stage::constraints))]
 fn constraints(alloc: Global, plants: &Plants, all: &[Column]) -> Result<Vec<Value>, AllocError>
     requires plants { IsPlants plants.now }
-    requires columns { map column_of all.now ≡ columns plants.now }
+    requires columns { map seen_column all.now ≡ columns plants.now }
     ensures { IfOk result (λ list. map view list.items ≡ constraints plants.now) }
 {
     let mut list = rows(alloc, plants)?;
@@ -104,7 +104,7 @@ fn constraints(alloc: Global, plants: &Plants, all: &[Column]) -> Result<Vec<Val
 
 fn variables(alloc: Global, plants: &Plants, columns: &[Column]) -> Result<Vec<Value>, AllocError>
     ensures { IfOk result (λ list. map view list.items
-        ≡ map (variable_of plants.now) (map column_of columns.now)) }
+        ≡ map (column_variable plants.now) (map seen_column columns.now)) }
 {
     let mut list = Vec::new(alloc);
     for column in columns {
@@ -137,7 +137,7 @@ fn program(alloc: Global, plants: &Plants) -> Result<Value, AllocError>
 // ---- states and random variables
 
 fn state(alloc: Global, plants: &Plants, store: Store) -> Result<Value, AllocError>
-    ensures { IfOk result (λ v. view v ≡ state plants.now (store_of store)) }
+    ensures { IfOk result (λ v. view v ≡ state plants.now (seen_store store)) }
 {
     let incoming = before_name(alloc, plants, store)?;
     let outgoing = after_name(alloc, plants, store)?;
@@ -150,8 +150,8 @@ fn put_state(
     store: Store,
     map: &mut Map<String, Value>,
 ) -> Result<(), AllocError>
-    ensures { OnOk result (members_view map.new.entries ≡ put (state_name plants.now (store_of store))
-        (state plants.now (store_of store)) (members_view map.old.entries)) }
+    ensures { OnOk result (members_view map.new.entries ≡ put (state_name plants.now (seen_store store))
+        (state plants.now (seen_store store)) (members_view map.old.entries)) }
 {
     let name = state_name(alloc, plants, store)?;
     let value = state(alloc, plants, store)?;
@@ -164,7 +164,7 @@ fn put_states(
     stores: &[Store],
 ) -> Result<Map<String, Value>, AllocError>
     ensures { IfOk result (λ m. members_view m.entries
-        ≡ put_by (state_name plants.now) (state plants.now) (map store_of stores.now) no_members) }
+        ≡ put_by (state_name plants.now) (state plants.now) (map seen_store stores.now) no_members) }
 {
     let mut map = Map::new(alloc);
     for store in stores {

@@ -8,18 +8,18 @@ ghost use Rattle.hp_theory.specs.Problem.{node_at};
 ghost use Rattle.hp_theory.specs.Tree.{no_branch, branch, no_tree, tree};
 ghost use Rattle.hp_hydro.specs.Made.{problem_of_plants};
 ghost use Rattle.hp_hydro.specs.PlanCost.{plan_cost};
-ghost use Rattle.hp_hydro.specs.Trees.{ahead, tree_of};
+ghost use Rattle.hp_hydro.specs.Trees.{ahead, plan_forest};
 ghost use Rattle.hp_hydro.specs.Columns.{columns, column_name};
 ghost use Rattle.hp_hydro.specs.Stage.{rows, bounds_of, states, zero_row, water_sum};
 ghost use Rattle.hp_hydro.specs.Nodes.{nodes};
-ghost use Rattle.hp_hydro.specs.Text.{root, hydro_text};
+ghost use Rattle.hp_hydro.specs.Text.{hydro_root, hydro_text};
 ghost use Rattle.hp_hydro.specs.Examples.{one_stage, one_stage_node, one_stage_text, cascade_names, cascade_rows_text, cascade_bounds_text, cascade_states_text, cascade_nodes_text, cascade_root_text, at_once_row_text, nine_plan, cascade, two_stages_node, at_once_rows, moving, still};
 
 /// The definitions' values on small descriptions.
 pub fn worked_rows()
     ensures one_stage { node_at (problem_of_plants one_stage) 0 ≡ one_stage_node }
     ensures one_stage_cost { plan_cost one_stage 2 nine_plan ≡ record { up = pos 90; under = 2 } }
-    ensures one_stage_tree { tree_of one_stage 2 nine_plan
+    ensures one_stage_tree { plan_forest one_stage 2 nine_plan
         ≡ tree (branch (pos 18 ∷ pos 0 ∷ []) no_tree no_branch) no_tree }
     ensures two_stages { node_at (problem_of_plants (cascade 2)) 0 ≡ two_stages_node }
     ensures initial { (problem_of_plants (cascade 2)).initial ≡ pos 0 ∷ pos 0 ∷ pos 5 ∷ pos 6 ∷ [] }
@@ -40,6 +40,6 @@ pub fn worked_texts()
         ≡ cascade_bounds_text }
     ensures states { compact_text (object (states (cascade 2))) ≡ cascade_states_text }
     ensures nodes { compact_text (object (nodes (cascade 2))) ≡ cascade_nodes_text }
-    ensures root { compact_text (root (cascade 2)) ≡ cascade_root_text }
+    ensures root { compact_text (hydro_root (cascade 2)) ≡ cascade_root_text }
     ensures at_once { compact_text (zero_row (cascade 0) (water_sum (cascade 0) 1)) ≡ at_once_row_text }
 {}

@@ -17,47 +17,47 @@ piece_of_front n (suc at) (suc m) [] le = refl
 piece_of_front n (suc at) (suc m) (x ∷ l) le = piece_of_front n at m l (omega (arith, le))
 
 -- the byte behind a front, and what stands behind that
-pub byte_behind : (f : List ℕ) (g : ℕ) (rest : List ℕ) (at d : ℕ) → at ≡ length f → get_or (f ++ g ∷ rest) at d ≡ g
-byte_behind [] g rest zero d is = refl
-byte_behind [] g rest (suc at) d is = absurd (omega (arith, is))
-byte_behind (x ∷ f) g rest zero d is = absurd (omega (arith, is))
-byte_behind (x ∷ f) g rest (suc at) d is = byte_behind f g rest at d (omega (arith, is))
+pub byte_behind : (f : List ℕ) (g : ℕ) (tail : List ℕ) (at d : ℕ) → at ≡ length f → get_or (f ++ g ∷ tail) at d ≡ g
+byte_behind [] g tail zero d is = refl
+byte_behind [] g tail (suc at) d is = absurd (omega (arith, is))
+byte_behind (x ∷ f) g tail zero d is = absurd (omega (arith, is))
+byte_behind (x ∷ f) g tail (suc at) d is = byte_behind f g tail at d (omega (arith, is))
 
-pub rest_behind : (f : List ℕ) (g : ℕ) (rest : List ℕ) (at : ℕ) → at ≡ length f → drop (at + 1) (f ++ g ∷ rest) ≡ rest
-rest_behind f g rest at is =
-    ap (λ (l : List ℕ). drop (at + 1) l) (sym (append_assoc f (g ∷ []) rest)) ∙ drop_at (f ++ g ∷ []) rest (at + 1) (omega (arith, is, length-append f (g ∷ [])))
+pub rest_behind : (f : List ℕ) (g : ℕ) (tail : List ℕ) (at : ℕ) → at ≡ length f → drop (at + 1) (f ++ g ∷ tail) ≡ tail
+rest_behind f g tail at is =
+    ap (λ (l : List ℕ). drop (at + 1) l) (sym (append_assoc f (g ∷ []) tail)) ∙ drop_at (f ++ g ∷ []) tail (at + 1) (omega (arith, is, length-append f (g ∷ [])))
 
 module _ (f : List ℕ) where
   -- a torn byte
-  pub torn_byte : (g : ℕ) (rest c : List ℕ) (at : ℕ) → at ≡ length f → Torn at 1 (f ++ g ∷ rest) c → (h : ℕ) × (c ≡ f ++ h ∷ rest)
-  torn_byte g rest c at is torn =
-      let long : length f < length c = omega (arith, torn.no_shorter, length-append f (g ∷ rest)) in
-      let front : take at c ≡ f = torn.before ∙ take_at f (g ∷ rest) at (sym is) in
-      let behind = rest_behind f g rest at is in
+  pub torn_byte : (g : ℕ) (tail c : List ℕ) (at : ℕ) → at ≡ length f → Torn at 1 (f ++ g ∷ tail) c → (h : ℕ) × (c ≡ f ++ h ∷ tail)
+  torn_byte g tail c at is torn =
+      let long : length f < length c = omega (arith, torn.no_shorter, length-append f (g ∷ tail)) in
+      let front : take at c ≡ f = torn.before ∙ take_at f (g ∷ tail) at (sym is) in
+      let behind = rest_behind f g tail at is in
       let h = get_or c at 0 in
-      let back : drop at c ≡ h ∷ rest = drop_more c at 0 (omega (arith, long, is)) ∙ ap (λ (l : List ℕ). h ∷ l) (torn.after ∙ behind) in
+      let back : drop at c ≡ h ∷ tail = drop_more c at 0 (omega (arith, long, is)) ∙ ap (λ (l : List ℕ). h ∷ l) (torn.after ∙ behind) in
       (h, sym (take-append-drop at c) ∙ ap (λ (l : List ℕ). l ++ drop at c) front ∙ ap (λ (l : List ℕ). f ++ l) back)
 
   -- a torn piece behind the last byte
-  pub torn_end : (g : ℕ) (c : List ℕ) (at n : ℕ) → at ≡ length f → Torn (at + 1) n (f ++ g ∷ []) c → (rest : List ℕ) × (c ≡ f ++ g ∷ rest)
+  pub torn_end : (g : ℕ) (c : List ℕ) (at n : ℕ) → at ≡ length f → Torn (at + 1) n (f ++ g ∷ []) c → (tail : List ℕ) × (c ≡ f ++ g ∷ tail)
   torn_end g c at n is torn =
       let front : take (at + 1) c ≡ f ++ g ∷ [] = torn.before ∙ take_all (at + 1) (f ++ g ∷ []) (omega (arith, is, length-append f (g ∷ []))) in
       (drop (at + 1) c, sym (take-append-drop (at + 1) c) ∙ ap (λ (l : List ℕ). l ++ drop (at + 1) c) front ∙ append_assoc f (g ∷ []) (drop (at + 1) c))
 
   -- a cut behind a byte
-  pub cut_rest : (g : ℕ) (rest c : List ℕ) (at : ℕ) → at ≡ length f → Cut (at + 1) (f ++ g ∷ rest) c → (left : List ℕ) × (c ≡ f ++ g ∷ left)
-  cut_rest g rest c at is cut =
-      let split : f ++ g ∷ rest ≡ (f ++ g ∷ []) ++ rest = sym (append_assoc f (g ∷ []) rest) in
-      let long : at + 1 ≤ length c = omega (arith, cut.no_shorter, is, length-append f (g ∷ rest)) in
+  pub cut_rest : (g : ℕ) (tail c : List ℕ) (at : ℕ) → at ≡ length f → Cut (at + 1) (f ++ g ∷ tail) c → (left : List ℕ) × (c ≡ f ++ g ∷ left)
+  cut_rest g tail c at is cut =
+      let split : f ++ g ∷ tail ≡ (f ++ g ∷ []) ++ tail = sym (append_assoc f (g ∷ []) tail) in
+      let long : at + 1 ≤ length c = omega (arith, cut.no_shorter, is, length-append f (g ∷ tail)) in
       let n = length c in
-      let front : take (at + 1) c ≡ f ++ g ∷ [] = ap (λ (l : List ℕ). take (at + 1) l) (sym cut.front) ∙ take_less (at + 1) n (f ++ g ∷ rest) long ∙ ap (λ (l : List ℕ). take (at + 1) l) split ∙ take_at (f ++ g ∷ []) rest (at + 1) (omega (arith, is, length-append f (g ∷ []))) in
+      let front : take (at + 1) c ≡ f ++ g ∷ [] = ap (λ (l : List ℕ). take (at + 1) l) (sym cut.front) ∙ take_less (at + 1) n (f ++ g ∷ tail) long ∙ ap (λ (l : List ℕ). take (at + 1) l) split ∙ take_at (f ++ g ∷ []) tail (at + 1) (omega (arith, is, length-append f (g ∷ []))) in
       (drop (at + 1) c, sym (take-append-drop (at + 1) c) ∙ ap (λ (l : List ℕ). l ++ drop (at + 1) c) front ∙ append_assoc f (g ∷ []) (drop (at + 1) c))
 
   -- a byte is written over
-  pub written_byte : (g h : ℕ) (rest : List ℕ) (at : ℕ) → at ≡ length f → written (f ++ g ∷ rest) at (h ∷ []) ≡ f ++ h ∷ rest
-  written_byte g h rest at is =
-      let behind = rest_behind f g rest at is in
-      append_assoc (take at (f ++ g ∷ rest)) (h ∷ []) (drop (at + 1) (f ++ g ∷ rest)) ∙ ap (λ (l : List ℕ). l ++ h ∷ drop (at + 1) (f ++ g ∷ rest)) (take_at f (g ∷ rest) at (sym is)) ∙ ap (λ (l : List ℕ). f ++ h ∷ l) behind
+  pub written_byte : (g h : ℕ) (tail : List ℕ) (at : ℕ) → at ≡ length f → written (f ++ g ∷ tail) at (h ∷ []) ≡ f ++ h ∷ tail
+  written_byte g h tail at is =
+      let behind = rest_behind f g tail at is in
+      append_assoc (take at (f ++ g ∷ tail)) (h ∷ []) (drop (at + 1) (f ++ g ∷ tail)) ∙ ap (λ (l : List ℕ). l ++ h ∷ drop (at + 1) (f ++ g ∷ tail)) (take_at f (g ∷ tail) at (sym is)) ∙ ap (λ (l : List ℕ). f ++ h ∷ l) behind
 
   -- a piece is written behind the last byte
   pub written_end : (g : ℕ) (piece : List ℕ) (at : ℕ) → at ≡ length f → written (f ++ g ∷ []) (at + 1) piece ≡ f ++ g ∷ piece

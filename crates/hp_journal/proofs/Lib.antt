@@ -1,5 +1,5 @@
 pub mod Bytes
-pub mod GatesRead
+pub mod CommitBytesRead
 pub mod Growing
 pub mod HeadsRead
 pub mod Newborn

@@ -1,6 +1,6 @@
 pub mod Causes
-pub mod Gates
+pub mod CommitBytes
 pub mod Head
 pub mod Layout
-pub mod Mine
+pub mod IsPrefix
 pub mod Versions

@@ -1,8 +1,8 @@
 // The head of a journal: whose records it holds.
-ghost use Rattle.std.specs.Prelude.{◌≡◌, ◌≢◌, ◌⊎◌, ◌≤◌, ◌<◌, ℕ, length, take, min, IsTrue, IfOk, IfSome, Err, ⊤};
+ghost use Rattle.std.specs.Prelude.{◌≡◌, ◌≢◌, ◌⊎◌, ◌≤◌, ◌<◌, length, take, min, IfOk, IfSome, Err};
 ghost use Rattle.hp_outside.specs.Causes.{HasCause};
 ghost use Rattle.hp_outside.specs.Disks.{Stays};
-ghost use Rattle.hp_journal.specs.Head.{head_at, head_of, title_at, is_unborn, is_whole_head, has_magic, digest_of};
+ghost use Rattle.hp_journal.specs.Head.{head_at, head_of, title_at, is_uncommitted, is_whole_head, has_magic, digest_of};
 ghost use Rattle.hp_journal.specs.Causes.{DiskCause};
 ghost use Rattle.hp_journal.specs.declared.head.HeadFault.TheVariants.{DiskFault};
 ghost use Rattle.hp_journal.specs.Versions.{IsKnown};
@@ -11,19 +11,19 @@ use hp_num::big_endian::{u16_at, u64_at};
 use hp_outside::{Disk, Failed};
 use thiserror::Error;
 
-/// HYDPLAN1, the bytes that follow the birth byte.
+/// HYDPLAN1, the bytes that follow the header's commit byte.
 pub(crate) const MAGIC: [u8; 8] = [72, 89, 68, 80, 76, 65, 78, 49];
 
 /// The head of a file that may become a journal, or is one.
 #[derive(Clone, Copy, Debug, PartialEq, Eq)]
 pub enum Head {
-    /// Not born yet: a file of this length that holds no record and never did.
-    Unborn {
+    /// Not committed yet: a file of this length that holds no record and never did.
+    Uncommitted {
         length: u64,
     },
     /// Born: its version, the SHA-256 of its problem's bytes, its seed, and how many paths an iteration has
     /// (1 to 64; 1 in version 1).
-    Born {
+    Committed {
         version: u16,
         digest: [u8; 32],
         seed: u64,
@@ -94,8 +94,8 @@ fn head_from(bytes: &[u8], len: u64) -> Result<Head, HeadFault>
     ensures known { IfOk result IsKnown }
     ensures own { result ≢ Err DiskFault }
 {
-    if unborn(bytes, len) {
-        return Ok(Head::Unborn { length: len });
+    if uncommitted(bytes, len) {
+        return Ok(Head::Uncommitted { length: len });
     }
     if len < 9 || bytes[0] != 1 || !magic(bytes) {
         return Err(HeadFault::NotAJournal);
@@ -123,10 +123,10 @@ fn whole_head(bytes: &[u8], len: u64) -> bool
         || (len == 54 && magic(bytes) && u16_at(bytes, 9) == 2 && bytes[53] == 0)
 }
 
-#[tactic(auto, unfolding(crate::specs::Head::is_unborn))]
-fn unborn(bytes: &[u8], len: u64) -> bool
+#[tactic(auto, unfolding(crate::specs::Head::is_uncommitted))]
+fn uncommitted(bytes: &[u8], len: u64) -> bool
     requires { length bytes.now ≡ min len 54 }
-    ensures value { result ≡ is_unborn bytes.now len }
+    ensures value { result ≡ is_uncommitted bytes.now len }
 {
     len <= 1
         || (bytes[0] == 0 && len <= 54)
@@ -143,7 +143,7 @@ fn digest(bytes: &[u8]) -> [u8; 32]
     digest
 }
 
-// Reads the head, given its magic and a birth byte of 1.
+// Reads the head, given its magic and a header's commit byte of 1.
 #[tactic(auto, unfolding(crate::specs::Head::title_at))]
 fn title(bytes: &[u8], len: u64) -> Result<Head, HeadFault>
     requires long { 52 ≤ len }
@@ -156,7 +156,7 @@ fn title(bytes: &[u8], len: u64) -> Result<Head, HeadFault>
     let digest = digest(bytes);
     let seed = u64_at(bytes, 43);
     if version == 1 {
-        return Ok(Head::Born {
+        return Ok(Head::Committed {
             version,
             digest,
             seed,
@@ -173,7 +173,7 @@ fn title(bytes: &[u8], len: u64) -> Result<Head, HeadFault>
     if batch == 0 || batch > 64 {
         return Err(HeadFault::BadBatch { batch });
     }
-    Ok(Head::Born {
+    Ok(Head::Committed {
         version,
         digest,
         seed,

@@ -21,7 +21,7 @@ pub fn put<D: Disk>(disk: &mut D, at: u64, piece: &[u8]) -> Result<(), Failed>
     ensures reads { OnOk result ((D.store disk.new).reads
         ≡ option_map (λ bytes. written bytes at piece.now) (D.store disk.old).reads) }
     ensures quiet { OnOk result (Quiet (D.store disk.new)) }
-    ensures tells { is_some (D.store disk.new).reads ≡ is_some (D.store disk.old).reads }
+    ensures observable { is_some (D.store disk.new).reads ≡ is_some (D.store disk.old).reads }
     ensures cause { HasCause (D.faults disk.old) (D.faults disk.new) result }
 {
     disk.write_at(at, piece)?;
@@ -41,7 +41,7 @@ pub fn cut_to<D: Disk>(disk: &mut D, len: u64) -> Result<(), Failed>
     ensures reads { OnOk result ((D.store disk.new).reads
         ≡ option_map (take len) (D.store disk.old).reads) }
     ensures quiet { OnOk result (Quiet (D.store disk.new)) }
-    ensures tells { is_some (D.store disk.new).reads ≡ is_some (D.store disk.old).reads }
+    ensures observable { is_some (D.store disk.new).reads ≡ is_some (D.store disk.old).reads }
     ensures cause { HasCause (D.faults disk.old) (D.faults disk.new) result }
 {
     disk.cut(len)?;

@@ -2,7 +2,7 @@
 use Rattle.std.proofs.Common.{◌≡◌, ℕ, ◌+◌, ◌≤◌, ◌<◌, true, List, [], ◌∷◌, ◌++◌, length, All, None, sym, ap, subst, ◌∙◌, length-append, arith}
 use Rattle.std.proofs.lemmas.List.{length-set}
 use Rattle.std.proofs.lemmas.List.Elements.{All-push}
-use Rattle.hp_problem.specs.Sealed.{Sealed, is_sealed}
+use Rattle.hp_problem.specs.Validated.{Validated, is_validated}
 use Rattle.hp_theory.specs.declared.cut.Cut.{Cut}
 use Rattle.hp_theory.specs.Problem.{Problem, node_at}
 use Rattle.hp_theory.specs.Pools.{pool, push, Holds, Sound}
@@ -11,7 +11,7 @@ use Rattle.hp_theory.specs.View.{problem_of}
 use Rattle.hp_theory.proofs.Appending.{push_at, push_sound, kept_some}
 use Rattle.hp_theory.proofs.Duality.{weak_duality}
 use Rattle.hp_theory.proofs.SizeToFit.{size_to_fit}
-use Rattle.hp_theory.proofs.SealedPremises.{shaped-sealed, narrow-sealed}
+use Rattle.hp_theory.proofs.ValidatedPremises.{shaped-validated, narrow-validated}
 use Rattle.hp_cut.specs.AtNodes.{PoolsFit}
 use Rattle.hp_cut.specs.declared.entry.EntryStep.{EntryStep}
 use Rattle.hp_dual.proofs.Accepted.{right-fault_of, size-fault_of}
@@ -31,17 +31,17 @@ push_count pools m c k =
     push_at pools m k c (λ cs. length cs ≤ length (pool pools k) + here m k) (omega arith)
     (λ e. omega (arith, length-append (pool pools m) (c ∷ []), here_same m k (sym e), ap (λ (j : ℕ). length (pool pools j)) e))
 
-module _ (p : Sealed) (sealed : is_sealed p ≡ true) (pools : List (List Cut)) (s : EntryStep) (known : s.node < length p.raw.nodes) (none : fault_of_step p pools s ≡ None) where
+module _ (p : Validated) (validated : is_validated p ≡ true) (pools : List (List Cut)) (s : EntryStep) (known : s.node < length p.parts.nodes) (none : fault_of_step p pools s ≡ None) where
   cut_fits : CutFits (node_at (problem_of p) s.node) (cut_of_step p pools s)
   cut_fits =
-      let shaped = shaped-sealed p s.node sealed known in
-      size_to_fit pools (node_at (problem_of p) s.node) s.list shaped.successors shaped.realizations (narrow-sealed p s.node sealed known) (size-fault_of pools (node_at (problem_of p) s.node) s.list none)
+      let shaped = shaped-validated p s.node validated known in
+      size_to_fit pools (node_at (problem_of p) s.node) s.list shaped.successors shaped.realizations (narrow-validated p s.node validated known) (size-fault_of pools (node_at (problem_of p) s.node) s.list none)
 
   cut_holds : Sound (problem_of p) pools → Holds (problem_of p) s.node (cut_of_step p pools s)
-  cut_holds sound = weak_duality (problem_of p) pools s.node s.list (shaped-sealed p s.node sealed known) sound (right-fault_of pools (node_at (problem_of p) s.node) s.list none)
+  cut_holds sound = weak_duality (problem_of p) pools s.node s.list (shaped-validated p s.node validated known) sound (right-fault_of pools (node_at (problem_of p) s.node) s.list none)
 
   pub fit_more : PoolsFit p pools → PoolsFit p (push pools s.node (cut_of_step p pools s))
-  fit_more fit = push_fit (problem_of p) (length p.raw.nodes) pools s.node (cut_of_step p pools s) fit cut_fits
+  fit_more fit = push_fit (problem_of p) (length p.parts.nodes) pools s.node (cut_of_step p pools s) fit cut_fits
 
   pub sound_more : Sound (problem_of p) pools → Sound (problem_of p) (push pools s.node (cut_of_step p pools s))
   sound_more sound = push_sound (problem_of p) pools s.node (cut_of_step p pools s) sound (cut_holds sound)

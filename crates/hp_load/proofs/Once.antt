@@ -5,7 +5,7 @@ use Rattle.std.proofs.lemmas.Bool.Decides.{nat_tests}
 use Rattle.hp_num.proofs.Tests.{and_first, and_second}
 use Rattle.hp_paths.specs.Ranks.{rank}
 use Rattle.hp_paths.proofs.Falling.{rank_falls}
-use Rattle.hp_problem.specs.Sealed.{Sealed, graph_of}
+use Rattle.hp_problem.specs.Validated.{Validated, graph_of}
 use Rattle.hp_cut.specs.declared.entry.EntryStep.{EntryStep}
 use Rattle.hp_record.specs.Shape.{may_stand, is_path_backwards}
 use Rattle.hp_record.proofs.LongestPath.{Graph, led}
@@ -26,15 +26,15 @@ abbrev pub times : ℕ → List EntryStep → ℕ
 times m [] = 0
 times m (s ∷ ss) = here s.node m + times m ss
 
-module _ (p : Sealed) (g : Graph p) (m : ℕ) where
+module _ (p : Validated) (g : Graph p) (m : ℕ) where
   -- behind a node of the same rank or a higher one it does not stand
-  none : (k : ℕ) (ss : List EntryStep) → is_path_backwards p (Some k) ss ≡ true → rank (graph_of p.raw) m ≤ rank (graph_of p.raw) k → times m ss ≡ 0
+  none : (k : ℕ) (ss : List EntryStep) → is_path_backwards p (Some k) ss ≡ true → rank (graph_of p.parts) m ≤ rank (graph_of p.parts) k → times m ss ≡ 0
   none k [] path low = refl
   none k (s ∷ ss) path low =
       let stands : may_stand p (Some k) (length ss == 0) s.node ≡ true = and_first (may_stand p (Some k) (length ss == 0) s.node) (is_path_backwards p (Some s.node) ss) path in
       let later : is_path_backwards p (Some s.node) ss ≡ true = and_second (may_stand p (Some k) (length ss == 0) s.node) (is_path_backwards p (Some s.node) ss) path in
-      let falls = rank_falls (graph_of p.raw) s.node k g.known g.acyclic (led p k (length ss == 0) s.node stands) in
-      let other : here s.node m ≡ 0 = here_other s.node m (λ e. absurd (omega (arith, low, falls, ap (rank (graph_of p.raw)) e))) in
+      let falls = rank_falls (graph_of p.parts) s.node k g.known g.acyclic (led p k (length ss == 0) s.node stands) in
+      let other : here s.node m ≡ 0 = here_other s.node m (λ e. absurd (omega (arith, low, falls, ap (rank (graph_of p.parts)) e))) in
       omega (arith, other, none s.node ss later (omega (arith, low, falls)))
 
   pub once : (before : Option ℕ) (ss : List EntryStep) → is_path_backwards p before ss ≡ true → times m ss ≤ 1
@@ -46,11 +46,11 @@ module _ (p : Sealed) (g : Graph p) (m : ℕ) where
       by : (b : Bool) → (s.node == m) ≡ b → is_path_backwards p (Some s.node) ss ≡ true → times m ss ≤ 1 → (if b then 1 else 0) + times m ss ≤ 1
       by true e later few =
           let same : s.node ≡ m = grind (arith, nat_tests) in
-          omega (arith, none s.node ss later (omega (arith, ap (rank (graph_of p.raw)) same)))
+          omega (arith, none s.node ss later (omega (arith, ap (rank (graph_of p.parts)) same)))
       by false e later few = omega (arith, few)
 
 -- each step is at a node of the problem
-pub known_steps : (p : Sealed) (before : Option ℕ) (ss : List EntryStep) → is_path_backwards p before ss ≡ true → AllByRecursion (λ (s : EntryStep). s.node < length p.raw.nodes) ss
+pub known_steps : (p : Validated) (before : Option ℕ) (ss : List EntryStep) → is_path_backwards p before ss ≡ true → AllByRecursion (λ (s : EntryStep). s.node < length p.parts.nodes) ss
 known_steps p before [] path = tt
 known_steps p before (s ∷ ss) path = (
   is_node p before (length ss == 0) s.node (and_first (may_stand p before (length ss == 0) s.node) (is_path_backwards p (Some s.node) ss) path),

@@ -3,13 +3,13 @@ use Rattle.std.proofs.Common.{◌≡◌, ℕ, suc, ◌+◌, ◌*◌, ◌≤◌, 
 use Rattle.std.specs.List.{AllByRecursion, sum_by}
 use Rattle.std.proofs.lemmas.List.Elements.{All-push}
 use Rattle.std.proofs.lemmas.List.Sums.{sum_by-cons}
-use Rattle.hp_problem.specs.Sealed.{Sealed, is_sealed}
+use Rattle.hp_problem.specs.Validated.{Validated, is_validated}
 use Rattle.hp_theory.specs.declared.cut.Cut.{Cut}
 use Rattle.hp_theory.specs.Pools.{Sound}
 use Rattle.hp_theory.specs.Bound.{bound, Under}
 use Rattle.hp_theory.specs.View.{problem_of}
 use Rattle.hp_theory.proofs.BoundBelow.{sound_bound}
-use Rattle.hp_theory.proofs.SealedPremises.{root_shaped-sealed}
+use Rattle.hp_theory.proofs.ValidatedPremises.{root_shaped-validated}
 use Rattle.hp_cut.specs.AtNodes.{PoolsFit}
 use Rattle.hp_cut.specs.declared.entry.Entry.{Entry}
 use Rattle.hp_cut.proofs.Weighted.{have_cuts-fit}
@@ -18,37 +18,37 @@ use Rattle.hp_record.specs.Backwards.{IsPathFromRoot, nodes_back}
 use Rattle.hp_record.proofs.PathsBackwards.{path_from_backwards}
 use Rattle.hp_record.proofs.Room.{all_weaker}
 use Rattle.hp_load.specs.Cuts.{entries_added}
-use Rattle.hp_load.specs.Records.{Found, fresh, record_added, lists_added}
+use Rattle.hp_load.specs.Records.{Found, fresh_found, record_added, lists_added}
 use Rattle.hp_load.specs.Accepted.{IsRecord, Accepted, IsSound}
 use Rattle.hp_load.proofs.Binding.{bind_ok, bind_on, same_ok}
 use Rattle.hp_load.proofs.Adding.{entries_fit, entries_sound, entries_count}
 
--- the numbers of unsettled solves that entries state
-few_unsettled : (es : List Entry) → AllByRecursion EntryFits es → sum_by (λ (e : Entry). e.unsettled) es ≤ length es * 2 ^ 32
-few_unsettled [] fits = omega arith
-few_unsettled (e ∷ es) fits = omega (arith, fits.0.unsettled, few_unsettled es fits.1, sum_by-cons (λ (x : Entry). x.unsettled) e es)
+-- the numbers of unanswered solves that entries state
+few_unanswered : (es : List Entry) → AllByRecursion EntryFits es → sum_by (λ (e : Entry). e.unanswered) es ≤ length es * 2 ^ 32
+few_unanswered [] fits = omega arith
+few_unanswered (e ∷ es) fits = omega (arith, fits.0.unanswered, few_unanswered es fits.1, sum_by-cons (λ (x : Entry). x.unanswered) e es)
 
 -- a record more
-module _ (p : Sealed) (sealed : is_sealed p ≡ true) (batch i : ℕ) (es : List Entry) (is_batch : IsBatch p (suc i) batch es) (few : batch ≤ 64) where
+module _ (p : Validated) (validated : is_validated p ≡ true) (batch i : ℕ) (es : List Entry) (is_batch : IsBatch p (suc i) batch es) (few : batch ≤ 64) where
   with_pools : (found : Found) (pools : List (List Cut)) → IsSound p batch i found → entries_added p found.pools es ≡ Ok pools
-      → IsSound p batch (suc i) (record { pools = pools; bounds = found.bounds ++ bound (problem_of p) pools ∷ []; unsettled = found.unsettled + sum_by (λ (e : Entry). e.unsettled) es })
+      → IsSound p batch (suc i) (record { pools = pools; bounds = found.bounds ++ bound (problem_of p) pools ∷ []; unanswered = found.unanswered + sum_by (λ (e : Entry). e.unanswered) es })
   with_pools found pools s added =
-      let fit : PoolsFit p pools = entries_fit p sealed found.pools pools es is_batch.each s.fit added in
-      let sound : Sound (problem_of p) pools = entries_sound p sealed found.pools pools es is_batch.each s.sound added in
-      let under = sound_bound (problem_of p) pools (root_shaped-sealed p sealed) (have_cuts-fit p pools sealed fit) sound in
+      let fit : PoolsFit p pools = entries_fit p validated found.pools pools es is_batch.each s.fit added in
+      let sound : Sound (problem_of p) pools = entries_sound p validated found.pools pools es is_batch.each s.sound added in
+      let under = sound_bound (problem_of p) pools (root_shaped-validated p validated) (have_cuts-fit p pools validated fit) sound in
       record {
         sound = sound;
         fit = fit;
         under = All-push (Under (problem_of p)) found.bounds (bound (problem_of p) pools) s.under under;
         count = omega (arith, length-append found.bounds (bound (problem_of p) pools ∷ []), s.count);
-        cuts = λ m. omega (arith, entries_count p sealed found.pools pools es m is_batch.each added, s.cuts m, is_batch.counted);
-        unsettled = omega (arith, few_unsettled es is_batch.numbers, is_batch.counted, few, s.unsettled);
+        cuts = λ m. omega (arith, entries_count p validated found.pools pools es m is_batch.each added, s.cuts m, is_batch.counted);
+        unanswered = omega (arith, few_unanswered es is_batch.numbers, is_batch.counted, few, s.unanswered);
       }
 
   pub record_sound : (found next : Found) → IsSound p batch i found → record_added p found es ≡ Ok next → IsSound p batch (suc i) next
   unfolding record_added
   record_sound found next s e =
-      let b = bind_ok (entries_added p found.pools es) (λ pools. Ok (record { pools = pools; bounds = found.bounds ++ bound (problem_of p) pools ∷ []; unsettled = found.unsettled + sum_by (λ (e : Entry). e.unsettled) es })) next e in
+      let b = bind_ok (entries_added p found.pools es) (λ pools. Ok (record { pools = pools; bounds = found.bounds ++ bound (problem_of p) pools ∷ []; unanswered = found.unanswered + sum_by (λ (e : Entry). e.unanswered) es })) next e in
       subst (IsSound p batch (suc i)) (same_ok _ next b.2) (with_pools found b.0 s b.1)
 
   pub is_record : IsRecord p es
@@ -58,7 +58,7 @@ module _ (p : Sealed) (sealed : is_sealed p ≡ true) (batch i : ℕ) (es : List
   }
 
 -- lists of entries with one more
-pub lists_more : (p : Sealed) (found a b : Found) (lists : List (List Entry)) (es : List Entry) → lists_added p found lists ≡ Ok a → record_added p a es ≡ Ok b → lists_added p found (lists ++ es ∷ []) ≡ Ok b
+pub lists_more : (p : Validated) (found a b : Found) (lists : List (List Entry)) (es : List Entry) → lists_added p found lists ≡ Ok a → record_added p a es ≡ Ok b → lists_added p found (lists ++ es ∷ []) ≡ Ok b
 unfolding lists_added
 lists_more p found a b [] es e h =
     let same : found ≡ a = same_ok found a e in
@@ -71,9 +71,9 @@ all_more : {A : Type 0} (P : A → Type 0) (xs : List A) (x : A) → AllByRecurs
 all_more P [] x all has = (has, tt)
 all_more P (y ∷ xs) x all has = (all.0, all_more P xs x all.1 has)
 
-pub accepted_more : (p : Sealed) (base : List (List Cut)) (lists : List (List Entry)) (es : List Entry) (found next : Found) → length lists < 2000 → Accepted p base lists found → IsRecord p es → record_added p found es ≡ Ok next → Accepted p base (lists ++ es ∷ []) next
+pub accepted_more : (p : Validated) (base : List (List Cut)) (lists : List (List Entry)) (es : List Entry) (found next : Found) → length lists < 2000 → Accepted p base lists found → IsRecord p es → record_added p found es ≡ Ok next → Accepted p base (lists ++ es ∷ []) next
 accepted_more p base lists es found next few a is e = record {
   few = omega (arith, length-append lists (es ∷ []), few);
   records = all_more (IsRecord p) lists es a.records is;
-  added = lists_more p (fresh base) found next lists es a.added e;
+  added = lists_more p (fresh_found base) found next lists es a.added e;
 }

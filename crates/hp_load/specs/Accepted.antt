@@ -1,7 +1,7 @@
 -- Lists of entries that are accepted over base cuts, and the properties of everything that is loaded.
 use Rattle.std.specs.Prelude.{◌≡◌, ◌⊎◌, ◌≤◌, ◌+◌, ◌*◌, ◌^◌, ℕ, List, length, All, Ok}
 use Rattle.std.specs.List.{AllByRecursion}
-use Rattle.hp_problem.specs.Sealed.{Sealed}
+use Rattle.hp_problem.specs.Validated.{Validated}
 use Rattle.hp_theory.specs.declared.cut.Cut.{Cut}
 use Rattle.hp_theory.specs.Pools.{pool, Sound}
 use Rattle.hp_theory.specs.Bound.{Under}
@@ -10,22 +10,22 @@ use Rattle.hp_cut.specs.AtNodes.{PoolsFit}
 use Rattle.hp_cut.specs.declared.entry.Entry.{Entry}
 use Rattle.hp_record.specs.Backwards.{IsPathFromRoot, nodes_back}
 use Rattle.hp_load.specs.declared.loaded.Loaded.{Loaded}
-use Rattle.hp_load.specs.Records.{Found, fresh, lists_added}
+use Rattle.hp_load.specs.Records.{Found, fresh_found, lists_added}
 
 -- at most 64 entries, and the nodes of each, read backwards, are a path from the root
-pub record IsRecord (p : Sealed) (entries : List Entry) : Type 0 where
+pub record IsRecord (p : Validated) (entries : List Entry) : Type 0 where
   pub few : length entries ≤ 64
   pub paths : AllByRecursion (λ (e : Entry). IsPathFromRoot p (nodes_back e.steps)) entries
 
 -- At most 2,000 such lists, of which all steps are accepted one after the other over the base cuts, each with its cut appended; and their
 -- findings.
-pub record Accepted (p : Sealed) (base : List (List Cut)) (lists : List (List Entry)) (found : Found) : Type 0 where
+pub record Accepted (p : Validated) (base : List (List Cut)) (lists : List (List Entry)) (found : Found) : Type 0 where
   pub few : length lists ≤ 2000
   pub records : AllByRecursion (IsRecord p) lists
-  pub added : lists_added p (fresh base) lists ≡ Ok found
+  pub added : lists_added p (fresh_found base) lists ≡ Ok found
 
 -- the findings of records over base cuts, with so many paths to a record, after i of them
-pub record IsSound (p : Sealed) (batch i : ℕ) (found : Found) : Type 0 where
+pub record IsSound (p : Validated) (batch i : ℕ) (found : Found) : Type 0 where
   -- each cut holds at its node
   pub sound : Sound (problem_of p) found.pools
   -- no number that is computed from the cuts leaves 128 bits
@@ -35,10 +35,10 @@ pub record IsSound (p : Sealed) (batch i : ℕ) (found : Found) : Type 0 where
   pub count : length found.bounds ≡ i
   -- the base cut, and at most one for each path
   pub cuts : (m : ℕ) → length (pool found.pools m) ≤ 1 + i * batch
-  pub unsettled : found.unsettled ≤ i * 2 ^ 38
+  pub unanswered : found.unanswered ≤ i * 2 ^ 38
 
 -- the properties of everything that is loaded, over any disk
-pub record IsSafe (p : Sealed) (l : Loaded) : Type 0 where
+pub record IsSafe (p : Validated) (l : Loaded) : Type 0 where
   -- each cut holds at its node
   pub sound : Sound (problem_of p) l.pools.lists
   -- no number that is computed from the cuts leaves 128 bits
@@ -50,4 +50,4 @@ pub record IsSafe (p : Sealed) (l : Loaded) : Type 0 where
   pub cuts : (m : ℕ) → length (pool l.pools.lists m) ≤ 1 + length l.bounds * l.batch
   pub version : ((l.version ≡ 1) × (l.batch ≡ 1)) ⊎ ((l.version ≡ 2) × (1 ≤ l.batch) × (l.batch ≤ 64))
   pub end : l.end ≤ 2 ^ 38
-  pub unsettled : l.unsettled ≤ 2 ^ 50
+  pub unanswered : l.unanswered ≤ 2 ^ 50

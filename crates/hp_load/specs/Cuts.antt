@@ -1,7 +1,7 @@
 -- The cuts that the steps of entries add to pools.
 use Rattle.std.specs.Prelude.{ℕ, List, [], ◌∷◌, Option, Some, None, Result, Ok, Err}
 pub use Rattle.hp_num.specs.Steps.{◌>>=◌}
-use Rattle.hp_problem.specs.Sealed.{Sealed}
+use Rattle.hp_problem.specs.Validated.{Validated}
 use Rattle.hp_theory.specs.declared.cut.Cut.{Cut}
 use Rattle.hp_theory.specs.Problem.{node_at}
 use Rattle.hp_theory.specs.Pools.{push}
@@ -9,18 +9,18 @@ use Rattle.hp_theory.specs.CutOf.{cut_of}
 use Rattle.hp_theory.specs.View.{problem_of}
 use Rattle.hp_cut.specs.declared.entry.Entry.{Entry}
 use Rattle.hp_cut.specs.declared.entry.EntryStep.{EntryStep}
-use Rattle.hp_dual.specs.declared.fault.CertFault.{CertFault}
-use Rattle.hp_dual.specs.Acceptance.{fault_of}
+use Rattle.hp_cut_making.specs.declared.fault.CertFault.{CertFault}
+use Rattle.hp_cut_making.specs.Acceptance.{fault_of}
 use Rattle.hp_load.specs.declared.refusal.JournalRefusal.TheVariants.{BadCertificate}
 use Rattle.hp_load.specs.declared.refusal.LoadFault.{LoadFault}
 use Rattle.hp_load.specs.declared.refusal.LoadFault.TheVariants.{Refused}
 
 -- the cut of a step's certificates over these pools
-abbrev pub cut_of_step : Sealed → List (List Cut) → EntryStep → Cut
+abbrev pub cut_of_step : Validated → List (List Cut) → EntryStep → Cut
 cut_of_step p pools s = cut_of pools (node_at (problem_of p) s.node) s.list
 
 -- the first fault of a step's certificates over these pools
-abbrev pub fault_of_step : Sealed → List (List Cut) → EntryStep → Option CertFault
+abbrev pub fault_of_step : Validated → List (List Cut) → EntryStep → Option CertFault
 fault_of_step p pools s = fault_of pools (node_at (problem_of p) s.node) s.list
 
 -- the pools with the cut, unless there is a fault
@@ -29,18 +29,18 @@ unless_fault k m None pools = Ok pools
 unless_fault k m (Some fault) pools = Err (Refused (BadCertificate k m fault))
 
 -- the pools with the cut of a step of iteration k behind the others of its node, where its certificates are accepted
-unfoldable pub step_added : Sealed → ℕ → List (List Cut) → EntryStep → Result (List (List Cut)) LoadFault
+unfoldable pub step_added : Validated → ℕ → List (List Cut) → EntryStep → Result (List (List Cut)) LoadFault
 step_added p k pools s = unless_fault k s.node (fault_of_step p pools s) (push pools s.node (cut_of_step p pools s))
 
 -- one step after the other, each over the cuts of those before it
-unfoldable pub steps_added : Sealed → ℕ → List (List Cut) → List EntryStep → Result (List (List Cut)) LoadFault
+unfoldable pub steps_added : Validated → ℕ → List (List Cut) → List EntryStep → Result (List (List Cut)) LoadFault
 steps_added p k pools [] = Ok pools
 steps_added p k pools (s ∷ ss) = do
   next ← step_added p k pools s
   steps_added p k next ss
 
 -- one entry after the other
-unfoldable pub entries_added : Sealed → List (List Cut) → List Entry → Result (List (List Cut)) LoadFault
+unfoldable pub entries_added : Validated → List (List Cut) → List Entry → Result (List (List Cut)) LoadFault
 entries_added p pools [] = Ok pools
 entries_added p pools (e ∷ es) = do
   next ← steps_added p e.iteration pools e.steps

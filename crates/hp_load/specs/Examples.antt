@@ -1,17 +1,15 @@
 -- A small problem and its journals, worked out by hand.
-use Rattle.std.specs.Prelude.{ℕ, ℤ, pos, List, [], ◌∷◌, ◌++◌, Some, None, replicate}
-use Rattle.hp_problem.specs.declared.raw.Decision.{Decision}
-use Rattle.hp_problem.specs.declared.raw.Node.{Node}
-use Rattle.hp_problem.specs.declared.raw.Row.{Row}
-use Rattle.hp_problem.specs.declared.raw.Subproblem.{Subproblem}
-use Rattle.hp_problem.specs.Sealed.{Sealed}
+use Rattle.std.specs.Prelude.{ℕ, ℤ, pos, List, [], ◌∷◌, Some, None, replicate}
+use Rattle.hp_parts.specs.declared.parts.Node.{Node}
+use Rattle.hp_parts.specs.declared.parts.Subproblem.{Subproblem}
+use Rattle.hp_problem.specs.Validated.{Validated}
 use Rattle.hp_theory.specs.declared.cut.Cut.{Cut}
 use Rattle.hp_cut.specs.declared.entry.Entry.{Entry}
 use Rattle.hp_journal.specs.Layout.{Title, journal}
 
 -- one decision u in [0, 10] of cost 2, and the row u ≥ 3
-abbrev stage : Subproblem
-stage = record {
+abbrev loaded_stage_example : Subproblem
+loaded_stage_example = record {
   decisions = record { name = []; low = pos 0; high = pos 10; cost = pos 2 } ∷ [];
   outs = [];
   randoms = [];
@@ -24,12 +22,12 @@ stage = record {
 }
 
 abbrev leaf : Node
-leaf = record { name = []; sub = 0; weights = 1 ∷ []; values = [] ∷ []; links = []; link_weights = []; stop = 0 }
+leaf = record { name = []; sub = 0; weights = 1 ∷ []; values = [] ∷ []; successors = []; successor_weights = []; stop = 0 }
 
 -- one such stage
-abbrev pub small : Sealed
+abbrev pub small : Validated
 small = record {
-  raw = record { states = []; root = 0 ∷ []; root_weights = 1 ∷ []; nodes = leaf ∷ []; subs = stage ∷ []; scenarios = [] };
+  parts = record { states = []; root = 0 ∷ []; root_weights = 1 ∷ []; nodes = leaf ∷ []; subs = loaded_stage_example ∷ []; scenarios = [] };
   order = 0 ∷ [];
   longest = 1;
   lo = [] ∷ [];
@@ -40,19 +38,19 @@ abbrev pub flat : ℤ → Cut
 flat alpha = record { alpha = alpha; beta = [] }
 
 -- its base cut
-abbrev pub base : List (List Cut)
-base = (flat (pos 0) ∷ []) ∷ []
+abbrev pub base_example : List (List Cut)
+base_example = (flat (pos 0) ∷ []) ∷ []
 
 abbrev pub digest : List ℕ
 digest = replicate 32 7
 
 -- of seed 9
-abbrev pub title : Title
-title = record { version = 1; digest = digest; seed = 9; batch = 1 }
+abbrev pub title_example : Title
+title_example = record { version = 1; digest = digest; seed = 9; batch = 1 }
 
--- the entry of an iteration: one unsettled solve, and the multiplier 2 on the row, at scale 2^24
-abbrev pub entry : ℕ → Entry
-entry k = record { iteration = k; unsettled = 1; steps = record { node = 0; list = record { rows = pos 33554432 ∷ []; cuts = [] } ∷ [] } ∷ [] }
+-- the entry of an iteration: one unanswered solve, and the multiplier 2 on the row, at scale 2^24
+abbrev pub entry_example : ℕ → Entry
+entry_example k = record { iteration = k; unanswered = 1; steps = record { node = 0; list = record { rows = pos 33554432 ∷ []; cuts = [] } ∷ [] } ∷ [] }
 
 -- its payload, with a last number of eight bytes
 abbrev pub payload : ℕ → ℕ → List ℕ → List ℕ
@@ -61,6 +59,6 @@ payload k node multiplier = 0 ∷ 0 ∷ 0 ∷ k ∷ 0 ∷ 0 ∷ 0 ∷ 1 ∷ 0 �
 abbrev pub two : List ℕ
 two = 0 ∷ 0 ∷ 0 ∷ 0 ∷ 2 ∷ 0 ∷ 0 ∷ 0 ∷ []
 
--- a journal of two records with two bytes behind its last gate: gates at 51, 76 and 101
+-- a journal of two records with two bytes behind its last commit byte: commit bytes at 51, 76 and 101
 abbrev pub bytes : List ℕ
-bytes = journal title (payload 1 0 two ∷ payload 2 0 two ∷ []) 0 (5 ∷ 6 ∷ [])
+bytes = journal title_example (payload 1 0 two ∷ payload 2 0 two ∷ []) 0 (5 ∷ 6 ∷ [])

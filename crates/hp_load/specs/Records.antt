@@ -2,7 +2,7 @@
 use Rattle.std.specs.Prelude.{◌≡◌, ℕ, zero, suc, ◌+◌, ℤ, List, [], ◌∷◌, ◌++◌, length, Option, Some, None, IfSome, Result, Ok, Err}
 use Rattle.std.specs.List.{sum_by}
 pub use Rattle.hp_num.specs.Steps.{◌>>=◌}
-use Rattle.hp_problem.specs.Sealed.{Sealed}
+use Rattle.hp_problem.specs.Validated.{Validated}
 use Rattle.hp_problem.specs.Formulas.{too_much}
 use Rattle.hp_theory.specs.declared.cut.Cut.{Cut}
 use Rattle.hp_theory.specs.Bound.{bound}
@@ -10,15 +10,15 @@ use Rattle.hp_theory.specs.View.{problem_of}
 use Rattle.hp_cut.specs.declared.entry.Entry.{Entry}
 use Rattle.hp_record.specs.Reading.{read_batch}
 use Rattle.hp_record.specs.declared.fault.EntryFault.TheVariants.{Bad}
-use Rattle.hp_journal.specs.declared.gate.Gate.{Gate}
-use Rattle.hp_journal.specs.declared.gate.Gate.TheVariants.{Shut, Ajar}
-use Rattle.hp_journal.specs.Gates.{gate_of, payload_of}
+use Rattle.hp_journal.specs.declared.commit_byte.CommitByte.{CommitByte}
+use Rattle.hp_journal.specs.declared.commit_byte.CommitByte.TheVariants.{Shut, Ajar}
+use Rattle.hp_journal.specs.CommitBytes.{commit_byte_of, payload_of}
 use Rattle.hp_load.specs.declared.refusal.JournalRefusal.TheVariants.{TooMany}
 use Rattle.hp_load.specs.declared.refusal.LoadFault.{LoadFault}
 use Rattle.hp_load.specs.declared.refusal.LoadFault.TheVariants.{Refused}
 use Rattle.hp_load.specs.declared.records.Gathered.{Gathered}
 use Rattle.hp_load.specs.declared.records.End.{End}
-use Rattle.hp_load.specs.Refusals.{of_gate, of_payload, of_entries, with_fault, within, Fails}
+use Rattle.hp_load.specs.Refusals.{of_commit_byte, of_payload, of_entries, with_fault, within_formula, LoadFails}
 use Rattle.hp_load.specs.Cuts.{entries_added}
 
 -- the findings of records
@@ -26,42 +26,42 @@ pub record Found : Type 0 where
   pub pools : List (List Cut)
   -- the bound after each record
   pub bounds : List ℤ
-  -- the sum of the unsettled solves that the entries state
-  pub unsettled : ℕ
+  -- the sum of the unanswered solves that the entries state
+  pub unanswered : ℕ
 
 -- before the first record
-abbrev pub fresh : List (List Cut) → Found
-fresh base = record { pools = base; bounds = []; unsettled = 0 }
+abbrev pub fresh_found : List (List Cut) → Found
+fresh_found base = record { pools = base; bounds = []; unanswered = 0 }
 
 -- a record more: the cuts of its entries, and then the bound
-unfoldable pub record_added : Sealed → Found → List Entry → Result Found LoadFault
+unfoldable pub record_added : Validated → Found → List Entry → Result Found LoadFault
 record_added p found entries = do
   pools ← entries_added p found.pools entries
   Ok (record {
     pools = pools;
     bounds = found.bounds ++ bound (problem_of p) pools ∷ [];
-    unsettled = found.unsettled + sum_by (λ (e : Entry). e.unsettled) entries;
+    unanswered = found.unanswered + sum_by (λ (e : Entry). e.unanswered) entries;
   })
 
 -- one record after the other
-unfoldable pub lists_added : Sealed → Found → List (List Entry) → Result Found LoadFault
+unfoldable pub lists_added : Validated → Found → List (List Entry) → Result Found LoadFault
 lists_added p found [] = Ok found
 lists_added p found (es ∷ lists) = do
   next ← record_added p found es
   lists_added p next lists
 
--- the entries of iteration k behind the open gate at a place, and the place of the next gate
-unfoldable pub entries_at : Sealed → ℕ → List ℕ → ℕ → ℕ → Result (List Entry × ℕ) LoadFault
-entries_at p batch bytes k at = do
-  formulas ← within (too_much p k batch)
+-- the entries of iteration k behind the commit byte of 1 at a place, and the place of the next commit byte
+unfoldable pub record_entries_at : Validated → ℕ → List ℕ → ℕ → ℕ → Result (List Entry × ℕ) LoadFault
+record_entries_at p batch bytes k at = do
+  formulas ← within_formula (too_much p k batch)
   payload ← with_fault (of_payload k) (payload_of bytes at)
   entries ← with_fault (λ place. of_entries k (Bad place)) (read_batch p k batch payload)
   Ok (entries, at + 5 + length payload)
 
--- the record behind the open gate at a place: its entries, the place of the next gate, and the findings with them
-unfoldable pub record_at : Sealed → ℕ → List ℕ → ℕ → Found → Result (List Entry × ℕ × Found) LoadFault
+-- the record behind the commit byte of 1 at a place: its entries, the place of the next commit byte, and the findings with them
+unfoldable pub record_at : Validated → ℕ → List ℕ → ℕ → Found → Result (List Entry × ℕ × Found) LoadFault
 record_at p batch bytes at found = do
-  read ← entries_at p batch bytes (suc (length found.bounds)) at
+  read ← record_entries_at p batch bytes (suc (length found.bounds)) at
   next ← record_added p found read.0
   Ok (read.0, read.1, next)
 
@@ -69,45 +69,45 @@ record_at p batch bytes at found = do
 pub record Ended : Type 0 where
   pub found : Found
   pub lists : List (List Entry)
-  -- the place of the shut gate, and the number of bytes behind it
+  -- the place of the commit byte of 0, and the number of bytes behind it
   pub end : ℕ
-  pub rest : ℕ
+  pub tail : ℕ
 
--- the number of bytes behind the gate at a place where it is shut, none where it is open
-abbrev pub rest_behind : Gate → Option ℕ
-rest_behind (Shut rest) = Some rest
+-- the number of bytes behind the commit byte at a place where it is 0, none where it is 1
+abbrev pub rest_behind : CommitByte → Option ℕ
+rest_behind (Shut tail) = Some tail
 rest_behind Ajar = None
 
 unfoldable pub rest_at : List ℕ → ℕ → Result (Option ℕ) LoadFault
 rest_at bytes at = do
-  gate ← with_fault of_gate (gate_of bytes at)
-  Ok (rest_behind gate)
+  commit_byte ← with_fault of_commit_byte (commit_byte_of bytes at)
+  Ok (rest_behind commit_byte)
 
--- the end where the gate is shut, else the records behind it
+-- the end where the commit byte is 0, else the records behind it
 abbrev pub or_more : Option ℕ → (ℕ → Ended) → Result Ended LoadFault → Result Ended LoadFault
-or_more (Some rest) ended more = Ok (ended rest)
+or_more (Some tail) ended more = Ok (ended tail)
 or_more None ended more = more
 
--- the records from the gate at a place on, of which at most `left` are more
-unfoldable pub records_at : Sealed → ℕ → List ℕ → ℕ → ℕ → Found → List (List Entry) → Result Ended LoadFault
+-- the records from the commit byte at a place on, of which at most `left` are more
+unfoldable pub records_at : Validated → ℕ → List ℕ → ℕ → ℕ → Found → List (List Entry) → Result Ended LoadFault
 records_at p batch bytes zero at found lists = do
-  rest ← rest_at bytes at
-  or_more rest (λ n. record { found = found; lists = lists; end = at; rest = n }) (Err (Refused TooMany))
+  tail ← rest_at bytes at
+  or_more tail (λ n. record { found = found; lists = lists; end = at; tail = n }) (Err (Refused TooMany))
 records_at p batch bytes (suc left) at found lists = do
-  rest ← rest_at bytes at
-  or_more rest (λ n. record { found = found; lists = lists; end = at; rest = n }) (do
+  tail ← rest_at bytes at
+  or_more tail (λ n. record { found = found; lists = lists; end = at; tail = n }) (do
     read ← record_at p batch bytes at found
     records_at p batch bytes left read.1 read.2 (lists ++ read.0 ∷ []))
 
 -- The contracts of code that reads records: these end as the definition says, with the entries as far as they are kept.
 
 -- the lists are those that were kept, where they are kept
-abbrev pub IsKept : Option (List (List Entry)) → List (List Entry) → Type 0
-IsKept kept lists = IfSome kept (λ k. k ≡ lists)
+abbrev pub AreListsKept : Option (List (List Entry)) → List (List Entry) → Type 0
+AreListsKept kept lists = IfSome kept (λ k. k ≡ lists)
 
-abbrev pub found_of : Gathered → Found
-found_of g = record { pools = g.pools.lists; bounds = g.bounds; unsettled = g.unsettled }
+abbrev pub gathered_found : Gathered → Found
+gathered_found g = record { pools = g.pools.lists; bounds = g.bounds; unanswered = g.unanswered }
 
 abbrev pub EndsAs : Option (List (List Entry)) → Found → Result End LoadFault → Result Ended LoadFault → Type 0
-EndsAs kept found (Ok e) load = (lists : List (List Entry)) × IsKept kept lists × (load ≡ Ok (record { found = found; lists = lists; end = e.end; rest = e.rest }))
-EndsAs kept found (Err f) load = Fails f load
+EndsAs kept found (Ok e) load = (lists : List (List Entry)) × AreListsKept kept lists × (load ≡ Ok (record { found = found; lists = lists; end = e.end; tail = e.tail }))
+EndsAs kept found (Err f) load = LoadFails f load

@@ -4,10 +4,10 @@ use Rattle.hp_num.specs.Steps.{GivesOr}
 use Rattle.hp_problem.specs.declared.formulas.TooMuch.{TooMuch}
 use Rattle.hp_journal.specs.declared.head.HeadFault.{HeadFault}
 use Rattle.hp_journal.specs.declared.head.HeadFault.TheVariants as heads
-use Rattle.hp_journal.specs.declared.gate.GateFault.{GateFault}
-use Rattle.hp_journal.specs.declared.gate.GateFault.TheVariants as gates
-use Rattle.hp_journal.specs.declared.gate.PayloadFault.{PayloadFault}
-use Rattle.hp_journal.specs.declared.gate.PayloadFault.TheVariants as payloads
+use Rattle.hp_journal.specs.declared.commit_byte.CommitByteFault.{CommitByteFault}
+use Rattle.hp_journal.specs.declared.commit_byte.CommitByteFault.TheVariants as commit_bytes
+use Rattle.hp_journal.specs.declared.commit_byte.PayloadFault.{PayloadFault}
+use Rattle.hp_journal.specs.declared.commit_byte.PayloadFault.TheVariants as payloads
 use Rattle.hp_record.specs.declared.fault.EntryFault.{EntryFault}
 use Rattle.hp_record.specs.declared.fault.EntryFault.TheVariants as entries
 use Rattle.hp_load.specs.declared.refusal.JournalRefusal.TheVariants.{NotAJournal, OtherVersion, Short, BadLength, BadRecord, BadBatch}
@@ -21,9 +21,9 @@ of_head (heads.Short place) = faults.Refused (Short place)
 of_head heads.DiskFault = faults.DiskFault
 of_head (heads.BadBatch batch) = faults.Refused (BadBatch batch)
 
-abbrev pub of_gate : GateFault → LoadFault
-of_gate (gates.Short place) = faults.Refused (Short place)
-of_gate gates.DiskFault = faults.DiskFault
+abbrev pub of_commit_byte : CommitByteFault → LoadFault
+of_commit_byte (commit_bytes.Short place) = faults.Refused (Short place)
+of_commit_byte commit_bytes.DiskFault = faults.DiskFault
 
 -- of the record of an iteration
 abbrev pub of_payload : ℕ → PayloadFault → LoadFault
@@ -42,16 +42,16 @@ with_fault of (Ok x) = Ok x
 with_fault of (Err e) = Err (of e)
 
 -- a formula that passes its limit
-abbrev pub within : Option TooMuch → Result (Unit {0}) LoadFault
-within None = Ok tt
-within (Some t) = Err (faults.TooMuch t)
+abbrev pub within_formula : Option TooMuch → Result (Unit {0}) LoadFault
+within_formula None = Ok tt
+within_formula (Some t) = Err (faults.TooMuch t)
 
 -- Code answers as the definition does, unless the disk failed or memory was refused.
-abbrev pub Fails : {Y : Type 0} → LoadFault → Result Y LoadFault → Type 0
-Fails (faults.Refused r) load = load ≡ Err (faults.Refused r)
-Fails (faults.TooMuch t) load = load ≡ Err (faults.TooMuch t)
-Fails faults.DiskFault load = Unit {0}
-Fails faults.Memory load = Unit {0}
+abbrev pub LoadFails : {Y : Type 0} → LoadFault → Result Y LoadFault → Type 0
+LoadFails (faults.Refused r) load = load ≡ Err (faults.Refused r)
+LoadFails (faults.TooMuch t) load = load ≡ Err (faults.TooMuch t)
+LoadFails faults.DiskFault load = Unit {0}
+LoadFails faults.Memory load = Unit {0}
 
-abbrev pub Gives : {X Y : Type 0} → (X → Y) → Result X LoadFault → Result Y LoadFault → Type 0
-Gives view result load = GivesOr Fails view result load
+abbrev pub LoadGives : {X Y : Type 0} → (X → Y) → Result X LoadFault → Result Y LoadFault → Type 0
+LoadGives view result load = GivesOr LoadFails view result load

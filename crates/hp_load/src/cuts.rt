@@ -6,7 +6,7 @@ ghost use Rattle.hp_cut.specs.AtNodes.{PoolsFit};
 ghost use Rattle.hp_cut.specs.declared.entry.EntryStep.{EntryStep};
 ghost use Rattle.hp_record.specs.Shape.{Writable};
 ghost use Rattle.hp_load.specs.declared.refusal.LoadFault.TheVariants as faults;
-ghost use Rattle.hp_load.specs.Refusals.{Gives};
+ghost use Rattle.hp_load.specs.Refusals.{LoadGives};
 ghost use Rattle.hp_load.specs.Cuts.{step_added, steps_added, entries_added};
 ghost use Rattle.hp_load.specs.RootValues.{root_values};
 
@@ -38,15 +38,15 @@ fn add_cut(
     iteration: u32,
     step: &EntryStep,
 ) -> Result<(), LoadFault>
-    requires known { step.now.node < length problem.now.raw.nodes }
+    requires known { step.now.node < length problem.now.parts.nodes }
     requires fit { PoolsFit problem.now pools.old.lists }
     requires few { length (pool pools.old.lists step.now.node) < 2 ^ 24 }
     requires values { values.old ≡ root_values problem.now pools.old.lists }
-    ensures value { Gives (λ _. pools.new.lists) result (step_added problem.now iteration pools.old.lists step.now) }
+    ensures value { LoadGives (λ _. pools.new.lists) result (step_added problem.now iteration pools.old.lists step.now) }
     ensures values { OnOk result (values.new ≡ root_values problem.now pools.new.lists) }
     ensures own { IfErr result (λ fault. fault ≢ faults.DiskFault) }
 {
-    let mut cut = no_slopes(alloc, problem.raw().states.len())?;
+    let mut cut = no_slopes(alloc, problem.parts().states.len())?;
     let list = step.list.as_slice();
     if let Err(fault) = accept_into(problem, pools, step.node, list, &mut cut) {
         return Err(LoadFault::Refused(JournalRefusal::BadCertificate {
@@ -68,15 +68,15 @@ fn add_steps(
     iteration: u32,
     steps: &[EntryStep],
 ) -> Result<(), LoadFault>
-    requires known { All (λ (s : EntryStep). s.node < length problem.now.raw.nodes) steps.now }
+    requires known { All (λ (s : EntryStep). s.node < length problem.now.parts.nodes) steps.now }
     requires fit { PoolsFit problem.now pools.old.lists }
     requires few { (m : ℕ) → length (pool pools.old.lists m) + length steps.now ≤ 2 ^ 24 }
     requires values { values.old ≡ root_values problem.now pools.old.lists }
-    ensures value { Gives (λ _. pools.new.lists) result (steps_added problem.now iteration pools.old.lists steps.now) }
+    ensures value { LoadGives (λ _. pools.new.lists) result (steps_added problem.now iteration pools.old.lists steps.now) }
     ensures values { OnOk result (values.new ≡ root_values problem.now pools.new.lists) }
     ensures own { IfErr result (λ fault. fault ≢ faults.DiskFault) }
 {
-    let _ = problem.raw();
+    let _ = problem.parts();
     for step in steps {
         add_cut(alloc, problem, pools, values, iteration, step)?;
     }
@@ -96,11 +96,11 @@ pub(crate) fn add_entries(
     requires fit { PoolsFit problem.now pools.old.lists }
     requires few { (m : ℕ) → length (pool pools.old.lists m) + length entries.now ≤ 2 ^ 23 }
     requires values { values.old ≡ root_values problem.now pools.old.lists }
-    ensures value { Gives (λ _. pools.new.lists) result (entries_added problem.now pools.old.lists entries.now) }
+    ensures value { LoadGives (λ _. pools.new.lists) result (entries_added problem.now pools.old.lists entries.now) }
     ensures values { OnOk result (values.new ≡ root_values problem.now pools.new.lists) }
     ensures own { IfErr result (λ fault. fault ≢ faults.DiskFault) }
 {
-    let _ = problem.raw();
+    let _ = problem.parts();
     for entry in entries {
         add_steps(
             alloc,

@@ -12,6 +12,6 @@ mod values;
 pub mod worked;
 
 pub use loaded::Loaded;
-pub use loading::{Asked, first_gate, load, load_keep};
-pub use records::unsettled;
+pub use loading::{Asked, first_commit_byte, load, load_keep};
+pub use records::unanswered;
 pub use refusal::{JournalRefusal, LoadFault};

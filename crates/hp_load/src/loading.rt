@@ -1,13 +1,13 @@
 // A journal, loaded from a disk.
-ghost use Rattle.std.specs.Prelude.{◌≡◌, ◌⊎◌, ◌≤◌, ◌+◌, ◌*◌, ◌^◌, ℕ, List, [], length, IfOk, IfSome, Ok, Err, None};
+ghost use Rattle.std.specs.Prelude.{◌≡◌, ◌⊎◌, ◌≤◌, List, [], IfOk, IfSome, Ok, Err, None};
 ghost use Rattle.hp_outside.specs.Disks.{Stays};
 ghost use Rattle.hp_theory.specs.Range.{based};
 ghost use Rattle.hp_cut.specs.declared.entry.Entry.{Entry};
 ghost use Rattle.hp_journal.specs.Causes.{DiskCause};
 ghost use Rattle.hp_load.specs.declared.refusal.LoadFault.TheVariants as faults;
-ghost use Rattle.hp_load.specs.Refusals.{Gives};
-ghost use Rattle.hp_load.specs.Records.{IsKept};
-ghost use Rattle.hp_load.specs.Load.{LoadsAs, first_gate, found_in, load_records, load_of, outcome_of, seen, unborn};
+ghost use Rattle.hp_load.specs.Refusals.{LoadGives};
+ghost use Rattle.hp_load.specs.Records.{AreListsKept};
+ghost use Rattle.hp_load.specs.Load.{LoadsAs, first_commit_byte, found_in, load_records, load_of, outcome_of, seen_outcome, uncommitted};
 ghost use Rattle.hp_load.specs.Accepted.{Accepted, IsSafe};
 ghost use Rattle.hp_journal.specs.Layout.{new_title};
 
@@ -41,7 +41,7 @@ struct Version {
     batch: u16,
 }
 
-// The version and the batch that a journal is born with.
+// The version and the batch that a journal is begun with.
 fn new_title(batch: Option<u16>) -> (u16, u16)
     requires { IfSome batch (λ b. (1 ≤ b) × (b ≤ 64)) }
     ensures version { result.0 ≡ (new_title [] 0 batch).version }
@@ -54,38 +54,38 @@ fn new_title(batch: Option<u16>) -> (u16, u16)
     }
 }
 
-/// The place of the first gate of a journal of version 1 or 2.
-pub fn first_gate(version: u16) -> u64
-    ensures value { result ≡ first_gate version }
+/// The place of the first commit byte of a journal of version 1 or 2.
+pub fn first_commit_byte(version: u16) -> u64
+    ensures value { result ≡ first_commit_byte version }
     ensures near { result ≤ 54 }
 {
     if version == 2 { 53 } else { 51 }
 }
 
-// Gives the outcome of a journal that is not born.
-fn load_unborn(alloc: Global, problem: &Problem, base: Pools, batch: Option<u16>) -> Loaded
+// Gives the outcome of a journal that is not committed.
+fn load_uncommitted(alloc: Global, problem: &Problem, base: Pools, batch: Option<u16>) -> Loaded
     requires base { based problem.now ≡ Ok base.lists }
     requires batch { IfSome batch (λ b. (1 ≤ b) × (b ≤ 64)) }
-    ensures value { seen result ≡ unborn base.lists batch }
+    ensures value { seen_outcome result ≡ uncommitted base.lists batch }
     ensures accepted { Accepted problem.now base.lists [] (found_in result) }
     ensures safe { IsSafe problem.now result }
 {
-    let _ = problem.raw();
+    let _ = problem.parts();
     let (version, batch) = new_title(batch);
     Loaded {
         pools: base,
         bounds: List::new(alloc),
-        unsettled: 0,
-        born: false,
+        unanswered: 0,
+        committed: false,
         end: 0,
-        rest: 0,
+        tail: 0,
         version,
         batch,
     }
 }
 
-// Loads a journal that is born, with its version and batch.
-fn load_born<D: Disk, K: Keeper>(
+// Loads a journal that is committed, with its version and batch.
+fn load_committed<D: Disk, K: Keeper>(
     alloc: Global,
     problem: &Problem,
     base: Pools,
@@ -95,18 +95,18 @@ fn load_born<D: Disk, K: Keeper>(
 ) -> Result<Loaded, LoadFault>
     requires base { based problem.now ≡ Ok base.lists }
     requires version { ((version.number ≡ 1) × (version.batch ≡ 1)) ⊎ ((version.number ≡ 2) × (1 ≤ version.batch) × (version.batch ≤ 64)) }
-    requires empty { IsKept (K.kept keep.old) [] }
+    requires empty { AreListsKept (K.kept keep.old) [] }
     ensures value { IfSome (D.store disk.old).reads (λ bytes.
         LoadsAs (K.kept keep.new) result (load_records problem.now base.lists bytes version.number version.batch)) }
-    ensures accepted { IfOk result (λ l. (lists : List (List Entry)) × IsKept (K.kept keep.new) lists × Accepted problem.now base.lists lists (found_in l)) }
+    ensures accepted { IfOk result (λ l. (lists : List (List Entry)) × AreListsKept (K.kept keep.new) lists × Accepted problem.now base.lists lists (found_in l)) }
     ensures safe { IfOk result (IsSafe problem.now) }
     ensures stays { Stays (D.store disk.old) (D.store disk.new) }
     ensures cause { DiskCause (D.faults disk.old) (D.faults disk.new) (result ≡ Err faults.DiskFault) }
 {
-    let _ = problem.raw();
+    let _ = problem.parts();
     let Version { number, batch } = version;
     let layout = Layout {
-        first: first_gate(number),
+        first: first_commit_byte(number),
         batch,
     };
     let values = root_values(alloc, problem, &base)?;
@@ -114,22 +114,22 @@ fn load_born<D: Disk, K: Keeper>(
         pools: base,
         values,
         bounds: List::new(alloc),
-        unsettled: 0,
+        unanswered: 0,
     };
     let end = read_records(alloc, problem, disk, layout, &mut found, keep)?;
     let Gathered {
         pools,
         values: _,
         bounds,
-        unsettled,
+        unanswered,
     } = found;
     Ok(Loaded {
         pools,
         bounds,
-        unsettled,
-        born: true,
+        unanswered,
+        committed: true,
         end: end.end,
-        rest: end.rest,
+        tail: end.tail,
         version: number,
         batch,
     })
@@ -146,39 +146,39 @@ fn load_with<D: Disk, K: Keeper>(
 ) -> Result<Loaded, LoadFault>
     requires base { based problem.now ≡ Ok base.lists }
     requires batch { IfSome asked.now.batch (λ b. (1 ≤ b) × (b ≤ 64)) }
-    requires empty { IsKept (K.kept keep.old) [] }
+    requires empty { AreListsKept (K.kept keep.old) [] }
     ensures value { IfSome (D.store disk.old).reads (λ bytes.
         LoadsAs (K.kept keep.new) result (load_of problem.now base.lists asked.now.digest.now asked.now.seed asked.now.batch bytes)) }
-    ensures accepted { IfOk result (λ l. (lists : List (List Entry)) × IsKept (K.kept keep.new) lists × Accepted problem.now base.lists lists (found_in l)) }
+    ensures accepted { IfOk result (λ l. (lists : List (List Entry)) × AreListsKept (K.kept keep.new) lists × Accepted problem.now base.lists lists (found_in l)) }
     ensures safe { IfOk result (IsSafe problem.now) }
     ensures stays { Stays (D.store disk.old) (D.store disk.new) }
     ensures cause { DiskCause (D.faults disk.old) (D.faults disk.new) (result ≡ Err faults.DiskFault) }
 {
     match read_head(disk)? {
-        Head::Unborn { .. } => Ok(load_unborn(alloc, problem, base, asked.batch)),
-        Head::Born {
+        Head::Uncommitted { .. } => Ok(load_uncommitted(alloc, problem, base, asked.batch)),
+        Head::Committed {
             version: number,
             digest,
             seed,
             batch,
         } => {
             check_title(asked.digest, asked.seed, asked.batch, &digest, seed, batch)?;
-            load_born(alloc, problem, base, disk, Version { number, batch }, keep)
+            load_committed(alloc, problem, base, disk, Version { number, batch }, keep)
         }
     }
 }
 
 /// Loads a journal over the base cuts of a problem: each step of each record is checked by its certificates over the cuts so
 /// far, and its cut appended. A digest of the problem's bytes is asked, and perhaps a seed and a batch, which a
-/// journal that is not born takes for its own.
+/// journal that is not committed takes for its own.
 ///
 /// The refusals come in this order: those of the head; `OtherProblem`; `OtherSeed`; `OtherBatch`; then of each record
-/// `Short` with the place of its gate, `TooMany` at an open gate behind 2,000 records, `TooMuch` by the formulas with as
+/// `Short` with the place of its commit byte, `TooMany` at a commit byte of 1 behind 2,000 records, `TooMuch` by the formulas with as
 /// many iterations as its number, `Short` with the place of its length, `BadLength`, `Short` with the place of its
 /// payload, `BadRecord`, and `BadCertificate` at the first step that is not accepted. `DiskFault` comes only where the
 /// disk's count of faults rose. `base` is dropped after a refusal.
 ///
-/// The disk is only read, and not behind the shut gate. One buffer serves all payloads, and the memory of a record's
+/// The disk is only read, and not behind the commit byte of 0. One buffer serves all payloads, and the memory of a record's
 /// entries serves those of later ones.
 pub fn load<D: Disk>(
     alloc: Global,
@@ -190,7 +190,7 @@ pub fn load<D: Disk>(
     requires base { based problem.now ≡ Ok base.lists }
     requires batch { IfSome asked.now.batch (λ b. (1 ≤ b) × (b ≤ 64)) }
     ensures value { IfSome (D.store disk.old).reads (λ bytes.
-        Gives seen result (outcome_of (load_of problem.now base.lists asked.now.digest.now asked.now.seed asked.now.batch bytes))) }
+        LoadGives seen_outcome result (outcome_of (load_of problem.now base.lists asked.now.digest.now asked.now.seed asked.now.batch bytes))) }
 
     // Over any disk.
     ensures safe { IfOk result (IsSafe problem.now) }
@@ -214,7 +214,7 @@ pub fn load_keep<D: Disk>(
     requires base { based problem.now ≡ Ok base.lists }
     requires empty { keep.old ≡ [] }
     ensures value { IfSome (D.store disk.old).reads (λ bytes.
-        Gives (λ l. (seen l, keep.new)) result (load_of problem.now base.lists digest.now None None bytes)) }
+        LoadGives (λ l. (seen_outcome l, keep.new)) result (load_of problem.now base.lists digest.now None None bytes)) }
 
     // Over any disk.
     ensures accepted { IfOk result (λ l. Accepted problem.now base.lists keep.new (found_in l)) }

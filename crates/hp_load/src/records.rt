@@ -1,5 +1,5 @@
 // The records of a journal.
-ghost use Rattle.std.specs.Prelude.{◌≡◌, ◌⊎◌, ◌≤◌, ◌<◌, ◌+◌, ◌*◌, ◌^◌, ℕ, suc, List, [], length, IfOk, IfErr, IfSome, OnOk, Ok, Err, ◌≢◌};
+ghost use Rattle.std.specs.Prelude.{◌≡◌, ◌≤◌, ◌<◌, ◌+◌, ◌^◌, ℕ, suc, List, [], length, IfOk, IfErr, IfSome, OnOk, Ok, Err, ◌≢◌};
 ghost use Rattle.std.specs.List.{AllByRecursion, sum_by};
 ghost use Rattle.hp_outside.specs.Disks.{Stays};
 ghost use Rattle.hp_problem.specs.Formulas.{too_much};
@@ -11,11 +11,11 @@ ghost use Rattle.hp_record.specs.Shape.{IsBatch, Writable};
 ghost use Rattle.hp_record.specs.Reading.{read_batch};
 ghost use Rattle.hp_record.specs.declared.fault.EntryFault.TheVariants as bads;
 ghost use Rattle.hp_journal.specs.Causes.{DiskCause};
-ghost use Rattle.hp_journal.specs.Gates.{payload_of};
+ghost use Rattle.hp_journal.specs.CommitBytes.{payload_of};
 ghost use Rattle.hp_load.specs.declared.refusal.LoadFault.TheVariants as faults;
-ghost use Rattle.hp_load.specs.Refusals.{Gives, of_payload, of_entries, with_fault, within};
+ghost use Rattle.hp_load.specs.Refusals.{LoadGives, of_payload, of_entries, with_fault, within_formula};
 ghost use Rattle.hp_load.specs.RootValues.{root_values};
-ghost use Rattle.hp_load.specs.Records.{Found, fresh, found_of, IsKept, EndsAs, record_added, entries_at, record_at, rest_at, records_at};
+ghost use Rattle.hp_load.specs.Records.{fresh_found, gathered_found, AreListsKept, EndsAs, record_added, record_entries_at, record_at, rest_at, records_at};
 ghost use Rattle.hp_load.specs.Accepted.{IsSound, Accepted};
 
 use crate::cuts::add_entries;
@@ -23,10 +23,11 @@ use crate::keeping::Keeper;
 use crate::refusal::{JournalRefusal, LoadFault, of_entries, of_payload};
 use crate::values::bound;
 use hp_cut::{Entry, Pools};
-use hp_journal::{Gate, payload, read_gate};
+use hp_journal::{CommitByte, payload, read_commit_byte};
 use hp_num::List;
 use hp_outside::Disk;
-use hp_problem::{MOST_ITERATIONS, Problem};
+use hp_parts::MOST_ITERATIONS;
+use hp_problem::Problem;
 use hp_record::{EntryFault, Spares, decode_batch_with};
 use std::alloc::Global;
 
@@ -39,14 +40,14 @@ pub(crate) struct Gathered {
     pub(crate) values: List<i128>,
     /// The bound after each record.
     pub(crate) bounds: List<i128>,
-    /// The sum of the unsettled solves that the entries state.
-    pub(crate) unsettled: u64,
+    /// The sum of the unanswered solves that the entries state.
+    pub(crate) unanswered: u64,
 }
 
 /// Where the records of a journal begin, and how many paths an iteration has.
 #[derive(Clone, Copy)]
 pub(crate) struct Layout {
-    /// The place of the first gate.
+    /// The place of the first commit byte.
     pub(crate) first: u64,
     pub(crate) batch: u16,
 }
@@ -62,10 +63,10 @@ struct Buffers {
 /// Where the records end.
 #[derive(Clone, Copy)]
 pub(crate) struct End {
-    /// The place of the shut gate.
+    /// The place of the commit byte of 0.
     pub(crate) end: u64,
     /// The number of bytes behind it.
-    pub(crate) rest: u64,
+    pub(crate) tail: u64,
 }
 
 // Checks the formulas with as many iterations as the record's number.
@@ -73,7 +74,7 @@ fn check_formulas(problem: &Problem, iteration: u32, batch: u16) -> Result<(), L
     requires iteration { iteration ≤ 2001 }
     requires some { 1 ≤ batch }
     requires batch { batch ≤ 64 }
-    ensures value { result ≡ within (too_much problem.now iteration batch) }
+    ensures value { result ≡ within_formula (too_much problem.now iteration batch) }
     ensures own { IfErr result (λ fault. fault ≢ faults.DiskFault) }
 {
     match problem.too_much(iteration, batch) {
@@ -82,7 +83,7 @@ fn check_formulas(problem: &Problem, iteration: u32, batch: u16) -> Result<(), L
     }
 }
 
-// Reads the payload behind the open gate at a place into the buffer, over its old contents; answers the place of the next gate.
+// Reads the payload behind the commit byte of 1 at a place into the buffer, over its old contents; answers the place of the next commit byte.
 fn read_payload<D: Disk>(
     disk: &mut D,
     iteration: u32,
@@ -91,7 +92,7 @@ fn read_payload<D: Disk>(
 ) -> Result<u64, LoadFault>
     requires { at ≤ 2 ^ 40 }
     ensures value { IfSome (D.store disk.old).reads (λ bytes.
-        Gives (λ _. into.new.items) result (with_fault (of_payload iteration) (payload_of bytes at))) }
+        LoadGives (λ _. into.new.items) result (with_fault (of_payload iteration) (payload_of bytes at))) }
     ensures next { IfOk result (λ next. next ≡ at + 5 + length into.new.items) }
     ensures few { IfOk result (λ _. length into.new.items ≤ 2 ^ 26) }
     ensures stays { Stays (D.store disk.old) (D.store disk.new) }
@@ -113,7 +114,7 @@ fn decode(
     payload: &[u8],
 ) -> Result<List<Entry>, LoadFault>
     requires { length payload.now ≤ 2 ^ 26 }
-    ensures value { Gives (λ x. x) result
+    ensures value { LoadGives (λ x. x) result
         (with_fault (λ place. of_entries iteration (bads.Bad place)) (read_batch problem.now iteration batch payload.now)) }
     ensures batch { IfOk result (λ list. IsBatch problem.now iteration batch list) }
     ensures own { IfErr result (λ fault. fault ≢ faults.DiskFault) }
@@ -124,7 +125,7 @@ fn decode(
     }
 }
 
-// The entries of the record whose open gate stands at a place, and the place of the next gate.
+// The entries of the record whose commit byte of 1 stands at a place, and the place of the next commit byte.
 fn entries_behind<D: Disk>(
     buffers: &mut Buffers,
     problem: &Problem,
@@ -138,7 +139,7 @@ fn entries_behind<D: Disk>(
     requires some { 1 ≤ batch }
     requires batch { batch ≤ 64 }
     ensures value { IfSome (D.store disk.old).reads (λ bytes.
-        Gives (λ x. x) result (entries_at problem.now batch bytes iteration at)) }
+        LoadGives (λ x. x) result (record_entries_at problem.now batch bytes iteration at)) }
     ensures batch { IfOk result (λ x. IsBatch problem.now iteration batch x.0) }
     ensures next { IfOk result (λ x. x.1 ≤ at + 5 + 2 ^ 26) }
     ensures stays { Stays (D.store disk.old) (D.store disk.new) }
@@ -158,15 +159,15 @@ fn entries_behind<D: Disk>(
     Ok((entries, next))
 }
 
-/// Sums the unsettled solves that the entries of an iteration, at most 64, state.
-pub fn unsettled(entries: &[Entry]) -> u64
+/// Sums the unanswered solves that the entries of an iteration, at most 64, state.
+pub fn unanswered(entries: &[Entry]) -> u64
     requires { length entries.now ≤ 64 }
-    ensures value { result ≡ sum_by (λ (e : Entry). e.unsettled) entries.now }
+    ensures value { result ≡ sum_by (λ (e : Entry). e.unanswered) entries.now }
     ensures small { result ≤ 2 ^ 38 }
 {
     let mut sum: u64 = 0;
     for entry in entries {
-        sum += u64::from(entry.unsettled);
+        sum += u64::from(entry.unanswered);
     }
     sum
 }
@@ -183,21 +184,21 @@ fn add_record(
     requires few { length entries.now ≤ 64 }
     requires fit { PoolsFit problem.now found.old.pools.lists }
     requires cuts { (m : ℕ) → length (pool found.old.pools.lists m) ≤ 2 ^ 22 }
-    requires unsettled { found.old.unsettled ≤ 2 ^ 50 }
+    requires unanswered { found.old.unanswered ≤ 2 ^ 50 }
     requires values { found.old.values ≡ root_values problem.now found.old.pools.lists }
-    ensures value { Gives (λ _. found_of found.new) result (record_added problem.now (found_of found.old) entries.now) }
+    ensures value { LoadGives (λ _. gathered_found found.new) result (record_added problem.now (gathered_found found.old) entries.now) }
     ensures values { OnOk result (found.new.values ≡ root_values problem.now found.new.pools.lists) }
     ensures own { IfErr result (λ fault. fault ≢ faults.DiskFault) }
 {
-    let _ = problem.raw();
+    let _ = problem.parts();
     add_entries(alloc, problem, &mut found.pools, &mut found.values, entries)?;
-    found.unsettled += unsettled(entries);
+    found.unanswered += unanswered(entries);
     let bound = bound(problem, &found.pools, found.values.as_slice());
     found.bounds.push(bound)?;
     Ok(())
 }
 
-// Reads the record whose open gate stands at a place, and adds it; answers its entries and the place of the next gate.
+// Reads the record whose commit byte of 1 stands at a place, and adds it; answers its entries and the place of the next commit byte.
 fn read_record<D: Disk>(
     buffers: &mut Buffers,
     problem: &Problem,
@@ -212,12 +213,12 @@ fn read_record<D: Disk>(
     requires count { length found.old.bounds < 2000 }
     requires fit { PoolsFit problem.now found.old.pools.lists }
     requires cuts { (m : ℕ) → length (pool found.old.pools.lists m) ≤ 2 ^ 22 }
-    requires unsettled { found.old.unsettled ≤ 2 ^ 50 }
+    requires unanswered { found.old.unanswered ≤ 2 ^ 50 }
     requires values { found.old.values ≡ root_values problem.now found.old.pools.lists }
     ensures value { IfSome (D.store disk.old).reads (λ bytes.
-        Gives (λ x. (x.0, x.1, found_of found.new)) result (record_at problem.now batch bytes at (found_of found.old))) }
+        LoadGives (λ x. (x.0, x.1, gathered_found found.new)) result (record_at problem.now batch bytes at (gathered_found found.old))) }
     ensures batch { IfOk result (λ x. IsBatch problem.now (suc (length found.old.bounds)) batch x.0) }
-    ensures added { IfOk result (λ x. record_added problem.now (found_of found.old) x.0 ≡ Ok (found_of found.new)) }
+    ensures added { IfOk result (λ x. record_added problem.now (gathered_found found.old) x.0 ≡ Ok (gathered_found found.new)) }
     ensures values { OnOk result (found.new.values ≡ root_values problem.now found.new.pools.lists) }
     ensures next { IfOk result (λ x. x.1 ≤ at + 5 + 2 ^ 26) }
     ensures stays { Stays (D.store disk.old) (D.store disk.new) }
@@ -229,20 +230,20 @@ fn read_record<D: Disk>(
     Ok((entries, next))
 }
 
-// The number of bytes behind the gate at a place where it is shut, none where it is open.
+// The number of bytes behind the commit byte at a place where it is 0, none where it is 1.
 fn rest_at<D: Disk>(disk: &mut D, at: u64) -> Result<Option<u64>, LoadFault>
     requires { at ≤ 2 ^ 40 }
-    ensures value { IfSome (D.store disk.old).reads (λ bytes. Gives (λ rest. rest) result (rest_at bytes at)) }
+    ensures value { IfSome (D.store disk.old).reads (λ bytes. LoadGives (λ tail. tail) result (rest_at bytes at)) }
     ensures stays { Stays (D.store disk.old) (D.store disk.new) }
     ensures cause { DiskCause (D.faults disk.old) (D.faults disk.new) (result ≡ Err faults.DiskFault) }
 {
-    match read_gate(disk, at)? {
-        Gate::Shut { rest } => Ok(Some(rest)),
-        Gate::Ajar => Ok(None),
+    match read_commit_byte(disk, at)? {
+        CommitByte::Shut { tail } => Ok(Some(tail)),
+        CommitByte::Ajar => Ok(None),
     }
 }
 
-/// Reads the records from the gate at a place on and adds them to what is found, which is the base cuts at first.
+/// Reads the records from the commit byte at a place on and adds them to what is found, which is the base cuts at first.
 pub(crate) fn read_records<D: Disk, K: Keeper>(
     alloc: Global,
     problem: &Problem,
@@ -256,17 +257,17 @@ pub(crate) fn read_records<D: Disk, K: Keeper>(
     requires batch { layout.batch ≤ 64 }
     requires base { based problem.now ≡ Ok found.old.pools.lists }
     requires values { found.old.values ≡ root_values problem.now found.old.pools.lists }
-    requires fresh { found_of found.old ≡ fresh found.old.pools.lists }
-    requires empty { IsKept (K.kept keep.old) [] }
+    requires fresh { gathered_found found.old ≡ fresh_found found.old.pools.lists }
+    requires empty { AreListsKept (K.kept keep.old) [] }
     ensures value { IfSome (D.store disk.old).reads (λ bytes.
-        EndsAs (K.kept keep.new) (found_of found.new) result (records_at problem.now layout.batch bytes 2000 layout.first (fresh found.old.pools.lists) [])) }
-    ensures accepted { IfOk result (λ e. (lists : List (List Entry)) × IsKept (K.kept keep.new) lists × Accepted problem.now found.old.pools.lists lists (found_of found.new)) }
-    ensures sound { IfOk result (λ e. (i : ℕ) × (i ≤ 2000) × IsSound problem.now layout.batch i (found_of found.new)) }
+        EndsAs (K.kept keep.new) (gathered_found found.new) result (records_at problem.now layout.batch bytes 2000 layout.first (fresh_found found.old.pools.lists) [])) }
+    ensures accepted { IfOk result (λ e. (lists : List (List Entry)) × AreListsKept (K.kept keep.new) lists × Accepted problem.now found.old.pools.lists lists (gathered_found found.new)) }
+    ensures sound { IfOk result (λ e. (i : ℕ) × (i ≤ 2000) × IsSound problem.now layout.batch i (gathered_found found.new)) }
     ensures end { IfOk result (λ e. e.end ≤ 2 ^ 38) }
     ensures stays { Stays (D.store disk.old) (D.store disk.new) }
     ensures cause { DiskCause (D.faults disk.old) (D.faults disk.new) (result ≡ Err faults.DiskFault) }
 {
-    let _ = problem.raw();
+    let _ = problem.parts();
     let mut buffers = Buffers {
         alloc,
         spares: Spares::new(alloc),
@@ -274,15 +275,15 @@ pub(crate) fn read_records<D: Disk, K: Keeper>(
     };
     let mut at = layout.first;
     for _ in 0..MOST_ITERATIONS {
-        if let Some(rest) = rest_at(disk, at)? {
-            return Ok(End { end: at, rest });
+        if let Some(tail) = rest_at(disk, at)? {
+            return Ok(End { end: at, tail });
         }
         let (entries, next) = read_record(&mut buffers, problem, disk, layout.batch, at, found)?;
         keep.keep(entries, &mut buffers.spares)?;
         at = next;
     }
     match rest_at(disk, at)? {
-        Some(rest) => Ok(End { end: at, rest }),
+        Some(tail) => Ok(End { end: at, tail }),
         None => Err(LoadFault::Refused(JournalRefusal::TooMany)),
     }
 }

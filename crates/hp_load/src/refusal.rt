@@ -3,8 +3,8 @@ ghost use Rattle.std.specs.Prelude.{◌≡◌};
 ghost use Rattle.hp_load.specs.declared.refusal.LoadFault.TheVariants as faults;
 ghost use Rattle.hp_load.specs.Refusals.{of_payload, of_entries};
 
-use hp_dual::CertFault;
-use hp_journal::{GateFault, HeadFault, PayloadFault};
+use hp_cut_making::CertFault;
+use hp_journal::{CommitByteFault, HeadFault, PayloadFault};
 use hp_num::Memory;
 use hp_problem::TooMuch;
 use hp_record::EntryFault;
@@ -93,15 +93,15 @@ impl From<HeadFault> for LoadFault {
     }
 }
 
-impl From<GateFault> for LoadFault {
-    ghost use Rattle.hp_load.specs.Refusals.{of_gate};
+impl From<CommitByteFault> for LoadFault {
+    ghost use Rattle.hp_load.specs.Refusals.{of_commit_byte};
 
-    ghost from_gives = { λ f e. e ≡ of_gate f };
+    ghost from_gives = { λ f e. e ≡ of_commit_byte f };
 
-    fn from(fault: GateFault) -> Self {
+    fn from(fault: CommitByteFault) -> Self {
         match fault {
-            GateFault::Short { place } => LoadFault::Refused(JournalRefusal::Short { place }),
-            GateFault::DiskFault => LoadFault::DiskFault,
+            CommitByteFault::Short { place } => LoadFault::Refused(JournalRefusal::Short { place }),
+            CommitByteFault::DiskFault => LoadFault::DiskFault,
         }
     }
 }

@@ -1,14 +1,14 @@
 // The values of the root's successors at the initial state, kept up as cuts come, and the bound that is made of them.
 ghost use Rattle.std.specs.Prelude.{◌≡◌, ◌<◌, ◌^◌, pos, length, get_or, set, if◌then◌else◌, is_ok, IfOk, OnOk};
 ghost use Rattle.std.specs.Int.{int_max};
-ghost use Rattle.hp_problem.specs.Sealed.{initial_values};
+ghost use Rattle.hp_problem.specs.Validated.{initial_values};
 ghost use Rattle.hp_theory.specs.Problem.{node_at};
 ghost use Rattle.hp_theory.specs.Fit.{CutFits};
 ghost use Rattle.hp_theory.specs.Pools.{pool, push};
 ghost use Rattle.hp_theory.specs.Bound.{bound, value_of_cut, weighted_value};
 ghost use Rattle.hp_theory.specs.View.{problem_of};
 ghost use Rattle.hp_cut.specs.AtNodes.{PoolsFit};
-ghost use Rattle.hp_load.specs.RootValues.{raised, root_values};
+ghost use Rattle.hp_load.specs.RootValues.{raised_values, root_values};
 
 use hp_cut::{Cut, Pools, root_weight, value_of_cut};
 use hp_num::{List, Memory, add_product, floor_div};
@@ -27,7 +27,7 @@ pub(crate) fn root_values(
 {
     let state = problem.initial();
     let mut values = List::new(alloc);
-    for node in problem.raw().root.as_slice() {
+    for node in problem.parts().root.as_slice() {
         values.push(pools.value_at(problem, *node, state))?;
     }
     Ok(values)
@@ -45,10 +45,10 @@ fn raise_at(values: &mut List<i128>, at: usize, value: i128)
 // The value of a node, where it is one of the root's successors, is at least that of the cut.
 fn raise(problem: &Problem, values: &mut List<i128>, node: u32, cut: &Cut)
     requires fits { CutFits (node_at (problem_of problem.now) node) cut.now }
-    requires count { length values.old ≡ length problem.now.raw.root }
-    ensures { values.new ≡ raised node (value_of_cut cut.now (initial_values problem.now.raw)) problem.now.raw.root values.old }
+    requires count { length values.old ≡ length problem.now.parts.root }
+    ensures { values.new ≡ raised_values node (value_of_cut cut.now (initial_values problem.now.parts)) problem.now.parts.root values.old }
 {
-    let root = problem.raw().root.as_slice();
+    let root = problem.parts().root.as_slice();
     for i in 0..root.len() {
         if root[i] == node {
             raise_at(values, i, value_of_cut(cut, problem.initial()));
@@ -65,7 +65,7 @@ pub(crate) fn push_cut(
     node: u32,
     cut: Cut,
 ) -> Result<(), Memory>
-    requires known { node < length problem.now.raw.nodes }
+    requires known { node < length problem.now.parts.nodes }
     requires fit { PoolsFit problem.now pools.old.lists }
     requires fits { CutFits (node_at (problem_of problem.now) node) cut }
     requires few { length (pool pools.old.lists node) < 2 ^ 24 }
@@ -84,7 +84,7 @@ fn weighted(problem: &Problem, pools: &Pools, values: &[i128]) -> i128
     ensures { result ≡ weighted_value pools.now.lists (problem_of problem.now).initial (problem_of problem.now).root }
 {
     let _ = pools;
-    let weights = problem.raw().root_weights.as_slice();
+    let weights = problem.parts().root_weights.as_slice();
     let mut sum: i128 = 0;
     for i in 0..values.len() {
         sum = add_product(sum, i128::from(weights[i]), values[i]);

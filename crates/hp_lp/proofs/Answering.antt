@@ -1,6 +1,6 @@
 -- The answer of a chain of one solve, from facts about its parts.
 use Rattle.std.proofs.Common.{◌≡◌, ℕ, ℤ, List, Option, Some, ap, sym, ◌∙◌}
-use Rattle.hp_problem.specs.Sealed.{Sealed}
+use Rattle.hp_problem.specs.Validated.{Validated}
 use Rattle.hp_theory.specs.declared.cut.Cut.{Cut}
 use Rattle.hp_solver.specs.declared.programs.Program.{Program}
 use Rattle.hp_solver.specs.declared.programs.Answer.{Answer}
@@ -8,7 +8,7 @@ use Rattle.hp_solver.specs.Solving.{Solving}
 use Rattle.hp_lp.specs.Nodes.{stage_in, program_of}
 use Rattle.hp_lp.specs.Chained.{begun_at, stage_answer}
 
-pub answered-by : {Start Chain : Type 0} (v : Solving Start Chain) (p : Sealed) (pools : List (List Cut)) (m : ℕ) (values state : List ℤ) (lp : Program) (chain : Chain) (a : Answer)
+pub answered-by : {Start Chain : Type 0} (v : Solving Start Chain) (p : Validated) (pools : List (List Cut)) (m : ℕ) (values state : List ℤ) (lp : Program) (chain : Chain) (a : Answer)
     → stage_in p pools m values state ≡ Some lp → chain ≡ begun_at v p m lp → a ≡ (v.next chain lp).0 → a ≡ stage_answer v p pools m values state
 unfolding stage_answer
 answered-by v p pools m values state lp chain a stage begun is =

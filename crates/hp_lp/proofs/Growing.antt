@@ -4,7 +4,7 @@ use Rattle.std.proofs.lemmas.Int.{ints}
 use Rattle.std.proofs.lemmas.List.{take_more, map-append, append_assoc}
 use Rattle.hp_num.specs.Sums.{sum_to, total}
 use Rattle.hp_num.proofs.Fronts.{total_more}
-use Rattle.hp_cut.proofs.RaisedPeaks.{summand}
+use Rattle.hp_cut.proofs.RaisedBoxMaxima.{summand}
 
 -- the range of a sum with one summand more, each at most m
 range_more : (v z r : ℤ) (k m : ℕ) → nat_abs v ≤ k * m → nat_abs z ≤ m → r ≡ v +ℤ z → nat_abs r ≤ (k + 1) * m

@@ -7,9 +7,9 @@ pub mod MarkedStates
 pub mod OutSlopes
 pub mod ViewRows
 pub mod ProperStages
-pub mod SealedStages
+pub mod ValidatedStages
 pub mod Alike
 pub mod OutBoxes
-pub mod PeaksOfCuts
+pub mod BoxMaximaOfCuts
 pub mod EachReady
 pub mod Answering

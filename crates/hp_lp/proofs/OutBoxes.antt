@@ -6,8 +6,8 @@ use Rattle.std.proofs.lemmas.Int.{ints}
 use Rattle.std.proofs.lemmas.List.FromFn.{length-map-range_with_len, get_or-map-range_with_len}
 use Rattle.hp_num.proofs.Order.{le_scale, le_flip}
 use Rattle.hp_cut.proofs.Ends.{in_order, lesser, later, greater, former}
-use Rattle.hp_problem.specs.declared.raw.Subproblem.{Subproblem}
-use Rattle.hp_cut.specs.declared.peaks.OutBox.{OutBox}
+use Rattle.hp_parts.specs.declared.parts.Subproblem.{Subproblem}
+use Rattle.hp_cut.specs.declared.box_maxima.OutBox.{OutBox}
 use Rattle.hp_lp.specs.OutBoxes.{out_box, out_boxes}
 
 -- one box for each state

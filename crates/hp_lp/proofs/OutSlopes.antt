@@ -8,18 +8,18 @@ use Rattle.std.proofs.lemmas.List.Elements.{All-append, All-cons, All-nil}
 use Rattle.std.proofs.lemmas.Int.{ints}
 use Rattle.hp_num.specs.Sums.{same_place, coefficient, placed, entry}
 use Rattle.hp_num.proofs.Tests.{and_second}
-use Rattle.hp_problem.specs.Distinct.{are_distinct}
-use Rattle.hp_problem.specs.declared.raw.Subproblem.{Subproblem}
-use Rattle.hp_problem.specs.Limits.{outs_differ}
+use Rattle.hp_parts.specs.Distinct.{are_distinct}
+use Rattle.hp_parts.specs.declared.parts.Subproblem.{Subproblem}
+use Rattle.hp_parts.specs.Limits.{outs_differ}
 use Rattle.hp_theory.specs.declared.cut.Cut.{Cut}
 use Rattle.hp_theory.specs.Pools.{pool}
 use Rattle.hp_solver.specs.declared.fixed.Fx.{Fx}
 use Rattle.hp_solver.specs.declared.programs.LpRow.{LpRow}
 use Rattle.hp_solver.specs.declared.packed.Out.{Out}
-use Rattle.hp_lp.specs.Stage.{whole, scaled, term_of, cut_row, cut_rows}
+use Rattle.hp_lp.specs.Stage.{whole_fixed, scaled, negated_term, cut_row, cut_rows}
 use Rattle.hp_lp.specs.Outs.{state_from, outs_at, outs_in_order, row_over, rows_over}
 use Rattle.hp_solver.specs.Packed.{slope_term}
-use Rattle.hp_lp.specs.Spans.{Spans, IsWithin}
+use Rattle.hp_lp.specs.Spans.{Spans, IsSlopeWithin}
 
 -- places
 place_same : (i : ℕ) → same_place i i ≡ pos 1
@@ -48,7 +48,7 @@ state_within k (o ∷ os) j n e = pick (o == j) (λ h. state_within (suc k) os j
   where
     pick : (b : Bool) → (state_from (suc k) os j ≡ Some n → (suc k ≤ n) × (n < suc k + length os)) → (if b then Some k else state_from (suc k) os j) ≡ Some n → (k ≤ n) × (n < k + length (o ∷ os))
     pick true later h = let is = ap (λ (o : Option ℕ). unwrap_or o k) h in (omega (arith, is), omega (arith, is))
-    pick false later h = let rest = later h in (omega (arith, rest.0), omega (arith, rest.1))
+    pick false later h = let tail = later h in (omega (arith, tail.0), omega (arith, tail.1))
 
 -- the slope of a state, and 0 of none
 abbrev slope_from : ℕ → List ℤ → Option ℕ → ℤ
@@ -103,19 +103,19 @@ slope_at k (o ∷ os) (b ∷ bs) j e = pick (o == j) (slope_at (suc k) os bs j (
         ∙ later ∙ next_slope k b bs (state_from (suc k) os j) (λ n f. (state_within (suc k) os j n f).0)
 
 -- terms
-term_once : (c : Cut) (j : ℕ) (o : Option ℕ) → flat_map (slope_term c.beta) (outs_at j o) ≡ term_of j (slope_from 0 c.beta o)
+term_once : (c : Cut) (j : ℕ) (o : Option ℕ) → flat_map (slope_term c.beta) (outs_at j o) ≡ negated_term j (slope_from 0 c.beta o)
 term_once c j None = refl
-term_once c j (Some k) = let e : k ≡ k - 0 = omega arith in append-nil (term_of j (entry c.beta k)) ∙ ap (λ (i : ℕ). term_of j (entry c.beta i)) e
+term_once c j (Some k) = let e : k ≡ k - 0 = omega arith in append-nil (negated_term j (entry c.beta k)) ∙ ap (λ (i : ℕ). negated_term j (entry c.beta i)) e
 
-terms_from : (s : Subproblem) (c : Cut) (a n : ℕ) → outs_differ s ≡ true → flat_map (slope_term c.beta) (flat_map (λ j. outs_at j (state_from 0 s.outs j)) (range_with_len a n)) ≡ flat_map (λ j. term_of j (coefficient (placed s.outs c.beta) j)) (range_with_len a n)
+terms_from : (s : Subproblem) (c : Cut) (a n : ℕ) → outs_differ s ≡ true → flat_map (slope_term c.beta) (flat_map (λ j. outs_at j (state_from 0 s.outs j)) (range_with_len a n)) ≡ flat_map (λ j. negated_term j (coefficient (placed s.outs c.beta) j)) (range_with_len a n)
 unfolding outs_differ
 terms_from s c a zero e = refl
 terms_from s c a (suc n) e =
     flat_map-append (slope_term c.beta) (outs_at a (state_from 0 s.outs a)) (flat_map (λ j. outs_at j (state_from 0 s.outs j)) (range_with_len (a + 1) n))
-    ∙ ap₂ (λ (x y : List (ℕ × Fx)). x ++ y) (term_once c a (state_from 0 s.outs a) ∙ ap (term_of a) (sym (slope_at 0 s.outs c.beta a e))) (terms_from s c (a + 1) n e)
+    ∙ ap₂ (λ (x y : List (ℕ × Fx)). x ++ y) (term_once c a (state_from 0 s.outs a) ∙ ap (negated_term a) (sym (slope_at 0 s.outs c.beta a e))) (terms_from s c (a + 1) n e)
 
 row-cut_row : (s : Subproblem) (column : ℕ) (c : Cut) → outs_differ s ≡ true → row_over (outs_in_order s) column c ≡ cut_row s column c
-row-cut_row s column c e = ap (λ (ts : List (ℕ × Fx)). record { low = Some (scaled c.alpha); high = None; terms = ts ++ (column, whole (pos 1)) ∷ [] }) (terms_from s c 0 (length s.decisions) e)
+row-cut_row s column c e = ap (λ (ts : List (ℕ × Fx)). record { low = Some (scaled c.alpha); high = None; terms = ts ++ (column, whole_fixed (pos 1)) ∷ [] }) (terms_from s c 0 (length s.decisions) e)
 
 pool-cut_row : (s : Subproblem) (column : ℕ) (cs : List Cut) → outs_differ s ≡ true → map (row_over (outs_in_order s) column) cs ≡ map (cut_row s column) cs
 pool-cut_row s column [] e = refl
@@ -131,11 +131,11 @@ outs_all : (P : Out → Type 0) (j : ℕ) (o : Option ℕ) → ((k : ℕ) → o 
 outs_all P j None h = All-nil P
 outs_all P j (Some k) h = All-cons P (record { decision = j; state = k }) [] (h k refl) (All-nil P)
 
-within_from : (s : Subproblem) (c : Cut) (a n : ℕ) → Spans s c → All (IsWithin c.beta) (flat_map (λ j. outs_at j (state_from 0 s.outs j)) (range_with_len a n))
-within_from s c a zero f = All-nil (IsWithin c.beta)
+within_from : (s : Subproblem) (c : Cut) (a n : ℕ) → Spans s c → All (IsSlopeWithin c.beta) (flat_map (λ j. outs_at j (state_from 0 s.outs j)) (range_with_len a n))
+within_from s c a zero f = All-nil (IsSlopeWithin c.beta)
 within_from s c a (suc n) f =
-    All-append (IsWithin c.beta) (outs_at a (state_from 0 s.outs a)) (flat_map (λ j. outs_at j (state_from 0 s.outs j)) (range_with_len (a + 1) n))
-    (outs_all (IsWithin c.beta) a (state_from 0 s.outs a) (λ k e. let w = state_within 0 s.outs a k e in record { there = omega (arith, w.1, f.slopes); small = f.each k (omega (arith, w.1)) })) (within_from s c (a + 1) n f)
+    All-append (IsSlopeWithin c.beta) (outs_at a (state_from 0 s.outs a)) (flat_map (λ j. outs_at j (state_from 0 s.outs j)) (range_with_len (a + 1) n))
+    (outs_all (IsSlopeWithin c.beta) a (state_from 0 s.outs a) (λ k e. let w = state_within 0 s.outs a k e in record { there = omega (arith, w.1, f.slopes); small = f.each k (omega (arith, w.1)) })) (within_from s c (a + 1) n f)
 
-pub within-spans : (s : Subproblem) (c : Cut) → Spans s c → All (IsWithin c.beta) (outs_in_order s)
+pub within-spans : (s : Subproblem) (c : Cut) → Spans s c → All (IsSlopeWithin c.beta) (outs_in_order s)
 within-spans s c f = within_from s c 0 (length s.decisions) f

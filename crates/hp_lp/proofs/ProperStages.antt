@@ -13,19 +13,19 @@ use Rattle.hp_num.specs.Sums.{sum_to, coefficient, placed}
 use Rattle.hp_num.proofs.Order.{le_refl, le_trans, le_add, le_scale}
 use Rattle.hp_num.proofs.Sums.{sum_le}
 use Rattle.hp_num.proofs.Tests.{and_first, and_second, all_at}
-use Rattle.hp_problem.specs.declared.raw.Decision.{Decision}
-use Rattle.hp_problem.specs.declared.raw.Row.{Row}
-use Rattle.hp_problem.specs.declared.raw.Node.{Node}
-use Rattle.hp_problem.specs.declared.raw.Subproblem.{Subproblem}
+use Rattle.hp_parts.specs.declared.parts.Decision.{Decision}
+use Rattle.hp_parts.specs.declared.parts.Row.{Row}
+use Rattle.hp_parts.specs.declared.parts.Node.{Node}
+use Rattle.hp_parts.specs.declared.parts.Subproblem.{Subproblem}
 use Rattle.hp_problem.specs.Formulas.{successor_total}
-use Rattle.hp_problem.specs.Limits.{decision_fits, sides_fit, term_fits, terms_fit, row_fits}
+use Rattle.hp_parts.specs.Limits.{decision_fits, sides_fit, term_fits, terms_fit, row_fits}
 use Rattle.hp_theory.specs.declared.cut.Cut.{Cut}
 use Rattle.hp_theory.specs.Pools.{pool, no_cut}
 use Rattle.hp_solver.specs.declared.fixed.Fx.{Fx}
 use Rattle.hp_solver.specs.declared.programs.Column.{Column}
 use Rattle.hp_solver.specs.declared.programs.LpRow.{LpRow}
 use Rattle.hp_solver.specs.Proper.{AreRising, IsProper}
-use Rattle.hp_lp.specs.Stage.{whole, scaled, decision_column, at_low, at_high, least_value, greatest_value, most_from, future_column, future_columns, side_at, own_row, term_of, cut_row, cut_rows, stage_of}
+use Rattle.hp_lp.specs.Stage.{whole_fixed, scaled, decision_column, at_low, at_high, least_value, greatest_value, most_from, future_column, future_columns, side_at_state, own_row, negated_term, cut_row, cut_rows, stage_program}
 use Rattle.hp_lp.proofs.Terms.{term_facts}
 
 -- boxes
@@ -77,7 +77,7 @@ pub sides-own : (states : ℕ) (s : Subproblem) (values state : List ℤ) (rows 
 sides-own states s values state rows e = All-map HasSides (own_row values state) rows
     (λ k d h. let row : Row = get_or rows k d in
     let fits : row_fits states s row ≡ true = all_at (row_fits states s) rows k d e h in
-    sides_of (side_at values state row) row.low row.high (λ a b i. less_more _ _ _ _ (le_scale (2 ^ 32) a b i)) (grind (arith, common_steps, fits)))
+    sides_of (side_at_state values state row) row.low row.high (λ a b i. less_more _ _ _ _ (le_scale (2 ^ 32) a b i)) (grind (arith, common_steps, fits)))
 
 pub sides-cuts : (s : Subproblem) (pools : List (List Cut)) (column : ℕ) (ms : List ℕ) → All HasSides (cut_rows s pools column ms)
 sides-cuts s pools column [] = All-nil HasSides
@@ -88,26 +88,26 @@ rising_less : (l m count : ℕ) (ts : List (ℕ × Fx)) → l ≤ m → AreRisin
 rising_less l m count [] h r = tt
 rising_less l m count (t ∷ ts) h r = (omega (arith, r.0), r.1, r.2)
 
-rising-own : (count least columns : ℕ) (ts : List (ℕ × ℤ)) → count ≤ columns → terms_fit count least ts ≡ true → AreRising least columns (map (λ (t : ℕ × ℤ). (t.0, whole t.1)) ts)
+rising-own : (count least columns : ℕ) (ts : List (ℕ × ℤ)) → count ≤ columns → terms_fit count least ts ≡ true → AreRising least columns (map (λ (t : ℕ × ℤ). (t.0, whole_fixed t.1)) ts)
 rising-own count least columns [] h e = tt
 rising-own count least columns (t ∷ ts) h e =
     let first = term_facts count least t (and_first (term_fits count least t) (terms_fit count (t.0 + 1) ts) e) in
-    let rest = rising-own count (t.0 + 1) columns ts h (and_second (term_fits count least t) (terms_fit count (t.0 + 1) ts) e) in
-    (first.above, omega (arith, first.below), rising_less (suc t.0) (t.0 + 1) columns (map (λ (t : ℕ × ℤ). (t.0, whole t.1)) ts) (omega arith) rest)
+    let tail = rising-own count (t.0 + 1) columns ts h (and_second (term_fits count least t) (terms_fit count (t.0 + 1) ts) e) in
+    (first.above, omega (arith, first.below), rising_less (suc t.0) (t.0 + 1) columns (map (λ (t : ℕ × ℤ). (t.0, whole_fixed t.1)) ts) (omega arith) tail)
 
-rising_once : (b : Bool) (a count : ℕ) (x : Fx) (rest : List (ℕ × Fx)) → a < count → AreRising (a + 1) count rest → AreRising a count ((if b then [] else (a, x) ∷ []) ++ rest)
-rising_once true a count x rest h r = rising_less a (a + 1) count rest (omega arith) r
-rising_once false a count x rest h r = (omega arith, h, rising_less (suc a) (a + 1) count rest (omega arith) r)
+rising_once : (b : Bool) (a count : ℕ) (x : Fx) (tail : List (ℕ × Fx)) → a < count → AreRising (a + 1) count tail → AreRising a count ((if b then [] else (a, x) ∷ []) ++ tail)
+rising_once true a count x tail h r = rising_less a (a + 1) count tail (omega arith) r
+rising_once false a count x tail h r = (omega arith, h, rising_less (suc a) (a + 1) count tail (omega arith) r)
 
 append_three : {A : Type 0} (xs ys zs : List A) → (xs ++ ys) ++ zs ≡ xs ++ (ys ++ zs)
 append_three [] ys zs = refl
 append_three (x ∷ xs) ys zs = ap (λ l. x ∷ l) (append_three xs ys zs)
 
-rising-slopes : (f : ℕ → ℤ) (a n column count : ℕ) (x : Fx) → a + n ≤ column → column < count → AreRising a count (flat_map (λ j. term_of j (f j)) (range_with_len a n) ++ (column, x) ∷ [])
+rising-slopes : (f : ℕ → ℤ) (a n column count : ℕ) (x : Fx) → a + n ≤ column → column < count → AreRising a count (flat_map (λ j. negated_term j (f j)) (range_with_len a n) ++ (column, x) ∷ [])
 rising-slopes f a zero column count x h k = (omega arith, k, tt)
 rising-slopes f a (suc n) column count x h k =
-    subst (λ (ts : List (ℕ × Fx)). AreRising a count ts) (sym (append_three (term_of a (f a)) (flat_map (λ j. term_of j (f j)) (range_with_len (a + 1) n)) ((column, x) ∷ [])))
-    (rising_once (nat_abs (f a) == 0) a count (scaled (neg_ℤ (f a))) (flat_map (λ j. term_of j (f j)) (range_with_len (a + 1) n) ++ (column, x) ∷ []) (omega arith) (rising-slopes f (a + 1) n column count x (omega arith) k))
+    subst (λ (ts : List (ℕ × Fx)). AreRising a count ts) (sym (append_three (negated_term a (f a)) (flat_map (λ j. negated_term j (f j)) (range_with_len (a + 1) n)) ((column, x) ∷ [])))
+    (rising_once (nat_abs (f a) == 0) a count (scaled (neg_ℤ (f a))) (flat_map (λ j. negated_term j (f j)) (range_with_len (a + 1) n) ++ (column, x) ∷ []) (omega arith) (rising-slopes f (a + 1) n column count x (omega arith) k))
 
 abbrev pub HasTerms : ℕ → LpRow → Type 0
 HasTerms count r = AreRising 0 count r.terms
@@ -122,24 +122,24 @@ pub terms-cuts : (s : Subproblem) (pools : List (List Cut)) (column columns : �
 terms-cuts s pools column columns [] h k = All-nil (HasTerms columns)
 terms-cuts s pools column columns (m ∷ ms) h k =
     All-append (HasTerms columns) (map (cut_row s column) (pool pools m)) (cut_rows s pools (suc column) ms)
-    (All-map (HasTerms columns) (cut_row s column) (pool pools m) (λ i d l. rising-slopes (coefficient (placed s.outs (get_or (pool pools m) i d).beta)) 0 (length s.decisions) column columns (whole (pos 1)) (omega arith) (omega arith)))
+    (All-map (HasTerms columns) (cut_row s column) (pool pools m) (λ i d l. rising-slopes (coefficient (placed s.outs (get_or (pool pools m) i d).beta)) 0 (length s.decisions) column columns (whole_fixed (pos 1)) (omega arith) (omega arith)))
     (terms-cuts s pools (suc column) columns ms (omega arith) (omega arith))
 
 -- all of a stage problem
 module _ (states : ℕ) (n : Node) (s : Subproblem) (decisions : list_all decision_fits s.decisions ≡ true) (rows : list_all (row_fits states s) s.rows ≡ true) where
-  count-columns : (pools : List (List Cut)) → length n.link_weights ≡ length n.links → length (map (decision_column (successor_total n.stop n.link_weights)) s.decisions ++ future_columns s pools n.links n.link_weights) ≡ length s.decisions + length n.links
+  count-columns : (pools : List (List Cut)) → length n.successor_weights ≡ length n.successors → length (map (decision_column (successor_total n.stop n.successor_weights)) s.decisions ++ future_columns s pools n.successors n.successor_weights) ≡ length s.decisions + length n.successors
   count-columns pools e =
-      omega (arith, length-append (map (decision_column (successor_total n.stop n.link_weights)) s.decisions) (future_columns s pools n.links n.link_weights), length-map s.decisions (decision_column (successor_total n.stop n.link_weights)), length-map (zip n.links n.link_weights) (λ (q : ℕ × ℕ). future_column s q.1 (pool pools q.0)), length-zip n.links n.link_weights, e)
+      omega (arith, length-append (map (decision_column (successor_total n.stop n.successor_weights)) s.decisions) (future_columns s pools n.successors n.successor_weights), length-map s.decisions (decision_column (successor_total n.stop n.successor_weights)), length-map (zip n.successors n.successor_weights) (λ (q : ℕ × ℕ). future_column s q.1 (pool pools q.0)), length-zip n.successors n.successor_weights, e)
 
-  pub proper-stage_of : (pools : List (List Cut)) (values state : List ℤ) → length n.link_weights ≡ length n.links → IsProper (stage_of pools n s values state)
-  unfolding stage_of
-  proper-stage_of pools values state e =
+  pub proper-stage_program : (pools : List (List Cut)) (values state : List ℤ) → length n.successor_weights ≡ length n.successors → IsProper (stage_program pools n s values state)
+  unfolding stage_program
+  proper-stage_program pools values state e =
       let count = count-columns pools e in
-      let columns : ℕ = length (map (decision_column (successor_total n.stop n.link_weights)) s.decisions ++ future_columns s pools n.links n.link_weights) in
+      let columns : ℕ = length (map (decision_column (successor_total n.stop n.successor_weights)) s.decisions ++ future_columns s pools n.successors n.successor_weights) in
       record {
-        boxes = All-append HasBox (map (decision_column (successor_total n.stop n.link_weights)) s.decisions) (future_columns s pools n.links n.link_weights) (box-decisions (successor_total n.stop n.link_weights) s.decisions decisions) (box-futures s pools n.links n.link_weights);
-        sides = All-append HasSides (map (own_row values state) s.rows) (cut_rows s pools (length s.decisions) n.links) (sides-own states s values state s.rows rows) (sides-cuts s pools (length s.decisions) n.links);
-        terms = All-append (HasTerms columns) (map (own_row values state) s.rows) (cut_rows s pools (length s.decisions) n.links) (terms-own states columns s values state s.rows (omega (arith, count)) rows) (terms-cuts s pools (length s.decisions) columns n.links (omega arith) (omega (arith, count)));
+        boxes = All-append HasBox (map (decision_column (successor_total n.stop n.successor_weights)) s.decisions) (future_columns s pools n.successors n.successor_weights) (box-decisions (successor_total n.stop n.successor_weights) s.decisions decisions) (box-futures s pools n.successors n.successor_weights);
+        sides = All-append HasSides (map (own_row values state) s.rows) (cut_rows s pools (length s.decisions) n.successors) (sides-own states s values state s.rows rows) (sides-cuts s pools (length s.decisions) n.successors);
+        terms = All-append (HasTerms columns) (map (own_row values state) s.rows) (cut_rows s pools (length s.decisions) n.successors) (terms-own states columns s values state s.rows (omega (arith, count)) rows) (terms-cuts s pools (length s.decisions) columns n.successors (omega arith) (omega (arith, count)));
         decisions = omega (arith, count);
-        own = omega (arith, length-append (map (own_row values state) s.rows) (cut_rows s pools (length s.decisions) n.links), length-map s.rows (own_row values state));
+        own = omega (arith, length-append (map (own_row values state) s.rows) (cut_rows s pools (length s.decisions) n.successors), length-map s.rows (own_row values state));
       }

@@ -2,12 +2,12 @@
 use Rattle.std.proofs.Common.{◌≡◌, ◌∙◌, ℕ, suc, ◌+◌, ◌<◌, ℤ, Option, List, ◌++◌, length, map, take, drop, get_or, set, ap, sym, arith}
 use Rattle.std.specs.Option.{option_map}
 use Rattle.std.proofs.lemmas.List.{length-set}
-use Rattle.hp_problem.specs.declared.raw.Row.{Row}
+use Rattle.hp_parts.specs.declared.parts.Row.{Row}
 use Rattle.hp_solver.specs.declared.fixed.Fx.{Fx}
 use Rattle.hp_solver.specs.declared.programs.LpRow.{LpRow}
 use Rattle.hp_solver.specs.declared.programs.Program.{Program}
 use Rattle.hp_solver.specs.StageLps.{no_row, with_sides}
-use Rattle.hp_lp.specs.Stage.{side_at, own_row}
+use Rattle.hp_lp.specs.Stage.{side_at_state, own_row}
 use Rattle.hp_lp.proofs.Seams.{set_next, next_is}
 
 module _ (lp new : Program) (i : ℕ) (low high : Option Fx) (is : new ≡ with_sides i low high lp) where
@@ -25,13 +25,13 @@ module _ (lp new : Program) (i : ℕ) (low high : Option Fx) (is : new ≡ with_
 
 -- one row more has its sides
 pub next_restated : (values state before now : List ℤ) (rows : List Row) (i : ℕ) (row : Row) (lp new : Program) (cuts : List LpRow) → i < length rows → row ≡ get_or rows i row
-    → new ≡ with_sides i (option_map (side_at values state row) row.low) (option_map (side_at values state row) row.high) lp
+    → new ≡ with_sides i (option_map (side_at_state values state row) row.low) (option_map (side_at_state values state row) row.high) lp
     → lp.rows ≡ map (own_row values state) (take i rows) ++ (map (own_row before now) (drop i rows) ++ cuts)
     → new.rows ≡ map (own_row values state) (take (i + 1) rows) ++ (map (own_row before now) (drop (i + 1) rows) ++ cuts)
 next_restated values state before now rows i row lp new cuts inside here is stood =
     let former : List LpRow = map (own_row values state) (take i rows) ++ (map (own_row before now) (drop i rows) ++ cuts) in
-    let low : Option Fx = option_map (side_at values state row) row.low in
-    let high : Option Fx = option_map (side_at values state row) row.high in
+    let low : Option Fx = option_map (side_at_state values state row) row.low in
+    let high : Option Fx = option_map (side_at_state values state row) row.high in
     let stands : get_or former i no_row ≡ own_row before now row = next_is (own_row values state) (own_row before now) rows i row no_row cuts inside ∙ ap (own_row before now) (sym here) in
     let next : suc i ≡ i + 1 = omega arith in
     ap (λ (p : Program). p.rows) is

@@ -1,10 +1,10 @@
 -- Values and states that are given for a stage, and rows that go with them.
 use Rattle.std.specs.Prelude.{◌≡◌, ℕ, ◌<◌, ◌≤◌, ◌^◌, ℤ, true, nat_lt, nat_abs, List, [], length, get_or, All}
 use Rattle.std.specs.List.{list_all}
-use Rattle.hp_problem.specs.declared.raw.Row.{Row}
-use Rattle.hp_problem.specs.declared.raw.Node.{Node}
-use Rattle.hp_problem.specs.declared.raw.Subproblem.{Subproblem}
-use Rattle.hp_problem.specs.Limits.{terms_fit, outs_differ}
+use Rattle.hp_parts.specs.declared.parts.Row.{Row}
+use Rattle.hp_parts.specs.declared.parts.Node.{Node}
+use Rattle.hp_parts.specs.declared.parts.Subproblem.{Subproblem}
+use Rattle.hp_parts.specs.Limits.{terms_fit, outs_differ}
 use Rattle.hp_theory.specs.declared.cut.Cut.{Cut}
 use Rattle.hp_theory.specs.Pools.{pool}
 use Rattle.hp_lp.specs.Nodes.{quarters}
@@ -28,17 +28,17 @@ pub record AreOf (s : Subproblem) (values state : List ℤ) : Type 0 where
   pub over : All (IsOver (length state) (length values)) s.rows
 
 -- the parts of a node within limits, and the cuts of its successors
-pub record AreWithin (pools : List (List Cut)) (n : Node) (s : Subproblem) : Type 0 where
+pub record AreNodePartsWithin (pools : List (List Cut)) (n : Node) (s : Subproblem) : Type 0 where
   pub decisions : length s.decisions ≤ 200
   pub rows : length s.rows ≤ 200
   pub outs : length s.outs ≤ 50
   pub known_outs : list_all (λ o. nat_lt o (length s.decisions)) s.outs ≡ true
   pub differ : outs_differ s ≡ true
-  pub weights : length n.link_weights ≡ length n.links
-  pub links : length n.links ≤ 1000
-  pub there : All (λ m. m < length pools) n.links
-  pub some : All (λ m. 0 < length (pool pools m)) n.links
-  pub spans : All (λ m. All (Spans s) (pool pools m)) n.links
+  pub weights : length n.successor_weights ≡ length n.successors
+  pub successors : length n.successors ≤ 1000
+  pub there : All (λ m. m < length pools) n.successors
+  pub some : All (λ m. 0 < length (pool pools m)) n.successors
+  pub spans : All (λ m. All (Spans s) (pool pools m)) n.successors
 
 -- the parts of the reference program of a node in this box, within limits
 pub record HasReference (n : Node) (s : Subproblem) (low high : List ℤ) : Type 0 where

@@ -3,9 +3,9 @@ use Rattle.std.specs.Prelude.{ℕ, List, length, map}
 use Rattle.std.specs.Int.{int_min, int_max}
 use Rattle.std.specs.List.{range_with_len}
 use Rattle.hp_num.specs.Sums.{entry}
-use Rattle.hp_problem.specs.declared.raw.Subproblem.{Subproblem}
-use Rattle.hp_problem.specs.Sealed.{out_lows, out_highs}
-use Rattle.hp_cut.specs.declared.peaks.OutBox.{OutBox}
+use Rattle.hp_parts.specs.declared.parts.Subproblem.{Subproblem}
+use Rattle.hp_problem.specs.Validated.{out_lows, out_highs}
+use Rattle.hp_cut.specs.declared.box_maxima.OutBox.{OutBox}
 
 -- the ends of the box of the outgoing state k, the lesser and the greater
 abbrev pub out_box : Subproblem → ℕ → OutBox

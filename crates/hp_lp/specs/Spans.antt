@@ -1,7 +1,7 @@
 -- Cuts whose values over the states that leave a stage stay small.
 use Rattle.std.specs.Prelude.{◌≡◌, ℕ, ◌<◌, ◌≤◌, ◌^◌, ℤ, List, nat_abs, length}
 use Rattle.hp_num.specs.Sums.{entry}
-use Rattle.hp_problem.specs.declared.raw.Subproblem.{Subproblem}
+use Rattle.hp_parts.specs.declared.parts.Subproblem.{Subproblem}
 use Rattle.hp_theory.specs.declared.cut.Cut.{Cut}
 use Rattle.hp_solver.specs.declared.packed.Out.{Out}
 use Rattle.hp_lp.specs.Stage.{at_low, at_high}
@@ -15,6 +15,6 @@ pub record Spans (s : Subproblem) (c : Cut) : Type 0 where
   pub highs : (k : ℕ) → k < length s.outs → nat_abs (at_high s c k) ≤ 2 ^ 104
 
 -- there is a slope for the state, of at most 2^104
-pub record IsWithin (slopes : List ℤ) (o : Out) : Type 0 where
+pub record IsSlopeWithin (slopes : List ℤ) (o : Out) : Type 0 where
   pub there : o.state < length slopes
   pub small : nat_abs (entry slopes o.state) ≤ 2 ^ 104

@@ -2,7 +2,7 @@
 ghost use Rattle.std.specs.Prelude.{◌≡◌, ◌<◌, ◌≤◌, ◌^◌, ◌++◌, true, length, map, nat_lt, nat_abs, All, IfOk, OnOk};
 ghost use Rattle.std.specs.List.{list_all};
 ghost use Rattle.hp_theory.specs.Pools.{pool};
-ghost use Rattle.hp_lp.specs.Stage.{decision_column, future_column, future_columns, peak_of};
+ghost use Rattle.hp_lp.specs.Stage.{decision_column, future_column, future_columns, box_maximum_of};
 ghost use Rattle.hp_lp.specs.OutBoxes.{out_boxes};
 ghost use Rattle.hp_lp.specs.Spans.{Spans};
 
@@ -11,7 +11,7 @@ use crate::out_boxes::out_boxes;
 use crate::scales::{scaled, weighted, whole};
 use hp_cut::{OutBox, Pools};
 use hp_num::{List, Memory};
-use hp_problem::{Decision, Subproblem};
+use hp_parts::{Decision, Subproblem};
 use hp_solver::Column;
 use std::alloc::Global;
 
@@ -40,19 +40,19 @@ pub(crate) fn decision_columns(
     Ok(found)
 }
 
-/// Gives the greatest value of a successor's cuts over the states that may leave the stage: the peak that the pools keep, and
+/// Gives the greatest value of a successor's cuts over the states that may leave the stage: the box maximum that the pools keep, and
 /// where they keep none, that of a walk over the cuts.
-fn peak(subproblem: &Subproblem, boxes: &[OutBox], pools: &Pools, successor: usize) -> i128
+fn box_maximum(subproblem: &Subproblem, boxes: &[OutBox], pools: &Pools, successor: usize) -> i128
     requires there { successor < length pools.now.lists }
     requires some { 0 < length (pool pools.now.lists successor) }
     requires spans { All (Spans subproblem.now) (pool pools.now.lists successor) }
     requires few { length subproblem.now.outs ≤ 50 }
     requires boxes { boxes.now ≡ out_boxes subproblem.now }
-    ensures value { result ≡ peak_of subproblem.now (pool pools.now.lists successor) }
+    ensures value { result ≡ box_maximum_of subproblem.now (pool pools.now.lists successor) }
     ensures small { nat_abs result ≤ 2 ^ 110 }
 {
-    if let Some(peak) = pools.peak(successor, boxes) {
-        return peak;
+    if let Some(box_maximum) = pools.box_maximum(successor, boxes) {
+        return box_maximum;
     }
     let cuts = pools.cuts(successor);
     let first = greatest_value(subproblem, boxes, &cuts[0]);
@@ -78,7 +78,7 @@ fn future_column(
     let base = &pools.cuts(successor)[0];
     Column {
         low: scaled(least_value(subproblem, base)),
-        high: scaled(peak(subproblem, boxes, pools, successor)),
+        high: scaled(box_maximum(subproblem, boxes, pools, successor)),
         cost: whole(i64::from(weight)),
     }
 }
@@ -89,20 +89,20 @@ pub(crate) fn push_future_columns(
     columns: &mut List<Column>,
     subproblem: &Subproblem,
     pools: &Pools,
-    links: &[u32],
+    successors: &[u32],
     weights: &[u32],
 ) -> Result<(), Memory>
-    requires counts { length weights.now ≡ length links.now }
-    requires there { All (λ m. m < length pools.now.lists) links.now }
-    requires some { All (λ m. 0 < length (pool pools.now.lists m)) links.now }
-    requires spans { All (λ m. All (Spans subproblem.now) (pool pools.now.lists m)) links.now }
+    requires counts { length weights.now ≡ length successors.now }
+    requires there { All (λ m. m < length pools.now.lists) successors.now }
+    requires some { All (λ m. 0 < length (pool pools.now.lists m)) successors.now }
+    requires spans { All (λ m. All (Spans subproblem.now) (pool pools.now.lists m)) successors.now }
     requires few { length subproblem.now.outs ≤ 50 }
     requires known { list_all (λ o. nat_lt o (length subproblem.now.decisions)) subproblem.now.outs ≡ true }
-    ensures { OnOk result (columns.new ≡ columns.old ++ future_columns subproblem.now pools.now.lists links.now weights.now) }
+    ensures { OnOk result (columns.new ≡ columns.old ++ future_columns subproblem.now pools.now.lists successors.now weights.now) }
 {
     let boxes = out_boxes(alloc, subproblem)?;
-    for i in 0..links.len() {
-        let successor = links[i] as usize;
+    for i in 0..successors.len() {
+        let successor = successors[i] as usize;
         let column = future_column(subproblem, boxes.as_slice(), weights[i], pools, successor);
         columns.push(column)?;
     }

@@ -10,7 +10,7 @@ ghost use Rattle.hp_lp.specs.Spans.{Spans};
 use crate::out_boxes::out_decision;
 use crate::scales::sum;
 use hp_cut::{Cut, OutBox};
-use hp_problem::Subproblem;
+use hp_parts::Subproblem;
 
 fn product(slope: i128, end: i64) -> i128
     requires { nat_abs (slope *ℤ end) ≤ 2 ^ 104 }

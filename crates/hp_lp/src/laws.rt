@@ -1,6 +1,6 @@
 // Laws on the stage problems of a node.
 ghost use Rattle.std.specs.Prelude.{◌≡◌, ◌<◌, ℕ, ℤ, true, List, length, Some};
-ghost use Rattle.hp_problem.specs.Sealed.{Sealed, is_sealed};
+ghost use Rattle.hp_problem.specs.Validated.{Validated, is_validated};
 ghost use Rattle.hp_theory.specs.declared.cut.Cut.{Cut};
 ghost use Rattle.hp_solver.specs.declared.programs.Program.{Program};
 ghost use Rattle.hp_solver.specs.Proper.{IsProper, Extends, IsLike};
@@ -10,14 +10,14 @@ ghost use Rattle.hp_lp.specs.Nodes.{stage_in, reference_in};
 /// so a chain may take one after the other; and a chain may begin with each of them from the start that the solver makes by the
 /// node's reference program.
 pub fn stages_of_a_node()
-    ensures proper { (p : Sealed) → is_sealed p ≡ true → (m : ℕ) → m < length p.raw.nodes
+    ensures proper { (p : Validated) → is_validated p ≡ true → (m : ℕ) → m < length p.parts.nodes
         → (pools : List (List Cut)) → (values state : List ℤ) → (lp : Program)
         → stage_in p pools m values state ≡ Some lp → IsProper lp }
-    ensures like { (p : Sealed) → is_sealed p ≡ true → (m : ℕ) → m < length p.raw.nodes
+    ensures like { (p : Validated) → is_validated p ≡ true → (m : ℕ) → m < length p.parts.nodes
         → (pools : List (List Cut)) → (values state others next : List ℤ) → (lp other : Program)
         → stage_in p pools m values state ≡ Some lp → stage_in p pools m others next ≡ Some other
         → IsLike lp other }
-    ensures extends { (p : Sealed) → is_sealed p ≡ true → (m : ℕ) → m < length p.raw.nodes
+    ensures extends { (p : Validated) → is_validated p ≡ true → (m : ℕ) → m < length p.parts.nodes
         → (pools : List (List Cut)) → (values state : List ℤ) → (lp program : Program)
         → reference_in p m ≡ Some program → stage_in p pools m values state ≡ Some lp
         → Extends program lp }

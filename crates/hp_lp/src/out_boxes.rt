@@ -2,12 +2,12 @@
 ghost use Rattle.std.specs.Prelude.{◌≡◌, ◌<◌, true, length, nat_lt, IfOk};
 ghost use Rattle.std.specs.List.{list_all};
 ghost use Rattle.hp_num.specs.Sums.{entry};
-ghost use Rattle.hp_problem.specs.Sealed.{out_lows, out_highs};
+ghost use Rattle.hp_problem.specs.Validated.{out_lows, out_highs};
 ghost use Rattle.hp_lp.specs.OutBoxes.{out_box, out_boxes};
 
 use hp_cut::OutBox;
 use hp_num::{List, Memory};
-use hp_problem::{Decision, Subproblem};
+use hp_parts::{Decision, Subproblem};
 use std::alloc::Global;
 
 /// The decision that leaves the stage as a state.

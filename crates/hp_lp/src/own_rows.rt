@@ -2,18 +2,18 @@
 ghost use Rattle.std.specs.Prelude.{◌≡◌, ◌<◌, ◌≤◌, ◌^◌, ◌++◌, ℕ, ℤ, pos, ◌*ℤ◌, ◌-ℤ◌, List, true, length, map, nat_abs, All, IfOk, OnOk};
 ghost use Rattle.std.specs.Option.{option_map};
 ghost use Rattle.hp_num.specs.Sums.{at_terms, entry};
-ghost use Rattle.hp_problem.specs.Limits.{terms_fit};
+ghost use Rattle.hp_parts.specs.Limits.{terms_fit};
 ghost use Rattle.hp_solver.specs.declared.programs.LpRow.{LpRow};
 ghost use Rattle.hp_solver.specs.Numbers.{number};
 ghost use Rattle.hp_solver.specs.StageLps.{with_sides};
-ghost use Rattle.hp_lp.specs.Stage.{whole, side_at, own_row};
+ghost use Rattle.hp_lp.specs.Stage.{whole_fixed, side_at_state, own_row};
 ghost use Rattle.hp_lp.specs.Given.{AreGiven, IsOver};
 
 use crate::scales::{CUT_SCALE, sum, whole};
 use crate::workspace::Workspace;
 use crate::written_rows::{RowParts, WrittenRows, cleared};
 use hp_num::{List, Memory};
-use hp_problem::Row;
+use hp_parts::Row;
 use hp_solver::fixed::ONE;
 use hp_solver::{Fx, LpRow, StageLp};
 
@@ -117,21 +117,21 @@ fn bound_less(bound: Option<i64>, of_state: i128, of_values: i128) -> Option<Fx>
 
 // The sides of a row.
 #[derive(Clone, Copy)]
-struct Sides {
+struct ProgramSides {
     low: Option<Fx>,
     high: Option<Fx>,
 }
 
 /// The sides of a row at the values and the state.
-fn sides_at(row: &Row, values: &[i64], state: &[i128]) -> Sides
+fn sides_at(row: &Row, values: &[i64], state: &[i128]) -> ProgramSides
     requires given { AreGiven values.now state.now }
     requires over { IsOver (length state.now) (length values.now) row.now }
-    ensures low { result.low ≡ option_map (side_at values.now state.now row.now) row.now.low }
-    ensures high { result.high ≡ option_map (side_at values.now state.now row.now) row.now.high }
+    ensures low { result.low ≡ option_map (side_at_state values.now state.now row.now) row.now.low }
+    ensures high { result.high ≡ option_map (side_at_state values.now state.now row.now) row.now.high }
 {
     let of_state = at_state(row.states.as_slice(), state);
     let of_values = at_values(row.randoms.as_slice(), values);
-    Sides {
+    ProgramSides {
         low: bound_less(row.low, of_state, of_values),
         high: bound_less(row.high, of_state, of_values),
     }
@@ -139,7 +139,7 @@ fn sides_at(row: &Row, values: &[i64], state: &[i128]) -> Sides
 
 // The terms of a row, over the decisions' columns, in the memory of a list that is done with.
 fn own_terms(terms: &[(u32, i64)], over: List<(u32, Fx)>) -> Result<List<(u32, Fx)>, Memory>
-    ensures { IfOk result (λ found. found ≡ map (λ (t : ℕ × ℤ). (t.0, whole t.1)) terms.now) }
+    ensures { IfOk result (λ found. found ≡ map (λ (t : ℕ × ℤ). (t.0, whole_fixed t.1)) terms.now) }
 {
     let mut found = cleared(over, terms.len())?;
     for (variable, factor) in terms {
@@ -163,7 +163,7 @@ impl RowParts for OwnRow<'_> {
 
     fn make(&self, terms: List<(u32, Fx)>) -> Result<LpRow, Memory> {
         let terms = own_terms(self.row.decisions.as_slice(), terms)?;
-        let Sides { low, high } = sides_at(self.row, self.values, self.state);
+        let ProgramSides { low, high } = sides_at(self.row, self.values, self.state);
         Ok(LpRow { low, high, terms })
     }
 }
@@ -191,9 +191,9 @@ fn set_row_sides(row: &Row, values: &[i64], state: &[i128], i: usize, lp: &mut S
     requires given { AreGiven values.now state.now }
     requires over { IsOver (length state.now) (length values.now) row.now }
     requires own { i < lp.old.own }
-    ensures { lp.new ≡ with_sides i (option_map (side_at values.now state.now row.now) row.now.low) (option_map (side_at values.now state.now row.now) row.now.high) lp.old }
+    ensures { lp.new ≡ with_sides i (option_map (side_at_state values.now state.now row.now) row.now.low) (option_map (side_at_state values.now state.now row.now) row.now.high) lp.old }
 {
-    let Sides { low, high } = sides_at(row, values, state);
+    let ProgramSides { low, high } = sides_at(row, values, state);
     lp.set_sides(i, low, high);
 }
 
@@ -203,7 +203,7 @@ pub(crate) fn set_own_sides(rows: &[Row], values: &[i64], state: &[i128], lp: &m
     requires over { All (IsOver (length state.now) (length values.now)) rows.now }
     requires own { length rows.now ≡ lp.old.own }
     requires count { length rows.now ≤ length lp.old.rows }
-    ensures rest { lp.new ≡ record lp.old { rows = lp.new.rows } }
+    ensures tail { lp.new ≡ record lp.old { rows = lp.new.rows } }
     ensures count { length lp.new.rows ≡ length lp.old.rows }
     ensures value { (before now : List ℤ) → (cuts : List LpRow) → lp.old.rows ≡ map (own_row before now) rows.now ++ cuts
         → lp.new.rows ≡ map (own_row values.now state.now) rows.now ++ cuts }

@@ -1,10 +1,10 @@
 // The cuts of a node's successors, side by side, as a stage problem sees them.
-ghost use Rattle.std.specs.Prelude.{◌≡◌, ◌<◌, ◌≤◌, length, map, All, IfOk, IfSome};
+ghost use Rattle.std.specs.Prelude.{◌≡◌, ◌<◌, length, map, All, IfOk, IfSome};
 ghost use Rattle.hp_theory.specs.Pools.{pool};
 ghost use Rattle.hp_cut.specs.FlatCuts.{packed_cut};
 ghost use Rattle.hp_solver.specs.Packed.{rows_of, IsView};
 ghost use Rattle.hp_lp.specs.Stage.{cut_rows};
-ghost use Rattle.hp_lp.specs.Given.{AreWithin};
+ghost use Rattle.hp_lp.specs.Given.{AreNodePartsWithin};
 
 use crate::outs::outs_in_order;
 use crate::stages::StageNode;
@@ -17,14 +17,14 @@ use std::alloc::Global;
 fn packed_cuts<'a>(
     alloc: Global,
     pools: &'a Pools,
-    links: &[u32],
+    successors: &[u32],
 ) -> Result<Option<List<PackedCuts<'a>>>, Memory>
-    requires { All (λ m. m < length pools.now.lists) links.now }
-    ensures { IfOk result (λ found. IfSome found (λ cuts. cuts ≡ map (λ m. map packed_cut (pool pools.now.lists m)) links.now)) }
+    requires { All (λ m. m < length pools.now.lists) successors.now }
+    ensures { IfOk result (λ found. IfSome found (λ cuts. cuts ≡ map (λ m. map packed_cut (pool pools.now.lists m)) successors.now)) }
 {
-    let mut found = List::from_vec(Vec::with_capacity(alloc, links.len())?);
-    for link in links {
-        match pools.packed(*link as usize) {
+    let mut found = List::from_vec(Vec::with_capacity(alloc, successors.len())?);
+    for successor in successors {
+        match pools.packed(*successor as usize) {
             Some(cuts) => found.push(cuts)?,
             None => return Ok(None),
         }
@@ -39,11 +39,11 @@ pub(crate) fn packed_view<'a>(
     stage: &StageNode,
     pools: &'a Pools,
 ) -> Result<Option<PackedView<'a>>, Memory>
-    requires { AreWithin pools.now.lists stage.now.node.now stage.now.subproblem.now }
-    ensures cuts { IfOk result (λ found. IfSome found (λ v. rows_of v ≡ cut_rows stage.now.subproblem.now pools.now.lists (length stage.now.subproblem.now.decisions) stage.now.node.now.links)) }
+    requires { AreNodePartsWithin pools.now.lists stage.now.node.now stage.now.subproblem.now }
+    ensures cuts { IfOk result (λ found. IfSome found (λ v. rows_of v ≡ cut_rows stage.now.subproblem.now pools.now.lists (length stage.now.subproblem.now.decisions) stage.now.node.now.successors)) }
     ensures view { IfOk result (λ found. IfSome found IsView) }
 {
-    let Some(cuts) = packed_cuts(alloc, pools, stage.node.links.as_slice())? else {
+    let Some(cuts) = packed_cuts(alloc, pools, stage.node.successors.as_slice())? else {
         return Ok(None);
     };
     Ok(Some(PackedView {

@@ -61,12 +61,12 @@ impl<'a, V: Solver> Planner<'a, V> {
     /// Begins a chain of a node with one of its stage problems, by the start of the node. The chain may take this stage problem
     /// and each that [`set_sides`](crate::set_sides) makes of it. [`Memory`] where memory was refused.
     pub fn begin(&self, alloc: Global, node: u32, lp: &StageLp) -> Result<V::Chain, Memory>
-        requires known { node < length self.now.problem.now.raw.nodes }
+        requires known { node < length self.now.problem.now.parts.nodes }
         requires stage { IsStageAt self.now.problem.now node lp.now }
         ensures made { IfOk result (λ chain. chain ≡ begun_at (V.does self.now.solver.now) self.now.problem.now node lp.now) }
         ensures fits { IfOk result (λ chain. (other : Program) → IsLike lp.now other → V.fits self.now.solver.now chain other) }
     {
-        let _ = self.problem.raw();
+        let _ = self.problem.parts();
         self.solver.begin(alloc, self.starts.at(node), lp)
     }
 }

@@ -11,13 +11,13 @@ use std::alloc::Global;
 
 // Makes the cuts of a node's successors ready for its stage problems.
 fn prepare_at(alloc: Global, problem: &Problem, pools: &mut Pools, node: u32) -> Result<(), Memory>
-    requires known { node < length problem.now.raw.nodes }
+    requires known { node < length problem.now.parts.nodes }
     requires fit { PoolsFit problem.now pools.old.lists }
     ensures { pools.new ≡ pools.old }
 {
     let stage = StageNode::of(problem, node);
     let boxes = out_boxes(alloc, stage.subproblem)?;
-    for successor in stage.node.links.as_slice() {
+    for successor in stage.node.successors.as_slice() {
         pools.prepare(alloc, *successor, boxes.as_slice())?;
     }
     Ok(())
@@ -31,7 +31,7 @@ pub fn prepare(alloc: Global, problem: &Problem, pools: &mut Pools) -> Result<()
     requires fit { PoolsFit problem.now pools.old.lists }
     ensures { pools.new ≡ pools.old }
 {
-    let nodes = problem.raw().nodes.len() as u32;
+    let nodes = problem.parts().nodes.len() as u32;
     for node in 0..nodes {
         prepare_at(alloc, problem, pools, node)?;
     }

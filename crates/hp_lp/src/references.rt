@@ -37,10 +37,10 @@ fn quarters(alloc: Global, low: &[i64], high: &[i64]) -> Result<List<i128>, Memo
 }
 
 // Appends a column that stands at 0 and costs nothing for each successor.
-fn push_idle_columns(columns: &mut List<Column>, links: &[u32]) -> Result<(), Memory>
-    ensures { OnOk result (columns.new ≡ columns.old ++ map (λ (m : ℕ). idle_column) links.now) }
+fn push_idle_columns(columns: &mut List<Column>, successors: &[u32]) -> Result<(), Memory>
+    ensures { OnOk result (columns.new ≡ columns.old ++ map (λ (m : ℕ). idle_column) successors.now) }
 {
-    for _ in links {
+    for _ in successors {
         columns.push(Column {
             low: Fx(0),
             high: Fx(0),
@@ -89,12 +89,12 @@ fn reference_of<'a>(
     low: &[i64],
     high: &[i64],
 ) -> Result<StageLp<'a>, Memory>
-    requires weight { stage.now.weight ≡ successor_total stage.now.node.now.stop stage.now.node.now.link_weights }
+    requires weight { stage.now.weight ≡ successor_total stage.now.node.now.stop stage.now.node.now.successor_weights }
     requires parts { HasReference stage.now.node.now stage.now.subproblem.now low.now high.now }
     ensures { IfOk result (λ lp. lp ≡ reference_of stage.now.node.now stage.now.subproblem.now low.now high.now) }
 {
     let mut columns = decision_columns(alloc, stage.weight, stage.subproblem.decisions.as_slice())?;
-    push_idle_columns(&mut columns, stage.node.links.as_slice())?;
+    push_idle_columns(&mut columns, stage.node.successors.as_slice())?;
     Ok(StageLp::of(Program {
         columns,
         rows: reference_rows(alloc, stage, low, high)?,
@@ -107,7 +107,7 @@ fn reference_of<'a>(
 /// the first realization and the state a quarter of the way up the box. The columns of the successors stand at 0 and cost
 /// nothing. [`Memory`] where memory was refused.
 pub fn reference<'a>(alloc: Global, problem: &Problem, node: u32) -> Result<StageLp<'a>, Memory>
-    requires { node < length problem.now.raw.nodes }
+    requires { node < length problem.now.parts.nodes }
     ensures value { IfOk result (λ lp. reference_in problem.now node ≡ Some lp) }
     ensures proper { IfOk result IsProper }
     ensures reference { IfOk result IsReference }

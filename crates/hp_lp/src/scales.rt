@@ -1,6 +1,6 @@
 // Numbers of a problem and of cuts at the scale of linear programs.
 ghost use Rattle.std.specs.Prelude.{◌≡◌, ◌≤◌, ◌^◌, pos, ◌+ℤ◌, ◌*ℤ◌, nat_abs};
-ghost use Rattle.hp_lp.specs.Stage.{whole, scaled};
+ghost use Rattle.hp_lp.specs.Stage.{whole_fixed, scaled};
 
 use hp_solver::Fx;
 use hp_solver::fixed::ONE;
@@ -10,14 +10,14 @@ pub(crate) const CUT_SCALE: i128 = 256;
 
 /// A whole number.
 pub(crate) fn whole(value: i64) -> Fx
-    ensures { result ≡ whole value }
+    ensures { result ≡ whole_fixed value }
 {
     Fx(ONE * i128::from(value))
 }
 
 /// A cost that counts as often as a weight says.
 pub(crate) fn weighted(weight: u32, cost: i64) -> Fx
-    ensures { result ≡ whole (pos weight *ℤ cost) }
+    ensures { result ≡ whole_fixed (pos weight *ℤ cost) }
 {
     Fx(ONE * (i128::from(weight) * i128::from(cost)))
 }

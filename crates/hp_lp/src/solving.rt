@@ -1,7 +1,7 @@
 // Answers to the stage problem of a node.
 ghost use Rattle.std.specs.Prelude.{◌≡◌, ◌<◌, true, length, IfOk};
-ghost use Rattle.hp_problem.specs.Limits.{are_values};
-ghost use Rattle.hp_problem.specs.Sealed.{subproblem_of};
+ghost use Rattle.hp_parts.specs.Limits.{are_values};
+ghost use Rattle.hp_problem.specs.Validated.{subproblem_of};
 ghost use Rattle.hp_cut.specs.AtNodes.{IsStateAt, PoolsFit};
 ghost use Rattle.hp_lp.specs.Chained.{stage_answer};
 
@@ -22,7 +22,7 @@ pub fn solve_stage<V: Solver>(
     values: &[i64],
     state: &[i128],
 ) -> Result<Answer, Memory>
-    requires known { node < length planner.now.problem.now.raw.nodes }
+    requires known { node < length planner.now.problem.now.parts.nodes }
     requires fit { PoolsFit planner.now.problem.now pools.now.lists }
     requires values { are_values (subproblem_of planner.now.problem.now node) values.now ≡ true }
     requires state { IsStateAt planner.now.problem.now node state.now }

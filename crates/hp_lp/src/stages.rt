@@ -1,15 +1,15 @@
 // The stage problem of a node.
 ghost use Rattle.std.specs.Prelude.{◌≡◌, ◌<◌, ◌≤◌, ◌++◌, ℤ, true, List, length, map, Some, IfOk};
 ghost use Rattle.hp_problem.specs.Formulas.{successor_total};
-ghost use Rattle.hp_problem.specs.Limits.{are_values};
-ghost use Rattle.hp_problem.specs.Sealed.{subproblem_of};
+ghost use Rattle.hp_parts.specs.Limits.{are_values};
+ghost use Rattle.hp_problem.specs.Validated.{subproblem_of};
 ghost use Rattle.hp_theory.specs.declared.cut.Cut.{Cut};
 ghost use Rattle.hp_cut.specs.AtNodes.{IsStateAt, PoolsFit};
 ghost use Rattle.hp_solver.specs.Packed.{rows_of, IsView};
 ghost use Rattle.hp_solver.specs.Proper.{IsProper, IsLike};
-ghost use Rattle.hp_lp.specs.Stage.{decision_column, future_columns, own_row, cut_rows, stage_of};
+ghost use Rattle.hp_lp.specs.Stage.{decision_column, future_columns, own_row, cut_rows, stage_program};
 ghost use Rattle.hp_lp.specs.Nodes.{Stands, stage_in, IsStageAt};
-ghost use Rattle.hp_lp.specs.Given.{AreOf, AreWithin};
+ghost use Rattle.hp_lp.specs.Given.{AreOf, AreNodePartsWithin};
 
 use crate::columns::{decision_columns, push_future_columns};
 use crate::cut_rows::push_cut_rows;
@@ -19,7 +19,8 @@ use crate::workspace::Workspace;
 use crate::written_rows::WrittenRows;
 use hp_cut::Pools;
 use hp_num::{List, Memory};
-use hp_problem::{Node, Problem, Subproblem};
+use hp_parts::{Node, Subproblem};
+use hp_problem::Problem;
 use hp_solver::{Column, LpRow, PackedView, Program, StageLp};
 use std::alloc::Global;
 
@@ -35,12 +36,12 @@ pub(crate) struct StageNode<'a> {
 impl<'a> StageNode<'a> {
     /// The node with a number.
     pub(crate) fn of(problem: &'a Problem, node: u32) -> StageNode<'a>
-        requires { node < length problem.now.raw.nodes }
+        requires { node < length problem.now.parts.nodes }
         ensures stands { Stands problem.now node result.node.now result.subproblem.now }
-        ensures weight { result.weight ≡ successor_total result.node.now.stop result.node.now.link_weights }
+        ensures weight { result.weight ≡ successor_total result.node.now.stop result.node.now.successor_weights }
     {
         StageNode {
-            node: &problem.raw().nodes.as_slice()[node as usize],
+            node: &problem.parts().nodes.as_slice()[node as usize],
             subproblem: problem.sub(node),
             weight: problem.q(node),
         }
@@ -49,9 +50,9 @@ impl<'a> StageNode<'a> {
 
 // The decisions' columns, and then the successors'.
 fn columns(alloc: Global, stage: &StageNode, pools: &Pools) -> Result<List<Column>, Memory>
-    requires { AreWithin pools.now.lists stage.now.node.now stage.now.subproblem.now }
+    requires { AreNodePartsWithin pools.now.lists stage.now.node.now stage.now.subproblem.now }
     ensures { IfOk result (λ found. found ≡ map (decision_column stage.now.weight) stage.now.subproblem.now.decisions
-        ++ future_columns stage.now.subproblem.now pools.now.lists stage.now.node.now.links stage.now.node.now.link_weights) }
+        ++ future_columns stage.now.subproblem.now pools.now.lists stage.now.node.now.successors stage.now.node.now.successor_weights) }
 {
     let mut found = decision_columns(alloc, stage.weight, stage.subproblem.decisions.as_slice())?;
     push_future_columns(
@@ -59,8 +60,8 @@ fn columns(alloc: Global, stage: &StageNode, pools: &Pools) -> Result<List<Colum
         &mut found,
         stage.subproblem,
         pools,
-        stage.node.links.as_slice(),
-        stage.node.link_weights.as_slice(),
+        stage.node.successors.as_slice(),
+        stage.node.successor_weights.as_slice(),
     )?;
     Ok(found)
 }
@@ -94,10 +95,10 @@ fn rows(
     values: &[i64],
     state: &[i128],
 ) -> Result<List<LpRow>, Memory>
-    requires within { AreWithin pools.now.lists stage.now.node.now stage.now.subproblem.now }
+    requires within { AreNodePartsWithin pools.now.lists stage.now.node.now stage.now.subproblem.now }
     requires given { AreOf stage.now.subproblem.now values.now state.now }
     ensures { IfOk result (λ found. found ≡ map (own_row values.now state.now) stage.now.subproblem.now.rows
-        ++ cut_rows stage.now.subproblem.now pools.now.lists (length stage.now.subproblem.now.decisions) stage.now.node.now.links) }
+        ++ cut_rows stage.now.subproblem.now pools.now.lists (length stage.now.subproblem.now.decisions) stage.now.node.now.successors) }
 {
     let mut found = WrittenRows::new(work);
     push_own_rows(
@@ -112,7 +113,7 @@ fn rows(
         &mut found,
         stage.subproblem,
         pools,
-        stage.node.links.as_slice(),
+        stage.node.successors.as_slice(),
     )?;
     Ok(found.into_list(work))
 }
@@ -132,7 +133,7 @@ fn program(stage: &StageNode, columns: List<Column>, rows: List<LpRow>) -> Progr
 }
 
 // The stage problem of the node with its cuts as rows.
-#[tactic(auto, unfolding(crate::specs::Stage::stage_of))]
+#[tactic(auto, unfolding(crate::specs::Stage::stage_program))]
 fn listed_stage<'a>(
     work: &mut Workspace,
     stage: &StageNode,
@@ -140,10 +141,10 @@ fn listed_stage<'a>(
     values: &[i64],
     state: &[i128],
 ) -> Result<StageLp<'a>, Memory>
-    requires weight { stage.now.weight ≡ successor_total stage.now.node.now.stop stage.now.node.now.link_weights }
-    requires within { AreWithin pools.now.lists stage.now.node.now stage.now.subproblem.now }
+    requires weight { stage.now.weight ≡ successor_total stage.now.node.now.stop stage.now.node.now.successor_weights }
+    requires within { AreNodePartsWithin pools.now.lists stage.now.node.now stage.now.subproblem.now }
     requires given { AreOf stage.now.subproblem.now values.now state.now }
-    ensures { IfOk result (λ lp. lp ≡ stage_of pools.now.lists stage.now.node.now stage.now.subproblem.now values.now state.now) }
+    ensures { IfOk result (λ lp. lp ≡ stage_program pools.now.lists stage.now.node.now stage.now.subproblem.now values.now state.now) }
 {
     let columns = columns(work.alloc(), stage, pools)?;
     let rows = rows(work, stage, pools, values, state)?;
@@ -151,7 +152,7 @@ fn listed_stage<'a>(
 }
 
 // The stage problem of the node with its cuts side by side.
-#[tactic(auto, unfolding(crate::specs::Stage::stage_of))]
+#[tactic(auto, unfolding(crate::specs::Stage::stage_program))]
 fn packed_stage<'a>(
     work: &mut Workspace,
     stage: &StageNode,
@@ -160,12 +161,12 @@ fn packed_stage<'a>(
     values: &[i64],
     state: &[i128],
 ) -> Result<StageLp<'a>, Memory>
-    requires weight { stage.now.weight ≡ successor_total stage.now.node.now.stop stage.now.node.now.link_weights }
-    requires within { AreWithin pools.now.lists stage.now.node.now stage.now.subproblem.now }
+    requires weight { stage.now.weight ≡ successor_total stage.now.node.now.stop stage.now.node.now.successor_weights }
+    requires within { AreNodePartsWithin pools.now.lists stage.now.node.now stage.now.subproblem.now }
     requires given { AreOf stage.now.subproblem.now values.now state.now }
-    requires cuts { rows_of cuts ≡ cut_rows stage.now.subproblem.now pools.now.lists (length stage.now.subproblem.now.decisions) stage.now.node.now.links }
+    requires cuts { rows_of cuts ≡ cut_rows stage.now.subproblem.now pools.now.lists (length stage.now.subproblem.now.decisions) stage.now.node.now.successors }
     requires view { IsView cuts }
-    ensures { IfOk result (λ lp. lp ≡ stage_of pools.now.lists stage.now.node.now stage.now.subproblem.now values.now state.now) }
+    ensures { IfOk result (λ lp. lp ≡ stage_program pools.now.lists stage.now.node.now stage.now.subproblem.now values.now state.now) }
 {
     let columns = columns(work.alloc(), stage, pools)?;
     let rows = own_rows(work, stage, values, state)?;
@@ -180,10 +181,10 @@ fn stage_of<'a>(
     values: &[i64],
     state: &[i128],
 ) -> Result<StageLp<'a>, Memory>
-    requires weight { stage.now.weight ≡ successor_total stage.now.node.now.stop stage.now.node.now.link_weights }
-    requires within { AreWithin pools.now.lists stage.now.node.now stage.now.subproblem.now }
+    requires weight { stage.now.weight ≡ successor_total stage.now.node.now.stop stage.now.node.now.successor_weights }
+    requires within { AreNodePartsWithin pools.now.lists stage.now.node.now stage.now.subproblem.now }
     requires given { AreOf stage.now.subproblem.now values.now state.now }
-    ensures { IfOk result (λ lp. lp ≡ stage_of pools.now.lists stage.now.node.now stage.now.subproblem.now values.now state.now) }
+    ensures { IfOk result (λ lp. lp ≡ stage_program pools.now.lists stage.now.node.now stage.now.subproblem.now values.now state.now) }
 {
     match packed_view(work.alloc(), stage, pools)? {
         Some(cuts) => packed_stage(work, stage, pools, cuts, values, state),
@@ -205,7 +206,7 @@ pub fn stage_problem<'a>(
     values: &[i64],
     state: &[i128],
 ) -> Result<StageLp<'a>, Memory>
-    requires known { node < length problem.now.raw.nodes }
+    requires known { node < length problem.now.parts.nodes }
     requires fit { PoolsFit problem.now pools.now.lists }
     requires values { are_values (subproblem_of problem.now node) values.now ≡ true }
     requires state { IsStateAt problem.now node state.now }
@@ -219,7 +220,7 @@ pub fn stage_problem<'a>(
 /// Gives a stage problem of a node the sides of other values and another state: it is then the stage problem of these, over the
 /// same pools. Values and state are as in [`stage_problem`]. No memory is taken.
 pub fn set_sides(problem: &Problem, node: u32, values: &[i64], state: &[i128], lp: &mut StageLp)
-    requires known { node < length problem.now.raw.nodes }
+    requires known { node < length problem.now.parts.nodes }
     requires values { are_values (subproblem_of problem.now node) values.now ≡ true }
     requires state { IsStateAt problem.now node state.now }
     requires stage { IsStageAt problem.now node lp.old }

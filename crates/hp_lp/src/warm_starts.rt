@@ -42,7 +42,7 @@ fn started<V: Solver>(
 ) -> Result<List<V::Start>, Memory>
     ensures { IfOk result (λ made. AreReady (V.does solver.now) (V.suits solver.now) problem.now made) }
 {
-    let nodes = problem.raw().nodes.len() as u32;
+    let nodes = problem.parts().nodes.len() as u32;
     let mut made = List::new(alloc);
     for node in 0..nodes {
         let program = reference(alloc, problem, node)?;

@@ -1,25 +1,25 @@
 -- Each policy of the problem comes of one of the file.
 use Rattle.std.proofs.Common.{◌≡◌, ℕ, ℤ, List, [], ◌∷◌, map, All, slice_get, Option, Some, IsSomeAnd, refl, sym, ap, ap₂, subst, ◌∙◌}
 use Rattle.std.proofs.lemmas.List.Elements.{All-head, All-tail}
-use Rattle.hp_problem.specs.Sealed.{Sealed}
+use Rattle.hp_problem.specs.Validated.{Validated}
 use Rattle.hp_theory.specs.Premises.{Nested}
 use Rattle.hp_theory.specs.Problem as theory
 use Rattle.hp_theory.specs.Problem.{node_at}
 use Rattle.hp_theory.specs.Tree.{Tree, Forest, no_branch, branch, no_tree, tree, InBox, Decides, next_state, FeasibleTree, FeasibleForest}
 use Rattle.hp_theory.specs.View.{problem_of}
-use Rattle.hp_file.specs.File.{Name, Numbers, Stage, Realization, Link, Node, File}
+use Rattle.hp_file.specs.File.{Name, Numbers, Stage, FileRealization, FileSuccessor, FileNode, File}
 use Rattle.hp_meaning.specs.Meaning as meaning
-use Rattle.hp_meaning.specs.Meaning.{Volumes, Satisfies, leaving, Plan, Plans, no_plan, plan, Meets, MeetAfter}
-use Rattle.hp_meaning.specs.Said.{Pairs, node_names, state_names, own, Are, SameLink, tree_of, forest_of}
+use Rattle.hp_meaning.specs.Meaning.{Volumes, Satisfies, leaving, FilePlan, Plans, no_plan, plan, Meets, MeetAfter}
+use Rattle.hp_meaning.specs.Said.{Pairs, validated_node_names, validated_state_names, own, Are, SameSuccessor, tree_of, forest_of}
 use Rattle.hp_meaning.proofs.SameStages.{StageAt}
 use Rattle.hp_meaning.proofs.Nodes.{NodeSays}
-use Rattle.hp_meaning.proofs.Policies.{InBoxOf, InBoxesOf, boxes_after, at_link}
+use Rattle.hp_meaning.proofs.Policies.{InBoxOf, InBoxesOf, boxes_after, at_successor}
 
 -- numbers that satisfy the stage, with these decisions
-abbrev Chosen : Sealed → ℕ → ℕ → Stage → Realization → Volumes → List ℤ → Type 0
+abbrev Chosen : Validated → ℕ → ℕ → Stage → FileRealization → Volumes → List ℤ → Type 0
 Chosen s units m t r x u = (y : Numbers) × (map y (own s m) ≡ u) × Satisfies units t r x y
 
-chosen : (s : Sealed) (units m : ℕ) (t : Stage) (r : Realization) (q : theory.Realization) (x : Volumes) (xi u : List ℤ) → StageAt (state_names s) (own s m) (node_at (problem_of s) m) t r q → Are s x xi → InBox units (node_at (problem_of s) m).low (node_at (problem_of s) m).high xi
+chosen : (s : Validated) (units m : ℕ) (t : Stage) (r : FileRealization) (q : theory.Realization) (x : Volumes) (xi u : List ℤ) → StageAt (validated_state_names s) (own s m) (node_at (problem_of s) m) t r q → Are s x xi → InBox units (node_at (problem_of s) m).low (node_at (problem_of s) m).high xi
     → Decides units (node_at (problem_of s) m) q.values xi u → Chosen s units m t r x u
 chosen s units m t r q x xi u h e box d =
     let n = h.numbers units x xi u e d.box.count in
@@ -33,11 +33,11 @@ chosen s units m t r q x xi u h e box d =
       },
     )
 
-module _ (s : Sealed) (f : File) (says : (m : ℕ) (k : Name) → slice_get (node_names s) m ≡ Some k → NodeSays s f m k) where
+module _ (s : Validated) (f : File) (says : (m : ℕ) (k : Name) → slice_get (validated_node_names s) m ≡ Some k → NodeSays s f m k) where
   mutual
-    pub tree-planned : (units m : ℕ) (n : Node) (rs : List Realization) (qs : List theory.Realization) (x : Volumes) (xi : List ℤ) (t : Tree) → Pairs (SameLink s) n.links (node_at (problem_of s) m).links
-        → All (λ (l : theory.Link). Nested (node_at (problem_of s) m) (node_at (problem_of s) l.node)) (node_at (problem_of s) m).links → Pairs (StageAt (state_names s) (own s m) (node_at (problem_of s) m) n.stage) rs qs
-        → Are s x xi → InBox units (node_at (problem_of s) m).low (node_at (problem_of s) m).high xi → FeasibleTree (problem_of s) units (node_at (problem_of s) m) qs xi t → (b : Plan) × (tree_of s m b ≡ t) × Meets f units n rs x b
+    pub tree-planned : (units m : ℕ) (n : FileNode) (rs : List FileRealization) (qs : List theory.Realization) (x : Volumes) (xi : List ℤ) (t : Tree) → Pairs (SameSuccessor s) n.successors (node_at (problem_of s) m).successors
+        → All (λ (l : theory.Successor). Nested (node_at (problem_of s) m) (node_at (problem_of s) l.node)) (node_at (problem_of s) m).successors → Pairs (StageAt (validated_state_names s) (own s m) (node_at (problem_of s) m) n.stage) rs qs
+        → Are s x xi → InBox units (node_at (problem_of s) m).low (node_at (problem_of s) m).high xi → FeasibleTree (problem_of s) units (node_at (problem_of s) m) qs xi t → (b : FilePlan) × (tree_of s m b ≡ t) × Meets f units n rs x b
     tree-planned units m n [] [] x xi no_branch ls nest h e box g = (meaning.no_branch, refl, tt)
     tree-planned units m n [] (q ∷ qs) x xi t ls nest h e box g = absurd h
     tree-planned units m n (r ∷ rs) [] x xi t ls nest h e box g = absurd h
@@ -47,21 +47,21 @@ module _ (s : Sealed) (f : File) (says : (m : ℕ) (k : Name) → slice_get (nod
         let node : theory.Node = node_at (problem_of s) m in
         let c = chosen s units m n.stage r q x xi u h.0 e box g.0 in
         let next : Are s (leaving n.stage.states c.0) (next_state node u) = subst (λ (v : List ℤ). Are s (leaving n.stage.states c.0) (next_state node v)) c.1 (h.0.next units x xi c.0 e c.2) in
-        let after = forest-planned units n.links node.links (leaving n.stage.states c.0) (next_state node u) fo ls next (boxes_after s units node u nest g.0.box) g.1 in
+        let after = forest-planned units n.successors node.successors (leaving n.stage.states c.0) (next_state node u) fo ls next (boxes_after s units node u nest g.0.box) g.1 in
         let beside = tree-planned units m n rs qs x xi t ls nest h.1 e box g.2 in (
           meaning.branch c.0 after.0 beside.0,
           ap₂ (λ (v : List ℤ) (w : Forest). branch v w (tree_of s m beside.0)) c.1 after.1 ∙ ap (branch u fo) beside.1,
           (c.2, after.2, beside.2),
         )
 
-    pub forest-planned : (units : ℕ) (ls : List Link) (ks : List theory.Link) (x : Volumes) (xi : List ℤ) (fo : Forest) → Pairs (SameLink s) ls ks → Are s x xi → InBoxesOf s units xi ks → FeasibleForest (problem_of s) units ks xi fo → (ps : Plans) × (forest_of s ks ps ≡ fo) × MeetAfter f units ls x ps
+    pub forest-planned : (units : ℕ) (ls : List FileSuccessor) (ks : List theory.Successor) (x : Volumes) (xi : List ℤ) (fo : Forest) → Pairs (SameSuccessor s) ls ks → Are s x xi → InBoxesOf s units xi ks → FeasibleForest (problem_of s) units ks xi fo → (ps : Plans) × (forest_of s ks ps ≡ fo) × MeetAfter f units ls x ps
     forest-planned units [] [] x xi no_tree h e box g = (no_plan, refl, tt)
     forest-planned units [] (k ∷ ks) x xi fo h e box g = absurd h
     forest-planned units (l ∷ ls) [] x xi fo h e box g = absurd h
     forest-planned units (l ∷ ls) (k ∷ ks) x xi no_tree h e box g = absurd g
     forest-planned units [] [] x xi (tree t fo) h e box g = absurd g
     forest-planned units (l ∷ ls) (k ∷ ks) x xi (tree t fo) h e box g =
-        let at = at_link s f says l k h.0 in
-        let one = tree-planned units k.node at.node at.node.realizations (node_at (problem_of s) k.node).realizations x xi t at.links at.nested at.stages e (All-head (InBoxOf s units xi) k ks box) g.0 in
-        let rest = forest-planned units ls ks x xi fo h.1 e (All-tail (InBoxOf s units xi) k ks box) g.1 in
-        (plan one.0 rest.0, ap₂ tree one.1 rest.1, (subst (λ (o : Option Node). IsSomeAnd o (λ n. Meets f units n n.realizations x one.0)) (sym at.there) one.2, rest.2))
+        let at = at_successor s f says l k h.0 in
+        let one = tree-planned units k.node at.node at.node.realizations (node_at (problem_of s) k.node).realizations x xi t at.successors at.nested at.stages e (All-head (InBoxOf s units xi) k ks box) g.0 in
+        let tail = forest-planned units ls ks x xi fo h.1 e (All-tail (InBoxOf s units xi) k ks box) g.1 in
+        (plan one.0 tail.0, ap₂ tree one.1 tail.1, (subst (λ (o : Option FileNode). IsSomeAnd o (λ n. Meets f units n n.realizations x one.0)) (sym at.there) one.2, tail.2))

@@ -8,7 +8,7 @@ use Rattle.std.proofs.lemmas.Map.Keys.{IsDistinct-head, IsDistinct-tail}
 use Rattle.std.proofs.lemmas.Map.Text.{is_eq-slice_cmp}
 use Rattle.std.proofs.lemmas.Slice.Eq.{bytes_eq-Decides}
 use Rattle.hp_num.proofs.Tests.{and_first, and_second}
-use Rattle.hp_problem.specs.Distinct.{rises, is_before}
+use Rattle.hp_parts.specs.Distinct.{rises, is_before}
 use Rattle.hp_file.specs.File.{Name, Numbers}
 
 -- ---- names that rise
@@ -116,5 +116,5 @@ same_parts (x ∷ xs) [] us vs l e = absurd (omega arith)
 same_parts (x ∷ xs) (y ∷ ys) us vs l e =
     let first : x ≡ y = cc in
     let later : xs ++ us ≡ ys ++ vs = cc in
-    let rest = same_parts xs ys us vs (omega arith) later in
-    (ap₂ ◌∷◌ first rest.0, rest.1)
+    let tail = same_parts xs ys us vs (omega arith) later in
+    (ap₂ ◌∷◌ first tail.0, tail.1)

@@ -1,6 +1,6 @@
 -- The clauses of the law, of the bytes of a problem that is read.
 use Rattle.std.proofs.Common.{◌≡◌, ◌↔◌, ℕ, ℤ, true, List, map, slice_get, Ok, Option, None, Some, IsSomeAnd}
-use Rattle.hp_problem.specs.Sealed.{Sealed, is_sealed}
+use Rattle.hp_problem.specs.Validated.{Validated, is_validated}
 use Rattle.hp_sof.specs.Problem.{problem_at}
 use Rattle.hp_sof.specs.Said.{FileSaid}
 use Rattle.hp_sof.proofs.FileWhole.{file-says}
@@ -11,23 +11,23 @@ use Rattle.hp_theory.specs.Pools.{Holds}
 use Rattle.hp_theory.specs.Bound.{Under}
 use Rattle.hp_theory.specs.View.{problem_of}
 use Rattle.hp_file.specs.File.{Name, File, file_at}
-use Rattle.hp_meaning.specs.Meaning.{Plans, IsPolicy, policy_cost, IsBound, IsCut}
-use Rattle.hp_meaning.specs.Said.{Pairs, node_names, state_names, SameLink, SameNode, forest_of}
-use Rattle.hp_meaning.proofs.Reading.{read_sealed, read_raw}
+use Rattle.hp_meaning.specs.Meaning.{Plans, IsPolicy, file_policy_cost, IsBound, IsCut}
+use Rattle.hp_meaning.specs.Said.{Pairs, validated_node_names, validated_state_names, SameSuccessor, SameNode, forest_of}
+use Rattle.hp_meaning.proofs.Reading.{read_validated, read_problem_parts}
 use Rattle.hp_meaning.proofs.Bounds as lemmas
 
 -- a property of a file that follows from the statements about it
-follows : (P : File → Type 0) (bytes : List ℕ) (s : Sealed) → problem_at bytes ≡ Ok s → ((f : File) → is_sealed s ≡ true → FileSaid s.raw f → P f) → IsSomeAnd (file_at bytes) P
-follows P bytes s h go = by (file_at bytes) (file-says bytes s.raw (read_raw bytes s h))
+follows : (P : File → Type 0) (bytes : List ℕ) (s : Validated) → problem_at bytes ≡ Ok s → ((f : File) → is_validated s ≡ true → FileSaid s.parts f → P f) → IsSomeAnd (file_at bytes) P
+follows P bytes s h go = by (file_at bytes) (file-says bytes s.parts (read_problem_parts bytes s h))
   where
-    by : (o : Option File) → IsSomeAnd o (FileSaid s.raw) → IsSomeAnd o P
+    by : (o : Option File) → IsSomeAnd o (FileSaid s.parts) → IsSomeAnd o P
     by None k = absurd k
-    by (Some f) k = go f (read_sealed bytes s h) k
+    by (Some f) k = go f (read_validated bytes s h) k
 
-module _ (bytes : List ℕ) (s : Sealed) (h : problem_at bytes ≡ Ok s) where
-  pub file_same : IsSomeAnd (file_at bytes) (λ f. (f.states ≡ state_names s) × (f.names ≡ node_names s)
-      × (map f.initial f.states ≡ map Some (problem_of s).initial) × Pairs (SameLink s) f.root (problem_of s).root)
-  file_same = follows _ bytes s h (λ f e said. (said.states, said.names, lemmas.initial_is s e f said, lemmas.root_links s e f said))
+module _ (bytes : List ℕ) (s : Validated) (h : problem_at bytes ≡ Ok s) where
+  pub file_same : IsSomeAnd (file_at bytes) (λ f. (f.states ≡ validated_state_names s) × (f.names ≡ validated_node_names s)
+      × (map f.initial f.states ≡ map Some (problem_of s).initial) × Pairs (SameSuccessor s) f.root (problem_of s).root)
+  file_same = follows _ bytes s h (λ f e said. (said.states, said.names, lemmas.initial_is s e f said, lemmas.root_successors s e f said))
 
   pub nodes_same : IsSomeAnd (file_at bytes) (λ f. (m : ℕ) (k : Name) → slice_get f.names m ≡ Some k → IsSomeAnd (f.nodes k) (SameNode s m))
   nodes_same = follows _ bytes s h (λ f e said. lemmas.same_node s e f said)
@@ -35,7 +35,7 @@ module _ (bytes : List ℕ) (s : Sealed) (h : problem_at bytes ≡ Ok s) where
   pub policy_same : IsSomeAnd (file_at bytes) (λ f. (units : ℕ) (ps : Plans) → IsPolicy f units ps → Policy (problem_of s) units (forest_of s (problem_of s).root ps))
   policy_same = follows _ bytes s h (λ f e said. lemmas.policy_is s e f said)
 
-  pub cost_same : IsSomeAnd (file_at bytes) (λ f. (units : ℕ) (ps : Plans) → IsPolicy f units ps → policy_cost f units ps ≡ theory.policy_cost (problem_of s) units (forest_of s (problem_of s).root ps))
+  pub cost_same : IsSomeAnd (file_at bytes) (λ f. (units : ℕ) (ps : Plans) → IsPolicy f units ps → file_policy_cost f units ps ≡ theory.policy_cost (problem_of s) units (forest_of s (problem_of s).root ps))
   cost_same = follows _ bytes s h (λ f e said. lemmas.cost_is s e f said)
 
   pub every_same : IsSomeAnd (file_at bytes) (λ f. (units : ℕ) (t : Forest) → Policy (problem_of s) units t → (ps : Plans) × (forest_of s (problem_of s).root ps ≡ t) × IsPolicy f units ps)

@@ -4,15 +4,15 @@ use Rattle.std.specs.List.{IsDistinct}
 use Rattle.std.specs.Str.{bytes_eq}
 use Rattle.std.proofs.lemmas.List.{length-map}
 use Rattle.std.proofs.lemmas.List.Elements.{All-from_recursion, recursion_from_All}
-use Rattle.hp_problem.specs.declared.raw.Decision.{Decision}
-use Rattle.hp_problem.specs.declared.raw.Subproblem.{Subproblem}
-use Rattle.hp_problem.specs.declared.raw.Node as nodes
+use Rattle.hp_parts.specs.declared.parts.Decision.{Decision}
+use Rattle.hp_parts.specs.declared.parts.Subproblem.{Subproblem}
+use Rattle.hp_parts.specs.declared.parts.Node as nodes
 use Rattle.hp_theory.specs.Fraction.{Fraction}
 use Rattle.hp_theory.specs.Problem as theory
 use Rattle.hp_theory.specs.Tree.{InBox, Decides, next_state}
 use Rattle.hp_theory.specs.Cost.{stage}
 use Rattle.hp_theory.specs.View.{node_of}
-use Rattle.hp_file.specs.File.{Name, Numbers, Constraint, State, Stage, Realization}
+use Rattle.hp_file.specs.File.{Name, Numbers, Constraint, State, Stage, FileRealization}
 use Rattle.hp_meaning.specs.Meaning.{Volumes, in_units, Satisfies, leaving, stage_cost}
 use Rattle.hp_subproblem.specs.Said.{decision_names, StageSaid}
 use Rattle.hp_sof.specs.Said.{RealizationSaid}
@@ -20,7 +20,7 @@ use Rattle.hp_meaning.proofs.Sides.{Stands}
 use Rattle.hp_meaning.proofs.Stages.{boxed, unboxed, before_is, chances_is, leaves_as, rows_hold, rows_kept, given_kept, objective_is, numbers_for}
 
 -- SameStage of a node by itself; and where the state and the decisions are given, there are such numbers
-pub record StageAt (names own : List Name) (n : theory.Node) (st : Stage) (r : Realization) (q : theory.Realization) : Type 0 where
+pub record StageAt (names own : List Name) (n : theory.Node) (st : Stage) (r : FileRealization) (q : theory.Realization) : Type 0 where
   pub weight : r.weight ≡ q.weight
   pub kept : (units : ℕ) (x : Volumes) (xi : List ℤ) (y : Numbers) → map x names ≡ map Some xi → InBox units n.low n.high xi
       → All (λ (t : State). x t.name ≡ Some (y t.before)) st.states → All (λ (v : Name). in_units units (r.support v) ≡ Some (y v)) st.randoms
@@ -32,7 +32,7 @@ pub record StageAt (names own : List Name) (n : theory.Node) (st : Stage) (r : R
 
 module _ (names : List Name) (st : Stage) (sub : Subproblem) (is : StageSaid names st sub) (differ : IsDistinct bytes_eq names)
     (n : nodes.Node) (low high : List ℤ) (lows : length low ≡ length names) (highs : length high ≡ length names) (ld : Stands sub.low low) (hd : Stands sub.high high)
-    (r : Realization) (w : ℕ) (values : List ℤ) (rd : RealizationSaid st.randoms r w values) where
+    (r : FileRealization) (w : ℕ) (values : List ℤ) (rd : RealizationSaid st.randoms r w values) where
   states_counted : length st.states ≡ length names
   states_counted = sym (length-map st.states (λ (t : State). t.name)) ∙ ap (λ (ks : List Name). length ks) is.states
 

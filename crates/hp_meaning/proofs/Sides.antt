@@ -5,13 +5,13 @@ use Rattle.std.proofs.lemmas.Bool.Decides.{nat_tests, Decides-int_eq}
 use Rattle.std.proofs.lemmas.Option.{slice_get-get_or}
 use Rattle.hp_num.specs.Sums.{entry}
 use Rattle.hp_num.proofs.Tests.{and_first, and_second}
-use Rattle.hp_problem.specs.declared.raw.Node as nodes
-use Rattle.hp_problem.specs.declared.raw.Raw.{Raw}
-use Rattle.hp_problem.specs.declared.raw.Subproblem.{Subproblem}
-use Rattle.hp_problem.specs.Parts.{own_subproblem}
-use Rattle.hp_problem.specs.Sealed.{Sealed, is_sealed, boxes_fit, bounds_stand, are_given, is_given, given_lows, given_highs}
-use Rattle.hp_problem.proofs.SealedFacts.{boxes-is_sealed}
-use Rattle.hp_theory.proofs.SealedParts.{PartsFit}
+use Rattle.hp_parts.specs.declared.parts.Node as nodes
+use Rattle.hp_parts.specs.declared.parts.ProblemParts.{ProblemParts}
+use Rattle.hp_parts.specs.declared.parts.Subproblem.{Subproblem}
+use Rattle.hp_parts.specs.Parts.{own_subproblem}
+use Rattle.hp_problem.specs.Validated.{Validated, is_validated, boxes_fit, bounds_stand, are_given, is_given, given_lows, given_highs}
+use Rattle.hp_problem.proofs.ValidatedFacts.{boxes-is_validated}
+use Rattle.hp_theory.proofs.ValidatedParts.{PartsFit}
 
 -- the bounds that are given are sides of the box
 pub record Stands (given : List (Option ℤ)) (side : List ℤ) : Type 0 where
@@ -38,24 +38,24 @@ stands_of given side h = record {
   is = λ k l b e. (Decides-int_eq b (entry side k)).0 (zipped (λ (p : Option ℤ × ℤ). is_given p.0 p.1) given side k (Some b) (entry side k) h (there given k b e) (slice_get-get_or side k _ l));
 }
 
-bounds-sealed : (s : Sealed) → is_sealed s ≡ true → bounds_stand s.raw s.lo s.hi ≡ true
+bounds-validated : (s : Validated) → is_validated s ≡ true → bounds_stand s.parts s.lo s.hi ≡ true
 unfolding boxes_fit
-bounds-sealed s e = let b : boxes_fit s.raw s.lo s.hi ≡ true = boxes-is_sealed s e in grind (arith, nat_tests, b)
+bounds-validated s e = let b : boxes_fit s.parts s.lo s.hi ≡ true = boxes-is_validated s e in grind (arith, nat_tests, b)
 
-bounds_of : (raw : Raw) (lo hi : List (List ℤ)) → bounds_stand raw lo hi ≡ true
-    → (list_all (λ (p : nodes.Node × List ℤ). are_given (given_lows (own_subproblem raw p.0)) p.1) (zip raw.nodes lo) ≡ true) × (list_all (λ (p : nodes.Node × List ℤ). are_given (given_highs (own_subproblem raw p.0)) p.1) (zip raw.nodes hi) ≡ true)
+bounds_of : (parts : ProblemParts) (lo hi : List (List ℤ)) → bounds_stand parts lo hi ≡ true
+    → (list_all (λ (p : nodes.Node × List ℤ). are_given (given_lows (own_subproblem parts p.0)) p.1) (zip parts.nodes lo) ≡ true) × (list_all (λ (p : nodes.Node × List ℤ). are_given (given_highs (own_subproblem parts p.0)) p.1) (zip parts.nodes hi) ≡ true)
 unfolding bounds_stand
-bounds_of raw lo hi e = (and_first _ _ e, and_second _ _ e)
+bounds_of parts lo hi e = (and_first _ _ e, and_second _ _ e)
 
-module _ (s : Sealed) (e : is_sealed s ≡ true) (m : ℕ) (n : nodes.Node) (sub : Subproblem) (low high : List ℤ) (fit : PartsFit s m n sub low high) where
+module _ (s : Validated) (e : is_validated s ≡ true) (m : ℕ) (n : nodes.Node) (sub : Subproblem) (low high : List ℤ) (fit : PartsFit s m n sub low high) where
   pub lows_stand : Stands sub.low low
   lows_stand =
-      let all = (bounds_of s.raw s.lo s.hi (bounds-sealed s e)).0 in
-      let at : are_given (given_lows (own_subproblem s.raw n)) low ≡ true = zipped _ s.raw.nodes s.lo m n low all fit.the_node fit.the_low in
+      let all = (bounds_of s.parts s.lo s.hi (bounds-validated s e)).0 in
+      let at : are_given (given_lows (own_subproblem s.parts n)) low ≡ true = zipped _ s.parts.nodes s.lo m n low all fit.the_node fit.the_low in
       stands_of sub.low low (subst (λ (o : Option Subproblem). are_given (given_lows o) low ≡ true) fit.the_subproblem at)
 
   pub highs_stand : Stands sub.high high
   highs_stand =
-      let all = (bounds_of s.raw s.lo s.hi (bounds-sealed s e)).1 in
-      let at : are_given (given_highs (own_subproblem s.raw n)) high ≡ true = zipped _ s.raw.nodes s.hi m n high all fit.the_node fit.the_high in
+      let all = (bounds_of s.parts s.lo s.hi (bounds-validated s e)).1 in
+      let at : are_given (given_highs (own_subproblem s.parts n)) high ≡ true = zipped _ s.parts.nodes s.hi m n high all fit.the_node fit.the_high in
       stands_of sub.high high (subst (λ (o : Option Subproblem). are_given (given_highs o) high ≡ true) fit.the_subproblem at)

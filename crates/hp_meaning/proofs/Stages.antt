@@ -9,15 +9,15 @@ use lib.IntN.{*ℤ-zero}
 use Rattle.hp_num.specs.Sums.{entry, dot, Term, at_terms}
 use Rattle.hp_num.proofs.Ring.{ring, var, ◌⊕◌, ◌⊗◌, mul_swap}
 use Rattle.hp_num.proofs.Sums.{total_ext, total_times}
-use Rattle.hp_problem.specs.declared.raw.Decision.{Decision}
-use Rattle.hp_problem.specs.declared.raw.Row.{Row}
-use Rattle.hp_problem.specs.declared.raw.Subproblem.{Subproblem}
+use Rattle.hp_parts.specs.declared.parts.Decision.{Decision}
+use Rattle.hp_parts.specs.declared.parts.Row.{Row}
+use Rattle.hp_parts.specs.declared.parts.Subproblem.{Subproblem}
 use Rattle.hp_theory.specs.Tree as trees
-use Rattle.hp_theory.specs.Tree.{InBox, RowHolds, Decides, left_side, next_state, times_all}
+use Rattle.hp_theory.specs.Tree.{InBox, RowHolds, left_side, times_all}
 use Rattle.hp_theory.proofs.Boxes.{InBox-nil, InBox-cons}
-use Rattle.hp_file.specs.File.{Name, Numbers, State, Stage, Realization}
+use Rattle.hp_file.specs.File.{Name, Numbers, State, Stage, FileRealization}
 use Rattle.hp_meaning.specs.Meaning.{Volumes, in_units, leaving}
-use Rattle.hp_subproblem.specs.Said.{Between, AtLeast, AtMost, Given, RowKept, row_value, decision_names, own, before, chances, StageSaid}
+use Rattle.hp_subproblem.specs.Said.{Between, IsAboveLow, IsBelowHigh, Given, RowKept, row_value_by_numbers, decision_names, decision_numbers, incoming_numbers, random_numbers, StageSaid}
 use Rattle.hp_meaning.proofs.Sides.{Stands}
 use Rattle.hp_meaning.proofs.Names.{numbers, map-numbers, map_alike, skips, same_name, same_parts}
 
@@ -83,28 +83,28 @@ unboxed units y (d ∷ ds) b =
     let first = InBox-head units d.low d.high (y d.name) (lows ds) (highs ds) (named ds y) b in
     ((first.0, first.1), unboxed units y ds (InBox-tail units d.low d.high (y d.name) (lows ds) (highs ds) (named ds y) b))
 
-at_least : (o : Option ℤ) (units : ℕ) (a b : ℤ) → a ≡ b → AtLeast o units a → trees.AtLeast o units b
+at_least : (o : Option ℤ) (units : ℕ) (a b : ℤ) → a ≡ b → IsAboveLow o units a → trees.AtLeast o units b
 at_least None units a b e h = tt
 at_least (Some low) units a b e h = subst (λ (z : ℤ). (pos units *ℤ low) ≤ℤ z) e h
 
-at_most : (o : Option ℤ) (units : ℕ) (a b : ℤ) → a ≡ b → AtMost o units a → trees.AtMost o units b
+at_most : (o : Option ℤ) (units : ℕ) (a b : ℤ) → a ≡ b → IsBelowHigh o units a → trees.AtMost o units b
 at_most None units a b e h = tt
 at_most (Some high) units a b e h = subst (λ (z : ℤ). z ≤ℤ (pos units *ℤ high)) e h
 
-at_least_back : (o : Option ℤ) (units : ℕ) (a b : ℤ) → a ≡ b → trees.AtLeast o units b → AtLeast o units a
+at_least_back : (o : Option ℤ) (units : ℕ) (a b : ℤ) → a ≡ b → trees.AtLeast o units b → IsAboveLow o units a
 at_least_back None units a b e h = tt
 at_least_back (Some low) units a b e h = subst (λ (z : ℤ). (pos units *ℤ low) ≤ℤ z) (sym e) h
 
-at_most_back : (o : Option ℤ) (units : ℕ) (a b : ℤ) → a ≡ b → trees.AtMost o units b → AtMost o units a
+at_most_back : (o : Option ℤ) (units : ℕ) (a b : ℤ) → a ≡ b → trees.AtMost o units b → IsBelowHigh o units a
 at_most_back None units a b e h = tt
 at_most_back (Some high) units a b e h = subst (λ (z : ℤ). z ≤ℤ (pos units *ℤ high)) (sym e) h
 
 -- a given bound that is the side of a box in which the number lies
-least_given : (o : Option ℤ) (units : ℕ) (side z : ℤ) → ((b : ℤ) → o ≡ Some b → b ≡ side) → (pos units *ℤ side) ≤ℤ z → AtLeast o units z
+least_given : (o : Option ℤ) (units : ℕ) (side z : ℤ) → ((b : ℤ) → o ≡ Some b → b ≡ side) → (pos units *ℤ side) ≤ℤ z → IsAboveLow o units z
 least_given None units side z is h = tt
 least_given (Some b) units side z is h = subst (λ (a : ℤ). (pos units *ℤ a) ≤ℤ z) (sym (is b refl)) h
 
-most_given : (o : Option ℤ) (units : ℕ) (side z : ℤ) → ((b : ℤ) → o ≡ Some b → b ≡ side) → z ≤ℤ (pos units *ℤ side) → AtMost o units z
+most_given : (o : Option ℤ) (units : ℕ) (side z : ℤ) → ((b : ℤ) → o ≡ Some b → b ≡ side) → z ≤ℤ (pos units *ℤ side) → IsBelowHigh o units z
 most_given None units side z is h = tt
 most_given (Some b) units side z is h = subst (λ (a : ℤ). z ≤ℤ (pos units *ℤ a)) (sym (is b refl)) h
 
@@ -132,25 +132,25 @@ leaving_named (t ∷ ss) y d =
 abbrev row_by : ℕ → Row → List ℤ → List ℤ → List ℤ → ℤ
 row_by units row u b c = at_terms row.decisions (entry u) +ℤ at_terms row.states (entry b) +ℤ at_terms row.randoms (entry c)
 
-row_is : (units : ℕ) (st : Stage) (sub : Subproblem) (y : Numbers) (xi values : List ℤ) (row : Row) → before st y ≡ xi → chances st y ≡ times_all units values → row_value st sub y row ≡ left_side units values xi (own sub y) row
+row_is : (units : ℕ) (st : Stage) (sub : Subproblem) (y : Numbers) (xi values : List ℤ) (row : Row) → incoming_numbers st y ≡ xi → random_numbers st y ≡ times_all units values → row_value_by_numbers st sub y row ≡ left_side units values xi (decision_numbers sub y) row
 row_is units st sub y xi values row b c =
-    ap₂ (λ (k l : List ℤ). row_by units row (own sub y) k l) b c
-    ∙ ap (λ (z : ℤ). at_terms row.decisions (entry (own sub y)) +ℤ at_terms row.states (entry xi) +ℤ z) (terms_times units row.randoms values)
+    ap₂ (λ (k l : List ℤ). row_by units row (decision_numbers sub y) k l) b c
+    ∙ ap (λ (z : ℤ). at_terms row.decisions (entry (decision_numbers sub y)) +ℤ at_terms row.states (entry xi) +ℤ z) (terms_times units row.randoms values)
 
 -- ---- a stage and its subproblem
 
 module _ (names : List Name) (st : Stage) (sub : Subproblem) (is : StageSaid names st sub) (differ : IsDistinct bytes_eq names) where
-  pub before_is : (x : Volumes) (xi : List ℤ) (y : Numbers) → map x names ≡ map Some xi → All (λ (t : State). x t.name ≡ Some (y t.before)) st.states → before st y ≡ xi
+  pub before_is : (x : Volumes) (xi : List ℤ) (y : Numbers) → map x names ≡ map Some xi → All (λ (t : State). x t.name ≡ Some (y t.before)) st.states → incoming_numbers st y ≡ xi
   before_is x xi y e a =
-      same_Somes (before st y) xi
+      same_Somes (incoming_numbers st y) xi
       (map_map (λ (t : State). y t.before) Some st.states
       ∙ sym (map_alike (λ (t : State). x t.name) (λ (t : State). Some (y t.before)) st.states (recursion_from_All (λ (t : State). x t.name ≡ Some (y t.before)) st.states a))
       ∙ sym (map_map (λ (t : State). t.name) x st.states)
       ∙ ap (map x) is.states ∙ e)
 
-  pub chances_is : (units : ℕ) (r : Realization) (values : List ℤ) (y : Numbers) → map r.support st.randoms ≡ map Some values → All (λ (v : Name). in_units units (r.support v) ≡ Some (y v)) st.randoms → chances st y ≡ times_all units values
+  pub chances_is : (units : ℕ) (r : FileRealization) (values : List ℤ) (y : Numbers) → map r.support st.randoms ≡ map Some values → All (λ (v : Name). in_units units (r.support v) ≡ Some (y v)) st.randoms → random_numbers st y ≡ times_all units values
   chances_is units r values y e a =
-      same_Somes (chances st y) (times_all units values)
+      same_Somes (random_numbers st y) (times_all units values)
       (map_map y Some st.randoms
       ∙ sym (map_alike (λ (v : Name). in_units units (r.support v)) (λ (v : Name). Some (y v)) st.randoms (recursion_from_All (λ (v : Name). in_units units (r.support v) ≡ Some (y v)) st.randoms a))
       ∙ sym (map_map r.support (in_units units) st.randoms)
@@ -159,26 +159,26 @@ module _ (names : List Name) (st : Stage) (sub : Subproblem) (is : StageSaid nam
       ∙ sym (map_map (λ (z : ℤ). pos units *ℤ z) Some values))
 
   -- the outgoing volumes
-  pub leaves_as : (x : Volumes) (y : Numbers) → map (leaving st.states y) names ≡ map Some (map (entry (own sub y)) sub.outs)
+  pub leaves_as : (x : Volumes) (y : Numbers) → map (leaving st.states y) names ≡ map Some (map (entry (decision_numbers sub y)) sub.outs)
   leaves_as x y =
       ap (map (leaving st.states y)) (sym is.states)
       ∙ leaving_named st.states y (subst (IsDistinct bytes_eq) (sym is.states) differ)
       ∙ sym (map_map (λ (t : State). y t.after) Some st.states)
       ∙ ap (map Some) (is.outs y)
 
-  module _ (units : ℕ) (xi values : List ℤ) (y : Numbers) (b : before st y ≡ xi) (c : chances st y ≡ times_all units values) where
+  module _ (units : ℕ) (xi values : List ℤ) (y : Numbers) (b : incoming_numbers st y ≡ xi) (c : random_numbers st y ≡ times_all units values) where
     -- the constraints are kept where boxes and rows are, and the given bounds
-    pub rows_hold : AllByRecursion (RowKept units st sub y) sub.rows → All (RowHolds units values xi (own sub y)) sub.rows
-    rows_hold a = All-from_recursion (RowHolds units values xi (own sub y)) sub.rows (all_follow (RowKept units st sub y) (RowHolds units values xi (own sub y)) sub.rows (λ row h. record {
+    pub rows_hold : AllByRecursion (RowKept units st sub y) sub.rows → All (RowHolds units values xi (decision_numbers sub y)) sub.rows
+    rows_hold a = All-from_recursion (RowHolds units values xi (decision_numbers sub y)) sub.rows (all_follow (RowKept units st sub y) (RowHolds units values xi (decision_numbers sub y)) sub.rows (λ row h. record {
       low = at_least row.low units _ _ (row_is units st sub y xi values row b c) h.0;
       high = at_most row.high units _ _ (row_is units st sub y xi values row b c) h.1;
     }) a)
 
-    pub rows_kept : All (RowHolds units values xi (own sub y)) sub.rows → AllByRecursion (RowKept units st sub y) sub.rows
-    rows_kept a = all_follow (RowHolds units values xi (own sub y)) (RowKept units st sub y) sub.rows (λ row h. (
+    pub rows_kept : All (RowHolds units values xi (decision_numbers sub y)) sub.rows → AllByRecursion (RowKept units st sub y) sub.rows
+    rows_kept a = all_follow (RowHolds units values xi (decision_numbers sub y)) (RowKept units st sub y) sub.rows (λ row h. (
       at_least_back row.low units _ _ (row_is units st sub y xi values row b c) h.low,
       at_most_back row.high units _ _ (row_is units st sub y xi values row b c) h.high,
-    )) (recursion_from_All (RowHolds units values xi (own sub y)) sub.rows a)
+    )) (recursion_from_All (RowHolds units values xi (decision_numbers sub y)) sub.rows a)
 
     pub given_kept : (low high : List ℤ) → length low ≡ length st.states → length high ≡ length st.states → Stands sub.low low → Stands sub.high high → InBox units low high xi → Given units st sub y
     given_kept low high ls hs ld hd box = λ k h.
@@ -187,22 +187,22 @@ module _ (names : List Name) (st : Stage) (sub : Subproblem) (is : StageSaid nam
           most_given (get_or sub.high k None) units (entry high k) (entry xi k) (hd.is k (omega arith)) (box.below k (omega arith)),
         )
 
-    pub objective_is : st.objective units y ≡ pos units *ℤ sub.constant +ℤ pos units *ℤ dot sub.random_costs values +ℤ dot (map (λ (d : Decision). d.cost) sub.decisions) (own sub y) +ℤ dot sub.state_costs xi
+    pub objective_is : st.objective units y ≡ pos units *ℤ sub.constant +ℤ pos units *ℤ dot sub.random_costs values +ℤ dot (map (λ (d : Decision). d.cost) sub.decisions) (decision_numbers sub y) +ℤ dot sub.state_costs xi
     objective_is =
-        let costs : ℤ = dot (map (λ (d : Decision). d.cost) sub.decisions) (own sub y) in
+        let costs : ℤ = dot (map (λ (d : Decision). d.cost) sub.decisions) (decision_numbers sub y) in
         is.objective units y
         ∙ ap₂ (λ (k l : List ℤ). pos units *ℤ sub.constant +ℤ costs +ℤ dot sub.state_costs k +ℤ dot sub.random_costs l) b c
         ∙ ap (λ (z : ℤ). pos units *ℤ sub.constant +ℤ costs +ℤ dot sub.state_costs xi +ℤ z) (dot_times units sub.random_costs values)
         ∙ ring ((pos units *ℤ sub.constant) ∷ costs ∷ dot sub.state_costs xi ∷ (pos units *ℤ dot sub.random_costs values) ∷ []) (var 0 ⊕ var 1 ⊕ var 2 ⊕ var 3) (var 0 ⊕ var 3 ⊕ var 1 ⊕ var 2) tt
 
   -- numbers with these decisions, this incoming state and these realized values
-  abbrev pub NumbersFor : ℕ → Volumes → Realization → List ℤ → Type 0
-  NumbersFor units x r u = (y : Numbers) × (own sub y ≡ u) × All (λ (t : State). x t.name ≡ Some (y t.before)) st.states × All (λ (v : Name). in_units units (r.support v) ≡ Some (y v)) st.randoms
+  abbrev pub NumbersFor : ℕ → Volumes → FileRealization → List ℤ → Type 0
+  NumbersFor units x r u = (y : Numbers) × (decision_numbers sub y ≡ u) × All (λ (t : State). x t.name ≡ Some (y t.before)) st.states × All (λ (v : Name). in_units units (r.support v) ≡ Some (y v)) st.randoms
 
   abbrev befores : List Name
   befores = map (λ (t : State). t.before) st.states
 
-  pub numbers_for : (units : ℕ) (x : Volumes) (r : Realization) (xi values u : List ℤ) → map x names ≡ map Some xi → map r.support st.randoms ≡ map Some values → length u ≡ length sub.decisions → NumbersFor units x r u
+  pub numbers_for : (units : ℕ) (x : Volumes) (r : FileRealization) (xi values u : List ℤ) → map x names ≡ map Some xi → map r.support st.randoms ≡ map Some values → length u ≡ length sub.decisions → NumbersFor units x r u
   numbers_for units x r xi values u e f l =
       let ws : List ℤ = times_all units values in
       let all : List Name = decision_names sub ++ befores ++ st.randoms in

@@ -1,6 +1,6 @@
 // The laws over the definitions. Each is the contract of a function with an empty body.
-ghost use Rattle.std.specs.Prelude.{◌≡◌, ◌↔◌, ◌<◌, ℕ, ℤ, List, map, slice_get, Some, Ok, IsSomeAnd};
-ghost use Rattle.hp_problem.specs.Sealed.{Sealed};
+ghost use Rattle.std.specs.Prelude.{◌≡◌, ◌↔◌, ℕ, ℤ, List, map, slice_get, Some, Ok, IsSomeAnd};
+ghost use Rattle.hp_problem.specs.Validated.{Validated};
 ghost use Rattle.hp_sof.specs.Problem.{problem_at};
 ghost use Rattle.hp_theory.specs.declared.cut.Cut.{Cut};
 ghost use Rattle.hp_theory.specs.Tree.{Forest, Policy};
@@ -9,31 +9,31 @@ ghost use Rattle.hp_theory.specs.Pools.{Holds};
 ghost use Rattle.hp_theory.specs.Bound.{Under};
 ghost use Rattle.hp_theory.specs.View.{problem_of};
 ghost use Rattle.hp_file.specs.File.{Name, file_at};
-ghost use Rattle.hp_meaning.specs.Meaning.{Plans, IsPolicy, policy_cost, IsBound, IsCut};
-ghost use Rattle.hp_meaning.specs.Said.{Pairs, node_names, state_names, SameLink, SameNode, forest_of};
+ghost use Rattle.hp_meaning.specs.Meaning.{Plans, IsPolicy, file_policy_cost, IsBound, IsCut};
+ghost use Rattle.hp_meaning.specs.Said.{Pairs, validated_node_names, validated_state_names, SameSuccessor, SameNode, forest_of};
 
 /// Bytes that the reader accepts are a file, and the problem that the reader gives means what the file means: its nodes one by
 /// one, its policies with their costs, and so its bounds and cuts.
 pub fn same_meaning()
-    ensures file { (bytes : List ℕ) (s : Sealed) → problem_at bytes ≡ Ok s
-        → IsSomeAnd (file_at bytes) (λ f. (f.states ≡ state_names s) × (f.names ≡ node_names s)
+    ensures file { (bytes : List ℕ) (s : Validated) → problem_at bytes ≡ Ok s
+        → IsSomeAnd (file_at bytes) (λ f. (f.states ≡ validated_state_names s) × (f.names ≡ validated_node_names s)
         × (map f.initial f.states ≡ map Some (problem_of s).initial)
-        × Pairs (SameLink s) f.root (problem_of s).root) }
-    ensures nodes { (bytes : List ℕ) (s : Sealed) → problem_at bytes ≡ Ok s
+        × Pairs (SameSuccessor s) f.root (problem_of s).root) }
+    ensures nodes { (bytes : List ℕ) (s : Validated) → problem_at bytes ≡ Ok s
         → IsSomeAnd (file_at bytes) (λ f. (m : ℕ) (k : Name) → slice_get f.names m ≡ Some k
         → IsSomeAnd (f.nodes k) (SameNode s m)) }
-    ensures policy { (bytes : List ℕ) (s : Sealed) → problem_at bytes ≡ Ok s
+    ensures policy { (bytes : List ℕ) (s : Validated) → problem_at bytes ≡ Ok s
         → IsSomeAnd (file_at bytes) (λ f. (units : ℕ) (ps : Plans) → IsPolicy f units ps
         → Policy (problem_of s) units (forest_of s (problem_of s).root ps)) }
-    ensures cost { (bytes : List ℕ) (s : Sealed) → problem_at bytes ≡ Ok s
+    ensures cost { (bytes : List ℕ) (s : Validated) → problem_at bytes ≡ Ok s
         → IsSomeAnd (file_at bytes) (λ f. (units : ℕ) (ps : Plans) → IsPolicy f units ps
-        → policy_cost f units ps ≡ theory.policy_cost (problem_of s) units (forest_of s (problem_of s).root ps)) }
-    ensures every { (bytes : List ℕ) (s : Sealed) → problem_at bytes ≡ Ok s
+        → file_policy_cost f units ps ≡ theory.policy_cost (problem_of s) units (forest_of s (problem_of s).root ps)) }
+    ensures every { (bytes : List ℕ) (s : Validated) → problem_at bytes ≡ Ok s
         → IsSomeAnd (file_at bytes) (λ f. (units : ℕ) (t : Forest) → Policy (problem_of s) units t
         → (ps : Plans) × (forest_of s (problem_of s).root ps ≡ t) × IsPolicy f units ps) }
-    ensures bound { (bytes : List ℕ) (s : Sealed) → problem_at bytes ≡ Ok s
+    ensures bound { (bytes : List ℕ) (s : Validated) → problem_at bytes ≡ Ok s
         → IsSomeAnd (file_at bytes) (λ f. (b : ℤ) → Under (problem_of s) b ↔ IsBound f b) }
-    ensures cut { (bytes : List ℕ) (s : Sealed) → problem_at bytes ≡ Ok s
+    ensures cut { (bytes : List ℕ) (s : Validated) → problem_at bytes ≡ Ok s
         → IsSomeAnd (file_at bytes) (λ f. (m : ℕ) (k : Name) (c : Cut) → slice_get f.names m ≡ Some k
         → Holds (problem_of s) m c → IsCut f k c.alpha c.beta) }
 {}

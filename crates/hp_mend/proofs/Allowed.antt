@@ -6,13 +6,13 @@ use Rattle.std.proofs.lemmas.Grind.{common_steps}
 use Rattle.std.proofs.lemmas.Int.{ints}
 use Rattle.std.proofs.lemmas.List.{length-set, get_or-set_same, get_or-set_other, get_or_past}
 use Rattle.hp_num.specs.Sums.{entry}
-use Rattle.hp_problem.specs.Sealed.{Sealed, is_sealed}
+use Rattle.hp_problem.specs.Validated.{Validated, is_validated}
 use Rattle.hp_theory.specs.Problem.{S, node_at}
 use Rattle.hp_theory.specs.Tree.{InBox}
 use Rattle.hp_theory.specs.View.{problem_of}
-use Rattle.hp_forward.proofs.Boxes.{boxes-sealed}
+use Rattle.hp_forward.proofs.Boxes.{boxes-validated}
 use Rattle.hp_mend.specs.declared.search.Search.{Search}
-use Rattle.hp_mend.specs.Moves.{Frame, may_move, moved}
+use Rattle.hp_mend.specs.Moves.{Frame, may_move, moved_decision}
 
 -- a number in a box that is no point
 pub record Allowed (low high number : ℤ) : Type 0 where
@@ -43,14 +43,14 @@ module _ (lows highs u : List ℤ) (j : ℕ) (v : ℤ) (inside : InBox S lows hi
   there_too : j < length u
   there_too = omega (arith, there, inside.count)
 
-  at_moved : (P : ℕ → ℤ → Type 0) (k : ℕ) → P j (entry u j +ℤ v) → P k (entry u k) → P k (entry (moved u j v) k)
+  at_moved : (P : ℕ → ℤ → Type 0) (k : ℕ) → P j (entry u j +ℤ v) → P k (entry u k) → P k (entry (moved_decision u j v) k)
   at_moved P k here other = by (nat_eq k j) refl
     where
-      by : (b : Bool) → nat_eq k j ≡ b → P k (entry (moved u j v) k)
-      by true e = let same : k ≡ j = grind (arith, nat_tests) in subst (λ (i : ℕ). P i (entry (moved u j v) i)) (sym same) (subst (P j) (sym (get_or-set_same u j (entry u j +ℤ v) (pos 0) there_too)) here)
+      by : (b : Bool) → nat_eq k j ≡ b → P k (entry (moved_decision u j v) k)
+      by true e = let same : k ≡ j = grind (arith, nat_tests) in subst (λ (i : ℕ). P i (entry (moved_decision u j v) i)) (sym same) (subst (P j) (sym (get_or-set_same u j (entry u j +ℤ v) (pos 0) there_too)) here)
       by false e = subst (P k) (sym (get_or-set_other u j k (entry u j +ℤ v) (pos 0) (λ same. absurd (grind (arith, nat_tests))))) other
 
-  pub moved_inside : InBox S lows highs (moved u j v)
+  pub moved_inside : InBox S lows highs (moved_decision u j v)
   moved_inside = record {
     count = length-set u j (entry u j +ℤ v) ∙ inside.count;
     above = λ k l. at_moved (λ i z. (pos S *ℤ entry lows i) ≤ℤ z) k a.above (inside.above k l);
@@ -58,11 +58,11 @@ module _ (lows highs u : List ℤ) (j : ℕ) (v : ℤ) (inside : InBox S lows hi
   }
 
 -- the decisions of a node
-module _ (p : Sealed) (e : is_sealed p ≡ true) (m : ℕ) (h : m < length p.raw.nodes) (same : length (node_at (problem_of p) m).decision_high ≡ length (node_at (problem_of p) m).decision_low)
+module _ (p : Validated) (e : is_validated p ≡ true) (m : ℕ) (h : m < length p.parts.nodes) (same : length (node_at (problem_of p) m).decision_high ≡ length (node_at (problem_of p) m).decision_low)
     (u : List ℤ) (inside : InBox S (node_at (problem_of p) m).decision_low (node_at (problem_of p) m).decision_high u) (j : ℕ) where
   small_there : j < length (node_at (problem_of p) m).decision_low → (z : ℤ) → (pos S *ℤ entry (node_at (problem_of p) m).decision_low j) ≤ℤ z → z ≤ℤ (pos S *ℤ entry (node_at (problem_of p) m).decision_high j) → nat_abs z ≤ 2 ^ 64
   small_there l z a b =
-      let box = boxes-sealed p m e h j l in
+      let box = boxes-validated p m e h j l in
       small_number z (entry (node_at (problem_of p) m).decision_low j) (entry (node_at (problem_of p) m).decision_high j) a b box.low box.high
 
   pub number_small : nat_abs (entry u j) ≤ 2 ^ 64
@@ -91,5 +91,5 @@ module _ (p : Sealed) (e : is_sealed p ≡ true) (m : ℕ) (h : m < length p.raw
     pub amount_small : nat_abs v ≤ 2 ^ 66
     amount_small = small_way (entry u j) v number_small (small_there is_there (entry u j +ℤ v) a.above a.below)
 
-    pub stays_inside : InBox S (node_at (problem_of p) m).decision_low (node_at (problem_of p) m).decision_high (moved u j v)
+    pub stays_inside : InBox S (node_at (problem_of p) m).decision_low (node_at (problem_of p) m).decision_high (moved_decision u j v)
     stays_inside = moved_inside (node_at (problem_of p) m).decision_low (node_at (problem_of p) m).decision_high u j v inside is_there a

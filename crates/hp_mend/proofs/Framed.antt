@@ -5,15 +5,15 @@ use Rattle.std.proofs.lemmas.Bool.Decides.{nat_tests}
 use Rattle.std.proofs.lemmas.Grind.{common_steps}
 use Rattle.std.proofs.lemmas.List.{length-map, get_or_past}
 use Rattle.hp_num.specs.Sums.{entry}
-use Rattle.hp_problem.specs.declared.raw.Decision.{Decision}
-use Rattle.hp_problem.specs.declared.raw.Subproblem.{Subproblem}
-use Rattle.hp_problem.specs.Limits.{decision_fits}
-use Rattle.hp_problem.specs.Sealed.{Sealed, is_sealed, subproblem_of}
-use Rattle.hp_problem.proofs.SubproblemFacts.{decisions-subproblem_fits}
+use Rattle.hp_parts.specs.declared.parts.Decision.{Decision}
+use Rattle.hp_parts.specs.declared.parts.Subproblem.{Subproblem}
+use Rattle.hp_parts.specs.Limits.{decision_fits}
+use Rattle.hp_problem.specs.Validated.{Validated, is_validated, subproblem_of}
+use Rattle.hp_parts.proofs.SubproblemFacts.{decisions-subproblem_fits}
 use Rattle.hp_num.proofs.Tests.{all_at}
 use Rattle.hp_theory.specs.Problem.{Node, node_at}
 use Rattle.hp_theory.specs.View.{problem_of}
-use Rattle.hp_theory.proofs.SealedParts.{Parts, parts}
+use Rattle.hp_theory.proofs.ValidatedParts.{Parts, parts_of_node}
 use Rattle.hp_theory.proofs.Views.{decision_low-node_of, decision_high-node_of, costs-node_of}
 use Rattle.hp_forward.proofs.ByAnswers.{Viewed, viewed}
 use Rattle.hp_mend.specs.Stages.{no_decision}
@@ -27,7 +27,7 @@ get_or_mapped f (x ∷ xs) (suc j) d = get_or_mapped f xs j d
 cost_fits : (d : Decision) → decision_fits d ≡ true → nat_abs d.cost ≤ 2 ^ 40
 cost_fits d e = grind (arith, nat_tests, common_steps, e)
 
-module _ (p : Sealed) (m : ℕ) (s : Subproblem) (h : m < length p.raw.nodes) (is : subproblem_of p m ≡ Some s) where
+module _ (p : Validated) (m : ℕ) (s : Subproblem) (h : m < length p.parts.nodes) (is : subproblem_of p m ≡ Some s) where
   view : Viewed p m s
   view = viewed p m s h is
 
@@ -45,8 +45,8 @@ module _ (p : Sealed) (m : ℕ) (s : Subproblem) (h : m < length p.raw.nodes) (i
       ap (λ (xs : List ℤ). length xs) highs_are ∙ length-map s.decisions (λ (d : Decision). d.high) ∙ sym (length-map s.decisions (λ (d : Decision). d.low))
       ∙ sym (ap (λ (xs : List ℤ). length xs) lows_are)
 
-  fits : is_sealed p ≡ true → list_all decision_fits s.decisions ≡ true
-  fits e = let q : Parts p m = parts p m e h in subst (λ (t : Subproblem). list_all decision_fits t.decisions ≡ true) (sym (own_is p e m h s is)) (decisions-subproblem_fits (length p.raw.states) q.subproblem q.fit.subproblem)
+  fits : is_validated p ≡ true → list_all decision_fits s.decisions ≡ true
+  fits e = let q : Parts p m = parts_of_node p m e h in subst (λ (t : Subproblem). list_all decision_fits t.decisions ≡ true) (sym (own_is p e m h s is)) (decisions-subproblem_fits (length p.parts.states) q.subproblem q.fit.subproblem)
 
   -- the entries of a decision
   module _ (ds : List Decision) (j : ℕ) (all : ds ≡ s.decisions) where
@@ -64,7 +64,7 @@ module _ (p : Sealed) (m : ℕ) (s : Subproblem) (h : m < length p.raw.nodes) (i
     pub cost_is : (get_or ds j no_decision).cost ≡ entry (node_at (problem_of p) m).costs j
     cost_is = entry_is (λ (d : Decision). d.cost) (node_at (problem_of p) m).costs costs_are refl
 
-    pub cost_small : is_sealed p ≡ true → nat_abs (get_or ds j no_decision).cost ≤ 2 ^ 40
+    pub cost_small : is_validated p ≡ true → nat_abs (get_or ds j no_decision).cost ≤ 2 ^ 40
     cost_small e = subst (λ (k : List Decision). nat_abs (get_or k j no_decision).cost ≤ 2 ^ 40) (sym all) (by (nat_lt j (length s.decisions)) refl)
       where
         by : (b : Bool) → nat_lt j (length s.decisions) ≡ b → nat_abs (get_or s.decisions j no_decision).cost ≤ 2 ^ 40

@@ -2,25 +2,25 @@
 use Rattle.std.proofs.Common.{◌≡◌, ℕ, suc, ◌+◌, ◌-◌, ◌<◌, Bool, true, false, ℤ, List, if◌then◌else◌, sym, subst, arith}
 use Rattle.hp_mend.specs.declared.search.Search.{Search}
 use Rattle.hp_mend.specs.Moves.{Frame, is_harmed}
-use Rattle.hp_mend.specs.Fixing.{Outcome, Fixer, and_then, kept}
+use Rattle.hp_mend.specs.Fixing.{FixOutcome, Fixer, and_then, harmed_rows_fixed}
 
-module _ (f : Frame) (fix : Fixer) (i : ℕ) (before : List ℤ) (q count : ℕ) (s t : Search) (all : Outcome) (there : q < count) (w : kept f fix i before q (count - q) s ≡ all) where
+module _ (f : Frame) (fix : Fixer) (i : ℕ) (before : List ℤ) (q count : ℕ) (s t : Search) (all : FixOutcome) (there : q < count) (w : harmed_rows_fixed f fix i before q (count - q) s ≡ all) where
   left : count - q ≡ suc (count - suc q)
   left = omega (arith, there)
 
   next : q + 1 ≡ suc q
   next = omega arith
 
-  opened : and_then (if is_harmed f i before s.numbers q then fix q s else (true, s)) (kept f fix i before (suc q) (count - suc q)) ≡ all
-  opened = subst (λ (k : ℕ). kept f fix i before q k s ≡ all) left w
+  opened : and_then (if is_harmed f i before s.numbers q then fix q s else (true, s)) (harmed_rows_fixed f fix i before (suc q) (count - suc q)) ≡ all
+  opened = subst (λ (k : ℕ). harmed_rows_fixed f fix i before q k s ≡ all) left w
 
-  pub row_passed : false ≡ is_harmed f i before s.numbers q → t ≡ s → kept f fix i before (q + 1) (count - (q + 1)) t ≡ all
+  pub row_passed : false ≡ is_harmed f i before s.numbers q → t ≡ s → harmed_rows_fixed f fix i before (q + 1) (count - (q + 1)) t ≡ all
   row_passed e same =
-      let h : and_then (true, s) (kept f fix i before (suc q) (count - suc q)) ≡ all = subst (λ (b : Bool). and_then (if b then fix q s else (true, s)) (kept f fix i before (suc q) (count - suc q)) ≡ all) (sym e) opened in
+      let h : and_then (true, s) (harmed_rows_fixed f fix i before (suc q) (count - suc q)) ≡ all = subst (λ (b : Bool). and_then (if b then fix q s else (true, s)) (harmed_rows_fixed f fix i before (suc q) (count - suc q)) ≡ all) (sym e) opened in
       rw (next, same) h
 
-  pub row_fixed : true ≡ is_harmed f i before s.numbers q → (true, t) ≡ fix q s → kept f fix i before (q + 1) (count - (q + 1)) t ≡ all
+  pub row_fixed : true ≡ is_harmed f i before s.numbers q → (true, t) ≡ fix q s → harmed_rows_fixed f fix i before (q + 1) (count - (q + 1)) t ≡ all
   row_fixed e fixed =
-      let h : and_then (fix q s) (kept f fix i before (suc q) (count - suc q)) ≡ all = subst (λ (b : Bool). and_then (if b then fix q s else (true, s)) (kept f fix i before (suc q) (count - suc q)) ≡ all) (sym e) opened in
-      let g : and_then (true, t) (kept f fix i before (suc q) (count - suc q)) ≡ all = subst (λ (o : Outcome). and_then o (kept f fix i before (suc q) (count - suc q)) ≡ all) (sym fixed) h in
+      let h : and_then (fix q s) (harmed_rows_fixed f fix i before (suc q) (count - suc q)) ≡ all = subst (λ (b : Bool). and_then (if b then fix q s else (true, s)) (harmed_rows_fixed f fix i before (suc q) (count - suc q)) ≡ all) (sym e) opened in
+      let g : and_then (true, t) (harmed_rows_fixed f fix i before (suc q) (count - suc q)) ≡ all = subst (λ (o : FixOutcome). and_then o (harmed_rows_fixed f fix i before (suc q) (count - suc q)) ≡ all) (sym fixed) h in
       rw next g

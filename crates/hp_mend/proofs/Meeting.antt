@@ -7,10 +7,10 @@ use Rattle.std.proofs.lemmas.Grind.{common_steps}
 use Rattle.std.proofs.lemmas.Int.{ints, clamps}
 use Rattle.std.proofs.lemmas.List.{get_or-map, length-map}
 use Rattle.hp_num.proofs.Tests.{all_at}
-use Rattle.hp_problem.specs.declared.raw.Row.{Row}
+use Rattle.hp_parts.specs.declared.parts.Row.{Row}
 use Rattle.hp_theory.specs.Problem.{S, Node}
 use Rattle.hp_theory.specs.Tree.{RowHolds, left_side}
-use Rattle.hp_forward.specs.Costing.{above, below, miss_of, misses_of, residual_of}
+use Rattle.hp_forward.specs.Costing.{above_high, below_low, miss_of, misses_of, residual_of}
 use Rattle.hp_forward.proofs.MetRows.{residual_met}
 use Rattle.hp_mend.specs.Mending.{searched, all_met, mended_of}
 
@@ -28,7 +28,7 @@ pub row_met : (row : Row) (u x values : List ℤ) → miss_of row u x values ≡
 unfolding miss_of residual_of
 row_met row u x values h =
     let left : ℤ = left_side S values x u row in
-    (residual_met row u x values).0 (no_miss (below row.low left) (above row.high left) (int_lt (pos 0) (below row.low left)) refl h)
+    (residual_met row u x values).0 (no_miss (below_low row.low left) (above_high row.high left) (int_lt (pos 0) (below_low row.low left)) refl h)
 
 is_zero : (d : ℤ) → int_eq d (pos 0) ≡ true → d ≡ pos 0
 is_zero d e = grind (arith, ints, common_steps, e)

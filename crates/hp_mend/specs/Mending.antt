@@ -9,12 +9,12 @@ use Rattle.hp_mend.specs.Moves.{frame_of}
 use Rattle.hp_mend.specs.Fixing.{all_fixed}
 
 -- nothing is held, and there are 256 tries
-abbrev pub fresh : List ℤ → Search
-fresh u = record { numbers = u; held = replicate (length u) false; tries = 256 }
+abbrev pub fresh_search : List ℤ → Search
+fresh_search u = record { numbers = u; held = replicate (length u) false; tries = 256 }
 
 -- the decisions that the search finds
 abbrev pub searched : Node → List ℤ → List ℤ → List ℤ → List ℤ
-searched n values x u = (all_fixed (frame_of n values x) 0 (length (frame_of n values x).rows) (fresh u)).1.numbers
+searched n values x u = (all_fixed (frame_of n values x) 0 (length (frame_of n values x).rows) (fresh_search u)).1.numbers
 
 abbrev pub all_met : Node → List ℤ → List ℤ → List ℤ → Bool
 all_met n values x u = list_all (λ (d : ℤ). int_eq d (pos 0)) (misses_of n u x values)

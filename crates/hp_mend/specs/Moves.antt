@@ -2,7 +2,7 @@
 use Rattle.std.specs.Prelude.{ℕ, zero, suc, ◌+◌, ◌-◌, ◌/◌, ℤ, pos, neg_ℤ, ◌+ℤ◌, ◌*ℤ◌, nat_abs, int_lt, int_le, Bool, true, not, ◌&&◌, ◌||◌, ◌==◌, List, [], ◌∷◌, ◌++◌, length, get_or, map, set, if◌then◌else◌}
 use Rattle.std.specs.Ordering.{int_eq}
 use Rattle.hp_num.specs.Sums.{Term, entry}
-use Rattle.hp_problem.specs.declared.raw.Row.{Row}
+use Rattle.hp_parts.specs.declared.parts.Row.{Row}
 use Rattle.hp_theory.specs.Problem.{S, Node}
 use Rattle.hp_forward.specs.Costing.{misses_of}
 use Rattle.hp_mend.specs.declared.search.Move.{Move}
@@ -45,8 +45,8 @@ abbrev pub may_move : Frame → Search → ℕ → ℤ → Bool
 may_move f s j v =
     not (get_or s.held j true) && (int_lt (entry f.lows j) (entry f.highs j) && (int_le (pos S *ℤ entry f.lows j) (entry s.numbers j +ℤ v) && int_le (entry s.numbers j +ℤ v) (pos S *ℤ entry f.highs j)))
 
-abbrev pub moved : List ℤ → ℕ → ℤ → List ℤ
-moved u j v = set u j (entry u j +ℤ v)
+abbrev pub moved_decision : List ℤ → ℕ → ℤ → List ℤ
+moved_decision u j v = set u j (entry u j +ℤ v)
 
 -- a row has to be met for the sake of the row i, and is not met afterwards
 abbrev pub is_harmed : Frame → ℕ → List ℤ → List ℤ → ℕ → Bool
@@ -61,7 +61,7 @@ abbrev pub move_of : Frame → Search → ℕ → ℕ → ℤ → Move
 move_of f s i j v = record {
   decision = j;
   amount = v;
-  harm = harm_from f i s.numbers (moved s.numbers j v) 0 (length f.rows);
+  harm = harm_from f i s.numbers (moved_decision s.numbers j v) 0 (length f.rows);
   cost = entry f.costs j *ℤ v;
 }
 

@@ -1,24 +1,24 @@
 -- The stage that decisions are of.
 use Rattle.std.specs.Prelude.{◌≡◌, ◌<◌, ℤ, pos, true, List, [], length}
-use Rattle.hp_problem.specs.declared.raw.Decision.{Decision}
-use Rattle.hp_problem.specs.Limits.{are_values}
-use Rattle.hp_problem.specs.Sealed.{subproblem_of}
+use Rattle.hp_parts.specs.declared.parts.Decision.{Decision}
+use Rattle.hp_parts.specs.Limits.{are_values}
+use Rattle.hp_problem.specs.Validated.{subproblem_of}
 use Rattle.hp_theory.specs.Problem.{S, Node, node_at}
 use Rattle.hp_theory.specs.Tree.{InBox}
 use Rattle.hp_theory.specs.View.{problem_of}
 use Rattle.hp_cut.specs.AtNodes.{IsStateAt}
-use Rattle.hp_mend.specs.declared.stage.Stage.{Stage}
+use Rattle.hp_mend.specs.declared.stage.MendedStage.{MendedStage}
 use Rattle.hp_mend.specs.Moves.{Frame, frame_of}
 
-abbrev pub stage_node : Stage → Node
-stage_node s = node_at (problem_of s.problem.now) s.node
+abbrev pub node_of_stage : MendedStage → Node
+node_of_stage s = node_at (problem_of s.problem.now) s.node
 
-abbrev pub frame_at : Stage → Frame
-frame_at s = frame_of (stage_node s) s.values.now s.state.now
+abbrev pub frame_at : MendedStage → Frame
+frame_at s = frame_of (node_of_stage s) s.values.now s.state.now
 
 -- the node is one of the problem, the values are its own, and the state is in its box
-pub record IsStage (s : Stage) : Type 0 where
-  pub known : s.node < length s.problem.now.raw.nodes
+pub record IsNodeStage (s : MendedStage) : Type 0 where
+  pub known : s.node < length s.problem.now.parts.nodes
   pub values : are_values (subproblem_of s.problem.now s.node) s.values.now ≡ true
   pub state : IsStateAt s.problem.now s.node s.state.now
 
@@ -27,5 +27,5 @@ abbrev pub no_decision : Decision
 no_decision = record { name = []; low = pos 0; high = pos 0; cost = pos 0 }
 
 -- the decisions lie in S times their boxes
-abbrev pub AreInside : Stage → List ℤ → Type 0
-AreInside s u = InBox S (stage_node s).decision_low (stage_node s).decision_high u
+abbrev pub AreDecisionsInside : MendedStage → List ℤ → Type 0
+AreDecisionsInside s u = InBox S (node_of_stage s).decision_low (node_of_stage s).decision_high u

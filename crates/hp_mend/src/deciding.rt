@@ -1,13 +1,13 @@
 // Mended decisions at a node.
 ghost use Rattle.std.specs.Prelude.{◌≡◌, ◌<◌, ℕ, true, length, Contains, IfOk};
-ghost use Rattle.hp_problem.specs.Limits.{are_values};
-ghost use Rattle.hp_problem.specs.Parts.{successors_at};
-ghost use Rattle.hp_problem.specs.Sealed.{subproblem_of};
+ghost use Rattle.hp_parts.specs.Limits.{are_values};
+ghost use Rattle.hp_parts.specs.Parts.{successors_at};
+ghost use Rattle.hp_problem.specs.Validated.{subproblem_of};
 ghost use Rattle.hp_theory.specs.Problem.{S, node_at};
 ghost use Rattle.hp_theory.specs.Tree.{InBox, next_state};
 ghost use Rattle.hp_theory.specs.View.{problem_of};
 ghost use Rattle.hp_cut.specs.AtNodes.{IsStateAt, PoolsFit};
-ghost use Rattle.hp_settle.specs.Faults.{Gives, OnNoStage, Refutes};
+ghost use Rattle.hp_settle.specs.Faults.{GivesOrRefutes, OnNoStage, Refutes};
 ghost use Rattle.hp_mend.specs.Deciding.{decide_mended_of, decided_as, mend};
 ghost use Rattle.hp_mend.specs.Mending.{mended_of};
 
@@ -28,7 +28,7 @@ fn state_after(
     node: u32,
     decisions: &[i128],
 ) -> Result<List<i128>, Memory>
-    requires { node < length problem.now.raw.nodes }
+    requires { node < length problem.now.parts.nodes }
     ensures { IfOk result (λ found. found ≡ next_state (node_at (problem_of problem.now) node) decisions.now) }
 {
     next_state(alloc, problem.sub(node).outs.as_slice(), decisions)
@@ -40,16 +40,16 @@ fn decided_as(
     problem: &Problem,
     node: u32,
     kind: Kind,
-    unsettled: bool,
+    unanswered: bool,
     decisions: List<i128>,
 ) -> Result<Decided, Memory>
-    requires { node < length problem.now.raw.nodes }
-    ensures { IfOk result (λ found. found ≡ decided_as (node_at (problem_of problem.now) node) kind unsettled decisions) }
+    requires { node < length problem.now.parts.nodes }
+    ensures { IfOk result (λ found. found ≡ decided_as (node_at (problem_of problem.now) node) kind unanswered decisions) }
 {
     let next = state_after(alloc, problem, node, decisions.as_slice())?;
     Ok(Decided {
         kind,
-        unsettled,
+        unanswered,
         decisions,
         next,
     })
@@ -64,12 +64,12 @@ fn with_mended(
     state: &[i128],
     decided: Decided,
 ) -> Result<Decided, Memory>
-    requires known { node < length problem.now.raw.nodes }
+    requires known { node < length problem.now.parts.nodes }
     requires values { are_values (subproblem_of problem.now node) values.now ≡ true }
     requires state { IsStateAt problem.now node state.now }
     requires inside { InBox S (node_at (problem_of problem.now) node).decision_low (node_at (problem_of problem.now) node).decision_high decided.decisions }
     ensures { let n = node_at (problem_of problem.now) node in
-        IfOk result (λ found. found ≡ decided_as n decided.kind decided.unsettled (mended_of n values.now state.now decided.decisions)) }
+        IfOk result (λ found. found ≡ decided_as n decided.kind decided.unanswered (mended_of n values.now state.now decided.decisions)) }
 {
     let decisions = mended(alloc, problem, node, values, state, decided.decisions)?;
     decided_as(
@@ -77,7 +77,7 @@ fn with_mended(
         problem,
         node,
         decided.kind,
-        decided.unsettled,
+        decided.unanswered,
         decisions,
     )
 }
@@ -91,7 +91,7 @@ fn mend(
     state: &[i128],
     decided: Decided,
 ) -> Result<Decided, Memory>
-    requires known { node < length problem.now.raw.nodes }
+    requires known { node < length problem.now.parts.nodes }
     requires values { are_values (subproblem_of problem.now node) values.now ≡ true }
     requires state { IsStateAt problem.now node state.now }
     requires inside { InBox S (node_at (problem_of problem.now) node).decision_low (node_at (problem_of problem.now) node).decision_high decided.decisions }
@@ -110,7 +110,7 @@ fn mend(
 /// Decisions and states are at scale 2^24, the decisions in 2^24 times their boxes. There is one value per random variable of
 /// the node's subproblem, each at most 2^40 in absolute value, and the state lies in the node's box.
 ///
-/// NoStage exactly where the answer is judged dead: then no decisions exist there, in any fraction of a unit. Memory
+/// Infeasible exactly where the answer is classified as infeasible: then no decisions exist there, in any fraction of a unit. Memory
 /// where memory was refused.
 #[tactic(auto, unfolding(crate::specs::Deciding::decide_mended_of))]
 pub fn decide_mended<V: Solver>(
@@ -119,19 +119,19 @@ pub fn decide_mended<V: Solver>(
     pools: &Pools,
     input: &StageInput,
 ) -> Result<Decided, PlanFault>
-    requires known { input.now.node < length planner.now.problem.now.raw.nodes }
+    requires known { input.now.node < length planner.now.problem.now.parts.nodes }
     requires fit { PoolsFit planner.now.problem.now pools.now.lists }
     requires values { are_values (subproblem_of planner.now.problem.now input.now.node) input.now.values.now ≡ true }
     requires state { IsStateAt planner.now.problem.now input.now.node input.now.state.now }
-    ensures value { Gives result (decide_mended_of (V.does planner.now.solver.now) planner.now.problem.now pools.now.lists input.now.run input.now.node input.now.values.now input.now.state.now) }
+    ensures value { GivesOrRefutes result (decide_mended_of (V.does planner.now.solver.now) planner.now.problem.now pools.now.lists input.now.run input.now.node input.now.values.now input.now.state.now) }
     ensures inside { let n = node_at (problem_of planner.now.problem.now) input.now.node in
         IfOk result (λ d. InBox S n.decision_low n.decision_high d.decisions) }
-    ensures next { IfOk result (λ d. (m : ℕ) → Contains (successors_at planner.now.problem.now.raw input.now.node) m
+    ensures next { IfOk result (λ d. (m : ℕ) → Contains (successors_at planner.now.problem.now.parts input.now.node) m
         → IsStateAt planner.now.problem.now m d.next) }
-    ensures dead { OnNoStage result (Refutes planner.now.problem.now) }
+    ensures infeasible { OnNoStage result (Refutes planner.now.problem.now) }
 {
     let problem = planner.problem();
-    let _ = problem.raw();
+    let _ = problem.parts();
     let decided = decide(work, planner, pools, input)?;
     let StageInput {
         node,

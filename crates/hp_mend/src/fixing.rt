@@ -1,21 +1,21 @@
 // Fixing a row by moves.
 ghost use Rattle.std.specs.Prelude.{◌≡◌, ◌<◌, length, IfOk};
-ghost use Rattle.hp_mend.specs.Fixing.{begun_where_allowed, ended, below, kept, attempt, tried, fixed};
-ghost use Rattle.hp_mend.specs.Stages.{frame_at, IsStage, AreInside};
+ghost use Rattle.hp_mend.specs.Fixing.{begun_where_allowed, ended, fixer_below, harmed_rows_fixed, attempt_move, tried_moves, fixed};
+ghost use Rattle.hp_mend.specs.Stages.{frame_at, IsNodeStage, AreDecisionsInside};
 
 use crate::moves::{is_harmed, may_move, moved_to, moves_of, number_at};
 use crate::order::ordered;
-use crate::search::{Move, Search, copied, put};
-use crate::stage::{Stage, is_met, row_count};
-use hp_num::{List, Memory};
+use crate::search::{Move, Search, put};
+use crate::stage::{MendedStage, is_met, stage_row_count};
+use hp_num::{List, Memory, copied};
 use std::alloc::Global;
 
 /// Begins a try where the move is allowed: moves the decision, holds it, and takes one of the tries. Whether it is.
-fn begin(stage: &Stage, search: &mut Search, own: &Move) -> bool
-    requires stage { IsStage stage.now }
-    requires inside { AreInside stage.now search.old.numbers }
+fn begin(stage: &MendedStage, search: &mut Search, own: &Move) -> bool
+    requires stage { IsNodeStage stage.now }
+    requires inside { AreDecisionsInside stage.now search.old.numbers }
     ensures value { (result, search.new) ≡ begun_where_allowed (frame_at stage.now) search.old own.now }
-    ensures inside { AreInside stage.now search.new.numbers }
+    ensures inside { AreDecisionsInside stage.now search.new.numbers }
 {
     let amount = own.amount.number();
     if !may_move(stage, search, own.decision, amount) {
@@ -46,16 +46,16 @@ fn end(search: &mut Search, before: List<i128>, own: &Move, done: bool)
 #[cycle(fixing)]
 fn fix_below(
     alloc: Global,
-    stage: &Stage,
+    stage: &MendedStage,
     search: &mut Search,
     row: u32,
     depth: u32,
 ) -> Result<bool, Memory>
-    requires stage { IsStage stage.now }
-    requires inside { AreInside stage.now search.old.numbers }
+    requires stage { IsNodeStage stage.now }
+    requires inside { AreDecisionsInside stage.now search.old.numbers }
     requires there { row < length (frame_at stage.now).rows }
-    ensures value { IfOk result (λ done. (done, search.new) ≡ below (frame_at stage.now) depth row search.old) }
-    ensures inside { IfOk result (λ done. AreInside stage.now search.new.numbers) }
+    ensures value { IfOk result (λ done. (done, search.new) ≡ fixer_below (frame_at stage.now) depth row search.old) }
+    ensures inside { IfOk result (λ done. AreDecisionsInside stage.now search.new.numbers) }
 {
     if depth == 0 {
         return Ok(false);
@@ -67,20 +67,20 @@ fn fix_below(
 #[cycle(fixing)]
 fn keep_rows(
     alloc: Global,
-    stage: &Stage,
+    stage: &MendedStage,
     search: &mut Search,
     row: u32,
     depth: u32,
     before: &[i128],
 ) -> Result<bool, Memory>
-    requires stage { IsStage stage.now }
-    requires inside { AreInside stage.now search.old.numbers }
-    requires before { AreInside stage.now before.now }
+    requires stage { IsNodeStage stage.now }
+    requires inside { AreDecisionsInside stage.now search.old.numbers }
+    requires before { AreDecisionsInside stage.now before.now }
     ensures value { let f = frame_at stage.now in
-        IfOk result (λ done. (done, search.new) ≡ kept f (below f depth) row before.now 0 (length f.rows) search.old) }
-    ensures inside { IfOk result (λ done. AreInside stage.now search.new.numbers) }
+        IfOk result (λ done. (done, search.new) ≡ harmed_rows_fixed f (fixer_below f depth) row before.now 0 (length f.rows) search.old) }
+    ensures inside { IfOk result (λ done. AreDecisionsInside stage.now search.new.numbers) }
 {
-    for other in 0..row_count(stage) {
+    for other in 0..stage_row_count(stage) {
         if is_harmed(stage, row, before, search.numbers.as_slice(), other)
             && !fix_below(alloc, stage, search, other, depth)?
         {
@@ -94,17 +94,17 @@ fn keep_rows(
 #[cycle(fixing)]
 fn try_move(
     alloc: Global,
-    stage: &Stage,
+    stage: &MendedStage,
     search: &mut Search,
     row: u32,
     depth: u32,
     own: &Move,
 ) -> Result<bool, Memory>
-    requires stage { IsStage stage.now }
-    requires inside { AreInside stage.now search.old.numbers }
+    requires stage { IsNodeStage stage.now }
+    requires inside { AreDecisionsInside stage.now search.old.numbers }
     ensures value { let f = frame_at stage.now in
-        IfOk result (λ done. (done, search.new) ≡ attempt f (below f depth) row own.now search.old) }
-    ensures inside { IfOk result (λ done. AreInside stage.now search.new.numbers) }
+        IfOk result (λ done. (done, search.new) ≡ attempt_move f (fixer_below f depth) row own.now search.old) }
+    ensures inside { IfOk result (λ done. AreDecisionsInside stage.now search.new.numbers) }
 {
     let before = copied(alloc, search.numbers.as_slice())?;
     if !begin(stage, search, own) {
@@ -119,17 +119,17 @@ fn try_move(
 #[cycle(fixing)]
 fn try_moves(
     alloc: Global,
-    stage: &Stage,
+    stage: &MendedStage,
     search: &mut Search,
     row: u32,
     depth: u32,
     moves: &[Move],
 ) -> Result<bool, Memory>
-    requires stage { IsStage stage.now }
-    requires inside { AreInside stage.now search.old.numbers }
+    requires stage { IsNodeStage stage.now }
+    requires inside { AreDecisionsInside stage.now search.old.numbers }
     ensures value { let f = frame_at stage.now in
-        IfOk result (λ done. (done, search.new) ≡ tried f (below f depth) row moves.now search.old) }
-    ensures inside { IfOk result (λ done. AreInside stage.now search.new.numbers) }
+        IfOk result (λ done. (done, search.new) ≡ tried_moves f (fixer_below f depth) row moves.now search.old) }
+    ensures inside { IfOk result (λ done. AreDecisionsInside stage.now search.new.numbers) }
 {
     for own in moves {
         if search.tries == 0 {
@@ -147,16 +147,16 @@ fn try_moves(
 #[cycle(fixing)]
 pub(crate) fn fix(
     alloc: Global,
-    stage: &Stage,
+    stage: &MendedStage,
     search: &mut Search,
     row: u32,
     depth: u32,
 ) -> Result<bool, Memory>
-    requires stage { IsStage stage.now }
-    requires inside { AreInside stage.now search.old.numbers }
+    requires stage { IsNodeStage stage.now }
+    requires inside { AreDecisionsInside stage.now search.old.numbers }
     requires there { row < length (frame_at stage.now).rows }
     ensures value { IfOk result (λ done. (done, search.new) ≡ fixed (frame_at stage.now) depth row search.old) }
-    ensures inside { IfOk result (λ done. AreInside stage.now search.new.numbers) }
+    ensures inside { IfOk result (λ done. AreDecisionsInside stage.now search.new.numbers) }
 {
     if is_met(stage, search.numbers.as_slice(), row) {
         return Ok(true);

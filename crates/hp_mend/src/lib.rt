@@ -13,3 +13,4 @@ mod stage;
 
 pub use deciding::decide_mended;
 pub use mending::mended;
+pub use stage::row_count;

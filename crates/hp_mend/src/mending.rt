@@ -1,20 +1,19 @@
 // Decisions that meet their rows.
-ghost use Rattle.std.specs.Prelude.{◌≡◌, ◌<◌, ◌⊎◌, true, false, pos, length, replicate, All, IfOk};
-ghost use Rattle.hp_problem.specs.declared.raw.Row.{Row};
-ghost use Rattle.hp_problem.specs.Limits.{are_values};
-ghost use Rattle.hp_problem.specs.Sealed.{subproblem_of};
+ghost use Rattle.std.specs.Prelude.{◌≡◌, ◌<◌, true, false, length, replicate, IfOk};
+ghost use Rattle.hp_parts.specs.Limits.{are_values};
+ghost use Rattle.hp_problem.specs.Validated.{subproblem_of};
 ghost use Rattle.hp_theory.specs.Problem.{S, node_at};
-ghost use Rattle.hp_theory.specs.Tree.{InBox, RowHolds};
+ghost use Rattle.hp_theory.specs.Tree.{InBox};
 ghost use Rattle.hp_theory.specs.View.{problem_of};
 ghost use Rattle.hp_cut.specs.AtNodes.{IsStateAt};
 ghost use Rattle.hp_mend.specs.Fixing.{all_fixed};
-ghost use Rattle.hp_mend.specs.Mending.{fresh, all_met, mended_of};
-ghost use Rattle.hp_mend.specs.Stages.{stage_node, frame_at, IsStage, AreInside};
+ghost use Rattle.hp_mend.specs.Mending.{fresh_search, all_met, mended_of};
+ghost use Rattle.hp_mend.specs.Stages.{node_of_stage, frame_at, IsNodeStage, AreDecisionsInside};
 
 use crate::fixing::fix;
-use crate::search::{Search, copied};
-use crate::stage::{Stage, is_met, row_count};
-use hp_num::{List, Memory};
+use crate::search::Search;
+use crate::stage::{MendedStage, is_met, stage_row_count};
+use hp_num::{List, Memory, copied};
 use hp_problem::Problem;
 use std::alloc::Global;
 
@@ -37,7 +36,7 @@ fn none_held(alloc: Global, count: usize) -> Result<List<bool>, Memory>
 
 /// A search that begins with these decisions.
 fn fresh(alloc: Global, decisions: &[i128]) -> Result<Search, Memory>
-    ensures { IfOk result (λ found. found ≡ fresh decisions.now) }
+    ensures { IfOk result (λ found. found ≡ fresh_search decisions.now) }
 {
     let numbers = copied(alloc, decisions)?;
     let held = none_held(alloc, decisions.len())?;
@@ -49,14 +48,14 @@ fn fresh(alloc: Global, decisions: &[i128]) -> Result<Search, Memory>
 }
 
 /// Fixes each row in turn, until one cannot be fixed.
-fn fix_all(alloc: Global, stage: &Stage, search: &mut Search) -> Result<bool, Memory>
-    requires stage { IsStage stage.now }
-    requires inside { AreInside stage.now search.old.numbers }
+fn fix_all(alloc: Global, stage: &MendedStage, search: &mut Search) -> Result<bool, Memory>
+    requires stage { IsNodeStage stage.now }
+    requires inside { AreDecisionsInside stage.now search.old.numbers }
     ensures value { let f = frame_at stage.now in
         IfOk result (λ done. (done, search.new) ≡ all_fixed f 0 (length f.rows) search.old) }
-    ensures inside { IfOk result (λ done. AreInside stage.now search.new.numbers) }
+    ensures inside { IfOk result (λ done. AreDecisionsInside stage.now search.new.numbers) }
 {
-    for row in 0..row_count(stage) {
+    for row in 0..stage_row_count(stage) {
         if !fix(alloc, stage, search, row, LEVELS)? {
             return Ok(false);
         }
@@ -65,12 +64,12 @@ fn fix_all(alloc: Global, stage: &Stage, search: &mut Search) -> Result<bool, Me
 }
 
 /// Tells whether decisions meet all rows.
-fn are_met(stage: &Stage, numbers: &[i128]) -> bool
-    requires stage { IsStage stage.now }
-    requires inside { AreInside stage.now numbers.now }
-    ensures { result ≡ all_met (stage_node stage.now) stage.now.values.now stage.now.state.now numbers.now }
+fn are_met(stage: &MendedStage, numbers: &[i128]) -> bool
+    requires stage { IsNodeStage stage.now }
+    requires inside { AreDecisionsInside stage.now numbers.now }
+    ensures { result ≡ all_met (node_of_stage stage.now) stage.now.values.now stage.now.state.now numbers.now }
 {
-    for row in 0..row_count(stage) {
+    for row in 0..stage_row_count(stage) {
         if !is_met(stage, numbers, row) {
             return false;
         }
@@ -105,14 +104,14 @@ pub fn mended(
     state: &[i128],
     decisions: List<i128>,
 ) -> Result<List<i128>, Memory>
-    requires known { node < length problem.now.raw.nodes }
+    requires known { node < length problem.now.parts.nodes }
     requires values { are_values (subproblem_of problem.now node) values.now ≡ true }
     requires state { IsStateAt problem.now node state.now }
     requires inside { InBox S (node_at (problem_of problem.now) node).decision_low (node_at (problem_of problem.now) node).decision_high decisions }
     ensures value { IfOk result (λ found. found ≡ mended_of (node_at (problem_of problem.now) node) values.now state.now decisions) }
     ensures inside { IfOk result (λ found. InBox S (node_at (problem_of problem.now) node).decision_low (node_at (problem_of problem.now) node).decision_high found) }
 {
-    let stage = Stage {
+    let stage = MendedStage {
         problem,
         node,
         values,

@@ -1,22 +1,22 @@
 // Moves of single decisions that bring a row nearer to its sides.
 ghost use Rattle.std.specs.Ordering.{int_eq};
-ghost use Rattle.std.specs.Prelude.{◌≡◌, ◌≢◌, ◌+◌, ◌<◌, ◌≤◌, ◌^◌, ◌++◌, pos, ◌+ℤ◌, ◌*ℤ◌, int_lt, int_le, ◌&&◌, true, false, [], length, get_or, nat_abs, IfOk, OnOk};
+ghost use Rattle.std.specs.Prelude.{◌≡◌, ◌≢◌, ◌+◌, ◌<◌, ◌≤◌, ◌^◌, ◌++◌, pos, ◌+ℤ◌, ◌*ℤ◌, int_lt, int_le, ◌&&◌, true, false, length, get_or, nat_abs, IfOk, OnOk};
 ghost use Rattle.hp_theory.specs.Problem.{S};
 ghost use Rattle.hp_num.specs.Sums.{entry};
-ghost use Rattle.hp_mend.specs.Moves.{may_move, moved, is_harmed, harm_from, is_other, move_of, moves_by, both_moves, moves_at, moves_of};
-ghost use Rattle.hp_mend.specs.Stages.{frame_at, IsStage, AreInside};
+ghost use Rattle.hp_mend.specs.Moves.{may_move, moved_decision, is_harmed, harm_from, is_other, move_of, moves_by, both_moves, moves_at, moves_of};
+ghost use Rattle.hp_mend.specs.Stages.{frame_at, IsNodeStage, AreDecisionsInside};
 
 use crate::amounts::{Amount, directed, reaching, short_of};
-use crate::search::{Move, Search, copied, put};
-use crate::stage::{Stage, box_at, cost_at, is_met, miss_at, row_count, terms_at};
+use crate::search::{Move, Search, put};
+use crate::stage::{MendedStage, box_at, cost_at, is_met, miss_at, stage_row_count, terms_at};
 use hp_forward::scaled;
-use hp_num::{List, Memory};
+use hp_num::{List, Memory, copied};
 use std::alloc::Global;
 
 /// A row for whose sake decisions move, on a level of a search.
 #[derive(Clone, Copy)]
 struct Aim<'a> {
-    stage: &'a Stage<'a>,
+    stage: &'a MendedStage<'a>,
     search: &'a Search,
     /// Rows that a move harms can be fixed below.
     deep: bool,
@@ -60,16 +60,16 @@ pub(crate) fn moved_to(number: i128, amount: i128) -> i128
 }
 
 /// Tells whether a decision may move by so much: it is not held, and stays in its box, which is no point.
-pub(crate) fn may_move(stage: &Stage, search: &Search, at: u32, amount: i128) -> bool
-    requires stage { IsStage stage.now }
-    requires inside { AreInside stage.now search.now.numbers }
+pub(crate) fn may_move(stage: &MendedStage, search: &Search, at: u32, amount: i128) -> bool
+    requires stage { IsNodeStage stage.now }
+    requires inside { AreDecisionsInside stage.now search.now.numbers }
     requires small { nat_abs amount ≤ 2 ^ 116 }
     ensures value { result ≡ may_move (frame_at stage.now) search.now at amount }
     ensures small { result ≡ true → nat_abs amount ≤ 2 ^ 66 }
     ensures number { result ≡ true → nat_abs (entry search.now.numbers at) ≤ 2 ^ 64 }
-    ensures inside { result ≡ true → AreInside stage.now (moved search.now.numbers at amount) }
+    ensures inside { result ≡ true → AreDecisionsInside stage.now (moved_decision search.now.numbers at amount) }
 {
-    let _ = stage.problem.raw();
+    let _ = stage.problem.parts();
     let _ = stage.problem.sub(stage.node);
     !is_held(search.held.as_slice(), at)
         && is_inside(
@@ -82,7 +82,7 @@ pub(crate) fn may_move(stage: &Stage, search: &Search, at: u32, amount: i128) ->
 fn moved(alloc: Global, numbers: &[i128], at: u32, amount: i128) -> Result<List<i128>, Memory>
     requires small { nat_abs amount ≤ 2 ^ 116 }
     requires number { nat_abs (entry numbers.now at) ≤ 2 ^ 64 }
-    ensures { IfOk result (λ found. found ≡ moved numbers.now at amount) }
+    ensures { IfOk result (λ found. found ≡ moved_decision numbers.now at amount) }
 {
     let mut found = copied(alloc, numbers)?;
     put(
@@ -95,15 +95,15 @@ fn moved(alloc: Global, numbers: &[i128], at: u32, amount: i128) -> Result<List<
 
 /// Tells whether a row has to be met for the sake of another one, and is not met afterwards.
 pub(crate) fn is_harmed(
-    stage: &Stage,
+    stage: &MendedStage,
     row: u32,
     before: &[i128],
     after: &[i128],
     other: u32,
 ) -> bool
-    requires stage { IsStage stage.now }
-    requires before { AreInside stage.now before.now }
-    requires after { AreInside stage.now after.now }
+    requires stage { IsNodeStage stage.now }
+    requires before { AreDecisionsInside stage.now before.now }
+    requires after { AreDecisionsInside stage.now after.now }
     requires there { other < length (frame_at stage.now).rows }
     ensures { result ≡ is_harmed (frame_at stage.now) row before.now after.now other }
 {
@@ -111,14 +111,14 @@ pub(crate) fn is_harmed(
 }
 
 /// Counts the rows that are harmed.
-fn harm(stage: &Stage, row: u32, before: &[i128], after: &[i128]) -> u32
-    requires stage { IsStage stage.now }
-    requires before { AreInside stage.now before.now }
-    requires after { AreInside stage.now after.now }
+fn harm(stage: &MendedStage, row: u32, before: &[i128], after: &[i128]) -> u32
+    requires stage { IsNodeStage stage.now }
+    requires before { AreDecisionsInside stage.now before.now }
+    requires after { AreDecisionsInside stage.now after.now }
     ensures { result ≡ harm_from (frame_at stage.now) row before.now after.now 0 (length (frame_at stage.now).rows) }
 {
     let mut count = 0;
-    for other in 0..row_count(stage) {
+    for other in 0..stage_row_count(stage) {
         if is_harmed(stage, row, before, after, other) {
             count += 1;
         }
@@ -138,19 +138,19 @@ fn product(cost: i64, amount: i128) -> i128
 /// Builds a move of a decision for the sake of a row, with its harm and its cost.
 fn move_of(
     alloc: Global,
-    stage: &Stage,
+    stage: &MendedStage,
     search: &Search,
     row: u32,
     at: u32,
     amount: i128,
 ) -> Result<Move, Memory>
-    requires stage { IsStage stage.now }
-    requires inside { AreInside stage.now search.now.numbers }
+    requires stage { IsNodeStage stage.now }
+    requires inside { AreDecisionsInside stage.now search.now.numbers }
     requires small { nat_abs amount ≤ 2 ^ 66 }
-    requires stays { AreInside stage.now (moved search.now.numbers at amount) }
+    requires stays { AreDecisionsInside stage.now (moved_decision search.now.numbers at amount) }
     ensures { IfOk result (λ own. own ≡ move_of (frame_at stage.now) search.now row at amount) }
 {
-    let _ = stage.problem.raw();
+    let _ = stage.problem.parts();
     let _ = stage.problem.sub(stage.node);
     let numbers = search.numbers.as_slice();
     let after = moved(alloc, numbers, at, amount)?;
@@ -170,8 +170,8 @@ fn push_move(
     at: u32,
     amount: i128,
 ) -> Result<(), Memory>
-    requires stage { IsStage aim.now.stage.now }
-    requires inside { AreInside aim.now.stage.now aim.now.search.now.numbers }
+    requires stage { IsNodeStage aim.now.stage.now }
+    requires inside { AreDecisionsInside aim.now.stage.now aim.now.search.now.numbers }
     requires small { nat_abs amount ≤ 2 ^ 116 }
     ensures { OnOk result (moves.new ≡ moves.old ++ moves_by (frame_at aim.now.stage.now) aim.now.deep aim.now.search.now aim.now.row at amount) }
 {
@@ -213,8 +213,8 @@ fn push_both(
     miss: i128,
     term: (u32, i64),
 ) -> Result<(), Memory>
-    requires stage { IsStage aim.now.stage.now }
-    requires inside { AreInside aim.now.stage.now aim.now.search.now.numbers }
+    requires stage { IsNodeStage aim.now.stage.now }
+    requires inside { AreDecisionsInside aim.now.stage.now aim.now.search.now.numbers }
     requires small { nat_abs miss ≤ 2 ^ 115 }
     requires some { term.1 ≢ pos 0 }
     ensures { OnOk result (moves.new ≡ moves.old ++ both_moves (frame_at aim.now.stage.now) aim.now.deep aim.now.search.now aim.now.row miss term) }
@@ -239,8 +239,8 @@ fn push_moves(
     miss: i128,
     term: (u32, i64),
 ) -> Result<(), Memory>
-    requires stage { IsStage aim.now.stage.now }
-    requires inside { AreInside aim.now.stage.now aim.now.search.now.numbers }
+    requires stage { IsNodeStage aim.now.stage.now }
+    requires inside { AreDecisionsInside aim.now.stage.now aim.now.search.now.numbers }
     requires small { nat_abs miss ≤ 2 ^ 115 }
     ensures { OnOk result (moves.new ≡ moves.old ++ moves_at (frame_at aim.now.stage.now) aim.now.deep aim.now.search.now aim.now.row miss term) }
 {
@@ -253,13 +253,13 @@ fn push_moves(
 /// The moves of single decisions for the sake of a row, as its terms list them.
 pub(crate) fn moves_of(
     alloc: Global,
-    stage: &Stage,
+    stage: &MendedStage,
     search: &Search,
     deep: bool,
     row: u32,
 ) -> Result<List<Move>, Memory>
-    requires stage { IsStage stage.now }
-    requires inside { AreInside stage.now search.now.numbers }
+    requires stage { IsNodeStage stage.now }
+    requires inside { AreDecisionsInside stage.now search.now.numbers }
     requires there { row < length (frame_at stage.now).rows }
     ensures { IfOk result (λ moves. moves ≡ moves_of (frame_at stage.now) deep search.now row) }
 {

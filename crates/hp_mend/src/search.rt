@@ -1,9 +1,8 @@
 // A search for decisions that meet their rows.
-ghost use Rattle.std.specs.Prelude.{◌≡◌, set, IfOk};
+ghost use Rattle.std.specs.Prelude.{◌≡◌, set};
 
 use crate::amounts::Amount;
-use hp_num::{List, Memory};
-use std::alloc::Global;
+use hp_num::List;
 
 /// A move of one decision.
 #[derive(Clone, Copy, Drop)]
@@ -36,11 +35,4 @@ pub(crate) fn put<T: Drop>(list: &mut List<T>, at: usize, item: T)
     if at < list.len() {
         list.set(at, item);
     }
-}
-
-/// A copy of numbers.
-pub(crate) fn copied(alloc: Global, numbers: &[i128]) -> Result<List<i128>, Memory>
-    ensures { IfOk result (λ found. found ≡ numbers.now) }
-{
-    Ok(List::from_vec(Vec::from_slice(alloc, numbers)?))
 }

@@ -1,15 +1,18 @@
 // The stage that decisions are of.
 ghost use Rattle.std.specs.Prelude.{◌≡◌, ◌<◌, ◌≤◌, ◌^◌, [], length, get_or, nat_abs};
 ghost use Rattle.hp_num.specs.Sums.{entry};
+ghost use Rattle.hp_theory.specs.Problem.{node_at};
+ghost use Rattle.hp_theory.specs.View.{problem_of};
 ghost use Rattle.hp_mend.specs.Moves.{is_met};
-ghost use Rattle.hp_mend.specs.Stages.{no_decision, frame_at, IsStage, AreInside};
+ghost use Rattle.hp_mend.specs.Stages.{no_decision, frame_at, IsNodeStage, AreDecisionsInside};
 
 use hp_forward::miss;
-use hp_problem::{Decision, Problem};
+use hp_parts::Decision;
+use hp_problem::Problem;
 
 /// A node at values of its random variables and an incoming state.
 #[derive(Clone, Copy)]
-pub(crate) struct Stage<'a> {
+pub(crate) struct MendedStage<'a> {
     pub(crate) problem: &'a Problem,
     pub(crate) node: u32,
     /// One value per random variable.
@@ -18,13 +21,21 @@ pub(crate) struct Stage<'a> {
     pub(crate) state: &'a [i128],
 }
 
-/// The number of rows.
-pub(crate) fn row_count(stage: &Stage) -> u32
-    requires { IsStage stage.now }
+/// The number of rows of a node.
+pub fn row_count(problem: &Problem, node: u32) -> u32
+    requires { node < length problem.now.parts.nodes }
+    ensures { result ≡ length (node_at (problem_of problem.now) node).rows }
+{
+    let _ = problem.parts();
+    problem.sub(node).rows.len() as u32
+}
+
+/// The number of rows of a stage.
+pub(crate) fn stage_row_count(stage: &MendedStage) -> u32
+    requires { IsNodeStage stage.now }
     ensures { result ≡ length (frame_at stage.now).rows }
 {
-    let _ = stage.problem.raw();
-    stage.problem.sub(stage.node).rows.len() as u32
+    row_count(stage.problem, stage.node)
 }
 
 /// The box of a decision, 0 and 0 where there is none.
@@ -49,8 +60,8 @@ fn cost_in(decisions: &[Decision], at: u32) -> i64
 }
 
 /// The box of a decision of a stage.
-pub(crate) fn box_at(stage: &Stage, at: u32) -> (i64, i64)
-    requires { IsStage stage.now }
+pub(crate) fn box_at(stage: &MendedStage, at: u32) -> (i64, i64)
+    requires { IsNodeStage stage.now }
     ensures low { result.0 ≡ entry (frame_at stage.now).lows at }
     ensures high { result.1 ≡ entry (frame_at stage.now).highs at }
 {
@@ -58,18 +69,18 @@ pub(crate) fn box_at(stage: &Stage, at: u32) -> (i64, i64)
 }
 
 /// The cost of a decision of a stage.
-pub(crate) fn cost_at(stage: &Stage, at: u32) -> i64
-    requires { IsStage stage.now }
+pub(crate) fn cost_at(stage: &MendedStage, at: u32) -> i64
+    requires { IsNodeStage stage.now }
     ensures value { result ≡ entry (frame_at stage.now).costs at }
     ensures small { nat_abs result ≤ 2 ^ 40 }
 {
-    let _ = stage.problem.raw();
+    let _ = stage.problem.parts();
     cost_in(stage.problem.sub(stage.node).decisions.as_slice(), at)
 }
 
 /// The terms of decisions of a row.
-pub(crate) fn terms_at<'a>(stage: &Stage<'a>, row: u32) -> &'a [(u32, i64)]
-    requires stage { IsStage stage.now }
+pub(crate) fn terms_at<'a>(stage: &MendedStage<'a>, row: u32) -> &'a [(u32, i64)]
+    requires stage { IsNodeStage stage.now }
     requires row { row < length (frame_at stage.now).rows }
     ensures { result.now ≡ get_or (frame_at stage.now).rows row [] }
 {
@@ -79,14 +90,14 @@ pub(crate) fn terms_at<'a>(stage: &Stage<'a>, row: u32) -> &'a [(u32, i64)]
 }
 
 /// Gives the miss of a row: by how much its left side has to rise for the decisions to meet it, negative where it has to fall.
-pub(crate) fn miss_at(stage: &Stage, numbers: &[i128], row: u32) -> i128
-    requires stage { IsStage stage.now }
-    requires inside { AreInside stage.now numbers.now }
+pub(crate) fn miss_at(stage: &MendedStage, numbers: &[i128], row: u32) -> i128
+    requires stage { IsNodeStage stage.now }
+    requires inside { AreDecisionsInside stage.now numbers.now }
     requires row { row < length (frame_at stage.now).rows }
     ensures value { result ≡ (frame_at stage.now).miss numbers.now row }
     ensures small { nat_abs result ≤ 2 ^ 115 }
 {
-    let Stage {
+    let MendedStage {
         problem,
         node,
         values,
@@ -96,9 +107,9 @@ pub(crate) fn miss_at(stage: &Stage, numbers: &[i128], row: u32) -> i128
 }
 
 /// Tells whether decisions meet a row.
-pub(crate) fn is_met(stage: &Stage, numbers: &[i128], row: u32) -> bool
-    requires stage { IsStage stage.now }
-    requires inside { AreInside stage.now numbers.now }
+pub(crate) fn is_met(stage: &MendedStage, numbers: &[i128], row: u32) -> bool
+    requires stage { IsNodeStage stage.now }
+    requires inside { AreDecisionsInside stage.now numbers.now }
     requires row { row < length (frame_at stage.now).rows }
     ensures { result ≡ is_met (frame_at stage.now) numbers.now row }
 {

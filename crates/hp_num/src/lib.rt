@@ -9,7 +9,7 @@ pub mod size;
 pub mod spare;
 pub mod whole;
 
-pub use list::List;
+pub use list::{List, copied};
 pub use memory::Memory;
 pub use name::Name;
 pub use size::Size;

@@ -1,5 +1,5 @@
 // A list that contracts see as a list.
-ghost use Rattle.std.specs.Prelude.{◌≡◌, ◌==◌, ◌<◌, ◌∷◌, ◌++◌, [], length, slice_index_or, slice_set, if◌then◌else◌, is_ok};
+ghost use Rattle.std.specs.Prelude.{◌≡◌, ◌==◌, ◌<◌, ◌∷◌, ◌++◌, [], length, slice_set, if◌then◌else◌, is_ok, IfOk};
 ghost use Rattle.std.specs.Borrow.{sem};
 ghost use Rattle.hp_num.specs.Lending.{LendsItems};
 
@@ -102,4 +102,11 @@ impl<T: Drop> List<T> {
     {
         self.items[at] = item;
     }
+}
+
+/// Copies the values into a new list. [`Memory`] where memory was refused.
+pub fn copied<T: Copy + Drop>(alloc: Global, items: &[T]) -> Result<List<T>, Memory>
+    ensures { IfOk result (λ found. found ≡ items.now) }
+{
+    Ok(List::from_vec(Vec::from_slice(alloc, items)?))
 }

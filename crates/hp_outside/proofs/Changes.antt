@@ -2,15 +2,15 @@
 use Rattle.std.proofs.Common.{◌≡◌, ◌⊎◌, inl, inr, ⊎_elim, ℕ, zero, suc, ◌≤◌, List, [], ◌∷◌, ◌++◌, length, take, replicate, refl, sym, ◌∙◌, ap, subst, arith, length-take}
 use Rattle.std.proofs.lemmas.List.{take_all, take-append-le, length-replicate}
 use Rattle.hp_outside.specs.Disks.{written, Torn, Cut}
-use Rattle.hp_outside.specs.Changes.{Change, wrote, cut_to, synced, Contents, at_rest, changed, after, Placed, LeftBy, LeftAfter, Image, ImageSince}
+use Rattle.hp_outside.specs.Changes.{Change, wrote, cut_to, synced, Contents, at_rest, changed, after_changes, Placed, LeftBy, LeftAfter, Image, ImageSince}
 use Rattle.hp_outside.proofs.Steps.{torn_written, torn_marked, cut_taken, cut_alike, take_front, length_written}
-use Rattle.hp_outside.proofs.Untold.{torn_nothing, cut_nothing}
+use Rattle.hp_outside.proofs.Unobservable.{torn_nothing, cut_nothing}
 
-pub after_push : (xs : List Change) (x : Change) (s : Contents) → after (xs ++ x ∷ []) s ≡ changed x (after xs s)
+pub after_push : (xs : List Change) (x : Change) (s : Contents) → after_changes (xs ++ x ∷ []) s ≡ changed x (after_changes xs s)
 after_push [] x s = refl
 after_push (y ∷ xs) x s = after_push xs x (changed y s)
 
-pub placed_write : (xs : List Change) (at : ℕ) (piece : List ℕ) (s : Contents) → Placed xs s → at ≤ length (after xs s).kept → Placed (xs ++ wrote at piece ∷ []) s
+pub placed_write : (xs : List Change) (at : ℕ) (piece : List ℕ) (s : Contents) → Placed xs s → at ≤ length (after_changes xs s).kept → Placed (xs ++ wrote at piece ∷ []) s
 placed_write [] at piece s placed le = (le, tt)
 placed_write (wrote there other ∷ xs) at piece s placed le = (placed.0, placed_write xs at piece _ placed.1 le)
 placed_write (cut_to len ∷ xs) at piece s placed le = placed_write xs at piece _ placed le
@@ -29,20 +29,20 @@ placed_sync (cut_to other ∷ xs) s placed = placed_sync xs _ placed
 placed_sync (synced ∷ xs) s placed = placed_sync xs _ placed
 
 -- what a crash leaves after one change more
-pub left_push : (xs : List Change) (x : Change) (s : Contents) (left : List ℕ → Type 0) (c : List ℕ) → LeftAfter (xs ++ x ∷ []) s left c → LeftBy x (after xs s).kept (LeftAfter xs s left) c
+pub left_push : (xs : List Change) (x : Change) (s : Contents) (left : List ℕ → Type 0) (c : List ℕ) → LeftAfter (xs ++ x ∷ []) s left c → LeftBy x (after_changes xs s).kept (LeftAfter xs s left) c
 left_push [] (wrote at piece) s left c is = is
 left_push [] (cut_to len) s left c is = is
 left_push [] synced s left c is = is
 left_push (y ∷ xs) x s left c is = left_push xs x (changed y s) (LeftBy y s.kept left) c is
 
 -- what was read at the last sync is left, and so is what is torn
-pub lost_left : (xs : List Change) (s : Contents) (left : List ℕ → Type 0) → left s.lost → LeftAfter xs s left (after xs s).lost
+pub lost_left : (xs : List Change) (s : Contents) (left : List ℕ → Type 0) → left s.lost → LeftAfter xs s left (after_changes xs s).lost
 lost_left [] s left is = is
 lost_left (wrote at piece ∷ xs) s left is = lost_left xs _ (LeftBy (wrote at piece) s.kept left) (s.lost, is, torn_nothing at (length piece) s.lost)
 lost_left (cut_to len ∷ xs) s left is = lost_left xs _ (LeftBy (cut_to len) s.kept left) (s.lost, is, cut_nothing len s.lost)
 lost_left (synced ∷ xs) s left is = lost_left xs _ (LeftBy synced s.kept left) refl
 
-pub torn_left : (xs : List Change) (s : Contents) (left : List ℕ → Type 0) → length s.torn ≡ length s.kept → Placed xs s → left s.torn → LeftAfter xs s left (after xs s).torn
+pub torn_left : (xs : List Change) (s : Contents) (left : List ℕ → Type 0) → length s.torn ≡ length s.kept → Placed xs s → left s.torn → LeftAfter xs s left (after_changes xs s).torn
 torn_left [] s left same placed is = is
 torn_left (wrote at piece ∷ xs) s left same placed is =
     let le : at ≤ length s.torn = omega (arith, same, placed.0) in
@@ -54,9 +54,9 @@ torn_left (cut_to len ∷ xs) s left same placed is =
 torn_left (synced ∷ xs) s left same placed is = torn_left xs _ (LeftBy synced s.kept left) refl placed refl
 
 -- the images of a disk after one change more
-pub image_write : (xs : List Change) (initial : List ℕ) (at : ℕ) (piece c : List ℕ) → at ≤ length (after xs (at_rest initial)).kept → Image (xs ++ wrote at piece ∷ []) initial c → (d : List ℕ) × Image xs initial d × Torn at (length piece) d c
+pub image_write : (xs : List Change) (initial : List ℕ) (at : ℕ) (piece c : List ℕ) → at ≤ length (after_changes xs (at_rest initial)).kept → Image (xs ++ wrote at piece ∷ []) initial c → (d : List ℕ) × Image xs initial d × Torn at (length piece) d c
 image_write xs initial at piece c le (inl is) =
-    let kept = (after xs (at_rest initial)).kept in
+    let kept = (after_changes xs (at_rest initial)).kept in
     let now : c ≡ written kept at piece = is ∙ ap (λ (s : Contents). s.kept) (after_push xs (wrote at piece) (at_rest initial)) in
     (kept, inl refl, subst (λ (l : List ℕ). Torn at (length piece) kept l) (sym now) (torn_written at piece kept le))
 image_write xs initial at piece c le (inr left) =
@@ -65,22 +65,22 @@ image_write xs initial at piece c le (inr left) =
 
 pub image_cut : (xs : List Change) (initial : List ℕ) (len : ℕ) (c : List ℕ) → Image (xs ++ cut_to len ∷ []) initial c → (d : List ℕ) × Image xs initial d × Cut len d c
 image_cut xs initial len c (inl is) =
-    let kept = (after xs (at_rest initial)).kept in
+    let kept = (after_changes xs (at_rest initial)).kept in
     let now : c ≡ take len kept = is ∙ ap (λ (s : Contents). s.kept) (after_push xs (cut_to len) (at_rest initial)) in
     (kept, inl refl, subst (λ (l : List ℕ). Cut len kept l) (sym now) (cut_taken len kept))
 image_cut xs initial len c (inr left) =
     let from = left_push xs (cut_to len) (at_rest initial) (λ d. d ≡ initial) c left in
     (from.0, inr from.1, from.2)
 
-pub image_sync : (xs : List Change) (initial c : List ℕ) → Image (xs ++ synced ∷ []) initial c → c ≡ (after xs (at_rest initial)).kept
+pub image_sync : (xs : List Change) (initial c : List ℕ) → Image (xs ++ synced ∷ []) initial c → c ≡ (after_changes xs (at_rest initial)).kept
 image_sync xs initial c (inl is) = is ∙ ap (λ (s : Contents). s.kept) (after_push xs synced (at_rest initial))
 image_sync xs initial c (inr left) = left_push xs synced (at_rest initial) (λ d. d ≡ initial) c left
 
 -- what a crash gives is an image
-pub image_lost : (xs : List Change) (initial : List ℕ) → Image xs initial (after xs (at_rest initial)).lost
+pub image_lost : (xs : List Change) (initial : List ℕ) → Image xs initial (after_changes xs (at_rest initial)).lost
 image_lost xs initial = inr (lost_left xs (at_rest initial) (λ d. d ≡ initial) refl)
 
-pub image_torn : (xs : List Change) (initial : List ℕ) → Placed xs (at_rest initial) → Image xs initial (after xs (at_rest initial)).torn
+pub image_torn : (xs : List Change) (initial : List ℕ) → Placed xs (at_rest initial) → Image xs initial (after_changes xs (at_rest initial)).torn
 image_torn xs initial placed = inr (torn_left xs (at_rest initial) (λ d. d ≡ initial) refl placed refl)
 
 -- the front of a list with one more is a front of the list, or all

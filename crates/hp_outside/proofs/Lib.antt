@@ -1,10 +1,9 @@
 pub mod Changes
-pub mod FoundAgain
 pub mod Histories
 pub mod MemoryDisks
 mod ReadRest
 pub mod RunsOfCalls
 pub mod Steps
 pub mod Torn
-pub mod Untold
+pub mod Unobservable
 pub mod Zeros

@@ -1,7 +1,7 @@
 -- The effect of a call on a disk in memory, and what the disk tells of it.
 use Rattle.std.proofs.Common.{◌≡◌, inl, ℕ, ◌+◌, ◌≤◌, min, List, [], ◌∷◌, ◌++◌, length, take, Result, Ok, Err, OnOk, OnErr, sym, ◌∙◌, ap, subst, arith, length-append, length-take}
 use Rattle.hp_outside.specs.Disks.{Torn, Cut, Follows, Only, Elapses, written}
-use Rattle.hp_outside.specs.Changes.{Change, wrote, cut_to, synced, Contents, at_rest, changed, after, Placed}
+use Rattle.hp_outside.specs.Changes.{Change, wrote, cut_to, synced, Contents, at_rest, changed, after_changes, Placed}
 use Rattle.hp_outside.specs.Histories.{MemoryHistory}
 use Rattle.hp_outside.specs.Readings.{MemoryReadings}
 use Rattle.hp_outside.specs.MemoryDisks.{MemoryDisk, reads, Agrees, store_of, after_failed, after_change, after_write}
@@ -21,7 +21,7 @@ agrees initial h r x taken is placed least = record {
 pub agrees_write : (initial : List ℕ) (h h' : MemoryHistory) (r r' : MemoryReadings) (at : ℕ) (piece : List ℕ) → Agrees initial h r → at ≤ length r.contents.kept
     → h' ≡ record h { log = h.log ++ wrote at piece ∷ []; taken = h.taken + length piece } → r' ≡ record r { contents = changed (wrote at piece) r.contents } → Agrees initial h' r'
 agrees_write initial h h' r r' at piece is le history readings =
-    let kept : at ≤ length (after h.log (at_rest initial)).kept = omega (arith, le, ap (λ (s : Contents). length s.kept) is.contents) in
+    let kept : at ≤ length (after_changes h.log (at_rest initial)).kept = omega (arith, le, ap (λ (s : Contents). length s.kept) is.contents) in
     let longer : length (written r.contents.kept at piece) ≤ length initial + (h.taken + length piece) = omega (arith, le, is.least, length_written r.contents.kept at piece le) in
     let new = agrees initial h r (wrote at piece) (h.taken + length piece) is (placed_write h.log at piece (at_rest initial) is.placed kept) longer in
     subst (λ a. Agrees initial a r') (sym history) (subst (λ b. Agrees initial (record h { log = h.log ++ wrote at piece ∷ []; taken = h.taken + length piece }) b) (sym readings) new)

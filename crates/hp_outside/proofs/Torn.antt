@@ -3,7 +3,7 @@ use Rattle.std.proofs.Common.{◌≡◌, ◌⊎◌, inl, inr, ⊎_elim, ℕ, ◌
 use Rattle.std.proofs.lemmas.List.{get_or-take, get_or-drop, get_or-replicate, get_or_append_left, get_or-append_right, length-replicate}
 use Rattle.std.proofs.lemmas.Bool.{cases_lt}
 use Rattle.hp_outside.specs.Disks.{written}
-use Rattle.hp_outside.specs.Changes.{Change, wrote, cut_to, synced, Contents, at_rest, changed, after, Placed}
+use Rattle.hp_outside.specs.Changes.{Change, wrote, cut_to, synced, Contents, at_rest, changed, after_changes, Placed}
 use Rattle.hp_outside.specs.Crashes.{Rewritten, IsTorn}
 use Rattle.hp_outside.specs.MemoryDisks.{MemoryDisk, contents_of}
 use Rattle.hp_outside.proofs.Steps.{length_written, cut_alike}
@@ -91,7 +91,7 @@ marks_cut was s len is = record {
     low : (i : ℕ) → i < length (take len s.kept) → i < len
     low i lt = omega (arith, lt, length-take len s.kept)
 
-marks : (xs : List Change) (was : ℕ → Type 0) (s : Contents) → Placed xs s → Marks was s → Marks (λ i. Rewritten (was i) xs i) (after xs s)
+marks : (xs : List Change) (was : ℕ → Type 0) (s : Contents) → Placed xs s → Marks was s → Marks (λ i. Rewritten (was i) xs i) (after_changes xs s)
 marks [] was s placed is = is
 marks (wrote at piece ∷ xs) was s placed is = marks xs _ _ placed.1 (marks_write was s at piece placed.0 is)
 marks (cut_to len ∷ xs) was s placed is = marks xs _ _ placed (marks_cut was s len is)

@@ -1,5 +1,5 @@
 -- When a fault may be answered, and what a call does to the bytes of a sink.
-use Rattle.std.specs.Prelude.{ℕ, ◌+◌, ◌-◌, ◌^◌, ◌≤◌, ◌<◌, min, List, length, take, Option, Result, OnErr, MatchResult, is_ok, if◌then◌else◌}
+use Rattle.std.specs.Prelude.{◌≡◌, ℕ, ◌+◌, ◌-◌, ◌^◌, ◌≤◌, ◌<◌, min, List, length, take, Option, Result, OnOk, OnErr, MatchResult, is_ok, if◌then◌else◌}
 use Rattle.std.specs.Io.KnownBytes.{Appends}
 
 -- one more, up to the greatest count of 64 bits
@@ -7,13 +7,14 @@ abbrev pub one_more : ℕ → ℕ
 one_more n = min (n + 1) (2 ^ 64 - 1)
 
 -- the count rose, or stands at its type's end
-abbrev pub Rose : ℕ → ℕ → Type 0
-Rose before now = one_more before ≤ now
+abbrev pub FaultCountRose : ℕ → ℕ → Type 0
+FaultCountRose before now = one_more before ≤ now
 
--- the count has not fallen, and it rose where the call failed
+-- the count has not fallen; it stayed as it was where the call succeeded, and rose where it failed
 pub record HasCause {T E : Type 0} (before now : ℕ) (result : Result T E) : Type 0 where
   pub later : before ≤ now
-  pub failed : OnErr result (Rose before now)
+  pub succeeded : OnOk result (now ≡ before)
+  pub failed : OnErr result (FaultCountRose before now)
 
 -- the count of faults after a call: one more where it failed
 abbrev pub faults_after : {T E : Type 0} → ℕ → Result T E → ℕ

@@ -8,7 +8,7 @@ pub data Change : Type 0 where
   cut_to : ℕ → Change
   synced : Change
 
--- what a read gives, and what it gives after a crash that keeps all, loses all since the last sync, or
+-- the bytes that a read gives, and those that it gives after a crash that keeps all, loses all since the last sync, or
 -- tears all that was written since
 pub record Contents : Type 0 where
   pub kept : List ℕ
@@ -26,9 +26,9 @@ changed (cut_to len) s = record { kept = take len s.kept; lost = s.lost; torn = 
 changed synced s = at_rest s.kept
 
 -- after all changes of a list, the first one first
-abbrev pub after : List Change → Contents → Contents
-after [] s = s
-after (change ∷ changes) s = after changes (changed change s)
+abbrev pub after_changes : List Change → Contents → Contents
+after_changes [] s = s
+after_changes (change ∷ changes) s = after_changes changes (changed change s)
 
 -- each write began inside the disk or at its end
 abbrev pub Placed : List Change → Contents → Type 0
@@ -37,7 +37,7 @@ Placed (wrote at piece ∷ changes) s = (at ≤ length s.kept) × Placed changes
 Placed (cut_to len ∷ changes) s = Placed changes (changed (cut_to len) s)
 Placed (synced ∷ changes) s = Placed changes (changed synced s)
 
--- what a crash may leave after one change more: after a write or a cut what that step makes of what a
+-- bytes that a crash may leave after one change more: after a write or a cut what that step makes of what a
 -- crash might have left, after a sync what a read gives
 abbrev pub LeftBy : Change → List ℕ → (List ℕ → Type 0) → List ℕ → Type 0
 LeftBy (wrote at piece) kept left c = (d : List ℕ) × left d × Torn at (length piece) d c
@@ -50,7 +50,7 @@ LeftAfter (change ∷ changes) s left c = LeftAfter changes (changed change s) (
 
 -- a crash after these changes may leave c of a disk that began with these bytes
 abbrev pub Image : List Change → List ℕ → List ℕ → Type 0
-Image changes initial c = (c ≡ (after changes (at_rest initial)).kept) ⊎ LeftAfter changes (at_rest initial) (λ d. d ≡ initial) c
+Image changes initial c = (c ≡ (after_changes changes (at_rest initial)).kept) ⊎ LeftAfter changes (at_rest initial) (λ d. d ≡ initial) c
 
 -- a crash at some moment after the first t of them or more might have left it
 abbrev pub ImageSince : List Change → List ℕ → ℕ → List ℕ → Type 0

@@ -18,7 +18,7 @@ Rewritten before (cut_to len ∷ changes) i = Rewritten before changes i
 Rewritten before (synced ∷ changes) i = Rewritten ⊥ changes i
 
 -- these bytes are as many as a read gives, 165 in each place that was written since the last sync, and
--- the same elsewhere
+-- as much elsewhere
 pub record IsTorn (disk : MemoryDisk) (bytes : List ℕ) : Type 0 where
   pub long : length bytes ≡ length (reads disk)
   pub marked : (i : ℕ) → i < length bytes → Rewritten ⊥ disk.log i → get_or bytes i 0 ≡ 165

@@ -53,8 +53,8 @@ pub record Lawful (store : Store) : Type 0 where
   pub only_now : (c : List ℕ) → store.since store.moment c → store.images c
 
 -- a disk that tells nothing: a crash may leave anything
-abbrev pub untold : Store
-untold = record { reads = Option.None; images = λ c. ⊤; moment = 0; since = λ t c. ⊤ }
+abbrev pub unobservable : Store
+unobservable = record { reads = Option.None; images = λ c. ⊤; moment = 0; since = λ t c. ⊤ }
 
-pub untold_lawful : Lawful untold
-untold_lawful = record { itself = λ bytes told. tt; counts_now = λ t c le now. tt; only_now = λ c left. tt }
+pub unobservable_lawful : Lawful unobservable
+unobservable_lawful = record { itself = λ bytes told. tt; counts_now = λ t c le now. tt; only_now = λ c left. tt }

@@ -12,7 +12,7 @@ pub record FrontDisk : Type 0 where
 abbrev pub padded : List ℕ → ℕ → List ℕ
 padded bytes n = bytes ++ replicate (n - length bytes) 0
 
--- what a read of n bytes from a place on gives
+-- the bytes that a read of n bytes from a place on gives
 abbrev pub read_of : FrontDisk → ℕ → ℕ → List ℕ
 read_of disk at n = padded (take n (drop at disk.kept)) n
 
@@ -21,8 +21,8 @@ abbrev pub front_written : List ℕ → ℕ → ℕ → List ℕ → List ℕ
 front_written bytes space at piece = written (padded bytes (min at space)) (min at space) (take (space - at) piece)
 
 -- the disk after a write, and after a cut
-abbrev pub after_write : FrontDisk → ℕ → List ℕ → FrontDisk
-after_write disk at piece = record disk { kept = front_written disk.kept disk.space at piece; length = max disk.length (at + length piece) }
+abbrev pub front_after_write : FrontDisk → ℕ → List ℕ → FrontDisk
+front_after_write disk at piece = record disk { kept = front_written disk.kept disk.space at piece; length = max disk.length (at + length piece) }
 
-abbrev pub after_cut : FrontDisk → ℕ → FrontDisk
-after_cut disk len = record disk { kept = take len disk.kept; length = min disk.length len }
+abbrev pub front_after_cut : FrontDisk → ℕ → FrontDisk
+front_after_cut disk len = record disk { kept = take len disk.kept; length = min disk.length len }

@@ -28,8 +28,8 @@ abbrev pub ReadFails : MemorySource → Type 0
 ReadFails source = Contains source.fail source.calls
 
 -- the source after a read of n bytes, and after one that failed
-abbrev pub after_read : MemorySource → ℕ → MemorySource
-after_read source n = record source { left = drop n source.left; calls = one_more source.calls }
+abbrev pub source_after_read : MemorySource → ℕ → MemorySource
+source_after_read source n = record source { left = drop n source.left; calls = one_more source.calls }
 
 abbrev pub after_failed_read : MemorySource → MemorySource
 after_failed_read source = record source { calls = one_more source.calls; faults = one_more source.faults }
@@ -43,8 +43,8 @@ abbrev pub WriteFails : MemorySink → ℕ → Type 0
 WriteFails sink len = Contains sink.fail sink.calls ⊎ (sink.room < length sink.taken + count_written sink len)
 
 -- the sink after a write that took these bytes, and after one that failed
-abbrev pub after_write : MemorySink → List ℕ → MemorySink
-after_write sink bytes = record sink { taken = sink.taken ++ bytes; calls = one_more sink.calls }
+abbrev pub sink_after_write : MemorySink → List ℕ → MemorySink
+sink_after_write sink bytes = record sink { taken = sink.taken ++ bytes; calls = one_more sink.calls }
 
 abbrev pub after_failed_write : MemorySink → MemorySink
 after_failed_write sink = record sink { calls = one_more sink.calls; faults = one_more sink.faults }

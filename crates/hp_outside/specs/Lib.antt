@@ -6,7 +6,6 @@ pub mod Disks
 pub mod Faultless
 pub mod Histories
 pub mod InMemory
-pub mod Kept
 pub mod MemoryDisks
 pub mod Readings
 pub mod Since

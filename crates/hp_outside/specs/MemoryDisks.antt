@@ -5,7 +5,7 @@ use Rattle.std.proofs.Common.{sym, ap, subst}
 use Rattle.std.proofs.Math.Nat.{le_refl}
 use Rattle.std.proofs.lemmas.List.{take_all}
 use Rattle.hp_outside.specs.Causes.{one_more}
-use Rattle.hp_outside.specs.Changes.{Change, wrote, Contents, at_rest, after, Placed, Image, ImageSince}
+use Rattle.hp_outside.specs.Changes.{Change, wrote, Contents, at_rest, after_changes, Placed, Image, ImageSince}
 use Rattle.hp_outside.specs.Disks.{Store, Lawful}
 use Rattle.hp_outside.specs.Histories.{MemoryHistory}
 use Rattle.hp_outside.specs.Readings.{MemoryReadings}
@@ -24,9 +24,9 @@ pub record MemoryDisk : Type 0 where
   pub longest : ℕ  -- the length of the longest read
 
 abbrev pub contents_of : MemoryDisk → Contents
-contents_of disk = after disk.log (at_rest disk.initial)
+contents_of disk = after_changes disk.log (at_rest disk.initial)
 
--- what a read gives
+-- the bytes that a read gives
 abbrev pub reads : MemoryDisk → List ℕ
 reads disk = (contents_of disk).kept
 
@@ -44,8 +44,8 @@ abbrev pub ChangeFails : MemoryDisk → Type 0
 ChangeFails disk = CallFails disk ⊎ (disk.changes ≤ length disk.log)
 
 -- and if it is a write of so many bytes, also where they would pass the room
-abbrev pub WriteFails : MemoryDisk → ℕ → Type 0
-WriteFails disk n = ChangeFails disk ⊎ (disk.room < disk.taken + n)
+abbrev pub DiskWriteFails : MemoryDisk → ℕ → Type 0
+DiskWriteFails disk n = ChangeFails disk ⊎ (disk.room < disk.taken + n)
 
 -- the disk after a call that failed, and after each that went through
 abbrev pub after_failed : MemoryDisk → MemoryDisk
@@ -81,12 +81,12 @@ fresh bytes fail room changes = record {
 -- the parts of a disk in memory agree: what it reads is what its changes leave of the bytes with which it
 -- was made, each write began inside it or at its end, and there is space for all that it takes
 pub record Agrees (initial : List ℕ) (history : MemoryHistory) (readings : MemoryReadings) : Type 0 where
-  pub contents : readings.contents ≡ after history.log (at_rest initial)
+  pub contents : readings.contents ≡ after_changes history.log (at_rest initial)
   pub placed : Placed history.log (at_rest initial)
   pub least : length readings.contents.kept ≤ length initial + history.taken
   pub space : length initial + history.room ≤ readings.space
 
--- what a disk in memory tells
+-- the state that a disk in memory tells
 abbrev pub store_of : MemoryDisk → Store
 store_of disk = record {
   reads = Some (reads disk);

@@ -7,7 +7,8 @@ use crate::Failed;
 
 /// A disk: bytes in order, read and written at any place. All ends of ranges are at most 2^62. A disk
 /// that tells its bytes keeps telling them, and one that does not never does.
-/// Of each call: `Failed` comes only where the count of faults rose, or stands at its type's end.
+/// Of each call: `Failed` comes only where the count of faults rose, or stands at its type's end, and
+/// the count stays as it was where the call succeeds.
 pub trait Disk {
     /// The bytes that it holds and those that a crash may leave, where it tells them, and its clock.
     ghost store: { Self → Store };
@@ -48,7 +49,7 @@ pub trait Disk {
         requires end { at + length piece.now ≤ 2 ^ 62 }
         ensures written { OnOk result ((store self.new).reads
             ≡ option_map (λ bytes. written bytes at piece.now) (store self.old).reads) }
-        ensures tells { is_some (store self.new).reads ≡ is_some (store self.old).reads }
+        ensures observable { is_some (store self.new).reads ≡ is_some (store self.old).reads }
         ensures readable { readable self.old ≤ readable self.new }
         ensures crash { Follows (Torn at (length piece.now)) (store self.old) (store self.new) }
         ensures time { Elapses (store self.old) (store self.new) }
@@ -61,7 +62,7 @@ pub trait Disk {
         requires end { len ≤ 2 ^ 62 }
         ensures cut { OnOk result ((store self.new).reads
             ≡ option_map (take len) (store self.old).reads) }
-        ensures tells { is_some (store self.new).reads ≡ is_some (store self.old).reads }
+        ensures observable { is_some (store self.new).reads ≡ is_some (store self.old).reads }
         ensures readable { min (readable self.old) len ≤ readable self.new }
         ensures crash { Follows (Cut len) (store self.old) (store self.new) }
         ensures time { Elapses (store self.old) (store self.new) }

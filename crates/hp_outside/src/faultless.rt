@@ -3,8 +3,8 @@ ghost use Rattle.std.specs.Prelude.{◌≡◌, ◌≤◌, ◌+◌, ◌^◌, leng
 ghost use Rattle.std.specs.Io.{ReadsAtMost};
 ghost use Rattle.std.specs.Io.KnownBytes.{ReadConsumes};
 ghost use Rattle.hp_outside.specs.Causes.{HasCause, Takes};
-ghost use Rattle.hp_outside.specs.Disks.{untold, untold_lawful};
-ghost use Rattle.hp_outside.specs.Faultless.{read_of, after_write, after_cut};
+ghost use Rattle.hp_outside.specs.Disks.{unobservable, unobservable_lawful};
+ghost use Rattle.hp_outside.specs.Faultless.{read_of, front_after_write, front_after_cut};
 
 use crate::Failed;
 use crate::disk::Disk;
@@ -132,13 +132,13 @@ impl FaultlessDisk {
 }
 
 impl Disk for FaultlessDisk {
-    ghost store = { λ d. untold };
+    ghost store = { λ d. unobservable };
 
     ghost readable = { λ d. 2 ^ 64 };
 
     ghost faults = { λ d. 0 };
 
-    ghost lawful = { λ d. untold_lawful };
+    ghost lawful = { λ d. unobservable_lawful };
 
     fn len(&mut self) -> Result<u64, Failed>
         ensures readable { IfOk result (λ n. n ≤ 2 ^ 64) }
@@ -166,7 +166,7 @@ impl Disk for FaultlessDisk {
         requires end { at + length piece.now ≤ 2 ^ 62 }
         ensures cause { HasCause 0 0 result }
         ensures never { IsOk result }
-        ensures written { self.new ≡ after_write self.old at piece.now }
+        ensures written { self.new ≡ front_after_write self.old at piece.now }
     {
         let start = at.min(self.space as u64) as usize;
         let Ok(()) = self.kept.resize(self.kept.len().max(start), 0) else {
@@ -181,7 +181,7 @@ impl Disk for FaultlessDisk {
     fn cut(&mut self, len: u64) -> Result<(), Failed>
         ensures cause { HasCause 0 0 result }
         ensures never { IsOk result }
-        ensures cut { self.new ≡ after_cut self.old len }
+        ensures cut { self.new ≡ front_after_cut self.old len }
     {
         self.kept.truncate(len.min(self.kept.len() as u64) as usize);
         self.length = self.length.min(len);

@@ -11,8 +11,8 @@ pub(crate) fn next(count: u64) -> u64
     count.saturating_add(1)
 }
 
-// Gives the answer of a call over std: one that was refused is counted.
-pub(crate) fn counted<T, E: Drop>(faults: &mut u64, outcome: Result<T, E>) -> Result<T, Failed>
+/// Gives the answer of a call over std: one that was refused is counted.
+pub fn counted<T, E: Drop>(faults: &mut u64, outcome: Result<T, E>) -> Result<T, Failed>
     ensures value { IfOk result (λ value. outcome ≡ Ok value) }
     ensures same { is_ok result ≡ is_ok outcome }
     ensures cause { HasCause faults.old faults.new result }

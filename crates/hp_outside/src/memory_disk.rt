@@ -2,7 +2,7 @@
 ghost use Rattle.std.specs.Prelude.{◌≡◌, ◌↔◌, ◌≤◌, ◌+◌, [], length, take, drop, Some, IsTrue, IsErr, IfOk, OnOk, OnErr};
 ghost use Rattle.hp_outside.specs.Causes.{HasCause};
 ghost use Rattle.hp_outside.specs.Changes.{cut_to, synced, Image};
-ghost use Rattle.hp_outside.specs.MemoryDisks.{reads, fresh, IsPast, CallFails, ChangeFails, WriteFails, after_failed, after_len, after_read, after_change, after_write, store_of, lawful_store};
+ghost use Rattle.hp_outside.specs.MemoryDisks.{reads, fresh, IsPast, CallFails, ChangeFails, DiskWriteFails, after_failed, after_len, after_read, after_change, after_write, store_of, lawful_store};
 ghost use Rattle.hp_outside.specs.Crashes.{left_by, IsTorn};
 
 pub(crate) mod history;
@@ -172,7 +172,7 @@ impl MemDisk {
 
     // Tells whether the next call fails if it is a write of a piece of this length.
     fn refuses_write(&self, len: usize) -> bool
-        ensures { IsTrue result ↔ WriteFails self.now len }
+        ensures { IsTrue result ↔ DiskWriteFails self.now len }
     {
         self.refuses_change() || self.history.lacks_room(len)
     }
@@ -235,7 +235,7 @@ impl Disk for MemDisk {
     /// pass the room, or where no change is left.
     fn write_at(&mut self, at: u64, piece: &[u8]) -> Result<(), Failed>
         requires place { at ≤ length (reads self.old) }
-        ensures fails { IsErr result ↔ WriteFails self.old (length piece.now) }
+        ensures fails { IsErr result ↔ DiskWriteFails self.old (length piece.now) }
         ensures ok { OnOk result (self.new ≡ after_write self.old at piece.now) }
         ensures err { OnErr result (self.new ≡ after_failed self.old) }
         ensures cause { HasCause self.old.faults self.new.faults result }

@@ -4,7 +4,7 @@ ghost use Rattle.std.specs.Io.{WritesAtMost};
 ghost use Rattle.std.specs.Io.KnownBytes.{Keeps, WriteAppends};
 ghost use Rattle.std.specs.IoError.{error_kind};
 ghost use Rattle.hp_outside.specs.Causes.{HasCause, Takes, faults_after};
-ghost use Rattle.hp_outside.specs.InMemory.{MemorySink, count_written, WriteFails, after_write, after_failed_write};
+ghost use Rattle.hp_outside.specs.InMemory.{MemorySink, count_written, WriteFails, sink_after_write, after_failed_write};
 
 use crate::Failed;
 use crate::faults::{counted, next};
@@ -27,7 +27,8 @@ pub trait Sink {
     /// Takes the front of the piece and answers how many bytes it took: at most `piece.len()`, and
     /// some of a piece that is not empty. It has no condition. `Failed` comes only where the count
     /// of faults rose, or stands at its type's end, and then some front of the piece was taken,
-    /// which may be none of it. A sink that tells its bytes keeps telling them.
+    /// which may be none of it. The count stays as it was where the call succeeds. A sink that tells its
+    /// bytes keeps telling them.
     fn write(&mut self, piece: &[u8]) -> Result<usize, Failed>
         ensures bytes { Takes (taken self.old) (taken self.new) result piece.now }
         ensures cause { HasCause (faults self.old) (faults self.new) result };
@@ -191,7 +192,7 @@ impl Sink for MemSink {
         // The exact effect on the sink in memory.
         ensures fails { IsErr result ↔ WriteFails self.old (length piece.now) }
         ensures count { IfOk result (λ n. n ≡ count_written self.old (length piece.now)) }
-        ensures ok { IfOk result (λ n. self.new ≡ after_write self.old (take n piece.now)) }
+        ensures ok { IfOk result (λ n. self.new ≡ sink_after_write self.old (take n piece.now)) }
         ensures err { OnErr result (self.new ≡ after_failed_write self.old) }
     {
         let refused = self.refuses(piece.len());

@@ -4,7 +4,7 @@ ghost use Rattle.std.specs.Io.{ReadsAtMost};
 ghost use Rattle.std.specs.Io.KnownBytes.{ReadConsumes};
 ghost use Rattle.std.specs.IoError.{error_kind};
 ghost use Rattle.hp_outside.specs.Causes.{HasCause, faults_after};
-ghost use Rattle.hp_outside.specs.InMemory.{MemorySource, count_read, ReadFails, after_read, after_failed_read};
+ghost use Rattle.hp_outside.specs.InMemory.{MemorySource, count_read, ReadFails, source_after_read, after_failed_read};
 
 use crate::Failed;
 use crate::faults::{counted, next};
@@ -25,7 +25,8 @@ pub trait Source {
     /// Reads the next bytes into the front of `buf` and answers how many they are, at most
     /// `buf.len()`. `Ok(0)` at a buffer that is not empty is the end. It has no condition. `Failed`
     /// comes only where the count of faults rose, or stands at its type's end, and then no byte was
-    /// handed over. A source that tells its bytes keeps telling them.
+    /// handed over. The count stays as it was where the call succeeds. A source that tells its bytes keeps
+    /// telling them.
     fn read(&mut self, buf: &mut [u8]) -> Result<usize, Failed>
         ensures bound { ReadsAtMost result buf.new }
         ensures bytes { ReadConsumes (left self.old) (left self.new) result buf.new }
@@ -141,7 +142,7 @@ impl Source for MemSource {
         ensures fails { IsErr result ↔ ReadFails self.old }
         ensures count { IfOk result (λ n. n ≡ count_read self.old (length buf.old)) }
         ensures copied { IfOk result (λ n. buf.new ≡ take n self.old.left ++ drop n buf.old) }
-        ensures ok { IfOk result (λ n. self.new ≡ after_read self.old n) }
+        ensures ok { IfOk result (λ n. self.new ≡ source_after_read self.old n) }
         ensures err { OnErr result (self.new ≡ after_failed_read self.old) }
         ensures kept { OnErr result (buf.new ≡ buf.old) }
     {

@@ -19,7 +19,7 @@ fn write_any<S: Sink>(sink: &mut S, piece: &[u8]) -> Result<usize, Failed>
 
 // The bytes that are read over a slice are the front of it, and nothing is read where nothing is there.
 pub(crate) fn read_slice(bytes: &[u8], buf: &mut [u8]) -> Result<usize, Failed>
-    ensures front { IfOk result (λ n. (rest : List ℕ) × (bytes.now ≡ take n buf.new ++ rest)) }
+    ensures front { IfOk result (λ n. (tail : List ℕ) × (bytes.now ≡ take n buf.new ++ tail)) }
     ensures end { IfOk result (λ n. n ≡ 0 → 0 < length buf.new → bytes.now ≡ []) }
 {
     read_any(&mut StdSource::new(bytes), buf)

@@ -1,10 +1,10 @@
 // A disk that was worked out by hand, byte by byte.
 ghost use Rattle.std.specs.Prelude.{◌≡◌, [], ◌∷◌};
-ghost use Rattle.hp_outside.specs.Changes.{wrote, cut_to, synced, at_rest, after, Image};
+ghost use Rattle.hp_outside.specs.Changes.{wrote, cut_to, synced, at_rest, after_changes, Image};
 
 // The bytes that changes leave of `abcdef`, and of `abc`.
 pub(crate) fn worked_rows()
-    ensures contents { after (wrote 4 (120 ∷ 121 ∷ 122 ∷ []) ∷ synced ∷ wrote 1 (112 ∷ 113 ∷ [])
+    ensures contents { after_changes (wrote 4 (120 ∷ 121 ∷ 122 ∷ []) ∷ synced ∷ wrote 1 (112 ∷ 113 ∷ [])
         ∷ cut_to 5 ∷ []) (at_rest (97 ∷ 98 ∷ 99 ∷ 100 ∷ 101 ∷ 102 ∷ [])) ≡ record {
           kept = 97 ∷ 112 ∷ 113 ∷ 100 ∷ 120 ∷ [];
           lost = 97 ∷ 98 ∷ 99 ∷ 100 ∷ 120 ∷ 121 ∷ 122 ∷ [];

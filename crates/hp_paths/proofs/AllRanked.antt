@@ -5,7 +5,7 @@ use Rattle.std.proofs.lemmas.List.{length-map, get_or-map, get_or_past, ext_get_
 use Rattle.std.proofs.lemmas.List.Sums.{list_all-from_AllPass}
 use Rattle.std.proofs.lemmas.List.FromFn.{length-map-range_with_len, get_or-map-range_with_len}
 use Rattle.std.specs.List.{find, list_all}
-use Rattle.hp_paths.specs.Paths.{numbers, links_at, in_cycle, first_in_cycle, Path, Reaches}
+use Rattle.hp_paths.specs.Paths.{numbers, arcs_from, in_cycle, first_in_cycle, Path, Reaches}
 use Rattle.hp_paths.specs.Ranks.{greatest, longest_within, rank, ranks}
 use Rattle.hp_paths.specs.DepthFirst.{mark_at, rank_of, AllRanked}
 use Rattle.hp_paths.specs.declared.depth_first.Mark.{Mark}
@@ -20,14 +20,14 @@ greatest_over f (i ∷ ks) k (suc n, l, e) = omega (arith, greatest_over f ks k 
 
 -- one more than the greatest of those one step on
 abbrev Solves : List (List ℕ) → (ℕ → ℕ) → Type 0
-Solves g v = (m : ℕ) → v m ≡ greatest (map (λ k. suc (v k)) (links_at g m))
+Solves g v = (m : ℕ) → v m ≡ greatest (map (λ k. suc (v k)) (arcs_from g m))
 
-falls : (g : List (List ℕ)) (v : ℕ → ℕ) → Solves g v → (m k : ℕ) → Contains (links_at g m) k → v k < v m
-falls g v s m k c = omega (arith, s m, greatest_over (λ i. suc (v i)) (links_at g m) k c)
+falls : (g : List (List ℕ)) (v : ℕ → ℕ) → Solves g v → (m k : ℕ) → Contains (arcs_from g m) k → v k < v m
+falls g v s m k c = omega (arith, s m, greatest_over (λ i. suc (v i)) (arcs_from g m) k c)
 
 longest : (g : List (List ℕ)) (v : ℕ → ℕ) → Solves g v → (n m : ℕ) → v m ≤ n → longest_within g n m ≡ v m
 longest g v s zero m l = omega arith
-longest g v s (suc n) m l = ap greatest (map_same (λ k. suc (longest_within g n k)) (λ k. suc (v k)) (links_at g m) (λ k c. ap suc (longest g v s n k (omega (arith, falls g v s m k c))))) ∙ sym (s m)
+longest g v s (suc n) m l = ap greatest (map_same (λ k. suc (longest_within g n k)) (λ k. suc (v k)) (arcs_from g m) (λ k c. ap suc (longest g v s n k (omega (arith, falls g v s m k c))))) ∙ sym (s m)
 
 -- a number that each step lowers is lower at the end
 lower : (g : List (List ℕ)) (v : ℕ → ℕ) → Solves g v → (m : ℕ) (ks : List ℕ) (j : ℕ) → Path g m ks j → v j ≤ v m
@@ -39,14 +39,14 @@ none_found test [] h = refl
 none_found test (k ∷ ks) h = by (test k) refl (none_found test ks h)
   where
     by : (b : Bool) → test k ≡ b → find test ks ≡ None → cond b (Some k) (find test ks) ≡ None
-    by true e rest = absurd (h k e)
-    by false e rest = rest
+    by true e tail = absurd (h k e)
+    by false e tail = tail
 
 no_cycle : (g : List (List ℕ)) (v : ℕ → ℕ) → Solves g v → first_in_cycle g ≡ None
 unfolding first_in_cycle
-no_cycle g v s = none_found (in_cycle g) (numbers (length g)) (λ m e. impossible m (Reaches-reached g (links_at g m) m e))
+no_cycle g v s = none_found (in_cycle g) (numbers (length g)) (λ m e. impossible m (Reaches-reached g (arcs_from g m) m e))
   where
-    impossible : (m : ℕ) → Reaches g (links_at g m) m → ⊥
+    impossible : (m : ℕ) → Reaches g (arcs_from g m) m → ⊥
     impossible m r = omega (arith, falls g v s m r.0 r.2, lower g v s r.0 r.1 m r.3)
 
 solved : (g : List (List ℕ)) (ms : List Mark) → AllRanked g ms → Solves g (λ m. rank_of (mark_at ms m))
@@ -55,7 +55,7 @@ solved g ms all m = elim (cases_lt m (length g)) [ inl h ↦ (all.right.above m 
     v : ℕ → ℕ
     v k = rank_of (mark_at ms k)
 
-    past : length g ≤ m → v m ≡ greatest (map (λ k. suc (v k)) (links_at g m))
+    past : length g ≤ m → v m ≡ greatest (map (λ k. suc (v k)) (arcs_from g m))
     past h = let p : length ms ≤ m = omega arith in
         ap rank_of (get_or_past ms m Unseen p) ∙ sym (ap (λ ks. greatest (map (λ k. suc (v k)) ks)) (get_or_past g m [] h))
 

@@ -1,14 +1,13 @@
 -- A node that leads to another is among its predecessors.
-use Rattle.std.proofs.Common.{◌≡◌, ℕ, zero, suc, ◌+◌, ◌<◌, ◌==◌, Bool, true, false, List, [], ◌∷◌, ◌++◌, length, map, cond, filter, Contains, refl, ap, subst, sym, arith, ◌⊎◌, inl, inr}
+use Rattle.std.proofs.Common.{◌≡◌, ℕ, ◌==◌, Bool, true, false, List, [], ◌∷◌, length, map, cond, filter, Contains, refl, subst, sym, arith, ◌⊎◌}
 use Rattle.std.specs.List.{flat_map}
 use Rattle.std.proofs.lemmas.Bool.Decides.{nat_tests}
 use Rattle.std.proofs.lemmas.List.Elements.{Contains-append_left, Contains-append_right}
 use Rattle.std.proofs.Math.Logic.{⊎_elim}
-use Rattle.hp_paths.specs.Paths.{numbers, links_at}
+use Rattle.hp_paths.specs.Paths.{numbers, arcs_from}
 use Rattle.hp_paths.specs.Ranks.{predecessors}
 use Rattle.hp_paths.proofs.Paths.{one_of, leads_from}
 use Rattle.hp_paths.proofs.Falling.{numbered}
-use Rattle.hp_paths.proofs.Placing.{behind}
 
 within_flat_map : (f : ℕ → List ℕ) (xs : List ℕ) (x y : ℕ) → Contains xs x → Contains (f x) y → Contains (flat_map f xs) y
 within_flat_map f [] x y c d = absurd (omega (arith, c.1))
@@ -23,5 +22,5 @@ marked p n (k ∷ ks) c = by (k == n) refl (λ later. marked p n ks later)
     by true e go = (0, omega arith, refl)
     by false e go = go (⊎_elim (λ same. let other : k ≡ n → ⊥ = grind (arith, nat_tests) in absurd (other same)) (λ later. later) (one_of k ks n c))
 
-pub leading : (g : List (List ℕ)) (p n : ℕ) → Contains (links_at g p) n → Contains (predecessors g n) p
-leading g p n c = within_flat_map (λ q. map (λ k. q) (filter (λ k. k == n) (links_at g q))) (numbers (length g)) p p (numbered (length g) p (leads_from g p n c)) (marked p n (links_at g p) c)
+pub leading : (g : List (List ℕ)) (p n : ℕ) → Contains (arcs_from g p) n → Contains (predecessors g n) p
+leading g p n c = within_flat_map (λ q. map (λ k. q) (filter (λ k. k == n) (arcs_from g q))) (numbers (length g)) p p (numbered (length g) p (leads_from g p n c)) (marked p n (arcs_from g p) c)

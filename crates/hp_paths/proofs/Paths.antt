@@ -11,16 +11,16 @@ use Rattle.std.specs.Set.{is_member, unique_keys, distinct_count}
 use Rattle.std.specs.Cmp.{unsigned_Decides}
 use Rattle.std.proofs.Math.Dec.{eqb}
 use Rattle.hp_num.proofs.Tests.{all_at}
-use Rattle.hp_paths.specs.Paths.{links_at, is_graph, are_known, Path}
+use Rattle.hp_paths.specs.Paths.{arcs_from, is_graph, are_known, Path}
 
 -- a property of m, and of the successors of whatever has it, holds at the end of each path from m
-pub closed : (g : List (List ℕ)) (P : ℕ → Type 0) → ((m k : ℕ) → P m → Contains (links_at g m) k → P k) → (m : ℕ) (ks : List ℕ) (j : ℕ) → P m → Path g m ks j → P j
+pub closed : (g : List (List ℕ)) (P : ℕ → Type 0) → ((m k : ℕ) → P m → Contains (arcs_from g m) k → P k) → (m : ℕ) (ks : List ℕ) (j : ℕ) → P m → Path g m ks j → P j
 closed g P step m [] j p w = subst P w p
 closed g P step m (k ∷ ks) j p w = closed g P step k ks j (step m k p w.0) w.1
 
 -- one step more
-pub path_more : (g : List (List ℕ)) (m : ℕ) (ks : List ℕ) (j k : ℕ) → Path g m ks j → Contains (links_at g j) k → Path g m (ks ++ k ∷ []) k
-path_more g m [] j k w c = (subst (λ i. Contains (links_at g i) k) (sym w) c, refl)
+pub path_more : (g : List (List ℕ)) (m : ℕ) (ks : List ℕ) (j k : ℕ) → Path g m ks j → Contains (arcs_from g j) k → Path g m (ks ++ k ∷ []) k
+path_more g m [] j k w c = (subst (λ i. Contains (arcs_from g i) k) (sym w) c, refl)
 path_more g m (i ∷ ks) j k w c = (w.0, path_more g i ks j k w.1 c)
 
 -- numbers below a count that are all different are at most so many
@@ -41,15 +41,15 @@ pub known_at : (count : ℕ) (ms : List ℕ) (i : ℕ) → are_known count ms �
 known_at count ms i known l = ltb-true (get_or ms i 0) count (all_at (λ m. nat_lt m count) ms i 0 known l)
 
 -- a node that leads somewhere is one of the graph, and so is where it leads
-pub leads_from : (g : List (List ℕ)) (m k : ℕ) → Contains (links_at g m) k → m < length g
+pub leads_from : (g : List (List ℕ)) (m k : ℕ) → Contains (arcs_from g m) k → m < length g
 leads_from g m k (i, l, e) = elim (cases_lt m (length g)) [ inl h ↦ h | inr h ↦ absurd (none h) ]
   where
     none : length g ≤ m → ⊥
-    none h = let empty : length (links_at g m) ≡ 0 = ap length (get_or_past g m [] h) in omega arith
+    none h = let empty : length (arcs_from g m) ≡ 0 = ap length (get_or_past g m [] h) in omega arith
 
-pub leads_to : (g : List (List ℕ)) (m k : ℕ) → is_graph g ≡ true → Contains (links_at g m) k → k < length g
+pub leads_to : (g : List (List ℕ)) (m k : ℕ) → is_graph g ≡ true → Contains (arcs_from g m) k → k < length g
 leads_to g m k known c = ltb-true k (length g)
-    (subst (λ j. nat_lt j (length g) ≡ true) c.2 (all_at (λ j. nat_lt j (length g)) (links_at g m) c.0 k
+    (subst (λ j. nat_lt j (length g) ≡ true) c.2 (all_at (λ j. nat_lt j (length g)) (arcs_from g m) c.0 k
     (all_at (are_known (length g)) g m [] known (leads_from g m k c)) c.1))
 
 -- the nodes of a path behind its first
@@ -61,8 +61,8 @@ passes g m (k ∷ ks) j v known w c = elim (one_of k ks v c) [ inl e ↦ subst (
 abbrev Once : ℕ → List ℕ → Type 0
 Once m ks = distinct_count eqb (m ∷ ks) ≡ suc (length ks)
 
-once-rest : (m : ℕ) (k : ℕ) (ks : List ℕ) → Once m (k ∷ ks) → Once k ks
-once-rest m k ks d = by (is_member eqb (k ∷ ks) m) d
+once-tail : (m : ℕ) (k : ℕ) (ks : List ℕ) → Once m (k ∷ ks) → Once k ks
+once-tail m k ks d = by (is_member eqb (k ∷ ks) m) d
   where
     by : (b : Bool) → length (cond b (unique_keys eqb (k ∷ ks)) (m ∷ unique_keys eqb (k ∷ ks))) ≡ suc (suc (length ks)) → Once k ks
     by true e = absurd (omega (arith, distinct_count-le eqb (k ∷ ks)))
@@ -79,17 +79,17 @@ Short g m j = (ks : List ℕ) × Path g m ks j × Once m ks
 part : (g : List (List ℕ)) (k : ℕ) (ks : List ℕ) (m j i : ℕ) → Path g k ks j → Once k ks → i < suc (length ks) → get_or (k ∷ ks) i m ≡ m → Short g m j
 part g k ks m j zero w d l e = subst (λ v. Short g v j) e (ks, w, d)
 part g k [] m j (suc i) w d l e = absurd (omega arith)
-part g k (n ∷ ks) m j (suc i) w d l e = part g n ks m j i w.1 (once-rest k n ks d) (omega arith) e
+part g k (n ∷ ks) m j (suc i) w d l e = part g n ks m j i w.1 (once-tail k n ks d) (omega arith) e
 
-longer : (g : List (List ℕ)) (m k j : ℕ) → Contains (links_at g m) k → Short g k j → Short g m j
-longer g m k j c rest = by (is_member eqb (k ∷ rest.0) m) refl
+longer : (g : List (List ℕ)) (m k j : ℕ) → Contains (arcs_from g m) k → Short g k j → Short g m j
+longer g m k j c tail = by (is_member eqb (k ∷ tail.0) m) refl
   where
-    again : Contains (k ∷ rest.0) m → Short g m j
-    again c = part g k rest.0 m j c.0 rest.1 rest.2 c.1 c.2
+    again : Contains (k ∷ tail.0) m → Short g m j
+    again c = part g k tail.0 m j c.0 tail.1 tail.2 c.1 c.2
 
-    by : (b : Bool) → is_member eqb (k ∷ rest.0) m ≡ b → Short g m j
-    by true e = again ((is_member-Decides unsigned_Decides (k ∷ rest.0) m).0 e)
-    by false e = (k ∷ rest.0, (c, rest.1), once-more m k rest.0 e rest.2)
+    by : (b : Bool) → is_member eqb (k ∷ tail.0) m ≡ b → Short g m j
+    by true e = again ((is_member-Decides unsigned_Decides (k ∷ tail.0) m).0 e)
+    by false e = (k ∷ tail.0, (c, tail.1), once-more m k tail.0 e tail.2)
 
 shortened : (g : List (List ℕ)) (m : ℕ) (ks : List ℕ) (j : ℕ) → Path g m ks j → Short g m j
 shortened g m [] j w = ([], w, refl)

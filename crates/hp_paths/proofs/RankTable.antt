@@ -9,7 +9,7 @@ use Rattle.std.proofs.lemmas.List.Folds.{list_any_at}
 use Rattle.std.proofs.lemmas.Map.Steps.{le-length_from_below}
 use Rattle.std.proofs.lemmas.Bool.{cases_eq, cases_lt}
 use Rattle.std.proofs.lemmas.Bool.Decides.{Decides-eqb}
-use Rattle.hp_paths.specs.Paths.{links_at, is_graph, Reaches}
+use Rattle.hp_paths.specs.Paths.{arcs_from, is_graph, Reaches}
 use Rattle.hp_paths.specs.Ranks.{greatest}
 use Rattle.hp_paths.specs.DepthFirst.{mark_at, is_ranked, rank_of, weight, unseen, RankAbove, AreRanks, LeadTo, Goes, Later, GoesOn, HasCycle}
 use Rattle.hp_paths.specs.declared.depth_first.Mark.{Mark}
@@ -101,7 +101,7 @@ above_kept old new same ks r a = record {
 }
 
 -- one more mark, at a node without a rank
-ranks_set : (g : List (List ℕ)) (ms : List Mark) (i : ℕ) (x : Mark) → i < length ms → is_ranked (mark_at ms i) ≡ false → AreRanks g ms → (is_ranked x ≡ true → RankAbove ms (links_at g i) (rank_of x)) → AreRanks g (set ms i x)
+ranks_set : (g : List (List ℕ)) (ms : List Mark) (i : ℕ) (x : Mark) → i < length ms → is_ranked (mark_at ms i) ≡ false → AreRanks g ms → (is_ranked x ≡ true → RankAbove ms (arcs_from g i) (rank_of x)) → AreRanks g (set ms i x)
 ranks_set g ms i x l none right new = record { above = λ m r. by m r (mark_set ms i x m l) }
   where
     ns : List Mark
@@ -110,22 +110,22 @@ ranks_set g ms i x l none right new = record { above = λ m r. by m r (mark_set 
     same : (k : ℕ) → is_ranked (mark_at ms k) ≡ true → mark_at ns k ≡ mark_at ms k
     same k r = get_or-set_other ms i k x Unseen (λ e. not_both (sym none ∙ subst (λ j. is_ranked (mark_at ms j) ≡ true) e r))
 
-    by : (m : ℕ) → is_ranked (mark_at ns m) ≡ true → Written ms i x m → RankAbove ns (links_at g m) (rank_of (mark_at ns m))
-    by m r (inl (e, s)) = subst (λ j. RankAbove ns (links_at g j) (rank_of (mark_at ns m))) (sym e) (subst (λ y. RankAbove ns (links_at g i) (rank_of y)) (sym s) (above_kept ms ns same (links_at g i) (rank_of x) (new (sym (ap is_ranked s) ∙ r))))
-    by m r (inr (n, s)) = subst (λ y. RankAbove ns (links_at g m) (rank_of y)) (sym s) (above_kept ms ns same (links_at g m) (rank_of (mark_at ms m)) (right.above m (sym (ap is_ranked s) ∙ r)))
+    by : (m : ℕ) → is_ranked (mark_at ns m) ≡ true → Written ms i x m → RankAbove ns (arcs_from g m) (rank_of (mark_at ns m))
+    by m r (inl (e, s)) = subst (λ j. RankAbove ns (arcs_from g j) (rank_of (mark_at ns m))) (sym e) (subst (λ y. RankAbove ns (arcs_from g i) (rank_of y)) (sym s) (above_kept ms ns same (arcs_from g i) (rank_of x) (new (sym (ap is_ranked s) ∙ r))))
+    by m r (inr (n, s)) = subst (λ y. RankAbove ns (arcs_from g m) (rank_of y)) (sym s) (above_kept ms ns same (arcs_from g m) (rank_of (mark_at ms m)) (right.above m (sym (ap is_ranked s) ∙ r)))
 
 pub opened : (g : List (List ℕ)) (ms : List Mark) (i : ℕ) → i < length ms → mark_at ms i ≡ Unseen → AreRanks g ms → AreRanks g (set ms i Open)
 opened g ms i l u right = ranks_set g ms i Open l (ap is_ranked u) right (λ e. absurd (not_both e))
 
 -- the nodes that the search is below
-pub lead_on : (g : List (List ℕ)) (ms : List Mark) (i : ℕ) → i < length ms → LeadTo g ms (i ∷ []) → LeadTo g (set ms i Open) (links_at g i)
+pub lead_on : (g : List (List ℕ)) (ms : List Mark) (i : ℕ) → i < length ms → LeadTo g ms (i ∷ []) → LeadTo g (set ms i Open) (arcs_from g i)
 lead_on g ms i l lead = record { path = λ j k o c. by j k o c (mark_set ms i Open j l) }
   where
-    more : (j k : ℕ) → Reaches g (links_at g j) i → Contains (links_at g i) k → Reaches g (links_at g j) k
+    more : (j k : ℕ) → Reaches g (arcs_from g j) i → Contains (arcs_from g i) k → Reaches g (arcs_from g j) k
     more j k (first, ks, c, p) d = (first, ks ++ k ∷ [], c, path_more g first ks i k p d)
 
-    by : (j k : ℕ) → mark_at (set ms i Open) j ≡ Open → Contains (links_at g i) k → Written ms i Open j → Reaches g (links_at g j) k
-    by j k o c (inl (e, s)) = (k, [], subst (λ n. Contains (links_at g n) k) (sym e) c, refl)
+    by : (j k : ℕ) → mark_at (set ms i Open) j ≡ Open → Contains (arcs_from g i) k → Written ms i Open j → Reaches g (arcs_from g j) k
+    by j k o c (inl (e, s)) = (k, [], subst (λ n. Contains (arcs_from g n) k) (sym e) c, refl)
     by j k o c (inr (n, s)) = more j k (lead.path j i (sym s ∙ o) (0, omega arith, refl)) c
 
 pub lead_kept : (g : List (List ℕ)) (old new : List Mark) (ks : List ℕ) (i : ℕ) → i < length ks → Later old new → LeadTo g old ks → LeadTo g new (get_or ks i 0 ∷ [])
@@ -135,7 +135,7 @@ pub cycle_met : (g : List (List ℕ)) (ms : List Mark) (i : ℕ) → is_graph g 
 cycle_met g ms i k l lead o = cycle_found g i k l (lead.path i i o (0, omega arith, refl))
 
 -- a node gets its rank
-pub ranked_now : (g : List (List ℕ)) (old mid : List Mark) (i r : ℕ) → i < length old → length mid ≡ length old → mark_at old i ≡ Unseen → GoesOn g (set old i Open) mid → RankAbove mid (links_at g i) r → GoesOn g old (set mid i (Ranked r)) × (mark_at (set mid i (Ranked r)) i ≡ Ranked r)
+pub ranked_now : (g : List (List ℕ)) (old mid : List Mark) (i r : ℕ) → i < length old → length mid ≡ length old → mark_at old i ≡ Unseen → GoesOn g (set old i Open) mid → RankAbove mid (arcs_from g i) r → GoesOn g old (set mid i (Ranked r)) × (mark_at (set mid i (Ranked r)) i ≡ Ranked r)
 ranked_now g old mid i r l same u went above = (record { right = ranks_set g mid i (Ranked r) low (ap is_ranked entered) went.right (λ e. above); later = record { each = λ m. by m (mark_set mid i (Ranked r) m low) } }, get_or-set_same mid i (Ranked r) Unseen low)
   where
     low : i < length mid
@@ -179,8 +179,8 @@ one_below f (k ∷ ks) v e = by (cases_eq (f k) v) (one_below f ks v)
     behind (i, c, h) = (i, (suc c.0, omega (arith, c.1), c.2), h)
 
     by : (f k ≡ v) ⊎ (f k ≢ v) → (greatest (map (λ k. suc (f k)) ks) ≡ suc v → (i : ℕ) × Contains ks i × (f i ≡ v)) → (i : ℕ) × Contains (k ∷ ks) i × (f i ≡ v)
-    by (inl h) rest = (k, (0, omega arith, refl), h)
-    by (inr n) rest = behind (rest (omega (arith, e)))
+    by (inl h) tail = (k, (0, omega arith, refl), h)
+    by (inr n) tail = behind (tail (omega (arith, e)))
 
 ranked_inside : (ms : List Mark) (m : ℕ) → is_ranked (mark_at ms m) ≡ true → m < length ms
 ranked_inside ms m r = elim (cases_lt m (length ms)) [ inl l ↦ l | inr l ↦ absurd (not_both (sym (ap is_ranked (get_or_past ms m Unseen l)) ∙ r)) ]
@@ -192,7 +192,7 @@ lesser g ms q zero m right r e = list_any_at (eqb q) (map rank_of ms) m 0 inside
     inside = omega (arith, ranked_inside ms m r, length-map ms rank_of)
 lesser g ms q (suc d) m right r e =
     let a = right.above m r in
-    let next = one_below (λ k. rank_of (mark_at ms k)) (links_at g m) (d + q) (omega (arith, a.value, e)) in
+    let next = one_below (λ k. rank_of (mark_at ms k)) (arcs_from g m) (d + q) (omega (arith, a.value, e)) in
     lesser g ms q d next.0 right (a.ranked next.0 next.1) next.2
 
 pub ranks_below : (g : List (List ℕ)) (ms : List Mark) (m : ℕ) → AreRanks g ms → is_ranked (mark_at ms m) ≡ true → rank_of (mark_at ms m) < length ms

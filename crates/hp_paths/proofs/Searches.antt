@@ -9,7 +9,7 @@ use Rattle.std.proofs.lemmas.List.Elements.{Contains-push, Contains-push_cases, 
 use Rattle.std.proofs.lemmas.List.FromFn.{length-map-range_with_len, get_or-map-range_with_len}
 use Rattle.std.proofs.lemmas.Map.Made.{IsDistinct-from_AllPairs, distinct_count-from_IsDistinct, is_member-Decides}
 use Rattle.std.proofs.lemmas.Cmp.{nat_eq_equiv}
-use Rattle.hp_paths.specs.Paths.{numbers, links_at, is_graph, are_known, reached, Reaches}
+use Rattle.hp_paths.specs.Paths.{numbers, arcs_from, is_graph, are_known, reached, Reaches}
 use Rattle.hp_paths.specs.Search.{come, come_all, marks_of}
 use Rattle.hp_paths.proofs.Marks.{marks_from}
 use Rattle.hp_paths.proofs.Paths.{closed, few, path_more, one_of, known_at, leads_to}
@@ -80,12 +80,12 @@ more_one found m = by (is_member nat_eq found m) refl
     }
 
 more_then : {found mid after : List ℕ} (m : ℕ) (ms : List ℕ) → More found (m ∷ []) mid → More mid ms after → More found (m ∷ ms) after
-more_then {found} {mid} {after} m ms one rest = record {
-  longer = omega (arith, one.longer, rest.longer);
-  stay = λ i d l. let low : i < length mid = omega (arith, one.longer) in rest.stay i d low ∙ one.stay i d l;
-  has = λ k c. elim (one_of m ms k c) [ inl e ↦ kept rest k (one.has k (subst (λ v. Contains (m ∷ []) v) e (first_of_all m []))) | inr d ↦ rest.has k d ];
-  from = λ k c. elim (rest.from k c) [ inl d ↦ before k (one.from k d) | inr d ↦ inr (behind m ms k d) ];
-  differ = λ h. rest.differ (one.differ h);
+more_then {found} {mid} {after} m ms one tail = record {
+  longer = omega (arith, one.longer, tail.longer);
+  stay = λ i d l. let low : i < length mid = omega (arith, one.longer) in tail.stay i d low ∙ one.stay i d l;
+  has = λ k c. elim (one_of m ms k c) [ inl e ↦ kept tail k (one.has k (subst (λ v. Contains (m ∷ []) v) e (first_of_all m []))) | inr d ↦ tail.has k d ];
+  from = λ k c. elim (tail.from k c) [ inl d ↦ before k (one.from k d) | inr d ↦ inr (behind m ms k d) ];
+  differ = λ h. tail.differ (one.differ h);
 }
   where
     before : (k : ℕ) → Contains found k ⊎ Contains (m ∷ []) k → Contains found k ⊎ Contains (m ∷ ms) k
@@ -103,7 +103,7 @@ pub record Searched (g : List (List ℕ)) (starts found : List ℕ) (at : ℕ) :
   pub below : (m : ℕ) → Contains found m → m < length g
   pub from : (m : ℕ) → Contains found m → Reaches g starts m
   pub begun : (m : ℕ) → Contains starts m → Contains found m
-  pub done : (i : ℕ) → i < at → (k : ℕ) → Contains (links_at g (get_or found i 0)) k → Contains found k
+  pub done : (i : ℕ) → i < at → (k : ℕ) → Contains (arcs_from g (get_or found i 0)) k → Contains found k
 
 known_of : (count : ℕ) (ms : List ℕ) (m : ℕ) → are_known count ms ≡ true → Contains ms m → m < count
 known_of count ms m known c = subst (λ k. k < count) (get_or_default ms c.0 0 m c.1 ∙ c.2) (known_at count ms c.0 known c.1)
@@ -122,7 +122,7 @@ search_begun g starts known = record {
     start m (inl c) = absurd (omega (arith, c.1))
     start m (inr c) = c
 
-pub search_goes_on : (g : List (List ℕ)) (starts found : List ℕ) (at : ℕ) → is_graph g ≡ true → at < length found → Searched g starts found at → Searched g starts (come_all found (links_at g (get_or found at 0))) (at + 1)
+pub search_goes_on : (g : List (List ℕ)) (starts found : List ℕ) (at : ℕ) → is_graph g ≡ true → at < length found → Searched g starts found at → Searched g starts (come_all found (arcs_from g (get_or found at 0))) (at + 1)
 search_goes_on g starts found at known l s = record {
   place = omega (arith, next.longer);
   differ = next.differ s.differ;
@@ -135,27 +135,27 @@ search_goes_on g starts found at known l s = record {
     node : ℕ
     node = get_or found at 0
 
-    next : More found (links_at g node) (come_all found (links_at g node))
-    next = more found (links_at g node)
+    next : More found (arcs_from g node) (come_all found (arcs_from g node))
+    next = more found (arcs_from g node)
 
-    below : (m : ℕ) → Contains found m ⊎ Contains (links_at g node) m → m < length g
+    below : (m : ℕ) → Contains found m ⊎ Contains (arcs_from g node) m → m < length g
     below m (inl c) = s.below m c
     below m (inr c) = leads_to g node m known c
 
-    from : (m : ℕ) → Contains found m ⊎ Contains (links_at g node) m → Reaches g starts m
+    from : (m : ℕ) → Contains found m ⊎ Contains (arcs_from g node) m → Reaches g starts m
     from m (inl c) = s.from m c
     from m (inr c) = let r = s.from node (Contains-get_or found at 0 l) in (r.0, r.1 ++ m ∷ [], r.2, path_more g r.0 r.1 node m r.3 c)
 
     after : List ℕ
-    after = come_all found (links_at g node)
+    after = come_all found (arcs_from g node)
 
-    done : (i : ℕ) → i < at + 1 → (k : ℕ) → Contains (links_at g (get_or after i 0)) k → (i < at) ⊎ (at ≤ i) → Contains after k
+    done : (i : ℕ) → i < at + 1 → (k : ℕ) → Contains (arcs_from g (get_or after i 0)) k → (i < at) ⊎ (at ≤ i) → Contains after k
     done i low k c (inl d) =
         let inside : i < length found = omega arith in
-        kept next k (s.done i d k (subst (λ m. Contains (links_at g m) k) (next.stay i 0 inside) c))
+        kept next k (s.done i d k (subst (λ m. Contains (arcs_from g m) k) (next.stay i 0 inside) c))
     done i low k c (inr d) =
         let same : i ≡ at = omega arith in
-        next.has k (subst (λ m. Contains (links_at g m) k) (ap (λ n. get_or after n 0) same ∙ next.stay at 0 l) c)
+        next.has k (subst (λ m. Contains (arcs_from g m) k) (ap (λ n. get_or after n 0) same ∙ next.stay at 0 l) c)
 
 -- a search comes to no more nodes than there are
 pub search_ends : (g : List (List ℕ)) (starts found : List ℕ) (at : ℕ) → Searched g starts found at → length found ≤ length g
@@ -172,8 +172,8 @@ found_reached g starts found m known s = same_tests (is_member nat_eq found m) (
     (λ e. reached-Reaches g starts m known (s.from m ((is_member-Decides unsigned_Decides found m).0 e)))
     (λ e. (is_member-Decides unsigned_Decides found m).1 (all (Reaches-reached g starts m e)))
   where
-    step : (n k : ℕ) → Contains found n → Contains (links_at g n) k → Contains found k
-    step n k c link = s.done c.0 c.1 k (subst (λ v. Contains (links_at g v) k) (sym (get_or_default found c.0 0 n c.1 ∙ c.2)) link)
+    step : (n k : ℕ) → Contains found n → Contains (arcs_from g n) k → Contains found k
+    step n k c successor = s.done c.0 c.1 k (subst (λ v. Contains (arcs_from g v) k) (sym (get_or_default found c.0 0 n c.1 ∙ c.2)) successor)
 
     all : Reaches g starts m → Contains found m
     all r = closed g (Contains found) step r.0 r.1 m (s.begun r.0 r.2) r.3

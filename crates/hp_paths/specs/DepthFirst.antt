@@ -1,7 +1,7 @@
 -- The marks of the nodes in a depth-first search for the ranks.
 use Rattle.std.specs.Prelude.{◌≡◌, ℕ, suc, ◌<◌, ◌⊎◌, Bool, true, false, List, length, map, None, get_or, Contains}
 use Rattle.std.specs.List.{sum_by}
-use Rattle.hp_paths.specs.Paths.{links_at, first_in_cycle, Reaches}
+use Rattle.hp_paths.specs.Paths.{arcs_from, first_in_cycle, Reaches}
 use Rattle.hp_paths.specs.Ranks.{greatest}
 use Rattle.hp_paths.specs.declared.depth_first.Mark.{Mark}
 use Rattle.hp_paths.specs.declared.depth_first.Mark.TheVariants.{Unseen, Open, Ranked}
@@ -38,11 +38,11 @@ pub record RankAbove (ms : List Mark) (ks : List ℕ) (r : ℕ) : Type 0 where
 
 -- each rank that is known is right, by those of the nodes one step on
 pub record AreRanks (g : List (List ℕ)) (ms : List Mark) : Type 0 where
-  pub above : (m : ℕ) → is_ranked (mark_at ms m) ≡ true → RankAbove ms (links_at g m) (rank_of (mark_at ms m))
+  pub above : (m : ℕ) → is_ranked (mark_at ms m) ≡ true → RankAbove ms (arcs_from g m) (rank_of (mark_at ms m))
 
 -- each node that the search is below leads to each of these
 pub record LeadTo (g : List (List ℕ)) (ms : List Mark) (ks : List ℕ) : Type 0 where
-  pub path : (j k : ℕ) → mark_at ms j ≡ Open → Contains ks k → Reaches g (links_at g j) k
+  pub path : (j k : ℕ) → mark_at ms j ≡ Open → Contains ks k → Reaches g (arcs_from g j) k
 
 -- a mark is as before, or the rank of a node that was not seen
 abbrev pub Goes : Mark → Mark → Type 0

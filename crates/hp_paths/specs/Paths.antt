@@ -15,13 +15,13 @@ abbrev pub is_graph : List (List ℕ) → Bool
 is_graph g = list_all (are_known (length g)) g
 
 -- the successors of the node m
-abbrev pub links_at : List (List ℕ) → ℕ → List ℕ
-links_at g m = get_or g m []
+abbrev pub arcs_from : List (List ℕ) → ℕ → List ℕ
+arcs_from g m = get_or g m []
 
 -- a path of at most n steps leads from m to j
 abbrev pub within : List (List ℕ) → ℕ → ℕ → ℕ → Bool
 within g zero m j = m == j
-within g (suc n) m j = (m == j) || list_any (λ k. within g n k j) (links_at g m)
+within g (suc n) m j = (m == j) || list_any (λ k. within g n k j) (arcs_from g m)
 
 -- a path leads from one of these nodes to j. A path that visits no node twice has fewer steps than there are nodes.
 unfoldable pub reached : List (List ℕ) → List ℕ → ℕ → Bool
@@ -29,7 +29,7 @@ reached g starts j = list_any (λ k. within g (length g) k j) starts
 
 -- a path of at least one step leads from m to m
 abbrev pub in_cycle : List (List ℕ) → ℕ → Bool
-in_cycle g m = reached g (links_at g m) m
+in_cycle g m = reached g (arcs_from g m) m
 
 -- the least node that can reach itself
 unfoldable pub first_in_cycle : List (List ℕ) → Option ℕ
@@ -42,7 +42,7 @@ first_unreached g starts = find (λ m. not (reached g starts m)) (numbers (lengt
 -- from m through these nodes, each a successor of the one before it, to j: a path of any length
 abbrev pub Path : List (List ℕ) → ℕ → List ℕ → ℕ → Type 0
 Path g m [] j = m ≡ j
-Path g m (k ∷ ks) j = Contains (links_at g m) k × Path g k ks j
+Path g m (k ∷ ks) j = Contains (arcs_from g m) k × Path g k ks j
 
 -- a path of any length leads from one of these nodes to j
 abbrev pub Reaches : List (List ℕ) → List ℕ → ℕ → Type 0

@@ -1,10 +1,10 @@
 // Ranks by depth-first search: each node gets its rank once those that it leads to have theirs.
-ghost use Rattle.std.specs.Prelude.{◌≡◌, ◌≤◌, ◌<◌, ◌∷◌, [], ℕ, true, length, map, replicate, IfOk, MatchOption};
+ghost use Rattle.std.specs.Prelude.{◌≡◌, ◌≤◌, ◌<◌, ◌∷◌, [], true, length, map, replicate, IfOk, MatchOption};
 ghost use Rattle.hp_paths.specs.Paths.{are_known, is_graph};
 ghost use Rattle.hp_paths.specs.DepthFirst.{mark_at, rank_of, AreRanks, LeadTo, GoesOn, HasCycle, RankAbove, AllRanked};
 ghost use Rattle.hp_paths.specs.declared.depth_first.Mark.TheVariants.{Unseen, Ranked};
 
-use crate::search::links;
+use crate::search::successors;
 use hp_num::{List, Memory};
 use std::alloc::Global;
 
@@ -30,7 +30,7 @@ fn visit(graph: &[List<u32>], marks: &mut [Mark], node: u32) -> Option<u32>
     match marks[node as usize] {
         Mark::Unseen => {
             marks[node as usize] = Mark::Open;
-            let rank = rank_above(graph, marks, links(graph, node))?;
+            let rank = rank_above(graph, marks, successors(graph, node))?;
             marks[node as usize] = Mark::Ranked { rank };
             Some(rank)
         }

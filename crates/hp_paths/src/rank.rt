@@ -1,9 +1,9 @@
 // The ranks of the nodes of a graph, their order by rank, and their predecessors.
-ghost use Rattle.std.specs.Prelude.{◌≡◌, ◌≤◌, ◌<◌, true, length, map, IfOk, Err, nat_lt, suc, get_or, replicate};
+ghost use Rattle.std.specs.Prelude.{◌≡◌, ◌≤◌, ◌<◌, true, length, IfOk, Err, nat_lt, suc, get_or, replicate};
 ghost use Rattle.std.specs.List.{list_all};
-ghost use Rattle.hp_paths.specs.Paths.{numbers, are_known, is_graph};
+ghost use Rattle.hp_paths.specs.Paths.{is_graph};
 ghost use Rattle.hp_paths.specs.DepthFirst.{HasCycle};
-ghost use Rattle.hp_paths.specs.Ranks.{by_rank, longest_from, predecessors, RanksTo};
+ghost use Rattle.hp_paths.specs.Ranks.{longest_from, RanksTo};
 ghost use Rattle.hp_paths.specs.declared.depth_first.Mark.TheVariants.{Unseen};
 ghost use Rattle.hp_paths.specs.declared.rank.RankFault.TheVariants as faults;
 

@@ -2,7 +2,7 @@
 ghost use Rattle.std.specs.Prelude.{◌≡◌, ◌≤◌, true, ◌<◌, length, IfOk};
 ghost use Rattle.hp_paths.specs.Paths.{are_known, is_graph, in_cycle, first_in_cycle, first_unreached};
 
-use crate::search::{links, marks};
+use crate::search::{marks, successors};
 use hp_num::{List, Memory};
 use std::alloc::Global;
 
@@ -35,7 +35,7 @@ fn reaches_itself(alloc: Global, graph: &[List<u32>], node: u32) -> Result<bool,
     requires node { node < length graph.now }
     ensures { IfOk result (λ b. b ≡ in_cycle graph.now node) }
 {
-    let marks = marks(alloc, graph, links(graph, node))?;
+    let marks = marks(alloc, graph, successors(graph, node))?;
     Ok(marks.as_slice()[node as usize])
 }
 

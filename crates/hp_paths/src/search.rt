@@ -1,6 +1,6 @@
 // A search through a graph: each node that the starts reach, once.
-ghost use Rattle.std.specs.Prelude.{◌≡◌, ◌<◌, ◌≤◌, true, [], length, get_or, map, IfOk};
-ghost use Rattle.hp_paths.specs.Paths.{numbers, links_at, are_known, is_graph, reached};
+ghost use Rattle.std.specs.Prelude.{◌≡◌, ◌<◌, true, [], length, get_or, map, IfOk};
+ghost use Rattle.hp_paths.specs.Paths.{numbers, arcs_from, are_known, is_graph, reached};
 ghost use Rattle.hp_paths.specs.Search.{come, come_all, marks_of};
 
 use hp_num::{List, Memory};
@@ -90,9 +90,9 @@ impl Search {
 }
 
 // The successors of a node.
-pub(crate) fn links(graph: &[List<u32>], node: u32) -> &[u32]
+pub(crate) fn successors(graph: &[List<u32>], node: u32) -> &[u32]
     requires { node < length graph.now }
-    ensures { result.now ≡ links_at graph.now node }
+    ensures { result.now ≡ arcs_from graph.now node }
 {
     graph[node as usize].as_slice()
 }
@@ -112,7 +112,7 @@ pub(crate) fn marks(
     search.come_all(starts)?;
     let mut at = 0;
     while at < search.len() {
-        search.come_all(links(graph, search.node(at)))?;
+        search.come_all(successors(graph, search.node(at)))?;
         at += 1;
     }
     Ok(search.into_marks())

@@ -7,13 +7,13 @@ use Rattle.std.proofs.lemmas.List.{length-map}
 use Rattle.serde_json.specs.Data.{Data, Items, Members}
 use Rattle.serde_json.specs.Events.{items_len, members_len}
 use Rattle.hp_num.proofs.Tests.{and_first, and_second}
-use Rattle.hp_problem.specs.Distinct.{rises, is_before}
+use Rattle.hp_parts.specs.Distinct.{rises, is_before}
 use Rattle.hp_fields.specs.Fields.{keys_of}
 use Rattle.hp_fields.proofs.Distinct.{rises-map, rises-sorted}
 use Rattle.hp_fields.proofs.InOrder.{length-keys_of}
 use Rattle.hp_fields.proofs.Rising.{Rising, RisingMembers, keys-sorted}
 use Rattle.hp_plants.specs.declared.refusal.HydroKind.TheVariants as kinds
-use Rattle.hp_plants.specs.declared.place.Place.{Place}
+use Rattle.hp_plants.specs.declared.place.HydroPlace.{HydroPlace}
 use Rattle.hp_plants.specs.declared.plants.Bus.{Bus}
 use Rattle.hp_plants.specs.declared.plants.Travel.{Travel}
 use Rattle.hp_plants.specs.declared.plants.Reservoir.{Reservoir}
@@ -22,15 +22,15 @@ use Rattle.hp_plants.specs.declared.plants.Line.{Line}
 use Rattle.hp_plants.specs.declared.plants.Inflow.{Inflow}
 use Rattle.hp_plants.specs.declared.plants.Stage.{Stage}
 use Rattle.hp_plants.specs.declared.plants.Plants.{Plants}
-use Rattle.hp_plants.specs.Fields.{Within, whole, json_at, object_at, table_at, members_at, items_at, amount_at, natural_at, entries_at}
-use Rattle.hp_plants.specs.Names.{key_at, named_at}
-use Rattle.hp_plants.specs.Tables.{Tables, counts_at, parts_at, tables_at}
-use Rattle.hp_plants.specs.Grid.{bus_at, buses_at, travel_at, levels_at, reservoir_at, reservoirs_at, states_of, states_at, thermal_at, thermals_at, line_at, lines_at}
-use Rattle.hp_plants.specs.Stages.{least_inflow, inflow_at, inflows_at, count_at, total_weight, total_at, stage_at, stages_at}
+use Rattle.hp_plants.specs.Fields.{Within, hydro_whole, hydro_json_at, hydro_object_at, hydro_table_at, hydro_members_at, hydro_items_at, amount_at, natural_at, hydro_entries_at}
+use Rattle.hp_plants.specs.Names.{hydro_key_at, named_at}
+use Rattle.hp_plants.specs.Tables.{HydroTables, hydro_counts_at, parts_at, hydro_tables_at}
+use Rattle.hp_plants.specs.Grid.{bus_at, buses_at, travel_at, levels_at, read_reservoir_at, reservoirs_at, state_count, state_count_at, thermal_at, thermals_at, line_at, lines_at}
+use Rattle.hp_plants.specs.Stages.{least_inflow, inflow_at, inflows_at, inflow_count_at, total_inflow_weight, total_at, hydro_stage_at, stages_at}
 use Rattle.hp_plants.specs.Plants.{described_at, plants_of, plants_at}
 use Rattle.hp_plants.specs.Described.{IsBus, IsTravel, IsReservoir, IsThermal, IsLine, IsInflow, IsStage, IsPlants}
-use Rattle.hp_plants.proofs.Accepted.{then-Ok, Ok-is, test-Ok, Added, added, amount_at-Ok, natural_at-Ok, key_at-Ok, named_at-Ok, entries_at-Ok, from_none, walk_members-each, walk_items-each}
-use Rattle.hp_plants.proofs.Rising.{json_at-Rising, table_at-Rising, members_at-Rising}
+use Rattle.hp_plants.proofs.Accepted.{then-Ok, Ok-is, test-Ok, Added, added, amount_at-Ok, natural_at-Ok, hydro_key_at-Ok, named_at-Ok, hydro_entries_at-Ok, from_none, walk_members-each, walk_items-each}
+use Rattle.hp_plants.proofs.Rising.{hydro_json_at-Rising, hydro_table_at-Rising, hydro_members_at-Rising}
 
 -- the entries that were read for these members: each has the property, and their names rise
 record Read {A : Type 0} (Q : A → Type 0) (name : A → List ℕ) (ms : Members) (xs : List A) : Type 0 where
@@ -50,10 +50,10 @@ read_from Q name ms xs rising w = record {
 bus_at-adds : (found next : List Bus) (i : ℕ) (k : List ℕ) (d : Data) → bus_at found i k d ≡ Ok next → Added IsBus (λ (b : Bus). b.name ≡ k) found next
 unfolding bus_at
 bus_at-adds found next i k d e =
-    then-Ok (key_at _ _) _ next e (λ name is_name_of e.
-    then-Ok (object_at _ _) _ next e (λ all is e.
+    then-Ok (hydro_key_at _ _) _ next e (λ name is_name_of e.
+    then-Ok (hydro_object_at _ _) _ next e (λ all is e.
     then-Ok (amount_at _ _) _ next e (λ cost is_cost e.
-    let n = key_at-Ok _ k name is_name_of in
+    let n = hydro_key_at-Ok _ k name is_name_of in
     added found next _ e (record { name = n.1; deficit_cost = amount_at-Ok _ _ cost is_cost }) (sym n.0))))
 
 buses_at-Ok : (ms : Members) (buses : List Bus) → RisingMembers ms → buses_at ms ≡ Ok buses → Read IsBus (λ (b : Bus). b.name) ms buses
@@ -62,7 +62,7 @@ buses_at-Ok ms buses rising e = read_from IsBus (λ (b : Bus). b.name) ms buses 
 
 -- ---- reservoirs
 
-travel_at-Ok : (p : Place) (reservoirs : List (List ℕ)) (d : Data) (o : Option Data) (t : Option Travel) → travel_at p reservoirs d o ≡ Ok t → IfSome t (IsTravel (length reservoirs))
+travel_at-Ok : (p : HydroPlace) (reservoirs : List (List ℕ)) (d : Data) (o : Option Data) (t : Option Travel) → travel_at p reservoirs d o ≡ Ok t → IfSome t (IsTravel (length reservoirs))
 unfolding travel_at
 travel_at-Ok p reservoirs d None t e = subst (λ t. IfSome t (IsTravel (length reservoirs))) (Ok-is None t e) tt
 travel_at-Ok p reservoirs d (Some downstream) t e =
@@ -73,7 +73,7 @@ travel_at-Ok p reservoirs d (Some downstream) t e =
 at_most : (a b : ℤ) → int_le a b ≡ true → a ≤ℤ b
 at_most a b e = omega (arith, ints)
 
-levels_at-Ok : (p : Place) (low high initial : ℤ) (x : Unit {0}) → levels_at p low high initial ≡ Ok x → Within low high initial
+levels_at-Ok : (p : HydroPlace) (low high initial : ℤ) (x : Unit {0}) → levels_at p low high initial ≡ Ok x → Within low high initial
 unfolding levels_at
 levels_at-Ok p low high initial x e =
     let a = int_le low high in
@@ -82,12 +82,12 @@ levels_at-Ok p low high initial x e =
     let all = (test-Ok (a && b && c) _ kinds.Limit p x e).0 in
     record { low = at_most low initial (and_second a b (and_first (a && b) c all)); high = at_most initial high (and_second (a && b) c all) }
 
-reservoir_at-adds : (buses reservoirs : List (List ℕ)) (found next : List Reservoir) (i : ℕ) (k : List ℕ) (d : Data) → reservoir_at buses reservoirs found i k d ≡ Ok next
+read_reservoir_at-adds : (buses reservoirs : List (List ℕ)) (found next : List Reservoir) (i : ℕ) (k : List ℕ) (d : Data) → read_reservoir_at buses reservoirs found i k d ≡ Ok next
     → Added (IsReservoir (length buses) (length reservoirs)) (λ (r : Reservoir). r.name ≡ k) found next
-unfolding reservoir_at
-reservoir_at-adds buses reservoirs found next i k d e =
-    then-Ok (key_at _ _) _ next e (λ name is_name_of e.
-    then-Ok (object_at _ _) _ next e (λ all is e.
+unfolding read_reservoir_at
+read_reservoir_at-adds buses reservoirs found next i k d e =
+    then-Ok (hydro_key_at _ _) _ next e (λ name is_name_of e.
+    then-Ok (hydro_object_at _ _) _ next e (λ all is e.
     then-Ok (named_at _ _ _) _ next e (λ bus is_bus e.
     then-Ok (amount_at _ _) _ next e (λ low is_low e.
     then-Ok (amount_at _ _) _ next e (λ high is_high e.
@@ -97,7 +97,7 @@ reservoir_at-adds buses reservoirs found next i k d e =
     then-Ok (amount_at _ _) _ next e (λ factor is_factor e.
     then-Ok (travel_at _ _ _ _) _ next e (λ downstream is_downstream e.
     then-Ok (levels_at _ _ _ _) _ next e (λ levels is_levels e.
-    let n = key_at-Ok _ k name is_name_of in
+    let n = hydro_key_at-Ok _ k name is_name_of in
     added found next _ e (record {
       name = n.1;
       bus = named_at-Ok _ buses _ bus is_bus;
@@ -115,23 +115,23 @@ reservoirs_at-Ok : (buses : List (List ℕ)) (ms : Members) (names : List (List 
 unfolding reservoirs_at
 reservoirs_at-Ok buses ms names reservoirs rising e =
     read_from (IsReservoir (length buses) (length names)) (λ (r : Reservoir). r.name) ms reservoirs rising
-    (walk_members-each (IsReservoir (length buses) (length names)) (λ (r : Reservoir). r.name) (reservoir_at buses names) (λ found next i k d e. reservoir_at-adds buses names found next i k d e) ms [] reservoirs 0 e tt)
+    (walk_members-each (IsReservoir (length buses) (length names)) (λ (r : Reservoir). r.name) (read_reservoir_at buses names) (λ found next i k d e. read_reservoir_at-adds buses names found next i k d e) ms [] reservoirs 0 e tt)
 
-states_at-Ok : (rs : List Reservoir) (x : Unit {0}) → states_at rs ≡ Ok x → states_of rs ≤ 50
-unfolding states_at
-states_at-Ok rs x e = leb-true (states_of rs) 50 (test-Ok (nat_le (states_of rs) 50) _ kinds.States whole x e).0
+state_count_at-Ok : (rs : List Reservoir) (x : Unit {0}) → state_count_at rs ≡ Ok x → state_count rs ≤ 50
+unfolding state_count_at
+state_count_at-Ok rs x e = leb-true (state_count rs) 50 (test-Ok (nat_le (state_count rs) 50) _ kinds.States hydro_whole x e).0
 
 -- ---- thermals
 
 thermal_at-adds : (buses : List (List ℕ)) (found next : List Thermal) (i : ℕ) (k : List ℕ) (d : Data) → thermal_at buses found i k d ≡ Ok next → Added (IsThermal (length buses)) (λ (t : Thermal). t.name ≡ k) found next
 unfolding thermal_at
 thermal_at-adds buses found next i k d e =
-    then-Ok (key_at _ _) _ next e (λ name is_name_of e.
-    then-Ok (object_at _ _) _ next e (λ all is e.
+    then-Ok (hydro_key_at _ _) _ next e (λ name is_name_of e.
+    then-Ok (hydro_object_at _ _) _ next e (λ all is e.
     then-Ok (named_at _ _ _) _ next e (λ bus is_bus e.
     then-Ok (amount_at _ _) _ next e (λ high is_high e.
     then-Ok (amount_at _ _) _ next e (λ cost is_cost e.
-    let n = key_at-Ok _ k name is_name_of in
+    let n = hydro_key_at-Ok _ k name is_name_of in
     added found next _ e (record { name = n.1; bus = named_at-Ok _ buses _ bus is_bus; high = amount_at-Ok _ _ high is_high; cost = amount_at-Ok _ _ cost is_cost }) (sym n.0))))))
 
 thermals_at-Ok : (buses : List (List ℕ)) (ms : Members) (thermals : List Thermal) → RisingMembers ms → thermals_at buses ms ≡ Ok thermals → Read (IsThermal (length buses)) (λ (t : Thermal). t.name) ms thermals
@@ -145,12 +145,12 @@ thermals_at-Ok buses ms thermals rising e =
 line_at-adds : (buses : List (List ℕ)) (found next : List Line) (i : ℕ) (k : List ℕ) (d : Data) → line_at buses found i k d ≡ Ok next → Added (IsLine (length buses)) (λ (l : Line). l.name ≡ k) found next
 unfolding line_at
 line_at-adds buses found next i k d e =
-    then-Ok (key_at _ _) _ next e (λ name is_name_of e.
-    then-Ok (object_at _ _) _ next e (λ all is e.
+    then-Ok (hydro_key_at _ _) _ next e (λ name is_name_of e.
+    then-Ok (hydro_object_at _ _) _ next e (λ all is e.
     then-Ok (named_at _ _ _) _ next e (λ source is_source e.
     then-Ok (named_at _ _ _) _ next e (λ target is_target e.
     then-Ok (amount_at _ _) _ next e (λ high is_high e.
-    let n = key_at-Ok _ k name is_name_of in
+    let n = hydro_key_at-Ok _ k name is_name_of in
     added found next _ e (record { name = n.1; source = named_at-Ok _ buses _ source is_source; target = named_at-Ok _ buses _ target is_target; high = amount_at-Ok _ _ high is_high }) (sym n.0))))))
 
 lines_at-Ok : (buses : List (List ℕ)) (ms : Members) (lines : List Line) → RisingMembers ms → lines_at buses ms ≡ Ok lines → Read (IsLine (length buses)) (λ (l : Line). l.name) ms lines
@@ -167,11 +167,11 @@ positive n h = omega arith
 inflow_at-adds : (reservoirs : List (List ℕ)) (t : ℕ) (found next : List Inflow) (i : ℕ) (d : Data) → inflow_at reservoirs t found i d ≡ Ok next → Added (IsInflow (length reservoirs)) (λ x. Unit {0}) found next
 unfolding inflow_at
 inflow_at-adds reservoirs t found next i d e =
-    then-Ok (object_at _ _) _ next e (λ all is e.
+    then-Ok (hydro_object_at _ _) _ next e (λ all is e.
     then-Ok (natural_at _ _ _ _) _ next e (λ weight is_weight e.
-    then-Ok (table_at _ _) _ next e (λ inflow is e.
-    then-Ok (entries_at _ _ _ _) _ next e (λ water is_water e.
-    added found next _ e (record { weight = positive weight (natural_at-Ok _ 1 (2 ^ 20) _ weight is_weight).0; water = entries_at-Ok _ least_inflow reservoirs inflow water is_water }) tt))))
+    then-Ok (hydro_table_at _ _) _ next e (λ inflow is e.
+    then-Ok (hydro_entries_at _ _ _ _) _ next e (λ water is_water e.
+    added found next _ e (record { weight = positive weight (natural_at-Ok _ 1 (2 ^ 20) _ weight is_weight).0; water = hydro_entries_at-Ok _ least_inflow reservoirs inflow water is_water }) tt))))
 
 inflows_at-Ok : (reservoirs : List (List ℕ)) (t : ℕ) (ds : Items) (inflows : List Inflow) → inflows_at reservoirs t ds ≡ Ok inflows → AllByRecursion (IsInflow (length reservoirs)) inflows × (length inflows ≡ items_len ds)
 unfolding inflows_at
@@ -179,30 +179,30 @@ inflows_at-Ok reservoirs t ds inflows e =
     let w = walk_items-each (IsInflow (length reservoirs)) (inflow_at reservoirs t) (λ found next i d e. inflow_at-adds reservoirs t found next i d e) ds [] inflows 0 e tt in
     (w.0, from_none (length inflows) (items_len ds) w.1)
 
-count_at-Ok : (p : Place) (count : ℕ) (x : Unit {0}) → count_at p count ≡ Ok x → (0 < count) × (count ≤ 100)
-unfolding count_at
-count_at-Ok p count x e =
+inflow_count_at-Ok : (p : HydroPlace) (count : ℕ) (x : Unit {0}) → inflow_count_at p count ≡ Ok x → (0 < count) × (count ≤ 100)
+unfolding inflow_count_at
+inflow_count_at-Ok p count x e =
     let all = (test-Ok (nat_lt 0 count && nat_le count 100) _ kinds.Limit p x e).0 in
     (ltb-true 0 count (and_first (nat_lt 0 count) (nat_le count 100) all), leb-true count 100 (and_second (nat_lt 0 count) (nat_le count 100) all))
 
-total_at-Ok : (p : Place) (inflows : List Inflow) (x : Unit {0}) → total_at p inflows ≡ Ok x → total_weight inflows ≤ 65535
+total_at-Ok : (p : HydroPlace) (inflows : List Inflow) (x : Unit {0}) → total_at p inflows ≡ Ok x → total_inflow_weight inflows ≤ 65535
 unfolding total_at
-total_at-Ok p inflows x e = leb-true (total_weight inflows) 65535 (test-Ok (nat_le (total_weight inflows) 65535) _ kinds.Limit p x e).0
+total_at-Ok p inflows x e = leb-true (total_inflow_weight inflows) 65535 (test-Ok (nat_le (total_inflow_weight inflows) 65535) _ kinds.Limit p x e).0
 
-stage_at-adds : (buses reservoirs : List (List ℕ)) (found next : List Stage) (i : ℕ) (d : Data) → stage_at buses reservoirs found i d ≡ Ok next → Added (IsStage (length buses) (length reservoirs)) (λ x. Unit {0}) found next
-unfolding stage_at
-stage_at-adds buses reservoirs found next i d e =
-    then-Ok (object_at _ _) _ next e (λ all is e.
-    then-Ok (table_at _ _) _ next e (λ demands is e.
-    then-Ok (items_at _ _) _ next e (λ items is e.
-    then-Ok (count_at _ _) _ next e (λ counted is_counted e.
-    then-Ok (entries_at _ _ _ _) _ next e (λ demand is_demand e.
+hydro_stage_at-adds : (buses reservoirs : List (List ℕ)) (found next : List Stage) (i : ℕ) (d : Data) → hydro_stage_at buses reservoirs found i d ≡ Ok next → Added (IsStage (length buses) (length reservoirs)) (λ x. Unit {0}) found next
+unfolding hydro_stage_at
+hydro_stage_at-adds buses reservoirs found next i d e =
+    then-Ok (hydro_object_at _ _) _ next e (λ all is e.
+    then-Ok (hydro_table_at _ _) _ next e (λ demands is e.
+    then-Ok (hydro_items_at _ _) _ next e (λ items is e.
+    then-Ok (inflow_count_at _ _) _ next e (λ counted is_counted e.
+    then-Ok (hydro_entries_at _ _ _ _) _ next e (λ demand is_demand e.
     then-Ok (inflows_at _ _ _) _ next e (λ inflows is_inflows e.
     then-Ok (total_at _ _) _ next e (λ total is_total e.
-    let count = count_at-Ok _ (items_len items) counted is_counted in
+    let count = inflow_count_at-Ok _ (items_len items) counted is_counted in
     let w = inflows_at-Ok reservoirs i items inflows is_inflows in
     added found next _ e (record {
-      demand = entries_at-Ok _ (pos 0) buses demands demand is_demand;
+      demand = hydro_entries_at-Ok _ (pos 0) buses demands demand is_demand;
       some_inflows = subst (λ n. 0 < n) (sym w.1) count.0;
       few_inflows = subst (λ n. n ≤ 100) (sym w.1) count.1;
       inflows = w.0;
@@ -212,18 +212,18 @@ stage_at-adds buses reservoirs found next i d e =
 stages_at-Ok : (buses reservoirs : List (List ℕ)) (ds : Items) (stages : List Stage) → stages_at buses reservoirs ds ≡ Ok stages → AllByRecursion (IsStage (length buses) (length reservoirs)) stages × (length stages ≡ items_len ds)
 unfolding stages_at
 stages_at-Ok buses reservoirs ds stages e =
-    let w = walk_items-each (IsStage (length buses) (length reservoirs)) (stage_at buses reservoirs) (λ found next i d e. stage_at-adds buses reservoirs found next i d e) ds [] stages 0 e tt in
+    let w = walk_items-each (IsStage (length buses) (length reservoirs)) (hydro_stage_at buses reservoirs) (λ found next i d e. hydro_stage_at-adds buses reservoirs found next i d e) ds [] stages 0 e tt in
     (w.0, from_none (length stages) (items_len ds) w.1)
 
 -- ---- tables
 
-record TablesFit (t : Tables) : Type 0 where
+record TablesFit (t : HydroTables) : Type 0 where
   buses : RisingMembers t.buses
   reservoirs : RisingMembers t.reservoirs
   thermals : RisingMembers t.thermals
   lines : RisingMembers t.lines
 
-record CountsFit (t : Tables) : Type 0 where
+record CountsFit (t : HydroTables) : Type 0 where
   some_buses : 0 < members_len t.buses
   few_buses : members_len t.buses ≤ 20
   few_reservoirs : members_len t.reservoirs ≤ 20
@@ -232,9 +232,9 @@ record CountsFit (t : Tables) : Type 0 where
   some_stages : 0 < items_len t.stages
   few_stages : items_len t.stages ≤ 100
 
-counts_at-Ok : (t : Tables) (x : Unit {0}) → counts_at t ≡ Ok x → CountsFit t
-unfolding counts_at
-counts_at-Ok t x e =
+hydro_counts_at-Ok : (t : HydroTables) (x : Unit {0}) → hydro_counts_at t ≡ Ok x → CountsFit t
+unfolding hydro_counts_at
+hydro_counts_at-Ok t x e =
     let b0 = nat_lt 0 (members_len t.buses) in
     let b1 = nat_le (members_len t.buses) 20 in
     let r = nat_le (members_len t.reservoirs) 20 in
@@ -242,7 +242,7 @@ counts_at-Ok t x e =
     let l = nat_le (members_len t.lines) 40 in
     let s0 = nat_lt 0 (items_len t.stages) in
     let s1 = nat_le (items_len t.stages) 100 in
-    let all = (test-Ok (b0 && b1 && r && th && l && s0 && s1) _ kinds.Limit whole x e).0 in
+    let all = (test-Ok (b0 && b1 && r && th && l && s0 && s1) _ kinds.Limit hydro_whole x e).0 in
     let six = and_first (b0 && b1 && r && th && l && s0) s1 all in
     let five = and_first (b0 && b1 && r && th && l) s0 six in
     let four = and_first (b0 && b1 && r && th) l five in
@@ -258,39 +258,39 @@ counts_at-Ok t x e =
       few_stages = leb-true (items_len t.stages) 100 (and_second (b0 && b1 && r && th && l && s0) s1 all);
     }
 
-parts_at-Ok : (d : Data) (t : Tables) → Rising d → parts_at d ≡ Ok t → TablesFit t
+parts_at-Ok : (d : Data) (t : HydroTables) → Rising d → parts_at d ≡ Ok t → TablesFit t
 unfolding parts_at
 parts_at-Ok d t rising e =
-    then-Ok (object_at _ _) _ t e (λ all is e.
-    then-Ok (table_at _ _) _ t e (λ buses is_buses e.
-    then-Ok (members_at _ _) _ t e (λ reservoirs is_reservoirs e.
-    then-Ok (members_at _ _) _ t e (λ thermals is_thermals e.
-    then-Ok (members_at _ _) _ t e (λ lines is_lines e.
-    then-Ok (items_at _ _) _ t e (λ stages is e.
+    then-Ok (hydro_object_at _ _) _ t e (λ all is e.
+    then-Ok (hydro_table_at _ _) _ t e (λ buses is_buses e.
+    then-Ok (hydro_members_at _ _) _ t e (λ reservoirs is_reservoirs e.
+    then-Ok (hydro_members_at _ _) _ t e (λ thermals is_thermals e.
+    then-Ok (hydro_members_at _ _) _ t e (λ lines is_lines e.
+    then-Ok (hydro_items_at _ _) _ t e (λ stages is e.
     subst TablesFit (Ok-is _ t e) (record {
-      buses = table_at-Rising whole (codes "buses") d buses rising is_buses;
-      reservoirs = members_at-Rising whole (codes "reservoirs") d reservoirs rising is_reservoirs;
-      thermals = members_at-Rising whole (codes "thermals") d thermals rising is_thermals;
-      lines = members_at-Rising whole (codes "lines") d lines rising is_lines;
+      buses = hydro_table_at-Rising hydro_whole (codes "buses") d buses rising is_buses;
+      reservoirs = hydro_members_at-Rising hydro_whole (codes "reservoirs") d reservoirs rising is_reservoirs;
+      thermals = hydro_members_at-Rising hydro_whole (codes "thermals") d thermals rising is_thermals;
+      lines = hydro_members_at-Rising hydro_whole (codes "lines") d lines rising is_lines;
     })))))))
 
-tables_at-Ok : (d : Data) (t : Tables) → Rising d → tables_at d ≡ Ok t → TablesFit t × CountsFit t
-unfolding tables_at
-tables_at-Ok d t rising e =
+hydro_tables_at-Ok : (d : Data) (t : HydroTables) → Rising d → hydro_tables_at d ≡ Ok t → TablesFit t × CountsFit t
+unfolding hydro_tables_at
+hydro_tables_at-Ok d t rising e =
     then-Ok (parts_at _) _ t e (λ tables is_tables e.
-    then-Ok (counts_at _) _ t e (λ counted is_counted e.
-    subst (λ t. TablesFit t × CountsFit t) (Ok-is tables t e) (parts_at-Ok d tables rising is_tables, counts_at-Ok tables counted is_counted)))
+    then-Ok (hydro_counts_at _) _ t e (λ counted is_counted e.
+    subst (λ t. TablesFit t × CountsFit t) (Ok-is tables t e) (parts_at-Ok d tables rising is_tables, hydro_counts_at-Ok tables counted is_counted)))
 
 -- ---- the whole
 
-described_at-Ok : (t : Tables) (p : Plants) → TablesFit t → CountsFit t → described_at (keys_of t.buses) (keys_of t.reservoirs) t ≡ Ok p → IsPlants p
+described_at-Ok : (t : HydroTables) (p : Plants) → TablesFit t → CountsFit t → described_at (keys_of t.buses) (keys_of t.reservoirs) t ≡ Ok p → IsPlants p
 unfolding described_at
 described_at-Ok t p fit count e =
     then-Ok (buses_at _) _ p e (λ buses is_buses e.
     then-Ok (reservoirs_at _ _ _) _ p e (λ reservoirs is_reservoirs e.
     then-Ok (thermals_at _ _) _ p e (λ thermals is_thermals e.
     then-Ok (lines_at _ _) _ p e (λ lines is_lines e.
-    then-Ok (states_at _) _ p e (λ states is_states e.
+    then-Ok (state_count_at _) _ p e (λ states is_states e.
     then-Ok (stages_at _ _ _) _ p e (λ stages is_stages e.
     let bus_names = keys_of t.buses in
     let names = keys_of t.reservoirs in
@@ -309,7 +309,7 @@ described_at-Ok t p fit count e =
       few_lines = subst (λ n. n ≤ 40) (sym l.many) count.few_lines;
       some_stages = subst (λ n. 0 < n) (sym s.1) count.some_stages;
       few_stages = subst (λ n. n ≤ 100) (sym s.1) count.few_stages;
-      few_states = states_at-Ok reservoirs states is_states;
+      few_states = state_count_at-Ok reservoirs states is_states;
       names = record { buses = b.rise; reservoirs = r.rise; thermals = th.rise; lines = l.rise };
       buses = b.each;
       reservoirs = subst (λ n. AllByRecursion (IsReservoir n (length reservoirs)) reservoirs) as_many (subst (λ n. AllByRecursion (IsReservoir (length bus_names) n) reservoirs) as_many_reservoirs r.each);
@@ -321,11 +321,11 @@ described_at-Ok t p fit count e =
 plants_of-Ok : (d : Data) (p : Plants) → Rising d → plants_of d ≡ Ok p → IsPlants p
 unfolding plants_of
 plants_of-Ok d p rising e =
-    then-Ok (tables_at _) _ p e (λ t is_t e.
-    let fit = tables_at-Ok d t rising is_t in
+    then-Ok (hydro_tables_at _) _ p e (λ t is_t e.
+    let fit = hydro_tables_at-Ok d t rising is_t in
     described_at-Ok t p fit.0 fit.1 e)
 
 -- a description that the reader accepts keeps the ranges of every description
 pub plants_at-Ok : (bytes : List ℕ) (p : Plants) → plants_at bytes ≡ Ok p → IsPlants p
 unfolding plants_at
-plants_at-Ok bytes p e = then-Ok (json_at _) _ p e (λ d is_d e. plants_of-Ok d p (json_at-Rising bytes d is_d) e)
+plants_at-Ok bytes p e = then-Ok (hydro_json_at _) _ p e (λ d is_d e. plants_of-Ok d p (hydro_json_at-Rising bytes d is_d) e)

@@ -1,5 +1,4 @@
 pub mod Walks
-pub mod Texts
 pub mod Accepted
 pub mod Rising
 pub mod Sums

@@ -1,7 +1,7 @@
 -- The ranges that every description keeps once it is read.
 use Rattle.std.specs.Prelude.{◌≡◌, ◌≤◌, ◌<◌, ℕ, ℤ, pos, true, List, length, IfSome}
 use Rattle.std.specs.List.{AllByRecursion}
-use Rattle.hp_problem.specs.Distinct.{rises, is_before}
+use Rattle.hp_parts.specs.Distinct.{rises, is_before}
 use Rattle.hp_plants.specs.declared.plants.Bus.{Bus}
 use Rattle.hp_plants.specs.declared.plants.Travel.{Travel}
 use Rattle.hp_plants.specs.declared.plants.Reservoir.{Reservoir}
@@ -10,17 +10,17 @@ use Rattle.hp_plants.specs.declared.plants.Line.{Line}
 use Rattle.hp_plants.specs.declared.plants.Inflow.{Inflow}
 use Rattle.hp_plants.specs.declared.plants.Stage.{Stage}
 use Rattle.hp_plants.specs.declared.plants.Plants.{Plants}
-use Rattle.hp_plants.specs.Fields.{Within, greatest}
-use Rattle.hp_plants.specs.Grid.{states_of}
-use Rattle.hp_plants.specs.Names.{is_name}
-use Rattle.hp_plants.specs.Stages.{least_inflow, total_weight}
+use Rattle.hp_plants.specs.Fields.{Within, greatest_number}
+use Rattle.hp_plants.specs.Grid.{state_count}
+use Rattle.hp_plants.specs.Names.{is_hydro_name}
+use Rattle.hp_plants.specs.Stages.{least_inflow, total_inflow_weight}
 
 -- an amount or a cost, 0 to 2^20
 abbrev pub IsAmount : ℤ → Type 0
-IsAmount z = Within (pos 0) greatest z
+IsAmount z = Within (pos 0) greatest_number z
 
 pub record IsBus (bus : Bus) : Type 0 where
-  pub name : is_name bus.name ≡ true
+  pub name : is_hydro_name bus.name ≡ true
   pub deficit_cost : IsAmount bus.deficit_cost
 
 -- to one of so many reservoirs, in 0 to 3 stages
@@ -30,7 +30,7 @@ pub record IsTravel (reservoirs : ℕ) (t : Travel) : Type 0 where
 
 -- at one of so many buses, and one of so many reservoirs
 pub record IsReservoir (buses reservoirs : ℕ) (r : Reservoir) : Type 0 where
-  pub name : is_name r.name ≡ true
+  pub name : is_hydro_name r.name ≡ true
   pub bus : r.bus < buses
   pub low : IsAmount r.low
   pub high : IsAmount r.high
@@ -41,13 +41,13 @@ pub record IsReservoir (buses reservoirs : ℕ) (r : Reservoir) : Type 0 where
   pub downstream : IfSome r.downstream (IsTravel reservoirs)
 
 pub record IsThermal (buses : ℕ) (t : Thermal) : Type 0 where
-  pub name : is_name t.name ≡ true
+  pub name : is_hydro_name t.name ≡ true
   pub bus : t.bus < buses
   pub high : IsAmount t.high
   pub cost : IsAmount t.cost
 
 pub record IsLine (buses : ℕ) (l : Line) : Type 0 where
-  pub name : is_name l.name ≡ true
+  pub name : is_hydro_name l.name ≡ true
   pub source : l.source < buses
   pub target : l.target < buses
   pub high : IsAmount l.high
@@ -55,7 +55,7 @@ pub record IsLine (buses : ℕ) (l : Line) : Type 0 where
 -- a number from `least` to 2^20 for each of so many
 pub record AreEntries (count : ℕ) (least : ℤ) (zs : List ℤ) : Type 0 where
   pub many : length zs ≡ count
-  pub each : AllByRecursion (Within least greatest) zs
+  pub each : AllByRecursion (Within least greatest_number) zs
 
 pub record IsInflow (reservoirs : ℕ) (f : Inflow) : Type 0 where
   pub weight : 0 < f.weight
@@ -66,7 +66,7 @@ pub record IsStage (buses reservoirs : ℕ) (s : Stage) : Type 0 where
   pub some_inflows : 0 < length s.inflows
   pub few_inflows : length s.inflows ≤ 100
   pub inflows : AllByRecursion (IsInflow reservoirs) s.inflows
-  pub weights : total_weight s.inflows ≤ 65535
+  pub weights : total_inflow_weight s.inflows ≤ 65535
 
 -- the names of each kind rise in byte order, so that all are different
 pub record NamesRise (p : Plants) : Type 0 where
@@ -83,7 +83,7 @@ pub record IsPlants (p : Plants) : Type 0 where
   pub few_lines : length p.lines ≤ 40
   pub some_stages : 0 < length p.stages
   pub few_stages : length p.stages ≤ 100
-  pub few_states : states_of p.reservoirs ≤ 50
+  pub few_states : state_count p.reservoirs ≤ 50
   pub names : NamesRise p
   pub buses : AllByRecursion IsBus p.buses
   pub reservoirs : AllByRecursion (IsReservoir (length p.buses) (length p.reservoirs)) p.reservoirs

@@ -18,22 +18,22 @@ object_of ms = object (members_of ms)
 abbrev pub array_of : List Data → Data
 array_of ds = array (items_of ds)
 
-abbrev pub natural : ℕ → Data
-natural n = number (unsigned n)
+abbrev pub natural_example : ℕ → Data
+natural_example n = number (unsigned n)
 
 abbrev pub text : List ℕ → Data
 text s = string s
 
 -- one bus
-abbrev buses : Data
-buses = object_of ((codes "b", object_of ((codes "deficit_cost", natural 200) ∷ [])) ∷ [])
+abbrev buses_example : Data
+buses_example = object_of ((codes "b", object_of ((codes "deficit_cost", natural_example 200) ∷ [])) ∷ [])
 
 -- one bus with one thermal, one stage and one inflow, and no reservoirs
-abbrev pub one_stage : Data
-one_stage = object_of (
-    (codes "buses", buses)
-    ∷ (codes "stages", array_of (object_of ((codes "demand", object_of ((codes "b", natural 9) ∷ [])) ∷ (codes "inflows", array_of (object_of ((codes "inflow", object_of []) ∷ (codes "weight", natural 1) ∷ []) ∷ [])) ∷ []) ∷ []))
-    ∷ (codes "thermals", object_of ((codes "t", object_of ((codes "bus", text (codes "b")) ∷ (codes "cost", natural 5) ∷ (codes "high", natural 20) ∷ [])) ∷ []))
+abbrev pub one_stage_example : Data
+one_stage_example = object_of (
+    (codes "buses", buses_example)
+    ∷ (codes "stages", array_of (object_of ((codes "demand", object_of ((codes "b", natural_example 9) ∷ [])) ∷ (codes "inflows", array_of (object_of ((codes "inflow", object_of []) ∷ (codes "weight", natural_example 1) ∷ []) ∷ [])) ∷ []) ∷ []))
+    ∷ (codes "thermals", object_of ((codes "t", object_of ((codes "bus", text (codes "b")) ∷ (codes "cost", natural_example 5) ∷ (codes "high", natural_example 20) ∷ [])) ∷ []))
     ∷ [])
 
 abbrev pub one_stage_plants : Plants
@@ -46,34 +46,34 @@ one_stage_plants = record {
 }
 
 -- an inflow of this weight to the reservoirs `a` and `b`
-abbrev inflow : ℕ → Data → Data → Data
-inflow weight a b = object_of ((codes "inflow", object_of ((codes "a", a) ∷ (codes "b", b) ∷ [])) ∷ (codes "weight", natural weight) ∷ [])
+abbrev inflow_example : ℕ → Data → Data → Data
+inflow_example weight a b = object_of ((codes "inflow", object_of ((codes "a", a) ∷ (codes "b", b) ∷ [])) ∷ (codes "weight", natural_example weight) ∷ [])
 
 -- reservoir `a` at a bus of this name and of this low volume, which leads to reservoir `b` in 2 stages, and two inflows, the first of this weight
-abbrev pub travel : List ℕ → ℕ → ℕ → Data
-travel bus low weight = object_of (
-    (codes "buses", buses)
+abbrev pub travel_example : List ℕ → ℕ → ℕ → Data
+travel_example bus low weight = object_of (
+    (codes "buses", buses_example)
     ∷ (
       codes "reservoirs",
       object_of ((
         codes "a",
         object_of (
-            (codes "bus", text bus) ∷ (codes "downstream", text (codes "b")) ∷ (codes "factor", natural 2) ∷ (codes "high", natural 7) ∷ (codes "initial", natural 7) ∷ (codes "low", natural low)
-            ∷ (codes "spill", natural 6) ∷ (codes "travel", natural 2) ∷ (codes "turbine", natural 5) ∷ []),
+            (codes "bus", text bus) ∷ (codes "downstream", text (codes "b")) ∷ (codes "factor", natural_example 2) ∷ (codes "high", natural_example 7) ∷ (codes "initial", natural_example 7) ∷ (codes "low", natural_example low)
+            ∷ (codes "spill", natural_example 6) ∷ (codes "travel", natural_example 2) ∷ (codes "turbine", natural_example 5) ∷ []),
       )
           ∷ (
             codes "b",
             object_of (
-                (codes "bus", text (codes "b")) ∷ (codes "factor", natural 1) ∷ (codes "high", natural 10) ∷ (codes "initial", natural 4) ∷ (codes "low", natural 0)
-                ∷ (codes "spill", natural 9) ∷ (codes "turbine", natural 8) ∷ []),
+                (codes "bus", text (codes "b")) ∷ (codes "factor", natural_example 1) ∷ (codes "high", natural_example 10) ∷ (codes "initial", natural_example 4) ∷ (codes "low", natural_example 0)
+                ∷ (codes "spill", natural_example 9) ∷ (codes "turbine", natural_example 8) ∷ []),
           )
           ∷ []),
     )
     ∷ (
       codes "stages",
       array_of (object_of (
-          (codes "demand", object_of ((codes "b", natural 9) ∷ []))
-          ∷ (codes "inflows", array_of (inflow weight (number (negative (negsuc 0))) (natural 3) ∷ inflow 1 (natural 0) (natural 2) ∷ [])) ∷ []) ∷ []),
+          (codes "demand", object_of ((codes "b", natural_example 9) ∷ []))
+          ∷ (codes "inflows", array_of (inflow_example weight (number (negative (negsuc 0))) (natural_example 3) ∷ inflow_example 1 (natural_example 0) (natural_example 2) ∷ [])) ∷ []) ∷ []),
     )
     ∷ [])
 

@@ -1,86 +1,69 @@
 -- Numbers, names, objects and arrays at a place.
-use Rattle.std.specs.Prelude.{◌≤ℤ◌, ℕ, ◌^◌, ℤ, pos, ◌&&◌, List, [], ◌∷◌, ◌++◌, Option, Some, None, Result, Ok, Err, int_le, unsigned_abs, if◌then◌else◌}
-use Rattle.std.specs.Str.{is_utf8}
-use Rattle.serde_json.specs.Data.{Num, unsigned, negative, float, Data, null, boolean, number, string, array, object, Items, Members, no_members}
+use Rattle.std.specs.Prelude.{◌≤ℤ◌, ℕ, ◌^◌, ℤ, pos, ◌&&◌, List, [], ◌∷◌, ◌++◌, Option, Result, Ok, Err, ok_or, int_le, unsigned_abs, if◌then◌else◌}
+use Rattle.serde_json.specs.Data.{Data, Items, Members}
 use Rattle.serde_json.specs.Find.{get_member}
-use Rattle.serde_json.specs.Read.{read}
+use Rattle.hp_fields.specs.Steps.{walk_list}
+use Rattle.hp_fields.specs.Values.{spelled, present_or, object_or, array_or, string_or, members_or, integer_or}
 use Rattle.hp_plants.specs.declared.refusal.HydroRefusal.{HydroRefusal}
 use Rattle.hp_plants.specs.declared.refusal.HydroKind.{HydroKind}
 use Rattle.hp_plants.specs.declared.refusal.HydroKind.TheVariants as kinds
 use Rattle.hp_plants.specs.declared.refusal.HydroPart.{HydroPart}
-use Rattle.hp_plants.specs.declared.refusal.HydroPart.TheVariants as parts
-use Rattle.hp_plants.specs.declared.place.Place.{Place}
-use Rattle.hp_plants.specs.Steps.{◌>>=◌, walk_list}
+use Rattle.hp_plants.specs.declared.refusal.HydroPart.TheVariants as part_kinds
+use Rattle.hp_plants.specs.declared.place.HydroPlace.{HydroPlace}
+use Rattle.hp_plants.specs.Steps.{◌>>=◌}
 
-abbrev pub place : HydroPart → ℕ → ℕ → Place
-place p a b = record { part = p; a = a; b = b }
+abbrev pub hydro_place : HydroPart → ℕ → ℕ → HydroPlace
+hydro_place p a b = record { part = p; a = a; b = b }
 
-abbrev pub whole : Place
-whole = place parts.Whole 0 0
+abbrev pub hydro_whole : HydroPlace
+hydro_whole = hydro_place part_kinds.Whole 0 0
 
-abbrev pub refuse : {A : Type 0} → HydroKind → Place → Result A HydroRefusal
-refuse kind at = Err (record { kind = kind; part = at.part; a = at.a; b = at.b })
+-- the refusal of this kind at a place
+abbrev pub fault_at : HydroKind → HydroPlace → HydroRefusal
+fault_at kind at = record { kind = kind; part = at.part; a = at.a; b = at.b }
 
-abbrev pub json_or : Option Data → Result Data HydroRefusal
-json_or None = refuse kinds.NotJson whole
-json_or (Some d) = Ok d
+abbrev pub hydro_refuse : {A : Type 0} → HydroKind → HydroPlace → Result A HydroRefusal
+hydro_refuse kind at = Err (fault_at kind at)
 
 -- the JSON value that the bytes spell
-unfoldable pub json_at : List ℕ → Result Data HydroRefusal
-json_at bytes = if is_utf8 bytes then json_or (read bytes) else refuse kinds.NotJson whole
+unfoldable pub hydro_json_at : List ℕ → Result Data HydroRefusal
+hydro_json_at bytes = ok_or (spelled bytes) (fault_at kinds.NotJson hydro_whole)
 
 -- ---- members that have to be there
 
-unfoldable pub present_at : {A : Type 0} → Place → Option A → Result A HydroRefusal
-present_at p None = refuse kinds.Shape p
-present_at p (Some d) = Ok d
+unfoldable pub hydro_present_at : {A : Type 0} → HydroPlace → Option A → Result A HydroRefusal
+hydro_present_at p o = present_or (fault_at kinds.Shape p) o
 
-unfoldable pub object_at : Place → Data → Result Members HydroRefusal
-object_at p null = refuse kinds.Shape p
-object_at p (boolean b) = refuse kinds.Shape p
-object_at p (number n) = refuse kinds.Shape p
-object_at p (string s) = refuse kinds.Shape p
-object_at p (array ds) = refuse kinds.Shape p
-object_at p (object ms) = Ok ms
+unfoldable pub hydro_object_at : HydroPlace → Data → Result Members HydroRefusal
+hydro_object_at p d = object_or (fault_at kinds.Shape p) d
 
-unfoldable pub array_at : Place → Data → Result Items HydroRefusal
-array_at p null = refuse kinds.Shape p
-array_at p (boolean b) = refuse kinds.Shape p
-array_at p (number n) = refuse kinds.Shape p
-array_at p (string s) = refuse kinds.Shape p
-array_at p (array ds) = Ok ds
-array_at p (object ms) = refuse kinds.Shape p
+unfoldable pub hydro_array_at : HydroPlace → Data → Result Items HydroRefusal
+hydro_array_at p d = array_or (fault_at kinds.Shape p) d
 
-unfoldable pub string_at : Place → Data → Result (List ℕ) HydroRefusal
-string_at p null = refuse kinds.Shape p
-string_at p (boolean b) = refuse kinds.Shape p
-string_at p (number n) = refuse kinds.Shape p
-string_at p (string s) = Ok s
-string_at p (array ds) = refuse kinds.Shape p
-string_at p (object ms) = refuse kinds.Shape p
+unfoldable pub hydro_string_at : HydroPlace → Data → Result (List ℕ) HydroRefusal
+hydro_string_at p d = string_or (fault_at kinds.Shape p) d
 
 -- an object's members
-unfoldable pub table_at : Place → Option Data → Result Members HydroRefusal
-table_at p o = do
-  d ← present_at p o
-  object_at p d
+unfoldable pub hydro_table_at : HydroPlace → Option Data → Result Members HydroRefusal
+hydro_table_at p o = do
+  d ← hydro_present_at p o
+  hydro_object_at p d
 
 -- an array's items
-unfoldable pub items_at : Place → Option Data → Result Items HydroRefusal
-items_at p o = do
-  d ← present_at p o
-  array_at p d
+unfoldable pub hydro_items_at : HydroPlace → Option Data → Result Items HydroRefusal
+hydro_items_at p o = do
+  d ← hydro_present_at p o
+  hydro_array_at p d
 
 -- an object's members, none where it is absent
-unfoldable pub members_at : Place → Option Data → Result Members HydroRefusal
-members_at p None = Ok no_members
-members_at p (Some d) = object_at p d
+unfoldable pub hydro_members_at : HydroPlace → Option Data → Result Members HydroRefusal
+hydro_members_at p o = members_or (fault_at kinds.Shape p) o
 
 -- ---- numbers
 
 -- the greatest number of a description
-abbrev pub greatest : ℤ
-greatest = pos (2 ^ 20)
+abbrev pub greatest_number : ℤ
+greatest_number = pos (2 ^ 20)
 
 -- from least to most
 pub record Within (least most z : ℤ) : Type 0 where
@@ -88,44 +71,36 @@ pub record Within (least most z : ℤ) : Type 0 where
   pub high : z ≤ℤ most
 
 -- from least to most, else Limit
-abbrev pub within_at : Place → ℤ → ℤ → ℤ → Result ℤ HydroRefusal
-within_at p least most z = if int_le least z && int_le z most then Ok z else refuse kinds.Limit p
-
-abbrev pub whole_at : Place → ℤ → ℤ → Num → Result ℤ HydroRefusal
-whole_at p least most (unsigned n) = within_at p least most (pos n)
-whole_at p least most (negative z) = within_at p least most z
-whole_at p least most (float x) = refuse kinds.NotWhole p
+abbrev pub within_at : HydroPlace → ℤ → ℤ → ℤ → Result ℤ HydroRefusal
+within_at p least most z = if int_le least z && int_le z most then Ok z else hydro_refuse kinds.Limit p
 
 -- a whole number from least to most
-unfoldable pub value_at : Place → ℤ → ℤ → Data → Result ℤ HydroRefusal
-value_at p least most null = refuse kinds.Shape p
-value_at p least most (boolean b) = refuse kinds.Shape p
-value_at p least most (number n) = whole_at p least most n
-value_at p least most (string s) = refuse kinds.Shape p
-value_at p least most (array ds) = refuse kinds.Shape p
-value_at p least most (object ms) = refuse kinds.Shape p
+unfoldable pub hydro_value_at : HydroPlace → ℤ → ℤ → Data → Result ℤ HydroRefusal
+hydro_value_at p least most d = do
+  z ← integer_or (fault_at kinds.Shape p) (fault_at kinds.NotWhole p) d
+  within_at p least most z
 
-unfoldable pub number_at : Place → ℤ → ℤ → Option Data → Result ℤ HydroRefusal
-number_at p least most o = do
-  d ← present_at p o
-  value_at p least most d
+unfoldable pub hydro_number_at : HydroPlace → ℤ → ℤ → Option Data → Result ℤ HydroRefusal
+hydro_number_at p least most o = do
+  d ← hydro_present_at p o
+  hydro_value_at p least most d
 
 -- an amount or a cost: a whole number from 0 to 2^20
-unfoldable pub amount_at : Place → Option Data → Result ℤ HydroRefusal
-amount_at p o = number_at p (pos 0) greatest o
+unfoldable pub amount_at : HydroPlace → Option Data → Result ℤ HydroRefusal
+amount_at p o = hydro_number_at p (pos 0) greatest_number o
 
 -- a weight or a count of stages: a whole number that is not negative
-unfoldable pub natural_at : Place → ℕ → ℕ → Option Data → Result ℕ HydroRefusal
+unfoldable pub natural_at : HydroPlace → ℕ → ℕ → Option Data → Result ℕ HydroRefusal
 natural_at p least most o = do
-  z ← number_at p (pos least) (pos most) o
+  z ← hydro_number_at p (pos least) (pos most) o
   Ok (unsigned_abs z)
 
--- one more number: the one under this name
-unfoldable pub entry_at : Place → ℤ → Members → List ℤ → List ℕ → Result (List ℤ) HydroRefusal
-entry_at p least ms found name = do
-  z ← number_at p least greatest (get_member name ms)
+-- one more number: the one under the name i
+unfoldable pub hydro_entry_at : HydroPlace → ℤ → Members → List ℤ → ℕ → List ℕ → Result (List ℤ) HydroRefusal
+hydro_entry_at p least ms found i name = do
+  z ← hydro_number_at p least greatest_number (get_member name ms)
   Ok (found ++ z ∷ [])
 
 -- a number under each name, in the order of the names
-unfoldable pub entries_at : Place → ℤ → List (List ℕ) → Members → Result (List ℤ) HydroRefusal
-entries_at p least names ms = walk_list (entry_at p least ms) [] names
+unfoldable pub hydro_entries_at : HydroPlace → ℤ → List (List ℕ) → Members → Result (List ℤ) HydroRefusal
+hydro_entries_at p least names ms = walk_list (hydro_entry_at p least ms) [] 0 names

@@ -6,30 +6,30 @@ use Rattle.std.specs.Str.{bytes_eq}
 use Rattle.serde_json.specs.Data.{Data}
 use Rattle.hp_plants.specs.declared.refusal.HydroRefusal.{HydroRefusal}
 use Rattle.hp_plants.specs.declared.refusal.HydroKind.TheVariants as kinds
-use Rattle.hp_plants.specs.declared.place.Place.{Place}
+use Rattle.hp_plants.specs.declared.place.HydroPlace.{HydroPlace}
 use Rattle.hp_plants.specs.Steps.{◌>>=◌}
-use Rattle.hp_plants.specs.Fields.{refuse, present_at, string_at}
+use Rattle.hp_plants.specs.Fields.{hydro_refuse, hydro_present_at, hydro_string_at}
 
 -- a letter or digit of ASCII, `_` (95) or `-` (45)
 abbrev pub is_name_byte : ℕ → Bool
 is_name_byte b = is_ascii_alphanumeric b || (b == 95) || (b == 45)
 
 -- 1 to 16 letters, digits, `_` or `-`
-unfoldable pub is_name : List ℕ → Bool
-is_name k = nat_lt 0 (length k) && nat_le (length k) 16 && list_all is_name_byte k
+unfoldable pub is_hydro_name : List ℕ → Bool
+is_hydro_name k = nat_lt 0 (length k) && nat_le (length k) 16 && list_all is_name_byte k
 
 -- a key of the form of names
-unfoldable pub key_at : Place → List ℕ → Result (List ℕ) HydroRefusal
-key_at p k = if is_name k then Ok k else refuse kinds.Limit p
+unfoldable pub hydro_key_at : HydroPlace → List ℕ → Result (List ℕ) HydroRefusal
+hydro_key_at p k = if is_hydro_name k then Ok k else hydro_refuse kinds.Limit p
 
 -- the number of a known name
-unfoldable pub known_at : Place → Option ℕ → Result ℕ HydroRefusal
-known_at p None = refuse kinds.UnknownName p
-known_at p (Some i) = Ok i
+unfoldable pub hydro_known_at : HydroPlace → Option ℕ → Result ℕ HydroRefusal
+hydro_known_at p None = hydro_refuse kinds.UnknownName p
+hydro_known_at p (Some i) = Ok i
 
 -- a string that is one of the names; its number
-unfoldable pub named_at : Place → List (List ℕ) → Option Data → Result ℕ HydroRefusal
+unfoldable pub named_at : HydroPlace → List (List ℕ) → Option Data → Result ℕ HydroRefusal
 named_at p names o = do
-  d ← present_at p o
-  text ← string_at p d
-  known_at p (position (bytes_eq text) names)
+  d ← hydro_present_at p o
+  text ← hydro_string_at p d
+  hydro_known_at p (position (bytes_eq text) names)

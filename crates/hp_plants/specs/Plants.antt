@@ -5,30 +5,30 @@ use Rattle.hp_fields.specs.Fields.{keys_of}
 use Rattle.hp_plants.specs.declared.refusal.HydroRefusal.{HydroRefusal}
 use Rattle.hp_plants.specs.declared.plants.Plants.{Plants}
 use Rattle.hp_plants.specs.Steps.{◌>>=◌}
-use Rattle.hp_plants.specs.Fields.{json_at}
-use Rattle.hp_plants.specs.Tables.{Tables, tables_at}
-use Rattle.hp_plants.specs.Grid.{buses_at, reservoirs_at, thermals_at, lines_at, states_at}
+use Rattle.hp_plants.specs.Fields.{hydro_json_at}
+use Rattle.hp_plants.specs.Tables.{HydroTables, hydro_tables_at}
+use Rattle.hp_plants.specs.Grid.{buses_at, reservoirs_at, thermals_at, lines_at, state_count_at}
 use Rattle.hp_plants.specs.Stages.{stages_at}
 
 -- the description that the tables hold, where buses and reservoirs are the names of all
-unfoldable pub described_at : List (List ℕ) → List (List ℕ) → Tables → Result Plants HydroRefusal
+unfoldable pub described_at : List (List ℕ) → List (List ℕ) → HydroTables → Result Plants HydroRefusal
 described_at bus_names reservoir_names tables = do
   buses ← buses_at tables.buses
   reservoirs ← reservoirs_at bus_names tables.reservoirs reservoir_names
   thermals ← thermals_at bus_names tables.thermals
   lines ← lines_at bus_names tables.lines
-  states ← states_at reservoirs
+  states ← state_count_at reservoirs
   stages ← stages_at bus_names reservoir_names tables.stages
   Ok (record { buses = buses; reservoirs = reservoirs; thermals = thermals; lines = lines; stages = stages })
 
 -- the description that a JSON value gives
 unfoldable pub plants_of : Data → Result Plants HydroRefusal
 plants_of d = do
-  tables ← tables_at d
+  tables ← hydro_tables_at d
   described_at (keys_of tables.buses) (keys_of tables.reservoirs) tables
 
 -- the description that the bytes give, or the first refusal
 unfoldable pub plants_at : List ℕ → Result Plants HydroRefusal
 plants_at bytes = do
-  d ← json_at bytes
+  d ← hydro_json_at bytes
   plants_of d

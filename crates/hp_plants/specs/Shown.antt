@@ -1,10 +1,10 @@
 -- The definitions' tables for which the code's tables of a description stand.
 use Rattle.serde_json.specs.View.{members_view, items_view}
-use Rattle.hp_plants.specs.declared.tables.Tables.{Tables}
+use Rattle.hp_plants.specs.declared.tables.HydroTables.{HydroTables}
 use Rattle.hp_plants.specs.Tables as tables
 
-abbrev pub shown : Tables → tables.Tables
-shown f = record {
+abbrev pub shown_hydro_tables : HydroTables → tables.HydroTables
+shown_hydro_tables f = record {
   buses = members_view f.buses.now.entries;
   reservoirs = members_view f.reservoirs.now.entries;
   thermals = members_view f.thermals.now.entries;

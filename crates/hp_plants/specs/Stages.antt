@@ -5,51 +5,52 @@ use Rattle.serde_json.specs.Events.{items_len}
 use Rattle.serde_json.specs.Find.{get}
 use Rattle.hp_plants.specs.declared.refusal.HydroRefusal.{HydroRefusal}
 use Rattle.hp_plants.specs.declared.refusal.HydroKind.TheVariants as kinds
-use Rattle.hp_plants.specs.declared.refusal.HydroPart.TheVariants as parts
-use Rattle.hp_plants.specs.declared.place.Place.{Place}
+use Rattle.hp_plants.specs.declared.refusal.HydroPart.TheVariants as part_kinds
+use Rattle.hp_plants.specs.declared.place.HydroPlace.{HydroPlace}
 use Rattle.hp_plants.specs.declared.plants.Inflow.{Inflow}
 use Rattle.hp_plants.specs.declared.plants.Stage.{Stage}
-use Rattle.hp_plants.specs.Steps.{◌>>=◌, walk_items}
-use Rattle.hp_plants.specs.Fields.{place, refuse, object_at, table_at, items_at, natural_at, entries_at, greatest}
+use Rattle.hp_fields.specs.Steps.{walk_items}
+use Rattle.hp_plants.specs.Steps.{◌>>=◌}
+use Rattle.hp_plants.specs.Fields.{hydro_place, hydro_refuse, hydro_object_at, hydro_table_at, hydro_items_at, natural_at, hydro_entries_at, greatest_number}
 
 -- the least inflow of water
 abbrev pub least_inflow : ℤ
-least_inflow = pos 0 -ℤ greatest
+least_inflow = pos 0 -ℤ greatest_number
 
 -- inflow k of stage t
 unfoldable pub inflow_at : List (List ℕ) → ℕ → List Inflow → ℕ → Data → Result (List Inflow) HydroRefusal
 inflow_at reservoirs t found k d = do
-  all ← object_at (place parts.Stage t (suc k)) d
-  weight ← natural_at (place parts.Stage t (suc k)) 1 (2 ^ 20) (get (codes "weight") d)
-  inflow ← table_at (place parts.Stage t (suc k)) (get (codes "inflow") d)
-  water ← entries_at (place parts.Stage t (suc k)) least_inflow reservoirs inflow
+  all ← hydro_object_at (hydro_place part_kinds.Stage t (suc k)) d
+  weight ← natural_at (hydro_place part_kinds.Stage t (suc k)) 1 (2 ^ 20) (get (codes "weight") d)
+  inflow ← hydro_table_at (hydro_place part_kinds.Stage t (suc k)) (get (codes "inflow") d)
+  water ← hydro_entries_at (hydro_place part_kinds.Stage t (suc k)) least_inflow reservoirs inflow
   Ok (found ++ record { weight = weight; water = water } ∷ [])
 
 unfoldable pub inflows_at : List (List ℕ) → ℕ → Items → Result (List Inflow) HydroRefusal
 inflows_at reservoirs t ds = walk_items (inflow_at reservoirs t) [] 0 ds
 
 -- 1 to 100 inflows
-unfoldable pub count_at : Place → ℕ → Result ⊤ HydroRefusal
-count_at p count = if nat_lt 0 count && nat_le count 100 then Ok tt else refuse kinds.Limit p
+unfoldable pub inflow_count_at : HydroPlace → ℕ → Result ⊤ HydroRefusal
+inflow_count_at p count = if nat_lt 0 count && nat_le count 100 then Ok tt else hydro_refuse kinds.Limit p
 
 -- the weights of all inflows together
-unfoldable pub total_weight : List Inflow → ℕ
-total_weight inflows = sum (map (λ (f : Inflow). f.weight) inflows)
+unfoldable pub total_inflow_weight : List Inflow → ℕ
+total_inflow_weight inflows = sum (map (λ (f : Inflow). f.weight) inflows)
 
-unfoldable pub total_at : Place → List Inflow → Result ⊤ HydroRefusal
-total_at p inflows = if nat_le (total_weight inflows) 65535 then Ok tt else refuse kinds.Limit p
+unfoldable pub total_at : HydroPlace → List Inflow → Result ⊤ HydroRefusal
+total_at p inflows = if nat_le (total_inflow_weight inflows) 65535 then Ok tt else hydro_refuse kinds.Limit p
 
 -- buses and reservoirs are the names of all
-unfoldable pub stage_at : List (List ℕ) → List (List ℕ) → List Stage → ℕ → Data → Result (List Stage) HydroRefusal
-stage_at buses reservoirs found t d = do
-  all ← object_at (place parts.Stage t 0) d
-  demands ← table_at (place parts.Stage t 0) (get (codes "demand") d)
-  items ← items_at (place parts.Stage t 0) (get (codes "inflows") d)
-  counted ← count_at (place parts.Stage t 0) (items_len items)
-  demand ← entries_at (place parts.Stage t 0) (pos 0) buses demands
+unfoldable pub hydro_stage_at : List (List ℕ) → List (List ℕ) → List Stage → ℕ → Data → Result (List Stage) HydroRefusal
+hydro_stage_at buses reservoirs found t d = do
+  all ← hydro_object_at (hydro_place part_kinds.Stage t 0) d
+  demands ← hydro_table_at (hydro_place part_kinds.Stage t 0) (get (codes "demand") d)
+  items ← hydro_items_at (hydro_place part_kinds.Stage t 0) (get (codes "inflows") d)
+  counted ← inflow_count_at (hydro_place part_kinds.Stage t 0) (items_len items)
+  demand ← hydro_entries_at (hydro_place part_kinds.Stage t 0) (pos 0) buses demands
   inflows ← inflows_at reservoirs t items
-  total ← total_at (place parts.Stage t 0) inflows
+  total ← total_at (hydro_place part_kinds.Stage t 0) inflows
   Ok (found ++ record { demand = demand; inflows = inflows } ∷ [])
 
 unfoldable pub stages_at : List (List ℕ) → List (List ℕ) → Items → Result (List Stage) HydroRefusal
-stages_at buses reservoirs ds = walk_items (stage_at buses reservoirs) [] 0 ds
+stages_at buses reservoirs ds = walk_items (hydro_stage_at buses reservoirs) [] 0 ds

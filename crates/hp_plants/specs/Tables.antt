@@ -6,9 +6,9 @@ use Rattle.serde_json.specs.Find.{get}
 use Rattle.hp_plants.specs.declared.refusal.HydroRefusal.{HydroRefusal}
 use Rattle.hp_plants.specs.declared.refusal.HydroKind.TheVariants as kinds
 use Rattle.hp_plants.specs.Steps.{◌>>=◌}
-use Rattle.hp_plants.specs.Fields.{whole, refuse, object_at, table_at, items_at, members_at}
+use Rattle.hp_plants.specs.Fields.{hydro_whole, hydro_refuse, hydro_object_at, hydro_table_at, hydro_items_at, hydro_members_at}
 
-pub record Tables : Type 0 where
+pub record HydroTables : Type 0 where
   pub buses : Members
   pub reservoirs : Members
   pub thermals : Members
@@ -16,25 +16,25 @@ pub record Tables : Type 0 where
   pub stages : Items
 
 -- 1 to 20 buses, at most 20 reservoirs, 40 thermals and 40 lines, and 1 to 100 stages
-unfoldable pub counts_at : Tables → Result ⊤ HydroRefusal
-counts_at t =
+unfoldable pub hydro_counts_at : HydroTables → Result ⊤ HydroRefusal
+hydro_counts_at t =
     if nat_lt 0 (members_len t.buses) && nat_le (members_len t.buses) 20 && nat_le (members_len t.reservoirs) 20 && nat_le (members_len t.thermals) 40 && nat_le (members_len t.lines) 40
     && nat_lt 0 (items_len t.stages) && nat_le (items_len t.stages) 100
-    then Ok tt else refuse kinds.Limit whole
+    then Ok tt else hydro_refuse kinds.Limit hydro_whole
 
 -- the tables, before their counts are looked at
-unfoldable pub parts_at : Data → Result Tables HydroRefusal
+unfoldable pub parts_at : Data → Result HydroTables HydroRefusal
 parts_at d = do
-  all ← object_at whole d
-  buses ← table_at whole (get (codes "buses") d)
-  reservoirs ← members_at whole (get (codes "reservoirs") d)
-  thermals ← members_at whole (get (codes "thermals") d)
-  lines ← members_at whole (get (codes "lines") d)
-  stages ← items_at whole (get (codes "stages") d)
+  all ← hydro_object_at hydro_whole d
+  buses ← hydro_table_at hydro_whole (get (codes "buses") d)
+  reservoirs ← hydro_members_at hydro_whole (get (codes "reservoirs") d)
+  thermals ← hydro_members_at hydro_whole (get (codes "thermals") d)
+  lines ← hydro_members_at hydro_whole (get (codes "lines") d)
+  stages ← hydro_items_at hydro_whole (get (codes "stages") d)
   Ok (record { buses = buses; reservoirs = reservoirs; thermals = thermals; lines = lines; stages = stages })
 
-unfoldable pub tables_at : Data → Result Tables HydroRefusal
-tables_at d = do
+unfoldable pub hydro_tables_at : Data → Result HydroTables HydroRefusal
+hydro_tables_at d = do
   tables ← parts_at d
-  counted ← counts_at tables
+  counted ← hydro_counts_at tables
   Ok tables

@@ -1,19 +1,19 @@
 // The buses of a description.
 ghost use Rattle.serde_json.specs.View.{view, members_view};
-ghost use Rattle.hp_plants.specs.Steps.{Gives};
+ghost use Rattle.hp_plants.specs.Steps.{HydroGives};
 ghost use Rattle.hp_plants.specs.Grid.{bus_at, buses_at};
 
-use crate::field::{amount, object};
+use crate::field::amount;
 use crate::names::key;
-use crate::place::Place;
+use crate::place::HydroPlace;
 use crate::plants::Bus;
-use crate::refusal::{HydroFault, HydroPart};
-use hp_fields::{count, few};
+use crate::refusal::{HydroFault, HydroKind, HydroPart};
+use hp_fields::{count, few, object_or};
 use hp_num::List;
 use serde_json::{Map, Value};
 use std::alloc::Global;
 
-#[tactic(auto, unfolding(crate::specs::Grid::bus_at))]
+#[tactic(auto, unfolding(crate::specs::Grid::bus_at, crate::specs::Fields::hydro_object_at))]
 fn bus(
     alloc: Global,
     found: &mut List<Bus>,
@@ -21,11 +21,11 @@ fn bus(
     name: &str,
     value: &Value,
 ) -> Result<(), HydroFault>
-    ensures { Gives (λ _. found.new) result (bus_at found.old i name.now (view value.now)) }
+    ensures { HydroGives (λ _. found.new) result (bus_at found.old i name.now (view value.now)) }
 {
-    let place = Place::new(HydroPart::Bus, i, 0);
+    let place = HydroPlace::new(HydroPart::Bus, i, 0);
     let name = key(alloc, name, place)?;
-    object(value, place)?;
+    object_or(value, HydroKind::Shape.at(place))?;
     let deficit_cost = amount(value.get("deficit_cost"), place)?;
     found.push(Bus { name, deficit_cost })?;
     Ok(())
@@ -33,7 +33,7 @@ fn bus(
 
 /// The buses, in the byte order of their names.
 pub(crate) fn buses(alloc: Global, table: &Map<String, Value>) -> Result<List<Bus>, HydroFault>
-    ensures { Gives (λ l. l) result (buses_at (members_view table.now.entries)) }
+    ensures { HydroGives (λ l. l) result (buses_at (members_view table.now.entries)) }
 {
     few(count(table))?;
     let mut found = List::new(alloc);

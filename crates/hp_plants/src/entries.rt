@@ -1,11 +1,11 @@
 // Numbers under names.
 ghost use Rattle.std.specs.Prelude.{◌<◌, [], length, slice_index_or};
 ghost use Rattle.serde_json.specs.View.{members_view};
-ghost use Rattle.hp_plants.specs.Steps.{Gives};
-ghost use Rattle.hp_plants.specs.Fields.{entry_at, entries_at};
+ghost use Rattle.hp_plants.specs.Steps.{HydroGives};
+ghost use Rattle.hp_plants.specs.Fields.{hydro_entry_at, hydro_entries_at};
 
 use crate::field::{GREATEST, number};
-use crate::place::Place;
+use crate::place::HydroPlace;
 use crate::refusal::HydroFault;
 use hp_fields::{Names, member};
 use hp_num::List;
@@ -13,18 +13,18 @@ use serde_json::{Map, Value};
 use std::alloc::Global;
 
 // The number under name i.
-#[tactic(auto, unfolding(crate::specs::Fields::entry_at))]
+#[tactic(auto, unfolding(crate::specs::Fields::hydro_entry_at))]
 fn entry(
     found: &mut List<i64>,
     least: i64,
     names: &Names,
     i: usize,
     table: &Map<String, Value>,
-    place: Place,
+    place: HydroPlace,
 ) -> Result<(), HydroFault>
     requires { i < length names.now }
-    ensures { Gives (λ _. found.new) result
-        (entry_at place least (members_view table.now.entries) found.old (slice_index_or names.now i [])) }
+    ensures { HydroGives (λ _. found.new) result
+        (hydro_entry_at place least (members_view table.now.entries) found.old i (slice_index_or names.now i [])) }
 {
     let name = names.name(i);
     let number = number(member(table, name), least, GREATEST, place)?;
@@ -38,10 +38,10 @@ pub(crate) fn entries(
     least: i64,
     names: &Names,
     table: &Map<String, Value>,
-    place: Place,
+    place: HydroPlace,
 ) -> Result<List<i64>, HydroFault>
-    ensures { Gives (λ l. l) result
-        (entries_at place least names.now (members_view table.now.entries)) }
+    ensures { HydroGives (λ l. l) result
+        (hydro_entries_at place least names.now (members_view table.now.entries)) }
 {
     let mut found = List::new(alloc);
     for i in 0..names.len() {

@@ -5,6 +5,7 @@ mod buses;
 mod entries;
 mod field;
 mod inflows;
+mod json_value;
 pub mod laws;
 pub mod line_text;
 mod lines;
@@ -16,7 +17,6 @@ pub mod refusal;
 mod reservoirs;
 mod stages;
 mod tables;
-mod text;
 mod thermals;
 pub mod worked;
 

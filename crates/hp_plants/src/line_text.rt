@@ -1,6 +1,6 @@
 // The numbers of kinds and parts, and the words that say which refusal of a description came.
 ghost use Rattle.std.specs.Prelude.{◌≡◌, ◌++◌, OnOk};
-ghost use Rattle.hp_plants.specs.Texts.{kind_number, kind_text, part_text, word, refused, refused_text, hydro_refusal_text};
+ghost use Rattle.hp_plants.specs.Texts.{kind_number, hydro_kind_text, hydro_part_text, hydro_word, hydro_refused, hydro_refused_text, hydro_refusal_text};
 
 use crate::refusal::{HydroKind, HydroPart, HydroRefusal};
 use hp_num::Memory;
@@ -21,9 +21,9 @@ pub fn kind_number(kind: HydroKind) -> u32
     }
 }
 
-#[tactic(auto, unfolding(crate::specs::Texts::kind_text))]
+#[tactic(auto, unfolding(crate::specs::Texts::hydro_kind_text))]
 fn kind_text(kind: HydroKind) -> &'static [u8]
-    ensures { result.now ≡ kind_text kind }
+    ensures { result.now ≡ hydro_kind_text kind }
 {
     match kind {
         HydroKind::NotJson => b"NotJson",
@@ -35,9 +35,9 @@ fn kind_text(kind: HydroKind) -> &'static [u8]
     }
 }
 
-#[tactic(auto, unfolding(crate::specs::Texts::part_text))]
+#[tactic(auto, unfolding(crate::specs::Texts::hydro_part_text))]
 fn part_text(part: HydroPart) -> &'static [u8]
-    ensures { result.now ≡ part_text part }
+    ensures { result.now ≡ hydro_part_text part }
 {
     match part {
         HydroPart::Whole => b"whole",
@@ -50,22 +50,22 @@ fn part_text(part: HydroPart) -> &'static [u8]
 }
 
 fn push_word(out: &mut Vec<u8>, number: u32) -> Result<(), Memory>
-    ensures { OnOk result (out.new.items ≡ out.old.items ++ word number) }
+    ensures { OnOk result (out.new.items ≡ out.old.items ++ hydro_word number) }
 {
     push_bytes(out, b" ")?;
     push_whole(out, i128::from(number))
 }
 
-#[tactic(auto, unfolding(crate::specs::Texts::refused))]
+#[tactic(auto, unfolding(crate::specs::Texts::hydro_refused))]
 fn push_refused_words(out: &mut Vec<u8>) -> Result<(), Memory>
-    ensures { OnOk result (out.new.items ≡ out.old.items ++ refused) }
+    ensures { OnOk result (out.new.items ≡ out.old.items ++ hydro_refused) }
 {
     push_bytes(out, b"hydro refused: ")
 }
 
-#[tactic(auto, unfolding(crate::specs::Texts::refused_text))]
+#[tactic(auto, unfolding(crate::specs::Texts::hydro_refused_text))]
 fn push_refused(out: &mut Vec<u8>, kind: HydroKind) -> Result<(), Memory>
-    ensures { OnOk result (out.new.items ≡ out.old.items ++ refused_text kind) }
+    ensures { OnOk result (out.new.items ≡ out.old.items ++ hydro_refused_text kind) }
 {
     push_refused_words(out)?;
     push_bytes(out, kind_text(kind))?;

@@ -3,17 +3,18 @@ ghost use Rattle.std.specs.Prelude.{IfOk};
 ghost use Rattle.serde_json.specs.View.{view};
 ghost use Rattle.hp_plants.specs.Described.{IsPlants};
 ghost use Rattle.hp_plants.specs.Plants.{described_at, plants_of, plants_at};
-ghost use Rattle.hp_plants.specs.Shown.{shown};
-ghost use Rattle.hp_plants.specs.Steps.{Gives};
+ghost use Rattle.hp_plants.specs.Shown.{shown_hydro_tables};
+ghost use Rattle.hp_plants.specs.Steps.{HydroGives};
 
 use crate::buses::buses;
+use crate::json_value::json;
 use crate::lines::lines;
+use crate::names::AllNames;
 use crate::plants::Plants;
 use crate::refusal::HydroFault;
 use crate::reservoirs::{reservoirs, states};
 use crate::stages::stages;
-use crate::tables::{Tables, tables_of};
-use crate::text::json;
+use crate::tables::{HydroTables, tables_of};
 use crate::thermals::thermals;
 use hp_fields::{Names, few, keys};
 use serde_json::{Map, Value};
@@ -26,14 +27,18 @@ fn described(
     alloc: Global,
     bus_names: &Names,
     reservoir_names: &Names,
-    tables: &Tables,
+    tables: &HydroTables,
 ) -> Result<Plants, HydroFault>
-    ensures { Gives (λ p. p) result (described_at bus_names.now reservoir_names.now (shown tables.now)) }
+    ensures { HydroGives (λ p. p) result (described_at bus_names.now reservoir_names.now (shown_hydro_tables tables.now)) }
 {
     few(bus_names.len())?;
     few(reservoir_names.len())?;
+    let names = AllNames {
+        buses: bus_names,
+        reservoirs: reservoir_names,
+    };
     let buses = buses(alloc, tables.buses)?;
-    let reservoirs = reservoirs(alloc, bus_names, tables.reservoirs, reservoir_names)?;
+    let reservoirs = reservoirs(alloc, &names, tables.reservoirs)?;
     let thermals = thermals(alloc, bus_names, tables.thermals)?;
     let lines = lines(alloc, bus_names, tables.lines)?;
     states(reservoirs.as_slice())?;
@@ -50,7 +55,7 @@ fn described(
 // Reads the description that a JSON value gives, or the first refusal.
 #[tactic(auto, unfolding(crate::specs::Plants::plants_of))]
 fn plants(alloc: Global, value: &Value) -> Result<Plants, HydroFault>
-    ensures { Gives (λ p. p) result (plants_of (view value.now)) }
+    ensures { HydroGives (λ p. p) result (plants_of (view value.now)) }
 {
     let none = Map::new(alloc);
     let tables = tables_of(value, &none)?;
@@ -62,7 +67,7 @@ fn plants(alloc: Global, value: &Value) -> Result<Plants, HydroFault>
 // Reads the description that the bytes give, or the first refusal.
 #[tactic(auto, unfolding(crate::specs::Plants::plants_at))]
 fn read(alloc: Global, bytes: &[u8]) -> Result<Plants, HydroFault>
-    ensures { Gives (λ p. p) result (plants_at bytes.now) }
+    ensures { HydroGives (λ p. p) result (plants_at bytes.now) }
 {
     let value = json(alloc, bytes)?;
     plants(alloc, &value)
@@ -70,7 +75,7 @@ fn read(alloc: Global, bytes: &[u8]) -> Result<Plants, HydroFault>
 
 /// Reads the description of plants that the bytes give. The error is the first refusal, or Memory where memory was refused.
 pub fn read_plants(alloc: Global, bytes: &[u8]) -> Result<Plants, HydroFault>
-    ensures value { Gives (λ p. p) result (plants_at bytes.now) }
+    ensures value { HydroGives (λ p. p) result (plants_at bytes.now) }
     ensures known { IfOk result IsPlants }
 {
     let plants = read(alloc, bytes)?;

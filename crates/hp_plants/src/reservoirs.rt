@@ -1,15 +1,15 @@
 // The reservoirs of a description.
 ghost use Rattle.std.specs.Prelude.{◌≡◌, ◌≤◌, ◌^◌, length, option_map};
 ghost use Rattle.serde_json.specs.View.{view, members_view};
-ghost use Rattle.hp_plants.specs.Steps.{Gives};
-ghost use Rattle.hp_plants.specs.Grid.{travel_at, levels_at, reservoir_at, reservoirs_at, travel_stages, states_at};
+ghost use Rattle.hp_plants.specs.Steps.{HydroGives};
+ghost use Rattle.hp_plants.specs.Grid.{travel_at, levels_at, read_reservoir_at, reservoirs_at, travel_stages, state_count_at};
 
-use crate::field::{amount, natural, object};
-use crate::names::{key, named};
-use crate::place::Place;
+use crate::field::{amount, natural};
+use crate::names::{AllNames, key, named};
+use crate::place::HydroPlace;
 use crate::plants::{Reservoir, Travel};
 use crate::refusal::{HydroFault, HydroKind, HydroPart, HydroRefusal};
-use hp_fields::{Names, count, few};
+use hp_fields::{Names, count, few, object_or};
 use hp_num::List;
 use serde_json::{Map, Value};
 use std::alloc::Global;
@@ -25,7 +25,7 @@ fn travel(
     reservoirs: &Names,
     value: &Value,
     downstream: Option<&Value>,
-    place: Place,
+    place: HydroPlace,
 ) -> Result<Option<Travel>, HydroRefusal>
     requires { length reservoirs.now ≤ 2 ^ 32 }
     ensures { result ≡ travel_at place reservoirs.now (view value.now)
@@ -41,7 +41,7 @@ fn travel(
 
 // Refuses a low volume above the high one, and an initial one outside both: Limit.
 #[tactic(auto, unfolding(crate::specs::Grid::levels_at))]
-fn levels(low: i64, high: i64, initial: i64, place: Place) -> Result<(), HydroRefusal>
+fn levels(low: i64, high: i64, initial: i64, place: HydroPlace) -> Result<(), HydroRefusal>
     ensures { result ≡ levels_at place low high initial }
 {
     if low <= high && low <= initial && initial <= high {
@@ -50,32 +50,31 @@ fn levels(low: i64, high: i64, initial: i64, place: Place) -> Result<(), HydroRe
     Err(HydroKind::Limit.at(place))
 }
 
-#[tactic(auto, unfolding(crate::specs::Grid::reservoir_at))]
+#[tactic(auto, unfolding(crate::specs::Grid::read_reservoir_at, crate::specs::Fields::hydro_object_at))]
 fn reservoir(
     alloc: Global,
-    buses: &Names,
-    reservoirs: &Names,
+    names: &AllNames,
     found: &mut List<Reservoir>,
     i: u32,
     name: &str,
     value: &Value,
 ) -> Result<(), HydroFault>
-    requires few_buses { length buses.now ≤ 2 ^ 32 }
-    requires few_reservoirs { length reservoirs.now ≤ 2 ^ 32 }
-    ensures { Gives (λ _. found.new) result
-        (reservoir_at buses.now reservoirs.now found.old i name.now (view value.now)) }
+    requires few_buses { length names.now.buses.now ≤ 2 ^ 32 }
+    requires few_reservoirs { length names.now.reservoirs.now ≤ 2 ^ 32 }
+    ensures { HydroGives (λ _. found.new) result
+        (read_reservoir_at names.now.buses.now names.now.reservoirs.now found.old i name.now (view value.now)) }
 {
-    let place = Place::new(HydroPart::Reservoir, i, 0);
+    let place = HydroPlace::new(HydroPart::Reservoir, i, 0);
     let name = key(alloc, name, place)?;
-    object(value, place)?;
-    let bus = named(buses, value.get("bus"), place)?;
+    object_or(value, HydroKind::Shape.at(place))?;
+    let bus = named(names.buses, value.get("bus"), place)?;
     let low = amount(value.get("low"), place)?;
     let high = amount(value.get("high"), place)?;
     let initial = amount(value.get("initial"), place)?;
     let turbine = amount(value.get("turbine"), place)?;
     let spill = amount(value.get("spill"), place)?;
     let factor = amount(value.get("factor"), place)?;
-    let downstream = travel(reservoirs, value, value.get("downstream"), place)?;
+    let downstream = travel(names.reservoirs, value, value.get("downstream"), place)?;
     levels(low, high, initial, place)?;
     found.push(Reservoir {
         name,
@@ -91,24 +90,22 @@ fn reservoir(
     Ok(())
 }
 
-/// The reservoirs, in the byte order of their names, where `buses` and `names` are the names of all buses and of
-/// all reservoirs.
+/// The reservoirs, in the byte order of their names.
 pub(crate) fn reservoirs(
     alloc: Global,
-    buses: &Names,
+    names: &AllNames,
     table: &Map<String, Value>,
-    names: &Names,
 ) -> Result<List<Reservoir>, HydroFault>
-    requires few_buses { length buses.now ≤ 2 ^ 32 }
-    requires few_reservoirs { length names.now ≤ 2 ^ 32 }
-    ensures { Gives (λ l. l) result
-        (reservoirs_at buses.now (members_view table.now.entries) names.now) }
+    requires few_buses { length names.now.buses.now ≤ 2 ^ 32 }
+    requires few_reservoirs { length names.now.reservoirs.now ≤ 2 ^ 32 }
+    ensures { HydroGives (λ l. l) result
+        (reservoirs_at names.now.buses.now (members_view table.now.entries) names.now.reservoirs.now) }
 {
     few(count(table))?;
     let mut found = List::new(alloc);
     let mut i = 0u32;
     for (name, value) in table.iter() {
-        reservoir(alloc, buses, names, &mut found, i, name.as_str(), value)?;
+        reservoir(alloc, names, &mut found, i, name.as_str(), value)?;
         i += 1;
     }
     Ok(found)
@@ -125,19 +122,19 @@ fn travel_stages(downstream: Option<Travel>) -> usize
 }
 
 /// States where the reservoirs and the sum of all travels are more than 50.
-#[tactic(auto, unfolding(crate::specs::Grid::states_at, crate::specs::Grid::states_of))]
+#[tactic(auto, unfolding(crate::specs::Grid::state_count_at, crate::specs::Grid::state_count))]
 pub(crate) fn states(reservoirs: &[Reservoir]) -> Result<(), HydroRefusal>
-    ensures { result ≡ states_at reservoirs.now }
+    ensures { result ≡ state_count_at reservoirs.now }
 {
-    let too_many = HydroKind::States.at(Place::WHOLE);
+    let too_many = HydroKind::States.at(HydroPlace::WHOLE);
     let Some(mut left) = MOST_STATES.checked_sub(reservoirs.len()) else {
         return Err(too_many);
     };
     for reservoir in reservoirs {
-        let Some(rest) = left.checked_sub(travel_stages(reservoir.downstream)) else {
+        let Some(tail) = left.checked_sub(travel_stages(reservoir.downstream)) else {
             return Err(too_many);
         };
-        left = rest;
+        left = tail;
     }
     Ok(())
 }

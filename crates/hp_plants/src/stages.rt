@@ -1,16 +1,16 @@
 // The stages of a description.
 ghost use Rattle.std.specs.Prelude.{◌≡◌, ◌≤◌, OnOk};
 ghost use Rattle.serde_json.specs.View.{view, items_view};
-ghost use Rattle.hp_plants.specs.Steps.{Gives};
-ghost use Rattle.hp_plants.specs.Stages.{count_at, stage_at, stages_at};
+ghost use Rattle.hp_plants.specs.Steps.{HydroGives};
+ghost use Rattle.hp_plants.specs.Stages.{inflow_count_at, hydro_stage_at, stages_at};
 
 use crate::entries::entries;
-use crate::field::{items, object, table};
+use crate::field::{items, table};
 use crate::inflows::{inflows, total};
-use crate::place::Place;
+use crate::place::HydroPlace;
 use crate::plants::Stage;
 use crate::refusal::{HydroFault, HydroKind, HydroPart, HydroRefusal};
-use hp_fields::{Names, few};
+use hp_fields::{Names, few, object_or};
 use hp_num::List;
 use serde_json::Value;
 use std::alloc::Global;
@@ -19,9 +19,9 @@ use std::alloc::Global;
 const MOST_INFLOWS: usize = 100;
 
 // Refuses no inflow, and more than 100: Limit.
-#[tactic(auto, unfolding(crate::specs::Stages::count_at))]
-fn counted(count: usize, place: Place) -> Result<(), HydroRefusal>
-    ensures value { result ≡ count_at place count }
+#[tactic(auto, unfolding(crate::specs::Stages::inflow_count_at))]
+fn counted(count: usize, place: HydroPlace) -> Result<(), HydroRefusal>
+    ensures value { result ≡ inflow_count_at place count }
     ensures few { OnOk result (count ≤ 100) }
 {
     if 0 < count && count <= MOST_INFLOWS {
@@ -30,7 +30,7 @@ fn counted(count: usize, place: Place) -> Result<(), HydroRefusal>
     Err(HydroKind::Limit.at(place))
 }
 
-#[tactic(auto, unfolding(crate::specs::Stages::stage_at), using(hp_fields::proofs::InOrder::counts))]
+#[tactic(auto, unfolding(crate::specs::Stages::hydro_stage_at, crate::specs::Fields::hydro_object_at), using(hp_fields::proofs::InOrder::counts))]
 fn stage(
     alloc: Global,
     buses: &Names,
@@ -39,11 +39,11 @@ fn stage(
     t: u32,
     value: &Value,
 ) -> Result<(), HydroFault>
-    ensures { Gives (λ _. found.new) result
-        (stage_at buses.now reservoirs.now found.old t (view value.now)) }
+    ensures { HydroGives (λ _. found.new) result
+        (hydro_stage_at buses.now reservoirs.now found.old t (view value.now)) }
 {
-    let place = Place::new(HydroPart::Stage, t, 0);
-    object(value, place)?;
+    let place = HydroPlace::new(HydroPart::Stage, t, 0);
+    object_or(value, HydroKind::Shape.at(place))?;
     let demands = table(value.get("demand"), place)?;
     let items = items(value.get("inflows"), place)?;
     counted(items.len(), place)?;
@@ -61,7 +61,7 @@ pub(crate) fn stages(
     reservoirs: &Names,
     items: &[Value],
 ) -> Result<List<Stage>, HydroFault>
-    ensures { Gives (λ l. l) result
+    ensures { HydroGives (λ l. l) result
         (stages_at buses.now reservoirs.now (items_view items.now)) }
 {
     few(items.len())?;

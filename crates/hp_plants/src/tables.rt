@@ -1,14 +1,14 @@
 // The tables of a description.
 ghost use Rattle.std.specs.Prelude.{◌≡◌, []};
 ghost use Rattle.serde_json.specs.View.{view};
-ghost use Rattle.hp_plants.specs.Steps.{Shows};
-ghost use Rattle.hp_plants.specs.Tables.{counts_at, parts_at, tables_at};
-ghost use Rattle.hp_plants.specs.Shown.{shown};
+ghost use Rattle.hp_fields.specs.Steps.{Shows};
+ghost use Rattle.hp_plants.specs.Tables.{hydro_counts_at, parts_at, hydro_tables_at};
+ghost use Rattle.hp_plants.specs.Shown.{shown_hydro_tables};
 
-use crate::field::{items, members, object, table};
-use crate::place::Place;
+use crate::field::{items, table};
+use crate::place::HydroPlace;
 use crate::refusal::{HydroKind, HydroRefusal};
-use hp_fields::count;
+use hp_fields::{count, members_or, object_or};
 use serde_json::{Map, Value};
 
 const MOST_BUSES: usize = 20;
@@ -23,7 +23,7 @@ const MOST_STAGES: usize = 100;
 
 /// The tables and the list of stages in a description.
 #[derive(Clone, Copy)]
-pub(crate) struct Tables<'v> {
+pub(crate) struct HydroTables<'v> {
     pub(crate) buses: &'v Map<String, Value>,
     pub(crate) reservoirs: &'v Map<String, Value>,
     pub(crate) thermals: &'v Map<String, Value>,
@@ -32,9 +32,9 @@ pub(crate) struct Tables<'v> {
 }
 
 // Refuses a count outside its range: Limit.
-#[tactic(auto, unfolding(crate::specs::Tables::counts_at), using(hp_fields::proofs::InOrder::counts))]
-fn counts(tables: &Tables) -> Result<(), HydroRefusal>
-    ensures { result ≡ counts_at (shown tables.now) }
+#[tactic(auto, unfolding(crate::specs::Tables::hydro_counts_at), using(hp_fields::proofs::InOrder::counts))]
+fn counts(tables: &HydroTables) -> Result<(), HydroRefusal>
+    ensures { result ≡ hydro_counts_at (shown_hydro_tables tables.now) }
 {
     if 0 < count(tables.buses)
         && count(tables.buses) <= MOST_BUSES
@@ -46,22 +46,26 @@ fn counts(tables: &Tables) -> Result<(), HydroRefusal>
     {
         return Ok(());
     }
-    Err(HydroKind::Limit.at(Place::WHOLE))
+    Err(HydroKind::Limit.at(HydroPlace::WHOLE))
 }
 
 // The tables, where `none` has no members.
-#[tactic(auto, unfolding(crate::specs::Tables::parts_at))]
-fn parts<'v>(value: &'v Value, none: &'v Map<String, Value>) -> Result<Tables<'v>, HydroRefusal>
+#[tactic(auto, unfolding(crate::specs::Tables::parts_at, crate::specs::Fields::hydro_object_at, crate::specs::Fields::hydro_members_at))]
+fn parts<'v>(
+    value: &'v Value,
+    none: &'v Map<String, Value>,
+) -> Result<HydroTables<'v>, HydroRefusal>
     requires { none.now.entries ≡ [] }
-    ensures { Shows shown result (parts_at (view value.now)) }
+    ensures { Shows shown_hydro_tables result (parts_at (view value.now)) }
 {
-    object(value, Place::WHOLE)?;
-    let buses = table(value.get("buses"), Place::WHOLE)?;
-    let reservoirs = members(value.get("reservoirs"), none, Place::WHOLE)?;
-    let thermals = members(value.get("thermals"), none, Place::WHOLE)?;
-    let lines = members(value.get("lines"), none, Place::WHOLE)?;
-    let stages = items(value.get("stages"), Place::WHOLE)?;
-    Ok(Tables {
+    let shape = HydroKind::Shape.at(HydroPlace::WHOLE);
+    object_or(value, shape)?;
+    let buses = table(value.get("buses"), HydroPlace::WHOLE)?;
+    let reservoirs = members_or(value.get("reservoirs"), none, shape)?;
+    let thermals = members_or(value.get("thermals"), none, shape)?;
+    let lines = members_or(value.get("lines"), none, shape)?;
+    let stages = items(value.get("stages"), HydroPlace::WHOLE)?;
+    Ok(HydroTables {
         buses,
         reservoirs,
         thermals,
@@ -72,13 +76,13 @@ fn parts<'v>(value: &'v Value, none: &'v Map<String, Value>) -> Result<Tables<'v
 
 /// The tables of a description, where `none` has no members: Shape where one is absent that has to be there, or
 /// of the wrong type, and Limit where a count is outside its range.
-#[tactic(auto, unfolding(crate::specs::Tables::tables_at))]
+#[tactic(auto, unfolding(crate::specs::Tables::hydro_tables_at))]
 pub(crate) fn tables_of<'v>(
     value: &'v Value,
     none: &'v Map<String, Value>,
-) -> Result<Tables<'v>, HydroRefusal>
+) -> Result<HydroTables<'v>, HydroRefusal>
     requires { none.now.entries ≡ [] }
-    ensures { Shows shown result (tables_at (view value.now)) }
+    ensures { Shows shown_hydro_tables result (hydro_tables_at (view value.now)) }
 {
     let tables = parts(value, none)?;
     counts(&tables)?;

@@ -1,20 +1,20 @@
 // The thermal plants of a description.
 ghost use Rattle.std.specs.Prelude.{◌≤◌, ◌^◌, length};
 ghost use Rattle.serde_json.specs.View.{view, members_view};
-ghost use Rattle.hp_plants.specs.Steps.{Gives};
+ghost use Rattle.hp_plants.specs.Steps.{HydroGives};
 ghost use Rattle.hp_plants.specs.Grid.{thermal_at, thermals_at};
 
-use crate::field::{amount, object};
+use crate::field::amount;
 use crate::names::{key, named};
-use crate::place::Place;
+use crate::place::HydroPlace;
 use crate::plants::Thermal;
-use crate::refusal::{HydroFault, HydroPart};
-use hp_fields::{Names, count, few};
+use crate::refusal::{HydroFault, HydroKind, HydroPart};
+use hp_fields::{Names, count, few, object_or};
 use hp_num::List;
 use serde_json::{Map, Value};
 use std::alloc::Global;
 
-#[tactic(auto, unfolding(crate::specs::Grid::thermal_at))]
+#[tactic(auto, unfolding(crate::specs::Grid::thermal_at, crate::specs::Fields::hydro_object_at))]
 fn thermal(
     alloc: Global,
     buses: &Names,
@@ -24,12 +24,12 @@ fn thermal(
     value: &Value,
 ) -> Result<(), HydroFault>
     requires { length buses.now ≤ 2 ^ 32 }
-    ensures { Gives (λ _. found.new) result
+    ensures { HydroGives (λ _. found.new) result
         (thermal_at buses.now found.old i name.now (view value.now)) }
 {
-    let place = Place::new(HydroPart::Thermal, i, 0);
+    let place = HydroPlace::new(HydroPart::Thermal, i, 0);
     let name = key(alloc, name, place)?;
-    object(value, place)?;
+    object_or(value, HydroKind::Shape.at(place))?;
     let bus = named(buses, value.get("bus"), place)?;
     let high = amount(value.get("high"), place)?;
     let cost = amount(value.get("cost"), place)?;
@@ -49,7 +49,7 @@ pub(crate) fn thermals(
     table: &Map<String, Value>,
 ) -> Result<List<Thermal>, HydroFault>
     requires { length buses.now ≤ 2 ^ 32 }
-    ensures { Gives (λ l. l) result (thermals_at buses.now (members_view table.now.entries)) }
+    ensures { HydroGives (λ l. l) result (thermals_at buses.now (members_view table.now.entries)) }
 {
     few(count(table))?;
     let mut found = List::new(alloc);

@@ -4,30 +4,30 @@ use Rattle.std.proofs.lemmas.Bool.Decides.{nat_tests}
 use Rattle.std.proofs.lemmas.Grind.{common_steps}
 use Rattle.std.proofs.lemmas.List.{length-map}
 use Rattle.hp_num.proofs.Tests.{and_first, and_second, all_get}
-use Rattle.hp_paths.specs.Paths.{links_at, numbers}
+use Rattle.hp_paths.specs.Paths.{arcs_from, numbers}
 use Rattle.hp_paths.specs.Ranks.{greatest, longest_from, longest_within, rank, ranks}
-use Rattle.hp_problem.specs.declared.raw.Raw.{Raw}
-use Rattle.hp_problem.specs.declared.raw.Node.{Node}
-use Rattle.hp_problem.specs.declared.raw.Subproblem.{Subproblem}
-use Rattle.hp_problem.specs.Distinct.{rises}
+use Rattle.hp_parts.specs.declared.parts.ProblemParts.{ProblemParts}
+use Rattle.hp_parts.specs.declared.parts.Node.{Node}
+use Rattle.hp_parts.specs.declared.parts.Subproblem.{Subproblem}
+use Rattle.hp_parts.specs.Distinct.{rises}
 use Rattle.hp_problem.specs.Formulas.{row_count, decision_count}
-use Rattle.hp_problem.specs.Limits.{raw_fits, node_fits, values_fit, realizations_fit, subproblem_fits, is_name, links_fit, successors_fit}
-use Rattle.hp_problem.specs.Parts.{graph_of, own_subproblem}
-use Rattle.hp_problem.specs.Sealed.{Sealed, is_sealed, graph_fits}
-use Rattle.hp_problem.proofs.SubproblemFacts.{counts-subproblem_fits, few-counts_fit}
-use Rattle.hp_problem.proofs.SealedFacts.{raw-is_sealed, graph-is_sealed, nodes_fit, subproblems_fit, few_nodes}
+use Rattle.hp_parts.specs.Limits.{parts_are_lawful, node_fits, values_fit, realizations_fit, subproblem_fits, is_name, successors_in_order_fit, successors_fit}
+use Rattle.hp_parts.specs.Parts.{graph_of, own_subproblem}
+use Rattle.hp_problem.specs.Validated.{Validated, is_validated, graph_fits}
+use Rattle.hp_parts.proofs.SubproblemFacts.{counts-subproblem_fits, few-counts_fit}
+use Rattle.hp_problem.proofs.ValidatedFacts.{parts-is_validated, graph-is_validated, nodes_fit, subproblems_fit, few_nodes}
 
 greatest_at_most : {A : Type 0} (f : A → ℕ) (bound : ℕ) → ((x : A) → f x ≤ bound) → (xs : List A) → greatest (map f xs) ≤ bound
 greatest_at_most f bound each [] = omega arith
 greatest_at_most f bound each (x ∷ xs) =
     let here = each x in
-    let rest = greatest_at_most f bound each xs in
+    let tail = greatest_at_most f bound each xs in
     omega arith
 
 -- a path of at most n steps has at most n steps
 within_steps : (g : List (List ℕ)) (n m : ℕ) → longest_within g n m ≤ n
 within_steps g zero m = omega arith
-within_steps g (suc n) m = greatest_at_most (λ k. suc (longest_within g n k)) (suc n) (λ k. let h = within_steps g n k in omega arith) (links_at g m)
+within_steps g (suc n) m = greatest_at_most (λ k. suc (longest_within g n k)) (suc n) (λ k. let h = within_steps g n k in omega arith) (arcs_from g m)
 
 rank_at_most : (g : List (List ℕ)) (m : ℕ) → rank g m ≤ length g
 unfolding rank
@@ -43,43 +43,43 @@ longest_from_at_most g starts =
     greatest_at_most (λ m. suc (get_or (ranks g) m 0)) (suc (length g)) (λ m. let h = entry_at_most (rank g) (length g) (rank_at_most g) (numbers (length g)) m in omega arith) starts
 
 -- the longest path of a problem has at most one node more than there are
-pub longest_at_most : (p : Sealed) → is_sealed p ≡ true → p.longest ≤ 1001
+pub longest_at_most : (p : Validated) → is_validated p ≡ true → p.longest ≤ 1001
 unfolding graph_fits
 longest_at_most p e =
-    let graph : graph_fits p.raw p.order p.longest ≡ true = graph-is_sealed p e in
-    let is : p.longest ≡ longest_from (ranks (graph_of p.raw)) p.raw.root = grind (arith, nat_tests, common_steps, graph) in
-    let most = longest_from_at_most (graph_of p.raw) p.raw.root in
-    let count : length (graph_of p.raw) ≡ length p.raw.nodes = simp length-map in
-    let nodes : length p.raw.nodes ≤ 1000 = few_nodes p.raw (raw-is_sealed p e) in
+    let graph : graph_fits p.parts p.order p.longest ≡ true = graph-is_validated p e in
+    let is : p.longest ≡ longest_from (ranks (graph_of p.parts)) p.parts.root = grind (arith, nat_tests, common_steps, graph) in
+    let most = longest_from_at_most (graph_of p.parts) p.parts.root in
+    let count : length (graph_of p.parts) ≡ length p.parts.nodes = simp length-map in
+    let nodes : length p.parts.nodes ≤ 1000 = few_nodes p.parts (parts-is_validated p e) in
     omega arith
 
-node_fits_at : (raw : Raw) (m : ℕ) (n : Node) → raw_fits raw ≡ true → slice_get raw.nodes m ≡ Some n → node_fits raw n ≡ true
-node_fits_at raw m n e is = all_get (node_fits raw) raw.nodes m n (nodes_fit raw e) is
+node_fits_at : (parts : ProblemParts) (m : ℕ) (n : Node) → parts_are_lawful parts ≡ true → slice_get parts.nodes m ≡ Some n → node_fits parts n ≡ true
+node_fits_at parts m n e is = all_get (node_fits parts) parts.nodes m n (nodes_fit parts e) is
 
 -- the stop weight and the successors' weights of a node together
-pub successors_at_most : (p : Sealed) (m : ℕ) (n : Node) → is_sealed p ≡ true → slice_get p.raw.nodes m ≡ Some n → sum n.link_weights + n.stop ≤ 65535
+pub successors_at_most : (p : Validated) (m : ℕ) (n : Node) → is_validated p ≡ true → slice_get p.parts.nodes m ≡ Some n → sum n.successor_weights + n.stop ≤ 65535
 successors_at_most p m n e is =
-    let fits : node_fits p.raw n ≡ true = node_fits_at p.raw m n (raw-is_sealed p e) is in
+    let fits : node_fits p.parts n ≡ true = node_fits_at p.parts m n (parts-is_validated p e) is in
     grind (arith, nat_tests, common_steps, fits)
 
-few_parts : (raw : Raw) (k : ℕ) (o : Option Subproblem) → raw_fits raw ≡ true → slice_get raw.subs k ≡ o → (row_count o ≤ 200) × (decision_count o ≤ 200)
-few_parts raw k None e is = (omega arith, omega arith)
-few_parts raw k (Some s) e is = few-counts_fit (length raw.states) s (counts-subproblem_fits (length raw.states) s (all_get (subproblem_fits (length raw.states)) raw.subs k s (subproblems_fit raw e) is))
+few_parts : (parts : ProblemParts) (k : ℕ) (o : Option Subproblem) → parts_are_lawful parts ≡ true → slice_get parts.subs k ≡ o → (row_count o ≤ 200) × (decision_count o ≤ 200)
+few_parts parts k None e is = (omega arith, omega arith)
+few_parts parts k (Some s) e is = few-counts_fit (length parts.states) s (counts-subproblem_fits (length parts.states) s (all_get (subproblem_fits (length parts.states)) parts.subs k s (subproblems_fit parts e) is))
 
 -- at most 200 rows
-pub few_rows : (raw : Raw) (n : Node) → raw_fits raw ≡ true → row_count (own_subproblem raw n) ≤ 200
-few_rows raw n e = (few_parts raw n.sub (slice_get raw.subs n.sub) e refl).0
+pub few_rows : (parts : ProblemParts) (n : Node) → parts_are_lawful parts ≡ true → row_count (own_subproblem parts n) ≤ 200
+few_rows parts n e = (few_parts parts n.sub (slice_get parts.subs n.sub) e refl).0
 
 -- at most 200 decisions
-pub few_decisions : (raw : Raw) (n : Node) → raw_fits raw ≡ true → decision_count (own_subproblem raw n) ≤ 200
-few_decisions raw n e = (few_parts raw n.sub (slice_get raw.subs n.sub) e refl).1
+pub few_decisions : (parts : ProblemParts) (n : Node) → parts_are_lawful parts ≡ true → decision_count (own_subproblem parts n) ≤ 200
+few_decisions parts n e = (few_parts parts n.sub (slice_get parts.subs n.sub) e refl).1
 
 -- at most as many successors as there are nodes
-pub few_links : (raw : Raw) (n : Node) → raw_fits raw ≡ true → node_fits raw n ≡ true → length n.links ≤ 1000
-few_links raw n e fits =
-    let links : successors_fit (length raw.nodes) n ≡ true = and_second (rises nat_lt n.links) (successors_fit (length raw.nodes) n) (and_second _ (links_fit (length raw.nodes) n) fits) in
-    let few = few_nodes raw e in
-    let most : length n.links ≤ length raw.nodes = grind (arith, nat_tests, links) in
+pub few_successors : (parts : ProblemParts) (n : Node) → parts_are_lawful parts ≡ true → node_fits parts n ≡ true → length n.successors ≤ 1000
+few_successors parts n e fits =
+    let successors : successors_fit (length parts.nodes) n ≡ true = and_second (rises nat_lt n.successors) (successors_fit (length parts.nodes) n) (and_second _ (successors_in_order_fit (length parts.nodes) n) fits) in
+    let few = few_nodes parts e in
+    let most : length n.successors ≤ length parts.nodes = grind (arith, nat_tests, successors) in
     omega (arith, few, most)
 
 few-values_fit : (o : Option Subproblem) (n : Node) → values_fit o n ≡ true → length n.weights ≤ 100
@@ -90,5 +90,5 @@ few-values_fit None n e = absurd (no e)
 few-values_fit (Some s) n e = let fits : realizations_fit (length s.randoms) n ≡ true = e in grind (arith, nat_tests, common_steps, fits)
 
 -- at most 100 realizations
-pub few_realizations : (raw : Raw) (n : Node) → node_fits raw n ≡ true → length n.weights ≤ 100
-few_realizations raw n fits = few-values_fit (own_subproblem raw n) n (and_second (is_name n.name) (values_fit (own_subproblem raw n) n) (and_first _ (links_fit (length raw.nodes) n) fits))
+pub few_realizations : (parts : ProblemParts) (n : Node) → node_fits parts n ≡ true → length n.weights ≤ 100
+few_realizations parts n fits = few-values_fit (own_subproblem parts n) n (and_second (is_name n.name) (values_fit (own_subproblem parts n) n) (and_first _ (successors_in_order_fit (length parts.nodes) n) fits))

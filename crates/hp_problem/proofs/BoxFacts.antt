@@ -1,7 +1,7 @@
 -- The comparison of the sides of boxes, and of the states that leave a node.
 use Rattle.std.proofs.Common.{◌≡◌, ℤ, ◌&&◌, List, [], ◌∷◌, int_le, refl, ap}
 use Rattle.std.specs.List.{list_all, zip}
-use Rattle.hp_problem.specs.Sealed.{at_most}
+use Rattle.hp_problem.specs.Validated.{at_most}
 
 -- as pairs that rise
 pub at_most_zip : (xs ys : List ℤ) → at_most xs ys ≡ list_all (λ (p : ℤ × ℤ). int_le p.0 p.1) (zip xs ys)

@@ -1,5 +1,4 @@
-pub mod SealedFacts
+pub mod ValidatedFacts
 pub mod BoxFacts
 pub mod Ranked
 pub mod Bounds
-pub mod SubproblemFacts

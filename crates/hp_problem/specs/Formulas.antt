@@ -2,12 +2,12 @@
 use Rattle.std.specs.Prelude.{ℕ, ◌+◌, ◌*◌, ◌^◌, List, [], ◌∷◌, length, map, Option, Some, None, sum, if◌then◌else◌, nat_lt}
 use Rattle.std.specs.List.{sum_by}
 use Rattle.hp_paths.specs.Ranks.{greatest}
-use Rattle.hp_problem.specs.declared.raw.Node.{Node}
-use Rattle.hp_problem.specs.declared.raw.Subproblem.{Subproblem}
-use Rattle.hp_problem.specs.declared.raw.Raw.{Raw}
+use Rattle.hp_parts.specs.declared.parts.Node.{Node}
+use Rattle.hp_parts.specs.declared.parts.Subproblem.{Subproblem}
+use Rattle.hp_parts.specs.declared.parts.ProblemParts.{ProblemParts}
 use Rattle.hp_problem.specs.declared.formulas.TooMuch.{TooMuch}
-use Rattle.hp_problem.specs.Parts.{own_subproblem}
-use Rattle.hp_problem.specs.Sealed.{Sealed}
+use Rattle.hp_parts.specs.Parts.{own_subproblem}
+use Rattle.hp_problem.specs.Validated.{Validated}
 
 -- the sum of the weights, and 1 without any
 abbrev pub total_weight : List ℕ → ℕ
@@ -29,27 +29,27 @@ decision_count None = 0
 decision_count (Some s) = length s.decisions
 
 -- formula 1: the numbers of all cuts of one path, with `cuts` cuts at each node
-abbrev pub cut_numbers : Sealed → ℕ → ℕ
-cut_numbers p cuts = cuts * p.longest * (length p.raw.states + 1)
+abbrev pub cut_numbers : Validated → ℕ → ℕ
+cut_numbers p cuts = cuts * p.longest * (length p.parts.states + 1)
 
 -- formula 2: the numbers of a node's dictionary
-abbrev pub dictionary : Raw → ℕ → Node → ℕ
-dictionary raw cuts n =
-    (row_count (own_subproblem raw n) + (cuts + 1) * length n.links) * (decision_count (own_subproblem raw n) + length n.links)
+abbrev pub dictionary : ProblemParts → ℕ → Node → ℕ
+dictionary parts cuts n =
+    (row_count (own_subproblem parts n) + (cuts + 1) * length n.successors) * (decision_count (own_subproblem parts n) + length n.successors)
 
 -- formula 3: the bytes of a node's step in a record
-abbrev pub step_bytes : Raw → ℕ → Node → ℕ
-step_bytes raw cuts n = 2 + length n.weights * (8 * row_count (own_subproblem raw n) + length n.links * (4 + 12 * (cuts + 1)))
+abbrev pub step_bytes : ProblemParts → ℕ → Node → ℕ
+step_bytes parts cuts n = 2 + length n.weights * (8 * row_count (own_subproblem parts n) + length n.successors * (4 + 12 * (cuts + 1)))
 
-abbrev pub record_bytes : Raw → ℕ → ℕ → ℕ
-record_bytes raw cuts batch = batch * (10 + sum_by (step_bytes raw cuts) raw.nodes)
+abbrev pub record_bytes : ProblemParts → ℕ → ℕ → ℕ
+record_bytes parts cuts batch = batch * (10 + sum_by (step_bytes parts cuts) parts.nodes)
 
 -- formula 4: the numbers of a step of a trace
 abbrev pub step_numbers : ℕ → Subproblem → ℕ
 step_numbers states s = length s.decisions + length s.rows + length s.randoms + states + 4
 
-abbrev pub trace_numbers : Sealed → ℕ → ℕ
-trace_numbers p count = count * p.longest * greatest (map (step_numbers (length p.raw.states)) p.raw.subs)
+abbrev pub trace_numbers : Validated → ℕ → ℕ
+trace_numbers p count = count * p.longest * greatest (map (step_numbers (length p.parts.states)) p.parts.subs)
 
 -- the formula with this number and value, where the value is above the limit
 abbrev pub above : ℕ → ℕ → ℕ → Option TooMuch
@@ -61,16 +61,16 @@ or_then (Some t) u = Some t
 or_then None u = u
 
 -- the first node whose dictionary is too large
-abbrev pub first_dictionary : Raw → ℕ → List Node → Option TooMuch
-first_dictionary raw cuts [] = None
-first_dictionary raw cuts (n ∷ ns) = or_then (above 2 (2 ^ 22) (dictionary raw cuts n)) (first_dictionary raw cuts ns)
+abbrev pub first_dictionary : ProblemParts → ℕ → List Node → Option TooMuch
+first_dictionary parts cuts [] = None
+first_dictionary parts cuts (n ∷ ns) = or_then (above 2 (2 ^ 22) (dictionary parts cuts n)) (first_dictionary parts cuts ns)
 
 -- the first of formulas 1 to 3 that is above its limit, after k iterations of `batch` paths each
-unfoldable pub too_much : Sealed → ℕ → ℕ → Option TooMuch
+unfoldable pub too_much : Validated → ℕ → ℕ → Option TooMuch
 too_much p k batch =
     or_then (above 1 (2 ^ 24) (cut_numbers p (k * batch)))
-    (or_then (first_dictionary p.raw (k * batch) p.raw.nodes) (above 3 (2 ^ 26) (record_bytes p.raw (k * batch) batch)))
+    (or_then (first_dictionary p.parts (k * batch) p.parts.nodes) (above 3 (2 ^ 26) (record_bytes p.parts (k * batch) batch)))
 
 -- formula 4, where it is above its limit
-unfoldable pub too_wide : Sealed → ℕ → Option TooMuch
+unfoldable pub too_wide : Validated → ℕ → Option TooMuch
 too_wide p count = above 4 (2 ^ 22) (trace_numbers p count)

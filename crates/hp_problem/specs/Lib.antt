@@ -1,5 +1,2 @@
-pub mod Sealed
-pub mod Limits
+pub mod Validated
 pub mod Formulas
-pub mod Distinct
-pub mod Parts

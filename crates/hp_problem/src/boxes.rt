@@ -2,13 +2,13 @@
 ghost use Rattle.std.specs.Prelude.{◌≡◌, ◌&&◌, ◌==◌, ◌<◌, [], true, length, map, get_or, int_le, IfOk};
 ghost use Rattle.std.specs.List.{list_all, zip};
 ghost use Rattle.hp_num.specs.Sums.{entry};
-ghost use Rattle.hp_problem.specs.Limits.{are_numbers};
-ghost use Rattle.hp_problem.specs.Sealed.{are_given, at_most, bounds_stand, boxes_fit, given_highs, given_lows, holds_box, initial_values, is_given, leaves_inside, out_highs, out_lows};
-ghost use Rattle.hp_problem.specs.Parts.{own_subproblem};
+ghost use Rattle.hp_parts.specs.Limits.{are_numbers};
+ghost use Rattle.hp_problem.specs.Validated.{are_given, at_most, bounds_stand, boxes_fit, given_highs, given_lows, holds_box, initial_values, is_given, leaves_inside, out_highs, out_lows};
+ghost use Rattle.hp_parts.specs.Parts.{own_subproblem};
 
-use crate::limits::all_numbers;
-use crate::raw::{Decision, Node, Raw, Subproblem};
 use hp_num::{List, Memory};
+use hp_parts::limits::all_numbers;
+use hp_parts::{Decision, Node, ProblemParts, Subproblem};
 use std::alloc::Global;
 
 fn low_at(subproblem: &Subproblem, number: u32) -> i64
@@ -124,10 +124,10 @@ fn leaves_inside(
     lows: &[List<i64>],
     highs: &[List<i64>],
 ) -> bool
-    ensures { result ≡ list_all (holds_box lo.now hi.now (get_or lows.now node.now.sub []) (get_or highs.now node.now.sub [])) node.now.links }
+    ensures { result ≡ list_all (holds_box lo.now hi.now (get_or lows.now node.now.sub []) (get_or highs.now node.now.sub [])) node.now.successors }
 {
     all_hold(
-        node.links.as_slice(),
+        node.successors.as_slice(),
         lo,
         hi,
         list_or_empty(lows, node.sub),
@@ -142,7 +142,7 @@ fn all_leave_inside(
     lows: &[List<i64>],
     highs: &[List<i64>],
 ) -> bool
-    ensures { result ≡ list_all (λ n. list_all (holds_box lo.now hi.now (get_or lows.now n.sub []) (get_or highs.now n.sub [])) n.links) nodes.now }
+    ensures { result ≡ list_all (λ n. list_all (holds_box lo.now hi.now (get_or lows.now n.sub []) (get_or highs.now n.sub [])) n.successors) nodes.now }
 {
     nodes
         .iter()
@@ -167,42 +167,42 @@ fn are_given(bounds: &[Option<i64>], sides: &[i64]) -> bool
         .all(|(bound, side)| is_given(*bound, *side))
 }
 
-fn given_lows<'a>(raw: &'a Raw, node: &Node) -> &'a [Option<i64>]
-    ensures { result.now ≡ given_lows (own_subproblem raw.now node.now) }
+fn given_lows<'a>(parts: &'a ProblemParts, node: &Node) -> &'a [Option<i64>]
+    ensures { result.now ≡ given_lows (own_subproblem parts.now node.now) }
 {
-    match raw.subs.as_slice().get(node.sub as usize) {
+    match parts.subs.as_slice().get(node.sub as usize) {
         Some(subproblem) => subproblem.low.as_slice(),
         None => &[],
     }
 }
 
-fn given_highs<'a>(raw: &'a Raw, node: &Node) -> &'a [Option<i64>]
-    ensures { result.now ≡ given_highs (own_subproblem raw.now node.now) }
+fn given_highs<'a>(parts: &'a ProblemParts, node: &Node) -> &'a [Option<i64>]
+    ensures { result.now ≡ given_highs (own_subproblem parts.now node.now) }
 {
-    match raw.subs.as_slice().get(node.sub as usize) {
+    match parts.subs.as_slice().get(node.sub as usize) {
         Some(subproblem) => subproblem.high.as_slice(),
         None => &[],
     }
 }
 
-fn lows_stand(nodes: &[Node], lo: &[List<i64>], raw: &Raw) -> bool
-    ensures { result ≡ list_all (λ p. are_given (given_lows (own_subproblem raw.now p.0)) p.1) (zip nodes.now lo.now) }
+fn lows_stand(nodes: &[Node], lo: &[List<i64>], parts: &ProblemParts) -> bool
+    ensures { result ≡ list_all (λ p. are_given (given_lows (own_subproblem parts.now p.0)) p.1) (zip nodes.now lo.now) }
 {
-    nodes.iter().zip(lo).all(|(node, sides)| are_given(given_lows(raw, node), sides.as_slice()))
+    nodes.iter().zip(lo).all(|(node, sides)| are_given(given_lows(parts, node), sides.as_slice()))
 }
 
-fn highs_stand(nodes: &[Node], hi: &[List<i64>], raw: &Raw) -> bool
-    ensures { result ≡ list_all (λ p. are_given (given_highs (own_subproblem raw.now p.0)) p.1) (zip nodes.now hi.now) }
+fn highs_stand(nodes: &[Node], hi: &[List<i64>], parts: &ProblemParts) -> bool
+    ensures { result ≡ list_all (λ p. are_given (given_highs (own_subproblem parts.now p.0)) p.1) (zip nodes.now hi.now) }
 {
-    nodes.iter().zip(hi).all(|(node, sides)| are_given(given_highs(raw, node), sides.as_slice()))
+    nodes.iter().zip(hi).all(|(node, sides)| are_given(given_highs(parts, node), sides.as_slice()))
 }
 
 // Tells whether the bounds that are given for incoming states are the sides of the boxes.
-#[tactic(auto, unfolding(crate::specs::Sealed::bounds_stand))]
-fn bounds_stand(raw: &Raw, lo: &[List<i64>], hi: &[List<i64>]) -> bool
-    ensures { result ≡ bounds_stand raw.now lo.now hi.now }
+#[tactic(auto, unfolding(crate::specs::Validated::bounds_stand))]
+fn bounds_stand(parts: &ProblemParts, lo: &[List<i64>], hi: &[List<i64>]) -> bool
+    ensures { result ≡ bounds_stand parts.now lo.now hi.now }
 {
-    lows_stand(raw.nodes.as_slice(), lo, raw) && highs_stand(raw.nodes.as_slice(), hi, raw)
+    lows_stand(parts.nodes.as_slice(), lo, parts) && highs_stand(parts.nodes.as_slice(), hi, parts)
 }
 
 fn are_boxes(sides: &[List<i64>], nodes: usize, states: usize) -> bool
@@ -213,16 +213,16 @@ fn are_boxes(sides: &[List<i64>], nodes: usize, states: usize) -> bool
 
 fn all_outs_inside(
     alloc: Global,
-    raw: &Raw,
+    parts: &ProblemParts,
     lo: &[List<i64>],
     hi: &[List<i64>],
 ) -> Result<bool, Memory>
-    ensures { IfOk result (λ b. b ≡ list_all (leaves_inside raw.now lo.now hi.now) raw.now.nodes) }
+    ensures { IfOk result (λ b. b ≡ list_all (leaves_inside parts.now lo.now hi.now) parts.now.nodes) }
 {
-    let lows = out_lows(alloc, raw.subs.as_slice())?;
-    let highs = out_highs(alloc, raw.subs.as_slice())?;
+    let lows = out_lows(alloc, parts.subs.as_slice())?;
+    let highs = out_highs(alloc, parts.subs.as_slice())?;
     Ok(all_leave_inside(
-        raw.nodes.as_slice(),
+        parts.nodes.as_slice(),
         lo,
         hi,
         lows.as_slice(),
@@ -232,27 +232,27 @@ fn all_outs_inside(
 
 /// Tells whether there is one box per node with one small entry per state, the given bounds of incoming states are its sides,
 /// the state that leaves a node lies in the boxes of its successors, and the initial values lie in those of the root's.
-#[tactic(auto, unfolding(crate::specs::Sealed::boxes_fit))]
+#[tactic(auto, unfolding(crate::specs::Validated::boxes_fit))]
 pub(crate) fn boxes_fit(
     alloc: Global,
-    raw: &Raw,
+    parts: &ProblemParts,
     lo: &[List<i64>],
     hi: &[List<i64>],
     initial: &[i64],
 ) -> Result<bool, Memory>
-    requires { initial.now ≡ initial_values raw.now }
-    ensures { IfOk result (λ b. b ≡ boxes_fit raw.now lo.now hi.now) }
+    requires { initial.now ≡ initial_values parts.now }
+    ensures { IfOk result (λ b. b ≡ boxes_fit parts.now lo.now hi.now) }
 {
-    let nodes = raw.nodes.len();
-    let states = raw.states.len();
-    if !bounds_stand(raw, lo, hi) {
+    let nodes = parts.nodes.len();
+    let states = parts.states.len();
+    if !bounds_stand(parts, lo, hi) {
         return Ok(false);
     }
     if !are_boxes(lo, nodes, states) || !are_boxes(hi, nodes, states) {
         return Ok(false);
     }
-    if !all_hold(raw.root.as_slice(), lo, hi, initial, initial) {
+    if !all_hold(parts.root.as_slice(), lo, hi, initial, initial) {
         return Ok(false);
     }
-    all_outs_inside(alloc, raw, lo, hi)
+    all_outs_inside(alloc, parts, lo, hi)
 }

@@ -2,13 +2,12 @@
 ghost use Rattle.std.specs.Prelude.{◌≡◌, ◌≤◌, ◌<◌, ◌+◌, ◌*◌, ◌^◌, ℕ, true, length, map, sum, slice_get, IfSome};
 ghost use Rattle.std.specs.List.{list_all, sum_by};
 ghost use Rattle.hp_paths.specs.Ranks.{greatest};
-ghost use Rattle.hp_problem.specs.Limits.{node_fits, raw_fits, subproblem_fits};
-ghost use Rattle.hp_problem.specs.Parts.{own_subproblem};
+ghost use Rattle.hp_parts.specs.Limits.{node_fits, parts_are_lawful, subproblem_fits};
+ghost use Rattle.hp_parts.specs.Parts.{own_subproblem};
 ghost use Rattle.hp_problem.specs.Formulas.{above, decision_count, dictionary, first_dictionary, or_then, record_bytes, row_count, step_bytes, step_numbers, successor_total, too_much, too_wide, total_weight};
 
-use crate::limits::PAYLOAD_BYTES;
-use crate::raw::{Node, Raw, Subproblem};
-use crate::sealed::{Problem, item_at};
+use crate::validated::{Problem, item_at};
+use hp_parts::{Node, PAYLOAD_BYTES, ProblemParts, Subproblem};
 
 const MOST_CUT_NUMBERS: u64 = 1 << 24;
 
@@ -66,11 +65,11 @@ struct Sizes {
     decisions: u64,
 }
 
-fn sizes_of(raw: &Raw, node: &Node) -> Sizes
-    ensures rows { result.rows ≡ row_count (own_subproblem raw.now node.now) }
-    ensures decisions { result.decisions ≡ decision_count (own_subproblem raw.now node.now) }
+fn sizes_of(parts: &ProblemParts, node: &Node) -> Sizes
+    ensures rows { result.rows ≡ row_count (own_subproblem parts.now node.now) }
+    ensures decisions { result.decisions ≡ decision_count (own_subproblem parts.now node.now) }
 {
-    match raw.subs.as_slice().get(node.sub as usize) {
+    match parts.subs.as_slice().get(node.sub as usize) {
         Some(subproblem) => Sizes {
             rows: subproblem.rows.len() as u64,
             decisions: subproblem.decisions.len() as u64,
@@ -114,40 +113,40 @@ fn certificate_bytes(rows: u64, successors: u64, cuts: u64) -> u64
     8 * rows + successors * (4 + 12 * (cuts + 1))
 }
 
-#[tactic(auto, using(crate::proofs::Bounds::few_links, crate::proofs::Bounds::few_rows, crate::proofs::Bounds::few_decisions))]
-fn dictionary(raw: &Raw, cuts: u64, node: &Node) -> u64
-    requires raw { raw_fits raw.now ≡ true }
-    requires node { node_fits raw.now node.now ≡ true }
+#[tactic(auto, using(crate::proofs::Bounds::few_successors, crate::proofs::Bounds::few_rows, crate::proofs::Bounds::few_decisions))]
+fn dictionary(parts: &ProblemParts, cuts: u64, node: &Node) -> u64
+    requires parts { parts_are_lawful parts.now ≡ true }
+    requires node { node_fits parts.now node.now ≡ true }
     requires cuts { cuts ≤ 128064 }
-    ensures { result ≡ dictionary raw.now cuts node.now }
+    ensures { result ≡ dictionary parts.now cuts node.now }
 {
-    let successors = node.links.len() as u64;
-    let sizes = sizes_of(raw, node);
+    let successors = node.successors.len() as u64;
+    let sizes = sizes_of(parts, node);
     dictionary_numbers(sizes.rows, sizes.decisions, successors, cuts)
 }
 
-#[tactic(auto, using(crate::proofs::Bounds::few_links, crate::proofs::Bounds::few_rows, crate::proofs::Bounds::few_realizations))]
-fn step_bytes(raw: &Raw, cuts: u64, node: &Node) -> u64
-    requires raw { raw_fits raw.now ≡ true }
-    requires node { node_fits raw.now node.now ≡ true }
+#[tactic(auto, using(crate::proofs::Bounds::few_successors, crate::proofs::Bounds::few_rows, crate::proofs::Bounds::few_realizations))]
+fn step_bytes(parts: &ProblemParts, cuts: u64, node: &Node) -> u64
+    requires parts { parts_are_lawful parts.now ≡ true }
+    requires node { node_fits parts.now node.now ≡ true }
     requires cuts { cuts ≤ 128064 }
-    ensures value { result ≡ step_bytes raw.now cuts node.now }
+    ensures value { result ≡ step_bytes parts.now cuts node.now }
     ensures small { result ≤ 2 ^ 38 }
 {
-    let successors = node.links.len() as u64;
+    let successors = node.successors.len() as u64;
     let realizations = node.weights.len() as u64;
-    2 + realizations * certificate_bytes(sizes_of(raw, node).rows, successors, cuts)
+    2 + realizations * certificate_bytes(sizes_of(parts, node).rows, successors, cuts)
 }
 
 // The first node whose dictionary is too large.
-fn first_dictionary(raw: &Raw, cuts: u64, nodes: &[Node]) -> Option<TooMuch>
-    requires raw { raw_fits raw.now ≡ true }
-    requires nodes { list_all (node_fits raw.now) nodes.now ≡ true }
+fn first_dictionary(parts: &ProblemParts, cuts: u64, nodes: &[Node]) -> Option<TooMuch>
+    requires parts { parts_are_lawful parts.now ≡ true }
+    requires nodes { list_all (node_fits parts.now) nodes.now ≡ true }
     requires cuts { cuts ≤ 128064 }
-    ensures { result ≡ first_dictionary raw.now cuts nodes.now }
+    ensures { result ≡ first_dictionary parts.now cuts nodes.now }
 {
     for node in nodes {
-        let found = above(2, MOST_DICTIONARY_NUMBERS, dictionary(raw, cuts, node));
+        let found = above(2, MOST_DICTIONARY_NUMBERS, dictionary(parts, cuts, node));
         if found.is_some() {
             return found;
         }
@@ -155,29 +154,29 @@ fn first_dictionary(raw: &Raw, cuts: u64, nodes: &[Node]) -> Option<TooMuch>
     None
 }
 
-fn bytes_of_steps(raw: &Raw, cuts: u64, nodes: &[Node]) -> u64
-    requires raw { raw_fits raw.now ≡ true }
-    requires nodes { list_all (node_fits raw.now) nodes.now ≡ true }
+fn bytes_of_steps(parts: &ProblemParts, cuts: u64, nodes: &[Node]) -> u64
+    requires parts { parts_are_lawful parts.now ≡ true }
+    requires nodes { list_all (node_fits parts.now) nodes.now ≡ true }
     requires count { length nodes.now ≤ 1000 }
     requires cuts { cuts ≤ 128064 }
-    ensures value { result ≡ sum_by (step_bytes raw.now cuts) nodes.now }
+    ensures value { result ≡ sum_by (step_bytes parts.now cuts) nodes.now }
     ensures small { result ≤ 2 ^ 48 }
 {
     let mut bytes = 0;
     for node in nodes {
-        bytes += step_bytes(raw, cuts, node);
+        bytes += step_bytes(parts, cuts, node);
     }
     bytes
 }
 
-#[tactic(auto, using(crate::proofs::SealedFacts::nodes_fit, crate::proofs::SealedFacts::few_nodes))]
-fn record_bytes(raw: &Raw, cuts: u64, batch: u64) -> u64
-    requires raw { raw_fits raw.now ≡ true }
+#[tactic(auto, using(crate::proofs::ValidatedFacts::nodes_fit, crate::proofs::ValidatedFacts::few_nodes))]
+fn record_bytes(parts: &ProblemParts, cuts: u64, batch: u64) -> u64
+    requires parts { parts_are_lawful parts.now ≡ true }
     requires cuts { cuts ≤ 128064 }
     requires batch { batch ≤ 64 }
-    ensures { result ≡ record_bytes raw.now cuts batch }
+    ensures { result ≡ record_bytes parts.now cuts batch }
 {
-    batch * (10 + bytes_of_steps(raw, cuts, raw.nodes.as_slice()))
+    batch * (10 + bytes_of_steps(parts, cuts, parts.nodes.as_slice()))
 }
 
 fn step_numbers(subproblem: &Subproblem, states: u64) -> u64
@@ -215,37 +214,37 @@ fn trace_numbers(count: u32, longest: u64, numbers: u64) -> u64
 }
 
 // The first of formulas 1 to 3 that passes its limit.
-#[tactic(auto, using(crate::proofs::SealedFacts::nodes_fit, crate::proofs::SealedFacts::few_states))]
-fn first_above(raw: &Raw, longest: u64, iterations: u64, batch: u64) -> Option<TooMuch>
-    requires raw { raw_fits raw.now ≡ true }
+#[tactic(auto, using(crate::proofs::ValidatedFacts::nodes_fit, crate::proofs::ValidatedFacts::few_states))]
+fn first_above(parts: &ProblemParts, longest: u64, iterations: u64, batch: u64) -> Option<TooMuch>
+    requires parts { parts_are_lawful parts.now ≡ true }
     requires longest { longest ≤ 1001 }
     requires iterations { iterations ≤ 2001 }
     requires batch { batch ≤ 64 }
     ensures { let cuts = iterations * batch in
-        result ≡ or_then (above 1 (2 ^ 24) (cuts * longest * (length raw.now.states + 1)))
-        (or_then (first_dictionary raw.now cuts raw.now.nodes) (above 3 (2 ^ 26) (record_bytes raw.now cuts batch))) }
+        result ≡ or_then (above 1 (2 ^ 24) (cuts * longest * (length parts.now.states + 1)))
+        (or_then (first_dictionary parts.now cuts parts.now.nodes) (above 3 (2 ^ 26) (record_bytes parts.now cuts batch))) }
 {
     let cuts = iterations * batch;
-    let states = raw.states.len() as u64;
+    let states = parts.states.len() as u64;
     let along_a_path = above(1, MOST_CUT_NUMBERS, cut_numbers(cuts, longest, states));
     if along_a_path.is_some() {
         return along_a_path;
     }
-    let at_a_node = first_dictionary(raw, cuts, raw.nodes.as_slice());
+    let at_a_node = first_dictionary(parts, cuts, parts.nodes.as_slice());
     if at_a_node.is_some() {
         return at_a_node;
     }
-    above(3, PAYLOAD_BYTES, record_bytes(raw, cuts, batch))
+    above(3, PAYLOAD_BYTES, record_bytes(parts, cuts, batch))
 }
 
 // Formula 4, where it passes its limit.
-#[tactic(auto, using(crate::proofs::SealedFacts::subproblems_fit, crate::proofs::SealedFacts::few_states))]
-fn traces_above(raw: &Raw, longest: u64, count: u32) -> Option<TooMuch>
-    requires raw { raw_fits raw.now ≡ true }
+#[tactic(auto, using(crate::proofs::ValidatedFacts::subproblems_fit, crate::proofs::ValidatedFacts::few_states))]
+fn traces_above(parts: &ProblemParts, longest: u64, count: u32) -> Option<TooMuch>
+    requires parts { parts_are_lawful parts.now ≡ true }
     requires longest { longest ≤ 1001 }
-    ensures { result ≡ above 4 (2 ^ 22) (count * longest * greatest (map (step_numbers (length raw.now.states)) raw.now.subs)) }
+    ensures { result ≡ above 4 (2 ^ 22) (count * longest * greatest (map (step_numbers (length parts.now.states)) parts.now.subs)) }
 {
-    let numbers = most_step_numbers(raw.subs.as_slice(), raw.states.len() as u64);
+    let numbers = most_step_numbers(parts.subs.as_slice(), parts.states.len() as u64);
     above(
         4,
         MOST_TRACE_NUMBERS,
@@ -257,11 +256,11 @@ impl Problem {
     /// The weight that leaves a node: its stop weight and the weights of its successors together, and 1 at a node
     /// without successors.
     pub fn q(&self, node: u32) -> u32
-        requires { node < length self.now.raw.nodes }
-        ensures { IfSome (slice_get self.now.raw.nodes node) (λ n. result ≡ successor_total n.stop n.link_weights) }
+        requires { node < length self.now.parts.nodes }
+        ensures { IfSome (slice_get self.now.parts.nodes node) (λ n. result ≡ successor_total n.stop n.successor_weights) }
     {
-        let node = item_at(self.raw().nodes.as_slice(), node as usize);
-        successor_total(node.stop, node.link_weights.as_slice())
+        let node = item_at(self.parts().nodes.as_slice(), node as usize);
+        successor_total(node.stop, node.successor_weights.as_slice())
     }
 
     /// The first of formulas 1 to 3 that passes its limit after `k` iterations of `batch` paths each: with C the
@@ -275,7 +274,7 @@ impl Problem {
         ensures { result ≡ too_much self.now k batch }
     {
         let longest = u64::from(self.longest());
-        first_above(self.raw(), longest, u64::from(k), u64::from(batch))
+        first_above(self.parts(), longest, u64::from(k), u64::from(batch))
     }
 
     /// Formula 4, where it is above 2^22 for `count` scenarios: `count * longest` times the greatest sum, over the
@@ -283,6 +282,6 @@ impl Problem {
     pub fn too_wide(&self, count: u32) -> Option<TooMuch>
         ensures { result ≡ too_wide self.now count }
     {
-        traces_above(self.raw(), u64::from(self.longest()), count)
+        traces_above(self.parts(), u64::from(self.longest()), count)
     }
 }

@@ -11,16 +11,16 @@ use Rattle.std.proofs.Math.Nat.{mul-le-mul_right}
 use Rattle.hp_num.proofs.Tests.{and_first, and_second}
 use Rattle.hp_paths.specs.Ranks.{rank}
 use Rattle.hp_paths.proofs.Falling.{rank_falls}
-use Rattle.hp_problem.specs.declared.raw.Node.{Node}
-use Rattle.hp_problem.specs.declared.raw.Subproblem.{Subproblem}
+use Rattle.hp_parts.specs.declared.parts.Node.{Node}
+use Rattle.hp_parts.specs.declared.parts.Subproblem.{Subproblem}
 use Rattle.hp_problem.specs.Formulas.{row_count, step_bytes, record_bytes}
-use Rattle.hp_problem.specs.Parts.{own_subproblem}
-use Rattle.hp_problem.specs.Sealed.{Sealed, is_sealed, graph_of}
+use Rattle.hp_parts.specs.Parts.{own_subproblem}
+use Rattle.hp_problem.specs.Validated.{Validated, is_validated, graph_of}
 use Rattle.hp_theory.specs.declared.cut.Certificate.{Certificate}
 use Rattle.hp_cut.specs.declared.entry.Entry.{Entry}
 use Rattle.hp_cut.specs.declared.entry.EntryStep.{EntryStep}
 use Rattle.hp_record.specs.Spelling.{row_text, pair_text, pairs_text, certificate_text, step_text, entry_text, spell}
-use Rattle.hp_record.specs.Shape.{sizes_of, may_stand, is_path_backwards, Suits, StepSuits, Writable, PairsWithin, StepWithin}
+use Rattle.hp_record.specs.Shape.{sizes_of, may_stand, is_path_backwards, SuitsSizes, StepSuits, Writable, PairsWithin, StepWithin}
 use Rattle.hp_record.proofs.Taken.{is_node}
 use Rattle.hp_record.proofs.LongestPath.{Graph, graph, led}
 use Rattle.hp_record.proofs.NodeParts.{weights_are, successors_are}
@@ -106,19 +106,19 @@ counted_rows (Some s) = refl
 -- ---- a step, by its node
 
 -- the bytes that the formula gives for the node
-abbrev node_bytes : Sealed → ℕ → ℕ → ℕ
-node_bytes p cuts m = at (step_bytes p.raw cuts) p.raw.nodes m
+abbrev node_bytes : Validated → ℕ → ℕ → ℕ
+node_bytes p cuts m = at (step_bytes p.parts cuts) p.parts.nodes m
 
-record SizesAre (p : Sealed) (m : ℕ) (n : Node) : Type 0 where
+record SizesAre (p : Validated) (m : ℕ) (n : Node) : Type 0 where
   realizations : (sizes_of p m).realizations ≡ length n.weights
-  rows : (sizes_of p m).rows ≡ row_count (own_subproblem p.raw n)
-  successors : (sizes_of p m).successors ≡ length n.links
+  rows : (sizes_of p m).rows ≡ row_count (own_subproblem p.parts n)
+  successors : (sizes_of p m).successors ≡ length n.successors
 
-sizes_are : (p : Sealed) (m : ℕ) (n : Node) → slice_get p.raw.nodes m ≡ Some n → SizesAre p m n
+sizes_are : (p : Validated) (m : ℕ) (n : Node) → slice_get p.parts.nodes m ≡ Some n → SizesAre p m n
 sizes_are p m n e = record {
-  realizations = ap (λ (ws : List ℕ). length ws) (weights_are p.raw m n e);
-  rows = ap (λ (o : Option Node). unwrap_or (option_map (λ (s : Subproblem). length s.rows) (option_and_then (λ (x : Node). slice_get p.raw.subs x.sub) o)) 0) e ∙ counted_rows (own_subproblem p.raw n);
-  successors = ap (λ (ks : List ℕ). length ks) (successors_are p.raw m n e);
+  realizations = ap (λ (ws : List ℕ). length ws) (weights_are p.parts m n e);
+  rows = ap (λ (o : Option Node). unwrap_or (option_map (λ (s : Subproblem). length s.rows) (option_and_then (λ (x : Node). slice_get p.parts.subs x.sub) o)) 0) e ∙ counted_rows (own_subproblem p.parts n);
+  successors = ap (λ (ks : List ℕ). length ks) (successors_are p.parts m n e);
 }
 
 joined : (n : ℕ) (r k : ℕ) (cs : List Certificate) → AllByRecursion (λ c. (length c.rows ≡ r) × (length c.cuts ≡ k)) cs → AllByRecursion (λ c. AllByRecursion (λ qs. length qs ≤ n) c.cuts) cs
@@ -126,26 +126,26 @@ joined : (n : ℕ) (r k : ℕ) (cs : List Certificate) → AllByRecursion (λ c.
 joined n r k [] a b = tt
 joined n r k (c ∷ cs) a b = ((a.0.0, a.0.1, b.0), joined n r k cs a.1 b.1)
 
-step_length : (p : Sealed) (cuts : ℕ) (s : EntryStep) → s.node < length p.raw.nodes → StepSuits p s → StepWithin (cuts + 1) s → length (step_text s) ≤ node_bytes p cuts s.node
+step_length : (p : Validated) (cuts : ℕ) (s : EntryStep) → s.node < length p.parts.nodes → StepSuits p s → StepWithin (cuts + 1) s → length (step_text s) ≤ node_bytes p cuts s.node
 step_length p cuts s known suits within =
-    let n = some_at p.raw.nodes s.node known in
+    let n = some_at p.parts.nodes s.node known in
     let z = sizes_are p s.node n.0 n.1 in
-    let r = row_count (own_subproblem p.raw n.0) in
-    let k = length n.0.links in
+    let r = row_count (own_subproblem p.parts n.0) in
+    let k = length n.0.successors in
     let shapes : AllByRecursion (λ (c : Certificate). (length c.rows ≡ r) × (length c.cuts ≡ k)) s.list
-    = weaker (Suits (sizes_of p s.node)) (λ c. (length c.rows ≡ r) × (length c.cuts ≡ k)) (λ c f. (f.rows ∙ z.rows, f.cuts ∙ z.successors)) s.list suits.each in
+    = weaker (SuitsSizes (sizes_of p s.node)) (λ c. (length c.rows ≡ r) × (length c.cuts ≡ k)) (λ c f. (f.rows ∙ z.rows, f.cuts ∙ z.successors)) s.list suits.each in
     let list = list_length (cuts + 1) r k s.list (joined (cuts + 1) r k s.list shapes within) in
     let counted : length s.list ≡ length n.0.weights = suits.count ∙ z.realizations in
     let e : length (step_text s) ≡ 2 + length (flat_map certificate_text s.list) = length-append (to_be_bytes w16 s.node) (flat_map certificate_text s.list) in
     let list_is : length (flat_map certificate_text s.list) ≤ length n.0.weights * certificate_bytes r k (cuts + 1) = subst (λ (j : ℕ). length (flat_map certificate_text s.list) ≤ j * certificate_bytes r k (cuts + 1)) counted list in
-    let here : node_bytes p cuts s.node ≡ step_bytes p.raw cuts n.0 = ap (λ (o : Option Node). unwrap_or (option_map (step_bytes p.raw cuts) o) 0) n.1 in
+    let here : node_bytes p cuts s.node ≡ step_bytes p.parts cuts n.0 = ap (λ (o : Option Node). unwrap_or (option_map (step_bytes p.parts cuts) o) 0) n.1 in
     subst (λ (j : ℕ). length (step_text s) ≤ j) (sym here) (omega (arith, e, list_is))
 
 -- ---- the steps of an entry, whose nodes' ranks rise
 
 -- the bytes of a node of at least this rank
-abbrev high : Sealed → ℕ → ℕ → ℕ → ℕ
-high p cuts r m = cond (nat_le r (rank (graph_of p.raw) m)) (node_bytes p cuts m) 0
+abbrev high : Validated → ℕ → ℕ → ℕ → ℕ
+high p cuts r m = cond (nat_le r (rank (graph_of p.parts) m)) (node_bytes p cuts m) 0
 
 none_above : (x r b : ℕ) → x < r → cond (nat_le r x) b 0 ≡ 0
 none_above x r b h = grind (arith, nat_tests)
@@ -156,44 +156,44 @@ all_above x r b h = grind (arith, nat_tests)
 falls : (x q r b : ℕ) → r ≤ q → cond (nat_le q x) b 0 ≤ cond (nat_le r x) b 0
 falls x q r b h = grind (arith, nat_tests)
 
-abbrev whole : Sealed → ℕ → ℕ → ℕ
-whole p cuts r = sum_front (high p cuts r) (length p.raw.nodes)
+abbrev whole : Validated → ℕ → ℕ → ℕ
+whole p cuts r = sum_front (high p cuts r) (length p.parts.nodes)
 
 -- a node's bytes and those of the nodes of a higher rank
-room_for : (p : Sealed) (cuts m r : ℕ) → m < length p.raw.nodes → r ≤ rank (graph_of p.raw) m → node_bytes p cuts m + whole p cuts (rank (graph_of p.raw) m + 1) ≤ whole p cuts r
+room_for : (p : Validated) (cuts m r : ℕ) → m < length p.parts.nodes → r ≤ rank (graph_of p.parts) m → node_bytes p cuts m + whole p cuts (rank (graph_of p.parts) m + 1) ≤ whole p cuts r
 room_for p cuts m r known low =
-    let q = rank (graph_of p.raw) m in
-    picks (high p cuts (q + 1)) (high p cuts r) (length p.raw.nodes) m (node_bytes p cuts m)
-    (λ k. falls (rank (graph_of p.raw) k) (q + 1) r (node_bytes p cuts k) (omega (arith, low))) known
+    let q = rank (graph_of p.parts) m in
+    picks (high p cuts (q + 1)) (high p cuts r) (length p.parts.nodes) m (node_bytes p cuts m)
+    (λ k. falls (rank (graph_of p.parts) k) (q + 1) r (node_bytes p cuts k) (omega (arith, low))) known
     (omega (arith, none_above q (q + 1) (node_bytes p cuts m) (omega arith), all_above q r (node_bytes p cuts m) low))
 
-steps_length : (p : Sealed) → Graph p → (cuts : ℕ) (before : Option ℕ) (s : EntryStep) (ss : List EntryStep) (r : ℕ) → is_path_backwards p before (s ∷ ss) ≡ true → AllByRecursion (StepSuits p) (s ∷ ss) → AllByRecursion (StepWithin (cuts + 1)) (s ∷ ss)
-    → r ≤ rank (graph_of p.raw) s.node → length (flat_map step_text (s ∷ ss)) ≤ whole p cuts r
+steps_length : (p : Validated) → Graph p → (cuts : ℕ) (before : Option ℕ) (s : EntryStep) (ss : List EntryStep) (r : ℕ) → is_path_backwards p before (s ∷ ss) ≡ true → AllByRecursion (StepSuits p) (s ∷ ss) → AllByRecursion (StepWithin (cuts + 1)) (s ∷ ss)
+    → r ≤ rank (graph_of p.parts) s.node → length (flat_map step_text (s ∷ ss)) ≤ whole p cuts r
 steps_length p g cuts before s [] r path suits within low =
     let stands : may_stand p before true s.node ≡ true = and_first (may_stand p before true s.node) true path in
-    let known : s.node < length p.raw.nodes = is_node p before true s.node stands in
+    let known : s.node < length p.parts.nodes = is_node p before true s.node stands in
     let e : length (flat_map step_text (s ∷ [])) ≡ length (step_text s) + 0 = ap length (flat_map-cons step_text s []) ∙ length-append (step_text s) (flat_map step_text []) in
     omega (arith, e, step_length p cuts s known suits.0 within.0, room_for p cuts s.node r known low)
 steps_length p g cuts before s (t ∷ ts) r path suits within low =
     let first : may_stand p before (length (t ∷ ts) == 0) s.node ≡ true = and_first (may_stand p before (length (t ∷ ts) == 0) s.node) (is_path_backwards p (Some s.node) (t ∷ ts)) path in
     let later : is_path_backwards p (Some s.node) (t ∷ ts) ≡ true = and_second (may_stand p before (length (t ∷ ts) == 0) s.node) (is_path_backwards p (Some s.node) (t ∷ ts)) path in
     let stands : may_stand p (Some s.node) (length ts == 0) t.node ≡ true = and_first (may_stand p (Some s.node) (length ts == 0) t.node) (is_path_backwards p (Some t.node) ts) later in
-    let known : s.node < length p.raw.nodes = is_node p before (length (t ∷ ts) == 0) s.node first in
-    let less = rank_falls (graph_of p.raw) t.node s.node g.known g.acyclic (led p s.node (length ts == 0) t.node stands) in
-    let others = steps_length p g cuts (Some s.node) t ts (rank (graph_of p.raw) s.node + 1) later suits.1 within.1 (omega (arith, less)) in
+    let known : s.node < length p.parts.nodes = is_node p before (length (t ∷ ts) == 0) s.node first in
+    let less = rank_falls (graph_of p.parts) t.node s.node g.known g.acyclic (led p s.node (length ts == 0) t.node stands) in
+    let others = steps_length p g cuts (Some s.node) t ts (rank (graph_of p.parts) s.node + 1) later suits.1 within.1 (omega (arith, less)) in
     let e : length (flat_map step_text (s ∷ t ∷ ts)) ≡ length (step_text s) + length (flat_map step_text (t ∷ ts)) = ap length (flat_map-cons step_text s (t ∷ ts)) ∙ length-append (step_text s) (flat_map step_text (t ∷ ts)) in
     omega (arith, e, step_length p cuts s known suits.0 within.0, room_for p cuts s.node r known low, others)
 
-every : (p : Sealed) (cuts : ℕ) → whole p cuts 0 ≤ sum_by (step_bytes p.raw cuts) p.raw.nodes
-every p cuts = omega (arith, rises (high p cuts 0) (node_bytes p cuts) (length p.raw.nodes) (λ k. omega (arith, all_above (rank (graph_of p.raw) k) 0 (node_bytes p cuts k) (omega arith))), summed (step_bytes p.raw cuts) p.raw.nodes)
+every : (p : Validated) (cuts : ℕ) → whole p cuts 0 ≤ sum_by (step_bytes p.parts cuts) p.parts.nodes
+every p cuts = omega (arith, rises (high p cuts 0) (node_bytes p cuts) (length p.parts.nodes) (λ k. omega (arith, all_above (rank (graph_of p.parts) k) 0 (node_bytes p cuts k) (omega arith))), summed (step_bytes p.parts cuts) p.parts.nodes)
 
-entry_length : (p : Sealed) → Graph p → (cuts : ℕ) (e : Entry) → Writable p e → PairsWithin (cuts + 1) e → length (entry_text e) ≤ 10 + sum_by (step_bytes p.raw cuts) p.raw.nodes
+entry_length : (p : Validated) → Graph p → (cuts : ℕ) (e : Entry) → Writable p e → PairsWithin (cuts + 1) e → length (entry_text e) ≤ 10 + sum_by (step_bytes p.parts cuts) p.parts.nodes
 entry_length p g cuts e fits within =
     let count = to_be_bytes w16 (length e.steps) in
     let steps = flat_map step_text e.steps in
-    let unsettled = to_be_bytes w32 e.unsettled in
+    let unanswered = to_be_bytes w32 e.unanswered in
     let iteration = to_be_bytes w32 e.iteration in
-    let is : length (entry_text e) ≡ 10 + length steps = omega (arith, length-append iteration (unsettled ++ count ++ steps), length-append unsettled (count ++ steps), length-append count steps) in
+    let is : length (entry_text e) ≡ 10 + length steps = omega (arith, length-append iteration (unanswered ++ count ++ steps), length-append unanswered (count ++ steps), length-append count steps) in
     omega (arith, is, of_steps e.steps fits.path fits.steps within, every p cuts)
   where
     of_steps : (ss : List EntryStep) → is_path_backwards p None ss ≡ true → AllByRecursion (StepSuits p) ss → AllByRecursion (StepWithin (cuts + 1)) ss → length (flat_map step_text ss) ≤ whole p cuts 0
@@ -201,12 +201,12 @@ entry_length p g cuts e fits within =
     of_steps (s ∷ ss) h a b = steps_length p g cuts None s ss 0 h a b (omega arith)
 
 -- A text is no longer than the formula for records says.
-pub text_length : (p : Sealed) (cuts batch : ℕ) (es : List Entry) → is_sealed p ≡ true → length es ≤ batch → AllByRecursion (Writable p) es → AllByRecursion (PairsWithin (cuts + 1)) es → length (spell es) ≤ record_bytes p.raw cuts batch
-text_length p cuts batch es sealed few fits within =
-    let b = 10 + sum_by (step_bytes p.raw cuts) p.raw.nodes in
+pub text_length : (p : Validated) (cuts batch : ℕ) (es : List Entry) → is_validated p ≡ true → length es ≤ batch → AllByRecursion (Writable p) es → AllByRecursion (PairsWithin (cuts + 1)) es → length (spell es) ≤ record_bytes p.parts cuts batch
+text_length p cuts batch es validated few fits within =
+    let b = 10 + sum_by (step_bytes p.parts cuts) p.parts.nodes in
     let each = parts_length entry_text b es (all es fits within) in
     omega (arith, each, mul-le-mul_right b few)
   where
-    all : (xs : List Entry) → AllByRecursion (Writable p) xs → AllByRecursion (PairsWithin (cuts + 1)) xs → AllByRecursion (λ e. length (entry_text e) ≤ 10 + sum_by (step_bytes p.raw cuts) p.raw.nodes) xs
+    all : (xs : List Entry) → AllByRecursion (Writable p) xs → AllByRecursion (PairsWithin (cuts + 1)) xs → AllByRecursion (λ e. length (entry_text e) ≤ 10 + sum_by (step_bytes p.parts cuts) p.parts.nodes) xs
     all [] f w = tt
-    all (x ∷ xs) f w = (entry_length p (graph p sealed) cuts x f.0 w.0, all xs f.1 w.1)
+    all (x ∷ xs) f w = (entry_length p (graph p validated) cuts x f.0 w.0, all xs f.1 w.1)

@@ -6,7 +6,7 @@ use Rattle.std.proofs.lemmas.List.{length-append}
 use Rattle.std.proofs.lemmas.List.Concat.{flat_map-cons}
 use Rattle.std.proofs.lemmas.List.Elements.{All-from_recursion}
 use Rattle.hp_num.proofs.Tests.{and_first, and_second}
-use Rattle.hp_problem.specs.Sealed.{Sealed, is_sealed}
+use Rattle.hp_problem.specs.Validated.{Validated, is_validated}
 use Rattle.hp_theory.specs.declared.cut.Certificate.{Certificate}
 use Rattle.hp_cut.specs.declared.entry.Entry.{Entry}
 use Rattle.hp_cut.specs.declared.entry.EntryStep.{EntryStep}
@@ -50,33 +50,33 @@ step_room s small h =
       counts = All-from_recursion CountsFit s.list (all_weaker (λ (c : Certificate). length (certificate_text c) ≤ 2 ^ 26) CountsFit certificate_room s.list (parts certificate_text (2 ^ 26) s.list list));
     }
 
-steps_room : (p : Sealed) → IsSmall p → (before : Option ℕ) (ss : List EntryStep) → is_path_backwards p before ss ≡ true → length (flat_map step_text ss) ≤ 2 ^ 26 → AllByRecursion NodeFits ss
+steps_room : (p : Validated) → IsSmall p → (before : Option ℕ) (ss : List EntryStep) → is_path_backwards p before ss ≡ true → length (flat_map step_text ss) ≤ 2 ^ 26 → AllByRecursion NodeFits ss
 steps_room p small before [] path h = tt
 steps_room p small before (s ∷ ss) path h =
     let e : length (flat_map step_text (s ∷ ss)) ≡ length (step_text s) + length (flat_map step_text ss) = ap length (flat_map-cons step_text s ss) ∙ length-append (step_text s) (flat_map step_text ss) in
     let stands : may_stand p before (length ss == 0) s.node ≡ true = and_first (may_stand p before (length ss == 0) s.node) (is_path_backwards p (Some s.node) ss) path in
     let later : is_path_backwards p (Some s.node) ss ≡ true = and_second (may_stand p before (length ss == 0) s.node) (is_path_backwards p (Some s.node) ss) path in
-    let known : s.node < length p.raw.nodes = is_node p before (length ss == 0) s.node stands in
-    let few : length p.raw.nodes ≤ 2 ^ 16 = small.nodes in
+    let known : s.node < length p.parts.nodes = is_node p before (length ss == 0) s.node stands in
+    let few : length p.parts.nodes ≤ 2 ^ 16 = small.nodes in
     (step_room s (omega (arith, known, few)) (omega (arith, e, h)), steps_room p small (Some s.node) ss later (omega (arith, e, h)))
 
-pub entry_room : (p : Sealed) → is_sealed p ≡ true → (e : Entry) → Writable p e → length (entry_text e) ≤ 2 ^ 26 → StepsFit e
-entry_room p sealed e fits h =
+pub entry_room : (p : Validated) → is_validated p ≡ true → (e : Entry) → Writable p e → length (entry_text e) ≤ 2 ^ 26 → StepsFit e
+entry_room p validated e fits h =
     let count = to_be_bytes w16 (length e.steps) in
     let steps = flat_map step_text e.steps in
-    let unsettled = to_be_bytes w32 e.unsettled in
+    let unanswered = to_be_bytes w32 e.unanswered in
     let iteration = to_be_bytes w32 e.iteration in
-    let small : length steps ≤ 2 ^ 26 = omega (arith, h, length-append iteration (unsettled ++ count ++ steps), length-append unsettled (count ++ steps), length-append count steps) in
-    let limit : p.longest < 2 ^ 16 = (is_small p sealed).longest in
+    let small : length steps ≤ 2 ^ 26 = omega (arith, h, length-append iteration (unanswered ++ count ++ steps), length-append unanswered (count ++ steps), length-append count steps) in
+    let limit : p.longest < 2 ^ 16 = (is_small p validated).longest in
     record {
-      count = omega (arith, limit, path_length p sealed e.steps fits.path);
-      each = All-from_recursion NodeFits e.steps (steps_room p (is_small p sealed) None e.steps fits.path small);
+      count = omega (arith, limit, path_length p validated e.steps fits.path);
+      each = All-from_recursion NodeFits e.steps (steps_room p (is_small p validated) None e.steps fits.path small);
     }
 
 -- Entries that a problem can have and whose text has at most 2^26 bytes have room.
-pub entries_room : (p : Sealed) → is_sealed p ≡ true → (es : List Entry) → AllByRecursion (Writable p) es → length (spell es) ≤ 2 ^ 26 → All StepsFit es
-entries_room p sealed es fits h = All-from_recursion StepsFit es (each es fits (parts entry_text (2 ^ 26) es h))
+pub entries_room : (p : Validated) → is_validated p ≡ true → (es : List Entry) → AllByRecursion (Writable p) es → length (spell es) ≤ 2 ^ 26 → All StepsFit es
+entries_room p validated es fits h = All-from_recursion StepsFit es (each es fits (parts entry_text (2 ^ 26) es h))
   where
     each : (xs : List Entry) → AllByRecursion (Writable p) xs → AllByRecursion (λ e. length (entry_text e) ≤ 2 ^ 26) xs → AllByRecursion StepsFit xs
     each [] f k = tt
-    each (x ∷ xs) f k = (entry_room p sealed x f.0 k.0, each xs f.1 k.1)
+    each (x ∷ xs) f k = (entry_room p validated x f.0 k.0, each xs f.1 k.1)

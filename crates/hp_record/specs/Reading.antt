@@ -3,7 +3,7 @@ use Rattle.std.specs.Prelude.{◌≡◌, ◌≢◌, ℕ, zero, suc, ◌-◌, ◌
 use Rattle.std.specs.Int.{Width, w16, w32, w64, byte_len, from_be_bytes, cast_signed}
 pub use Rattle.hp_num.specs.Steps.{◌>>=◌}
 use Rattle.hp_num.specs.Steps.{GivesOr}
-use Rattle.hp_problem.specs.Sealed.{Sealed}
+use Rattle.hp_problem.specs.Validated.{Validated}
 use Rattle.hp_theory.specs.declared.cut.Certificate.{Certificate}
 use Rattle.hp_cut.specs.declared.entry.Entry.{Entry}
 use Rattle.hp_cut.specs.declared.entry.EntryStep.{EntryStep}
@@ -16,16 +16,16 @@ use Rattle.hp_record.specs.Shape.{sizes_of, may_stand, IsBatch}
 use Rattle.hp_record.specs.Spelling.{spell}
 
 -- A function gives what the definition reads: its answer, seen by view, is equal to it, unless memory ran out.
-abbrev pub Fails : {Y : Type 0} → ReadFault → Result Y ℕ → Type 0
-Fails (reads.Bad left) read = read ≡ Err left
-Fails reads.Memory read = Unit {0}
+abbrev pub ReadingFails : {Y : Type 0} → ReadFault → Result Y ℕ → Type 0
+ReadingFails (reads.Bad left) read = read ≡ Err left
+ReadingFails reads.Memory read = Unit {0}
 
-abbrev pub Gives : {X Y : Type 0} → (X → Y) → Result X ReadFault → Result Y ℕ → Type 0
-Gives view result read = GivesOr Fails view result read
+abbrev pub ReadingGives : {X Y : Type 0} → (X → Y) → Result X ReadFault → Result Y ℕ → Type 0
+ReadingGives view result read = GivesOr ReadingFails view result read
 
 -- A field is a value and the bytes after it.
-abbrev pub number_at : Width → List ℕ → Result (ℕ × List ℕ) ℕ
-number_at w bytes = if nat_lt (length bytes) (byte_len w) then Err (length bytes) else Ok (from_be_bytes w (take (byte_len w) bytes), drop (byte_len w) bytes)
+abbrev pub read_number_at : Width → List ℕ → Result (ℕ × List ℕ) ℕ
+read_number_at w bytes = if nat_lt (length bytes) (byte_len w) then Err (length bytes) else Ok (from_be_bytes w (take (byte_len w) bytes), drop (byte_len w) bytes)
 
 -- so many values one after another
 unfoldable pub many : {A : Type 0} → (List ℕ → Result (A × List ℕ) ℕ) → ℕ → List ℕ → Result (List A × List ℕ) ℕ
@@ -35,81 +35,81 @@ many field (suc n) bytes = do
   others ← many field n first.1
   Ok (first.0 ∷ others.0, others.1)
 
-unfoldable pub row_at : List ℕ → Result (ℤ × List ℕ) ℕ
-row_at bytes = do
-  n ← number_at w64 bytes
+unfoldable pub read_row_at : List ℕ → Result (ℤ × List ℕ) ℕ
+read_row_at bytes = do
+  n ← read_number_at w64 bytes
   Ok (cast_signed w64 n.0, n.1)
 
 unfoldable pub pair_at : List ℕ → Result ((ℕ × ℕ) × List ℕ) ℕ
 pair_at bytes = do
-  place ← number_at w32 bytes
-  multiplier ← number_at w64 place.1
+  place ← read_number_at w32 bytes
+  multiplier ← read_number_at w64 place.1
   Ok ((place.0, multiplier.0), multiplier.1)
 
 unfoldable pub pairs_at : List ℕ → Result (List (ℕ × ℕ) × List ℕ) ℕ
 pairs_at bytes = do
-  count ← number_at w32 bytes
+  count ← read_number_at w32 bytes
   many pair_at count.0 count.1
 
 unfoldable pub certificate_at : Sizes → List ℕ → Result (Certificate × List ℕ) ℕ
 certificate_at z bytes = do
-  rows ← many row_at z.rows bytes
+  rows ← many read_row_at z.rows bytes
   cuts ← many pairs_at z.successors rows.1
   Ok (record { rows = rows.0; cuts = cuts.0 }, cuts.1)
 
 -- a node that may stand there
-unfoldable pub node_at : Sealed → Option ℕ → Bool → List ℕ → Result (ℕ × List ℕ) ℕ
-node_at p before last bytes = do
-  node ← number_at w16 bytes
+unfoldable pub entry_node_at : Validated → Option ℕ → Bool → List ℕ → Result (ℕ × List ℕ) ℕ
+entry_node_at p before last bytes = do
+  node ← read_number_at w16 bytes
   if may_stand p before last node.0 then Ok node else Err (length bytes)
 
-unfoldable pub step_at : Sealed → Option ℕ → Bool → List ℕ → Result (EntryStep × List ℕ) ℕ
-step_at p before last bytes = do
-  node ← node_at p before last bytes
+unfoldable pub entry_step_at : Validated → Option ℕ → Bool → List ℕ → Result (EntryStep × List ℕ) ℕ
+entry_step_at p before last bytes = do
+  node ← entry_node_at p before last bytes
   list ← many (certificate_at (sizes_of p node.0)) (sizes_of p node.0).realizations node.1
   Ok (record { node = node.0; list = list.0 }, list.1)
 
-unfoldable pub steps_at : Sealed → Option ℕ → ℕ → List ℕ → Result (List EntryStep × List ℕ) ℕ
-steps_at p before zero bytes = Ok ([], bytes)
-steps_at p before (suc n) bytes = do
-  first ← step_at p before (n == 0) bytes
-  others ← steps_at p (Some first.0.node) n first.1
+unfoldable pub entry_steps_at : Validated → Option ℕ → ℕ → List ℕ → Result (List EntryStep × List ℕ) ℕ
+entry_steps_at p before zero bytes = Ok ([], bytes)
+entry_steps_at p before (suc n) bytes = do
+  first ← entry_step_at p before (n == 0) bytes
+  others ← entry_steps_at p (Some first.0.node) n first.1
   Ok (first.0 ∷ others.0, others.1)
 
 -- the wanted iteration
 unfoldable pub iteration_at : ℕ → List ℕ → Result (ℕ × List ℕ) ℕ
 iteration_at wanted bytes = do
-  n ← number_at w32 bytes
+  n ← read_number_at w32 bytes
   if n.0 == wanted then Ok n else Err (length bytes)
 
 -- at least one step, and no more than the longest path has nodes
-unfoldable pub count_at : Sealed → List ℕ → Result (ℕ × List ℕ) ℕ
+unfoldable pub count_at : Validated → List ℕ → Result (ℕ × List ℕ) ℕ
 count_at p bytes = do
-  n ← number_at w16 bytes
+  n ← read_number_at w16 bytes
   if nat_lt 0 n.0 && nat_le n.0 p.longest then Ok n else Err (length bytes)
 
-unfoldable pub entry_at : Sealed → ℕ → List ℕ → Result (Entry × List ℕ) ℕ
+unfoldable pub entry_at : Validated → ℕ → List ℕ → Result (Entry × List ℕ) ℕ
 entry_at p wanted bytes = do
   iteration ← iteration_at wanted bytes
-  unsettled ← number_at w32 iteration.1
-  count ← count_at p unsettled.1
-  steps ← steps_at p None count.0 count.1
-  Ok (record { iteration = iteration.0; unsettled = unsettled.0; steps = steps.0 }, steps.1)
+  unanswered ← read_number_at w32 iteration.1
+  count ← count_at p unanswered.1
+  steps ← entry_steps_at p None count.0 count.1
+  Ok (record { iteration = iteration.0; unanswered = unanswered.0; steps = steps.0 }, steps.1)
 
 -- so many entries, and no byte behind them
-unfoldable pub entries_at : Sealed → ℕ → ℕ → List ℕ → Result (List Entry) ℕ
+unfoldable pub entries_at : Validated → ℕ → ℕ → List ℕ → Result (List Entry) ℕ
 entries_at p wanted count bytes = do
   entries ← many (entry_at p wanted) count bytes
   if length entries.1 == 0 then Ok entries.0 else Err (length entries.1)
 
 -- a fault's place from the front, where so many bytes stand from it to the end
-abbrev pub placed : {A : Type 0} → ℕ → Result A ℕ → Result A ℕ
-placed total (Ok x) = Ok x
-placed total (Err left) = Err (total - left)
+abbrev pub placed_from_front : {A : Type 0} → ℕ → Result A ℕ → Result A ℕ
+placed_from_front total (Ok x) = Ok x
+placed_from_front total (Err left) = Err (total - left)
 
 -- The entries that the payload has, or the place of its first fault.
-unfoldable pub read_batch : Sealed → ℕ → ℕ → List ℕ → Result (List Entry) ℕ
-read_batch p wanted count payload = placed (length payload) (entries_at p wanted count payload)
+unfoldable pub read_batch : Validated → ℕ → ℕ → List ℕ → Result (List Entry) ℕ
+read_batch p wanted count payload = placed_from_front (length payload) (entries_at p wanted count payload)
 
 -- the answer is that of the definition, unless memory was refused
 abbrev pub FailsAt : {Y : Type 0} → EntryFault → Result Y ℕ → Type 0
@@ -120,7 +120,7 @@ abbrev pub Answers : {X Y : Type 0} → (X → Y) → Result X EntryFault → Re
 Answers view result read = GivesOr FailsAt view result read
 
 -- The payload is the text of no such batch.
-abbrev pub IsNoText : Sealed → ℕ → ℕ → List ℕ → Type 0
+abbrev pub IsNoText : Validated → ℕ → ℕ → List ℕ → Type 0
 IsNoText p iteration count payload = (es : List Entry) → IsBatch p iteration count es → payload ≢ spell es
 
 -- where the answer is Bad

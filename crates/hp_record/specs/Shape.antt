@@ -2,20 +2,20 @@
 use Rattle.std.specs.Prelude.{◌≡◌, ◌==◌, ℕ, ◌<◌, ◌≤◌, ◌^◌, Bool, true, ◌&&◌, ◌||◌, not, List, [], ◌∷◌, length, Option, Some, None, option_map, unwrap_or, nat_lt, nat_eq, FitsSigned, All}
 use Rattle.std.specs.List.{list_any, AllByRecursion}
 use Rattle.std.specs.Int.{w64}
-use Rattle.hp_problem.specs.declared.raw.Subproblem.{Subproblem}
-use Rattle.hp_problem.specs.Parts.{successors_at, weights_at}
-use Rattle.hp_problem.specs.Sealed.{Sealed, subproblem_of}
+use Rattle.hp_parts.specs.declared.parts.Subproblem.{Subproblem}
+use Rattle.hp_parts.specs.Parts.{successors_at, weights_at}
+use Rattle.hp_problem.specs.Validated.{Validated, subproblem_of}
 use Rattle.hp_theory.specs.declared.cut.Certificate.{Certificate}
 use Rattle.hp_cut.specs.declared.entry.Entry.{Entry}
 use Rattle.hp_cut.specs.declared.entry.EntryStep.{EntryStep}
 use Rattle.hp_record.specs.declared.sizes.Sizes.{Sizes}
 
 -- a node's realizations, its subproblem's rows, and its successors
-abbrev pub sizes_of : Sealed → ℕ → Sizes
+abbrev pub sizes_of : Validated → ℕ → Sizes
 sizes_of p m = record {
-  realizations = length (weights_at p.raw m);
+  realizations = length (weights_at p.parts m);
   rows = unwrap_or (option_map (λ (s : Subproblem). length s.rows) (subproblem_of p m)) 0;
-  successors = length (successors_at p.raw m);
+  successors = length (successors_at p.parts m);
 }
 
 -- the node m is among these
@@ -23,31 +23,31 @@ abbrev pub is_among : List ℕ → ℕ → Bool
 is_among ms m = list_any (λ k. nat_eq k m) ms
 
 -- the node leads to the one of the step before, where there is such a step
-abbrev pub leads_on : Sealed → ℕ → Option ℕ → Bool
+abbrev pub leads_on : Validated → ℕ → Option ℕ → Bool
 leads_on p m None = true
-leads_on p m (Some k) = is_among (successors_at p.raw m) k
+leads_on p m (Some k) = is_among (successors_at p.parts m) k
 
 -- The node of a step: a node of the problem that leads to the one of the step before, and in the last step a successor of the root.
-abbrev pub may_stand : Sealed → Option ℕ → Bool → ℕ → Bool
-may_stand p before last m = nat_lt m (length p.raw.nodes) && leads_on p m before && (not last || is_among p.raw.root m)
+abbrev pub may_stand : Validated → Option ℕ → Bool → ℕ → Bool
+may_stand p before last m = nat_lt m (length p.parts.nodes) && leads_on p m before && (not last || is_among p.parts.root m)
 
 -- Read backwards these steps are a path from the root to a node that leads to the one before them.
-abbrev pub is_path_backwards : Sealed → Option ℕ → List EntryStep → Bool
+abbrev pub is_path_backwards : Validated → Option ℕ → List EntryStep → Bool
 is_path_backwards p before [] = true
 is_path_backwards p before (s ∷ ss) = may_stand p before (length ss == 0) s.node && is_path_backwards p (Some s.node) ss
 
 -- one multiplier per row, and one list of pairs per successor
-pub record Suits (z : Sizes) (c : Certificate) : Type 0 where
+pub record SuitsSizes (z : Sizes) (c : Certificate) : Type 0 where
   pub rows : length c.rows ≡ z.rows
   pub cuts : length c.cuts ≡ z.successors
 
 -- one certificate per realization of the node
-pub record StepSuits (p : Sealed) (s : EntryStep) : Type 0 where
+pub record StepSuits (p : Validated) (s : EntryStep) : Type 0 where
   pub count : length s.list ≡ (sizes_of p s.node).realizations
-  pub each : AllByRecursion (Suits (sizes_of p s.node)) s.list
+  pub each : AllByRecursion (SuitsSizes (sizes_of p s.node)) s.list
 
 -- At least one step; read backwards the nodes are a path from the root; and each step has its node's sizes.
-pub record Writable (p : Sealed) (e : Entry) : Type 0 where
+pub record Writable (p : Validated) (e : Entry) : Type 0 where
   pub some_step : 0 < length e.steps
   pub path : is_path_backwards p None e.steps ≡ true
   pub steps : AllByRecursion (StepSuits p) e.steps
@@ -69,11 +69,11 @@ StepFits s = AllByRecursion CertificateFits s.list
 
 pub record EntryFits (e : Entry) : Type 0 where
   pub iteration : e.iteration < 2 ^ 32
-  pub unsettled : e.unsettled < 2 ^ 32
+  pub unanswered : e.unanswered < 2 ^ 32
   pub steps : AllByRecursion StepFits e.steps
 
 -- So many entries of one iteration, that the problem can have.
-pub record IsBatch (p : Sealed) (iteration count : ℕ) (es : List Entry) : Type 0 where
+pub record IsBatch (p : Validated) (iteration count : ℕ) (es : List Entry) : Type 0 where
   pub counted : length es ≡ count
   pub same : AllByRecursion (λ e. e.iteration ≡ iteration) es
   pub each : AllByRecursion (Writable p) es

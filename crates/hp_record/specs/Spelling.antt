@@ -26,9 +26,9 @@ certificate_text c = flat_map row_text c.rows ++ flat_map pairs_text c.cuts
 abbrev pub step_text : EntryStep → List ℕ
 step_text s = to_be_bytes w16 s.node ++ flat_map certificate_text s.list
 
--- the iteration, the unsettled solves, the number of steps, and then the steps
+-- the iteration, the unanswered solves, the number of steps, and then the steps
 abbrev pub entry_text : Entry → List ℕ
-entry_text e = to_be_bytes w32 e.iteration ++ to_be_bytes w32 e.unsettled ++ to_be_bytes w16 (length e.steps) ++ flat_map step_text e.steps
+entry_text e = to_be_bytes w32 e.iteration ++ to_be_bytes w32 e.unanswered ++ to_be_bytes w16 (length e.steps) ++ flat_map step_text e.steps
 
 -- entries one after another
 abbrev pub spell : List Entry → List ℕ

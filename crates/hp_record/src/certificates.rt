@@ -1,5 +1,5 @@
 // The lists of certificates, read from the front of bytes, with the bytes behind them.
-ghost use Rattle.hp_record.specs.Reading.{Gives, many, row_at, pair_at, pairs_at, certificate_at};
+ghost use Rattle.hp_record.specs.Reading.{ReadingGives, many, read_row_at, pair_at, pairs_at, certificate_at};
 
 use crate::fault::ReadFault;
 use crate::numbers::{pair_at, row_at, u32_at};
@@ -15,17 +15,17 @@ fn rows<'a>(
     count: usize,
     bytes: &'a [u8],
 ) -> Result<(List<i64>, &'a [u8]), ReadFault>
-    ensures { Gives (λ x. (x.0, x.1.now)) result (many row_at count bytes.now) }
+    ensures { ReadingGives (λ x. (x.0, x.1.now)) result (many read_row_at count bytes.now) }
 {
     let mut found = spares.rows.take(alloc).into_vec();
     found.reserve_exact(count.min(bytes.len() / 8))?;
-    let mut rest = bytes;
+    let mut tail = bytes;
     for _ in 0..count {
-        let (row, after) = row_at(rest)?;
+        let (row, after) = row_at(tail)?;
         found.push(row)?;
-        rest = after;
+        tail = after;
     }
-    Ok((List::from_vec(found), rest))
+    Ok((List::from_vec(found), tail))
 }
 
 fn counted_pairs<'a>(
@@ -34,17 +34,17 @@ fn counted_pairs<'a>(
     count: usize,
     bytes: &'a [u8],
 ) -> Result<(List<(u32, u64)>, &'a [u8]), ReadFault>
-    ensures { Gives (λ x. (x.0, x.1.now)) result (many pair_at count bytes.now) }
+    ensures { ReadingGives (λ x. (x.0, x.1.now)) result (many pair_at count bytes.now) }
 {
     let mut found = spares.pairs.take(alloc).into_vec();
     found.reserve_exact(count.min(bytes.len() / 12))?;
-    let mut rest = bytes;
+    let mut tail = bytes;
     for _ in 0..count {
-        let (pair, after) = pair_at(rest)?;
+        let (pair, after) = pair_at(tail)?;
         found.push(pair)?;
-        rest = after;
+        tail = after;
     }
-    Ok((List::from_vec(found), rest))
+    Ok((List::from_vec(found), tail))
 }
 
 #[tactic(auto, unfolding(crate::specs::Reading::pairs_at))]
@@ -53,10 +53,10 @@ fn pairs<'a>(
     spares: &mut Spares,
     bytes: &'a [u8],
 ) -> Result<(List<(u32, u64)>, &'a [u8]), ReadFault>
-    ensures { Gives (λ x. (x.0, x.1.now)) result (pairs_at bytes.now) }
+    ensures { ReadingGives (λ x. (x.0, x.1.now)) result (pairs_at bytes.now) }
 {
-    let (count, rest) = u32_at(bytes)?;
-    counted_pairs(alloc, spares, count as usize, rest)
+    let (count, tail) = u32_at(bytes)?;
+    counted_pairs(alloc, spares, count as usize, tail)
 }
 
 fn cuts<'a>(
@@ -65,17 +65,17 @@ fn cuts<'a>(
     count: usize,
     bytes: &'a [u8],
 ) -> Result<(List<List<(u32, u64)>>, &'a [u8]), ReadFault>
-    ensures { Gives (λ x. (x.0, x.1.now)) result (many pairs_at count bytes.now) }
+    ensures { ReadingGives (λ x. (x.0, x.1.now)) result (many pairs_at count bytes.now) }
 {
     let mut found = spares.cuts.take(alloc).into_vec();
     found.reserve_exact(count.min(bytes.len() / 4))?;
-    let mut rest = bytes;
+    let mut tail = bytes;
     for _ in 0..count {
-        let (pairs, after) = pairs(alloc, spares, rest)?;
+        let (pairs, after) = pairs(alloc, spares, tail)?;
         found.push(pairs)?;
-        rest = after;
+        tail = after;
     }
-    Ok((List::from_vec(found), rest))
+    Ok((List::from_vec(found), tail))
 }
 
 #[tactic(auto, unfolding(crate::specs::Reading::certificate_at))]
@@ -85,11 +85,11 @@ fn certificate<'a>(
     sizes: Sizes,
     bytes: &'a [u8],
 ) -> Result<(Certificate, &'a [u8]), ReadFault>
-    ensures { Gives (λ x. (x.0, x.1.now)) result (certificate_at sizes bytes.now) }
+    ensures { ReadingGives (λ x. (x.0, x.1.now)) result (certificate_at sizes bytes.now) }
 {
-    let (rows, rest) = rows(alloc, spares, sizes.rows, bytes)?;
-    let (cuts, rest) = cuts(alloc, spares, sizes.successors, rest)?;
-    Ok((Certificate { rows, cuts }, rest))
+    let (rows, tail) = rows(alloc, spares, sizes.rows, bytes)?;
+    let (cuts, tail) = cuts(alloc, spares, sizes.successors, tail)?;
+    Ok((Certificate { rows, cuts }, tail))
 }
 
 // Reads one certificate per realization.
@@ -99,15 +99,15 @@ pub(crate) fn certificates<'a>(
     sizes: Sizes,
     bytes: &'a [u8],
 ) -> Result<(List<Certificate>, &'a [u8]), ReadFault>
-    ensures { Gives (λ x. (x.0, x.1.now)) result (many (certificate_at sizes) sizes.realizations bytes.now) }
+    ensures { ReadingGives (λ x. (x.0, x.1.now)) result (many (certificate_at sizes) sizes.realizations bytes.now) }
 {
     let mut found = spares.certificates.take(alloc).into_vec();
     found.reserve_exact(sizes.realizations)?;
-    let mut rest = bytes;
+    let mut tail = bytes;
     for _ in 0..sizes.realizations {
-        let (certificate, after) = certificate(alloc, spares, sizes, rest)?;
+        let (certificate, after) = certificate(alloc, spares, sizes, tail)?;
         found.push(certificate)?;
-        rest = after;
+        tail = after;
     }
-    Ok((List::from_vec(found), rest))
+    Ok((List::from_vec(found), tail))
 }

@@ -1,14 +1,13 @@
 // Entries, read from bytes.
 ghost use Rattle.std.specs.Prelude.{◌≡◌, ◌<◌, ◌≤◌, ◌^◌, List, length, IfOk, Ok, [], ◌∷◌};
-ghost use Rattle.std.specs.Int.{w32};
 ghost use Rattle.hp_cut.specs.declared.entry.Entry.{Entry};
 ghost use Rattle.hp_record.specs.Spelling.{spell};
 ghost use Rattle.hp_record.specs.Shape.{IsBatch};
-ghost use Rattle.hp_record.specs.Reading.{Gives, Answers, IsNoText, OnBad, many, iteration_at, count_at, entry_at, entries_at, read_batch};
+ghost use Rattle.hp_record.specs.Reading.{ReadingGives, Answers, IsNoText, OnBad, many, iteration_at, count_at, entry_at, entries_at, read_batch};
 
 use crate::fault::{EntryFault, ReadFault};
 use crate::numbers::{u16_at, u32_at};
-use crate::sizes::sealed;
+use crate::sizes::validated;
 use crate::spares::Spares;
 use crate::steps::steps;
 use hp_cut::Entry;
@@ -19,25 +18,25 @@ use std::alloc::Global;
 // The wanted iteration.
 #[tactic(auto, unfolding(crate::specs::Reading::iteration_at))]
 fn iteration_at(wanted: u32, bytes: &[u8]) -> Result<(u32, &[u8]), ReadFault>
-    ensures { Gives (λ x. (x.0, x.1.now)) result (iteration_at wanted bytes.now) }
+    ensures { ReadingGives (λ x. (x.0, x.1.now)) result (iteration_at wanted bytes.now) }
 {
-    let (iteration, rest) = u32_at(bytes)?;
+    let (iteration, tail) = u32_at(bytes)?;
     if iteration != wanted {
         return Err(ReadFault::Bad { left: bytes.len() });
     }
-    Ok((iteration, rest))
+    Ok((iteration, tail))
 }
 
 // The number of steps.
 #[tactic(auto, unfolding(crate::specs::Reading::count_at))]
 fn count_at<'a>(problem: &Problem, bytes: &'a [u8]) -> Result<(u16, &'a [u8]), ReadFault>
-    ensures { Gives (λ x. (x.0, x.1.now)) result (count_at problem.now bytes.now) }
+    ensures { ReadingGives (λ x. (x.0, x.1.now)) result (count_at problem.now bytes.now) }
 {
-    let (count, rest) = u16_at(bytes)?;
+    let (count, tail) = u16_at(bytes)?;
     if count == 0 || problem.longest() < count as u32 {
         return Err(ReadFault::Bad { left: bytes.len() });
     }
-    Ok((count, rest))
+    Ok((count, tail))
 }
 
 #[tactic(auto, unfolding(crate::specs::Reading::entry_at))]
@@ -48,18 +47,18 @@ fn entry<'a>(
     wanted: u32,
     bytes: &'a [u8],
 ) -> Result<(Entry, &'a [u8]), ReadFault>
-    ensures { Gives (λ x. (x.0, x.1.now)) result (entry_at problem.now wanted bytes.now) }
+    ensures { ReadingGives (λ x. (x.0, x.1.now)) result (entry_at problem.now wanted bytes.now) }
 {
-    let (iteration, rest) = iteration_at(wanted, bytes)?;
-    let (unsettled, rest) = u32_at(rest)?;
-    let (count, rest) = count_at(problem, rest)?;
-    let (steps, rest) = steps(alloc, spares, problem, count as usize, rest)?;
+    let (iteration, tail) = iteration_at(wanted, bytes)?;
+    let (unanswered, tail) = u32_at(tail)?;
+    let (count, tail) = count_at(problem, tail)?;
+    let (steps, tail) = steps(alloc, spares, problem, count as usize, tail)?;
     let entry = Entry {
         iteration,
-        unsettled,
+        unanswered,
         steps,
     };
-    Ok((entry, rest))
+    Ok((entry, tail))
 }
 
 fn counted_entries<'a>(
@@ -70,16 +69,16 @@ fn counted_entries<'a>(
     count: u16,
     bytes: &'a [u8],
 ) -> Result<(List<Entry>, &'a [u8]), ReadFault>
-    ensures { Gives (λ x. (x.0, x.1.now)) result (many (entry_at problem.now wanted) count bytes.now) }
+    ensures { ReadingGives (λ x. (x.0, x.1.now)) result (many (entry_at problem.now wanted) count bytes.now) }
 {
     let mut found = Vec::with_capacity(alloc, (count as usize).min(bytes.len() / 10))?;
-    let mut rest = bytes;
+    let mut tail = bytes;
     for _ in 0..count {
-        let (entry, after) = entry(alloc, spares, problem, wanted, rest)?;
+        let (entry, after) = entry(alloc, spares, problem, wanted, tail)?;
         found.push(entry)?;
-        rest = after;
+        tail = after;
     }
-    Ok((List::from_vec(found), rest))
+    Ok((List::from_vec(found), tail))
 }
 
 #[tactic(auto, unfolding(crate::specs::Reading::entries_at))]
@@ -91,11 +90,11 @@ fn entries(
     count: u16,
     bytes: &[u8],
 ) -> Result<List<Entry>, ReadFault>
-    ensures { Gives (λ x. x) result (entries_at problem.now wanted count bytes.now) }
+    ensures { ReadingGives (λ x. x) result (entries_at problem.now wanted count bytes.now) }
 {
-    let (entries, rest) = counted_entries(alloc, spares, problem, wanted, count, bytes)?;
-    if !rest.is_empty() {
-        return Err(ReadFault::Bad { left: rest.len() });
+    let (entries, tail) = counted_entries(alloc, spares, problem, wanted, count, bytes)?;
+    if !tail.is_empty() {
+        return Err(ReadFault::Bad { left: tail.len() });
     }
     Ok(entries)
 }
@@ -164,7 +163,7 @@ pub fn decode_batch_with(
     ensures bad { OnBad result (IsNoText problem.now iteration batch payload.now) }
     ensures exact { Answers (λ x. x) result (read_batch problem.now iteration batch payload.now) }
 {
-    sealed(problem);
+    validated(problem);
     placed(alloc, spares, problem, iteration, batch, payload)
 }
 

@@ -5,7 +5,7 @@ ghost use Rattle.std.specs.List.{flat_map, AllByRecursion};
 ghost use Rattle.hp_record.specs.Spelling.{row_text, pair_text, pairs_text, certificate_text, step_text, entry_text, spell};
 ghost use Rattle.hp_record.specs.Shape.{CertificateFits, CountsFit, EntryFits, NodeFits, PairFits, PairsFit, StepFits, StepsFit, Writable};
 
-use crate::sizes::sealed;
+use crate::sizes::validated;
 use hp_cut::{Certificate, Entry, EntryStep};
 use hp_num::{List, Memory};
 use hp_problem::Problem;
@@ -109,7 +109,7 @@ fn put_entry(out: &mut Vec<u8>, entry: &Entry) -> Result<(), Memory>
     ensures numbers { OnOk result (EntryFits entry.now) }
 {
     out.extend_from_slice(&entry.iteration.to_be_bytes())?;
-    out.extend_from_slice(&entry.unsettled.to_be_bytes())?;
+    out.extend_from_slice(&entry.unanswered.to_be_bytes())?;
     out.extend_from_slice(&(entry.steps.len() as u16).to_be_bytes())?;
     put_steps(out, entry.steps.as_slice())?;
     Ok(())
@@ -129,7 +129,7 @@ fn put_entries(alloc: Global, list: &[Entry]) -> Result<Vec<u8>, Memory>
 
 /// The text of entries, one after another. Memory where memory was refused.
 ///
-/// Of an entry: the iteration (4 bytes), the unsettled solves (4), the number of steps (2), and the steps. Of a step:
+/// Of an entry: the iteration (4 bytes), the unanswered solves (4), the number of steps (2), and the steps. Of a step:
 /// the node (2), and for each of its realizations one multiplier per row (8 each), and then for each successor the
 /// number of pairs (4) and the pairs, a cut's place (4) and its multiplier (8). Numbers are big-endian; a row's
 /// multiplier is in two's complement.
@@ -140,7 +140,7 @@ pub fn encode_batch(alloc: Global, problem: &Problem, list: &[Entry]) -> Result<
     // So it is a batch for [`decode_batch`](crate::decode_batch), where the entries are of one iteration.
     ensures numbers { OnOk result (AllByRecursion EntryFits list.now) }
 {
-    sealed(problem);
+    validated(problem);
     put_entries(alloc, list)
 }
 
@@ -151,7 +151,7 @@ pub fn encode(alloc: Global, problem: &Problem, entry: &Entry) -> Result<Vec<u8>
     ensures text { IfOk result (λ bytes. bytes.items ≡ spell (entry.now ∷ [])) }
     ensures numbers { OnOk result (EntryFits entry.now) }
 {
-    sealed(problem);
+    validated(problem);
     let mut out = Vec::new(alloc);
     put_entry(&mut out, entry)?;
     Ok(out)

@@ -2,7 +2,7 @@
 ghost use Rattle.std.specs.Prelude.{◌≡◌, ◌<◌, ◌≤◌, ◌+◌, ℕ, List, length, All, Ok, None, true};
 ghost use Rattle.std.specs.List.{AllByRecursion};
 ghost use Rattle.hp_problem.specs.Formulas.{record_bytes};
-ghost use Rattle.hp_problem.specs.Sealed.{Sealed, is_sealed};
+ghost use Rattle.hp_problem.specs.Validated.{Validated, is_validated};
 ghost use Rattle.hp_cut.specs.declared.entry.Entry.{Entry};
 ghost use Rattle.hp_cut.specs.declared.entry.EntryStep.{EntryStep};
 ghost use Rattle.hp_record.specs.Spelling.{spell};
@@ -13,10 +13,10 @@ ghost use Rattle.hp_record.specs.Reading.{read_batch};
 /// Each batch has one text, and no other batch has it: reading gives back the batch that was spelled, and a batch that is read
 /// has the bytes as its text.
 pub fn one_spelling()
-    ensures again { (p : Sealed) (iteration count : ℕ) (list : List Entry)
-        → is_sealed p ≡ true → IsBatch p iteration count list
+    ensures again { (p : Validated) (iteration count : ℕ) (list : List Entry)
+        → is_validated p ≡ true → IsBatch p iteration count list
         → read_batch p iteration count (spell list) ≡ Ok list }
-    ensures spelled { (p : Sealed) (iteration count : ℕ) (bytes : List ℕ) (list : List Entry)
+    ensures spelled { (p : Validated) (iteration count : ℕ) (bytes : List ℕ) (list : List Entry)
         → All (λ b. b < 256) bytes → read_batch p iteration count bytes ≡ Ok list
         → IsBatch p iteration count list × (bytes ≡ spell list) }
 {}
@@ -24,16 +24,16 @@ pub fn one_spelling()
 /// The text of entries is no longer than the formula for the bytes of a record says, where no list has more than
 /// `cuts + 1` pairs.
 pub fn bytes_of_a_payload()
-    ensures { (p : Sealed) (cuts batch : ℕ) (list : List Entry)
-        → is_sealed p ≡ true → length list ≤ batch → AllByRecursion (Writable p) list
+    ensures { (p : Validated) (cuts batch : ℕ) (list : List Entry)
+        → is_validated p ≡ true → length list ≤ batch → AllByRecursion (Writable p) list
         → AllByRecursion (PairsWithin (cuts + 1)) list
-        → length (spell list) ≤ record_bytes p.raw cuts batch }
+        → length (spell list) ≤ record_bytes p.parts cuts batch }
 {}
 
 /// Steps can stand in an entry exactly where their nodes, read backwards, are a path from the root.
 pub fn paths_read_backwards()
-    ensures backwards { (p : Sealed) (steps : List EntryStep) → is_sealed p ≡ true
+    ensures backwards { (p : Validated) (steps : List EntryStep) → is_validated p ≡ true
         → IsPathFromRoot p (nodes_back steps) → is_path_backwards p None steps ≡ true }
-    ensures path { (p : Sealed) (steps : List EntryStep) → 0 < length steps
+    ensures path { (p : Validated) (steps : List EntryStep) → 0 < length steps
         → is_path_backwards p None steps ≡ true → IsPathFromRoot p (nodes_back steps) }
 {}

@@ -1,6 +1,6 @@
 // The lengths of the lists of a node's certificates.
 ghost use Rattle.std.specs.Prelude.{◌≡◌, ◌<◌, length, true};
-ghost use Rattle.hp_problem.specs.Sealed.{is_sealed};
+ghost use Rattle.hp_problem.specs.Validated.{is_validated};
 ghost use Rattle.hp_record.specs.Shape.{sizes_of};
 
 use hp_problem::Problem;
@@ -18,7 +18,7 @@ pub(crate) struct Sizes {
 
 #[tactic(auto, using(crate::proofs::NodeParts::weights_are, crate::proofs::NodeParts::successors_are))]
 pub(crate) fn sizes_of(problem: &Problem, node: u32) -> Sizes
-    requires { node < length problem.now.raw.nodes }
+    requires { node < length problem.now.parts.nodes }
     ensures { result ≡ sizes_of problem.now node }
 {
     let rows = problem.sub(node).rows.len();
@@ -26,13 +26,13 @@ pub(crate) fn sizes_of(problem: &Problem, node: u32) -> Sizes
     Sizes {
         realizations: node.weights.len(),
         rows,
-        successors: node.links.len(),
+        successors: node.successors.len(),
     }
 }
 
 // States that each problem's parts fit together. It does nothing.
-pub(crate) fn sealed(problem: &Problem)
-    ensures { is_sealed problem.now ≡ true }
+pub(crate) fn validated(problem: &Problem)
+    ensures { is_validated problem.now ≡ true }
 {
-    problem.raw();
+    problem.parts();
 }

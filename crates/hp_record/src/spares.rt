@@ -43,7 +43,7 @@ impl Spares {
     fn give_steps(&mut self, entry: Entry) {
         let Entry {
             iteration: _,
-            unsettled: _,
+            unanswered: _,
             steps,
         } = entry;
         let mut steps = steps.into_vec();

@@ -10,12 +10,12 @@ use Rattle.std.specs.Fmt.{signed_decimal, decimal, digits, digits_onto, digit_gl
 use Rattle.hp_num.proofs.Tests.{both, and_second}
 use Rattle.hp_text.specs.Texts.{escaped, json_string, digit_of}
 use Rattle.hp_theory.specs.declared.cut.Cut.{Cut}
-use Rattle.hp_problem.specs.declared.raw.State.{State}
-use Rattle.hp_problem.specs.declared.raw.Node.{Node}
-use Rattle.hp_problem.specs.declared.raw.Raw.{Raw}
-use Rattle.hp_problem.specs.Sealed.{Sealed}
+use Rattle.hp_parts.specs.declared.parts.State.{State}
+use Rattle.hp_parts.specs.declared.parts.Node.{Node}
+use Rattle.hp_parts.specs.declared.parts.ProblemParts.{ProblemParts}
+use Rattle.hp_problem.specs.Validated.{Validated}
 use Rattle.hp_theory.specs.Problem.{Problem}
-use Rattle.hp_theory.specs.Pools.{pool, Holds, Sound}
+use Rattle.hp_theory.specs.Pools.{pool, Sound}
 use Rattle.hp_theory.specs.Bound.{bound, Under}
 use Rattle.hp_theory.specs.View.{problem_of}
 use Rattle.hp_report.specs.Lines.{numbered}
@@ -91,30 +91,30 @@ pub name_printable : (name : List ℕ) → printable (json_string name) ≡ true
 name_printable name = printable-append (codes "\"" ++ flat_map escaped name) (codes "\"") (printable-append (codes "\"") (flat_map escaped name) refl (names_printable name)) refl
 
 -- a printable line ends at the newline behind it
-one_line : (line rest : List ℕ) → printable line ≡ true → lines_of (line ++ 10 ∷ rest) ≡ line ∷ lines_of rest
-one_line [] rest h = refl
-one_line (b ∷ bs) rest h =
-    by (b == 10) refl (grind (arith, nat_tests, h)) ∙ ap (before_lines b) (one_line bs rest (and_second (nat_lt 10 b) (printable bs) h))
+one_line : (line tail : List ℕ) → printable line ≡ true → lines_of (line ++ 10 ∷ tail) ≡ line ∷ lines_of tail
+one_line [] tail h = refl
+one_line (b ∷ bs) tail h =
+    by (b == 10) refl (grind (arith, nat_tests, h)) ∙ ap (before_lines b) (one_line bs tail (and_second (nat_lt 10 b) (printable bs) h))
   where
-    by : (t : Bool) → (b == 10) ≡ t → t ≡ false → cond t ([] ∷ lines_of (bs ++ 10 ∷ rest)) (before_lines b (lines_of (bs ++ 10 ∷ rest))) ≡ before_lines b (lines_of (bs ++ 10 ∷ rest))
+    by : (t : Bool) → (b == 10) ≡ t → t ≡ false → cond t ([] ∷ lines_of (bs ++ 10 ∷ tail)) (before_lines b (lines_of (bs ++ 10 ∷ tail))) ≡ before_lines b (lines_of (bs ++ 10 ∷ tail))
     by true e f = absurd (cc)
     by false e f = refl
 
 module _ (claims : Claims) where
   -- before sound lines the text is sound too
   abbrev pub Good : List ℕ → Type 0
-  Good text = (rest : List ℕ) → Lines claims rest → Lines claims (text ++ rest)
+  Good text = (tail : List ℕ) → Lines claims tail → Lines claims (text ++ tail)
 
   pub good_line : (line : List ℕ) → printable line ≡ true → Line claims line → Good (line ++ codes "\n")
-  good_line line h s rest r =
-      let e : lines_of ((line ++ codes "\n") ++ rest) ≡ line ∷ lines_of rest = ap lines_of (append_assoc line (codes "\n") rest) ∙ one_line line rest h in
-      subst (All (Line claims)) (sym e) (All-cons (Line claims) line (lines_of rest) s r)
+  good_line line h s tail r =
+      let e : lines_of ((line ++ codes "\n") ++ tail) ≡ line ∷ lines_of tail = ap lines_of (append_assoc line (codes "\n") tail) ∙ one_line line tail h in
+      subst (All (Line claims)) (sym e) (All-cons (Line claims) line (lines_of tail) s r)
 
   pub good_append : (a b : List ℕ) → Good a → Good b → Good (a ++ b)
-  good_append a b f g rest r = subst (Lines claims) (sym (append_assoc a b rest)) (f (b ++ rest) (g rest r))
+  good_append a b f g tail r = subst (Lines claims) (sym (append_assoc a b tail)) (f (b ++ tail) (g tail r))
 
   pub good_numbered : {A : Type 0} (text : ℕ → A → List ℕ) → ((i : ℕ) (x : A) → Good (text i x)) → (i : ℕ) (xs : List A) → Good (numbered text i xs)
-  good_numbered text f i [] = λ rest r. r
+  good_numbered text f i [] = λ tail r. r
   good_numbered text f i (x ∷ xs) = good_append (text i x) (numbered text (suc i) xs) (f i x) (good_numbered text f (suc i) xs)
 
   -- a line whose first letter is none of those of words that claim something
@@ -124,7 +124,7 @@ module _ (claims : Claims) where
     bound = λ h. absurd (b (sym e ∙ ap (λ w. get_or w 0 0) h));
     iteration = λ h. absurd (i (sym e ∙ ap (λ w. get_or w 0 0) h));
     upper = λ h. absurd (u (sym e ∙ ap (λ w. get_or w 0 0) h));
-    plane = λ h. absurd (p (sym e ∙ ap (λ w. get_or w 0 0) h));
+    risk_cut = λ h. absurd (p (sym e ∙ ap (λ w. get_or w 0 0) h));
     worst = λ h. absurd (w (sym e ∙ ap (λ w. get_or w 0 0) h));
   }
 
@@ -148,10 +148,10 @@ module _ (claims : Claims) where
       (good_line (codes "hydroplan 1") refl (plain_line (codes "hydroplan 1") 104 refl (omega arith) (omega arith) (omega arith) (omega arith) (omega arith) (omega arith)))
       (good_line (codes "scale 16777216") refl (plain_line (codes "scale 16777216") 115 refl (omega arith) (omega arith) (omega arith) (omega arith) (omega arith) (omega arith)))
 
-  pub good_head : (raw : Raw) → Good (head_text raw)
+  pub good_head : (parts : ProblemParts) → Good (head_text parts)
   unfolding head_text
-  good_head raw = good_append (title ++ numbered state_line 0 raw.states) (numbered node_line 0 raw.nodes)
-      (good_append title (numbered state_line 0 raw.states) good_title (good_numbered state_line good_state 0 raw.states)) (good_numbered node_line good_node 0 raw.nodes)
+  good_head parts = good_append (title ++ numbered state_line 0 parts.states) (numbered node_line 0 parts.nodes)
+      (good_append title (numbered state_line 0 parts.states) good_title (good_numbered state_line good_state 0 parts.states)) (good_numbered node_line good_node 0 parts.nodes)
 
   no : (a b : ℕ) (w : List ℕ) → get_or w 0 0 ≡ a → a ≢ b → (v : List ℕ) → get_or v 0 0 ≡ b → w ≡ v → ⊥
   no a b w e n v f h = n (sym e ∙ ap (λ u. get_or u 0 0) h ∙ f)
@@ -166,20 +166,20 @@ module _ (claims : Claims) where
         bound = λ e. absurd (no 99 98 (first_word line) refl (omega arith) (codes "bound") refl e);
         iteration = λ e. absurd (no 99 105 (first_word line) refl (omega arith) (codes "iteration") refl e);
         upper = λ e. absurd (no 99 117 (first_word line) refl (omega arith) (codes "upper") refl e);
-        plane = λ e. absurd (no 99 112 (first_word line) refl (omega arith) (codes "plane") refl e);
+        risk_cut = λ e. absurd (no 99 112 (first_word line) refl (omega arith) (codes "plane") refl e);
         worst = λ e. absurd (no 99 119 (first_word line) refl (omega arith) (codes "worst") refl e);
       })
 
   good_cuts : (m k : ℕ) (cuts : List Cut) → All (claims.cuts m) cuts → Good (numbered (cut_line m) k cuts)
-  good_cuts m k [] h = λ rest r. r
+  good_cuts m k [] h = λ tail r. r
   good_cuts m k (c ∷ cs) h = good_append (cut_line m k c) (numbered (cut_line m) (suc k) cs) (good_cut m k c (h 0 c (omega arith))) (good_cuts m (suc k) cs (All-tail (claims.cuts m) c cs h))
 
   good_lists : (m : ℕ) (lists : List (List Cut)) → ((k : ℕ) → All (claims.cuts (m + k)) (get_or lists k [])) → Good (numbered node_cuts m lists)
-  good_lists m [] h = λ rest r. r
+  good_lists m [] h = λ tail r. r
   good_lists m (cuts ∷ lists) h =
       let first : All (claims.cuts m) cuts = subst (λ (k : ℕ). All (claims.cuts k) cuts) (omega arith) (h 0) in
-      let rest : (k : ℕ) → All (claims.cuts (suc m + k)) (get_or lists k []) = λ k. subst (λ (i : ℕ). All (claims.cuts i) (get_or lists k [])) (omega arith) (h (suc k)) in
-      good_append (node_cuts m cuts) (numbered node_cuts (suc m) lists) (good_cuts m 0 cuts first) (good_lists (suc m) lists rest)
+      let tail : (k : ℕ) → All (claims.cuts (suc m + k)) (get_or lists k []) = λ k. subst (λ (i : ℕ). All (claims.cuts i) (get_or lists k [])) (omega arith) (h (suc k)) in
+      good_append (node_cuts m cuts) (numbered node_cuts (suc m) lists) (good_cuts m 0 cuts first) (good_lists (suc m) lists tail)
 
   pub good_bound : (b : ℤ) → claims.bounds b → Good (bound_line b)
   good_bound b h =
@@ -190,7 +190,7 @@ module _ (claims : Claims) where
         bound = λ e. record { number = b; is = refl; claimed = h };
         iteration = λ e. absurd (no 98 105 (first_word line) refl (omega arith) (codes "iteration") refl e);
         upper = λ e. absurd (no 98 117 (first_word line) refl (omega arith) (codes "upper") refl e);
-        plane = λ e. absurd (no 98 112 (first_word line) refl (omega arith) (codes "plane") refl e);
+        risk_cut = λ e. absurd (no 98 112 (first_word line) refl (omega arith) (codes "plane") refl e);
         worst = λ e. absurd (no 98 119 (first_word line) refl (omega arith) (codes "worst") refl e);
       })
 
@@ -203,7 +203,7 @@ module _ (claims : Claims) where
         bound = λ e. absurd (no 117 98 (first_word line) refl (omega arith) (codes "bound") refl e);
         iteration = λ e. absurd (no 117 105 (first_word line) refl (omega arith) (codes "iteration") refl e);
         upper = λ e. record { number = u; is = refl; claimed = h };
-        plane = λ e. absurd (no 117 112 (first_word line) refl (omega arith) (codes "plane") refl e);
+        risk_cut = λ e. absurd (no 117 112 (first_word line) refl (omega arith) (codes "plane") refl e);
         worst = λ e. absurd (no 117 119 (first_word line) refl (omega arith) (codes "worst") refl e);
       })
 
@@ -218,22 +218,22 @@ module _ (claims : Claims) where
         bound = λ e. absurd (no 105 98 (first_word line) refl (omega arith) (codes "bound") refl e);
         iteration = λ e. record { iteration = k; bound = b; is = refl; claimed = h };
         upper = λ e. absurd (no 105 117 (first_word line) refl (omega arith) (codes "upper") refl e);
-        plane = λ e. absurd (no 105 112 (first_word line) refl (omega arith) (codes "plane") refl e);
+        risk_cut = λ e. absurd (no 105 112 (first_word line) refl (omega arith) (codes "plane") refl e);
         worst = λ e. absurd (no 105 119 (first_word line) refl (omega arith) (codes "worst") refl e);
       })
 
   good_iterations : (i : ℕ) (bounds : List ℤ) → All claims.bounds bounds → Good (numbered iteration_after i bounds)
-  good_iterations i [] h = λ rest r. r
+  good_iterations i [] h = λ tail r. r
   good_iterations i (b ∷ bs) h =
       good_append (iteration_line (suc i) b) (numbered iteration_after (suc i) bs)
       (good_iteration (suc i) b (h 0 b (omega arith))) (good_iterations (suc i) bs (All-tail claims.bounds b bs h))
 
-  good_total : (count unsettled : ℕ) → Good (total_line count unsettled)
-  good_total count unsettled =
+  good_total : (count unanswered : ℕ) → Good (total_line count unanswered)
+  good_total count unanswered =
       let front : List ℕ = codes "total iterations" ++ word (pos count) ++ codes " unsettled" in
-      good_line (front ++ word (pos unsettled))
-      (printable-append front (word (pos unsettled)) (printable-append (codes "total iterations" ++ word (pos count)) (codes " unsettled") (printable-append (codes "total iterations") (word (pos count)) refl (word_printable (pos count))) refl) (word_printable (pos unsettled)))
-      (plain_line (front ++ word (pos unsettled)) 116 refl (omega arith) (omega arith) (omega arith) (omega arith) (omega arith) (omega arith))
+      good_line (front ++ word (pos unanswered))
+      (printable-append front (word (pos unanswered)) (printable-append (codes "total iterations" ++ word (pos count)) (codes " unsettled") (printable-append (codes "total iterations") (word (pos count)) refl (word_printable (pos count))) refl) (word_printable (pos unanswered)))
+      (plain_line (front ++ word (pos unanswered)) 116 refl (omega arith) (omega arith) (omega arith) (omega arith) (omega arith) (omega arith))
 
   good_rest : (n : ℕ) → Good (rest_line n)
   good_rest n =
@@ -243,38 +243,38 @@ module _ (claims : Claims) where
   good_pools : (pools : List (List Cut)) → ((m : ℕ) → All (claims.cuts m) (pool pools m)) → Good (cut_lines pools)
   good_pools pools s = good_lists 0 pools (λ k. subst (λ (i : ℕ). All (claims.cuts i) (pool pools k)) (omega arith) (s k))
 
-  good_texts : (bounds : List ℤ) (unsettled : ℕ) → All claims.bounds bounds → Good (iterations_text bounds unsettled)
+  good_texts : (bounds : List ℤ) (unanswered : ℕ) → All claims.bounds bounds → Good (iterations_text bounds unanswered)
   unfolding iterations_text
-  good_texts bounds unsettled h = good_append (iteration_lines bounds) (total_line (length bounds) unsettled) (good_iterations 0 bounds h) (good_total (length bounds) unsettled)
+  good_texts bounds unanswered h = good_append (iteration_lines bounds) (total_line (length bounds) unanswered) (good_iterations 0 bounds h) (good_total (length bounds) unanswered)
 
 -- the report of sound pools is sound line by line
-pub sound_lines : (p : Sealed) (pools : List (List Cut)) → Sound (problem_of p) pools → Under (problem_of p) (bound (problem_of p) pools) → SoundLines (problem_of p) (base_text p pools)
+pub sound_lines : (p : Validated) (pools : List (List Cut)) → Sound (problem_of p) pools → Under (problem_of p) (bound (problem_of p) pools) → SoundLines (problem_of p) (base_text p pools)
 unfolding base_text
 sound_lines p pools s u =
     let q : Problem = problem_of p in
     let c : Claims = claims_of q (λ m k. ⊥) (λ b. ⊥) in
-    let good = good_append c (head_text p.raw ++ cut_lines pools) (bound_line (bound q pools)) (good_append c (head_text p.raw) (cut_lines pools) (good_head c p.raw) (good_pools c pools s)) (good_bound c (bound q pools) u) in
-    subst (SoundLines q) (append-nil (head_text p.raw ++ cut_lines pools ++ bound_line (bound q pools))) (good [] (All-nil (Line c)))
+    let good = good_append c (head_text p.parts ++ cut_lines pools) (bound_line (bound q pools)) (good_append c (head_text p.parts) (cut_lines pools) (good_head c p.parts) (good_pools c pools s)) (good_bound c (bound q pools) u) in
+    subst (SoundLines q) (append-nil (head_text p.parts ++ cut_lines pools ++ bound_line (bound q pools))) (good [] (All-nil (Line c)))
 
 -- and so is that of a journal, where its pools are sound and each of its bounds is under the cost of each policy
-pub sound_check : (p : Sealed) (pools : List (List Cut)) (bounds : List ℤ) (unsettled rest : ℕ) → Sound (problem_of p) pools → All (Under (problem_of p)) bounds → Under (problem_of p) (bound (problem_of p) pools)
-    → SoundLines (problem_of p) (check_text p pools bounds unsettled rest)
+pub sound_check : (p : Validated) (pools : List (List Cut)) (bounds : List ℤ) (unanswered tail : ℕ) → Sound (problem_of p) pools → All (Under (problem_of p)) bounds → Under (problem_of p) (bound (problem_of p) pools)
+    → SoundLines (problem_of p) (check_text p pools bounds unanswered tail)
 unfolding check_text
-sound_check p pools bounds unsettled rest s us u =
+sound_check p pools bounds unanswered tail s us u =
     let q : Problem = problem_of p in
     let c : Claims = claims_of q (λ m k. ⊥) (λ b. ⊥) in
-    let cuts : List ℕ = head_text p.raw ++ cut_lines pools in
-    let iterations : List ℕ = cuts ++ iterations_text bounds unsettled in
+    let cuts : List ℕ = head_text p.parts ++ cut_lines pools in
+    let iterations : List ℕ = cuts ++ iterations_text bounds unanswered in
     let last : List ℕ = iterations ++ bound_line (bound q pools) in
-    let good = good_append c last (rest_line rest) (good_append c iterations (bound_line (bound q pools)) (good_append c cuts (iterations_text bounds unsettled) (good_append c (head_text p.raw) (cut_lines pools) (good_head c p.raw) (good_pools c pools s)) (good_texts c bounds unsettled us)) (good_bound c (bound q pools) u)) (good_rest c rest) in
-    subst (SoundLines q) (append-nil (last ++ rest_line rest)) (good [] (All-nil (Line c)))
+    let good = good_append c last (rest_line tail) (good_append c iterations (bound_line (bound q pools)) (good_append c cuts (iterations_text bounds unanswered) (good_append c (head_text p.parts) (cut_lines pools) (good_head c p.parts) (good_pools c pools s)) (good_texts c bounds unanswered us)) (good_bound c (bound q pools) u)) (good_rest c tail) in
+    subst (SoundLines q) (append-nil (last ++ rest_line tail)) (good [] (All-nil (Line c)))
 
 -- and that of training
-pub sound_training : (p : Sealed) (pools : List (List Cut)) (bounds : List ℤ) (unsettled : ℕ) → All (Under (problem_of p)) bounds → Under (problem_of p) (bound (problem_of p) pools) → SoundLines (problem_of p) (train_text p pools bounds unsettled)
+pub sound_training : (p : Validated) (pools : List (List Cut)) (bounds : List ℤ) (unanswered : ℕ) → All (Under (problem_of p)) bounds → Under (problem_of p) (bound (problem_of p) pools) → SoundLines (problem_of p) (train_text p pools bounds unanswered)
 unfolding train_text
-sound_training p pools bounds unsettled us u =
+sound_training p pools bounds unanswered us u =
     let q : Problem = problem_of p in
     let c : Claims = claims_of q (λ m k. ⊥) (λ b. ⊥) in
-    let iterations : List ℕ = head_text p.raw ++ iterations_text bounds unsettled in
-    let good = good_append c iterations (bound_line (bound q pools)) (good_append c (head_text p.raw) (iterations_text bounds unsettled) (good_head c p.raw) (good_texts c bounds unsettled us)) (good_bound c (bound q pools) u) in
+    let iterations : List ℕ = head_text p.parts ++ iterations_text bounds unanswered in
+    let good = good_append c iterations (bound_line (bound q pools)) (good_append c (head_text p.parts) (iterations_text bounds unanswered) (good_head c p.parts) (good_texts c bounds unanswered us)) (good_bound c (bound q pools) u) in
     subst (SoundLines q) (append-nil (iterations ++ bound_line (bound q pools))) (good [] (All-nil (Line c)))

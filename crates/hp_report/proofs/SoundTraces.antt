@@ -2,10 +2,10 @@
 use Rattle.std.proofs.Common.{◌≡◌, ◌≢◌, ℕ, ℤ, pos, List, [], ◌∷◌, ◌++◌, codes, true, Option, Some, None, get_or, refl, sym, ap, subst, ◌∙◌, arith}
 use Rattle.std.proofs.lemmas.List.{append-nil}
 use Rattle.std.proofs.lemmas.List.Elements.{All-nil}
-use Rattle.hp_problem.specs.declared.raw.Decision.{Decision}
-use Rattle.hp_problem.specs.declared.raw.State.{State}
-use Rattle.hp_problem.specs.declared.raw.Subproblem.{Subproblem}
-use Rattle.hp_problem.specs.Sealed.{Sealed, subproblem_of}
+use Rattle.hp_parts.specs.declared.parts.Decision.{Decision}
+use Rattle.hp_parts.specs.declared.parts.State.{State}
+use Rattle.hp_parts.specs.declared.parts.Subproblem.{Subproblem}
+use Rattle.hp_problem.specs.Validated.{Validated, subproblem_of}
 use Rattle.hp_text.specs.Texts.{json_string}
 use Rattle.hp_theory.specs.declared.cut.Cut.{Cut}
 use Rattle.hp_theory.specs.Bound.{bound, Under}
@@ -18,7 +18,7 @@ use Rattle.hp_forward.specs.declared.traces.TraceStep.{TraceStep}
 use Rattle.hp_report.specs.Lines.{numbered}
 use Rattle.hp_report.specs.Report.{bound_line, head_text, word}
 use Rattle.hp_report.specs.SoundLines.{first_word, Claims, Line, claims_of, SoundLines}
-use Rattle.hp_report.specs.Traces.{cost_line, end_line, in_lines, kind_word, named_line, named_lines, own_lines, random_lines, row_line, scenario_line, scenario_text, stage_line, step_text, trace_text, value_lines}
+use Rattle.hp_report.specs.Traces.{cost_line, end_line, in_lines, kind_word, named_line, named_lines, own_lines, random_lines, row_line, scenario_line, scenario_text, stage_line, trace_step_text, trace_text, value_lines}
 use Rattle.hp_report.proofs.SoundLines.{Good, good_append, good_bound, good_head, good_line, good_numbered, name_printable, plain_line, printable, printable-append, word_printable}
 
 kind_printable : (k : Kind) → printable (kind_word k) ≡ true
@@ -41,12 +41,12 @@ module _ (p : Claims) where
     bound = λ h. absurd (b (sym e ∙ h));
     iteration = λ h. absurd (i (sym e ∙ h));
     upper = λ h. absurd (u (sym e ∙ h));
-    plane = λ h. absurd (x (sym e ∙ h));
+    risk_cut = λ h. absurd (x (sym e ∙ h));
     worst = λ h. absurd (w (sym e ∙ h));
   }
 
   good_none : Good p []
-  good_none = λ rest r. r
+  good_none = λ tail r. r
 
   good_named : {A : Type 0} (what : List ℕ) (name : A → List ℕ) → ((x : A) (z : ℤ) → Good p (named_line what (name x) z)) → (xs : List A) (zs : List ℤ) → Good p (named_lines what name xs zs)
   good_named what name f [] zs = good_none
@@ -98,15 +98,15 @@ module _ (p : Claims) where
       (good_named (codes "random ") (λ name. name) (λ name z. good_random name z) sub.randoms s.values)
       (good_named (codes "value ") (λ (d : Decision). d.name) (λ d z. good_value d.name z) sub.decisions s.decisions)
 
-  good_step : (sealed : Sealed) (t : ℕ) (s : TraceStep) → Good p (step_text sealed t s)
-  unfolding step_text
-  good_step sealed t s =
-      let states : List ℕ = stage_line t s ++ in_lines sealed.raw.states s.state in
-      let own : List ℕ = states ++ own_lines (subproblem_of sealed s.node) s in
+  good_step : (validated : Validated) (t : ℕ) (s : TraceStep) → Good p (trace_step_text validated t s)
+  unfolding trace_step_text
+  good_step validated t s =
+      let states : List ℕ = stage_line t s ++ in_lines validated.parts.states s.state in
+      let own : List ℕ = states ++ own_lines (subproblem_of validated s.node) s in
       let rows : List ℕ = own ++ numbered row_line 0 s.residuals in
-      good_append p rows (cost_line s.cost) (good_append p own (numbered row_line 0 s.residuals) (good_append p states (own_lines (subproblem_of sealed s.node) s)
-      (good_append p (stage_line t s) (in_lines sealed.raw.states s.state) (good_stage t s) (good_named (codes "in ") (λ (x : State). x.name) (λ x z. good_in x.name z) sealed.raw.states s.state))
-      (good_own (subproblem_of sealed s.node) s)) (good_numbered p row_line good_row 0 s.residuals)) (good_cost s.cost)
+      good_append p rows (cost_line s.cost) (good_append p own (numbered row_line 0 s.residuals) (good_append p states (own_lines (subproblem_of validated s.node) s)
+      (good_append p (stage_line t s) (in_lines validated.parts.states s.state) (good_stage t s) (good_named (codes "in ") (λ (x : State). x.name) (λ x z. good_in x.name z) validated.parts.states s.state))
+      (good_own (subproblem_of validated s.node) s)) (good_numbered p row_line good_row 0 s.residuals)) (good_cost s.cost)
 
   good_title : (i : ℕ) → Good p (scenario_line i)
   good_title i =
@@ -118,18 +118,18 @@ module _ (p : Claims) where
       let line : List ℕ = codes "end" ++ word z in
       good_line p line (printable-append (codes "end") (word z) refl (word_printable z)) (plain_line p line 101 refl (omega arith) (omega arith) (omega arith) (omega arith) (omega arith) (omega arith))
 
-  good_scenario : (sealed : Sealed) (i : ℕ) (trace : Trace) → Good p (scenario_text sealed i trace)
+  good_scenario : (validated : Validated) (i : ℕ) (trace : Trace) → Good p (scenario_text validated i trace)
   unfolding scenario_text
-  good_scenario sealed i trace =
-      let steps : List ℕ = numbered (step_text sealed) 0 trace.steps in
-      good_append p (scenario_line i ++ steps) (end_line trace.cost) (good_append p (scenario_line i) steps (good_title i) (good_numbered p (step_text sealed) (good_step sealed) 0 trace.steps)) (good_end trace.cost)
+  good_scenario validated i trace =
+      let steps : List ℕ = numbered (trace_step_text validated) 0 trace.steps in
+      good_append p (scenario_line i ++ steps) (end_line trace.cost) (good_append p (scenario_line i) steps (good_title i) (good_numbered p (trace_step_text validated) (good_step validated) 0 trace.steps)) (good_end trace.cost)
 
 -- the report of traces is sound line by line where the bound of its pools is under the cost of each policy
-pub sound_traces : (p : Sealed) (pools : List (List Cut)) (traces : List Trace) → Under (problem_of p) (bound (problem_of p) pools) → SoundLines (problem_of p) (trace_text p pools traces)
+pub sound_traces : (p : Validated) (pools : List (List Cut)) (traces : List Trace) → Under (problem_of p) (bound (problem_of p) pools) → SoundLines (problem_of p) (trace_text p pools traces)
 unfolding trace_text
 sound_traces p pools traces u =
     let q : Problem = problem_of p in
     let c : Claims = claims_of q (λ m k. ⊥) (λ b. ⊥) in
-    let scenarios : List ℕ = head_text p.raw ++ numbered (scenario_text p) 0 traces in
-    let good = good_append c scenarios (bound_line (bound q pools)) (good_append c (head_text p.raw) (numbered (scenario_text p) 0 traces) (good_head c p.raw) (good_numbered c (scenario_text p) (good_scenario c p) 0 traces)) (good_bound c (bound q pools) u) in
+    let scenarios : List ℕ = head_text p.parts ++ numbered (scenario_text p) 0 traces in
+    let good = good_append c scenarios (bound_line (bound q pools)) (good_append c (head_text p.parts) (numbered (scenario_text p) 0 traces) (good_head c p.parts) (good_numbered c (scenario_text p) (good_scenario c p) 0 traces)) (good_bound c (bound q pools) u) in
     subst (SoundLines q) (append-nil (scenarios ++ bound_line (bound q pools))) (good [] (All-nil (Line c)))

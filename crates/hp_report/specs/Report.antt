@@ -2,10 +2,10 @@
 use Rattle.std.specs.Prelude.{ℕ, suc, ℤ, pos, List, ◌++◌, length, codes}
 use Rattle.std.specs.Fmt.{signed_decimal}
 use Rattle.std.specs.List.{flat_map}
-use Rattle.hp_problem.specs.declared.raw.State.{State}
-use Rattle.hp_problem.specs.declared.raw.Node.{Node}
-use Rattle.hp_problem.specs.declared.raw.Raw.{Raw}
-use Rattle.hp_problem.specs.Sealed.{Sealed}
+use Rattle.hp_parts.specs.declared.parts.State.{State}
+use Rattle.hp_parts.specs.declared.parts.Node.{Node}
+use Rattle.hp_parts.specs.declared.parts.ProblemParts.{ProblemParts}
+use Rattle.hp_problem.specs.Validated.{Validated}
 use Rattle.hp_text.specs.Texts.{json_string}
 use Rattle.hp_theory.specs.declared.cut.Cut.{Cut}
 use Rattle.hp_theory.specs.Bound.{bound}
@@ -26,8 +26,8 @@ unfoldable pub title : List ℕ
 title = codes "hydroplan 1\nscale 16777216\n"
 
 -- the head of every report
-unfoldable pub head_text : Raw → List ℕ
-head_text raw = title ++ numbered state_line 0 raw.states ++ numbered node_line 0 raw.nodes
+unfoldable pub head_text : ProblemParts → List ℕ
+head_text parts = title ++ numbered state_line 0 parts.states ++ numbered node_line 0 parts.nodes
 
 -- a space and the number
 abbrev pub word : ℤ → List ℕ
@@ -62,24 +62,24 @@ iteration_lines bounds = numbered iteration_after 0 bounds
 
 -- how many iterations there are, and how many of their solves gave an answer that was of no use
 abbrev pub total_line : ℕ → ℕ → List ℕ
-total_line count unsettled = codes "total iterations" ++ word (pos count) ++ codes " unsettled" ++ word (pos unsettled) ++ codes "\n"
+total_line count unanswered = codes "total iterations" ++ word (pos count) ++ codes " unsettled" ++ word (pos unanswered) ++ codes "\n"
 
--- the bytes behind the journal's last gate
+-- the bytes behind the journal's last commit byte
 abbrev pub rest_line : ℕ → List ℕ
 rest_line n = codes "rest" ++ word (pos n) ++ codes "\n"
 
 -- the bound after each iteration, and their total
 unfoldable pub iterations_text : List ℤ → ℕ → List ℕ
-iterations_text bounds unsettled = iteration_lines bounds ++ total_line (length bounds) unsettled
+iterations_text bounds unanswered = iteration_lines bounds ++ total_line (length bounds) unanswered
 
 -- the report of the base cuts
-unfoldable pub base_text : Sealed → List (List Cut) → List ℕ
-base_text p pools = head_text p.raw ++ cut_lines pools ++ bound_line (bound (problem_of p) pools)
+unfoldable pub base_text : Validated → List (List Cut) → List ℕ
+base_text p pools = head_text p.parts ++ cut_lines pools ++ bound_line (bound (problem_of p) pools)
 
--- the report of a journal that was checked: its cuts over the base cuts, its bounds, and the bytes left behind its last gate
-unfoldable pub check_text : Sealed → List (List Cut) → List ℤ → ℕ → ℕ → List ℕ
-check_text p pools bounds unsettled rest = head_text p.raw ++ cut_lines pools ++ iterations_text bounds unsettled ++ bound_line (bound (problem_of p) pools) ++ rest_line rest
+-- the report of a journal that was checked: its cuts over the base cuts, its bounds, and the bytes left behind its last commit byte
+unfoldable pub check_text : Validated → List (List Cut) → List ℤ → ℕ → ℕ → List ℕ
+check_text p pools bounds unanswered tail = head_text p.parts ++ cut_lines pools ++ iterations_text bounds unanswered ++ bound_line (bound (problem_of p) pools) ++ rest_line tail
 
 -- the report of training: the bound after each iteration, and the bound of the cuts
-unfoldable pub train_text : Sealed → List (List Cut) → List ℤ → ℕ → List ℕ
-train_text p pools bounds unsettled = head_text p.raw ++ iterations_text bounds unsettled ++ bound_line (bound (problem_of p) pools)
+unfoldable pub train_text : Validated → List (List Cut) → List ℤ → ℕ → List ℕ
+train_text p pools bounds unanswered = head_text p.parts ++ iterations_text bounds unanswered ++ bound_line (bound (problem_of p) pools)

@@ -24,15 +24,15 @@ abbrev pub first_word : List ℕ → List ℕ
 first_word [] = []
 first_word (b ∷ bs) = if b == 32 then [] else b ∷ first_word bs
 
--- the promises of a line's cut, bound, cost from above, plane and worst bound
+-- the promises of a line's cut, bound, cost from above, risk cut and worst bound
 pub record Claims : Type 1 where
   pub cuts : ℕ → Cut → Type 0
   pub bounds : ℤ → Type 0
   pub uppers : ℤ → Type 0
-  pub planes : ℕ → Cut → Type 0
+  pub risk_cuts : ℕ → Cut → Type 0
   pub worsts : ℤ → Type 0
 
--- the line is of a cut, or of a plane, and this holds of it at its node
+-- the line is of a cut, or of a risk cut, and this holds of it at its node
 pub record CutLine (first : List ℕ) (holds : ℕ → Cut → Type 0) (line : List ℕ) : Type 0 where
   pub node : ℕ
   pub place : ℕ
@@ -59,7 +59,7 @@ pub record Line (c : Claims) (line : List ℕ) : Type 0 where
   pub bound : first_word line ≡ codes "bound" → NumberLine (codes "bound") c.bounds line
   pub iteration : first_word line ≡ codes "iteration" → IterationLine c.bounds line
   pub upper : first_word line ≡ codes "upper" → NumberLine (codes "upper") c.uppers line
-  pub plane : first_word line ≡ codes "plane" → CutLine (codes "plane") c.planes line
+  pub risk_cut : first_word line ≡ codes "plane" → CutLine (codes "plane") c.risk_cuts line
   pub worst : first_word line ≡ codes "worst" → NumberLine (codes "worst") c.worsts line
 
 -- so is each line of the text
@@ -70,11 +70,11 @@ Lines c text = All (Line c) (lines_of text)
 abbrev pub Above : Problem → ℤ → Type 0
 Above p u = (units : ℕ) × (f : Forest) × (0 < units) × Policy p units f × (policy_cost p units f ≤ᶠ record { up = u; under = S })
 
--- Cuts hold at their nodes, bounds are under the cost of each policy, and numbers from above are above that of some. The promises of planes
+-- Cuts hold at their nodes, bounds are under the cost of each policy, and numbers from above are above that of some. The promises of risk cuts
 -- and worst bounds rest on lists of weights.
 abbrev pub claims_of : Problem → (ℕ → Cut → Type 0) → (ℤ → Type 0) → Claims
-claims_of p planes worsts = record { cuts = Holds p; bounds = Under p; uppers = Above p; planes = planes; worsts = worsts }
+claims_of p risk_cuts worsts = record { cuts = Holds p; bounds = Under p; uppers = Above p; risk_cuts = risk_cuts; worsts = worsts }
 
--- each line of the text is sound, and none is of a plane or of a worst bound
+-- each line of the text is sound, and none is of a risk cut or of a worst bound
 abbrev pub SoundLines : Problem → List ℕ → Type 0
 SoundLines p text = Lines (claims_of p (λ m c. ⊥) (λ b. ⊥)) text

@@ -1,9 +1,9 @@
 -- The report of traces.
 use Rattle.std.specs.Prelude.{ℕ, ◌<◌, ℤ, pos, List, [], ◌∷◌, ◌++◌, length, codes, All, Option, Some, None}
-use Rattle.hp_problem.specs.declared.raw.Decision.{Decision}
-use Rattle.hp_problem.specs.declared.raw.State.{State}
-use Rattle.hp_problem.specs.declared.raw.Subproblem.{Subproblem}
-use Rattle.hp_problem.specs.Sealed.{Sealed, subproblem_of}
+use Rattle.hp_parts.specs.declared.parts.Decision.{Decision}
+use Rattle.hp_parts.specs.declared.parts.State.{State}
+use Rattle.hp_parts.specs.declared.parts.Subproblem.{Subproblem}
+use Rattle.hp_problem.specs.Validated.{Validated, subproblem_of}
 use Rattle.hp_text.specs.Texts.{json_string}
 use Rattle.hp_theory.specs.declared.cut.Cut.{Cut}
 use Rattle.hp_theory.specs.Bound.{bound}
@@ -16,8 +16,8 @@ use Rattle.hp_report.specs.Lines.{numbered}
 use Rattle.hp_report.specs.Report.{bound_line, head_text, word}
 
 -- each step of a trace is at a node of the problem
-abbrev pub AreKnown : Sealed → Trace → Type 0
-AreKnown p trace = All (λ (step : TraceStep). step.node < length p.raw.nodes) trace.steps
+abbrev pub AreTraceStepsKnown : Validated → Trace → Type 0
+AreTraceStepsKnown p trace = All (λ (step : TraceStep). step.node < length p.parts.nodes) trace.steps
 
 abbrev pub kind_word : Kind → List ℕ
 kind_word Found = codes " found"
@@ -60,8 +60,8 @@ own_lines None s = []
 own_lines (Some sub) s = random_lines sub.randoms s.values ++ value_lines sub.decisions s.decisions
 
 -- the step of the stage t
-unfoldable pub step_text : Sealed → ℕ → TraceStep → List ℕ
-step_text p t s = stage_line t s ++ in_lines p.raw.states s.state ++ own_lines (subproblem_of p s.node) s ++ numbered row_line 0 s.residuals ++ cost_line s.cost
+unfoldable pub trace_step_text : Validated → ℕ → TraceStep → List ℕ
+trace_step_text p t s = stage_line t s ++ in_lines p.parts.states s.state ++ own_lines (subproblem_of p s.node) s ++ numbered row_line 0 s.residuals ++ cost_line s.cost
 
 abbrev pub scenario_line : ℕ → List ℕ
 scenario_line i = codes "scenario" ++ word (pos i) ++ codes "\n"
@@ -70,9 +70,9 @@ abbrev pub end_line : ℤ → List ℕ
 end_line total = codes "end" ++ word total ++ codes "\n"
 
 -- the trace of the scenario i
-unfoldable pub scenario_text : Sealed → ℕ → Trace → List ℕ
-scenario_text p i trace = scenario_line i ++ numbered (step_text p) 0 trace.steps ++ end_line trace.cost
+unfoldable pub scenario_text : Validated → ℕ → Trace → List ℕ
+scenario_text p i trace = scenario_line i ++ numbered (trace_step_text p) 0 trace.steps ++ end_line trace.cost
 
 -- the report of traces: each of them, and the bound over the pools
-unfoldable pub trace_text : Sealed → List (List Cut) → List Trace → List ℕ
-trace_text p pools traces = head_text p.raw ++ numbered (scenario_text p) 0 traces ++ bound_line (bound (problem_of p) pools)
+unfoldable pub trace_text : Validated → List (List Cut) → List Trace → List ℕ
+trace_text p pools traces = head_text p.parts ++ numbered (scenario_text p) 0 traces ++ bound_line (bound (problem_of p) pools)

@@ -1,5 +1,5 @@
 // The report of the base cuts.
-ghost use Rattle.std.specs.Prelude.{◌≡◌, IfOk, length};
+ghost use Rattle.std.specs.Prelude.{◌≡◌, IfOk};
 ghost use Rattle.hp_report.specs.Report.{base_text};
 ghost use Rattle.hp_cut.specs.AtNodes.{PoolsFit};
 
@@ -17,7 +17,7 @@ pub fn base_report(alloc: Global, problem: &Problem, pools: &Pools) -> Result<Ve
     ensures { IfOk result (λ v. v.items ≡ base_text problem.now pools.now.lists) }
 {
     let mut out = Vec::new(alloc);
-    push_head(&mut out, problem.raw())?;
+    push_head(&mut out, problem.parts())?;
     push_cuts(&mut out, pools)?;
     push_bound(&mut out, pools.bound(problem))?;
     Ok(out)

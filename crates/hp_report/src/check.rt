@@ -1,5 +1,5 @@
 // The report of a journal.
-ghost use Rattle.std.specs.Prelude.{◌≡◌, IfOk, length};
+ghost use Rattle.std.specs.Prelude.{◌≡◌, IfOk};
 ghost use Rattle.hp_load.specs.Accepted.{IsSafe};
 ghost use Rattle.hp_report.specs.Report.{check_text};
 ghost use Rattle.hp_report.specs.SoundLines.{SoundLines};
@@ -15,18 +15,18 @@ use hp_problem::Problem;
 use std::alloc::Global;
 
 /// The report of a journal: the head, a line for each cut, one for the bound after each iteration, their total, the line
-/// of the bound, and that of the bytes behind the last gate. It is sound line by line, whatever disk was loaded.
+/// of the bound, and that of the bytes behind the last commit byte. It is sound line by line, whatever disk was loaded.
 #[tactic(auto, unfolding(crate::specs::Report::check_text))]
 pub fn check_report(alloc: Global, problem: &Problem, loaded: &Loaded) -> Result<Vec<u8>, Memory>
     requires { PoolsFit problem.now loaded.now.pools.lists }
-    ensures text { IfOk result (λ v. v.items ≡ check_text problem.now loaded.now.pools.lists loaded.now.bounds loaded.now.unsettled loaded.now.rest) }
+    ensures text { IfOk result (λ v. v.items ≡ check_text problem.now loaded.now.pools.lists loaded.now.bounds loaded.now.unanswered loaded.now.tail) }
     ensures sound { IsSafe problem.now loaded.now → IfOk result (λ v. SoundLines (problem_of problem.now) v.items) }
 {
     let mut out = Vec::new(alloc);
-    push_head(&mut out, problem.raw())?;
+    push_head(&mut out, problem.parts())?;
     push_cuts(&mut out, &loaded.pools)?;
-    push_iterations(&mut out, loaded.bounds.as_slice(), loaded.unsettled)?;
+    push_iterations(&mut out, loaded.bounds.as_slice(), loaded.unanswered)?;
     push_bound(&mut out, loaded.pools.bound(problem))?;
-    push_rest(&mut out, loaded.rest)?;
+    push_rest(&mut out, loaded.tail)?;
     Ok(out)
 }

@@ -1,11 +1,11 @@
 // The head of every report.
-ghost use Rattle.std.specs.Prelude.{◌≡◌, ◌++◌, OnErr, OnOk, codes};
+ghost use Rattle.std.specs.Prelude.{◌≡◌, ◌++◌, OnErr, OnOk};
 ghost use Rattle.std.specs.Io.{StartsWith};
 ghost use Rattle.hp_report.specs.Lines.{numbered};
 ghost use Rattle.hp_report.specs.Report.{title, state_line, node_line, head_text};
 
 use hp_num::{List, Memory};
-use hp_problem::{Node, Raw, State};
+use hp_parts::{Node, ProblemParts, State};
 use hp_text::{push_bytes, push_name, push_whole};
 
 /// Appends the head of every report: the version, the scale of cuts and bounds, and a line for each state and each node with
@@ -13,13 +13,13 @@ use hp_text::{push_bytes, push_name, push_whole};
 ///
 /// After `Memory` a first part of it may stand in `out`, behind what stood there before.
 #[tactic(auto, unfolding(crate::specs::Report::head_text))]
-pub fn push_head(out: &mut Vec<u8>, raw: &Raw) -> Result<(), Memory>
-    ensures ok { OnOk result (out.new.items ≡ out.old.items ++ head_text raw.now) }
+pub fn push_head(out: &mut Vec<u8>, parts: &ProblemParts) -> Result<(), Memory>
+    ensures ok { OnOk result (out.new.items ≡ out.old.items ++ head_text parts.now) }
     ensures err { OnErr result (StartsWith out.new.items out.old.items) }
 {
     push_title(out)?;
-    push_states(out, &raw.states)?;
-    push_nodes(out, &raw.nodes)
+    push_states(out, &parts.states)?;
+    push_nodes(out, &parts.nodes)
 }
 
 #[tactic(auto, unfolding(crate::specs::Report::title))]

@@ -1,6 +1,5 @@
 // Lines of iterations.
-ghost use Rattle.std.specs.Prelude.{◌≡◌, ◌++◌, OnOk, length};
-ghost use Rattle.hp_report.specs.Lines.{numbered};
+ghost use Rattle.std.specs.Prelude.{◌≡◌, ◌++◌, OnOk};
 ghost use Rattle.hp_report.specs.Report.{iteration_after, iteration_lines, iterations_text, rest_line, total_line};
 
 use crate::cuts::push_word;
@@ -27,13 +26,13 @@ fn push_bounds(out: &mut Vec<u8>, bounds: &[i128]) -> Result<(), Memory>
     Ok(())
 }
 
-fn push_total(out: &mut Vec<u8>, count: usize, unsettled: u64) -> Result<(), Memory>
-    ensures { OnOk result (out.new.items ≡ out.old.items ++ total_line count unsettled) }
+fn push_total(out: &mut Vec<u8>, count: usize, unanswered: u64) -> Result<(), Memory>
+    ensures { OnOk result (out.new.items ≡ out.old.items ++ total_line count unanswered) }
 {
     push_bytes(out, b"total iterations")?;
     push_word(out, count as i128)?;
     push_bytes(out, b" unsettled")?;
-    push_word(out, i128::from(unsettled))?;
+    push_word(out, i128::from(unanswered))?;
     push_bytes(out, b"\n")
 }
 
@@ -43,19 +42,19 @@ fn push_total(out: &mut Vec<u8>, count: usize, unsettled: u64) -> Result<(), Mem
 pub(crate) fn push_iterations(
     out: &mut Vec<u8>,
     bounds: &[i128],
-    unsettled: u64,
+    unanswered: u64,
 ) -> Result<(), Memory>
-    ensures { OnOk result (out.new.items ≡ out.old.items ++ iterations_text bounds.now unsettled) }
+    ensures { OnOk result (out.new.items ≡ out.old.items ++ iterations_text bounds.now unanswered) }
 {
     push_bounds(out, bounds)?;
-    push_total(out, bounds.len(), unsettled)
+    push_total(out, bounds.len(), unanswered)
 }
 
-/// Appends the line of the bytes behind a journal's last gate.
-pub(crate) fn push_rest(out: &mut Vec<u8>, rest: u64) -> Result<(), Memory>
-    ensures { OnOk result (out.new.items ≡ out.old.items ++ rest_line rest) }
+/// Appends the line of the bytes behind a journal's last commit byte.
+pub(crate) fn push_rest(out: &mut Vec<u8>, tail: u64) -> Result<(), Memory>
+    ensures { OnOk result (out.new.items ≡ out.old.items ++ rest_line tail) }
 {
     push_bytes(out, b"rest")?;
-    push_word(out, i128::from(rest))?;
+    push_word(out, i128::from(tail))?;
     push_bytes(out, b"\n")
 }

@@ -1,11 +1,10 @@
 // The report of traces.
-ghost use Rattle.std.specs.Prelude.{◌≡◌, ◌<◌, ◌++◌, codes, pos, All, IfOk, OnErr, OnOk, length};
+ghost use Rattle.std.specs.Prelude.{◌≡◌, ◌<◌, ◌++◌, All, IfOk, OnErr, OnOk, length};
 ghost use Rattle.std.specs.Io.{StartsWith};
-ghost use Rattle.hp_problem.specs.Sealed.{subproblem_of};
+ghost use Rattle.hp_problem.specs.Validated.{subproblem_of};
 ghost use Rattle.hp_report.specs.Lines.{numbered};
-ghost use Rattle.hp_report.specs.Report.{word};
 ghost use Rattle.hp_report.specs.SoundLines.{SoundLines};
-ghost use Rattle.hp_report.specs.Traces.{AreKnown, cost_line, end_line, in_lines, kind_word, named_line, own_lines, random_lines, row_line, scenario_line, scenario_text, stage_line, step_text, trace_text, value_lines};
+ghost use Rattle.hp_report.specs.Traces.{AreTraceStepsKnown, cost_line, end_line, in_lines, kind_word, named_line, own_lines, random_lines, row_line, scenario_line, scenario_text, stage_line, trace_step_text, trace_text, value_lines};
 ghost use Rattle.hp_theory.specs.Pools.{Sound};
 ghost use Rattle.hp_theory.specs.View.{problem_of};
 ghost use Rattle.hp_cut.specs.AtNodes.{PoolsFit};
@@ -15,7 +14,8 @@ use crate::head::push_head;
 use hp_cut::Pools;
 use hp_forward::{Trace, TraceStep};
 use hp_num::{Memory, Name};
-use hp_problem::{Decision, Problem, State};
+use hp_parts::{Decision, State};
+use hp_problem::Problem;
 use hp_solver::Kind;
 use hp_text::{push_bytes, push_name};
 use std::alloc::Global;
@@ -110,7 +110,7 @@ fn push_cost(out: &mut Vec<u8>, cost: i128) -> Result<(), Memory>
 
 /// The values and decisions of a step.
 fn push_own(out: &mut Vec<u8>, problem: &Problem, step: &TraceStep) -> Result<(), Memory>
-    requires { step.now.node < length problem.now.raw.nodes }
+    requires { step.now.node < length problem.now.parts.nodes }
     ensures { OnOk result (out.new.items ≡ out.old.items ++ own_lines (subproblem_of problem.now step.now.node) step.now) }
 {
     let own = problem.sub(step.node);
@@ -118,26 +118,30 @@ fn push_own(out: &mut Vec<u8>, problem: &Problem, step: &TraceStep) -> Result<()
     push_decisions(out, own.decisions.as_slice(), step.decisions.as_slice())
 }
 
-#[tactic(auto, unfolding(crate::specs::Traces::step_text))]
+#[tactic(auto, unfolding(crate::specs::Traces::trace_step_text))]
 fn push_step(
     out: &mut Vec<u8>,
     problem: &Problem,
     stage: usize,
     step: &TraceStep,
 ) -> Result<(), Memory>
-    requires { step.now.node < length problem.now.raw.nodes }
-    ensures { OnOk result (out.new.items ≡ out.old.items ++ step_text problem.now stage step.now) }
+    requires { step.now.node < length problem.now.parts.nodes }
+    ensures { OnOk result (out.new.items ≡ out.old.items ++ trace_step_text problem.now stage step.now) }
 {
     push_stage(out, stage, step)?;
-    push_state(out, problem.raw().states.as_slice(), step.state.as_slice())?;
+    push_state(
+        out,
+        problem.parts().states.as_slice(),
+        step.state.as_slice(),
+    )?;
     push_own(out, problem, step)?;
     push_rows(out, step.residuals.as_slice())?;
     push_cost(out, step.cost)
 }
 
 fn push_steps(out: &mut Vec<u8>, problem: &Problem, steps: &[TraceStep]) -> Result<(), Memory>
-    requires { All (λ step. step.node < length problem.now.raw.nodes) steps.now }
-    ensures { OnOk result (out.new.items ≡ out.old.items ++ numbered (step_text problem.now) 0 steps.now) }
+    requires { All (λ step. step.node < length problem.now.parts.nodes) steps.now }
+    ensures { OnOk result (out.new.items ≡ out.old.items ++ numbered (trace_step_text problem.now) 0 steps.now) }
 {
     for (stage, step) in steps.iter().enumerate() {
         push_step(out, problem, stage, step)?;
@@ -168,7 +172,7 @@ fn push_scenario(
     scenario: usize,
     trace: &Trace,
 ) -> Result<(), Memory>
-    requires { AreKnown problem.now trace.now }
+    requires { AreTraceStepsKnown problem.now trace.now }
     ensures { OnOk result (out.new.items ≡ out.old.items ++ scenario_text problem.now scenario trace.now) }
 {
     push_title(out, scenario)?;
@@ -177,7 +181,7 @@ fn push_scenario(
 }
 
 fn push_scenarios(out: &mut Vec<u8>, problem: &Problem, traces: &[Trace]) -> Result<(), Memory>
-    requires { All (AreKnown problem.now) traces.now }
+    requires { All (AreTraceStepsKnown problem.now) traces.now }
     ensures { OnOk result (out.new.items ≡ out.old.items ++ numbered (scenario_text problem.now) 0 traces.now) }
 {
     for (scenario, trace) in traces.iter().enumerate() {
@@ -202,12 +206,12 @@ pub fn trace_report(
     traces: &[Trace],
 ) -> Result<Vec<u8>, Memory>
     requires fit { PoolsFit problem.now pools.now.lists }
-    requires known { All (AreKnown problem.now) traces.now }
+    requires known { All (AreTraceStepsKnown problem.now) traces.now }
     ensures text { IfOk result (λ v. v.items ≡ trace_text problem.now pools.now.lists traces.now) }
     ensures sound { Sound (problem_of problem.now) pools.now.lists → IfOk result (λ v. SoundLines (problem_of problem.now) v.items) }
 {
     let mut out = Vec::new(alloc);
-    push_head(&mut out, problem.raw())?;
+    push_head(&mut out, problem.parts())?;
     push_scenarios(&mut out, problem, traces)?;
     push_bound(&mut out, pools.bound(problem))?;
     Ok(out)

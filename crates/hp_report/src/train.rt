@@ -1,5 +1,5 @@
 // The report of training.
-ghost use Rattle.std.specs.Prelude.{◌≡◌, All, IfOk, length};
+ghost use Rattle.std.specs.Prelude.{◌≡◌, All, IfOk};
 ghost use Rattle.hp_report.specs.Report.{train_text};
 ghost use Rattle.hp_report.specs.SoundLines.{SoundLines};
 ghost use Rattle.hp_theory.specs.Bound.{Under};
@@ -20,13 +20,13 @@ use std::alloc::Global;
 #[tactic(auto, unfolding(crate::specs::Report::train_text))]
 pub fn train_report(alloc: Global, problem: &Problem, loaded: &Loaded) -> Result<Vec<u8>, Memory>
     requires { PoolsFit problem.now loaded.now.pools.lists }
-    ensures text { IfOk result (λ v. v.items ≡ train_text problem.now loaded.now.pools.lists loaded.now.bounds loaded.now.unsettled) }
+    ensures text { IfOk result (λ v. v.items ≡ train_text problem.now loaded.now.pools.lists loaded.now.bounds loaded.now.unanswered) }
     ensures sound { Sound (problem_of problem.now) loaded.now.pools.lists → All (Under (problem_of problem.now)) loaded.now.bounds
         → IfOk result (λ v. SoundLines (problem_of problem.now) v.items) }
 {
     let mut out = Vec::new(alloc);
-    push_head(&mut out, problem.raw())?;
-    push_iterations(&mut out, loaded.bounds.as_slice(), loaded.unsettled)?;
+    push_head(&mut out, problem.parts())?;
+    push_iterations(&mut out, loaded.bounds.as_slice(), loaded.unanswered)?;
     push_bound(&mut out, loaded.pools.bound(problem))?;
     Ok(out)
 }

@@ -1,11 +1,11 @@
--- Properties that planes keep: each fits, and each holds as the lists of weights ask.
+-- Properties that risk cuts keep: each fits, and each holds as the lists of weights ask.
 use Rattle.std.proofs.Common.{◌≡◌, ℕ, zero, suc, ◌+◌, ◌<◌, ◌≤◌, Bool, true, false, nat_lt, List, [], ◌∷◌, ◌++◌, length, get_or, sum, All, Some, None, Ok, refl, sym, subst, ◌∙◌, arith}
 use Rattle.std.proofs.lemmas.Bool.Decides.{nat_tests}
 use Rattle.std.proofs.lemmas.List.{length-set}
 use Rattle.std.proofs.lemmas.List.Sums.{sum_by-cons}
 use Rattle.std.proofs.lemmas.List.Elements.{All-nil, All-push, All-head}
 use Rattle.std.proofs.lemmas.Option.{slice_get_past}
-use Rattle.hp_problem.specs.Sealed.{Sealed, is_sealed}
+use Rattle.hp_problem.specs.Validated.{Validated, is_validated}
 use Rattle.hp_theory.specs.declared.cut.Cut.{Cut}
 use Rattle.hp_theory.specs.declared.cut.Certificate.{Certificate}
 use Rattle.hp_theory.specs.Problem.{Realization, Node, Problem, node_at, weight_of_realizations, realization_weight, successor_weight, with_weights}
@@ -15,17 +15,17 @@ use Rattle.hp_theory.specs.Fit.{CutFits, Fit}
 use Rattle.hp_theory.specs.View.{problem_of}
 use Rattle.hp_theory.proofs.Appending.{push_at, kept_some}
 use Rattle.hp_theory.proofs.SizeToFit.{size_to_fit_given}
-use Rattle.hp_theory.proofs.SealedPremises.{shaped-sealed, narrow-sealed}
+use Rattle.hp_theory.proofs.ValidatedPremises.{shaped-validated, narrow-validated}
 use Rattle.hp_theory.proofs.Views.{node_at-past}
 use Rattle.hp_cut.specs.AtNodes.{PoolsFit}
 use Rattle.hp_dual.proofs.Accepted.{right-fault_of, size-fault_of}
-use Rattle.hp_dual.specs.Acceptance.{fault_of}
+use Rattle.hp_cut_making.specs.Acceptance.{fault_of}
 use Rattle.hp_risk.specs.declared.alternatives.Alternatives.{Alternatives}
-use Rattle.hp_dual.specs.Reweighting.{Weighs}
+use Rattle.hp_cut_making.specs.Reweighting.{Weighs}
 use Rattle.hp_risk.specs.Listed.{lists_at, Listed}
-use Rattle.hp_risk.specs.Planes.{plane_of, plane_added}
+use Rattle.hp_risk.specs.RiskCuts.{risk_cut_of, risk_cut_added}
 use Rattle.hp_risk.specs.RiskCost.{Weighty, RiskHolds, RiskSound}
-use Rattle.hp_risk.proofs.Planned.{plane_has, added_plane}
+use Rattle.hp_risk.proofs.Planned.{risk_cut_has, added_risk_cut}
 use Rattle.hp_risk.proofs.RiskDuality.{Heavy, weight-reweighted, risk_duality}
 
 pub push_fit : (p : Problem) (count : ℕ) (pools : List (List Cut)) (m : ℕ) (c : Cut) → Fit p count pools → CutFits (node_at p m) c → Fit p count (push pools m c)
@@ -56,57 +56,57 @@ past [] m h = refl
 past (x ∷ xs) zero h = absurd (omega arith)
 past (x ∷ xs) (suc m) h = past xs m (omega arith)
 
-module _ (p : Sealed) (x : Alternatives) (sealed : is_sealed p ≡ true) (listed : Listed p x.lists) where
+module _ (p : Validated) (x : Alternatives) (validated : is_validated p ≡ true) (listed : Listed p x.lists) where
   abbrev here : ℕ → Node
   here m = node_at (problem_of p) m
 
-  pub heavy : (m : ℕ) → m < length p.raw.nodes → Heavy (lists_at x.lists m)
-  heavy m h = λ i d lt. some_sum (here m) (get_or (lists_at x.lists m) i d) (shaped-sealed p m sealed h).realizations (listed.each m h i d lt)
+  pub heavy : (m : ℕ) → m < length p.parts.nodes → Heavy (lists_at x.lists m)
+  heavy m h = λ i d lt. some_sum (here m) (get_or (lists_at x.lists m) i d) (shaped-validated p m validated h).realizations (listed.each m h i d lt)
 
   pub weighty : Weighty (problem_of p) x.lists
-  weighty = record { successors = λ m. successors m (nat_lt m (length p.raw.nodes)) refl; lists = λ m. lists m (nat_lt m (length p.raw.nodes)) refl }
+  weighty = record { successors = λ m. successors m (nat_lt m (length p.parts.nodes)) refl; lists = λ m. lists m (nat_lt m (length p.parts.nodes)) refl }
     where
-      successors : (m : ℕ) (b : Bool) → nat_lt m (length p.raw.nodes) ≡ b → 0 < successor_weight (here m)
-      successors m true e = (shaped-sealed p m sealed (grind (arith, nat_tests, e))).successors
+      successors : (m : ℕ) (b : Bool) → nat_lt m (length p.parts.nodes) ≡ b → 0 < successor_weight (here m)
+      successors m true e = (shaped-validated p m validated (grind (arith, nat_tests, e))).successors
       successors m false e =
-          let above : length p.raw.nodes ≤ m = grind (arith, nat_tests, e) in
-          subst (λ (n : Node). 0 < successor_weight n) (sym (node_at-past p m (slice_get_past p.raw.nodes m above))) (omega arith)
+          let above : length p.parts.nodes ≤ m = grind (arith, nat_tests, e) in
+          subst (λ (n : Node). 0 < successor_weight n) (sym (node_at-past p m (slice_get_past p.parts.nodes m above))) (omega arith)
 
-      lists : (m : ℕ) (b : Bool) → nat_lt m (length p.raw.nodes) ≡ b → Heavy (lists_at x.lists m)
+      lists : (m : ℕ) (b : Bool) → nat_lt m (length p.parts.nodes) ≡ b → Heavy (lists_at x.lists m)
       lists m true e = heavy m (grind (arith, nat_tests, e))
       lists m false e =
-          let above : length p.raw.nodes ≤ m = grind (arith, nat_tests, e) in
+          let above : length p.parts.nodes ≤ m = grind (arith, nat_tests, e) in
           subst Heavy (sym (past x.lists m (omega (arith, above, listed.nodes)))) (All-nil (λ (ws : List ℕ). 0 < sum ws))
 
-  module _ (m : ℕ) (known : m < length p.raw.nodes) (planes : List (List Cut)) (list : List Certificate) where
+  module _ (m : ℕ) (known : m < length p.parts.nodes) (risk_cuts : List (List Cut)) (list : List Certificate) where
     weighs : (i : ℕ) → i < length (lists_at x.lists m) → Weighs (here m) (get_or (lists_at x.lists m) i [])
     weighs i lt = listed.each m known i [] lt
 
     -- with one of the lists
-    fits_with : (i : ℕ) → i < length (lists_at x.lists m) → fault_of planes (with_weights (get_or (lists_at x.lists m) i []) (here m)) list ≡ None → CutFits (here m) (cut_of planes (with_weights (get_or (lists_at x.lists m) i []) (here m)) list)
+    fits_with : (i : ℕ) → i < length (lists_at x.lists m) → fault_of risk_cuts (with_weights (get_or (lists_at x.lists m) i []) (here m)) list ≡ None → CutFits (here m) (cut_of risk_cuts (with_weights (get_or (lists_at x.lists m) i []) (here m)) list)
     fits_with i lt e =
         let ws : List ℕ = get_or (lists_at x.lists m) i [] in
-        let sh = shaped-sealed p m sealed known in
-        size_to_fit_given planes ws (here m) list sh.successors (subst (λ (k : ℕ). 0 < k) (sym (weight-reweighted ws (here m).realizations (weighs i lt).count)) (some_sum (here m) ws sh.realizations (weighs i lt)))
-        (narrow-sealed p m sealed known) (size-fault_of planes (with_weights ws (here m)) list e)
+        let sh = shaped-validated p m validated known in
+        size_to_fit_given risk_cuts ws (here m) list sh.successors (subst (λ (k : ℕ). 0 < k) (sym (weight-reweighted ws (here m).realizations (weighs i lt).count)) (some_sum (here m) ws sh.realizations (weighs i lt)))
+        (narrow-validated p m validated known) (size-fault_of risk_cuts (with_weights ws (here m)) list e)
 
-    holds_with : RiskSound (problem_of p) x.lists planes → (i : ℕ) → i < length (lists_at x.lists m) → fault_of planes (with_weights (get_or (lists_at x.lists m) i []) (here m)) list ≡ None → RiskHolds (problem_of p) x.lists m (cut_of planes (with_weights (get_or (lists_at x.lists m) i []) (here m)) list)
+    holds_with : RiskSound (problem_of p) x.lists risk_cuts → (i : ℕ) → i < length (lists_at x.lists m) → fault_of risk_cuts (with_weights (get_or (lists_at x.lists m) i []) (here m)) list ≡ None → RiskHolds (problem_of p) x.lists m (cut_of risk_cuts (with_weights (get_or (lists_at x.lists m) i []) (here m)) list)
     holds_with s i lt e =
         let ws : List ℕ = get_or (lists_at x.lists m) i [] in
-        let sh = shaped-sealed p m sealed known in
-        risk_duality (problem_of p) x.lists planes m i ws list weighty sh s lt refl (weighs i lt).count (some_sum (here m) ws sh.realizations (weighs i lt)) (right-fault_of planes (with_weights ws (here m)) list e)
+        let sh = shaped-validated p m validated known in
+        risk_duality (problem_of p) x.lists risk_cuts m i ws list weighty sh s lt refl (weighs i lt).count (some_sum (here m) ws sh.realizations (weighs i lt)) (right-fault_of risk_cuts (with_weights ws (here m)) list e)
 
-    pub plane_fits : (c : Cut) → plane_of planes (here m) list (lists_at x.lists m) ≡ Some c → CutFits (here m) c
-    plane_fits c is = plane_has (CutFits (here m)) planes (here m) list (lists_at x.lists m) c fits_with is
+    pub risk_cut_fits : (c : Cut) → risk_cut_of risk_cuts (here m) list (lists_at x.lists m) ≡ Some c → CutFits (here m) c
+    risk_cut_fits c is = risk_cut_has (CutFits (here m)) risk_cuts (here m) list (lists_at x.lists m) c fits_with is
 
-    -- one plane more
-    module _ (k : ℕ) (new : List (List Cut)) (added : plane_added p x k planes m list ≡ Ok new) where
-      pub fit_more : PoolsFit p planes → PoolsFit p new
+    -- one risk cut more
+    module _ (k : ℕ) (new : List (List Cut)) (added : risk_cut_added p x k risk_cuts m list ≡ Ok new) where
+      pub fit_more : PoolsFit p risk_cuts → PoolsFit p new
       fit_more f =
-          let a = added_plane p x k planes m list new added in
-          subst (λ (q : List (List Cut)). PoolsFit p q) a.2 (push_fit (problem_of p) (length p.raw.nodes) planes m a.0 f (plane_fits a.0 a.1))
+          let a = added_risk_cut p x k risk_cuts m list new added in
+          subst (λ (q : List (List Cut)). PoolsFit p q) a.2 (push_fit (problem_of p) (length p.parts.nodes) risk_cuts m a.0 f (risk_cut_fits a.0 a.1))
 
-      pub risk_more : RiskSound (problem_of p) x.lists planes → RiskSound (problem_of p) x.lists new
+      pub risk_more : RiskSound (problem_of p) x.lists risk_cuts → RiskSound (problem_of p) x.lists new
       risk_more s =
-          let a = added_plane p x k planes m list new added in
-          subst (λ (q : List (List Cut)). RiskSound (problem_of p) x.lists q) a.2 (push_risk (problem_of p) x.lists planes m a.0 s (plane_has (RiskHolds (problem_of p) x.lists m) planes (here m) list (lists_at x.lists m) a.0 (holds_with s) a.1))
+          let a = added_risk_cut p x k risk_cuts m list new added in
+          subst (λ (q : List (List Cut)). RiskSound (problem_of p) x.lists q) a.2 (push_risk (problem_of p) x.lists risk_cuts m a.0 s (risk_cut_has (RiskHolds (problem_of p) x.lists m) risk_cuts (here m) list (lists_at x.lists m) a.0 (holds_with s) a.1))

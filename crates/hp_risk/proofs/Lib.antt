@@ -9,4 +9,4 @@ pub mod Placed
 pub mod Adding
 pub mod Reading
 pub mod OwnAlone
-pub mod WorkedPlanes
+pub mod WorkedRiskCuts

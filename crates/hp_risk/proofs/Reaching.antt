@@ -7,7 +7,7 @@ use Rattle.hp_theory.specs.declared.cut.Cut.{Cut}
 use Rattle.hp_theory.specs.Problem.{Node}
 use Rattle.hp_theory.specs.Size.{magnitude, magnitudes, reach}
 use Rattle.hp_theory.specs.Fit.{CutFits, cut_size}
-use Rattle.hp_cut.specs.Reaches.{Reaches, value_size}
+use Rattle.hp_cut.specs.Reaches.{CutReaches, value_size}
 
 dot_below : (bs xs : List ℤ) (r : ℕ → ℤ) → length bs ≡ length xs → ((k : ℕ) → k < length xs → magnitude (entry xs k) ≤ℤ r k) → dot (magnitudes bs) (magnitudes xs) ≤ℤ sum_to (length bs) (λ k. magnitude (entry bs k) *ℤ r k)
 dot_below [] xs r e h = le_refl (pos 0)
@@ -19,7 +19,7 @@ dot_below (b ∷ bs) (x ∷ xs) r e h =
 low_reach : (l h : ℤ) → magnitude l ≤ℤ pos (max 1 (max (nat_abs l) (nat_abs h)))
 low_reach l h = omega (arith, ints)
 
-pub reaches_low : (n : Node) (c : Cut) → CutFits n c → Reaches n.low c
+pub reaches_low : (n : Node) (c : Cut) → CutFits n c → CutReaches n.low c
 reaches_low n c f =
     let below : dot (magnitudes c.beta) (magnitudes n.low) ≤ℤ sum_to (length c.beta) (λ k. magnitude (entry c.beta k) *ℤ reach n.low n.high k) = dot_below c.beta n.low (reach n.low n.high) f.slopes (λ k h. low_reach (entry n.low k) (entry n.high k)) in
     let same : sum_to (length c.beta) (λ k. magnitude (entry c.beta k) *ℤ reach n.low n.high k) ≡ sum_to (length n.low) (λ k. magnitude (entry c.beta k) *ℤ reach n.low n.high k) = ap (λ (k : ℕ). sum_to k (λ k. magnitude (entry c.beta k) *ℤ reach n.low n.high k)) f.slopes in
@@ -30,6 +30,6 @@ reaches_low n c f =
           (subst (λ (z : ℤ). dot (magnitudes c.beta) (magnitudes n.low) ≤ℤ z) same below)) f.small;
     }
 
-pub some_reach : (n : Node) (o : Option Cut) → IfSome o (CutFits n) → IfSome o (Reaches n.low)
+pub some_reach : (n : Node) (o : Option Cut) → IfSome o (CutFits n) → IfSome o (CutReaches n.low)
 some_reach n None h = tt
 some_reach n (Some c) h = reaches_low n c h

@@ -9,9 +9,9 @@ use Rattle.std.proofs.lemmas.Option.{get_or_from_slice_get}
 use Rattle.serde_json.specs.Data.{Data, Items, Members}
 use Rattle.serde_json.specs.Events.{items_len}
 use Rattle.hp_num.proofs.Tests.{all_at}
-use Rattle.hp_problem.specs.declared.raw.Node as nodes
-use Rattle.hp_problem.specs.declared.raw.Subproblem.{Subproblem}
-use Rattle.hp_problem.specs.Sealed.{Sealed, is_sealed}
+use Rattle.hp_parts.specs.declared.parts.Node as nodes
+use Rattle.hp_parts.specs.declared.parts.Subproblem.{Subproblem}
+use Rattle.hp_problem.specs.Validated.{Validated, is_validated}
 use Rattle.hp_fields.specs.declared.refusal.ReadRefusal.{ReadRefusal}
 use Rattle.hp_fields.specs.Steps.{walk_list, Gives}
 use Rattle.hp_fields.specs.Fields.{weight_at, present_at, array_at, json_at}
@@ -19,13 +19,13 @@ use Rattle.hp_fields.specs.Limits.{items_at}
 use Rattle.hp_fields.proofs.Answered.{step-Ok}
 use Rattle.hp_fields.proofs.Accepted.{then-Ok, Ok-is, test-Ok, list_all-push, weight_at-positive, walk_items-Ok}
 use Rattle.hp_sof.specs.Tables.{table_at}
-use Rattle.hp_sof.proofs.SuccessorsFit.{one_more, weights_at-Ok}
+use Rattle.hp_sof.proofs.SuccessorsFit.{one_more, bounded_weights_at-Ok}
 use Rattle.hp_theory.specs.Problem.{Realization, Node, node_at}
 use Rattle.hp_theory.specs.View.{node_of, realizations_of, problem_of}
-use Rattle.hp_theory.proofs.SealedParts.{Parts, parts, weighty, weights_positive}
+use Rattle.hp_theory.proofs.ValidatedParts.{Parts, parts_of_node, weighty, weights_positive}
 use Rattle.hp_risk.specs.declared.alternatives.Alternatives.{Alternatives}
 use Rattle.hp_risk.specs.Alternatives.{at_weight, one_weight_at, all_weights_at, alternative_at, next_alternative_at, node_lists_at, next_node_at, all_lists_at, alternatives_of}
-use Rattle.hp_dual.specs.Reweighting.{Weighs}
+use Rattle.hp_cut_making.specs.Reweighting.{Weighs}
 use Rattle.hp_risk.specs.Listed.{lists_at, own_weights, Listed}
 
 -- so many weights
@@ -57,7 +57,7 @@ alternative-fits n a count d ws e =
     then-Ok (array_at _ _) _ ws e (λ ds is_items e.
     let shaped = test-Ok (items_len ds == count) _ _ _ ws e in
     then-Ok (all_weights_at n a ds) _ ws shaped.1 (λ found is_found e.
-    let w = weights_at-Ok (at_weight n a 0) 0 found ws e in
+    let w = bounded_weights_at-Ok (at_weight n a 0) 0 found ws e in
     let m : Many (items_len ds) found = all_weights-fit n a ds found is_found in
     let same : items_len ds ≡ count = eqb-true (items_len ds) count shaped.0 in
     record {
@@ -68,17 +68,17 @@ alternative-fits n a count d ws e =
 
 -- after the node's own weights
 record Behind (own : List ℕ) (lists : List (List ℕ)) : Type 0 where
-  rest : List (List ℕ)
-  is : lists ≡ own ∷ rest
-  fit : All (Weighted (length own)) rest
+  tail : List (List ℕ)
+  is : lists ≡ own ∷ tail
+  fit : All (Weighted (length own)) tail
 
 next-behind : (n : ℕ) (own : List ℕ) (found next : List (List ℕ)) (i : ℕ) (d : Data) → next_alternative_at n (length own) found i d ≡ Ok next → Behind own found → Behind own next
 unfolding next_alternative_at
 next-behind n own found next i d e b =
     then-Ok (alternative_at n (suc i) (length own) d) _ next e (λ ws is_ws e. record {
-      rest = b.rest ++ ws ∷ [];
+      tail = b.tail ++ ws ∷ [];
       is = sym (Ok-is _ next e) ∙ ap (λ (lists : List (List ℕ)). lists ++ ws ∷ []) b.is;
-      fit = All-push (Weighted (length own)) b.rest ws b.fit (alternative-fits n (suc i) (length own) d ws is_ws);
+      fit = All-push (Weighted (length own)) b.tail ws b.fit (alternative-fits n (suc i) (length own) d ws is_ws);
     })
 
 node-behind : (n : ℕ) (own : List ℕ) (listed : Option Data) (lists : List (List ℕ)) → node_lists_at n own listed ≡ Ok lists → Behind own lists
@@ -87,7 +87,7 @@ node-behind n own listed lists e =
     then-Ok (items_at _ listed) _ lists e (λ ds is_items e.
     let few = test-Ok (nat_le (items_len ds) 10) _ _ _ lists e in
     walk_items-Ok (λ i found. Behind own found) (next_alternative_at n (length own)) (λ found next i d e b. next-behind n own found next i d e b) ds (own ∷ []) lists 0 (items_len ds) (omega arith) few.1
-    (record { rest = []; is = refl; fit = All-nil (Weighted (length own)) }))
+    (record { tail = []; is = refl; fit = All-nil (Weighted (length own)) }))
 
 -- node by node
 abbrev EachBehind : List nodes.Node → List (List (List ℕ)) → Type 0
@@ -108,20 +108,20 @@ next-node members found next i n e =
     then-Ok (node_lists_at i n.weights _) _ next e (λ lists is_lists e. record { lists = lists; is = sym (Ok-is _ next e); behind = node-behind i n.weights _ lists is_lists }))
 
 record More (found whole : List (List (List ℕ))) (ns : List nodes.Node) : Type 0 where
-  rest : List (List (List ℕ))
-  is : whole ≡ found ++ rest
-  each : EachBehind ns rest
+  tail : List (List (List ℕ))
+  is : whole ≡ found ++ tail
+  each : EachBehind ns tail
 
 all-nodes : (members : Members) (ns : List nodes.Node) (found whole : List (List (List ℕ))) (i : ℕ) → walk_list (next_node_at members) found i ns ≡ Ok whole → More found whole ns
 unfolding walk_list
-all-nodes members [] found whole i e = record { rest = []; is = sym (Ok-is found whole e) ∙ sym (append-nil found); each = tt }
+all-nodes members [] found whole i e = record { tail = []; is = sym (Ok-is found whole e) ∙ sym (append-nil found); each = tt }
 all-nodes members (n ∷ ns) found whole i e =
     let first = step-Ok (next_node_at members found i n) _ whole e in
     let one : One found first.0 n = next-node members found first.0 i n first.1 in
     let more : More first.0 whole ns = all-nodes members ns first.0 whole (suc i) first.2 in
     record {
-      rest = one.lists ∷ more.rest;
-      is = more.is ∙ ap (λ (f : List (List (List ℕ))). f ++ more.rest) one.is ∙ append_assoc found (one.lists ∷ []) more.rest;
+      tail = one.lists ∷ more.tail;
+      is = more.is ∙ ap (λ (f : List (List (List ℕ))). f ++ more.tail) one.is ∙ append_assoc found (one.lists ∷ []) more.tail;
       each = (one.behind, more.each);
     }
 
@@ -157,51 +157,51 @@ weighs-weighted n ws w = record {
   total = w.total;
 }
 
-module _ (p : Sealed) (x : List (List (List ℕ))) (sealed : is_sealed p ≡ true) (each : EachBehind p.raw.nodes x) (m : ℕ) (known : m < length p.raw.nodes) where
+module _ (p : Validated) (x : List (List (List ℕ))) (validated : is_validated p ≡ true) (each : EachBehind p.parts.nodes x) (m : ℕ) (known : m < length p.parts.nodes) where
   here : Node
   here = node_at (problem_of p) m
 
   record Own : Type 0 where
-    rest : List (List ℕ)
-    is : lists_at x m ≡ own_weights here ∷ rest
-    fit : All (Weighs here) (own_weights here ∷ rest)
+    tail : List (List ℕ)
+    is : lists_at x m ≡ own_weights here ∷ tail
+    fit : All (Weighs here) (own_weights here ∷ tail)
 
   own : Own
   unfolding here problem_of
   own =
-      let q : Parts p m = parts p m sealed known in
+      let q : Parts p m = parts_of_node p m validated known in
       let w = weighty q.node (length q.subproblem.randoms) q.fit.realizations in
-      let at : get_or p.raw.nodes m q.node ≡ q.node = get_or_from_slice_get p.raw.nodes m q.node q.node q.fit.the_node in
-      let b : Behind q.node.weights (lists_at x m) = subst (λ (n : nodes.Node). Behind n.weights (lists_at x m)) at (each-at p.raw.nodes x m q.node each known) in
+      let at : get_or p.parts.nodes m q.node ≡ q.node = get_or_from_slice_get p.parts.nodes m q.node q.node q.fit.the_node in
+      let b : Behind q.node.weights (lists_at x m) = subst (λ (n : nodes.Node). Behind n.weights (lists_at x m)) at (each-at p.parts.nodes x m q.node each known) in
       let same : own_weights here ≡ q.node.weights = ap own_weights q.fit.is ∙ own-node_of q.node q.subproblem q.low q.high w.3 in
-      let mine : Weighted (length (own_weights here)) (own_weights here) = record { count = refl; weighty = subst (λ (ws : List ℕ). list_all (λ w. nat_lt 0 w) ws ≡ true) (sym same) (weights_positive q.node (length q.subproblem.randoms) q.fit.realizations); total = subst (λ (ws : List ℕ). sum ws ≤ 65535) (sym same) w.2 } in
-      let others : All (Weighted (length (own_weights here))) b.rest = subst (λ (ws : List ℕ). All (Weighted (length ws)) b.rest) (sym same) b.fit in
+      let prefix : Weighted (length (own_weights here)) (own_weights here) = record { count = refl; weighty = subst (λ (ws : List ℕ). list_all (λ w. nat_lt 0 w) ws ≡ true) (sym same) (weights_positive q.node (length q.subproblem.randoms) q.fit.realizations); total = subst (λ (ws : List ℕ). sum ws ≤ 65535) (sym same) w.2 } in
+      let others : All (Weighted (length (own_weights here))) b.tail = subst (λ (ws : List ℕ). All (Weighted (length ws)) b.tail) (sym same) b.fit in
       record {
-        rest = b.rest;
-        is = b.is ∙ ap (λ (ws : List ℕ). ws ∷ b.rest) (sym same);
-        fit = All-cons (Weighs here) (own_weights here) b.rest (weighs-weighted here (own_weights here) mine) (λ k d h. weighs-weighted here (get_or b.rest k d) (others k d h));
+        tail = b.tail;
+        is = b.is ∙ ap (λ (ws : List ℕ). ws ∷ b.tail) (sym same);
+        fit = All-cons (Weighs here) (own_weights here) b.tail (weighs-weighted here (own_weights here) prefix) (λ k d h. weighs-weighted here (get_or b.tail k d) (others k d h));
       }
 
-listed-each : (p : Sealed) (x : List (List (List ℕ))) → is_sealed p ≡ true → EachBehind p.raw.nodes x → Listed p x
+listed-each : (p : Validated) (x : List (List (List ℕ))) → is_validated p ≡ true → EachBehind p.parts.nodes x → Listed p x
 unfolding here problem_of
-listed-each p x sealed each = record {
-  nodes = each-length p.raw.nodes x each;
-  some = λ m h. let o = own p x sealed each m h in subst (λ (ls : List (List ℕ)). 0 < length ls) (sym o.is) (omega arith);
-  own = λ m h. let o = own p x sealed each m h in ap (λ (ls : List (List ℕ)). get_or ls 0 []) o.is;
-  each = λ m h. let o = own p x sealed each m h in subst (λ (ls : List (List ℕ)). All (Weighs (node_at (problem_of p) m)) ls) (sym o.is) o.fit;
+listed-each p x validated each = record {
+  nodes = each-length p.parts.nodes x each;
+  some = λ m h. let o = own p x validated each m h in subst (λ (ls : List (List ℕ)). 0 < length ls) (sym o.is) (omega arith);
+  own = λ m h. let o = own p x validated each m h in ap (λ (ls : List (List ℕ)). get_or ls 0 []) o.is;
+  each = λ m h. let o = own p x validated each m h in subst (λ (ls : List (List ℕ)). All (Weighs (node_at (problem_of p) m)) ls) (sym o.is) o.fit;
 }
 
 -- alternatives that were read are listed
-pub listed-read : (p : Sealed) (bytes : List ℕ) (x : Alternatives) → is_sealed p ≡ true → alternatives_of p bytes ≡ Ok x → Listed p x.lists
+pub listed-read : (p : Validated) (bytes : List ℕ) (x : Alternatives) → is_validated p ≡ true → alternatives_of p bytes ≡ Ok x → Listed p x.lists
 unfolding alternatives_of
-listed-read p bytes x sealed e =
+listed-read p bytes x validated e =
     then-Ok (json_at bytes) _ x e (λ d is_d e.
     then-Ok (table_at (codes "nodes") d) _ x e (λ members is_members e.
-    then-Ok (all_lists_at members p.raw.nodes) _ x e (λ lists is_lists e.
-    let more : More [] lists p.raw.nodes = all-nodes members p.raw.nodes [] lists 0 is_lists in
+    then-Ok (all_lists_at members p.parts.nodes) _ x e (λ lists is_lists e.
+    let more : More [] lists p.parts.nodes = all-nodes members p.parts.nodes [] lists 0 is_lists in
     let same : lists ≡ x.lists = ap (λ (a : Alternatives). a.lists) (Ok-is (record { lists = lists }) x e) in
-    listed-each p x.lists sealed (subst (λ (ls : List (List (List ℕ))). EachBehind p.raw.nodes ls) (sym more.is ∙ same) more.each))))
+    listed-each p x.lists validated (subst (λ (ls : List (List (List ℕ))). EachBehind p.parts.nodes ls) (sym more.is ∙ same) more.each))))
 
-pub listed-given : (p : Sealed) (bytes : List ℕ) → is_sealed p ≡ true → (result : Result Alternatives ReadRefusal) → Gives (λ (x : Alternatives). x) result (alternatives_of p bytes) → IfOk result (λ x. Listed p x.lists)
-listed-given p bytes sealed (Ok x) h = listed-read p bytes x sealed h
-listed-given p bytes sealed (Err e) h = tt
+pub listed-given : (p : Validated) (bytes : List ℕ) → is_validated p ≡ true → (result : Result Alternatives ReadRefusal) → Gives (λ (x : Alternatives). x) result (alternatives_of p bytes) → IfOk result (λ x. Listed p x.lists)
+listed-given p bytes validated (Ok x) h = listed-read p bytes x validated h
+listed-given p bytes validated (Err e) h = tt

@@ -1,42 +1,38 @@
--- The bound over planes that hold is at most the risk cost of each policy.
-use Rattle.std.proofs.Common.{◌≡◌, ℕ, zero, suc, ◌*◌, ◌<◌, ℤ, pos, ◌+ℤ◌, ◌*ℤ◌, ◌≤ℤ◌, Bool, true, false, cond, List, [], ◌∷◌, length, get_or, All, sum, int_lt, arith, refl, ap, sym, ◌∙◌, subst}
-use Rattle.std.specs.Int.{int_max}
-use lib.IntN.{*ℤ-zero}
-use Rattle.hp_num.specs.Sums.{entry, dot}
-use Rattle.hp_num.proofs.Order.{le_scale, floor_at_most}
-use Rattle.hp_num.proofs.Ring.{ring, var, ◌⊕◌, ◌⊗◌}
+-- The bound over risk cuts that hold is at most the risk cost of each policy.
+use Rattle.std.proofs.Common.{◌≡◌, ℕ, ◌*◌, ◌<◌, ℤ, pos, ◌*ℤ◌, List, [], ◌∷◌, length, get_or, All, sum, arith, subst}
+use Rattle.hp_num.proofs.Order.{floor_at_most}
 use Rattle.hp_num.proofs.Sums.{All_head, All_tail}
-use Rattle.hp_theory.specs.Bound.{greatest, weighted_value, bound}
-use Rattle.hp_theory.specs.Fraction.{Fraction, ◌≤ᶠ◌, times, weighted}
-use Rattle.hp_theory.specs.Pools.{cut_value, pool}
+use Rattle.hp_theory.specs.Bound.{greatest_cut_value, weighted_value, bound}
+use Rattle.hp_theory.specs.Fraction.{◌≤ᶠ◌, times, weighted}
+use Rattle.hp_theory.specs.Pools.{pool}
 use Rattle.hp_theory.specs.Premises.{StartsIn, RootShaped, HaveCuts}
-use Rattle.hp_theory.specs.Problem.{S, Link, Node, Problem, node_at, link_weights}
-use Rattle.hp_theory.specs.Tree.{InBox, times_all, Forest, no_tree, tree, FeasibleForest}
+use Rattle.hp_theory.specs.Problem.{S, Successor, Problem, node_at, successor_weights}
+use Rattle.hp_theory.specs.Tree.{times_all, Forest, no_tree, tree, FeasibleForest}
 use Rattle.hp_theory.proofs.Fractions.{ratio, below_none, below_plus, below_times, below_over, below_less, below_cancel}
 use Rattle.hp_theory.proofs.BoundBelow.{start_in, one_cut, all_cuts}
 use Rattle.hp_theory.specs.declared.cut.Cut.{Cut}
 use Rattle.hp_risk.specs.RiskCost.{risk_cost, risk_costs, risk_policy_cost, RiskSound, RiskUnder}
 
-roots : (p : Problem) (w : List (List (List ℕ))) (pools : List (List Cut)) (units : ℕ) (ls : List Link) (f : Forest) → 0 < units → RiskSound p w pools → All (λ (l : Link). StartsIn p (node_at p l.node)) ls → HaveCuts pools ls
-    → FeasibleForest p units ls (times_all units p.initial) f → ratio (weighted_value pools p.initial ls) S ≤ᶠ weighted (link_weights ls) (risk_costs p w units ls (times_all units p.initial) f)
+roots : (p : Problem) (w : List (List (List ℕ))) (pools : List (List Cut)) (units : ℕ) (ls : List Successor) (f : Forest) → 0 < units → RiskSound p w pools → All (λ (l : Successor). StartsIn p (node_at p l.node)) ls → HaveCuts pools ls
+    → FeasibleForest p units ls (times_all units p.initial) f → ratio (weighted_value pools p.initial ls) S ≤ᶠ weighted (successor_weights ls) (risk_costs p w units ls (times_all units p.initial) f)
 roots p w pools units [] f z s b c h = below_none S
 roots p w pools units (l ∷ ls) no_tree z s b c h = absurd h
 roots p w pools units (l ∷ ls) (tree t f) z s b c h =
-    below_plus (pos l.weight *ℤ greatest (pool pools l.node) p.initial) (weighted_value pools p.initial ls) S (times l.weight (risk_cost p w units l.node (times_all units p.initial) t)) (weighted (link_weights ls) (risk_costs p w units ls (times_all units p.initial) f))
-    (below_times (greatest (pool pools l.node) p.initial) S l.weight (risk_cost p w units l.node (times_all units p.initial) t)
-    (all_cuts p.initial (risk_cost p w units l.node (times_all units p.initial) t) (pool pools l.node) (All_head (λ (l : Link). 0 < length (pool pools l.node)) l ls c)
+    below_plus (pos l.weight *ℤ greatest_cut_value (pool pools l.node) p.initial) (weighted_value pools p.initial ls) S (times l.weight (risk_cost p w units l.node (times_all units p.initial) t)) (weighted (successor_weights ls) (risk_costs p w units ls (times_all units p.initial) f))
+    (below_times (greatest_cut_value (pool pools l.node) p.initial) S l.weight (risk_cost p w units l.node (times_all units p.initial) t)
+    (all_cuts p.initial (risk_cost p w units l.node (times_all units p.initial) t) (pool pools l.node) (All_head (λ (l : Successor). 0 < length (pool pools l.node)) l ls c)
     (λ k d q. one_cut units p.initial (get_or (pool pools l.node) k d) (risk_cost p w units l.node (times_all units p.initial) t) z
-    (s l.node k d q units (times_all units p.initial) t z (start_in p units (node_at p l.node) (All_head (λ (l : Link). StartsIn p (node_at p l.node)) l ls b)) h.0))))
-    (roots p w pools units ls f z s (All_tail (λ (l : Link). StartsIn p (node_at p l.node)) l ls b) (All_tail (λ (l : Link). 0 < length (pool pools l.node)) l ls c) h.1)
+    (s l.node k d q units (times_all units p.initial) t z (start_in p units (node_at p l.node) (All_head (λ (l : Successor). StartsIn p (node_at p l.node)) l ls b)) h.0))))
+    (roots p w pools units ls f z s (All_tail (λ (l : Successor). StartsIn p (node_at p l.node)) l ls b) (All_tail (λ (l : Successor). 0 < length (pool pools l.node)) l ls c) h.1)
 
 pub risk_bound : (p : Problem) (w : List (List (List ℕ))) (pools : List (List Cut)) → RootShaped p → HaveCuts pools p.root → RiskSound p w pools → RiskUnder p w (bound p pools)
 risk_bound p w pools sh cuts s units f z h =
-    let q : ℕ = sum (link_weights p.root) in
+    let q : ℕ = sum (successor_weights p.root) in
     let a : ℤ = weighted_value pools p.initial p.root in
     below_cancel (bound p pools) S q (risk_policy_cost p w units f) sh.some
     (below_less (pos q *ℤ bound p pools) a (q * S) (risk_policy_cost p w units f) (floor_at_most a q sh.some)
     (subst (λ (k : ℕ). ratio a k ≤ᶠ risk_policy_cost p w units f) (turn S q)
-    (below_over a S q (weighted (link_weights p.root) (risk_costs p w units p.root (times_all units p.initial) f)) (roots p w pools units p.root f z s sh.boxes cuts h))))
+    (below_over a S q (weighted (successor_weights p.root) (risk_costs p w units p.root (times_all units p.initial) f)) (roots p w pools units p.root f z s sh.boxes cuts h))))
   where
     turn : (s n : ℕ) → s * n ≡ n * s
     turn s n = omega arith

@@ -3,22 +3,22 @@ use Rattle.std.specs.Prelude.{ℕ, suc, List, [], ◌∷◌, ◌++◌, length, O
 use Rattle.serde_json.specs.Data.{Data, Items, Members}
 use Rattle.serde_json.specs.Events.{items_len}
 use Rattle.serde_json.specs.Find.{get, get_member}
-use Rattle.hp_problem.specs.Sealed.{Sealed}
-use Rattle.hp_problem.specs.declared.raw.Node.{Node}
-use Rattle.hp_problem.specs.declared.refusal.Refusal.{Refusal}
-use Rattle.hp_problem.specs.declared.refusal.RefusalKind.TheVariants as kinds
-use Rattle.hp_problem.specs.declared.refusal.Part.TheVariants as parts
-use Rattle.hp_problem.specs.declared.refusal.Place.{Place}
+use Rattle.hp_problem.specs.Validated.{Validated}
+use Rattle.hp_parts.specs.declared.parts.Node.{Node}
+use Rattle.hp_parts.specs.declared.refusal.Refusal.{Refusal}
+use Rattle.hp_parts.specs.declared.refusal.RefusalKind.TheVariants as kinds
+use Rattle.hp_parts.specs.declared.refusal.Part.TheVariants as part_kinds
+use Rattle.hp_parts.specs.declared.refusal.Place.{Place}
 use Rattle.hp_fields.specs.Steps.{◌>>=◌, walk_items, walk_list}
 use Rattle.hp_fields.specs.Fields.{place, refuse, whole, weight_at, present_at, array_at, json_at}
 use Rattle.hp_fields.specs.Limits.{items_at}
 use Rattle.hp_sof.specs.Tables.{table_at}
-use Rattle.hp_sof.specs.Weights.{weights_at}
+use Rattle.hp_sof.specs.Weights.{bounded_weights_at}
 use Rattle.hp_risk.specs.declared.alternatives.Alternatives.{Alternatives}
 
 -- the weight r of the alternative a of the node n; alternatives count from 1
 abbrev pub at_weight : ℕ → ℕ → ℕ → Place
-at_weight n a r = place parts.Alternative n a r
+at_weight n a r = place part_kinds.Alternative n a r
 
 unfoldable pub one_weight_at : ℕ → ℕ → List ℕ → ℕ → Data → Result (List ℕ) Refusal
 one_weight_at n a found r d = do
@@ -32,7 +32,7 @@ all_weights_at n a ds = walk_items (one_weight_at n a) [] 0 ds
 unfoldable pub alternative_at : ℕ → ℕ → ℕ → Data → Result (List ℕ) Refusal
 alternative_at n a count d = do
   ds ← array_at (at_weight n a 0) d
-  if items_len ds == count then all_weights_at n a ds >>= weights_at (at_weight n a 0) 0 else refuse kinds.Shape (at_weight n a 0)
+  if items_len ds == count then all_weights_at n a ds >>= bounded_weights_at (at_weight n a 0) 0 else refuse kinds.Shape (at_weight n a 0)
 
 -- the alternative that comes after i others
 unfoldable pub next_alternative_at : ℕ → ℕ → List (List ℕ) → ℕ → Data → Result (List (List ℕ)) Refusal
@@ -61,9 +61,9 @@ abbrev pub all_lists_at : Members → List Node → Result (List (List (List ℕ
 all_lists_at members nodes = walk_list (next_node_at members) [] 0 nodes
 
 -- for each node of the problem that the bytes give its lists, or the first refusal
-unfoldable pub alternatives_of : Sealed → List ℕ → Result Alternatives Refusal
+unfoldable pub alternatives_of : Validated → List ℕ → Result Alternatives Refusal
 alternatives_of p bytes = do
   d ← json_at bytes
   members ← table_at (codes "nodes") d
-  lists ← all_lists_at members p.raw.nodes
+  lists ← all_lists_at members p.parts.nodes
   Ok (record { lists = lists })

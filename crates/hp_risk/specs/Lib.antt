@@ -1,5 +1,5 @@
 pub mod Alternatives
 pub mod Listed
-pub mod Planes
+pub mod RiskCuts
 pub mod RiskCost
 pub mod Report

@@ -2,16 +2,17 @@
 ghost use Rattle.std.specs.Prelude.{◌≡◌, ◌≤◌, length, option_map, Ok, IfOk};
 ghost use Rattle.serde_json.specs.Events.{items_len};
 ghost use Rattle.serde_json.specs.View.{view, members_view, items_view};
-ghost use Rattle.hp_fields.specs.Steps.{Gives, Shows, walk_list};
+ghost use Rattle.hp_fields.specs.Steps.{Gives, Shows};
 ghost use Rattle.hp_sof.specs.Tables.{table_at};
 ghost use Rattle.hp_sof.specs.Problem.{problem_at};
 ghost use Rattle.hp_risk.specs.Alternatives.{one_weight_at, all_weights_at, alternative_at, next_alternative_at, alternatives_at, node_lists_at, next_node_at, all_lists_at, alternatives_of};
 ghost use Rattle.hp_risk.specs.Listed.{Listed};
 
-use crate::weights::{copied, weights};
+use crate::weights::weights;
 use hp_fields::{ReadRefusal, array, few, items, json, member, object, present, weight};
-use hp_num::List;
-use hp_problem::{Node, Part, Place, Problem, Refusal, RefusalKind};
+use hp_num::{List, copied};
+use hp_parts::{Node, Part, Place, Refusal, RefusalKind};
+use hp_problem::Problem;
 use serde_json::{Map, Value};
 use std::alloc::Global;
 
@@ -187,7 +188,7 @@ fn read_lists(alloc: Global, problem: &Problem, bytes: &[u8]) -> Result<Alternat
 {
     let value = json(alloc, bytes)?;
     let table = table(&value, "nodes")?;
-    let nodes = problem.raw().nodes.as_slice();
+    let nodes = problem.parts().nodes.as_slice();
     let lists = all_lists(alloc, table, nodes)?;
     Ok(Alternatives { lists })
 }
@@ -205,6 +206,6 @@ pub fn read_alternatives(
     ensures value { Gives (λ x. x) result (alternatives_of problem.now bytes.now) }
     ensures listed { IfOk result (λ x. Listed problem.now x.lists) }
 {
-    let _ = problem.raw();
+    let _ = problem.parts();
     read_lists(alloc, problem, bytes)
 }

@@ -4,11 +4,12 @@ ghost use Rattle.hp_theory.specs.Problem.{node_at};
 ghost use Rattle.hp_theory.specs.Base.{base_list};
 ghost use Rattle.hp_theory.specs.View.{problem_of};
 ghost use Rattle.hp_dual.specs.Bases.{certificate_of};
-ghost use Rattle.hp_dual.specs.Parts.{repeated};
+ghost use Rattle.hp_cut_making.specs.Parts.{repeated};
 
 use hp_dual::base_certificate;
 use hp_num::{List, Memory};
-use hp_problem::{Node, Problem, Subproblem};
+use hp_parts::{Node, Subproblem};
+use hp_problem::Problem;
 use hp_theory::Certificate;
 use std::alloc::Global;
 
@@ -34,10 +35,10 @@ pub(crate) fn base_list(
     problem: &Problem,
     node: u32,
 ) -> Result<List<Certificate>, Memory>
-    requires { node < length problem.now.raw.nodes }
+    requires { node < length problem.now.parts.nodes }
     ensures { IfOk result (λ list. list ≡ base_list (node_at (problem_of problem.now) node)) }
 {
-    let _ = problem.raw();
+    let _ = problem.parts();
     let _ = problem.lo(node);
     let _ = problem.hi(node);
     let here = problem.node(node);

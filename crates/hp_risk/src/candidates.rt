@@ -3,14 +3,15 @@ ghost use Rattle.std.specs.Prelude.{◌≡◌, ◌<◌, length, All, IfOk, IfSom
 ghost use Rattle.hp_theory.specs.Problem.{node_at, with_weights};
 ghost use Rattle.hp_theory.specs.View.{problem_of};
 ghost use Rattle.hp_theory.specs.Fit.{FitFor};
-ghost use Rattle.hp_cut.specs.Reaches.{Reaches};
-ghost use Rattle.hp_dual.specs.Acceptance.{fault_of};
-ghost use Rattle.hp_dual.specs.Reweighting.{Weighs};
+ghost use Rattle.hp_cut.specs.Reaches.{CutReaches};
+ghost use Rattle.hp_cut_making.specs.Acceptance.{fault_of};
+ghost use Rattle.hp_cut_making.specs.Reweighting.{Weighs};
 ghost use Rattle.hp_theory.specs.declared.cut.Cut.{Cut};
-ghost use Rattle.hp_risk.specs.Planes.{better, best_from, plane_of, realization_in, failing};
+ghost use Rattle.hp_risk.specs.RiskCuts.{better, best_from, risk_cut_of, realization_in, failing_realization};
 
 use hp_cut::{Cut, Pools, value_of_cut};
-use hp_dual::{CertFault, accept_with, make_each};
+use hp_cut_making::CertFault;
+use hp_dual::{accept_with, make_each};
 use hp_num::{List, Memory};
 use hp_problem::Problem;
 use hp_theory::Certificate;
@@ -18,8 +19,8 @@ use std::alloc::Global;
 
 // The one of greater value at the state, the first where they are equal.
 fn better(state: &[i64], best: Option<Cut>, next: Option<Cut>) -> Option<Cut>
-    requires best { IfSome best (Reaches state.now) }
-    requires next { IfSome next (Reaches state.now) }
+    requires best { IfSome best (CutReaches state.now) }
+    requires next { IfSome next (CutReaches state.now) }
     ensures { result ≡ better state.now best next }
 {
     let Some(next) = next else {
@@ -37,7 +38,7 @@ fn better(state: &[i64], best: Option<Cut>, next: Option<Cut>) -> Option<Cut>
 
 // The best of several cuts, by their values at the state.
 fn best_of(state: &[i64], cuts: List<Option<Cut>>) -> Option<Cut>
-    requires reach { All (λ (cut : Option Cut). IfSome cut (Reaches state.now)) cuts }
+    requires reach { All (λ (cut : Option Cut). IfSome cut (CutReaches state.now)) cuts }
     ensures { result ≡ best_from state.now None cuts }
 {
     let mut best = None;
@@ -47,24 +48,24 @@ fn best_of(state: &[i64], cuts: List<Option<Cut>>) -> Option<Cut>
     best
 }
 
-/// The plane of a list of certificates at a node: of the cuts with each list of weights with which they are accepted the
+/// The risk cut of a list of certificates at a node: of the cuts with each list of weights with which they are accepted the
 /// one of greatest value at the lower end of the node's box, the first where values are equal. None where they are
 /// accepted with no list.
-pub(crate) fn plane(
+pub(crate) fn risk_cut(
     alloc: Global,
     problem: &Problem,
-    planes: &Pools,
+    risk_cuts: &Pools,
     node: u32,
     list: &[Certificate],
     lists: &[List<u32>],
 ) -> Result<Option<Cut>, Memory>
-    requires known { node < length problem.now.raw.nodes }
-    requires fit { FitFor (problem_of problem.now) (length problem.now.raw.nodes) planes.now.lists node }
+    requires known { node < length problem.now.parts.nodes }
+    requires fit { FitFor (problem_of problem.now) (length problem.now.parts.nodes) risk_cuts.now.lists node }
     requires weighs { All (Weighs (node_at (problem_of problem.now) node)) lists.now }
-    ensures { IfOk result (λ c. c ≡ plane_of planes.now.lists (node_at (problem_of problem.now) node) list.now lists.now) }
+    ensures { IfOk result (λ c. c ≡ risk_cut_of risk_cuts.now.lists (node_at (problem_of problem.now) node) list.now lists.now) }
 {
-    let _ = problem.raw();
-    let cuts = make_each(alloc, problem, planes, node, lists, list)?;
+    let _ = problem.parts();
+    let cuts = make_each(alloc, problem, risk_cuts, node, lists, list)?;
     Ok(best_of(problem.lo(node), cuts))
 }
 
@@ -84,17 +85,17 @@ fn realization_in(fault: CertFault) -> u32
 // The realization at which a list of weights fails, 0 where it does not.
 fn failing_with(
     problem: &Problem,
-    planes: &Pools,
+    risk_cuts: &Pools,
     node: u32,
     list: &[Certificate],
     weights: &[u32],
 ) -> u32
-    requires known { node < length problem.now.raw.nodes }
-    requires fit { FitFor (problem_of problem.now) (length problem.now.raw.nodes) planes.now.lists node }
+    requires known { node < length problem.now.parts.nodes }
+    requires fit { FitFor (problem_of problem.now) (length problem.now.parts.nodes) risk_cuts.now.lists node }
     requires weighs { Weighs (node_at (problem_of problem.now) node) weights.now }
-    ensures { result ≡ realization_in (fault_of planes.now.lists (with_weights weights.now (node_at (problem_of problem.now) node)) list.now) }
+    ensures { result ≡ realization_in (fault_of risk_cuts.now.lists (with_weights weights.now (node_at (problem_of problem.now) node)) list.now) }
 {
-    match accept_with(problem, planes, node, weights, list) {
+    match accept_with(problem, risk_cuts, node, weights, list) {
         Ok(()) => 0,
         Err(fault) => realization_in(fault),
     }
@@ -103,16 +104,16 @@ fn failing_with(
 /// The realization at which the first list of weights fails.
 pub(crate) fn failing(
     problem: &Problem,
-    planes: &Pools,
+    risk_cuts: &Pools,
     node: u32,
     list: &[Certificate],
     lists: &[List<u32>],
 ) -> u32
-    requires known { node < length problem.now.raw.nodes }
-    requires fit { FitFor (problem_of problem.now) (length problem.now.raw.nodes) planes.now.lists node }
+    requires known { node < length problem.now.parts.nodes }
+    requires fit { FitFor (problem_of problem.now) (length problem.now.parts.nodes) risk_cuts.now.lists node }
     requires some { 0 < length lists.now }
     requires weighs { All (Weighs (node_at (problem_of problem.now) node)) lists.now }
-    ensures { result ≡ failing planes.now.lists (node_at (problem_of problem.now) node) list.now lists.now }
+    ensures { result ≡ failing_realization risk_cuts.now.lists (node_at (problem_of problem.now) node) list.now lists.now }
 {
-    failing_with(problem, planes, node, list, lists[0].as_slice())
+    failing_with(problem, risk_cuts, node, list, lists[0].as_slice())
 }

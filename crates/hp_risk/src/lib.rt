@@ -1,15 +1,15 @@
-//! The worst of several lists of weights: the lists of a problem file, and planes that bound the greatest expectation.
+//! The worst of several lists of weights: the lists of a problem file, and risk cuts that bound the greatest expectation.
 #![tactic(auto)]
 
 mod alternatives;
 mod base;
 mod candidates;
 pub mod laws;
-mod planes;
 mod report;
+mod risk_cuts;
 mod weights;
 pub mod worked;
 
 pub use alternatives::{Alternatives, read_alternatives};
-pub use planes::{RobustFault, robust};
 pub use report::robust_report;
+pub use risk_cuts::{RobustFault, robust};

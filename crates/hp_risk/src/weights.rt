@@ -1,38 +1,25 @@
 // Weights that stand for shares of their total.
-ghost use Rattle.std.specs.Prelude.{◌≡◌, IfOk};
 ghost use Rattle.hp_fields.specs.Steps.{Gives};
-ghost use Rattle.hp_sof.specs.Weights.{weights_at};
+ghost use Rattle.hp_sof.specs.Weights.{bounded_weights_at};
 
 use hp_fields::ReadRefusal;
-use hp_num::{List, Memory};
-use hp_problem::limits::GREATEST_TOTAL_WEIGHT;
-use hp_problem::{Place, RefusalKind};
+use hp_num::List;
+use hp_parts::{GREATEST_TOTAL_WEIGHT, Place, RefusalKind};
 use std::alloc::Global;
 
 /// The weights, where they add up to at most 65,535, else Weight.
-#[tactic(auto, unfolding(hp_sof::specs::Weights::weights_at))]
+#[tactic(auto, unfolding(hp_sof::specs::Weights::bounded_weights_at))]
 pub(crate) fn weights(alloc: Global, all: &[u64], place: Place) -> Result<List<u32>, ReadRefusal>
-    ensures { Gives (λ l. l) result (weights_at place 0 all.now) }
+    ensures { Gives (λ l. l) result (bounded_weights_at place 0 all.now) }
 {
     let mut left = GREATEST_TOTAL_WEIGHT;
     let mut found = List::new(alloc);
     for weight in all {
-        let Some(rest) = left.checked_sub(*weight) else {
+        let Some(tail) = left.checked_sub(*weight) else {
             return Err(ReadRefusal::Refused(RefusalKind::Weight.at(place)));
         };
         found.push(*weight as u32)?;
-        left = rest;
-    }
-    Ok(found)
-}
-
-/// Copies the weights into a new list.
-pub(crate) fn copied(alloc: Global, weights: &[u32]) -> Result<List<u32>, Memory>
-    ensures { IfOk result (λ l. l ≡ weights.now) }
-{
-    let mut found = List::new(alloc);
-    for weight in weights {
-        found.push(*weight)?;
+        left = tail;
     }
     Ok(found)
 }

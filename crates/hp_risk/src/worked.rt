@@ -3,20 +3,20 @@
 ghost use Rattle.std.specs.Prelude.{◌≡◌, pos, negsuc, [], ◌∷◌, Some};
 ghost use Rattle.hp_theory.specs.Base.{base_list};
 ghost use Rattle.hp_theory.specs.Bound.{bound};
-ghost use Rattle.hp_theory.specs.Examples.{reservoir, reservoir_problem, reservoir_certificate, tree_in_halves, best_tree, policy_of};
+ghost use Rattle.hp_theory.specs.Examples.{reservoir, reservoir_problem, reservoir_certificate, best_tree, policy_of};
 ghost use Rattle.hp_risk.specs.Listed.{own_weights};
-ghost use Rattle.hp_risk.specs.Planes.{plane_of};
+ghost use Rattle.hp_risk.specs.RiskCuts.{risk_cut_of};
 ghost use Rattle.hp_risk.specs.RiskCost.{risk_policy_cost};
 
 /// The definitions' values on the reservoir.
 pub fn worked_rows()
-    ensures base_plane { plane_of [] (reservoir 1) (base_list (reservoir 1))
+    ensures base_risk_cut { risk_cut_of [] (reservoir 1) (base_list (reservoir 1))
         (own_weights (reservoir 1) ∷ (3 ∷ 1 ∷ []) ∷ [])
         ≡ Some (record { alpha = pos 0; beta = pos 0 ∷ [] }) }
-    ensures plane { plane_of [] (reservoir 1) (reservoir_certificate ∷ reservoir_certificate ∷ [])
+    ensures risk_cut { risk_cut_of [] (reservoir 1) (reservoir_certificate ∷ reservoir_certificate ∷ [])
         (own_weights (reservoir 1) ∷ (3 ∷ 1 ∷ []) ∷ [])
         ≡ Some (record { alpha = pos 629145600; beta = negsuc 83886079 ∷ [] }) }
-    ensures own_plane { plane_of [] (reservoir 1) (reservoir_certificate ∷ reservoir_certificate ∷ [])
+    ensures own_risk_cut { risk_cut_of [] (reservoir 1) (reservoir_certificate ∷ reservoir_certificate ∷ [])
         (own_weights (reservoir 1) ∷ [])
         ≡ Some (record { alpha = pos 587202560; beta = negsuc 83886079 ∷ [] }) }
     ensures worst { bound (reservoir_problem 1)

@@ -1,8 +1,8 @@
 -- The report of a verdict is the one that is defined, or there is a reason why there is none.
-use Rattle.std.proofs.Common.{◌≡◌, ◌∙◌, ℕ, ◌≤ℤ◌, true, List, length, Option, IfSome, Result, Ok, sym, ap}
+use Rattle.std.proofs.Common.{◌≡◌, ◌∙◌, ℕ, ◌≤ℤ◌, true, List, Option, IfSome, Result, Ok, sym, ap}
 use Rattle.sha2.specs.Sha256.{sha256}
 use Rattle.hp_fields.specs.Steps.{◌>>=◌}
-use Rattle.hp_problem.specs.Sealed.{Sealed, is_sealed}
+use Rattle.hp_problem.specs.Validated.{Validated, is_validated}
 use Rattle.hp_theory.specs.declared.cut.Cut.{Cut}
 use Rattle.hp_theory.specs.Bound.{bound}
 use Rattle.hp_theory.specs.Pools.{Sound}
@@ -13,31 +13,31 @@ use Rattle.hp_cut.specs.AtNodes.{PoolsFit}
 use Rattle.hp_load.specs.Load.{Outcome}
 use Rattle.hp_solver.specs.Solving.{Solving}
 use Rattle.hp_settle.specs.declared.plan_fault.PlanFault.{PlanFault}
-use Rattle.hp_settle.specs.Faults.{Fails}
+use Rattle.hp_settle.specs.Faults.{FailsAsRefuted}
 use Rattle.hp_tree.specs.declared.walking.Verdict.{Verdict}
 use Rattle.hp_tree.specs.declared.walking.Verdict.TheVariants.{Cost, Missed}
 use Rattle.hp_tree.specs.PolicyTree.{verdict_of}
 use Rattle.hp_tree.specs.Report.{verdict_text}
 use Rattle.hp_tree.specs.TooBig.{too_big_of}
-use Rattle.hp_tree.specs.Upper.{IsUpper}
+use Rattle.hp_tree.specs.Upper.{IsLeastUpper}
 use Rattle.hp_tree.specs.Verdicts.{OnCost}
 use Rattle.hp_run.specs.Causes.{Lacks}
-use Rattle.hp_run.specs.Outcome.{Reports, WithBase, based_at, evaluated_for, loaded_within, or_refused, report_at, report_by, report_judged, status_of_plan}
+use Rattle.hp_run.specs.Outcome.{Reports, WithBase, based_at, evaluated_for, loaded_within, or_refused, report_at, report_by, report_classified, status_of_plan}
 use Rattle.hp_run.specs.SoundText.{IsSoundReport, IsTwoSided}
 use Rattle.hp_run.specs.declared.status.Status.{Status}
-use Rattle.hp_run.specs.declared.task.Task.TheVariants.{Evaluate}
+use Rattle.hp_words.specs.declared.command.Command.TheVariants.{Evaluate}
 use Rattle.hp_run.proofs.Checks.{bound_under}
 use Rattle.hp_run.proofs.Loaded.{GoesOn, gone_on, not_decided}
 use Rattle.hp_run.proofs.LocatedVerdict.{verdict_located}
 
-two_sided : (p : Sealed) (pools : List (List Cut)) (verdict : Verdict) → Sound (problem_of p) pools
-    → (let r : Result Verdict PlanFault = Ok verdict in OnCost r (λ upper. (f : Forest) × Policy (problem_of p) S f × IsUpper (problem_of p) f upper × (Sound (problem_of p) pools → bound (problem_of p) pools ≤ℤ upper)))
+two_sided : (p : Validated) (pools : List (List Cut)) (verdict : Verdict) → Sound (problem_of p) pools
+    → (let r : Result Verdict PlanFault = Ok verdict in OnCost r (λ upper. (f : Forest) × Policy (problem_of p) S f × IsLeastUpper (problem_of p) f upper × (Sound (problem_of p) pools → bound (problem_of p) pools ≤ℤ upper)))
     → IsTwoSided (problem_of p) pools verdict
 two_sided p pools (Cost upper) sound h = record { forest = h.0; policy = h.1; cost = h.2; bound = h.3 sound }
 two_sided p pools (Missed branches row residual) sound h = tt
 
-pub verdict_sound : (bytes : List ℕ) (p : Sealed) (pools : List (List Cut)) (verdict : Verdict) (text : List ℕ) → is_sealed p ≡ true → PoolsFit p pools → Sound (problem_of p) pools
-    → (let r : Result Verdict PlanFault = Ok verdict in OnCost r (λ upper. (f : Forest) × Policy (problem_of p) S f × IsUpper (problem_of p) f upper × (Sound (problem_of p) pools → bound (problem_of p) pools ≤ℤ upper)))
+pub verdict_sound : (bytes : List ℕ) (p : Validated) (pools : List (List Cut)) (verdict : Verdict) (text : List ℕ) → is_validated p ≡ true → PoolsFit p pools → Sound (problem_of p) pools
+    → (let r : Result Verdict PlanFault = Ok verdict in OnCost r (λ upper. (f : Forest) × Policy (problem_of p) S f × IsLeastUpper (problem_of p) f upper × (Sound (problem_of p) pools → bound (problem_of p) pools ≤ℤ upper)))
     → text ≡ verdict_text p pools verdict → IsSoundReport Evaluate bytes p pools text
 verdict_sound bytes p pools verdict text e fit sound sides is = record {
   is = (verdict, is, two_sided p pools verdict sound sides);
@@ -47,22 +47,22 @@ verdict_sound bytes p pools verdict text e fit sound sides is = record {
 
 module _ {Start Chain : Type 0} (v : Solving Start Chain) (bytes : List ℕ) (b : WithBase) where
   -- the verdict over what was loaded
-  abbrev pub judge : Outcome → Result (List ℕ) Status
-  judge o = report_judged b.problem o.pools (verdict_of v b.problem o.pools)
+  abbrev pub classify : Outcome → Result (List ℕ) Status
+  classify o = report_classified b.problem o.pools (verdict_of v b.problem o.pools)
 
-  by_task : based_at bytes ≡ Ok b → (kept : List ℕ) → report_at v Evaluate bytes kept ≡ (loaded_within b.problem b.pools (sha256 bytes) (too_big_of b.problem) kept >>= judge)
+  by_task : based_at bytes ≡ Ok b → (kept : List ℕ) → report_at v Evaluate bytes kept ≡ (loaded_within b.problem b.pools (sha256 bytes) (too_big_of b.problem) kept >>= classify)
   unfolding report_at evaluated_for
   by_task based kept = ap (λ r. or_refused r >>= report_by v Evaluate bytes kept) based
 
-  pub judges : based_at bytes ≡ Ok b → GoesOn v Evaluate bytes b (too_big_of b.problem) judge
-  judges based = record { based = based; reads = tt; solves = tt; told = λ told kept reads. reads; is = by_task based }
+  pub classifies : based_at bytes ≡ Ok b → GoesOn v Evaluate bytes b (too_big_of b.problem) classify
+  classifies based = record { based = based; reads = tt; solves = tt; told = λ told kept reads. reads; is = by_task based }
 
   module _ (told : Option (List ℕ)) (based : based_at bytes ≡ Ok b) (o : Outcome) (has : IfSome told (λ kept. loaded_within b.problem b.pools (sha256 bytes) (too_big_of b.problem) kept ≡ Ok o)) where
     -- the verdict over what was loaded
     pub verdict_reported : (verdict : Verdict) (text : List ℕ) → verdict_of v b.problem o.pools ≡ Ok verdict → text ≡ verdict_text b.problem o.pools verdict → Reports v Evaluate told bytes (Ok text)
-    verdict_reported verdict text e is = gone_on v Evaluate told bytes b (too_big_of b.problem) judge (judges based) o (Ok text) has (ap (report_judged b.problem o.pools) e ∙ ap (λ (x : List ℕ). Ok x) (sym is))
+    verdict_reported verdict text e is = gone_on v Evaluate told bytes b (too_big_of b.problem) classify (classifies based) o (Ok text) has (ap (report_classified b.problem o.pools) e ∙ ap (λ (x : List ℕ). Ok x) (sym is))
 
     -- a node without decisions
-    pub not_judged : (disk disk_now : ℕ) (f : PlanFault) → Fails f (verdict_of v b.problem o.pools) → is_sealed b.problem ≡ true → Lacks v Evaluate told disk disk_now bytes (status_of_plan f)
-    not_judged disk disk_now f fails sealed =
-        not_decided v Evaluate told bytes b (too_big_of b.problem) judge (judges based) disk disk_now o f (verdict_of v b.problem o.pools) has (λ dead e. ap (report_judged b.problem o.pools) e) fails (verdict_located v b.problem sealed o.pools)
+    pub not_classified : (disk disk_now : ℕ) (f : PlanFault) → FailsAsRefuted f (verdict_of v b.problem o.pools) → is_validated b.problem ≡ true → disk_now ≡ disk → Lacks v Evaluate told disk disk_now bytes (status_of_plan f)
+    not_classified disk disk_now f fails validated stayed =
+        not_decided v Evaluate told bytes b (too_big_of b.problem) classify (classifies based) disk disk_now o f (verdict_of v b.problem o.pools) has (λ infeasible e. ap (report_classified b.problem o.pools) e) fails (verdict_located v b.problem validated o.pools) stayed

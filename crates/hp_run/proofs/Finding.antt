@@ -1,12 +1,13 @@
 -- The first check that finds a refusal, and those before it.
-use Rattle.std.proofs.Common.{◌≡◌, ◌↔◌, ℕ, List, [], ◌∷◌, ◌++◌, Option, Some, None, Result, Ok, Err, IsOk, refl, sym, ap, ◌∙◌}
+use Rattle.std.proofs.Common.{◌≡◌, ◌↔◌, ℕ, Bool, true, false, if◌then◌else◌, List, [], ◌∷◌, ◌++◌, Option, Some, None, Result, Ok, Err, IsOk, refl, sym, ap, ◌∙◌}
 use Rattle.std.specs.Option.{option_or}
-use Rattle.hp_problem.specs.declared.refusal.Refusal.{Refusal}
+use Rattle.std.specs.Prelude.{MatchBool}
+use Rattle.hp_parts.specs.declared.refusal.Refusal.{Refusal}
 use Rattle.hp_run.specs.FirstRefusal.{Check, FindNothing, IsFirst, first, refusal_of}
 use Rattle.hp_run.specs.CheckList.{checks, checks_of, list_checks}
-use Rattle.hp_run.specs.Outcome.{IsRefused, based_at, listed_at}
-use Rattle.hp_run.specs.declared.task.Task.{Task}
-use Rattle.hp_run.specs.declared.task.Task.TheVariants as tasks
+use Rattle.hp_run.specs.Outcome.{IsRefused, based_at, problem_with_alternatives_at}
+use Rattle.hp_words.specs.declared.command.Command.{Command}
+use Rattle.hp_words.specs.Traits.{traits}
 use Rattle.hp_run.proofs.FirstRefusal.{Told}
 use Rattle.hp_run.proofs.ToldAll.{based-told, listed-told}
 
@@ -45,24 +46,22 @@ refused (Err q) r e = cc
 told-first : {A R : Type 0} (bytes : List ℕ) (cs : List (Check R)) (x : Result A R) → Told bytes cs x → (r : R) → (x ≡ Err r) ↔ (first cs bytes ≡ Some r)
 told-first bytes cs x told r = ((λ e. sym told.is ∙ ap refusal_of e), (λ e. refused x r (told.is ∙ e)))
 
-pub refused-first : (task : Task) (bytes : List ℕ) (r : Refusal) → IsRefused task bytes r ↔ (first (checks_of task bytes) bytes ≡ Some r)
-refused-first tasks.Base bytes r = told-first bytes (checks bytes) (based_at bytes) (based-told bytes) r
-refused-first (tasks.Train seed count batch) bytes r = told-first bytes (checks bytes) (based_at bytes) (based-told bytes) r
-refused-first tasks.Check bytes r = told-first bytes (checks bytes) (based_at bytes) (based-told bytes) r
-refused-first (tasks.Simulate seed count) bytes r = told-first bytes (checks bytes) (based_at bytes) (based-told bytes) r
-refused-first tasks.Validate bytes r = told-first bytes (checks bytes) (based_at bytes) (based-told bytes) r
-refused-first tasks.Evaluate bytes r = told-first bytes (checks bytes) (based_at bytes) (based-told bytes) r
-refused-first tasks.Robust bytes r = told-first bytes (checks bytes ++ list_checks bytes) (listed_at bytes) (listed-told bytes) r
+pub refused-first : (command : Command) (bytes : List ℕ) (r : Refusal) → IsRefused command bytes r ↔ (first (checks_of command bytes) bytes ≡ Some r)
+refused-first command bytes r = by (traits command).lists_weights
+  where
+    by : (b : Bool) → MatchBool b (problem_with_alternatives_at bytes ≡ Err r) (based_at bytes ≡ Err r) ↔ (first (if b then checks bytes ++ list_checks bytes else checks bytes) bytes ≡ Some r)
+    by true = told-first bytes (checks bytes ++ list_checks bytes) (problem_with_alternatives_at bytes) (listed-told bytes) r
+    by false = told-first bytes (checks bytes) (based_at bytes) (based-told bytes) r
 
 pub told-none-before : {A R : Type 0} (bytes : List ℕ) (cs : List (Check R)) (x : Result A R) → Told bytes cs x → (r : R) → (x ≡ Err r) ↔ IsFirst cs bytes r
 told-none-before bytes cs x told r =
     let it = told-first bytes cs x told r in
     ((λ e. found-first cs bytes r (it.0 e)), (λ f. it.1 (first-found cs bytes r f)))
 
-pub none-before : (task : Task) (bytes : List ℕ) (r : Refusal) → IsRefused task bytes r ↔ IsFirst (checks_of task bytes) bytes r
-none-before task bytes r =
-    let it = refused-first task bytes r in
-    ((λ e. found-first (checks_of task bytes) bytes r (it.0 e)), (λ f. it.1 (first-found (checks_of task bytes) bytes r f)))
+pub none-before : (command : Command) (bytes : List ℕ) (r : Refusal) → IsRefused command bytes r ↔ IsFirst (checks_of command bytes) bytes r
+none-before command bytes r =
+    let it = refused-first command bytes r in
+    ((λ e. found-first (checks_of command bytes) bytes r (it.0 e)), (λ f. it.1 (first-found (checks_of command bytes) bytes r f)))
 
 -- ---- nothing is found
 

@@ -3,9 +3,9 @@ use Rattle.std.proofs.Common.{◌≡◌, ◌+◌, ℕ, suc, List, [], ◌∷◌,
 use Rattle.std.specs.Option.{option_or}
 use Rattle.serde_json.specs.Data.{Data, Items, no_items, item, Members, no_members, member}
 use Rattle.serde_json.specs.Events.{items_len, members_len}
-use Rattle.hp_problem.specs.declared.refusal.Place.{Place}
-use Rattle.hp_problem.specs.declared.refusal.Refusal.{Refusal}
-use Rattle.hp_problem.specs.declared.refusal.RefusalKind.{RefusalKind}
+use Rattle.hp_parts.specs.declared.refusal.Place.{Place}
+use Rattle.hp_parts.specs.declared.refusal.Refusal.{Refusal}
+use Rattle.hp_parts.specs.declared.refusal.RefusalKind.{RefusalKind}
 use Rattle.hp_fields.specs.Fields.{refuse}
 use Rattle.hp_fields.specs.Steps.{◌>>=◌, walk_items, walk_members, walk_list}
 use Rattle.hp_run.specs.FirstRefusal.{Check, first, of_each, nth_item, nth_member, refusal_of, failing}
@@ -35,13 +35,13 @@ refusal-same (Err r) f g same = refl
 module _ {R : Type 0} (bytes : List ℕ) where
   pub one-then : {A B : Type 0} (c : Check R) (cs : List (Check R)) (x : Result A R) (f : A → Result B R) → c.finds bytes ≡ refusal_of x
       → ((v : A) → x ≡ Ok v → Told bytes cs (f v)) → Told bytes (c ∷ cs) (x >>= f)
-  one-then c cs (Ok v) f is rest = record { is = rw is (rest v refl).is }
-  one-then c cs (Err r) f is rest = record { is = rw is refl }
+  one-then c cs (Ok v) f is tail = record { is = rw is (tail v refl).is }
+  one-then c cs (Err r) f is tail = record { is = rw is refl }
 
   pub all-then : {A B : Type 0} (cs ds : List (Check R)) (x : Result A R) (f : A → Result B R) → Told bytes cs x
       → ((v : A) → x ≡ Ok v → Told bytes ds (f v)) → Told bytes (cs ++ ds) (x >>= f)
-  all-then cs ds (Ok v) f told rest = record { is = rw (first-append cs ds bytes, sym told.is) (rest v refl).is }
-  all-then cs ds (Err r) f told rest = record { is = rw (first-append cs ds bytes, sym told.is) refl }
+  all-then cs ds (Ok v) f told tail = record { is = rw (first-append cs ds bytes, sym told.is) (tail v refl).is }
+  all-then cs ds (Err r) f told tail = record { is = rw (first-append cs ds bytes, sym told.is) refl }
 
   -- a check of a step that comes last
   pub one-last : {A : Type 0} (c : Check R) (x : Result A R) → c.finds bytes ≡ refusal_of x → Told bytes (c ∷ []) x

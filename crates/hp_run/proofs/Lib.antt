@@ -18,7 +18,7 @@ pub mod Simulated
 pub mod Evaluated
 pub mod Listed
 pub mod Sounding
-pub mod SoundPlanes
+pub mod SoundRiskCuts
 pub mod SoundVerdict
 pub mod Plans
 pub mod Meant

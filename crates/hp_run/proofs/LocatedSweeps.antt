@@ -2,7 +2,7 @@
 use Rattle.std.proofs.Common.{◌≡◌, ℕ, ◌<◌, ℤ, true, List, [], ◌∷◌, length, zip, All, Option, Some, None, Ok, IfErr, refl}
 use Rattle.std.proofs.lemmas.List.Elements.{All-nil, All-cons}
 use Rattle.hp_num.proofs.Sums.{All_head, All_tail}
-use Rattle.hp_problem.specs.Sealed.{Sealed, is_sealed}
+use Rattle.hp_problem.specs.Validated.{Validated, is_validated}
 use Rattle.hp_theory.specs.declared.cut.Cut.{Cut}
 use Rattle.hp_theory.specs.declared.cut.Certificate.{Certificate}
 use Rattle.hp_theory.specs.Problem.{Node, node_at}
@@ -10,37 +10,37 @@ use Rattle.hp_theory.specs.CutOf.{cut_of}
 use Rattle.hp_theory.specs.Range.{range_of}
 use Rattle.hp_theory.specs.View.{problem_of}
 use Rattle.hp_solver.specs.declared.programs.Answer.{Answer}
-use Rattle.hp_settle.specs.declared.judging.Dead.{Dead}
-use Rattle.hp_settle.specs.declared.judging.Judged.{Judged}
-use Rattle.hp_settle.specs.declared.judging.Judged.TheVariants as judged
+use Rattle.hp_settle.specs.declared.classifying.Infeasibility.{Infeasibility}
+use Rattle.hp_settle.specs.declared.classifying.Classified.{Classified}
+use Rattle.hp_settle.specs.declared.classifying.Classified.TheVariants as classified
 use Rattle.hp_settle.specs.declared.plan_fault.PlanFault.{PlanFault}
-use Rattle.hp_settle.specs.declared.plan_fault.PlanFault.TheVariants.{NoStage, Range, DiskFault, Memory}
-use Rattle.hp_settle.specs.Judging.{judge_of}
+use Rattle.hp_settle.specs.declared.plan_fault.PlanFault.TheVariants.{Infeasible, Range, DiskFault, Memory}
+use Rattle.hp_settle.specs.Classifying.{classify_of}
 use Rattle.hp_settle.specs.Settling.{settled_of}
 use Rattle.hp_solver.specs.Solving.{Solving}
-use Rattle.hp_sampler.specs.declared.steps.Step.{Step}
+use Rattle.hp_sampler.specs.declared.steps.PathStep.{PathStep}
 use Rattle.hp_sampler.specs.Drawn.{IsInRange}
 use Rattle.hp_cut.specs.AtNodes.{IsStateAt}
-use Rattle.hp_forward.specs.Walking.{AreInside}
-use Rattle.hp_backward.specs.Certifying.{answers_at, both, certified, certify, certify_all, nothing, values_at, with_judged}
+use Rattle.hp_forward.specs.Walking.{AreStatesInside}
+use Rattle.hp_backward.specs.Certifying.{answers_at, both_certified, certified, certify, certify_all, nothing_certified, node_values_at, with_classified}
 use Rattle.hp_backward.specs.Sweeping.{Swept, backwards, made_at, step_back, swept, with_made, within_range}
 use Rattle.hp_run.specs.Refuted.{IsRealized}
-use Rattle.hp_run.proofs.Located.{Located, err_then, judged_refutes, located}
+use Rattle.hp_run.proofs.Located.{Located, err_then, classified_refutes, located}
 use Rattle.hp_run.proofs.LocatedWalks.{values_realized}
 
--- what holds of a refutation
-abbrev pub OnDead : (Dead → Type 0) → PlanFault → Type 0
-OnDead P (NoStage d) = P d
-OnDead P (Range k m r) = Unit {0}
-OnDead P DiskFault = Unit {0}
-OnDead P Memory = Unit {0}
+-- what holds of an infeasibility
+abbrev pub OnInfeasible : (Infeasibility → Type 0) → PlanFault → Type 0
+OnInfeasible P (Infeasible d) = P d
+OnInfeasible P (Range k m r) = Unit {0}
+OnInfeasible P DiskFault = Unit {0}
+OnInfeasible P Memory = Unit {0}
 
 -- what was found of some realizations
 abbrev Taken : {A B : Type 0} → (A → B) → Type 0
 Taken {A} f = A
 
 abbrev Certified : Type 0
-Certified = Taken (both nothing)
+Certified = Taken (both_certified nothing_certified)
 
 -- what holds of the first of each pair, and of the pair
 pub zip_both : {A B : Type 0} (P : A → Type 0) (R : A × B → Type 0) (xs : List A) (ys : List B) → All P xs → All R (zip xs ys) → All (λ (q : A × B). P q.0 × R q) (zip xs ys)
@@ -51,24 +51,24 @@ zip_both {A} {B} P R (x ∷ xs) (y ∷ ys) one two =
     (zip_both P R xs ys (All_tail P x xs one) (All_tail R (x, y) (zip xs ys) two))
 
 -- the realizations of a node, at a state in its box
-module _ (p : Sealed) (pools : List (List Cut)) (k m : ℕ) (state : List ℤ) (known : m < length p.raw.nodes) (inside : IsStateAt p m state) where
+module _ (p : Validated) (pools : List (List Cut)) (k m : ℕ) (state : List ℤ) (known : m < length p.parts.nodes) (inside : IsStateAt p m state) where
   abbrev n : Node
   n = node_at (problem_of p) m
 
   abbrev Here : PlanFault → Type 0
-  Here = OnDead (Located p (IsRealized p))
+  Here = OnInfeasible (Located p (IsRealized p))
 
   abbrev Own : List ℤ → Type 0
   Own values = IsRealized p (record { node = m; values = values })
 
-  judged_located : (found : Certified) (values : List ℤ) (a : Answer) (c : Certificate) → Own values → (j : Judged) → judge_of n values state a ≡ j → IfErr (with_judged k m state values c found j) Here
-  judged_located found values a c own judged.Found e = tt
-  judged_located found values a c own judged.Unsettled e = tt
-  judged_located found values a c own (judged.Dead ys) e = located p (IsRealized p) m values state known own inside k ys (judged_refutes n values state a ys e)
+  classified_located : (found : Certified) (values : List ℤ) (a : Answer) (c : Certificate) → Own values → (j : Classified) → classify_of n values state a ≡ j → IfErr (with_classified k m state values c found j) Here
+  classified_located found values a c own classified.Found e = tt
+  classified_located found values a c own classified.Unanswered e = tt
+  classified_located found values a c own (classified.Infeasibility ys) e = located p (IsRealized p) m values state known own inside k ys (classified_refutes n values state a ys e)
 
   certify_located : (found : Certified) (values : List ℤ) (a : Answer) → Own values → IfErr (certify pools n k m state found values a) Here
   unfolding certify
-  certify_located found values a own = judged_located found values a (settled_of pools n a) own (judge_of n values state a) refl
+  certify_located found values a own = classified_located found values a (settled_of pools n a) own (classify_of n values state a) refl
 
   all_located : (found : Certified) (vs : List (List ℤ)) (xs : List Answer) → All Own vs → IfErr (certify_all (certify pools n k m state) found vs xs) Here
   all_located found [] xs all = tt
@@ -81,34 +81,34 @@ module _ (p : Sealed) (pools : List (List Cut)) (k m : ℕ) (state : List ℤ) (
   within_located None made = tt
   within_located (Some r) made = tt
 
-  module _ {Start Chain : Type 0} (v : Solving Start Chain) (sealed : is_sealed p ≡ true) where
+  module _ {Start Chain : Type 0} (v : Solving Start Chain) (validated : is_validated p ≡ true) where
     certified_located : IfErr (certified v p pools k m state) Here
     unfolding certified
-    certified_located = all_located nothing (values_at p.raw m) (answers_at v p pools m state) (values_realized p m sealed known)
+    certified_located = all_located nothing_certified (node_values_at p.parts m) (answers_at v p pools m state) (values_realized p m validated known)
 
     pub made_located : IfErr (made_at v p pools k m state) Here
     unfolding made_at
     made_located = err_then Here (certified v p pools k m state) (λ found. within_range k m (range_of pools n found.list) (found, cut_of pools n found.list)) certified_located (λ found is. within_located (range_of pools n found.list) (found, cut_of pools n found.list))
 
-module _ {Start Chain : Type 0} (v : Solving Start Chain) (p : Sealed) (sealed : is_sealed p ≡ true) (k : ℕ) where
+module _ {Start Chain : Type 0} (v : Solving Start Chain) (p : Validated) (validated : is_validated p ≡ true) (k : ℕ) where
   abbrev Fault : PlanFault → Type 0
-  Fault = OnDead (Located p (IsRealized p))
+  Fault = OnInfeasible (Located p (IsRealized p))
 
   -- a step of a path, and a state in the box of its node
-  abbrev IsVisit : Step × List ℤ → Type 0
-  IsVisit q = IsInRange p.raw q.0 × IsStateAt p q.0.node q.1
+  abbrev IsVisit : PathStep × List ℤ → Type 0
+  IsVisit q = IsInRange p.parts q.0 × IsStateAt p q.0.node q.1
 
-  step_located : (before : Swept) (visit : Step × List ℤ) → IsVisit visit → IfErr (step_back v p k before visit) Fault
+  step_located : (before : Swept) (visit : PathStep × List ℤ) → IsVisit visit → IfErr (step_back v p k before visit) Fault
   unfolding step_back
-  step_located before visit h = err_then Fault (made_at v p before.pools k visit.0.node visit.1) (λ made. Ok (with_made before visit.0.node made)) (made_located p before.pools k visit.0.node visit.1 h.0.0 h.1 v sealed) (λ made is. tt)
+  step_located before visit h = err_then Fault (made_at v p before.pools k visit.0.node visit.1) (λ made. Ok (with_made before visit.0.node made)) (made_located p before.pools k visit.0.node visit.1 h.0.0 h.1 v validated) (λ made is. tt)
 
-  back_located : (xs : List (Step × List ℤ)) (start : Swept) → All IsVisit xs → IfErr (backwards (step_back v p k) xs start) Fault
+  back_located : (xs : List (PathStep × List ℤ)) (start : Swept) → All IsVisit xs → IfErr (backwards (step_back v p k) xs start) Fault
   back_located [] start all = tt
   back_located (x ∷ xs) start all =
       err_then Fault (backwards (step_back v p k) xs start) (λ before. step_back v p k before x) (back_located xs start (All_tail IsVisit x xs all))
       (λ before is. step_located before x (All_head IsVisit x xs all))
 
-  pub swept_located : (pools : List (List Cut)) (path : List Step) (states : List (List ℤ)) (unsettled : ℕ) → All (IsInRange p.raw) path → AreInside p path states → IfErr (swept v p pools k path states unsettled) Fault
+  pub swept_located : (pools : List (List Cut)) (path : List PathStep) (states : List (List ℤ)) (unanswered : ℕ) → All (IsInRange p.parts) path → AreStatesInside p path states → IfErr (swept v p pools k path states unanswered) Fault
   unfolding swept
-  swept_located pools path states unsettled range inside =
-      back_located (zip path states) (record { pools = pools; steps = []; unsettled = unsettled }) (zip_both (IsInRange p.raw) (λ (q : Step × List ℤ). IsStateAt p q.0.node q.1) path states range inside)
+  swept_located pools path states unanswered range inside =
+      back_located (zip path states) (record { pools = pools; steps = []; unanswered = unanswered }) (zip_both (IsInRange p.parts) (λ (q : PathStep × List ℤ). IsStateAt p q.0.node q.1) path states range inside)

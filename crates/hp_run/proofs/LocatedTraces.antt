@@ -4,37 +4,37 @@ use Rattle.std.proofs.lemmas.List.{get_or_default}
 use Rattle.std.proofs.lemmas.List.Elements.{All-nil, All-cons}
 use Rattle.hp_num.specs.Steps.{◌>>=◌}
 use Rattle.hp_num.proofs.Sums.{All_head, All_tail}
-use Rattle.hp_problem.specs.declared.raw.Moment.{Moment}
-use Rattle.hp_problem.specs.Sealed.{Sealed, is_sealed}
+use Rattle.hp_parts.specs.declared.parts.Moment.{Moment}
+use Rattle.hp_problem.specs.Validated.{Validated, is_validated}
 use Rattle.hp_theory.specs.declared.cut.Cut.{Cut}
 use Rattle.hp_theory.specs.Problem.{S}
 use Rattle.hp_theory.specs.Tree.{times_all}
 use Rattle.hp_theory.specs.View.{problem_of}
-use Rattle.hp_settle.specs.declared.judging.Dead.{Dead}
+use Rattle.hp_settle.specs.declared.classifying.Infeasibility.{Infeasibility}
 use Rattle.hp_solver.specs.Solving.{Solving}
-use Rattle.hp_sampler.specs.declared.steps.Step.{Step}
+use Rattle.hp_sampler.specs.declared.steps.PathStep.{PathStep}
 use Rattle.hp_sampler.specs.Drawn.{IsInRange, IsPath, path}
 use Rattle.hp_forward.specs.declared.deciding.Decided.{Decided}
 use Rattle.hp_forward.specs.declared.traces.Trace.{Trace}
 use Rattle.hp_mend.proofs.MendedDecisions.{successors_mended}
-use Rattle.hp_sim.specs.Runs.{IsRun, drawn_from, moment_of}
+use Rattle.hp_sim.specs.Runs.{IsProblemRun, drawn_from, moment_of}
 use Rattle.hp_sim.specs.Tracing.{decide_at, longer, no_trace, trace_of, trace_on, traced, traces_of, traces_on}
 use Rattle.hp_sim.proofs.Following.{ComesTo, IsHere, comes_first, comes_here, comes_next, path_run, stored_runs}
-use Rattle.hp_run.specs.Refuted.{IsRealized, IsStored}
+use Rattle.hp_run.specs.Refuted.{IsRealized, IsStoredMoment}
 use Rattle.hp_run.proofs.Located.{Located, err_as, err_then, mended_located}
 use Rattle.hp_run.proofs.LocatedWalks.{path_drawn}
 
 -- a run of a problem, of whose moments this holds
-abbrev pub IsRunOf : Sealed → (Moment → Type 0) → List Moment → Type 0
-IsRunOf p P run = IsRun p run × All P run
+abbrev pub IsRunOf : Validated → (Moment → Type 0) → List Moment → Type 0
+IsRunOf p P run = IsProblemRun p run × All P run
 
-module _ {Start Chain : Type 0} (v : Solving Start Chain) (p : Sealed) (sealed : is_sealed p ≡ true) (P : Moment → Type 0) (pools : List (List Cut)) where
+module _ {Start Chain : Type 0} (v : Solving Start Chain) (p : Validated) (validated : is_validated p ≡ true) (P : Moment → Type 0) (pools : List (List Cut)) where
   module _ (run : ℕ) where
-    abbrev decide : Moment → List ℤ → Result Decided Dead
+    abbrev decide : Moment → List ℤ → Result Decided Infeasibility
     decide = decide_at v p pools run
 
     -- the trace with a step, and what leaves it
-    abbrev after : Trace → List ℤ → Moment → Result Decided Dead → Result (Trace × List ℤ) Dead
+    abbrev after : Trace → List ℤ → Moment → Result Decided Infeasibility → Result (Trace × List ℤ) Infeasibility
     after trace state m r = r >>= λ d. Ok (longer trace (traced p m state d), d.next)
 
     trace_located : (trace : Trace) (state : List ℤ) (ms : List Moment) → ComesTo p ms state → All P ms → IfErr (trace_on p decide trace state ms) (Located p P)
@@ -44,14 +44,14 @@ module _ {Start Chain : Type 0} (v : Solving Start Chain) (p : Sealed) (sealed :
         here : IsHere p m ms state
         here = comes_here p (m ∷ ms) 0 m state (omega arith) refl c
 
-        by : ((d : Decided) → ComesTo p ms d.next → IfErr (trace_on p decide (longer trace (traced p m state d)) d.next ms) (Located p P)) → (r : Result Decided Dead) → decide m state ≡ r
+        by : ((d : Decided) → ComesTo p ms d.next → IfErr (trace_on p decide (longer trace (traced p m state d)) d.next ms) (Located p P)) → (r : Result Decided Infeasibility) → decide m state ≡ r
             → IfErr (after trace state m r >>= λ a. trace_on p decide a.0 a.1 ms) (Located p P)
-        by rest (Ok d) is = rest d (comes_next p m ms state d.next here (successors_mended v p pools run m.node m.values state sealed here.known d is))
-        by rest (Err d) is = err_as (Located p P) (decide m state) (Err d) is (mended_located p P m.node m.values state here.known (All_head P m ms all) here.inside v pools run)
+        by tail (Ok d) is = tail d (comes_next p m ms state d.next here (successors_mended v p pools run m.node m.values state validated here.known d is))
+        by tail (Err d) is = err_as (Located p P) (decide m state) (Err d) is (mended_located p P m.node m.values state here.known (All_head P m ms all) here.inside v pools run)
 
     run_located : (ms : List Moment) → IsRunOf p P ms → IfErr (trace_of v p pools run ms) (Located p P)
     unfolding trace_of
-    run_located ms h = trace_located no_trace (times_all S (problem_of p).initial) ms (comes_first p ms sealed h.0) h.1
+    run_located ms h = trace_located no_trace (times_all S (problem_of p).initial) ms (comes_first p ms validated h.0) h.1
 
   runs_located : (found : List Trace) (i : ℕ) (runs : List (List Moment)) → All (IsRunOf p P) runs → IfErr (traces_on (trace_of v p pools) found i runs) (Located p P)
   runs_located found i [] all = tt
@@ -62,19 +62,19 @@ module _ {Start Chain : Type 0} (v : Solving Start Chain) (p : Sealed) (sealed :
   pub traces_located : (runs : List (List Moment)) → All (IsRunOf p P) runs → IfErr (traces_of v p pools runs) (Located p P)
   traces_located runs all = runs_located [] 0 runs all
 
-module _ (p : Sealed) (sealed : is_sealed p ≡ true) where
-  moments_realized : (ss : List Step) → All (IsInRange p.raw) ss → All (IsRealized p) (map (moment_of p.raw) ss)
+module _ (p : Validated) (validated : is_validated p ≡ true) where
+  moments_realized : (ss : List PathStep) → All (IsInRange p.parts) ss → All (IsRealized p) (map (moment_of p.parts) ss)
   moments_realized [] r = All-nil (IsRealized p)
-  moments_realized (s ∷ ss) r = All-cons (IsRealized p) (moment_of p.raw s) (map (moment_of p.raw) ss) (s, All_head (IsInRange p.raw) s ss r, refl) (moments_realized ss (All_tail (IsInRange p.raw) s ss r))
+  moments_realized (s ∷ ss) r = All-cons (IsRealized p) (moment_of p.parts s) (map (moment_of p.parts) ss) (s, All_head (IsInRange p.parts) s ss r, refl) (moments_realized ss (All_tail (IsInRange p.parts) s ss r))
 
   -- the moments of drawn scenarios are realizations of their nodes
   pub drawn_runs : (seed i n : ℕ) → All (IsRunOf p (IsRealized p)) (drawn_from p seed i n)
   drawn_runs seed i zero = All-nil (IsRunOf p (IsRealized p))
   drawn_runs seed i (suc n) =
-      let one : List Step = path p seed (2 ^ 32 + i) in
-      let is : IsPath p one = path_drawn p sealed seed (2 ^ 32 + i) in
-      All-cons (IsRunOf p (IsRealized p)) (map (moment_of p.raw) one) (drawn_from p seed (suc i) n) (path_run p sealed one is, moments_realized one is.in_range) (drawn_runs seed (suc i) n)
+      let one : List PathStep = path p seed (2 ^ 32 + i) in
+      let is : IsPath p one = path_drawn p validated seed (2 ^ 32 + i) in
+      All-cons (IsRunOf p (IsRealized p)) (map (moment_of p.parts) one) (drawn_from p seed (suc i) n) (path_run p validated one is, moments_realized one is.in_range) (drawn_runs seed (suc i) n)
 
   -- those of stored ones are moments of theirs
-  pub runs_stored : All (IsRunOf p (IsStored p)) p.raw.scenarios
-  runs_stored = λ i d h. (stored_runs p sealed i d h, λ j m k. (get_or p.raw.scenarios i d, (i, h, get_or_default p.raw.scenarios i (get_or p.raw.scenarios i d) d h), (j, k, get_or_default (get_or p.raw.scenarios i d) j (get_or (get_or p.raw.scenarios i d) j m) m k)))
+  pub runs_stored : All (IsRunOf p (IsStoredMoment p)) p.parts.scenarios
+  runs_stored = λ i d h. (stored_runs p validated i d h, λ j m k. (get_or p.parts.scenarios i d, (i, h, get_or_default p.parts.scenarios i (get_or p.parts.scenarios i d) d h), (j, k, get_or_default (get_or p.parts.scenarios i d) j (get_or (get_or p.parts.scenarios i d) j m) m k)))

@@ -3,41 +3,41 @@ use Rattle.std.proofs.Common.{◌≡◌, ℕ, ◌<◌, ℤ, true, List, [], ◌�
 use Rattle.std.proofs.lemmas.List.{get_or_default}
 use Rattle.hp_num.specs.Steps.{◌>>=◌}
 use Rattle.hp_num.proofs.Sums.{All_head, All_tail}
-use Rattle.hp_problem.specs.declared.raw.Node as nodes
-use Rattle.hp_problem.specs.Parts.{weights_at}
-use Rattle.hp_problem.specs.Sealed.{Sealed, is_sealed}
+use Rattle.hp_parts.specs.declared.parts.Node as nodes
+use Rattle.hp_parts.specs.Parts.{weights_at}
+use Rattle.hp_problem.specs.Validated.{Validated, is_validated}
 use Rattle.hp_theory.specs.declared.cut.Cut.{Cut}
 use Rattle.hp_theory.specs.Problem.{S}
 use Rattle.hp_theory.specs.Tree.{times_all}
 use Rattle.hp_theory.specs.View.{problem_of}
-use Rattle.hp_theory.proofs.SealedParts.{Parts, parts, weighty}
-use Rattle.hp_settle.specs.declared.judging.Dead.{Dead}
+use Rattle.hp_theory.proofs.ValidatedParts.{Parts, parts_of_node, weighty}
+use Rattle.hp_settle.specs.declared.classifying.Infeasibility.{Infeasibility}
 use Rattle.hp_solver.specs.Solving.{Solving}
-use Rattle.hp_sampler.specs.declared.steps.Step.{Step}
+use Rattle.hp_sampler.specs.declared.steps.PathStep.{PathStep}
 use Rattle.hp_sampler.specs.declared.steps.Trajectory.{Trajectory}
 use Rattle.hp_sampler.specs.Drawn.{IsInRange, IsPath, path}
 use Rattle.hp_sampler.proofs.PathFacts.{Drawn, drawn}
 use Rattle.hp_sampler.proofs.Draws.{made_at}
 use Rattle.hp_forward.specs.declared.deciding.Decided.{Decided}
 use Rattle.hp_cut.specs.AtNodes.{IsStateAt}
-use Rattle.hp_forward.specs.Walking.{decide_step, each_of, no_walk, values_of, walk_of, walk_on, walked, walks_of}
+use Rattle.hp_forward.specs.Walking.{decide_step, each_of, no_walk, values_of, trajectory_of, walk_on, walked, walks_of}
 use Rattle.hp_forward.proofs.Walks.{ComesTo, comes_first, comes_next, decides}
-use Rattle.hp_backward.specs.Certifying.{values_at}
+use Rattle.hp_backward.specs.Certifying.{node_values_at}
 use Rattle.hp_run.specs.Refuted.{IsRealized}
 use Rattle.hp_run.proofs.Located.{Located, decide_located, err_as, err_then}
 
 -- all values of a node are those of its realizations
-pub values_realized : (p : Sealed) (m : ℕ) → is_sealed p ≡ true → m < length p.raw.nodes → All (λ (values : List ℤ). IsRealized p (record { node = m; values = values })) (values_at p.raw m)
+pub values_realized : (p : Validated) (m : ℕ) → is_validated p ≡ true → m < length p.parts.nodes → All (λ (values : List ℤ). IsRealized p (record { node = m; values = values })) (node_values_at p.parts m)
 values_realized p m e h = λ i d inside.
-    let q : Parts p m = parts p m e h in
+    let q : Parts p m = parts_of_node p m e h in
     let w = weighty q.node (length q.subproblem.randoms) q.fit.realizations in
-    let weights = made_at (λ (n : nodes.Node). n.weights) p.raw.nodes m q.node [] q.fit.the_node in
-    let values = made_at (λ (n : nodes.Node). n.values) p.raw.nodes m q.node [] q.fit.the_node in
-    let range : i < length (weights_at p.raw m) = omega (arith, inside, w.3, ap (λ (ws : List ℕ). length ws) weights, ap (λ (vs : List (List ℤ)). length vs) values) in
-    (record { node = m; realization = i }, (h, range), ap (λ (vs : List ℤ). record { node = m; values = vs }) (get_or_default (values_at p.raw m) i d [] inside))
+    let weights = made_at (λ (n : nodes.Node). n.weights) p.parts.nodes m q.node [] q.fit.the_node in
+    let values = made_at (λ (n : nodes.Node). n.values) p.parts.nodes m q.node [] q.fit.the_node in
+    let range : i < length (weights_at p.parts m) = omega (arith, inside, w.3, ap (λ (ws : List ℕ). length ws) weights, ap (λ (vs : List (List ℤ)). length vs) values) in
+    (record { node = m; realization = i }, (h, range), ap (λ (vs : List ℤ). record { node = m; values = vs }) (get_or_default (node_values_at p.parts m) i d [] inside))
 
 -- a path that is drawn is one of the problem's graph
-pub path_drawn : (p : Sealed) → is_sealed p ≡ true → (seed stream : ℕ) → IsPath p (path p seed stream)
+pub path_drawn : (p : Validated) → is_validated p ≡ true → (seed stream : ℕ) → IsPath p (path p seed stream)
 path_drawn p e seed stream = let d : Drawn p e (path p seed stream) = drawn p e seed stream in record { starts = d.starts; follows = d.follows; in_range = d.in_range }
 
 -- each in order
@@ -48,31 +48,31 @@ module _ {A B E : Type 0} (f : A → Result B E) (R : A → Type 0) (Q : E → T
       err_then Q (f x) (λ y. each_of f xs >>= λ ys. Ok (y ∷ ys)) (h x (All_head R x xs all))
       (λ y is. err_then Q (each_of f xs) (λ ys. Ok (y ∷ ys)) (each_err xs (All_tail R x xs all)) (λ ys s. tt))
 
-module _ {Start Chain : Type 0} (v : Solving Start Chain) (p : Sealed) (sealed : is_sealed p ≡ true) (pools : List (List Cut)) (run : ℕ) where
-  abbrev decide : Step → List ℤ → Result Decided Dead
+module _ {Start Chain : Type 0} (v : Solving Start Chain) (p : Validated) (validated : is_validated p ≡ true) (pools : List (List Cut)) (run : ℕ) where
+  abbrev decide : PathStep → List ℤ → Result Decided Infeasibility
   decide = decide_step v p pools run
 
-  abbrev Here : Dead → Type 0
+  abbrev Here : Infeasibility → Type 0
   Here = Located p (IsRealized p)
 
   -- the walk with a step, and what leaves it
-  abbrev after : Trajectory → List ℤ → Result Decided Dead → Result (Trajectory × List ℤ) Dead
+  abbrev after : Trajectory → List ℤ → Result Decided Infeasibility → Result (Trajectory × List ℤ) Infeasibility
   after walk state r = r >>= λ d. Ok (walked walk state d, d.next)
 
-  step_located : (s : Step) (state : List ℤ) → IsInRange p.raw s → IsStateAt p s.node state → IfErr (decide s state) Here
-  step_located s state r inside = decide_located p (IsRealized p) s.node (values_of p.raw s) state r.0 (s, r, refl) inside v pools run
+  step_located : (s : PathStep) (state : List ℤ) → IsInRange p.parts s → IsStateAt p s.node state → IfErr (decide s state) Here
+  step_located s state r inside = decide_located p (IsRealized p) s.node (values_of p.parts s) state r.0 (s, r, refl) inside v pools run
 
-  walk_located : (walk : Trajectory) (state : List ℤ) (ss : List Step) → ComesTo p ss state → IfErr (walk_on decide walk state ss) Here
+  walk_located : (walk : Trajectory) (state : List ℤ) (ss : List PathStep) → ComesTo p ss state → IfErr (walk_on decide walk state ss) Here
   walk_located walk state [] c = tt
   walk_located walk state (s ∷ ss) c = by (λ d. walk_located (walked walk state d) d.next ss) (decide s state) refl
     where
-      by : ((d : Decided) → ComesTo p ss d.next → IfErr (walk_on decide (walked walk state d) d.next ss) Here) → (r : Result Decided Dead) → decide s state ≡ r → IfErr (after walk state r >>= λ a. walk_on decide a.0 a.1 ss) Here
-      by rest (Ok d) is = rest d (comes_next p s ss state d.next c ((decides v p pools run sealed).next s state d c.range.0 is))
-      by rest (Err d) is = err_as Here (decide s state) (Err d) is (step_located s state c.range c.here)
+      by : ((d : Decided) → ComesTo p ss d.next → IfErr (walk_on decide (walked walk state d) d.next ss) Here) → (r : Result Decided Infeasibility) → decide s state ≡ r → IfErr (after walk state r >>= λ a. walk_on decide a.0 a.1 ss) Here
+      by tail (Ok d) is = tail d (comes_next p s ss state d.next c ((decides v p pools run validated).next s state d c.range.0 is))
+      by tail (Err d) is = err_as Here (decide s state) (Err d) is (step_located s state c.range c.here)
 
-  path_located : (path : List Step) → IsPath p path → IfErr (walk_of v p pools run path) Here
-  unfolding walk_of
-  path_located path h = walk_located no_walk (times_all S (problem_of p).initial) path (comes_first p path sealed h)
+  path_located : (path : List PathStep) → IsPath p path → IfErr (trajectory_of v p pools run path) Here
+  unfolding trajectory_of
+  path_located path h = walk_located no_walk (times_all S (problem_of p).initial) path (comes_first p path validated h)
 
-  pub walks_located : (paths : List (List Step)) → All (IsPath p) paths → IfErr (walks_of v p pools run paths) Here
-  walks_located paths all = each_err (walk_of v p pools run) (IsPath p) Here path_located paths all
+  pub walks_located : (paths : List (List PathStep)) → All (IsPath p) paths → IfErr (walks_of v p pools run paths) Here
+  walks_located paths all = each_err (trajectory_of v p pools run) (IsPath p) Here path_located paths all

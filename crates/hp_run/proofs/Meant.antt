@@ -1,10 +1,9 @@
 -- The lines that were written of a problem claim what holds of its file.
-use Rattle.std.proofs.Common.{◌≡◌, ◌↔◌, ℕ, ◌<◌, ℤ, List, get_or, slice_get, Option, Some, None, IfSome, IsSome, IsSomeAnd, IsOk, Result, Ok, Err, refl, sym, ap, subst, ◌∙◌}
+use Rattle.std.proofs.Common.{◌≡◌, ◌↔◌, ℕ, ℤ, List, get_or, slice_get, Option, Some, None, IfSome, IsSome, IsSomeAnd, IsOk, Result, Ok, Err, refl, sym, ap, subst, ◌∙◌}
 use Rattle.std.proofs.lemmas.List.Elements.{All-weaker}
 use Rattle.std.proofs.lemmas.Option.{slice_get-get_or}
-use Rattle.hp_problem.specs.Sealed.{Sealed}
+use Rattle.hp_problem.specs.Validated.{Validated}
 use Rattle.hp_fields.specs.Steps.{◌>>=◌}
-use Rattle.hp_gen.specs.Generated.{generated}
 use Rattle.hp_sof.specs.Problem.{problem_at}
 use Rattle.hp_theory.specs.declared.cut.Cut.{Cut}
 use Rattle.hp_theory.specs.Fraction.{Fraction, ◌≤ᶠ◌}
@@ -20,23 +19,20 @@ use Rattle.hp_meaning.specs.Meaning.{Plans, IsPolicy, IsBound, IsCut, IsUpper}
 use Rattle.hp_meaning.specs.Said.{SameNode, forest_of}
 use Rattle.hp_meaning.proofs.Same.{bound_same, cost_same, cut_same, every_same, nodes_same, policy_same}
 use Rattle.hp_hydro.specs.Text.{hydro_at}
-use Rattle.hp_hydro.specs.Trees.{plan_of, tree_of}
+use Rattle.hp_hydro.specs.Trees.{plan_of, plan_forest}
 use Rattle.hp_accepts.specs.Plans.{Means}
 use Rattle.hp_accepts.proofs.Accepting.{made_means}
 use Rattle.hp_report.specs.SoundLines.{Above, Claims, Line, claims_of, lines_of}
 use Rattle.hp_solver.specs.Solving.{Solving}
-use Rattle.hp_run.specs.Causes.{Ends, Explains, ExplainsDescribed, ExplainsProblem, ExplainsTask, IfWritten}
+use Rattle.hp_run.specs.Causes.{Ends, Explains}
 use Rattle.hp_run.specs.Outcome.{based_at, based_of}
 use Rattle.hp_run.specs.Meant.{CutOfFile, DescribedFile, IsFile, Meant, MeantText, claims_in}
-use Rattle.hp_run.specs.SoundText.{PlaneHolds, SoundText, WorstHolds}
-use Rattle.hp_run.specs.declared.job.Job.{Job}
-use Rattle.hp_run.specs.declared.job.Job.TheVariants.{Plan, Hydro, Generate}
-use Rattle.hp_run.specs.declared.task.Task.{Task}
+use Rattle.hp_run.specs.SoundText.{RiskCutHolds, SoundText, WorstHolds}
+use Rattle.hp_words.specs.declared.command.Command.{Command}
 use Rattle.hp_run.specs.declared.status.Status.{Status}
-use Rattle.hp_run.specs.declared.status.Status.TheVariants.{Done, Usage, ReadFault, TooLong, HydroRefused, ProblemRefused, JournalRefused, TooMuch, Range, NoStage, DiskFault, WriteFault, Memory}
-use Rattle.hp_run.proofs.Plans.{all_known, then_known}
+use Rattle.hp_run.proofs.Sounding.{all_written_as}
 
--- what holds of each cut and each number of a line, where nothing is claimed of planes and worst bounds
+-- what holds of each cut and each number of a line, where nothing is claimed of risk cuts and worst bounds
 line_weaker : (c : Claims) (f : File) → ((m : ℕ) (k : Cut) → c.cuts m k → CutOfFile f m k) → ((b : ℤ) → c.bounds b → IsBound f b) → ((u : ℤ) → c.uppers u → IsUpper f u)
     → (line : List ℕ) → Line c line → Line (claims_in f) line
 line_weaker c f each every some line l = record {
@@ -44,7 +40,7 @@ line_weaker c f each every some line l = record {
   bound = λ is. let b = l.bound is in record { number = b.number; is = b.is; claimed = every b.number b.claimed };
   iteration = λ is. let i = l.iteration is in record { iteration = i.iteration; bound = i.bound; is = i.is; claimed = every i.bound i.claimed };
   upper = λ is. let u = l.upper is in record { number = u.number; is = u.is; claimed = some u.number u.claimed };
-  plane = λ is. let k = l.plane is in record { node = k.node; place = k.place; cut = k.cut; is = k.is; claimed = tt };
+  risk_cut = λ is. let k = l.risk_cut is in record { node = k.node; place = k.place; cut = k.cut; is = k.is; claimed = tt };
   worst = λ is. let b = l.worst is in record { number = b.number; is = b.is; claimed = tt };
 }
 
@@ -52,7 +48,7 @@ at_file : (o : Option File) (f : File) (P : File → Type 0) → o ≡ Some f �
 at_file o f P e h = subst (λ x. IsSomeAnd x P) e h
 
 -- both scales are the same number
-at_scale : (u : ℤ) (c : Fraction) → c ≤ᶠ record { up = u; under = S } → c ≤ᶠ record { up = u; under = meaning.S }
+at_scale : (u : ℤ) (c : Fraction) → c ≤ᶠ record { up = u; under = S } → c ≤ᶠ record { up = u; under = meaning.cut_scale }
 unfolding S
 at_scale u c h = h
 
@@ -61,8 +57,8 @@ is_some None P h = absurd h
 is_some (Some x) P h = refl
 
 -- a sound text means what the file says
-pub meant_text : (task : Task) (bytes text : List ℕ) → SoundText task bytes text → MeantText bytes text
-meant_text task bytes text s = by (file_at bytes) refl
+pub meant_text : (command : Command) (bytes text : List ℕ) → SoundText command bytes text → MeantText bytes text
+meant_text command bytes text s = by (file_at bytes) refl
   where
     cut_of_file : (f : File) → file_at bytes ≡ Some f → (m : ℕ) (c : Cut) → Holds (problem_of s.problem) m c → CutOfFile f m c
     cut_of_file f e m c h = each (slice_get f.names m) refl
@@ -76,8 +72,8 @@ meant_text task bytes text s = by (file_at bytes) refl
         let all = at_file (file_at bytes) f
         (λ g. (n : ℕ) (t : Forest) → Policy (problem_of s.problem) n t → (ps : Plans) × (forest_of s.problem (problem_of s.problem).root ps ≡ t) × IsPolicy g n ps) e (every_same bytes s.problem s.read) units t policy in
         let same = at_file (file_at bytes) f
-        (λ g. (n : ℕ) (ps : Plans) → IsPolicy g n ps → meaning.policy_cost g n ps ≡ policy_cost (problem_of s.problem) n (forest_of s.problem (problem_of s.problem).root ps)) e (cost_same bytes s.problem s.read) units all.0 all.2 in
-        (units, all.0, some, all.2, subst (λ c. c ≤ᶠ record { up = u; under = meaning.S }) (sym (same ∙ ap (policy_cost (problem_of s.problem) units) all.1)) (at_scale u (policy_cost (problem_of s.problem) units t) cost))
+        (λ g. (n : ℕ) (ps : Plans) → IsPolicy g n ps → meaning.file_policy_cost g n ps ≡ policy_cost (problem_of s.problem) n (forest_of s.problem (problem_of s.problem).root ps)) e (cost_same bytes s.problem s.read) units all.0 all.2 in
+        (units, all.0, some, all.2, subst (λ c. c ≤ᶠ record { up = u; under = meaning.cut_scale }) (sym (same ∙ ap (policy_cost (problem_of s.problem) units) all.1)) (at_scale u (policy_cost (problem_of s.problem) units t) cost))
 
     by : (o : Option File) → file_at bytes ≡ o → MeantText bytes text
     by None e = absurd (subst (λ x. IsSomeAnd x (λ f. (b : ℤ) → Under (problem_of s.problem) b ↔ IsBound f b)) e (bound_same bytes s.problem s.read))
@@ -87,8 +83,8 @@ meant_text task bytes text s = by (file_at bytes) refl
       nodes = λ i d l.
           is_some (f.nodes (get_or f.names i d)) (SameNode s.problem i)
           (at_file (file_at bytes) f (λ g. (m : ℕ) (k : Name) → slice_get g.names m ≡ Some k → IsSomeAnd (g.nodes k) (SameNode s.problem m)) e (nodes_same bytes s.problem s.read) i (get_or f.names i d) (slice_get-get_or f.names i d l));
-      lines = All-weaker (Line (claims_of (problem_of s.problem) (PlaneHolds bytes s.problem) (WorstHolds bytes s.problem))) (Line (claims_in f))
-          (line_weaker (claims_of (problem_of s.problem) (PlaneHolds bytes s.problem) (WorstHolds bytes s.problem)) f (cut_of_file f e)
+      lines = All-weaker (Line (claims_of (problem_of s.problem) (RiskCutHolds bytes s.problem) (WorstHolds bytes s.problem))) (Line (claims_in f))
+          (line_weaker (claims_of (problem_of s.problem) (RiskCutHolds bytes s.problem) (WorstHolds bytes s.problem)) f (cut_of_file f e)
           (λ b. (at_file (file_at bytes) f (λ g. (a : ℤ) → Under (problem_of s.problem) a ↔ IsBound g a) e (bound_same bytes s.problem s.read) b).0) (upper_of_file f e)) (lines_of text) s.lines;
     }
 
@@ -107,12 +103,12 @@ described_file description text e = by (file_at text) refl
       described = m.described;
       said = is;
       policy = λ units plan works.
-          let all = every units (tree_of m.plants units plan) ((m.workable units plan).0 works) in
+          let all = every units (plan_forest m.plants units plan) ((m.workable units plan).0 works) in
           (all.0, all.2, cost units all.0 all.2 ∙ ap (policy_cost (problem_of m.problem) units) all.1 ∙ sym (m.cost units plan));
       plan = λ units ps policy.
           let tree : Forest = forest_of m.problem (problem_of m.problem).root ps in
           let feasible = at_file (file_at text) f (λ g. (n : ℕ) (qs : Plans) → IsPolicy g n qs → Policy (problem_of m.problem) n (forest_of m.problem (problem_of m.problem).root qs)) is (policy_same text m.problem m.read) units ps policy in
-          let same : tree_of m.plants units (plan_of m.plants tree) ≡ tree = m.policy units tree feasible in (
+          let same : plan_forest m.plants units (plan_of m.plants tree) ≡ tree = m.policy units tree feasible in (
             plan_of m.plants tree,
             (m.workable units (plan_of m.plants tree)).1 (subst (Policy (problem_of m.problem) units) (sym same) feasible),
             m.cost units (plan_of m.plants tree) ∙ ap (policy_cost (problem_of m.problem) units) same ∙ sym (cost units ps policy),
@@ -122,15 +118,15 @@ described_file description text e = by (file_at text) refl
         every : (n : ℕ) (t : Forest) → Policy (problem_of m.problem) n t → (ps : Plans) × (forest_of m.problem (problem_of m.problem).root ps ≡ t) × IsPolicy f n ps
         every = at_file (file_at text) f (λ g. (n : ℕ) (t : Forest) → Policy (problem_of m.problem) n t → (ps : Plans) × (forest_of m.problem (problem_of m.problem).root ps ≡ t) × IsPolicy g n ps) is (every_same text m.problem m.read)
 
-        cost : (n : ℕ) (ps : Plans) → IsPolicy f n ps → meaning.policy_cost f n ps ≡ policy_cost (problem_of m.problem) n (forest_of m.problem (problem_of m.problem).root ps)
-        cost = at_file (file_at text) f (λ g. (n : ℕ) (ps : Plans) → IsPolicy g n ps → meaning.policy_cost g n ps ≡ policy_cost (problem_of m.problem) n (forest_of m.problem (problem_of m.problem).root ps)) is (cost_same text m.problem m.read)
+        cost : (n : ℕ) (ps : Plans) → IsPolicy f n ps → meaning.file_policy_cost f n ps ≡ policy_cost (problem_of m.problem) n (forest_of m.problem (problem_of m.problem).root ps)
+        cost = at_file (file_at text) f (λ g. (n : ℕ) (ps : Plans) → IsPolicy g n ps → meaning.file_policy_cost g n ps ≡ policy_cost (problem_of m.problem) n (forest_of m.problem (problem_of m.problem).root ps)) is (cost_same text m.problem m.read)
 
 -- what a problem that is read rests on
 first_part : {A B E : Type 0} (part : Result A E) (f : A → Result B E) → IsOk (part >>= f) → (x : A) × (part ≡ Ok x)
 first_part (Err x) f h = absurd cc
 first_part (Ok x) f h = (x, refl)
 
-read_part : (text : List ℕ) → IsOk (based_at text) → (s : Sealed) × (problem_at text ≡ Ok s)
+read_part : (text : List ℕ) → IsOk (based_at text) → (s : Validated) × (problem_at text ≡ Ok s)
 unfolding based_at
 read_part text h = first_part (problem_at text) based_of h
 
@@ -138,7 +134,7 @@ read_part text h = first_part (problem_at text) based_of h
 accepted_file : (text : List ℕ) → IsOk (based_at text) → IsFile text
 accepted_file text h = by (file_at text) refl
   where
-    s : (s : Sealed) × (problem_at text ≡ Ok s)
+    s : (s : Validated) × (problem_at text ≡ Ok s)
     s = read_part text h
 
     by : (o : Option File) → file_at text ≡ o → IsFile text
@@ -151,56 +147,5 @@ accepted_file text h = by (file_at text) refl
           (at_file (file_at text) f (λ g. (m : ℕ) (k : Name) → slice_get g.names m ≡ Some k → IsSomeAnd (g.nodes k) (SameNode s.0 m)) e (nodes_same text s.0 s.1) i (get_or f.names i d) (slice_get-get_or f.names i d l));
     }
 
-module _ {Start Chain : Type 0} (v : Solving Start Chain) (task : Task) (e : Ends) where
-  meant_by : (status : Status) → ExplainsTask v task e status → IfSome e.left (λ bytes. IfWritten (MeantText bytes) e status)
-  meant_by Done h = then_known e.left _ (λ bytes. IfWritten (MeantText bytes) e Done) (λ bytes w. (w.1.0, meant_text task bytes w.1.0 w.1.2, w.1.3)) h.1
-  meant_by WriteFault h = then_known e.left _ (λ bytes. IfWritten (MeantText bytes) e WriteFault) (λ bytes w. (w.1.0, meant_text task bytes w.1.0 w.1.2, w.1.3)) h.1.1
-  meant_by Usage h = absurd h
-  meant_by ReadFault h = all_known e.left _ (λ x. tt)
-  meant_by TooLong h = all_known e.left _ (λ x. tt)
-  meant_by (HydroRefused refusal) h = absurd h
-  meant_by (ProblemRefused r) h = all_known e.left _ (λ x. tt)
-  meant_by (JournalRefused r) h = all_known e.left _ (λ x. tt)
-  meant_by (TooMuch t) h = all_known e.left _ (λ x. tt)
-  meant_by (Range k m r) h = all_known e.left _ (λ x. tt)
-  meant_by (NoStage dead) h = all_known e.left _ (λ x. tt)
-  meant_by DiskFault h = all_known e.left _ (λ x. tt)
-  meant_by Memory h = all_known e.left _ (λ x. tt)
-
-module _ (e : Ends) where
-  described_by : (status : Status) → ExplainsDescribed e.left e.left_now e.reads e.reads_now e.taken e.taken_now e.writes e.writes_now status
-      → IfSome e.left (λ bytes. IfWritten (DescribedFile bytes) e status)
-  described_by Done h = then_known e.left _ (λ bytes. IfWritten (DescribedFile bytes) e Done) (λ bytes w. (w.1.0, described_file bytes w.1.0 w.1.1, w.1.3)) h.1
-  described_by WriteFault h = then_known e.left _ (λ bytes. IfWritten (DescribedFile bytes) e WriteFault) (λ bytes w. (w.1.0, described_file bytes w.1.0 w.1.1, w.1.3)) h.1.1
-  described_by Usage h = absurd h
-  described_by ReadFault h = all_known e.left _ (λ x. tt)
-  described_by TooLong h = all_known e.left _ (λ x. tt)
-  described_by (HydroRefused refusal) h = all_known e.left _ (λ x. tt)
-  described_by (ProblemRefused r) h = absurd h
-  described_by (JournalRefused r) h = absurd h
-  described_by (TooMuch t) h = absurd h
-  described_by (Range k m r) h = absurd h
-  described_by (NoStage dead) h = absurd h
-  described_by DiskFault h = absurd h
-  described_by Memory h = all_known e.left _ (λ x. tt)
-
-  generated_by : (text : List ℕ) (status : Status) → ExplainsProblem text e.taken e.taken_now e.writes e.writes_now status → IfWritten IsFile e status
-  generated_by text Done h = (text, accepted_file text h.0, h.1)
-  generated_by text WriteFault h = (text, accepted_file text h.1, h.2)
-  generated_by text Memory h = tt
-  generated_by text Usage h = absurd h
-  generated_by text ReadFault h = absurd h
-  generated_by text TooLong h = absurd h
-  generated_by text (HydroRefused refusal) h = absurd h
-  generated_by text (ProblemRefused r) h = absurd h
-  generated_by text (JournalRefused r) h = absurd h
-  generated_by text (TooMuch t) h = absurd h
-  generated_by text (Range k m r) h = absurd h
-  generated_by text (NoStage dead) h = absurd h
-  generated_by text DiskFault h = absurd h
-
-pub meant : {Start Chain : Type 0} (v : Solving Start Chain) (job : Option Job) (e : Ends) (status : Status) → Explains v job e status → Meant job e status
-meant v None e status h = tt
-meant v (Some (Plan task)) e status h = meant_by v task e status h
-meant v (Some Hydro) e status h = described_by e status h
-meant v (Some (Generate seed stages reservoirs)) e status h = generated_by e (generated seed stages reservoirs) status h.1
+pub meant : {Start Chain : Type 0} (v : Solving Start Chain) (asked : Option Command) (e : Ends) (status : Status) → Explains v asked e status → Meant asked e status
+meant v asked e status h = all_written_as v (λ command bytes text. MeantText bytes text) DescribedFile IsFile meant_text (λ bytes text is accepted. described_file bytes text is) accepted_file asked e status h

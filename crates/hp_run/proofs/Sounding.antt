@@ -1,79 +1,67 @@
--- The texts that a run wrote are sound.
+-- What a run wrote, by what it works on: of each text this holds, since the status tells of the text.
 use Rattle.std.proofs.Common.{◌≡◌, ℕ, List, Option, Some, None, IfSome, IsOk, Ok, subst}
 use Rattle.std.specs.Io.KnownBytes.{Appends}
 use Rattle.hp_gen.specs.Generated.{generated}
 use Rattle.hp_hydro.specs.Text.{hydro_at}
 use Rattle.hp_solver.specs.Solving.{Solving}
-use Rattle.hp_run.specs.Causes.{Ends, Explains, ExplainsDescribed, ExplainsProblem, ExplainsTask, IfWritten, Sounds}
-use Rattle.hp_run.specs.Outcome.{based_at}
+use Rattle.hp_words.specs.declared.command.Command.{Command}
+use Rattle.hp_words.specs.Traits.{Input, of_description, of_numbers, of_problem, traits}
+use Rattle.hp_run.specs.Causes.{RunEnds, Ends, Explains, ExplainsBy, Sounds, Taken, WasRead, Written, WrittenBy}
+use Rattle.hp_run.specs.Kinds.{Output, all_written, partly_written, kind, none_written}
+use Rattle.hp_run.specs.Outcome.{Reports, based_at}
 use Rattle.hp_run.specs.SoundText.{SoundText}
-use Rattle.hp_run.specs.declared.job.Job.{Job}
-use Rattle.hp_run.specs.declared.job.Job.TheVariants.{Plan, Hydro, Generate}
+use Rattle.hp_run.specs.Words.{IsProblem, IsPlanning}
 use Rattle.hp_run.specs.declared.status.Status.{Status}
-use Rattle.hp_run.specs.declared.status.Status.TheVariants.{Done, Usage, ReadFault, TooLong, HydroRefused, ProblemRefused, JournalRefused, TooMuch, Range, NoStage, DiskFault, WriteFault, Memory}
-use Rattle.hp_run.specs.declared.task.Task.{Task}
-use Rattle.hp_run.proofs.Plans.{all_known, then_known}
+use Rattle.hp_run.specs.declared.status.Status.TheVariants.{Done}
 
--- a run of a task
-module _ {Start Chain : Type 0} (v : Solving Start Chain) (task : Task) (e : Ends) where
-  task_sounds : (status : Status) → ExplainsTask v task e status → IfSome e.left (λ bytes. IfWritten (SoundText task bytes) e status)
-  task_sounds Done h = then_known e.left _ (λ bytes. IfWritten (SoundText task bytes) e Done) (λ bytes w. (w.1.0, w.1.2, w.1.3)) h.1
-  task_sounds WriteFault h = then_known e.left _ (λ bytes. IfWritten (SoundText task bytes) e WriteFault) (λ bytes w. (w.1.0, w.1.2, w.1.3)) h.1.1
-  task_sounds Usage h = absurd h
-  task_sounds ReadFault h = all_known e.left _ (λ x. tt)
-  task_sounds TooLong h = all_known e.left _ (λ x. tt)
-  task_sounds (HydroRefused refusal) h = absurd h
-  task_sounds (ProblemRefused r) h = all_known e.left _ (λ x. tt)
-  task_sounds (JournalRefused r) h = all_known e.left _ (λ x. tt)
-  task_sounds (TooMuch t) h = all_known e.left _ (λ x. tt)
-  task_sounds (Range k m r) h = all_known e.left _ (λ x. tt)
-  task_sounds (NoStage dead) h = all_known e.left _ (λ x. tt)
-  task_sounds DiskFault h = all_known e.left _ (λ x. tt)
-  task_sounds Memory h = all_known e.left _ (λ x. tt)
+-- what the end of a run says of its text holds of the text that was taken
+taken_as : (w : Output) (taken taken_now : Option (List ℕ)) (writes writes_now : ℕ) (W V : (List ℕ → Type 0) → Type 0) (stopped : Type 0) → ((written : List ℕ → Type 0) → W written → V written)
+    → RunEnds w taken taken_now writes writes_now W stopped → Taken w taken taken_now V
+taken_as all_written taken taken_now writes writes_now W V stopped each h = each _ h
+taken_as partly_written taken taken_now writes writes_now W V stopped each h = each _ h.1
+taken_as none_written taken taken_now writes writes_now W V stopped each h = tt
 
-module _ (e : Ends) where
-  -- the problem of a description
-  described_sounds : (status : Status) → ExplainsDescribed e.left e.left_now e.reads e.reads_now e.taken e.taken_now e.writes e.writes_now status
-      → IfSome e.left (λ bytes. IfWritten (λ text. (hydro_at bytes ≡ Ok text) × IsOk (based_at text)) e status)
-  described_sounds Done h = then_known e.left _ (λ bytes. IfWritten (λ text. (hydro_at bytes ≡ Ok text) × IsOk (based_at text)) e Done) (λ bytes w. (w.1.0, (w.1.1, w.1.2), w.1.3)) h.1
-  described_sounds WriteFault h = then_known e.left _ (λ bytes. IfWritten (λ text. (hydro_at bytes ≡ Ok text) × IsOk (based_at text)) e WriteFault) (λ bytes w. (w.1.0, (w.1.1, w.1.2), w.1.3)) h.1.1
-  described_sounds Usage h = absurd h
-  described_sounds ReadFault h = all_known e.left _ (λ x. tt)
-  described_sounds TooLong h = all_known e.left _ (λ x. tt)
-  described_sounds (HydroRefused refusal) h = all_known e.left _ (λ x. tt)
-  described_sounds (ProblemRefused r) h = absurd h
-  described_sounds (JournalRefused r) h = absurd h
-  described_sounds (TooMuch t) h = absurd h
-  described_sounds (Range k m r) h = absurd h
-  described_sounds (NoStage dead) h = absurd h
-  described_sounds DiskFault h = absurd h
-  described_sounds Memory h = all_known e.left _ (λ x. tt)
+-- of a source that was read
+taken_of : (left left_now : Option (List ℕ)) (w : Output) (taken taken_now : Option (List ℕ)) (writes writes_now : ℕ) (W V : List ℕ → (List ℕ → Type 0) → Type 0) (stopped : Type 0)
+    → ((bytes : List ℕ) (written : List ℕ → Type 0) → W bytes written → V bytes written)
+    → RunEnds w taken taken_now writes writes_now (λ written. WasRead left left_now (λ bytes. W bytes written)) stopped → IfSome left (λ bytes. Taken w taken taken_now (V bytes))
+taken_of None left_now w taken taken_now writes writes_now W V stopped each h = tt
+taken_of (Some bytes) left_now w taken taken_now writes writes_now W V stopped each h =
+    taken_as w taken taken_now writes writes_now (λ written. WasRead (Some bytes) left_now (λ b. W b written)) (V bytes) stopped (λ written r. each bytes written r.1.1) h
 
-  -- a generated problem
-  generated_sounds : (text : List ℕ) (status : Status) → ExplainsProblem text e.taken e.taken_now e.writes e.writes_now status → IfWritten (λ text. IsOk (based_at text)) e status
-  generated_sounds text Done h = (text, h.0, h.1)
-  generated_sounds text WriteFault h = (text, h.1, h.2)
-  generated_sounds text Memory h = tt
-  generated_sounds text Usage h = absurd h
-  generated_sounds text ReadFault h = absurd h
-  generated_sounds text TooLong h = absurd h
-  generated_sounds text (HydroRefused refusal) h = absurd h
-  generated_sounds text (ProblemRefused r) h = absurd h
-  generated_sounds text (JournalRefused r) h = absurd h
-  generated_sounds text (TooMuch t) h = absurd h
-  generated_sounds text (Range k m r) h = absurd h
-  generated_sounds text (NoStage dead) h = absurd h
-  generated_sounds text DiskFault h = absurd h
+-- A report is sound, the problem of a description is the one that is defined, and it is accepted, like a generated one. What follows of these
+-- holds of what was written.
+module _ {Start Chain : Type 0} (v : Solving Start Chain) (P D : List ℕ → List ℕ → Type 0) (G : List ℕ → Type 0) (command : Command) (report : (bytes text : List ℕ) → SoundText command bytes text → P bytes text)
+    (described : (bytes text : List ℕ) → hydro_at bytes ≡ Ok text → IsOk (based_at text) → D bytes text) (drawn : (text : List ℕ) → IsOk (based_at text) → G text) where
+  written_by : (i : Input) (e : Ends) (status : Status) → ExplainsBy v i command e status → WrittenBy i P D G e status
+  written_by of_problem e status h =
+      taken_of e.left e.left_now (kind status).output e.taken e.taken_now e.writes e.writes_now (λ bytes written. (text : List ℕ) × Reports v command e.kept bytes (Ok text) × SoundText command bytes text × written text) (λ bytes written. (text : List ℕ) × P bytes text × written text) _ (λ bytes written w. (w.0, report bytes w.0 w.2, w.3)) h
+  written_by of_description e status h =
+      taken_of e.left e.left_now (kind status).output e.taken e.taken_now e.writes e.writes_now (λ bytes written. (text : List ℕ) × (hydro_at bytes ≡ Ok text) × IsOk (based_at text) × written text) (λ bytes written. (text : List ℕ) × D bytes text × written text) _ (λ bytes written w. (w.0, described bytes w.0 w.1 w.2, w.3)) h
+  written_by (of_numbers seed stages reservoirs) e status h =
+      let text : List ℕ = generated seed stages reservoirs in
+      taken_as (kind status).output e.taken e.taken_now e.writes e.writes_now (λ written. IsOk (based_at text) × written text) (λ written. (t : List ℕ) × G t × written t) _ (λ written w. (text, drawn text w.0, w.1)) h.1
 
-pub sounds : {Start Chain : Type 0} (v : Solving Start Chain) (job : Option Job) (e : Ends) (status : Status) → Explains v job e status → Sounds job e status
-sounds v None e status h = tt
-sounds v (Some (Plan task)) e status h = task_sounds v task e status h
-sounds v (Some Hydro) e status h = described_sounds e status h
-sounds v (Some (Generate seed stages reservoirs)) e status h = generated_sounds e (generated seed stages reservoirs) status h.1
+pub all_written_as : {Start Chain : Type 0} (v : Solving Start Chain) (P : Command → List ℕ → List ℕ → Type 0) (D : List ℕ → List ℕ → Type 0) (G : List ℕ → Type 0) → ((command : Command) (bytes text : List ℕ) → SoundText command bytes text → P command bytes text)
+    → ((bytes text : List ℕ) → hydro_at bytes ≡ Ok text → IsOk (based_at text) → D bytes text) → ((text : List ℕ) → IsOk (based_at text) → G text)
+    → (asked : Option Command) (e : Ends) (status : Status) → Explains v asked e status → Written asked P D G e status
+all_written_as v P D G report described drawn None e status h = tt
+all_written_as v P D G report described drawn (Some command) e status h = written_by v (P command) D G command (report command) described drawn (traits command).input e status h
+
+pub sounds : {Start Chain : Type 0} (v : Solving Start Chain) (asked : Option Command) (e : Ends) (status : Status) → Explains v asked e status → Sounds asked e status
+sounds v asked e status h =
+    all_written_as v SoundText (λ bytes text. (hydro_at bytes ≡ Ok text) × IsOk (based_at text)) (λ text. IsOk (based_at text)) (λ command bytes text s. s) (λ bytes text is accepted. (is, accepted)) (λ text accepted. accepted) asked e status h
 
 -- the text of a task that is Done
-pub sound_done : (job : Option Job) (task : Task) (status : Status) (e : Ends) → job ≡ Some (Plan task) → status ≡ Done → Sounds job e status
-    → IfSome e.left (λ bytes. (text : List ℕ) × SoundText task bytes text × Appends e.taken e.taken_now text)
-sound_done job task status e is done sound =
-    let planned = subst (λ (j : Option Job). Sounds j e status) is sound in
-    subst (λ (s : Status). IfSome e.left (λ bytes. IfWritten (SoundText task bytes) e s)) done planned
+pub sound_done : (asked : Option Command) (command : Command) (status : Status) (e : Ends) → asked ≡ Some command → IsPlanning command → status ≡ Done → Sounds asked e status
+    → IfSome e.left (λ bytes. (text : List ℕ) × SoundText command bytes text × Appends e.taken e.taken_now text)
+sound_done asked command status e is plans done sound =
+    let wanted = subst (λ (o : Option Command). Sounds o e status) is sound in
+    let ended = subst (λ (s : Status). Sounds (Some command) e s) done wanted in
+    by (traits command).input plans ended
+  where
+    by : (i : Input) → IsProblem i → WrittenBy i (SoundText command) (λ bytes text. (hydro_at bytes ≡ Ok text) × IsOk (based_at text)) (λ text. IsOk (based_at text)) e Done
+        → IfSome e.left (λ bytes. (text : List ℕ) × SoundText command bytes text × Appends e.taken e.taken_now text)
+    by of_problem plans h = h
+    by of_description plans h = absurd plans
+    by (of_numbers seed stages reservoirs) plans h = absurd plans

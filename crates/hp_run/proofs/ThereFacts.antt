@@ -2,12 +2,12 @@
 use Rattle.std.proofs.Common.{◌≡◌, ℕ, List, [], length, codes, position, bytes_eq, slice_get, Some, Ok, refl}
 use Rattle.serde_json.specs.Data.{Data, Items, Members}
 use Rattle.serde_json.specs.Find.{get, get_member}
-use Rattle.hp_problem.specs.declared.raw.Moment.{Moment}
-use Rattle.hp_problem.specs.declared.raw.Node.{Node}
-use Rattle.hp_problem.specs.declared.raw.Raw.{Raw}
-use Rattle.hp_problem.specs.declared.raw.State.{State}
-use Rattle.hp_problem.specs.declared.refusal.Part.TheVariants as parts
-use Rattle.hp_problem.specs.Sealed.{Sealed}
+use Rattle.hp_parts.specs.declared.parts.Moment.{Moment}
+use Rattle.hp_parts.specs.declared.parts.Node.{Node}
+use Rattle.hp_parts.specs.declared.parts.ProblemParts.{ProblemParts}
+use Rattle.hp_parts.specs.declared.parts.State.{State}
+use Rattle.hp_parts.specs.declared.refusal.Part.TheVariants as part_kinds
+use Rattle.hp_problem.specs.Validated.{Validated}
 use Rattle.hp_fields.specs.Fields.{keys_of, place, whole, json_at, present_at, string_at, object_at}
 use Rattle.hp_fields.specs.Limits.{known_at, members_at, items_at}
 use Rattle.hp_subproblem.specs.Variables.{names_at}
@@ -20,13 +20,13 @@ use Rattle.hp_subproblem.specs.Constraint.{constraints_at}
 use Rattle.hp_subproblem.specs.StageParts.{StageParts, stage_parts_at}
 use Rattle.hp_sof.specs.Tables.{table_at}
 use Rattle.hp_sof.specs.Root.{root, states_at}
-use Rattle.hp_sof.specs.Successors.{successors_at}
-use Rattle.hp_sof.specs.Weights.{weights_at}
+use Rattle.hp_sof.specs.Successors.{read_successors_at}
+use Rattle.hp_sof.specs.Weights.{bounded_weights_at}
 use Rattle.hp_sof.specs.Subproblems.{subproblems_at}
 use Rattle.hp_sof.specs.Values.{randoms_of}
 use Rattle.hp_sof.specs.Realizations.{at_node, realizations_at}
 use Rattle.hp_sof.specs.Nodes.{stop_at, nodes_at}
-use Rattle.hp_sof.specs.Scenarios.{at_scenario, steps_at, scenarios_at}
+use Rattle.hp_sof.specs.Scenarios.{at_scenario, scenario_steps_at, scenarios_at}
 use Rattle.hp_graph.specs.Arranged.{arranged}
 use Rattle.hp_risk.specs.Alternatives.{at_weight}
 use Rattle.hp_run.specs.FirstRefusal.{nth_item, nth_member}
@@ -37,12 +37,12 @@ module _ (bytes : List ℕ) where
   unfolding There.document
   document-is d e = rw e refl
 
-  pub table-is : (key : List ℕ) (d : Data) (ms : Members) → There.document bytes ≡ Some d → table_at key d ≡ Ok ms → There.table key bytes ≡ Some ms
-  unfolding There.table
+  pub table-is : (key : List ℕ) (d : Data) (ms : Members) → There.document bytes ≡ Some d → table_at key d ≡ Ok ms → There.table_there key bytes ≡ Some ms
+  unfolding There.table_there
   table-is key d ms a e = rw (a, e) refl
 
-  pub entry-is : (key : List ℕ) (n : ℕ) (ms : Members) (it : List ℕ × Data) → There.table key bytes ≡ Some ms → nth_member n ms ≡ Some it → There.entry key n bytes ≡ Some it
-  unfolding There.entry
+  pub entry-is : (key : List ℕ) (n : ℕ) (ms : Members) (it : List ℕ × Data) → There.table_there key bytes ≡ Some ms → nth_member n ms ≡ Some it → There.entry_there key n bytes ≡ Some it
+  unfolding There.entry_there
   entry-is key n ms it a e = rw (a, e) refl
 
   pub stored-is : (d : Data) (ds : Items) → There.document bytes ≡ Some d → items_at whole (get (codes "validation_scenarios") d) ≡ Ok ds → There.stored bytes ≡ Some ds
@@ -51,7 +51,7 @@ module _ (bytes : List ℕ) where
 
   -- ---- the root
 
-  module _ (ms : Members) (a : There.table (codes "root") bytes ≡ Some ms) where
+  module _ (ms : Members) (a : There.table_there (codes "root") bytes ≡ Some ms) where
     pub state_members-is : (v : Members) → members_at root (get_member (codes "state_variables") ms) ≡ Ok v → There.state_members bytes ≡ Some v
     unfolding There.state_members
     state_members-is v e = rw (a, e) refl
@@ -64,26 +64,26 @@ module _ (bytes : List ℕ) where
   unfolding There.start_members
   start_members-is d ms a e = rw (a, e) refl
 
-  pub states-is : (ms : Members) (qs : List State) → There.state_members bytes ≡ Some ms → states_at ms ≡ Ok qs → There.states bytes ≡ Some qs
-  unfolding There.states
+  pub states-is : (ms : Members) (qs : List State) → There.state_members bytes ≡ Some ms → states_at ms ≡ Ok qs → There.states_there bytes ≡ Some qs
+  unfolding There.states_there
   states-is ms qs a e = rw (a, e) refl
 
-  pub start-is : (ns ms : Members) (v : There.Successors) → There.table (codes "nodes") bytes ≡ Some ns → There.start_members bytes ≡ Some ms
-      → successors_at parts.Root 2 (keys_of ns) ms ≡ Ok v → There.start bytes ≡ Some v
+  pub start-is : (ns ms : Members) (v : There.Successors) → There.table_there (codes "nodes") bytes ≡ Some ns → There.start_members bytes ≡ Some ms
+      → read_successors_at part_kinds.Root 2 (keys_of ns) ms ≡ Ok v → There.start bytes ≡ Some v
   unfolding There.start
   start-is ns ms v a b e = rw (a, b, e) refl
 
-  pub start_weights-is : (v : There.Successors) (ws : List ℕ) → There.start bytes ≡ Some v → weights_at root 0 v.weights ≡ Ok ws → There.start_weights bytes ≡ Some ws
+  pub start_weights-is : (v : There.Successors) (ws : List ℕ) → There.start bytes ≡ Some v → bounded_weights_at root 0 v.weights ≡ Ok ws → There.start_weights bytes ≡ Some ws
   unfolding There.start_weights
   start_weights-is v ws a e = rw (a, e) refl
 
   -- ---- the subproblem p
 
-  pub stage-is : (p : ℕ) (it : List ℕ × Data) (st : StageParts) → There.entry (codes "subproblems") p bytes ≡ Some it → stage_parts_at (place parts.Subproblem p 0 0) it.1 ≡ Ok st → There.stage p bytes ≡ Some st
-  unfolding There.stage
+  pub stage-is : (p : ℕ) (it : List ℕ × Data) (st : StageParts) → There.entry_there (codes "subproblems") p bytes ≡ Some it → stage_parts_at (place part_kinds.Subproblem p 0 0) it.1 ≡ Ok st → There.stage_there p bytes ≡ Some st
+  unfolding There.stage_there
   stage-is p it st a e = rw (a, e) refl
 
-  module _ (p : ℕ) (st : StageParts) (a : There.stage p bytes ≡ Some st) where
+  module _ (p : ℕ) (st : StageParts) (a : There.stage_there p bytes ≡ Some st) where
     pub names-is : (ns : List (List ℕ)) → names_at p st.variables ≡ Ok ns → There.names p bytes ≡ Some ns
     unfolding There.names
     names-is ns e = rw (a, e) refl
@@ -97,34 +97,34 @@ module _ (bytes : List ℕ) where
       unfolding There.uses
       uses-is found u c e = rw (a, b, c, e) refl
 
-      pub variables-is : (u : There.Uses) (ds : List ℕ) → There.uses p bytes ≡ Some u → decisions_at p u.roles ≡ Ok ds → There.variables p bytes ≡ Some (record { names = ns; uses = u; decisions = ds })
-      unfolding There.variables
+      pub variables-is : (u : There.Uses) (ds : List ℕ) → There.uses p bytes ≡ Some u → decisions_at p u.roles ≡ Ok ds → There.variables_there p bytes ≡ Some (record { names = ns; uses = u; decisions = ds })
+      unfolding There.variables_there
       variables-is u ds c e = rw (b, c, e) refl
 
-      pub costs-is : (f : There.Function) → objective_at ns p st.objective ≡ Ok f → There.costs p bytes ≡ Some f
-      unfolding There.costs
+      pub costs-is : (f : There.ReadFunction) → objective_at ns p st.objective ≡ Ok f → There.costs_there p bytes ≡ Some f
+      unfolding There.costs_there
       costs-is f e = rw (a, b, e) refl
 
     pub constraint_items-is : There.constraint_items p bytes ≡ Some st.constraints
     unfolding There.constraint_items
     constraint_items-is = rw a refl
 
-    pub constraints-is : (vars : There.Variables) (found : There.Constraints) → There.variables p bytes ≡ Some vars → constraints_at vars p st.constraints ≡ Ok found → There.constraints p bytes ≡ Some found
-    unfolding There.constraints
+    pub constraints-is : (vars : There.Variables) (found : There.Constraints) → There.variables_there p bytes ≡ Some vars → constraints_at vars p st.constraints ≡ Ok found → There.constraints_there p bytes ≡ Some found
+    unfolding There.constraints_there
     constraints-is vars found b e = rw (a, b, e) refl
 
   pub constraint-is : (p i : ℕ) (ds : Items) (d : Data) → There.constraint_items p bytes ≡ Some ds → nth_item i ds ≡ Some d → There.constraint p i bytes ≡ Some d
   unfolding There.constraint
   constraint-is p i ds d a e = rw (a, e) refl
 
-  pub subproblems-is : (qs : List State) (ms : Members) (v : There.SubproblemTable) → There.states bytes ≡ Some qs → There.table (codes "subproblems") bytes ≡ Some ms
+  pub subproblems-is : (qs : List State) (ms : Members) (v : There.SubproblemTable) → There.states_there bytes ≡ Some qs → There.table_there (codes "subproblems") bytes ≡ Some ms
       → subproblems_at qs ms ≡ Ok v → There.subproblems bytes ≡ Some v
   unfolding There.subproblems
   subproblems-is qs ms v a b e = rw (a, b, e) refl
 
   -- ---- the node n
 
-  module _ (n : ℕ) (it : List ℕ × Data) (a : There.entry (codes "nodes") n bytes ≡ Some it) where
+  module _ (n : ℕ) (it : List ℕ × Data) (a : There.entry_there (codes "nodes") n bytes ≡ Some it) where
     pub own_name-is : (d : Data) → present_at (at_node n) (get (codes "subproblem") it.1) ≡ Ok d → There.own_name n bytes ≡ Some d
     unfolding There.own_name
     own_name-is d e = rw (a, e) refl
@@ -145,12 +145,12 @@ module _ (bytes : List ℕ) where
   unfolding There.own_text
   own_text-is n d name a e = rw (a, e) refl
 
-  pub own_subproblem-is : (n : ℕ) (name : List ℕ) (ms : Members) (sub : ℕ) → There.own_text n bytes ≡ Some name → There.table (codes "subproblems") bytes ≡ Some ms
-      → known_at (at_node n) (position (bytes_eq name) (keys_of ms)) ≡ Ok sub → There.own_subproblem n bytes ≡ Some sub
-  unfolding There.own_subproblem
+  pub own_subproblem-is : (n : ℕ) (name : List ℕ) (ms : Members) (sub : ℕ) → There.own_text n bytes ≡ Some name → There.table_there (codes "subproblems") bytes ≡ Some ms
+      → known_at (at_node n) (position (bytes_eq name) (keys_of ms)) ≡ Ok sub → There.own_subproblem_there n bytes ≡ Some sub
+  unfolding There.own_subproblem_there
   own_subproblem-is n name ms sub a b e = rw (a, b, e) refl
 
-  pub randoms-is : (n sub : ℕ) (all : There.SubproblemTable) → There.own_subproblem n bytes ≡ Some sub → There.subproblems bytes ≡ Some all → There.randoms n bytes ≡ Some (randoms_of all.subs sub)
+  pub randoms-is : (n sub : ℕ) (all : There.SubproblemTable) → There.own_subproblem_there n bytes ≡ Some sub → There.subproblems bytes ≡ Some all → There.randoms n bytes ≡ Some (randoms_of all.subs sub)
   unfolding There.randoms
   randoms-is n sub all a b = rw (a, b) refl
 
@@ -158,52 +158,52 @@ module _ (bytes : List ℕ) where
   unfolding There.outcome
   outcome-is n r ds d a e = rw (a, e) refl
 
-  pub realizations-is : (n : ℕ) (ns : List (List ℕ)) (ds : Items) (v : There.Realizations) → There.randoms n bytes ≡ Some ns → There.outcomes n bytes ≡ Some ds → realizations_at n ns ds ≡ Ok v → There.realizations n bytes ≡ Some v
-  unfolding There.realizations
+  pub realizations-is : (n : ℕ) (ns : List (List ℕ)) (ds : Items) (v : There.Realizations) → There.randoms n bytes ≡ Some ns → There.outcomes n bytes ≡ Some ds → realizations_at n ns ds ≡ Ok v → There.realizations_there n bytes ≡ Some v
+  unfolding There.realizations_there
   realizations-is n ns ds v a b e = rw (a, b, e) refl
 
   pub next_entry-is : (n i : ℕ) (ms : Members) (it : List ℕ × Data) → There.next_members n bytes ≡ Some ms → nth_member i ms ≡ Some it → There.next_entry n i bytes ≡ Some it
   unfolding There.next_entry
   next_entry-is n i ms it a e = rw (a, e) refl
 
-  pub next-is : (n : ℕ) (ns ms : Members) (v : There.Successors) → There.table (codes "nodes") bytes ≡ Some ns → There.next_members n bytes ≡ Some ms
-      → successors_at parts.Successor n (keys_of ns) ms ≡ Ok v → There.next n bytes ≡ Some v
+  pub next-is : (n : ℕ) (ns ms : Members) (v : There.Successors) → There.table_there (codes "nodes") bytes ≡ Some ns → There.next_members n bytes ≡ Some ms
+      → read_successors_at part_kinds.Successor n (keys_of ns) ms ≡ Ok v → There.next n bytes ≡ Some v
   unfolding There.next
   next-is n ns ms v a b e = rw (a, b, e) refl
 
-  pub nodes-is : (ms : Members) (all : There.SubproblemTable) (ns : List Node) → There.table (codes "nodes") bytes ≡ Some ms → There.subproblems bytes ≡ Some all
-      → nodes_at (keys_of ms) all ms ≡ Ok ns → There.nodes bytes ≡ Some ns
-  unfolding There.nodes
+  pub nodes-is : (ms : Members) (all : There.SubproblemTable) (ns : List Node) → There.table_there (codes "nodes") bytes ≡ Some ms → There.subproblems bytes ≡ Some all
+      → nodes_at (keys_of ms) all ms ≡ Ok ns → There.nodes_there bytes ≡ Some ns
+  unfolding There.nodes_there
   nodes-is ms all ns a b e = rw (a, b, e) refl
 
   -- ---- the graph
 
-  pub graph-is : (qs : List State) (v : There.Successors) (ws : List ℕ) (all : There.SubproblemTable) (ns : List Node) → There.states bytes ≡ Some qs → There.start bytes ≡ Some v → There.start_weights bytes ≡ Some ws
-      → There.subproblems bytes ≡ Some all → There.nodes bytes ≡ Some ns
+  pub graph-is : (qs : List State) (v : There.Successors) (ws : List ℕ) (all : There.SubproblemTable) (ns : List Node) → There.states_there bytes ≡ Some qs → There.start bytes ≡ Some v → There.start_weights bytes ≡ Some ws
+      → There.subproblems bytes ≡ Some all → There.nodes_there bytes ≡ Some ns
       → There.graph bytes ≡ Some (record { states = qs; root = v.nodes; root_weights = ws; nodes = ns; subs = all.subs; scenarios = [] })
   unfolding There.graph
   graph-is qs v ws all ns a b c d e = rw (a, b, c, d, e) refl
 
-  pub steps-is : (k : ℕ) (ds : Items) (d : Data) (es : Items) → There.stored bytes ≡ Some ds → nth_item k ds ≡ Some d → steps_at (at_scenario k) d ≡ Ok es → There.steps k bytes ≡ Some es
-  unfolding There.steps
+  pub steps-is : (k : ℕ) (ds : Items) (d : Data) (es : Items) → There.stored bytes ≡ Some ds → nth_item k ds ≡ Some d → scenario_steps_at (at_scenario k) d ≡ Ok es → There.steps_there k bytes ≡ Some es
+  unfolding There.steps_there
   steps-is k ds d es a b e = rw (a, b, e) refl
 
-  pub scenarios-is : (ms : Members) (raw : Raw) (ds : Items) (paths : List (List Moment)) → There.table (codes "nodes") bytes ≡ Some ms → There.graph bytes ≡ Some raw → There.stored bytes ≡ Some ds
-      → scenarios_at (keys_of ms) raw ds ≡ Ok paths → There.scenarios bytes ≡ Some paths
+  pub scenarios-is : (ms : Members) (parts : ProblemParts) (ds : Items) (paths : List (List Moment)) → There.table_there (codes "nodes") bytes ≡ Some ms → There.graph bytes ≡ Some parts → There.stored bytes ≡ Some ds
+      → scenarios_at (keys_of ms) parts ds ≡ Ok paths → There.scenarios bytes ≡ Some paths
   unfolding There.scenarios
-  scenarios-is ms raw ds paths a b c e = rw (a, b, c, e) refl
+  scenarios-is ms parts ds paths a b c e = rw (a, b, c, e) refl
 
-  pub sealed-is : (raw : Raw) (paths : List (List Moment)) (p : Sealed) → There.graph bytes ≡ Some raw → There.scenarios bytes ≡ Some paths → arranged (record raw { scenarios = paths }) ≡ Ok p → There.sealed bytes ≡ Some p
-  unfolding There.sealed
-  sealed-is raw paths p a b e = rw (a, b, e) refl
+  pub validated-is : (parts : ProblemParts) (paths : List (List Moment)) (p : Validated) → There.graph bytes ≡ Some parts → There.scenarios bytes ≡ Some paths → arranged (record parts { scenarios = paths }) ≡ Ok p → There.validated bytes ≡ Some p
+  unfolding There.validated
+  validated-is parts paths p a b e = rw (a, b, e) refl
 
   -- ---- the weights that are listed at the node n
 
-  pub lister-is : (n : ℕ) (raw : Raw) (node : Node) → There.graph bytes ≡ Some raw → slice_get raw.nodes n ≡ Some node → There.lister n bytes ≡ Some node
+  pub lister-is : (n : ℕ) (parts : ProblemParts) (node : Node) → There.graph bytes ≡ Some parts → slice_get parts.nodes n ≡ Some node → There.lister n bytes ≡ Some node
   unfolding There.lister
-  lister-is n raw node a e = rw (a, e) refl
+  lister-is n parts node a e = rw (a, e) refl
 
-  pub lister_value-is : (n : ℕ) (node : Node) (ms : Members) (d : Data) → There.lister n bytes ≡ Some node → There.table (codes "nodes") bytes ≡ Some ms → present_at whole (get_member node.name ms) ≡ Ok d → There.lister_value n bytes ≡ Some d
+  pub lister_value-is : (n : ℕ) (node : Node) (ms : Members) (d : Data) → There.lister n bytes ≡ Some node → There.table_there (codes "nodes") bytes ≡ Some ms → present_at whole (get_member node.name ms) ≡ Ok d → There.lister_value n bytes ≡ Some d
   unfolding There.lister_value
   lister_value-is n node ms d a b e = rw (a, b, e) refl
 

@@ -4,11 +4,11 @@ use Rattle.std.proofs.lemmas.List.{append_assoc}
 use Rattle.serde_json.specs.Data.{Data, Items, Members}
 use Rattle.serde_json.specs.Events.{members_len}
 use Rattle.serde_json.specs.Find.{get, get_member}
-use Rattle.hp_problem.specs.declared.raw.Raw.{Raw}
-use Rattle.hp_problem.specs.declared.raw.State.{State}
-use Rattle.hp_problem.specs.declared.refusal.Part.TheVariants as parts
-use Rattle.hp_problem.specs.declared.refusal.Refusal.{Refusal}
-use Rattle.hp_problem.specs.Sealed.{Sealed}
+use Rattle.hp_parts.specs.declared.parts.ProblemParts.{ProblemParts}
+use Rattle.hp_parts.specs.declared.parts.State.{State}
+use Rattle.hp_parts.specs.declared.refusal.Part.TheVariants as part_kinds
+use Rattle.hp_parts.specs.declared.refusal.Refusal.{Refusal}
+use Rattle.hp_problem.specs.Validated.{Validated}
 use Rattle.hp_fields.specs.Steps.{◌>>=◌}
 use Rattle.hp_fields.specs.Fields.{keys_of, whole, json_at, present_at, object_at}
 use Rattle.hp_fields.specs.Limits.{members_at, items_at}
@@ -16,13 +16,13 @@ use Rattle.hp_fields.proofs.Accepted.{then-Ok, Ok-is}
 use Rattle.hp_sof.specs.Version.{version_at}
 use Rattle.hp_sof.specs.Tables.{table_at, sizes_at, tables_at}
 use Rattle.hp_sof.specs.Root.{root, states_at, counts_at, root_at}
-use Rattle.hp_sof.specs.Successors.{successors_at}
-use Rattle.hp_sof.specs.Weights.{weights_at}
+use Rattle.hp_sof.specs.Successors.{read_successors_at}
+use Rattle.hp_sof.specs.Weights.{bounded_weights_at}
 use Rattle.hp_sof.specs.Subproblems as subs
 use Rattle.hp_sof.specs.Subproblems.{subproblems_at}
 use Rattle.hp_sof.specs.Nodes.{nodes_at}
 use Rattle.hp_sof.specs.Scenarios.{scenarios_at}
-use Rattle.hp_sof.specs.Read.{graph_at, raw_of}
+use Rattle.hp_sof.specs.Read.{graph_at, problem_parts_of}
 use Rattle.hp_sof.specs.Problem.{problem_at}
 use Rattle.hp_graph.specs.Arranged.{arranged}
 use Rattle.hp_theory.specs.declared.cut.Cut.{Cut}
@@ -31,37 +31,37 @@ use Rattle.hp_risk.specs.Alternatives.{alternatives_of}
 use Rattle.hp_run.specs.FirstRefusal.{Check, of_each}
 use Rattle.hp_run.specs.There as there
 use Rattle.hp_run.specs.CheckList.{whole_checks, root_checks, subproblem_checks, node_checks, scenario_checks, graph_checks, base_checks, checks, list_checks}
-use Rattle.hp_run.specs.Outcome.{WithBase, with_base, based_of, based_at, listed_at, with_alternatives}
+use Rattle.hp_run.specs.Outcome.{WithBase, with_base, based_of, based_at, problem_with_alternatives_at, with_alternatives}
 use Rattle.hp_run.proofs.FirstRefusal.{Told, one-then, all-then, one-last, made, in-turn}
-use Rattle.hp_run.proofs.ThereFacts.{document-is, table-is, stored-is, state_members-is, start_value-is, start_members-is, states-is, start-is, start_weights-is, subproblems-is, nodes-is, graph-is, scenarios-is, sealed-is}
+use Rattle.hp_run.proofs.ThereFacts.{document-is, table-is, stored-is, state_members-is, start_value-is, start_members-is, states-is, start-is, start_weights-is, subproblems-is, nodes-is, graph-is, scenarios-is, validated-is}
 use Rattle.hp_run.proofs.ToldRoot.{root-told}
 use Rattle.hp_run.proofs.ToldSubproblems.{subproblems-told}
 use Rattle.hp_run.proofs.ToldNodes.{nodes-told, scenarios-told}
-use Rattle.hp_run.proofs.ToldGraph.{graph-told, arranged-raw, alternatives-told}
+use Rattle.hp_run.proofs.ToldGraph.{graph-told, arranged-parts, alternatives-told}
 
--- where the root was read, its parts are there
+-- where the root was read, its part_kinds are there
 record RootThere (bytes : List ℕ) (r : there.Root) : Type 0 where
-  states : there.states bytes ≡ Some r.states
-  links : there.Successors
-  start : there.start bytes ≡ Some links
-  nodes : links.nodes ≡ r.nodes
+  states : there.states_there bytes ≡ Some r.states
+  successors : there.Successors
+  start : there.start bytes ≡ Some successors
+  nodes : successors.nodes ≡ r.nodes
   weights : there.start_weights bytes ≡ Some r.weights
 
-root-there : (bytes : List ℕ) (ns ms : Members) (r : there.Root) → there.table (codes "nodes") bytes ≡ Some ns → there.table (codes "root") bytes ≡ Some ms → root_at (keys_of ns) ms ≡ Ok r → RootThere bytes r
+root-there : (bytes : List ℕ) (ns ms : Members) (r : there.Root) → there.table_there (codes "nodes") bytes ≡ Some ns → there.table_there (codes "root") bytes ≡ Some ms → root_at (keys_of ns) ms ≡ Ok r → RootThere bytes r
 unfolding root_at
 root-there bytes ns ms r are is e =
     then-Ok (members_at root (get_member (codes "state_variables") ms)) _ r e (λ ss e1 e.
     then-Ok (present_at root (get_member (codes "successors") ms)) _ r e (λ inner e2 e.
-    then-Ok (object_at root inner) _ r e (λ links e3 e.
-    then-Ok (counts_at root (members_len ss) (members_len links)) _ r e (λ counted e4 e.
+    then-Ok (object_at root inner) _ r e (λ successors e3 e.
+    then-Ok (counts_at root (members_len ss) (members_len successors)) _ r e (λ counted e4 e.
     then-Ok (states_at ss) _ r e (λ qs e5 e.
-    then-Ok (successors_at parts.Root 2 (keys_of ns) links) _ r e (λ found e6 e.
-    then-Ok (weights_at root 0 found.weights) _ r e (λ ws e7 e.
-    let is3 = start_members-is bytes inner links (start_value-is bytes ms is inner e2) e3 in
-    let is6 = start-is bytes ns links found are is3 e6 in
+    then-Ok (read_successors_at part_kinds.Root 2 (keys_of ns) successors) _ r e (λ found e6 e.
+    then-Ok (bounded_weights_at root 0 found.weights) _ r e (λ ws e7 e.
+    let is3 = start_members-is bytes inner successors (start_value-is bytes ms is inner e2) e3 in
+    let is6 = start-is bytes ns successors found are is3 e6 in
     subst (RootThere bytes) (Ok-is _ r e) (record {
       states = states-is bytes ss qs (state_members-is bytes ms is ss e1) e5;
-      links = found;
+      successors = found;
       start = is6;
       nodes = refl;
       weights = start_weights-is bytes found ws is6 e7;
@@ -69,13 +69,13 @@ root-there bytes ns ms r are is e =
 
 table-names : (qs : List State) (ms : Members) (all : there.SubproblemTable) → subproblems_at qs ms ≡ Ok all → all.names ≡ keys_of ms
 unfolding subproblems_at
-table-names qs ms all e = then-Ok (subs.listed_at qs ms) _ all e (λ found e1 e. ap (λ (t : there.SubproblemTable). t.names) (sym (Ok-is _ all e)))
+table-names qs ms all e = then-Ok (subs.listed_subproblems_at qs ms) _ all e (λ found e1 e. ap (λ (t : there.SubproblemTable). t.names) (sym (Ok-is _ all e)))
 
-base-problem : (p : Sealed) (r : Result (List (List Cut)) (ℕ × ℕ)) (x : WithBase) → with_base p r ≡ Ok x → p ≡ x.problem
+base-problem : (p : Validated) (r : Result (List (List Cut)) (ℕ × ℕ)) (x : WithBase) → with_base p r ≡ Ok x → p ≡ x.problem
 base-problem p (Ok pools) x e = ap (λ (b : WithBase). b.problem) (Ok-is _ x e)
 base-problem p (Err at) x e = absurd cc
 
-based-problem : (p : Sealed) (x : WithBase) → based_of p ≡ Ok x → p ≡ x.problem
+based-problem : (p : Validated) (x : WithBase) → based_of p ≡ Ok x → p ≡ x.problem
 unfolding based_of
 based-problem p x e = base-problem p (based p) x e
 
@@ -89,14 +89,14 @@ module _ (bytes : List ℕ) where
   abbrev scenario_list : List (Check Refusal)
   scenario_list = of_each scenario_checks 0 (there.items_in (there.stored bytes))
 
-  module _ {B : Type 0} (rest : List (Check Refusal)) (F : Sealed → Result B Refusal)
-      (then : (d : Data) (ns : Members) (g : Raw) (p : Sealed) → json_at bytes ≡ Ok d → table_at (codes "nodes") d ≡ Ok ns → there.table (codes "nodes") bytes ≡ Some ns → there.graph bytes ≡ Some g
-      → g.nodes ≡ p.raw.nodes → there.sealed bytes ≡ Some p → Told bytes rest (F p)) where
+  module _ {B : Type 0} (tail : List (Check Refusal)) (F : Validated → Result B Refusal)
+      (then : (d : Data) (ns : Members) (g : ProblemParts) (p : Validated) → json_at bytes ≡ Ok d → table_at (codes "nodes") d ≡ Ok ns → there.table_there (codes "nodes") bytes ≡ Some ns → there.graph bytes ≡ Some g
+      → g.nodes ≡ p.parts.nodes → there.validated bytes ≡ Some p → Told bytes tail (F p)) where
     -- what comes after the tables
-    parts-then : (d : Data) (rt ns ss : Members) (ds : Items) → json_at bytes ≡ Ok d → table_at (codes "nodes") d ≡ Ok ns → there.table (codes "root") bytes ≡ Some rt → there.table (codes "nodes") bytes ≡ Some ns
-        → there.table (codes "subproblems") bytes ≡ Some ss → there.stored bytes ≡ Some ds
-        → Told bytes (root_checks bytes ++ (subproblem_list ++ (node_list ++ (scenario_list ++ (graph_checks ++ rest)))))
-        ((graph_at (keys_of ns) (record { root = rt; nodes = ns; subproblems = ss; scenarios = ds }) >>= λ g. scenarios_at (keys_of ns) g ds >>= λ paths. Ok (record g { scenarios = paths })) >>= λ raw. arranged raw >>= F)
+    parts-then : (d : Data) (rt ns ss : Members) (ds : Items) → json_at bytes ≡ Ok d → table_at (codes "nodes") d ≡ Ok ns → there.table_there (codes "root") bytes ≡ Some rt → there.table_there (codes "nodes") bytes ≡ Some ns
+        → there.table_there (codes "subproblems") bytes ≡ Some ss → there.stored bytes ≡ Some ds
+        → Told bytes (root_checks bytes ++ (subproblem_list ++ (node_list ++ (scenario_list ++ (graph_checks ++ tail)))))
+        ((graph_at (keys_of ns) (record { root = rt; nodes = ns; subproblems = ss; scenarios = ds }) >>= λ g. scenarios_at (keys_of ns) g ds >>= λ paths. Ok (record g { scenarios = paths })) >>= λ parts. arranged parts >>= F)
     unfolding graph_at
     parts-then d rt ns ss ds e1 e2 a b c s =
         in-turn bytes _ (graph_at (keys_of ns) (record { root = rt; nodes = ns; subproblems = ss; scenarios = ds })) _ _ (
@@ -108,18 +108,18 @@ module _ (bytes : List ℕ) where
         let have = subproblems-is bytes r.states ss all it.states c e4 in
         in-turn bytes _ (nodes_at (keys_of ns) all ns) _ _ (
         all-then bytes node_list _ (nodes_at (keys_of ns) all ns) _ (nodes-told bytes ns ss all b c have (table-names r.states ss all e4)) (λ nodes e5.
-        let g : Raw = record { states = r.states; root = r.nodes; root_weights = r.weights; nodes = nodes; subs = all.subs; scenarios = [] } in
+        let g : ProblemParts = record { states = r.states; root = r.nodes; root_weights = r.weights; nodes = nodes; subs = all.subs; scenarios = [] } in
         let is : there.graph bytes ≡ Some g = subst (λ m. there.graph bytes ≡ Some (record { states = r.states; root = m; root_weights = r.weights; nodes = nodes; subs = all.subs; scenarios = [] })) it.nodes
-        (graph-is bytes r.states it.links r.weights all nodes it.states it.start it.weights have (nodes-is bytes ns all nodes b have e5)) in
+        (graph-is bytes r.states it.successors r.weights all nodes it.states it.start it.weights have (nodes-is bytes ns all nodes b have e5)) in
         in-turn bytes _ (scenarios_at (keys_of ns) g ds) _ _ (
         all-then bytes scenario_list _ (scenarios_at (keys_of ns) g ds) _ (scenarios-told bytes ns g ds b is s) (λ paths e6.
-        all-then bytes graph_checks rest (arranged (record g { scenarios = paths })) F (graph-told bytes g is paths) (λ p e7.
-        then d ns g p e1 e2 b is (ap (λ (raw : Raw). raw.nodes) (arranged-raw (record g { scenarios = paths }) p e7)) (sealed-is bytes g paths p is (scenarios-is bytes ns g ds paths b is s e6) e7)))))))))))
+        all-then bytes graph_checks tail (arranged (record g { scenarios = paths })) F (graph-told bytes g is paths) (λ p e7.
+        then d ns g p e1 e2 b is (ap (λ (parts : ProblemParts). parts.nodes) (arranged-parts (record g { scenarios = paths }) p e7)) (validated-is bytes g paths p is (scenarios-is bytes ns g ds paths b is s e6) e7)))))))))))
 
-    problem-then : Told bytes (whole_checks ++ (root_checks bytes ++ (subproblem_list ++ (node_list ++ (scenario_list ++ (graph_checks ++ rest)))))) (problem_at bytes >>= F)
-    unfolding problem_at raw_of tables_at whole_checks
+    problem-then : Told bytes (whole_checks ++ (root_checks bytes ++ (subproblem_list ++ (node_list ++ (scenario_list ++ (graph_checks ++ tail)))))) (problem_at bytes >>= F)
+    unfolding problem_at problem_parts_of tables_at whole_checks
     problem-then =
-        in-turn bytes _ (raw_of bytes) arranged F (
+        in-turn bytes _ (problem_parts_of bytes) arranged F (
         in-turn bytes _ (json_at bytes) _ _ (
         one-then bytes _ _ (json_at bytes) _ refl (λ d e1.
         let doc = document-is bytes d e1 in
@@ -153,16 +153,16 @@ module _ (bytes : List ℕ) where
   unfolding checks based_at base_checks
   based-told =
       rw (nested whole_checks (root_checks bytes) subproblem_list node_list scenario_list graph_checks base_checks)
-      (problem-then base_checks based_of (λ d ns g p e1 e2 b is same sealed. one-last bytes _ (based_of p) (rw sealed refl)))
+      (problem-then base_checks based_of (λ d ns g p e1 e2 b is same validated. one-last bytes _ (based_of p) (rw validated refl)))
 
-  pub listed-told : Told bytes (checks bytes ++ list_checks bytes) (listed_at bytes)
-  unfolding checks base_checks based_at listed_at
+  pub listed-told : Told bytes (checks bytes ++ list_checks bytes) (problem_with_alternatives_at bytes)
+  unfolding checks base_checks based_at problem_with_alternatives_at
   listed-told =
       rw (
         append_assoc (whole_checks ++ root_checks bytes ++ subproblem_list ++ node_list ++ scenario_list ++ graph_checks) base_checks (list_checks bytes),
         nested whole_checks (root_checks bytes) subproblem_list node_list scenario_list graph_checks (base_checks ++ list_checks bytes),
       )
       (in-turn bytes _ (problem_at bytes) based_of (with_alternatives bytes)
-      (problem-then (base_checks ++ list_checks bytes) (λ p. based_of p >>= with_alternatives bytes) (λ d ns g p e1 e2 b is same sealed.
-      one-then bytes _ (list_checks bytes) (based_of p) _ (rw sealed refl) (λ x e3.
-      made bytes _ (alternatives_of x.problem bytes) _ (alternatives-told bytes ns g b is d x.problem e1 e2 (same ∙ ap (λ (q : Sealed). q.raw.nodes) (based-problem p x e3)))))))
+      (problem-then (base_checks ++ list_checks bytes) (λ p. based_of p >>= with_alternatives bytes) (λ d ns g p e1 e2 b is same validated.
+      one-then bytes _ (list_checks bytes) (based_of p) _ (rw validated refl) (λ x e3.
+      made bytes _ (alternatives_of x.problem bytes) _ (alternatives-told bytes ns g b is d x.problem e1 e2 (same ∙ ap (λ (q : Validated). q.parts.nodes) (based-problem p x e3)))))))

@@ -4,12 +4,12 @@ use Rattle.serde_json.specs.Data.{Data, Items, Members}
 use Rattle.serde_json.specs.Events.{items_len}
 use Rattle.serde_json.specs.Find.{get, get_member}
 use Rattle.hp_paths.specs.Paths.{numbers, first_in_cycle, first_unreached}
-use Rattle.hp_problem.specs.declared.raw.Moment.{Moment}
-use Rattle.hp_problem.specs.declared.raw.Node.{Node}
-use Rattle.hp_problem.specs.declared.raw.Raw.{Raw}
-use Rattle.hp_problem.specs.declared.refusal.Refusal.{Refusal}
-use Rattle.hp_problem.specs.declared.refusal.RefusalKind.TheVariants as kinds
-use Rattle.hp_problem.specs.Sealed.{Sealed, graph_of}
+use Rattle.hp_parts.specs.declared.parts.Moment.{Moment}
+use Rattle.hp_parts.specs.declared.parts.Node.{Node}
+use Rattle.hp_parts.specs.declared.parts.ProblemParts.{ProblemParts}
+use Rattle.hp_parts.specs.declared.refusal.Refusal.{Refusal}
+use Rattle.hp_parts.specs.declared.refusal.RefusalKind.TheVariants as kinds
+use Rattle.hp_problem.specs.Validated.{Validated, graph_of}
 use Rattle.hp_fields.specs.Fields.{whole, json_at, present_at}
 use Rattle.hp_fields.specs.Limits.{items_at}
 use Rattle.hp_fields.proofs.Accepted.{Ok-is}
@@ -23,14 +23,14 @@ use Rattle.hp_run.specs.CheckList.{graph_checks, alternative_checks, lister_chec
 use Rattle.hp_run.proofs.FirstRefusal.{Told, one-then, one-last, made, tested, all-items, all-listed}
 use Rattle.hp_run.proofs.ThereFacts.{lister-is, lister_value-is, lists-is, alternative-is}
 
-abbrev with_paths : Raw → List (List Moment) → Raw
+abbrev with_paths : ProblemParts → List (List Moment) → ProblemParts
 with_paths g paths = record g { scenarios = paths }
 
-gap-same : (g : Raw) (paths : List (List Moment)) → first_gap g (numbers (length g.nodes)) ≡ first_gap (with_paths g paths) (numbers (length g.nodes))
+gap-same : (g : ProblemParts) (paths : List (List Moment)) → first_gap g (numbers (length g.nodes)) ≡ first_gap (with_paths g paths) (numbers (length g.nodes))
 unfolding hull
 gap-same g paths = refl
 
-module _ (bytes : List ℕ) (g : Raw) (is : there.graph bytes ≡ Some g) (paths : List (List Moment)) where
+module _ (bytes : List ℕ) (g : ProblemParts) (is : there.graph bytes ≡ Some g) (paths : List (List Moment)) where
   gap-told : first_in_cycle (graph_of g) ≡ None → first_unreached (graph_of g) g.root ≡ None → (o : Option (ℕ × ℕ)) → first_gap (with_paths g paths) (numbers (length g.nodes)) ≡ o
       → Told bytes graph_checks (arranged (with_paths g paths))
   unfolding graph_checks arranged ordered boxed
@@ -50,20 +50,20 @@ module _ (bytes : List ℕ) (g : Raw) (is : there.graph bytes ≡ Some g) (paths
   pub graph-told : Told bytes graph_checks (arranged (with_paths g paths))
   graph-told = cycle-told (first_in_cycle (graph_of g)) refl
 
-boxes-raw : (raw : Raw) (o : List ℕ × ℕ) (b : Result (List (List ℤ) × List (List ℤ)) Refusal) (p : Sealed) → with_boxes raw o b ≡ Ok p → raw ≡ p.raw
-boxes-raw raw o (Ok b) p e = ap (λ (q : Sealed). q.raw) (Ok-is _ p e)
-boxes-raw raw o (Err r) p e = absurd cc
+boxes-parts : (parts : ProblemParts) (o : List ℕ × ℕ) (b : Result (List (List ℤ) × List (List ℤ)) Refusal) (p : Validated) → with_boxes parts o b ≡ Ok p → parts ≡ p.parts
+boxes-parts parts o (Ok b) p e = ap (λ (q : Validated). q.parts) (Ok-is _ p e)
+boxes-parts parts o (Err r) p e = absurd cc
 
-order-raw : (raw : Raw) (o : Result (List ℕ × ℕ) Refusal) (p : Sealed) → with_order raw o ≡ Ok p → raw ≡ p.raw
-order-raw raw (Ok o) p e = boxes-raw raw o (boxed raw) p e
-order-raw raw (Err r) p e = absurd cc
+order-parts : (parts : ProblemParts) (o : Result (List ℕ × ℕ) Refusal) (p : Validated) → with_order parts o ≡ Ok p → parts ≡ p.parts
+order-parts parts (Ok o) p e = boxes-parts parts o (boxed parts) p e
+order-parts parts (Err r) p e = absurd cc
 
 -- the arranged problem has the parts that were read
-pub arranged-raw : (raw : Raw) (p : Sealed) → arranged raw ≡ Ok p → raw ≡ p.raw
+pub arranged-parts : (parts : ProblemParts) (p : Validated) → arranged parts ≡ Ok p → parts ≡ p.parts
 unfolding arranged
-arranged-raw raw p e = order-raw raw (ordered raw) p e
+arranged-parts parts p e = order-parts parts (ordered parts) p e
 
-module _ (bytes : List ℕ) (ms : Members) (g : Raw) (are : there.table (codes "nodes") bytes ≡ Some ms) (is : there.graph bytes ≡ Some g) where
+module _ (bytes : List ℕ) (ms : Members) (g : ProblemParts) (are : there.table_there (codes "nodes") bytes ≡ Some ms) (is : there.graph bytes ≡ Some g) where
   each-told : (n : ℕ) (node : Node) (ds : Items) → there.lister n bytes ≡ Some node → there.lists n bytes ≡ Some ds
       → Told bytes (of_each (alternative_checks n) 0 (there.items_in (there.lists n bytes))) (alternatives_at n node.weights ds)
   unfolding alternative_checks next_alternative_at
@@ -82,7 +82,7 @@ module _ (bytes : List ℕ) (ms : Members) (g : Raw) (are : there.table (codes "
       let is2 = lists-is bytes n d ds is1 e2 in
       tested bytes _ _ (nat_le (items_len ds) 10) kinds.TooLarge (at_weight n 0 0) (alternatives_at n node.weights ds) (rw is2 refl) (λ few. each-told n node ds by is2))))
 
-  pub alternatives-told : (d : Data) (p : Sealed) → json_at bytes ≡ Ok d → table_at (codes "nodes") d ≡ Ok ms → g.nodes ≡ p.raw.nodes → Told bytes (list_checks bytes) (alternatives_of p bytes)
+  pub alternatives-told : (d : Data) (p : Validated) → json_at bytes ≡ Ok d → table_at (codes "nodes") d ≡ Ok ms → g.nodes ≡ p.parts.nodes → Told bytes (list_checks bytes) (alternatives_of p bytes)
   unfolding alternatives_of list_checks
   alternatives-told d p e1 e2 same =
       rw (e1, e2, sym same, is) (made bytes _ (all_lists_at ms g.nodes) _ (all-listed bytes (lister_checks bytes) (next_node_at ms) g.nodes [] lister-told))

@@ -1,28 +1,17 @@
--- The journal that is left where the report could not be written whole.
-use Rattle.std.proofs.Common.{ℕ, List, Option, IfSome, refl}
+-- The journal that is left where the source was read.
+use Rattle.std.proofs.Common.{ℕ, List, Option, Some, None, IfSome}
 use Rattle.std.specs.Io.KnownBytes.{Consumes, IsAtEnd}
-use Rattle.hp_outside.specs.Disks.{Store}
-use Rattle.hp_journal.proofs.Told.{told, known}
-use Rattle.hp_solver.specs.Solving.{Solving}
-use Rattle.hp_run.specs.Journals.{Grows}
-use Rattle.hp_run.specs.declared.status.Status.{Status}
-use Rattle.hp_run.specs.declared.status.Status.TheVariants.{Done, WriteFault}
-use Rattle.hp_run.specs.declared.task.Task.{Task}
-use Rattle.hp_run.specs.declared.task.Task.TheVariants.{Base, Train, Check, Simulate, Validate, Evaluate, Robust}
+use Rattle.hp_words.specs.declared.command.Command.{Command}
+use Rattle.hp_words.specs.declared.command.TrainingNumbers.{TrainingNumbers}
+use Rattle.hp_words.specs.Traits.{traits}
+use Rattle.hp_run.specs.Journals.{IfTraining}
 use Rattle.hp_run.proofs.KnownBytes.{all_taken}
 
-module _ {Start Chain : Type 0} (v : Solving Start Chain) where
-  as_written : (bytes kept : List ℕ) (new : Store) (task : Task) → Grows v Done bytes kept new task → Grows v WriteFault bytes kept new task
-  as_written bytes kept new Base h = tt
-  as_written bytes kept new (Train seed count batch) h = λ b o is load e. h b o is load refl
-  as_written bytes kept new Check h = tt
-  as_written bytes kept new (Simulate seed count) h = tt
-  as_written bytes kept new Validate h = tt
-  as_written bytes kept new Evaluate h = tt
-  as_written bytes kept new Robust h = tt
-
-  pub wrote_grown : (left left_now : Option (List ℕ)) (bytes : List ℕ) (task : Task) (reads : Option (List ℕ)) (new : Store) → Consumes left left_now bytes → IsAtEnd left_now
-      → IfSome reads (λ kept. Grows v Done bytes kept new task) → IfSome left (λ b. IfSome reads (λ kept. Grows v WriteFault b kept new task))
-  wrote_grown left left_now bytes task reads new consumes end grown =
-      all_taken left left_now bytes (λ b. IfSome reads (λ kept. Grows v WriteFault b kept new task)) consumes end
-      (told reads (λ kept there. as_written bytes kept new task (known (λ x. Grows v Done bytes x new task) reads kept there grown)))
+-- what holds of the bytes that were read holds of those that the source had, where it tells them
+pub of_source : (left left_now : Option (List ℕ)) (bytes : List ℕ) (command : Command) (reads : Option (List ℕ)) (P : List ℕ → List ℕ → TrainingNumbers → Type 0) → Consumes left left_now bytes → IsAtEnd left_now
+    → IfTraining command (λ t. IfSome reads (λ kept. P bytes kept t)) → IfTraining command (λ t. IfSome left (λ b. IfSome reads (λ kept. P b kept t)))
+of_source left left_now bytes command reads P consumes end has = each (traits command).training has
+  where
+    each : (o : Option TrainingNumbers) → IfSome o (λ t. IfSome reads (λ kept. P bytes kept t)) → IfSome o (λ t. IfSome left (λ b. IfSome reads (λ kept. P b kept t)))
+    each None h = tt
+    each (Some t) h = all_taken left left_now bytes (λ b. IfSome reads (λ kept. P b kept t)) consumes end h

@@ -3,9 +3,9 @@ use Rattle.std.specs.Prelude.{◌≡◌, ℕ, zero, suc, List, [], ◌∷◌, �
 use Rattle.std.specs.List.{AllByRecursion}
 use Rattle.std.specs.Option.{option_or}
 use Rattle.serde_json.specs.Data.{Data, Items, no_items, item, Members, no_members, member}
-use Rattle.hp_problem.specs.declared.refusal.Place.{Place}
-use Rattle.hp_problem.specs.declared.refusal.Refusal.{Refusal}
-use Rattle.hp_problem.specs.declared.refusal.RefusalKind.{RefusalKind}
+use Rattle.hp_parts.specs.declared.refusal.Place.{Place}
+use Rattle.hp_parts.specs.declared.refusal.Refusal.{Refusal}
+use Rattle.hp_parts.specs.declared.refusal.RefusalKind.{RefusalKind}
 
 -- A check by its name and the numbers of what it looks at, with the refusal that it finds in the bytes of a file. It finds none where
 -- something is missing that it needs.
@@ -17,7 +17,7 @@ pub record Check (R : Type 0) : Type 0 where
 abbrev pub check : {R : Type 0} → List ℕ → List ℕ → (List ℕ → Option R) → Check R
 check name numbers finds = record { name = name; numbers = numbers; finds = finds }
 
--- what the first of the checks finds that finds something
+-- the finding of the first check that finds something
 abbrev pub first : {R : Type 0} → List (Check R) → List ℕ → Option R
 first [] bytes = None
 first (c ∷ cs) bytes = option_or (c.finds bytes) (first cs bytes)
@@ -63,6 +63,6 @@ abbrev pub refusal_of : {A R : Type 0} → Result A R → Option R
 refusal_of (Ok x) = None
 refusal_of (Err r) = Some r
 
--- what a test refuses where it fails
+-- the refusal of a test that fails
 abbrev pub failing : Bool → RefusalKind → Place → Option Refusal
 failing test kind at = if test then None else Some (record { kind = kind; place = at })

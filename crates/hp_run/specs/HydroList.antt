@@ -5,61 +5,61 @@ use Rattle.serde_json.specs.Events.{items_len}
 use Rattle.serde_json.specs.Find.{get}
 use Rattle.hp_file.specs.File.{◌>>=◌}
 use Rattle.hp_fields.specs.Fields.{keys_of}
-use Rattle.hp_plants.specs.declared.refusal.HydroPart.TheVariants as parts
+use Rattle.hp_plants.specs.declared.refusal.HydroPart.TheVariants as part_kinds
 use Rattle.hp_plants.specs.declared.refusal.HydroRefusal.{HydroRefusal}
-use Rattle.hp_plants.specs.Fields.{place, whole, json_at, object_at, table_at, items_at, members_at, entries_at}
-use Rattle.hp_plants.specs.Tables.{Tables, counts_at, parts_at}
-use Rattle.hp_plants.specs.Grid.{bus_at, reservoir_at, reservoirs_at, states_at, thermal_at, line_at}
-use Rattle.hp_plants.specs.Stages.{inflow_at, inflows_at, count_at, total_at}
+use Rattle.hp_plants.specs.Fields.{hydro_place, hydro_whole, hydro_json_at, hydro_object_at, hydro_table_at, hydro_items_at, hydro_members_at, hydro_entries_at}
+use Rattle.hp_plants.specs.Tables.{HydroTables, hydro_counts_at, parts_at}
+use Rattle.hp_plants.specs.Grid.{bus_at, read_reservoir_at, reservoirs_at, state_count_at, thermal_at, line_at}
+use Rattle.hp_plants.specs.Stages.{inflow_at, inflows_at, inflow_count_at, total_at}
 use Rattle.hp_run.specs.FirstRefusal.{Check, check, of_each, nth_item, nth_member, there, refusal_of}
 use Rattle.hp_run.specs.There.{items_in, members_in}
 
 -- ---- what there is in the bytes of a description, part by part
 
-unfoldable pub document : List ℕ → Option Data
-document bytes = there (json_at bytes)
+unfoldable pub hydro_document : List ℕ → Option Data
+hydro_document bytes = there (hydro_json_at bytes)
 
 unfoldable pub buses : List ℕ → Option Members
-buses bytes = document bytes >>= λ d. there (table_at whole (get (codes "buses") d))
+buses bytes = hydro_document bytes >>= λ d. there (hydro_table_at hydro_whole (get (codes "buses") d))
 
 unfoldable pub reservoirs : List ℕ → Option Members
-reservoirs bytes = document bytes >>= λ d. there (members_at whole (get (codes "reservoirs") d))
+reservoirs bytes = hydro_document bytes >>= λ d. there (hydro_members_at hydro_whole (get (codes "reservoirs") d))
 
 unfoldable pub thermals : List ℕ → Option Members
-thermals bytes = document bytes >>= λ d. there (members_at whole (get (codes "thermals") d))
+thermals bytes = hydro_document bytes >>= λ d. there (hydro_members_at hydro_whole (get (codes "thermals") d))
 
 unfoldable pub lines : List ℕ → Option Members
-lines bytes = document bytes >>= λ d. there (members_at whole (get (codes "lines") d))
+lines bytes = hydro_document bytes >>= λ d. there (hydro_members_at hydro_whole (get (codes "lines") d))
 
 unfoldable pub stages : List ℕ → Option Items
-stages bytes = document bytes >>= λ d. there (items_at whole (get (codes "stages") d))
+stages bytes = hydro_document bytes >>= λ d. there (hydro_items_at hydro_whole (get (codes "stages") d))
 
-unfoldable pub tables : List ℕ → Option Tables
-tables bytes = document bytes >>= λ d. there (parts_at d)
+unfoldable pub tables : List ℕ → Option HydroTables
+tables bytes = hydro_document bytes >>= λ d. there (parts_at d)
 
 -- the stage t
-unfoldable pub stage : ℕ → List ℕ → Option Data
-stage t bytes = stages bytes >>= λ ds. nth_item t ds
+unfoldable pub hydro_stage_there : ℕ → List ℕ → Option Data
+hydro_stage_there t bytes = stages bytes >>= λ ds. nth_item t ds
 
-unfoldable pub demand : ℕ → List ℕ → Option Members
-demand t bytes = stage t bytes >>= λ d. there (table_at (place parts.Stage t 0) (get (codes "demand") d))
+unfoldable pub hydro_demand : ℕ → List ℕ → Option Members
+hydro_demand t bytes = hydro_stage_there t bytes >>= λ d. there (hydro_table_at (hydro_place part_kinds.Stage t 0) (get (codes "demand") d))
 
 unfoldable pub inflows : ℕ → List ℕ → Option Items
-inflows t bytes = stage t bytes >>= λ d. there (items_at (place parts.Stage t 0) (get (codes "inflows") d))
+inflows t bytes = hydro_stage_there t bytes >>= λ d. there (hydro_items_at (hydro_place part_kinds.Stage t 0) (get (codes "inflows") d))
 
 -- ---- the checks
 
 -- 1 to 3. the whole
-unfoldable pub whole_checks : List (Check HydroRefusal)
-whole_checks =
-    check (codes "JSON") [] (λ b. refusal_of (json_at b))
-    ∷ check (codes "an object") [] (λ b. document b >>= λ d. refusal_of (object_at whole d))
-    ∷ check (codes "type of buses") [] (λ b. document b >>= λ d. refusal_of (table_at whole (get (codes "buses") d)))
-    ∷ check (codes "type of reservoirs") [] (λ b. document b >>= λ d. refusal_of (members_at whole (get (codes "reservoirs") d)))
-    ∷ check (codes "type of thermals") [] (λ b. document b >>= λ d. refusal_of (members_at whole (get (codes "thermals") d)))
-    ∷ check (codes "type of lines") [] (λ b. document b >>= λ d. refusal_of (members_at whole (get (codes "lines") d)))
-    ∷ check (codes "type of stages") [] (λ b. document b >>= λ d. refusal_of (items_at whole (get (codes "stages") d)))
-    ∷ check (codes "counts") [] (λ b. tables b >>= λ t. refusal_of (counts_at t))
+unfoldable pub hydro_whole_checks : List (Check HydroRefusal)
+hydro_whole_checks =
+    check (codes "JSON") [] (λ b. refusal_of (hydro_json_at b))
+    ∷ check (codes "an object") [] (λ b. hydro_document b >>= λ d. refusal_of (hydro_object_at hydro_whole d))
+    ∷ check (codes "type of buses") [] (λ b. hydro_document b >>= λ d. refusal_of (hydro_table_at hydro_whole (get (codes "buses") d)))
+    ∷ check (codes "type of reservoirs") [] (λ b. hydro_document b >>= λ d. refusal_of (hydro_members_at hydro_whole (get (codes "reservoirs") d)))
+    ∷ check (codes "type of thermals") [] (λ b. hydro_document b >>= λ d. refusal_of (hydro_members_at hydro_whole (get (codes "thermals") d)))
+    ∷ check (codes "type of lines") [] (λ b. hydro_document b >>= λ d. refusal_of (hydro_members_at hydro_whole (get (codes "lines") d)))
+    ∷ check (codes "type of stages") [] (λ b. hydro_document b >>= λ d. refusal_of (hydro_items_at hydro_whole (get (codes "stages") d)))
+    ∷ check (codes "counts") [] (λ b. tables b >>= λ t. refusal_of (hydro_counts_at t))
     ∷ []
 
 -- 4. each bus i
@@ -69,7 +69,7 @@ bus_checks i = check (codes "bus") (i ∷ []) (λ b. buses b >>= λ ms. nth_memb
 -- 5. each reservoir i
 unfoldable pub reservoir_checks : ℕ → List (Check HydroRefusal)
 reservoir_checks i =
-    check (codes "reservoir") (i ∷ []) (λ b. buses b >>= λ bs. reservoirs b >>= λ ms. nth_member i ms >>= λ it. refusal_of (reservoir_at (keys_of bs) (keys_of ms) [] i it.0 it.1)) ∷ []
+    check (codes "reservoir") (i ∷ []) (λ b. buses b >>= λ bs. reservoirs b >>= λ ms. nth_member i ms >>= λ it. refusal_of (read_reservoir_at (keys_of bs) (keys_of ms) [] i it.0 it.1)) ∷ []
 
 -- 6. each thermal i
 unfoldable pub thermal_checks : ℕ → List (Check HydroRefusal)
@@ -81,7 +81,7 @@ line_checks i = check (codes "line") (i ∷ []) (λ b. buses b >>= λ bs. lines 
 
 -- 8. reservoirs and travels together
 unfoldable pub state_checks : List (Check HydroRefusal)
-state_checks = check (codes "states") [] (λ b. buses b >>= λ bs. reservoirs b >>= λ ms. there (reservoirs_at (keys_of bs) ms (keys_of ms)) >>= λ rs. refusal_of (states_at rs)) ∷ []
+state_checks = check (codes "states") [] (λ b. buses b >>= λ bs. reservoirs b >>= λ ms. there (reservoirs_at (keys_of bs) ms (keys_of ms)) >>= λ rs. refusal_of (state_count_at rs)) ∷ []
 
 -- 9 to 11. each stage t, with each inflow k
 unfoldable pub inflow_checks : ℕ → ℕ → List (Check HydroRefusal)
@@ -90,18 +90,18 @@ inflow_checks t k =
 
 unfoldable pub stage_checks : List ℕ → ℕ → List (Check HydroRefusal)
 stage_checks bytes t =
-    check (codes "a stage is an object") (t ∷ []) (λ b. stage t b >>= λ d. refusal_of (object_at (place parts.Stage t 0) d))
-    ∷ check (codes "type of demand") (t ∷ []) (λ b. stage t b >>= λ d. refusal_of (table_at (place parts.Stage t 0) (get (codes "demand") d)))
-    ∷ check (codes "type of inflows") (t ∷ []) (λ b. stage t b >>= λ d. refusal_of (items_at (place parts.Stage t 0) (get (codes "inflows") d)))
-    ∷ check (codes "count of inflows") (t ∷ []) (λ b. inflows t b >>= λ ds. refusal_of (count_at (place parts.Stage t 0) (items_len ds)))
-    ∷ check (codes "demand of each bus") (t ∷ []) (λ b. buses b >>= λ bs. demand t b >>= λ ms. refusal_of (entries_at (place parts.Stage t 0) (pos 0) (keys_of bs) ms))
+    check (codes "a stage is an object") (t ∷ []) (λ b. hydro_stage_there t b >>= λ d. refusal_of (hydro_object_at (hydro_place part_kinds.Stage t 0) d))
+    ∷ check (codes "type of demand") (t ∷ []) (λ b. hydro_stage_there t b >>= λ d. refusal_of (hydro_table_at (hydro_place part_kinds.Stage t 0) (get (codes "demand") d)))
+    ∷ check (codes "type of inflows") (t ∷ []) (λ b. hydro_stage_there t b >>= λ d. refusal_of (hydro_items_at (hydro_place part_kinds.Stage t 0) (get (codes "inflows") d)))
+    ∷ check (codes "count of inflows") (t ∷ []) (λ b. inflows t b >>= λ ds. refusal_of (inflow_count_at (hydro_place part_kinds.Stage t 0) (items_len ds)))
+    ∷ check (codes "demand of each bus") (t ∷ []) (λ b. buses b >>= λ bs. hydro_demand t b >>= λ ms. refusal_of (hydro_entries_at (hydro_place part_kinds.Stage t 0) (pos 0) (keys_of bs) ms))
     ∷ (of_each (inflow_checks t) 0 (items_in (inflows t bytes))
-    ++ (check (codes "weights of a stage") (t ∷ []) (λ b. reservoirs b >>= λ rs. inflows t b >>= λ ds. there (inflows_at (keys_of rs) t ds) >>= λ all. refusal_of (total_at (place parts.Stage t 0) all)) ∷ []))
+    ++ (check (codes "weights of a stage") (t ∷ []) (λ b. reservoirs b >>= λ rs. inflows t b >>= λ ds. there (inflows_at (keys_of rs) t ds) >>= λ all. refusal_of (total_at (hydro_place part_kinds.Stage t 0) all)) ∷ []))
 
--- what is checked of a description
+-- the checks of a description
 unfoldable pub hydro_checks : List ℕ → List (Check HydroRefusal)
 hydro_checks bytes =
-    whole_checks
+    hydro_whole_checks
     ++ (of_each bus_checks 0 (members_in (buses bytes))
     ++ (of_each reservoir_checks 0 (members_in (reservoirs bytes))
     ++ (of_each thermal_checks 0 (members_in (thermals bytes)) ++ (of_each line_checks 0 (members_in (lines bytes)) ++ (state_checks ++ of_each (stage_checks bytes) 0 (items_in (stages bytes)))))))

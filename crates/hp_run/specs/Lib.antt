@@ -1,5 +1,6 @@
 pub mod RefusalLines
 pub mod JournalLines
+pub mod Kinds
 pub mod Status
 pub mod Words
 pub mod SoundText

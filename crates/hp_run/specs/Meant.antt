@@ -1,25 +1,24 @@
 -- Says of the lines of a report what they claim of the problem file itself.
-use Rattle.std.specs.Prelude.{◌≡◌, ℕ, List, All, Option, None, Some, IfSome, IsSome, slice_get, Ok, ⊤}
+use Rattle.std.specs.Prelude.{◌≡◌, ℕ, List, All, Option, Some, IfSome, IsSome, slice_get, Ok, ⊤}
 use Rattle.hp_theory.specs.declared.cut.Cut.{Cut}
 use Rattle.hp_file.specs.File.{Name, File, file_at}
-use Rattle.hp_meaning.specs.Meaning.{Plans, IsPolicy, policy_cost, IsBound, IsCut, IsUpper}
+use Rattle.hp_meaning.specs.Meaning.{Plans, IsPolicy, file_policy_cost, IsBound, IsCut, IsUpper}
 use Rattle.hp_plants.specs.declared.plants.Plants.{Plants}
 use Rattle.hp_plants.specs.Plants.{plants_at}
 use Rattle.hp_hydro.specs.Plan.{Plan, Workable}
 use Rattle.hp_hydro.specs.PlanCost.{plan_cost}
 use Rattle.hp_report.specs.SoundLines.{Claims, Lines}
-use Rattle.hp_run.specs.Causes.{Ends, IfWritten}
-use Rattle.hp_run.specs.declared.job.Job.{Job}
-use Rattle.hp_run.specs.declared.job.Job.TheVariants as jobs
+use Rattle.hp_run.specs.Causes.{Ends, Written}
 use Rattle.hp_run.specs.declared.status.Status.{Status}
+use Rattle.hp_words.specs.declared.command.Command.{Command}
 
 -- the cut holds at the node of this number, in the byte order of names
 abbrev pub CutOfFile : File → ℕ → Cut → Type 0
 CutOfFile f m c = IfSome (slice_get f.names m) (λ k. IsCut f k c.alpha c.beta)
 
--- what lines claim of the file; nothing of planes and worst bounds
+-- the claims of lines on the file; nothing of risk cuts and worst bounds
 abbrev pub claims_in : File → Claims
-claims_in f = record { cuts = CutOfFile f; bounds = IsBound f; uppers = IsUpper f; planes = λ m c. ⊤; worsts = λ b. ⊤ }
+claims_in f = record { cuts = CutOfFile f; bounds = IsBound f; uppers = IsUpper f; risk_cuts = λ m c. ⊤; worsts = λ b. ⊤ }
 
 -- The bytes are a problem file, each node of which can be read. In each line of the text that begins with the word `cut` stands a cut
 -- that holds at its node, in each that begins with `bound` or `iteration` a number that no policy of the file costs less than, and in each
@@ -36,8 +35,8 @@ pub record DescribedFile (description text : List ℕ) : Type 0 where
   pub file : File
   pub described : plants_at description ≡ Ok plants
   pub said : file_at text ≡ Some file
-  pub policy : (units : ℕ) (plan : Plan) → Workable plants units plan → (ps : Plans) × IsPolicy file units ps × (policy_cost file units ps ≡ plan_cost plants units plan)
-  pub plan : (units : ℕ) (ps : Plans) → IsPolicy file units ps → (plan : Plan) × Workable plants units plan × (plan_cost plants units plan ≡ policy_cost file units ps)
+  pub policy : (units : ℕ) (plan : Plan) → Workable plants units plan → (ps : Plans) × IsPolicy file units ps × (file_policy_cost file units ps ≡ plan_cost plants units plan)
+  pub plan : (units : ℕ) (ps : Plans) → IsPolicy file units ps → (plan : Plan) × Workable plants units plan × (plan_cost plants units plan ≡ file_policy_cost file units ps)
 
 -- the text is a problem file, each node of which can be read
 pub record IsFile (text : List ℕ) : Type 0 where
@@ -45,10 +44,7 @@ pub record IsFile (text : List ℕ) : Type 0 where
   pub said : file_at text ≡ Some file
   pub nodes : All (λ (k : Name). IsSome (file.nodes k)) file.names
 
--- what was written, over any disk: of a task its report, which means what the file in the source says; the file that a description means;
+-- the meaning of what was written, over any disk: of a task its report, which means what the file in the source says; the file that a description means;
 -- a generated file
-abbrev pub Meant : Option Job → Ends → Status → Type 0
-Meant None e status = ⊤
-Meant (Some (jobs.Plan task)) e status = IfSome e.left (λ bytes. IfWritten (MeantText bytes) e status)
-Meant (Some jobs.Hydro) e status = IfSome e.left (λ bytes. IfWritten (DescribedFile bytes) e status)
-Meant (Some (jobs.Generate seed stages reservoirs)) e status = IfWritten IsFile e status
+abbrev pub Meant : Option Command → Ends → Status → Type 0
+Meant asked e status = Written asked (λ command bytes text. MeantText bytes text) DescribedFile IsFile e status

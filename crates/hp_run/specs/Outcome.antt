@@ -1,11 +1,11 @@
 -- The problem and the report that the bytes of a problem and of a journal give.
-use Rattle.std.specs.Prelude.{◌≡◌, ℕ, ◌+◌, List, ◌++◌, length, max, Option, Some, None, Result, Ok, Err, ⊤}
+use Rattle.std.specs.Prelude.{◌≡◌, ℕ, ◌+◌, List, ◌++◌, length, max, Option, Some, None, Result, Ok, Err, MatchBool, ⊤}
 use Rattle.sha2.specs.Sha256.{sha256}
-use Rattle.hp_problem.specs.declared.refusal.Refusal.{Refusal}
-use Rattle.hp_problem.specs.declared.refusal.RefusalKind.TheVariants as kinds
-use Rattle.hp_problem.specs.declared.refusal.Part.TheVariants as parts
-use Rattle.hp_problem.specs.Sealed.{Sealed}
-use Rattle.hp_problem.specs.declared.raw.Moment.{Moment}
+use Rattle.hp_parts.specs.declared.refusal.Refusal.{Refusal}
+use Rattle.hp_parts.specs.declared.refusal.RefusalKind.TheVariants as kinds
+use Rattle.hp_parts.specs.declared.refusal.Part.TheVariants as part_kinds
+use Rattle.hp_problem.specs.Validated.{Validated}
+use Rattle.hp_parts.specs.declared.parts.Moment.{Moment}
 use Rattle.hp_problem.specs.Formulas.{too_much, too_wide}
 use Rattle.hp_problem.specs.declared.formulas.TooMuch as formulas
 use Rattle.hp_fields.specs.Steps.{◌>>=◌}
@@ -18,8 +18,8 @@ use Rattle.hp_load.specs.declared.refusal.LoadFault.TheVariants as faults
 use Rattle.hp_load.specs.Load.{Outcome, load_of, outcome_of}
 use Rattle.hp_solver.specs.Solving.{Solving}
 use Rattle.hp_train.specs.Continuing.{Continued}
-use Rattle.hp_train.specs.Training.{iterations, unsettled_in}
-use Rattle.hp_settle.specs.declared.judging.Dead.{Dead}
+use Rattle.hp_train.specs.Training.{iterations, unanswered_in}
+use Rattle.hp_settle.specs.declared.classifying.Infeasibility.{Infeasibility}
 use Rattle.hp_settle.specs.declared.plan_fault.PlanFault.{PlanFault}
 use Rattle.hp_settle.specs.declared.plan_fault.PlanFault.TheVariants as plans
 use Rattle.hp_forward.specs.declared.traces.Trace.{Trace}
@@ -33,26 +33,27 @@ use Rattle.hp_tree.specs.Report.{verdict_text}
 use Rattle.hp_tree.specs.TooBig.{too_big_of}
 use Rattle.hp_risk.specs.declared.alternatives.Alternatives.{Alternatives}
 use Rattle.hp_risk.specs.Alternatives.{alternatives_of}
-use Rattle.hp_risk.specs.Planes.{planes_of}
+use Rattle.hp_risk.specs.RiskCuts.{risk_cuts_of}
 use Rattle.hp_risk.specs.Report.{robust_text}
 use Rattle.hp_run.specs.declared.simulating.Scenarios.{Scenarios}
 use Rattle.hp_run.specs.declared.simulating.Scenarios.TheVariants.{Drawn, Stored}
 use Rattle.hp_run.specs.declared.status.Status.{Status}
-use Rattle.hp_run.specs.declared.status.Status.TheVariants.{ProblemRefused, JournalRefused, TooMuch, Range, NoStage, DiskFault, Memory}
-use Rattle.hp_run.specs.declared.task.Task.{Task}
-use Rattle.hp_run.specs.declared.task.Task.TheVariants.{Base, Train, Check, Simulate, Validate, Evaluate, Robust}
+use Rattle.hp_run.specs.declared.status.Status.TheVariants.{Usage, ProblemRefused, JournalRefused, TooMuch, Range, Infeasible, DiskFault, Memory}
+use Rattle.hp_words.specs.declared.command.Command.{Command}
+use Rattle.hp_words.specs.declared.command.Command.TheVariants.{Base, Train, Check, Simulate, Validate, Evaluate, Robust}
+use Rattle.hp_words.specs.Traits.{Decisions, at_realizations, at_stored, nowhere, traits}
 
 -- a problem with its base cuts
 pub record WithBase : Type 0 where
-  pub problem : Sealed
+  pub problem : Validated
   pub pools : List (List Cut)
 
 -- with the base cuts, or the realization at which their size passes its range
-abbrev pub with_base : Sealed → Result (List (List Cut)) (ℕ × ℕ) → Result WithBase Refusal
+abbrev pub with_base : Validated → Result (List (List Cut)) (ℕ × ℕ) → Result WithBase Refusal
 with_base p (Ok pools) = Ok (record { problem = p; pools = pools })
-with_base p (Err at) = refuse kinds.Range (place parts.Realization at.0 at.1 0)
+with_base p (Err at) = refuse kinds.Range (place part_kinds.Realization at.0 at.1 0)
 
-unfoldable pub based_of : Sealed → Result WithBase Refusal
+unfoldable pub based_of : Validated → Result WithBase Refusal
 based_of p = with_base p (based p)
 
 -- the problem that bytes give, with its base cuts, or their first refusal
@@ -61,12 +62,12 @@ based_at bytes = do
   problem ← problem_at bytes
   based_of problem
 
--- the same with the weights that the problem lists, whose refusals come after those of the problem
+-- a problem with the weights that it lists, whose refusals come after those of the problem
 abbrev pub with_alternatives : List ℕ → WithBase → Result (WithBase × Alternatives) Refusal
 with_alternatives bytes b = alternatives_of b.problem bytes >>= λ x. Ok (b, x)
 
-unfoldable pub listed_at : List ℕ → Result (WithBase × Alternatives) Refusal
-listed_at bytes = based_at bytes >>= with_alternatives bytes
+unfoldable pub problem_with_alternatives_at : List ℕ → Result (WithBase × Alternatives) Refusal
+problem_with_alternatives_at bytes = based_at bytes >>= with_alternatives bytes
 
 abbrev pub or_refused : {A : Type 0} → Result A Refusal → Result A Status
 or_refused (Ok x) = Ok x
@@ -84,15 +85,15 @@ or_status (Ok x) = Ok x
 or_status (Err f) = Err (status_of_fault f)
 
 -- the report of what a journal gives
-abbrev pub check_of : Sealed → Result Outcome LoadFault → Result (List ℕ) Status
-check_of p (Ok o) = Ok (check_text p o.pools o.bounds o.unsettled o.rest)
+abbrev pub check_of : Validated → Result Outcome LoadFault → Result (List ℕ) Status
+check_of p (Ok o) = Ok (check_text p o.pools o.bounds o.unanswered o.tail)
 check_of p (Err f) = Err (status_of_fault f)
 
--- what the journal `kept` gives over the base cuts of the problem of these bytes, whose SHA-256 it has to state
+-- the report of what the journal `kept` gives over the base cuts of the problem of these bytes, whose SHA-256 it has to state
 unfoldable pub checked : List ℕ → WithBase → List ℕ → Result (List ℕ) Status
 checked bytes b kept = check_of b.problem (outcome_of (load_of b.problem b.pools (sha256 bytes) None None kept))
 
--- what the journal `kept` gives to training with a seed and perhaps a batch
+-- the outcome that the journal `kept` gives to training with a seed and perhaps a batch
 unfoldable pub loaded_for : List ℕ → WithBase → ℕ → Option ℕ → List ℕ → Result Outcome Status
 loaded_for bytes b seed batch kept = or_status (outcome_of (load_of b.problem b.pools (sha256 bytes) (Some seed) batch kept))
 
@@ -101,26 +102,26 @@ abbrev pub unless_much : {A : Type 0} → Option formulas.TooMuch → A → Resu
 unless_much None x = Ok x
 unless_much (Some formula) x = Err (TooMuch formula)
 
-unfoldable pub within_formulas : Sealed → ℕ → Outcome → Result Outcome Status
+unfoldable pub within_formulas : Validated → ℕ → Outcome → Result Outcome Status
 within_formulas p count o = unless_much (too_much p (max count (length o.bounds)) o.batch) o
 
--- what the journal gives over these base cuts, by the digest that it has to state, where the formulas are kept
-unfoldable pub ready_for : Sealed → List (List Cut) → List ℕ → ℕ → ℕ → Option ℕ → List ℕ → Result Outcome Status
+-- the outcome that the journal gives over these base cuts, by the digest that it has to state, where the formulas are kept
+unfoldable pub ready_for : Validated → List (List Cut) → List ℕ → ℕ → ℕ → Option ℕ → List ℕ → Result Outcome Status
 ready_for p base digest seed count batch kept = or_status (outcome_of (load_of p base digest (Some seed) batch kept)) >>= within_formulas p count
 
 -- how a run ends where planning stops
 abbrev pub status_of_plan : PlanFault → Status
-status_of_plan (plans.NoStage dead) = NoStage dead
+status_of_plan (plans.Infeasible infeasible) = Infeasible infeasible
 status_of_plan (plans.Range k m r) = Range k m r
 status_of_plan plans.DiskFault = DiskFault
 status_of_plan plans.Memory = Memory
 
 -- the report of iterations behind what was loaded, or where they stop
-abbrev pub unless_stopped : Sealed → Outcome → Continued → Option PlanFault → Result (List ℕ) Status
-unless_stopped p o c None = Ok (train_text p c.pools (o.bounds ++ c.bounds) (o.unsettled + unsettled_in c.lists))
+abbrev pub unless_stopped : Validated → Outcome → Continued → Option PlanFault → Result (List ℕ) Status
+unless_stopped p o c None = Ok (train_text p c.pools (o.bounds ++ c.bounds) (o.unanswered + unanswered_in c.lists))
 unless_stopped p o c (Some fault) = Err (status_of_plan fault)
 
-abbrev pub report_trained : Sealed → Outcome → Continued → Result (List ℕ) Status
+abbrev pub report_trained : Validated → Outcome → Continued → Result (List ℕ) Status
 report_trained p o c = unless_stopped p o c c.stop
 
 -- the report of training on the journal `kept`
@@ -130,65 +131,65 @@ trained_for v bytes b seed count batch kept = do
   o ← within_formulas b.problem count loaded
   report_trained b.problem o (iterations v b.problem seed count o)
 
--- what the journal `kept` gives over these base cuts, by the digest that it has to state, unless a formula is above its limit
-unfoldable pub loaded_within : Sealed → List (List Cut) → List ℕ → Option formulas.TooMuch → List ℕ → Result Outcome Status
+-- the outcome that the journal `kept` gives over these base cuts, by the digest that it has to state, unless a formula is above its limit
+unfoldable pub loaded_within : Validated → List (List Cut) → List ℕ → Option formulas.TooMuch → List ℕ → Result Outcome Status
 loaded_within p base digest formula kept = or_status (outcome_of (load_of p base digest None None kept)) >>= unless_much formula
 
 -- the runs of scenarios, and their number
-abbrev pub runs_of : Sealed → Scenarios → List (List Moment)
+abbrev pub runs_of : Validated → Scenarios → List (List Moment)
 runs_of p (Drawn seed count) = drawn_from p seed 0 count
-runs_of p Stored = p.raw.scenarios
+runs_of p Stored = p.parts.scenarios
 
-abbrev pub count_of : Sealed → Scenarios → ℕ
-count_of p (Drawn seed count) = count
-count_of p Stored = length p.raw.scenarios
+abbrev pub scenario_count : Validated → Scenarios → ℕ
+scenario_count p (Drawn seed count) = count
+scenario_count p Stored = length p.parts.scenarios
 
 -- the report of traces, or the node without decisions that stops them
-abbrev pub report_traced : Sealed → List (List Cut) → Result (List Trace) Dead → Result (List ℕ) Status
+abbrev pub report_traced : Validated → List (List Cut) → Result (List Trace) Infeasibility → Result (List ℕ) Status
 report_traced p pools (Ok traces) = Ok (trace_text p pools traces)
-report_traced p pools (Err dead) = Err (NoStage dead)
+report_traced p pools (Err infeasible) = Err (Infeasible infeasible)
 
 -- the report of scenarios over the pools of the journal `kept`
 unfoldable pub simulated_for : {Start Chain : Type 0} → Solving Start Chain → List ℕ → WithBase → Scenarios → List ℕ → Result (List ℕ) Status
 simulated_for v bytes b scenarios kept = do
-  o ← loaded_within b.problem b.pools (sha256 bytes) (too_wide b.problem (count_of b.problem scenarios)) kept
+  o ← loaded_within b.problem b.pools (sha256 bytes) (too_wide b.problem (scenario_count b.problem scenarios)) kept
   report_traced b.problem o.pools (traces_of v b.problem o.pools (runs_of b.problem scenarios))
 
 -- the report of a verdict, or the node without decisions that stops it
-abbrev pub report_judged : Sealed → List (List Cut) → Result Verdict Dead → Result (List ℕ) Status
-report_judged p pools (Ok verdict) = Ok (verdict_text p pools verdict)
-report_judged p pools (Err dead) = Err (NoStage dead)
+abbrev pub report_classified : Validated → List (List Cut) → Result Verdict Infeasibility → Result (List ℕ) Status
+report_classified p pools (Ok verdict) = Ok (verdict_text p pools verdict)
+report_classified p pools (Err infeasible) = Err (Infeasible infeasible)
 
 -- the report of what the whole policy costs over the pools of the journal `kept`
 unfoldable pub evaluated_for : {Start Chain : Type 0} → Solving Start Chain → List ℕ → WithBase → List ℕ → Result (List ℕ) Status
 evaluated_for v bytes b kept = do
   o ← loaded_within b.problem b.pools (sha256 bytes) (too_big_of b.problem) kept
-  report_judged b.problem o.pools (verdict_of v b.problem o.pools)
+  report_classified b.problem o.pools (verdict_of v b.problem o.pools)
 
--- the report of planes, or where they stop
-abbrev pub report_planes : Sealed → Result (List (List Cut)) (ℕ × ℕ × ℕ) → Result (List ℕ) Status
-report_planes p (Ok planes) = Ok (robust_text p planes)
-report_planes p (Err at) = Err (Range at.0 at.1 at.2)
+-- the report of risk cuts, or where they stop
+abbrev pub report_risk_cuts : Validated → Result (List (List Cut)) (ℕ × ℕ × ℕ) → Result (List ℕ) Status
+report_risk_cuts p (Ok risk_cuts) = Ok (robust_text p risk_cuts)
+report_risk_cuts p (Err at) = Err (Range at.0 at.1 at.2)
 
--- the report of the planes that the records of the journal `kept` give with listed weights
+-- the report of the risk cuts that the records of the journal `kept` give with listed weights
 unfoldable pub worst_for : List ℕ → WithBase → Alternatives → List ℕ → Result (List ℕ) Status
 worst_for bytes b alternatives kept = do
   loaded ← or_status (load_of b.problem b.pools (sha256 bytes) None None kept)
-  report_planes b.problem (planes_of b.problem alternatives loaded.1)
+  report_risk_cuts b.problem (risk_cuts_of b.problem alternatives loaded.1)
 
--- the same with the weights that the problem lists
+-- the report with the weights that the problem lists
 unfoldable pub robust_for : List ℕ → WithBase → List ℕ → Result (List ℕ) Status
 robust_for bytes b kept = do
   alternatives ← or_refused (alternatives_of b.problem bytes)
   worst_for bytes b alternatives kept
 
--- the task that goes through scenarios
-abbrev pub task_for : Scenarios → Task
-task_for (Drawn seed count) = Simulate seed count
-task_for Stored = Validate
+-- the command that goes through scenarios
+abbrev pub command_for : Scenarios → Command
+command_for (Drawn seed count) = Simulate seed count
+command_for Stored = Validate
 
--- the report of a task
-abbrev pub report_by : {Start Chain : Type 0} → Solving Start Chain → Task → List ℕ → List ℕ → WithBase → Result (List ℕ) Status
+-- the report of a command; one that does not plan has none
+abbrev pub report_by : {Start Chain : Type 0} → Solving Start Chain → Command → List ℕ → List ℕ → WithBase → Result (List ℕ) Status
 report_by v Base bytes kept b = Ok (base_text b.problem b.pools)
 report_by v (Train seed count batch) bytes kept b = trained_for v bytes b seed count batch kept
 report_by v Check bytes kept b = checked bytes b kept
@@ -196,68 +197,44 @@ report_by v (Simulate seed count) bytes kept b = simulated_for v bytes b (Drawn 
 report_by v Validate bytes kept b = simulated_for v bytes b Stored kept
 report_by v Evaluate bytes kept b = evaluated_for v bytes b kept
 report_by v Robust bytes kept b = robust_for bytes b kept
+report_by v command bytes kept b = Err Usage
 
--- the report of a task over the bytes of a problem and of a journal, or how the run ends without one
-unfoldable pub report_at : {Start Chain : Type 0} → Solving Start Chain → Task → List ℕ → List ℕ → Result (List ℕ) Status
-report_at v task bytes kept = do
+-- the report of a command over the bytes of a problem and of a journal, or how the run ends without one
+unfoldable pub report_at : {Start Chain : Type 0} → Solving Start Chain → Command → List ℕ → List ℕ → Result (List ℕ) Status
+report_at v command bytes kept = do
   b ← or_refused (based_at bytes)
-  report_by v task bytes kept b
+  report_by v command bytes kept b
 
--- the bytes are refused as the problem of a task; of `robust` also by the weights that the problem lists
-abbrev pub IsRefused : Task → List ℕ → Refusal → Type 0
-IsRefused Base bytes r = based_at bytes ≡ Err r
-IsRefused (Train seed count batch) bytes r = based_at bytes ≡ Err r
-IsRefused Check bytes r = based_at bytes ≡ Err r
-IsRefused (Simulate seed count) bytes r = based_at bytes ≡ Err r
-IsRefused Validate bytes r = based_at bytes ≡ Err r
-IsRefused Evaluate bytes r = based_at bytes ≡ Err r
-IsRefused Robust bytes r = listed_at bytes ≡ Err r
+-- the bytes are refused as the problem of a command; of `robust` also by the weights that the problem lists
+abbrev pub IsRefused : Command → List ℕ → Refusal → Type 0
+IsRefused command bytes r = MatchBool (traits command).lists_weights (problem_with_alternatives_at bytes ≡ Err r) (based_at bytes ≡ Err r)
 
--- the task reads a journal
-abbrev pub ReadsJournal : Task → Type 0
-ReadsJournal Base = ⊥
-ReadsJournal (Train seed count batch) = ⊤
-ReadsJournal Check = ⊤
-ReadsJournal (Simulate seed count) = ⊤
-ReadsJournal Validate = ⊤
-ReadsJournal Evaluate = ⊤
-ReadsJournal Robust = ⊤
+-- the command reads a journal
+abbrev pub ReadsJournal : Command → Type 0
+ReadsJournal command = MatchBool (traits command).reads_journal ⊤ ⊥
 
--- the task makes cuts or planes
-abbrev pub Makes : Task → Type 0
-Makes Base = ⊥
-Makes (Train seed count batch) = ⊤
-Makes Check = ⊥
-Makes (Simulate seed count) = ⊥
-Makes Validate = ⊥
-Makes Evaluate = ⊥
-Makes Robust = ⊤
+-- the command makes cuts or risk cuts
+abbrev pub Makes : Command → Type 0
+Makes command = MatchBool (traits command).makes_cuts ⊤ ⊥
 
--- the task solves stage problems
-abbrev pub Solves : Task → Type 0
-Solves Base = ⊥
-Solves (Train seed count batch) = ⊤
-Solves Check = ⊥
-Solves (Simulate seed count) = ⊤
-Solves Validate = ⊤
-Solves Evaluate = ⊤
-Solves Robust = ⊥
+abbrev pub Somewhere : Decisions → Type 0
+Somewhere nowhere = ⊥
+Somewhere at_realizations = ⊤
+Somewhere at_stored = ⊤
 
--- the journal's bytes, where the task reads them
-abbrev pub Reads : Task → Option (List ℕ) → List ℕ → Type 0
-Reads Base told kept = ⊤
-Reads (Train seed count batch) told kept = told ≡ Some kept
-Reads Check told kept = told ≡ Some kept
-Reads (Simulate seed count) told kept = told ≡ Some kept
-Reads Validate told kept = told ≡ Some kept
-Reads Evaluate told kept = told ≡ Some kept
-Reads Robust told kept = told ≡ Some kept
+-- the command solves stage problems
+abbrev pub Solves : Command → Type 0
+Solves command = Somewhere (traits command).decisions
 
--- this comes of a task, by the bytes of the problem and those of the journal as far as it tells them
-abbrev pub Reports : {Start Chain : Type 0} → Solving Start Chain → Task → Option (List ℕ) → List ℕ → Result (List ℕ) Status → Type 0
-Reports v task told bytes outcome = (kept : List ℕ) → Reads task told kept → report_at v task bytes kept ≡ outcome
+-- the journal's bytes, where the command reads them
+abbrev pub Reads : Command → Option (List ℕ) → List ℕ → Type 0
+Reads command told kept = MatchBool (traits command).reads_journal (told ≡ Some kept) ⊤
 
--- what code answers of a journal that is checked: want of memory and a fault of the disk are free
+-- this comes of a command, by the bytes of the problem and those of the journal as far as it tells them
+abbrev pub Reports : {Start Chain : Type 0} → Solving Start Chain → Command → Option (List ℕ) → List ℕ → Result (List ℕ) Status → Type 0
+Reports v command told bytes outcome = (kept : List ℕ) → Reads command told kept → report_at v command bytes kept ≡ outcome
+
+-- the answers of code for a journal that is checked: want of memory and a fault of the disk are free
 abbrev pub Checks : {X : Type 0} → (X → List ℕ) → Result X LoadFault → Result (List ℕ) Status → Type 0
 Checks view (Ok text) outcome = outcome ≡ Ok (view text)
 Checks view (Err (faults.Refused r)) outcome = outcome ≡ Err (JournalRefused r)

@@ -1,8 +1,8 @@
 -- The solver of the program: the warm simplex, which keeps a table along a chain.
 use Rattle.std.specs.Prelude.{Option}
 use Rattle.hp_solver.specs.Solving.{Solving}
-use Rattle.hp_warm_table.specs.declared.table.Table.{Table}
-use Rattle.hp_warm_simplex.specs.Chains.{begun_of, next_of, started_of}
+use Rattle.hp_warm_table.specs.declared.table.WarmTable.{WarmTable}
+use Rattle.hp_warm_simplex.specs.Chains.{begun_of, next_of_chain, started_of}
 
-abbrev pub own_solver : Solving (Option Table) (Option Table)
-own_solver = record { started = started_of; begun = begun_of; next = next_of }
+abbrev pub own_solver : Solving (Option WarmTable) (Option WarmTable)
+own_solver = record { started = started_of; begun = begun_of; next = next_of_chain }

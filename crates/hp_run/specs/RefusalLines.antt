@@ -1,12 +1,12 @@
 -- The words that say which refusal of a problem came.
 use Rattle.std.specs.Prelude.{ℕ, pos, List, ◌++◌, codes}
 use Rattle.std.specs.Fmt.{signed_decimal}
-use Rattle.hp_problem.specs.declared.refusal.RefusalKind.{RefusalKind}
-use Rattle.hp_problem.specs.declared.refusal.RefusalKind.TheVariants as kinds
-use Rattle.hp_problem.specs.declared.refusal.Part.{Part}
-use Rattle.hp_problem.specs.declared.refusal.Part.TheVariants as parts
-use Rattle.hp_problem.specs.declared.refusal.Place.{Place}
-use Rattle.hp_problem.specs.declared.refusal.Refusal.{Refusal}
+use Rattle.hp_parts.specs.declared.refusal.RefusalKind.{RefusalKind}
+use Rattle.hp_parts.specs.declared.refusal.RefusalKind.TheVariants as kinds
+use Rattle.hp_parts.specs.declared.refusal.Part.{Part}
+use Rattle.hp_parts.specs.declared.refusal.Part.TheVariants as part_kinds
+use Rattle.hp_parts.specs.declared.refusal.Place.{Place}
+use Rattle.hp_parts.specs.declared.refusal.Refusal.{Refusal}
 
 unfoldable pub kind_text : RefusalKind → List ℕ
 kind_text kinds.NotJson = codes "NotJson"
@@ -28,34 +28,34 @@ kind_text kinds.BoxGap = codes "BoxGap"
 kind_text kinds.Range = codes "Range"
 
 unfoldable pub part_text : Part → List ℕ
-part_text parts.Whole = codes "whole"
-part_text parts.Root = codes "root"
-part_text parts.Subproblem = codes "subproblem"
-part_text parts.Variable = codes "variable"
-part_text parts.State = codes "state"
-part_text parts.Random = codes "random"
-part_text parts.Objective = codes "objective"
-part_text parts.Constraint = codes "constraint"
-part_text parts.Node = codes "node"
-part_text parts.Realization = codes "realization"
-part_text parts.Support = codes "support"
-part_text parts.Successor = codes "successor"
-part_text parts.Scenario = codes "scenario"
-part_text parts.Step = codes "step"
-part_text parts.Alternative = codes "alternative"
+part_text part_kinds.Whole = codes "whole"
+part_text part_kinds.Root = codes "root"
+part_text part_kinds.Subproblem = codes "subproblem"
+part_text part_kinds.Variable = codes "variable"
+part_text part_kinds.State = codes "state"
+part_text part_kinds.Random = codes "random"
+part_text part_kinds.Objective = codes "objective"
+part_text part_kinds.Constraint = codes "constraint"
+part_text part_kinds.Node = codes "node"
+part_text part_kinds.Realization = codes "realization"
+part_text part_kinds.Support = codes "support"
+part_text part_kinds.Successor = codes "successor"
+part_text part_kinds.Scenario = codes "scenario"
+part_text part_kinds.Step = codes "step"
+part_text part_kinds.Alternative = codes "alternative"
 
-abbrev pub word : ℕ → List ℕ
-word n = codes " " ++ signed_decimal (pos n)
+abbrev pub refusal_word : ℕ → List ℕ
+refusal_word n = codes " " ++ signed_decimal (pos n)
 
 -- a place: its part and its three numbers
 unfoldable pub place_text : Place → List ℕ
-place_text p = part_text p.part ++ word p.a ++ word p.b ++ word p.c
+place_text p = part_text p.part ++ refusal_word p.a ++ refusal_word p.b ++ refusal_word p.c
 
-unfoldable pub refused : List ℕ
-refused = codes "problem refused: "
+unfoldable pub problem_refused : List ℕ
+problem_refused = codes "problem refused: "
 
 unfoldable pub refused_text : RefusalKind → List ℕ
-refused_text kind = refused ++ kind_text kind ++ codes " at "
+refused_text kind = problem_refused ++ kind_text kind ++ codes " at "
 
 unfoldable pub refusal_text : Refusal → List ℕ
 refusal_text r = refused_text r.kind ++ place_text r.place

@@ -1,49 +1,48 @@
 -- Where a run is stopped by a stage without decisions: a node of the problem, values that come up there and a state that it may be in.
 use Rattle.std.specs.Prelude.{◌≡◌, ◌<◌, ℕ, true, List, length, Contains, Ok}
-use Rattle.hp_problem.specs.declared.raw.Moment.{Moment}
-use Rattle.hp_problem.specs.Sealed.{Sealed}
+use Rattle.hp_parts.specs.declared.parts.Moment.{Moment}
+use Rattle.hp_problem.specs.Validated.{Validated}
 use Rattle.hp_theory.specs.Problem.{node_at}
 use Rattle.hp_theory.specs.View.{problem_of}
 use Rattle.hp_cut.specs.AtNodes.{IsStateAt}
-use Rattle.hp_settle.specs.declared.judging.Dead.{Dead}
+use Rattle.hp_settle.specs.declared.classifying.Infeasibility.{Infeasibility}
 use Rattle.hp_settle.specs.Faults.{Refutes}
-use Rattle.hp_settle.specs.Refutation.{refutes_of}
-use Rattle.hp_sampler.specs.declared.steps.Step.{Step}
+use Rattle.hp_settle.specs.Farkas.{refutes_of}
+use Rattle.hp_sampler.specs.declared.steps.PathStep.{PathStep}
 use Rattle.hp_sampler.specs.Drawn.{IsInRange}
 use Rattle.hp_sim.specs.Runs.{moment_of}
 use Rattle.hp_run.specs.Outcome.{WithBase, based_at}
-use Rattle.hp_run.specs.declared.task.Task.{Task}
-use Rattle.hp_run.specs.declared.task.Task.TheVariants.{Base, Train, Check, Simulate, Validate, Evaluate, Robust}
+use Rattle.hp_words.specs.declared.command.Command.{Command}
+use Rattle.hp_words.specs.Traits.{Decisions, at_realizations, at_stored, nowhere, traits}
 
--- the node and the values of a refutation
-abbrev pub moment_in : Dead → Moment
-moment_in dead = record { node = dead.node; values = dead.values }
+-- the node and the values of an infeasibility
+abbrev pub moment_in : Infeasibility → Moment
+moment_in infeasible = record { node = infeasible.node; values = infeasible.values }
 
 -- a node of the problem with the values of one of its realizations
-abbrev pub IsRealized : Sealed → Moment → Type 0
-IsRealized p m = (s : Step) × IsInRange p.raw s × (m ≡ moment_of p.raw s)
+abbrev pub IsRealized : Validated → Moment → Type 0
+IsRealized p m = (s : PathStep) × IsInRange p.parts s × (m ≡ moment_of p.parts s)
 
 -- a moment of one of the scenarios that the problem stores
-abbrev pub IsStored : Sealed → Moment → Type 0
-IsStored p m = (run : List Moment) × Contains p.raw.scenarios run × Contains run m
+abbrev pub IsStoredMoment : Validated → Moment → Type 0
+IsStoredMoment p m = (run : List Moment) × Contains p.parts.scenarios run × Contains run m
 
--- where a task makes decisions: at realizations of nodes, or at moments of stored scenarios; the others make none
-abbrev pub DecidesAt : Task → Sealed → Moment → Type 0
-DecidesAt Base p m = ⊥
-DecidesAt (Train seed count batch) p m = IsRealized p m
-DecidesAt Check p m = ⊥
-DecidesAt (Simulate seed count) p m = IsRealized p m
-DecidesAt Validate p m = IsStored p m
-DecidesAt Evaluate p m = IsRealized p m
-DecidesAt Robust p m = ⊥
+abbrev pub Decided : Decisions → Validated → Moment → Type 0
+Decided nowhere p m = ⊥
+Decided at_realizations p m = IsRealized p m
+Decided at_stored p m = IsStoredMoment p m
 
--- A refutation of the problem that the bytes give: its node is one of the problem, at values where the task makes decisions and at a state in
+-- where a command makes decisions: at realizations of nodes, or at moments of stored scenarios; others make none
+abbrev pub DecidesAt : Command → Validated → Moment → Type 0
+DecidesAt command p m = Decided (traits command).decisions p m
+
+-- An infeasibility of the problem that the bytes give: its node is one of the problem, at values where the command makes decisions and at a state in
 -- the node's box, and there the multipliers of the node's rows show that no decisions exist, in any fraction of a unit.
-pub record IsRefuted (task : Task) (bytes : List ℕ) (dead : Dead) : Type 0 where
+pub record IsRefuted (command : Command) (bytes : List ℕ) (infeasible : Infeasibility) : Type 0 where
   pub b : WithBase
   pub is : based_at bytes ≡ Ok b
-  pub known : dead.node < length b.problem.raw.nodes
-  pub realized : DecidesAt task b.problem (moment_in dead)
-  pub inside : IsStateAt b.problem dead.node dead.state
-  pub multipliers : refutes_of (node_at (problem_of b.problem) dead.node) dead.values dead.state dead.rows ≡ true
-  pub none : Refutes b.problem dead
+  pub known : infeasible.node < length b.problem.parts.nodes
+  pub realized : DecidesAt command b.problem (moment_in infeasible)
+  pub inside : IsStateAt b.problem infeasible.node infeasible.state
+  pub multipliers : refutes_of (node_at (problem_of b.problem) infeasible.node) infeasible.values infeasible.state infeasible.rows ≡ true
+  pub none : Refutes b.problem infeasible

@@ -1,14 +1,15 @@
 -- A run of the program: one record, with a name for each thing that is promised.
-use Rattle.std.specs.Prelude.{◌≡◌, ◌⊎◌, ℕ, ℤ, true, false, List, String, ◌++◌, codes, take, All, Option, None, Some, IfSome, MatchOption, ⊤}
+use Rattle.std.specs.Prelude.{◌≡◌, ◌⊎◌, ℕ, ℤ, true, false, List, String, ◌++◌, codes, take, All, Option, IfSome, IsSomeAnd, MatchOption, ⊤}
 use Rattle.std.specs.declared.alloc.Global.{Global}
 use Rattle.std.specs.Borrow.{MutBor}
 use Rattle.std.specs.Io.KnownBytes.{Appends}
-use Rattle.hp_outside.specs.Causes.{Rose, TakesFront}
+use Rattle.hp_outside.specs.Causes.{FaultCountRose, TakesFront}
 use Rattle.hp_outside.specs.Counted.{Counted, CountedFile}
-use Rattle.hp_outside.specs.Disks.{Store, Stays, untold}
+use Rattle.hp_outside.specs.Disks.{Store, Stays, unobservable}
 use Rattle.hp_solver.specs.Solving.{Solving}
-use Rattle.hp_run.specs.Causes.{Completes, Ends, Explains, IfWritten, Sounds, ends, writes_nothing}
-use Rattle.hp_run.specs.Journals.{Grows, IsResumed, LeavesMine, OfTask, OnlyReads, precedes_journal}
+use Rattle.hp_run.specs.Causes.{Completes, Ends, Explains, Sounds, Written, ends}
+use Rattle.hp_run.specs.Journals.{JournalGrows, IsResumed, RunLeavesPrefix, OfTraining, OnlyReads}
+use Rattle.hp_run.specs.Kinds.{precedes_journal, writes_nothing}
 use Rattle.hp_accepts.specs.Plans.{Means, UnderPlans}
 use Rattle.hp_report.specs.Report.{word}
 use Rattle.hp_report.specs.SoundLines.{first_word, lines_of}
@@ -17,15 +18,14 @@ use Rattle.hp_run.specs.Meant.{Meant}
 use Rattle.hp_run.specs.OwnSolver.{own_solver}
 use Rattle.hp_run.specs.Outcome.{ReadsJournal}
 use Rattle.hp_run.specs.Status.{memory_line, status_line_text}
-use Rattle.hp_run.specs.Words.{IfPlanned, asked, journal_name, reads_problem, text_asked, writes_journal}
+use Rattle.hp_run.specs.Words.{asked_command, journal_name, reads_source, text_asked, writes_journal}
+use Rattle.hp_words.specs.declared.command.Command.{Command}
 use Rattle.hp_run.specs.declared.outside.Outside.{Outside}
-use Rattle.hp_run.specs.declared.job.Job.{Job}
-use Rattle.hp_run.specs.declared.job.Job.TheVariants.{Plan, Hydro, Generate}
 use Rattle.hp_run.specs.declared.status.Status.{Status}
 use Rattle.hp_run.specs.declared.status.Status.TheVariants.{Done, Memory, Usage, WriteFault}
 
--- what is known of a source, a disk and a sink in any state of theirs
-pub record Tells (I D O : Type 0) : Type 1 where
+-- functions that give what is known of a source, a disk and a sink in any state of theirs
+pub record Observable (I D O : Type 0) : Type 1 where
   pub left : I → Option (List ℕ)  -- the bytes that the source has left, where it tells them
   pub reads : I → ℕ  -- how often it failed
   pub store : D → Store  -- what the disk tells
@@ -33,7 +33,7 @@ pub record Tells (I D O : Type 0) : Type 1 where
   pub taken : O → Option (List ℕ)  -- the bytes that the sink has taken, where it tells them
   pub writes : O → ℕ  -- how often it failed
 
-abbrev pub telling : {I D O : Type 0} → (I → Option (List ℕ)) → (I → ℕ) → (D → Store) → (D → ℕ) → (O → Option (List ℕ)) → (O → ℕ) → Tells I D O
+abbrev pub telling : {I D O : Type 0} → (I → Option (List ℕ)) → (I → ℕ) → (D → Store) → (D → ℕ) → (O → Option (List ℕ)) → (O → ℕ) → Observable I D O
 telling left reads store disk taken writes = record { left = left; reads = reads; store = store; disk = disk; taken = taken; writes = writes }
 
 -- a source, a disk and a sink
@@ -52,83 +52,80 @@ before lent = devices lent.problem.now lent.journal.now lent.out.now
 abbrev pub after : {I D O : Type 0} → MutBor I × (MutBor D × (MutBor O × ⊤)) → Devices I D O
 after lent = devices lent.0.now lent.1.0.now lent.1.1.0.now
 
--- what is known of the three before a run and after it
-abbrev pub ends_of : {I D O : Type 0} → Tells I D O → Devices I D O → Devices I D O → Ends
+-- the three before a run and after it, as far as they are known
+abbrev pub ends_of : {I D O : Type 0} → Observable I D O → Devices I D O → Devices I D O → Ends
 ends_of t old new = ends t.left t.reads t.store t.disk t.taken t.writes old.problem new.problem old.journal new.journal old.out new.out
 
--- what `hydro` writes means what the description in the source says
-abbrev pub Describes : Option Job → Ends → Status → Type 0
-Describes None e status = ⊤
-Describes (Some (Plan task)) e status = ⊤
-Describes (Some Hydro) e status = IfSome e.left (λ bytes. IfWritten (Means bytes) e status)
-Describes (Some (Generate seed stages reservoirs)) e status = ⊤
+-- the text that `hydro` writes means what the description in the source says
+abbrev pub Describes : Option Command → Ends → Status → Type 0
+Describes wanted e status = Written wanted (λ command bytes text. ⊤) Means (λ text. ⊤) e status
 
 -- A run of what the words ask for, with a solver, from `old` to `new`, that ended with a status.
-pub record IsRun {Start Chain I D O : Type 0} (v : Solving Start Chain) (job : Option Job) (t : Tells I D O) (old new : Devices I D O) (status : Status) : Type 0 where
-  -- what the status tells of the words, the source, the disk and the sink
-  pub cause : Explains v job (ends_of t old new) status
+pub record IsRun {Start Chain I D O : Type 0} (v : Solving Start Chain) (wanted : Option Command) (t : Observable I D O) (old new : Devices I D O) (status : Status) : Type 0 where
+  -- the claim of the status on the words, the source, the disk and the sink
+  pub cause : Explains v wanted (ends_of t old new) status
   -- which status comes where no device fails: the report, the first refusal, or want of memory
-  pub complete : Completes v job (ends_of t old new) status
+  pub complete : Completes v wanted (ends_of t old new) status
   -- no policy of the problem file costs less than a bound that was written, some policy costs at most what stands behind `upper`, and each
   -- cut holds at every state that can come to its node, in any fraction of a unit, over any disk and for every solver: in the file's own words
   -- the policies of the file that `hydro` wrote are the described plans, at equal cost, and what `gen` wrote is a file
-  pub means : Meant job (ends_of t old new) status
+  pub means : Meant wanted (ends_of t old new) status
   -- each cut and each bound in what was written hold for every decision tree and every policy, in any fraction of a unit, over any disk
   -- and for every solver; the problem of a description is the one that is defined, and like a generated one accepted
-  pub sound : Sounds job (ends_of t old new) status
+  pub sound : Sounds wanted (ends_of t old new) status
   -- a plan for the plants of a description is workable exactly where its tree is a policy of the problem that was written, at equal cost
-  pub described : Describes job (ends_of t old new) status
+  pub described : Describes wanted (ends_of t old new) status
   -- without a report the sink is as it was
   pub unwritten : writes_nothing status ≡ true → new.out ≡ old.out
   -- `gen`, and words that are no command, leave the source as it was
-  pub unread : reads_problem job ≡ false → new.problem ≡ old.problem
+  pub unread : reads_source wanted ≡ false → new.problem ≡ old.problem
   -- commands that do not train, and each refusal, leave all that the journal tells as it was
-  pub journal : OnlyReads job status → Stays (t.store old.journal) (t.store new.journal)
+  pub journal : IfSome wanted (λ command. OnlyReads command status) → Stays (t.store old.journal) (t.store new.journal)
   -- commands that have no journal leave it as it was
-  pub journal_unread : ¬ (IfPlanned job ReadsJournal) → new.journal ≡ old.journal
+  pub journal_unread : ¬ (IsSomeAnd wanted ReadsJournal) → new.journal ≡ old.journal
   -- where the words, the problem or the description are refused, nothing was asked of the journal, nor where the source failed
   pub journal_later : precedes_journal status ≡ true → new.journal ≡ old.journal
   -- training leaves the records that were loaded as they stood, and those of all iterations of the definition behind them
-  pub grown : OfTask (t.left old.problem) (t.store old.journal).reads job (λ bytes kept. Grows v status bytes kept (t.store new.journal))
+  pub grown : OfTraining (t.left old.problem) (t.store old.journal).reads wanted (λ bytes kept. JournalGrows v status bytes kept (t.store new.journal))
   -- a crash at any moment leaves at least the records that were there, and the first of those that are added
-  pub any_moment : OfTask (t.left old.problem) (t.store old.journal).reads job (λ bytes kept. LeavesMine v bytes kept (t.store old.journal) (t.store new.journal))
+  pub any_moment : OfTraining (t.left old.problem) (t.store old.journal).reads wanted (λ bytes kept. RunLeavesPrefix v bytes kept (t.store old.journal) (t.store new.journal))
   -- training that was stopped and is resumed leaves and prints what unstopped training does
-  pub resumed : OfTask (t.left old.problem) (t.store old.journal).reads job (λ bytes kept. IsResumed v status bytes kept (t.store new.journal) (t.taken old.out) (t.taken new.out))
+  pub resumed : OfTraining (t.left old.problem) (t.store old.journal).reads wanted (λ bytes kept. IsResumed v status bytes kept (t.store new.journal) (t.taken old.out) (t.taken new.out))
 
 -- a stream of errors that tells its bytes took a front of the line of the status, or of that of want of memory
 abbrev pub SaysLine : Option (List ℕ) → Option (List ℕ) → Status → Type 0
 SaysLine errors errors_now status = (n : ℕ) × (Appends errors errors_now (take n (status_line_text status)) ⊎ Appends errors errors_now (take n memory_line))
 
--- the journal of the program: the file that the second word names, opened for writing exactly where the first word is `train`
+-- the journal of the program: the file that the second word names, opened for writing exactly where the words ask for training
 abbrev pub journal_of : List (List ℕ) → CountedFile
 journal_of words = record { name = journal_name words; write = writes_journal words; faults = 0 }
 
--- what is known of a reader and a writer of std and of a file: the bytes that the reader has left and that the writer holds, where std
--- tells them, and how often each of the three failed
-abbrev pub telling_streams : {I O : Type 0} → (I → Option (List ℕ)) → (O → Option (List ℕ)) → Tells (Counted I) CountedFile (Counted O)
+-- functions that give what is known of a reader and a writer of std and of a file: the bytes that the reader has left and that the writer
+-- holds, where std tells them, and how often each of the three failed
+abbrev pub telling_streams : {I O : Type 0} → (I → Option (List ℕ)) → (O → Option (List ℕ)) → Observable (Counted I) CountedFile (Counted O)
 telling_streams {I} {O} remaining contents =
-    telling (λ (s : Counted I). remaining s.inner) (λ (s : Counted I). s.faults) (λ (d : CountedFile). untold) (λ (d : CountedFile). d.faults) (λ (s : Counted O). contents s.inner) (λ (s : Counted O). s.faults)
+    telling (λ (s : Counted I). remaining s.inner) (λ (s : Counted I). s.faults) (λ (d : CountedFile). unobservable) (λ (d : CountedFile). d.faults) (λ (s : Counted O). contents s.inner) (λ (s : Counted O). s.faults)
 
 -- a run of the program's solver over a reader, the file that the words name, and a writer
 abbrev pub RunsOver : {I O : Type 0} → (I → Option (List ℕ)) → (O → Option (List ℕ)) → List (String Global) → Counted I → Counted I → Counted O → Counted O → Status → Type 0
 RunsOver remaining contents words problem problem_now out out_now status = (journal_now : CountedFile)
-    × IsRun own_solver (asked words) (telling_streams remaining contents) (devices problem (journal_of (texts words)) out) (devices problem_now journal_now out_now) status
+    × IsRun own_solver (asked_command words) (telling_streams remaining contents) (devices problem (journal_of (texts words)) out) (devices problem_now journal_now out_now) status
 
 -- a text was written, or a front of it, where a call of the sink failed
-abbrev pub Shows : List ℕ → Option (List ℕ) → Option (List ℕ) → ℕ → ℕ → Status → Type 0
-Shows text taken taken_now writes writes_now status =
-    ((status ≡ Done) × Appends taken taken_now text) ⊎ ((status ≡ WriteFault) × Rose writes writes_now × TakesFront taken taken_now text)
+abbrev pub ShowsText : List ℕ → Option (List ℕ) → Option (List ℕ) → ℕ → ℕ → Status → Type 0
+ShowsText text taken taken_now writes writes_now status =
+    ((status ≡ Done) × Appends taken taken_now text) ⊎ ((status ≡ WriteFault) × FaultCountRose writes writes_now × TakesFront taken taken_now text)
 
 -- The program on its words: the words that ask what it is are answered, and nothing is read; others are run, unless there is
 -- no memory for the name of the journal, and then nothing is read or written.
-abbrev pub Answers : {I O : Type 0} → (I → Option (List ℕ)) → (O → Option (List ℕ)) → List (String Global) → Counted I → Counted I → Counted O → Counted O → Status → Type 0
-Answers remaining contents words problem problem_now out out_now status = MatchOption (text_asked (texts words))
+abbrev pub AnswersWords : {I O : Type 0} → (I → Option (List ℕ)) → (O → Option (List ℕ)) → List (String Global) → Counted I → Counted I → Counted O → Counted O → Status → Type 0
+AnswersWords remaining contents words problem problem_now out out_now status = MatchOption (text_asked (texts words))
     (((status ≡ Memory) × (problem_now ≡ problem) × (out_now ≡ out)) ⊎ RunsOver remaining contents words problem problem_now out out_now status)
-    (λ text. (problem_now ≡ problem) × Shows text (contents out.inner) (contents out_now.inner) out.faults out_now.faults status)
+    (λ text. (problem_now ≡ problem) × ShowsText text (contents out.inner) (contents out_now.inner) out.faults out_now.faults status)
 
 -- a reader or a writer of which no call has failed
-abbrev pub fresh : {A : Type 0} → A → Counted A
-fresh inner = record { inner = inner; faults = 0 }
+abbrev pub fresh_counted : {A : Type 0} → A → Counted A
+fresh_counted inner = record { inner = inner; faults = 0 }
 
 -- the words of the command line cannot be had, or the streams cannot be made sure of
 abbrev pub CannotStart : Status → Type 0
@@ -138,7 +135,7 @@ CannotStart status = (status ≡ Usage) ⊎ ((status ≡ Memory) ⊎ (status ≡
 -- std says nothing, or it cannot start.
 abbrev pub Starts : {I O : Type 0} → (I → Option (List ℕ)) → (O → Option (List ℕ)) → I → O → Status → Type 0
 Starts {I} {O} remaining contents input output status = CannotStart status
-    ⊎ ((words : List (String Global)) × (problem_now : Counted I) × (out_now : Counted O) × Answers remaining contents words (fresh input) problem_now (fresh output) out_now status)
+    ⊎ ((words : List (String Global)) × (problem_now : Counted I) × (out_now : Counted O) × AnswersWords remaining contents words (fresh_counted input) problem_now (fresh_counted output) out_now status)
 
 -- the line is of a bound that is at most the cost of each workable plan for what is described
 pub record PlanLine (description line : List ℕ) : Type 0 where

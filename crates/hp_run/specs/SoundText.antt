@@ -1,6 +1,6 @@
 -- Defines when the text of a report is sound, without the solver and without training.
 use Rattle.std.specs.Prelude.{◌≡◌, ℕ, ℤ, ◌≤ℤ◌, List, All, Ok, ⊤}
-use Rattle.hp_problem.specs.Sealed.{Sealed}
+use Rattle.hp_problem.specs.Validated.{Validated}
 use Rattle.hp_sof.specs.Problem.{problem_at}
 use Rattle.hp_theory.specs.declared.cut.Cut.{Cut}
 use Rattle.hp_theory.specs.Pools.{Sound}
@@ -15,62 +15,63 @@ use Rattle.hp_report.specs.Traces.{trace_text}
 use Rattle.hp_tree.specs.declared.walking.Verdict.{Verdict}
 use Rattle.hp_tree.specs.declared.walking.Verdict.TheVariants.{Cost, Missed}
 use Rattle.hp_tree.specs.Report.{verdict_text}
-use Rattle.hp_tree.specs.Upper.{IsUpper}
+use Rattle.hp_tree.specs.Upper.{IsLeastUpper}
 use Rattle.hp_risk.specs.declared.alternatives.Alternatives.{Alternatives}
 use Rattle.hp_risk.specs.Alternatives.{alternatives_of}
 use Rattle.hp_risk.specs.RiskCost.{RiskHolds, RiskSound, RiskUnder}
 use Rattle.hp_risk.specs.Report.{robust_text}
-use Rattle.hp_run.specs.declared.task.Task.{Task}
-use Rattle.hp_run.specs.declared.task.Task.TheVariants.{Base, Train, Check, Simulate, Validate, Evaluate, Robust}
+use Rattle.hp_words.specs.declared.command.Command.{Command}
+use Rattle.hp_words.specs.declared.command.Command.TheVariants.{Base, Train, Check, Simulate, Validate, Evaluate, Robust}
 
--- each plane holds, and the bound over them is under the cost of each policy, where each node weighs by the worst of its lists
-pub record IsWorst (p : Problem) (x : Alternatives) (planes : List (List Cut)) : Type 0 where
-  pub holds : RiskSound p x.lists planes
-  pub under : RiskUnder p x.lists (bound p planes)
+-- each risk cut holds, and the bound over them is under the cost of each policy, where each node weighs by the worst of its lists
+pub record IsWorst (p : Problem) (x : Alternatives) (risk_cuts : List (List Cut)) : Type 0 where
+  pub holds : RiskSound p x.lists risk_cuts
+  pub under : RiskUnder p x.lists (bound p risk_cuts)
 
 -- a policy costs this much, rounded up once to the scale of states, and the bound over the pools is not above it
 pub record CostsAtMost (p : Problem) (pools : List (List Cut)) (upper : ℤ) : Type 0 where
   pub forest : Forest
   pub policy : Policy p S forest
-  pub cost : IsUpper p forest upper
+  pub cost : IsLeastUpper p forest upper
   pub bound : bound p pools ≤ℤ upper
 
--- what a verdict says over the bound
+-- the claim of a verdict over the bound
 abbrev pub IsTwoSided : Problem → List (List Cut) → Verdict → Type 0
 IsTwoSided p pools (Cost upper) = CostsAtMost p pools upper
 IsTwoSided p pools (Missed branches row residual) = ⊤
 
--- the text is the report of these pools
-abbrev pub IsReport : Task → List ℕ → Sealed → List (List Cut) → List ℕ → Type 0
+-- the text is the report of these pools; a command that does not plan has none
+abbrev pub IsReport : Command → List ℕ → Validated → List (List Cut) → List ℕ → Type 0
 IsReport Base bytes p pools text = text ≡ base_text p pools
-IsReport (Train seed count batch) bytes p pools text = (bounds : List ℤ) × (unsettled : ℕ) × (text ≡ train_text p pools bounds unsettled) × All (Under (problem_of p)) bounds
-IsReport Check bytes p pools text = (bounds : List ℤ) × (unsettled : ℕ) × (rest : ℕ) × (text ≡ check_text p pools bounds unsettled rest) × All (Under (problem_of p)) bounds
+IsReport (Train seed count batch) bytes p pools text = (bounds : List ℤ) × (unanswered : ℕ) × (text ≡ train_text p pools bounds unanswered) × All (Under (problem_of p)) bounds
+IsReport Check bytes p pools text = (bounds : List ℤ) × (unanswered : ℕ) × (tail : ℕ) × (text ≡ check_text p pools bounds unanswered tail) × All (Under (problem_of p)) bounds
 IsReport (Simulate seed count) bytes p pools text = (traces : List Trace) × (text ≡ trace_text p pools traces)
 IsReport Validate bytes p pools text = (traces : List Trace) × (text ≡ trace_text p pools traces)
 IsReport Evaluate bytes p pools text = (verdict : Verdict) × (text ≡ verdict_text p pools verdict) × IsTwoSided (problem_of p) pools verdict
-IsReport Robust bytes p pools text = (x : Alternatives) × (planes : List (List Cut)) × (alternatives_of p bytes ≡ Ok x) × (text ≡ robust_text p planes) × IsWorst (problem_of p) x planes
+IsReport Robust bytes p pools text = (x : Alternatives) × (risk_cuts : List (List Cut)) × (alternatives_of p bytes ≡ Ok x) × (text ≡ robust_text p risk_cuts) × IsWorst (problem_of p) x risk_cuts
+IsReport command bytes p pools text = ⊥
 
 -- the text is the report of pools whose cuts hold, and whose bound is under the cost of each policy
-pub record IsSoundReport (task : Task) (bytes : List ℕ) (p : Sealed) (pools : List (List Cut)) (text : List ℕ) : Type 0 where
-  pub is : IsReport task bytes p pools text
+pub record IsSoundReport (command : Command) (bytes : List ℕ) (p : Validated) (pools : List (List Cut)) (text : List ℕ) : Type 0 where
+  pub is : IsReport command bytes p pools text
   pub cuts : Sound (problem_of p) pools
   pub bound : Under (problem_of p) (bound (problem_of p) pools)
 
--- a plane holds, and a number is under the cost of each policy, where each node weighs by the worst of its lists, which the bytes bring
-abbrev pub PlaneHolds : List ℕ → Sealed → ℕ → Cut → Type 0
-PlaneHolds bytes p m c = (x : Alternatives) × (alternatives_of p bytes ≡ Ok x) × RiskHolds (problem_of p) x.lists m c
+-- a risk cut holds, and a number is under the cost of each policy, where each node weighs by the worst of its lists, which the bytes bring
+abbrev pub RiskCutHolds : List ℕ → Validated → ℕ → Cut → Type 0
+RiskCutHolds bytes p m c = (x : Alternatives) × (alternatives_of p bytes ≡ Ok x) × RiskHolds (problem_of p) x.lists m c
 
-abbrev pub WorstHolds : List ℕ → Sealed → ℤ → Type 0
+abbrev pub WorstHolds : List ℕ → Validated → ℤ → Type 0
 WorstHolds bytes p b = (x : Alternatives) × (alternatives_of p bytes ≡ Ok x) × RiskUnder (problem_of p) x.lists b
 
 -- The text is a report of the problem that the bytes give, and each line of it is sound: a line of a cut is of one that holds at its node,
--- the number in a line of a bound or of an iteration is under the cost of each policy, one behind `upper` above that of some, and planes
+-- the number in a line of a bound or of an iteration is under the cost of each policy, one behind `upper` above that of some, and risk cuts
 -- and worst bounds hold for the lists of weights. So are the cuts and the bound of the pools that it is the report of.
-pub record SoundText (task : Task) (bytes text : List ℕ) : Type 0 where
-  pub problem : Sealed
+pub record SoundText (command : Command) (bytes text : List ℕ) : Type 0 where
+  pub problem : Validated
   pub pools : List (List Cut)
   pub read : problem_at bytes ≡ Ok problem
-  pub is : IsReport task bytes problem pools text
+  pub is : IsReport command bytes problem pools text
   pub cuts : Sound (problem_of problem) pools
   pub bound : Under (problem_of problem) (bound (problem_of problem) pools)
-  pub lines : Lines (claims_of (problem_of problem) (PlaneHolds bytes problem) (WorstHolds bytes problem)) text
+  pub lines : Lines (claims_of (problem_of problem) (RiskCutHolds bytes problem) (WorstHolds bytes problem)) text

@@ -1,8 +1,9 @@
 // The problem that a description of hydro plants means, from the source to the sink.
 ghost use Rattle.std.specs.Prelude.{◌≡◌, true, IfOk, IsOk};
 ghost use Rattle.hp_hydro.specs.Text.{hydro_at};
-ghost use Rattle.hp_plants.specs.Steps.{Gives};
-ghost use Rattle.hp_run.specs.Causes.{ExplainsDescribed, writes_nothing};
+ghost use Rattle.hp_plants.specs.Steps.{HydroGives};
+ghost use Rattle.hp_run.specs.Causes.{ExplainsDescribed};
+ghost use Rattle.hp_run.specs.Kinds.{writes_nothing};
 ghost use Rattle.hp_run.specs.Outcome.{based_at};
 
 use crate::reading::{GatherFault, gather};
@@ -16,7 +17,7 @@ use std::alloc::Global;
 
 /// The text of the problem that a description means, whose base cuts the program can make; or its first refusal.
 fn text_of(alloc: Global, description: &[u8]) -> Result<Vec<u8>, HydroFault>
-    ensures text { Gives (λ v. v.items) result (hydro_at description.now) }
+    ensures text { HydroGives (λ v. v.items) result (hydro_at description.now) }
     ensures accepted { IfOk result (λ v. IsOk (based_at v.items)) }
 {
     made_accepted();

@@ -1,5 +1,5 @@
 // The cost of the whole policy over the pools of a journal.
-ghost use Rattle.std.specs.Prelude.{◌≡◌, ◌≤◌, ◌≤ℤ◌, List, None, Ok, length, IfOk, IfErr};
+ghost use Rattle.std.specs.Prelude.{◌≡◌, ◌≤◌, ◌≤ℤ◌, List, None, Ok, IfOk, IfErr};
 ghost use Rattle.hp_outside.specs.Disks.{Stays};
 ghost use Rattle.hp_theory.specs.Bound.{bound};
 ghost use Rattle.hp_theory.specs.Pools.{Sound};
@@ -9,18 +9,19 @@ ghost use Rattle.hp_theory.specs.Tree.{Forest, Policy};
 ghost use Rattle.hp_theory.specs.View.{problem_of};
 ghost use Rattle.hp_theory.specs.declared.cut.Cut.{Cut};
 ghost use Rattle.hp_cut.specs.AtNodes.{PoolsFit};
-ghost use Rattle.hp_settle.specs.Faults.{Gives};
+ghost use Rattle.hp_settle.specs.Faults.{GivesOrRefutes};
 ghost use Rattle.hp_tree.specs.PolicyTree.{verdict_of};
 ghost use Rattle.hp_tree.specs.TooBig.{too_big_of};
-ghost use Rattle.hp_tree.specs.Upper.{IsUpper};
+ghost use Rattle.hp_tree.specs.Upper.{IsLeastUpper};
 ghost use Rattle.hp_tree.specs.Verdicts.{OnCost};
 ghost use Rattle.hp_run.specs.Causes.{Lacks};
 ghost use Rattle.hp_run.specs.Outcome.{Reports, based_at};
 ghost use Rattle.hp_run.specs.SoundText.{IsSoundReport};
-ghost use Rattle.hp_run.specs.declared.task.Task.TheVariants as tasks;
+ghost use Rattle.hp_words.specs.declared.command.Command.TheVariants as commands;
 
+use crate::accepted::Accepted;
+use crate::endings::{status_of_fault, status_of_plan};
 use crate::loading::load_within;
-use crate::outcome::{Accepted, status_of_fault, status_of_plan};
 use crate::status::Status;
 use hp_cut::Pools;
 use hp_lp::{Planner, WarmStarts, Workspace};
@@ -42,8 +43,8 @@ fn verdict_of<V: Solver>(
 ) -> Result<Verdict, PlanFault>
     requires fit { PoolsFit problem.now pools.now.lists }
     requires small { too_big_of problem.now ≡ None }
-    ensures value { Gives result (verdict_of (V.does solver.now) problem.now pools.now.lists) }
-    ensures two_sided { OnCost result (λ upper. (f : Forest) × Policy (problem_of problem.now) S f × IsUpper (problem_of problem.now) f upper
+    ensures value { GivesOrRefutes result (verdict_of (V.does solver.now) problem.now pools.now.lists) }
+    ensures two_sided { OnCost result (λ upper. (f : Forest) × Policy (problem_of problem.now) S f × IsLeastUpper (problem_of problem.now) f upper
         × (Sound (problem_of problem.now) pools.now.lists → bound (problem_of problem.now) pools.now.lists ≤ℤ upper)) }
 {
     let starts = WarmStarts::new(alloc, problem, solver)?;
@@ -60,14 +61,14 @@ pub(crate) fn report_evaluate<D: Disk, V: Solver>(
 ) -> Result<Vec<u8>, Status>
     requires read { based_at accepted.bytes.now ≡ Ok (record { problem = accepted.problem.now; pools = accepted.pools.lists }) }
     requires base { based accepted.problem.now ≡ Ok accepted.pools.lists }
-    ensures report { IfOk result (λ v. Reports (V.does solver.now) tasks.Evaluate (D.store journal.old).reads accepted.entry.bytes.now (Ok v.items)) }
-    ensures sound { IfOk result (λ v. (cuts : List (List Cut)) × IsSoundReport tasks.Evaluate accepted.entry.bytes.now accepted.entry.problem.now cuts v.items) }
-    ensures lacks { IfErr result (λ s. Lacks (V.does solver.now) tasks.Evaluate (D.store journal.old).reads (D.faults journal.old) (D.faults journal.new) accepted.entry.bytes.now s) }
+    ensures report { IfOk result (λ v. Reports (V.does solver.now) commands.Evaluate (D.store journal.old).reads accepted.entry.bytes.now (Ok v.items)) }
+    ensures sound { IfOk result (λ v. (cuts : List (List Cut)) × IsSoundReport commands.Evaluate accepted.entry.bytes.now accepted.entry.problem.now cuts v.items) }
+    ensures lacks { IfErr result (λ s. Lacks (V.does solver.now) commands.Evaluate (D.store journal.old).reads (D.faults journal.old) (D.faults journal.new) accepted.entry.bytes.now s) }
     ensures stays { Stays (D.store journal.old) (D.store journal.new) }
     ensures later { D.faults journal.old ≤ D.faults journal.new }
 {
     let problem = accepted.problem;
-    let _ = problem.raw();
+    let _ = problem.parts();
     let digest = Sha256::digest(accepted.bytes);
     let formula = match too_big(alloc, problem) {
         Ok(formula) => formula,

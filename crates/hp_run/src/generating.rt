@@ -1,7 +1,8 @@
 // A generated problem, from its numbers to the sink.
 ghost use Rattle.std.specs.Prelude.{◌≡◌, ◌≤◌, true, IfOk, IsOk};
 ghost use Rattle.hp_gen.specs.Generated.{generated};
-ghost use Rattle.hp_run.specs.Causes.{ExplainsProblem, writes_nothing};
+ghost use Rattle.hp_run.specs.Causes.{ExplainsProblem};
+ghost use Rattle.hp_run.specs.Kinds.{writes_nothing};
 ghost use Rattle.hp_run.specs.Outcome.{based_at};
 
 use crate::status::Status;

@@ -1,11 +1,11 @@
 // The words that say why a journal is refused, and which formula passes its limit.
 ghost use Rattle.std.specs.Prelude.{◌≡◌, ◌++◌, OnOk};
 ghost use Rattle.hex.specs.Hex.{encode_lower};
-ghost use Rattle.hp_run.specs.JournalLines.{numbered, fault_text, digests_text, certificate_place, certificate_text, refusal_words, journal_refused, journal_refusal_text, too_much_text};
-ghost use Rattle.hp_run.specs.RefusalLines.{word};
+ghost use Rattle.hp_run.specs.JournalLines.{numbered_words, fault_text, digests_text, certificate_place, certificate_fault_text, refusal_words, journal_refused, journal_refusal_text, too_much_text};
+ghost use Rattle.hp_run.specs.RefusalLines.{refusal_word};
 
 use crate::refusal_lines::push_word;
-use hp_dual::CertFault;
+use hp_cut_making::CertFault;
 use hp_load::JournalRefusal;
 use hp_num::Memory;
 use hp_problem::TooMuch;
@@ -20,7 +20,7 @@ fn push_numbered(
     second: &[u8],
     m: u64,
 ) -> Result<(), Memory>
-    ensures { OnOk result (out.new.items ≡ out.old.items ++ numbered first.now n second.now m) }
+    ensures { OnOk result (out.new.items ≡ out.old.items ++ numbered_words first.now n second.now m) }
 {
     push_bytes(out, first)?;
     push_word(out, n)?;
@@ -29,7 +29,7 @@ fn push_numbered(
 }
 
 fn push_named(out: &mut Vec<u8>, name: &[u8], number: u64) -> Result<(), Memory>
-    ensures { OnOk result (out.new.items ≡ out.old.items ++ (name.now ++ word number)) }
+    ensures { OnOk result (out.new.items ≡ out.old.items ++ (name.now ++ refusal_word number)) }
 {
     push_bytes(out, name)?;
     push_word(out, number)
@@ -101,14 +101,14 @@ fn push_certificate_place(out: &mut Vec<u8>, iteration: u32, node: u32) -> Resul
     )
 }
 
-#[tactic(auto, unfolding(crate::specs::JournalLines::certificate_text))]
+#[tactic(auto, unfolding(crate::specs::JournalLines::certificate_fault_text))]
 fn push_certificate(
     out: &mut Vec<u8>,
     iteration: u32,
     node: u32,
     fault: CertFault,
 ) -> Result<(), Memory>
-    ensures { OnOk result (out.new.items ≡ out.old.items ++ certificate_text iteration node fault) }
+    ensures { OnOk result (out.new.items ≡ out.old.items ++ certificate_fault_text iteration node fault) }
 {
     push_certificate_place(out, iteration, node)?;
     push_bytes(out, b" ")?;

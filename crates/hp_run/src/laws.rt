@@ -2,13 +2,13 @@
 ghost use Rattle.std.specs.Prelude.{◌≡◌, ◌↔◌, ◌≤◌, ◌++◌, ℕ, List, Option, Some, Ok, Err, IsOk};
 ghost use Rattle.sha2.specs.Sha256.{sha256};
 ghost use Rattle.hp_cut.specs.declared.entry.Entry.{Entry};
-ghost use Rattle.hp_problem.specs.declared.refusal.Refusal.{Refusal};
+ghost use Rattle.hp_parts.specs.declared.refusal.Refusal.{Refusal};
 ghost use Rattle.hp_hydro.specs.Text.{hydro_at};
 ghost use Rattle.hp_journal.specs.Layout.{new_title};
-ghost use Rattle.hp_journal.specs.Mine.{Mine};
+ghost use Rattle.hp_journal.specs.IsPrefix.{IsPrefix};
 ghost use Rattle.hp_plants.specs.declared.refusal.HydroRefusal.{HydroRefusal};
 ghost use Rattle.hp_train.specs.Training.{payloads};
-ghost use Rattle.hp_run.specs.AnyStops.{EndsAlike, IsAsked, Reachable, Trains, whole};
+ghost use Rattle.hp_run.specs.AnyStops.{EndsAlike, IsAsked, Reachable, Trains, whole_training};
 ghost use Rattle.hp_run.specs.CheckList.{checks, checks_of};
 ghost use Rattle.hp_run.specs.FirstRefusal.{FindNothing, IsFirst, first};
 ghost use Rattle.hp_run.specs.HydroList.{hydro_checks};
@@ -17,7 +17,7 @@ ghost use Rattle.hp_run.specs.Outcome.{IsRefused, WithBase, based_at};
 ghost use Rattle.hp_run.specs.Run.{Devices, PlanLines, telling};
 ghost use Rattle.hp_run.specs.SoundText.{SoundText};
 ghost use Rattle.hp_run.specs.declared.status.Status.{Status};
-ghost use Rattle.hp_run.specs.declared.task.Task.{Task};
+ghost use Rattle.hp_words.specs.declared.command.Command.{Command};
 
 use hp_outside::{Disk, Sink, Source};
 use hp_solver::Solver;
@@ -25,8 +25,8 @@ use hp_solver::Solver;
 /// Where the problem of a sound text is the one that `hydro` writes for a description, each bound in a line of the text is at
 /// most the cost of each workable plan for what is described.
 pub fn bounds_of_plans()
-    ensures { (task : Task) (description problem text : List ℕ)
-        → hydro_at description ≡ Ok problem → SoundText task problem text → PlanLines description text }
+    ensures { (command : Command) (description problem text : List ℕ)
+        → hydro_at description ≡ Ok problem → SoundText command problem text → PlanLines description text }
 {}
 
 /// The text that `hydro` writes for a description is a problem file whose policies are the workable plans for what is described:
@@ -40,13 +40,13 @@ pub fn described_file()
 /// run from nothing does, whatever the solver: with its status, its journal and its text.
 ///
 /// Of an accepted problem and words within their ranges let bytes be what runs of `train` left that were begun one after
-/// another with any COUNT up to this one, the first on a journal that is not born. Then they stand for the first records
+/// another with any COUNT up to this one, the first on a journal that is not committed. Then they stand for the first records
 /// of what this COUNT gives, and a run from them ends alike.
 pub fn any_stops<V: Solver, I: Source, D: Disk, O: Sink>(solver: &V)
     ensures stands { (bytes content : List ℕ) (b : WithBase) (seed count : ℕ) (batch : Option ℕ)
         → IsAsked bytes b seed batch count
         → Reachable (V.does solver.now) (telling I.left I.faults D.store D.faults O.taken O.faults) bytes seed batch count content
-        → (j : ℕ) × Mine (new_title (sha256 bytes) seed batch) (payloads (whole (V.does solver.now) bytes b seed batch count).lists) j content }
+        → (j : ℕ) × IsPrefix (new_title (sha256 bytes) seed batch) (payloads (whole_training (V.does solver.now) bytes b seed batch count).lists) j content }
     ensures ends { (bytes kept : List ℕ) (b : WithBase) (seed count : ℕ) (batch : Option ℕ) (old new : Devices I D O) (status : Status)
         → IsAsked bytes b seed batch count
         → Reachable (V.does solver.now) (telling I.left I.faults D.store D.faults O.taken O.faults) bytes seed batch count kept
@@ -57,8 +57,8 @@ pub fn any_stops<V: Solver, I: Source, D: Disk, O: Sink>(solver: &V)
 /// Of fewer iterations the lists of entries are the first of those of more.
 pub fn first_lists<V: Solver>(solver: &V)
     ensures { (bytes : List ℕ) (b : WithBase) (seed fewer count : ℕ) (batch : Option ℕ) → fewer ≤ count
-        → (rest : List (List Entry)) × ((whole (V.does solver.now) bytes b seed batch count).lists
-        ≡ (whole (V.does solver.now) bytes b seed batch fewer).lists ++ rest) }
+        → (tail : List (List Entry)) × ((whole_training (V.does solver.now) bytes b seed batch count).lists
+        ≡ (whole_training (V.does solver.now) bytes b seed batch fewer).lists ++ tail) }
 {}
 
 /// The list of checks that docs/FORMAT.md has in words says which refusal comes. The bytes of a problem are refused exactly where
@@ -66,8 +66,8 @@ pub fn first_lists<V: Solver>(solver: &V)
 /// accepted, with base cuts in range, exactly where none finds anything.
 pub fn first_refusal()
     ensures accepted { (bytes : List ℕ) → IsOk (based_at bytes) ↔ FindNothing bytes (checks bytes) }
-    ensures first { (task : Task) (bytes : List ℕ) (r : Refusal) → IsRefused task bytes r ↔ (first (checks_of task bytes) bytes ≡ Some r) }
-    ensures none_before { (task : Task) (bytes : List ℕ) (r : Refusal) → IsRefused task bytes r ↔ IsFirst (checks_of task bytes) bytes r }
+    ensures first { (command : Command) (bytes : List ℕ) (r : Refusal) → IsRefused command bytes r ↔ (first (checks_of command bytes) bytes ≡ Some r) }
+    ensures none_before { (command : Command) (bytes : List ℕ) (r : Refusal) → IsRefused command bytes r ↔ IsFirst (checks_of command bytes) bytes r }
 {}
 
 /// Of a description likewise: the refusal of `hydro` is the one that the first check finds that finds something.

@@ -1,12 +1,12 @@
 // A journal that is loaded for decisions over its pools.
-ghost use Rattle.std.specs.Prelude.{◌≡◌, length, None, Ok, Err, IfOk, IfSome};
+ghost use Rattle.std.specs.Prelude.{◌≡◌, None, Ok, Err, IfOk, IfSome};
 ghost use Rattle.hp_num.specs.Steps.{GivesOr};
 ghost use Rattle.hp_outside.specs.Disks.{Stays};
 ghost use Rattle.hp_theory.specs.Range.{based};
 ghost use Rattle.hp_cut.specs.AtNodes.{PoolsFit};
 ghost use Rattle.hp_journal.specs.Causes.{DiskCause};
 ghost use Rattle.hp_load.specs.Accepted.{IsSafe};
-ghost use Rattle.hp_load.specs.Load.{seen};
+ghost use Rattle.hp_load.specs.Load.{seen_outcome};
 ghost use Rattle.hp_load.specs.declared.refusal.LoadFault.TheVariants as faults;
 ghost use Rattle.hp_run.specs.Loading.{NotLoaded};
 ghost use Rattle.hp_run.specs.Outcome.{loaded_within, unless_much};
@@ -31,7 +31,7 @@ pub(crate) fn prepared(alloc: Global, problem: &Problem, loaded: Loaded) -> Resu
 
 /// Gives back what was loaded, unless a formula is above its limit.
 fn unless_much(formula: Option<TooMuch>, loaded: Loaded) -> Result<Loaded, LoadFault>
-    ensures value { GivesOr NotLoaded seen result (unless_much formula (seen loaded)) }
+    ensures value { GivesOr NotLoaded seen_outcome result (unless_much formula (seen_outcome loaded)) }
     ensures same { IfOk result (λ l. l ≡ loaded) }
     ensures kept { IfOk result (λ l. formula ≡ None) }
     ensures cause { ¬ (result ≡ Err faults.DiskFault) }
@@ -54,7 +54,7 @@ pub(crate) fn load_within<D: Disk>(
     formula: Option<TooMuch>,
 ) -> Result<Loaded, LoadFault>
     requires base { based problem.now ≡ Ok pools.lists }
-    ensures value { IfSome (D.store journal.old).reads (λ kept. GivesOr NotLoaded seen result
+    ensures value { IfSome (D.store journal.old).reads (λ kept. GivesOr NotLoaded seen_outcome result
         (loaded_within problem.now pools.lists digest.now formula kept)) }
     ensures safe { IfOk result (IsSafe problem.now) }
     ensures kept { IfOk result (λ l. formula ≡ None) }

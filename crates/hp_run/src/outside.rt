@@ -1,4 +1,4 @@
-// What a run works on.
+// Devices of a run.
 
 /// A source that holds a problem, a journal, and a sink.
 #[derive(Drop)]

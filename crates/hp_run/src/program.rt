@@ -3,17 +3,19 @@ ghost use Rattle.std.specs.Prelude.{◌≡◌, ◌⊎◌, IfErr, IfOk};
 ghost use Rattle.std.specs.Process.{exit_status};
 ghost use Rattle.hp_words.specs.Commands.{texts};
 ghost use Rattle.hp_run.specs.OwnSolver.{own_solver};
-ghost use Rattle.hp_run.specs.Run.{Answers, CannotStart, IsRun, RunsOver, SaysLine, Shows, Starts, after, before, journal_of, telling};
-ghost use Rattle.hp_run.specs.Status.{number_of};
-ghost use Rattle.hp_run.specs.Words.{asked, journal_name, writes_journal};
+ghost use Rattle.hp_run.specs.Run.{AnswersWords, CannotStart, IsRun, RunsOver, SaysLine, ShowsText, Starts, after, before, journal_of, telling};
+ghost use Rattle.hp_run.specs.Status.{status_number};
+ghost use Rattle.hp_run.specs.Words.{asked_command, journal_name, writes_journal};
 
 use crate::help::own_text;
 use crate::outside::Outside;
 use crate::status::{Status, number, status_line};
 use crate::top::run;
 use crate::writing::{put, put_front};
+use hp_file_disk::{FileDisk, Lock, Obstacle};
 use hp_num::{Memory, Name};
-use hp_outside::{Disk, FileDisk, Lock, Obstacle, Sink, Source, StdSink, StdSource};
+use hp_outside::{Disk, Sink, Source, StdSink, StdSource};
+use hp_words::{read_words, trains};
 use std::alloc::Global;
 use std::env::{self, Env};
 use std::fs::OpenOptions;
@@ -37,7 +39,7 @@ fn write_line<E: Write>(alloc: Global, status: &Status, errors: &mut E)
 
 // Writes the line of a status, and gives its number as the exit status.
 fn ended<E: Write>(alloc: Global, status: &Status, errors: &mut E) -> ExitCode
-    ensures number { exit_status result ≡ number_of status.now }
+    ensures number { exit_status result ≡ status_number status.now }
     ensures line { SaysLine (E.contents errors.old) (E.contents errors.new) status.now }
 {
     write_line(alloc, status, errors);
@@ -53,8 +55,8 @@ pub fn execute<R: Threads + Sync, I: Source, D: Disk, O: Sink, E: Write>(
     outside: Outside<I, D, O>,
     errors: &mut E,
 ) -> ExitCode
-    ensures { (status : Status) × (exit_status result ≡ number_of status)
-        × IsRun own_solver (asked words.now) (telling I.left I.faults D.store D.faults O.taken O.faults) (before outside.entry) (after outside.exit) status
+    ensures { (status : Status) × (exit_status result ≡ status_number status)
+        × IsRun own_solver (asked_command words.now) (telling I.left I.faults D.store D.faults O.taken O.faults) (before outside.entry) (after outside.exit) status
         × SaysLine (E.contents errors.old) (E.contents errors.new) status }
 {
     let status = run(rt, alloc, words, outside);
@@ -102,13 +104,13 @@ fn journal_name(alloc: Global, words: &[String]) -> Result<Name, Memory>
 fn writes_journal(words: &[String]) -> bool
     ensures { result ≡ writes_journal (texts words.now) }
 {
-    match words {
-        [word, ..] => word.as_str() == "train",
-        [] => false,
+    match read_words(words) {
+        Some(command) => trains(command),
+        None => false,
     }
 }
 
-/// The journal: the file that the second word names, opened for writing exactly where the first word is `train`. [`Memory`]
+/// The journal: the file that the second word names, opened for writing exactly where the words ask for training. [`Memory`]
 /// where memory was refused.
 fn journal_of<'a, R: Files>(
     rt: &'a R,
@@ -123,7 +125,7 @@ fn journal_of<'a, R: Files>(
 
 /// Writes a text of the program's own.
 fn show<O: Sink>(out: &mut O, text: &[u8]) -> Status
-    ensures { Shows text.now (O.taken out.old) (O.taken out.new) (O.faults out.old) (O.faults out.new) result }
+    ensures { ShowsText text.now (O.taken out.old) (O.taken out.new) (O.faults out.old) (O.faults out.new) result }
 {
     match put(out, text) {
         Ok(()) => Status::Done,
@@ -171,7 +173,7 @@ where
     I: Read,
     O: Write,
     E: Write,
-    ensures { (status : Status) × (exit_status result ≡ number_of status)
+    ensures { (status : Status) × (exit_status result ≡ status_number status)
         × (((status ≡ Status.Memory) × (problem.new ≡ problem.old) × (out.new ≡ out.old))
         ⊎ RunsOver I.remaining O.contents words.now problem.old problem.new out.old out.new status) }
 {
@@ -204,7 +206,7 @@ where
     I: Read,
     O: Write,
     E: Write,
-    ensures { (status : Status) × (exit_status result ≡ number_of status) × Answers I.remaining O.contents words.now problem.old problem.new out.old out.new status }
+    ensures { (status : Status) × (exit_status result ≡ status_number status) × AnswersWords I.remaining O.contents words.now problem.old problem.new out.old out.new status }
 {
     match own_text(words) {
         Some(text) => ended(rt.alloc(), &show(out, text), errors),
@@ -222,7 +224,7 @@ where
     I: Read + Drop,
     O: Write + Drop,
     E: Write,
-    ensures { (status : Status) × (exit_status result ≡ number_of status) × Starts I.remaining O.contents input output status }
+    ensures { (status : Status) × (exit_status result ≡ status_number status) × Starts I.remaining O.contents input output status }
 {
     let Ok(_streams) = with_streams(rt) else {
         return ended(rt.alloc(), &Status::WriteFault, errors);

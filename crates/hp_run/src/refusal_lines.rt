@@ -1,9 +1,9 @@
 // The words that say which refusal of a problem came.
 ghost use Rattle.std.specs.Prelude.{◌≡◌, ◌++◌, OnOk};
-ghost use Rattle.hp_run.specs.RefusalLines.{word, kind_text, part_text, place_text, refused, refused_text, refusal_text};
+ghost use Rattle.hp_run.specs.RefusalLines.{refusal_word, kind_text, part_text, place_text, problem_refused, refused_text, refusal_text};
 
 use hp_num::Memory;
-use hp_problem::{Part, Place, Refusal, RefusalKind};
+use hp_parts::{Part, Place, Refusal, RefusalKind};
 use hp_text::{push_bytes, push_whole};
 
 #[tactic(auto, unfolding(crate::specs::RefusalLines::kind_text))]
@@ -56,7 +56,7 @@ fn part_text(part: Part) -> &'static [u8]
 
 /// Appends a space and the number.
 pub(crate) fn push_word(out: &mut Vec<u8>, number: u64) -> Result<(), Memory>
-    ensures { OnOk result (out.new.items ≡ out.old.items ++ word number) }
+    ensures { OnOk result (out.new.items ≡ out.old.items ++ refusal_word number) }
 {
     push_bytes(out, b" ")?;
     push_whole(out, i128::from(number))
@@ -81,9 +81,9 @@ pub(crate) fn push_refusal(out: &mut Vec<u8>, refusal: Refusal) -> Result<(), Me
     push_place(out, refusal.place)
 }
 
-#[tactic(auto, unfolding(crate::specs::RefusalLines::refused))]
+#[tactic(auto, unfolding(crate::specs::RefusalLines::problem_refused))]
 fn push_refused_words(out: &mut Vec<u8>) -> Result<(), Memory>
-    ensures { OnOk result (out.new.items ≡ out.old.items ++ refused) }
+    ensures { OnOk result (out.new.items ≡ out.old.items ++ problem_refused) }
 {
     push_bytes(out, b"problem refused: ")
 }

@@ -1,17 +1,18 @@
 // Simulation over the pools of a journal.
-ghost use Rattle.std.specs.Prelude.{◌≡◌, ◌≤◌, List, Ok, length, All, IfOk, IfErr};
+ghost use Rattle.std.specs.Prelude.{◌≡◌, ◌≤◌, List, Ok, All, IfOk, IfErr};
 ghost use Rattle.hp_outside.specs.Disks.{Stays};
 ghost use Rattle.hp_theory.specs.Range.{based};
 ghost use Rattle.hp_theory.specs.declared.cut.Cut.{Cut};
 ghost use Rattle.hp_cut.specs.AtNodes.{PoolsFit};
-ghost use Rattle.hp_settle.specs.Faults.{Gives};
+ghost use Rattle.hp_settle.specs.Faults.{GivesOrRefutes};
 ghost use Rattle.hp_sim.specs.Tracing.{AreKnown, traces_of};
 ghost use Rattle.hp_run.specs.Causes.{Lacks};
-ghost use Rattle.hp_run.specs.Outcome.{Reports, based_at, count_of, runs_of, task_for};
+ghost use Rattle.hp_run.specs.Outcome.{Reports, based_at, scenario_count, runs_of, command_for};
 ghost use Rattle.hp_run.specs.SoundText.{IsSoundReport};
 
+use crate::accepted::Accepted;
+use crate::endings::{status_of_fault, status_of_plan};
 use crate::loading::load_within;
-use crate::outcome::{Accepted, status_of_fault, status_of_plan};
 use crate::status::Status;
 use hp_cut::Pools;
 use hp_forward::Trace;
@@ -37,9 +38,9 @@ pub(crate) enum Scenarios {
 
 /// The number of scenarios.
 fn count_of(problem: &Problem, scenarios: Scenarios) -> u32
-    ensures { result ≡ count_of problem.now scenarios }
+    ensures { result ≡ scenario_count problem.now scenarios }
 {
-    let stored = problem.raw().scenarios.len();
+    let stored = problem.parts().scenarios.len();
     match scenarios {
         Scenarios::Drawn { count, .. } => count,
         Scenarios::Stored => stored as u32,
@@ -55,7 +56,7 @@ fn traced<V: Solver>(
     scenarios: Scenarios,
 ) -> Result<List<Trace>, PlanFault>
     requires fit { PoolsFit problem.now pools.now.lists }
-    ensures value { Gives result (traces_of (V.does solver.now) problem.now pools.now.lists (runs_of problem.now scenarios)) }
+    ensures value { GivesOrRefutes result (traces_of (V.does solver.now) problem.now pools.now.lists (runs_of problem.now scenarios)) }
     ensures known { IfOk result (All (AreKnown problem.now)) }
 {
     let starts = WarmStarts::new(alloc, problem, solver)?;
@@ -77,14 +78,14 @@ pub(crate) fn report_scenarios<D: Disk, V: Solver>(
 ) -> Result<Vec<u8>, Status>
     requires read { based_at accepted.bytes.now ≡ Ok (record { problem = accepted.problem.now; pools = accepted.pools.lists }) }
     requires base { based accepted.problem.now ≡ Ok accepted.pools.lists }
-    ensures report { IfOk result (λ v. Reports (V.does solver.now) (task_for scenarios) (D.store journal.old).reads accepted.entry.bytes.now (Ok v.items)) }
-    ensures sound { IfOk result (λ v. (cuts : List (List Cut)) × IsSoundReport (task_for scenarios) accepted.entry.bytes.now accepted.entry.problem.now cuts v.items) }
-    ensures lacks { IfErr result (λ s. Lacks (V.does solver.now) (task_for scenarios) (D.store journal.old).reads (D.faults journal.old) (D.faults journal.new) accepted.entry.bytes.now s) }
+    ensures report { IfOk result (λ v. Reports (V.does solver.now) (command_for scenarios) (D.store journal.old).reads accepted.entry.bytes.now (Ok v.items)) }
+    ensures sound { IfOk result (λ v. (cuts : List (List Cut)) × IsSoundReport (command_for scenarios) accepted.entry.bytes.now accepted.entry.problem.now cuts v.items) }
+    ensures lacks { IfErr result (λ s. Lacks (V.does solver.now) (command_for scenarios) (D.store journal.old).reads (D.faults journal.old) (D.faults journal.new) accepted.entry.bytes.now s) }
     ensures stays { Stays (D.store journal.old) (D.store journal.new) }
     ensures later { D.faults journal.old ≤ D.faults journal.new }
 {
     let problem = accepted.problem;
-    let _ = problem.raw();
+    let _ = problem.parts();
     let digest = Sha256::digest(accepted.bytes);
     let formula = problem.too_wide(count_of(problem, scenarios));
     let loaded = match load_within(alloc, problem, accepted.pools, journal, &digest, formula) {

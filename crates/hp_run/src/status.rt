@@ -1,15 +1,16 @@
 // How a run ended.
 ghost use Rattle.std.specs.Prelude.{◌≡◌, ◌++◌, OnOk, IfOk};
-ghost use Rattle.hp_run.specs.Status.{number_of, name, status_text, status_line_text};
+ghost use Rattle.hp_run.specs.Status.{status_number, name, status_text, status_line_text};
 
 use crate::journal_lines::{push_journal_refusal, push_too_much};
 use crate::refusal_lines::push_refusal;
 use crate::training_lines::{push_no_stage, push_range};
 use hp_load::JournalRefusal;
 use hp_num::Memory;
+use hp_parts::Refusal;
 use hp_plants::{HydroRefusal, push_hydro_refusal};
-use hp_problem::{Refusal, TooMuch};
-use hp_settle::Dead;
+use hp_problem::TooMuch;
+use hp_settle::Infeasibility;
 use hp_text::push_bytes;
 use std::alloc::Global;
 
@@ -33,14 +34,14 @@ pub enum Status {
     /// A formula that bounds what a run takes passes its limit.
     TooMuch(TooMuch),
     /// Certificates of a node have a size that passes 2^127 - 1 at a realization: in training, or with weights that the
-    /// problem lists; iteration 0 where the plane of a base cut is made.
+    /// problem lists; iteration 0 where the risk cut of a base cut is made.
     Range {
         iteration: u32,
         node: u32,
         realization: u32,
     },
     /// Training, a scenario or a whole policy met a node that is shown to have no decisions.
-    NoStage(Dead),
+    Infeasible(Infeasibility),
     /// The journal could not be read or written; only where the disk's count of faults rose.
     DiskFault,
     /// The report could not be written whole; only where the sink's count of faults rose.
@@ -51,7 +52,7 @@ pub enum Status {
 
 /// The number that a status ends the process with.
 pub fn number(status: &Status) -> u8
-    ensures { result ≡ number_of status.now }
+    ensures { result ≡ status_number status.now }
 {
     match status {
         Status::Done => 0,
@@ -63,7 +64,7 @@ pub fn number(status: &Status) -> u8
         Status::JournalRefused(_) => 6,
         Status::TooMuch(_) => 7,
         Status::Range { .. } => 8,
-        Status::NoStage(_) => 9,
+        Status::Infeasible(_) => 9,
         Status::DiskFault => 10,
         Status::WriteFault => 11,
         Status::Memory => 12,
@@ -91,7 +92,7 @@ fn push_status(alloc: Global, out: &mut Vec<u8>, status: &Status) -> Result<(), 
             node,
             realization,
         } => push_range(out, *iteration, *node, *realization),
-        Status::NoStage(dead) => push_no_stage(out, dead),
+        Status::Infeasible(infeasible) => push_no_stage(out, infeasible),
         Status::DiskFault => push_bytes(out, b"journal device failed"),
         Status::WriteFault => push_bytes(out, b"output failed"),
         Status::Memory => push_bytes(out, b"memory"),

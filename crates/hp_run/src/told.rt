@@ -1,10 +1,9 @@
 // A run over std's bytes in memory.
 ghost use Rattle.std.specs.Prelude.{◌≡◌, ◌++◌, ℕ, List, Some};
 ghost use Rattle.hp_run.specs.SoundText.{SoundText};
-ghost use Rattle.hp_run.specs.Words.{asked};
-ghost use Rattle.hp_run.specs.declared.task.Task.{Task};
+ghost use Rattle.hp_run.specs.Words.{IsPlanning, asked_command};
+ghost use Rattle.hp_words.specs.declared.command.Command.{Command};
 
-use crate::job::Job;
 use crate::outside::Outside;
 use crate::status::Status;
 use crate::top::run;
@@ -12,7 +11,7 @@ use hp_outside::{Disk, StdSink, StdSource};
 use std::alloc::Global;
 use std::thread::Threads;
 
-// A run of a task that is Done over a slice and a vector wrote a sound text of the problem in the slice, behind the vector's bytes.
+// A run that plans and is Done over a slice and a vector wrote a sound text of the problem in the slice, behind the vector's bytes.
 pub(crate) fn run_over_memory<R: Threads + Sync, D: Disk>(
     rt: &R,
     alloc: Global,
@@ -21,8 +20,8 @@ pub(crate) fn run_over_memory<R: Threads + Sync, D: Disk>(
     journal: &mut D,
     out: &mut StdSink<Vec<u8>>,
 ) -> Status
-    ensures { (task : Task) → asked words.now ≡ Some (Job.Plan task) → result ≡ Status.Done
-        → (text : List ℕ) × SoundText task problem.old.inner.now text × (out.new.inner.items ≡ out.old.inner.items ++ text) }
+    ensures { (command : Command) → asked_command words.now ≡ Some command → IsPlanning command → result ≡ Status.Done
+        → (text : List ℕ) × SoundText command problem.old.inner.now text × (out.new.inner.items ≡ out.old.inner.items ++ text) }
 {
     let outside = Outside {
         problem,

@@ -1,25 +1,25 @@
 // The top call.
-ghost use Rattle.std.specs.Prelude.{◌≡◌, Some, IfSome, false, true};
+ghost use Rattle.std.specs.Prelude.{◌≡◌, Some, IfSome, IsSomeAnd, false, true};
 ghost use Rattle.hp_outside.specs.Disks.{Stays};
-ghost use Rattle.hp_run.specs.Causes.{Explains, ExplainsTask, writes_nothing};
-ghost use Rattle.hp_run.specs.Journals.{Grows, LeavesMine, OfTask, OnlyReads, TaskOnlyReads, precedes_journal};
+ghost use Rattle.hp_run.specs.Causes.{Explains, ExplainsTask};
+ghost use Rattle.hp_run.specs.Journals.{JournalGrows, IfTraining, RunLeavesPrefix, OfTraining, OnlyReads};
+ghost use Rattle.hp_run.specs.Kinds.{precedes_journal, writes_nothing};
 ghost use Rattle.hp_run.specs.Outcome.{ReadsJournal};
 ghost use Rattle.hp_run.specs.OwnSolver.{own_solver};
 ghost use Rattle.hp_run.specs.Run.{IsRun, after, before, ends_of, telling};
-ghost use Rattle.hp_run.specs.Words.{IfPlanned, IsWithin, asked, reads_problem};
+ghost use Rattle.hp_run.specs.Words.{IsTaskWithin, asked_command, reads_source};
 
 use crate::describing::write_described;
 use crate::generating::write_problem;
-use crate::job::{Job, asked};
 use crate::outcome::report_of;
 use crate::outside::Outside;
 use crate::reading::{GatherFault, gather};
 use crate::status::Status;
-use crate::task::Task;
 use crate::writing::put;
 use hp_outside::{Disk, FaultlessSource, Sink, Source};
 use hp_solver::Solver;
 use hp_warm_simplex::WarmSimplex;
+use hp_words::{Command, read_words};
 use std::alloc::Global;
 use std::thread::Threads;
 
@@ -27,7 +27,7 @@ use std::thread::Threads;
 /// its base cuts. `train` trains on the journal, and writes the report of training. `check` reads the journal, checks each
 /// certificate of its records, and writes the report of what it gives. `simulate` and `validate` read it so too, and write the
 /// traces of drawn and of stored scenarios over its cuts; `evaluate` writes what the whole policy over them costs, and `robust`
-/// the planes of its certificates for the worst of the weights that the problem lists. `hydro` takes the source for a
+/// the risk cuts of its certificates for the worst of the weights that the problem lists. `hydro` takes the source for a
 /// description of hydro plants, and writes the problem that it means. `gen` reads nothing, and writes a generated problem.
 /// Other words are Usage.
 ///
@@ -40,7 +40,7 @@ pub fn run_with<R: Threads + Sync, I: Source, D: Disk, O: Sink, V: Solver>(
     outside: Outside<I, D, O>,
     solver: &V,
 ) -> Status
-    ensures { IsRun (V.does solver.now) (asked words.now) (telling I.left I.faults D.store D.faults O.taken O.faults) (before outside.entry) (after outside.exit) result }
+    ensures { IsRun (V.does solver.now) (asked_command words.now) (telling I.left I.faults D.store D.faults O.taken O.faults) (before outside.entry) (after outside.exit) result }
 {
     act(rt, alloc, words, outside, solver)
 }
@@ -52,7 +52,7 @@ pub fn run<R: Threads + Sync, I: Source, D: Disk, O: Sink>(
     words: &[String],
     outside: Outside<I, D, O>,
 ) -> Status
-    ensures { IsRun own_solver (asked words.now) (telling I.left I.faults D.store D.faults O.taken O.faults) (before outside.entry) (after outside.exit) result }
+    ensures { IsRun own_solver (asked_command words.now) (telling I.left I.faults D.store D.faults O.taken O.faults) (before outside.entry) (after outside.exit) result }
 {
     run_with(rt, alloc, words, outside, &WarmSimplex)
 }
@@ -64,7 +64,7 @@ pub fn run_safe<R: Threads + Sync, D: Disk, O: Sink>(
     words: &[String],
     outside: Outside<FaultlessSource, D, O>,
 ) -> Status
-    ensures run { IsRun own_solver (asked words.now) (telling (λ s. Some s) (λ s. 0) D.store D.faults O.taken O.faults) (before outside.entry) (after outside.exit) result }
+    ensures run { IsRun own_solver (asked_command words.now) (telling (λ s. Some s) (λ s. 0) D.store D.faults O.taken O.faults) (before outside.entry) (after outside.exit) result }
     ensures safe { ¬ (result ≡ Status.ReadFault) }
 {
     run(rt, alloc, words, outside)
@@ -78,61 +78,61 @@ fn act<R: Threads + Sync, I: Source, D: Disk, O: Sink, V: Solver>(
     outside: Outside<I, D, O>,
     solver: &V,
 ) -> Status
-    ensures cause { Explains (V.does solver.now) (asked words.now) (ends_of (telling I.left I.faults D.store D.faults O.taken O.faults) (before outside.entry) (after outside.exit)) result }
+    ensures cause { Explains (V.does solver.now) (asked_command words.now) (ends_of (telling I.left I.faults D.store D.faults O.taken O.faults) (before outside.entry) (after outside.exit)) result }
     ensures unwritten { writes_nothing result ≡ true → (after outside.exit).out ≡ (before outside.entry).out }
-    ensures unread { reads_problem (asked words.now) ≡ false → (after outside.exit).problem ≡ (before outside.entry).problem }
+    ensures unread { reads_source (asked_command words.now) ≡ false → (after outside.exit).problem ≡ (before outside.entry).problem }
 
     // The journal.
-    ensures journal { OnlyReads (asked words.now) result → Stays (D.store (before outside.entry).journal) (D.store (after outside.exit).journal) }
-    ensures journal_unread { ¬ (IfPlanned (asked words.now) ReadsJournal) → (after outside.exit).journal ≡ (before outside.entry).journal }
+    ensures journal { IfSome (asked_command words.now) (λ c. OnlyReads c result) → Stays (D.store (before outside.entry).journal) (D.store (after outside.exit).journal) }
+    ensures journal_unread { ¬ (IsSomeAnd (asked_command words.now) ReadsJournal) → (after outside.exit).journal ≡ (before outside.entry).journal }
     ensures journal_later { precedes_journal result ≡ true → (after outside.exit).journal ≡ (before outside.entry).journal }
-    ensures grown { OfTask (I.left (before outside.entry).problem) (D.store (before outside.entry).journal).reads (asked words.now) (λ bytes kept. Grows (V.does solver.now) result bytes kept (D.store (after outside.exit).journal)) }
-    ensures any_moment { OfTask (I.left (before outside.entry).problem) (D.store (before outside.entry).journal).reads (asked words.now) (λ bytes kept. LeavesMine (V.does solver.now) bytes kept (D.store (before outside.entry).journal) (D.store (after outside.exit).journal)) }
+    ensures grown { OfTraining (I.left (before outside.entry).problem) (D.store (before outside.entry).journal).reads (asked_command words.now) (λ bytes kept. JournalGrows (V.does solver.now) result bytes kept (D.store (after outside.exit).journal)) }
+    ensures any_moment { OfTraining (I.left (before outside.entry).problem) (D.store (before outside.entry).journal).reads (asked_command words.now) (λ bytes kept. RunLeavesPrefix (V.does solver.now) bytes kept (D.store (before outside.entry).journal) (D.store (after outside.exit).journal)) }
 {
     let Outside {
         problem,
         journal,
         out,
     } = outside;
-    match asked(words) {
+    match read_words(words) {
         None => Status::Usage,
-        Some(Job::Plan(task)) => {
-            let outside = Outside {
-                problem,
-                journal,
-                out,
-            };
-            plan(rt, alloc, task, outside, solver)
-        }
-        Some(Job::Hydro) => write_described(alloc, problem, out),
+        Some(Command::Hydro) => write_described(alloc, problem, out),
         Some(
-            Job::Generate {
+            Command::Gen {
                 seed,
                 stages,
                 reservoirs,
             },
         ) => write_problem(alloc, seed, stages, reservoirs, out),
+        Some(command) => {
+            let outside = Outside {
+                problem,
+                journal,
+                out,
+            };
+            plan(rt, alloc, command, outside, solver)
+        }
     }
 }
 
-/// Does a task over the problem that the source holds to its end.
+/// Plans over the problem that the source holds to its end.
 fn plan<R: Threads + Sync, I: Source, D: Disk, O: Sink, V: Solver>(
     rt: &R,
     alloc: Global,
-    task: Task,
+    command: Command,
     outside: Outside<I, D, O>,
     solver: &V,
 ) -> Status
-    requires { IsWithin task }
-    ensures cause { ExplainsTask (V.does solver.now) task (ends_of (telling I.left I.faults D.store D.faults O.taken O.faults) (before outside.entry) (after outside.exit)) result }
+    requires { IsTaskWithin command }
+    ensures cause { ExplainsTask (V.does solver.now) command (ends_of (telling I.left I.faults D.store D.faults O.taken O.faults) (before outside.entry) (after outside.exit)) result }
     ensures unwritten { writes_nothing result ≡ true → (after outside.exit).out ≡ (before outside.entry).out }
 
     // The journal.
-    ensures journal { TaskOnlyReads task result → Stays (D.store (before outside.entry).journal) (D.store (after outside.exit).journal) }
-    ensures journal_unread { ¬ (ReadsJournal task) → (after outside.exit).journal ≡ (before outside.entry).journal }
+    ensures journal { OnlyReads command result → Stays (D.store (before outside.entry).journal) (D.store (after outside.exit).journal) }
+    ensures journal_unread { ¬ (ReadsJournal command) → (after outside.exit).journal ≡ (before outside.entry).journal }
     ensures journal_later { precedes_journal result ≡ true → (after outside.exit).journal ≡ (before outside.entry).journal }
-    ensures grown { IfSome (I.left (before outside.entry).problem) (λ bytes. IfSome (D.store (before outside.entry).journal).reads (λ kept. Grows (V.does solver.now) result bytes kept (D.store (after outside.exit).journal) task)) }
-    ensures any_moment { IfSome (I.left (before outside.entry).problem) (λ bytes. IfSome (D.store (before outside.entry).journal).reads (λ kept. LeavesMine (V.does solver.now) bytes kept (D.store (before outside.entry).journal) (D.store (after outside.exit).journal) task)) }
+    ensures grown { IfTraining command (λ t. IfSome (I.left (before outside.entry).problem) (λ bytes. IfSome (D.store (before outside.entry).journal).reads (λ kept. JournalGrows (V.does solver.now) result bytes kept (D.store (after outside.exit).journal) t))) }
+    ensures any_moment { IfTraining command (λ t. IfSome (I.left (before outside.entry).problem) (λ bytes. IfSome (D.store (before outside.entry).journal).reads (λ kept. RunLeavesPrefix (V.does solver.now) bytes kept (D.store (before outside.entry).journal) (D.store (after outside.exit).journal) t))) }
 {
     let Outside {
         problem,
@@ -145,7 +145,7 @@ fn plan<R: Threads + Sync, I: Source, D: Disk, O: Sink, V: Solver>(
         Err(GatherFault::TooLong) => return Status::TooLong,
         Err(GatherFault::Memory) => return Status::Memory,
     };
-    let text = match report_of(rt, alloc, task, bytes.as_slice(), journal, solver) {
+    let text = match report_of(rt, alloc, command, bytes.as_slice(), journal, solver) {
         Ok(text) => text,
         Err(status) => return status,
     };

@@ -2,7 +2,6 @@
 ghost use Rattle.std.specs.Prelude.{◌≡◌, ◌≤◌, ℕ, List, true, false, length, max, option_map, All, IfOk, IfErr, IfSome, OnOk, None, Some, Ok, Err};
 ghost use Rattle.sha2.specs.Sha256.{sha256};
 ghost use Rattle.hp_num.specs.Steps.{GivesOr};
-ghost use Rattle.hp_outside.specs.Causes.{Rose};
 ghost use Rattle.hp_outside.specs.Disks.{Stays};
 ghost use Rattle.hp_outside.specs.Since.{Quiet, LeavesOnly};
 ghost use Rattle.hp_problem.specs.Formulas.{too_much};
@@ -13,25 +12,26 @@ ghost use Rattle.hp_theory.specs.View.{problem_of};
 ghost use Rattle.hp_theory.specs.declared.cut.Cut.{Cut};
 ghost use Rattle.hp_cut.specs.AtNodes.{PoolsFit};
 ghost use Rattle.hp_journal.specs.Causes.{DiskCause};
-ghost use Rattle.hp_journal.specs.Gates.{IsShutAt};
-ghost use Rattle.hp_journal.specs.Head.{IsUnborn};
+ghost use Rattle.hp_journal.specs.CommitBytes.{IsShutAt};
+ghost use Rattle.hp_journal.specs.Head.{IsUncommitted};
 ghost use Rattle.hp_load.specs.Accepted.{IsSafe};
-ghost use Rattle.hp_load.specs.Load.{Outcome, seen};
-ghost use Rattle.hp_train.specs.Training.{CanTrain, GoOnWith, MineFrom, StandsIn, grown_journal, iterations, title_of, trained};
-ghost use Rattle.hp_report.specs.Report.{train_text};
+ghost use Rattle.hp_load.specs.Load.{Outcome, seen_outcome};
+ghost use Rattle.hp_train.specs.Training.{CanTrain, GoesOnWith, IsPrefixFrom, HoldsPrefix, grown_journal, iterations, title_of, trained};
 ghost use Rattle.hp_run.specs.Causes.{Lacks};
-ghost use Rattle.hp_run.specs.Journals.{Grows, LeavesMine, is_refusal};
+ghost use Rattle.hp_run.specs.Journals.{RunLeavesPrefix};
+ghost use Rattle.hp_run.specs.Kinds.{is_refusal};
 ghost use Rattle.hp_run.specs.Outcome.{Reports, based_at, loaded_for, ready_for};
 ghost use Rattle.hp_run.specs.SoundText.{IsSoundReport};
-ghost use Rattle.hp_run.specs.Training.{ComesOfLoading, Refuses, StopsAs, WhenTrained};
+ghost use Rattle.hp_run.specs.Training.{ComesOfLoading, Refuses, StatusStopsAs, WhenTrained};
 ghost use Rattle.hp_run.specs.declared.status.Status.TheVariants as statuses;
-ghost use Rattle.hp_run.specs.declared.task.Task.TheVariants as tasks;
+ghost use Rattle.hp_words.specs.declared.command.Command.TheVariants as commands;
 
+use crate::accepted::Accepted;
+use crate::endings::{status_of_fault, status_of_plan};
 use crate::loading::prepared;
-use crate::outcome::{Accepted, status_of_fault, status_of_plan};
 use crate::status::Status;
 use hp_cut::Pools;
-use hp_load::{Loaded, load};
+use hp_load::{Asked, Loaded, load};
 use hp_lp::{Planner, WarmStarts, Workspace};
 use hp_num::Memory;
 use hp_outside::Disk;
@@ -39,17 +39,10 @@ use hp_problem::{Problem, TooMuch};
 use hp_report::train_report;
 use hp_solver::Solver;
 use hp_train::{Training, train};
+use hp_words::TrainingNumbers;
 use sha2::{Digest, Sha256};
 use std::alloc::Global;
 use std::thread::Threads;
-
-/// The words behind `train`: the seed, how many iterations there are to be in all, and perhaps the paths of each.
-#[derive(Clone, Copy, Debug, PartialEq, Eq)]
-pub(crate) struct Asked {
-    pub(crate) seed: u64,
-    pub(crate) count: u32,
-    pub(crate) batch: Option<u16>,
-}
 
 /// The first formula that passes its limit with as many iterations as are asked for or are there already.
 fn too_much(problem: &Problem, count: u32, loaded: &Loaded) -> Option<TooMuch>
@@ -70,26 +63,26 @@ fn load_for<D: Disk>(
     pools: Pools,
     journal: &mut D,
     digest: &[u8; 32],
-    asked: Asked,
+    numbers: TrainingNumbers,
 ) -> Result<Loaded, Status>
     requires base { based problem.now ≡ Ok pools.lists }
-    requires count { asked.count ≤ 2000 }
-    requires batch { IfSome asked.batch (λ b. (1 ≤ b) × (b ≤ 64)) }
-    ensures value { IfSome (D.store journal.old).reads (λ kept. GivesOr Refuses seen result
-        (ready_for problem.now pools.lists digest.now asked.seed asked.count asked.batch kept)) }
-    ensures can { IfOk result (λ l. CanTrain problem.now asked.count (seen l)) }
+    requires count { numbers.count ≤ 2000 }
+    requires batch { IfSome numbers.batch (λ b. (1 ≤ b) × (b ≤ 64)) }
+    ensures value { IfSome (D.store journal.old).reads (λ kept. GivesOr Refuses seen_outcome result
+        (ready_for problem.now pools.lists digest.now numbers.seed numbers.count numbers.batch kept)) }
+    ensures can { IfOk result (λ l. CanTrain problem.now numbers.count (seen_outcome l)) }
     ensures safe { IfOk result (IsSafe problem.now) }
     ensures stays { Stays (D.store journal.old) (D.store journal.new) }
     ensures cause { DiskCause (D.faults journal.old) (D.faults journal.new) (result ≡ Err statuses.DiskFault) }
     ensures own { IfErr result ComesOfLoading }
 {
-    let title = hp_load::Asked {
+    let title = Asked {
         digest,
-        seed: Some(asked.seed),
-        batch: asked.batch,
+        seed: Some(numbers.seed),
+        batch: numbers.batch,
     };
     match load(alloc, problem, pools, journal, &title) {
-        Ok(loaded) => match too_much(problem, asked.count, &loaded) {
+        Ok(loaded) => match too_much(problem, numbers.count, &loaded) {
             None => match prepared(alloc, problem, loaded) {
                 Ok(loaded) => Ok(loaded),
                 Err(Memory) => Err(Status::Memory),
@@ -109,19 +102,19 @@ fn train_on<R: Threads + Sync, D: Disk, V: Solver>(
     training: &Training,
     loaded: &mut Loaded,
 ) -> Result<(), Status>
-    requires can { CanTrain planner.now.problem.now training.now.count (seen loaded.old) }
-    requires unborn { loaded.old.born ≡ false → IfSome (D.store journal.old).reads IsUnborn }
-    requires shut { loaded.old.born ≡ true → IfSome (D.store journal.old).reads (IsShutAt loaded.old.end) }
-    ensures stop { StopsAs result (iterations (V.does planner.now.solver.now) planner.now.problem.now training.now.seed training.now.count (seen loaded.old)).stop }
-    ensures value { OnOk result (seen loaded.new ≡ trained (seen loaded.old) (iterations (V.does planner.now.solver.now) planner.now.problem.now training.now.seed training.now.count (seen loaded.old))) }
+    requires can { CanTrain planner.now.problem.now training.now.count (seen_outcome loaded.old) }
+    requires uncommitted { loaded.old.committed ≡ false → IfSome (D.store journal.old).reads IsUncommitted }
+    requires shut { loaded.old.committed ≡ true → IfSome (D.store journal.old).reads (IsShutAt loaded.old.end) }
+    ensures stop { StatusStopsAs result (iterations (V.does planner.now.solver.now) planner.now.problem.now training.now.seed training.now.count (seen_outcome loaded.old)).stop }
+    ensures value { OnOk result (seen_outcome loaded.new ≡ trained (seen_outcome loaded.old) (iterations (V.does planner.now.solver.now) planner.now.problem.now training.now.seed training.now.count (seen_outcome loaded.old))) }
     ensures reads { WhenTrained result ((D.store journal.new).reads
-        ≡ option_map (λ kept. grown_journal training.now.digest.now training.now.seed (seen loaded.old) kept (iterations (V.does planner.now.solver.now) planner.now.problem.now training.now.seed training.now.count (seen loaded.old)).lists) (D.store journal.old).reads) }
+        ≡ option_map (λ kept. grown_journal training.now.digest.now training.now.seed (seen_outcome loaded.old) kept (iterations (V.does planner.now.solver.now) planner.now.problem.now training.now.seed training.now.count (seen_outcome loaded.old)).lists) (D.store journal.old).reads) }
     ensures quiet { WhenTrained result (Quiet (D.store journal.new)) }
     ensures any_moment { IfSome (D.store journal.old).reads (λ kept. (ps : List (List ℕ)) (j i : ℕ)
-        → StandsIn (title_of training.now.digest.now training.now.seed (seen loaded.old)) (seen loaded.old) ps j kept
-        → GoOnWith j ps (iterations (V.does planner.now.solver.now) planner.now.problem.now training.now.seed training.now.count (seen loaded.old)).lists
-        → i ≤ j → ((c : List ℕ) → (D.store journal.old).images c → MineFrom (title_of training.now.digest.now training.now.seed (seen loaded.old)) ps i c)
-        → LeavesOnly (D.store journal.old) (D.store journal.new) (MineFrom (title_of training.now.digest.now training.now.seed (seen loaded.old)) ps i)) }
+        → HoldsPrefix (title_of training.now.digest.now training.now.seed (seen_outcome loaded.old)) (seen_outcome loaded.old) ps j kept
+        → GoesOnWith j ps (iterations (V.does planner.now.solver.now) planner.now.problem.now training.now.seed training.now.count (seen_outcome loaded.old)).lists
+        → i ≤ j → ((c : List ℕ) → (D.store journal.old).images c → IsPrefixFrom (title_of training.now.digest.now training.now.seed (seen_outcome loaded.old)) ps i c)
+        → LeavesOnly (D.store journal.old) (D.store journal.new) (IsPrefixFrom (title_of training.now.digest.now training.now.seed (seen_outcome loaded.old)) ps i)) }
     ensures cause { DiskCause (D.faults journal.old) (D.faults journal.new) (result ≡ Err statuses.DiskFault) }
     ensures fit { OnOk result (PoolsFit planner.now.problem.now loaded.new.pools.lists) }
     ensures sound { Sound (problem_of planner.now.problem.now) loaded.old.pools.lists → OnOk result (Sound (problem_of planner.now.problem.now) loaded.new.pools.lists) }
@@ -143,25 +136,25 @@ pub(crate) fn report_train<R: Threads + Sync, D: Disk, V: Solver>(
     accepted: Accepted,
     journal: &mut D,
     solver: &V,
-    asked: Asked,
+    numbers: TrainingNumbers,
 ) -> Result<Vec<u8>, Status>
     requires read { based_at accepted.bytes.now ≡ Ok (record { problem = accepted.problem.now; pools = accepted.pools.lists }) }
     requires base { based accepted.problem.now ≡ Ok accepted.pools.lists }
-    requires count { asked.count ≤ 2000 }
-    requires batch { IfSome asked.batch (λ b. (1 ≤ b) × (b ≤ 64)) }
-    ensures report { IfOk result (λ v. Reports (V.does solver.now) (tasks.Train asked.seed asked.count asked.batch) (D.store journal.old).reads accepted.entry.bytes.now (Ok v.items)) }
-    ensures sound { IfOk result (λ v. (cuts : List (List Cut)) × IsSoundReport (tasks.Train asked.seed asked.count asked.batch) accepted.entry.bytes.now accepted.entry.problem.now cuts v.items) }
-    ensures lacks { IfErr result (λ s. Lacks (V.does solver.now) (tasks.Train asked.seed asked.count asked.batch) (D.store journal.old).reads (D.faults journal.old) (D.faults journal.new) accepted.entry.bytes.now s) }
-    ensures grown { IfSome (D.store journal.old).reads (λ kept. (o : Outcome) → loaded_for accepted.entry.bytes.now (record { problem = accepted.entry.problem.now; pools = accepted.entry.pools.lists }) asked.seed asked.batch kept ≡ Ok o
-        → WhenTrained result ((D.store journal.new).reads ≡ Some (grown_journal (sha256 accepted.entry.bytes.now) asked.seed o kept (iterations (V.does solver.now) accepted.entry.problem.now asked.seed asked.count o).lists) × Quiet (D.store journal.new))) }
-    ensures any_moment { IfSome (D.store journal.old).reads (λ kept. LeavesMine (V.does solver.now) accepted.entry.bytes.now kept (D.store journal.old) (D.store journal.new) (tasks.Train asked.seed asked.count asked.batch)) }
+    requires count { numbers.count ≤ 2000 }
+    requires batch { IfSome numbers.batch (λ b. (1 ≤ b) × (b ≤ 64)) }
+    ensures report { IfOk result (λ v. Reports (V.does solver.now) (commands.Train numbers.seed numbers.count numbers.batch) (D.store journal.old).reads accepted.entry.bytes.now (Ok v.items)) }
+    ensures sound { IfOk result (λ v. (cuts : List (List Cut)) × IsSoundReport (commands.Train numbers.seed numbers.count numbers.batch) accepted.entry.bytes.now accepted.entry.problem.now cuts v.items) }
+    ensures lacks { IfErr result (λ s. Lacks (V.does solver.now) (commands.Train numbers.seed numbers.count numbers.batch) (D.store journal.old).reads (D.faults journal.old) (D.faults journal.new) accepted.entry.bytes.now s) }
+    ensures grown { IfSome (D.store journal.old).reads (λ kept. (o : Outcome) → loaded_for accepted.entry.bytes.now (record { problem = accepted.entry.problem.now; pools = accepted.entry.pools.lists }) numbers.seed numbers.batch kept ≡ Ok o
+        → WhenTrained result ((D.store journal.new).reads ≡ Some (grown_journal (sha256 accepted.entry.bytes.now) numbers.seed o kept (iterations (V.does solver.now) accepted.entry.problem.now numbers.seed numbers.count o).lists) × Quiet (D.store journal.new))) }
+    ensures any_moment { IfSome (D.store journal.old).reads (λ kept. RunLeavesPrefix (V.does solver.now) accepted.entry.bytes.now kept (D.store journal.old) (D.store journal.new) numbers) }
     ensures stays { IfErr result (λ s. is_refusal s ≡ true → Stays (D.store journal.old) (D.store journal.new)) }
     ensures later { D.faults journal.old ≤ D.faults journal.new }
 {
     let problem = accepted.problem;
-    let _ = problem.raw();
+    let _ = problem.parts();
     let digest = Sha256::digest(accepted.bytes);
-    let mut loaded = load_for(alloc, problem, accepted.pools, journal, &digest, asked)?;
+    let mut loaded = load_for(alloc, problem, accepted.pools, journal, &digest, numbers)?;
     let Ok(starts) = WarmStarts::new(alloc, problem, solver) else {
         return Err(Status::Memory);
     };
@@ -169,8 +162,8 @@ pub(crate) fn report_train<R: Threads + Sync, D: Disk, V: Solver>(
     let mut work = Workspace::new(alloc);
     let training = Training {
         digest: &digest,
-        seed: asked.seed,
-        count: asked.count,
+        seed: numbers.seed,
+        count: numbers.count,
     };
     train_on(rt, &mut work, &planner, journal, &training, &mut loaded)?;
     match train_report(alloc, problem, &loaded) {

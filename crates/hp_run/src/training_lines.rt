@@ -1,23 +1,23 @@
 // The words that say where training stopped.
 ghost use Rattle.std.specs.Prelude.{◌≡◌, ◌++◌, OnOk, codes};
 ghost use Rattle.std.specs.List.{flat_map};
-ghost use Rattle.hp_run.specs.TrainingLines.{listed, no_stage_place, no_stage_text, number, range_place, range_text};
+ghost use Rattle.hp_run.specs.TrainingLines.{listed, no_stage_place, no_stage_text, number_word, range_place, range_text};
 
 use crate::refusal_lines::push_word;
 use hp_num::Memory;
-use hp_settle::Dead;
+use hp_settle::Infeasibility;
 use hp_text::{push_bytes, push_whole};
 
 /// Appends a space and the number.
 fn push_number(out: &mut Vec<u8>, value: i128) -> Result<(), Memory>
-    ensures { OnOk result (out.new.items ≡ out.old.items ++ number value) }
+    ensures { OnOk result (out.new.items ≡ out.old.items ++ number_word value) }
 {
     push_bytes(out, b" ")?;
     push_whole(out, value)
 }
 
 fn push_numbers(out: &mut Vec<u8>, numbers: &[i128]) -> Result<(), Memory>
-    ensures { OnOk result (out.new.items ≡ out.old.items ++ flat_map number numbers.now) }
+    ensures { OnOk result (out.new.items ≡ out.old.items ++ flat_map number_word numbers.now) }
 {
     for value in numbers {
         push_number(out, *value)?;
@@ -26,7 +26,7 @@ fn push_numbers(out: &mut Vec<u8>, numbers: &[i128]) -> Result<(), Memory>
 }
 
 fn push_small_numbers(out: &mut Vec<u8>, numbers: &[i64]) -> Result<(), Memory>
-    ensures { OnOk result (out.new.items ≡ out.old.items ++ flat_map number numbers.now) }
+    ensures { OnOk result (out.new.items ≡ out.old.items ++ flat_map number_word numbers.now) }
 {
     for value in numbers {
         push_number(out, i128::from(*value))?;
@@ -63,13 +63,13 @@ fn push_no_stage_place(out: &mut Vec<u8>, run: u32, node: u32) -> Result<(), Mem
 /// Appends at which iteration or scenario which node has no decisions, its random values, its incoming state, and the
 /// multipliers of its rows that show it.
 #[tactic(auto, unfolding(crate::specs::TrainingLines::no_stage_text))]
-pub(crate) fn push_no_stage(out: &mut Vec<u8>, dead: &Dead) -> Result<(), Memory>
-    ensures { OnOk result (out.new.items ≡ out.old.items ++ no_stage_text dead.now) }
+pub(crate) fn push_no_stage(out: &mut Vec<u8>, infeasible: &Infeasibility) -> Result<(), Memory>
+    ensures { OnOk result (out.new.items ≡ out.old.items ++ no_stage_text infeasible.now) }
 {
-    push_no_stage_place(out, dead.run, dead.node)?;
-    push_list(out, b" values", dead.values.as_slice())?;
-    push_state(out, dead.state.as_slice())?;
-    push_list(out, b" rows", dead.rows.as_slice())
+    push_no_stage_place(out, infeasible.run, infeasible.node)?;
+    push_list(out, b" values", infeasible.values.as_slice())?;
+    push_state(out, infeasible.state.as_slice())?;
+    push_list(out, b" rows", infeasible.rows.as_slice())
 }
 
 #[tactic(auto, unfolding(crate::specs::TrainingLines::range_place))]

@@ -5,7 +5,7 @@ use Rattle.std.proofs.lemmas.Bool.Decides.{nat_tests}
 use Rattle.std.proofs.lemmas.Bool.{ltb-true}
 use Rattle.std.proofs.lemmas.List.Sums.{sum_by-cons}
 use Rattle.hp_num.proofs.Tests.{and_first, and_second}
-use Rattle.hp_problem.specs.Limits.{are_weights}
+use Rattle.hp_parts.specs.Limits.{are_weights}
 use Rattle.hp_sampler.specs.Picked.{first_above, level_of, picked, stop_weight}
 
 sum-cons : (w : ℕ) (ws : List ℕ) → sum (w ∷ ws) ≡ w + sum ws
@@ -22,7 +22,7 @@ pub few_weights : (ws : List ℕ) → are_weights ws ≡ true → length ws ≤ 
 few_weights [] e = omega arith
 few_weights (w ∷ ws) e =
     let here : 0 < w = ltb-true 0 w (and_first (nat_lt 0 w) (are_weights ws) e) in
-    let rest : length ws ≤ sum ws = few_weights ws (and_second (nat_lt 0 w) (are_weights ws) e) in
+    let tail : length ws ≤ sum ws = few_weights ws (and_second (nat_lt 0 w) (are_weights ws) e) in
     omega (arith, sum-cons w ws)
 
 -- a level below the whole sum is exceeded
@@ -31,8 +31,8 @@ above_in_range level before i [] h k = absurd (omega arith)
 above_in_range level before i (w ∷ ws) h k = by (λ l. above_in_range level (before + w) (suc i) ws l (omega (arith, sum-cons w ws))) (nat_lt level (before + w)) refl
   where
     by : (before + w ≤ level → first_above level (before + w) (suc i) ws < suc i + length ws) → (b : Bool) → nat_lt level (before + w) ≡ b → (if b then i else first_above level (before + w) (suc i) ws) < i + length (w ∷ ws)
-    by rest true e = omega arith
-    by rest false e = let l : before + w ≤ level = grind (arith, nat_tests) in omega (arith, rest l)
+    by tail true e = omega arith
+    by tail false e = let l : before + w ≤ level = grind (arith, nat_tests) in omega (arith, tail l)
 
 -- a stop weight is at the place behind the weights
 pub above_stop : (level before i stop : ℕ) (ws : List ℕ) → level < before + sum ws + stop → first_above level before i (ws ++ stop_weight stop) ≡ first_above level before i ws

@@ -2,8 +2,8 @@
 use Rattle.std.proofs.Common.{◌≡◌, ℕ, List, [], ◌∷◌, get_or, refl}
 use Rattle.rand_chacha.specs.Block.{block_word, double_rounds, diagonal_round, column_round, quarter_round}
 use Rattle.rand_core.specs.Steps.{u32_at}
-use Rattle.hp_problem.specs.declared.raw.Node.{Node}
-use Rattle.hp_problem.specs.declared.raw.Raw.{Raw}
+use Rattle.hp_parts.specs.declared.parts.Node.{Node}
+use Rattle.hp_parts.specs.declared.parts.ProblemParts.{ProblemParts}
 use Rattle.hp_sampler.specs.Picked.{picked, stop_weight}
 use Rattle.hp_sampler.specs.Drawn.{key_bytes, path_from, stream_of, word_in}
 
@@ -42,12 +42,12 @@ second_word_of_another = refl
 
 -- two realizations of weight 1, and then on to a node without successors by weight 1, or an end by weight 1
 first : Node
-first = record { name = []; sub = 0; weights = 1 ∷ 1 ∷ []; values = [] ∷ [] ∷ []; links = 1 ∷ []; link_weights = 1 ∷ []; stop = 1 }
+first = record { name = []; sub = 0; weights = 1 ∷ 1 ∷ []; values = [] ∷ [] ∷ []; successors = 1 ∷ []; successor_weights = 1 ∷ []; stop = 1 }
 
 second : Node
-second = record { name = []; sub = 0; weights = 1 ∷ []; values = [] ∷ []; links = []; link_weights = []; stop = 0 }
+second = record { name = []; sub = 0; weights = 1 ∷ []; values = [] ∷ []; successors = []; successor_weights = []; stop = 0 }
 
-two : Raw
+two : ProblemParts
 two = record { states = []; root = 0 ∷ []; root_weights = 1 ∷ []; nodes = first ∷ second ∷ []; subs = []; scenarios = [] }
 
 -- the words from place 1 on

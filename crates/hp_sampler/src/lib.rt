@@ -8,4 +8,4 @@ mod words;
 
 pub use paths::path;
 pub use picks::pick;
-pub use steps::{Step, Trajectory};
+pub use steps::{PathStep, Trajectory};

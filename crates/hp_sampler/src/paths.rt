@@ -1,81 +1,82 @@
 // The paths that seeds draw.
-ghost use Rattle.std.specs.Prelude.{◌≡◌, ◌+◌, ◌*◌, ◌^◌, ◌<◌, ◌≤◌, Some, true, length, sum, slice_get, All, IfOk, IfSome};
-ghost use Rattle.hp_problem.specs.Limits.{are_weights};
-ghost use Rattle.hp_problem.specs.Parts.{weights_at};
-ghost use Rattle.hp_problem.specs.Sealed.{is_sealed};
+ghost use Rattle.std.specs.Prelude.{◌≡◌, ◌+◌, ◌^◌, ◌<◌, ◌≤◌, Some, true, length, sum, slice_get, All, IfOk, IfSome};
+ghost use Rattle.hp_parts.specs.Limits.{are_weights};
+ghost use Rattle.hp_parts.specs.Parts.{weights_at};
+ghost use Rattle.hp_problem.specs.Validated.{is_validated};
 ghost use Rattle.hp_sampler.specs.Picked.{picked};
-ghost use Rattle.hp_sampler.specs.Drawn.{choices, choices_at, EndsRight, first_node, FollowsArcs, IsInRange, IsPath, next_node, path, path_from, StartsAtRoot, step_at, steps_of, word_in};
+ghost use Rattle.hp_sampler.specs.Drawn.{choices, EndsRight, first_node, FollowsArcs, IsInRange, IsPath, next_node, path, path_from, StartsAtRoot, step_at, word_in};
 
 use crate::picks::{pick, pick_or_stop};
-use crate::steps::Step;
+use crate::steps::PathStep;
 use crate::words::{next, stream_of};
 use hp_num::{List, Memory};
-use hp_problem::{Node, Problem};
+use hp_parts::Node;
+use hp_problem::Problem;
 use rand_chacha::ChaCha20Rng;
 use std::alloc::Global;
 
 // The node where a path begins.
 fn first_node(problem: &Problem, word: u32) -> u32
-    ensures value { first_node problem.now.raw word ≡ Some result }
-    ensures inside { result < length problem.now.raw.nodes }
-    ensures sealed { is_sealed problem.now ≡ true }
+    ensures value { first_node problem.now.parts word ≡ Some result }
+    ensures inside { result < length problem.now.parts.nodes }
+    ensures validated { is_validated problem.now ≡ true }
 {
-    let raw = problem.raw();
-    raw.root.as_slice()[pick(raw.root_weights.as_slice(), word) as usize]
+    let parts = problem.parts();
+    parts.root.as_slice()[pick(parts.root_weights.as_slice(), word) as usize]
 }
 
 // The node with a number.
 fn node_of(problem: &Problem, node: u32) -> &Node
-    requires { node < length problem.now.raw.nodes }
-    ensures node { slice_get problem.now.raw.nodes node ≡ Some result.now }
-    ensures sealed { is_sealed problem.now ≡ true }
+    requires { node < length problem.now.parts.nodes }
+    ensures node { slice_get problem.now.parts.nodes node ≡ Some result.now }
+    ensures validated { is_validated problem.now ≡ true }
 {
-    &problem.raw().nodes.as_slice()[node as usize]
+    &problem.parts().nodes.as_slice()[node as usize]
 }
 
 // The realization that a word picks at a node.
 fn realization(problem: &Problem, node: u32, word: u32) -> u32
-    requires { node < length problem.now.raw.nodes }
-    ensures { result ≡ picked (weights_at problem.now.raw node) word }
+    requires { node < length problem.now.parts.nodes }
+    ensures { result ≡ picked (weights_at problem.now.parts node) word }
 {
     pick(node_of(problem, node).weights.as_slice(), word)
 }
 
 // The successor that a word picks after a node with successors, and None where it picks the stop weight.
 fn successor(node: &Node, word: u32) -> Option<u32>
-    requires some { 0 < length node.now.link_weights }
-    requires weights { are_weights node.now.link_weights ≡ true }
-    requires total { sum node.now.link_weights + node.now.stop ≤ 65535 }
-    ensures { result ≡ slice_get node.now.links (picked (choices node.now) word) }
+    requires some { 0 < length node.now.successor_weights }
+    requires weights { are_weights node.now.successor_weights ≡ true }
+    requires total { sum node.now.successor_weights + node.now.stop ≤ 65535 }
+    ensures { result ≡ slice_get node.now.successors (picked (choices node.now) word) }
 {
-    let place = pick_or_stop(node.link_weights.as_slice(), node.stop, word);
-    node.links.as_slice().get(place as usize).copied()
+    let place = pick_or_stop(node.successor_weights.as_slice(), node.stop, word);
+    node.successors.as_slice().get(place as usize).copied()
 }
 
 // The successor that the next word picks, and None where the path ends. At a node without successors no word is spent.
 fn next_node(problem: &Problem, words: &mut ChaCha20Rng, node: u32) -> Option<u32>
-    requires node { node < length problem.now.raw.nodes }
+    requires node { node < length problem.now.parts.nodes }
     requires place { words.old.word_pos < 2 ^ 40 }
-    ensures value { result ≡ next_node problem.now.raw node (word_in words.old words.old.word_pos) }
-    ensures inside { IfSome result (λ m. m < length problem.now.raw.nodes) }
+    ensures value { result ≡ next_node problem.now.parts node (word_in words.old words.old.word_pos) }
+    ensures inside { IfSome result (λ m. m < length problem.now.parts.nodes) }
     ensures later { IfSome result (λ _. words.new ≡ record words.old { word_pos = words.old.word_pos + 1 }) }
 {
     let node = node_of(problem, node);
-    if node.links.is_empty() {
+    if node.successors.is_empty() {
         return None;
     }
     successor(node, next(words))
 }
 
 // The step at a node: the next word picks the realization.
-fn step_at(problem: &Problem, words: &mut ChaCha20Rng, node: u32) -> Step
-    requires node { node < length problem.now.raw.nodes }
+fn step_at(problem: &Problem, words: &mut ChaCha20Rng, node: u32) -> PathStep
+    requires node { node < length problem.now.parts.nodes }
     requires place { words.old.word_pos < 2 ^ 40 }
-    ensures value { result ≡ step_at problem.now.raw node (word_in words.old words.old.word_pos) }
+    ensures value { result ≡ step_at problem.now.parts node (word_in words.old words.old.word_pos) }
     ensures later { words.new ≡ record words.old { word_pos = words.old.word_pos + 1 } }
 {
     let realization = realization(problem, node, next(words));
-    Step { node, realization }
+    PathStep { node, realization }
 }
 
 // The steps from a node on.
@@ -84,10 +85,10 @@ fn steps_from(
     problem: &Problem,
     words: &mut ChaCha20Rng,
     first: u32,
-) -> Result<List<Step>, Memory>
-    requires node { first < length problem.now.raw.nodes }
+) -> Result<List<PathStep>, Memory>
+    requires node { first < length problem.now.parts.nodes }
     requires place { words.old.word_pos ≡ 1 }
-    ensures { IfOk result (λ steps. steps ≡ path_from problem.now.raw (word_in words.old) problem.now.longest 1 first) }
+    ensures { IfOk result (λ steps. steps ≡ path_from problem.now.parts (word_in words.old) problem.now.longest 1 first) }
 {
     let mut found = List::new(alloc);
     let mut node = first;
@@ -112,12 +113,17 @@ fn steps_from(
 /// spent also where there is one choice.
 ///
 /// One step per node, at most as many as there are nodes on the longest path. [`Memory`] where memory was refused.
-pub fn path(alloc: Global, problem: &Problem, seed: u64, stream: u64) -> Result<List<Step>, Memory>
+pub fn path(
+    alloc: Global,
+    problem: &Problem,
+    seed: u64,
+    stream: u64,
+) -> Result<List<PathStep>, Memory>
     ensures value { IfOk result (λ steps. steps ≡ path problem.now seed stream) }
-    ensures starts { IfOk result (λ steps. StartsAtRoot problem.now.raw steps) }
-    ensures follows { IfOk result (λ steps. FollowsArcs problem.now.raw steps) }
-    ensures ends { IfOk result (λ steps. EndsRight problem.now.raw steps) }
-    ensures in_range { IfOk result (λ steps. All (IsInRange problem.now.raw) steps) }
+    ensures starts { IfOk result (λ steps. StartsAtRoot problem.now.parts steps) }
+    ensures follows { IfOk result (λ steps. FollowsArcs problem.now.parts steps) }
+    ensures ends { IfOk result (λ steps. EndsRight problem.now.parts steps) }
+    ensures in_range { IfOk result (λ steps. All (IsInRange problem.now.parts) steps) }
     ensures few { IfOk result (λ steps. length steps ≤ problem.now.longest) }
     ensures is_path { IfOk result (λ steps. IsPath problem.now steps) }
 {

@@ -1,6 +1,6 @@
 // The index that a word picks among weights.
-ghost use Rattle.std.specs.Prelude.{◌≡◌, ◌+◌, ◌*◌, ◌/◌, ◌^◌, ◌<◌, ◌≤◌, ◌++◌, true, length, sum};
-ghost use Rattle.hp_problem.specs.Limits.{are_weights};
+ghost use Rattle.std.specs.Prelude.{◌≡◌, ◌+◌, ◌*◌, ◌/◌, ◌<◌, ◌≤◌, ◌++◌, true, length, sum};
+ghost use Rattle.hp_parts.specs.Limits.{are_weights};
 ghost use Rattle.hp_sampler.specs.Picked.{first_above, level_of, picked, stop_weight};
 
 // The word at the scale of the total weight.

@@ -3,7 +3,7 @@ use hp_num::List;
 
 /// One step of a path.
 #[derive(Clone, Copy, Debug, PartialEq, Eq)]
-pub struct Step {
+pub struct PathStep {
     /// The number of the node, from 0.
     pub node: u32,
     /// The number of the node's realization, from 0.
@@ -16,5 +16,5 @@ pub struct Trajectory {
     /// The incoming state of each step: one list per step, with one entry per state, at scale 2^24.
     pub states: List<List<i128>>,
     /// The number of solves on the way whose answers were of no use.
-    pub unsettled: u32,
+    pub unanswered: u32,
 }

@@ -3,7 +3,7 @@ use Rattle.std.proofs.Common.{◌≡◌, ℕ, zero, suc, ◌+◌, ◌<◌, ℤ, 
 use Rattle.std.proofs.lemmas.Slice.Zip.{get_or-zip, length-zip}
 use Rattle.hp_num.specs.Sums.{sum_to, total, entry, same_place}
 use Rattle.hp_num.proofs.Fronts.{total_more, sum_more}
-use Rattle.hp_problem.specs.declared.raw.Decision.{Decision}
+use Rattle.hp_parts.specs.declared.parts.Decision.{Decision}
 use Rattle.std.proofs.lemmas.List.{get_or-map}
 
 -- a sum over two lists with one pair more

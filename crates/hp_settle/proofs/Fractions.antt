@@ -4,11 +4,11 @@ use Rattle.std.proofs.lemmas.List.{length-map}
 use Rattle.hp_num.specs.Sums.{entry, at_terms}
 use Rattle.hp_num.proofs.Order.{le_scale}
 use Rattle.hp_num.proofs.Ring.{ring, var, ◌⊗◌}
-use Rattle.hp_problem.specs.declared.raw.Row.{Row}
+use Rattle.hp_parts.specs.declared.parts.Row.{Row}
 use Rattle.hp_theory.specs.Problem.{S, Node}
 use Rattle.hp_theory.specs.Tree.{InBox, AtLeast, AtMost, Decides, left_side, times_all}
 use Rattle.hp_theory.proofs.Fractions.{between}
-use Rattle.hp_settle.specs.Refutation.{NoDecision, fraction_side, FractionsDecide}
+use Rattle.hp_settle.specs.Farkas.{NoDecision, fraction_side, FractionsDecide}
 use Rattle.hp_settle.proofs.Refuted.{entry_times, terms_times}
 
 module _ (units : ℕ) (n : Node) (values x u : List ℤ) where

@@ -3,7 +3,7 @@ use Rattle.std.proofs.Common.{◌≡◌, ℕ, ◌+◌, ◌*◌, ◌^◌, ◌<◌
 use mir.Syntax.{w128}
 use Rattle.std.specs.Int.{int_min}
 use Rattle.hp_theory.proofs.SizeToFit.{lesser_by}
-use Rattle.hp_dual.specs.SizeByTerms.{span}
+use Rattle.hp_cut_making.specs.SizeByTerms.{span}
 use Rattle.std.proofs.lemmas.Int.{ints, unsigned_abs-mul, fits_signed_from_abs}
 
 module _ (a f v : ℤ) (s t n : ℕ) (own : nat_abs a ≤ s) (inner : nat_abs v ≤ t) (size : n ≡ s + nat_abs f * t) where

@@ -1,7 +1,7 @@
 pub mod Beside
 pub mod Fractions
 pub mod InRange
-pub mod JudgedDead
+pub mod ClassifiedInfeasible
 pub mod Refuted
 pub mod SettledNode
 pub mod SettledPairs
@@ -9,4 +9,4 @@ pub mod SettledRight
 pub mod SettledSteps
 pub mod ToppedPairs
 pub mod Viewed
-pub mod WorkedRefutation
+pub mod WorkedFarkas

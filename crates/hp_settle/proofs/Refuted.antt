@@ -10,7 +10,7 @@ use Rattle.hp_num.proofs.Order.{le_refl, le_of_eq, le_add, le_scale, le_flip, bo
 use Rattle.hp_num.proofs.Ring.{ring, var, num, ◌⊕◌, ◌⊗◌, ⊖}
 use Rattle.hp_num.proofs.Sums.{sum_ext, sum_times, sum_le, sum_terms, total_ext, total_times, total_le, entry_past}
 use Rattle.hp_num.proofs.Tests.{and_first, and_second}
-use Rattle.hp_problem.specs.declared.raw.Row.{Row}
+use Rattle.hp_parts.specs.declared.parts.Row.{Row}
 use Rattle.hp_theory.specs.Problem.{S, Node}
 use Rattle.hp_theory.specs.Tree.{InBox, AtLeast, AtMost, RowHolds, Decides, times_all}
 use Rattle.hp_theory.specs.Certificates.{SignRight}
@@ -18,8 +18,8 @@ use Rattle.hp_theory.specs.CutOf.{side_of, box_least}
 use Rattle.hp_theory.proofs.Fractions.{between}
 use Rattle.hp_theory.proofs.Lists.{All-zip, All-both}
 use Rattle.hp_theory.proofs.OneStage.{sum_total}
-use Rattle.hp_dual.specs.Acceptance.{is_sign}
-use Rattle.hp_settle.specs.Refutation.{right_side, reduced_cost, refutation_value, refutation_size, refutes_of, NoDecision}
+use Rattle.hp_cut_making.specs.Acceptance.{is_sign}
+use Rattle.hp_settle.specs.Farkas.{right_side, farkas_reduced_cost, farkas_value, farkas_size, refutes_of, NoDecision}
 
 -- numbers times the units
 pub entry_times : (units : ℕ) (xs : List ℤ) (k : ℕ) → entry (times_all units xs) k ≡ pos units *ℤ entry xs k
@@ -75,11 +75,11 @@ rows_step units values x u ys n s h =
     refl
 
 -- d·u
-reduced_sum : (d : ℕ) (n : Node) (ys u : List ℤ) → length u ≤ d → sum_to d (λ j. reduced_cost n.rows ys j *ℤ entry u j) ≡ neg_ℤ (total (λ (q : Row × ℤ). q.1 *ℤ at_terms q.0.decisions (entry u)) (zip n.rows ys))
+reduced_sum : (d : ℕ) (n : Node) (ys u : List ℤ) → length u ≤ d → sum_to d (λ j. farkas_reduced_cost n.rows ys j *ℤ entry u j) ≡ neg_ℤ (total (λ (q : Row × ℤ). q.1 *ℤ at_terms q.0.decisions (entry u)) (zip n.rows ys))
 reduced_sum d n ys u le =
     let sum : ℕ → ℤ = λ (j : ℕ). total (λ (q : Row × ℤ). q.1 *ℤ coefficient q.0.decisions j) (zip n.rows ys) in
     let whole : ℤ = total (λ (q : Row × ℤ). q.1 *ℤ at_terms q.0.decisions (entry u)) (zip n.rows ys) in
-    sum_ext d (λ j. reduced_cost n.rows ys j *ℤ entry u j) (λ j. negsuc 0 *ℤ (sum j *ℤ entry u j)) (λ j p. ring (sum j ∷ entry u j ∷ []) (⊖ (var 0) ⊗ var 1) (num (negsuc 0) ⊗ (var 0 ⊗ var 1)) tt)
+    sum_ext d (λ j. farkas_reduced_cost n.rows ys j *ℤ entry u j) (λ j. negsuc 0 *ℤ (sum j *ℤ entry u j)) (λ j p. ring (sum j ∷ entry u j ∷ []) (⊖ (var 0) ⊗ var 1) (num (negsuc 0) ⊗ (var 0 ⊗ var 1)) tt)
     ∙ sum_times d (negsuc 0) (λ j. sum j *ℤ entry u j)
     ∙ ap (λ (k : ℤ). negsuc 0 *ℤ k)
     (sum_total d (λ (q : Row × ℤ) j. q.1 *ℤ coefficient q.0.decisions j) (λ (q : Row × ℤ). q.1 *ℤ at_terms q.0.decisions (entry u)) (entry u) (zip n.rows ys)
@@ -90,13 +90,13 @@ reduced_sum d n ys u le =
 
 -- the boxes
 boxes_step : (units : ℕ) (n : Node) (ys u : List ℤ) → InBox units n.decision_low n.decision_high u
-    → (pos units *ℤ sum_to (length n.decision_low) (λ j. box_least n j (reduced_cost n.rows ys j))) ≤ℤ sum_to (length n.decision_low) (λ j. reduced_cost n.rows ys j *ℤ entry u j)
+    → (pos units *ℤ sum_to (length n.decision_low) (λ j. box_least n j (farkas_reduced_cost n.rows ys j))) ≤ℤ sum_to (length n.decision_low) (λ j. farkas_reduced_cost n.rows ys j *ℤ entry u j)
 boxes_step units n ys u b =
-    between (pos units *ℤ sum_to (length n.decision_low) (λ j. box_least n j (reduced_cost n.rows ys j))) (sum_to (length n.decision_low) (λ j. pos units *ℤ box_least n j (reduced_cost n.rows ys j)))
-    (sum_to (length n.decision_low) (λ j. reduced_cost n.rows ys j *ℤ entry u j)) (sum_to (length n.decision_low) (λ j. reduced_cost n.rows ys j *ℤ entry u j))
-    (sym (sum_times (length n.decision_low) (pos units) (λ j. box_least n j (reduced_cost n.rows ys j))))
-    (sum_le (length n.decision_low) (λ j. pos units *ℤ box_least n j (reduced_cost n.rows ys j)) (λ j. reduced_cost n.rows ys j *ℤ entry u j)
-    (λ j p. box_least_is units (reduced_cost n.rows ys j) (entry n.decision_low j) (entry n.decision_high j) (entry u j) (b.above j p) (b.below j p)))
+    between (pos units *ℤ sum_to (length n.decision_low) (λ j. box_least n j (farkas_reduced_cost n.rows ys j))) (sum_to (length n.decision_low) (λ j. pos units *ℤ box_least n j (farkas_reduced_cost n.rows ys j)))
+    (sum_to (length n.decision_low) (λ j. farkas_reduced_cost n.rows ys j *ℤ entry u j)) (sum_to (length n.decision_low) (λ j. farkas_reduced_cost n.rows ys j *ℤ entry u j))
+    (sym (sum_times (length n.decision_low) (pos units) (λ j. box_least n j (farkas_reduced_cost n.rows ys j))))
+    (sum_le (length n.decision_low) (λ j. pos units *ℤ box_least n j (farkas_reduced_cost n.rows ys j)) (λ j. farkas_reduced_cost n.rows ys j *ℤ entry u j)
+    (λ j p. box_least_is units (farkas_reduced_cost n.rows ys j) (entry n.decision_low j) (entry n.decision_high j) (entry u j) (b.above j p) (b.below j p)))
     refl
 
 assemble : (s n : ℕ) (r m a d : ℤ) → (pos n *ℤ r) ≤ℤ a → (pos (s * n) *ℤ m) ≤ℤ d → d ≡ neg_ℤ a → (pos n *ℤ (r +ℤ pos s *ℤ m)) ≤ℤ pos 0
@@ -107,10 +107,10 @@ assemble s n r m a d h k e =
     (ap (λ (z : ℤ). a +ℤ z) e ∙ ring (a ∷ []) (var 0 ⊕ ⊖ (var 0)) (num (pos 0)) tt)
 
 -- the value is not positive where decisions exist
-value_at_most : (units : ℕ) (n : Node) (values x ys u : List ℤ) → All (λ (q : Row × ℤ). SignRight q.0 q.1) (zip n.rows ys) → Decides (S * units) n values (times_all units x) u → (pos units *ℤ refutation_value n values x ys) ≤ℤ pos 0
+value_at_most : (units : ℕ) (n : Node) (values x ys u : List ℤ) → All (λ (q : Row × ℤ). SignRight q.0 q.1) (zip n.rows ys) → Decides (S * units) n values (times_all units x) u → (pos units *ℤ farkas_value n values x ys) ≤ℤ pos 0
 value_at_most units n values x ys u s d =
-    assemble S units (total (λ (q : Row × ℤ). q.1 *ℤ right_side values x q.0 q.1) (zip n.rows ys)) (sum_to (length n.decision_low) (λ j. box_least n j (reduced_cost n.rows ys j)))
-    (total (λ (q : Row × ℤ). q.1 *ℤ at_terms q.0.decisions (entry u)) (zip n.rows ys)) (sum_to (length n.decision_low) (λ j. reduced_cost n.rows ys j *ℤ entry u j))
+    assemble S units (total (λ (q : Row × ℤ). q.1 *ℤ right_side values x q.0 q.1) (zip n.rows ys)) (sum_to (length n.decision_low) (λ j. box_least n j (farkas_reduced_cost n.rows ys j)))
+    (total (λ (q : Row × ℤ). q.1 *ℤ at_terms q.0.decisions (entry u)) (zip n.rows ys)) (sum_to (length n.decision_low) (λ j. farkas_reduced_cost n.rows ys j *ℤ entry u j))
     (rows_step units values x u ys n s d.rows) (boxes_step (S * units) n ys u d.box) (reduced_sum (length n.decision_low) n ys u (omega (arith, d.box.count)))
 
 -- the signs as a test
@@ -137,7 +137,7 @@ positive n v p e h =
 pub refuted : (n : Node) (values x ys : List ℤ) → refutes_of n values x ys ≡ true → NoDecision n values x
 unfolding refutes_of
 refuted n values x ys e = λ units u p d.
-    let shape : ((length ys == length n.rows) && list_all (λ (q : Row × ℤ). is_sign q.0 q.1) (zip n.rows ys)) ≡ true = and_first _ (nat_lt (refutation_size n values x ys) (2 ^ 127) && int_lt (pos 0) (refutation_value n values x ys)) e in
-    let range : (nat_lt (refutation_size n values x ys) (2 ^ 127) && int_lt (pos 0) (refutation_value n values x ys)) ≡ true = and_second ((length ys == length n.rows) && list_all (λ (q : Row × ℤ). is_sign q.0 q.1) (zip n.rows ys)) _ e in
-    positive units (refutation_value n values x ys) p (and_second (nat_lt (refutation_size n values x ys) (2 ^ 127)) (int_lt (pos 0) (refutation_value n values x ys)) range)
+    let shape : ((length ys == length n.rows) && list_all (λ (q : Row × ℤ). is_sign q.0 q.1) (zip n.rows ys)) ≡ true = and_first _ (nat_lt (farkas_size n values x ys) (2 ^ 127) && int_lt (pos 0) (farkas_value n values x ys)) e in
+    let range : (nat_lt (farkas_size n values x ys) (2 ^ 127) && int_lt (pos 0) (farkas_value n values x ys)) ≡ true = and_second ((length ys == length n.rows) && list_all (λ (q : Row × ℤ). is_sign q.0 q.1) (zip n.rows ys)) _ e in
+    positive units (farkas_value n values x ys) p (and_second (nat_lt (farkas_size n values x ys) (2 ^ 127)) (int_lt (pos 0) (farkas_value n values x ys)) range)
     (value_at_most units n values x ys u (signs_right (zip n.rows ys) (and_second (length ys == length n.rows) (list_all (λ (q : Row × ℤ). is_sign q.0 q.1) (zip n.rows ys)) shape)) d)

@@ -3,12 +3,12 @@ use Rattle.std.proofs.Common.{◌≡◌, ◌∙◌, ℕ, zero, suc, ◌+◌, ◌
 use Rattle.std.proofs.lemmas.List.{length-set, get_or_past}
 use Rattle.std.proofs.lemmas.List.Elements.{All-nil, All-cons, All-head, All-weaker}
 use Rattle.hp_theory.specs.declared.cut.Cut.{Cut}
-use Rattle.hp_theory.specs.Problem.{S, Link}
+use Rattle.hp_theory.specs.Problem.{S, Successor}
 use Rattle.hp_theory.specs.Pools.{pool}
 use Rattle.hp_theory.specs.Certificates.{Rising, multipliers, PairsRight}
 use Rattle.hp_solver.specs.declared.fixed.Fx.{Fx}
 use Rattle.hp_solver.specs.Numbers.{zero_fx}
-use Rattle.hp_settle.specs.Settling.{cut_multiplier, cut_multipliers, capped, missing, greatest_from, place_of_greatest, place_of_missing, raised, shared, pairs_from, settled_pairs}
+use Rattle.hp_settle.specs.Settling.{cut_multiplier, cut_multipliers, capped, missing, greatest_place_from, place_of_greatest, place_of_missing, raised_place, shared, pairs_from, settled_pairs}
 
 -- lengths
 pub length-cut_multipliers : (duals : List Fx) (k count : ℕ) → length (cut_multipliers duals k count) ≡ count
@@ -34,12 +34,12 @@ min_rest v left = omega arith
 
 pub total-capped : (left : ℕ) (vs : List ℕ) → total (capped left vs) + missing left vs ≡ left
 total-capped left [] = omega arith
-total-capped left (v ∷ vs) = let rest : total (capped (left - v) vs) + missing (left - v) vs ≡ left - v = total-capped (left - v) vs in omega (arith, rest, min_rest v left)
+total-capped left (v ∷ vs) = let tail : total (capped (left - v) vs) + missing (left - v) vs ≡ left - v = total-capped (left - v) vs in omega (arith, tail, min_rest v left)
 
-pub total-raised : (vs : List ℕ) (k more : ℕ) → k < length vs → total (raised vs k more) ≡ total vs + more
-total-raised [] k more h = absurd (omega arith)
-total-raised (v ∷ vs) zero more h = omega arith
-total-raised (v ∷ vs) (suc k) more h = let rest : total (raised vs k more) ≡ total vs + more = total-raised vs k more (omega arith) in omega (arith, rest)
+pub total-raised_place : (vs : List ℕ) (k more : ℕ) → k < length vs → total (raised_place vs k more) ≡ total vs + more
+total-raised_place [] k more h = absurd (omega arith)
+total-raised_place (v ∷ vs) zero more h = omega arith
+total-raised_place (v ∷ vs) (suc k) more h = let tail : total (raised_place vs k more) ≡ total vs + more = total-raised_place vs k more (omega arith) in omega (arith, tail)
 
 -- where something is missing, each has kept all
 missing_at_most : (left : ℕ) (vs : List ℕ) → missing left vs ≤ left
@@ -53,11 +53,11 @@ kept_all left (v ∷ vs) h =
     ap₂ (λ (w : ℕ) (ws : List ℕ). w ∷ ws) own (kept_all (left - v) vs h)
 
 -- the greatest is there
-pub greatest-inside : (best most k : ℕ) (vs : List ℕ) → best < k + length vs → greatest_from best most k vs < k + length vs
+pub greatest-inside : (best most k : ℕ) (vs : List ℕ) → best < k + length vs → greatest_place_from best most k vs < k + length vs
 greatest-inside best most k [] h = h
 greatest-inside best most k (v ∷ vs) h = by (nat_lt most v) (greatest-inside k v (suc k) vs (omega arith)) (greatest-inside best most (suc k) vs (omega arith))
   where
-    by : (b : Bool) → greatest_from k v (suc k) vs < suc k + length vs → greatest_from best most (suc k) vs < suc k + length vs → (if b then greatest_from k v (suc k) vs else greatest_from best most (suc k) vs) < k + suc (length vs)
+    by : (b : Bool) → greatest_place_from k v (suc k) vs < suc k + length vs → greatest_place_from best most (suc k) vs < suc k + length vs → (if b then greatest_place_from k v (suc k) vs else greatest_place_from best most (suc k) vs) < k + suc (length vs)
     by true one other = omega arith
     by false one other = omega arith
 
@@ -74,7 +74,7 @@ missing-inside more vs h = by (nat_lt (length (pairs_from 0 vs)) more)
 
 pub total-shared : (target : ℕ) (vs : List ℕ) → 0 < length vs → total (shared target vs) ≡ target
 total-shared target vs h =
-    total-raised (capped target vs) (place_of_missing (missing target vs) (capped target vs)) (missing target vs) (missing-inside (missing target vs) (capped target vs) (omega (arith, h, length-capped target vs)))
+    total-raised_place (capped target vs) (place_of_missing (missing target vs) (capped target vs)) (missing target vs) (missing-inside (missing target vs) (capped target vs) (omega (arith, h, length-capped target vs)))
     ∙ total-capped target vs
 
 -- pairs
@@ -122,7 +122,7 @@ multipliers-pairs_from k (zero ∷ vs) = omega (arith, multipliers-pairs_from (s
 multipliers-pairs_from k (suc v ∷ vs) = ap (λ n. suc v + n) (multipliers-pairs_from (suc k) vs)
 
 -- a successor that has cuts
-pub pairs_right : (pools : List (List Cut)) (l : Link) (duals : List Fx) → 0 < length (pool pools l.node) → PairsRight pools (l, settled_pairs (S * l.weight) (length (pool pools l.node)) duals)
+pub pairs_right : (pools : List (List Cut)) (l : Successor) (duals : List Fx) → 0 < length (pool pools l.node) → PairsRight pools (l, settled_pairs (S * l.weight) (length (pool pools l.node)) duals)
 pairs_right pools l duals h =
     let count = length (pool pools l.node) in
     let vs = cut_multipliers duals 0 count in
@@ -155,7 +155,7 @@ missing-zeros left (suc count) =
     let same : left - 0 ≡ left = omega arith in
     ap (λ (n : ℕ). missing n (replicate count 0)) same ∙ missing-zeros left count
 
-greatest-zeros : (best k count : ℕ) → greatest_from best 0 k (replicate count 0) ≡ best
+greatest-zeros : (best k count : ℕ) → greatest_place_from best 0 k (replicate count 0) ≡ best
 greatest-zeros best k zero = refl
 greatest-zeros best k (suc count) = greatest-zeros best (suc k) count
 
@@ -174,8 +174,8 @@ shared-zeros : (target count : ℕ) → shared target (replicate (suc count) 0) 
 shared-zeros target count =
     let zeros : List ℕ = replicate (suc count) 0 in
     let same : 0 + target ≡ target = omega arith in
-    ap₂ (λ (vs : List ℕ) (more : ℕ). raised vs (place_of_missing more vs) more) (capped-zeros target (suc count)) (missing-zeros target (suc count))
-    ∙ ap (λ (place : ℕ). raised zeros place target) (missing_first target count) ∙ ap (λ (n : ℕ). n ∷ replicate count 0) same
+    ap₂ (λ (vs : List ℕ) (more : ℕ). raised_place vs (place_of_missing more vs) more) (capped-zeros target (suc count)) (missing-zeros target (suc count))
+    ∙ ap (λ (place : ℕ). raised_place zeros place target) (missing_first target count) ∙ ap (λ (n : ℕ). n ∷ replicate count 0) same
 
 -- without duals the first cut takes all
 pub no_duals-pairs : (target count : ℕ) → 0 < target → 0 < count → settled_pairs target count [] ≡ (0, target) ∷ []

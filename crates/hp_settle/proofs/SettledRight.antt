@@ -4,9 +4,9 @@ use Rattle.std.specs.Prelude.{is_some}
 use Rattle.std.proofs.lemmas.List.{length-map}
 use Rattle.std.proofs.lemmas.List.Elements.{All-nil, All-cons, All-head, All-tail}
 use Rattle.std.proofs.Math.Seq.{drop-nil}
-use Rattle.hp_problem.specs.declared.raw.Row.{Row}
+use Rattle.hp_parts.specs.declared.parts.Row.{Row}
 use Rattle.hp_theory.specs.declared.cut.Cut.{Cut}
-use Rattle.hp_theory.specs.Problem.{S, Link, Node}
+use Rattle.hp_theory.specs.Problem.{S, Successor, Node}
 use Rattle.hp_theory.specs.Pools.{pool}
 use Rattle.hp_theory.specs.Certificates.{SignRight, PairsRight, RightAt, Right}
 use Rattle.hp_theory.specs.Base.{base_certificate}
@@ -14,9 +14,9 @@ use Rattle.hp_solver.specs.declared.fixed.Fx.{Fx}
 use Rattle.hp_solver.specs.declared.programs.Answer.{Answer}
 use Rattle.hp_solver.specs.declared.programs.Kind.{Kind}
 use Rattle.hp_solver.specs.declared.programs.Kind.TheVariants.{Found, Ray, Stuck}
-use Rattle.hp_dual.specs.Acceptance.{fault_of, range_fault}
+use Rattle.hp_cut_making.specs.Acceptance.{fault_of, range_fault}
 use Rattle.hp_dual.proofs.Faultless.{right-range_fault}
-use Rattle.hp_settle.specs.Settling.{dual_at, clamped, rescaled, signed, finer, row_over, settled_rows, settled_pairs, settled_links, settled_duals, used_duals, settled_by, settled_of}
+use Rattle.hp_settle.specs.Settling.{row_dual, clamped_number, rescaled_multiplier, signed, finer, row_multiplier_over, settled_rows, settled_pairs, settled_successors, settled_duals, used_duals, settled_by, settled_of}
 use Rattle.hp_settle.proofs.SettledPairs.{pairs_right, no_duals-pairs}
 
 -- rows
@@ -46,29 +46,29 @@ length-settled_rows i (row ∷ rows) duals = ap suc (length-settled_rows (suc i)
 
 pub signs : (i : ℕ) (rows : List Row) (duals : List Fx) → All RightSign (zip rows (settled_rows i rows duals))
 signs i [] duals = All-nil RightSign
-signs i (row ∷ rows) duals = All-cons RightSign (row, row_over finer row (dual_at duals i)) (zip rows (settled_rows (suc i) rows duals)) (signed_right row (clamped (rescaled (dual_at duals i)))) (signs (suc i) rows duals)
+signs i (row ∷ rows) duals = All-cons RightSign (row, row_multiplier_over finer row (row_dual duals i)) (zip rows (settled_rows (suc i) rows duals)) (signed_right row (clamped_number (rescaled_multiplier (row_dual duals i)))) (signs (suc i) rows duals)
 
 -- successors
-abbrev pub HasCuts : List (List Cut) → Link → Type 0
+abbrev pub HasCuts : List (List Cut) → Successor → Type 0
 HasCuts pools l = (0 < l.weight) × (0 < length (pool pools l.node))
 
-length-settled_links : (pools : List (List Cut)) (ls : List Link) (duals : List Fx) → length (settled_links pools ls duals) ≡ length ls
-length-settled_links pools [] duals = refl
-length-settled_links pools (l ∷ ls) duals = ap suc (length-settled_links pools ls (drop (length (pool pools l.node)) duals))
+length-settled_successors : (pools : List (List Cut)) (ls : List Successor) (duals : List Fx) → length (settled_successors pools ls duals) ≡ length ls
+length-settled_successors pools [] duals = refl
+length-settled_successors pools (l ∷ ls) duals = ap suc (length-settled_successors pools ls (drop (length (pool pools l.node)) duals))
 
-links_right : (pools : List (List Cut)) (ls : List Link) (duals : List Fx) → All (HasCuts pools) ls → All (PairsRight pools) (zip ls (settled_links pools ls duals))
-links_right pools [] duals h = All-nil (PairsRight pools)
-links_right pools (l ∷ ls) duals h =
-    let rest = drop (length (pool pools l.node)) duals in
-    All-cons (PairsRight pools) (l, settled_pairs (S * l.weight) (length (pool pools l.node)) duals) (zip ls (settled_links pools ls rest)) (pairs_right pools l duals (All-head (HasCuts pools) l ls h).1) (links_right pools ls rest (All-tail (HasCuts pools) l ls h))
+successors_right : (pools : List (List Cut)) (ls : List Successor) (duals : List Fx) → All (HasCuts pools) ls → All (PairsRight pools) (zip ls (settled_successors pools ls duals))
+successors_right pools [] duals h = All-nil (PairsRight pools)
+successors_right pools (l ∷ ls) duals h =
+    let tail = drop (length (pool pools l.node)) duals in
+    All-cons (PairsRight pools) (l, settled_pairs (S * l.weight) (length (pool pools l.node)) duals) (zip ls (settled_successors pools ls tail)) (pairs_right pools l duals (All-head (HasCuts pools) l ls h).1) (successors_right pools ls tail (All-tail (HasCuts pools) l ls h))
 
 -- any duals
-pub duals_right : (pools : List (List Cut)) (n : Node) (duals : List Fx) → All (HasCuts pools) n.links → RightAt pools n (settled_duals pools n duals)
+pub duals_right : (pools : List (List Cut)) (n : Node) (duals : List Fx) → All (HasCuts pools) n.successors → RightAt pools n (settled_duals pools n duals)
 duals_right pools n duals h = record {
   rows = length-settled_rows 0 n.rows duals;
-  links = length-settled_links pools n.links (drop (length n.rows) duals);
+  successors = length-settled_successors pools n.successors (drop (length n.rows) duals);
   signs = signs 0 n.rows duals;
-  pairs = links_right pools n.links (drop (length n.rows) duals) h;
+  pairs = successors_right pools n.successors (drop (length n.rows) duals) h;
 }
 
 -- no duals give the base certificate
@@ -76,50 +76,50 @@ no_rows : (i : ℕ) (rows : List Row) → settled_rows i rows [] ≡ map (λ (ro
 no_rows i [] = refl
 no_rows i (row ∷ rows) = ap (λ (ys : List ℤ). pos 0 ∷ ys) (no_rows (suc i) rows)
 
-no_links : (pools : List (List Cut)) (ls : List Link) → All (HasCuts pools) ls → (0 < S) → settled_links pools ls [] ≡ map (λ (l : Link). (0, S * l.weight) ∷ []) ls
-no_links pools [] h s = refl
-no_links pools (l ∷ ls) h s =
+no_successors : (pools : List (List Cut)) (ls : List Successor) → All (HasCuts pools) ls → (0 < S) → settled_successors pools ls [] ≡ map (λ (l : Successor). (0, S * l.weight) ∷ []) ls
+no_successors pools [] h s = refl
+no_successors pools (l ∷ ls) h s =
     let q : HasCuts pools l = All-head (HasCuts pools) l ls h in
     let none : ◌≡◌ {A = List Fx} (drop (length (pool pools l.node)) []) [] = drop-nil (length (pool pools l.node)) in
     rw (none, no_duals-pairs (S * l.weight) (length (pool pools l.node)) (mul-pos s q.0) q.1)
-    (ap (λ (cuts : List (List (ℕ × ℕ))). ((0, S * l.weight) ∷ []) ∷ cuts) (no_links pools ls (All-tail (HasCuts pools) l ls h) s))
+    (ap (λ (cuts : List (List (ℕ × ℕ))). ((0, S * l.weight) ∷ []) ∷ cuts) (no_successors pools ls (All-tail (HasCuts pools) l ls h) s))
 
 some_scale : 0 < S
 unfolding S
 some_scale = omega arith
 
-pub no_duals-base : (pools : List (List Cut)) (n : Node) → All (HasCuts pools) n.links → settled_duals pools n [] ≡ base_certificate n
+pub no_duals-base : (pools : List (List Cut)) (n : Node) → All (HasCuts pools) n.successors → settled_duals pools n [] ≡ base_certificate n
 no_duals-base pools n h =
     let none : ◌≡◌ {A = List Fx} (drop (length n.rows) []) [] = drop-nil (length n.rows) in
     rw none
-    (ap₂ (λ (rows : List ℤ) (cuts : List (List (ℕ × ℕ))). record { rows = rows; cuts = cuts }) (no_rows 0 n.rows) (no_links pools n.links h some_scale))
+    (ap₂ (λ (rows : List ℤ) (cuts : List (List (ℕ × ℕ))). record { rows = rows; cuts = cuts }) (no_rows 0 n.rows) (no_successors pools n.successors h some_scale))
 
 -- any answer
-by_right : (kind : Kind) (pools : List (List Cut)) (n : Node) (duals : List Fx) → All (HasCuts pools) n.links → RightAt pools n (settled_by kind pools n duals)
+by_right : (kind : Kind) (pools : List (List Cut)) (n : Node) (duals : List Fx) → All (HasCuts pools) n.successors → RightAt pools n (settled_by kind pools n duals)
 by_right Found pools n duals h = duals_right pools n duals h
 by_right Ray pools n duals h = subst (RightAt pools n) (no_duals-base pools n h) (duals_right pools n [] h)
 by_right Stuck pools n duals h = subst (RightAt pools n) (no_duals-base pools n h) (duals_right pools n [] h)
 
-by_used : (kind : Kind) (pools : List (List Cut)) (n : Node) (duals : List Fx) → All (HasCuts pools) n.links → settled_duals pools n (used_duals kind duals) ≡ settled_by kind pools n duals
+by_used : (kind : Kind) (pools : List (List Cut)) (n : Node) (duals : List Fx) → All (HasCuts pools) n.successors → settled_duals pools n (used_duals kind duals) ≡ settled_by kind pools n duals
 by_used Found pools n duals h = refl
 by_used Ray pools n duals h = no_duals-base pools n h
 by_used Stuck pools n duals h = no_duals-base pools n h
 
-pub settled_used : (pools : List (List Cut)) (n : Node) (answer : Answer) → All (HasCuts pools) n.links → settled_duals pools n (used_duals answer.kind answer.duals) ≡ settled_of pools n answer
+pub settled_used : (pools : List (List Cut)) (n : Node) (answer : Answer) → All (HasCuts pools) n.successors → settled_duals pools n (used_duals answer.kind answer.duals) ≡ settled_of pools n answer
 unfolding settled_of
 settled_used pools n answer h = by_used answer.kind pools n answer.duals h
 
-pub settled_right : (pools : List (List Cut)) (n : Node) (answer : Answer) → All (HasCuts pools) n.links → RightAt pools n (settled_of pools n answer)
+pub settled_right : (pools : List (List Cut)) (n : Node) (answer : Answer) → All (HasCuts pools) n.successors → RightAt pools n (settled_of pools n answer)
 unfolding settled_of
 settled_right pools n answer h = by_right answer.kind pools n answer.duals h
 
-all_right : (pools : List (List Cut)) (n : Node) (answers : List Answer) → All (HasCuts pools) n.links → All (RightAt pools n) (map (settled_of pools n) answers)
+all_right : (pools : List (List Cut)) (n : Node) (answers : List Answer) → All (HasCuts pools) n.successors → All (RightAt pools n) (map (settled_of pools n) answers)
 all_right pools n [] h = All-nil (RightAt pools n)
 all_right pools n (a ∷ answers) h = All-cons (RightAt pools n) (settled_of pools n a) (map (settled_of pools n) answers) (settled_right pools n a h) (all_right pools n answers h)
 
-pub settled_list_right : (pools : List (List Cut)) (n : Node) (answers : List Answer) → All (HasCuts pools) n.links → length answers ≡ length n.realizations → Right pools n (map (settled_of pools n) answers)
+pub settled_list_right : (pools : List (List Cut)) (n : Node) (answers : List Answer) → All (HasCuts pools) n.successors → length answers ≡ length n.realizations → Right pools n (map (settled_of pools n) answers)
 settled_list_right pools n answers h e = record { count = length-map answers (settled_of pools n) ∙ e; each = all_right pools n answers h }
 
 -- the only fault of settled certificates
-pub settled_fault : (pools : List (List Cut)) (n : Node) (answers : List Answer) → All (HasCuts pools) n.links → length answers ≡ length n.realizations → fault_of pools n (map (settled_of pools n) answers) ≡ range_fault pools n (map (settled_of pools n) answers)
+pub settled_fault : (pools : List (List Cut)) (n : Node) (answers : List Answer) → All (HasCuts pools) n.successors → length answers ≡ length n.realizations → fault_of pools n (map (settled_of pools n) answers) ≡ range_fault pools n (map (settled_of pools n) answers)
 settled_fault pools n answers h e = right-range_fault pools n (map (settled_of pools n) answers) (settled_list_right pools n answers h e)

@@ -1,5 +1,5 @@
 -- Sharing out a target over the duals of cuts, and the pairs that come of it.
-use Rattle.std.proofs.Common.{◌≡◌, ◌∙◌, ℕ, zero, suc, ◌+◌, ◌-◌, ◌<◌, ◌≤◌, ◌^◌, min, ℤ, pos, List, [], ◌∷◌, ◌++◌, length, get_or, drop, Bool, true, false, if◌then◌else◌, All, refl, sym, ap, ap₂, arith}
+use Rattle.std.proofs.Common.{◌≡◌, ◌∙◌, ℕ, zero, suc, ◌+◌, ◌-◌, ◌<◌, ◌≤◌, ◌^◌, min, List, [], ◌∷◌, ◌++◌, length, get_or, drop, Bool, true, false, if◌then◌else◌, All, refl, sym, ap, ap₂, arith}
 use Rattle.std.proofs.lemmas.List.{append_assoc, drop_more}
 use Rattle.std.proofs.lemmas.List.Elements.{All-nil, All-cons}
 use Rattle.hp_theory.specs.Certificates.{multipliers}
@@ -8,8 +8,8 @@ use Rattle.hp_solver.specs.Numbers.{zero_fx}
 use Rattle.hp_solver.specs.Duals.{dual_in, not_zero, is_zero}
 use Rattle.hp_solver.proofs.SpreadDuals.{zero_is}
 use Rattle.hp_settle.specs.Kept.{kept_pairs, left_over}
-use Rattle.hp_settle.specs.Settling.{dual_at, cut_multiplier, cut_multipliers, capped, missing, pairs_from, topped, settled_pairs}
-use Rattle.hp_settle.proofs.SettledPairs.{length-cut_multipliers, length-capped, total-capped, multipliers-pairs_from, zero_multipliers, capped-zeros, missing-zeros, pairs-zeros}
+use Rattle.hp_settle.specs.Settling.{row_dual, cut_multiplier, cut_multipliers, capped, missing, pairs_from, topped, settled_pairs}
+use Rattle.hp_settle.proofs.SettledPairs.{length-cut_multipliers, length-capped, total-capped, multipliers-pairs_from}
 use Rattle.hp_settle.proofs.ToppedPairs.{pairs_from-cons, topped-pairs}
 
 -- sharing out over the duals of all cuts is sharing out over those that are not 0
@@ -19,35 +19,35 @@ module _ (duals : List Fx) where
 
   pub kept_shares : (left k n : ℕ) → kept_pairs left (not_zero (dual_in duals) k n) ≡ pairs_from k (capped left (cut_multipliers duals k n))
   kept_shares left k zero = refl
-  kept_shares left k (suc n) = by (λ (rest : ℕ). kept_shares rest (suc k) n) (is_zero (dual_in duals k)) refl
+  kept_shares left k (suc n) = by (λ (tail : ℕ). kept_shares tail (suc k) n) (is_zero (dual_in duals k)) refl
     where
-      by : ((rest : ℕ) → kept_pairs rest (not_zero (dual_in duals) (suc k) n) ≡ pairs_from (suc k) (capped rest (cut_multipliers duals (suc k) n)))
+      by : ((tail : ℕ) → kept_pairs tail (not_zero (dual_in duals) (suc k) n) ≡ pairs_from (suc k) (capped tail (cut_multipliers duals (suc k) n)))
           → (t : Bool) → is_zero (dual_in duals k) ≡ t
           → kept_pairs left (if t then not_zero (dual_in duals) (suc k) n else (k, dual_in duals k) ∷ not_zero (dual_in duals) (suc k) n)
-          ≡ pairs_from k (min (cut_multiplier (dual_at duals k)) left ∷ capped (left - cut_multiplier (dual_at duals k)) (cut_multipliers duals (suc k) n))
+          ≡ pairs_from k (min (cut_multiplier (row_dual duals k)) left ∷ capped (left - cut_multiplier (row_dual duals k)) (cut_multipliers duals (suc k) n))
       by behind true e =
-          let none : cut_multiplier (dual_at duals k) ≡ 0 = nothing (dual_in duals k) (zero_is (dual_in duals k) e) in
-          let least : 0 ≡ min (cut_multiplier (dual_at duals k)) left = omega (arith, none) in
-          let rest : left ≡ left - cut_multiplier (dual_at duals k) = omega (arith, none) in
-          behind left ∙ ap₂ (λ (v r : ℕ). pairs_from k (v ∷ capped r (cut_multipliers duals (suc k) n))) least rest
+          let none : cut_multiplier (row_dual duals k) ≡ 0 = nothing (dual_in duals k) (zero_is (dual_in duals k) e) in
+          let least : 0 ≡ min (cut_multiplier (row_dual duals k)) left = omega (arith, none) in
+          let tail : left ≡ left - cut_multiplier (row_dual duals k) = omega (arith, none) in
+          behind left ∙ ap₂ (λ (v r : ℕ). pairs_from k (v ∷ capped r (cut_multipliers duals (suc k) n))) least tail
       by behind false e =
-          let v : ℕ = cut_multiplier (dual_at duals k) in
+          let v : ℕ = cut_multiplier (row_dual duals k) in
           ap (λ (ss : List (ℕ × ℕ)). pairs_from k (min v left ∷ []) ++ ss) (behind (left - v))
           ∙ sym (pairs_from-cons k (min v left) (capped (left - v) (cut_multipliers duals (suc k) n)))
 
   pub left_of_all : (left k n : ℕ) → left_over left (not_zero (dual_in duals) k n) ≡ missing left (cut_multipliers duals k n)
   left_of_all left k zero = refl
-  left_of_all left k (suc n) = by (λ (rest : ℕ). left_of_all rest (suc k) n) (is_zero (dual_in duals k)) refl
+  left_of_all left k (suc n) = by (λ (tail : ℕ). left_of_all tail (suc k) n) (is_zero (dual_in duals k)) refl
     where
-      by : ((rest : ℕ) → left_over rest (not_zero (dual_in duals) (suc k) n) ≡ missing rest (cut_multipliers duals (suc k) n))
+      by : ((tail : ℕ) → left_over tail (not_zero (dual_in duals) (suc k) n) ≡ missing tail (cut_multipliers duals (suc k) n))
           → (t : Bool) → is_zero (dual_in duals k) ≡ t
           → left_over left (if t then not_zero (dual_in duals) (suc k) n else (k, dual_in duals k) ∷ not_zero (dual_in duals) (suc k) n)
-          ≡ missing (left - cut_multiplier (dual_at duals k)) (cut_multipliers duals (suc k) n)
+          ≡ missing (left - cut_multiplier (row_dual duals k)) (cut_multipliers duals (suc k) n)
       by behind true e =
-          let none : cut_multiplier (dual_at duals k) ≡ 0 = nothing (dual_in duals k) (zero_is (dual_in duals k) e) in
-          let rest : left ≡ left - cut_multiplier (dual_at duals k) = omega (arith, none) in
-          behind left ∙ ap (λ (r : ℕ). missing r (cut_multipliers duals (suc k) n)) rest
-      by behind false e = behind (left - cut_multiplier (dual_at duals k))
+          let none : cut_multiplier (row_dual duals k) ≡ 0 = nothing (dual_in duals k) (zero_is (dual_in duals k) e) in
+          let tail : left ≡ left - cut_multiplier (row_dual duals k) = omega (arith, none) in
+          behind left ∙ ap (λ (r : ℕ). missing r (cut_multipliers duals (suc k) n)) tail
+      by behind false e = behind (left - cut_multiplier (row_dual duals k))
 
 -- places of duals are below their count
 pub places_below : (dual : ℕ → Fx) (k n most : ℕ) → k + n ≤ most → All (λ (p : ℕ × Fx). p.0 < most) (not_zero dual k n)
@@ -59,11 +59,11 @@ places_below dual k (suc n) most h = by (places_below dual (suc k) n most (omega
     by behind false = All-cons (λ (p : ℕ × Fx). p.0 < most) (k, dual k) (not_zero dual (suc k) n) (omega (arith, h)) behind
 
 -- one dual more
-pub one_kept : (pairs new : List (ℕ × ℕ)) (left now i : ℕ) (duals : List (ℕ × Fx)) (d : ℕ × Fx) (all : List (ℕ × ℕ)) (rest : ℕ) → i < length duals
+pub one_kept : (pairs new : List (ℕ × ℕ)) (left now i : ℕ) (duals : List (ℕ × Fx)) (d : ℕ × Fx) (all : List (ℕ × ℕ)) (tail : ℕ) → i < length duals
     → new ≡ pairs ++ pairs_from (get_or duals i d).0 (min (cut_multiplier (get_or duals i d).1.0) left ∷ []) → now ≡ left - cut_multiplier (get_or duals i d).1.0
-    → (pairs ++ kept_pairs left (drop i duals) ≡ all) × (left_over left (drop i duals) ≡ rest)
-    → (new ++ kept_pairs now (drop (i + 1) duals) ≡ all) × (left_over now (drop (i + 1) duals) ≡ rest)
-one_kept pairs new left now i duals d all rest h e f w =
+    → (pairs ++ kept_pairs left (drop i duals) ≡ all) × (left_over left (drop i duals) ≡ tail)
+    → (new ++ kept_pairs now (drop (i + 1) duals) ≡ all) × (left_over now (drop (i + 1) duals) ≡ tail)
+one_kept pairs new left now i duals d all tail h e f w =
     let p : ℕ × Fx = get_or duals i d in
     let own : List (ℕ × ℕ) = pairs_from p.0 (min (cut_multiplier p.1.0) left ∷ []) in
     let more = drop_more duals i d h in
@@ -73,13 +73,13 @@ one_kept pairs new left now i duals d all rest h e f w =
       ap (λ (n : ℕ). left_over n (drop (i + 1) duals)) f ∙ sym (ap (left_over left) more) ∙ w.1,
     )
 
-module _ (target count : ℕ) (duals : List Fx) (pairs : List (ℕ × ℕ)) (rest : ℕ) (is : pairs ≡ pairs_from 0 (capped target (cut_multipliers duals 0 count))) (left : rest ≡ missing target (cut_multipliers duals 0 count)) where
-  pub room_there : target < 2 ^ 64 → multipliers pairs + rest < 2 ^ 64
+module _ (target count : ℕ) (duals : List Fx) (pairs : List (ℕ × ℕ)) (tail : ℕ) (is : pairs ≡ pairs_from 0 (capped target (cut_multipliers duals 0 count))) (left : tail ≡ missing target (cut_multipliers duals 0 count)) where
+  pub room_there : target < 2 ^ 64 → multipliers pairs + tail < 2 ^ 64
   room_there h =
       let vs : List ℕ = cut_multipliers duals 0 count in
       rw (is, left) (omega (arith, h, multipliers-pairs_from 0 (capped target vs), total-capped target vs))
 
-  pub all_shared : 0 < count → topped pairs rest ≡ settled_pairs target count duals
+  pub all_shared : 0 < count → topped pairs tail ≡ settled_pairs target count duals
   all_shared h =
       let vs : List ℕ = cut_multipliers duals 0 count in
       rw (is, left) (sym (topped-pairs (capped target vs) (missing target vs) (omega (arith, h, length-capped target vs, length-cut_multipliers duals 0 count))))

@@ -1,6 +1,6 @@
 pub mod Examples
-pub mod Judging
-pub mod Refutation
+pub mod Classifying
+pub mod Farkas
 pub mod Settling
 pub mod Kept
 pub mod SizedSums

@@ -3,10 +3,10 @@
 use Rattle.std.specs.Prelude.{ℕ, zero, suc, ◌+◌, ◌-◌, ◌*◌, ◌/◌, ◌^◌, min, ℤ, pos, negsuc, List, [], ◌∷◌, length, get_or, map, drop, set, nat_lt, if◌then◌else◌}
 use Rattle.std.specs.Int.{int_min, int_max}
 use Rattle.hp_num.specs.Sums.{floor_over}
-use Rattle.hp_problem.specs.declared.raw.Row.{Row}
+use Rattle.hp_parts.specs.declared.parts.Row.{Row}
 use Rattle.hp_theory.specs.declared.cut.Cut.{Cut}
 use Rattle.hp_theory.specs.declared.cut.Certificate.{Certificate}
-use Rattle.hp_theory.specs.Problem.{S, Link, Node}
+use Rattle.hp_theory.specs.Problem.{S, Successor, Node}
 use Rattle.hp_theory.specs.Pools.{pool}
 use Rattle.hp_theory.specs.Base.{base_certificate}
 use Rattle.hp_solver.specs.declared.fixed.Fx.{Fx}
@@ -14,40 +14,40 @@ use Rattle.hp_solver.specs.declared.programs.Answer.{Answer}
 use Rattle.hp_solver.specs.declared.programs.Kind.{Kind}
 use Rattle.hp_solver.specs.declared.programs.Kind.TheVariants.{Found, Ray, Stuck}
 use Rattle.hp_solver.specs.Numbers.{zero_fx}
-use Rattle.hp_dual.specs.Acceptance.{is_sign}
+use Rattle.hp_cut_making.specs.Acceptance.{is_sign}
 
 -- the dual of row i, 0 where it is missing
-abbrev pub dual_at : List Fx → ℕ → ℤ
-dual_at duals i = (get_or duals i zero_fx).0
+abbrev pub row_dual : List Fx → ℕ → ℤ
+row_dual duals i = (get_or duals i zero_fx).0
 
 -- how often the scale of multipliers, 2^24, goes into that of duals, 2^32
 abbrev pub finer : ℕ
 finer = 2 ^ 32 / 2 ^ 24
 
 -- at the scale of multipliers, rounded down
-abbrev pub rescaled : ℤ → ℤ
-rescaled z = floor_over z finer
+abbrev pub rescaled_multiplier : ℤ → ℤ
+rescaled_multiplier z = floor_over z finer
 
 -- the nearest number of 64 bits
-abbrev pub clamped : ℤ → ℤ
-clamped z = int_max (negsuc (2 ^ 63 - 1)) (int_min (pos (2 ^ 63 - 1)) z)
+abbrev pub clamped_number : ℤ → ℤ
+clamped_number z = int_max (negsuc (2 ^ 63 - 1)) (int_min (pos (2 ^ 63 - 1)) z)
 
 -- 0 where it is positive without a lower side or negative without an upper
 abbrev pub signed : Row → ℤ → ℤ
 signed row y = if is_sign row y then y else pos 0
 
 -- a row's multiplier: its dual over a divisor, rounded down
-abbrev pub row_over : ℕ → Row → ℤ → ℤ
-row_over divisor row dual = signed row (clamped (floor_over dual divisor))
+abbrev pub row_multiplier_over : ℕ → Row → ℤ → ℤ
+row_multiplier_over divisor row dual = signed row (clamped_number (floor_over dual divisor))
 
 -- the multipliers of rows, the first of which has the number i
-abbrev pub rows_over : ℕ → ℕ → List Row → List Fx → List ℤ
-rows_over divisor i [] duals = []
-rows_over divisor i (row ∷ rows) duals = row_over divisor row (dual_at duals i) ∷ rows_over divisor (suc i) rows duals
+abbrev pub row_multipliers_over : ℕ → ℕ → List Row → List Fx → List ℤ
+row_multipliers_over divisor i [] duals = []
+row_multipliers_over divisor i (row ∷ rows) duals = row_multiplier_over divisor row (row_dual duals i) ∷ row_multipliers_over divisor (suc i) rows duals
 
 -- the duals of rows at the scale of multipliers
 abbrev pub settled_rows : ℕ → List Row → List Fx → List ℤ
-settled_rows i rows duals = rows_over finer i rows duals
+settled_rows i rows duals = row_multipliers_over finer i rows duals
 
 abbrev pub positive_part : ℤ → ℕ
 positive_part (pos n) = n
@@ -55,12 +55,12 @@ positive_part (negsuc n) = 0
 
 -- the multiplier that the dual of a cut gives
 abbrev pub cut_multiplier : ℤ → ℕ
-cut_multiplier dual = positive_part (rescaled dual)
+cut_multiplier dual = positive_part (rescaled_multiplier dual)
 
 -- the multipliers of count cuts, the first of which has the place k
 abbrev pub cut_multipliers : List Fx → ℕ → ℕ → List ℕ
 cut_multipliers duals k zero = []
-cut_multipliers duals k (suc count) = cut_multiplier (dual_at duals k) ∷ cut_multipliers duals (suc k) count
+cut_multipliers duals k (suc count) = cut_multiplier (row_dual duals k) ∷ cut_multipliers duals (suc k) count
 
 -- in order each keeps at most the rest of the target
 abbrev pub capped : ℕ → List ℕ → List ℕ
@@ -73,16 +73,16 @@ missing left [] = left
 missing left (v ∷ vs) = missing (left - v) vs
 
 -- the least place of the greatest: that of vs, from the place k on, where it is above `most`, which stands at `best`
-abbrev pub greatest_from : ℕ → ℕ → ℕ → List ℕ → ℕ
-greatest_from best most k [] = best
-greatest_from best most k (v ∷ vs) = if nat_lt most v then greatest_from k v (suc k) vs else greatest_from best most (suc k) vs
+abbrev pub greatest_place_from : ℕ → ℕ → ℕ → List ℕ → ℕ
+greatest_place_from best most k [] = best
+greatest_place_from best most k (v ∷ vs) = if nat_lt most v then greatest_place_from k v (suc k) vs else greatest_place_from best most (suc k) vs
 
 abbrev pub place_of_greatest : List ℕ → ℕ
-place_of_greatest vs = greatest_from 0 0 0 vs
+place_of_greatest vs = greatest_place_from 0 0 0 vs
 
 -- with so much more at a place
-abbrev pub raised : List ℕ → ℕ → ℕ → List ℕ
-raised vs k more = set vs k (get_or vs k 0 + more)
+abbrev pub raised_place : List ℕ → ℕ → ℕ → List ℕ
+raised_place vs k more = set vs k (get_or vs k 0 + more)
 
 -- the places, from k on, whose multiplier is not 0
 abbrev pub pairs_from : ℕ → List ℕ → List (ℕ × ℕ)
@@ -98,7 +98,7 @@ place_of_missing more vs = if nat_lt (length (pairs_from 0 vs)) more then 0 else
 -- the target shared out: each keeps at most what is left, and what is missing then goes to one place; where something is
 -- missing, each has kept all
 abbrev pub shared : ℕ → List ℕ → List ℕ
-shared target vs = raised (capped target vs) (place_of_missing (missing target vs) (capped target vs)) (missing target vs)
+shared target vs = raised_place (capped target vs) (place_of_missing (missing target vs) (capped target vs)) (missing target vs)
 
 -- pairs, with so much more at the one of this number
 abbrev pub raised_pair : List (ℕ × ℕ) → ℕ → ℕ → List (ℕ × ℕ)
@@ -119,13 +119,13 @@ abbrev pub settled_pairs : ℕ → ℕ → List Fx → List (ℕ × ℕ)
 settled_pairs target count duals = pairs_from 0 (shared target (cut_multipliers duals 0 count))
 
 -- the pairs of the successors, the duals of whose cuts follow one another
-abbrev pub settled_links : List (List Cut) → List Link → List Fx → List (List (ℕ × ℕ))
-settled_links pools [] duals = []
-settled_links pools (l ∷ ls) duals = settled_pairs (S * l.weight) (length (pool pools l.node)) duals ∷ settled_links pools ls (drop (length (pool pools l.node)) duals)
+abbrev pub settled_successors : List (List Cut) → List Successor → List Fx → List (List (ℕ × ℕ))
+settled_successors pools [] duals = []
+settled_successors pools (l ∷ ls) duals = settled_pairs (S * l.weight) (length (pool pools l.node)) duals ∷ settled_successors pools ls (drop (length (pool pools l.node)) duals)
 
 -- duals of a node's rows, then of its successors' cuts
 abbrev pub settled_duals : List (List Cut) → Node → List Fx → Certificate
-settled_duals pools n duals = record { rows = settled_rows 0 n.rows duals; cuts = settled_links pools n.links (drop (length n.rows) duals) }
+settled_duals pools n duals = record { rows = settled_rows 0 n.rows duals; cuts = settled_successors pools n.successors (drop (length n.rows) duals) }
 
 -- the duals that are made use of: those of a claimed solution
 abbrev pub used_duals : Kind → List Fx → List Fx

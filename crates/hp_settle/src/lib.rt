@@ -1,10 +1,10 @@
-//! The worth of a solver's answers: certificates from their duals, and refutations.
+//! The worth of a solver's answers: certificates from their duals, and infeasibilities.
 #![tactic(auto)]
 
-pub mod judging;
+pub mod classifying;
+pub mod farkas;
 pub mod laws;
 pub mod plan_fault;
-pub mod refutation;
 pub mod settling;
 pub mod settling_laws;
 mod sized_sum;
@@ -12,7 +12,7 @@ mod sums;
 mod terms;
 pub mod worked;
 
-pub use judging::{Dead, Judged, judge};
+pub use classifying::{Classified, Infeasibility, classify};
+pub use farkas::refutes;
 pub use plan_fault::PlanFault;
-pub use refutation::refutes;
-pub use settling::settle;
+pub use settling::certificate_of_duals;

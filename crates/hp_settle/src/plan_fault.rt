@@ -2,7 +2,7 @@
 ghost use Rattle.std.specs.Prelude.{◌≡◌};
 ghost use Rattle.hp_settle.specs.declared.plan_fault.PlanFault.TheVariants as faults;
 
-use crate::judging::Dead;
+use crate::classifying::Infeasibility;
 use hp_num::Memory;
 use hp_outside::Failed;
 
@@ -10,7 +10,7 @@ use hp_outside::Failed;
 #[derive(Drop)]
 pub enum PlanFault {
     /// No decisions exist at a node, its values and its incoming state, as multipliers of its rows show.
-    NoStage(Dead),
+    Infeasible(Infeasibility),
     /// The settled certificates of a node have a size above 2^127 - 1. The realization is the least such that the terms of the
     /// realizations up to it exceed that, or the number of realizations where only the remainders of the slopes bring the size
     /// there.

@@ -2,17 +2,18 @@
 ghost use Rattle.std.specs.Prelude.{◌≡◌, ℕ, ◌+◌, ◌-◌, ◌*◌, ◌<◌, ◌^◌, [], ◌∷◌, ◌++◌, length, map, min, drop, All, IfOk, OnOk};
 ghost use Rattle.hp_theory.specs.Problem.{S, node_at};
 ghost use Rattle.hp_theory.specs.Pools.{pool};
-ghost use Rattle.hp_theory.specs.View.{links_of, problem_of};
+ghost use Rattle.hp_theory.specs.View.{successors_of, problem_of};
 ghost use Rattle.hp_theory.specs.Certificates.{multipliers, RightAt};
 ghost use Rattle.hp_cut.specs.AtNodes.{PoolsFit};
 ghost use Rattle.hp_solver.specs.declared.fixed.Fx.{Fx};
 ghost use Rattle.hp_settle.specs.Kept.{kept_pairs, left_over};
-ghost use Rattle.hp_settle.specs.Settling.{dual_at, rescaled, clamped, row_over, rows_over, settled_rows, cut_multiplier, cut_multipliers, capped, missing, place_of_greatest, pairs_from, raised_pair, raised_first, topped, settled_pairs, settled_links, used_duals, settled_of};
+ghost use Rattle.hp_settle.specs.Settling.{row_dual, rescaled_multiplier, clamped_number, row_multiplier_over, row_multipliers_over, settled_rows, cut_multiplier, cut_multipliers, capped, missing, place_of_greatest, pairs_from, raised_pair, raised_first, topped, settled_pairs, settled_successors, used_duals, settled_of};
 
 use hp_cut::Pools;
-use hp_dual::is_sign;
+use hp_cut_making::is_sign;
 use hp_num::{List, Memory, floor_div};
-use hp_problem::{Node, Problem, Row, Subproblem};
+use hp_parts::{Node, Row, Subproblem};
+use hp_problem::Problem;
 use hp_solver::fixed::ONE;
 use hp_solver::{Answer, Duals, Fx, Kind};
 use hp_theory::{Certificate, SCALE};
@@ -23,21 +24,21 @@ const FINER: u64 = (ONE / SCALE as i128) as u64;
 
 /// The dual of a row, 0 where it is missing.
 fn dual_at(duals: &Duals, i: usize) -> i128
-    ensures { result ≡ dual_at duals.now i }
+    ensures { result ≡ row_dual duals.now i }
 {
     duals.get(i).0
 }
 
 /// A dual at the scale of multipliers, rounded down.
 fn rescaled(dual: i128) -> i128
-    ensures { result ≡ rescaled dual }
+    ensures { result ≡ rescaled_multiplier dual }
 {
     floor_div(dual, i128::from(FINER))
 }
 
 /// The nearest number of 64 bits.
 fn clamped(number: i128) -> i64
-    ensures { result ≡ clamped number }
+    ensures { result ≡ clamped_number number }
 {
     number.clamp(i128::from(i64::MIN), i128::from(i64::MAX)) as i64
 }
@@ -46,7 +47,7 @@ fn clamped(number: i128) -> i64
 /// on.
 fn row_over(row: &Row, dual: i128, divisor: u64) -> i64
     requires { 0 < divisor }
-    ensures { result ≡ row_over divisor row.now dual }
+    ensures { result ≡ row_multiplier_over divisor row.now dual }
 {
     let multiplier = clamped(floor_div(dual, i128::from(divisor)));
     if is_sign(row, multiplier) {
@@ -64,7 +65,7 @@ pub(crate) fn rows_over(
     divisor: u64,
 ) -> Result<List<i64>, Memory>
     requires { 0 < divisor }
-    ensures { IfOk result (λ found. found ≡ rows_over divisor 0 rows.now duals.now) }
+    ensures { IfOk result (λ found. found ≡ row_multipliers_over divisor 0 rows.now duals.now) }
 {
     let mut found = List::new(alloc);
     for (i, row) in rows.iter().enumerate() {
@@ -109,7 +110,7 @@ struct Shares {
 fn keep(pairs: &mut List<(u32, u64)>, dual: (usize, Fx), left: u64) -> Result<u64, Memory>
     requires { dual.0 < 2 ^ 32 }
     ensures pairs { OnOk result (pairs.new ≡ pairs.old ++ pairs_from dual.0 (min (cut_multiplier dual.1.0) left ∷ [])) }
-    ensures left { IfOk result (λ rest. rest ≡ left - cut_multiplier dual.1.0) }
+    ensures left { IfOk result (λ tail. tail ≡ left - cut_multiplier dual.1.0) }
 {
     let multiplier = share(cut_multiplier(dual.1.0), left);
     push_pair(pairs, dual.0 as u32, multiplier)?;
@@ -260,23 +261,23 @@ fn behind(duals: &Duals, from: usize, count: usize) -> usize
 }
 
 /// The pairs of successors, the duals of whose cuts follow one another from a row on.
-fn settled_links(
+fn settled_successors(
     alloc: Global,
     pools: &Pools,
-    links: &[u32],
+    successors: &[u32],
     weights: &[u32],
     duals: &Duals,
     from: usize,
 ) -> Result<List<List<(u32, u64)>>, Memory>
-    requires weights { length weights.now ≡ length links.now }
-    requires known { All (λ m. m < length pools.now.lists) links.now }
-    requires some { All (λ m. 0 < length (pool pools.now.lists m)) links.now }
-    ensures { IfOk result (λ found. found ≡ settled_links pools.now.lists (links_of links.now weights.now) (drop from duals.now)) }
+    requires weights { length weights.now ≡ length successors.now }
+    requires known { All (λ m. m < length pools.now.lists) successors.now }
+    requires some { All (λ m. 0 < length (pool pools.now.lists m)) successors.now }
+    ensures { IfOk result (λ found. found ≡ settled_successors pools.now.lists (successors_of successors.now weights.now) (drop from duals.now)) }
 {
     let mut found = List::new(alloc);
     let mut at = from;
-    for i in 0..links.len() {
-        let count = pools.count(links[i]);
+    for i in 0..successors.len() {
+        let count = pools.count(successors[i]);
         found.push(settled_pairs(alloc, target(weights[i]), count, duals, at)?)?;
         at = behind(duals, at, count as usize);
     }
@@ -302,19 +303,19 @@ fn settled_duals(
     subproblem: &Subproblem,
     duals: &Duals,
 ) -> Result<Certificate, Memory>
-    requires weights { length node.now.link_weights ≡ length node.now.links }
-    requires known { All (λ m. m < length pools.now.lists) node.now.links }
-    requires some { All (λ m. 0 < length (pool pools.now.lists m)) node.now.links }
+    requires weights { length node.now.successor_weights ≡ length node.now.successors }
+    requires known { All (λ m. m < length pools.now.lists) node.now.successors }
+    requires some { All (λ m. 0 < length (pool pools.now.lists m)) node.now.successors }
     ensures { IfOk result (λ c. c ≡ record {
       rows = settled_rows 0 subproblem.now.rows duals.now;
-      cuts = settled_links pools.now.lists (links_of node.now.links node.now.link_weights) (drop (length subproblem.now.rows) duals.now);
+      cuts = settled_successors pools.now.lists (successors_of node.now.successors node.now.successor_weights) (drop (length subproblem.now.rows) duals.now);
     }) }
 {
     let rows = rows_over(alloc, subproblem.rows.as_slice(), duals, FINER)?;
-    let links = node.links.as_slice();
-    let weights = node.link_weights.as_slice();
+    let successors = node.successors.as_slice();
+    let weights = node.successor_weights.as_slice();
     let own = subproblem.rows.len();
-    let cuts = settled_links(alloc, pools, links, weights, duals, own)?;
+    let cuts = settled_successors(alloc, pools, successors, weights, duals, own)?;
     Ok(Certificate { rows, cuts })
 }
 
@@ -326,20 +327,20 @@ fn settled_duals(
 /// greatest, the first of equals; cuts with 0 are left out. A missing dual counts as 0, and those beyond the rows are ignored.
 /// An answer that claims no solution gives the base certificate. The certificate is right for any answer, of any lengths and
 /// numbers.
-pub fn settle(
+pub fn certificate_of_duals(
     alloc: Global,
     problem: &Problem,
     pools: &Pools,
     node: u32,
     answer: &Answer,
 ) -> Result<Certificate, Memory>
-    requires known { node < length problem.now.raw.nodes }
+    requires known { node < length problem.now.parts.nodes }
     requires fit { PoolsFit problem.now pools.now.lists }
     ensures value { IfOk result (λ c. c ≡ settled_of pools.now.lists (node_at (problem_of problem.now) node) answer.now) }
     ensures right { IfOk result (RightAt pools.now.lists (node_at (problem_of problem.now) node)) }
 {
-    let raw = problem.raw();
-    let own = &raw.nodes.as_slice()[node as usize];
+    let parts = problem.parts();
+    let own = &parts.nodes.as_slice()[node as usize];
     let none = Duals::new(alloc, List::new(alloc));
     settled_duals(
         alloc,

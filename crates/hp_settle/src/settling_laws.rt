@@ -2,15 +2,15 @@
 ghost use Rattle.std.specs.Prelude.{◌≡◌, ◌-◌, ◌^◌, ◌<◌, pos, negsuc, ℕ, true, List, [], ◌∷◌, length, map, All};
 ghost use Rattle.hp_solver.specs.Numbers.{number};
 ghost use Rattle.hp_solver.specs.declared.programs.Answer.{Answer};
-ghost use Rattle.hp_theory.specs.Problem.{Link, Node, node_at};
+ghost use Rattle.hp_theory.specs.Problem.{Successor, Node, node_at};
 ghost use Rattle.hp_theory.specs.View.{problem_of};
-ghost use Rattle.hp_problem.specs.Sealed.{Sealed, is_sealed};
+ghost use Rattle.hp_problem.specs.Validated.{Validated, is_validated};
 ghost use Rattle.hp_theory.specs.declared.cut.Cut.{Cut};
 ghost use Rattle.hp_theory.specs.Pools.{pool};
 ghost use Rattle.hp_theory.specs.Certificates.{Right};
 ghost use Rattle.hp_theory.specs.Examples.{reservoir, reservoir_certificate, negative_box};
 ghost use Rattle.hp_cut.specs.AtNodes.{PoolsFit};
-ghost use Rattle.hp_dual.specs.Acceptance.{fault_of, range_fault};
+ghost use Rattle.hp_cut_making.specs.Acceptance.{fault_of, range_fault};
 ghost use Rattle.hp_settle.specs.Settling.{capped, missing, settled_rows, settled_pairs, settled_duals, settled_of};
 
 /// A list of settled certificates, one per realization, is right, and can only be refused for its size. This is so for
@@ -18,14 +18,14 @@ ghost use Rattle.hp_settle.specs.Settling.{capped, missing, settled_rows, settle
 /// pools that fit.
 pub fn settled_lists()
     ensures right { (pools : List (List Cut)) (n : Node) (answers : List Answer)
-        → All (λ (l : Link). (0 < l.weight) × (0 < length (pool pools l.node))) n.links
+        → All (λ (l : Successor). (0 < l.weight) × (0 < length (pool pools l.node))) n.successors
         → length answers ≡ length n.realizations → Right pools n (map (settled_of pools n) answers) }
     ensures only_range { (pools : List (List Cut)) (n : Node) (answers : List Answer)
-        → All (λ (l : Link). (0 < l.weight) × (0 < length (pool pools l.node))) n.links
+        → All (λ (l : Successor). (0 < l.weight) × (0 < length (pool pools l.node))) n.successors
         → length answers ≡ length n.realizations
         → fault_of pools n (map (settled_of pools n) answers) ≡ range_fault pools n (map (settled_of pools n) answers) }
-    ensures of_a_problem { (p : Sealed) (m : ℕ) (pools : List (List Cut)) (answers : List Answer)
-        → is_sealed p ≡ true → m < length p.raw.nodes → PoolsFit p pools
+    ensures of_a_problem { (p : Validated) (m : ℕ) (pools : List (List Cut)) (answers : List Answer)
+        → is_validated p ≡ true → m < length p.parts.nodes → PoolsFit p pools
         → length answers ≡ length (node_at (problem_of p) m).realizations
         → fault_of pools (node_at (problem_of p) m) (map (settled_of pools (node_at (problem_of p) m)) answers)
         ≡ range_fault pools (node_at (problem_of p) m) (map (settled_of pools (node_at (problem_of p) m)) answers) }

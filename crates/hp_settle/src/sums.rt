@@ -1,7 +1,7 @@
 // Sums that carry their sizes, so that no step leaves 128 bits.
-ghost use Rattle.std.specs.Prelude.{◌≡◌, ◌+◌, ◌*◌, ◌^◌, ◌<◌, ◌≤◌, ℕ, ℤ, neg_ℤ, ◌+ℤ◌, ◌-ℤ◌, ◌*ℤ◌, nat_abs, Option, FitsSigned};
+ghost use Rattle.std.specs.Prelude.{◌≡◌, ◌+◌, ◌*◌, ◌^◌, ◌<◌, ℕ, ℤ, neg_ℤ, ◌+ℤ◌, ◌-ℤ◌, ◌*ℤ◌, nat_abs, Option, FitsSigned};
 ghost use Rattle.std.specs.Int.{w128, int_min};
-ghost use Rattle.hp_dual.specs.SizeByTerms.{span};
+ghost use Rattle.hp_cut_making.specs.SizeByTerms.{span};
 ghost use Rattle.hp_settle.specs.SizedSums.{Sums};
 
 use crate::sized_sum::SizedSum;

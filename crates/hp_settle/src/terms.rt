@@ -2,15 +2,15 @@
 ghost use Rattle.std.specs.Prelude.{◌≡◌, ◌+◌, ◌*◌, ℕ, ℤ, ◌+ℤ◌, ◌*ℤ◌, nat_abs, zip};
 ghost use Rattle.std.specs.List.{sum_by};
 ghost use Rattle.hp_num.specs.Sums.{total, entry, at_terms, same_place};
-ghost use Rattle.hp_problem.specs.declared.raw.Row.{Row};
-ghost use Rattle.hp_dual.specs.SizeByTerms.{term_by, terms_by};
+ghost use Rattle.hp_parts.specs.declared.parts.Row.{Row};
+ghost use Rattle.hp_cut_making.specs.SizeByTerms.{term_by, terms_by};
 ghost use Rattle.hp_settle.specs.SizedSums.{Sums};
 
 use crate::sized_sum::SizedSum;
-use hp_problem::Row;
+use hp_parts::Row;
 
-/// Numbers by which terms are multiplied.
-pub(crate) trait Numbers {
+/// TermNumbers by which terms are multiplied.
+pub(crate) trait TermNumbers {
     ghost at: { Self → ℕ → ℤ };
 
     fn at(&self, index: usize) -> i128
@@ -19,11 +19,11 @@ pub(crate) trait Numbers {
 
 /// The values of the random variables, 0 past the end.
 #[derive(Clone, Copy)]
-pub(crate) struct Values<'a> {
+pub(crate) struct TermValues<'a> {
     pub(crate) numbers: &'a [i64],
 }
 
-impl Numbers for Values<'_> {
+impl TermNumbers for TermValues<'_> {
     ghost at = { λ v. entry v.numbers.now };
 
     fn at(&self, index: usize) -> i128 {
@@ -36,11 +36,11 @@ impl Numbers for Values<'_> {
 
 /// The incoming state, 0 past the end.
 #[derive(Clone, Copy)]
-pub(crate) struct State<'a> {
+pub(crate) struct TermState<'a> {
     pub(crate) numbers: &'a [i128],
 }
 
-impl Numbers for State<'_> {
+impl TermNumbers for TermState<'_> {
     ghost at = { λ s. entry s.numbers.now };
 
     fn at(&self, index: usize) -> i128 {
@@ -53,11 +53,11 @@ impl Numbers for State<'_> {
 
 /// 1 at one place and 0 elsewhere.
 #[derive(Clone, Copy)]
-pub(crate) struct Place {
+pub(crate) struct TermPlace {
     pub(crate) index: usize,
 }
 
-impl Numbers for Place {
+impl TermNumbers for TermPlace {
     ghost at = { λ p i. same_place i p.index };
 
     fn at(&self, index: usize) -> i128 {
@@ -66,7 +66,7 @@ impl Numbers for Place {
 }
 
 /// Adds a term to a sum.
-fn plus_term<N: Numbers>(sum: SizedSum, term: &(u32, i64), numbers: &N) -> Option<SizedSum>
+fn plus_term<N: TermNumbers>(sum: SizedSum, term: &(u32, i64), numbers: &N) -> Option<SizedSum>
     ensures { Sums result (sum.value +ℤ term.now.1 *ℤ N.at numbers.now term.now.0) (sum.size.total + term_by (λ i. nat_abs (N.at numbers.now i)) term.now) }
 {
     let (variable, factor) = *term;
@@ -74,7 +74,7 @@ fn plus_term<N: Numbers>(sum: SizedSum, term: &(u32, i64), numbers: &N) -> Optio
 }
 
 /// The sum of terms.
-pub(crate) fn terms_sum<N: Numbers>(terms: &[(u32, i64)], numbers: &N) -> Option<SizedSum>
+pub(crate) fn terms_sum<N: TermNumbers>(terms: &[(u32, i64)], numbers: &N) -> Option<SizedSum>
     ensures { Sums result (at_terms terms.now (N.at numbers.now)) (terms_by (λ i. nat_abs (N.at numbers.now i)) terms.now) }
 {
     let mut sum = SizedSum::zero();

@@ -6,19 +6,19 @@ use Rattle.std.proofs.lemmas.Grind.{common_steps}
 use Rattle.std.proofs.lemmas.Int.{ints, unsigned_abs-mul}
 use Rattle.hp_num.specs.Sums.{dot}
 use Rattle.hp_num.proofs.Sums.{All_head, All_tail}
-use Rattle.hp_problem.specs.declared.raw.Decision.{Decision}
-use Rattle.hp_problem.specs.declared.raw.Node as nodes
-use Rattle.hp_problem.specs.declared.raw.Row.{Row}
-use Rattle.hp_problem.specs.declared.raw.Subproblem.{Subproblem}
-use Rattle.hp_problem.specs.Limits.{are_values, costs_fit}
-use Rattle.hp_problem.specs.Sealed.{Sealed, is_sealed, subproblem_of}
-use Rattle.hp_problem.proofs.SubproblemFacts.{costs-subproblem_fits, counts-subproblem_fits, few-counts_fit}
+use Rattle.hp_parts.specs.declared.parts.Decision.{Decision}
+use Rattle.hp_parts.specs.declared.parts.Node as nodes
+use Rattle.hp_parts.specs.declared.parts.Row.{Row}
+use Rattle.hp_parts.specs.declared.parts.Subproblem.{Subproblem}
+use Rattle.hp_parts.specs.Limits.{are_values, costs_fit}
+use Rattle.hp_problem.specs.Validated.{Validated, is_validated, subproblem_of}
+use Rattle.hp_parts.proofs.SubproblemFacts.{costs-subproblem_fits, counts-subproblem_fits, few-counts_fit}
 use Rattle.hp_theory.specs.Problem.{S, Node, node_at}
 use Rattle.hp_theory.specs.Tree.{InBox, times_all}
 use Rattle.hp_theory.specs.View.{node_of, problem_of}
-use Rattle.hp_theory.proofs.SealedParts.{Parts, parts}
-use Rattle.hp_settle.proofs.JudgedDead.{rows_at}
-use Rattle.hp_forward.specs.Amounts.{AreAmounts, AreCosts, AreFactors, AreGiven}
+use Rattle.hp_theory.proofs.ValidatedParts.{Parts, parts_of_node}
+use Rattle.hp_settle.proofs.ClassifiedInfeasible.{rows_at}
+use Rattle.hp_forward.specs.Amounts.{AreAmounts, AreCosts, AreFactors, AreStageAmounts}
 use Rattle.hp_forward.specs.Costing.{stage_cost_of}
 use Rattle.hp_cut.specs.AtNodes.{IsStateAt}
 use Rattle.hp_forward.proofs.ByAnswers.{viewed}
@@ -29,27 +29,27 @@ same_sub : (s t : Subproblem) (o : Option Subproblem) → o ≡ Some s → o ≡
 same_sub s t o e f = cc
 
 -- the subproblem of a node keeps its limits
-module _ (p : Sealed) (e : is_sealed p ≡ true) (m : ℕ) (h : m < length p.raw.nodes) (s : Subproblem) (is : subproblem_of p m ≡ Some s) where
-  own_is : s ≡ (parts p m e h).subproblem
+module _ (p : Validated) (e : is_validated p ≡ true) (m : ℕ) (h : m < length p.parts.nodes) (s : Subproblem) (is : subproblem_of p m ≡ Some s) where
+  own_is : s ≡ (parts_of_node p m e h).subproblem
   own_is =
-      let q : Parts p m = parts p m e h in
-      same_sub s q.subproblem (subproblem_of p m) is (subst (λ (o : Option nodes.Node). option_and_then (λ (k : nodes.Node). slice_get p.raw.subs k.sub) o ≡ Some q.subproblem) (sym q.fit.the_node) q.fit.the_subproblem)
+      let q : Parts p m = parts_of_node p m e h in
+      same_sub s q.subproblem (subproblem_of p m) is (subst (λ (o : Option nodes.Node). option_and_then (λ (k : nodes.Node). slice_get p.parts.subs k.sub) o ≡ Some q.subproblem) (sym q.fit.the_node) q.fit.the_subproblem)
 
   pub few_rows : length s.rows ≤ 200
   few_rows =
-      let q : Parts p m = parts p m e h in
-      subst (λ (t : Subproblem). length t.rows ≤ 200) (sym own_is) (few-counts_fit (length p.raw.states) q.subproblem (counts-subproblem_fits (length p.raw.states) q.subproblem q.fit.subproblem)).0
+      let q : Parts p m = parts_of_node p m e h in
+      subst (λ (t : Subproblem). length t.rows ≤ 200) (sym own_is) (few-counts_fit (length p.parts.states) q.subproblem (counts-subproblem_fits (length p.parts.states) q.subproblem q.fit.subproblem)).0
 
   pub rows_counted : length s.rows ≡ length (node_at (problem_of p) m).rows
   rows_counted = ap (λ (rows : List Row). length rows) (rows_at p m s h is)
 
-  constant_of : (t : Subproblem) → costs_fit (length p.raw.states) t ≡ true → nat_abs t.constant ≤ 2 ^ 40
+  constant_of : (t : Subproblem) → costs_fit (length p.parts.states) t ≡ true → nat_abs t.constant ≤ 2 ^ 40
   constant_of t f = grind (arith, nat_tests, common_steps, f)
 
   pub constant_small : nat_abs s.constant ≤ 2 ^ 40
   constant_small =
-      let q : Parts p m = parts p m e h in
-      subst (λ (t : Subproblem). nat_abs t.constant ≤ 2 ^ 40) (sym own_is) (constant_of q.subproblem (costs-subproblem_fits (length p.raw.states) q.subproblem q.fit.subproblem))
+      let q : Parts p m = parts_of_node p m e h in
+      subst (λ (t : Subproblem). nat_abs t.constant ≤ 2 ^ 40) (sym own_is) (constant_of q.subproblem (costs-subproblem_fits (length p.parts.states) q.subproblem q.fit.subproblem))
 
 product_small : (c x : ℤ) → nat_abs c ≤ 2 ^ 40 → nat_abs x ≤ 2 ^ 64 → nat_abs (c *ℤ x) ≤ 2 ^ 104
 product_small c x f g = rw (unsigned_abs-mul c x) (mul-le-mul f g)
@@ -59,8 +59,8 @@ dot_small [] xs f g = omega (arith, ints)
 dot_small (c ∷ cs) [] f g = omega (arith, ints)
 dot_small (c ∷ cs) (x ∷ xs) f g =
     let one = product_small c x (All_head (λ z. nat_abs z ≤ 2 ^ 40) c cs f) (All_head (λ z. nat_abs z ≤ 2 ^ 64) x xs g) in
-    let rest = dot_small cs xs (All_tail (λ z. nat_abs z ≤ 2 ^ 40) c cs f) (All_tail (λ z. nat_abs z ≤ 2 ^ 64) x xs g) in
-    omega (arith, ints, one, rest)
+    let tail = dot_small cs xs (All_tail (λ z. nat_abs z ≤ 2 ^ 40) c cs f) (All_tail (λ z. nat_abs z ≤ 2 ^ 64) x xs g) in
+    omega (arith, ints, one, tail)
 
 -- costs of amounts
 costs_small : (cs xs : List ℤ) → AreAmounts xs → AreFactors cs xs → nat_abs (dot cs xs) ≤ 2 ^ 112
@@ -70,7 +70,7 @@ sum_small : (a b c d : ℤ) → nat_abs a ≤ 2 ^ 40 → nat_abs b ≤ 2 ^ 112 �
 unfolding S
 sum_small a b c d f g h i = omega (arith, ints, f, g, h, i)
 
-stage_small : (n : nodes.Node) (s : Subproblem) (low high u x values : List ℤ) → nat_abs s.constant ≤ 2 ^ 40 → AreGiven u x values → AreCosts u x values s → nat_abs (stage_cost_of (node_of n s low high) u x values) ≤ 2 ^ 115
+stage_small : (n : nodes.Node) (s : Subproblem) (low high u x values : List ℤ) → nat_abs s.constant ≤ 2 ^ 40 → AreStageAmounts u x values → AreCosts u x values s → nat_abs (stage_cost_of (node_of n s low high) u x values) ≤ 2 ^ 115
 unfolding node_of stage_cost_of
 stage_small n s low high u x values constant given costs =
     sum_small s.constant (pos S *ℤ dot s.random_costs values) (dot (map (λ (d : Decision). d.cost) s.decisions) u) (dot s.state_costs x) constant
@@ -78,7 +78,7 @@ stage_small n s low high u x values constant given costs =
     (costs_small (map (λ (d : Decision). d.cost) s.decisions) u given.of_decisions costs.decisions) (costs_small s.state_costs x given.of_state costs.states)
 
 -- the cost of a stage at decisions in their boxes, a state in its box and small values
-pub stage_cost_small : (p : Sealed) → is_sealed p ≡ true → (m : ℕ) → m < length p.raw.nodes → (s : Subproblem) → subproblem_of p m ≡ Some s → (u x values : List ℤ)
+pub stage_cost_small : (p : Validated) → is_validated p ≡ true → (m : ℕ) → m < length p.parts.nodes → (s : Subproblem) → subproblem_of p m ≡ Some s → (u x values : List ℤ)
     → InBox S (node_at (problem_of p) m).decision_low (node_at (problem_of p) m).decision_high u → IsStateAt p m x → are_values (subproblem_of p m) values ≡ true
     → nat_abs (stage_cost_of (node_at (problem_of p) m) u x values) ≤ 2 ^ 115
 stage_cost_small p e m h s is u x values decisions state given =

@@ -1,26 +1,26 @@
 -- Runs: the nodes and values of scenarios that are drawn, and of those that a problem stores.
 use Rattle.std.specs.Prelude.{◌≡◌, ℕ, zero, suc, ◌+◌, ◌^◌, true, List, [], ◌∷◌, map}
-use Rattle.hp_problem.specs.declared.raw.Moment.{Moment}
-use Rattle.hp_problem.specs.declared.raw.Raw.{Raw}
-use Rattle.hp_problem.specs.Limits.{steps_fit}
-use Rattle.hp_problem.specs.Sealed.{Sealed}
-use Rattle.hp_sampler.specs.declared.steps.Step.{Step}
+use Rattle.hp_parts.specs.declared.parts.Moment.{Moment}
+use Rattle.hp_parts.specs.declared.parts.ProblemParts.{ProblemParts}
+use Rattle.hp_parts.specs.Limits.{steps_fit}
+use Rattle.hp_problem.specs.Validated.{Validated}
+use Rattle.hp_sampler.specs.declared.steps.PathStep.{PathStep}
 use Rattle.hp_sampler.specs.Drawn.{path}
 use Rattle.hp_forward.specs.Walking.{values_of}
 
 -- a run of a problem: it begins at a successor of the root and goes on to successors, with values of each node
-abbrev pub IsRun : Sealed → List Moment → Type 0
-IsRun p moments = steps_fit p.raw p.raw.root moments ≡ true
+abbrev pub IsProblemRun : Validated → List Moment → Type 0
+IsProblemRun p moments = steps_fit p.parts p.parts.root moments ≡ true
 
 -- the node of a step, and the values of its realization
-abbrev pub moment_of : Raw → Step → Moment
-moment_of raw s = record { node = s.node; values = values_of raw s }
+abbrev pub moment_of : ProblemParts → PathStep → Moment
+moment_of parts s = record { node = s.node; values = values_of parts s }
 
 -- the run of the scenario i: the path of stream 2^32 + i
-abbrev pub drawn : Sealed → ℕ → ℕ → List Moment
-drawn p seed i = map (moment_of p.raw) (path p seed (2 ^ 32 + i))
+abbrev pub drawn : Validated → ℕ → ℕ → List Moment
+drawn p seed i = map (moment_of p.parts) (path p seed (2 ^ 32 + i))
 
 -- so many of them, from the scenario i on
-abbrev pub drawn_from : Sealed → ℕ → ℕ → ℕ → List (List Moment)
+abbrev pub drawn_from : Validated → ℕ → ℕ → ℕ → List (List Moment)
 drawn_from p seed i zero = []
 drawn_from p seed i (suc n) = drawn p seed i ∷ drawn_from p seed (suc i) n

@@ -1,8 +1,8 @@
 // The decisions at one moment of a run.
 ghost use Rattle.std.specs.Prelude.{◌≡◌, ◌<◌, ◌≤◌, ◌+◌, ◌^◌, ℕ, ℤ, ◌+ℤ◌, List, length, nat_abs, true, Contains, IfOk};
-ghost use Rattle.hp_problem.specs.Limits.{are_values};
-ghost use Rattle.hp_problem.specs.Parts.{successors_at};
-ghost use Rattle.hp_problem.specs.Sealed.{subproblem_of};
+ghost use Rattle.hp_parts.specs.Limits.{are_values};
+ghost use Rattle.hp_parts.specs.Parts.{successors_at};
+ghost use Rattle.hp_problem.specs.Validated.{subproblem_of};
 ghost use Rattle.hp_theory.specs.Problem.{S, node_at};
 ghost use Rattle.hp_theory.specs.Tree.{InBox};
 ghost use Rattle.hp_theory.specs.View.{problem_of};
@@ -10,14 +10,15 @@ ghost use Rattle.hp_cut.specs.AtNodes.{IsStateAt, PoolsFit};
 ghost use Rattle.hp_settle.specs.Faults.{GivesSeen, OnNoStage, Refutes};
 ghost use Rattle.hp_forward.specs.Costing.{residuals_of, stage_cost_of};
 ghost use Rattle.hp_forward.specs.declared.deciding.Decided.{Decided};
-ghost use Rattle.hp_sim.specs.Tracing.{decide_at, longer, step_on, traced};
+ghost use Rattle.hp_sim.specs.Tracing.{decide_at, longer, traced_step_on, traced};
 
 use hp_cut::Pools;
 use hp_forward::{Decided, StageInput, Trace, TraceStep, residual, stage_cost};
 use hp_lp::{Planner, Workspace};
-use hp_mend::decide_mended;
-use hp_num::{List, Memory};
-use hp_problem::{Moment, Problem};
+use hp_mend::{decide_mended, row_count};
+use hp_num::{List, Memory, copied};
+use hp_parts::Moment;
+use hp_problem::Problem;
 use hp_settle::PlanFault;
 use hp_solver::{Kind, Solver};
 use std::alloc::Global;
@@ -31,24 +32,6 @@ pub(crate) struct Progress {
     pub(crate) state: List<i128>,
 }
 
-/// Copies the items into a new list.
-pub(crate) fn copied<T: Copy + Drop>(alloc: Global, items: &[T]) -> Result<List<T>, Memory>
-    ensures { IfOk result (λ found. found ≡ items.now) }
-{
-    let mut found = Vec::new(alloc);
-    found.extend_from_slice(items)?;
-    Ok(List::from_vec(found))
-}
-
-/// The number of rows of a node.
-fn row_count(problem: &Problem, node: u32) -> u32
-    requires { node < length problem.now.raw.nodes }
-    ensures { result ≡ length (node_at (problem_of problem.now) node).rows }
-{
-    let _ = problem.raw();
-    problem.sub(node).rows.len() as u32
-}
-
 /// Gives by how much decisions miss each row of a node.
 fn residuals(
     alloc: Global,
@@ -58,7 +41,7 @@ fn residuals(
     state: &[i128],
     values: &[i64],
 ) -> Result<List<i128>, Memory>
-    requires known { node < length problem.now.raw.nodes }
+    requires known { node < length problem.now.parts.nodes }
     requires decisions { InBox S (node_at (problem_of problem.now) node).decision_low (node_at (problem_of problem.now) node).decision_high decisions.now }
     requires state { IsStateAt problem.now node state.now }
     requires values { are_values (subproblem_of problem.now node) values.now ≡ true }
@@ -73,14 +56,14 @@ fn residuals(
 
 /// Gives the cost of a stage.
 fn cost(problem: &Problem, node: u32, decisions: &[i128], state: &[i128], values: &[i64]) -> i128
-    requires known { node < length problem.now.raw.nodes }
+    requires known { node < length problem.now.parts.nodes }
     requires decisions { InBox S (node_at (problem_of problem.now) node).decision_low (node_at (problem_of problem.now) node).decision_high decisions.now }
     requires state { IsStateAt problem.now node state.now }
     requires values { are_values (subproblem_of problem.now node) values.now ≡ true }
     ensures value { result ≡ stage_cost_of (node_at (problem_of problem.now) node) decisions.now state.now values.now }
     ensures small { nat_abs result ≤ 2 ^ 115 }
 {
-    let _ = problem.raw();
+    let _ = problem.parts();
     let _ = problem.sub(node);
     stage_cost(problem, node, decisions, state, values)
 }
@@ -94,7 +77,7 @@ fn traced(
     kind: Kind,
     decisions: List<i128>,
 ) -> Result<TraceStep, Memory>
-    requires known { moment.now.node < length problem.now.raw.nodes }
+    requires known { moment.now.node < length problem.now.parts.nodes }
     requires decisions { InBox S (node_at (problem_of problem.now) moment.now.node).decision_low (node_at (problem_of problem.now) moment.now.node).decision_high decisions }
     requires state { IsStateAt problem.now moment.now.node state }
     requires values { are_values (subproblem_of problem.now moment.now.node) moment.now.values ≡ true }
@@ -148,7 +131,7 @@ fn add_step(trace: &mut Trace, step: TraceStep) -> Result<(), Memory>
     trace.steps.push(step)
 }
 
-/// Goes on through a moment of a run: adds it to the trace, and comes to the state that leaves the moment's node. A refutation
+/// Goes on through a moment of a run: adds it to the trace, and comes to the state that leaves the moment's node. An infeasibility
 /// carries the run's number.
 pub(crate) fn step_on<V: Solver>(
     work: &mut Workspace,
@@ -158,16 +141,16 @@ pub(crate) fn step_on<V: Solver>(
     moment: &Moment,
     progress: &mut Progress,
 ) -> Result<(), PlanFault>
-    requires known { moment.now.node < length planner.now.problem.now.raw.nodes }
+    requires known { moment.now.node < length planner.now.problem.now.parts.nodes }
     requires values { are_values (subproblem_of planner.now.problem.now moment.now.node) moment.now.values ≡ true }
     requires state { IsStateAt planner.now.problem.now moment.now.node progress.old.state }
     requires fit { PoolsFit planner.now.problem.now pools.now.lists }
     requires room { nat_abs progress.old.trace.cost ≤ 2 ^ 126 }
-    ensures value { GivesSeen (λ _. (progress.new.trace, progress.new.state)) result (step_on planner.now.problem.now (decide_at (V.does planner.now.solver.now) planner.now.problem.now pools.now.lists run) progress.old.trace progress.old.state moment.now) }
-    ensures next { IfOk result (λ _. (m : ℕ) → Contains (successors_at planner.now.problem.now.raw moment.now.node) m
+    ensures value { GivesSeen (λ _. (progress.new.trace, progress.new.state)) result (traced_step_on planner.now.problem.now (decide_at (V.does planner.now.solver.now) planner.now.problem.now pools.now.lists run) progress.old.trace progress.old.state moment.now) }
+    ensures next { IfOk result (λ _. (m : ℕ) → Contains (successors_at planner.now.problem.now.parts moment.now.node) m
         → IsStateAt planner.now.problem.now m progress.new.state) }
     ensures small { IfOk result (λ _. nat_abs progress.new.trace.cost ≤ nat_abs progress.old.trace.cost + 2 ^ 115) }
-    ensures dead { OnNoStage result (Refutes planner.now.problem.now) }
+    ensures infeasible { OnNoStage result (Refutes planner.now.problem.now) }
 {
     let input = StageInput {
         run,

@@ -1,37 +1,38 @@
 // The runs of scenarios, and the trace of one run.
-ghost use Rattle.std.specs.Prelude.{◌≡◌, ◌<◌, ◌+◌, length, map, All, IfOk};
+ghost use Rattle.std.specs.Prelude.{◌≡◌, ◌<◌, ◌+◌, map, All, IfOk};
 ghost use Rattle.hp_cut.specs.AtNodes.{PoolsFit};
 ghost use Rattle.hp_sampler.specs.Drawn.{IsInRange};
-ghost use Rattle.hp_settle.specs.Faults.{Gives, OnNoStage, Refutes};
+ghost use Rattle.hp_settle.specs.Faults.{GivesOrRefutes, OnNoStage, Refutes};
 ghost use Rattle.hp_forward.specs.Walking.{values_of};
-ghost use Rattle.hp_sim.specs.Runs.{IsRun, drawn, moment_of};
+ghost use Rattle.hp_sim.specs.Runs.{IsProblemRun, drawn, moment_of};
 ghost use Rattle.hp_sim.specs.Tracing.{AreKnown, trace_of};
 
-use crate::moments::{Progress, copied, step_on};
+use crate::moments::{Progress, step_on};
 use hp_cut::Pools;
 use hp_forward::{Trace, initial_state};
 use hp_lp::{Planner, Workspace};
-use hp_num::{List, Memory};
-use hp_problem::{Moment, Problem};
-use hp_sampler::{Step, path};
+use hp_num::{List, Memory, copied};
+use hp_parts::Moment;
+use hp_problem::Problem;
+use hp_sampler::{PathStep, path};
 use hp_settle::PlanFault;
 use hp_solver::Solver;
 use std::alloc::Global;
 
 /// The values of a step's realization.
-fn values_of(problem: &Problem, step: Step) -> &[i64]
-    requires { IsInRange problem.now.raw step }
-    ensures { result.now ≡ values_of problem.now.raw step }
+fn values_of(problem: &Problem, step: PathStep) -> &[i64]
+    requires { IsInRange problem.now.parts step }
+    ensures { result.now ≡ values_of problem.now.parts step }
 {
-    let _ = problem.raw();
+    let _ = problem.parts();
     let node = problem.node(step.node);
     node.values.as_slice()[step.realization as usize].as_slice()
 }
 
 /// The node of a step, and the values of its realization.
-fn moment_of(alloc: Global, problem: &Problem, step: Step) -> Result<Moment, Memory>
-    requires { IsInRange problem.now.raw step }
-    ensures { IfOk result (λ moment. moment ≡ moment_of problem.now.raw step) }
+fn moment_of(alloc: Global, problem: &Problem, step: PathStep) -> Result<Moment, Memory>
+    requires { IsInRange problem.now.parts step }
+    ensures { IfOk result (λ moment. moment ≡ moment_of problem.now.parts step) }
 {
     Ok(Moment {
         node: step.node,
@@ -40,9 +41,9 @@ fn moment_of(alloc: Global, problem: &Problem, step: Step) -> Result<Moment, Mem
 }
 
 /// The nodes and values of a path.
-fn moments_of(alloc: Global, problem: &Problem, path: &[Step]) -> Result<List<Moment>, Memory>
-    requires { All (IsInRange problem.now.raw) path.now }
-    ensures { IfOk result (λ run. run ≡ map (moment_of problem.now.raw) path.now) }
+fn moments_of(alloc: Global, problem: &Problem, path: &[PathStep]) -> Result<List<Moment>, Memory>
+    requires { All (IsInRange problem.now.parts) path.now }
+    ensures { IfOk result (λ run. run ≡ map (moment_of problem.now.parts) path.now) }
 {
     let mut run = List::new(alloc);
     for step in path {
@@ -59,9 +60,9 @@ pub(crate) fn drawn(
     scenario: u32,
 ) -> Result<List<Moment>, Memory>
     ensures value { IfOk result (λ run. run ≡ drawn problem.now seed scenario) }
-    ensures run { IfOk result (IsRun problem.now) }
+    ensures run { IfOk result (IsProblemRun problem.now) }
 {
-    let _ = problem.raw();
+    let _ = problem.parts();
     let path = path(alloc, problem, seed, (1 << 32) + u64::from(scenario))?;
     moments_of(alloc, problem, path.as_slice())
 }
@@ -75,14 +76,14 @@ pub(crate) fn trace_of<V: Solver>(
     run: u32,
     moments: &[Moment],
 ) -> Result<Trace, PlanFault>
-    requires run { IsRun planner.now.problem.now moments.now }
+    requires run { IsProblemRun planner.now.problem.now moments.now }
     requires fit { PoolsFit planner.now.problem.now pools.now.lists }
-    ensures value { Gives result (trace_of (V.does planner.now.solver.now) planner.now.problem.now pools.now.lists run moments.now) }
+    ensures value { GivesOrRefutes result (trace_of (V.does planner.now.solver.now) planner.now.problem.now pools.now.lists run moments.now) }
     ensures known { IfOk result (AreKnown planner.now.problem.now) }
-    ensures dead { OnNoStage result (Refutes planner.now.problem.now) }
+    ensures infeasible { OnNoStage result (Refutes planner.now.problem.now) }
 {
     let problem = planner.problem();
-    let _ = problem.raw();
+    let _ = problem.parts();
     let state = initial_state(work.alloc(), problem)?;
     let mut progress = Progress {
         trace: Trace {

@@ -1,7 +1,7 @@
 // Traces of drawn scenarios, and of those that a problem stores.
 ghost use Rattle.std.specs.Prelude.{◌≡◌, ◌≤◌, length, All, IfOk};
-ghost use Rattle.hp_settle.specs.Faults.{Gives, OnNoStage, Refutes};
-ghost use Rattle.hp_sim.specs.Runs.{IsRun, drawn_from};
+ghost use Rattle.hp_settle.specs.Faults.{GivesOrRefutes, OnNoStage, Refutes};
+ghost use Rattle.hp_sim.specs.Runs.{IsProblemRun, drawn_from};
 ghost use Rattle.hp_sim.specs.Tracing.{AreKnown, traces_of};
 ghost use Rattle.hp_cut.specs.AtNodes.{PoolsFit};
 
@@ -10,7 +10,8 @@ use hp_cut::Pools;
 use hp_forward::Trace;
 use hp_lp::{Planner, Workspace};
 use hp_num::List;
-use hp_problem::{Moment, Problem};
+use hp_parts::Moment;
+use hp_problem::Problem;
 use hp_settle::PlanFault;
 use hp_solver::Solver;
 
@@ -22,7 +23,7 @@ use hp_solver::Solver;
 /// as [`hp_mend::decide_mended`] does it: by the answer to the stage problem, rounded down and brought into the boxes, and
 /// where that answer is a point, mended to meet the rows as [`hp_mend::mended`] does it.
 ///
-/// One trace per scenario, with one step per node of its path. NoStage exactly at the first step, in order of
+/// One trace per scenario, with one step per node of its path. Infeasible exactly at the first step, in order of
 /// scenarios, where no decisions exist, as the multipliers that it carries show; its `run` is the number of the
 /// scenario. Memory where memory was refused.
 pub fn simulate<V: Solver>(
@@ -33,9 +34,9 @@ pub fn simulate<V: Solver>(
     count: u32,
 ) -> Result<List<Trace>, PlanFault>
     requires fit { PoolsFit planner.now.problem.now pools.now.lists }
-    ensures value { Gives result (traces_of (V.does planner.now.solver.now) planner.now.problem.now pools.now.lists (drawn_from planner.now.problem.now seed 0 count)) }
+    ensures value { GivesOrRefutes result (traces_of (V.does planner.now.solver.now) planner.now.problem.now pools.now.lists (drawn_from planner.now.problem.now seed 0 count)) }
     ensures known { IfOk result (All (AreKnown planner.now.problem.now)) }
-    ensures dead { OnNoStage result (Refutes planner.now.problem.now) }
+    ensures infeasible { OnNoStage result (Refutes planner.now.problem.now) }
 {
     let mut traces = List::new(work.alloc());
     for scenario in 0..count {
@@ -47,17 +48,17 @@ pub fn simulate<V: Solver>(
 
 /// The scenarios that a problem stores.
 fn stored(problem: &Problem) -> &[List<Moment>]
-    ensures value { result.now ≡ problem.now.raw.scenarios }
-    ensures runs { All (IsRun problem.now) result.now }
+    ensures value { result.now ≡ problem.now.parts.scenarios }
+    ensures runs { All (IsProblemRun problem.now) result.now }
     ensures few { length result.now ≤ 1000 }
 {
-    problem.raw().scenarios.as_slice()
+    problem.parts().scenarios.as_slice()
 }
 
 /// The traces of the scenarios that a problem stores, in their order and with their own values; the rest is as in
 /// [`simulate`].
 ///
-/// NoStage exactly at the first step, in order of scenarios, where no decisions exist, with the number of the scenario as its
+/// Infeasible exactly at the first step, in order of scenarios, where no decisions exist, with the number of the scenario as its
 /// `run`. Memory where memory was refused.
 pub fn validate<V: Solver>(
     work: &mut Workspace,
@@ -65,9 +66,9 @@ pub fn validate<V: Solver>(
     pools: &Pools,
 ) -> Result<List<Trace>, PlanFault>
     requires fit { PoolsFit planner.now.problem.now pools.now.lists }
-    ensures value { Gives result (traces_of (V.does planner.now.solver.now) planner.now.problem.now pools.now.lists planner.now.problem.now.raw.scenarios) }
+    ensures value { GivesOrRefutes result (traces_of (V.does planner.now.solver.now) planner.now.problem.now pools.now.lists planner.now.problem.now.parts.scenarios) }
     ensures known { IfOk result (All (AreKnown planner.now.problem.now)) }
-    ensures dead { OnNoStage result (Refutes planner.now.problem.now) }
+    ensures infeasible { OnNoStage result (Refutes planner.now.problem.now) }
 {
     let scenarios = stored(planner.problem());
     let mut traces = List::new(work.alloc());

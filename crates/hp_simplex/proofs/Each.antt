@@ -7,9 +7,9 @@ use Rattle.hp_simplex.specs.Each.{each_from}
 
 -- some results, and those of the rest behind them
 abbrev pub behind : {B : Type 0} → List B → Option (List B) → Option (List B)
-behind done rest = option_map (λ ys. done ++ ys) rest
+behind done tail = option_map (λ ys. done ++ ys) tail
 
-pub behind_one : {B : Type 0} (done : List B) (y : B) (rest : Option (List B)) → behind done (option_map (λ ys. y ∷ ys) rest) ≡ behind (done ++ y ∷ []) rest
+pub behind_one : {B : Type 0} (done : List B) (y : B) (tail : Option (List B)) → behind done (option_map (λ ys. y ∷ ys) tail) ≡ behind (done ++ y ∷ []) tail
 behind_one done y None = refl
 behind_one done y (Some ys) = ap Some (sym (append_assoc done (y ∷ []) ys))
 
@@ -37,8 +37,8 @@ pub each_length : {A B : Type 0} (f : ℕ → A → Option B) (k : ℕ) (xs : Li
 each_length f k [] ys h = sym (ap length (some_same h))
 each_length {A} {B} f k (x ∷ xs) ys h = first (f k x) (each_from f (suc k) xs) (each_length f (suc k) xs) h
   where
-    first : (o : Option B) (rest : Option (List B)) → ((zs : List B) → rest ≡ Some zs → length zs ≡ length xs) → option_and_then (λ y. option_map (λ ys. y ∷ ys) rest) o ≡ Some ys → length ys ≡ suc (length xs)
-    first None rest r e = absurd (cc)
+    first : (o : Option B) (tail : Option (List B)) → ((zs : List B) → tail ≡ Some zs → length zs ≡ length xs) → option_and_then (λ y. option_map (λ ys. y ∷ ys) tail) o ≡ Some ys → length ys ≡ suc (length xs)
+    first None tail r e = absurd (cc)
     first (Some y) None r e = absurd (cc)
     first (Some y) (Some zs) r e = sym (ap length (some_same e)) ∙ ap suc (r zs refl)
 

@@ -27,7 +27,7 @@ one_row : (m i v : ℕ) (above t : Bool) (best : Option Leaving) → i < m → I
 one_row m i v above true best h b l e = subst (λ (k : Leaving). k.row < m) (some_same e) h
 one_row m i v above false best h b l e = b l e
 
-chosen_row : (m i v : ℕ) (side : Option Bool) (best : Option Leaving) → i < m → IsRow m best → IsRow m (leaving.chosen best i v side)
+chosen_row : (m i v : ℕ) (side : Option Bool) (best : Option Leaving) → i < m → IsRow m best → IsRow m (leaving.chosen_leaving best i v side)
 chosen_row m i v None best h b = b
 chosen_row m i v (Some above) best h b = one_row m i v above (leaving.is_less v best) best h b
 
@@ -35,7 +35,7 @@ step_row : (m : ℕ) (lp : Program) (ps : List Nonbasic) (best next : Option Lea
 unfolding leaving.leaving_step
 step_row m lp ps best next i v row h b e =
     let x = then_some _ (row_value lp ps row) next e in
-    let s = map_some (leaving.chosen best i v) (leaving.violated lp v x.0) next x.2 in
+    let s = map_some (leaving.chosen_leaving best i v) (leaving.violated lp v x.0) next x.2 in
     subst (IsRow m) s.2 (chosen_row m i v s.0 best h b)
 
 pub leaving_inside : (m : ℕ) (lp : Program) (ps : List Nonbasic) (best next : Option Leaving) (i : ℕ) (vs : List ℕ) (rows : List (List Fx)) → i + length vs ≤ m → IsRow m best → leaving.leaving_from lp ps best i vs rows ≡ Some next → IsRow m next

@@ -59,21 +59,21 @@ duals_kept d first i rows found new y h w e n =
     ∙ ap (λ (xs : List Fx). xs ++ duals_from (dictionary_of d) (first + (i + 1)) (drop (i + 1) rows)) (sym (n ∙ ap (λ (z : Fx). found ++ z ∷ []) e))
 
 module _ (g : ℕ → Option Fx) where
-  abbrev pub rest : ℕ → ℕ → List LpRow → Option (List Fx)
-  rest v i rows = each_from (λ n (r : LpRow). g n) v (drop i rows)
+  abbrev pub tail : ℕ → ℕ → List LpRow → Option (List Fx)
+  tail v i rows = each_from (λ n (r : LpRow). g n) v (drop i rows)
 
-  each_drop : (v i : ℕ) (rows : List LpRow) → i < length rows → rest v i rows ≡ option_and_then (λ y. option_map (λ ys. y ∷ ys) (rest (suc v) (suc i) rows)) (g v)
+  each_drop : (v i : ℕ) (rows : List LpRow) → i < length rows → tail v i rows ≡ option_and_then (λ y. option_map (λ ys. y ∷ ys) (tail (suc v) (suc i) rows)) (g v)
   each_drop v i [] h = absurd (omega arith)
   each_drop v zero (r ∷ rows) h = refl
   each_drop v (suc i) (r ∷ rows) h = each_drop v i rows (omega arith)
 
-  pub ray_absent : {whole : Option (List Fx)} (first i : ℕ) (rows : List LpRow) (found : List Fx) → i < length rows → g (first + i) ≡ None → whole ≡ behind found (rest (first + i) i rows) → whole ≡ None
+  pub ray_absent : {whole : Option (List Fx)} (first i : ℕ) (rows : List LpRow) (found : List Fx) → i < length rows → g (first + i) ≡ None → whole ≡ behind found (tail (first + i) i rows) → whole ≡ None
   ray_absent first i rows found h e w =
-      w ∙ ap (behind found) (each_drop (first + i) i rows h ∙ ap (option_and_then (λ y. option_map (λ ys. y ∷ ys) (rest (suc (first + i)) (suc i) rows))) e)
+      w ∙ ap (behind found) (each_drop (first + i) i rows h ∙ ap (option_and_then (λ y. option_map (λ ys. y ∷ ys) (tail (suc (first + i)) (suc i) rows))) e)
 
-  pub ray_step : {whole : Option (List Fx)} (first i : ℕ) (rows : List LpRow) (found : List Fx) (y : Fx) → i < length rows → g (first + i) ≡ Some y → whole ≡ behind found (rest (first + i) i rows) → whole ≡ behind (found ++ y ∷ []) (rest (first + (i + 1)) (i + 1) rows)
+  pub ray_step : {whole : Option (List Fx)} (first i : ℕ) (rows : List LpRow) (found : List Fx) (y : Fx) → i < length rows → g (first + i) ≡ Some y → whole ≡ behind found (tail (first + i) i rows) → whole ≡ behind (found ++ y ∷ []) (tail (first + (i + 1)) (i + 1) rows)
   ray_step first i rows found y h e w =
       let next : suc (first + i) ≡ first + (i + 1) = omega arith in
-      w ∙ ap (behind found) (each_drop (first + i) i rows h ∙ ap (option_and_then (λ y. option_map (λ ys. y ∷ ys) (rest (suc (first + i)) (suc i) rows))) e)
-      ∙ behind_one found y (rest (suc (first + i)) (suc i) rows)
-      ∙ ap₂ (λ (v k : ℕ). behind (found ++ y ∷ []) (rest v k rows)) next (sym (add-one i))
+      w ∙ ap (behind found) (each_drop (first + i) i rows h ∙ ap (option_and_then (λ y. option_map (λ ys. y ∷ ys) (tail (suc (first + i)) (suc i) rows))) e)
+      ∙ behind_one found y (tail (suc (first + i)) (suc i) rows)
+      ∙ ap₂ (λ (v k : ℕ). behind (found ++ y ∷ []) (tail v k rows)) next (sym (add-one i))

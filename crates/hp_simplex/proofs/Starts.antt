@@ -11,7 +11,7 @@ use Rattle.hp_simplex.specs.declared.dictionary.Tableau.{Tableau}
 use Rattle.hp_simplex.specs.Dictionary.{Dictionary, dense, slacks_from, nonbasic_from, start_of}
 use Rattle.hp_simplex.specs.Whole.{dictionary_of}
 use Rattle.hp_simplex.specs.Pivot.{grid_of}
-use Rattle.hp_simplex.specs.Rows.{rows_of}
+use Rattle.hp_simplex.specs.Rows.{rows_in_list}
 use Rattle.hp_simplex.proofs.Flat.{front_row}
 
 slacks_drop : (v i : ℕ) (rows : List LpRow) → i < length rows → slacks_from v (drop i rows) ≡ v ∷ slacks_from (suc v) (drop (suc i) rows)
@@ -52,7 +52,7 @@ flat_length n (r ∷ rs) = length-append (factors n r) (flat_map (factors n) rs)
     more : (k n : ℕ) → n + k * n ≡ suc k * n
     more k n = omega arith
 
-pub flat_rows : (n : ℕ) (rs : List LpRow) → rows_of (length rs) n (flat_map (factors n) rs) ≡ map (factors n) rs
+pub flat_rows : (n : ℕ) (rs : List LpRow) → rows_in_list (length rs) n (flat_map (factors n) rs) ≡ map (factors n) rs
 flat_rows n [] = refl
 flat_rows n (r ∷ rs) = front_row (length rs) n (factors n r) (flat_map (factors n) rs) (dense_length 0 n r.terms) ∙ ap (λ (xs : List (List Fx)). factors n r ∷ xs) (flat_rows n rs)
 
@@ -75,5 +75,5 @@ parts_same {b} {c} {p} {q} {r} {s} {x} {y} e f g h =
 pub made_start : (lp : Program) (cs : List Column) (rs : List LpRow) (d : Tableau) → cs ≡ lp.columns → rs ≡ lp.rows → d.basic ≡ slacks_from (length cs) rs → d.nonbasic ≡ nonbasic_from 0 cs → d.table.rows ≡ length rs → d.table.columns ≡ length cs → d.table.cells.items ≡ flat_map (factors (length cs)) rs → d.table.costs.items ≡ map (λ (c : Column). c.cost) cs → dictionary_of d ≡ start_of lp
 unfolding dictionary_of grid_of start_of
 made_start lp cs rs d a b basic nonbasic m n cells costs =
-    parts_same basic nonbasic (ap₂ (λ (i : ℕ) (j : ℕ). rows_of i j d.table.cells.items) m n ∙ ap (rows_of (length rs) (length cs)) cells ∙ flat_rows (length cs) rs) costs
+    parts_same basic nonbasic (ap₂ (λ (i : ℕ) (j : ℕ). rows_in_list i j d.table.cells.items) m n ∙ ap (rows_in_list (length rs) (length cs)) cells ∙ flat_rows (length cs) rs) costs
     ∙ ap₂ first a b

@@ -3,11 +3,11 @@ use Rattle.std.proofs.Common.{◌≡◌, ℕ, ◌^◌, ◌*◌, pos, negsuc, [],
 use Rattle.hp_solver.specs.declared.fixed.Fx.{Fx}
 use Rattle.hp_solver.specs.declared.programs.Program.{Program}
 use Rattle.hp_solver.specs.declared.programs.Kind.TheVariants as kinds
-use Rattle.hp_solver.specs.Numbers.{number, zero_fx, one, plus, minus, times, over}
+use Rattle.hp_solver.specs.Numbers.{number, zero_fx, one, plus_fixed, minus, times_fixed, over_fixed}
 use Rattle.hp_simplex.specs.Pivot.{turned, moved, turned_row, moved_row, pivot_of}
 use Rattle.hp_simplex.specs.Dictionary.{low_of, high_of, value_at, sum_step, row_value, start_of}
 use Rattle.hp_simplex.specs.Leaving.{is_below, is_above, violated, leaving_step}
-use Rattle.hp_simplex.specs.Entering.{is_fixed, is_towards, is_eligible, magnitude, at_least_zero, slack_of, ratio_of, entering_step}
+use Rattle.hp_simplex.specs.Entering.{is_fixed, is_towards, is_eligible, absolute_value, at_least_zero, slack_of, ratio_of, entering_step}
 use Rattle.hp_simplex.specs.Answers.{stuck_of, clamped, point_at, found_of, ray_dual, ray_of}
 use Rattle.hp_simplex.specs.Solve.{exchanged, turn_of, solve_of}
 
@@ -22,7 +22,7 @@ thirds =
     }
 
 thirds_found : solve_of thirds ≡ record { kind = kinds.Found; point = number (pos 1431655765) ∷ []; duals = number (pos 1431655765) ∷ [] }
-unfolding plus minus times over turned moved turned_row moved_row pivot_of low_of high_of value_at sum_step row_value start_of is_below is_above violated leaving_step is_fixed is_towards is_eligible magnitude at_least_zero slack_of ratio_of entering_step stuck_of clamped point_at found_of ray_dual ray_of exchanged turn_of solve_of
+unfolding plus_fixed minus times_fixed over_fixed turned moved turned_row moved_row pivot_of low_of high_of value_at sum_step row_value start_of is_below is_above violated leaving_step is_fixed is_towards is_eligible absolute_value at_least_zero slack_of ratio_of entering_step stuck_of clamped point_at found_of ray_dual ray_of exchanged turn_of solve_of
 thirds_found = refl
 
 abbrev units : ℕ → Fx
@@ -39,7 +39,7 @@ small =
     }
 
 small_found : solve_of small ≡ record { kind = kinds.Found; point = zero_fx ∷ number (pos 21474836480) ∷ number (pos 17179869184) ∷ []; duals = number (negsuc 21474836479) ∷ number (pos 21474836480) ∷ [] }
-unfolding plus minus times over turned moved turned_row moved_row pivot_of low_of high_of value_at sum_step row_value start_of is_below is_above violated leaving_step is_fixed is_towards is_eligible magnitude at_least_zero slack_of ratio_of entering_step stuck_of clamped point_at found_of ray_dual ray_of exchanged turn_of solve_of
+unfolding plus_fixed minus times_fixed over_fixed turned moved turned_row moved_row pivot_of low_of high_of value_at sum_step row_value start_of is_below is_above violated leaving_step is_fixed is_towards is_eligible absolute_value at_least_zero slack_of ratio_of entering_step stuck_of clamped point_at found_of ray_dual ray_of exchanged turn_of solve_of
 small_found = refl
 
 -- a product that leaves 128 bits
@@ -53,5 +53,5 @@ large =
     }
 
 large_stuck : solve_of large ≡ record { kind = kinds.Stuck; point = number (pos (2 ^ 100)) ∷ []; duals = zero_fx ∷ [] }
-unfolding plus minus times over low_of high_of value_at sum_step row_value start_of is_below is_above violated leaving_step stuck_of turn_of solve_of
+unfolding plus_fixed minus times_fixed over_fixed low_of high_of value_at sum_step row_value start_of is_below is_above violated leaving_step stuck_of turn_of solve_of
 large_stuck = refl

@@ -7,7 +7,7 @@ use Rattle.hp_solver.specs.declared.programs.Column.{Column}
 use Rattle.hp_solver.specs.declared.programs.LpRow.{LpRow}
 use Rattle.hp_solver.specs.declared.programs.Program.{Program}
 use Rattle.hp_simplex.specs.declared.dictionary.Nonbasic.{Nonbasic}
-use Rattle.hp_solver.specs.Numbers.{zero_fx, plus, times}
+use Rattle.hp_solver.specs.Numbers.{zero_fx, plus_fixed, times_fixed}
 use Rattle.hp_simplex.specs.Pivot.{Grid}
 
 -- the basic variable of each row, the nonbasic one of each column, and the table
@@ -30,7 +30,7 @@ value_at lp p = if p.high then high_of lp p.variable else low_of lp p.variable
 
 -- s + t times the variable
 unfoldable pub sum_step : Program → Fx → Fx → Nonbasic → Option Fx
-sum_step lp s t p = option_and_then (λ x. option_and_then (plus s) (times t x)) (value_at lp p)
+sum_step lp s t p = option_and_then (λ x. option_and_then (plus_fixed s) (times_fixed t x)) (value_at lp p)
 
 -- s and the terms of a row, in rising order
 abbrev pub sum_from : Program → Fx → List Fx → List Nonbasic → Option Fx

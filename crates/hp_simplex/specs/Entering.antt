@@ -5,7 +5,7 @@ use Rattle.hp_solver.specs.declared.fixed.Fx.{Fx}
 use Rattle.hp_solver.specs.declared.programs.Program.{Program}
 use Rattle.hp_simplex.specs.declared.dictionary.Nonbasic.{Nonbasic}
 use Rattle.hp_simplex.specs.declared.dictionary.Entering.{Entering}
-use Rattle.hp_solver.specs.Numbers.{zero_fx, over}
+use Rattle.hp_solver.specs.Numbers.{zero_fx, over_fixed}
 use Rattle.hp_simplex.specs.Pivot.{negated}
 use Rattle.hp_simplex.specs.Dictionary.{low_of, high_of}
 
@@ -39,8 +39,8 @@ unfoldable pub is_eligible : Program → Bool → Fx → Nonbasic → Bool
 is_eligible lp above t p = not (is_fixed lp p.variable) && nat_le (2 ^ 20) (nat_abs t.0) && is_towards above p.high t
 
 -- |x|
-unfoldable pub magnitude : Fx → Option Fx
-magnitude x = if is_negative x then negated x else Some x
+unfoldable pub absolute_value : Fx → Option Fx
+absolute_value x = if is_negative x then negated x else Some x
 
 -- max(0, x)
 unfoldable pub at_least_zero : Fx → Fx
@@ -51,7 +51,7 @@ unfoldable pub slack_of : Nonbasic → Fx → Option Fx
 slack_of p d = option_map at_least_zero (if p.high then negated d else Some d)
 
 unfoldable pub ratio_of : Fx → Nonbasic → Fx → Option Fx
-ratio_of t p d = option_and_then (λ up. option_and_then (over up) (magnitude t)) (slack_of p d)
+ratio_of t p d = option_and_then (λ up. option_and_then (over_fixed up) (absolute_value t)) (slack_of p d)
 
 abbrev pub is_better : ℕ → Fx → Option Entering → Bool
 is_better v r None = true

@@ -3,9 +3,9 @@ use Rattle.std.specs.Prelude.{◌≡◌, ℕ, Bool, true, false, List, [], get_o
 use Rattle.std.specs.Option.{option_map, option_and_then}
 use Rattle.hp_solver.specs.declared.fixed.Fx.{Fx}
 use Rattle.hp_simplex.specs.declared.table.Table.{Table}
-use Rattle.hp_solver.specs.Numbers.{zero_fx, one, plus, minus, times, over}
+use Rattle.hp_solver.specs.Numbers.{zero_fx, one, plus_fixed, minus, times_fixed, over_fixed}
 use Rattle.hp_simplex.specs.Each.{each_from}
-use Rattle.hp_simplex.specs.Rows.{rows_of}
+use Rattle.hp_simplex.specs.Rows.{rows_in_list}
 
 -- rows of a table, and the row of reduced costs
 pub record Grid : Type 0 where
@@ -24,11 +24,11 @@ negated x = minus zero_fx x
 
 -- entry j of the pivot row: 1/p at the pivot p itself, -x/p elsewhere
 unfoldable pub turned : ℕ → Fx → ℕ → Fx → Option Fx
-turned e p j x = if j == e then over one p else option_and_then negated (over x p)
+turned e p j x = if j == e then over_fixed one p else option_and_then negated (over_fixed x p)
 
 -- entry j of another row, f in the pivot column: f r_j at the pivot column, x + f r_j elsewhere, with r the new pivot row
 unfoldable pub moved : ℕ → Fx → List Fx → ℕ → Fx → Option Fx
-moved e f r j x = if j == e then times f (at r j) else option_and_then (plus x) (times f (at r j))
+moved e f r j x = if j == e then times_fixed f (at r j) else option_and_then (plus_fixed x) (times_fixed f (at r j))
 
 unfoldable pub turned_row : ℕ → List Fx → Option (List Fx)
 turned_row e row = each_from (turned e (at row e)) 0 row
@@ -51,7 +51,7 @@ pivot_of i e g =
 
 -- the table of m rows of n entries each that a list of cells stands for, with its reduced costs
 abbrev pub grid : ℕ → ℕ → List Fx → List Fx → Grid
-grid m n cells costs = record { rows = rows_of m n cells; costs = costs }
+grid m n cells costs = record { rows = rows_in_list m n cells; costs = costs }
 
 unfoldable pub grid_of : Table → Grid
 grid_of t = grid t.rows t.columns t.cells.items t.costs.items

@@ -1,7 +1,6 @@
 // Values of variables by their bounds and rows.
 ghost use Rattle.std.specs.Prelude.{◌≡◌, length};
-ghost use Rattle.hp_solver.specs.Numbers.{zero_fx};
-ghost use Rattle.hp_simplex.specs.Dictionary.{low_of, high_of, value_at, sum_step, sum_from, row_value};
+ghost use Rattle.hp_simplex.specs.Dictionary.{low_of, high_of, value_at, sum_step, row_value};
 
 use crate::dictionary::Nonbasic;
 use hp_solver::{Fx, Program};

@@ -6,14 +6,14 @@ ghost use Rattle.hp_solver.specs.declared.programs.Answer.{Answer};
 ghost use Rattle.hp_solver.specs.Proper.{IsProper, IsReference, Extends, IsLike};
 ghost use Rattle.hp_simplex.specs.Whole.{IsWhole, dictionary_of};
 ghost use Rattle.hp_simplex.specs.Solve.{exchanged, brought_back, turn_of, turns, solve_of};
-ghost use Rattle.hp_simplex.specs.Steps.{Takes, Exchanges, Chooses, AreInside};
+ghost use Rattle.hp_simplex.specs.Steps.{TakesStep, Exchanges, Chooses, IsChoiceInside};
 
-use crate::answers::{found, ray, stuck};
 use crate::dictionary::{Entering, Leaving, Nonbasic, Tableau};
 use crate::entering::entering;
 use crate::leaving::leaving;
 use crate::start::write_start;
 use crate::table::Table;
+use crate::tableau_answers::{found, ray, stuck};
 use hp_num::{List, Memory};
 use hp_solver::{Answer, Program, Solver, StageLp};
 use std::alloc::Global;
@@ -24,7 +24,7 @@ use std::marker::Model;
 pub struct DualSimplex;
 
 // The outcome of a turn.
-pub(crate) enum Step {
+pub(crate) enum PivotOutcome {
     // Two variables changed places.
     Goes,
     // No bound is violated.
@@ -83,7 +83,7 @@ fn bring_back(lp: &Program, tableau: &Tableau, leaving: Leaving) -> Choice
     requires whole { IsWhole tableau.now }
     requires row { leaving.row < tableau.now.table.rows }
     ensures choice { Chooses result (brought_back lp.now (dictionary_of tableau.now) leaving) (dictionary_of tableau.now) }
-    ensures inside { AreInside result tableau.now }
+    ensures inside { IsChoiceInside result tableau.now }
 {
     let nonbasic = tableau.nonbasic.as_slice();
     let row = tableau.table.row(leaving.row);
@@ -100,7 +100,7 @@ fn bring_back(lp: &Program, tableau: &Tableau, leaving: Leaving) -> Choice
 fn choose(lp: &Program, tableau: &Tableau) -> Choice
     requires whole { IsWhole tableau.now }
     ensures choice { Chooses result (turn_of lp.now (dictionary_of tableau.now)) (dictionary_of tableau.now) }
-    ensures inside { AreInside result tableau.now }
+    ensures inside { IsChoiceInside result tableau.now }
 {
     let nonbasic = tableau.nonbasic.as_slice();
     match leaving(lp, tableau.basic.as_slice(), nonbasic, &tableau.table) {
@@ -111,21 +111,21 @@ fn choose(lp: &Program, tableau: &Tableau) -> Choice
 }
 
 // Takes one turn.
-fn turn(lp: &Program, tableau: &mut Tableau) -> Step
+fn turn(lp: &Program, tableau: &mut Tableau) -> PivotOutcome
     requires whole { IsWhole tableau.old }
     ensures rows { tableau.new.table.rows ≡ tableau.old.table.rows }
     ensures whole { IsWhole tableau.new }
-    ensures turn { Takes result (turn_of lp.now (dictionary_of tableau.old)) tableau.old tableau.new }
+    ensures turn { TakesStep result (turn_of lp.now (dictionary_of tableau.old)) tableau.old tableau.new }
 {
     match choose(lp, tableau) {
-        Choice::Stuck => Step::Stuck,
-        Choice::Found => Step::Found,
-        Choice::Ray(leaving) => Step::Ray(leaving),
+        Choice::Stuck => PivotOutcome::Stuck,
+        Choice::Found => PivotOutcome::Found,
+        Choice::Ray(leaving) => PivotOutcome::Ray(leaving),
         Choice::Exchange(leaving, entering) => {
             if exchange(tableau, leaving, entering) {
-                Step::Goes
+                PivotOutcome::Goes
             } else {
-                Step::Stuck
+                PivotOutcome::Stuck
             }
         }
     }
@@ -139,10 +139,10 @@ fn run(alloc: Global, lp: &Program, tableau: &mut Tableau, limit: u64) -> Result
 {
     for _turn in 0..limit {
         match turn(lp, tableau) {
-            Step::Goes => {}
-            Step::Found => return found(alloc, lp, tableau),
-            Step::Ray(leaving) => return ray(alloc, lp, tableau, leaving),
-            Step::Stuck => return stuck(alloc, lp),
+            PivotOutcome::Goes => {}
+            PivotOutcome::Found => return found(alloc, lp, tableau),
+            PivotOutcome::Ray(leaving) => return ray(alloc, lp, tableau, leaving),
+            PivotOutcome::Stuck => return stuck(alloc, lp),
         }
     }
     stuck(alloc, lp)
@@ -169,13 +169,13 @@ fn solve_in(alloc: Global, tableau: &mut Tableau, lp: &Program) -> Result<Answer
     )
 }
 
-/// Room for the tableau of one program after another. No answer depends on what it holds.
+/// TableauRoom for the tableau of one program after another. No answer depends on what it holds.
 #[derive(Drop)]
-pub struct Room {
+pub struct TableauRoom {
     tableau: Tableau,
 }
 
-impl Model for Room {
+impl Model for TableauRoom {
     ghost use Rattle.std.specs.Prelude.{⊤};
 
     ghost Value = { ⊤ };
@@ -183,9 +183,9 @@ impl Model for Room {
     ghost view = { λ _. tt };
 }
 
-impl Room {
-    fn new(alloc: Global) -> Room {
-        Room {
+impl TableauRoom {
+    fn new(alloc: Global) -> TableauRoom {
+        TableauRoom {
             tableau: Tableau {
                 basic: List::new(alloc),
                 nonbasic: List::new(alloc),
@@ -203,7 +203,7 @@ impl Room {
 impl Solver for DualSimplex {
     type Start = ();
 
-    type Chain = Room;
+    type Chain = TableauRoom;
 
     ghost does = { λ _. record { started = λ _. tt; begun = λ _ _. tt; next = λ _ lp. (solve_of lp, tt) } };
 
@@ -217,11 +217,16 @@ impl Solver for DualSimplex {
         Ok(())
     }
 
-    fn begin(&self, alloc: Global, _start: &(), _lp: &StageLp) -> Result<Room, Memory> {
-        Ok(Room::new(alloc))
+    fn begin(&self, alloc: Global, _start: &(), _lp: &StageLp) -> Result<TableauRoom, Memory> {
+        Ok(TableauRoom::new(alloc))
     }
 
-    fn solve(&self, alloc: Global, chain: &mut Room, lp: &StageLp) -> Result<Answer, Memory> {
+    fn solve(
+        &self,
+        alloc: Global,
+        chain: &mut TableauRoom,
+        lp: &StageLp,
+    ) -> Result<Answer, Memory> {
         let program = lp.program(alloc)?;
         solve_in(alloc, &mut chain.tableau, &program)
     }

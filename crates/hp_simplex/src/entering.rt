@@ -1,6 +1,6 @@
 // The nonbasic variable that enters.
 ghost use Rattle.std.specs.Prelude.{◌≡◌, ◌<◌, length, IfSome, None};
-ghost use Rattle.hp_simplex.specs.Entering.{is_same, are_equal, is_fixed, is_towards, is_eligible, magnitude, at_least_zero, slack_of, ratio_of, is_better, chosen, entering_step, entering_from};
+ghost use Rattle.hp_simplex.specs.Entering.{are_equal, is_fixed, is_towards, is_eligible, absolute_value, at_least_zero, slack_of, ratio_of, is_better, chosen, entering_step, entering_from};
 
 use crate::bounds::{high_of, low_of};
 use crate::dictionary::{Entering, Nonbasic};
@@ -63,9 +63,9 @@ fn is_eligible(lp: &Program, above: bool, factor: Fx, place: Nonbasic) -> bool
 }
 
 // The absolute value.
-#[tactic(auto, unfolding(crate::specs::Entering::magnitude))]
+#[tactic(auto, unfolding(crate::specs::Entering::absolute_value))]
 fn magnitude(x: Fx) -> Option<Fx>
-    ensures { result ≡ magnitude x }
+    ensures { result ≡ absolute_value x }
 {
     if is_negative(x) { negated(x) } else { Some(x) }
 }

@@ -1,7 +1,7 @@
 // The basic variable that leaves.
 ghost use Rattle.std.specs.Prelude.{◌≡◌, ◌*◌, ◌<◌, length, None, IfSome};
 ghost use Rattle.hp_simplex.specs.Pivot.{grid_of};
-ghost use Rattle.hp_simplex.specs.Leaving.{is_below, is_above, violated, is_less, chosen, leaving_step, leaving_from};
+ghost use Rattle.hp_simplex.specs.Leaving.{is_below, is_above, violated, is_less, chosen_leaving, leaving_step, leaving_from};
 
 use crate::bounds::{high_of, low_of, row_value};
 use crate::dictionary::{Leaving, Nonbasic};
@@ -67,7 +67,7 @@ fn is_less(variable: usize, best: Option<Leaving>) -> bool
 
 // The better of the best so far and a row.
 fn chosen(best: Option<Leaving>, row: usize, variable: usize, side: Option<bool>) -> Option<Leaving>
-    ensures { result ≡ chosen best row variable side }
+    ensures { result ≡ chosen_leaving best row variable side }
 {
     match side {
         None => best,

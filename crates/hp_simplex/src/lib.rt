@@ -1,7 +1,6 @@
 //! The boxed dual simplex in fixed point.
 #![tactic(auto)]
 
-mod answers;
 mod bounds;
 mod dictionary;
 pub mod dual_simplex;
@@ -10,6 +9,7 @@ mod leaving;
 mod numbers;
 mod start;
 pub mod table;
+mod tableau_answers;
 
 pub use dual_simplex::DualSimplex;
 pub use table::Table;

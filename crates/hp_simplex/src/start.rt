@@ -1,7 +1,6 @@
 // The first dictionary: the slacks are basic.
 ghost use Rattle.std.specs.Prelude.{◌≡◌, ◌+◌, ◌^◌, ◌<◌, ◌≤◌, ◌∷◌, ◌++◌, ℕ, suc, length, drop, map, OnOk};
 ghost use Rattle.std.specs.List.{flat_map};
-ghost use Rattle.hp_solver.specs.Numbers.{zero_fx};
 ghost use Rattle.hp_simplex.specs.Dictionary.{dense, slacks_from, nonbasic_from, start_of};
 ghost use Rattle.hp_simplex.specs.Whole.{IsWhole, dictionary_of};
 ghost use Rattle.hp_solver.specs.declared.programs.Column.{Column};

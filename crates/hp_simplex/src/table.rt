@@ -1,9 +1,8 @@
 // The table of a dictionary, and its pivot.
-ghost use Rattle.std.specs.Prelude.{◌≡◌, ◌+◌, ◌*◌, ◌<◌, ◌≤◌, length, take, drop, get_or};
+ghost use Rattle.std.specs.Prelude.{◌≡◌, ◌+◌, ◌*◌, ◌<◌, ◌≤◌, length, take, drop};
 ghost use Rattle.std.specs.Option.{option_map};
-ghost use Rattle.hp_simplex.specs.Each.{each_from};
-ghost use Rattle.hp_simplex.specs.Pivot.{Pivots, at, turned, moved, turned_row, moved_row, others, pivot_of, grid, grid_of, row_at};
-ghost use Rattle.hp_simplex.specs.Rows.{put, rows_of};
+ghost use Rattle.hp_simplex.specs.Pivot.{Pivots, turned, moved, turned_row, moved_row, others, pivot_of, grid, grid_of, row_at};
+ghost use Rattle.hp_simplex.specs.Rows.{put, rows_in_list};
 
 use crate::numbers::negated;
 use hp_solver::Fx;
@@ -87,8 +86,8 @@ fn move_row_at(rows: &mut [Fx], start: usize, pivot_row: &[Fx], column: usize) -
     ensures moved { Pivots result (option_map (put (length pivot_row.now) start rows.old)
         (moved_row column pivot_row.now (take (length pivot_row.now) (drop start rows.old)))) rows.new }
 {
-    let (_, rest) = rows.split_at_mut(start);
-    let (row, _) = rest.split_at_mut(pivot_row.len());
+    let (_, tail) = rows.split_at_mut(start);
+    let (row, _) = tail.split_at_mut(pivot_row.len());
     move_row(row, pivot_row, column)
 }
 
@@ -98,8 +97,8 @@ fn move_rows(rows: &mut [Fx], count: usize, pivot_row: &[Fx], column: usize) -> 
     requires count { length rows.old ≡ count * length pivot_row.now }
     ensures lengths { length rows.new ≡ length rows.old }
     ensures moved { Pivots result
-        (others column pivot_row.now (rows_of count (length pivot_row.now) rows.old))
-        (rows_of count (length pivot_row.now) rows.new) }
+        (others column pivot_row.now (rows_in_list count (length pivot_row.now) rows.old))
+        (rows_in_list count (length pivot_row.now) rows.new) }
 {
     let width = pivot_row.len();
     for k in 0..count {
@@ -123,8 +122,8 @@ fn pivot_lists(cells: &mut [Fx], costs: &mut [Fx], count: usize, row: usize, col
         (grid count (length costs.old) cells.new costs.new) }
 {
     let width = costs.len();
-    let (above, rest) = cells.split_at_mut(row * width);
-    let (pivot_row, below) = rest.split_at_mut(width);
+    let (above, tail) = cells.split_at_mut(row * width);
+    let (pivot_row, below) = tail.split_at_mut(width);
     if !turn_row(pivot_row, column) {
         return false;
     }

@@ -99,9 +99,9 @@ module _ {B : Type 0} (says : List ℕ → Data → Option B) where
 
   more-read : (k : List ℕ) (d : Data) (ms : Members) (o : Option B) (os : Option (List B)) (xs : List B) → says k d ≡ o → each_member says ms ≡ os → each_member says (member k d ms) ≡ Some xs
       → (x : B) × (ys : List B) × (xs ≡ x ∷ ys) × (says k d ≡ Some x) × (each_member says ms ≡ Some ys)
-  more-read k d ms None os xs one rest e = absurd cc
-  more-read k d ms (Some x) None xs one rest e = absurd cc
-  more-read k d ms (Some x) (Some ys) xs one rest e = (x, ys, same_Some xs (x ∷ ys) (sym e ∙ rw (one, rest) refl), one, rest)
+  more-read k d ms None os xs one tail e = absurd cc
+  more-read k d ms (Some x) None xs one tail e = absurd cc
+  more-read k d ms (Some x) (Some ys) xs one tail e = (x, ys, same_Some xs (x ∷ ys) (sym e ∙ rw (one, tail) refl), one, tail)
 
   -- each member is found under its key, and what it says is read of it
   pub each-found : (ms : Members) (xs : List B) → RisingMembers ms → each_member says ms ≡ Some xs → map (λ k. get_member k ms >>= says k) (keys_of ms) ≡ map Some xs
@@ -111,7 +111,7 @@ module _ {B : Type 0} (says : List ℕ → Data → Option B) where
       by : (x : B) × (ys : List B) × (xs ≡ x ∷ ys) × (says k d ≡ Some x) × (each_member says ms ≡ Some ys)
           → ((ys : List B) → each_member says ms ≡ Some ys → map (λ l. get_member l ms >>= says l) (keys_of ms) ≡ map Some ys)
           → map (λ l. get_member l (member k d ms) >>= says l) (k ∷ keys_of ms) ≡ map Some xs
-      by p rest = rw (p.2, first-found k d ms, p.3, later-read k d ms (keys_of ms) rising.0, rest p.1 p.4) refl
+      by p tail = rw (p.2, first-found k d ms, p.3, later-read k d ms (keys_of ms) rising.0, tail p.1 p.4) refl
 
   -- the statement of the member with a number, by its name
   pub found-at : (ms : Members) (xs : List B) (k : List ℕ) (i : ℕ) → RisingMembers ms → each_member says ms ≡ Some xs → slice_get (keys_of ms) i ≡ Some k

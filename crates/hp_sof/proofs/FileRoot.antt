@@ -3,36 +3,36 @@ use Rattle.std.proofs.Common.{◌≡◌, ℕ, ℤ, List, [], ◌∷◌, ◌++◌
 use Rattle.std.proofs.lemmas.List.{map-append}
 use Rattle.serde_json.specs.Data.{Data, null, boolean, number, string, array, object, Members, no_members}
 use Rattle.serde_json.specs.Find.{get, get_member, as_object}
-use Rattle.hp_problem.specs.declared.raw.State.{State}
-use Rattle.hp_problem.specs.declared.refusal.Part.TheVariants as parts
-use Rattle.hp_problem.specs.declared.refusal.Place.{Place}
+use Rattle.hp_parts.specs.declared.parts.State.{State}
+use Rattle.hp_parts.specs.declared.refusal.Part.TheVariants as part_kinds
+use Rattle.hp_parts.specs.declared.refusal.Place.{Place}
 use Rattle.hp_fields.specs.Fields.{keys_of, key_at, present_at, object_at}
 use Rattle.hp_fields.specs.Limits.{members_at}
 use Rattle.hp_fields.proofs.Accepted.{then-Ok, Ok-is}
 use Rattle.hp_fields.proofs.Rising.{RisingMembers, get-rising, members_at-rising}
-use Rattle.hp_file.specs.File.{Name, Link, ◌>>=◌, under, or_absent, whole, each_member, link_of, initial_of}
-use Rattle.hp_subproblem.proofs.FileSays.{present-says, whole-says, object-says, members-say}
+use Rattle.hp_file.specs.File.{Name, FileSuccessor, ◌>>=◌, under, or_absent, whole_number, each_member, successor_of, initial_of}
+use Rattle.hp_subproblem.proofs.FileSays.{present-says, whole_number-says, object-says, members-say}
 use Rattle.hp_subproblem.proofs.FileEach.{walk_members-says}
 use Rattle.hp_sof.specs.declared.root.Root.{Root}
 use Rattle.hp_sof.specs.Root.{root, initial_at, state_at, states_at, counts_at, root_at}
-use Rattle.hp_sof.specs.Successors.{successors_at}
-use Rattle.hp_sof.specs.Weights.{weights_at}
-use Rattle.hp_sof.specs.Said.{Together, LinkSaid}
-use Rattle.hp_sof.proofs.SuccessorsFit.{weights_at-Ok}
+use Rattle.hp_sof.specs.Successors.{read_successors_at}
+use Rattle.hp_sof.specs.Weights.{bounded_weights_at}
+use Rattle.hp_sof.specs.Said.{Together, SuccessorSaid}
+use Rattle.hp_sof.proofs.SuccessorsFit.{bounded_weights_at-Ok}
 use Rattle.hp_sof.proofs.RootFits.{states_at-names}
 use Rattle.hp_sof.proofs.FileFound.{alike, get-object, under-object, each-found}
-use Rattle.hp_sof.proofs.FileLinks.{successors-say}
+use Rattle.hp_sof.proofs.FileSuccessors.{successors-say}
 
 -- a whole number, or an object that holds one
 initial-says : (p : Place) (d : Data) (z : ℤ) → initial_at p d ≡ Ok z → initial_of d ≡ Some z
 unfolding initial_at
-initial-says p null z e = whole-says p null z e
-initial-says p (boolean b) z e = whole-says p (boolean b) z e
-initial-says p (number n) z e = rw (whole-says p (number n) z e) refl
-initial-says p (string s) z e = whole-says p (string s) z e
-initial-says p (array ds) z e = whole-says p (array ds) z e
+initial-says p null z e = whole_number-says p null z e
+initial-says p (boolean b) z e = whole_number-says p (boolean b) z e
+initial-says p (number n) z e = rw (whole_number-says p (number n) z e) refl
+initial-says p (string s) z e = whole_number-says p (string s) z e
+initial-says p (array ds) z e = whole_number-says p (array ds) z e
 initial-says p (object ms) z e =
-    then-Ok (present_at _ _) _ z e (λ inner is e. ap (λ o. o >>= whole) (present-says p (get (codes "initial_value") (object ms)) inner is) ∙ whole-says p inner z e)
+    then-Ok (present_at _ _) _ z e (λ inner is e. ap (λ o. o >>= whole_number) (present-says p (get (codes "initial_value") (object ms)) inner is) ∙ whole_number-says p inner z e)
 
 initials : List State → List ℤ
 initials qs = map (λ (q : State). q.initial) qs
@@ -57,9 +57,9 @@ pub record RootSaid (names : List Name) (d : Data) (start : Root) : Type 0 where
   pub there : or_absent no_members as_object (get (codes "state_variables") d) ≡ Some states
   pub keys : keys_of states ≡ map (λ (q : State). q.name) start.states
   pub initial : map (λ k. under (codes "state_variables") (under k initial_of) d) (keys_of states) ≡ map Some (map (λ (q : State). q.initial) start.states)
-  pub links : List Link
-  pub said : (under (codes "successors") as_object d >>= each_member link_of) ≡ Some links
-  pub together : Together (LinkSaid names) links start.nodes start.weights
+  pub successors : List FileSuccessor
+  pub said : (under (codes "successors") as_object d >>= each_member successor_of) ≡ Some successors
+  pub together : Together (SuccessorSaid names) successors start.nodes start.weights
 
 pub root-says : (names : List Name) (d : Data) (ms : Members) (start : Root) → as_object d ≡ Some ms → RisingMembers ms → root_at names ms ≡ Ok start → RootSaid names d start
 unfolding root_at initials
@@ -69,11 +69,11 @@ root-says names d ms start is rising e =
     then-Ok (object_at _ _) _ start e (λ successors is_successors e.
     then-Ok (counts_at _ _ _) _ start e (λ counted is_counted e.
     then-Ok (states_at _) _ start e (λ found is_found e.
-    then-Ok (successors_at _ _ _ _) _ start e (λ links is_links e.
-    then-Ok (weights_at _ _ _) _ start e (λ weights is_weights e.
+    then-Ok (read_successors_at _ _ _ _) _ start e (λ arcs is_arcs e.
+    then-Ok (bounded_weights_at _ _ _) _ start e (λ weights is_weights e.
     let there = ap (or_absent no_members as_object) (get-object (codes "state_variables") d ms is) ∙ members-say root _ states is_states in
     let states_rise = members_at-rising root _ states (get-rising (codes "state_variables") (object ms) rising) is_states in
-    let ls = successors-say parts.Root 2 names successors links is_links in
+    let ls = successors-say part_kinds.Root 2 names successors arcs is_arcs in
     let given : (under (codes "successors") as_object d) ≡ Some successors = ap (λ o. o >>= as_object) (get-object (codes "successors") d ms is ∙ present-says root _ inner is_inner) ∙ object-says root inner successors is_successors in
     subst (RootSaid names d) (Ok-is _ start e) (record {
       states = states;
@@ -81,7 +81,7 @@ root-says names d ms start is rising e =
       keys = sym (states_at-names states found is_found);
       initial = alike (λ k. under (codes "state_variables") (under k initial_of) d) (λ k. get_member k states >>= initial_of) (λ k. under-object (get (codes "state_variables") d) states there k initial_of) (keys_of states)
           ∙ states-say states found states_rise is_found;
-      links = ls.0;
+      successors = ls.0;
       said = rw (given, ls.1) refl;
-      together = subst (Together (LinkSaid names) ls.0 links.nodes) (weights_at-Ok root 0 links.weights weights is_weights).0 ls.2;
+      together = subst (Together (SuccessorSaid names) ls.0 arcs.nodes) (bounded_weights_at-Ok root 0 arcs.weights weights is_weights).0 ls.2;
     }))))))))

@@ -5,7 +5,7 @@ pub mod ScenariosFit
 pub mod ReadFits
 pub mod FileWeights
 pub mod FileFound
-pub mod FileLinks
+pub mod FileSuccessors
 pub mod FileRealizations
 pub mod FileNodes
 pub mod FileRoot

@@ -6,13 +6,13 @@ use Rattle.std.proofs.lemmas.List.{map-append}
 use Rattle.serde_json.specs.Data.{Data, Items, Members}
 use Rattle.serde_json.specs.Events.{items_len, members_len}
 use Rattle.hp_num.proofs.Tests.{some_of}
-use Rattle.hp_problem.specs.Limits.{is_small, are_small, are_numbers, is_name, are_weights, values_fit, links_fit}
-use Rattle.hp_problem.specs.Distinct.{rises, is_before}
-use Rattle.hp_problem.specs.declared.raw.Node.{Node}
-use Rattle.hp_problem.specs.declared.raw.Subproblem.{Subproblem}
-use Rattle.hp_problem.specs.declared.refusal.Part.{Part}
-use Rattle.hp_problem.specs.declared.refusal.Part.TheVariants as parts
-use Rattle.hp_problem.specs.declared.refusal.Place.{Place}
+use Rattle.hp_parts.specs.Limits.{is_small, are_small, are_numbers, is_name, are_weights, values_fit, successors_in_order_fit}
+use Rattle.hp_parts.specs.Distinct.{rises, is_before}
+use Rattle.hp_parts.specs.declared.parts.Node.{Node}
+use Rattle.hp_parts.specs.declared.parts.Subproblem.{Subproblem}
+use Rattle.hp_parts.specs.declared.refusal.Part.{Part}
+use Rattle.hp_parts.specs.declared.refusal.Part.TheVariants as part_kinds
+use Rattle.hp_parts.specs.declared.refusal.Place.{Place}
 use Rattle.hp_fields.specs.Fields.{place, keys_of, key_at, whole_at, weight_at, string_at, present_at, object_at}
 use Rattle.hp_fields.specs.Limits.{known_at, members_at, items_at}
 use Rattle.hp_fields.proofs.Accepted.{then-Ok, Ok-is, test-Ok, EachFrom-any, list_all-push, whole_at-small, weight_at-positive, key_at-name, known_at-Ok, walk_items-Ok, walk_list-Ok, walk_members-Ok, walk_members-adds}
@@ -21,12 +21,12 @@ use Rattle.hp_fields.proofs.Rising.{Rising, RisingMembers, get-rising, members_a
 use Rattle.hp_sof.specs.declared.realizations.Realizations.{Realizations}
 use Rattle.hp_sof.specs.declared.nodes.Transitions.{Transitions}
 use Rattle.hp_sof.specs.declared.subproblems.SubproblemTable.{SubproblemTable}
-use Rattle.hp_sof.specs.Values.{randoms_in, randoms_of, value_at, values_at}
+use Rattle.hp_sof.specs.Values.{randoms_in, randoms_of, random_value_at, values_at}
 use Rattle.hp_sof.specs.Realizations.{at_node, no_realizations, realization_at, certain_at, listed_at, realizations_at}
-use Rattle.hp_sof.specs.Successors.{successors_at}
-use Rattle.hp_sof.specs.Weights.{weights_at}
-use Rattle.hp_sof.specs.Nodes.{stop_at, transitions_at, node_at, nodes_at}
-use Rattle.hp_sof.proofs.SuccessorsFit.{positive, one_more, weights_at-Ok, successors_at-fit, successors_at-few, successors_at-rise}
+use Rattle.hp_sof.specs.Successors.{read_successors_at}
+use Rattle.hp_sof.specs.Weights.{bounded_weights_at}
+use Rattle.hp_sof.specs.Nodes.{stop_at, transitions_at, read_node_at, nodes_at}
+use Rattle.hp_sof.proofs.SuccessorsFit.{positive, one_more, bounded_weights_at-Ok, read_successors_at-fit, read_successors_at-few, read_successors_at-rise}
 
 -- ---- realizations
 
@@ -35,9 +35,9 @@ record ValuesFit (count : ℕ) (zs : List ℤ) : Type 0 where
   many : length zs ≡ count
   small : are_small zs ≡ true
 
-value_at-fits : (p : Place) (support : Members) (found next : List ℤ) (i : ℕ) (name : List ℕ) → value_at p support found name ≡ Ok next → ValuesFit i found → ValuesFit (suc i) next
-unfolding value_at
-value_at-fits p support found next i name e so_far =
+random_value_at-fits : (p : Place) (support : Members) (found next : List ℤ) (i : ℕ) (name : List ℕ) → random_value_at p support found name ≡ Ok next → ValuesFit i found → ValuesFit (suc i) next
+unfolding random_value_at
+random_value_at-fits p support found next i name e so_far =
     then-Ok (present_at _ _) _ next e (λ inner is e.
     then-Ok (whole_at _ _) _ next e (λ z is_z e.
     subst (ValuesFit (suc i)) (Ok-is _ next e) (record {
@@ -48,7 +48,7 @@ value_at-fits p support found next i name e so_far =
 pub values_at-fit : (part : Part) (a b : ℕ) (randoms : List (List ℕ)) (support : Members) (zs : List ℤ) → values_at part a b randoms support ≡ Ok zs → are_numbers (length randoms) zs ≡ true
 unfolding values_at
 values_at-fit part a b randoms support zs e =
-    let v = walk_list-Ok ValuesFit (λ i name. Unit {0}) (λ found i name. value_at (place part a b i) support found name) (λ found next i name any e so_far. value_at-fits _ support found next i name e so_far)
+    let v = walk_list-Ok ValuesFit (λ i name. Unit {0}) (λ found i name. random_value_at (place part a b i) support found name) (λ found next i name any e so_far. random_value_at-fits _ support found next i name e so_far)
     randoms [] zs 0 (length randoms) (omega arith) (EachFrom-any 0 randoms) e (record { many = refl; small = refl }) in
     and_from (length zs == length randoms) (are_small zs) (eq-eqb (length zs) (length randoms) v.many) v.small
 
@@ -71,7 +71,7 @@ realization_at-fits n randoms found next r d e so_far =
       many = one_more found.weights (unsigned_abs weight) r so_far.many;
       paired = one_more found.values values r so_far.paired;
       weighty = list_all-push (λ w. nat_lt 0 w) found.weights (unsigned_abs weight) so_far.weighty (weight_at-positive _ inner weight is_weight);
-      values = list_all-push (are_numbers (length randoms)) found.values values so_far.values (values_at-fit parts.Support n r randoms support values is_values);
+      values = list_all-push (are_numbers (length randoms)) found.values values so_far.values (values_at-fit part_kinds.Support n r randoms support values is_values);
     }))))))
 
 -- realizations of so many random variables, by their weights and values
@@ -85,9 +85,9 @@ record RealizationsFit (randoms : ℕ) (weights : List ℕ) (values : List (List
 certain_at-fits : (p : Place) (randoms : List (List ℕ)) (c : Realizations) → certain_at p randoms ≡ Ok c → RealizationsFit (length randoms) c.weights c.values
 unfolding certain_at
 certain_at-fits p randoms c e =
-    let parts = test-Ok (length randoms == 0) _ _ p c e in
-    let none : (0 == length randoms) ≡ true = eq-eqb 0 (length randoms) (sym (eqb-true (length randoms) 0 parts.0)) in
-    subst (λ c. RealizationsFit (length randoms) c.weights c.values) (Ok-is _ c parts.1) (record { some = refl; few = refl; paired = refl; weighty = refl; fit = rw none refl })
+    let part_kinds = test-Ok (length randoms == 0) _ _ p c e in
+    let none : (0 == length randoms) ≡ true = eq-eqb 0 (length randoms) (sym (eqb-true (length randoms) 0 part_kinds.0)) in
+    subst (λ c. RealizationsFit (length randoms) c.weights c.values) (Ok-is _ c part_kinds.1) (record { some = refl; few = refl; paired = refl; weighty = refl; fit = rw none refl })
 
 listed_at-fits : (n : ℕ) (randoms : List (List ℕ)) (ds : Items) (c : Realizations) → (items_len ds == 0) ≡ false → nat_le (items_len ds) 100 ≡ true → listed_at n randoms ds ≡ Ok c → RealizationsFit (length randoms) c.weights c.values
 listed_at-fits n randoms ds c some few e =
@@ -103,7 +103,7 @@ listed_at-fits n randoms ds c some few e =
 
 realizations_at-fit : (n : ℕ) (randoms : List (List ℕ)) (ds : Items) (c : Realizations) → realizations_at n randoms ds ≡ Ok c → RealizationsFit (length randoms) c.weights c.values
 unfolding realizations_at
-realizations_at-fit n randoms ds c e = let parts = test-Ok (nat_le (items_len ds) 100) _ _ _ c e in by (items_len ds == 0) refl parts.0 parts.1
+realizations_at-fit n randoms ds c e = let part_kinds = test-Ok (nat_le (items_len ds) 100) _ _ _ c e in by (items_len ds == 0) refl part_kinds.0 part_kinds.1
   where
     by : (b : Bool) → (items_len ds == 0) ≡ b → nat_le (items_len ds) 100 ≡ true → (if b then certain_at (at_node n) randoms else listed_at n randoms ds) ≡ Ok c → RealizationsFit (length randoms) c.weights c.values
     by true is few h = certain_at-fits (at_node n) randoms c h
@@ -112,25 +112,25 @@ realizations_at-fit n randoms ds c e = let parts = test-Ok (nat_le (items_len ds
 -- ---- where a path may go on
 
 -- among so many nodes
-record TransitionsFit (nodes : ℕ) (links weights : List ℕ) (stop : ℕ) : Type 0 where
-  rising : rises nat_lt links ≡ true
-  few : nat_le (length links) nodes ≡ true
-  paired : (length weights == length links) ≡ true
-  known : list_all (λ m. nat_lt m nodes) links ≡ true
+record TransitionsFit (nodes : ℕ) (arcs weights : List ℕ) (stop : ℕ) : Type 0 where
+  rising : rises nat_lt arcs ≡ true
+  few : nat_le (length arcs) nodes ≡ true
+  paired : (length weights == length arcs) ≡ true
+  known : list_all (λ m. nat_lt m nodes) arcs ≡ true
   weighty : are_weights weights ≡ true
   total : nat_le (sum weights + stop) 65535 ≡ true
 
 transitions_at-fit : (names : List (List ℕ)) (n : ℕ) (successors : Members) (ending : Option Data) (transitions : Transitions) → Sorted names → RisingMembers successors → transitions_at names n successors ending ≡ Ok transitions → TransitionsFit (length names) transitions.nodes transitions.weights transitions.stop
 unfolding transitions_at
 transitions_at-fit names n successors ending transitions sorted rising e =
-    then-Ok (successors_at _ _ _ _) _ transitions e (λ links is_links e.
+    then-Ok (read_successors_at _ _ _ _) _ transitions e (λ arcs is_arcs e.
     then-Ok (stop_at _ _) _ transitions e (λ stop is e.
-    then-Ok (weights_at _ _ _) _ transitions e (λ weights is_weights e.
-    let l = successors_at-fit parts.Successor n names successors links is_links in
-    let few = successors_at-few parts.Successor n names successors links rising is_links in
-    let w = weights_at-Ok (at_node n) stop links.weights weights is_weights in
+    then-Ok (bounded_weights_at _ _ _) _ transitions e (λ weights is_weights e.
+    let l = read_successors_at-fit part_kinds.Successor n names successors arcs is_arcs in
+    let few = read_successors_at-few part_kinds.Successor n names successors arcs rising is_arcs in
+    let w = bounded_weights_at-Ok (at_node n) stop arcs.weights weights is_weights in
     subst (λ w. TransitionsFit (length names) w.nodes w.weights w.stop) (Ok-is _ transitions e) (record {
-      rising = successors_at-rise parts.Successor n names successors links sorted rising is_links;
+      rising = read_successors_at-rise part_kinds.Successor n names successors arcs sorted rising is_arcs;
       few = rw l.many (le-leb (members_len successors) (length names) few);
       paired = rw (← w.0) (eq-eqb _ _ (l.paired ∙ sym l.many));
       known = l.known;
@@ -142,7 +142,7 @@ transitions_at-fit names n successors ending transitions sorted rising e =
 
 -- among these subproblems and so many nodes
 abbrev pub node_among : List Subproblem → ℕ → Node → Bool
-node_among subs nodes n = is_name n.name && values_fit (slice_get subs n.sub) n && links_fit nodes n
+node_among subs nodes n = is_name n.name && values_fit (slice_get subs n.sub) n && successors_in_order_fit nodes n
 
 -- so many nodes
 pub record NodesFit (subs : List Subproblem) (nodes count : ℕ) (found : List Node) : Type 0 where
@@ -150,13 +150,13 @@ pub record NodesFit (subs : List Subproblem) (nodes count : ℕ) (found : List N
   pub fit : list_all (node_among subs nodes) found ≡ true
 
 node-fits : (subs : List Subproblem) (nodes : ℕ) (s : Subproblem) (n : Node) → is_name n.name ≡ true → slice_get subs n.sub ≡ Some s → RealizationsFit (length s.randoms) n.weights n.values → nat_le (sum n.weights) 65535 ≡ true
-    → TransitionsFit nodes n.links n.link_weights n.stop → node_among subs nodes n ≡ true
+    → TransitionsFit nodes n.successors n.successor_weights n.stop → node_among subs nodes n ≡ true
 node-fits subs nodes s n named is c total w = rw (named, is, c.some, c.few, c.paired, c.weighty, total, c.fit, w.rising, w.few, w.paired, w.known, w.weighty, w.total) refl
 
-node_at-fits : (names : List (List ℕ)) (subproblems : SubproblemTable) (found next : List Node) (n : ℕ) (k : List ℕ) (d : Data) → length subproblems.names ≡ length subproblems.subs → Sorted names → Rising d → node_at names subproblems found n k d ≡ Ok next
+read_node_at-fits : (names : List (List ℕ)) (subproblems : SubproblemTable) (found next : List Node) (n : ℕ) (k : List ℕ) (d : Data) → length subproblems.names ≡ length subproblems.subs → Sorted names → Rising d → read_node_at names subproblems found n k d ≡ Ok next
     → NodesFit subproblems.subs (length names) n found → NodesFit subproblems.subs (length names) (suc n) next
-unfolding node_at
-node_at-fits names subproblems found next n k d paired sorted rising e so_far =
+unfolding read_node_at
+read_node_at-fits names subproblems found next n k d paired sorted rising e so_far =
     then-Ok (key_at _ _) _ next e (λ name is_name_of e.
     then-Ok (object_at _ _) _ next e (λ all is e.
     then-Ok (present_at _ _) _ next e (λ inner is e.
@@ -165,12 +165,12 @@ node_at-fits names subproblems found next n k d paired sorted rising e so_far =
     then-Ok (members_at _ _) _ next e (λ successors is_successors e.
     then-Ok (known_at _ _) _ next e (λ sub is_sub e.
     then-Ok (realizations_at _ _ _) _ next e (λ realizations is_realizations e.
-    then-Ok (weights_at _ _ _) _ next e (λ weights is_weights e.
+    then-Ok (bounded_weights_at _ _ _) _ next e (λ weights is_weights e.
     then-Ok (transitions_at _ _ _ _) _ next e (λ transitions is_transitions e.
     let place = known-position subproblems.names sub_name sub (known_at-Ok _ (position (bytes_eq sub_name) subproblems.names) sub is_sub) in
     let s = some_of subproblems.subs sub (omega (arith, place.0, paired)) in
     let randoms = ap (λ o. length (randoms_in o)) s.1 in
-    let w = weights_at-Ok _ 0 realizations.weights weights is_weights in
+    let w = bounded_weights_at-Ok _ 0 realizations.weights weights is_weights in
     let c = realizations_at-fit n (randoms_of subproblems.subs sub) items realizations is_realizations in
     let in_order = members_at-rising _ _ successors (get-rising (codes "successors") d rising) is_successors in
     subst (NodesFit subproblems.subs (length names) (suc n)) (Ok-is _ next e) (record {
@@ -186,13 +186,13 @@ pub nodes_at-fit : (names : List (List ℕ)) (subproblems : SubproblemTable) (ms
     → NodesFit subproblems.subs (length names) (members_len ms) nodes
 unfolding nodes_at
 nodes_at-fit names subproblems ms nodes paired sorted rising e =
-    walk_members-Ok (NodesFit subproblems.subs (length names)) (λ k d. Rising d) (node_at names subproblems) (λ found next n k d rising e so_far. node_at-fits names subproblems found next n k d paired sorted rising e so_far)
+    walk_members-Ok (NodesFit subproblems.subs (length names)) (λ k d. Rising d) (read_node_at names subproblems) (λ found next n k d rising e so_far. read_node_at-fits names subproblems found next n k d paired sorted rising e so_far)
     ms [] nodes 0 (members_len ms) (omega arith) (each-rising ms rising) e (record { many = refl; fit = refl })
 
-node_at-adds : (names : List (List ℕ)) (subproblems : SubproblemTable) (found next : List Node) (n : ℕ) (k : List ℕ) (d : Data) → node_at names subproblems found n k d ≡ Ok next
+read_node_at-adds : (names : List (List ℕ)) (subproblems : SubproblemTable) (found next : List Node) (n : ℕ) (k : List ℕ) (d : Data) → read_node_at names subproblems found n k d ≡ Ok next
     → map (λ (n : Node). n.name) next ≡ map (λ (n : Node). n.name) found ++ k ∷ []
-unfolding node_at
-node_at-adds names subproblems found next n k d e =
+unfolding read_node_at
+read_node_at-adds names subproblems found next n k d e =
     then-Ok (key_at _ _) _ next e (λ name is_name_of e.
     then-Ok (object_at _ _) _ next e (λ all is e.
     then-Ok (present_at _ _) _ next e (λ inner is e.
@@ -201,7 +201,7 @@ node_at-adds names subproblems found next n k d e =
     then-Ok (members_at _ _) _ next e (λ successors is e.
     then-Ok (known_at _ _) _ next e (λ sub is e.
     then-Ok (realizations_at _ _ _) _ next e (λ realizations is e.
-    then-Ok (weights_at _ _ _) _ next e (λ weights is e.
+    then-Ok (bounded_weights_at _ _ _) _ next e (λ weights is e.
     then-Ok (transitions_at _ _ _ _) _ next e (λ transitions is e.
     let same = (key_at-name _ k name is_name_of).0 in
     ap (λ (ns : List Node). map (λ (n : Node). n.name) ns) (sym (Ok-is _ next e)) ∙ map-append (λ (n : Node). n.name) found _ ∙ ap (λ n. map (λ (n : Node). n.name) found ++ n ∷ []) (sym same)))))))))))
@@ -210,7 +210,7 @@ node_at-adds names subproblems found next n k d e =
 pub nodes_at-names : (names : List (List ℕ)) (subproblems : SubproblemTable) (ms : Members) (nodes : List Node) → nodes_at names subproblems ms ≡ Ok nodes → map (λ (n : Node). n.name) nodes ≡ keys_of ms
 unfolding nodes_at
 nodes_at-names names subproblems ms nodes e =
-    walk_members-adds (λ (ns : List Node). map (λ (n : Node). n.name) ns) (node_at names subproblems) (λ found next n k d e. node_at-adds names subproblems found next n k d e) ms [] nodes 0 e
+    walk_members-adds (λ (ns : List Node). map (λ (n : Node). n.name) ns) (read_node_at names subproblems) (λ found next n k d e. read_node_at-adds names subproblems found next n k d e) ms [] nodes 0 e
 
 -- the nodes stand in the order of their names
 pub nodes_at-rise : (names : List (List ℕ)) (subproblems : SubproblemTable) (ms : Members) (nodes : List Node) → RisingMembers ms → nodes_at names subproblems ms ≡ Ok nodes → rises (λ (a b : Node). is_before a.name b.name) nodes ≡ true

@@ -4,24 +4,24 @@ use Rattle.std.specs.List.{list_all}
 use Rattle.serde_json.specs.Data.{Data, Items, Members}
 use Rattle.serde_json.specs.Events.{items_len, members_len}
 use Rattle.hp_num.proofs.Tests.{and_first, and_second}
-use Rattle.hp_problem.specs.Limits.{state_fits, subproblem_fits, names_rise, node_fits, root_fits, scenario_fits, scenarios_fit, raw_fits}
-use Rattle.hp_problem.specs.declared.raw.Moment.{Moment}
-use Rattle.hp_problem.specs.declared.raw.Raw.{Raw}
-use Rattle.hp_problem.specs.declared.raw.State.{State}
-use Rattle.hp_problem.specs.declared.raw.Subproblem.{Subproblem}
+use Rattle.hp_parts.specs.Limits.{state_fits, subproblem_fits, names_rise, node_fits, root_fits, scenario_fits, scenarios_fit, parts_are_lawful}
+use Rattle.hp_parts.specs.declared.parts.Moment.{Moment}
+use Rattle.hp_parts.specs.declared.parts.ProblemParts.{ProblemParts}
+use Rattle.hp_parts.specs.declared.parts.State.{State}
+use Rattle.hp_parts.specs.declared.parts.Subproblem.{Subproblem}
 use Rattle.hp_fields.specs.Fields.{whole, keys_of, json_at, present_at, object_at}
 use Rattle.hp_fields.specs.Limits.{items_at}
 use Rattle.hp_fields.proofs.Accepted.{then-Ok, Ok-is, test-Ok, list_all-push, AllMembers-any, walk_members-Ok}
 use Rattle.hp_fields.proofs.InOrder.{length-keys_of}
 use Rattle.hp_fields.proofs.Rising.{Rising, RisingMembers, json_at-rising, get-rising, present_at-rising, object_at-rising, keys-sorted}
-use Rattle.hp_subproblem.specs.Subproblem.{subproblem_at}
-use Rattle.hp_subproblem.proofs.Fits.{subproblem_at-fits}
+use Rattle.hp_subproblem.specs.Subproblem.{read_subproblem_at}
+use Rattle.hp_subproblem.proofs.Fits.{read_subproblem_at-fits}
 use Rattle.hp_sof.specs.declared.subproblems.SubproblemTable.{SubproblemTable}
 use Rattle.hp_sof.specs.Nodes.{nodes_at}
-use Rattle.hp_sof.specs.Read.{graph_at, raw_of}
+use Rattle.hp_sof.specs.Read.{graph_at, problem_parts_of}
 use Rattle.hp_sof.specs.Root.{root_at}
 use Rattle.hp_sof.specs.Scenarios.{scenarios_at}
-use Rattle.hp_sof.specs.Subproblems.{another_at, listed_at, subproblems_at}
+use Rattle.hp_sof.specs.Subproblems.{another_at, listed_subproblems_at, subproblems_at}
 use Rattle.hp_sof.specs.Tables.{Tables, table_at, sizes_at, tables_at}
 use Rattle.hp_sof.specs.Version.{version_at}
 use Rattle.hp_sof.proofs.SuccessorsFit.{one_more}
@@ -39,10 +39,10 @@ record SubproblemsFit (states count : ℕ) (subs : List Subproblem) : Type 0 whe
 another_at-fits : (states : List State) (found next : List Subproblem) (p : ℕ) (k : List ℕ) (d : Data) → another_at states found p k d ≡ Ok next → SubproblemsFit (length states) p found → SubproblemsFit (length states) (suc p) next
 unfolding another_at
 another_at-fits states found next p k d e so_far =
-    then-Ok (subproblem_at _ _ _ _) _ next e (λ sub is e.
+    then-Ok (read_subproblem_at _ _ _ _) _ next e (λ sub is e.
     subst (SubproblemsFit (length states) (suc p)) (Ok-is _ next e) (record {
       many = one_more found sub p so_far.many;
-      fit = list_all-push (subproblem_fits (length states)) found sub so_far.fit (subproblem_at-fits states p k d sub is);
+      fit = list_all-push (subproblem_fits (length states)) found sub so_far.fit (read_subproblem_at-fits states p k d sub is);
     }))
 
 -- a subproblem for each name
@@ -51,9 +51,9 @@ record SubproblemTableFits (states count : ℕ) (d : SubproblemTable) : Type 0 w
   subs : SubproblemsFit states count d.subs
 
 subproblems_at-fit : (states : List State) (ms : Members) (subproblems : SubproblemTable) → subproblems_at states ms ≡ Ok subproblems → SubproblemTableFits (length states) (members_len ms) subproblems
-unfolding subproblems_at listed_at
+unfolding subproblems_at listed_subproblems_at
 subproblems_at-fit states ms subproblems e =
-    then-Ok (listed_at _ _) _ subproblems e (λ subs is e.
+    then-Ok (listed_subproblems_at _ _) _ subproblems e (λ subs is e.
     let s = walk_members-Ok (SubproblemsFit (length states)) (λ k d. Unit {0}) (another_at states) (λ found next p k d any e so_far. another_at-fits states found next p k d e so_far)
     ms [] subs 0 (members_len ms) (omega arith) (AllMembers-any ms) is (record { many = refl; fit = refl }) in
     subst (SubproblemTableFits (length states) (members_len ms)) (Ok-is _ subproblems e) (record { paired = length-keys_of ms ∙ sym s.many; subs = s }))
@@ -79,8 +79,8 @@ sizes_at-few nodes subproblems scenarios x e =
     let b = nat_le (members_len subproblems) 1000 in
     let c = nat_le (items_len scenarios) 1000 in
     let all = (test-Ok (a && (b && c)) _ _ whole x e).0 in
-    let rest = and_second a (b && c) all in
-    (and_first a (b && c) all, and_first b c rest, and_second b c rest)
+    let tail = and_second a (b && c) all in
+    (and_first a (b && c) all, and_first b c tail, and_second b c tail)
 
 tables_at-fit : (d : Data) (t : Tables) → Rising d → tables_at d ≡ Ok t → TablesFit t
 unfolding tables_at
@@ -98,23 +98,23 @@ tables_at-fit d t rising e =
 -- ---- the whole
 
 -- the parts of a problem whose scenarios were not read yet, where so many names stand for the nodes
-record GraphFits (names : List (List ℕ)) (raw : Raw) : Type 0 where
-  as_many : length names ≡ length raw.nodes
-  rise : names_rise raw ≡ true
-  few_states : nat_le (length raw.states) 50 ≡ true
-  few_nodes : nat_le (length raw.nodes) 1000 ≡ true
-  few_subs : nat_le (length raw.subs) 1000 ≡ true
-  states : list_all state_fits raw.states ≡ true
-  subs : list_all (subproblem_fits (length raw.states)) raw.subs ≡ true
-  nodes : list_all (node_fits raw) raw.nodes ≡ true
-  root : root_fits raw ≡ true
+record GraphFits (names : List (List ℕ)) (parts : ProblemParts) : Type 0 where
+  as_many : length names ≡ length parts.nodes
+  rise : names_rise parts ≡ true
+  few_states : nat_le (length parts.states) 50 ≡ true
+  few_nodes : nat_le (length parts.nodes) 1000 ≡ true
+  few_subs : nat_le (length parts.subs) 1000 ≡ true
+  states : list_all state_fits parts.states ≡ true
+  subs : list_all (subproblem_fits (length parts.states)) parts.subs ≡ true
+  nodes : list_all (node_fits parts) parts.nodes ≡ true
+  root : root_fits parts ≡ true
 
-graph_at-fits : (t : Tables) (raw : Raw) → TablesFit t → graph_at (keys_of t.nodes) t ≡ Ok raw → GraphFits (keys_of t.nodes) raw
+graph_at-fits : (t : Tables) (parts : ProblemParts) → TablesFit t → graph_at (keys_of t.nodes) t ≡ Ok parts → GraphFits (keys_of t.nodes) parts
 unfolding graph_at names_rise
-graph_at-fits t raw h e =
-    then-Ok (root_at _ _) _ raw e (λ start is_start e.
-    then-Ok (subproblems_at _ _) _ raw e (λ subproblems is_subproblems e.
-    then-Ok (nodes_at _ _ _) _ raw e (λ nodes is_nodes e.
+graph_at-fits t parts h e =
+    then-Ok (root_at _ _) _ parts e (λ start is_start e.
+    then-Ok (subproblems_at _ _) _ parts e (λ subproblems is_subproblems e.
+    then-Ok (nodes_at _ _ _) _ parts e (λ nodes is_nodes e.
     let names = keys_of t.nodes in
     let count = length-keys_of t.nodes in
     let sorted = keys-sorted t.nodes h.nodes in
@@ -123,7 +123,7 @@ graph_at-fits t raw h e =
     let n = nodes_at-fit names subproblems t.nodes nodes p.paired sorted h.nodes is_nodes in
     let as_many : length names ≡ length nodes = count ∙ sym n.many in
     let r : RootFits (length nodes) start = subst (λ c. RootFits c start) as_many s in
-    subst (GraphFits names) (Ok-is _ raw e) (record {
+    subst (GraphFits names) (Ok-is _ parts e) (record {
       as_many = as_many;
       rise = rw (r.states_rise, nodes_at-rise names subproblems t.nodes nodes h.nodes is_nodes) refl;
       few_states = r.few_states;
@@ -135,20 +135,20 @@ graph_at-fits t raw h e =
       root = rw (r.rising, r.some, r.few, r.paired, r.known, r.weighty, r.total) refl;
     }))))
 
-whole-fits : (names : List (List ℕ)) (raw : Raw) (scenarios : List (List Moment)) → GraphFits names raw → nat_le (length scenarios) 1000 ≡ true → list_all (scenario_fits (record raw { scenarios = scenarios })) scenarios ≡ true
-    → raw_fits (record raw { scenarios = scenarios }) ≡ true
-unfolding names_rise scenarios_fit raw_fits
-whole-fits names raw scenarios g few fit = rw (g.rise, few, fit, g.few_states, g.few_nodes, g.few_subs, g.states, g.subs, g.nodes, g.root) refl
+whole-fits : (names : List (List ℕ)) (parts : ProblemParts) (scenarios : List (List Moment)) → GraphFits names parts → nat_le (length scenarios) 1000 ≡ true → list_all (scenario_fits (record parts { scenarios = scenarios })) scenarios ≡ true
+    → parts_are_lawful (record parts { scenarios = scenarios }) ≡ true
+unfolding names_rise scenarios_fit parts_are_lawful
+whole-fits names parts scenarios g few fit = rw (g.rise, few, fit, g.few_states, g.few_nodes, g.few_subs, g.states, g.subs, g.nodes, g.root) refl
 
 -- a problem that the reader accepts keeps the limits
-pub raw_fits-read : (bytes : List ℕ) (raw : Raw) → raw_of bytes ≡ Ok raw → raw_fits raw ≡ true
-unfolding raw_of
-raw_fits-read bytes raw e =
-    then-Ok (json_at _) _ raw e (λ d is_d e.
-    then-Ok (tables_at _) _ raw e (λ t is_t e.
-    then-Ok (graph_at _ _) _ raw e (λ graph is_graph e.
-    then-Ok (scenarios_at _ _ _) _ raw e (λ scenarios is_scenarios e.
+pub parts_are_lawful-read : (bytes : List ℕ) (parts : ProblemParts) → problem_parts_of bytes ≡ Ok parts → parts_are_lawful parts ≡ true
+unfolding problem_parts_of
+parts_are_lawful-read bytes parts e =
+    then-Ok (json_at _) _ parts e (λ d is_d e.
+    then-Ok (tables_at _) _ parts e (λ t is_t e.
+    then-Ok (graph_at _ _) _ parts e (λ graph is_graph e.
+    then-Ok (scenarios_at _ _ _) _ parts e (λ scenarios is_scenarios e.
     let tables = tables_at-fit d t (json_at-rising bytes d is_d) is_t in
     let g = graph_at-fits t graph tables is_graph in
     let s = scenarios_at-fit (keys_of t.nodes) graph t.scenarios scenarios g.as_many g.nodes tables.few_scenarios is_scenarios in
-    subst (λ raw. raw_fits raw ≡ true) (Ok-is _ raw e) (whole-fits (keys_of t.nodes) graph scenarios g s.0 s.1)))))
+    subst (λ parts. parts_are_lawful parts ≡ true) (Ok-is _ parts e) (whole-fits (keys_of t.nodes) graph scenarios g s.0 s.1)))))

@@ -5,11 +5,11 @@ use Rattle.std.proofs.lemmas.Bool.{and_from, le-leb, eq-eqb}
 use Rattle.std.proofs.lemmas.List.{map-append}
 use Rattle.serde_json.specs.Data.{Data, null, boolean, number, string, array, object, Members}
 use Rattle.serde_json.specs.Events.{members_len}
-use Rattle.hp_problem.specs.Limits.{is_small, is_name, state_fits, are_weights}
-use Rattle.hp_problem.specs.declared.raw.State.{State}
-use Rattle.hp_problem.specs.declared.refusal.Part.TheVariants as parts
-use Rattle.hp_problem.specs.declared.refusal.Place.{Place}
-use Rattle.hp_problem.specs.Distinct.{rises, is_before}
+use Rattle.hp_parts.specs.Limits.{is_small, is_name, state_fits, are_weights}
+use Rattle.hp_parts.specs.declared.parts.State.{State}
+use Rattle.hp_parts.specs.declared.refusal.Part.TheVariants as part_kinds
+use Rattle.hp_parts.specs.declared.refusal.Place.{Place}
+use Rattle.hp_parts.specs.Distinct.{rises, is_before}
 use Rattle.hp_fields.specs.Fields.{key_at, present_at, object_at, keys_of}
 use Rattle.hp_fields.specs.Limits.{members_at}
 use Rattle.hp_fields.proofs.Accepted.{then-Ok, Ok-is, test-Ok, unless-Ok, list_all-push, whole_at-small, key_at-name, AllMembers-any, walk_members-Ok, walk_members-adds}
@@ -17,9 +17,9 @@ use Rattle.hp_fields.proofs.Distinct.{Sorted, rises-map, rises-sorted}
 use Rattle.hp_fields.proofs.Rising.{RisingMembers, get-rising, present_at-rising, object_at-rising, members_at-rising, keys-sorted}
 use Rattle.hp_sof.specs.declared.root.Root.{Root}
 use Rattle.hp_sof.specs.Root.{root, initial_at, state_at, states_at, counts_at, root_at}
-use Rattle.hp_sof.specs.Successors.{successors_at}
-use Rattle.hp_sof.specs.Weights.{weights_at}
-use Rattle.hp_sof.proofs.SuccessorsFit.{positive, one_more, weights_at-Ok, successors_at-fit, successors_at-few, successors_at-rise}
+use Rattle.hp_sof.specs.Successors.{read_successors_at}
+use Rattle.hp_sof.specs.Weights.{bounded_weights_at}
+use Rattle.hp_sof.proofs.SuccessorsFit.{positive, one_more, bounded_weights_at-Ok, read_successors_at-fit, read_successors_at-few, read_successors_at-rise}
 
 initial_at-small : (p : Place) (d : Data) (z : ℤ) → initial_at p d ≡ Ok z → is_small z ≡ true
 unfolding initial_at
@@ -73,7 +73,7 @@ states_at-rise ms states rising e =
 
 counts_at-Ok : (p : Place) (states successors : ℕ) (x : Unit {0}) → counts_at p states successors ≡ Ok x → ((successors == 0) ≡ false) × (nat_le states 50 ≡ true)
 unfolding counts_at
-counts_at-Ok p states successors x e = let parts = unless-Ok (successors == 0) _ _ p x e in (parts.0, (test-Ok (nat_le states 50) _ _ p x parts.1).0)
+counts_at-Ok p states successors x e = let part_kinds = unless-Ok (successors == 0) _ _ p x e in (part_kinds.0, (test-Ok (nat_le states 50) _ _ p x part_kinds.1).0)
 
 -- the root of a problem with so many nodes
 pub record RootFits (nodes : ℕ) (start : Root) : Type 0 where
@@ -96,19 +96,19 @@ root_at-fits names ms start sorted rising e =
     then-Ok (object_at _ _) _ start e (λ successors is_successors e.
     then-Ok (counts_at _ _ _) _ start e (λ counted is_counted e.
     then-Ok (states_at _) _ start e (λ found is_found e.
-    then-Ok (successors_at _ _ _ _) _ start e (λ links is_links e.
-    then-Ok (weights_at _ _ _) _ start e (λ weights is_weights e.
+    then-Ok (read_successors_at _ _ _ _) _ start e (λ arcs is_arcs e.
+    then-Ok (bounded_weights_at _ _ _) _ start e (λ weights is_weights e.
     let counts = counts_at-Ok root (members_len states) (members_len successors) counted is_counted in
     let in_order = object_at-rising root inner successors (present_at-rising root _ inner (get-rising (codes "successors") (object ms) rising) is_inner) is_successors in
     let s = states_at-fit states found is_found in
-    let l = successors_at-fit parts.Root 2 names successors links is_links in
-    let few = successors_at-few parts.Root 2 names successors links in_order is_links in
-    let w = weights_at-Ok root 0 links.weights weights is_weights in
+    let l = read_successors_at-fit part_kinds.Root 2 names successors arcs is_arcs in
+    let few = read_successors_at-few part_kinds.Root 2 names successors arcs in_order is_arcs in
+    let w = bounded_weights_at-Ok root 0 arcs.weights weights is_weights in
     subst (RootFits (length names)) (Ok-is _ start e) (record {
       few_states = rw s.many counts.1;
       states = s.fit;
       states_rise = states_at-rise states found (members_at-rising root _ states (get-rising (codes "state_variables") (object ms) rising) is_states) is_found;
-      rising = successors_at-rise parts.Root 2 names successors links sorted in_order is_links;
+      rising = read_successors_at-rise part_kinds.Root 2 names successors arcs sorted in_order is_arcs;
       some = rw l.many (positive (members_len successors) counts.0);
       few = rw l.many (le-leb (members_len successors) (length names) few);
       paired = rw (← w.0) (eq-eqb _ _ (l.paired ∙ sym l.many));

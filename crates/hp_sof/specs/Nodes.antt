@@ -3,18 +3,18 @@ use Rattle.std.specs.Prelude.{ℕ, pos, List, [], ◌∷◌, ◌++◌, Option, S
 use Rattle.std.specs.Str.{bytes_eq}
 use Rattle.serde_json.specs.Data.{Data, Members}
 use Rattle.serde_json.specs.Find.{get}
-use Rattle.hp_problem.specs.declared.raw.Node.{Node}
-use Rattle.hp_problem.specs.declared.refusal.Refusal.{Refusal}
-use Rattle.hp_problem.specs.declared.refusal.RefusalKind.TheVariants as kinds
-use Rattle.hp_problem.specs.declared.refusal.Part.TheVariants as parts
-use Rattle.hp_problem.specs.declared.refusal.Place.{Place}
+use Rattle.hp_parts.specs.declared.parts.Node.{Node}
+use Rattle.hp_parts.specs.declared.refusal.Refusal.{Refusal}
+use Rattle.hp_parts.specs.declared.refusal.RefusalKind.TheVariants as kinds
+use Rattle.hp_parts.specs.declared.refusal.Part.TheVariants as part_kinds
+use Rattle.hp_parts.specs.declared.refusal.Place.{Place}
 use Rattle.hp_fields.specs.Steps.{◌>>=◌, walk_members}
 use Rattle.hp_fields.specs.Fields.{refuse, whole_at, key_at, string_at, present_at, object_at}
 use Rattle.hp_fields.specs.Limits.{known_at, members_at, items_at}
 use Rattle.hp_sof.specs.Realizations.{at_node, realizations_at}
-use Rattle.hp_sof.specs.Successors.{successors_at}
+use Rattle.hp_sof.specs.Successors.{read_successors_at}
 use Rattle.hp_sof.specs.Values.{randoms_of}
-use Rattle.hp_sof.specs.Weights.{weights_at}
+use Rattle.hp_sof.specs.Weights.{bounded_weights_at}
 use Rattle.hp_sof.specs.declared.nodes.Transitions.{Transitions}
 use Rattle.hp_sof.specs.declared.subproblems.SubproblemTable.{SubproblemTable}
 
@@ -28,13 +28,13 @@ stop_at p (Some d) = do
 -- where a path may go on from node n, or end; names are those of all nodes
 unfoldable pub transitions_at : List (List ℕ) → ℕ → Members → Option Data → Result Transitions Refusal
 transitions_at names n successors ending = do
-  links ← successors_at parts.Successor n names successors
+  arcs ← read_successors_at part_kinds.Successor n names successors
   stop ← stop_at (at_node n) ending
-  weights ← weights_at (at_node n) stop links.weights
-  Ok (record { nodes = links.nodes; weights = weights; stop = stop })
+  weights ← bounded_weights_at (at_node n) stop arcs.weights
+  Ok (record { nodes = arcs.nodes; weights = weights; stop = stop })
 
-unfoldable pub node_at : List (List ℕ) → SubproblemTable → List Node → ℕ → List ℕ → Data → Result (List Node) Refusal
-node_at names subproblems found n k d = do
+unfoldable pub read_node_at : List (List ℕ) → SubproblemTable → List Node → ℕ → List ℕ → Data → Result (List Node) Refusal
+read_node_at names subproblems found n k d = do
   name ← key_at (at_node n) k
   all ← object_at (at_node n) d
   inner ← present_at (at_node n) (get (codes "subproblem") d)
@@ -43,9 +43,9 @@ node_at names subproblems found n k d = do
   successors ← members_at (at_node n) (get (codes "successors") d)
   sub ← known_at (at_node n) (position (bytes_eq sub_name) subproblems.names)
   realizations ← realizations_at n (randoms_of subproblems.subs sub) items
-  weights ← weights_at (at_node n) 0 realizations.weights
+  weights ← bounded_weights_at (at_node n) 0 realizations.weights
   transitions ← transitions_at names n successors (get (codes "stop") d)
-  Ok (found ++ record { name = name; sub = sub; weights = weights; values = realizations.values; links = transitions.nodes; link_weights = transitions.weights; stop = transitions.stop } ∷ [])
+  Ok (found ++ record { name = name; sub = sub; weights = weights; values = realizations.values; successors = transitions.nodes; successor_weights = transitions.weights; stop = transitions.stop } ∷ [])
 
 unfoldable pub nodes_at : List (List ℕ) → SubproblemTable → Members → Result (List Node) Refusal
-nodes_at names subproblems ms = walk_members (node_at names subproblems) [] 0 ms
+nodes_at names subproblems ms = walk_members (read_node_at names subproblems) [] 0 ms

@@ -1,7 +1,7 @@
 -- The parts of a problem from the bytes of its file.
 use Rattle.std.specs.Prelude.{ℕ, List, [], Result, Ok}
-use Rattle.hp_problem.specs.declared.raw.Raw.{Raw}
-use Rattle.hp_problem.specs.declared.refusal.Refusal.{Refusal}
+use Rattle.hp_parts.specs.declared.parts.ProblemParts.{ProblemParts}
+use Rattle.hp_parts.specs.declared.refusal.Refusal.{Refusal}
 use Rattle.hp_fields.specs.Steps.{◌>>=◌}
 use Rattle.hp_fields.specs.Fields.{keys_of, json_at}
 use Rattle.hp_sof.specs.Nodes.{nodes_at}
@@ -11,15 +11,15 @@ use Rattle.hp_sof.specs.Subproblems.{subproblems_at}
 use Rattle.hp_sof.specs.Tables.{Tables, tables_at}
 
 -- the root, the subproblems and the nodes, where names are those of the nodes
-unfoldable pub graph_at : List (List ℕ) → Tables → Result Raw Refusal
+unfoldable pub graph_at : List (List ℕ) → Tables → Result ProblemParts Refusal
 graph_at names tables = do
   start ← root_at names tables.root
   subproblems ← subproblems_at start.states tables.subproblems
   nodes ← nodes_at names subproblems tables.nodes
   Ok (record { states = start.states; root = start.nodes; root_weights = start.weights; nodes = nodes; subs = subproblems.subs; scenarios = [] })
 
-unfoldable pub raw_of : List ℕ → Result Raw Refusal
-raw_of bytes = do
+unfoldable pub problem_parts_of : List ℕ → Result ProblemParts Refusal
+problem_parts_of bytes = do
   d ← json_at bytes
   tables ← tables_at d
   graph ← graph_at (keys_of tables.nodes) tables

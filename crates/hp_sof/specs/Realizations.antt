@@ -3,10 +3,10 @@ use Rattle.std.specs.Prelude.{ℕ, List, [], ◌∷◌, ◌++◌, Result, Ok, le
 use Rattle.serde_json.specs.Data.{Data, Items}
 use Rattle.serde_json.specs.Events.{items_len}
 use Rattle.serde_json.specs.Find.{get}
-use Rattle.hp_problem.specs.declared.refusal.Refusal.{Refusal}
-use Rattle.hp_problem.specs.declared.refusal.RefusalKind.TheVariants as kinds
-use Rattle.hp_problem.specs.declared.refusal.Part.TheVariants as parts
-use Rattle.hp_problem.specs.declared.refusal.Place.{Place}
+use Rattle.hp_parts.specs.declared.refusal.Refusal.{Refusal}
+use Rattle.hp_parts.specs.declared.refusal.RefusalKind.TheVariants as kinds
+use Rattle.hp_parts.specs.declared.refusal.Part.TheVariants as part_kinds
+use Rattle.hp_parts.specs.declared.refusal.Place.{Place}
 use Rattle.hp_fields.specs.Steps.{◌>>=◌, walk_items}
 use Rattle.hp_fields.specs.Fields.{place, refuse, weight_at, present_at, object_at}
 use Rattle.hp_fields.specs.Limits.{members_at}
@@ -17,10 +17,10 @@ abbrev pub no_realizations : Realizations
 no_realizations = record { weights = []; values = [] }
 
 abbrev pub at_node : ℕ → Place
-at_node n = place parts.Node n 0 0
+at_node n = place part_kinds.Node n 0 0
 
 abbrev pub at_realization : ℕ → ℕ → Place
-at_realization n r = place parts.Realization n r 0
+at_realization n r = place part_kinds.Realization n r 0
 
 -- a realization with its weight and its values
 unfoldable pub realization_at : ℕ → List (List ℕ) → Realizations → ℕ → Data → Result Realizations Refusal
@@ -29,7 +29,7 @@ realization_at n randoms found r d = do
   support ← members_at (at_realization n r) (get (codes "support") d)
   inner ← present_at (at_realization n r) (get (codes "probability") d)
   weight ← weight_at (at_realization n r) inner
-  values ← values_at parts.Support n r randoms support
+  values ← values_at part_kinds.Support n r randoms support
   Ok (record { weights = found.weights ++ unsigned_abs weight ∷ []; values = found.values ++ values ∷ [] })
 
 -- the one realization without random values

@@ -3,20 +3,20 @@ use Rattle.std.specs.Prelude.{ℕ, ◌==◌, ℤ, List, [], ◌∷◌, ◌++◌,
 use Rattle.serde_json.specs.Data.{Data, null, boolean, number, string, array, object, Members}
 use Rattle.serde_json.specs.Events.{members_len}
 use Rattle.serde_json.specs.Find.{get, get_member}
-use Rattle.hp_problem.specs.declared.raw.State.{State}
-use Rattle.hp_problem.specs.declared.refusal.Refusal.{Refusal}
-use Rattle.hp_problem.specs.declared.refusal.RefusalKind.TheVariants as kinds
-use Rattle.hp_problem.specs.declared.refusal.Part.TheVariants as parts
-use Rattle.hp_problem.specs.declared.refusal.Place.{Place}
+use Rattle.hp_parts.specs.declared.parts.State.{State}
+use Rattle.hp_parts.specs.declared.refusal.Refusal.{Refusal}
+use Rattle.hp_parts.specs.declared.refusal.RefusalKind.TheVariants as kinds
+use Rattle.hp_parts.specs.declared.refusal.Part.TheVariants as part_kinds
+use Rattle.hp_parts.specs.declared.refusal.Place.{Place}
 use Rattle.hp_fields.specs.Steps.{◌>>=◌, walk_members}
 use Rattle.hp_fields.specs.Fields.{place, refuse, whole_at, key_at, present_at, object_at}
 use Rattle.hp_fields.specs.Limits.{members_at}
-use Rattle.hp_sof.specs.Successors.{successors_at}
-use Rattle.hp_sof.specs.Weights.{weights_at}
+use Rattle.hp_sof.specs.Successors.{read_successors_at}
+use Rattle.hp_sof.specs.Weights.{bounded_weights_at}
 use Rattle.hp_sof.specs.declared.root.Root.{Root}
 
 abbrev pub root : Place
-root = place parts.Root 0 0 0
+root = place part_kinds.Root 0 0 0
 
 -- a whole number, or an object whose `initial_value` is one
 unfoldable pub initial_at : Place → Data → Result ℤ Refusal
@@ -30,7 +30,7 @@ initial_at p (object ms) = do
   whole_at p inner
 
 abbrev pub at_state : ℕ → Place
-at_state s = place parts.Root 1 s 0
+at_state s = place part_kinds.Root 1 s 0
 
 unfoldable pub state_at : List State → ℕ → List ℕ → Data → Result (List State) Refusal
 state_at found s k d = do
@@ -52,6 +52,6 @@ root_at names ms = do
   successors ← object_at root inner
   counted ← counts_at root (members_len states) (members_len successors)
   found ← states_at states
-  links ← successors_at parts.Root 2 names successors
-  weights ← weights_at root 0 links.weights
-  Ok (record { states = found; nodes = links.nodes; weights = weights })
+  arcs ← read_successors_at part_kinds.Root 2 names successors
+  weights ← bounded_weights_at root 0 arcs.weights
+  Ok (record { states = found; nodes = arcs.nodes; weights = weights })

@@ -5,55 +5,55 @@ use Rattle.std.specs.List.{list_any}
 use Rattle.serde_json.specs.Data.{Data, null, boolean, number, string, array, object, Items}
 use Rattle.serde_json.specs.Events.{items_len}
 use Rattle.serde_json.specs.Find.{get}
-use Rattle.hp_problem.specs.Parts.{successors_at, subproblem_at}
-use Rattle.hp_problem.specs.declared.raw.Moment.{Moment}
-use Rattle.hp_problem.specs.declared.raw.Raw.{Raw}
-use Rattle.hp_problem.specs.declared.refusal.Refusal.{Refusal}
-use Rattle.hp_problem.specs.declared.refusal.RefusalKind.TheVariants as kinds
-use Rattle.hp_problem.specs.declared.refusal.Part.TheVariants as parts
-use Rattle.hp_problem.specs.declared.refusal.Place.{Place}
+use Rattle.hp_parts.specs.Parts.{successors_at, subproblem_at}
+use Rattle.hp_parts.specs.declared.parts.Moment.{Moment}
+use Rattle.hp_parts.specs.declared.parts.ProblemParts.{ProblemParts}
+use Rattle.hp_parts.specs.declared.refusal.Refusal.{Refusal}
+use Rattle.hp_parts.specs.declared.refusal.RefusalKind.TheVariants as kinds
+use Rattle.hp_parts.specs.declared.refusal.Part.TheVariants as part_kinds
+use Rattle.hp_parts.specs.declared.refusal.Place.{Place}
 use Rattle.hp_fields.specs.Steps.{◌>>=◌, walk_items}
 use Rattle.hp_fields.specs.Fields.{place, refuse, string_at, array_at, present_at, object_at}
 use Rattle.hp_fields.specs.Limits.{known_at, members_at}
 use Rattle.hp_sof.specs.Values.{randoms_in, values_at}
 
 -- where a path that ends with this step may go on
-abbrev pub successors_after : Raw → Option Moment → List ℕ
-successors_after raw None = raw.root
-successors_after raw (Some last) = successors_at raw last.node
+abbrev pub successors_after : ProblemParts → Option Moment → List ℕ
+successors_after parts None = parts.root
+successors_after parts (Some last) = successors_at parts last.node
 
 -- the path may go on to the node
-unfoldable pub follows_at : Place → Raw → List Moment → ℕ → Result ⊤ Refusal
-follows_at p raw path node = if list_any (λ successor. successor == node) (successors_after raw (slice_get path (length path - 1))) then Ok tt else refuse kinds.Scenario p
+unfoldable pub follows_at : Place → ProblemParts → List Moment → ℕ → Result ⊤ Refusal
+follows_at p parts path node = if list_any (λ successor. successor == node) (successors_after parts (slice_get path (length path - 1))) then Ok tt else refuse kinds.Scenario p
 
 abbrev pub at_scenario : ℕ → Place
-at_scenario k = place parts.Scenario k 0 0
+at_scenario k = place part_kinds.Scenario k 0 0
 
 abbrev pub at_step : ℕ → ℕ → Place
-at_step k t = place parts.Step k t 0
+at_step k t = place part_kinds.Step k t 0
 
-unfoldable pub step_at : List (List ℕ) → Raw → ℕ → List Moment → ℕ → Data → Result (List Moment) Refusal
-step_at names raw k path t d = do
+unfoldable pub scenario_step_at : List (List ℕ) → ProblemParts → ℕ → List Moment → ℕ → Data → Result (List Moment) Refusal
+scenario_step_at names parts k path t d = do
   all ← object_at (at_step k t) d
   inner ← present_at (at_step k t) (get (codes "node") d)
   name ← string_at (at_step k t) inner
   support ← members_at (at_step k t) (get (codes "support") d)
   node ← known_at (at_step k t) (position (bytes_eq name) names)
-  follows ← follows_at (at_step k t) raw path node
-  values ← values_at parts.Step k t (randoms_in (subproblem_at raw node)) support
+  follows ← follows_at (at_step k t) parts path node
+  values ← values_at part_kinds.Step k t (randoms_in (subproblem_at parts node)) support
   Ok (path ++ record { node = node; values = values } ∷ [])
 
-unfoldable pub path_at : List (List ℕ) → Raw → ℕ → Items → Result (List Moment) Refusal
-path_at names raw k ds = walk_items (step_at names raw k) [] 0 ds
+unfoldable pub path_at : List (List ℕ) → ProblemParts → ℕ → Items → Result (List Moment) Refusal
+path_at names parts k ds = walk_items (scenario_step_at names parts k) [] 0 ds
 
 -- an array of steps, or an object whose `scenario` is one
-unfoldable pub steps_at : Place → Data → Result Items Refusal
-steps_at p null = refuse kinds.Shape p
-steps_at p (boolean b) = refuse kinds.Shape p
-steps_at p (number n) = refuse kinds.Shape p
-steps_at p (string s) = refuse kinds.Shape p
-steps_at p (array ds) = Ok ds
-steps_at p (object ms) = do
+unfoldable pub scenario_steps_at : Place → Data → Result Items Refusal
+scenario_steps_at p null = refuse kinds.Shape p
+scenario_steps_at p (boolean b) = refuse kinds.Shape p
+scenario_steps_at p (number n) = refuse kinds.Shape p
+scenario_steps_at p (string s) = refuse kinds.Shape p
+scenario_steps_at p (array ds) = Ok ds
+scenario_steps_at p (object ms) = do
   inner ← present_at p (get (codes "scenario") (object ms))
   array_at p inner
 
@@ -61,12 +61,12 @@ steps_at p (object ms) = do
 unfoldable pub some_at : Place → Items → Result Items Refusal
 some_at p ds = if items_len ds == 0 then refuse kinds.Scenario p else Ok ds
 
-unfoldable pub scenario_at : List (List ℕ) → Raw → List (List Moment) → ℕ → Data → Result (List (List Moment)) Refusal
-scenario_at names raw found k d = do
-  all ← steps_at (at_scenario k) d
+unfoldable pub scenario_at : List (List ℕ) → ProblemParts → List (List Moment) → ℕ → Data → Result (List (List Moment)) Refusal
+scenario_at names parts found k d = do
+  all ← scenario_steps_at (at_scenario k) d
   steps ← some_at (at_scenario k) all
-  path ← path_at names raw k steps
+  path ← path_at names parts k steps
   Ok (found ++ path ∷ [])
 
-unfoldable pub scenarios_at : List (List ℕ) → Raw → Items → Result (List (List Moment)) Refusal
-scenarios_at names raw ds = walk_items (scenario_at names raw) [] 0 ds
+unfoldable pub scenarios_at : List (List ℕ) → ProblemParts → Items → Result (List (List Moment)) Refusal
+scenarios_at names parts ds = walk_items (scenario_at names parts) [] 0 ds

@@ -3,8 +3,8 @@ use Rattle.serde_json.specs.View.{members_view, items_view}
 use Rattle.hp_sof.specs.declared.tables.Tables.{Tables}
 use Rattle.hp_sof.specs.Tables as tables
 
-abbrev pub shown : Tables → tables.Tables
-shown f = record {
+abbrev pub shown_tables : Tables → tables.Tables
+shown_tables f = record {
   root = members_view f.root.now.entries;
   nodes = members_view f.nodes.now.entries;
   subproblems = members_view f.subproblems.now.entries;

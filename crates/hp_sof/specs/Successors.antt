@@ -2,9 +2,9 @@
 use Rattle.std.specs.Prelude.{ℕ, List, [], ◌∷◌, ◌++◌, Result, Ok, position, unsigned_abs}
 use Rattle.std.specs.Str.{bytes_eq}
 use Rattle.serde_json.specs.Data.{Data, Members}
-use Rattle.hp_problem.specs.declared.refusal.Refusal.{Refusal}
-use Rattle.hp_problem.specs.declared.refusal.Part.{Part}
-use Rattle.hp_problem.specs.declared.refusal.Place.{Place}
+use Rattle.hp_parts.specs.declared.refusal.Refusal.{Refusal}
+use Rattle.hp_parts.specs.declared.refusal.Part.{Part}
+use Rattle.hp_parts.specs.declared.refusal.Place.{Place}
 use Rattle.hp_fields.specs.Steps.{◌>>=◌, walk_members}
 use Rattle.hp_fields.specs.Fields.{place, weight_at}
 use Rattle.hp_fields.specs.Limits.{known_at}
@@ -21,5 +21,5 @@ successor_at p names found k d = do
   Ok (record { nodes = found.nodes ++ node ∷ []; weights = found.weights ++ unsigned_abs weight ∷ [] })
 
 -- each successor i at the part's place a, i, 0
-unfoldable pub successors_at : Part → ℕ → List (List ℕ) → Members → Result Successors Refusal
-successors_at part a names ms = walk_members (λ found i k d. successor_at (place part a i 0) names found k d) no_successors 0 ms
+unfoldable pub read_successors_at : Part → ℕ → List (List ℕ) → Members → Result Successors Refusal
+read_successors_at part a names ms = walk_members (λ found i k d. successor_at (place part a i 0) names found k d) no_successors 0 ms

@@ -3,8 +3,8 @@ use Rattle.std.specs.Prelude.{ℕ, List, ◌&&◌, Result, Ok, ⊤, nat_le, code
 use Rattle.serde_json.specs.Data.{Data, Items, Members}
 use Rattle.serde_json.specs.Events.{items_len, members_len}
 use Rattle.serde_json.specs.Find.{get}
-use Rattle.hp_problem.specs.declared.refusal.Refusal.{Refusal}
-use Rattle.hp_problem.specs.declared.refusal.RefusalKind.TheVariants as kinds
+use Rattle.hp_parts.specs.declared.refusal.Refusal.{Refusal}
+use Rattle.hp_parts.specs.declared.refusal.RefusalKind.TheVariants as kinds
 use Rattle.hp_fields.specs.Steps.{◌>>=◌}
 use Rattle.hp_fields.specs.Fields.{whole, refuse, present_at, object_at}
 use Rattle.hp_fields.specs.Limits.{items_at}

@@ -1,13 +1,13 @@
 // The reader gives what a problem file says. The law is the contract of a function with an empty body.
 ghost use Rattle.std.specs.Prelude.{◌≡◌, ℕ, List, Ok, IsSomeAnd};
-ghost use Rattle.hp_problem.specs.declared.raw.Raw.{Raw};
+ghost use Rattle.hp_parts.specs.declared.parts.ProblemParts.{ProblemParts};
 ghost use Rattle.hp_file.specs.File.{file_at};
-ghost use Rattle.hp_sof.specs.Read.{raw_of};
+ghost use Rattle.hp_sof.specs.Read.{problem_parts_of};
 ghost use Rattle.hp_sof.specs.Said.{FileSaid};
 
 /// Bytes that the reader accepts are a file, which says by names what the reader gives by numbers: states, nodes with their
 /// stages, realizations, successors and weights.
 pub fn file_said()
-    ensures { (bytes : List ℕ) (raw : Raw)
-        → raw_of bytes ≡ Ok raw → IsSomeAnd (file_at bytes) (FileSaid raw) }
+    ensures { (bytes : List ℕ) (parts : ProblemParts)
+        → problem_parts_of bytes ≡ Ok parts → IsSomeAnd (file_at bytes) (FileSaid parts) }
 {}

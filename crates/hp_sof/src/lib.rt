@@ -16,6 +16,6 @@ mod version;
 mod weights;
 
 pub use hp_fields::{ReadRefusal, weight as read_weight};
-pub use hp_problem::{Part, Place, Refusal, RefusalKind};
+pub use hp_parts::{Part, Place, Refusal, RefusalKind};
 pub use problem::read_problem;
-pub use read::read_raw;
+pub use read::read_problem_parts;

@@ -2,7 +2,7 @@
 ghost use Rattle.std.specs.Prelude.{◌≡◌, ◌≤◌, ◌^◌, length, option_map};
 ghost use Rattle.serde_json.specs.View.{view, members_view};
 ghost use Rattle.hp_fields.specs.Steps.{Gives};
-ghost use Rattle.hp_sof.specs.Nodes.{stop_at, transitions_at, node_at, nodes_at};
+ghost use Rattle.hp_sof.specs.Nodes.{stop_at, transitions_at, read_node_at, nodes_at};
 
 use crate::realizations::read_realizations;
 use crate::subproblems::SubproblemTable;
@@ -13,7 +13,7 @@ use hp_fields::{
     Names, ReadRefusal, count, few, items, key, members, object, present, string, whole,
 };
 use hp_num::List;
-use hp_problem::{Node, Part, Place, Refusal, RefusalKind};
+use hp_parts::{Node, Part, Place, Refusal, RefusalKind};
 use serde_json::{Map, Value};
 use std::alloc::Global;
 
@@ -64,21 +64,28 @@ fn read_transitions(
     })
 }
 
-#[tactic(auto, unfolding(crate::specs::Nodes::node_at))]
+// The nodes and the subproblems that a node may name.
+#[derive(Clone, Copy)]
+struct Nameable<'a> {
+    names: &'a Names,
+    subproblems: &'a SubproblemTable,
+}
+
+#[tactic(auto, unfolding(crate::specs::Nodes::read_node_at))]
 fn node(
     alloc: Global,
-    names: &Names,
-    subproblems: &SubproblemTable,
+    parts: Nameable,
     found: &mut List<Node>,
     n: u32,
     name: &str,
     value: &Value,
 ) -> Result<(), ReadRefusal>
-    requires few_nodes { length names.now ≤ 2 ^ 32 }
-    requires few_subproblems { length subproblems.now.names ≤ 2 ^ 32 }
+    requires few_nodes { length parts.names.now ≤ 2 ^ 32 }
+    requires few_subproblems { length parts.subproblems.now.names ≤ 2 ^ 32 }
     ensures { Gives (λ _. found.new) result
-        (node_at names.now subproblems.now found.old n name.now (view value.now)) }
+        (read_node_at parts.entry.names.now parts.entry.subproblems.now found.old n name.now (view value.now)) }
 {
+    let Nameable { names, subproblems } = parts;
     let place = Place::new(Part::Node, n, 0, 0);
     let none = Map::new(alloc);
     let name = key(alloc, name, place)?;
@@ -96,8 +103,8 @@ fn node(
         sub,
         weights,
         values: realizations.values,
-        links: transitions.nodes,
-        link_weights: transitions.weights,
+        successors: transitions.nodes,
+        successor_weights: transitions.weights,
         stop: transitions.stop,
     })?;
     Ok(())
@@ -120,15 +127,8 @@ pub(crate) fn nodes(
     let mut found = List::new(alloc);
     let mut n = 0u32;
     for (name, value) in table.iter() {
-        node(
-            alloc,
-            names,
-            subproblems,
-            &mut found,
-            n,
-            name.as_str(),
-            value,
-        )?;
+        let parts = Nameable { names, subproblems };
+        node(alloc, parts, &mut found, n, name.as_str(), value)?;
         n += 1;
     }
     Ok(found)

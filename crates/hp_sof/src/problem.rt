@@ -1,22 +1,23 @@
 // A problem from the bytes of its file.
 ghost use Rattle.std.specs.Prelude.{◌≡◌, true};
-ghost use Rattle.hp_problem.specs.Limits.{raw_fits};
+ghost use Rattle.hp_parts.specs.Limits.{parts_are_lawful};
 ghost use Rattle.hp_fields.specs.Steps.{Gives};
 ghost use Rattle.hp_graph.specs.Arranged.{arranged};
 ghost use Rattle.hp_sof.specs.Problem.{problem_at};
 
-use crate::read::read_raw;
+use crate::read::read_problem_parts;
 use hp_fields::ReadRefusal;
 use hp_graph::{ArrangeFault, arrange};
-use hp_problem::{Part, Place, Problem, Raw, RefusalKind};
+use hp_parts::{Part, Place, ProblemParts, RefusalKind};
+use hp_problem::Problem;
 use std::alloc::Global;
 
 // The problem of these parts, or the first refusal of its graph.
-fn arranged(alloc: Global, raw: Raw) -> Result<Problem, ReadRefusal>
-    requires { raw_fits raw ≡ true }
-    ensures { Gives (λ p. p) result (arranged raw) }
+fn arranged(alloc: Global, parts: ProblemParts) -> Result<Problem, ReadRefusal>
+    requires { parts_are_lawful parts ≡ true }
+    ensures { Gives (λ p. p) result (arranged parts) }
 {
-    match arrange(alloc, raw) {
+    match arrange(alloc, parts) {
         Ok(problem) => Ok(problem),
         Err(ArrangeFault::Cycle { node }) => Err(ReadRefusal::Refused(RefusalKind::Cycle.at(
             Place::new(Part::Node, node, 0, 0),
@@ -36,6 +37,6 @@ fn arranged(alloc: Global, raw: Raw) -> Result<Problem, ReadRefusal>
 pub fn read_problem(alloc: Global, bytes: &[u8]) -> Result<Problem, ReadRefusal>
     ensures { Gives (λ p. p) result (problem_at bytes.now) }
 {
-    let raw = read_raw(alloc, bytes)?;
-    arranged(alloc, raw)
+    let parts = read_problem_parts(alloc, bytes)?;
+    arranged(alloc, parts)
 }

@@ -1,5 +1,5 @@
 // The realizations of a node.
-ghost use Rattle.std.specs.Prelude.{◌≡◌, ◌≤◌, length};
+ghost use Rattle.std.specs.Prelude.{◌≤◌, length};
 ghost use Rattle.serde_json.specs.View.{view, items_view};
 ghost use Rattle.hp_fields.specs.Steps.{Gives};
 ghost use Rattle.hp_sof.specs.Realizations.{realization_at, certain_at, listed_at, realizations_at};
@@ -7,8 +7,7 @@ ghost use Rattle.hp_sof.specs.Realizations.{realization_at, certain_at, listed_a
 use crate::values::values;
 use hp_fields::{ReadRefusal, members, object, present, weight};
 use hp_num::{List, Name};
-use hp_problem::limits::MOST_REALIZATIONS;
-use hp_problem::{Part, Place, RefusalKind};
+use hp_parts::{MOST_REALIZATIONS, Part, Place, RefusalKind};
 use serde_json::{Map, Value};
 use std::alloc::Global;
 

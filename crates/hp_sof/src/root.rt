@@ -9,8 +9,7 @@ use crate::successors::read_successors;
 use crate::weights::weights;
 use hp_fields::{Names, ReadRefusal, count, key, member, members, object, present, whole};
 use hp_num::List;
-use hp_problem::limits::MOST_STATES;
-use hp_problem::{Part, Place, Refusal, RefusalKind, State};
+use hp_parts::{MOST_STATES, Part, Place, Refusal, RefusalKind, State};
 use serde_json::{Map, Value};
 use std::alloc::Global;
 

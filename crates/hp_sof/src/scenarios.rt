@@ -1,74 +1,81 @@
 // The stored scenarios: paths through the graph with the values of their random variables.
-ghost use Rattle.std.specs.Prelude.{◌≡◌, ◌≤◌, ◌-◌, ◌^◌, length, option_map, slice_get};
+ghost use Rattle.std.specs.Prelude.{◌≡◌, ◌≤◌, ◌-◌, ◌^◌, length, slice_get};
 ghost use Rattle.serde_json.specs.View.{view, items_view};
 ghost use Rattle.hp_fields.specs.Steps.{Gives, Shows};
-ghost use Rattle.hp_problem.specs.Parts.{subproblem_at};
+ghost use Rattle.hp_parts.specs.Parts.{subproblem_at};
 ghost use Rattle.hp_sof.specs.Values.{randoms_in};
-ghost use Rattle.hp_sof.specs.Scenarios.{successors_after, follows_at, step_at, path_at, steps_at, some_at, scenario_at, scenarios_at};
+ghost use Rattle.hp_sof.specs.Scenarios.{successors_after, follows_at, scenario_step_at, path_at, scenario_steps_at, some_at, scenario_at, scenarios_at};
 
 use crate::successors::known;
 use crate::values::{randoms, values};
 use hp_fields::{Names, ReadRefusal, array, few, members, object, present, string};
 use hp_num::{List, Name};
-use hp_problem::{Moment, Part, Place, Raw, Refusal, RefusalKind};
+use hp_parts::{Moment, Part, Place, ProblemParts, Refusal, RefusalKind};
 use serde_json::{Map, Value};
 use std::alloc::Global;
 
 // The nodes that a path may go on to: the root's successors at first, then those of its last node.
-fn successors_after<'r>(raw: &'r Raw, path: &[Moment]) -> &'r [u32]
-    ensures { result.now ≡ successors_after raw.now (slice_get path.now (length path.now - 1)) }
+fn successors_after<'r>(parts: &'r ProblemParts, path: &[Moment]) -> &'r [u32]
+    ensures { result.now ≡ successors_after parts.now (slice_get path.now (length path.now - 1)) }
 {
     match path.last() {
-        Some(last) => match raw.nodes.as_slice().get(last.node as usize) {
-            Some(node) => node.links.as_slice(),
+        Some(last) => match parts.nodes.as_slice().get(last.node as usize) {
+            Some(node) => node.successors.as_slice(),
             None => &[],
         },
-        None => raw.root.as_slice(),
+        None => parts.root.as_slice(),
     }
 }
 
 #[tactic(auto, unfolding(crate::specs::Scenarios::follows_at))]
-fn follows(raw: &Raw, path: &[Moment], node: u32, place: Place) -> Result<(), Refusal>
-    ensures { result ≡ follows_at place raw.now path.now node }
+fn follows(parts: &ProblemParts, path: &[Moment], node: u32, place: Place) -> Result<(), Refusal>
+    ensures { result ≡ follows_at place parts.now path.now node }
 {
-    if successors_after(raw, path).contains(&node) {
+    if successors_after(parts, path).contains(&node) {
         Ok(())
     } else {
         Err(RefusalKind::Scenario.at(place))
     }
 }
 
-fn node_randoms(raw: &Raw, node: u32) -> &[Name]
-    ensures { result.now ≡ randoms_in (subproblem_at raw.now node) }
+fn node_randoms(parts: &ProblemParts, node: u32) -> &[Name]
+    ensures { result.now ≡ randoms_in (subproblem_at parts.now node) }
 {
-    match raw.nodes.as_slice().get(node as usize) {
-        Some(node) => randoms(raw.subs.as_slice(), node.sub),
+    match parts.nodes.as_slice().get(node as usize) {
+        Some(node) => randoms(parts.subs.as_slice(), node.sub),
         None => &[],
     }
 }
 
-#[tactic(auto, unfolding(crate::specs::Scenarios::step_at))]
+// The number of a scenario, and that of a step of it.
+#[derive(Clone, Copy)]
+struct StepNumber {
+    k: u32,
+    t: u32,
+}
+
+#[tactic(auto, unfolding(crate::specs::Scenarios::scenario_step_at))]
 fn read_step(
     alloc: Global,
     names: &Names,
-    raw: &Raw,
+    parts: &ProblemParts,
     path: &mut List<Moment>,
-    k: u32,
-    t: u32,
+    number: StepNumber,
     value: &Value,
 ) -> Result<(), ReadRefusal>
     requires { length names.now ≤ 2 ^ 32 }
     ensures { Gives (λ _. path.new) result
-        (step_at names.now raw.now k path.old t (view value.now)) }
+        (scenario_step_at names.now parts.now number.k path.old number.t (view value.now)) }
 {
+    let StepNumber { k, t } = number;
     let place = Place::new(Part::Step, k, t, 0);
     let none = Map::new(alloc);
     object(value, place)?;
     let name = string(present(value.get("node"), place)?, place)?;
     let support = members(value.get("support"), &none, place)?;
     let node = known(names, name, place)?;
-    follows(raw, path.as_slice(), node, place)?;
-    let values = values(alloc, Part::Step, k, t, node_randoms(raw, node), support)?;
+    follows(parts, path.as_slice(), node, place)?;
+    let values = values(alloc, Part::Step, k, t, node_randoms(parts, node), support)?;
     path.push(Moment { node, values })?;
     Ok(())
 }
@@ -76,24 +83,25 @@ fn read_step(
 fn read_path(
     alloc: Global,
     names: &Names,
-    raw: &Raw,
+    parts: &ProblemParts,
     k: u32,
     items: &[Value],
 ) -> Result<List<Moment>, ReadRefusal>
     requires { length names.now ≤ 2 ^ 32 }
-    ensures { Gives (λ l. l) result (path_at names.now raw.now k (items_view items.now)) }
+    ensures { Gives (λ l. l) result (path_at names.now parts.now k (items_view items.now)) }
 {
     few(items.len())?;
     let mut path = List::new(alloc);
     for (t, value) in items.iter().enumerate() {
-        read_step(alloc, names, raw, &mut path, k, t as u32, value)?;
+        let number = StepNumber { k, t: t as u32 };
+        read_step(alloc, names, parts, &mut path, number, value)?;
     }
     Ok(path)
 }
 
-#[tactic(auto, unfolding(crate::specs::Scenarios::steps_at))]
+#[tactic(auto, unfolding(crate::specs::Scenarios::scenario_steps_at))]
 fn steps(value: &Value, place: Place) -> Result<&[Value], Refusal>
-    ensures { Shows (λ items. items_view items.now) result (steps_at place (view value.now)) }
+    ensures { Shows (λ items. items_view items.now) result (scenario_steps_at place (view value.now)) }
 {
     match value {
         Value::Array(items) => Ok(items.as_slice()),
@@ -117,18 +125,18 @@ fn some(items: &[Value], place: Place) -> Result<&[Value], Refusal>
 fn scenario(
     alloc: Global,
     names: &Names,
-    raw: &Raw,
+    parts: &ProblemParts,
     found: &mut List<List<Moment>>,
     k: u32,
     value: &Value,
 ) -> Result<(), ReadRefusal>
     requires { length names.now ≤ 2 ^ 32 }
     ensures { Gives (λ _. found.new) result
-        (scenario_at names.now raw.now found.old k (view value.now)) }
+        (scenario_at names.now parts.now found.old k (view value.now)) }
 {
     let place = Place::new(Part::Scenario, k, 0, 0);
     let steps = some(steps(value, place)?, place)?;
-    let path = read_path(alloc, names, raw, k, steps)?;
+    let path = read_path(alloc, names, parts, k, steps)?;
     found.push(path)?;
     Ok(())
 }
@@ -139,16 +147,16 @@ fn scenario(
 pub(crate) fn scenarios(
     alloc: Global,
     names: &Names,
-    raw: &Raw,
+    parts: &ProblemParts,
     items: &[Value],
 ) -> Result<List<List<Moment>>, ReadRefusal>
     requires { length names.now ≤ 2 ^ 32 }
-    ensures { Gives (λ l. l) result (scenarios_at names.now raw.now (items_view items.now)) }
+    ensures { Gives (λ l. l) result (scenarios_at names.now parts.now (items_view items.now)) }
 {
     few(items.len())?;
     let mut found = List::new(alloc);
     for (k, value) in items.iter().enumerate() {
-        scenario(alloc, names, raw, &mut found, k as u32, value)?;
+        scenario(alloc, names, parts, &mut found, k as u32, value)?;
     }
     Ok(found)
 }

@@ -3,11 +3,11 @@ ghost use Rattle.std.specs.Prelude.{◌≡◌, length, IfOk};
 ghost use Rattle.serde_json.specs.Events.{members_len};
 ghost use Rattle.serde_json.specs.View.{view, members_view};
 ghost use Rattle.hp_fields.specs.Steps.{Gives};
-ghost use Rattle.hp_sof.specs.Subproblems.{another_at, listed_at, subproblems_at};
+ghost use Rattle.hp_sof.specs.Subproblems.{another_at, listed_subproblems_at, subproblems_at};
 
 use hp_fields::{Names, ReadRefusal, count, few, keys};
 use hp_num::List;
-use hp_problem::{State, Subproblem};
+use hp_parts::{State, Subproblem};
 use hp_subproblem::subproblem;
 use serde_json::{Map, Value};
 use std::alloc::Global;
@@ -42,7 +42,7 @@ fn listed(
     table: &Map<String, Value>,
 ) -> Result<List<Subproblem>, ReadRefusal>
     ensures { Gives (λ l. l) result
-        (listed_at states.now (members_view table.now.entries)) }
+        (listed_subproblems_at states.now (members_view table.now.entries)) }
 {
     few(count(table))?;
     let mut found = List::new(alloc);

@@ -4,11 +4,11 @@ ghost use Rattle.std.specs.Str.{bytes_eq};
 ghost use Rattle.serde_json.specs.View.{view, members_view};
 ghost use Rattle.hp_fields.specs.Limits.{known_at};
 ghost use Rattle.hp_fields.specs.Steps.{Gives};
-ghost use Rattle.hp_sof.specs.Successors.{successor_at, successors_at};
+ghost use Rattle.hp_sof.specs.Successors.{successor_at, read_successors_at};
 
 use hp_fields::{Names, ReadRefusal, count, few, weight};
 use hp_num::List;
-use hp_problem::{Part, Place, Refusal, RefusalKind};
+use hp_parts::{Part, Place, Refusal, RefusalKind};
 use serde_json::{Map, Value};
 use std::alloc::Global;
 
@@ -62,7 +62,7 @@ pub(crate) fn read_successors(
 ) -> Result<Successors, ReadRefusal>
     requires { length names.now ≤ 2 ^ 32 }
     ensures { Gives (λ s. s) result
-        (successors_at part a names.now (members_view members.now.entries)) }
+        (read_successors_at part a names.now (members_view members.now.entries)) }
 {
     few(count(members))?;
     let mut found = Successors {

@@ -4,12 +4,11 @@ ghost use Rattle.serde_json.specs.Events.{members_len};
 ghost use Rattle.serde_json.specs.View.{view, members_view, items_view};
 ghost use Rattle.hp_fields.specs.Steps.{Shows};
 ghost use Rattle.hp_sof.specs.Tables.{table_at, sizes_at, tables_at};
-ghost use Rattle.hp_sof.specs.Shown.{shown};
+ghost use Rattle.hp_sof.specs.Shown.{shown_tables};
 
 use crate::version::version;
 use hp_fields::{count, items, object, present};
-use hp_problem::limits::{MOST_NODES, MOST_SCENARIOS, MOST_SUBPROBLEMS};
-use hp_problem::{Place, Refusal, RefusalKind};
+use hp_parts::{MOST_NODES, MOST_SCENARIOS, MOST_SUBPROBLEMS, Place, Refusal, RefusalKind};
 use serde_json::{Map, Value};
 
 /// The tables of a problem file, and its list of scenarios.
@@ -53,7 +52,7 @@ fn sizes(
 /// TooLarge for more than 1,000 nodes, subproblems or stored scenarios.
 #[tactic(auto, unfolding(crate::specs::Tables::tables_at))]
 pub(crate) fn tables_of(value: &Value) -> Result<Tables<'_>, Refusal>
-    ensures value { Shows shown result (tables_at (view value.now)) }
+    ensures value { Shows shown_tables result (tables_at (view value.now)) }
     ensures few_nodes { IfOk result (λ f. members_len (members_view f.nodes.now.entries) ≤ 1000) }
     ensures few_subproblems { IfOk result
         (λ f. members_len (members_view f.subproblems.now.entries) ≤ 1000) }

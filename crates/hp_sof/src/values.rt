@@ -2,11 +2,11 @@
 ghost use Rattle.std.specs.Prelude.{◌≡◌};
 ghost use Rattle.serde_json.specs.View.{members_view};
 ghost use Rattle.hp_fields.specs.Steps.{Gives};
-ghost use Rattle.hp_sof.specs.Values.{randoms_of, value_at, values_at};
+ghost use Rattle.hp_sof.specs.Values.{randoms_of, random_value_at, values_at};
 
 use hp_fields::{ReadRefusal, few, member, present, whole};
 use hp_num::{List, Name};
-use hp_problem::{Part, Place, Subproblem};
+use hp_parts::{Part, Place, Subproblem};
 use serde_json::{Map, Value};
 use std::alloc::Global;
 
@@ -20,7 +20,7 @@ pub(crate) fn randoms(subs: &[Subproblem], p: u32) -> &[Name]
     }
 }
 
-#[tactic(auto, unfolding(crate::specs::Values::value_at))]
+#[tactic(auto, unfolding(crate::specs::Values::random_value_at))]
 fn value(
     found: &mut List<i64>,
     place: Place,
@@ -28,7 +28,7 @@ fn value(
     name: &str,
 ) -> Result<(), ReadRefusal>
     ensures { Gives (λ _. found.new) result
-        (value_at place (members_view support.now.entries) found.old name.now) }
+        (random_value_at place (members_view support.now.entries) found.old name.now) }
 {
     let inner = present(member(support, name), place)?;
     let value = whole(inner, place)?;

@@ -3,7 +3,7 @@ ghost use Rattle.std.specs.Prelude.{◌≡◌};
 ghost use Rattle.serde_json.specs.View.{view};
 ghost use Rattle.hp_sof.specs.Version.{version_at, major_of};
 
-use hp_problem::{Place, Refusal, RefusalKind};
+use hp_parts::{Place, Refusal, RefusalKind};
 use serde_json::Value;
 
 fn major(value: &Value) -> Option<u64>

@@ -1,23 +1,22 @@
 // Weights that stand for shares of their total.
-ghost use Rattle.std.specs.Prelude.{◌≡◌, ◌+◌, ◌≤◌, sum, OnOk};
+ghost use Rattle.std.specs.Prelude.{◌+◌, ◌≤◌, sum, OnOk};
 ghost use Rattle.hp_fields.specs.Steps.{Gives};
-ghost use Rattle.hp_sof.specs.Weights.{weights_at};
+ghost use Rattle.hp_sof.specs.Weights.{bounded_weights_at};
 
 use hp_fields::ReadRefusal;
 use hp_num::List;
-use hp_problem::limits::GREATEST_TOTAL_WEIGHT;
-use hp_problem::{Place, RefusalKind};
+use hp_parts::{GREATEST_TOTAL_WEIGHT, Place, RefusalKind};
 use std::alloc::Global;
 
 /// The weights, where they and `more` add up to at most 65,535, else Weight.
-#[tactic(auto, unfolding(crate::specs::Weights::weights_at))]
+#[tactic(auto, unfolding(crate::specs::Weights::bounded_weights_at))]
 pub(crate) fn weights(
     alloc: Global,
     more: u64,
     all: &[u64],
     place: Place,
 ) -> Result<List<u32>, ReadRefusal>
-    ensures value { Gives (λ l. l) result (weights_at place more all.now) }
+    ensures value { Gives (λ l. l) result (bounded_weights_at place more all.now) }
     ensures small { OnOk result (more + sum all.now ≤ 65535) }
 {
     let too_much = ReadRefusal::Refused(RefusalKind::Weight.at(place));
@@ -26,11 +25,11 @@ pub(crate) fn weights(
     };
     let mut found = List::new(alloc);
     for weight in all {
-        let Some(rest) = left.checked_sub(*weight) else {
+        let Some(tail) = left.checked_sub(*weight) else {
             return Err(too_much);
         };
         found.push(*weight as u32)?;
-        left = rest;
+        left = tail;
     }
     Ok(found)
 }

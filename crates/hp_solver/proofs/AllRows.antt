@@ -24,16 +24,16 @@ one_more rows found new i row e at n =
     ∙ sym (take_more rows i row (slice_get_within rows i row at))
 
 -- a row with other sides, with others behind the list
-pub sides_before : (rows new rest : List LpRow) (i : ℕ) (low high : Option Fx) → i < length rows → new ≡ set rows i (record (get_or rows i no_row) { low = low; high = high }) → take (length rows) (new ++ drop (length new) rows) ++ rest ≡ set (rows ++ rest) i (record (get_or (rows ++ rest) i no_row) { low = low; high = high })
-sides_before rows new rest i low high l e =
+pub sides_before : (rows new tail : List LpRow) (i : ℕ) (low high : Option Fx) → i < length rows → new ≡ set rows i (record (get_or rows i no_row) { low = low; high = high }) → take (length rows) (new ++ drop (length new) rows) ++ tail ≡ set (rows ++ tail) i (record (get_or (rows ++ tail) i no_row) { low = low; high = high })
+sides_before rows new tail i low high l e =
     let row : LpRow = record (get_or rows i no_row) { low = low; high = high } in
     let count : length new ≡ length rows = ap length e ∙ length-set rows i row in
     let none : drop (length new) rows ≡ [] = drop_all (length new) rows (omega (arith, count)) in
-    ap (λ (xs : List LpRow). take (length rows) (new ++ xs) ++ rest) none
-    ∙ ap (λ (xs : List LpRow). take (length rows) xs ++ rest) (append-nil new)
-    ∙ ap (λ (xs : List LpRow). xs ++ rest) (take_all (length rows) new (omega (arith, count)) ∙ e)
-    ∙ sym (set-append_left rows rest i row l)
-    ∙ ap (λ (r : LpRow). set (rows ++ rest) i (record r { low = low; high = high })) (sym (get_or_append_left rows rest no_row i l))
+    ap (λ (xs : List LpRow). take (length rows) (new ++ xs) ++ tail) none
+    ∙ ap (λ (xs : List LpRow). take (length rows) xs ++ tail) (append-nil new)
+    ∙ ap (λ (xs : List LpRow). xs ++ tail) (take_all (length rows) new (omega (arith, count)) ∙ e)
+    ∙ sym (set-append_left rows tail i row l)
+    ∙ ap (λ (r : LpRow). set (rows ++ tail) i (record r { low = low; high = high })) (sym (get_or_append_left rows tail no_row i l))
 
 -- a row with one side written after the other
 pub both_sides : (rows : List LpRow) (i : ℕ) (low high : Option Fx) (d e : LpRow) → i < length rows → set (set rows i (record { low = low; high = (get_or rows i d).high; terms = (get_or rows i d).terms })) i (record { low = (get_or (set rows i (record { low = low; high = (get_or rows i d).high; terms = (get_or rows i d).terms })) i e).low; high = high; terms = (get_or (set rows i (record { low = low; high = (get_or rows i d).high; terms = (get_or rows i d).terms })) i e).terms }) ≡ set rows i (record (get_or rows i no_row) { low = low; high = high })

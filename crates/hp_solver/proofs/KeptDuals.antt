@@ -40,10 +40,10 @@ pub one_listed : (found new : List (ℕ × Fx)) (duals : List Fx) (k : ℕ) (f :
 one_listed found new duals k f whole h is e w =
     let next : k + 1 ≡ suc k = omega arith in
     let more : length duals - k ≡ suc (length duals - (k + 1)) = omega (arith, h) in
-    let rest : List (ℕ × Fx) = not_zero (dual_in duals) (suc k) (length duals - (k + 1)) in
+    let tail : List (ℕ × Fx) = not_zero (dual_in duals) (suc k) (length duals - (k + 1)) in
     ap₂ (λ (xs : List (ℕ × Fx)) (j : ℕ). xs ++ not_zero (dual_in duals) j (length duals - (k + 1))) e next
-    ∙ append_assoc found (with_dual k f []) rest
-    ∙ ap (λ (xs : List (ℕ × Fx)). found ++ xs) (sym (with_dual_append k f [] rest) ∙ ap (λ (x : Fx). with_dual k x rest) is)
+    ∙ append_assoc found (with_dual k f []) tail
+    ∙ ap (λ (xs : List (ℕ × Fx)). found ++ xs) (sym (with_dual_append k f [] tail) ∙ ap (λ (x : Fx). with_dual k x tail) is)
     ∙ sym (ap (λ (m : ℕ). found ++ not_zero (dual_in duals) k m) more) ∙ w
 
 -- the dual of a row so many behind another

@@ -38,8 +38,8 @@ pub wide : (n : ℕ) (hs bs : List ℤ) (k : ℕ) (d : PackedCut) → length bs 
 wide n [] bs k d e l = absurd (omega (arith, l))
 wide n (h ∷ hs) bs zero d e l = length-take-le n bs (omega (arith, e))
 wide n (h ∷ hs) bs (suc k) d e l =
-    let rest : length (drop n bs) ≡ length hs * n = length-drop n bs ∙ omega (arith, e) in
-    wide n hs (drop n bs) k d rest (omega (arith, l))
+    let tail : length (drop n bs) ≡ length hs * n = length-drop n bs ∙ omega (arith, e) in
+    wide n hs (drop n bs) k d tail (omega (arith, l))
 
 -- the heights behind the first are small where all are
 behind_first : (P : ℤ → Type 0) (h : ℤ) (hs : List ℤ) → All P (h ∷ hs) → All P hs

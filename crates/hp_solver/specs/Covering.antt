@@ -8,8 +8,8 @@ use Rattle.hp_solver.specs.declared.packed.ActiveCuts.{ActiveCuts}
 abbrev pub value_of : PackedCut → List ℤ → ℤ
 value_of c xs = c.height *ℤ pos (2 ^ 24) +ℤ dot c.slopes xs
 
-abbrev pub cut_at : List PackedCut → ℕ → PackedCut
-cut_at cuts i = get_or cuts i no_packed_cut
+abbrev pub packed_cut_at : List PackedCut → ℕ → PackedCut
+packed_cut_at cuts i = get_or cuts i no_packed_cut
 
 -- states of the scale 2^24 in a box of whole units
 pub record AreInside (lows highs xs : List ℤ) : Type 0 where
@@ -24,7 +24,7 @@ IsBefore i x j y = (y <ℤ x) ⊎ ((y ≤ℤ x) × (i ≤ j))
 
 -- at every state of the box the cut at place i is before that at place j
 abbrev pub Covers : List PackedCut → List ℤ → List ℤ → ℕ → ℕ → Type 0
-Covers cuts lows highs i j = (xs : List ℤ) → AreInside lows highs xs → IsBefore i (value_of (cut_at cuts i) xs) j (value_of (cut_at cuts j) xs)
+Covers cuts lows highs i j = (xs : List ℤ) → AreInside lows highs xs → IsBefore i (value_of (packed_cut_at cuts i) xs) j (value_of (packed_cut_at cuts j) xs)
 
 -- one of these covers the cut at place j
 pub record IsCovered (cuts : List PackedCut) (lows highs : List ℤ) (active : List ℕ) (j : ℕ) : Type 0 where
@@ -45,4 +45,4 @@ pub record CoverAll (all : List PackedCut) (places : List ℕ) (lows highs : Lis
 -- some cuts cover all, and stand side by side once more
 pub record AreActive (all : List PackedCut) (a : ActiveCuts) : Type 0 where
   pub cover : CoverAll all a.places.now a.lows.now a.highs.now
-  pub same : a.cuts ≡ map (cut_at all) a.places.now
+  pub same : a.cuts ≡ map (packed_cut_at all) a.places.now

@@ -35,16 +35,16 @@ zero_fx = number (pos 0)
 abbrev pub one : Fx
 one = number (pos (2 ^ 32))
 
-unfoldable pub plus : Fx → Fx → Option Fx
-plus a b = option_map number (held (a.0 +ℤ b.0))
+unfoldable pub plus_fixed : Fx → Fx → Option Fx
+plus_fixed a b = option_map number (held (a.0 +ℤ b.0))
 
 unfoldable pub minus : Fx → Fx → Option Fx
 minus a b = option_map number (held (a.0 -ℤ b.0))
 
 -- the product over 2^32, rounded down; none where the product of the two as they stand leaves 128 bits
-unfoldable pub times : Fx → Fx → Option Fx
-times a b = option_map number (if fits (a.0 *ℤ b.0) then Some (floor_over (a.0 *ℤ b.0) (2 ^ 32)) else None)
+unfoldable pub times_fixed : Fx → Fx → Option Fx
+times_fixed a b = option_map number (if fits (a.0 *ℤ b.0) then Some (floor_over (a.0 *ℤ b.0) (2 ^ 32)) else None)
 
 -- the quotient of a times 2^32, rounded down; none where b is 0 or a result leaves 128 bits
-unfoldable pub over : Fx → Fx → Option Fx
-over a b = option_map number (if fits (a.0 *ℤ pos (2 ^ 32)) then quotient (a.0 *ℤ pos (2 ^ 32)) b.0 else None)
+unfoldable pub over_fixed : Fx → Fx → Option Fx
+over_fixed a b = option_map number (if fits (a.0 *ℤ pos (2 ^ 32)) then quotient (a.0 *ℤ pos (2 ^ 32)) b.0 else None)

@@ -1,4 +1,4 @@
--- What a solver does.
+-- The functions of a solver.
 use Rattle.hp_solver.specs.declared.programs.Program.{Program}
 use Rattle.hp_solver.specs.declared.programs.Answer.{Answer}
 

@@ -12,8 +12,8 @@ use Rattle.hp_solver.specs.Packed.{rows_of, unlisted, IsView}
 abbrev pub with_rows : Program → List LpRow → Program
 with_rows p rows = record p { rows = p.rows ++ rows }
 
-abbrev pub whole : Program → Option PackedView → Program
-whole listed packed = with_rows listed (unlisted packed)
+abbrev pub whole_program : Program → Option PackedView → Program
+whole_program listed packed = with_rows listed (unlisted packed)
 
 -- own rows are counted, and so are all rows; where cuts stand side by side none is listed
 pub record IsCounted (p : Program) (view : Option PackedView) (n : ℕ) : Type 0 where

@@ -1,6 +1,6 @@
 // Numbers in fixed point.
 ghost use Rattle.std.specs.Prelude.{◌≡◌, ◌+ℤ◌, ◌-ℤ◌, ◌*ℤ◌};
-ghost use Rattle.hp_solver.specs.Numbers.{held, quotient, plus, minus, times, over};
+ghost use Rattle.hp_solver.specs.Numbers.{held, quotient, plus_fixed, minus, times_fixed, over_fixed};
 
 use hp_num::floor_div;
 
@@ -47,9 +47,9 @@ fn floor_quotient(a: i128, b: i128) -> Option<i128>
 
 impl Fx {
     /// The sum; none exactly where 128 bits do not hold it.
-    #[tactic(auto, unfolding(crate::specs::Numbers::plus))]
+    #[tactic(auto, unfolding(crate::specs::Numbers::plus_fixed))]
     pub fn add(self, other: Fx) -> Option<Fx>
-        ensures { result ≡ plus self other }
+        ensures { result ≡ plus_fixed self other }
     {
         Some(Fx(sum(self.0, other.0)?))
     }
@@ -64,18 +64,18 @@ impl Fx {
 
     /// The product, rounded down; none exactly where the product of the numbers as they stand,
     /// before it is scaled, leaves 128 bits.
-    #[tactic(auto, unfolding(crate::specs::Numbers::times))]
+    #[tactic(auto, unfolding(crate::specs::Numbers::times_fixed))]
     pub fn mul(self, other: Fx) -> Option<Fx>
-        ensures { result ≡ times self other }
+        ensures { result ≡ times_fixed self other }
     {
         Some(Fx(floor_div(whole_product(self.0, other.0)?, ONE)))
     }
 
     /// The quotient, rounded down; none exactly where the divisor is 0, or where 128 bits do not
     /// hold the dividend times 2^32 or the quotient.
-    #[tactic(auto, unfolding(crate::specs::Numbers::over))]
+    #[tactic(auto, unfolding(crate::specs::Numbers::over_fixed))]
     pub fn div(self, other: Fx) -> Option<Fx>
-        ensures { result ≡ over self other }
+        ensures { result ≡ over_fixed self other }
     {
         Some(Fx(floor_quotient(whole_product(self.0, ONE)?, other.0)?))
     }

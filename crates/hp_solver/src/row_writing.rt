@@ -1,5 +1,5 @@
 // Rows that are written over others: copies of listed ones, and those of cuts that stand side by side.
-ghost use Rattle.std.specs.Prelude.{◌≡◌, ◌<◌, ◌≤◌, ◌^◌, ◌++◌, neg_ℤ, length, get_or, slice_get, nat_abs, All, Some, OnOk};
+ghost use Rattle.std.specs.Prelude.{◌≡◌, ◌<◌, ◌^◌, ◌++◌, neg_ℤ, length, get_or, slice_get, nat_abs, All, Some, OnOk};
 ghost use Rattle.std.specs.List.{flat_map};
 ghost use Rattle.hp_solver.specs.PackedCut.{no_packed_cut};
 ghost use Rattle.hp_solver.specs.StageLps.{no_row};

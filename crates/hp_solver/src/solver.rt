@@ -19,13 +19,13 @@ pub trait Solver: Sync {
     /// The state of a chain of solves.
     type Chain: Drop + Send;
 
-    /// What the solver does.
+    /// The functions of the solver.
     ghost does: { Self → Solving Self.Start Self.Chain };
 
     /// Whether a chain may begin with a program.
     ghost suits: { Self → Self.Start → Program → Type 0 };
 
-    /// That has one proof at most.
+    /// Two proofs that a chain may begin with a program are equal.
     ghost suits_is_fact: { (solver : Self) (start : Self.Start) (lp : Program) → IsProp (suits solver start lp) };
 
     /// Whether a chain may take a program.

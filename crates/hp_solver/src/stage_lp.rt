@@ -1,5 +1,5 @@
 // Linear programs whose cuts are listed as rows, or stand side by side where they were made.
-ghost use Rattle.std.specs.Prelude.{◌≡◌, ◌≤◌, ◌<◌, ◌^◌, length, take, drop, get_or, set, slice_get, Some, IfOk, OnOk};
+ghost use Rattle.std.specs.Prelude.{◌≡◌, ◌≤◌, ◌<◌, length, take, drop, get_or, set, slice_get, Some, IfOk, OnOk};
 ghost use Rattle.hp_solver.specs.declared.programs.Program.{Program};
 ghost use Rattle.hp_solver.specs.Answers.{lows_of, zeros_of};
 ghost use Rattle.hp_solver.specs.Packed.{rows_of, IsView};
@@ -27,11 +27,11 @@ pub struct StageLp<'a> {
 
 impl<'a> Model for StageLp<'a> {
     ghost use Rattle.hp_solver.specs.declared.programs.Program.{Program};
-    ghost use Rattle.hp_solver.specs.StageLps.{whole, IsCounted};
+    ghost use Rattle.hp_solver.specs.StageLps.{whole_program, IsCounted};
 
     ghost Value = { Program };
 
-    ghost view = { λ s. whole s.listed s.packed };
+    ghost view = { λ s. whole_program s.listed s.packed };
 
     ghost invariant = { λ s. IsCounted s.listed s.packed s.count };
 }

@@ -7,11 +7,10 @@ ghost use Rattle.hp_solver.specs.Proper.{IsProper, IsReference, Extends, IsLike}
 ghost use Rattle.hp_solver.specs.Answers.{zero_of};
 
 use crate::duals::Duals;
-use crate::fixed::Fx;
 use crate::programs::{Answer, Kind};
 use crate::solver::Solver;
 use crate::stage_lp::StageLp;
-use hp_num::{List, Memory};
+use hp_num::{Memory, copied};
 use std::alloc::Global;
 use std::sync::atomic::{AtomicBool, AtomicU64, Ordering};
 
@@ -69,17 +68,6 @@ impl Liar {
     {
         Liar { answer }
     }
-}
-
-// Copies the numbers into a new list.
-fn copied(alloc: Global, numbers: &[Fx]) -> Result<List<Fx>, Memory>
-    ensures { IfOk result (λ found. found ≡ numbers.now) }
-{
-    let mut found = List::new(alloc);
-    for number in numbers {
-        found.push(*number)?;
-    }
-    Ok(found)
 }
 
 impl Solver for Liar {

@@ -6,18 +6,18 @@ use Rattle.std.proofs.lemmas.List.{map-append, append-nil, append_assoc, drop_al
 use Rattle.std.proofs.lemmas.Option.{same_Some, slice_get_within}
 use Rattle.hp_num.specs.Sums.{entry}
 use Rattle.hp_num.proofs.Tests.{and_first, and_second}
-use Rattle.hp_problem.specs.Limits.{is_small, are_small, is_name, is_bound, sides_fit, decision_fits}
-use Rattle.hp_problem.specs.declared.raw.Decision.{Decision}
-use Rattle.hp_problem.specs.declared.refusal.Place.{Place}
+use Rattle.hp_parts.specs.Limits.{is_small, are_small, is_name, is_bound, sides_fit, decision_fits}
+use Rattle.hp_parts.specs.declared.parts.Decision.{Decision}
+use Rattle.hp_parts.specs.declared.refusal.Place.{Place}
 use Rattle.hp_fields.proofs.Accepted.{then-Ok, Ok-is, unless-Ok, list_all-push, EachFrom, walk_list-Ok}
 use Rattle.hp_fields.proofs.Distinct.{name_of}
 use Rattle.hp_subproblem.specs.declared.role.Role.{Role}
 use Rattle.hp_subproblem.specs.declared.role.Role.TheVariants.{Free, Incoming, Outgoing, Random}
 use Rattle.hp_subproblem.specs.declared.variables.Variables.{Variables}
-use Rattle.hp_subproblem.specs.declared.sides.Sides.{Sides}
+use Rattle.hp_subproblem.specs.declared.sides.RowSides.{RowSides}
 use Rattle.hp_subproblem.specs.Sides.{is_crossed, ordered_at}
 use Rattle.hp_subproblem.specs.Decisions.{is_decision, decisions_from}
-use Rattle.hp_subproblem.specs.Boxes.{bound_at, decision_at, incoming_at, box_at, sides_of, variable_at, boxes_at, lows_of, highs_of}
+use Rattle.hp_subproblem.specs.Boxes.{bound_at, decision_at, incoming_at, box_at, sides_of, variable_box_at, boxes_at, given_low_bounds, given_high_bounds}
 use Rattle.hp_subproblem.proofs.SidesFit.{AreBounds, both_fit, le_from_uncrossed}
 use Rattle.hp_subproblem.proofs.RowsFit.{entry-small}
 
@@ -35,13 +35,13 @@ record OneMore (name : List ℕ) (found next : List Decision) : Type 0 where
   added : found ++ decision ∷ [] ≡ next
   fits : decision_fits decision ≡ true
 
-ordered_at-le : (at : Place) (sides ordered : Sides) (low high : ℤ) → sides.low ≡ Some low → sides.high ≡ Some high → ordered_at at sides ≡ Ok ordered → int_le low high ≡ true
+ordered_at-le : (at : Place) (sides ordered : RowSides) (low high : ℤ) → sides.low ≡ Some low → sides.high ≡ Some high → ordered_at at sides ≡ Ok ordered → int_le low high ≡ true
 unfolding ordered_at
 ordered_at-le at sides ordered low high is_low is_high e =
     let parts = unless-Ok (is_crossed sides.low sides.high) _ _ at ordered e in
     le_from_uncrossed low high (sym (ap₂ is_crossed is_low is_high) ∙ parts.0)
 
-decision_at-more : (at : Place) (found next : List Decision) (name : List ℕ) (sides : Sides) (cost : ℤ) → is_name name ≡ true → AreBounds sides → is_small cost ≡ true
+decision_at-more : (at : Place) (found next : List Decision) (name : List ℕ) (sides : RowSides) (cost : ℤ) → is_name name ≡ true → AreBounds sides → is_small cost ≡ true
     → decision_at at found name sides cost ≡ Ok next → OneMore name found next
 unfolding decision_at
 decision_at-more at found next name sides cost named bounds small e =
@@ -101,17 +101,17 @@ abbrev names_in : List Decision → List (List ℕ)
 names_in decisions = map (λ (d : Decision). d.name) decisions
 
 -- the given bounds of the variable v do not pass each other, where it is an incoming state
-abbrev InOrder : List Role → List Sides → ℕ → Type 0
+abbrev InOrder : List Role → List RowSides → ℕ → Type 0
 InOrder roles bounds v = slice_get roles v ≡ Some Incoming → is_crossed (sides_of bounds v).low (sides_of bounds v).high ≡ false
 
 -- so far each decision before variable i has its box, and the bounds of each incoming state are in order
-record Boxed (names : List (List ℕ)) (roles : List Role) (bounds : List Sides) (i : ℕ) (found : List Decision) : Type 0 where
+record Boxed (names : List (List ℕ)) (roles : List Role) (bounds : List RowSides) (i : ℕ) (found : List Decision) : Type 0 where
   named : names_in found ++ map (name_of names) (left roles i) ≡ map (name_of names) (left roles 0)
   fit : list_all decision_fits found ≡ true
   in_order : (v : ℕ) → v < i → InOrder roles bounds v
 
 -- one variable more whose bounds are in order
-one_more : (roles : List Role) (bounds : List Sides) (i : ℕ) → ((v : ℕ) → v < i → InOrder roles bounds v) → InOrder roles bounds i → (v : ℕ) → v < suc i → InOrder roles bounds v
+one_more : (roles : List Role) (bounds : List RowSides) (i : ℕ) → ((v : ℕ) → v < i → InOrder roles bounds v) → InOrder roles bounds i → (v : ℕ) → v < suc i → InOrder roles bounds v
 one_more roles bounds i before here v lt = by (v == i) refl
   where
     by : (b : Bool) → (v == i) ≡ b → InOrder roles bounds v
@@ -119,32 +119,32 @@ one_more roles bounds i before here v lt = by (v == i) refl
     by false is = before v (omega (arith, lt, eqb-false v i is))
 
 -- a variable of another role
-other_role : (roles : List Role) (bounds : List Sides) (i : ℕ) (o : Option Role) → slice_get roles i ≡ o → (o ≡ Some Incoming → ⊥) → InOrder roles bounds i
+other_role : (roles : List Role) (bounds : List RowSides) (i : ℕ) (o : Option Role) → slice_get roles i ≡ o → (o ≡ Some Incoming → ⊥) → InOrder roles bounds i
 other_role roles bounds i o is no_state h = absurd (no_state (sym is ∙ h))
 
-grown : (names : List (List ℕ)) (roles : List Role) (bounds : List Sides) (i : ℕ) (name : List ℕ) (found next : List Decision) → name ≡ name_of names i → OneMore name found next → left roles i ≡ i ∷ left roles (suc i) → InOrder roles bounds i
+grown : (names : List (List ℕ)) (roles : List Role) (bounds : List RowSides) (i : ℕ) (name : List ℕ) (found next : List Decision) → name ≡ name_of names i → OneMore name found next → left roles i ≡ i ∷ left roles (suc i) → InOrder roles bounds i
     → Boxed names roles bounds i found → Boxed names roles bounds (suc i) next
 grown names roles bounds i name found next is_name more is here b =
-    let rest = map (name_of names) (left roles (suc i)) in
+    let tail = map (name_of names) (left roles (suc i)) in
     let front : names_in (found ++ more.decision ∷ []) ≡ names_in found ++ name_of names i ∷ [] = map-append (λ (d : Decision). d.name) found (more.decision ∷ []) ∙ ap (λ n. names_in found ++ n ∷ []) (more.named ∙ is_name) in
     subst (Boxed names roles bounds (suc i)) more.added (record {
-      named = ap (λ ns. ns ++ rest) front ∙ append_assoc (names_in found) (name_of names i ∷ []) rest ∙ ap (λ vs. names_in found ++ map (name_of names) vs) (sym is) ∙ b.named;
+      named = ap (λ ns. ns ++ tail) front ∙ append_assoc (names_in found) (name_of names i ∷ []) tail ∙ ap (λ vs. names_in found ++ map (name_of names) vs) (sym is) ∙ b.named;
       fit = list_all-push decision_fits found more.decision b.fit more.fits;
       in_order = one_more roles bounds i b.in_order here;
     })
 
-same : (names : List (List ℕ)) (roles : List Role) (bounds : List Sides) (i : ℕ) (found next : List Decision) → found ≡ next → left roles i ≡ left roles (suc i) → InOrder roles bounds i → Boxed names roles bounds i found → Boxed names roles bounds (suc i) next
+same : (names : List (List ℕ)) (roles : List Role) (bounds : List RowSides) (i : ℕ) (found next : List Decision) → found ≡ next → left roles i ≡ left roles (suc i) → InOrder roles bounds i → Boxed names roles bounds i found → Boxed names roles bounds (suc i) next
 same names roles bounds i found next e is here b = subst (Boxed names roles bounds (suc i)) e (record {
   named = ap (λ vs. names_in found ++ map (name_of names) vs) (sym is) ∙ b.named;
   fit = b.fit;
   in_order = one_more roles bounds i b.in_order here;
 })
 
-ordered_at-uncrossed : (at : Place) (sides ordered : Sides) → ordered_at at sides ≡ Ok ordered → is_crossed sides.low sides.high ≡ false
+ordered_at-uncrossed : (at : Place) (sides ordered : RowSides) → ordered_at at sides ≡ Ok ordered → is_crossed sides.low sides.high ≡ false
 unfolding ordered_at
 ordered_at-uncrossed at sides ordered e = (unless-Ok (is_crossed sides.low sides.high) _ _ at ordered e).0
 
-box_at-boxed : (names : List (List ℕ)) (roles : List Role) (bounds : List Sides) (at : Place) (found next : List Decision) (o : Option Role) (i : ℕ) (name : List ℕ) (cost : ℤ) → slice_get roles i ≡ o → name ≡ name_of names i → is_name name ≡ true
+box_at-boxed : (names : List (List ℕ)) (roles : List Role) (bounds : List RowSides) (at : Place) (found next : List Decision) (o : Option Role) (i : ℕ) (name : List ℕ) (cost : ℤ) → slice_get roles i ≡ o → name ≡ name_of names i → is_name name ≡ true
     → AreBounds (sides_of bounds i) → is_small cost ≡ true → box_at at found o name (sides_of bounds i) cost ≡ Ok next → Boxed names roles bounds i found → Boxed names roles bounds (suc i) next
 unfolding box_at incoming_at
 box_at-boxed names roles bounds at found next None i name cost is is_at named fit small e b =
@@ -159,7 +159,7 @@ box_at-boxed names roles bounds at found next (Some Outgoing) i name cost is is_
 box_at-boxed names roles bounds at found next (Some Random) i name cost is is_at named fit small e b =
     same names roles bounds i found next (Ok-is _ next e) (left_some roles i Random is) (other_role roles bounds i (Some Random) is (λ h. cc)) b
 
-sides_of-bounds : (bounds : List Sides) (v : ℕ) → AllByRecursion AreBounds bounds → AreBounds (sides_of bounds v)
+sides_of-bounds : (bounds : List RowSides) (v : ℕ) → AllByRecursion AreBounds bounds → AreBounds (sides_of bounds v)
 sides_of-bounds [] v all = record { low = refl; high = refl }
 sides_of-bounds (b ∷ bs) zero all = all.0
 sides_of-bounds (b ∷ bs) (suc v) all = sides_of-bounds bs v all.1
@@ -168,7 +168,7 @@ sides_of-bounds (b ∷ bs) (suc v) all = sides_of-bounds bs v all.1
 abbrev NameAt : List (List ℕ) → ℕ → List ℕ → Type 0
 NameAt names i name = (name ≡ name_of names i) × (is_name name ≡ true)
 
-each_name : (names : List (List ℕ)) (i : ℕ) (rest : List (List ℕ)) → ((j : ℕ) → name_of rest j ≡ name_of names (i + j)) → list_all is_name rest ≡ true → EachFrom (NameAt names) i rest
+each_name : (names : List (List ℕ)) (i : ℕ) (tail : List (List ℕ)) → ((j : ℕ) → name_of tail j ≡ name_of names (i + j)) → list_all is_name tail ≡ true → EachFrom (NameAt names) i tail
 unfolding name_of
 each_name names i [] there all = tt
 each_name names i (x ∷ xs) there all =
@@ -177,25 +177,25 @@ each_name names i (x ∷ xs) there all =
       each_name names (suc i) xs (λ j. let next : i + suc j ≡ suc i + j = omega arith in there (suc j) ∙ ap (name_of names) next) (and_second (is_name x) (list_all is_name xs) all),
     )
 
-variable_at-boxed : (vars : Variables) (p : ℕ) (bounds : List Sides) (costs : List ℤ) (found next : List Decision) (i : ℕ) (name : List ℕ) → AllByRecursion AreBounds bounds → are_small costs ≡ true → NameAt vars.names i name
-    → variable_at vars p bounds costs found i name ≡ Ok next → Boxed vars.names vars.uses.roles bounds i found → Boxed vars.names vars.uses.roles bounds (suc i) next
-unfolding variable_at
-variable_at-boxed vars p bounds costs found next i name all small named e b =
+variable_box_at-boxed : (vars : Variables) (p : ℕ) (bounds : List RowSides) (costs : List ℤ) (found next : List Decision) (i : ℕ) (name : List ℕ) → AllByRecursion AreBounds bounds → are_small costs ≡ true → NameAt vars.names i name
+    → variable_box_at vars p bounds costs found i name ≡ Ok next → Boxed vars.names vars.uses.roles bounds i found → Boxed vars.names vars.uses.roles bounds (suc i) next
+unfolding variable_box_at
+variable_box_at-boxed vars p bounds costs found next i name all small named e b =
     box_at-boxed vars.names vars.uses.roles bounds _ found next (slice_get vars.uses.roles i) i name (entry costs i) refl named.0 named.1 (sides_of-bounds bounds i all) (entry-small costs i small) e b
 
 -- the decisions with their boxes: each keeps its limits and has the name of its variable; and the bounds of the incoming states are in order
-pub record BoxesFit (vars : Variables) (bounds : List Sides) (decisions : List Decision) : Type 0 where
+pub record BoxesFit (vars : Variables) (bounds : List RowSides) (decisions : List Decision) : Type 0 where
   pub named : map (λ (d : Decision). d.name) decisions ≡ map (name_of vars.names) (decisions_from 0 vars.uses.roles)
   pub fit : list_all decision_fits decisions ≡ true
   pub in_order : (v : ℕ) → slice_get vars.uses.roles v ≡ Some Incoming → is_crossed (sides_of bounds v).low (sides_of bounds v).high ≡ false
 
-pub boxes_at-fit : (vars : Variables) (p : ℕ) (bounds : List Sides) (costs : List ℤ) (decisions : List Decision) → list_all is_name vars.names ≡ true → length vars.uses.roles ≡ length vars.names → AllByRecursion AreBounds bounds
+pub boxes_at-fit : (vars : Variables) (p : ℕ) (bounds : List RowSides) (costs : List ℤ) (decisions : List Decision) → list_all is_name vars.names ≡ true → length vars.uses.roles ≡ length vars.names → AllByRecursion AreBounds bounds
     → are_small costs ≡ true → boxes_at vars p bounds costs ≡ Ok decisions → BoxesFit vars bounds decisions
 unfolding boxes_at
 boxes_at-fit vars p bounds costs decisions named long all small e =
     let names = vars.names in
     let roles = vars.uses.roles in
-    let b = walk_list-Ok (Boxed names roles bounds) (NameAt names) (variable_at vars p bounds costs) (λ found next i name named e b. variable_at-boxed vars p bounds costs found next i name all small named e b)
+    let b = walk_list-Ok (Boxed names roles bounds) (NameAt names) (variable_box_at vars p bounds costs) (λ found next i name named e b. variable_box_at-boxed vars p bounds costs found next i name all small named e b)
     names [] decisions 0 (length names) (omega arith) (each_name names 0 names (λ j. let same : j ≡ 0 + j = omega arith in ap (name_of names) same) named) e (record { named = refl; fit = refl; in_order = λ v lt. absurd (omega arith) }) in
     let none : map (name_of names) (left roles (length names)) ≡ [] = ap (map (name_of names)) (left_at_end roles (length names) long) in
     record {
@@ -206,15 +206,15 @@ boxes_at-fit vars p bounds costs decisions named long all small e =
 
 -- ---- the given bounds of some variables
 
-pub lows_of-bounds : (bounds : List Sides) (vs : List ℕ) → AllByRecursion AreBounds bounds → list_all is_bound (lows_of bounds vs) ≡ true
-unfolding lows_of
-lows_of-bounds bounds [] all = refl
-lows_of-bounds bounds (v ∷ vs) all = and_from (is_bound (sides_of bounds v).low) (list_all is_bound (map (λ v. (sides_of bounds v).low) vs)) (sides_of-bounds bounds v all).low (lows_of-bounds bounds vs all)
+pub given_low_bounds-bounds : (bounds : List RowSides) (vs : List ℕ) → AllByRecursion AreBounds bounds → list_all is_bound (given_low_bounds bounds vs) ≡ true
+unfolding given_low_bounds
+given_low_bounds-bounds bounds [] all = refl
+given_low_bounds-bounds bounds (v ∷ vs) all = and_from (is_bound (sides_of bounds v).low) (list_all is_bound (map (λ v. (sides_of bounds v).low) vs)) (sides_of-bounds bounds v all).low (given_low_bounds-bounds bounds vs all)
 
-pub highs_of-bounds : (bounds : List Sides) (vs : List ℕ) → AllByRecursion AreBounds bounds → list_all is_bound (highs_of bounds vs) ≡ true
-unfolding highs_of
-highs_of-bounds bounds [] all = refl
-highs_of-bounds bounds (v ∷ vs) all = and_from (is_bound (sides_of bounds v).high) (list_all is_bound (map (λ v. (sides_of bounds v).high) vs)) (sides_of-bounds bounds v all).high (highs_of-bounds bounds vs all)
+pub given_high_bounds-bounds : (bounds : List RowSides) (vs : List ℕ) → AllByRecursion AreBounds bounds → list_all is_bound (given_high_bounds bounds vs) ≡ true
+unfolding given_high_bounds
+given_high_bounds-bounds bounds [] all = refl
+given_high_bounds-bounds bounds (v ∷ vs) all = and_from (is_bound (sides_of bounds v).high) (list_all is_bound (map (λ v. (sides_of bounds v).high) vs)) (sides_of-bounds bounds v all).high (given_high_bounds-bounds bounds vs all)
 
 -- the sides of a box that is not crossed
 box_sides : (low high : Option ℤ) → is_bound low ≡ true → is_bound high ≡ true → is_crossed low high ≡ false → sides_fit low high ≡ true
@@ -223,11 +223,11 @@ box_sides (Some x) None l h e = l
 box_sides (Some x) (Some y) l h e = both_fit x y l h (le_from_uncrossed x y e)
 
 -- the given bounds of incoming states do not pass each other
-pub bounds-fit : (roles : List Role) (bounds : List Sides) (vs : List ℕ) → AllByRecursion AreBounds bounds → ((v : ℕ) → slice_get roles v ≡ Some Incoming → is_crossed (sides_of bounds v).low (sides_of bounds v).high ≡ false)
-    → AllByRecursion (λ v. slice_get roles v ≡ Some Incoming) vs → list_all (λ (b : Option ℤ × Option ℤ). sides_fit b.0 b.1) (zip (lows_of bounds vs) (highs_of bounds vs)) ≡ true
-unfolding lows_of highs_of
+pub bounds-fit : (roles : List Role) (bounds : List RowSides) (vs : List ℕ) → AllByRecursion AreBounds bounds → ((v : ℕ) → slice_get roles v ≡ Some Incoming → is_crossed (sides_of bounds v).low (sides_of bounds v).high ≡ false)
+    → AllByRecursion (λ v. slice_get roles v ≡ Some Incoming) vs → list_all (λ (b : Option ℤ × Option ℤ). sides_fit b.0 b.1) (zip (given_low_bounds bounds vs) (given_high_bounds bounds vs)) ≡ true
+unfolding given_low_bounds given_high_bounds
 bounds-fit roles bounds [] all ordered has = refl
 bounds-fit roles bounds (v ∷ vs) all ordered has =
     let sides = sides_of-bounds bounds v all in
-    and_from (sides_fit (sides_of bounds v).low (sides_of bounds v).high) (list_all (λ (b : Option ℤ × Option ℤ). sides_fit b.0 b.1) (zip (lows_of bounds vs) (highs_of bounds vs)))
+    and_from (sides_fit (sides_of bounds v).low (sides_of bounds v).high) (list_all (λ (b : Option ℤ × Option ℤ). sides_fit b.0 b.1) (zip (given_low_bounds bounds vs) (given_high_bounds bounds vs)))
     (box_sides (sides_of bounds v).low (sides_of bounds v).high sides.low sides.high (ordered v has.0)) (bounds-fit roles bounds vs all ordered has.1)

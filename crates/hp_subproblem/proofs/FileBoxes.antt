@@ -5,9 +5,9 @@ use Rattle.std.proofs.lemmas.Bool.{eqb-true}
 use Rattle.std.proofs.lemmas.List.{append-nil, append_assoc}
 use Rattle.std.proofs.lemmas.Option.{same_Some, slice_get_within}
 use Rattle.hp_num.specs.Sums.{entry}
-use Rattle.hp_problem.specs.declared.raw.Decision.{Decision}
-use Rattle.hp_problem.specs.declared.refusal.Part.TheVariants as parts
-use Rattle.hp_problem.specs.declared.refusal.Place.{Place}
+use Rattle.hp_parts.specs.declared.parts.Decision.{Decision}
+use Rattle.hp_parts.specs.declared.refusal.Part.TheVariants as part_kinds
+use Rattle.hp_parts.specs.declared.refusal.Place.{Place}
 use Rattle.hp_fields.specs.Fields.{place}
 use Rattle.hp_fields.specs.Steps.{walk_list}
 use Rattle.hp_fields.proofs.Accepted.{then-Ok, Ok-is}
@@ -17,11 +17,11 @@ use Rattle.hp_file.specs.File.{Name, Numbers}
 use Rattle.hp_subproblem.specs.declared.role.Role.{Role}
 use Rattle.hp_subproblem.specs.declared.role.Role.TheVariants.{Free, Incoming, Outgoing, Random}
 use Rattle.hp_subproblem.specs.declared.variables.Variables.{Variables}
-use Rattle.hp_subproblem.specs.declared.sides.Sides.{Sides}
+use Rattle.hp_subproblem.specs.declared.sides.RowSides.{RowSides}
 use Rattle.hp_subproblem.specs.Decisions.{is_decision, decisions_from}
-use Rattle.hp_subproblem.specs.Rows.{picked}
+use Rattle.hp_subproblem.specs.Rows.{picked_coefficients}
 use Rattle.hp_subproblem.specs.Sides.{ordered_at}
-use Rattle.hp_subproblem.specs.Boxes.{bound_at, decision_at, incoming_at, box_at, sides_of, variable_at, boxes_at, lows_of, highs_of}
+use Rattle.hp_subproblem.specs.Boxes.{bound_at, decision_at, incoming_at, box_at, sides_of, variable_box_at, boxes_at, given_low_bounds, given_high_bounds}
 use Rattle.hp_subproblem.specs.Said.{Between}
 use Rattle.hp_subproblem.proofs.FileSets.{Within}
 use Rattle.hp_subproblem.proofs.BoxesFit.{bound_at-Ok}
@@ -30,7 +30,7 @@ use Rattle.hp_subproblem.proofs.FileSplit.{Split}
 use Rattle.hp_subproblem.proofs.FileKept.{Bounded, Unbounded}
 
 -- the decision d is the variable v
-pub record IsBox (names : List Name) (bounds : List Sides) (costs : List ℤ) (v : ℕ) (d : Decision) : Type 0 where
+pub record IsBox (names : List Name) (bounds : List RowSides) (costs : List ℤ) (v : ℕ) (d : Decision) : Type 0 where
   pub known : v < length names
   pub named : d.name ≡ name_of names v
   pub low : (sides_of bounds v).low ≡ Some d.low
@@ -38,14 +38,14 @@ pub record IsBox (names : List Name) (bounds : List Sides) (costs : List ℤ) (v
   pub cost : d.cost ≡ entry costs v
 
 -- the decisions are these variables, one after another
-abbrev pub AreBoxes : List Name → List Sides → List ℤ → List ℕ → List Decision → Type 0
+abbrev pub AreBoxes : List Name → List RowSides → List ℤ → List ℕ → List Decision → Type 0
 AreBoxes names bounds costs [] [] = Unit {0}
 AreBoxes names bounds costs [] (d ∷ ds) = ⊥
 AreBoxes names bounds costs (v ∷ vs) [] = ⊥
 AreBoxes names bounds costs (v ∷ vs) (d ∷ ds) = IsBox names bounds costs v d × AreBoxes names bounds costs vs ds
 
 -- one decision more
-decision-box : (names : List Name) (bounds : List Sides) (costs : List ℤ) (at : Place) (found next : List Decision) (name : List ℕ) (v : ℕ) → v < length names → name ≡ name_of names v
+decision-box : (names : List Name) (bounds : List RowSides) (costs : List ℤ) (at : Place) (found next : List Decision) (name : List ℕ) (v : ℕ) → v < length names → name ≡ name_of names v
     → decision_at at found name (sides_of bounds v) (entry costs v) ≡ Ok next → (d : Decision) × (next ≡ found ++ d ∷ []) × IsBox names bounds costs v d
 unfolding decision_at
 decision-box names bounds costs at found next name v known named e =
@@ -58,10 +58,10 @@ decision-box names bounds costs at found next name v known named e =
     ))))
 
 -- the addition of one variable: a decision, or nothing
-Adds : List Name → List Sides → List ℤ → ℕ → Bool → List Decision → List Decision → Type 0
+Adds : List Name → List RowSides → List ℤ → ℕ → Bool → List Decision → List Decision → Type 0
 Adds names bounds costs v decides found next = (ds : List Decision) × (next ≡ found ++ ds) × AreBoxes names bounds costs (if decides then v ∷ [] else []) ds
 
-one-adds : (names : List Name) (bounds : List Sides) (costs : List ℤ) (at : Place) (found next : List Decision) (r : Role) (name : List ℕ) (v : ℕ) → v < length names → name ≡ name_of names v
+one-adds : (names : List Name) (bounds : List RowSides) (costs : List ℤ) (at : Place) (found next : List Decision) (r : Role) (name : List ℕ) (v : ℕ) → v < length names → name ≡ name_of names v
     → box_at at found (Some r) name (sides_of bounds v) (entry costs v) ≡ Ok next → Adds names bounds costs v (is_decision r) found next
 unfolding box_at incoming_at Adds
 one-adds names bounds costs at found next Free name v known named e = let one = decision-box names bounds costs at found next name v known named e in (one.0 ∷ [], one.1, (one.2, tt))
@@ -70,16 +70,16 @@ one-adds names bounds costs at found next Outgoing name v known named e = let on
 one-adds names bounds costs at found next Random name v known named e = ([], sym (Ok-is found next e) ∙ sym (append-nil found), tt)
 
 -- lists of them, one after the other
-joined : (names : List Name) (bounds : List Sides) (costs : List ℤ) (vs ws : List ℕ) (ds es : List Decision) → AreBoxes names bounds costs vs ds → AreBoxes names bounds costs ws es → AreBoxes names bounds costs (vs ++ ws) (ds ++ es)
+joined : (names : List Name) (bounds : List RowSides) (costs : List ℤ) (vs ws : List ℕ) (ds es : List Decision) → AreBoxes names bounds costs vs ds → AreBoxes names bounds costs ws es → AreBoxes names bounds costs (vs ++ ws) (ds ++ es)
 joined names bounds costs [] ws [] es a b = b
 joined names bounds costs [] ws (d ∷ ds) es a b = absurd a
 joined names bounds costs (v ∷ vs) ws [] es a b = absurd a
 joined names bounds costs (v ∷ vs) ws (d ∷ ds) es a b = (a.0, joined names bounds costs vs ws ds es a.1 b)
 
-variable-adds : (vars : Variables) (p : ℕ) (bounds : List Sides) (costs : List ℤ) (found next : List Decision) (r : Role) (name : List ℕ) (v : ℕ) → v < length vars.names → name ≡ name_of vars.names v → slice_get vars.uses.roles v ≡ Some r
-    → variable_at vars p bounds costs found v name ≡ Ok next → Adds vars.names bounds costs v (is_decision r) found next
-unfolding variable_at
-variable-adds vars p bounds costs found next r name v known named is e = one-adds vars.names bounds costs (place parts.Variable p v 0) found next r name v known named (subst (λ o. box_at (place parts.Variable p v 0) found o name (sides_of bounds v) (entry costs v) ≡ Ok next) is e)
+variable-adds : (vars : Variables) (p : ℕ) (bounds : List RowSides) (costs : List ℤ) (found next : List Decision) (r : Role) (name : List ℕ) (v : ℕ) → v < length vars.names → name ≡ name_of vars.names v → slice_get vars.uses.roles v ≡ Some r
+    → variable_box_at vars p bounds costs found v name ≡ Ok next → Adds vars.names bounds costs v (is_decision r) found next
+unfolding variable_box_at
+variable-adds vars p bounds costs found next r name v known named is e = one-adds vars.names bounds costs (place part_kinds.Variable p v 0) found next r name v known named (subst (λ o. box_at (place part_kinds.Variable p v 0) found o name (sides_of bounds v) (entry costs v) ≡ Ok next) is e)
 
 front : (b : Bool) (i : ℕ) (rs : List Role) → (if b then i ∷ [] else []) ++ decisions_from (suc i) rs ≡ (if b then i ∷ decisions_from (i + 1) rs else decisions_from (i + 1) rs)
 front true i rs = ap (λ n. i ∷ decisions_from n rs) (omega arith)
@@ -90,15 +90,15 @@ after : (found next all ds es : List Decision) → all ≡ next ++ es → next �
 after found next all ds es is first = is ∙ ap (λ (xs : List Decision). xs ++ es) first ∙ append_assoc found ds es
 
 -- the rest of the variables adds the decisions among them
-walk-adds : (vars : Variables) (p : ℕ) (bounds : List Sides) (costs : List ℤ) (rest : List Name) (roles : List Role) (i : ℕ) (found all : List Decision) → length roles ≡ length rest → i + length rest ≡ length vars.names
-    → ((j : ℕ) → slice_get vars.uses.roles (i + j) ≡ slice_get roles j) → ((j : ℕ) → name_of vars.names (i + j) ≡ name_of rest j)
-    → walk_list (variable_at vars p bounds costs) found i rest ≡ Ok all → (ds : List Decision) × (all ≡ found ++ ds) × AreBoxes vars.names bounds costs (decisions_from i roles) ds
+walk-adds : (vars : Variables) (p : ℕ) (bounds : List RowSides) (costs : List ℤ) (tail : List Name) (roles : List Role) (i : ℕ) (found all : List Decision) → length roles ≡ length tail → i + length tail ≡ length vars.names
+    → ((j : ℕ) → slice_get vars.uses.roles (i + j) ≡ slice_get roles j) → ((j : ℕ) → name_of vars.names (i + j) ≡ name_of tail j)
+    → walk_list (variable_box_at vars p bounds costs) found i tail ≡ Ok all → (ds : List Decision) × (all ≡ found ++ ds) × AreBoxes vars.names bounds costs (decisions_from i roles) ds
 unfolding walk_list name_of Adds
 walk-adds vars p bounds costs [] [] i found all long count roles_are names_are e = ([], sym (Ok-is found all e) ∙ sym (append-nil found), tt)
 walk-adds vars p bounds costs [] (r ∷ rs) i found all long count roles_are names_are e = absurd (omega arith)
 walk-adds vars p bounds costs (n ∷ ns) [] i found all long count roles_are names_are e = absurd (omega arith)
 walk-adds vars p bounds costs (n ∷ ns) (r ∷ rs) i found all long count roles_are names_are e =
-    let first = step-Ok (variable_at vars p bounds costs found i n) (λ next. walk_list (variable_at vars p bounds costs) next (suc i) ns) all e in
+    let first = step-Ok (variable_box_at vars p bounds costs found i n) (λ next. walk_list (variable_box_at vars p bounds costs) next (suc i) ns) all e in
     let zero_is : i + 0 ≡ i = omega arith in
     let here : slice_get vars.uses.roles i ≡ Some r = ap (slice_get vars.uses.roles) (sym zero_is) ∙ roles_are 0 in
     let named : n ≡ name_of vars.names i = sym (ap (name_of vars.names) (sym zero_is) ∙ names_are 0) in
@@ -112,7 +112,7 @@ walk-adds vars p bounds costs (n ∷ ns) (r ∷ rs) i found all long count roles
     )
 
 -- the decisions are the variables that are decisions
-pub boxes-are : (vars : Variables) (p : ℕ) (bounds : List Sides) (costs : List ℤ) (decisions : List Decision) → length vars.uses.roles ≡ length vars.names → boxes_at vars p bounds costs ≡ Ok decisions
+pub boxes-are : (vars : Variables) (p : ℕ) (bounds : List RowSides) (costs : List ℤ) (decisions : List Decision) → length vars.uses.roles ≡ length vars.names → boxes_at vars p bounds costs ≡ Ok decisions
     → AreBoxes vars.names bounds costs (decisions_from 0 vars.uses.roles) decisions
 unfolding boxes_at
 boxes-are vars p bounds costs decisions long e =
@@ -122,25 +122,25 @@ boxes-are vars p bounds costs decisions long e =
 
 -- ---- what they are called and cost
 
-pub boxes-named : (names : List Name) (bounds : List Sides) (costs : List ℤ) (vs : List ℕ) (ds : List Decision) → AreBoxes names bounds costs vs ds → map (λ (d : Decision). d.name) ds ≡ map (name_of names) vs
+pub boxes-named : (names : List Name) (bounds : List RowSides) (costs : List ℤ) (vs : List ℕ) (ds : List Decision) → AreBoxes names bounds costs vs ds → map (λ (d : Decision). d.name) ds ≡ map (name_of names) vs
 boxes-named names bounds costs [] [] b = refl
 boxes-named names bounds costs [] (d ∷ ds) b = absurd b
 boxes-named names bounds costs (v ∷ vs) [] b = absurd b
 boxes-named names bounds costs (v ∷ vs) (d ∷ ds) b = ap₂ (λ (n : Name) (ns : List Name). n ∷ ns) b.0.named (boxes-named names bounds costs vs ds b.1)
 
-pub boxes-cost : (names : List Name) (bounds : List Sides) (costs : List ℤ) (vs : List ℕ) (ds : List Decision) → AreBoxes names bounds costs vs ds → map (λ (d : Decision). d.cost) ds ≡ picked vs costs
-unfolding picked
+pub boxes-cost : (names : List Name) (bounds : List RowSides) (costs : List ℤ) (vs : List ℕ) (ds : List Decision) → AreBoxes names bounds costs vs ds → map (λ (d : Decision). d.cost) ds ≡ picked_coefficients vs costs
+unfolding picked_coefficients
 boxes-cost names bounds costs [] [] b = refl
 boxes-cost names bounds costs [] (d ∷ ds) b = absurd b
 boxes-cost names bounds costs (v ∷ vs) [] b = absurd b
 boxes-cost names bounds costs (v ∷ vs) (d ∷ ds) b = ap₂ (λ (c : ℤ) (cs : List ℤ). c ∷ cs) b.0.cost (boxes-cost names bounds costs vs ds b.1)
 
 -- the number of a decision, by its place
-box-number : (names : List Name) (bounds : List Sides) (costs : List ℤ) (y : Numbers) (v : ℕ) (d : Decision) → IsBox names bounds costs v d → y d.name ≡ entry (map y names) v
+box-number : (names : List Name) (bounds : List RowSides) (costs : List ℤ) (y : Numbers) (v : ℕ) (d : Decision) → IsBox names bounds costs v d → y d.name ≡ entry (map y names) v
 unfolding name_of
 box-number names bounds costs y v d b = ap y b.named ∙ sym (entry_map y names v b.known)
 
-pub boxes-own : (names : List Name) (bounds : List Sides) (costs : List ℤ) (y : Numbers) (vs : List ℕ) (ds : List Decision) → AreBoxes names bounds costs vs ds → map y (map (λ (d : Decision). d.name) ds) ≡ map (entry (map y names)) vs
+pub boxes-own : (names : List Name) (bounds : List RowSides) (costs : List ℤ) (y : Numbers) (vs : List ℕ) (ds : List Decision) → AreBoxes names bounds costs vs ds → map y (map (λ (d : Decision). d.name) ds) ≡ map (entry (map y names)) vs
 boxes-own names bounds costs y [] [] b = refl
 boxes-own names bounds costs y [] (d ∷ ds) b = absurd b
 boxes-own names bounds costs y (v ∷ vs) [] b = absurd b
@@ -149,34 +149,34 @@ boxes-own names bounds costs y (v ∷ vs) (d ∷ ds) b = ap₂ (λ (z : ℤ) (zs
 -- ---- their boxes
 
 -- the variable keeps its bounds
-abbrev pub Keeps : ℕ → List ℤ → List Sides → ℕ → Type 0
+abbrev pub Keeps : ℕ → List ℤ → List RowSides → ℕ → Type 0
 Keeps units ys bounds v = Within units (sides_of bounds v) (entry ys v)
 
-box-is : (names : List Name) (bounds : List Sides) (costs : List ℤ) (units : ℕ) (y : Numbers) (v : ℕ) (d : Decision) → IsBox names bounds costs v d
+box-is : (names : List Name) (bounds : List RowSides) (costs : List ℤ) (units : ℕ) (y : Numbers) (v : ℕ) (d : Decision) → IsBox names bounds costs v d
     → Between units (Some d.low) (Some d.high) (y d.name) ≡ Keeps units (map y names) bounds v
 box-is names bounds costs units y v d b = rw (b.low, b.high, box-number names bounds costs y v d b) refl
 
-pub boxes-kept : (names : List Name) (bounds : List Sides) (costs : List ℤ) (units : ℕ) (y : Numbers) (vs : List ℕ) (ds : List Decision) → AreBoxes names bounds costs vs ds
+pub boxes-kept : (names : List Name) (bounds : List RowSides) (costs : List ℤ) (units : ℕ) (y : Numbers) (vs : List ℕ) (ds : List Decision) → AreBoxes names bounds costs vs ds
     → AllByRecursion (λ (d : Decision). Between units (Some d.low) (Some d.high) (y d.name)) ds ↔ AllByRecursion (Keeps units (map y names) bounds) vs
 boxes-kept names bounds costs units y [] [] b = (λ h. tt, λ h. tt)
 boxes-kept names bounds costs units y [] (d ∷ ds) b = absurd b
 boxes-kept names bounds costs units y (v ∷ vs) [] b = absurd b
 boxes-kept names bounds costs units y (v ∷ vs) (d ∷ ds) b =
     let is = box-is names bounds costs units y v d b.0 in
-    let rest = boxes-kept names bounds costs units y vs ds b.1 in (λ h. (subst (λ (T : Type 0). T) is h.0, rest.0 h.1), λ h. (subst (λ (T : Type 0). T) (sym is) h.0, rest.1 h.1))
+    let tail = boxes-kept names bounds costs units y vs ds b.1 in (λ h. (subst (λ (T : Type 0). T) is h.0, tail.0 h.1), λ h. (subst (λ (T : Type 0). T) (sym is) h.0, tail.1 h.1))
 
 -- ---- the given bounds
 
-pub given-kept : (units : ℕ) (ys : List ℤ) (bounds : List Sides) (vs : List ℕ)
-    → ((k : ℕ) → k < length vs → Between units (get_or (lows_of bounds vs) k None) (get_or (highs_of bounds vs) k None) (entry (map (entry ys) vs) k)) ↔ AllByRecursion (Keeps units ys bounds) vs
-unfolding lows_of highs_of
+pub given-kept : (units : ℕ) (ys : List ℤ) (bounds : List RowSides) (vs : List ℕ)
+    → ((k : ℕ) → k < length vs → Between units (get_or (given_low_bounds bounds vs) k None) (get_or (given_high_bounds bounds vs) k None) (entry (map (entry ys) vs) k)) ↔ AllByRecursion (Keeps units ys bounds) vs
+unfolding given_low_bounds given_high_bounds
 given-kept units ys bounds [] = (λ h. tt, λ h k lt. absurd (omega arith))
-given-kept units ys bounds (v ∷ vs) = let rest = given-kept units ys bounds vs in (λ h. (h 0 (omega arith), rest.0 (λ k lt. h (suc k) (omega arith))), λ h k. each h.0 (rest.1 h.1) k)
+given-kept units ys bounds (v ∷ vs) = let tail = given-kept units ys bounds vs in (λ h. (h 0 (omega arith), tail.0 (λ k lt. h (suc k) (omega arith))), λ h k. each h.0 (tail.1 h.1) k)
   where
-    each : Keeps units ys bounds v → ((k : ℕ) → k < length vs → Between units (get_or (lows_of bounds vs) k None) (get_or (highs_of bounds vs) k None) (entry (map (entry ys) vs) k))
-        → (k : ℕ) → k < length (v ∷ vs) → Between units (get_or (lows_of bounds (v ∷ vs)) k None) (get_or (highs_of bounds (v ∷ vs)) k None) (entry (map (entry ys) (v ∷ vs)) k)
-    each here rest zero lt = here
-    each here rest (suc k) lt = rest k (omega arith)
+    each : Keeps units ys bounds v → ((k : ℕ) → k < length vs → Between units (get_or (given_low_bounds bounds vs) k None) (get_or (given_high_bounds bounds vs) k None) (entry (map (entry ys) vs) k))
+        → (k : ℕ) → k < length (v ∷ vs) → Between units (get_or (given_low_bounds bounds (v ∷ vs)) k None) (get_or (given_high_bounds bounds (v ∷ vs)) k None) (entry (map (entry ys) (v ∷ vs)) k)
+    each here tail zero lt = here
+    each here tail (suc k) lt = tail k (omega arith)
 
 -- ---- all variables
 
@@ -186,8 +186,8 @@ decisions-each P [] i n count all = tt
 decisions-each P (r ∷ rs) i n count all = by (is_decision r) (decisions-each P rs (i + 1) n (omega arith) all)
   where
     by : (b : Bool) → AllByRecursion P (decisions_from (i + 1) rs) → AllByRecursion P (if b then i ∷ decisions_from (i + 1) rs else decisions_from (i + 1) rs)
-    by true rest = (all i (omega arith), rest)
-    by false rest = rest
+    by true tail = (all i (omega arith), tail)
+    by false tail = tail
 
 -- a property of the decisions holds of each variable that is one
 decided : (P : ℕ → Type 0) (roles : List Role) (i v n : ℕ) (r : Role) → i + v ≡ n → slice_get roles v ≡ Some r → is_decision r ≡ true → AllByRecursion P (decisions_from i roles) → P n
@@ -212,8 +212,8 @@ listed P [] v any all = cc
 listed P (w ∷ ws) v any all = by (w == v) refl any (λ more. listed P ws v more all.1)
   where
     by : (b : Bool) → (w == v) ≡ b → (b || list_any (λ w. w == v) ws) ≡ true → (list_any (λ w. w == v) ws ≡ true → P v) → P v
-    by true is h rest = subst P (eqb-true w v is) all.0
-    by false is h rest = rest h
+    by true is h tail = subst P (eqb-true w v is) all.0
+    by false is h tail = tail h
 
 -- a property of all variables holds of the incoming states
 incoming-each : (P : ℕ → Type 0) (roles : List Role) (n : ℕ) (vs : List ℕ) → length roles ≡ n → AllByRecursion (λ v. slice_get roles v ≡ Some Incoming) vs → ((v : ℕ) → v < n → P v) → AllByRecursion P vs
@@ -226,7 +226,7 @@ get-some (x ∷ xs) zero lt = (x, refl)
 get-some (x ∷ xs) (suc v) lt = get-some xs v (omega arith)
 
 -- all bounds are kept where those of the decisions and those of the incoming states are
-pub bounded-parts : (vars : Variables) (units : ℕ) (ys : List ℤ) (bounds : List Sides) → Split vars → length ys ≡ length vars.names → Unbounded vars bounds
+pub bounded-parts : (vars : Variables) (units : ℕ) (ys : List ℤ) (bounds : List RowSides) → Split vars → length ys ≡ length vars.names → Unbounded vars bounds
     → Bounded units ys bounds ↔ (AllByRecursion (Keeps units ys bounds) (decisions_from 0 vars.uses.roles) × AllByRecursion (Keeps units ys bounds) vars.uses.incoming)
 bounded-parts vars units ys bounds split long free = (
   λ h. (decisions-each (Keeps units ys bounds) vars.uses.roles 0 (length ys) (omega (arith, split.long, long)) h, incoming-each (Keeps units ys bounds) vars.uses.roles (length ys) vars.uses.incoming (split.long ∙ sym long) split.incoming_is h),

@@ -2,7 +2,7 @@
 use Rattle.std.proofs.Common.{◌≡◌, ℕ, suc, List, [], ◌∷◌, ◌++◌, Option, Some, Result, Ok, refl, sym, ap₂, subst}
 use Rattle.std.proofs.lemmas.List.{append-nil, append_assoc}
 use Rattle.serde_json.specs.Data.{Data, Items, no_items, item, Members, no_members, member}
-use Rattle.hp_problem.specs.declared.refusal.Refusal.{Refusal}
+use Rattle.hp_parts.specs.declared.refusal.Refusal.{Refusal}
 use Rattle.hp_fields.specs.Steps.{walk_items, walk_members}
 use Rattle.hp_fields.proofs.Accepted.{Ok-is}
 use Rattle.hp_fields.proofs.Answered.{step-Ok}
@@ -18,8 +18,8 @@ module _ {A B : Type 0} (P : A → List B → Type 0) where
   walk_items-says step says keep (item d ds) found all i done is p =
       let first = step-Ok _ _ all is in
       let one = keep found first.0 i d done first.1 p in
-      let rest = walk_items-says step says keep ds first.0 all (suc i) (done ++ one.0 ∷ []) first.2 one.2 in
-      (one.0 ∷ rest.0, ap₂ (both ◌∷◌) one.1 rest.1, subst (P all) (append_assoc done (one.0 ∷ []) rest.0) rest.2)
+      let tail = walk_items-says step says keep ds first.0 all (suc i) (done ++ one.0 ∷ []) first.2 one.2 in
+      (one.0 ∷ tail.0, ap₂ (both ◌∷◌) one.1 tail.1, subst (P all) (append_assoc done (one.0 ∷ []) tail.0) tail.2)
 
 module _ {A B : Type 0} (P : A → List B → Type 0) where
   -- like walk_items-says, for members with their keys
@@ -31,5 +31,5 @@ module _ {A B : Type 0} (P : A → List B → Type 0) where
   walk_members-says step says keep (member k d ms) found all i done is p =
       let first = step-Ok _ _ all is in
       let one = keep found first.0 i k d done first.1 p in
-      let rest = walk_members-says step says keep ms first.0 all (suc i) (done ++ one.0 ∷ []) first.2 one.2 in
-      (one.0 ∷ rest.0, ap₂ (both ◌∷◌) one.1 rest.1, subst (P all) (append_assoc done (one.0 ∷ []) rest.0) rest.2)
+      let tail = walk_members-says step says keep ms first.0 all (suc i) (done ++ one.0 ∷ []) first.2 one.2 in
+      (one.0 ∷ tail.0, ap₂ (both ◌∷◌) one.1 tail.1, subst (P all) (append_assoc done (one.0 ∷ []) tail.0) tail.2)

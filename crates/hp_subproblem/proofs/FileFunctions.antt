@@ -4,7 +4,7 @@ use Rattle.std.proofs.lemmas.List.{append-nil, append_assoc, length-set, length-
 use Rattle.serde_json.specs.Data.{Data}
 use Rattle.hp_num.specs.Sums.{total, dot, entry}
 use Rattle.hp_num.proofs.Ring.{ring, var, num, ◌⊕◌, ◌⊗◌}
-use Rattle.hp_problem.specs.declared.refusal.Place.{Place}
+use Rattle.hp_parts.specs.declared.refusal.Place.{Place}
 use Rattle.hp_fields.specs.Steps.{walk_list}
 use Rattle.hp_fields.specs.Fields.{present_at, string_at, array_at}
 use Rattle.hp_fields.specs.Limits.{known_at, limited_at}

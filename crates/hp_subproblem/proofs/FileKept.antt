@@ -5,14 +5,14 @@ use Rattle.std.proofs.lemmas.List.{length-set, length-map}
 use Rattle.std.proofs.lemmas.Bool.{true≢false, eqb-true, eqb-false}
 use Rattle.std.proofs.lemmas.Option.{same_Some}
 use Rattle.hp_num.specs.Sums.{dot, entry}
-use Rattle.hp_problem.specs.declared.raw.Row.{Row}
-use Rattle.hp_problem.specs.declared.refusal.Place.{Place}
+use Rattle.hp_parts.specs.declared.parts.Row.{Row}
+use Rattle.hp_parts.specs.declared.refusal.Place.{Place}
 use Rattle.hp_fields.proofs.Accepted.{then-Ok, Ok-is}
 use Rattle.hp_subproblem.specs.declared.role.Role.{Role}
 use Rattle.hp_subproblem.specs.declared.role.Role.TheVariants.{Random}
 use Rattle.hp_subproblem.specs.declared.variables.Variables.{Variables}
 use Rattle.hp_subproblem.specs.declared.function.Function as functions
-use Rattle.hp_subproblem.specs.declared.sides.Sides.{Sides}
+use Rattle.hp_subproblem.specs.declared.sides.RowSides.{RowSides}
 use Rattle.hp_subproblem.specs.declared.constraint.Constraints.{Constraints}
 use Rattle.hp_subproblem.specs.Roles.{is_random}
 use Rattle.hp_subproblem.specs.Sides.{no_sides, intersection, shifted_at}
@@ -28,45 +28,45 @@ use Rattle.hp_subproblem.proofs.FileSets.{Within, meet-is, shift-is}
 
 -- ---- the sides of v after it was narrowed, and of others
 
-later : (o : Option Sides) (b : Sides) (bs : List Sides) (v : ℕ) (s : Sides) → sides_of (narrowed_by o (b ∷ bs) (suc v) s) (suc v) ≡ sides_of (narrowed_by o bs v s) v
+later : (o : Option RowSides) (b : RowSides) (bs : List RowSides) (v : ℕ) (s : RowSides) → sides_of (narrowed_by o (b ∷ bs) (suc v) s) (suc v) ≡ sides_of (narrowed_by o bs v s) v
 later None b bs v s = refl
 later (Some t) b bs v s = refl
 
-narrowed-here : (bounds : List Sides) (v : ℕ) (s : Sides) → v < length bounds → sides_of (narrowed bounds v s) v ≡ intersection (sides_of bounds v) s
+narrowed-here : (bounds : List RowSides) (v : ℕ) (s : RowSides) → v < length bounds → sides_of (narrowed bounds v s) v ≡ intersection (sides_of bounds v) s
 unfolding narrowed
 narrowed-here [] v s lt = absurd (omega arith)
 narrowed-here (b ∷ bs) zero s lt = refl
 narrowed-here (b ∷ bs) (suc v) s lt = later (slice_get bs v) b bs v s ∙ narrowed-here bs v s (omega arith)
 
-narrowed-other : (bounds : List Sides) (v w : ℕ) (s : Sides) → (w ≡ v → ⊥) → sides_of (narrowed bounds v s) w ≡ sides_of bounds w
+narrowed-other : (bounds : List RowSides) (v w : ℕ) (s : RowSides) → (w ≡ v → ⊥) → sides_of (narrowed bounds v s) w ≡ sides_of bounds w
 unfolding narrowed
 narrowed-other bounds v w s other = by (slice_get bounds v)
   where
-    kept : (bs : List Sides) (v w : ℕ) (t : Sides) → (w ≡ v → ⊥) → slice_get (slice_set bs v t) w ≡ slice_get bs w
+    kept : (bs : List RowSides) (v w : ℕ) (t : RowSides) → (w ≡ v → ⊥) → slice_get (slice_set bs v t) w ≡ slice_get bs w
     kept [] v w t o = refl
     kept (b ∷ bs) zero zero t o = absurd (o refl)
     kept (b ∷ bs) zero (suc w) t o = refl
     kept (b ∷ bs) (suc v) zero t o = refl
     kept (b ∷ bs) (suc v) (suc w) t o = kept bs v w t (λ e. o (ap suc e))
 
-    by : (o : Option Sides) → sides_of (narrowed_by o bounds v s) w ≡ sides_of bounds w
+    by : (o : Option RowSides) → sides_of (narrowed_by o bounds v s) w ≡ sides_of bounds w
     by None = refl
     by (Some b) = ap (λ o. unwrap_or o no_sides) (kept bounds v w (intersection b s) other)
 
-narrowed-long : (bounds : List Sides) (v : ℕ) (s : Sides) → length (narrowed bounds v s) ≡ length bounds
+narrowed-long : (bounds : List RowSides) (v : ℕ) (s : RowSides) → length (narrowed bounds v s) ≡ length bounds
 unfolding narrowed
 narrowed-long bounds v s = by (slice_get bounds v)
   where
-    by : (o : Option Sides) → length (narrowed_by o bounds v s) ≡ length bounds
+    by : (o : Option RowSides) → length (narrowed_by o bounds v s) ≡ length bounds
     by None = refl
     by (Some b) = length-set bounds v (intersection b s)
 
 -- all bounds are kept
-abbrev pub Bounded : ℕ → List ℤ → List Sides → Type 0
+abbrev pub Bounded : ℕ → List ℤ → List RowSides → Type 0
 Bounded units ys bounds = (v : ℕ) → v < length ys → Within units (sides_of bounds v) (entry ys v)
 
 -- they are kept after v was narrowed where they were kept before and v lies between the sides
-bounded-more : (units : ℕ) (ys : List ℤ) (bounds : List Sides) (v : ℕ) (s : Sides) → v < length ys → length bounds ≡ length ys
+bounded-more : (units : ℕ) (ys : List ℤ) (bounds : List RowSides) (v : ℕ) (s : RowSides) → v < length ys → length bounds ≡ length ys
     → Bounded units ys (narrowed bounds v s) ↔ (Bounded units ys bounds × Within units s (entry ys v))
 bounded-more units ys bounds v s lt long = (to, from)
   where
@@ -90,14 +90,14 @@ bounded-more units ys bounds v s lt long = (to, from)
         each false is = subst (λ t. Within units t (entry ys w)) (sym (narrowed-other bounds v w s (eqb-false w v is))) (h.0 w l)
 
 -- random variables have no sides: their bounds are rows
-abbrev pub Unbounded : Variables → List Sides → Type 0
+abbrev pub Unbounded : Variables → List RowSides → Type 0
 Unbounded vars bounds = (v : ℕ) → slice_get vars.uses.roles v ≡ Some Random → sides_of bounds v ≡ no_sides
 
 -- ---- one constraint more
 
 each-more : {A : Type 0} (P : A → Type 0) (xs : List A) (x : A) → AllByRecursion P (xs ++ x ∷ []) ↔ (AllByRecursion P xs × P x)
 each-more P [] x = (λ h. (tt, h.0), λ h. (h.1, tt))
-each-more P (z ∷ zs) x = let rest = each-more P zs x in (λ h. ((h.0, (rest.0 h.1).0), (rest.0 h.1).1), λ h. (h.0.0, rest.1 (h.0.1, h.1)))
+each-more P (z ∷ zs) x = let tail = each-more P zs x in (λ h. ((h.0, (tail.0 h.1).0), (tail.0 h.1).1), λ h. (h.0.0, tail.1 (h.0.1, h.1)))
 
 -- the bounded variable is the one variable of the function, and not random
 bounded-is : (roles : List Role) (o : Option ℕ) (v : ℕ) → bounded roles o ≡ Some v → (o ≡ Some v) × (slice_get roles v ≡ Some Random → ⊥)
@@ -120,7 +120,7 @@ pub record Kept (vars : Variables) (found : Constraints) (cs : List Constraint) 
   pub same : (units : ℕ) (y : Numbers) → AllByRecursion (λ (c : Constraint). c units y ≡ true) cs ↔ (Bounded units (map y vars.names) found.bounds × AllByRecursion (Holds vars units (map y vars.names)) found.rows)
 
 -- one constraint more: a function f that the file says to be F, and sides that hold what lies in its set
-pub joined-kept : (vars : Variables) → Split vars → (at : Place) (found next : Constraints) (f : functions.Function) (sides : Sides) (F : Function) (s : ℕ → ℤ → Bool) (cs : List Constraint)
+pub joined-kept : (vars : Variables) → Split vars → (at : Place) (found next : Constraints) (f : functions.Function) (sides : RowSides) (F : Function) (s : ℕ → ℤ → Bool) (cs : List Constraint)
     → FunctionSaid vars.names f F → ((units : ℕ) (z : ℤ) → (s units z ≡ true) ↔ Within units sides z)
     → joined_at vars at found f sides (bounded vars.uses.roles f.single) ≡ Ok next → Kept vars found cs → Kept vars next (cs ++ (λ units y. s units (F units y)) ∷ [])
 unfolding joined_at row_of

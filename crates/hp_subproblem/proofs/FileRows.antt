@@ -10,10 +10,10 @@ use Rattle.std.proofs.lemmas.List.Edits.{swap_is}
 use Rattle.std.proofs.lemmas.List.Sorted.{IsPermutation-keeps}
 use Rattle.hp_num.specs.Sums.{total, dot, entry, at_terms}
 use Rattle.hp_num.proofs.Ring.{ring, var, num, ◌⊕◌, ◌⊗◌}
-use Rattle.hp_problem.specs.declared.raw.Row.{Row}
-use Rattle.hp_subproblem.specs.declared.sides.Sides.{Sides}
+use Rattle.hp_parts.specs.declared.parts.Row.{Row}
+use Rattle.hp_subproblem.specs.declared.sides.RowSides.{RowSides}
 use Rattle.hp_subproblem.specs.declared.variables.Variables.{Variables}
-use Rattle.hp_subproblem.specs.Rows.{picked, terms_from, row_of}
+use Rattle.hp_subproblem.specs.Rows.{picked_coefficients, terms_from, row_of}
 use Rattle.hp_subproblem.proofs.FileSplit.{places, Split}
 
 -- ---- sums over lists
@@ -26,7 +26,7 @@ total-append f (x ∷ xs) ys = ap (λ k. f x +ℤ k) (total-append f xs ys) ∙ 
 total-set : {A : Type 0} (f : A → ℤ) (xs : List A) (i : ℕ) (y d : A) → i < length xs → total f (set xs i y) +ℤ f (get_or xs i d) ≡ total f xs +ℤ f y
 total-set f [] i y d lt = absurd (omega arith)
 total-set f (x ∷ xs) zero y d lt = ring (f x ∷ f y ∷ total f xs ∷ []) (var 1 ⊕ var 2 ⊕ var 0) (var 0 ⊕ var 2 ⊕ var 1) tt
-total-set f (x ∷ xs) (suc i) y d lt = let rest = total-set f xs i y d (omega arith) in omega (arith, ints, rest)
+total-set f (x ∷ xs) (suc i) y d lt = let tail = total-set f xs i y d (omega arith) in omega (arith, ints, tail)
 
 total-permutation : (f : ℕ → ℤ) (xs ys : List ℕ) → IsPermutation xs ys → total f ys ≡ total f xs
 total-permutation f xs ys all = IsPermutation-keeps xs (λ l. total f l ≡ total f xs) refl (λ l i j p q h.
@@ -48,12 +48,12 @@ dot-places [] [] k f at = refl
 dot-places (x ∷ xs) [] k f at = refl
 dot-places [] (y ∷ ys) k f at =
     let here : f k ≡ pos 0 *ℤ y = (let none : k ≡ k + 0 = omega arith in ap f none ∙ at 0) in
-    let rest = dot-places [] ys (k + 1) f (λ j. let more : k + 1 + j ≡ k + suc j = omega arith in ap f more ∙ at (suc j)) in
-    ring (y ∷ []) (num (pos 0)) (num (pos 0) ⊗ var 0 ⊕ num (pos 0)) tt ∙ ap₂ ◌+ℤ◌ (sym here) rest
+    let tail = dot-places [] ys (k + 1) f (λ j. let more : k + 1 + j ≡ k + suc j = omega arith in ap f more ∙ at (suc j)) in
+    ring (y ∷ []) (num (pos 0)) (num (pos 0) ⊗ var 0 ⊕ num (pos 0)) tt ∙ ap₂ ◌+ℤ◌ (sym here) tail
 dot-places (x ∷ xs) (y ∷ ys) k f at =
     let here : f k ≡ x *ℤ y = (let none : k ≡ k + 0 = omega arith in ap f none ∙ at 0) in
-    let rest = dot-places xs ys (k + 1) f (λ j. let more : k + 1 + j ≡ k + suc j = omega arith in ap f more ∙ at (suc j)) in
-    ap₂ ◌+ℤ◌ (sym here) rest
+    let tail = dot-places xs ys (k + 1) f (λ j. let more : k + 1 + j ≡ k + suc j = omega arith in ap f more ∙ at (suc j)) in
+    ap₂ ◌+ℤ◌ (sym here) tail
 
 -- ---- the terms of a row
 
@@ -63,8 +63,8 @@ terms-value xs ys [] k x at = refl
 terms-value xs ys (v ∷ vs) k x at =
     by (int_eq (entry xs v) (pos 0)) refl (terms-value xs ys vs (k + 1) x (λ j. let more : k + 1 + j ≡ k + suc j = omega arith in ap x more ∙ at (suc j)))
   where
-    rest : List (ℕ × ℤ)
-    rest = terms_from (k + 1) (map (entry xs) vs)
+    tail : List (ℕ × ℤ)
+    tail = terms_from (k + 1) (map (entry xs) vs)
 
     here : x k ≡ entry ys v
     here = let none : k ≡ k + 0 = omega arith in ap x none ∙ at 0
@@ -72,7 +72,7 @@ terms-value xs ys (v ∷ vs) k x at =
     sum : ℤ
     sum = total (λ v. entry xs v *ℤ entry ys v) vs
 
-    by : (b : Bool) → int_eq (entry xs v) (pos 0) ≡ b → at_terms rest x ≡ sum → at_terms (if b then rest else (k, entry xs v) ∷ rest) x ≡ entry xs v *ℤ entry ys v +ℤ sum
+    by : (b : Bool) → int_eq (entry xs v) (pos 0) ≡ b → at_terms tail x ≡ sum → at_terms (if b then tail else (k, entry xs v) ∷ tail) x ≡ entry xs v *ℤ entry ys v +ℤ sum
     by true e is =
         let none : entry xs v ≡ pos 0 = (Decides-int_eq (entry xs v) (pos 0)).0 e in
         is ∙ ring (entry ys v ∷ sum ∷ []) (var 1) (num (pos 0) ⊗ var 0 ⊕ var 1) tt ∙ ap (λ c. c *ℤ entry ys v +ℤ sum) (sym none)
@@ -98,8 +98,8 @@ three-is vars split xs ys long =
     ∙ sym (dot-places xs ys 0 f (λ j. let none : 0 + j ≡ j = omega arith in ap f none)) in
     ring (total f ds ∷ total f vs ∷ total f ws ∷ []) (var 0 ⊕ var 1 ⊕ var 2) (var 0 ⊕ (var 1 ⊕ var 2)) tt ∙ sym (total-append f ds (vs ++ ws) ∙ ap (λ k. total f ds +ℤ k) (total-append f vs ws)) ∙ whole
 
-pub row-is : (vars : Variables) → Split vars → (ys xs : List ℤ) (sides : Sides) → length ys ≡ length vars.names → row_sum vars ys (row_of vars xs sides) ≡ dot xs ys
-unfolding row_of picked
+pub row-is : (vars : Variables) → Split vars → (ys xs : List ℤ) (sides : RowSides) → length ys ≡ length vars.names → row_sum vars ys (row_of vars xs sides) ≡ dot xs ys
+unfolding row_of picked_coefficients
 row-is vars split ys xs sides long =
     let at = λ (vs : List ℕ). terms-value xs ys vs 0 (entry (map (entry ys) vs)) (λ j. let none : 0 + j ≡ j = omega arith in ap (entry (map (entry ys) vs)) none) in
     ap₂ ◌+ℤ◌ (ap₂ ◌+ℤ◌ (at vars.decisions) (at vars.uses.incoming)) (at vars.uses.randoms) ∙ three-is vars split xs ys long

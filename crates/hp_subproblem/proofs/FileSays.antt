@@ -2,13 +2,13 @@
 use Rattle.std.proofs.Common.{◌≡◌, ℕ, ◌^◌, ℤ, pos, List, Bool, true, false, Option, Some, None, Result, Ok, nat_le, unsigned_abs, if◌then◌else◌, ap}
 use Rattle.serde_json.specs.Data.{unsigned, negative, float, Data, null, boolean, number, string, array, object, Items, no_items, Members, no_members}
 use Rattle.serde_json.specs.Find.{as_str, as_array, as_object}
-use Rattle.hp_problem.specs.declared.refusal.Refusal.{Refusal}
-use Rattle.hp_problem.specs.declared.refusal.RefusalKind.TheVariants as kinds
-use Rattle.hp_problem.specs.declared.refusal.Place.{Place}
+use Rattle.hp_parts.specs.declared.refusal.Refusal.{Refusal}
+use Rattle.hp_parts.specs.declared.refusal.RefusalKind.TheVariants as kinds
+use Rattle.hp_parts.specs.declared.refusal.Place.{Place}
 use Rattle.hp_fields.specs.Fields.{present_at, whole_at, string_at, array_at, object_at}
 use Rattle.hp_fields.specs.Limits.{members_at, items_at}
 use Rattle.hp_fields.proofs.Accepted.{Ok-is, test-Ok}
-use Rattle.hp_file.specs.File.{whole, or_absent}
+use Rattle.hp_file.specs.File.{whole_number, or_absent}
 use Rattle.hp_subproblem.specs.Function.{constant_at}
 
 pub present-says : {A : Type 0} (p : Place) (o : Option A) (x : A) → present_at p o ≡ Ok x → o ≡ Some x
@@ -16,16 +16,16 @@ unfolding present_at
 present-says p None x e = cc
 present-says p (Some y) x e = ap Some (Ok-is y x e)
 
-pub whole-says : (p : Place) (d : Data) (z : ℤ) → whole_at p d ≡ Ok z → whole d ≡ Some z
+pub whole_number-says : (p : Place) (d : Data) (z : ℤ) → whole_at p d ≡ Ok z → whole_number d ≡ Some z
 unfolding whole_at
-whole-says p null z e = cc
-whole-says p (boolean b) z e = cc
-whole-says p (number (unsigned n)) z e = ap Some (Ok-is (pos n) z (test-Ok (nat_le n (2 ^ 40)) (Ok (pos n)) kinds.TooLarge p z e).1)
-whole-says p (number (negative x)) z e = ap Some (Ok-is x z (test-Ok (nat_le (unsigned_abs x) (2 ^ 40)) (Ok x) kinds.TooLarge p z e).1)
-whole-says p (number (float x)) z e = cc
-whole-says p (string s) z e = cc
-whole-says p (array ds) z e = cc
-whole-says p (object ms) z e = cc
+whole_number-says p null z e = cc
+whole_number-says p (boolean b) z e = cc
+whole_number-says p (number (unsigned n)) z e = ap Some (Ok-is (pos n) z (test-Ok (nat_le n (2 ^ 40)) (Ok (pos n)) kinds.TooLarge p z e).1)
+whole_number-says p (number (negative x)) z e = ap Some (Ok-is x z (test-Ok (nat_le (unsigned_abs x) (2 ^ 40)) (Ok x) kinds.TooLarge p z e).1)
+whole_number-says p (number (float x)) z e = cc
+whole_number-says p (string s) z e = cc
+whole_number-says p (array ds) z e = cc
+whole_number-says p (object ms) z e = cc
 
 pub string-says : (p : Place) (d : Data) (s : List ℕ) → string_at p d ≡ Ok s → as_str d ≡ Some s
 unfolding string_at
@@ -65,10 +65,10 @@ unfolding items_at
 items-say p None ds e = ap Some (Ok-is no_items ds e)
 items-say p (Some d) ds e = array-says p d ds e
 
-pub constant-says : (p : Place) (o : Option Data) (z : ℤ) → constant_at p o ≡ Ok z → or_absent (pos 0) whole o ≡ Some z
+pub constant-says : (p : Place) (o : Option Data) (z : ℤ) → constant_at p o ≡ Ok z → or_absent (pos 0) whole_number o ≡ Some z
 unfolding constant_at
 constant-says p None z e = ap Some (Ok-is (pos 0) z e)
-constant-says p (Some d) z e = whole-says p d z e
+constant-says p (Some d) z e = whole_number-says p d z e
 
 -- a statement after a test, where both ways state it
 pub chosen : {A B : Type 0} (G : Option A → Type 0) (b : Bool) (r s : Result B Refusal) (y : B) (o p : Option A) → (if b then r else s) ≡ Ok y → (r ≡ Ok y → G o) → (s ≡ Ok y → G p) → G (if b then o else p)

@@ -12,8 +12,8 @@ use Rattle.std.proofs.lemmas.Slice.Eq.{bytes_eq-Decides}
 use Rattle.serde_json.specs.Data.{Data, Items, Members, no_members, member}
 use Rattle.serde_json.specs.Find.{as_str}
 use Rattle.hp_num.proofs.Tests.{and_first, and_second}
-use Rattle.hp_problem.specs.declared.raw.State as raw
-use Rattle.hp_problem.specs.declared.refusal.Place.{Place}
+use Rattle.hp_parts.specs.declared.parts.State as parts
+use Rattle.hp_parts.specs.declared.refusal.Place.{Place}
 use Rattle.hp_fields.specs.Fields.{present_at, string_at, keys_of}
 use Rattle.hp_fields.specs.Limits.{known_at}
 use Rattle.hp_fields.proofs.Accepted.{then-Ok, Ok-is, test-Ok, known_at-Ok}
@@ -25,7 +25,7 @@ use Rattle.hp_subproblem.specs.declared.role.Uses.{Uses}
 use Rattle.hp_subproblem.specs.declared.variables.Variables.{Variables}
 use Rattle.hp_subproblem.specs.Variables.{names_at}
 use Rattle.hp_subproblem.specs.Roles.{is_free, taken_at, unused}
-use Rattle.hp_subproblem.specs.States.{are_keys, state_at, each_state_at, states_at}
+use Rattle.hp_subproblem.specs.States.{are_keys, uses_of_state_at, each_state_at, uses_of_states_at}
 use Rattle.hp_subproblem.specs.Randoms.{random_at, each_random_at, randoms_at}
 use Rattle.hp_subproblem.specs.Decisions.{is_decision, decisions_from, decisions_at}
 use Rattle.hp_subproblem.specs.StageParts.{StageParts}
@@ -70,7 +70,7 @@ remains (r ∷ rs) k (suc v) e = ap (λ vs. if is_decision r then k ∷ vs else 
 
 taken_at-is : (at : Place) (old new : List Role) (v : ℕ) (role : Role) → taken_at at old v role ≡ Ok new → (slice_get old v ≡ Some Free) × (slice_set old v role ≡ new)
 unfolding taken_at
-taken_at-is at old new v role e = let parts = test-Ok (is_free (slice_get old v)) _ _ at new e in (free_is (slice_get old v) parts.0, Ok-is _ new parts.1)
+taken_at-is at old new v role e = let pieces = test-Ok (is_free (slice_get old v)) _ _ at new e in (free_is (slice_get old v) pieces.0, Ok-is _ new pieces.1)
 
 left : (old new : List Role) (v : ℕ) (role : Role) → is_decision role ≡ false → slice_get old v ≡ Some Free → slice_set old v role ≡ new → IsPermutation (decisions_from 0 old) (v ∷ decisions_from 0 new)
 left old new v role drops free is =
@@ -104,9 +104,9 @@ record Said (names : List Name) (u : Uses) (ts : List State) (rs : List Name) : 
 pushed : {A : Type 0} (f : A → Name) (names : List Name) (xs : List A) (x : A) (vs : List ℕ) (v : ℕ) → map f xs ≡ map (name_of names) vs → f x ≡ name_of names v → map f (xs ++ x ∷ []) ≡ map (name_of names) (vs ++ v ∷ [])
 pushed f names xs x vs v e one = map-append f xs (x ∷ []) ∙ ap₂ (λ (ns : List Name) (n : Name). ns ++ n ∷ []) e one ∙ sym (map-append (name_of names) vs (v ∷ []))
 
-state-says : (names : List Name) (p : ℕ) (found next : Uses) (s : ℕ) (k : List ℕ) (d : Data) (done : List State) → state_at names p found s k d ≡ Ok next → Said names found done []
+state-says : (names : List Name) (p : ℕ) (found next : Uses) (s : ℕ) (k : List ℕ) (d : Data) (done : List State) → uses_of_state_at names p found s k d ≡ Ok next → Said names found done []
     → (t : State) × (state_of k d ≡ Some t) × Said names next (done ++ t ∷ []) []
-unfolding state_at
+unfolding uses_of_state_at
 state-says names p found next s k d done e said =
     then-Ok (present_at _ _) _ next e (λ before is_before e.
     then-Ok (string_at _ _) _ next e (λ first is_first e.
@@ -154,24 +154,24 @@ said-keys (member k d ms) ts e = by (under (codes "in") as_str d) (under (codes 
     one before after = record { name = k; before = before; after = after }
 
     by : (a b : Option Name) (o : Option (List State)) → ((us : List State) → o ≡ Some us → map (λ (t : State). t.name) us ≡ keys_of ms) → both ◌∷◌ (both one a b) o ≡ Some ts → map (λ (t : State). t.name) ts ≡ k ∷ keys_of ms
-    by None b o rest e = cc
-    by (Some a) None o rest e = cc
-    by (Some a) (Some b) None rest e = cc
-    by (Some a) (Some b) (Some us) rest e = ap (map (λ (t : State). t.name)) (sym (same_Some (one a b ∷ us) ts e)) ∙ ap (λ ns. k ∷ ns) (rest us refl)
+    by None b o tail e = cc
+    by (Some a) None o tail e = cc
+    by (Some a) (Some b) None tail e = cc
+    by (Some a) (Some b) (Some us) tail e = ap (map (λ (t : State). t.name)) (sym (same_Some (one a b ∷ us) ts e)) ∙ ap (λ ns. k ∷ ns) (tail us refl)
 
-keys-are : (states : List raw.State) (ms : Members) → are_keys states ms ≡ true → keys_of ms ≡ map (λ (q : raw.State). q.name) states
+keys-are : (states : List parts.State) (ms : Members) → are_keys states ms ≡ true → keys_of ms ≡ map (λ (q : parts.State). q.name) states
 keys-are [] no_members e = refl
 keys-are [] (member k d ms) e = cc
 keys-are (s ∷ ss) no_members e = cc
 keys-are (s ∷ ss) (member k d ms) e = ap₂ ◌∷◌ ((bytes_eq-Decides k s.name).0 (and_first (bytes_eq k s.name) (are_keys ss ms) e)) (keys-are ss ms (and_second (bytes_eq k s.name) (are_keys ss ms) e))
 
-states-say : (states : List raw.State) (names : List Name) (p : ℕ) (ms : Members) (next : Uses) → states_at states names p (unused (length names)) ms ≡ Ok next
-    → (ts : List State) × (each_member state_of ms ≡ Some ts) × Said names next ts [] × (map (λ (t : State). t.name) ts ≡ map (λ (q : raw.State). q.name) states)
-unfolding states_at each_state_at
+states-say : (states : List parts.State) (names : List Name) (p : ℕ) (ms : Members) (next : Uses) → uses_of_states_at states names p (unused (length names)) ms ≡ Ok next
+    → (ts : List State) × (each_member state_of ms ≡ Some ts) × Said names next ts [] × (map (λ (t : State). t.name) ts ≡ map (λ (q : parts.State). q.name) states)
+unfolding uses_of_states_at each_state_at
 states-say states names p ms next e =
-    let parts = test-Ok (are_keys states ms) _ _ _ next e in
-    let all = walk_members-says (λ u ts. Said names u ts []) (state_at names p) state_of (λ found next i k d done e said. state-says names p found next i k d done e said) ms (unused (length names)) next 0 [] parts.1 (unused-said names) in
-    (all.0, all.1, all.2, said-keys ms all.0 all.1 ∙ keys-are states ms parts.0)
+    let pieces = test-Ok (are_keys states ms) _ _ _ next e in
+    let all = walk_members-says (λ u ts. Said names u ts []) (uses_of_state_at names p) state_of (λ found next i k d done e said. state-says names p found next i k d done e said) ms (unused (length names)) next 0 [] pieces.1 (unused-said names) in
+    (all.0, all.1, all.2, said-keys ms all.0 all.1 ∙ keys-are states ms pieces.0)
 
 random-says : (names : List Name) (p : ℕ) (ts : List State) (found next : Uses) (i : ℕ) (d : Data) (done : List Name) → random_at names p found i d ≡ Ok next → Said names found ts done
     → (r : Name) × (as_str d ≡ Some r) × Said names next ts (done ++ r ∷ [])
@@ -194,8 +194,8 @@ random-says names p ts found next i d done e said =
 randoms-say : (names : List Name) (p : ℕ) (ts : List State) (found next : Uses) (ds : Items) → randoms_at names p found ds ≡ Ok next → Said names found ts [] → (rs : List Name) × (each as_str ds ≡ Some rs) × Said names next ts rs
 unfolding randoms_at each_random_at
 randoms-say names p ts found next ds e said =
-    let parts = test-Ok _ _ _ _ next e in
-    walk_items-says (λ u rs. Said names u ts rs) (random_at names p) as_str (λ found next i d done e said. random-says names p ts found next i d done e said) ds found next 0 [] parts.1 said
+    let pieces = test-Ok _ _ _ _ next e in
+    walk_items-says (λ u rs. Said names u ts rs) (random_at names p) as_str (λ found next i d done e said. random-says names p ts found next i d done e said) ds found next 0 [] pieces.1 said
 
 -- ---- the three lists
 
@@ -214,8 +214,8 @@ any_place k zero v from to = absurd (omega arith)
 any_place k (suc n) v from to = by (k == v) refl (λ h l. any_place (k + 1) n v h l)
   where
     by : (b : Bool) → (k == v) ≡ b → (k + 1 ≤ v → v < k + 1 + n → list_any (λ w. w == v) (places (k + 1) n) ≡ true) → (b || list_any (λ w. w == v) (places (k + 1) n)) ≡ true
-    by true e rest = refl
-    by false e rest = rest (omega (arith, eqb-false k v e)) (omega arith)
+    by true e tail = refl
+    by false e tail = tail (omega (arith, eqb-false k v e)) (omega arith)
 
 -- an incoming variable is no decision, where the first role is that of variable k
 incoming-apart : (roles : List Role) (k v j : ℕ) → k + v ≡ j → HasRole roles Incoming v → AllByRecursion (λ w. (w == j) ≡ false) (decisions_from k roles)
@@ -249,27 +249,27 @@ incoming-among vars long decisions random all v has =
     middle false false false e f h = cc
 
 -- a stage's states and random variables, as the file says them
-pub record VariablesSaid (states : List raw.State) (stage : StageParts) (vars : Variables) : Type 0 where
+pub record VariablesSaid (states : List parts.State) (stage : StageParts) (vars : Variables) : Type 0 where
   pub split : Split vars
   pub states_are : List State
   pub states_said : each_member state_of stage.states ≡ Some states_are
-  pub named : map (λ (t : State). t.name) states_are ≡ map (λ (q : raw.State). q.name) states
+  pub named : map (λ (t : State). t.name) states_are ≡ map (λ (q : parts.State). q.name) states
   pub before : map (λ (t : State). t.before) states_are ≡ map (name_of vars.names) vars.uses.incoming
   pub after : map (λ (t : State). t.after) states_are ≡ map (name_of vars.names) vars.uses.outgoing
   pub outgoing_is : AllByRecursion (HasRole vars.uses.roles Outgoing) vars.uses.outgoing
   pub randoms_said : each as_str stage.randoms ≡ Some vars.uses.names
   pub randoms_named : vars.uses.names ≡ map (name_of vars.names) vars.uses.randoms
 
-pub variables-said : (states : List raw.State) (p : ℕ) (stage : StageParts) (vars : Variables) → variables_at states p stage ≡ Ok vars → VariablesSaid states stage vars
+pub variables-said : (states : List parts.State) (p : ℕ) (stage : StageParts) (vars : Variables) → variables_at states p stage ≡ Ok vars → VariablesSaid states stage vars
 unfolding variables_at
-variables-said states p stage vars e = then-Ok (names_at _ _) _ vars e (λ names is_names rest.
-    then-Ok (states_at _ _ _ _ _) _ vars rest (λ with_states is_states rest.
-    then-Ok (randoms_at _ _ _ _) _ vars rest (λ uses is_uses rest.
-    then-Ok (decisions_at _ _) _ vars rest (λ decisions is_decisions rest.
+variables-said states p stage vars e = then-Ok (names_at _ _) _ vars e (λ names is_names tail.
+    then-Ok (uses_of_states_at _ _ _ _ _) _ vars tail (λ with_states is_states tail.
+    then-Ok (randoms_at _ _ _ _) _ vars tail (λ uses is_uses tail.
+    then-Ok (decisions_at _ _) _ vars tail (λ decisions is_decisions tail.
     let fit : VariablesFit (length states) vars = variables_at-fit states p stage vars e in
     let first = states-say states names p stage.states with_states is_states in
     let last = randoms-say names p first.0 with_states uses stage.randoms is_uses first.2 in
-    let is = Ok-is _ vars rest in
+    let is = Ok-is _ vars tail in
     let s : Said vars.names vars.uses first.0 last.0 = subst (λ (w : Variables). Said w.names w.uses first.0 last.0) is last.2 in
     let all = subst (λ ds. IsPermutation (places 0 (length vars.names)) (ds ++ (vars.uses.incoming ++ vars.uses.randoms))) fit.decisions s.all in
     record {

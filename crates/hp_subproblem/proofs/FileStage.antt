@@ -12,27 +12,27 @@ use Rattle.serde_json.specs.Data.{Data, Items, no_items, no_members}
 use Rattle.serde_json.specs.Find.{get, as_array, as_object}
 use Rattle.hp_num.specs.Sums.{total, dot, entry}
 use Rattle.hp_num.proofs.Ring.{ring, var, ◌⊕◌}
-use Rattle.hp_problem.specs.declared.raw.Decision.{Decision}
-use Rattle.hp_problem.specs.declared.raw.State as raw
-use Rattle.hp_problem.specs.declared.raw.Subproblem.{Subproblem}
-use Rattle.hp_problem.specs.declared.refusal.Place.{Place}
+use Rattle.hp_parts.specs.declared.parts.Decision.{Decision}
+use Rattle.hp_parts.specs.declared.parts.State as parts
+use Rattle.hp_parts.specs.declared.parts.Subproblem.{Subproblem}
+use Rattle.hp_parts.specs.declared.refusal.Place.{Place}
 use Rattle.hp_fields.specs.Fields.{present_at, object_at, key_at}
 use Rattle.hp_fields.specs.Limits.{members_at, items_at}
 use Rattle.hp_fields.proofs.Accepted.{then-Ok, Ok-is}
 use Rattle.hp_fields.proofs.Distinct.{each-weaker, name_of}
 use Rattle.hp_file.specs.File as file
-use Rattle.hp_file.specs.File.{Name, Numbers, Constraint, State, Stage, under, or_absent, stage_of}
+use Rattle.hp_file.specs.File.{Name, Numbers, State, Stage, under, or_absent, file_stage_of}
 use Rattle.hp_subproblem.specs.declared.role.Role.{Role}
 use Rattle.hp_subproblem.specs.declared.role.Role.TheVariants.{Free, Incoming, Outgoing, Random}
 use Rattle.hp_subproblem.specs.declared.variables.Variables.{Variables}
 use Rattle.hp_subproblem.specs.declared.function.Function.{Function}
-use Rattle.hp_subproblem.specs.Rows.{picked}
+use Rattle.hp_subproblem.specs.Rows.{picked_coefficients}
 use Rattle.hp_subproblem.specs.Decisions.{decisions_from}
 use Rattle.hp_subproblem.specs.Objective.{objective_at}
 use Rattle.hp_subproblem.specs.StageParts.{StageParts, array_under, object_under, stage_parts_at}
-use Rattle.hp_subproblem.specs.Subproblem.{variables_at, number_of, outs_of, subproblem_at}
-use Rattle.hp_subproblem.specs.Said.{decision_names, own, before, chances, StageSaid}
-use Rattle.hp_subproblem.proofs.UsesFit.{HasRole, number_of-within, outgoing_decides, number_of-back}
+use Rattle.hp_subproblem.specs.Subproblem.{variables_at, decision_number_of, outs_of, read_subproblem_at}
+use Rattle.hp_subproblem.specs.Said.{decision_names, decision_numbers, incoming_numbers, random_numbers, StageSaid}
+use Rattle.hp_subproblem.proofs.UsesFit.{HasRole, decision_number_of-within, outgoing_decides, decision_number_of-back}
 use Rattle.hp_subproblem.proofs.NamesDiffer.{decisions_from-below, decisions_from-differ, names-differ}
 use Rattle.hp_subproblem.proofs.FileSays.{present-says, array-says, members-say, items-say}
 use Rattle.hp_subproblem.proofs.FileTerms.{entry_map}
@@ -41,15 +41,15 @@ use Rattle.hp_subproblem.proofs.FileSplit.{places, all_free, Split, VariablesSai
 use Rattle.hp_subproblem.proofs.FileRows.{three-is}
 use Rattle.hp_subproblem.proofs.FileFilled.{Filled, filled-says}
 
--- ---- the parts of the document
+-- ---- the pieces of the document
 
-record PartsSaid (d : Data) (parts : StageParts) : Type 0 where
+record PartsSaid (d : Data) (pieces : StageParts) : Type 0 where
   model : Data
   model_is : get (codes "subproblem") d ≡ Some model
-  states : or_absent no_members as_object (get (codes "state_variables") d) ≡ Some parts.states
-  randoms : or_absent no_items as_array (get (codes "random_variables") d) ≡ Some parts.randoms
-  objective : get (codes "objective") model ≡ Some parts.objective
-  constraints : under (codes "constraints") as_array model ≡ Some parts.constraints
+  states : or_absent no_members as_object (get (codes "state_variables") d) ≡ Some pieces.states
+  randoms : or_absent no_items as_array (get (codes "random_variables") d) ≡ Some pieces.randoms
+  objective : get (codes "objective") model ≡ Some pieces.objective
+  constraints : under (codes "constraints") as_array model ≡ Some pieces.constraints
 
 array_under-says : (at : Place) (key : List ℕ) (d : Data) (ds : Items) → array_under at key d ≡ Ok ds → under key as_array d ≡ Some ds
 unfolding array_under
@@ -62,16 +62,16 @@ object_under-says at key d inner e =
     then-Ok (object_at _ _) _ inner e (λ members are e.
     present-says _ _ found is ∙ ap Some (Ok-is found inner e)))
 
-parts-said : (at : Place) (d : Data) (parts : StageParts) → stage_parts_at at d ≡ Ok parts → PartsSaid d parts
+parts-said : (at : Place) (d : Data) (pieces : StageParts) → stage_parts_at at d ≡ Ok pieces → PartsSaid d pieces
 unfolding stage_parts_at
-parts-said at d parts e =
-    then-Ok (members_at _ _) _ parts e (λ states are_states e.
-    then-Ok (items_at _ _) _ parts e (λ randoms are_randoms e.
-    then-Ok (object_under _ _ _) _ parts e (λ inner is_inner e.
-    then-Ok (array_under _ _ _) _ parts e (λ variables are e.
-    then-Ok (object_under _ _ _) _ parts e (λ objective is_objective e.
-    then-Ok (array_under _ _ _) _ parts e (λ constraints are_constraints e.
-    subst (PartsSaid d) (Ok-is _ parts e) (record {
+parts-said at d pieces e =
+    then-Ok (members_at _ _) _ pieces e (λ states are_states e.
+    then-Ok (items_at _ _) _ pieces e (λ randoms are_randoms e.
+    then-Ok (object_under _ _ _) _ pieces e (λ inner is_inner e.
+    then-Ok (array_under _ _ _) _ pieces e (λ variables are e.
+    then-Ok (object_under _ _ _) _ pieces e (λ objective is_objective e.
+    then-Ok (array_under _ _ _) _ pieces e (λ constraints are_constraints e.
+    subst (PartsSaid d) (Ok-is _ pieces e) (record {
       model = inner;
       model_is = object_under-says at _ d inner is_inner;
       states = members-say at _ states are_states;
@@ -105,12 +105,12 @@ entry_there f (v ∷ vs) (suc i) lt = entry_there f vs i (omega arith)
 
 -- outgoing variables by their numbers as decisions
 outgoing_numbers : (ys : List ℤ) (roles : List Role) (vs : List ℕ) → AllByRecursion (HasRole roles Outgoing) vs
-    → map (entry ys) vs ≡ map (entry (map (entry ys) (decisions_from 0 roles))) (map (number_of (decisions_from 0 roles)) vs)
+    → map (entry ys) vs ≡ map (entry (map (entry ys) (decisions_from 0 roles))) (map (decision_number_of (decisions_from 0 roles)) vs)
 outgoing_numbers ys roles [] all = refl
 outgoing_numbers ys roles (v ∷ vs) all =
     let decisions = decisions_from 0 roles in
     let any = outgoing_decides roles 0 v v (omega arith) all.0 in
-    let there = entry_there (entry ys) decisions (number_of decisions v) (number_of-within decisions v any) ∙ ap (entry ys) (number_of-back decisions v any) in
+    let there = entry_there (entry ys) decisions (decision_number_of decisions v) (decision_number_of-within decisions v any) ∙ ap (entry ys) (decision_number_of-back decisions v any) in
     ap₂ ◌∷◌ (sym there) (outgoing_numbers ys roles vs all.1)
 
 dot_picked : (xs ys : List ℤ) (vs : List ℕ) → dot (map (entry xs) vs) (map (entry ys) vs) ≡ total (λ v. entry xs v *ℤ entry ys v) vs
@@ -139,37 +139,37 @@ all_differ vars split =
 
 -- ---- the stage
 
-module _ (states : List raw.State) (parts : StageParts) (vars : Variables) (costs : Function) (F : file.Function) (s : Subproblem)
-    (v : VariablesSaid states parts vars) (o : FunctionSaid vars.names costs F) (f : Filled vars costs parts.constraints s) where
+module _ (states : List parts.State) (pieces : StageParts) (vars : Variables) (costs : Function) (F : file.Function) (s : Subproblem)
+    (v : VariablesSaid states pieces vars) (o : FunctionSaid vars.names costs F) (f : Filled vars costs pieces.constraints s) where
   abbrev pub the_stage : Stage
   the_stage = record { states = v.states_are; randoms = vars.uses.names; objective = F; constraints = f.constraints }
 
-  before-is : (y : Numbers) → before the_stage y ≡ map (entry (map y vars.names)) vars.uses.incoming
-  before-is y = map_twice (λ (t : State). t.before) y v.states_are ∙ ap (map y) v.before ∙ by_name vars.names y vars.uses.incoming (within vars Incoming vars.uses.incoming v.split v.split.incoming_is)
+  incoming_numbers-is : (y : Numbers) → incoming_numbers the_stage y ≡ map (entry (map y vars.names)) vars.uses.incoming
+  incoming_numbers-is y = map_twice (λ (t : State). t.before) y v.states_are ∙ ap (map y) v.before ∙ by_name vars.names y vars.uses.incoming (within vars Incoming vars.uses.incoming v.split v.split.incoming_is)
 
-  chances-is : (y : Numbers) → chances the_stage y ≡ map (entry (map y vars.names)) vars.uses.randoms
-  chances-is y = ap (map y) v.randoms_named ∙ by_name vars.names y vars.uses.randoms (within vars Random vars.uses.randoms v.split v.split.randoms_is)
+  random_numbers-is : (y : Numbers) → random_numbers the_stage y ≡ map (entry (map y vars.names)) vars.uses.randoms
+  random_numbers-is y = ap (map y) v.randoms_named ∙ by_name vars.names y vars.uses.randoms (within vars Random vars.uses.randoms v.split v.split.randoms_is)
 
-  outs-are : (y : Numbers) → map (λ (t : State). y t.after) v.states_are ≡ map (entry (own s y)) s.outs
+  outs-are : (y : Numbers) → map (λ (t : State). y t.after) v.states_are ≡ map (entry (decision_numbers s y)) s.outs
   unfolding outs_of
   outs-are y =
       let ys : List ℤ = map y vars.names in
       let numbers : map (λ (t : State). y t.after) v.states_are ≡ map (entry ys) vars.uses.outgoing =
       map_twice (λ (t : State). t.after) y v.states_are ∙ ap (map y) v.after ∙ by_name vars.names y vars.uses.outgoing (within vars Outgoing vars.uses.outgoing v.split v.outgoing_is) in
       let decisions : map (entry ys) vars.uses.outgoing ≡ map (entry (map (entry ys) vars.decisions)) (outs_of vars.decisions vars.uses.outgoing) =
-      subst (λ ds. map (entry ys) vars.uses.outgoing ≡ map (entry (map (entry ys) ds)) (map (number_of ds) vars.uses.outgoing)) (sym v.split.decisions) (outgoing_numbers ys vars.uses.roles vars.uses.outgoing v.outgoing_is) in
+      subst (λ ds. map (entry ys) vars.uses.outgoing ≡ map (entry (map (entry ys) ds)) (map (decision_number_of ds) vars.uses.outgoing)) (sym v.split.decisions) (outgoing_numbers ys vars.uses.roles vars.uses.outgoing v.outgoing_is) in
       numbers ∙ decisions ∙ ap₂ (λ zs ws. map (entry zs) ws) (sym (f.own y)) (sym f.outs)
 
   costs-are : (units : ℕ) (y : Numbers) → F units y
-      ≡ pos units *ℤ s.constant +ℤ dot (map (λ (d : Decision). d.cost) s.decisions) (own s y) +ℤ dot s.state_costs (before the_stage y) +ℤ dot s.random_costs (chances the_stage y)
-  unfolding picked
+      ≡ pos units *ℤ s.constant +ℤ dot (map (λ (d : Decision). d.cost) s.decisions) (decision_numbers s y) +ℤ dot s.state_costs (incoming_numbers the_stage y) +ℤ dot s.random_costs (random_numbers the_stage y)
+  unfolding picked_coefficients
   costs-are units y =
       let ys : List ℤ = map y vars.names in
       let xs = costs.coefficients in
       let sum : List ℕ → ℤ = λ vs. total (λ v. entry xs v *ℤ entry ys v) vs in
       let first = ap₂ dot f.cost (f.own y) ∙ dot_picked xs ys vars.decisions in
-      let second = ap₂ dot f.state_costs (before-is y) ∙ dot_picked xs ys vars.uses.incoming in
-      let third = ap₂ dot f.random_costs (chances-is y) ∙ dot_picked xs ys vars.uses.randoms in
+      let second = ap₂ dot f.state_costs (incoming_numbers-is y) ∙ dot_picked xs ys vars.uses.incoming in
+      let third = ap₂ dot f.random_costs (random_numbers-is y) ∙ dot_picked xs ys vars.uses.randoms in
       let there = ap₂ ◌+ℤ◌ (ap₂ ◌+ℤ◌ (ap₂ ◌+ℤ◌ (ap (λ k. pos units *ℤ k) f.constant) first) second) third in
       o.value units y ∙ ap (λ k. k +ℤ pos units *ℤ costs.constant) (sym (three-is vars v.split xs ys (length-map vars.names y)))
       ∙ ring (sum vars.decisions ∷ sum vars.uses.incoming ∷ sum vars.uses.randoms ∷ (pos units *ℤ costs.constant) ∷ []) (var 0 ⊕ var 1 ⊕ var 2 ⊕ var 3) (var 3 ⊕ var 0 ⊕ var 1 ⊕ var 2) tt ∙ sym there
@@ -184,26 +184,26 @@ module _ (states : List raw.State) (parts : StageParts) (vars : Variables) (cost
       let are = parts_are ∙ sym (ap₂ (λ (ms ns : List Name). ms ++ ns) (ap₂ (λ (ms ns : List Name). ms ++ ns) f.names v.before) v.randoms_named) in
       subst (IsDistinct bytes_eq) are (all_differ vars v.split)
 
-  pub stage-is : StageSaid (map (λ (q : raw.State). q.name) states) the_stage s
+  pub stage-is : StageSaid (map (λ (q : parts.State). q.name) states) the_stage s
   stage-is = record {
     states = v.named;
     randoms = sym f.randoms;
     outs = outs-are;
     objective = costs-are;
-    kept = f.kept the_stage refl before-is chances-is;
+    kept = f.kept the_stage refl incoming_numbers-is random_numbers-is;
     distinct = distinct-are;
   }
 
-pub stage-said : (states : List raw.State) (p : ℕ) (k : List ℕ) (d : Data) (s : Subproblem) → subproblem_at states p k d ≡ Ok s → IsSomeAnd (stage_of d) (λ st. StageSaid (map (λ (q : raw.State). q.name) states) st s)
-unfolding subproblem_at stage_of
+pub stage-said : (states : List parts.State) (p : ℕ) (k : List ℕ) (d : Data) (s : Subproblem) → read_subproblem_at states p k d ≡ Ok s → IsSomeAnd (file_stage_of d) (λ st. StageSaid (map (λ (q : parts.State). q.name) states) st s)
+unfolding read_subproblem_at file_stage_of
 stage-said states p k d s e =
     then-Ok (key_at _ _) _ s e (λ name is e.
-    then-Ok (stage_parts_at _ _) _ s e (λ parts are e.
+    then-Ok (stage_parts_at _ _) _ s e (λ pieces are e.
     then-Ok (variables_at _ _ _) _ s e (λ vars is_vars e.
     then-Ok (objective_at _ _ _) _ s e (λ costs is_costs e.
-    let document = parts-said _ d parts are in
-    let v = variables-said states p parts vars is_vars in
-    let o = objective-says vars.names p parts.objective costs is_costs in
-    let f = filled-says vars p costs parts.constraints s v.split e in
+    let document = parts-said _ d pieces are in
+    let v = variables-said states p pieces vars is_vars in
+    let o = objective-says vars.names p pieces.objective costs is_costs in
+    let f = filled-says vars p costs pieces.constraints s v.split e in
     rw (document.model_is, document.states, v.states_said, document.randoms, v.randoms_said, document.objective, o.1, document.constraints, f.said)
-    (stage-is states parts vars costs o.0 s v o.2 f)))))
+    (stage-is states pieces vars costs o.0 s v o.2 f)))))

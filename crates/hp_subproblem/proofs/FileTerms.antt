@@ -11,7 +11,7 @@ use Rattle.hp_fields.proofs.Distinct.{name_of, found-name}
 use Rattle.hp_file.specs.File.{Name, Numbers, each, term_of}
 use Rattle.hp_subproblem.specs.declared.function.Site.{Site}
 use Rattle.hp_subproblem.specs.Function.{zeros, raised_by, raised, term_at, terms_at}
-use Rattle.hp_subproblem.proofs.FileSays.{present-says, whole-says, string-says}
+use Rattle.hp_subproblem.proofs.FileSays.{present-says, whole_number-says, string-says}
 use Rattle.hp_subproblem.proofs.FileEach.{walk_items-says}
 
 pub dot_zeros : (n : ℕ) (ys : List ℤ) → dot (zeros n) ys ≡ pos 0
@@ -30,10 +30,10 @@ dot_raised [] ys v c lt e = absurd (omega arith)
 dot_raised (s ∷ ss) [] v c lt e = absurd (omega arith)
 dot_raised (s ∷ ss) (y ∷ ys) zero c lt e = (ring (s ∷ c ∷ y ∷ dot ss ys ∷ []) ((var 0 ⊕ var 1) ⊗ var 2 ⊕ var 3) (var 0 ⊗ var 2 ⊕ var 3 ⊕ var 1 ⊗ var 2) tt, refl)
 dot_raised (s ∷ ss) (y ∷ ys) (suc v) c lt e =
-    let rest = dot_raised ss ys v c (omega arith) (omega arith) in
+    let tail = dot_raised ss ys v c (omega arith) (omega arith) in
     let step = raised_later (slice_get ss v) s ss v c in (
-      ap (λ zs. dot zs (y ∷ ys)) step ∙ ap (λ k. s *ℤ y +ℤ k) rest.0 ∙ ring ((s *ℤ y) ∷ dot ss ys ∷ (c *ℤ entry ys v) ∷ []) (var 0 ⊕ (var 1 ⊕ var 2)) (var 0 ⊕ var 1 ⊕ var 2) tt,
-      ap (λ (zs : List ℤ). length zs) step ∙ ap suc rest.1,
+      ap (λ zs. dot zs (y ∷ ys)) step ∙ ap (λ k. s *ℤ y +ℤ k) tail.0 ∙ ring ((s *ℤ y) ∷ dot ss ys ∷ (c *ℤ entry ys v) ∷ []) (var 0 ⊕ (var 1 ⊕ var 2)) (var 0 ⊕ var 1 ⊕ var 2) tt,
+      ap (λ (zs : List ℤ). length zs) step ∙ ap suc tail.1,
     )
 
 -- the number of a variable, by its place
@@ -64,7 +64,7 @@ term-says names site sums next i d done e so_far =
     let one = λ (y : Numbers). dot_raised sums (map y names) v c (omega (arith, there.0, so_far.long)) (length-map names y ∙ sym so_far.long) in
     let t : Numbers → ℤ = λ y. c *ℤ y name in (
       t,
-      rw (present-says _ _ number is_number, whole-says _ number c is_c, present-says _ _ inner is_inner, string-says _ inner name is_name) refl,
+      rw (present-says _ _ number is_number, whole_number-says _ number c is_c, present-says _ _ inner is_inner, string-says _ inner name is_name) refl,
       subst (λ zs. Valued names zs (done ++ t ∷ [])) (Ok-is _ next e) (record {
         long = (one (λ n. pos 0)).1 ∙ so_far.long;
         same = λ y. (one y).0 ∙ ap₂ ◌+ℤ◌ (so_far.same y) (ap (λ z. c *ℤ z) (entry_map y names v there.0 ∙ ap y there.1)) ∙ sym (total_push done t y);

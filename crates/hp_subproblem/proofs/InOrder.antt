@@ -1,18 +1,18 @@
 -- A subproblem after its variables and costs.
 use Rattle.std.proofs.Common.{◌≡◌, ℕ, List, Ok}
 use Rattle.serde_json.specs.Data.{Data}
-use Rattle.hp_problem.specs.declared.raw.State.{State}
-use Rattle.hp_problem.specs.declared.refusal.Part.TheVariants as parts
-use Rattle.hp_problem.specs.declared.refusal.Place.{Place}
+use Rattle.hp_parts.specs.declared.parts.State.{State}
+use Rattle.hp_parts.specs.declared.refusal.Part.TheVariants as part_kinds
+use Rattle.hp_parts.specs.declared.refusal.Place.{Place}
 use Rattle.hp_fields.specs.Fields.{place, key_at}
 use Rattle.hp_subproblem.specs.declared.variables.Variables.{Variables}
 use Rattle.hp_subproblem.specs.declared.function.Function.{Function}
 use Rattle.hp_subproblem.specs.Objective.{objective_at}
 use Rattle.hp_subproblem.specs.StageParts.{StageParts, stage_parts_at}
-use Rattle.hp_subproblem.specs.Subproblem.{variables_at, filled_at, subproblem_at}
+use Rattle.hp_subproblem.specs.Subproblem.{variables_at, filled_at, read_subproblem_at}
 
-pub subproblem_at-filled : (states : List State) (p : ℕ) (k name : List ℕ) (d : Data) (stage : StageParts) (vars : Variables) (costs : Function) (at : Place) → at ≡ place parts.Subproblem p 0 0 → key_at at k ≡ Ok name
+pub read_subproblem_at-filled : (states : List State) (p : ℕ) (k name : List ℕ) (d : Data) (stage : StageParts) (vars : Variables) (costs : Function) (at : Place) → at ≡ place part_kinds.Subproblem p 0 0 → key_at at k ≡ Ok name
     → stage_parts_at at d ≡ Ok stage → variables_at states p stage ≡ Ok vars → objective_at vars.names p stage.objective ≡ Ok costs
-    → subproblem_at states p k d ≡ filled_at vars p costs stage.constraints
-unfolding subproblem_at
-subproblem_at-filled states p k name d stage vars costs at is one two three four = rw (← is, one, two, three, four)
+    → read_subproblem_at states p k d ≡ filled_at vars p costs stage.constraints
+unfolding read_subproblem_at
+read_subproblem_at-filled states p k name d stage vars costs at is one two three four = rw (← is, one, two, three, four)

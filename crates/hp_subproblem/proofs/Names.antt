@@ -2,7 +2,7 @@
 use Rattle.std.proofs.Common.{◌≡◌, ◌==◌, List, [], ◌∷◌, length, refl, arith}
 use Rattle.std.proofs.lemmas.Bool.{ne_eqb}
 use Rattle.serde_json.specs.Data.{no_members}
-use Rattle.hp_problem.specs.declared.raw.State.{State}
+use Rattle.hp_parts.specs.declared.parts.State.{State}
 use Rattle.hp_subproblem.specs.States.{are_keys}
 
 pub are_keys-none : (ss : List State) → (length ss == 0) ≡ are_keys ss no_members

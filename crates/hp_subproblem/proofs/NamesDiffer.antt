@@ -4,7 +4,7 @@ use Rattle.std.specs.List.{AllByRecursion, IsDistinct, list_all, list_any}
 use Rattle.std.proofs.lemmas.Bool.{and_from, ne_eqb}
 use Rattle.std.proofs.lemmas.Option.{same_Some, slice_get_within}
 use Rattle.hp_num.proofs.Tests.{all_at}
-use Rattle.hp_problem.specs.Limits.{is_name}
+use Rattle.hp_parts.specs.Limits.{is_name}
 use Rattle.hp_subproblem.specs.declared.role.Role.{Role}
 use Rattle.hp_subproblem.specs.declared.role.Role.TheVariants.{Random}
 use Rattle.hp_subproblem.specs.Decisions.{is_decision, decisions_from}

@@ -11,19 +11,19 @@ use Rattle.serde_json.specs.Data.{Data, Items}
 use Rattle.serde_json.specs.Events.{items_len}
 use Rattle.hp_num.specs.Sums.{entry}
 use Rattle.hp_num.proofs.Tests.{and_first, and_second}
-use Rattle.hp_problem.specs.Limits.{is_small, are_small, term_fits, terms_fit, row_fits}
-use Rattle.hp_problem.specs.declared.raw.Row.{Row}
-use Rattle.hp_problem.specs.declared.raw.Subproblem.{Subproblem}
-use Rattle.hp_problem.specs.declared.refusal.Place.{Place}
+use Rattle.hp_parts.specs.Limits.{is_small, are_small, term_fits, terms_fit, row_fits}
+use Rattle.hp_parts.specs.declared.parts.Row.{Row}
+use Rattle.hp_parts.specs.declared.parts.Subproblem.{Subproblem}
+use Rattle.hp_parts.specs.declared.refusal.Place.{Place}
 use Rattle.hp_fields.specs.Fields.{present_at, object_at}
 use Rattle.hp_fields.proofs.Accepted.{then-Ok, Ok-is, list_all-push, walk_items-Ok}
 use Rattle.hp_subproblem.specs.declared.variables.Variables.{Variables}
 use Rattle.hp_subproblem.specs.declared.function.Function.{Function}
-use Rattle.hp_subproblem.specs.declared.sides.Sides.{Sides}
+use Rattle.hp_subproblem.specs.declared.sides.RowSides.{RowSides}
 use Rattle.hp_subproblem.specs.declared.constraint.Constraints.{Constraints}
 use Rattle.hp_subproblem.specs.Function.{function_at}
 use Rattle.hp_subproblem.specs.Sides.{no_sides, set_at, shifted_at}
-use Rattle.hp_subproblem.specs.Rows.{picked, terms_from, row_of}
+use Rattle.hp_subproblem.specs.Rows.{picked_coefficients, terms_from, row_of}
 use Rattle.hp_subproblem.specs.Constraint.{narrowed_by, narrowed, joined_at, constraint_at, no_constraints, constraints_at}
 use Rattle.hp_subproblem.proofs.SmallFunctions.{function_at-small}
 use Rattle.hp_subproblem.proofs.SidesFit.{SidesFit, AreBounds, set_at-fits, shifted_at-fits, SidesFit-bounds, intersection-bounds}
@@ -35,14 +35,14 @@ entry-small [] k e = refl
 entry-small (x ∷ xs) zero e = and_first (is_small x) (are_small xs) e
 entry-small (x ∷ xs) (suc k) e = entry-small xs k (and_second (is_small x) (are_small xs) e)
 
-pub picked-small : (vs : List ℕ) (xs : List ℤ) → are_small xs ≡ true → are_small (picked vs xs) ≡ true
-unfolding picked
-picked-small [] xs e = refl
-picked-small (v ∷ vs) xs e = and_from (is_small (entry xs v)) (are_small (map (entry xs) vs)) (entry-small xs v e) (picked-small vs xs e)
+pub picked_coefficients-small : (vs : List ℕ) (xs : List ℤ) → are_small xs ≡ true → are_small (picked_coefficients vs xs) ≡ true
+unfolding picked_coefficients
+picked_coefficients-small [] xs e = refl
+picked_coefficients-small (v ∷ vs) xs e = and_from (is_small (entry xs v)) (are_small (map (entry xs) vs)) (entry-small xs v e) (picked_coefficients-small vs xs e)
 
-pub length-picked : (vs : List ℕ) (xs : List ℤ) → length (picked vs xs) ≡ length vs
-unfolding picked
-length-picked vs xs = length-map vs (entry xs)
+pub length-picked_coefficients : (vs : List ℕ) (xs : List ℤ) → length (picked_coefficients vs xs) ≡ length vs
+unfolding picked_coefficients
+length-picked_coefficients vs xs = length-map vs (entry xs)
 
 not_zero : (x : ℤ) → int_eq x (pos 0) ≡ false → not (unsigned_abs x == 0) ≡ true
 not_zero x e = by (unsigned_abs x == 0) refl
@@ -62,8 +62,8 @@ kept_fits count least k x le lt small some =
 terms_from-fit : (count least k : ℕ) (xs : List ℤ) → least ≤ k → k + length xs ≡ count → are_small xs ≡ true → terms_fit count least (terms_from k xs) ≡ true
 terms_from-fit count least k [] le is small = refl
 terms_from-fit count least k (x ∷ xs) le is small =
-    let rest = and_second (is_small x) (are_small xs) small in
-    by (int_eq x (pos 0)) refl (terms_from-fit count least (k + 1) xs (omega arith) (omega arith) rest) (terms_from-fit count (k + 1) (k + 1) xs (omega arith) (omega arith) rest)
+    let tail = and_second (is_small x) (are_small xs) small in
+    by (int_eq x (pos 0)) refl (terms_from-fit count least (k + 1) xs (omega arith) (omega arith) tail) (terms_from-fit count (k + 1) (k + 1) xs (omega arith) (omega arith) tail)
   where
     more : List (ℕ × ℤ)
     more = terms_from (k + 1) xs
@@ -72,8 +72,8 @@ terms_from-fit count least k (x ∷ xs) le is small =
     by true e skipped kept = skipped
     by false e skipped kept = and_from (term_fits count least (k, x)) (terms_fit count (k + 1) more) (kept_fits count least k x le (omega arith) (and_first (is_small x) (are_small xs) small) e) kept
 
-row_terms : (count : ℕ) (vs : List ℕ) (xs : List ℤ) → length vs ≡ count → are_small xs ≡ true → terms_fit count 0 (terms_from 0 (picked vs xs)) ≡ true
-row_terms count vs xs is small = terms_from-fit count 0 0 (picked vs xs) (omega arith) (omega (arith, length-picked vs xs)) (picked-small vs xs small)
+row_terms : (count : ℕ) (vs : List ℕ) (xs : List ℤ) → length vs ≡ count → are_small xs ≡ true → terms_fit count 0 (terms_from 0 (picked_coefficients vs xs)) ≡ true
+row_terms count vs xs is small = terms_from-fit count 0 0 (picked_coefficients vs xs) (omega arith) (omega (arith, length-picked_coefficients vs xs)) (picked_coefficients-small vs xs small)
 
 -- ---- rows
 
@@ -83,7 +83,7 @@ pub record HasCounts (states : ℕ) (s : Subproblem) (vars : Variables) : Type 0
   pub incoming : length vars.uses.incoming ≡ states
   pub randoms : length vars.uses.randoms ≡ length s.randoms
 
-pub row_of-fits : (states : ℕ) (s : Subproblem) (vars : Variables) (xs : List ℤ) (sides : Sides) → HasCounts states s vars → are_small xs ≡ true → SidesFit sides → row_fits states s (row_of vars xs sides) ≡ true
+pub row_of-fits : (states : ℕ) (s : Subproblem) (vars : Variables) (xs : List ℤ) (sides : RowSides) → HasCounts states s vars → are_small xs ≡ true → SidesFit sides → row_fits states s (row_of vars xs sides) ≡ true
 unfolding row_of
 row_of-fits states s vars xs sides counts small fits =
     rw (fits, row_terms (length s.decisions) vars.decisions xs counts.decisions small, row_terms states vars.uses.incoming xs counts.incoming small, row_terms (length s.randoms) vars.uses.randoms xs counts.randoms small) refl
@@ -104,11 +104,11 @@ all-replicate : {A : Type 0} (P : A → Type 0) (n : ℕ) (x : A) → P x → Al
 all-replicate P zero x p = tt
 all-replicate P (suc n) x p = (p, all-replicate P n x p)
 
-narrowed_by-bounds : (o : Option Sides) (bounds : List Sides) (v : ℕ) (sides : Sides) → slice_get bounds v ≡ o → AllByRecursion AreBounds bounds → AreBounds sides → AllByRecursion AreBounds (narrowed_by o bounds v sides)
+narrowed_by-bounds : (o : Option RowSides) (bounds : List RowSides) (v : ℕ) (sides : RowSides) → slice_get bounds v ≡ o → AllByRecursion AreBounds bounds → AreBounds sides → AllByRecursion AreBounds (narrowed_by o bounds v sides)
 narrowed_by-bounds None bounds v sides is all p = all
 narrowed_by-bounds (Some before) bounds v sides is all p = all-set AreBounds bounds v _ all (intersection-bounds before sides (all_found AreBounds bounds v before all is) p)
 
-narrowed-bounds : (bounds : List Sides) (v : ℕ) (sides : Sides) → AllByRecursion AreBounds bounds → AreBounds sides → AllByRecursion AreBounds (narrowed bounds v sides)
+narrowed-bounds : (bounds : List RowSides) (v : ℕ) (sides : RowSides) → AllByRecursion AreBounds bounds → AreBounds sides → AllByRecursion AreBounds (narrowed bounds v sides)
 unfolding narrowed
 narrowed-bounds bounds v sides all p = narrowed_by-bounds (slice_get bounds v) bounds v sides refl all p
 
@@ -119,9 +119,9 @@ pub record Fit (test : Row → Bool) (found : Constraints) : Type 0 where
 
 -- a test that each row of small coefficients between sides in order passes
 abbrev pub PassesRows : (Row → Bool) → Variables → Type 0
-PassesRows test vars = (xs : List ℤ) (sides : Sides) → are_small xs ≡ true → SidesFit sides → test (row_of vars xs sides) ≡ true
+PassesRows test vars = (xs : List ℤ) (sides : RowSides) → are_small xs ≡ true → SidesFit sides → test (row_of vars xs sides) ≡ true
 
-joined_at-fits : (test : Row → Bool) (vars : Variables) (at : Place) (found next : Constraints) (f : Function) (sides : Sides) (o : Option ℕ) → PassesRows test vars
+joined_at-fits : (test : Row → Bool) (vars : Variables) (at : Place) (found next : Constraints) (f : Function) (sides : RowSides) (o : Option ℕ) → PassesRows test vars
     → are_small f.coefficients ≡ true → SidesFit sides → joined_at vars at found f sides o ≡ Ok next → Fit test found → Fit test next
 unfolding joined_at
 joined_at-fits test vars at found next f sides (Some v) passes small fits e so_far =

@@ -4,20 +4,20 @@ use Rattle.std.proofs.lemmas.Bool.{and_from}
 use Rattle.std.proofs.lemmas.Int.{ints}
 use Rattle.serde_json.specs.Data.{Data}
 use Rattle.hp_num.proofs.Tests.{and_first, and_second}
-use Rattle.hp_problem.specs.Limits.{is_small, is_bound, sides_fit}
-use Rattle.hp_problem.specs.declared.refusal.Refusal.{Refusal}
-use Rattle.hp_problem.specs.declared.refusal.Place.{Place}
+use Rattle.hp_parts.specs.Limits.{is_small, is_bound, sides_fit}
+use Rattle.hp_parts.specs.declared.refusal.Refusal.{Refusal}
+use Rattle.hp_parts.specs.declared.refusal.Place.{Place}
 use Rattle.hp_fields.specs.Fields.{present_at, string_at}
 use Rattle.hp_fields.specs.Limits.{limited_at}
 use Rattle.hp_fields.proofs.Accepted.{then-Ok, Ok-is, test-Ok, unless-Ok, either-Ok, whole_at-small, limited_at-small, limited_at-is}
-use Rattle.hp_subproblem.specs.declared.sides.Sides.{Sides}
+use Rattle.hp_subproblem.specs.declared.sides.RowSides.{RowSides}
 use Rattle.hp_subproblem.specs.Sides.{ordered_at, side_at, equal_at, greater_at, less_at, interval_at, set_at, greater_of, lesser_of, intersection, shifted_side_at, shifted_at}
 
-abbrev pub SidesFit : Sides → Type 0
+abbrev pub SidesFit : RowSides → Type 0
 SidesFit s = sides_fit s.low s.high ≡ true
 
 -- each side that is there is small
-pub record AreBounds (s : Sides) : Type 0 where
+pub record AreBounds (s : RowSides) : Type 0 where
   pub low : is_bound s.low ≡ true
   pub high : is_bound s.high ≡ true
 
@@ -39,22 +39,22 @@ side_at-small : (at : Place) (key : List ℕ) (d : Data) (z : ℤ) → side_at a
 unfolding side_at
 side_at-small at key d z e = then-Ok (present_at _ _) _ z e (λ inner is e. whole_at-small at inner z e)
 
-equal_at-fits : (at : Place) (d : Data) (s : Sides) → equal_at at d ≡ Ok s → SidesFit s
+equal_at-fits : (at : Place) (d : Data) (s : RowSides) → equal_at at d ≡ Ok s → SidesFit s
 unfolding equal_at
 equal_at-fits at d s e = then-Ok (side_at _ _ _) _ s e (λ v is e. fits v (side_at-small at _ d v is) e)
   where
-    fits : (v : ℤ) → is_small v ≡ true → ◌≡◌ {A = Result Sides Refusal} (Ok (record { low = Some v; high = Some v })) (Ok s) → SidesFit s
+    fits : (v : ℤ) → is_small v ≡ true → ◌≡◌ {A = Result RowSides Refusal} (Ok (record { low = Some v; high = Some v })) (Ok s) → SidesFit s
     fits v small e = subst SidesFit (Ok-is _ s e) (both_fit v v small small (le_from v v (omega (arith, ints))))
 
-greater_at-fits : (at : Place) (d : Data) (s : Sides) → greater_at at d ≡ Ok s → SidesFit s
+greater_at-fits : (at : Place) (d : Data) (s : RowSides) → greater_at at d ≡ Ok s → SidesFit s
 unfolding greater_at
 greater_at-fits at d s e = then-Ok (side_at _ _ _) _ s e (λ l is e. subst SidesFit (Ok-is _ s e) (side_at-small at _ d l is))
 
-less_at-fits : (at : Place) (d : Data) (s : Sides) → less_at at d ≡ Ok s → SidesFit s
+less_at-fits : (at : Place) (d : Data) (s : RowSides) → less_at at d ≡ Ok s → SidesFit s
 unfolding less_at
 less_at-fits at d s e = then-Ok (side_at _ _ _) _ s e (λ u is e. subst SidesFit (Ok-is _ s e) (side_at-small at _ d u is))
 
-interval_at-fits : (at : Place) (d : Data) (s : Sides) → interval_at at d ≡ Ok s → SidesFit s
+interval_at-fits : (at : Place) (d : Data) (s : RowSides) → interval_at at d ≡ Ok s → SidesFit s
 unfolding interval_at ordered_at
 interval_at-fits at d s e =
     then-Ok (side_at _ _ _) _ s e (λ l is_low e.
@@ -62,7 +62,7 @@ interval_at-fits at d s e =
     let parts = unless-Ok (int_lt u l) _ _ _ s e in
     subst SidesFit (Ok-is _ s parts.1) (both_fit l u (side_at-small at _ d l is_low) (side_at-small at _ d u is_high) (le_from_uncrossed l u parts.0))))
 
-pub set_at-fits : (at : Place) (d : Data) (s : Sides) → set_at at d ≡ Ok s → SidesFit s
+pub set_at-fits : (at : Place) (d : Data) (s : RowSides) → set_at at d ≡ Ok s → SidesFit s
 unfolding set_at
 set_at-fits at d s e =
     then-Ok (present_at _ _) _ s e (λ inner is e.
@@ -96,7 +96,7 @@ sides_shifted at c (Some l) (Some h) x y fits p q =
     some_shifted at c h y q (λ b is_y same_y small_y.
     subst (λ o. sides_fit o y ≡ true) is_x (subst (λ o. sides_fit (Some a) o ≡ true) is_y (both_fit a b small_x small_y (le_shifted c l h a b le same_x same_y)))))
 
-pub shifted_at-fits : (at : Place) (c : ℤ) (s t : Sides) → SidesFit s → shifted_at at c s ≡ Ok t → SidesFit t
+pub shifted_at-fits : (at : Place) (c : ℤ) (s t : RowSides) → SidesFit s → shifted_at at c s ≡ Ok t → SidesFit t
 unfolding shifted_at
 shifted_at-fits at c s t fits e =
     then-Ok (shifted_side_at _ _ _) _ t e (λ low is_low e.
@@ -110,7 +110,7 @@ fit_bounds None high e = (refl, e)
 fit_bounds (Some l) None e = (e, refl)
 fit_bounds (Some l) (Some h) e = let small = and_first (is_small l && is_small h) (int_le l h) e in (and_first (is_small l) (is_small h) small, and_second (is_small l) (is_small h) small)
 
-pub SidesFit-bounds : (s : Sides) → SidesFit s → AreBounds s
+pub SidesFit-bounds : (s : RowSides) → SidesFit s → AreBounds s
 SidesFit-bounds s e = let parts = fit_bounds s.low s.high e in record { low = parts.0; high = parts.1 }
 
 either_small : (b : Bool) (x y : ℤ) → is_small x ≡ true → is_small y ≡ true → is_small (cond b x y) ≡ true
@@ -127,5 +127,5 @@ lesser_of-bound None b p q = q
 lesser_of-bound (Some x) None p q = p
 lesser_of-bound (Some x) (Some y) p q = either_small (int_lt y x) y x q p
 
-pub intersection-bounds : (a b : Sides) → AreBounds a → AreBounds b → AreBounds (intersection a b)
+pub intersection-bounds : (a b : RowSides) → AreBounds a → AreBounds b → AreBounds (intersection a b)
 intersection-bounds a b p q = record { low = greater_of-bound a.low b.low p.low q.low; high = lesser_of-bound a.high b.high p.high q.high }

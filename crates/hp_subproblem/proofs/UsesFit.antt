@@ -8,9 +8,9 @@ use Rattle.std.proofs.lemmas.List.Quantifiers.{position-Some}
 use Rattle.serde_json.specs.Data.{Data, Items, Members, no_members, member}
 use Rattle.serde_json.specs.Events.{items_len, members_len}
 use Rattle.hp_num.proofs.Tests.{and_second}
-use Rattle.hp_problem.specs.declared.raw.State.{State}
-use Rattle.hp_problem.specs.declared.refusal.Place.{Place}
-use Rattle.hp_problem.specs.Limits.{is_name}
+use Rattle.hp_parts.specs.declared.parts.State.{State}
+use Rattle.hp_parts.specs.declared.refusal.Place.{Place}
+use Rattle.hp_parts.specs.Limits.{is_name}
 use Rattle.hp_fields.specs.Fields.{present_at, string_at}
 use Rattle.hp_fields.specs.Limits.{name_at, known_at}
 use Rattle.hp_fields.proofs.Accepted.{then-Ok, Ok-is, test-Ok, unless-Ok, list_all-push, name_at-name, known_at-Ok, walk_items-Ok, walk_members-Ok, AllMembers-any}
@@ -21,11 +21,11 @@ use Rattle.hp_subproblem.specs.declared.role.Uses.{Uses}
 use Rattle.hp_subproblem.specs.declared.variables.Variables.{Variables}
 use Rattle.hp_subproblem.specs.Variables.{variable_at, names_at}
 use Rattle.hp_subproblem.specs.Roles.{is_free, taken_at, unused}
-use Rattle.hp_subproblem.specs.States.{are_keys, state_at, each_state_at, states_at}
+use Rattle.hp_subproblem.specs.States.{are_keys, uses_of_state_at, each_state_at, uses_of_states_at}
 use Rattle.hp_subproblem.specs.Randoms.{random_at, each_random_at, randoms_at}
 use Rattle.hp_subproblem.specs.Decisions.{is_decision, decisions_from, decisions_at}
 use Rattle.hp_subproblem.specs.StageParts.{StageParts}
-use Rattle.hp_subproblem.specs.Subproblem.{variables_at, number_of, outs_of}
+use Rattle.hp_subproblem.specs.Subproblem.{variables_at, decision_number_of, outs_of}
 
 -- ---- names
 
@@ -124,9 +124,9 @@ record Used (names : List (List ℕ)) (states randoms : ℕ) (u : Uses) : Type 0
   outgoing_differ : IsDistinct (λ a b. a == b) u.outgoing
   randoms_differ : IsDistinct (λ a b. a == b) u.randoms
 
-state_at-used : (names : List (List ℕ)) (p states randoms : ℕ) (found next : Uses) (s : ℕ) (k : List ℕ) (d : Data) → state_at names p found s k d ≡ Ok next → Used names states randoms found → Used names (suc states) randoms next
-unfolding state_at
-state_at-used names p states randoms found next s k d e u =
+uses_of_state_at-used : (names : List (List ℕ)) (p states randoms : ℕ) (found next : Uses) (s : ℕ) (k : List ℕ) (d : Data) → uses_of_state_at names p found s k d ≡ Ok next → Used names states randoms found → Used names (suc states) randoms next
+unfolding uses_of_state_at
+uses_of_state_at-used names p states randoms found next s k d e u =
     then-Ok (present_at _ _) _ next e (λ before is e.
     then-Ok (string_at _ _) _ next e (λ first is e.
     then-Ok (present_at _ _) _ next e (λ after is e.
@@ -172,11 +172,11 @@ keys_many [] (member k d ms) e = cc
 keys_many (s ∷ ss) no_members e = cc
 keys_many (s ∷ ss) (member k d ms) e = ap suc (keys_many ss ms (and_second (bytes_eq k s.name) (are_keys ss ms) e))
 
-states_at-used : (states : List State) (names : List (List ℕ)) (p : ℕ) (ms : Members) (next : Uses) → states_at states names p (unused (length names)) ms ≡ Ok next → Used names (length states) 0 next
-unfolding states_at each_state_at
-states_at-used states names p ms next e =
+uses_of_states_at-used : (states : List State) (names : List (List ℕ)) (p : ℕ) (ms : Members) (next : Uses) → uses_of_states_at states names p (unused (length names)) ms ≡ Ok next → Used names (length states) 0 next
+unfolding uses_of_states_at each_state_at
+uses_of_states_at-used states names p ms next e =
     let parts = test-Ok (are_keys states ms) _ _ _ next e in
-    walk_members-Ok (λ i u. Used names i 0 u) (λ k d. Unit {0}) (state_at names p) (λ found next i k d any e u. state_at-used names p i 0 found next i k d e u)
+    walk_members-Ok (λ i u. Used names i 0 u) (λ k d. Unit {0}) (uses_of_state_at names p) (λ found next i k d any e u. uses_of_state_at-used names p i 0 found next i k d e u)
     ms (unused (length names)) next 0 (length states) (omega (arith, keys_many states ms parts.0)) (AllMembers-any ms) parts.1 (unused-used names)
 
 -- ---- random variables
@@ -217,12 +217,12 @@ place_from_any test [] h = cc
 place_from_any test (x ∷ xs) h = by (test x) h (place_from_any test xs)
   where
     by : (b : Bool) → (b || list_any test xs) ≡ true → (list_any test xs ≡ true → position_or_len test xs < length xs) → cond (not b) (1 + position_or_len test xs) 0 < suc (length xs)
-    by true h rest = omega arith
-    by false h rest = omega (arith, rest h)
+    by true h tail = omega arith
+    by false h tail = omega (arith, tail h)
 
-pub number_of-within : (decisions : List ℕ) (v : ℕ) → list_any (λ w. w == v) decisions ≡ true → number_of decisions v < length decisions
-unfolding number_of
-number_of-within decisions v any =
+pub decision_number_of-within : (decisions : List ℕ) (v : ℕ) → list_any (λ w. w == v) decisions ≡ true → decision_number_of decisions v < length decisions
+unfolding decision_number_of
+decision_number_of-within decisions v any =
     let place = position_or_len (λ w. w == v) decisions in
     let within : place < length decisions = place_from_any (λ w. w == v) decisions any in
     let found : position (λ w. w == v) decisions ≡ Some place = cond-true (nat_lt place (length decisions)) (Some place) None (lt-ltb place (length decisions) within) in
@@ -247,13 +247,13 @@ unfolding outs_of
 outs_of-within roles [] all = refl
 outs_of-within roles (v ∷ vs) all =
     let decisions = decisions_from 0 roles in
-    let within = number_of-within decisions v (outgoing_decides roles 0 v v (omega arith) all.0) in
-    and_from (nat_lt (number_of decisions v) (length decisions)) (list_all (λ o. nat_lt o (length decisions)) (map (number_of decisions) vs)) (lt-ltb (number_of decisions v) (length decisions) within) (outs_of-within roles vs all.1)
+    let within = decision_number_of-within decisions v (outgoing_decides roles 0 v v (omega arith) all.0) in
+    and_from (nat_lt (decision_number_of decisions v) (length decisions)) (list_all (λ o. nat_lt o (length decisions)) (map (decision_number_of decisions) vs)) (lt-ltb (decision_number_of decisions v) (length decisions) within) (outs_of-within roles vs all.1)
 
 -- the decision that has the number of the variable is the variable
-pub number_of-back : (decisions : List ℕ) (v : ℕ) → list_any (λ w. w == v) decisions ≡ true → get_or decisions (number_of decisions v) 0 ≡ v
-unfolding number_of
-number_of-back decisions v any =
+pub decision_number_of-back : (decisions : List ℕ) (v : ℕ) → list_any (λ w. w == v) decisions ≡ true → get_or decisions (decision_number_of decisions v) 0 ≡ v
+unfolding decision_number_of
+decision_number_of-back decisions v any =
     let place = position_or_len (λ w. w == v) decisions in
     let within : place < length decisions = place_from_any (λ w. w == v) decisions any in
     let found : position (λ w. w == v) decisions ≡ Some place = cond-true (nat_lt place (length decisions)) (Some place) None (lt-ltb place (length decisions) within) in
@@ -265,9 +265,9 @@ outs_of-differ : (roles : List Role) (outgoing : List ℕ) → AllByRecursion (H
 unfolding outs_of
 outs_of-differ roles outgoing all differ =
     let decisions = decisions_from 0 roles in
-    let back : (v : ℕ) → HasRole roles Outgoing v → get_or decisions (number_of decisions v) 0 ≡ v = λ v out. number_of-back decisions v (outgoing_decides roles 0 v v (omega arith) out) in
-    distinct-image (λ a b. a == b) (λ a b. a == b) (number_of decisions) (HasRole roles Outgoing)
-    (λ v w one other apart. ne_eqb (number_of decisions v) (number_of decisions w) (λ same. eqb-false v w apart (sym (back v one) ∙ ap (λ n. get_or decisions n 0) same ∙ back w other)))
+    let back : (v : ℕ) → HasRole roles Outgoing v → get_or decisions (decision_number_of decisions v) 0 ≡ v = λ v out. decision_number_of-back decisions v (outgoing_decides roles 0 v v (omega arith) out) in
+    distinct-image (λ a b. a == b) (λ a b. a == b) (decision_number_of decisions) (HasRole roles Outgoing)
+    (λ v w one other apart. ne_eqb (decision_number_of decisions v) (decision_number_of decisions w) (λ same. eqb-false v w apart (sym (back v one) ∙ ap (λ n. get_or decisions n 0) same ∙ back w other)))
     outgoing all differ
 
 decisions_at-Ok : (p : ℕ) (roles : List Role) (decisions : List ℕ) → decisions_at p roles ≡ Ok decisions → (decisions_from 0 roles ≡ decisions) × (nat_le (length (decisions_from 0 roles)) 200 ≡ true)
@@ -299,10 +299,10 @@ pub variables_at-fit : (states : List State) (p : ℕ) (stage : StageParts) (var
 unfolding variables_at
 variables_at-fit states p stage vars e =
     then-Ok (names_at _ _) _ vars e (λ names is_names e.
-    then-Ok (states_at _ _ _ _ _) _ vars e (λ with_states is_states e.
+    then-Ok (uses_of_states_at _ _ _ _ _) _ vars e (λ with_states is_states e.
     then-Ok (randoms_at _ _ _ _) _ vars e (λ uses is_uses e.
     then-Ok (decisions_at _ _) _ vars e (λ decisions is_decisions e.
-    let before = states_at-used states names p stage.states with_states is_states in
+    let before = uses_of_states_at-used states names p stage.states with_states is_states in
     let all = randoms_at-used names p (length states) with_states uses stage.randoms is_uses before in
     let u = all.0 in
     let as_many : length uses.names ≡ length uses.randoms = ap length u.randoms_named ∙ length-map uses.randoms (name_of names) in

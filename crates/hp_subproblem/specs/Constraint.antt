@@ -2,16 +2,16 @@
 use Rattle.std.specs.Prelude.{ℕ, List, [], ◌∷◌, ◌++◌, length, replicate, slice_get, slice_set, Option, Some, None, Result, Ok, codes, if◌then◌else◌}
 use Rattle.serde_json.specs.Data.{Data, Items}
 use Rattle.serde_json.specs.Find.{get}
-use Rattle.hp_problem.specs.declared.refusal.Refusal.{Refusal}
-use Rattle.hp_problem.specs.declared.refusal.Part.TheVariants as parts
-use Rattle.hp_problem.specs.declared.refusal.Place.{Place}
+use Rattle.hp_parts.specs.declared.refusal.Refusal.{Refusal}
+use Rattle.hp_parts.specs.declared.refusal.Part.TheVariants as part_kinds
+use Rattle.hp_parts.specs.declared.refusal.Place.{Place}
 use Rattle.hp_fields.specs.Steps.{◌>>=◌, walk_items}
 use Rattle.hp_fields.specs.Fields.{place, present_at, object_at}
 use Rattle.hp_subproblem.specs.declared.role.Role.{Role}
 use Rattle.hp_subproblem.specs.declared.variables.Variables.{Variables}
 use Rattle.hp_subproblem.specs.declared.function.Site.TheVariants.{Constraint}
 use Rattle.hp_subproblem.specs.declared.function.Function.{Function}
-use Rattle.hp_subproblem.specs.declared.sides.Sides.{Sides}
+use Rattle.hp_subproblem.specs.declared.sides.RowSides.{RowSides}
 use Rattle.hp_subproblem.specs.declared.constraint.Constraints.{Constraints}
 use Rattle.hp_subproblem.specs.Roles.{is_random}
 use Rattle.hp_subproblem.specs.Function.{function_at}
@@ -19,11 +19,11 @@ use Rattle.hp_subproblem.specs.Sides.{no_sides, intersection, set_at, shifted_at
 use Rattle.hp_subproblem.specs.Rows.{row_of}
 
 -- the sides of the variable v are narrowed
-abbrev pub narrowed_by : Option Sides → List Sides → ℕ → Sides → List Sides
+abbrev pub narrowed_by : Option RowSides → List RowSides → ℕ → RowSides → List RowSides
 narrowed_by None bounds v sides = bounds
 narrowed_by (Some before) bounds v sides = slice_set bounds v (intersection before sides)
 
-unfoldable pub narrowed : List Sides → ℕ → Sides → List Sides
+unfoldable pub narrowed : List RowSides → ℕ → RowSides → List RowSides
 narrowed bounds v sides = narrowed_by (slice_get bounds v) bounds v sides
 
 -- the decision or incoming state that a constraint on this function bounds
@@ -32,7 +32,7 @@ bounded roles None = None
 bounded roles (Some v) = if is_random (slice_get roles v) then None else Some v
 
 -- a bound is intersected with the earlier ones; all else is a row
-unfoldable pub joined_at : Variables → Place → Constraints → Function → Sides → Option ℕ → Result Constraints Refusal
+unfoldable pub joined_at : Variables → Place → Constraints → Function → RowSides → Option ℕ → Result Constraints Refusal
 joined_at vars at found f sides (Some v) = Ok (record found { bounds = narrowed found.bounds v sides })
 joined_at vars at found f sides None = do
   shifted ← shifted_at at f.constant sides
@@ -41,13 +41,13 @@ joined_at vars at found f sides None = do
 -- both `function` and `set` are there before either is read
 unfoldable pub constraint_at : Variables → ℕ → Constraints → ℕ → Data → Result Constraints Refusal
 constraint_at vars p found i d = do
-  inner ← present_at (place parts.Constraint p i 0) (get (codes "function") d)
-  members ← object_at (place parts.Constraint p i 0) inner
-  other ← present_at (place parts.Constraint p i 0) (get (codes "set") d)
-  others ← object_at (place parts.Constraint p i 0) other
+  inner ← present_at (place part_kinds.Constraint p i 0) (get (codes "function") d)
+  members ← object_at (place part_kinds.Constraint p i 0) inner
+  other ← present_at (place part_kinds.Constraint p i 0) (get (codes "set") d)
+  others ← object_at (place part_kinds.Constraint p i 0) other
   f ← function_at vars.names (Constraint p i) inner
-  sides ← set_at (place parts.Constraint p i 0) other
-  joined_at vars (place parts.Constraint p i 0) found f sides (bounded vars.uses.roles f.single)
+  sides ← set_at (place part_kinds.Constraint p i 0) other
+  joined_at vars (place part_kinds.Constraint p i 0) found f sides (bounded vars.uses.roles f.single)
 
 -- no bounds of n variables, and no rows
 abbrev pub no_constraints : ℕ → Constraints

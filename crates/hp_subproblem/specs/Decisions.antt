@@ -1,8 +1,8 @@
 -- The variables that are decisions.
 use Rattle.std.specs.Prelude.{ℕ, ◌+◌, List, [], ◌∷◌, length, Bool, true, false, Result, Ok, nat_le, if◌then◌else◌}
-use Rattle.hp_problem.specs.declared.refusal.Refusal.{Refusal}
-use Rattle.hp_problem.specs.declared.refusal.RefusalKind.TheVariants as kinds
-use Rattle.hp_problem.specs.declared.refusal.Part.TheVariants as parts
+use Rattle.hp_parts.specs.declared.refusal.Refusal.{Refusal}
+use Rattle.hp_parts.specs.declared.refusal.RefusalKind.TheVariants as kinds
+use Rattle.hp_parts.specs.declared.refusal.Part.TheVariants as part_kinds
 use Rattle.hp_fields.specs.Fields.{place, refuse}
 use Rattle.hp_subproblem.specs.declared.role.Role.{Role}
 use Rattle.hp_subproblem.specs.declared.role.Role.TheVariants.{Free, Incoming, Outgoing, Random}
@@ -21,4 +21,4 @@ decisions_from v (r ∷ rs) = if is_decision r then v ∷ decisions_from (v + 1)
 
 -- at most 200
 unfoldable pub decisions_at : ℕ → List Role → Result (List ℕ) Refusal
-decisions_at p roles = if nat_le (length (decisions_from 0 roles)) 200 then Ok (decisions_from 0 roles) else refuse kinds.TooLarge (place parts.Subproblem p 0 0)
+decisions_at p roles = if nat_le (length (decisions_from 0 roles)) 200 then Ok (decisions_from 0 roles) else refuse kinds.TooLarge (place part_kinds.Subproblem p 0 0)

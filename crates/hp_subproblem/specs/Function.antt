@@ -4,10 +4,10 @@ use Rattle.std.specs.Option.{option_or}
 use Rattle.std.specs.Str.{bytes_eq}
 use Rattle.serde_json.specs.Data.{Data, Items}
 use Rattle.serde_json.specs.Find.{get}
-use Rattle.hp_problem.specs.declared.refusal.Refusal.{Refusal}
-use Rattle.hp_problem.specs.declared.refusal.RefusalKind.TheVariants as kinds
-use Rattle.hp_problem.specs.declared.refusal.Part.TheVariants as parts
-use Rattle.hp_problem.specs.declared.refusal.Place.{Place}
+use Rattle.hp_parts.specs.declared.refusal.Refusal.{Refusal}
+use Rattle.hp_parts.specs.declared.refusal.RefusalKind.TheVariants as kinds
+use Rattle.hp_parts.specs.declared.refusal.Part.TheVariants as part_kinds
+use Rattle.hp_parts.specs.declared.refusal.Place.{Place}
 use Rattle.hp_fields.specs.Steps.{◌>>=◌, walk_items, walk_list}
 use Rattle.hp_fields.specs.Fields.{place, refuse, present_at, string_at, array_at, whole_at}
 use Rattle.hp_fields.specs.Limits.{known_at, limited_at}
@@ -17,8 +17,8 @@ use Rattle.hp_subproblem.specs.declared.function.Function.{Function}
 
 -- the place of a function as a whole, with the number 0, and of its term t, with the number t + 1
 abbrev pub site_place : Site → ℕ → Place
-site_place (Objective p) n = place parts.Objective p n 0
-site_place (Constraint p i) n = place parts.Constraint p i n
+site_place (Objective p) n = place part_kinds.Objective p n 0
+site_place (Constraint p i) n = place part_kinds.Constraint p i n
 
 -- 0 for each of n variables
 abbrev pub zeros : ℕ → List ℤ

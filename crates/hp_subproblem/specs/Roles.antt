@@ -1,8 +1,8 @@
 -- The roles of a subproblem's variables.
 use Rattle.std.specs.Prelude.{ℕ, List, [], replicate, slice_get, slice_set, Option, Some, None, Bool, true, false, Result, Ok, if◌then◌else◌}
-use Rattle.hp_problem.specs.declared.refusal.Refusal.{Refusal}
-use Rattle.hp_problem.specs.declared.refusal.RefusalKind.TheVariants as kinds
-use Rattle.hp_problem.specs.declared.refusal.Place.{Place}
+use Rattle.hp_parts.specs.declared.refusal.Refusal.{Refusal}
+use Rattle.hp_parts.specs.declared.refusal.RefusalKind.TheVariants as kinds
+use Rattle.hp_parts.specs.declared.refusal.Place.{Place}
 use Rattle.hp_fields.specs.Fields.{refuse}
 use Rattle.hp_subproblem.specs.declared.role.Role.{Role}
 use Rattle.hp_subproblem.specs.declared.role.Role.TheVariants.{Free, Incoming, Outgoing, Random}

@@ -2,13 +2,13 @@
 use Rattle.std.specs.Prelude.{ℕ, ◌+◌, ℤ, pos, List, [], ◌∷◌, map, if◌then◌else◌}
 use Rattle.std.specs.Ordering.{int_eq}
 use Rattle.hp_num.specs.Sums.{entry}
-use Rattle.hp_problem.specs.declared.raw.Row.{Row}
+use Rattle.hp_parts.specs.declared.parts.Row.{Row}
 use Rattle.hp_subproblem.specs.declared.variables.Variables.{Variables}
-use Rattle.hp_subproblem.specs.declared.sides.Sides.{Sides}
+use Rattle.hp_subproblem.specs.declared.sides.RowSides.{RowSides}
 
 -- the coefficients of some of the variables
-unfoldable pub picked : List ℕ → List ℤ → List ℤ
-picked vs coefficients = map (entry coefficients) vs
+unfoldable pub picked_coefficients : List ℕ → List ℤ → List ℤ
+picked_coefficients vs coefficients = map (entry coefficients) vs
 
 -- the entries that are not 0 with their numbers, where the first entry's number is k
 abbrev pub terms_from : ℕ → List ℤ → List (ℕ × ℤ)
@@ -16,11 +16,11 @@ terms_from k [] = []
 terms_from k (x ∷ xs) = if int_eq x (pos 0) then terms_from (k + 1) xs else (k, x) ∷ terms_from (k + 1) xs
 
 -- one row between the sides
-unfoldable pub row_of : Variables → List ℤ → Sides → Row
+unfoldable pub row_of : Variables → List ℤ → RowSides → Row
 row_of vars coefficients sides = record {
   low = sides.low;
   high = sides.high;
-  decisions = terms_from 0 (picked vars.decisions coefficients);
-  states = terms_from 0 (picked vars.uses.incoming coefficients);
-  randoms = terms_from 0 (picked vars.uses.randoms coefficients);
+  decisions = terms_from 0 (picked_coefficients vars.decisions coefficients);
+  states = terms_from 0 (picked_coefficients vars.uses.incoming coefficients);
+  randoms = terms_from 0 (picked_coefficients vars.uses.randoms coefficients);
 }

@@ -3,10 +3,10 @@ use Rattle.std.specs.Prelude.{ℕ, List, [], ◌∷◌, ◌++◌, Bool, true, fa
 use Rattle.std.specs.Str.{bytes_eq}
 use Rattle.serde_json.specs.Data.{Data, Members, no_members, member}
 use Rattle.serde_json.specs.Find.{get}
-use Rattle.hp_problem.specs.declared.raw.State.{State}
-use Rattle.hp_problem.specs.declared.refusal.Refusal.{Refusal}
-use Rattle.hp_problem.specs.declared.refusal.RefusalKind.TheVariants as kinds
-use Rattle.hp_problem.specs.declared.refusal.Part.TheVariants as parts
+use Rattle.hp_parts.specs.declared.parts.State.{State}
+use Rattle.hp_parts.specs.declared.refusal.Refusal.{Refusal}
+use Rattle.hp_parts.specs.declared.refusal.RefusalKind.TheVariants as kinds
+use Rattle.hp_parts.specs.declared.refusal.Part.TheVariants as part_kinds
 use Rattle.hp_fields.specs.Steps.{◌>>=◌, walk_members}
 use Rattle.hp_fields.specs.Fields.{place, refuse, present_at, string_at}
 use Rattle.hp_fields.specs.Limits.{known_at}
@@ -22,20 +22,20 @@ are_keys (s ∷ ss) no_members = false
 are_keys (s ∷ ss) (member k d ms) = bytes_eq k s.name && are_keys ss ms
 
 -- both variables of a state: first both are strings, then both are known, then neither is used
-unfoldable pub state_at : List (List ℕ) → ℕ → Uses → ℕ → List ℕ → Data → Result Uses Refusal
-state_at names p found s k d = do
-  before ← present_at (place parts.State p s 0) (get (codes "in") d)
-  first ← string_at (place parts.State p s 0) before
-  after ← present_at (place parts.State p s 0) (get (codes "out") d)
-  second ← string_at (place parts.State p s 0) after
-  incoming ← known_at (place parts.State p s 0) (position (bytes_eq first) names)
-  outgoing ← known_at (place parts.State p s 0) (position (bytes_eq second) names)
-  once ← taken_at (place parts.State p s 0) found.roles incoming Incoming
-  twice ← taken_at (place parts.State p s 0) once outgoing Outgoing
+unfoldable pub uses_of_state_at : List (List ℕ) → ℕ → Uses → ℕ → List ℕ → Data → Result Uses Refusal
+uses_of_state_at names p found s k d = do
+  before ← present_at (place part_kinds.State p s 0) (get (codes "in") d)
+  first ← string_at (place part_kinds.State p s 0) before
+  after ← present_at (place part_kinds.State p s 0) (get (codes "out") d)
+  second ← string_at (place part_kinds.State p s 0) after
+  incoming ← known_at (place part_kinds.State p s 0) (position (bytes_eq first) names)
+  outgoing ← known_at (place part_kinds.State p s 0) (position (bytes_eq second) names)
+  once ← taken_at (place part_kinds.State p s 0) found.roles incoming Incoming
+  twice ← taken_at (place part_kinds.State p s 0) once outgoing Outgoing
   Ok (record found { roles = twice; incoming = found.incoming ++ incoming ∷ []; outgoing = found.outgoing ++ outgoing ∷ [] })
 
 unfoldable pub each_state_at : List (List ℕ) → ℕ → Uses → Members → Result Uses Refusal
-each_state_at names p found ms = walk_members (state_at names p) found 0 ms
+each_state_at names p found ms = walk_members (uses_of_state_at names p) found 0 ms
 
-unfoldable pub states_at : List State → List (List ℕ) → ℕ → Uses → Members → Result Uses Refusal
-states_at states names p found ms = if are_keys states ms then each_state_at names p found ms else refuse kinds.States (place parts.Subproblem p 0 0)
+unfoldable pub uses_of_states_at : List State → List (List ℕ) → ℕ → Uses → Members → Result Uses Refusal
+uses_of_states_at states names p found ms = if are_keys states ms then each_state_at names p found ms else refuse kinds.States (place part_kinds.Subproblem p 0 0)

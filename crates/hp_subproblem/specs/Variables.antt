@@ -4,10 +4,10 @@ use Rattle.std.specs.Str.{bytes_eq}
 use Rattle.std.specs.List.{list_any}
 use Rattle.serde_json.specs.Data.{Data, Items}
 use Rattle.serde_json.specs.Find.{get}
-use Rattle.hp_problem.specs.declared.refusal.Refusal.{Refusal}
-use Rattle.hp_problem.specs.declared.refusal.RefusalKind.TheVariants as kinds
-use Rattle.hp_problem.specs.declared.refusal.Part.TheVariants as parts
-use Rattle.hp_problem.specs.declared.refusal.Place.{Place}
+use Rattle.hp_parts.specs.declared.refusal.Refusal.{Refusal}
+use Rattle.hp_parts.specs.declared.refusal.RefusalKind.TheVariants as kinds
+use Rattle.hp_parts.specs.declared.refusal.Part.TheVariants as part_kinds
+use Rattle.hp_parts.specs.declared.refusal.Place.{Place}
 use Rattle.hp_fields.specs.Steps.{◌>>=◌, walk_items}
 use Rattle.hp_fields.specs.Fields.{place, refuse, present_at}
 use Rattle.hp_fields.specs.Limits.{name_at}
@@ -18,9 +18,9 @@ fresh_at at found name = if list_any (bytes_eq name) found then refuse kinds.Dup
 
 unfoldable pub variable_at : ℕ → List (List ℕ) → ℕ → Data → Result (List (List ℕ)) Refusal
 variable_at p found i d = do
-  inner ← present_at (place parts.Variable p i 0) (get (codes "name") d)
-  name ← name_at (place parts.Variable p i 0) inner
-  fresh_at (place parts.Variable p i 0) found name
+  inner ← present_at (place part_kinds.Variable p i 0) (get (codes "name") d)
+  name ← name_at (place part_kinds.Variable p i 0) inner
+  fresh_at (place part_kinds.Variable p i 0) found name
 
 unfoldable pub names_at : ℕ → Items → Result (List (List ℕ)) Refusal
 names_at p ds = walk_items (variable_at p) [] 0 ds

@@ -1,16 +1,32 @@
 // The boxes of decisions and incoming states.
 ghost use Rattle.std.specs.Prelude.{◌≡◌, ◌<◌, ◌^◌, [], length, slice_get, slice_index_or, IfOk};
 ghost use Rattle.hp_fields.specs.Steps.{Gives};
-ghost use Rattle.hp_subproblem.specs.Boxes.{bound_at, decision_at, incoming_at, box_at, sides_of, variable_at, boxes_at, lows_of, highs_of};
+ghost use Rattle.hp_subproblem.specs.Boxes.{bound_at, decision_at, incoming_at, box_at, sides_of, variable_box_at, boxes_at, given_low_bounds, given_high_bounds};
 
 use crate::role::Role;
 use crate::rows::coefficient_of;
-use crate::sides::Sides;
+use crate::sides::RowSides;
 use crate::variables::Variables;
 use hp_fields::{ReadRefusal, few};
 use hp_num::{List, Memory, Name};
-use hp_problem::{Decision, Part, Place, Refusal, RefusalKind};
+use hp_parts::{Decision, Part, Place, Refusal, RefusalKind};
 use std::alloc::Global;
+
+/// The variables of a subproblem with their sides and costs.
+#[derive(Clone, Copy)]
+struct Columns<'a> {
+    variables: &'a Variables,
+    bounds: &'a [RowSides],
+    costs: &'a [i64],
+}
+
+/// One variable: its name, its sides and its cost.
+#[derive(Clone, Copy)]
+struct Column<'a> {
+    name: &'a str,
+    sides: RowSides,
+    cost: i64,
+}
 
 #[tactic(auto, unfolding(crate::specs::Boxes::bound_at))]
 fn bound(side: Option<i64>, place: Place) -> Result<i64, Refusal>
@@ -26,13 +42,12 @@ fn bound(side: Option<i64>, place: Place) -> Result<i64, Refusal>
 fn decision(
     alloc: Global,
     found: &mut List<Decision>,
-    name: &str,
-    sides: Sides,
-    cost: i64,
+    column: Column,
     place: Place,
 ) -> Result<(), ReadRefusal>
-    ensures { Gives (λ _. found.new) result (decision_at place found.old name.now sides cost) }
+    ensures { Gives (λ _. found.new) result (decision_at place found.old column.entry.name.now column.entry.sides column.entry.cost) }
 {
+    let Column { name, sides, cost } = column;
     let low = bound(sides.low, place)?;
     let high = bound(sides.high, place)?;
     sides.ordered(place)?;
@@ -51,17 +66,15 @@ fn variable_box(
     alloc: Global,
     found: &mut List<Decision>,
     role: Option<Role>,
-    name: &str,
-    sides: Sides,
-    cost: i64,
+    column: Column,
     place: Place,
 ) -> Result<(), ReadRefusal>
-    ensures { Gives (λ _. found.new) result (box_at place found.old role name.now sides cost) }
+    ensures { Gives (λ _. found.new) result (box_at place found.old role column.entry.name.now column.entry.sides column.entry.cost) }
 {
     match role {
-        Some(Role::Free | Role::Outgoing) => decision(alloc, found, name, sides, cost, place),
+        Some(Role::Free | Role::Outgoing) => decision(alloc, found, column, place),
         Some(Role::Incoming) => {
-            sides.ordered(place)?;
+            column.sides.ordered(place)?;
             Ok(())
         }
         Some(Role::Random) | None => Ok(()),
@@ -74,32 +87,38 @@ fn role_of(variable: usize, roles: &[Role]) -> Option<Role>
     roles.get(variable).copied()
 }
 
-fn sides_at(bounds: &[Sides], variable: usize) -> Sides
+fn sides_at(bounds: &[RowSides], variable: usize) -> RowSides
     ensures { result ≡ sides_of bounds.now variable }
 {
-    bounds.get(variable).copied().unwrap_or(Sides::NONE)
+    bounds.get(variable).copied().unwrap_or(RowSides::NONE)
 }
 
-#[tactic(auto, unfolding(crate::specs::Boxes::variable_at))]
+#[tactic(auto, unfolding(crate::specs::Boxes::variable_box_at))]
 fn variable(
     alloc: Global,
-    variables: &Variables,
+    columns: Columns,
     p: u32,
-    bounds: &[Sides],
-    costs: &[i64],
     found: &mut List<Decision>,
     i: usize,
 ) -> Result<(), ReadRefusal>
-    requires known { i < length variables.now.names }
+    requires known { i < length columns.variables.now.names }
     requires few { i < 2 ^ 24 }
     ensures { Gives (λ _. found.new) result
-        (variable_at variables.now p bounds.now costs.now found.old i (slice_index_or variables.now.names i [])) }
+        (variable_box_at columns.entry.variables.now p columns.entry.bounds.now columns.entry.costs.now found.old i (slice_index_or columns.entry.variables.now.names i [])) }
 {
+    let Columns {
+        variables,
+        bounds,
+        costs,
+    } = columns;
     let role = role_of(i, variables.uses.roles.as_slice());
-    let name = variables.names.name(i);
-    let cost = coefficient_of(i, costs);
+    let column = Column {
+        name: variables.names.name(i),
+        sides: sides_at(bounds, i),
+        cost: coefficient_of(i, costs),
+    };
     let place = Place::new(Part::Variable, p, i as u32, 0);
-    variable_box(alloc, found, role, name, sides_at(bounds, i), cost, place)
+    variable_box(alloc, found, role, column, place)
 }
 
 /// The decisions with their boxes and costs: Unbounded where a side of a decision is absent,
@@ -108,7 +127,7 @@ pub(crate) fn boxes(
     alloc: Global,
     variables: &Variables,
     p: u32,
-    bounds: &[Sides],
+    bounds: &[RowSides],
     costs: &[i64],
 ) -> Result<List<Decision>, ReadRefusal>
     ensures { Gives (λ l. l) result (boxes_at variables.now p bounds.now costs.now) }
@@ -116,19 +135,24 @@ pub(crate) fn boxes(
     few(variables.names.len())?;
     let mut found = List::new(alloc);
     for i in 0..variables.names.len() {
-        variable(alloc, variables, p, bounds, costs, &mut found, i)?;
+        let columns = Columns {
+            variables,
+            bounds,
+            costs,
+        };
+        variable(alloc, columns, p, &mut found, i)?;
     }
     Ok(found)
 }
 
 /// The given lower bounds of some variables, one entry per variable that is given.
-#[tactic(auto, unfolding(crate::specs::Boxes::lows_of))]
+#[tactic(auto, unfolding(crate::specs::Boxes::given_low_bounds))]
 pub(crate) fn lows(
     alloc: Global,
-    bounds: &[Sides],
+    bounds: &[RowSides],
     variables: &[usize],
 ) -> Result<List<Option<i64>>, Memory>
-    ensures { IfOk result (λ l. l ≡ lows_of bounds.now variables.now) }
+    ensures { IfOk result (λ l. l ≡ given_low_bounds bounds.now variables.now) }
 {
     let mut found = List::new(alloc);
     for variable in variables {
@@ -138,13 +162,13 @@ pub(crate) fn lows(
 }
 
 /// The given upper bounds of some variables, one entry per variable that is given.
-#[tactic(auto, unfolding(crate::specs::Boxes::highs_of))]
+#[tactic(auto, unfolding(crate::specs::Boxes::given_high_bounds))]
 pub(crate) fn highs(
     alloc: Global,
-    bounds: &[Sides],
+    bounds: &[RowSides],
     variables: &[usize],
 ) -> Result<List<Option<i64>>, Memory>
-    ensures { IfOk result (λ l. l ≡ highs_of bounds.now variables.now) }
+    ensures { IfOk result (λ l. l ≡ given_high_bounds bounds.now variables.now) }
 {
     let mut found = List::new(alloc);
     for variable in variables {

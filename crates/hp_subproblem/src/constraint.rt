@@ -7,11 +7,11 @@ ghost use Rattle.hp_subproblem.specs.Constraint.{narrowed, bounded, joined_at, c
 use crate::function::{Function, Site, read_function};
 use crate::role::Role;
 use crate::rows::row;
-use crate::sides::{Sides, set};
+use crate::sides::{RowSides, set};
 use crate::variables::Variables;
 use hp_fields::{ReadRefusal, few, object, present};
 use hp_num::{List, Memory};
-use hp_problem::{Part, Place, Row};
+use hp_parts::{Part, Place, Row};
 use serde_json::Value;
 use std::alloc::Global;
 
@@ -19,7 +19,7 @@ use std::alloc::Global;
 #[derive(Drop)]
 pub(crate) struct Constraints {
     /// One entry per variable; a random variable has no bounds.
-    pub(crate) bounds: List<Sides>,
+    pub(crate) bounds: List<RowSides>,
     pub(crate) rows: List<Row>,
 }
 
@@ -28,14 +28,14 @@ impl Constraints {
         ensures { IfOk result (λ c. c ≡ no_constraints count) }
     {
         Ok(Constraints {
-            bounds: List::from_vec(vec![in alloc; Sides::NONE; count]?),
+            bounds: List::from_vec(vec![in alloc; RowSides::NONE; count]?),
             rows: List::new(alloc),
         })
     }
 }
 
 #[tactic(auto, unfolding(crate::specs::Constraint::narrowed))]
-fn narrow(bounds: &mut List<Sides>, variable: usize, sides: Sides)
+fn narrow(bounds: &mut List<RowSides>, variable: usize, sides: RowSides)
     ensures { bounds.new ≡ narrowed bounds.old variable sides }
 {
     if let Some(before) = bounds.as_slice().get(variable) {
@@ -61,7 +61,7 @@ fn join(
     variables: &Variables,
     found: &mut Constraints,
     function: &Function,
-    sides: Sides,
+    sides: RowSides,
     place: Place,
 ) -> Result<(), ReadRefusal>
     ensures { Gives (λ _. found.new) result

@@ -1,13 +1,12 @@
 // The variables that are decisions.
-ghost use Rattle.std.specs.Prelude.{◌≡◌, ◌≤◌, length, IfOk};
+ghost use Rattle.std.specs.Prelude.{◌≡◌, IfOk};
 ghost use Rattle.hp_fields.specs.Steps.{Gives};
 ghost use Rattle.hp_subproblem.specs.Decisions.{is_decision, decisions_from, decisions_at};
 
 use crate::role::Role;
 use hp_fields::ReadRefusal;
 use hp_num::{List, Memory};
-use hp_problem::limits::MOST_DECISIONS;
-use hp_problem::{Part, Place, RefusalKind};
+use hp_parts::{MOST_DECISIONS, Part, Place, RefusalKind};
 use std::alloc::Global;
 
 impl Role {

@@ -1,13 +1,13 @@
 // Affine functions of the variables.
-ghost use Rattle.std.specs.Prelude.{◌≡◌, ◌≤◌, ◌+◌, ◌*◌, ◌^◌, ◌+ℤ◌, length, unsigned_abs, IfOk, option_map};
+ghost use Rattle.std.specs.Prelude.{◌≡◌, ◌≤◌, ◌+◌, ◌*◌, ◌^◌, ◌+ℤ◌, unsigned_abs, IfOk, option_map};
 ghost use Rattle.std.specs.List.{All};
 ghost use Rattle.serde_json.specs.View.{view, items_view};
 ghost use Rattle.hp_fields.specs.Steps.{Gives, Shows};
-ghost use Rattle.hp_subproblem.specs.Function.{site_place, zeros, zero_function, single_function, variable_function_at, raised, term_at, terms_at, constant_at, coefficient_at, coefficients_at, affine_function_at, function_at};
+ghost use Rattle.hp_subproblem.specs.Function.{site_place, zero_function, single_function, variable_function_at, raised, term_at, terms_at, constant_at, coefficient_at, coefficients_at, affine_function_at, function_at};
 
 use hp_fields::{Names, ReadRefusal, array, few, known, limited, present, string, whole};
 use hp_num::{List, Memory};
-use hp_problem::{Part, Place, Refusal, RefusalKind};
+use hp_parts::{Part, Place, Refusal, RefusalKind};
 use serde_json::Value;
 use std::alloc::Global;
 

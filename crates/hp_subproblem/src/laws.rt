@@ -1,16 +1,16 @@
 // The reader gives what a subproblem says in the file. The law is the contract of a function with an empty body.
 ghost use Rattle.std.specs.Prelude.{◌≡◌, ℕ, List, map, Ok, IsSomeAnd};
 ghost use Rattle.serde_json.specs.Data.{Data};
-ghost use Rattle.hp_problem.specs.declared.raw.State.{State};
-ghost use Rattle.hp_problem.specs.declared.raw.Subproblem.{Subproblem};
-ghost use Rattle.hp_file.specs.File.{stage_of};
-ghost use Rattle.hp_subproblem.specs.Subproblem.{subproblem_at};
+ghost use Rattle.hp_parts.specs.declared.parts.State.{State};
+ghost use Rattle.hp_parts.specs.declared.parts.Subproblem.{Subproblem};
+ghost use Rattle.hp_file.specs.File.{file_stage_of};
+ghost use Rattle.hp_subproblem.specs.Subproblem.{read_subproblem_at};
 ghost use Rattle.hp_subproblem.specs.Said.{StageSaid};
 
 /// The stage that a subproblem of the file says is the one that the reader gives: its constraints are kept exactly
 /// where boxes, rows and given bounds are, and it costs the same.
 pub fn stage_said()
     ensures { (states : List State) (p : ℕ) (k : List ℕ) (d : Data) (s : Subproblem)
-        → subproblem_at states p k d ≡ Ok s
-        → IsSomeAnd (stage_of d) (λ st. StageSaid (map (λ (q : State). q.name) states) st s) }
+        → read_subproblem_at states p k d ≡ Ok s
+        → IsSomeAnd (file_stage_of d) (λ st. StageSaid (map (λ (q : State). q.name) states) st s) }
 {}

@@ -1,12 +1,11 @@
 // The cost of a stage.
-ghost use Rattle.std.specs.Prelude.{◌≡◌};
 ghost use Rattle.serde_json.specs.View.{view};
 ghost use Rattle.hp_fields.specs.Steps.{Gives};
 ghost use Rattle.hp_subproblem.specs.Objective.{costs_at, objective_at};
 
 use crate::function::{Function, Site, read_function};
 use hp_fields::{Names, ReadRefusal, present, string};
-use hp_problem::{Part, Place, RefusalKind};
+use hp_parts::{Part, Place, RefusalKind};
 use serde_json::Value;
 use std::alloc::Global;
 

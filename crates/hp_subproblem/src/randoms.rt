@@ -1,5 +1,5 @@
 // The variables that are random.
-ghost use Rattle.std.specs.Prelude.{◌≡◌, ◌≤◌, length};
+ghost use Rattle.std.specs.Prelude.{◌≤◌, length};
 ghost use Rattle.serde_json.specs.View.{view, items_view};
 ghost use Rattle.hp_fields.specs.Steps.{Gives};
 ghost use Rattle.hp_subproblem.specs.Randoms.{random_at, each_random_at, randoms_at};
@@ -7,8 +7,7 @@ ghost use Rattle.hp_subproblem.specs.Randoms.{random_at, each_random_at, randoms
 use crate::role::{Role, Uses, take};
 use hp_fields::{Names, ReadRefusal, known, string};
 use hp_num::Name;
-use hp_problem::limits::MOST_RANDOMS;
-use hp_problem::{Part, Place, RefusalKind};
+use hp_parts::{MOST_RANDOMS, Part, Place, RefusalKind};
 use serde_json::Value;
 use std::alloc::Global;
 

@@ -1,10 +1,10 @@
 // The roles of a subproblem's variables.
-ghost use Rattle.std.specs.Prelude.{◌≡◌, length, IfOk};
+ghost use Rattle.std.specs.Prelude.{◌≡◌, IfOk};
 ghost use Rattle.hp_fields.specs.Steps.{Shows};
 ghost use Rattle.hp_subproblem.specs.Roles.{taken_at, unused};
 
 use hp_num::{List, Memory, Name};
-use hp_problem::{Place, Refusal, RefusalKind};
+use hp_parts::{Place, Refusal, RefusalKind};
 use std::alloc::Global;
 
 /// The role of a variable.

@@ -1,13 +1,13 @@
 // Rows, and the terms in them.
-ghost use Rattle.std.specs.Prelude.{◌≡◌, ℕ, ℤ, IfOk};
+ghost use Rattle.std.specs.Prelude.{◌≡◌, IfOk};
 ghost use Rattle.hp_num.specs.Sums.{entry};
-ghost use Rattle.hp_subproblem.specs.Rows.{picked, terms_from, row_of};
+ghost use Rattle.hp_subproblem.specs.Rows.{picked_coefficients, terms_from, row_of};
 
-use crate::sides::Sides;
+use crate::sides::RowSides;
 use crate::variables::Variables;
 use hp_fields::few;
 use hp_num::{List, Memory};
-use hp_problem::Row;
+use hp_parts::Row;
 use std::alloc::Global;
 
 /// The coefficient of a variable.
@@ -18,13 +18,13 @@ pub(crate) fn coefficient_of(variable: usize, coefficients: &[i64]) -> i64
 }
 
 /// The coefficients of some of the variables, one entry per variable that is given.
-#[tactic(auto, unfolding(crate::specs::Rows::picked))]
+#[tactic(auto, unfolding(crate::specs::Rows::picked_coefficients))]
 pub(crate) fn picked(
     alloc: Global,
     variables: &[usize],
     coefficients: &[i64],
 ) -> Result<List<i64>, Memory>
-    ensures { IfOk result (λ l. l ≡ picked variables.now coefficients.now) }
+    ensures { IfOk result (λ l. l ≡ picked_coefficients variables.now coefficients.now) }
 {
     let mut found = List::new(alloc);
     for variable in variables {
@@ -52,7 +52,7 @@ pub(crate) fn row(
     alloc: Global,
     variables: &Variables,
     coefficients: &[i64],
-    sides: Sides,
+    sides: RowSides,
 ) -> Result<Row, Memory>
     ensures { IfOk result (λ r. r ≡ row_of variables.now coefficients.now sides) }
 {

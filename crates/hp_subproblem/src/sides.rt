@@ -1,15 +1,15 @@
 // The sides between which a function stands.
 ghost use Rattle.std.specs.Prelude.{◌≡◌};
 ghost use Rattle.serde_json.specs.View.{view};
-ghost use Rattle.hp_subproblem.specs.Sides.{no_sides, is_crossed, ordered_at, side_at, equal_at, greater_at, less_at, interval_at, set_at, greater_of, lesser_of, intersection, shifted_side_at, shifted_at};
+ghost use Rattle.hp_subproblem.specs.Sides.{is_crossed, ordered_at, side_at, equal_at, greater_at, less_at, interval_at, set_at, greater_of, lesser_of, intersection, shifted_side_at, shifted_at};
 
 use hp_fields::{limited, present, string, whole};
-use hp_problem::{Place, Refusal, RefusalKind};
+use hp_parts::{Place, Refusal, RefusalKind};
 use serde_json::Value;
 
 /// A lower and an upper side, where either may be absent.
 #[derive(Clone, Copy)]
-pub(crate) struct Sides {
+pub(crate) struct RowSides {
     pub(crate) low: Option<i64>,
     pub(crate) high: Option<i64>,
 }
@@ -53,16 +53,16 @@ fn shifted_side(side: Option<i64>, constant: i64, place: Place) -> Result<Option
     }
 }
 
-impl Sides {
+impl RowSides {
     /// Neither side.
-    pub(crate) const NONE: Sides = Sides {
+    pub(crate) const NONE: RowSides = RowSides {
         low: None,
         high: None,
     };
 
     /// The sides, or EmptyBox where the lower one is above the upper one.
     #[tactic(auto, unfolding(crate::specs::Sides::ordered_at))]
-    pub(crate) fn ordered(self, place: Place) -> Result<Sides, Refusal>
+    pub(crate) fn ordered(self, place: Place) -> Result<RowSides, Refusal>
         ensures { result ≡ ordered_at place self }
     {
         if is_crossed(self.low, self.high) {
@@ -72,10 +72,10 @@ impl Sides {
     }
 
     /// Gives the intersection with other sides.
-    pub(crate) fn intersection(self, other: Sides) -> Sides
+    pub(crate) fn intersection(self, other: RowSides) -> RowSides
         ensures { result ≡ intersection self other }
     {
-        Sides {
+        RowSides {
             low: greater(self.low, other.low),
             high: lesser(self.high, other.high),
         }
@@ -83,12 +83,12 @@ impl Sides {
 
     /// The sides less a constant: TooLarge past 2^40 in absolute value.
     #[tactic(auto, unfolding(crate::specs::Sides::shifted_at))]
-    pub(crate) fn shifted(self, constant: i64, place: Place) -> Result<Sides, Refusal>
+    pub(crate) fn shifted(self, constant: i64, place: Place) -> Result<RowSides, Refusal>
         ensures { result ≡ shifted_at place constant self }
     {
         let low = shifted_side(self.low, constant, place)?;
         let high = shifted_side(self.high, constant, place)?;
-        Ok(Sides { low, high })
+        Ok(RowSides { low, high })
     }
 }
 
@@ -100,45 +100,45 @@ fn side(value: &Value, key: &str, place: Place) -> Result<i64, Refusal>
 }
 
 #[tactic(auto, unfolding(crate::specs::Sides::equal_at))]
-fn equal(value: &Value, place: Place) -> Result<Sides, Refusal>
+fn equal(value: &Value, place: Place) -> Result<RowSides, Refusal>
     ensures { result ≡ equal_at place (view value.now) }
 {
     let value = side(value, "value", place)?;
-    Ok(Sides {
+    Ok(RowSides {
         low: Some(value),
         high: Some(value),
     })
 }
 
 #[tactic(auto, unfolding(crate::specs::Sides::greater_at))]
-fn greater_than(value: &Value, place: Place) -> Result<Sides, Refusal>
+fn greater_than(value: &Value, place: Place) -> Result<RowSides, Refusal>
     ensures { result ≡ greater_at place (view value.now) }
 {
     let lower = side(value, "lower", place)?;
-    Ok(Sides {
+    Ok(RowSides {
         low: Some(lower),
         high: None,
     })
 }
 
 #[tactic(auto, unfolding(crate::specs::Sides::less_at))]
-fn less_than(value: &Value, place: Place) -> Result<Sides, Refusal>
+fn less_than(value: &Value, place: Place) -> Result<RowSides, Refusal>
     ensures { result ≡ less_at place (view value.now) }
 {
     let upper = side(value, "upper", place)?;
-    Ok(Sides {
+    Ok(RowSides {
         low: None,
         high: Some(upper),
     })
 }
 
 #[tactic(auto, unfolding(crate::specs::Sides::interval_at))]
-fn interval(value: &Value, place: Place) -> Result<Sides, Refusal>
+fn interval(value: &Value, place: Place) -> Result<RowSides, Refusal>
     ensures { result ≡ interval_at place (view value.now) }
 {
     let lower = side(value, "lower", place)?;
     let upper = side(value, "upper", place)?;
-    let sides = Sides {
+    let sides = RowSides {
         low: Some(lower),
         high: Some(upper),
     };
@@ -147,7 +147,7 @@ fn interval(value: &Value, place: Place) -> Result<Sides, Refusal>
 
 /// A set's sides: Unsupported for any type but `EqualTo`, `GreaterThan`, `LessThan` and `Interval`.
 #[tactic(auto, unfolding(crate::specs::Sides::set_at))]
-pub(crate) fn set(value: &Value, place: Place) -> Result<Sides, Refusal>
+pub(crate) fn set(value: &Value, place: Place) -> Result<RowSides, Refusal>
     ensures { result ≡ set_at place (view value.now) }
 {
     let kind = string(present(value.get("type"), place)?, place)?;

@@ -1,12 +1,12 @@
 // The parts of a stage.
 ghost use Rattle.std.specs.Prelude.{◌≡◌, []};
-ghost use Rattle.serde_json.specs.View.{view, members_view, items_view};
+ghost use Rattle.serde_json.specs.View.{view, items_view};
 ghost use Rattle.hp_fields.specs.Steps.{Shows};
 ghost use Rattle.hp_subproblem.specs.StageParts.{array_under, object_under, stage_parts_at};
 ghost use Rattle.hp_subproblem.specs.Shown.{shown};
 
 use hp_fields::{array, items, members, object, present};
-use hp_problem::{Place, Refusal};
+use hp_parts::{Place, Refusal};
 use serde_json::{Map, Value};
 
 /// The parts of a subproblem's object.

@@ -1,11 +1,11 @@
 // One stage problem, of its parts.
 ghost use Rattle.std.specs.Prelude.{◌≡◌, ◌==◌, ◌<◌, ◌≤◌, length, position, IfOk, IfSome};
 ghost use Rattle.serde_json.specs.View.{view, items_view};
-ghost use Rattle.hp_fields.specs.Steps.{Gives, Shows};
+ghost use Rattle.hp_fields.specs.Steps.{Gives};
 ghost use Rattle.hp_subproblem.specs.Shown.{shown};
-ghost use Rattle.hp_subproblem.specs.Rows.{picked};
-ghost use Rattle.hp_subproblem.specs.Boxes.{lows_of, highs_of};
-ghost use Rattle.hp_subproblem.specs.Subproblem.{variables_at, number_of, outs_of, few_rows_at, subproblem_of, filled_at, subproblem_at};
+ghost use Rattle.hp_subproblem.specs.Rows.{picked_coefficients};
+ghost use Rattle.hp_subproblem.specs.Boxes.{given_low_bounds, given_high_bounds};
+ghost use Rattle.hp_subproblem.specs.Subproblem.{variables_at, decision_number_of, outs_of, few_rows_at, subproblem_from_parts, filled_at, read_subproblem_at};
 
 use crate::boxes::{boxes, highs, lows};
 use crate::constraint::{Constraints, read_constraints};
@@ -15,14 +15,13 @@ use crate::objective::objective;
 use crate::randoms::randoms;
 use crate::role::Uses;
 use crate::rows::picked;
-use crate::sides::Sides;
+use crate::sides::RowSides;
 use crate::stage_parts::{StageParts, read_stage_parts};
 use crate::states::states;
 use crate::variables::{Variables, variable_names};
 use hp_fields::{ReadRefusal, few, short};
 use hp_num::{List, Memory};
-use hp_problem::limits::MOST_ROWS;
-use hp_problem::{Decision, Part, Place, Refusal, RefusalKind, State, Subproblem};
+use hp_parts::{Decision, MOST_ROWS, Part, Place, Refusal, RefusalKind, State, Subproblem};
 use serde_json::{Map, Value};
 use std::alloc::Global;
 
@@ -55,9 +54,9 @@ fn place_of(variable: usize, decisions: &[usize]) -> Option<usize>
 }
 
 // The number of a decision, by its number among the variables.
-#[tactic(auto, unfolding(crate::specs::Subproblem::number_of))]
+#[tactic(auto, unfolding(crate::specs::Subproblem::decision_number_of))]
 fn number_of(variable: usize, decisions: &[usize]) -> usize
-    ensures number { result ≡ number_of decisions.now variable }
+    ensures number { result ≡ decision_number_of decisions.now variable }
     ensures within { result ≤ length decisions.now }
 {
     place_of(variable, decisions).unwrap_or(decisions.len())
@@ -106,8 +105,8 @@ fn given_costs(
     uses: &Uses,
     coefficients: &[i64],
 ) -> Result<(List<i64>, List<i64>), Memory>
-    ensures states { IfOk result (λ made. made.0 ≡ picked uses.now.incoming coefficients.now) }
-    ensures randoms { IfOk result (λ made. made.1 ≡ picked uses.now.randoms coefficients.now) }
+    ensures states { IfOk result (λ made. made.0 ≡ picked_coefficients uses.now.incoming coefficients.now) }
+    ensures randoms { IfOk result (λ made. made.1 ≡ picked_coefficients uses.now.randoms coefficients.now) }
 {
     let states = picked(alloc, uses.incoming.as_slice(), coefficients)?;
     Ok((
@@ -119,11 +118,11 @@ fn given_costs(
 // The given lower and upper bounds of some variables, one entry each per variable that is given.
 fn given_bounds(
     alloc: Global,
-    bounds: &[Sides],
+    bounds: &[RowSides],
     variables: &[usize],
 ) -> Result<(List<Option<i64>>, List<Option<i64>>), Memory>
-    ensures low { IfOk result (λ made. made.0 ≡ lows_of bounds.now variables.now) }
-    ensures high { IfOk result (λ made. made.1 ≡ highs_of bounds.now variables.now) }
+    ensures low { IfOk result (λ made. made.0 ≡ given_low_bounds bounds.now variables.now) }
+    ensures high { IfOk result (λ made. made.1 ≡ given_high_bounds bounds.now variables.now) }
 {
     let low = lows(alloc, bounds, variables)?;
     Ok((low, highs(alloc, bounds, variables)?))
@@ -133,13 +132,13 @@ fn listed(
     alloc: Global,
     variables: &Variables,
     coefficients: &[i64],
-    bounds: &[Sides],
+    bounds: &[RowSides],
 ) -> Result<Lists, Memory>
     ensures outs { IfOk result (λ made. made.outs ≡ outs_of variables.now.decisions variables.now.uses.outgoing) }
-    ensures state_costs { IfOk result (λ made. made.state_costs ≡ picked variables.now.uses.incoming coefficients.now) }
-    ensures random_costs { IfOk result (λ made. made.random_costs ≡ picked variables.now.uses.randoms coefficients.now) }
-    ensures low { IfOk result (λ made. made.low ≡ lows_of bounds.now variables.now.uses.incoming) }
-    ensures high { IfOk result (λ made. made.high ≡ highs_of bounds.now variables.now.uses.incoming) }
+    ensures state_costs { IfOk result (λ made. made.state_costs ≡ picked_coefficients variables.now.uses.incoming coefficients.now) }
+    ensures random_costs { IfOk result (λ made. made.random_costs ≡ picked_coefficients variables.now.uses.randoms coefficients.now) }
+    ensures low { IfOk result (λ made. made.low ≡ given_low_bounds bounds.now variables.now.uses.incoming) }
+    ensures high { IfOk result (λ made. made.high ≡ given_high_bounds bounds.now variables.now.uses.incoming) }
 {
     let uses = &variables.uses;
     let (state_costs, random_costs) = given_costs(alloc, uses, coefficients)?;
@@ -158,7 +157,7 @@ fn listed(
     })
 }
 
-#[tactic(auto, unfolding(crate::specs::Subproblem::subproblem_of))]
+#[tactic(auto, unfolding(crate::specs::Subproblem::subproblem_from_parts))]
 fn assembled(
     alloc: Global,
     variables: Variables,
@@ -166,7 +165,7 @@ fn assembled(
     found: Constraints,
     decisions: List<Decision>,
 ) -> Result<Subproblem, Memory>
-    ensures { IfOk result (λ s. s ≡ subproblem_of variables costs.now found decisions) }
+    ensures { IfOk result (λ s. s ≡ subproblem_from_parts variables costs.now found decisions) }
 {
     let coefficients = costs.coefficients.as_slice();
     let lists = listed(alloc, &variables, coefficients, found.bounds.as_slice())?;
@@ -204,7 +203,7 @@ fn filled(
 /// Subproblem p of a problem file, of this name: its decisions, rows and costs, or the first refusal.
 ///
 /// `states` are the root's states, in byte order of their names. Numbers are whole, in the units of the file.
-#[tactic(auto, unfolding(crate::specs::Subproblem::subproblem_at))]
+#[tactic(auto, unfolding(crate::specs::Subproblem::read_subproblem_at))]
 pub fn subproblem(
     alloc: Global,
     states: &[State],
@@ -212,7 +211,7 @@ pub fn subproblem(
     name: &str,
     value: &Value,
 ) -> Result<Subproblem, ReadRefusal>
-    ensures { Gives (λ s. s) result (subproblem_at states.now p name.now (view value.now)) }
+    ensures { Gives (λ s. s) result (read_subproblem_at states.now p name.now (view value.now)) }
 {
     let place = Place::new(Part::Subproblem, p, 0, 0);
     short(name, place)?;

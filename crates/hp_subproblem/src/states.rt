@@ -3,11 +3,11 @@ ghost use Rattle.std.specs.Prelude.{◌≡◌, ◌≤◌, ◌^◌};
 ghost use Rattle.serde_json.specs.Events.{members_len};
 ghost use Rattle.serde_json.specs.View.{view, members_view};
 ghost use Rattle.hp_fields.specs.Steps.{Gives};
-ghost use Rattle.hp_subproblem.specs.States.{are_keys, state_at, each_state_at, states_at};
+ghost use Rattle.hp_subproblem.specs.States.{are_keys, uses_of_state_at, each_state_at, uses_of_states_at};
 
 use crate::role::{Role, Uses, take};
 use hp_fields::{Names, ReadRefusal, count, few, known, present, string};
-use hp_problem::{Part, Place, RefusalKind, State};
+use hp_parts::{Part, Place, RefusalKind, State};
 use serde_json::{Map, Value};
 
 fn are_states(states: &[State], members: &Map<String, Value>) -> bool
@@ -26,7 +26,7 @@ fn are_states(states: &[State], members: &Map<String, Value>) -> bool
     left.is_empty()
 }
 
-#[tactic(auto, unfolding(crate::specs::States::state_at))]
+#[tactic(auto, unfolding(crate::specs::States::uses_of_state_at))]
 fn state(
     names: &Names,
     p: u32,
@@ -35,7 +35,7 @@ fn state(
     name: &str,
     value: &Value,
 ) -> Result<(), ReadRefusal>
-    ensures { Gives (λ _. found.new) result (state_at names.now p found.old s name.now (view value.now)) }
+    ensures { Gives (λ _. found.new) result (uses_of_state_at names.now p found.old s name.now (view value.now)) }
 {
     let place = Place::new(Part::State, p, s, 0);
     let first = string(present(value.get("in"), place)?, place)?;
@@ -67,7 +67,7 @@ fn each_state(
 }
 
 /// The variables of each state: the keys are the names of the states, else States.
-#[tactic(auto, unfolding(crate::specs::States::states_at))]
+#[tactic(auto, unfolding(crate::specs::States::uses_of_states_at))]
 pub(crate) fn states(
     states: &[State],
     names: &Names,
@@ -76,7 +76,7 @@ pub(crate) fn states(
     members: &Map<String, Value>,
 ) -> Result<(), ReadRefusal>
     ensures { Gives (λ _. found.new) result
-        (states_at states.now names.now p found.old (members_view members.now.entries)) }
+        (uses_of_states_at states.now names.now p found.old (members_view members.now.entries)) }
 {
     if !are_states(states, members) {
         let place = Place::new(Part::Subproblem, p, 0, 0);

@@ -1,5 +1,4 @@
 // The variables of a subproblem.
-ghost use Rattle.std.specs.Prelude.{◌≡◌};
 ghost use Rattle.serde_json.specs.View.{view, items_view};
 ghost use Rattle.hp_fields.specs.Steps.{Gives};
 ghost use Rattle.hp_subproblem.specs.Variables.{variable_at, names_at};
@@ -7,7 +6,7 @@ ghost use Rattle.hp_subproblem.specs.Variables.{variable_at, names_at};
 use crate::role::Uses;
 use hp_fields::{Names, ReadRefusal, few, name, present};
 use hp_num::List;
-use hp_problem::{Part, Place, RefusalKind};
+use hp_parts::{Part, Place, RefusalKind};
 use serde_json::Value;
 use std::alloc::Global;
 

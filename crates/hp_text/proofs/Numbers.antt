@@ -21,11 +21,11 @@ record IsNumeral (word : List ℕ) : Type 0 where
 
 parts : (word : List ℕ) → is_numeral word ≡ true → IsNumeral word
 parts [] h = cc
-parts (first ∷ rest) h = record { digits = grind (arith, nat_tests, h); some = omega arith; lead = λ zero. grind (arith, nat_tests, h) }
+parts (first ∷ tail) h = record { digits = grind (arith, nat_tests, h); some = omega arith; lead = λ zero. grind (arith, nat_tests, h) }
 
 whole : (word : List ℕ) → IsNumeral word → is_numeral word ≡ true
 whole [] h = absurd (omega arith)
-whole (first ∷ rest) h = grind (arith, nat_tests, h.digits, h.lead)
+whole (first ∷ tail) h = grind (arith, nat_tests, h.digits, h.lead)
 
 -- the value that `parse` gives of a numeral
 pub parsed : {E : Type 0} (word : List ℕ) (r : Result ℕ E) → ParsesUnsigned 64 10 word r → is_numeral word ≡ true → result_ok r ≡ number_of word

@@ -7,7 +7,7 @@ use Rattle.std.specs.Str.Parse.{digits_value}
 -- one or more digits, with no leading 0 but in the word `0`
 abbrev pub is_numeral : List ℕ → Bool
 is_numeral [] = false
-is_numeral (first ∷ rest) = list_all is_ascii_digit (first ∷ rest) && (not (first == 48) || length rest == 0)
+is_numeral (first ∷ tail) = list_all is_ascii_digit (first ∷ tail) && (not (first == 48) || length tail == 0)
 
 -- the number below 2^64 that a numeral spells
 unfoldable pub number_of : List ℕ → Option ℕ

@@ -23,7 +23,7 @@ fn is_numeral(word: &[u8]) -> bool
     ensures { result ≡ is_numeral word.now }
 {
     match word.split_first() {
-        Some((first, rest)) => has_only_digits(word) && (*first != b'0' || rest.is_empty()),
+        Some((first, tail)) => has_only_digits(word) && (*first != b'0' || tail.is_empty()),
         None => false,
     }
 }

@@ -6,10 +6,10 @@ use Rattle.std.proofs.lemmas.List.Elements.{All-push}
 use Rattle.hp_num.proofs.Floors.{floor_more}
 use Rattle.hp_num.proofs.Order.{le_refl, le_scale}
 use Rattle.hp_num.proofs.Sums.{total_le}
-use Rattle.hp_theory.specs.Bound.{greatest, value, weighted_value, bound}
+use Rattle.hp_theory.specs.Bound.{greatest_cut_value, value, weighted_value, bound}
 use Rattle.hp_theory.specs.Pools.{Holds, pool, Sound, push}
 use Rattle.hp_theory.specs.Premises.{HaveCuts}
-use Rattle.hp_theory.specs.Problem.{Link, Problem, link_weights}
+use Rattle.hp_theory.specs.Problem.{Successor, Problem, successor_weights}
 use Rattle.hp_theory.proofs.WorkedCertificates.{pools}
 use Rattle.hp_theory.specs.declared.cut.Cut.{Cut}
 
@@ -37,18 +37,18 @@ pushed_some (q ∷ qs) zero c h = longer q c
 pushed_some (q ∷ qs) (suc m) c h = pushed_some qs m c (omega arith)
 
 -- values
-greatest_more : (cs : List Cut) (c : Cut) (x : List ℤ) → 0 < length cs → greatest cs x ≤ℤ greatest (cs ++ c ∷ []) x
+greatest_more : (cs : List Cut) (c : Cut) (x : List ℤ) → 0 < length cs → greatest_cut_value cs x ≤ℤ greatest_cut_value (cs ++ c ∷ []) x
 greatest_more [] c x h = absurd (omega arith)
 greatest_more (d ∷ []) c x h = omega (arith, ints, clamps)
 greatest_more (d ∷ (e ∷ es)) c x h = omega (arith, ints, clamps, greatest_more (e ∷ es) c x (omega arith))
 
 pub value_more : (pools : List (List Cut)) (m : ℕ) (c : Cut) (k : ℕ) (x : List ℤ) → 0 < length (pool pools k) → value pools k x ≤ℤ value (push pools m c) k x
-value_more pools m c k x h = push_at pools m k c (λ cs. value pools k x ≤ℤ greatest cs x) (le_refl (value pools k x))
-    (λ e. subst (λ (j : ℕ). value pools k x ≤ℤ greatest (pool pools j ++ c ∷ []) x) e (greatest_more (pool pools k) c x h))
+value_more pools m c k x h = push_at pools m k c (λ cs. value pools k x ≤ℤ greatest_cut_value cs x) (le_refl (value pools k x))
+    (λ e. subst (λ (j : ℕ). value pools k x ≤ℤ greatest_cut_value (pool pools j ++ c ∷ []) x) e (greatest_more (pool pools k) c x h))
 
 -- the bound
-pub bound_more : (p : Problem) (pools : List (List Cut)) (m : ℕ) (c : Cut) → 0 < sum (link_weights p.root) → HaveCuts pools p.root → bound p pools ≤ℤ bound p (push pools m c)
+pub bound_more : (p : Problem) (pools : List (List Cut)) (m : ℕ) (c : Cut) → 0 < sum (successor_weights p.root) → HaveCuts pools p.root → bound p pools ≤ℤ bound p (push pools m c)
 bound_more p pools m c z h =
-    floor_more (weighted_value pools p.initial p.root) (weighted_value (push pools m c) p.initial p.root) (sum (link_weights p.root)) z
-    (total_le (λ (l : Link). 0 < length (pool pools l.node)) (λ (l : Link). pos l.weight *ℤ value pools l.node p.initial) (λ (l : Link). pos l.weight *ℤ value (push pools m c) l.node p.initial) p.root h
+    floor_more (weighted_value pools p.initial p.root) (weighted_value (push pools m c) p.initial p.root) (sum (successor_weights p.root)) z
+    (total_le (λ (l : Successor). 0 < length (pool pools l.node)) (λ (l : Successor). pos l.weight *ℤ value pools l.node p.initial) (λ (l : Successor). pos l.weight *ℤ value (push pools m c) l.node p.initial) p.root h
     (λ l q. le_scale l.weight (value pools l.node p.initial) (value (push pools m c) l.node p.initial) (value_more pools m c l.node p.initial q)))

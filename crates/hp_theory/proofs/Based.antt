@@ -5,9 +5,9 @@ use Rattle.std.proofs.lemmas.List.{length-set, length-replicate, get_or-set_same
 use Rattle.std.proofs.lemmas.List.Elements.{All-push, All-weaker}
 use Rattle.hp_paths.proofs.Paths.{one_of}
 use Rattle.hp_paths.proofs.Placing.{behind}
-use Rattle.hp_problem.specs.Sealed.{Sealed, is_sealed}
+use Rattle.hp_problem.specs.Validated.{Validated, is_validated}
 use Rattle.hp_theory.specs.declared.cut.Cut.{Cut}
-use Rattle.hp_theory.specs.Problem.{Link, Problem, node_at}
+use Rattle.hp_theory.specs.Problem.{Successor, Problem, node_at}
 use Rattle.hp_theory.specs.View.{problem_of}
 use Rattle.hp_theory.specs.Pools.{pool, push, Holds, Sound}
 use Rattle.hp_theory.specs.CutOf.{divisor, cut_of}
@@ -21,8 +21,8 @@ use Rattle.hp_theory.proofs.SizeToFit.{size_to_fit}
 use Rattle.hp_theory.proofs.SoundBase.{base_right, no_cuts}
 use Rattle.hp_theory.proofs.Appending.{push_at, push_sound}
 use Rattle.hp_theory.proofs.Ranges.{none-range_of, within-range_of, some-range_of}
-use Rattle.hp_theory.proofs.SealedOrder.{Fresh, in_order-sealed, fresh-sealed, ordered-sealed}
-use Rattle.hp_theory.proofs.SealedPremises.{narrow-sealed}
+use Rattle.hp_theory.proofs.ValidatedOrder.{Fresh, in_order-validated, fresh-validated, ordered-validated}
+use Rattle.hp_theory.proofs.ValidatedPremises.{narrow-validated}
 
 -- the base cut of a node over the cuts made before
 abbrev pub base_cut : Problem → List (List Cut) → ℕ → Cut
@@ -72,12 +72,12 @@ module _ (p : Problem) (count : ℕ) (done : List ℕ) (m : ℕ) (ms : List ℕ)
   pub fit_for : FitFor p count pools m
   fit_for = record {
     lists = f.lists;
-    some = All-weaker (λ (l : Link). (0 < l.weight) × Contains done l.node) (λ (l : Link). 0 < length (pool pools l.node)) (λ l q. some_done l.node q.1) (node_at p m).links f.order.2;
-    cuts = λ i d h. f.fits (get_or (node_at p m).links i d).node;
+    some = All-weaker (λ (l : Successor). (0 < l.weight) × Contains done l.node) (λ (l : Successor). 0 < length (pool pools l.node)) (λ l q. some_done l.node q.1) (node_at p m).successors f.order.2;
+    cuts = λ i d h. f.fits (get_or (node_at p m).successors i d).node;
   }
 
   holds : Holds p m (base_cut p pools m)
-  holds = weak_duality p pools m (base_list (node_at p m)) f.order.1 f.sound (base_right pools (node_at p m) (All-weaker (λ (l : Link). (0 < l.weight) × Contains done l.node) (λ (l : Link). (0 < l.weight) × (0 < length (pool pools l.node))) (λ l q. (q.0, some_done l.node q.1)) (node_at p m).links f.order.2))
+  holds = weak_duality p pools m (base_list (node_at p m)) f.order.1 f.sound (base_right pools (node_at p m) (All-weaker (λ (l : Successor). (0 < l.weight) × Contains done l.node) (λ (l : Successor). (0 < l.weight) × (0 < length (pool pools l.node))) (λ l q. (q.0, some_done l.node q.1)) (node_at p m).successors f.order.2))
 
   with_cut : (c : Cut) → Holds p m c → CutFits (node_at p m) c → Filled p count (m ∷ done) ms (push pools m c)
   with_cut c h fit = record {
@@ -139,23 +139,23 @@ one-filled p count done pools f m h = ⊎_elim (f.one m) (λ d. absurd (omega (a
 pub fit-filled : (p : Problem) (count : ℕ) (done : List ℕ) (pools : List (List Cut)) → Filled p count done [] pools → Fit p count pools
 fit-filled p count done pools f = record { lists = f.lists; some = λ m h. omega (arith, one-filled p count done pools f m h); cuts = λ m h. f.fits m }
 
--- the base cuts of a sealed problem
-pub filled-sealed : (p : Sealed) → is_sealed p ≡ true → Filled (problem_of p) (length p.raw.nodes) [] p.order (replicate (length p.raw.nodes) [])
-filled-sealed p e = filled_none (problem_of p) (length p.raw.nodes) p.order (in_order-sealed p e) (fresh-sealed p e) (ordered-sealed p e)
+-- the base cuts of a validated problem
+pub filled-validated : (p : Validated) → is_validated p ≡ true → Filled (problem_of p) (length p.parts.nodes) [] p.order (replicate (length p.parts.nodes) [])
+filled-validated p e = filled_none (problem_of p) (length p.parts.nodes) p.order (in_order-validated p e) (fresh-validated p e) (ordered-validated p e)
 
-pub base-based : (p : Sealed) (pools : List (List Cut)) → based p ≡ Ok pools → base (problem_of p) (length p.raw.nodes) p.order ≡ pools
+pub base-based : (p : Validated) (pools : List (List Cut)) → based p ≡ Ok pools → base (problem_of p) (length p.parts.nodes) p.order ≡ pools
 unfolding based
-base-based p pools e = base_pools-from (problem_of p) p.order (replicate (length p.raw.nodes) []) pools e
+base-based p pools e = base_pools-from (problem_of p) p.order (replicate (length p.parts.nodes) []) pools e
 
-pub filled-based : (p : Sealed) (pools : List (List Cut)) → is_sealed p ≡ true → based p ≡ Ok pools → (all : List ℕ) × Filled (problem_of p) (length p.raw.nodes) all [] pools
+pub filled-based : (p : Validated) (pools : List (List Cut)) → is_validated p ≡ true → based p ≡ Ok pools → (all : List ℕ) × Filled (problem_of p) (length p.parts.nodes) all [] pools
 unfolding based
-filled-based p pools e is = filled-from (problem_of p) (length p.raw.nodes) [] p.order (replicate (length p.raw.nodes) []) pools (λ m h. narrow-sealed p m e h) (filled-sealed p e) is
+filled-based p pools e is = filled-from (problem_of p) (length p.parts.nodes) [] p.order (replicate (length p.parts.nodes) []) pools (λ m h. narrow-validated p m e h) (filled-validated p e) is
 
-pub sound-based : (p : Sealed) (pools : List (List Cut)) → is_sealed p ≡ true → based p ≡ Ok pools → Sound (problem_of p) pools
+pub sound-based : (p : Validated) (pools : List (List Cut)) → is_validated p ≡ true → based p ≡ Ok pools → Sound (problem_of p) pools
 sound-based p pools e is = (filled-based p pools e is).1.sound
 
-pub one-based : (p : Sealed) (pools : List (List Cut)) → is_sealed p ≡ true → based p ≡ Ok pools → (m : ℕ) → m < length p.raw.nodes → length (pool pools m) ≡ 1
-one-based p pools e is = let f = filled-based p pools e is in one-filled (problem_of p) (length p.raw.nodes) f.0 pools f.1
+pub one-based : (p : Validated) (pools : List (List Cut)) → is_validated p ≡ true → based p ≡ Ok pools → (m : ℕ) → m < length p.parts.nodes → length (pool pools m) ≡ 1
+one-based p pools e is = let f = filled-based p pools e is in one-filled (problem_of p) (length p.parts.nodes) f.0 pools f.1
 
-pub fit-based : (p : Sealed) (pools : List (List Cut)) → is_sealed p ≡ true → based p ≡ Ok pools → Fit (problem_of p) (length p.raw.nodes) pools
-fit-based p pools e is = let f = filled-based p pools e is in fit-filled (problem_of p) (length p.raw.nodes) f.0 pools f.1
+pub fit-based : (p : Validated) (pools : List (List Cut)) → is_validated p ≡ true → based p ≡ Ok pools → Fit (problem_of p) (length p.parts.nodes) pools
+fit-based p pools e is = let f = filled-based p pools e is in fit-filled (problem_of p) (length p.parts.nodes) f.0 pools f.1

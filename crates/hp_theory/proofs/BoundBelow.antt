@@ -6,12 +6,12 @@ use Rattle.hp_num.specs.Sums.{entry, dot}
 use Rattle.hp_num.proofs.Order.{le_scale, floor_at_most}
 use Rattle.hp_num.proofs.Ring.{ring, var, ◌⊕◌, ◌⊗◌}
 use Rattle.hp_num.proofs.Sums.{All_head, All_tail}
-use Rattle.hp_theory.specs.Bound.{greatest, weighted_value, bound, Under}
+use Rattle.hp_theory.specs.Bound.{greatest_cut_value, weighted_value, bound, Under}
 use Rattle.hp_theory.specs.Cost.{cost, policy_cost, costs_of}
 use Rattle.hp_theory.specs.Fraction.{Fraction, ◌≤ᶠ◌, times, weighted}
 use Rattle.hp_theory.specs.Pools.{cut_value, pool, Sound}
 use Rattle.hp_theory.specs.Premises.{StartsIn, RootShaped, HaveCuts}
-use Rattle.hp_theory.specs.Problem.{S, Link, Node, Problem, node_at, link_weights}
+use Rattle.hp_theory.specs.Problem.{S, Successor, Node, Problem, node_at, successor_weights}
 use Rattle.hp_theory.specs.Tree.{InBox, times_all, Forest, no_tree, tree, FeasibleForest}
 use Rattle.hp_theory.proofs.Fractions.{ratio, below_none, below_plus, below_times, below_over, below_less, below_cancel}
 use Rattle.hp_theory.specs.declared.cut.Cut.{Cut}
@@ -55,33 +55,33 @@ greater_by P x y a b = pick (int_lt y x)
     pick true = a
     pick false = b
 
-pub all_cuts : (x : List ℤ) (f : Fraction) (cs : List Cut) → 0 < length cs → All (λ (c : Cut). ratio (c.alpha +ℤ dot c.beta x) S ≤ᶠ f) cs → ratio (greatest cs x) S ≤ᶠ f
+pub all_cuts : (x : List ℤ) (f : Fraction) (cs : List Cut) → 0 < length cs → All (λ (c : Cut). ratio (c.alpha +ℤ dot c.beta x) S ≤ᶠ f) cs → ratio (greatest_cut_value cs x) S ≤ᶠ f
 all_cuts x f [] z h = absurd (omega arith)
 all_cuts x f (c ∷ []) z h = All_head (λ (c : Cut). ratio (c.alpha +ℤ dot c.beta x) S ≤ᶠ f) c [] h
 all_cuts x f (c ∷ (d ∷ cs)) z h =
-    greater_by (λ a. ratio a S ≤ᶠ f) (c.alpha +ℤ dot c.beta x) (greatest (d ∷ cs) x) (All_head (λ (c : Cut). ratio (c.alpha +ℤ dot c.beta x) S ≤ᶠ f) c (d ∷ cs) h)
+    greater_by (λ a. ratio a S ≤ᶠ f) (c.alpha +ℤ dot c.beta x) (greatest_cut_value (d ∷ cs) x) (All_head (λ (c : Cut). ratio (c.alpha +ℤ dot c.beta x) S ≤ᶠ f) c (d ∷ cs) h)
     (all_cuts x f (d ∷ cs) (omega arith) (All_tail (λ (c : Cut). ratio (c.alpha +ℤ dot c.beta x) S ≤ᶠ f) c (d ∷ cs) h))
 
-roots : (p : Problem) (pools : List (List Cut)) (units : ℕ) (ls : List Link) (f : Forest) → 0 < units → Sound p pools → All (λ (l : Link). StartsIn p (node_at p l.node)) ls → HaveCuts pools ls
-    → FeasibleForest p units ls (times_all units p.initial) f → ratio (weighted_value pools p.initial ls) S ≤ᶠ weighted (link_weights ls) (costs_of p units ls (times_all units p.initial) f)
+roots : (p : Problem) (pools : List (List Cut)) (units : ℕ) (ls : List Successor) (f : Forest) → 0 < units → Sound p pools → All (λ (l : Successor). StartsIn p (node_at p l.node)) ls → HaveCuts pools ls
+    → FeasibleForest p units ls (times_all units p.initial) f → ratio (weighted_value pools p.initial ls) S ≤ᶠ weighted (successor_weights ls) (costs_of p units ls (times_all units p.initial) f)
 roots p pools units [] f z s b c h = below_none S
 roots p pools units (l ∷ ls) no_tree z s b c h = absurd h
 roots p pools units (l ∷ ls) (tree t f) z s b c h =
-    below_plus (pos l.weight *ℤ greatest (pool pools l.node) p.initial) (weighted_value pools p.initial ls) S (times l.weight (cost p units l.node (times_all units p.initial) t)) (weighted (link_weights ls) (costs_of p units ls (times_all units p.initial) f))
-    (below_times (greatest (pool pools l.node) p.initial) S l.weight (cost p units l.node (times_all units p.initial) t)
-    (all_cuts p.initial (cost p units l.node (times_all units p.initial) t) (pool pools l.node) (All_head (λ (l : Link). 0 < length (pool pools l.node)) l ls c)
+    below_plus (pos l.weight *ℤ greatest_cut_value (pool pools l.node) p.initial) (weighted_value pools p.initial ls) S (times l.weight (cost p units l.node (times_all units p.initial) t)) (weighted (successor_weights ls) (costs_of p units ls (times_all units p.initial) f))
+    (below_times (greatest_cut_value (pool pools l.node) p.initial) S l.weight (cost p units l.node (times_all units p.initial) t)
+    (all_cuts p.initial (cost p units l.node (times_all units p.initial) t) (pool pools l.node) (All_head (λ (l : Successor). 0 < length (pool pools l.node)) l ls c)
     (λ k d q. one_cut units p.initial (get_or (pool pools l.node) k d) (cost p units l.node (times_all units p.initial) t) z
-    (s l.node k d q units (times_all units p.initial) t z (start_in p units (node_at p l.node) (All_head (λ (l : Link). StartsIn p (node_at p l.node)) l ls b)) h.0))))
-    (roots p pools units ls f z s (All_tail (λ (l : Link). StartsIn p (node_at p l.node)) l ls b) (All_tail (λ (l : Link). 0 < length (pool pools l.node)) l ls c) h.1)
+    (s l.node k d q units (times_all units p.initial) t z (start_in p units (node_at p l.node) (All_head (λ (l : Successor). StartsIn p (node_at p l.node)) l ls b)) h.0))))
+    (roots p pools units ls f z s (All_tail (λ (l : Successor). StartsIn p (node_at p l.node)) l ls b) (All_tail (λ (l : Successor). 0 < length (pool pools l.node)) l ls c) h.1)
 
 pub sound_bound : (p : Problem) (pools : List (List Cut)) → RootShaped p → HaveCuts pools p.root → Sound p pools → Under p (bound p pools)
 sound_bound p pools sh cuts s units f z h =
-    let q : ℕ = sum (link_weights p.root) in
+    let q : ℕ = sum (successor_weights p.root) in
     let a : ℤ = weighted_value pools p.initial p.root in
     below_cancel (bound p pools) S q (policy_cost p units f) sh.some
     (below_less (pos q *ℤ bound p pools) a (q * S) (policy_cost p units f) (floor_at_most a q sh.some)
     (subst (λ (k : ℕ). ratio a k ≤ᶠ policy_cost p units f) (turn S q)
-    (below_over a S q (weighted (link_weights p.root) (costs_of p units p.root (times_all units p.initial) f)) (roots p pools units p.root f z s sh.boxes cuts h))))
+    (below_over a S q (weighted (successor_weights p.root) (costs_of p units p.root (times_all units p.initial) f)) (roots p pools units p.root f z s sh.boxes cuts h))))
   where
     turn : (s n : ℕ) → s * n ≡ n * s
     turn s n = omega arith

@@ -12,7 +12,7 @@ use Rattle.hp_theory.specs.CutOf.{scale, over_pairs, alpha_at, beta_at, alpha_su
 use Rattle.hp_theory.specs.Fraction.{Fraction, ◌≤ᶠ◌, plus, times, over, weighted}
 use Rattle.hp_theory.specs.Pools.{scaled_value, cut_value, Holds, pool, Sound, no_cut}
 use Rattle.hp_theory.specs.Premises.{Nested, Shaped}
-use Rattle.hp_theory.specs.Problem.{S, Realization, Link, Node, Problem, node_at, link_weights, realization_weight, successor_weight}
+use Rattle.hp_theory.specs.Problem.{S, Realization, Successor, Node, Problem, node_at, successor_weights, realization_weight, successor_weight}
 use Rattle.hp_theory.specs.Tree.{InBox, Decides, next_state, Tree, Forest, no_branch, branch, no_tree, tree, FeasibleTree, FeasibleForest}
 use Rattle.hp_theory.proofs.Fractions.{ratio, between, below_none, below_plus, below_times, below_over, below_less, below_cancel}
 use Rattle.hp_theory.proofs.OneStage.{sum_total, total_linear, stage_whole}
@@ -20,7 +20,7 @@ use Rattle.hp_theory.specs.declared.cut.Cut.{Cut}
 use Rattle.hp_theory.specs.declared.cut.Certificate.{Certificate}
 
 -- one stage
-one_pool : (pools : List (List Cut)) (units : ℕ) (x : List ℤ) (l : Link) (f : Fraction) (ss : List (ℕ × ℕ)) → All (λ c. cut_value units x c ≤ᶠ f) (pool pools l.node) → All (λ (s : ℕ × ℕ). s.0 < length (pool pools l.node)) ss
+one_pool : (pools : List (List Cut)) (units : ℕ) (x : List ℤ) (l : Successor) (f : Fraction) (ss : List (ℕ × ℕ)) → All (λ c. cut_value units x c ≤ᶠ f) (pool pools l.node) → All (λ (s : ℕ × ℕ). s.0 < length (pool pools l.node)) ss
     → ratio (total (λ (s : ℕ × ℕ). pos s.1 *ℤ scaled_value units x (cut_at pools l s)) ss) (S * units) ≤ᶠ times (multipliers ss) f
 one_pool pools units x l f [] h t = record { crossed = le_of_eq (pos 0 *ℤ pos f.under) (pos 0 *ℤ f.up *ℤ pos (S * units)) (ring (pos f.under ∷ f.up ∷ pos (S * units) ∷ []) (num (pos 0) ⊗ var 0) (num (pos 0) ⊗ var 1 ⊗ var 2) tt) }
 one_pool pools units x l f (s ∷ ss) h t =
@@ -35,8 +35,8 @@ one_pool pools units x l f (s ∷ ss) h t =
           (ring (pos s.1 ∷ pos (multipliers ss) ∷ f.up ∷ pos (S * units) ∷ []) (var 0 ⊗ (var 2 ⊗ var 3) ⊕ var 1 ⊗ var 2 ⊗ var 3) ((var 0 ⊕ var 1) ⊗ var 2 ⊗ var 3) tt);
     }
 
-one_link : (b : ℤ) (units m w : ℕ) (f : Fraction) → m ≡ S * w → ratio b (S * units) ≤ᶠ times m f → ratio b (S * S * units) ≤ᶠ times w f
-one_link b units m w f e h =
+one_successor : (b : ℤ) (units m w : ℕ) (f : Fraction) → m ≡ S * w → ratio b (S * units) ≤ᶠ times m f → ratio b (S * S * units) ≤ᶠ times w f
+one_successor b units m w f e h =
     let h' : ratio b (S * units) ≤ᶠ times (S * w) f = subst (λ (k : ℕ). ratio b (S * units) ≤ᶠ times k f) e h in
     record {
       crossed = le_trans (b *ℤ pos f.under) (pos (S * w) *ℤ f.up *ℤ pos (S * units)) (pos w *ℤ f.up *ℤ pos (S * S * units)) h'.crossed
@@ -44,25 +44,25 @@ one_link b units m w f e h =
           (ring (pos S ∷ pos w ∷ f.up ∷ pos units ∷ []) (var 0 ⊗ var 1 ⊗ var 2 ⊗ (var 0 ⊗ var 3)) (var 1 ⊗ var 2 ⊗ (var 0 ⊗ var 0 ⊗ var 3)) tt));
     }
 
-all_links : (pools : List (List Cut)) (units : ℕ) (x : List ℤ) (ls : List Link) (cs : List (List (ℕ × ℕ))) (fs : List Fraction) → length cs ≡ length ls → All (PairsRight pools) (zip ls cs) → AboveCuts pools units x ls fs
-    → ratio (total (λ (q : Link × List (ℕ × ℕ)). total (λ (s : ℕ × ℕ). pos s.1 *ℤ scaled_value units x (cut_at pools q.0 s)) q.1) (zip ls cs)) (S * S * units) ≤ᶠ weighted (link_weights ls) fs
-all_links pools units x [] cs fs e r h = below_none (S * S * units)
-all_links pools units x (l ∷ ls) [] fs e r h = absurd (omega arith)
-all_links pools units x (l ∷ ls) (c ∷ cs) [] e r h = absurd h
-all_links pools units x (l ∷ ls) (c ∷ cs) (f ∷ fs) e r h =
+all_successors : (pools : List (List Cut)) (units : ℕ) (x : List ℤ) (ls : List Successor) (cs : List (List (ℕ × ℕ))) (fs : List Fraction) → length cs ≡ length ls → All (PairsRight pools) (zip ls cs) → AboveCuts pools units x ls fs
+    → ratio (total (λ (q : Successor × List (ℕ × ℕ)). total (λ (s : ℕ × ℕ). pos s.1 *ℤ scaled_value units x (cut_at pools q.0 s)) q.1) (zip ls cs)) (S * S * units) ≤ᶠ weighted (successor_weights ls) fs
+all_successors pools units x [] cs fs e r h = below_none (S * S * units)
+all_successors pools units x (l ∷ ls) [] fs e r h = absurd (omega arith)
+all_successors pools units x (l ∷ ls) (c ∷ cs) [] e r h = absurd h
+all_successors pools units x (l ∷ ls) (c ∷ cs) (f ∷ fs) e r h =
     let q : PairsRight pools (l, c) = All_head (PairsRight pools) (l, c) (zip ls cs) r in
-    below_plus (total (λ (s : ℕ × ℕ). pos s.1 *ℤ scaled_value units x (cut_at pools l s)) c) (total (λ (q : Link × List (ℕ × ℕ)). total (λ (s : ℕ × ℕ). pos s.1 *ℤ scaled_value units x (cut_at pools q.0 s)) q.1) (zip ls cs)) (S * S * units) (times l.weight f) (weighted (link_weights ls) fs)
-    (one_link (total (λ (s : ℕ × ℕ). pos s.1 *ℤ scaled_value units x (cut_at pools l s)) c) units (multipliers c) l.weight f q.sum (one_pool pools units x l f c h.0 q.there))
-    (all_links pools units x ls cs fs (omega arith) (All_tail (PairsRight pools) (l, c) (zip ls cs) r) h.1)
+    below_plus (total (λ (s : ℕ × ℕ). pos s.1 *ℤ scaled_value units x (cut_at pools l s)) c) (total (λ (q : Successor × List (ℕ × ℕ)). total (λ (s : ℕ × ℕ). pos s.1 *ℤ scaled_value units x (cut_at pools q.0 s)) q.1) (zip ls cs)) (S * S * units) (times l.weight f) (weighted (successor_weights ls) fs)
+    (one_successor (total (λ (s : ℕ × ℕ). pos s.1 *ℤ scaled_value units x (cut_at pools l s)) c) units (multipliers c) l.weight f q.sum (one_pool pools units x l f c h.0 q.there))
+    (all_successors pools units x ls cs fs (omega arith) (All_tail (PairsRight pools) (l, c) (zip ls cs) r) h.1)
 
 pub one_stage : (pools : List (List Cut)) (units : ℕ) (n : Node) (c : Certificate) (values xi u : List ℤ) (fs : List Fraction) → length n.decision_low ≡ length n.costs → length xi ≡ length n.state_costs
-    → RightAt pools n c → Decides units n values xi u → AboveCuts pools units (next_state n u) n.links fs
-    → ratio (alpha_at pools n values c *ℤ pos units +ℤ sum_to (length n.state_costs) (λ k. beta_at n c k *ℤ entry xi k)) (S * S * successor_weight n * units) ≤ᶠ plus (stage units n values xi u) (over (weighted (link_weights n.links) fs) (successor_weight n))
+    → RightAt pools n c → Decides units n values xi u → AboveCuts pools units (next_state n u) n.successors fs
+    → ratio (alpha_at pools n values c *ℤ pos units +ℤ sum_to (length n.state_costs) (λ k. beta_at n c k *ℤ entry xi k)) (S * S * successor_weight n * units) ≤ᶠ plus (stage units n values xi u) (over (weighted (successor_weights n.successors) fs) (successor_weight n))
 one_stage pools units n c values xi u fs e ex r d h =
     let g : ℤ = over_pairs pools n c (λ cut. scaled_value units (next_state n u) cut) in
     let st : Fraction = stage units n values xi u in
-    let w : Fraction = weighted (link_weights n.links) fs in
-    let k : ratio g (S * S * units) ≤ᶠ w = all_links pools units (next_state n u) n.links c.cuts fs r.links r.pairs h in
+    let w : Fraction = weighted (successor_weights n.successors) fs in
+    let k : ratio g (S * S * units) ≤ᶠ w = all_successors pools units (next_state n u) n.successors c.cuts fs r.successors r.pairs h in
     below_less (alpha_at pools n values c *ℤ pos units +ℤ sum_to (length n.state_costs) (λ k. beta_at n c k *ℤ entry xi k)) (scale n *ℤ st.up +ℤ g) (S * S * successor_weight n * units) (plus st (over w (successor_weight n)))
     (stage_whole units pools n values xi u c e ex r.signs d)
     (below_plus (scale n *ℤ st.up) g (S * S * successor_weight n * units) st (over w (successor_weight n))
@@ -86,14 +86,14 @@ in_next units n m u h b = record {
       (le_trans (entry u (get_or n.outs k 0)) (pos units *ℤ entry n.decision_high (get_or n.outs k 0)) (pos units *ℤ entry m.high k) (b.below (get_or n.outs k 0) (h.outs k p)) (le_scale units (entry n.decision_high (get_or n.outs k 0)) (entry m.high k) (h.highs k p)));
 }
 
-costs_above : (p : Problem) (pools : List (List Cut)) (units : ℕ) (x : List ℤ) (ls : List Link) (f : Forest) → 0 < units → Sound p pools → All (λ (l : Link). InBox units (node_at p l.node).low (node_at p l.node).high x) ls
+costs_above : (p : Problem) (pools : List (List Cut)) (units : ℕ) (x : List ℤ) (ls : List Successor) (f : Forest) → 0 < units → Sound p pools → All (λ (l : Successor). InBox units (node_at p l.node).low (node_at p l.node).high x) ls
     → FeasibleForest p units ls x f → AboveCuts pools units x ls (costs_of p units ls x f)
 costs_above p pools units x [] no_tree z s b h = tt
 costs_above p pools units x (l ∷ ls) no_tree z s b h = absurd h
 costs_above p pools units x [] (tree t f) z s b h = absurd h
 costs_above p pools units x (l ∷ ls) (tree t f) z s b h = (
-  (λ k d q. s l.node k d q units x t z (All_head (λ (l : Link). InBox units (node_at p l.node).low (node_at p l.node).high x) l ls b) h.0),
-  costs_above p pools units x ls f z s (All_tail (λ (l : Link). InBox units (node_at p l.node).low (node_at p l.node).high x) l ls b) h.1,
+  (λ k d q. s l.node k d q units x t z (All_head (λ (l : Successor). InBox units (node_at p l.node).low (node_at p l.node).high x) l ls b) h.0),
+  costs_above p pools units x ls f z s (All_tail (λ (l : Successor). InBox units (node_at p l.node).low (node_at p l.node).high x) l ls b) h.1,
 )
 
 -- the average
@@ -109,10 +109,10 @@ average p pools units n xi (w ∷ rs) list no_branch z s sh ex e r h = absurd h
 average p pools units n xi (w ∷ rs) [] (branch u f t) z s sh ex e r h = absurd (omega arith)
 average p pools units n xi (w ∷ rs) (c ∷ list) (branch u f t) z s sh ex e r h =
     below_plus (pos w.weight *ℤ part pools units n xi (w, c)) (total (λ (q : Realization × Certificate). pos q.0.weight *ℤ part pools units n xi q) (zip rs list)) (S * S * successor_weight n * units)
-    (times w.weight (plus (stage units n w.values xi u) (over (weighted (link_weights n.links) (costs_of p units n.links (next_state n u) f)) (successor_weight n)))) (cost_sum p units n rs xi t)
-    (below_times (part pools units n xi (w, c)) (S * S * successor_weight n * units) w.weight (plus (stage units n w.values xi u) (over (weighted (link_weights n.links) (costs_of p units n.links (next_state n u) f)) (successor_weight n)))
-    (one_stage pools units n c w.values xi u (costs_of p units n.links (next_state n u) f) sh.decisions ex (All_head (RightAt pools n) c list r) h.0
-    (costs_above p pools units (next_state n u) n.links f z s (λ k d q. in_next units n (node_at p (get_or n.links k d).node) u (sh.nested k d q) h.0.box) h.1)))
+    (times w.weight (plus (stage units n w.values xi u) (over (weighted (successor_weights n.successors) (costs_of p units n.successors (next_state n u) f)) (successor_weight n)))) (cost_sum p units n rs xi t)
+    (below_times (part pools units n xi (w, c)) (S * S * successor_weight n * units) w.weight (plus (stage units n w.values xi u) (over (weighted (successor_weights n.successors) (costs_of p units n.successors (next_state n u) f)) (successor_weight n)))
+    (one_stage pools units n c w.values xi u (costs_of p units n.successors (next_state n u) f) sh.decisions ex (All_head (RightAt pools n) c list r) h.0
+    (costs_above p pools units (next_state n u) n.successors f z s (λ k d q. in_next units n (node_at p (get_or n.successors k d).node) u (sh.nested k d q) h.0.box) h.1)))
     (average p pools units n xi rs list t z s sh ex (omega arith) (All_tail (RightAt pools n) c list r) h.2)
 
 -- the rounding

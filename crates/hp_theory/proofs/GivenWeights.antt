@@ -21,5 +21,5 @@ length_reweighted (w ∷ ws) (r ∷ rs) e = ap suc (length_reweighted ws rs (ome
 pub right_with_weights : (pools : List (List Cut)) (ws : List ℕ) (n : Node) (list : List Certificate) → length ws ≡ length n.realizations → Right pools n list → Right pools (with_weights ws n) list
 right_with_weights pools ws n list e r = record {
   count = omega (arith, length_reweighted ws n.realizations e, r.count);
-  each = λ k d h. let q : RightAt pools n _ = r.each k d h in record { rows = q.rows; links = q.links; signs = q.signs; pairs = q.pairs };
+  each = λ k d h. let q : RightAt pools n _ = r.each k d h in record { rows = q.rows; successors = q.successors; signs = q.signs; pairs = q.pairs };
 }

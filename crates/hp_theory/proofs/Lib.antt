@@ -16,8 +16,8 @@ pub mod WorkedCertificates
 pub mod Views
 pub mod OneMore
 pub mod Ranges
-pub mod SealedParts
-pub mod SealedPremises
-pub mod SealedOrder
+pub mod ValidatedParts
+pub mod ValidatedPremises
+pub mod ValidatedOrder
 pub mod Based
 pub mod LeafBase

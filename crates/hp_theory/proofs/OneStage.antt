@@ -9,11 +9,11 @@ use Rattle.hp_theory.specs.Certificates.{SignRight, cut_at}
 use Rattle.hp_theory.specs.Cost.{stage}
 use Rattle.hp_theory.specs.CutOf.{side_of, side, scale, over_pairs, over_rows, reduced_cost, box_least, alpha_at, beta_at}
 use Rattle.hp_theory.specs.Pools.{scaled_value}
-use Rattle.hp_theory.specs.Problem.{S, Link, Node}
+use Rattle.hp_theory.specs.Problem.{S, Successor, Node}
 use Rattle.hp_theory.specs.Tree.{InBox, AtLeast, AtMost, RowHolds, Decides, next_state}
 use Rattle.hp_theory.proofs.Fractions.{between}
 use Rattle.hp_theory.proofs.Lists.{All-zip, All-both}
-use Rattle.hp_problem.specs.declared.raw.Row.{Row}
+use Rattle.hp_parts.specs.declared.parts.Row.{Row}
 use Rattle.hp_theory.specs.declared.cut.Cut.{Cut}
 use Rattle.hp_theory.specs.declared.cut.Certificate.{Certificate}
 
@@ -65,8 +65,8 @@ rows_sum d n c part x e = sum_total d (λ (q : Row × ℤ) j. q.1 *ℤ coefficie
 pairs_sum : (d : ℕ) (pools : List (List Cut)) (n : Node) (c : Certificate) (x : ℕ → ℤ) → ((j : ℕ) → d ≤ j → x j ≡ pos 0)
     → sum_to d (λ j. over_pairs pools n c (λ cut. coefficient (placed n.outs cut.beta) j) *ℤ x j) ≡ over_pairs pools n c (λ cut. at_terms (placed n.outs cut.beta) x)
 pairs_sum d pools n c x e =
-    sum_total d (λ (q : Link × List (ℕ × ℕ)) j. total (λ (s : ℕ × ℕ). pos s.1 *ℤ coefficient (placed n.outs (cut_at pools q.0 s).beta) j) q.1)
-    (λ (q : Link × List (ℕ × ℕ)). total (λ (s : ℕ × ℕ). pos s.1 *ℤ at_terms (placed n.outs (cut_at pools q.0 s).beta) x) q.1) x (zip n.links c.cuts)
+    sum_total d (λ (q : Successor × List (ℕ × ℕ)) j. total (λ (s : ℕ × ℕ). pos s.1 *ℤ coefficient (placed n.outs (cut_at pools q.0 s).beta) j) q.1)
+    (λ (q : Successor × List (ℕ × ℕ)). total (λ (s : ℕ × ℕ). pos s.1 *ℤ at_terms (placed n.outs (cut_at pools q.0 s).beta) x) q.1) x (zip n.successors c.cuts)
     (λ q. sum_total d (λ (s : ℕ × ℕ) j. pos s.1 *ℤ coefficient (placed n.outs (cut_at pools q.0 s).beta) j) (λ (s : ℕ × ℕ). pos s.1 *ℤ at_terms (placed n.outs (cut_at pools q.0 s).beta) x) x q.1
     (λ s. sum_factor d (pos s.1) (placed n.outs (cut_at pools q.0 s).beta) x e))
 
@@ -77,17 +77,17 @@ total_linear a f g h xs e = total_ext h (λ x. a *ℤ f x +ℤ g x) xs e ∙ tot
 pairs_linear : (pools : List (List Cut)) (n : Node) (c : Certificate) (a : ℤ) (f g h : Cut → ℤ) → ((x : Cut) → h x ≡ a *ℤ f x +ℤ g x)
     → over_pairs pools n c h ≡ a *ℤ over_pairs pools n c f +ℤ over_pairs pools n c g
 pairs_linear pools n c a f g h e =
-    total_ext (λ (q : Link × List (ℕ × ℕ)). total (λ (s : ℕ × ℕ). pos s.1 *ℤ h (cut_at pools q.0 s)) q.1)
-    (λ (q : Link × List (ℕ × ℕ)). a *ℤ total (λ (s : ℕ × ℕ). pos s.1 *ℤ f (cut_at pools q.0 s)) q.1 +ℤ total (λ (s : ℕ × ℕ). pos s.1 *ℤ g (cut_at pools q.0 s)) q.1) (zip n.links c.cuts)
+    total_ext (λ (q : Successor × List (ℕ × ℕ)). total (λ (s : ℕ × ℕ). pos s.1 *ℤ h (cut_at pools q.0 s)) q.1)
+    (λ (q : Successor × List (ℕ × ℕ)). a *ℤ total (λ (s : ℕ × ℕ). pos s.1 *ℤ f (cut_at pools q.0 s)) q.1 +ℤ total (λ (s : ℕ × ℕ). pos s.1 *ℤ g (cut_at pools q.0 s)) q.1) (zip n.successors c.cuts)
     (λ q. total_linear a (λ (s : ℕ × ℕ). pos s.1 *ℤ f (cut_at pools q.0 s)) (λ (s : ℕ × ℕ). pos s.1 *ℤ g (cut_at pools q.0 s)) (λ (s : ℕ × ℕ). pos s.1 *ℤ h (cut_at pools q.0 s)) q.1
     (λ s. ap (λ (k : ℤ). pos s.1 *ℤ k) (e (cut_at pools q.0 s)) ∙ ring (pos s.1 ∷ a ∷ f (cut_at pools q.0 s) ∷ g (cut_at pools q.0 s) ∷ []) (var 0 ⊗ (var 1 ⊗ var 2 ⊕ var 3)) (var 1 ⊗ (var 0 ⊗ var 2) ⊕ var 0 ⊗ var 3) tt))
-    ∙ total_linear a (λ (q : Link × List (ℕ × ℕ)). total (λ (s : ℕ × ℕ). pos s.1 *ℤ f (cut_at pools q.0 s)) q.1) (λ (q : Link × List (ℕ × ℕ)). total (λ (s : ℕ × ℕ). pos s.1 *ℤ g (cut_at pools q.0 s)) q.1)
-    (λ (q : Link × List (ℕ × ℕ)). a *ℤ total (λ (s : ℕ × ℕ). pos s.1 *ℤ f (cut_at pools q.0 s)) q.1 +ℤ total (λ (s : ℕ × ℕ). pos s.1 *ℤ g (cut_at pools q.0 s)) q.1) (zip n.links c.cuts) (λ q. refl)
+    ∙ total_linear a (λ (q : Successor × List (ℕ × ℕ)). total (λ (s : ℕ × ℕ). pos s.1 *ℤ f (cut_at pools q.0 s)) q.1) (λ (q : Successor × List (ℕ × ℕ)). total (λ (s : ℕ × ℕ). pos s.1 *ℤ g (cut_at pools q.0 s)) q.1)
+    (λ (q : Successor × List (ℕ × ℕ)). a *ℤ total (λ (s : ℕ × ℕ). pos s.1 *ℤ f (cut_at pools q.0 s)) q.1 +ℤ total (λ (s : ℕ × ℕ). pos s.1 *ℤ g (cut_at pools q.0 s)) q.1) (zip n.successors c.cuts) (λ q. refl)
 
 pairs_dot : (pools : List (List Cut)) (n : Node) (c : Certificate) (u : List ℤ) → over_pairs pools n c (λ cut. at_terms (placed n.outs cut.beta) (entry u)) ≡ over_pairs pools n c (λ cut. dot cut.beta (next_state n u))
 pairs_dot pools n c u =
-    total_ext (λ (q : Link × List (ℕ × ℕ)). total (λ (s : ℕ × ℕ). pos s.1 *ℤ at_terms (placed n.outs (cut_at pools q.0 s).beta) (entry u)) q.1)
-    (λ (q : Link × List (ℕ × ℕ)). total (λ (s : ℕ × ℕ). pos s.1 *ℤ dot (cut_at pools q.0 s).beta (next_state n u)) q.1) (zip n.links c.cuts)
+    total_ext (λ (q : Successor × List (ℕ × ℕ)). total (λ (s : ℕ × ℕ). pos s.1 *ℤ at_terms (placed n.outs (cut_at pools q.0 s).beta) (entry u)) q.1)
+    (λ (q : Successor × List (ℕ × ℕ)). total (λ (s : ℕ × ℕ). pos s.1 *ℤ dot (cut_at pools q.0 s).beta (next_state n u)) q.1) (zip n.successors c.cuts)
     (λ q. total_ext (λ (s : ℕ × ℕ). pos s.1 *ℤ at_terms (placed n.outs (cut_at pools q.0 s).beta) (entry u)) (λ (s : ℕ × ℕ). pos s.1 *ℤ dot (cut_at pools q.0 s).beta (next_state n u)) q.1
     (λ s. ap (λ (k : ℤ). pos s.1 *ℤ k) (dot_placed n.outs (cut_at pools q.0 s).beta (entry u))))
 

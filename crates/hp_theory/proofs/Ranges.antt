@@ -6,10 +6,10 @@ use Rattle.std.proofs.lemmas.List.Elements.{All-cons}
 use lib.IntN.{+ℤ_assoc, +ℤ_idl, +ℤ_idr}
 use Rattle.hp_num.specs.Sums.{sum_to, total, entry, dot, Term, same_place, coefficient, placed}
 use Rattle.hp_num.proofs.Order.{floor_at_most}
-use Rattle.hp_problem.specs.declared.raw.Row.{Row}
+use Rattle.hp_parts.specs.declared.parts.Row.{Row}
 use Rattle.hp_theory.specs.declared.cut.Cut.{Cut}
 use Rattle.hp_theory.specs.declared.cut.Certificate.{Certificate}
-use Rattle.hp_theory.specs.Problem.{S, Link, Node, Realization, successor_weight}
+use Rattle.hp_theory.specs.Problem.{S, Successor, Node, Realization, successor_weight}
 use Rattle.hp_theory.specs.Certificates.{cut_at}
 use Rattle.hp_theory.specs.CutOf.{scale, over_pairs, side, beta_sum, divisor, slope, remainder}
 use Rattle.hp_theory.specs.Size.{magnitude, magnitudes, terms_size, coefficient_size, reach, rows_size, reduced_size, alpha_size, beta_size, realization_size, remainder_size, size_of, size_parts, RangeAt}
@@ -31,8 +31,8 @@ some_total (z ∷ zs) h = omega (arith, ints, All_head (λ (z : ℤ). pos 0 ≤�
 pub none-range_from : (zs : List ℤ) (s : ℤ) (r : ℕ) → All (λ z. pos 0 ≤ℤ z) zs → (s +ℤ total (λ z. z) zs) ≤ℤ pos (2 ^ 127 - 1) → range_from s r zs ≡ None
 none-range_from [] s r h le = refl
 none-range_from (z ∷ zs) s r h le =
-    let rest = some_total zs (All_tail (λ (z : ℤ). pos 0 ≤ℤ z) z zs h) in
-    let here : (s +ℤ z) ≤ℤ pos (2 ^ 127 - 1) = omega (arith, ints, rest, le) in
+    let tail = some_total zs (All_tail (λ (z : ℤ). pos 0 ≤ℤ z) z zs h) in
+    let here : (s +ℤ z) ≤ℤ pos (2 ^ 127 - 1) = omega (arith, ints, tail, le) in
     let more : (s +ℤ z +ℤ total (λ z. z) zs) ≤ℤ pos (2 ^ 127 - 1) = omega (arith, ints, le) in
     rw (int_le-true (s +ℤ z) (pos (2 ^ 127 - 1)) here) (none-range_from zs (s +ℤ z) (suc r) (All_tail (λ (z : ℤ). pos 0 ≤ℤ z) z zs h) more)
 
@@ -93,7 +93,7 @@ pub some_rows : (n : Node) (c : Certificate) (f : Row → ℤ → ℤ) → ((row
 some_rows n c f h = total_some (λ (q : Row × ℤ). magnitude q.1 *ℤ f q.0 q.1) (zip n.rows c.rows) (λ q. some_mul (magnitude q.1) (f q.0 q.1) (some_magnitude q.1) (h q.0 q.1))
 
 pub some_pairs : (pools : List (List Cut)) (n : Node) (c : Certificate) (f : Cut → ℤ) → ((x : Cut) → pos 0 ≤ℤ f x) → pos 0 ≤ℤ over_pairs pools n c f
-some_pairs pools n c f h = total_some (λ (q : Link × List (ℕ × ℕ)). total (λ (s : ℕ × ℕ). pos s.1 *ℤ f (cut_at pools q.0 s)) q.1) (zip n.links c.cuts)
+some_pairs pools n c f h = total_some (λ (q : Successor × List (ℕ × ℕ)). total (λ (s : ℕ × ℕ). pos s.1 *ℤ f (cut_at pools q.0 s)) q.1) (zip n.successors c.cuts)
     (λ q. total_some (λ (s : ℕ × ℕ). pos s.1 *ℤ f (cut_at pools q.0 s)) q.1 (λ s. some_mul (pos s.1) (f (cut_at pools q.0 s)) (some_pos s.1) (h (cut_at pools q.0 s))))
 
 some_place : (i j : ℕ) → pos 0 ≤ℤ same_place i j

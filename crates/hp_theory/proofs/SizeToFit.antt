@@ -11,12 +11,12 @@ use Rattle.hp_theory.specs.Certificates.{cut_at}
 use Rattle.hp_theory.specs.CutOf.{side, scale, over_pairs, over_rows, reduced_cost, box_least, alpha_at, beta_at, alpha_sum, beta_sum, divisor, slope, remainder, cut_of}
 use Rattle.hp_theory.specs.Fit.{cut_size, CutFits}
 use Rattle.hp_theory.specs.Premises.{Narrow}
-use Rattle.hp_theory.specs.Problem.{S, Realization, Link, Node, realization_weight, successor_weight, with_weights}
+use Rattle.hp_theory.specs.Problem.{S, Realization, Successor, Node, realization_weight, successor_weight, with_weights}
 use Rattle.hp_theory.specs.Size.{magnitude, magnitudes, terms_size, coefficient_size, reach, rows_size, reduced_size, alpha_size, beta_size, size_of}
 use Rattle.hp_theory.proofs.Duality.{scale_some}
 use Rattle.hp_theory.proofs.Fractions.{between}
 use Rattle.hp_theory.proofs.OneStage.{sum_total}
-use Rattle.hp_problem.specs.declared.raw.Row.{Row}
+use Rattle.hp_parts.specs.declared.parts.Row.{Row}
 use Rattle.hp_theory.specs.declared.cut.Cut.{Cut}
 use Rattle.hp_theory.specs.declared.cut.Certificate.{Certificate}
 
@@ -72,7 +72,7 @@ size_rows n c f g h = size_total (λ (q : Row × ℤ). q.1 *ℤ f q.0 q.1) (λ (
 
 size_pairs : (pools : List (List Cut)) (n : Node) (c : Certificate) (f g : Cut → ℤ) → ((x : Cut) → magnitude (f x) ≤ℤ g x) → magnitude (over_pairs pools n c f) ≤ℤ over_pairs pools n c g
 size_pairs pools n c f g h =
-    size_total (λ (q : Link × List (ℕ × ℕ)). total (λ (s : ℕ × ℕ). pos s.1 *ℤ f (cut_at pools q.0 s)) q.1) (λ (q : Link × List (ℕ × ℕ)). total (λ (s : ℕ × ℕ). pos s.1 *ℤ g (cut_at pools q.0 s)) q.1) (zip n.links c.cuts)
+    size_total (λ (q : Successor × List (ℕ × ℕ)). total (λ (s : ℕ × ℕ). pos s.1 *ℤ f (cut_at pools q.0 s)) q.1) (λ (q : Successor × List (ℕ × ℕ)). total (λ (s : ℕ × ℕ). pos s.1 *ℤ g (cut_at pools q.0 s)) q.1) (zip n.successors c.cuts)
     (λ q. size_total (λ (s : ℕ × ℕ). pos s.1 *ℤ f (cut_at pools q.0 s)) (λ (s : ℕ × ℕ). pos s.1 *ℤ g (cut_at pools q.0 s)) q.1
     (λ s. size_times (pos s.1) (f (cut_at pools q.0 s)) (pos s.1) (g (cut_at pools q.0 s)) (le_refl (pos s.1)) (h (cut_at pools q.0 s))))
 

@@ -7,10 +7,10 @@ use Rattle.hp_theory.specs.Certificates.{SignRight, PairsRight, RightAt, Right}
 use Rattle.hp_theory.specs.CutOf.{cut_of}
 use Rattle.hp_theory.specs.Pools.{Holds, pool, Sound, push}
 use Rattle.hp_theory.specs.Premises.{InOrder}
-use Rattle.hp_theory.specs.Problem.{S, Realization, Link, Node, Problem, node_at}
+use Rattle.hp_theory.specs.Problem.{S, Realization, Successor, Node, Problem, node_at}
 use Rattle.hp_theory.proofs.Appending.{push_sound, kept_some, pushed_some}
 use Rattle.hp_theory.proofs.Duality.{scale_some, weak_duality}
-use Rattle.hp_problem.specs.declared.raw.Row.{Row}
+use Rattle.hp_parts.specs.declared.parts.Row.{Row}
 use Rattle.hp_theory.specs.declared.cut.Cut.{Cut}
 
 -- base certificates are right
@@ -19,14 +19,14 @@ signs [] = All-nil (λ (q : Row × ℤ). SignRight q.0 q.1)
 signs (r ∷ rs) = All-cons (λ (q : Row × ℤ). SignRight q.0 q.1) (r, pos 0) (zip rs (map (λ (row : Row). pos 0) rs)) tt (signs rs)
 
 -- a successor of some weight with a cut
-abbrev Ready : List (List Cut) → Link → Type 0
+abbrev Ready : List (List Cut) → Successor → Type 0
 Ready pools l = (0 < l.weight) × (0 < length (pool pools l.node))
 
-pairs : (pools : List (List Cut)) (ls : List Link) → All (Ready pools) ls → All (PairsRight pools) (zip ls (map (λ (l : Link). (0, S * l.weight) ∷ []) ls))
+pairs : (pools : List (List Cut)) (ls : List Successor) → All (Ready pools) ls → All (PairsRight pools) (zip ls (map (λ (l : Successor). (0, S * l.weight) ∷ []) ls))
 pairs pools [] h = All-nil (PairsRight pools)
 pairs pools (l ∷ ls) h =
     let a : Ready pools l = All-head (Ready pools) l ls h in
-    All-cons (PairsRight pools) (l, (0, S * l.weight) ∷ []) (zip ls (map (λ (l : Link). (0, S * l.weight) ∷ []) ls))
+    All-cons (PairsRight pools) (l, (0, S * l.weight) ∷ []) (zip ls (map (λ (l : Successor). (0, S * l.weight) ∷ []) ls))
     (record {
       rising = tt;
       there = All-cons (λ (s : ℕ × ℕ). s.0 < length (pool pools l.node)) (0, S * l.weight) [] a.1 (All-nil (λ (s : ℕ × ℕ). s.0 < length (pool pools l.node)));
@@ -35,14 +35,14 @@ pairs pools (l ∷ ls) h =
     })
     (pairs pools ls (All-tail (Ready pools) l ls h))
 
-base_right_at : (pools : List (List Cut)) (n : Node) → All (Ready pools) n.links → RightAt pools n (base_certificate n)
-base_right_at pools n h = record { rows = length-map n.rows (λ (row : Row). pos 0); links = length-map n.links (λ (l : Link). (0, S * l.weight) ∷ []); signs = signs n.rows; pairs = pairs pools n.links h }
+base_right_at : (pools : List (List Cut)) (n : Node) → All (Ready pools) n.successors → RightAt pools n (base_certificate n)
+base_right_at pools n h = record { rows = length-map n.rows (λ (row : Row). pos 0); successors = length-map n.successors (λ (l : Successor). (0, S * l.weight) ∷ []); signs = signs n.rows; pairs = pairs pools n.successors h }
 
 all_same : {A B : Type 0} (P : B → Type 0) (b : B) (xs : List A) → P b → All P (map (λ (x : A). b) xs)
 all_same P b [] h = All-nil P
 all_same P b (x ∷ xs) h = All-cons P b (map (λ x. b) xs) h (all_same P b xs h)
 
-pub base_right : (pools : List (List Cut)) (n : Node) → All (Ready pools) n.links → Right pools n (base_list n)
+pub base_right : (pools : List (List Cut)) (n : Node) → All (Ready pools) n.successors → Right pools n (base_list n)
 base_right pools n h = record { count = length-map n.realizations (λ (r : Realization). base_certificate n); each = all_same (RightAt pools n) (base_certificate n) n.realizations (base_right_at pools n h) }
 
 -- one node after the other
@@ -54,7 +54,7 @@ sound_steps p count done [] pools e d o s = s
 sound_steps p count done (m ∷ ms) pools e d o s =
     let n : Node = node_at p m in
     let c : Cut = cut_of pools n (base_list n) in
-    let ready : All (Ready pools) n.links = All-weaker (λ (l : Link). (0 < l.weight) × Contains done l.node) (Ready pools) (λ l h. (h.0, All-contains (Done pools) done l.node d h.1)) n.links o.2 in
+    let ready : All (Ready pools) n.successors = All-weaker (λ (l : Successor). (0 < l.weight) × Contains done l.node) (Ready pools) (λ l h. (h.0, All-contains (Done pools) done l.node d h.1)) n.successors o.2 in
     sound_steps p count (m ∷ done) ms (push pools m c) (length-set pools m (pool pools m ++ c ∷ []) ∙ e)
     (All-cons (Done (push pools m c)) m done (pushed_some pools m c (subst (λ (k : ℕ). m < k) (sym e) o.0)) (All-weaker (Done pools) (Done (push pools m c)) (λ k h. kept_some pools m k c h) done d))
     o.3 (push_sound p pools m c s (weak_duality p pools m (base_list n) o.1 s (base_right pools n ready)))

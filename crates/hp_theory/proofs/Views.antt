@@ -1,30 +1,30 @@
--- The definitions' view of a sealed problem, field by field.
+-- The definitions' view of a validated problem, field by field.
 use Rattle.std.proofs.Common.{◌≡◌, ℕ, zero, suc, ◌+◌, ◌<◌, ℤ, All, subst, List, [], ◌∷◌, length, map, get_or, sum, Some, None, refl, ap, sym, ◌∙◌, arith}
 use Rattle.std.proofs.lemmas.List.Sums.{sum_by-cons}
 use Rattle.std.specs.Prelude.{slice_get}
-use Rattle.hp_problem.specs.Sealed.{Sealed}
-use Rattle.hp_theory.specs.Problem.{Link, no_node, node_at, weight_of_realizations, link_weights}
-use Rattle.hp_theory.specs.View.{realizations_of, links_of, node_of, problem_of}
-use Rattle.hp_problem.specs.declared.raw.Decision.{Decision}
-use Rattle.hp_problem.specs.declared.raw.Subproblem.{Subproblem}
-use Rattle.hp_problem.specs.declared.raw.State.{State}
-use Rattle.hp_problem.specs.declared.raw.Node as nodes
+use Rattle.hp_problem.specs.Validated.{Validated}
+use Rattle.hp_theory.specs.Problem.{Successor, no_node, node_at, weight_of_realizations, successor_weights}
+use Rattle.hp_theory.specs.View.{realizations_of, successors_of, node_of, problem_of}
+use Rattle.hp_parts.specs.declared.parts.Decision.{Decision}
+use Rattle.hp_parts.specs.declared.parts.Subproblem.{Subproblem}
+use Rattle.hp_parts.specs.declared.parts.State.{State}
+use Rattle.hp_parts.specs.declared.parts.Node as nodes
 
 -- the node m, where it and its subproblem are there
-pub node_at-problem_of : (s : Sealed) (m : ℕ) (n : nodes.Node) (sub : Subproblem) → slice_get s.raw.nodes m ≡ Some n → slice_get s.raw.subs n.sub ≡ Some sub → node_at (problem_of s) m ≡ node_of n sub (get_or s.lo m []) (get_or s.hi m [])
+pub node_at-problem_of : (s : Validated) (m : ℕ) (n : nodes.Node) (sub : Subproblem) → slice_get s.parts.nodes m ≡ Some n → slice_get s.parts.subs n.sub ≡ Some sub → node_at (problem_of s) m ≡ node_of n sub (get_or s.lo m []) (get_or s.hi m [])
 unfolding problem_of
 node_at-problem_of s m n sub e f = rw (e, f) refl
 
 -- a node that is not there
-pub node_at-past : (s : Sealed) (m : ℕ) → slice_get s.raw.nodes m ≡ None → node_at (problem_of s) m ≡ no_node
+pub node_at-past : (s : Validated) (m : ℕ) → slice_get s.parts.nodes m ≡ None → node_at (problem_of s) m ≡ no_node
 unfolding problem_of
 node_at-past s m e = rw e refl
 
-pub root-problem_of : (s : Sealed) → (problem_of s).root ≡ links_of s.raw.root s.raw.root_weights
+pub root-problem_of : (s : Validated) → (problem_of s).root ≡ successors_of s.parts.root s.parts.root_weights
 unfolding problem_of
 root-problem_of s = refl
 
-pub initial-problem_of : (s : Sealed) → (problem_of s).initial ≡ map (λ (state : State). state.initial) s.raw.states
+pub initial-problem_of : (s : Validated) → (problem_of s).initial ≡ map (λ (state : State). state.initial) s.parts.states
 unfolding problem_of
 initial-problem_of s = refl
 
@@ -34,28 +34,28 @@ weight-realizations_of [] vs e = refl
 weight-realizations_of (w ∷ ws) [] e = absurd (omega arith)
 weight-realizations_of (w ∷ ws) (v ∷ vs) e = ap (λ k. w + k) (weight-realizations_of ws vs (omega arith)) ∙ sym (sum_by-cons (λ k. k) w ws)
 
-pub link_weights-links_of : (ms ws : List ℕ) → length ms ≡ length ws → link_weights (links_of ms ws) ≡ ws
-link_weights-links_of [] [] e = refl
-link_weights-links_of [] (w ∷ ws) e = absurd (omega arith)
-link_weights-links_of (m ∷ ms) [] e = absurd (omega arith)
-link_weights-links_of (m ∷ ms) (w ∷ ws) e = ap (λ (k : List ℕ). w ∷ k) (link_weights-links_of ms ws (omega arith))
+pub successor_weights-successors_of : (ms ws : List ℕ) → length ms ≡ length ws → successor_weights (successors_of ms ws) ≡ ws
+successor_weights-successors_of [] [] e = refl
+successor_weights-successors_of [] (w ∷ ws) e = absurd (omega arith)
+successor_weights-successors_of (m ∷ ms) [] e = absurd (omega arith)
+successor_weights-successors_of (m ∷ ms) (w ∷ ws) e = ap (λ (k : List ℕ). w ∷ k) (successor_weights-successors_of ms ws (omega arith))
 
--- the links of two lists, one by one
-pub link_at : (ms ws : List ℕ) (i : ℕ) (d : Link) → length ws ≡ length ms → i < length ms → get_or (links_of ms ws) i d ≡ record { node = get_or ms i 0; weight = get_or ws i 0 }
-link_at [] ws i d e h = absurd (omega arith)
-link_at (m ∷ ms) [] i d e h = absurd (omega arith)
-link_at (m ∷ ms) (w ∷ ws) zero d e h = refl
-link_at (m ∷ ms) (w ∷ ws) (suc i) d e h = link_at ms ws i d (omega arith) (omega arith)
+-- the arcs of two lists, one by one
+pub successor_at : (ms ws : List ℕ) (i : ℕ) (d : Successor) → length ws ≡ length ms → i < length ms → get_or (successors_of ms ws) i d ≡ record { node = get_or ms i 0; weight = get_or ws i 0 }
+successor_at [] ws i d e h = absurd (omega arith)
+successor_at (m ∷ ms) [] i d e h = absurd (omega arith)
+successor_at (m ∷ ms) (w ∷ ws) zero d e h = refl
+successor_at (m ∷ ms) (w ∷ ws) (suc i) d e h = successor_at ms ws i d (omega arith) (omega arith)
 
-pub length-links_of : (ms ws : List ℕ) → length ws ≡ length ms → length (links_of ms ws) ≡ length ms
-length-links_of [] ws e = refl
-length-links_of (m ∷ ms) [] e = absurd (omega arith)
-length-links_of (m ∷ ms) (w ∷ ws) e = ap suc (length-links_of ms ws (omega arith))
+pub length-successors_of : (ms ws : List ℕ) → length ws ≡ length ms → length (successors_of ms ws) ≡ length ms
+length-successors_of [] ws e = refl
+length-successors_of (m ∷ ms) [] e = absurd (omega arith)
+length-successors_of (m ∷ ms) (w ∷ ws) e = ap suc (length-successors_of ms ws (omega arith))
 
-pub All-links_of : (P : Link → Type 0) (ms ws : List ℕ) → length ws ≡ length ms → ((i : ℕ) → i < length ms → P (record { node = get_or ms i 0; weight = get_or ws i 0 })) → All P (links_of ms ws)
-All-links_of P ms ws e h = λ i d l.
-    let inside : i < length ms = omega (arith, l, length-links_of ms ws e) in
-    subst P (sym (link_at ms ws i d e inside)) (h i inside)
+pub All-successors_of : (P : Successor → Type 0) (ms ws : List ℕ) → length ws ≡ length ms → ((i : ℕ) → i < length ms → P (record { node = get_or ms i 0; weight = get_or ws i 0 })) → All P (successors_of ms ws)
+All-successors_of P ms ws e h = λ i d l.
+    let inside : i < length ms = omega (arith, l, length-successors_of ms ws e) in
+    subst P (sym (successor_at ms ws i d e inside)) (h i inside)
 
 module _ (n : nodes.Node) (s : Subproblem) (low high : List ℤ) where
   pub decision_low-node_of : (node_of n s low high).decision_low ≡ map (λ (d : Decision). d.low) s.decisions
@@ -102,9 +102,9 @@ module _ (n : nodes.Node) (s : Subproblem) (low high : List ℤ) where
   unfolding node_of
   realizations-node_of = refl
 
-  pub links-node_of : (node_of n s low high).links ≡ links_of n.links n.link_weights
+  pub successors-node_of : (node_of n s low high).successors ≡ successors_of n.successors n.successor_weights
   unfolding node_of
-  links-node_of = refl
+  successors-node_of = refl
 
   pub stop-node_of : (node_of n s low high).stop ≡ n.stop
   unfolding node_of

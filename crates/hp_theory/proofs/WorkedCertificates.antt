@@ -4,15 +4,15 @@ use Rattle.std.proofs.lemmas.List.Elements.{All-nil, All-cons}
 use Rattle.hp_theory.specs.Certificates.{SignRight, PairsRight, RightAt, Right}
 use Rattle.hp_theory.specs.Examples.{water, with_row, fork, with_pairs, edge}
 use Rattle.hp_theory.specs.Pools.{pool, no_cut}
-use Rattle.hp_theory.specs.Problem.{S, Link}
-use Rattle.hp_problem.specs.declared.raw.Row.{Row}
+use Rattle.hp_theory.specs.Problem.{S, Successor}
+use Rattle.hp_parts.specs.declared.parts.Row.{Row}
 use Rattle.hp_theory.specs.declared.cut.Cut.{Cut}
 
 -- one cut at each node
 abbrev pub pools : List (List Cut)
 pools = (no_cut ∷ []) ∷ (no_cut ∷ []) ∷ (no_cut ∷ []) ∷ []
 
-pair : (l : Link) (m : ℕ) → 0 < length (pool pools l.node) → 0 < m → m ≡ S * l.weight → PairsRight pools (l, (0, m) ∷ [])
+pair : (l : Successor) (m : ℕ) → 0 < length (pool pools l.node) → 0 < m → m ≡ S * l.weight → PairsRight pools (l, (0, m) ∷ [])
 pair l m there some e = record {
   rising = tt;
   there = All-cons (λ (s : ℕ × ℕ). s.0 < length (pool pools l.node)) (0, m) [] there (All-nil (λ (s : ℕ × ℕ). s.0 < length (pool pools l.node)));
@@ -24,14 +24,14 @@ pair l m there some e = record {
 pub right_pairs : Right pools (fork 0) (with_pairs 16777216 50331648 ∷ [])
 unfolding S
 right_pairs =
-    let first : Link = record { node = 0; weight = 1 } in
-    let second : Link = record { node = 1; weight = 3 } in
+    let first : Successor = record { node = 0; weight = 1 } in
+    let second : Successor = record { node = 1; weight = 3 } in
     record {
       count = refl;
       each = All-cons (RightAt pools (fork 0)) (with_pairs 16777216 50331648) []
           (record {
             rows = refl;
-            links = refl;
+            successors = refl;
             signs = All-nil (λ (q : Row × ℤ). SignRight q.0 q.1);
             pairs = All-cons (PairsRight pools) (first, (0, 16777216) ∷ []) ((second, (0, 50331648) ∷ []) ∷ []) (pair first 16777216 (omega arith) (omega arith) refl)
                 (All-cons (PairsRight pools) (second, (0, 50331648) ∷ []) [] (pair second 50331648 (omega arith) (omega arith) refl) (All-nil (PairsRight pools)));

@@ -8,7 +8,7 @@ use Rattle.hp_theory.specs.Fraction.{◌≤ᶠ◌}
 use Rattle.hp_theory.specs.Problem.{S, Node, node_at}
 use Rattle.hp_theory.specs.Tree.{RowHolds, Decides, Policy, no_branch, branch, no_tree}
 use Rattle.hp_theory.proofs.Boxes.{InBox-nil, InBox-cons}
-use Rattle.hp_problem.specs.declared.raw.Row.{Row}
+use Rattle.hp_parts.specs.declared.parts.Row.{Row}
 
 -- three decisions in their boxes and in both rows
 three : (units : ℕ) (w o q g x : ℤ) → (pos units *ℤ pos 0) ≤ℤ o → o ≤ℤ (pos units *ℤ pos 10) → (pos units *ℤ pos 0) ≤ℤ q → q ≤ℤ (pos units *ℤ pos 8) → (pos units *ℤ pos 0) ≤ℤ g → g ≤ℤ (pos units *ℤ pos 20)

@@ -1,15 +1,15 @@
 -- The base cuts: one per node, from multipliers that need no solver.
 use Rattle.std.specs.Prelude.{ℕ, ◌*◌, pos, List, [], ◌∷◌, map, replicate}
-use Rattle.hp_problem.specs.declared.raw.Row.{Row}
+use Rattle.hp_parts.specs.declared.parts.Row.{Row}
 use Rattle.hp_theory.specs.declared.cut.Cut.{Cut}
 use Rattle.hp_theory.specs.declared.cut.Certificate.{Certificate}
-use Rattle.hp_theory.specs.Problem.{S, Realization, Link, Node, Problem, node_at}
+use Rattle.hp_theory.specs.Problem.{S, Realization, Successor, Node, Problem, node_at}
 use Rattle.hp_theory.specs.Pools.{push}
 use Rattle.hp_theory.specs.CutOf.{cut_of}
 
 -- all rows 0, and for each successor its first cut with all of its weight
 abbrev pub base_certificate : Node → Certificate
-base_certificate n = record { rows = map (λ (row : Row). pos 0) n.rows; cuts = map (λ (l : Link). (0, S * l.weight) ∷ []) n.links }
+base_certificate n = record { rows = map (λ (row : Row). pos 0) n.rows; cuts = map (λ (l : Successor). (0, S * l.weight) ∷ []) n.successors }
 
 abbrev pub base_list : Node → List Certificate
 base_list n = map (λ (r : Realization). base_certificate n) n.realizations

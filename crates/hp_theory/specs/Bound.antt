@@ -5,7 +5,7 @@ use Rattle.std.specs.Int.{int_max}
 use Rattle.hp_num.specs.Sums.{total, dot, floor_over}
 use Rattle.hp_theory.specs.declared.cut.Cut.{Cut}
 use Rattle.hp_theory.specs.Fraction.{◌≤ᶠ◌}
-use Rattle.hp_theory.specs.Problem.{S, Link, Problem, link_weights}
+use Rattle.hp_theory.specs.Problem.{S, Successor, Problem, successor_weights}
 use Rattle.hp_theory.specs.Tree.{Forest, Policy}
 use Rattle.hp_theory.specs.Cost.{policy_cost}
 use Rattle.hp_theory.specs.Pools.{pool}
@@ -15,22 +15,22 @@ abbrev pub value_of_cut : Cut → List ℤ → ℤ
 value_of_cut c x = c.alpha +ℤ dot c.beta x
 
 -- the greatest value of the cuts, and 0 where there is none
-abbrev pub greatest : List Cut → List ℤ → ℤ
-greatest [] x = pos 0
-greatest (c ∷ []) x = value_of_cut c x
-greatest (c ∷ (d ∷ cs)) x = int_max (value_of_cut c x) (greatest (d ∷ cs) x)
+abbrev pub greatest_cut_value : List Cut → List ℤ → ℤ
+greatest_cut_value [] x = pos 0
+greatest_cut_value (c ∷ []) x = value_of_cut c x
+greatest_cut_value (c ∷ (d ∷ cs)) x = int_max (value_of_cut c x) (greatest_cut_value (d ∷ cs) x)
 
 -- Value: the greatest alpha + beta·x over the cuts of the node m
 abbrev pub value : List (List Cut) → ℕ → List ℤ → ℤ
-value pools m x = greatest (pool pools m) x
+value pools m x = greatest_cut_value (pool pools m) x
 
 -- the sum of the weights times the values
-abbrev pub weighted_value : List (List Cut) → List ℤ → List Link → ℤ
-weighted_value pools x ls = total (λ (l : Link). pos l.weight *ℤ value pools l.node x) ls
+abbrev pub weighted_value : List (List Cut) → List ℤ → List Successor → ℤ
+weighted_value pools x ls = total (λ (l : Successor). pos l.weight *ℤ value pools l.node x) ls
 
 -- Bound: the average of the values of the root's successors at the initial state, rounded down
 abbrev pub bound : Problem → List (List Cut) → ℤ
-bound p pools = floor_over (weighted_value pools p.initial p.root) (sum (link_weights p.root))
+bound p pools = floor_over (weighted_value pools p.initial p.root) (sum (successor_weights p.root))
 
 -- b / S is at most the cost of each policy, in any units
 abbrev pub Under : Problem → ℤ → Type 0

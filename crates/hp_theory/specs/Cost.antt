@@ -3,7 +3,7 @@
 use Rattle.std.specs.Prelude.{ℕ, ℤ, pos, ◌+ℤ◌, ◌*ℤ◌, List, [], ◌∷◌, sum}
 use Rattle.hp_num.specs.Sums.{dot}
 use Rattle.hp_theory.specs.Fraction.{Fraction, nothing, plus, times, over, weighted}
-use Rattle.hp_theory.specs.Problem.{Realization, Link, Node, Problem, node_at, link_weights, realization_weight, successor_weight}
+use Rattle.hp_theory.specs.Problem.{Realization, Successor, Node, Problem, node_at, successor_weights, realization_weight, successor_weight}
 use Rattle.hp_theory.specs.Tree.{Tree, Forest, no_branch, branch, no_tree, tree, next_state, times_all}
 
 -- Stage: (N*constant + N*(f·omega) + c·u + e·xi) / N
@@ -16,10 +16,10 @@ abbrev mutual
   cost_sum p units n rs xi no_branch = nothing
   cost_sum p units n [] xi (branch u f t) = nothing
   cost_sum p units n (r ∷ rs) xi (branch u f t) =
-      plus (times r.weight (plus (stage units n r.values xi u) (over (weighted (link_weights n.links) (costs_of p units n.links (next_state n u) f)) (successor_weight n)))) (cost_sum p units n rs xi t)
+      plus (times r.weight (plus (stage units n r.values xi u) (over (weighted (successor_weights n.successors) (costs_of p units n.successors (next_state n u) f)) (successor_weight n)))) (cost_sum p units n rs xi t)
 
   -- the costs of the successors' trees
-  pub costs_of : Problem → ℕ → List Link → List ℤ → Forest → List Fraction
+  pub costs_of : Problem → ℕ → List Successor → List ℤ → Forest → List Fraction
   costs_of p units ls x no_tree = []
   costs_of p units [] x (tree t f) = []
   costs_of p units (l ∷ ls) x (tree t f) = over (cost_sum p units (node_at p l.node) (node_at p l.node).realizations x t) (realization_weight (node_at p l.node)) ∷ costs_of p units ls x f
@@ -30,4 +30,4 @@ cost p units m xi t = over (cost_sum p units (node_at p m) (node_at p m).realiza
 
 -- PolicyCost: the average of the trees' costs by the root's weights
 abbrev pub policy_cost : Problem → ℕ → Forest → Fraction
-policy_cost p units f = over (weighted (link_weights p.root) (costs_of p units p.root (times_all units p.initial) f)) (sum (link_weights p.root))
+policy_cost p units f = over (weighted (successor_weights p.root) (costs_of p units p.root (times_all units p.initial) f)) (sum (successor_weights p.root))

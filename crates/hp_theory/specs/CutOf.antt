@@ -3,10 +3,10 @@
 use Rattle.std.specs.Prelude.{ℕ, zero, suc, ◌*◌, ℤ, pos, negsuc, ◌+ℤ◌, ◌*ℤ◌, ◌-ℤ◌, List, length, zip, Option, Some, None}
 use Rattle.std.specs.Int.{int_min}
 use Rattle.hp_num.specs.Sums.{sum_to, total, entry, dot, at_terms, coefficient, placed, table, floor_over}
-use Rattle.hp_problem.specs.declared.raw.Row.{Row}
+use Rattle.hp_parts.specs.declared.parts.Row.{Row}
 use Rattle.hp_theory.specs.declared.cut.Cut.{Cut}
 use Rattle.hp_theory.specs.declared.cut.Certificate.{Certificate}
-use Rattle.hp_theory.specs.Problem.{S, Realization, Link, Node, realization_weight, successor_weight}
+use Rattle.hp_theory.specs.Problem.{S, Realization, Successor, Node, realization_weight, successor_weight}
 use Rattle.hp_theory.specs.Certificates.{cut_at}
 
 abbrev pub side_of : Option ℤ → ℤ
@@ -25,7 +25,7 @@ scale n = pos (S * S * successor_weight n)
 
 -- the sum of multiplier * f over all pairs of all successors
 abbrev pub over_pairs : List (List Cut) → Node → Certificate → (Cut → ℤ) → ℤ
-over_pairs pools n c f = total (λ (q : Link × List (ℕ × ℕ)). total (λ (s : ℕ × ℕ). pos s.1 *ℤ f (cut_at pools q.0 s)) q.1) (zip n.links c.cuts)
+over_pairs pools n c f = total (λ (q : Successor × List (ℕ × ℕ)). total (λ (s : ℕ × ℕ). pos s.1 *ℤ f (cut_at pools q.0 s)) q.1) (zip n.successors c.cuts)
 
 -- the sum of multiplier * f over the rows
 abbrev pub over_rows : Node → Certificate → (Row → ℤ → ℤ) → ℤ

@@ -1,6 +1,6 @@
 -- Small problems that were worked out by hand.
 use Rattle.std.specs.Prelude.{ℕ, zero, suc, ◌-◌, ◌^◌, ℤ, pos, negsuc, [], ◌∷◌, Some, None}
-use Rattle.hp_problem.specs.declared.raw.Row.{Row}
+use Rattle.hp_parts.specs.declared.parts.Row.{Row}
 use Rattle.hp_theory.specs.declared.cut.Certificate.{Certificate}
 use Rattle.hp_theory.specs.Problem.{Realization, Node, Problem, no_node}
 use Rattle.hp_theory.specs.Tree.{Tree, Forest, no_branch, branch, no_tree, tree}
@@ -34,7 +34,7 @@ reservoir w = record {
   low = pos 0 ∷ [];
   high = pos 10 ∷ [];
   realizations = record { weight = 1; values = pos 1 ∷ [] } ∷ record { weight = w; values = pos 3 ∷ [] } ∷ [];
-  links = [];
+  successors = [];
   stop = 0;
 }
 
@@ -83,7 +83,7 @@ negative_box = record {
   low = negsuc 6 ∷ [];
   high = negsuc 1 ∷ [];
   realizations = plain 1 ∷ plain 2 ∷ [];
-  links = [];
+  successors = [];
   stop = 0;
 }
 
@@ -107,12 +107,12 @@ stage_of constant = record {
   low = pos 0 ∷ [];
   high = pos 10 ∷ [];
   realizations = plain 1 ∷ [];
-  links = [];
+  successors = [];
   stop = 0;
 }
 
 abbrev pub fork : ℕ → Node
-fork stop = record (stage_of (pos 0)) { links = record { node = 0; weight = 1 } ∷ record { node = 1; weight = 3 } ∷ []; stop = stop }
+fork stop = record (stage_of (pos 0)) { successors = record { node = 0; weight = 1 } ∷ record { node = 1; weight = 3 } ∷ []; stop = stop }
 
 abbrev fork_at : ℕ → ℕ → Node
 fork_at stop zero = stage_of (pos 8)
@@ -147,7 +147,7 @@ edge high = record {
   low = pos 0 ∷ [];
   high = pos 1 ∷ [];
   realizations = plain 1 ∷ [];
-  links = [];
+  successors = [];
   stop = 0;
 }
 

@@ -2,7 +2,7 @@
 use Rattle.std.specs.Prelude.{◌≡◌, ℕ, ◌<◌, ◌^◌, ℤ, pos, ◌+ℤ◌, ◌*ℤ◌, ◌≤ℤ◌, List, length, All}
 use Rattle.hp_num.specs.Sums.{sum_to, entry}
 use Rattle.hp_theory.specs.declared.cut.Cut.{Cut}
-use Rattle.hp_theory.specs.Problem.{Link, Node, Problem, node_at}
+use Rattle.hp_theory.specs.Problem.{Successor, Node, Problem, node_at}
 use Rattle.hp_theory.specs.Pools.{pool}
 use Rattle.hp_theory.specs.Size.{magnitude, reach}
 
@@ -24,5 +24,5 @@ pub record Fit (p : Problem) (count : ℕ) (pools : List (List Cut)) : Type 0 wh
 -- pools that fit for a node's successors alone
 pub record FitFor (p : Problem) (count : ℕ) (pools : List (List Cut)) (m : ℕ) : Type 0 where
   pub lists : length pools ≡ count
-  pub some : All (λ (l : Link). 0 < length (pool pools l.node)) (node_at p m).links
-  pub cuts : All (λ (l : Link). All (CutFits (node_at p l.node)) (pool pools l.node)) (node_at p m).links
+  pub some : All (λ (l : Successor). 0 < length (pool pools l.node)) (node_at p m).successors
+  pub cuts : All (λ (l : Successor). All (CutFits (node_at p l.node)) (pool pools l.node)) (node_at p m).successors

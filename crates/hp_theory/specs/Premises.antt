@@ -2,7 +2,7 @@
 use Rattle.std.specs.Prelude.{◌≡◌, ℕ, ◌<◌, ◌^◌, pos, ◌+ℤ◌, ◌≤ℤ◌, List, [], ◌∷◌, length, get_or, All, Contains, sum}
 use Rattle.hp_num.specs.Sums.{sum_to, entry}
 use Rattle.hp_theory.specs.declared.cut.Cut.{Cut}
-use Rattle.hp_theory.specs.Problem.{Link, Node, Problem, node_at, link_weights, realization_weight, successor_weight}
+use Rattle.hp_theory.specs.Problem.{Successor, Node, Problem, node_at, successor_weights, realization_weight, successor_weight}
 use Rattle.hp_theory.specs.Pools.{pool}
 use Rattle.hp_theory.specs.Size.{reach}
 
@@ -19,7 +19,7 @@ pub record Shaped (p : Problem) (n : Node) : Type 0 where
   pub states : length n.low ≡ length n.state_costs
   pub realizations : 0 < realization_weight n
   pub successors : 0 < successor_weight n
-  pub nested : All (λ (l : Link). Nested n (node_at p l.node)) n.links
+  pub nested : All (λ (l : Successor). Nested n (node_at p l.node)) n.successors
 
 -- the initial state lies in n's box
 pub record StartsIn (p : Problem) (n : Node) : Type 0 where
@@ -29,23 +29,23 @@ pub record StartsIn (p : Problem) (n : Node) : Type 0 where
 
 -- the root has weight, and the initial state lies in the boxes of its successors
 pub record RootShaped (p : Problem) : Type 0 where
-  pub some : 0 < sum (link_weights p.root)
-  pub boxes : All (λ (l : Link). StartsIn p (node_at p l.node)) p.root
+  pub some : 0 < sum (successor_weights p.root)
+  pub boxes : All (λ (l : Successor). StartsIn p (node_at p l.node)) p.root
 
 -- each of these successors has a cut
-abbrev pub HaveCuts : List (List Cut) → List Link → Type 0
-HaveCuts pools ls = All (λ (l : Link). 0 < length (pool pools l.node)) ls
+abbrev pub HaveCuts : List (List Cut) → List Successor → Type 0
+HaveCuts pools ls = All (λ (l : Successor). 0 < length (pool pools l.node)) ls
 
 -- each node of the order is shaped and below count, and its successors, of some weight each, are among those done before
 abbrev pub InOrder : Problem → ℕ → List ℕ → List ℕ → Type 0
 InOrder p count done [] = Unit {0}
-InOrder p count done (m ∷ ms) = (m < count) × Shaped p (node_at p m) × All (λ (l : Link). (0 < l.weight) × Contains done l.node) (node_at p m).links × InOrder p count (m ∷ done) ms
+InOrder p count done (m ∷ ms) = (m < count) × Shaped p (node_at p m) × All (λ (l : Successor). (0 < l.weight) × Contains done l.node) (node_at p m).successors × InOrder p count (m ∷ done) ms
 
 -- the nodes below count have weights and lead to nodes below count
 pub record Known (p : Problem) (count : ℕ) : Type 0 where
   pub realizations : (m : ℕ) → m < count → 0 < realization_weight (node_at p m)
-  pub successors : (m : ℕ) → m < count → 0 < successor_weight (node_at p m)
-  pub links : (m : ℕ) → m < count → All (λ (l : Link). l.node < count) (node_at p m).links
+  pub weighted : (m : ℕ) → m < count → 0 < successor_weight (node_at p m)
+  pub successors : (m : ℕ) → m < count → All (λ (l : Successor). l.node < count) (node_at p m).successors
 
 -- the sides of the box are small enough for the law on the size of a cut: 1 + sum of M_k is at most 2^46
 abbrev pub Narrow : Node → Type 0

@@ -1,7 +1,7 @@
 -- A multistage problem over a policy graph. A node is one flat record with its subproblem, realizations and successors.
 -- Source: Dowson 2020, The policy graph decomposition of multistage stochastic programming problems.
 use Rattle.std.specs.Prelude.{ℕ, ◌+◌, ℤ, pos, List, [], ◌∷◌, sum}
-use Rattle.hp_problem.specs.declared.raw.Row.{Row}
+use Rattle.hp_parts.specs.declared.parts.Row.{Row}
 
 -- the scale of multipliers and cuts
 unfoldable pub S : ℕ
@@ -13,7 +13,7 @@ pub record Realization : Type 0 where
   pub values : List ℤ
 
 -- a successor, and a weight
-pub record Link : Type 0 where
+pub record Successor : Type 0 where
   pub node : ℕ
   pub weight : ℕ
 
@@ -34,16 +34,16 @@ pub record Node : Type 0 where
   pub high : List ℤ
   -- the realizations here, and the successors after it
   pub realizations : List Realization
-  pub links : List Link
+  pub successors : List Successor
   pub stop : ℕ
 
 pub record Problem : Type 0 where
   pub nodes : ℕ → Node
-  pub root : List Link
+  pub root : List Successor
   pub initial : List ℤ
 
 abbrev pub no_node : Node
-no_node = record { decision_low = []; decision_high = []; costs = []; outs = []; rows = []; constant = pos 0; state_costs = []; random_costs = []; low = []; high = []; realizations = []; links = []; stop = 0 }
+no_node = record { decision_low = []; decision_high = []; costs = []; outs = []; rows = []; constant = pos 0; state_costs = []; random_costs = []; low = []; high = []; realizations = []; successors = []; stop = 0 }
 
 abbrev pub node_at : Problem → ℕ → Node
 node_at p m = p.nodes m
@@ -52,21 +52,21 @@ abbrev pub weight_of_realizations : List Realization → ℕ
 weight_of_realizations [] = 0
 weight_of_realizations (r ∷ rs) = r.weight + weight_of_realizations rs
 
-abbrev pub link_weights : List Link → List ℕ
-link_weights [] = []
-link_weights (l ∷ ls) = l.weight ∷ link_weights ls
+abbrev pub successor_weights : List Successor → List ℕ
+successor_weights [] = []
+successor_weights (l ∷ ls) = l.weight ∷ successor_weights ls
 
 -- W: the total of the realization weights
 abbrev pub realization_weight : Node → ℕ
 realization_weight n = weight_of_realizations n.realizations
 
-abbrev pub weight_of_successors : ℕ → List Link → ℕ
+abbrev pub weight_of_successors : ℕ → List Successor → ℕ
 weight_of_successors stop [] = 1
-weight_of_successors stop (l ∷ ls) = stop + sum (link_weights (l ∷ ls))
+weight_of_successors stop (l ∷ ls) = stop + sum (successor_weights (l ∷ ls))
 
 -- Q: the stop weight and the successor weights, 1 without successors
 abbrev pub successor_weight : Node → ℕ
-successor_weight n = weight_of_successors n.stop n.links
+successor_weight n = weight_of_successors n.stop n.successors
 
 -- the realizations with other weights
 abbrev pub reweighted : List ℕ → List Realization → List Realization

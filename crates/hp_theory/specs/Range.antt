@@ -1,6 +1,6 @@
 -- Where the size of a list of certificates passes its range, and the base cuts or the first node where that happens.
 use Rattle.std.specs.Prelude.{ℕ, suc, ◌-◌, ◌^◌, ℤ, pos, ◌+ℤ◌, List, [], ◌∷◌, length, replicate, Option, Some, None, Result, Ok, Err, int_le, if◌then◌else◌}
-use Rattle.hp_problem.specs.Sealed.{Sealed}
+use Rattle.hp_problem.specs.Validated.{Validated}
 use Rattle.hp_theory.specs.declared.cut.Cut.{Cut}
 use Rattle.hp_theory.specs.declared.cut.Certificate.{Certificate}
 use Rattle.hp_theory.specs.Problem.{Node, Problem, node_at}
@@ -32,5 +32,5 @@ base_from p (m ∷ ms) pools =
     (base_from p ms (push pools m (cut_of pools (node_at p m) (base_list (node_at p m)))))
 
 -- the base cuts of a problem, or the first node in order whose base certificates are too large
-unfoldable pub based : Sealed → Result (List (List Cut)) (ℕ × ℕ)
-based p = base_from (problem_of p) p.order (replicate (length p.raw.nodes) [])
+unfoldable pub based : Validated → Result (List (List Cut)) (ℕ × ℕ)
+based p = base_from (problem_of p) p.order (replicate (length p.parts.nodes) [])

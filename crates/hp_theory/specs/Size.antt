@@ -1,7 +1,7 @@
 -- Size: the sum of absolute values, taken before any cancellation, that acceptance bounds by 2^127 - 1.
 use Rattle.std.specs.Prelude.{ℕ, ◌+◌, ◌-◌, ◌^◌, ◌<◌, ℤ, pos, ◌+ℤ◌, ◌*ℤ◌, ◌≤ℤ◌, nat_abs, List, [], ◌∷◌, ◌++◌, length, map, take, zip, max}
 use Rattle.hp_num.specs.Sums.{sum_to, total, entry, dot, Term, same_place, coefficient, placed}
-use Rattle.hp_problem.specs.declared.raw.Row.{Row}
+use Rattle.hp_parts.specs.declared.parts.Row.{Row}
 use Rattle.hp_theory.specs.declared.cut.Cut.{Cut}
 use Rattle.hp_theory.specs.declared.cut.Certificate.{Certificate}
 use Rattle.hp_theory.specs.Problem.{S, Node, Realization}

@@ -2,8 +2,8 @@
 -- Source: the scenario tree of a policy over a policy graph, Dowson 2020.
 use Rattle.std.specs.Prelude.{◌≡◌, ℕ, ◌<◌, ℤ, pos, ◌+ℤ◌, ◌*ℤ◌, ◌≤ℤ◌, List, [], ◌∷◌, length, map, All, Option, Some, None}
 use Rattle.hp_num.specs.Sums.{entry, at_terms}
-use Rattle.hp_problem.specs.declared.raw.Row.{Row}
-use Rattle.hp_theory.specs.Problem.{Realization, Link, Node, Problem, node_at}
+use Rattle.hp_parts.specs.declared.parts.Row.{Row}
+use Rattle.hp_theory.specs.Problem.{Realization, Successor, Node, Problem, node_at}
 
 -- decisions are whole numbers in units of 1/N
 mutual
@@ -53,9 +53,9 @@ abbrev mutual
   FeasibleTree p units n [] xi no_branch = Unit {0}
   FeasibleTree p units n (r ∷ rs) xi no_branch = ⊥
   FeasibleTree p units n [] xi (branch u f t) = ⊥
-  FeasibleTree p units n (r ∷ rs) xi (branch u f t) = Decides units n r.values xi u × FeasibleForest p units n.links (next_state n u) f × FeasibleTree p units n rs xi t
+  FeasibleTree p units n (r ∷ rs) xi (branch u f t) = Decides units n r.values xi u × FeasibleForest p units n.successors (next_state n u) f × FeasibleTree p units n rs xi t
 
-  pub FeasibleForest : Problem → ℕ → List Link → List ℤ → Forest → Type 0
+  pub FeasibleForest : Problem → ℕ → List Successor → List ℤ → Forest → Type 0
   FeasibleForest p units [] x no_tree = Unit {0}
   FeasibleForest p units (l ∷ ls) x no_tree = ⊥
   FeasibleForest p units [] x (tree t f) = ⊥

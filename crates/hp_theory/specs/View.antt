@@ -1,19 +1,19 @@
--- The definitions' view of a sealed problem.
+-- The definitions' view of a validated problem.
 use Rattle.std.specs.Prelude.{ℕ, ℤ, List, [], map, zip, get_or, slice_get, Option, option_and_then, unwrap_or}
 use Rattle.std.specs.Option.{option_map}
-use Rattle.hp_problem.specs.declared.raw.State.{State}
-use Rattle.hp_problem.specs.declared.raw.Decision.{Decision}
-use Rattle.hp_problem.specs.declared.raw.Subproblem.{Subproblem}
-use Rattle.hp_problem.specs.declared.raw.Node as nodes
-use Rattle.hp_problem.specs.Sealed.{Sealed}
-use Rattle.hp_theory.specs.Problem.{Realization, Link, Node, Problem, no_node}
+use Rattle.hp_parts.specs.declared.parts.State.{State}
+use Rattle.hp_parts.specs.declared.parts.Decision.{Decision}
+use Rattle.hp_parts.specs.declared.parts.Subproblem.{Subproblem}
+use Rattle.hp_parts.specs.declared.parts.Node as nodes
+use Rattle.hp_problem.specs.Validated.{Validated}
+use Rattle.hp_theory.specs.Problem.{Realization, Successor, Node, Problem, no_node}
 
 -- the realizations with these weights and values, and the successors with these numbers and weights
 abbrev pub realizations_of : List ℕ → List (List ℤ) → List Realization
 realizations_of weights values = map (λ (q : ℕ × List ℤ). record { weight = q.0; values = q.1 }) (zip weights values)
 
-abbrev pub links_of : List ℕ → List ℕ → List Link
-links_of ms weights = map (λ (q : ℕ × ℕ). record { node = q.0; weight = q.1 }) (zip ms weights)
+abbrev pub successors_of : List ℕ → List ℕ → List Successor
+successors_of ms weights = map (λ (q : ℕ × ℕ). record { node = q.0; weight = q.1 }) (zip ms weights)
 
 -- a node with its subproblem, and the box of its incoming state
 unfoldable pub node_of : nodes.Node → Subproblem → List ℤ → List ℤ → Node
@@ -29,17 +29,17 @@ node_of n s low high = record {
   low = low;
   high = high;
   realizations = realizations_of n.weights n.values;
-  links = links_of n.links n.link_weights;
+  successors = successors_of n.successors n.successor_weights;
   stop = n.stop;
 }
 
--- the node m of a sealed problem, where it is there
-abbrev pub node_in : Sealed → ℕ → Option Node
-node_in s m = option_and_then (λ (n : nodes.Node). option_map (λ (sub : Subproblem). node_of n sub (get_or s.lo m []) (get_or s.hi m [])) (slice_get s.raw.subs n.sub)) (slice_get s.raw.nodes m)
+-- the node m of a validated problem, where it is there
+abbrev pub node_in : Validated → ℕ → Option Node
+node_in s m = option_and_then (λ (n : nodes.Node). option_map (λ (sub : Subproblem). node_of n sub (get_or s.lo m []) (get_or s.hi m [])) (slice_get s.parts.subs n.sub)) (slice_get s.parts.nodes m)
 
-unfoldable pub problem_of : Sealed → Problem
+unfoldable pub problem_of : Validated → Problem
 problem_of s = record {
   nodes = λ m. unwrap_or (node_in s m) no_node;
-  root = links_of s.raw.root s.raw.root_weights;
-  initial = map (λ (state : State). state.initial) s.raw.states;
+  root = successors_of s.parts.root s.parts.root_weights;
+  initial = map (λ (state : State). state.initial) s.parts.states;
 }

@@ -1,11 +1,11 @@
 // The laws over the definitions. Each is the contract of a function with an empty body.
 ghost use Rattle.std.specs.Prelude.{◌≡◌, true, ℕ, ◌*◌, ◌-◌, ◌^◌, ◌<◌, ℤ, pos, ◌+ℤ◌, ◌*ℤ◌, ◌≤ℤ◌, List, [], length, All, sum};
 ghost use Rattle.hp_num.specs.Sums.{sum_to, entry, table, floor_over};
-ghost use Rattle.hp_problem.specs.Sealed.{Sealed, is_sealed};
+ghost use Rattle.hp_problem.specs.Validated.{Validated, is_validated};
 ghost use Rattle.hp_theory.specs.declared.cut.Cut.{Cut};
 ghost use Rattle.hp_theory.specs.declared.cut.Certificate.{Certificate};
 ghost use Rattle.hp_theory.specs.Fraction.{Fraction, ◌≤ᶠ◌, plus, over, weighted};
-ghost use Rattle.hp_theory.specs.Problem.{S, Node, Problem, node_at, link_weights, realization_weight, successor_weight, with_weights};
+ghost use Rattle.hp_theory.specs.Problem.{S, Node, Problem, node_at, successor_weights, realization_weight, successor_weight, with_weights};
 ghost use Rattle.hp_theory.specs.Tree.{Tree, Forest, Decides, next_state};
 ghost use Rattle.hp_theory.specs.Cost.{stage, cost, policy_cost};
 ghost use Rattle.hp_theory.specs.Pools.{pool, push, Holds, Sound};
@@ -32,14 +32,14 @@ pub fn one_stage()
         (values xi u : List ℤ) (fs : List Fraction)
         → length n.decision_low ≡ length n.costs → length xi ≡ length n.state_costs
         → RightAt pools n c → Decides units n values xi u
-        → AboveCuts pools units (next_state n u) n.links fs
+        → AboveCuts pools units (next_state n u) n.successors fs
         → record {
           up = alpha_at pools n values c *ℤ pos units
               +ℤ sum_to (length n.state_costs) (λ k. beta_at n c k *ℤ entry xi k);
           under = S * S * successor_weight n * units;
         }
         ≤ᶠ plus (stage units n values xi u)
-        (over (weighted (link_weights n.links) fs) (successor_weight n)) }
+        (over (weighted (successor_weights n.successors) fs) (successor_weight n)) }
 {}
 
 /// The bound of sound pools is at most the cost of each policy.
@@ -67,7 +67,7 @@ pub fn appending()
     ensures value { (pools : List (List Cut)) (m : ℕ) (c : Cut) (k : ℕ) (x : List ℤ)
         → 0 < length (pool pools k) → value pools k x ≤ℤ value (push pools m c) k x }
     ensures bound { (p : Problem) (pools : List (List Cut)) (m : ℕ) (c : Cut)
-        → 0 < sum (link_weights p.root) → HaveCuts pools p.root
+        → 0 < sum (successor_weights p.root) → HaveCuts pools p.root
         → bound p pools ≤ℤ bound p (push pools m c) }
 {}
 
@@ -87,26 +87,26 @@ pub fn size_to_fit()
 /// The base cut of a node without successors: its slopes are the state costs, and its first number is the least cost
 /// that the stages have without their incoming states, by the weights and rounded down.
 pub fn leaf_base()
-    ensures cut { (pools : List (List Cut)) (n : Node) → n.links ≡ [] → 0 < realization_weight n
+    ensures cut { (pools : List (List Cut)) (n : Node) → n.successors ≡ [] → 0 < realization_weight n
         → cut_of pools n (base_list n) ≡ record {
           alpha = floor_over (pos S *ℤ least_cost n) (realization_weight n);
           beta = table (length n.low) (λ k. pos S *ℤ entry n.state_costs k);
         } }
-    ensures size { (pools : List (List Cut)) (n : Node) → n.links ≡ [] → 0 < realization_weight n
+    ensures size { (pools : List (List Cut)) (n : Node) → n.successors ≡ [] → 0 < realization_weight n
         → size_of pools n (base_list n) ≡ pos (S * S) *ℤ cost_size n }
-    ensures within { (pools : List (List Cut)) (n : Node) → n.links ≡ []
+    ensures within { (pools : List (List Cut)) (n : Node) → n.successors ≡ []
         → 0 < realization_weight n
         → (pos (S * S) *ℤ magnitude (least_cost n)) ≤ℤ size_of pools n (base_list n) }
     ensures holds { (p : Problem) (pools : List (List Cut)) (m : ℕ)
-        → (node_at p m).links ≡ [] → Shaped p (node_at p m)
+        → (node_at p m).successors ≡ [] → Shaped p (node_at p m)
         → Holds p m (cut_of pools (node_at p m) (base_list (node_at p m))) }
 {}
 
 /// The denominator of the cost of a tree is positive wherever the nodes have weights and lead to nodes, and so is the
-/// denominator of the cost of a policy of a sealed problem: costs are compared as fractions.
+/// denominator of the cost of a policy of a validated problem: costs are compared as fractions.
 pub fn positive_denominators()
     ensures trees { (p : Problem) (count m units : ℕ) (xi : List ℤ) (t : Tree)
         → Known p count → m < count → 0 < units → 0 < (cost p units m xi t).under }
-    ensures policies { (p : Sealed) (units : ℕ) (f : Forest)
-        → is_sealed p ≡ true → 0 < units → 0 < (policy_cost (problem_of p) units f).under }
+    ensures policies { (p : Validated) (units : ℕ) (f : Forest)
+        → is_validated p ≡ true → 0 < units → 0 < (policy_cost (problem_of p) units f).under }
 {}

@@ -3,7 +3,7 @@ use Rattle.std.proofs.Common.{◌≡◌, ℕ, zero, suc, ◌+◌, ◌*◌, ◌-�
 use Rattle.std.specs.Int.{w32, to_be_bytes}
 use Rattle.std.specs.List.{AllByRecursion}
 use Rattle.hp_problem.specs.Formulas.{too_much}
-use Rattle.hp_problem.specs.Sealed.{Sealed, is_sealed}
+use Rattle.hp_problem.specs.Validated.{Validated, is_validated}
 use Rattle.hp_theory.specs.declared.cut.Cut.{Cut}
 use Rattle.hp_theory.specs.Pools.{pool}
 use Rattle.hp_cut.specs.AtNodes.{PoolsFit}
@@ -12,22 +12,22 @@ use Rattle.hp_record.specs.Shape.{Writable}
 use Rattle.hp_record.specs.Spelling.{spell}
 use Rattle.hp_journal.specs.Layout.{body_of}
 use Rattle.hp_solver.specs.Solving.{Solving}
-use Rattle.hp_train.specs.Stepping.{Stepped, step_of}
+use Rattle.hp_train.specs.Stepping.{Stepped, training_step}
 use Rattle.hp_train.proofs.Formulas.{is_recorded}
 
 -- the entries of an iteration can be written in a record
-pub record IsWritten (p : Sealed) (es : List Entry) : Type 0 where
+pub record IsWritten (p : Validated) (es : List Entry) : Type 0 where
   pub shape : AllByRecursion (Writable p) es
   pub short : length (spell es) ≤ 2 ^ 26
   pub few : length es ≤ 64
 
-pub is_written : {Start Chain : Type 0} (v : Solving Start Chain) (p : Sealed) (pools : List (List Cut)) (seed batch k : ℕ) (s : Stepped) → is_sealed p ≡ true → PoolsFit p pools
+pub is_written : {Start Chain : Type 0} (v : Solving Start Chain) (p : Validated) (pools : List (List Cut)) (seed batch k : ℕ) (s : Stepped) → is_validated p ≡ true → PoolsFit p pools
     → batch ≤ 64 → 1 ≤ k → k ≤ 2000 → ((m : ℕ) → length (pool pools m) ≤ 1 + (k - 1) * batch) → too_much p k batch ≡ None
-    → step_of v p pools seed batch k ≡ Ok s → IsWritten p s.entries
-is_written v p pools seed batch zero s sealed fit most first last cuts room step = absurd (omega (arith, first))
-is_written v p pools seed batch (suc k) s sealed fit most first last cuts room step =
+    → training_step v p pools seed batch k ≡ Ok s → IsWritten p s.entries
+is_written v p pools seed batch zero s validated fit most first last cuts room step = absurd (omega (arith, first))
+is_written v p pools seed batch (suc k) s validated fit most first last cuts room step =
     let few : (m : ℕ) → length (pool pools m) ≤ 1 + k * batch = λ m. subst (λ i. length (pool pools m) ≤ 1 + i * batch) (omega arith) (cuts m) in
-    let r = is_recorded v p sealed pools seed batch k (suc k) s fit few (omega arith) last most room step in
+    let r = is_recorded v p validated pools seed batch k (suc k) s fit few (omega arith) last most room step in
     record { shape = r.iteration.written.each; short = r.short; few = omega (arith, r.iteration.written.counted, most) }
 
 -- the bytes of a body, one part after another

@@ -2,20 +2,20 @@
 use Rattle.std.proofs.Common.{◌≡◌, inl, inr, ℕ, zero, suc, ◌+◌, ◌≤◌, List, [], ◌∷◌, ◌++◌, length, Option, Some, None, Result, Ok, Err, refl, sym, ap, ◌∙◌, append_assoc, length-append, arith}
 use Rattle.std.proofs.lemmas.List.{append-nil}
 use Rattle.std.proofs.lemmas.Bool.{cases_eq}
-use Rattle.hp_problem.specs.Sealed.{Sealed}
+use Rattle.hp_problem.specs.Validated.{Validated}
 use Rattle.hp_theory.specs.declared.cut.Cut.{Cut}
 use Rattle.hp_theory.specs.Bound.{bound}
 use Rattle.hp_theory.specs.View.{problem_of}
 use Rattle.hp_cut.specs.declared.entry.Entry.{Entry}
 use Rattle.hp_solver.specs.Solving.{Solving}
 use Rattle.hp_settle.specs.declared.plan_fault.PlanFault.{PlanFault}
-use Rattle.hp_train.specs.Stepping.{Stepped, step_of}
+use Rattle.hp_train.specs.Stepping.{Stepped, training_step}
 use Rattle.hp_train.specs.Continuing.{Continued, with_step, with_iteration, continued}
 
 some_none : {A : Type 0} (x : A) → (let o : Option A = Some x in o ≡ None) → ⊥
 some_none x h = cc
 
-module _ {Start Chain : Type 0} (v : Solving Start Chain) (p : Sealed) (pools : List (List Cut)) (seed batch j : ℕ) where
+module _ {Start Chain : Type 0} (v : Solving Start Chain) (p : Validated) (pools : List (List Cut)) (seed batch j : ℕ) where
   abbrev after : ℕ → Continued
   after n = continued v p pools seed batch j n
 
@@ -24,7 +24,7 @@ module _ {Start Chain : Type 0} (v : Solving Start Chain) (p : Sealed) (pools : 
   one_more n = refl
 
   -- an iteration that gives something, or stops
-  pub goes_on : (n : ℕ) (r : Result Stepped PlanFault) → (after n).stop ≡ None → step_of v p (after n).pools seed batch (suc (j + n)) ≡ r → after (suc n) ≡ with_step p (after n) r
+  pub goes_on : (n : ℕ) (r : Result Stepped PlanFault) → (after n).stop ≡ None → training_step v p (after n).pools seed batch (suc (j + n)) ≡ r → after (suc n) ≡ with_step p (after n) r
   goes_on n r running is = one_more n ∙ ap (λ (o : Option PlanFault). with_iteration v p seed batch (suc (j + n)) (after n) o) running ∙ ap (λ (s : Result Stepped PlanFault). with_step p (after n) s) is
 
   -- once stopped it stays
@@ -39,15 +39,15 @@ module _ {Start Chain : Type 0} (v : Solving Start Chain) (p : Sealed) (pools : 
   ]
 
   -- the lists that are there stay in front
-  more_step : (c : Continued) (r : Result Stepped PlanFault) → (rest : List (List Entry)) × ((with_step p c r).lists ≡ c.lists ++ rest)
+  more_step : (c : Continued) (r : Result Stepped PlanFault) → (tail : List (List Entry)) × ((with_step p c r).lists ≡ c.lists ++ tail)
   more_step c (Ok s) = (s.entries ∷ [], refl)
   more_step c (Err f) = ([], sym (append-nil c.lists))
 
-  more : (k : ℕ) (c : Continued) (o : Option PlanFault) → (rest : List (List Entry)) × ((with_iteration v p seed batch k c o).lists ≡ c.lists ++ rest)
-  more k c None = more_step c (step_of v p c.pools seed batch k)
+  more : (k : ℕ) (c : Continued) (o : Option PlanFault) → (tail : List (List Entry)) × ((with_iteration v p seed batch k c o).lists ≡ c.lists ++ tail)
+  more k c None = more_step c (training_step v p c.pools seed batch k)
   more k c (Some f) = ([], sym (append-nil c.lists))
 
-  pub in_front : (m n : ℕ) → n ≤ m → (rest : List (List Entry)) × ((after m).lists ≡ (after n).lists ++ rest)
+  pub in_front : (m n : ℕ) → n ≤ m → (tail : List (List Entry)) × ((after m).lists ≡ (after n).lists ++ tail)
   in_front zero n below = let e : n ≡ 0 = omega arith in ([], ap (λ (k : ℕ). (after k).lists) (sym e) ∙ sym (append-nil (after n).lists))
   in_front (suc m) n below = elim (cases_eq n (suc m)) [
     | inl same ↦ ([], ap (λ (k : ℕ). (after k).lists) (sym same) ∙ sym (append-nil (after n).lists))
@@ -58,7 +58,7 @@ module _ {Start Chain : Type 0} (v : Solving Start Chain) (p : Sealed) (pools : 
   ]
 
   -- an iteration more stands behind those before it
-  pub next_list : (m n : ℕ) (s : Stepped) → suc n ≤ m → (after n).stop ≡ None → step_of v p (after n).pools seed batch (suc (j + n)) ≡ Ok s → (rest : List (List Entry)) × ((after m).lists ≡ (after n).lists ++ s.entries ∷ rest)
+  pub next_list : (m n : ℕ) (s : Stepped) → suc n ≤ m → (after n).stop ≡ None → training_step v p (after n).pools seed batch (suc (j + n)) ≡ Ok s → (tail : List (List Entry)) × ((after m).lists ≡ (after n).lists ++ s.entries ∷ tail)
   next_list m n s below running is =
       let front = in_front m (suc n) below in
       let lists = ap (λ (c : Continued). c.lists) (goes_on n (Ok s) running is) in
@@ -70,7 +70,7 @@ module _ {Start Chain : Type 0} (v : Solving Start Chain) (p : Sealed) (pools : 
   step_counted c (Err f) n running h = absurd (some_none f running)
 
   iteration_counted : (k : ℕ) (c : Continued) (o : Option PlanFault) (n : ℕ) → c.stop ≡ o → (with_iteration v p seed batch k c o).stop ≡ None → (c.stop ≡ None → (length c.lists ≡ n) × (length c.bounds ≡ n)) → (length (with_iteration v p seed batch k c o).lists ≡ suc n) × (length (with_iteration v p seed batch k c o).bounds ≡ suc n)
-  iteration_counted k c None n is running h = step_counted c (step_of v p c.pools seed batch k) n running (h is)
+  iteration_counted k c None n is running h = step_counted c (training_step v p c.pools seed batch k) n running (h is)
   iteration_counted k c (Some f) n is running h = absurd (some_none f (sym is ∙ running))
 
   pub counted : (n : ℕ) → (after n).stop ≡ None → (length (after n).lists ≡ n) × (length (after n).bounds ≡ n)

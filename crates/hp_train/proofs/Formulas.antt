@@ -4,19 +4,19 @@ use Rattle.std.specs.List.{sum_by}
 use Rattle.std.proofs.lemmas.Bool.Decides.{nat_tests}
 use Rattle.std.proofs.lemmas.List.Sums.{sum_by-cons}
 use Rattle.std.proofs.Math.Nat.{mul-le-mul_left, mul-le-mul_right}
-use Rattle.hp_problem.specs.declared.raw.Node.{Node}
-use Rattle.hp_problem.specs.declared.raw.Raw.{Raw}
+use Rattle.hp_parts.specs.declared.parts.Node.{Node}
+use Rattle.hp_parts.specs.declared.parts.ProblemParts.{ProblemParts}
 use Rattle.hp_problem.specs.declared.formulas.TooMuch.{TooMuch}
 use Rattle.hp_problem.specs.Formulas.{above, or_then, cut_numbers, dictionary, first_dictionary, step_bytes, record_bytes, too_much, row_count, decision_count}
-use Rattle.hp_problem.specs.Parts.{own_subproblem}
-use Rattle.hp_problem.specs.Sealed.{Sealed, is_sealed}
+use Rattle.hp_parts.specs.Parts.{own_subproblem}
+use Rattle.hp_problem.specs.Validated.{Validated, is_validated}
 use Rattle.hp_theory.specs.declared.cut.Cut.{Cut}
 use Rattle.hp_theory.specs.Pools.{pool}
 use Rattle.hp_cut.specs.AtNodes.{PoolsFit}
 use Rattle.hp_solver.specs.Solving.{Solving}
 use Rattle.hp_record.specs.Spelling.{spell}
 use Rattle.hp_record.proofs.Lengths.{text_length}
-use Rattle.hp_train.specs.Stepping.{Stepped, step_of}
+use Rattle.hp_train.specs.Stepping.{Stepped, training_step}
 use Rattle.hp_train.proofs.Written.{IsIteration, is_iteration}
 
 -- a value within its limit
@@ -43,13 +43,13 @@ none_none : (a b : Option TooMuch) → a ≡ None → b ≡ None → or_then a b
 none_none a b e f = ap (λ (x : Option TooMuch). or_then x b) e ∙ f
 
 -- each formula grows with the cuts
-cut_numbers_rise : (p : Sealed) (i j : ℕ) → i ≤ j → cut_numbers p i ≤ cut_numbers p j
-cut_numbers_rise p i j h = mul-le-mul_right (length p.raw.states + 1) (mul-le-mul_right p.longest h)
+cut_numbers_rise : (p : Validated) (i j : ℕ) → i ≤ j → cut_numbers p i ≤ cut_numbers p j
+cut_numbers_rise p i j h = mul-le-mul_right (length p.parts.states + 1) (mul-le-mul_right p.longest h)
 
-dictionary_rises : (raw : Raw) (i j : ℕ) (n : Node) → i ≤ j → dictionary raw i n ≤ dictionary raw j n
-dictionary_rises raw i j n h =
-    let links : (i + 1) * length n.links ≤ (j + 1) * length n.links = mul-le-mul_right (length n.links) (one_more i j h) in
-    mul-le-mul_right (decision_count (own_subproblem raw n) + length n.links) (more (row_count (own_subproblem raw n)) ((i + 1) * length n.links) ((j + 1) * length n.links) links)
+dictionary_rises : (parts : ProblemParts) (i j : ℕ) (n : Node) → i ≤ j → dictionary parts i n ≤ dictionary parts j n
+dictionary_rises parts i j n h =
+    let successors : (i + 1) * length n.successors ≤ (j + 1) * length n.successors = mul-le-mul_right (length n.successors) (one_more i j h) in
+    mul-le-mul_right (decision_count (own_subproblem parts n) + length n.successors) (more (row_count (own_subproblem parts n)) ((i + 1) * length n.successors) ((j + 1) * length n.successors) successors)
   where
     one_more : (i j : ℕ) → i ≤ j → i + 1 ≤ j + 1
     one_more i j h = omega (arith, h)
@@ -57,17 +57,17 @@ dictionary_rises raw i j n h =
     more : (r a b : ℕ) → a ≤ b → r + a ≤ r + b
     more r a b h = omega (arith, h)
 
-dictionaries_none : (raw : Raw) (i j : ℕ) (ns : List Node) → i ≤ j → first_dictionary raw j ns ≡ None → first_dictionary raw i ns ≡ None
-dictionaries_none raw i j [] h e = refl
-dictionaries_none raw i j (n ∷ ns) h e =
-    let b = both_none (above 2 (2 ^ 22) (dictionary raw j n)) (first_dictionary raw j ns) e in
-    none_none (above 2 (2 ^ 22) (dictionary raw i n)) (first_dictionary raw i ns) (still_below 2 (2 ^ 22) (dictionary raw i n) (dictionary raw j n) (dictionary_rises raw i j n h) b.0) (dictionaries_none raw i j ns h b.1)
+dictionaries_none : (parts : ProblemParts) (i j : ℕ) (ns : List Node) → i ≤ j → first_dictionary parts j ns ≡ None → first_dictionary parts i ns ≡ None
+dictionaries_none parts i j [] h e = refl
+dictionaries_none parts i j (n ∷ ns) h e =
+    let b = both_none (above 2 (2 ^ 22) (dictionary parts j n)) (first_dictionary parts j ns) e in
+    none_none (above 2 (2 ^ 22) (dictionary parts i n)) (first_dictionary parts i ns) (still_below 2 (2 ^ 22) (dictionary parts i n) (dictionary parts j n) (dictionary_rises parts i j n h) b.0) (dictionaries_none parts i j ns h b.1)
 
-step_bytes_rise : (raw : Raw) (i j : ℕ) (n : Node) → i ≤ j → step_bytes raw i n ≤ step_bytes raw j n
-step_bytes_rise raw i j n h =
-    let links : length n.links * (4 + 12 * (i + 1)) ≤ length n.links * (4 + 12 * (j + 1)) = mul-le-mul_left (length n.links) (pairs i j h) in
-    two (length n.weights * (8 * row_count (own_subproblem raw n) + length n.links * (4 + 12 * (i + 1)))) (length n.weights * (8 * row_count (own_subproblem raw n) + length n.links * (4 + 12 * (j + 1))))
-    (mul-le-mul_left (length n.weights) (more (8 * row_count (own_subproblem raw n)) (length n.links * (4 + 12 * (i + 1))) (length n.links * (4 + 12 * (j + 1))) links))
+step_bytes_rise : (parts : ProblemParts) (i j : ℕ) (n : Node) → i ≤ j → step_bytes parts i n ≤ step_bytes parts j n
+step_bytes_rise parts i j n h =
+    let successors : length n.successors * (4 + 12 * (i + 1)) ≤ length n.successors * (4 + 12 * (j + 1)) = mul-le-mul_left (length n.successors) (pairs i j h) in
+    two (length n.weights * (8 * row_count (own_subproblem parts n) + length n.successors * (4 + 12 * (i + 1)))) (length n.weights * (8 * row_count (own_subproblem parts n) + length n.successors * (4 + 12 * (j + 1))))
+    (mul-le-mul_left (length n.weights) (more (8 * row_count (own_subproblem parts n)) (length n.successors * (4 + 12 * (i + 1))) (length n.successors * (4 + 12 * (j + 1))) successors))
   where
     pairs : (i j : ℕ) → i ≤ j → 4 + 12 * (i + 1) ≤ 4 + 12 * (j + 1)
     pairs i j h = omega (arith, h)
@@ -78,50 +78,50 @@ step_bytes_rise raw i j n h =
     two : (a b : ℕ) → a ≤ b → 2 + a ≤ 2 + b
     two a b h = omega (arith, h)
 
-all_bytes_rise : (raw : Raw) (i j : ℕ) (ns : List Node) → i ≤ j → sum_by (step_bytes raw i) ns ≤ sum_by (step_bytes raw j) ns
-all_bytes_rise raw i j [] h = omega arith
-all_bytes_rise raw i j (n ∷ ns) h = omega (arith, sum_by-cons (step_bytes raw i) n ns, sum_by-cons (step_bytes raw j) n ns, step_bytes_rise raw i j n h, all_bytes_rise raw i j ns h)
+all_bytes_rise : (parts : ProblemParts) (i j : ℕ) (ns : List Node) → i ≤ j → sum_by (step_bytes parts i) ns ≤ sum_by (step_bytes parts j) ns
+all_bytes_rise parts i j [] h = omega arith
+all_bytes_rise parts i j (n ∷ ns) h = omega (arith, sum_by-cons (step_bytes parts i) n ns, sum_by-cons (step_bytes parts j) n ns, step_bytes_rise parts i j n h, all_bytes_rise parts i j ns h)
 
-record_bytes_rise : (raw : Raw) (i j batch : ℕ) → i ≤ j → record_bytes raw i batch ≤ record_bytes raw j batch
-record_bytes_rise raw i j batch h = mul-le-mul_left batch (ten (sum_by (step_bytes raw i) raw.nodes) (sum_by (step_bytes raw j) raw.nodes) (all_bytes_rise raw i j raw.nodes h))
+record_bytes_rise : (parts : ProblemParts) (i j batch : ℕ) → i ≤ j → record_bytes parts i batch ≤ record_bytes parts j batch
+record_bytes_rise parts i j batch h = mul-le-mul_left batch (ten (sum_by (step_bytes parts i) parts.nodes) (sum_by (step_bytes parts j) parts.nodes) (all_bytes_rise parts i j parts.nodes h))
   where
     ten : (a b : ℕ) → a ≤ b → 10 + a ≤ 10 + b
     ten a b h = omega (arith, h)
 
 -- Formulas that are kept for some number of iterations are kept for fewer.
-pub too_much-fewer : (p : Sealed) (k count batch : ℕ) → k ≤ count → too_much p count batch ≡ None → too_much p k batch ≡ None
+pub too_much-fewer : (p : Validated) (k count batch : ℕ) → k ≤ count → too_much p count batch ≡ None → too_much p k batch ≡ None
 unfolding too_much
 too_much-fewer p k count batch h e =
     let cuts : k * batch ≤ count * batch = mul-le-mul_right batch h in
-    let a = both_none (above 1 (2 ^ 24) (cut_numbers p (count * batch))) (or_then (first_dictionary p.raw (count * batch) p.raw.nodes) (above 3 (2 ^ 26) (record_bytes p.raw (count * batch) batch))) e in
-    let b = both_none (first_dictionary p.raw (count * batch) p.raw.nodes) (above 3 (2 ^ 26) (record_bytes p.raw (count * batch) batch)) a.1 in
-    none_none (above 1 (2 ^ 24) (cut_numbers p (k * batch))) (or_then (first_dictionary p.raw (k * batch) p.raw.nodes) (above 3 (2 ^ 26) (record_bytes p.raw (k * batch) batch)))
+    let a = both_none (above 1 (2 ^ 24) (cut_numbers p (count * batch))) (or_then (first_dictionary p.parts (count * batch) p.parts.nodes) (above 3 (2 ^ 26) (record_bytes p.parts (count * batch) batch))) e in
+    let b = both_none (first_dictionary p.parts (count * batch) p.parts.nodes) (above 3 (2 ^ 26) (record_bytes p.parts (count * batch) batch)) a.1 in
+    none_none (above 1 (2 ^ 24) (cut_numbers p (k * batch))) (or_then (first_dictionary p.parts (k * batch) p.parts.nodes) (above 3 (2 ^ 26) (record_bytes p.parts (k * batch) batch)))
     (still_below 1 (2 ^ 24) (cut_numbers p (k * batch)) (cut_numbers p (count * batch)) (cut_numbers_rise p (k * batch) (count * batch) cuts) a.0)
-    (none_none (first_dictionary p.raw (k * batch) p.raw.nodes) (above 3 (2 ^ 26) (record_bytes p.raw (k * batch) batch))
-    (dictionaries_none p.raw (k * batch) (count * batch) p.raw.nodes cuts b.0)
-    (still_below 3 (2 ^ 26) (record_bytes p.raw (k * batch) batch) (record_bytes p.raw (count * batch) batch) (record_bytes_rise p.raw (k * batch) (count * batch) batch cuts) b.1))
+    (none_none (first_dictionary p.parts (k * batch) p.parts.nodes) (above 3 (2 ^ 26) (record_bytes p.parts (k * batch) batch))
+    (dictionaries_none p.parts (k * batch) (count * batch) p.parts.nodes cuts b.0)
+    (still_below 3 (2 ^ 26) (record_bytes p.parts (k * batch) batch) (record_bytes p.parts (count * batch) batch) (record_bytes_rise p.parts (k * batch) (count * batch) batch cuts) b.1))
 
-record_within : (p : Sealed) (k batch : ℕ) → too_much p k batch ≡ None → record_bytes p.raw (k * batch) batch ≤ 2 ^ 26
+record_within : (p : Validated) (k batch : ℕ) → too_much p k batch ≡ None → record_bytes p.parts (k * batch) batch ≤ 2 ^ 26
 unfolding too_much
 record_within p k batch e =
-    let a = both_none (above 1 (2 ^ 24) (cut_numbers p (k * batch))) (or_then (first_dictionary p.raw (k * batch) p.raw.nodes) (above 3 (2 ^ 26) (record_bytes p.raw (k * batch) batch))) e in
-    let b = both_none (first_dictionary p.raw (k * batch) p.raw.nodes) (above 3 (2 ^ 26) (record_bytes p.raw (k * batch) batch)) a.1 in
-    within_limit 3 (2 ^ 26) (record_bytes p.raw (k * batch) batch) b.1
+    let a = both_none (above 1 (2 ^ 24) (cut_numbers p (k * batch))) (or_then (first_dictionary p.parts (k * batch) p.parts.nodes) (above 3 (2 ^ 26) (record_bytes p.parts (k * batch) batch))) e in
+    let b = both_none (first_dictionary p.parts (k * batch) p.parts.nodes) (above 3 (2 ^ 26) (record_bytes p.parts (k * batch) batch)) a.1 in
+    within_limit 3 (2 ^ 26) (record_bytes p.parts (k * batch) batch) b.1
 
 -- An iteration, the (j + 1)-th, over pools that have the base cut and at most one for each path before: what it leaves,
 -- and the bytes of its record.
-pub record IsRecorded (p : Sealed) (batch j : ℕ) (pools : List (List Cut)) (s : Stepped) : Type 0 where
+pub record IsRecorded (p : Validated) (batch j : ℕ) (pools : List (List Cut)) (s : Stepped) : Type 0 where
   pub iteration : IsIteration p (suc j) batch (suc j * batch + 1) pools s
   pub short : length (spell s.entries) ≤ 2 ^ 26
 
-pub is_recorded : {Start Chain : Type 0} (v : Solving Start Chain) (p : Sealed) → is_sealed p ≡ true → (pools : List (List Cut)) (seed batch j count : ℕ) (s : Stepped) → PoolsFit p pools → ((m : ℕ) → length (pool pools m) ≤ 1 + j * batch)
-    → suc j ≤ count → count ≤ 2000 → batch ≤ 64 → too_much p count batch ≡ None → step_of v p pools seed batch (suc j) ≡ Ok s → IsRecorded p batch j pools s
-is_recorded v p sealed pools seed batch j count s fit few now last paths kept e =
+pub is_recorded : {Start Chain : Type 0} (v : Solving Start Chain) (p : Validated) → is_validated p ≡ true → (pools : List (List Cut)) (seed batch j count : ℕ) (s : Stepped) → PoolsFit p pools → ((m : ℕ) → length (pool pools m) ≤ 1 + j * batch)
+    → suc j ≤ count → count ≤ 2000 → batch ≤ 64 → too_much p count batch ≡ None → training_step v p pools seed batch (suc j) ≡ Ok s → IsRecorded p batch j pools s
+is_recorded v p validated pools seed batch j count s fit few now last paths kept e =
     let here : suc j * batch ≤ 2000 * batch = mul-le-mul_right batch (at_most now last) in
-    let i = is_iteration v p sealed pools seed batch (suc j) (1 + j * batch) (suc j * batch + 1) s fit few (grows j batch) (small (suc j * batch) batch here paths) (omega (arith, now, last)) e in
+    let i = is_iteration v p validated pools seed batch (suc j) (1 + j * batch) (suc j * batch + 1) s fit few (grows j batch) (small (suc j * batch) batch here paths) (omega (arith, now, last)) e in
     record {
       iteration = i;
-      short = chain (text_length p (suc j * batch) batch s.entries sealed (counted i.written.counted) i.written.each i.pairs) (record_within p (suc j) batch (too_much-fewer p (suc j) count batch now kept));
+      short = chain (text_length p (suc j * batch) batch s.entries validated (counted i.written.counted) i.written.each i.pairs) (record_within p (suc j) batch (too_much-fewer p (suc j) count batch now kept));
     }
   where
     at_most : {a b c : ℕ} → a ≤ b → b ≤ c → a ≤ c

@@ -2,34 +2,34 @@
 use Rattle.std.proofs.Common.{◌≡◌, ℕ, zero, suc, ◌+◌, ◌<◌, ◌≤◌, List, [], ◌∷◌, length, drop, get_or, zip, Result, Ok, Err, sym, ap, ap₂, subst, ◌∙◌, arith}
 use Rattle.std.proofs.lemmas.List.{drop_more, drop_all}
 use Rattle.hp_num.specs.Steps.{◌>>=◌}
-use Rattle.hp_problem.specs.Sealed.{Sealed}
+use Rattle.hp_problem.specs.Validated.{Validated}
 use Rattle.hp_theory.specs.declared.cut.Cut.{Cut}
 use Rattle.hp_cut.specs.declared.entry.Entry.{Entry}
 use Rattle.hp_solver.specs.Solving.{Solving}
-use Rattle.hp_sampler.specs.declared.steps.Step.{Step}
+use Rattle.hp_sampler.specs.declared.steps.PathStep.{PathStep}
 use Rattle.hp_sampler.specs.declared.steps.Trajectory.{Trajectory}
 use Rattle.hp_forward.specs.Walking.{IsWalk, AreWalks}
 use Rattle.hp_settle.specs.declared.plan_fault.PlanFault.{PlanFault}
-use Rattle.hp_settle.specs.declared.plan_fault.PlanFault.TheVariants.{NoStage, Range, DiskFault, Memory}
-use Rattle.hp_settle.specs.declared.judging.Dead.{Dead}
-use Rattle.hp_settle.specs.Faults.{Fails, IsDead, OnNoStage, Refutes, Stops, or_dead}
+use Rattle.hp_settle.specs.declared.plan_fault.PlanFault.TheVariants.{Infeasible, Range, DiskFault, Memory}
+use Rattle.hp_settle.specs.declared.classifying.Infeasibility.{Infeasibility}
+use Rattle.hp_settle.specs.Faults.{FailsAsRefuted, IsInfeasible, OnNoStage, Refutes, Stops, or_infeasible}
 use Rattle.hp_train.specs.Drawing.{paths_from, first_stream}
-use Rattle.hp_train.specs.Stepping.{forwards, with_path, with_walks, along, step_of, seen, Stepped}
+use Rattle.hp_train.specs.Stepping.{forwards, with_path, with_walks, along, training_step, seen_stepped, Stepped}
 
 -- a pair of items stands at their number in the pairs
 pub pair_at : {A B : Type 0} (xs : List A) (ys : List B) (i : ℕ) (x : A) (y : B) → i < length xs → i < length ys → x ≡ get_or xs i x → y ≡ get_or ys i y → (i < length (zip xs ys)) × ((x, y) ≡ get_or (zip xs ys) i (x, y))
 pair_at [] ys i x y h k e f = absurd (omega arith)
-pair_at (a ∷ rest) [] i x y h k e f = absurd (omega arith)
-pair_at (a ∷ rest) (b ∷ bs) zero x y h k e f = (omega arith, ap₂ (λ (u : _) (v : _). (u, v)) e f)
-pair_at (a ∷ rest) (b ∷ bs) (suc i) x y h k e f =
-    let after = pair_at rest bs i x y (omega arith) (omega arith) e f in
+pair_at (a ∷ tail) [] i x y h k e f = absurd (omega arith)
+pair_at (a ∷ tail) (b ∷ bs) zero x y h k e f = (omega arith, ap₂ (λ (u : _) (v : _). (u, v)) e f)
+pair_at (a ∷ tail) (b ∷ bs) (suc i) x y h k e f =
+    let after = pair_at tail bs i x y (omega arith) (omega arith) e f in
     (omega (arith, after.0), after.1)
 
 -- the walk along a path of the batch
-pub walk_at : (p : Sealed) (paths : List (List Step)) (walks : List Trajectory) (i : ℕ) (path : List Step) (walk : Trajectory) → AreWalks p paths walks → i < length paths → path ≡ get_or paths i path → walk ≡ get_or walks i walk → IsWalk p path walk
+pub walk_at : (p : Validated) (paths : List (List PathStep)) (walks : List Trajectory) (i : ℕ) (path : List PathStep) (walk : Trajectory) → AreWalks p paths walks → i < length paths → path ≡ get_or paths i path → walk ≡ get_or walks i walk → IsWalk p path walk
 walk_at p paths walks i path walk w h e f =
     let at = pair_at paths walks i path walk h (omega (arith, w.count)) e f in
-    subst (λ (q : List Step × Trajectory). IsWalk p q.0 q.1) (sym at.1) (w.each i (path, walk) at.0)
+    subst (λ (q : List PathStep × Trajectory). IsWalk p q.0 q.1) (sym at.1) (w.each i (path, walk) at.0)
 
 module _ {A B E : Type 0} (step : B → A → Result B E) (zs : List A) (i : ℕ) (found : B) (whole : Result B E) (inv : forwards step (drop i zs) found ≡ whole) where
   next_step : (z : A) → i < length zs → z ≡ get_or zs i z → (step found z >>= forwards step (drop (i + 1) zs)) ≡ whole
@@ -49,36 +49,36 @@ module _ {A B E : Type 0} (step : B → A → Result B E) (zs : List A) (i : ℕ
 
 -- a fault that stops a part stops the whole
 pub stops_through : {A B : Type 0} (f : PlanFault) (part : Result A PlanFault) (whole : Result B PlanFault) → ((e : PlanFault) → part ≡ Err e → whole ≡ Err e) → Stops f part → Stops f whole
-stops_through (NoStage dead) part whole h s = h (NoStage dead) s
+stops_through (Infeasible infeasible) part whole h s = h (Infeasible infeasible) s
 stops_through (Range k m r) part whole h s = h (Range k m r) s
 stops_through DiskFault part whole h s = s
 stops_through Memory part whole h s = tt
 
 -- a fault of the forward passes stops the iteration
-pub forward_stops : {A B : Type 0} (f : PlanFault) (walks : Result A Dead) (rest : A → Result B PlanFault) → Fails f walks → Stops f (or_dead walks >>= rest)
-forward_stops (NoStage dead) walks rest h = ap (λ (w : _). or_dead w >>= rest) h
-forward_stops (Range k m r) walks rest h = absurd h
-forward_stops DiskFault walks rest h = h
-forward_stops Memory walks rest h = tt
+pub forward_stops : {A B : Type 0} (f : PlanFault) (walks : Result A Infeasibility) (tail : A → Result B PlanFault) → FailsAsRefuted f walks → Stops f (or_infeasible walks >>= tail)
+forward_stops (Infeasible infeasible) walks tail h = ap (λ (w : _). or_infeasible w >>= tail) h
+forward_stops (Range k m r) walks tail h = absurd h
+forward_stops DiskFault walks tail h = h
+forward_stops Memory walks tail h = tt
 
-pub forward_dead : (A : Type 0) (p : Sealed) (f : PlanFault) → OnNoStage {A = A} (Err f) (Refutes p) → IsDead p f
-forward_dead A p (NoStage dead) h = h
-forward_dead A p (Range k m r) h = tt
-forward_dead A p DiskFault h = tt
-forward_dead A p Memory h = tt
+pub forward_infeasible : (A : Type 0) (p : Validated) (f : PlanFault) → OnNoStage {A = A} (Err f) (Refutes p) → IsInfeasible p f
+forward_infeasible A p (Infeasible infeasible) h = h
+forward_infeasible A p (Range k m r) h = tt
+forward_infeasible A p DiskFault h = tt
+forward_infeasible A p Memory h = tt
 
 pub forwards-stops : {A : Type 0} (step : Stepped → A → Result Stepped PlanFault) (zs : List A) (i : ℕ) (found : Stepped) (whole : Result Stepped PlanFault) (z : A) (f : PlanFault)
     → forwards step (drop i zs) found ≡ whole → i < length zs → z ≡ get_or zs i z → Stops f (step found z) → Stops f whole
 forwards-stops step zs i found whole z f inv h e s = stops_through f (step found z) whole (λ fault is. forwards-fails step zs i found whole inv z fault h e is) s
 
 -- before the first path there are no entries
-pub walks_from : {Start Chain : Type 0} (v : Solving Start Chain) (p : Sealed) (pools : List (List Cut)) (k : ℕ) (paths : List (List Step)) (walks : List Trajectory) (entries : List Entry) → entries ≡ []
-    → forwards (with_path v p k) (zip paths walks) (seen pools entries) ≡ with_walks v p pools k paths walks
+pub walks_from : {Start Chain : Type 0} (v : Solving Start Chain) (p : Validated) (pools : List (List Cut)) (k : ℕ) (paths : List (List PathStep)) (walks : List Trajectory) (entries : List Entry) → entries ≡ []
+    → forwards (with_path v p k) (zip paths walks) (seen_stepped pools entries) ≡ with_walks v p pools k paths walks
 unfolding with_walks
-walks_from v p pools k paths walks entries none = ap (λ (es : List Entry). forwards (with_path v p k) (zip paths walks) (seen pools es)) none
+walks_from v p pools k paths walks entries none = ap (λ (es : List Entry). forwards (with_path v p k) (zip paths walks) (seen_stepped pools es)) none
 
 -- the paths that were drawn are those of the iteration
-pub step_is : {Start Chain : Type 0} (v : Solving Start Chain) (p : Sealed) (pools : List (List Cut)) (seed batch k first : ℕ) (paths given : List (List Step)) → first ≡ first_stream batch k → paths ≡ paths_from p seed first batch → given ≡ paths
-    → along v p pools k given ≡ step_of v p pools seed batch k
-unfolding step_of
-step_is v p pools seed batch k first paths given is drawn same = ap (λ (ps : List (List Step)). along v p pools k ps) (same ∙ drawn ∙ ap (λ n. paths_from p seed n batch) is)
+pub step_is : {Start Chain : Type 0} (v : Solving Start Chain) (p : Validated) (pools : List (List Cut)) (seed batch k first : ℕ) (paths given : List (List PathStep)) → first ≡ first_stream batch k → paths ≡ paths_from p seed first batch → given ≡ paths
+    → along v p pools k given ≡ training_step v p pools seed batch k
+unfolding training_step
+step_is v p pools seed batch k first paths given is drawn same = ap (λ (ps : List (List PathStep)). along v p pools k ps) (same ∙ drawn ∙ ap (λ n. paths_from p seed n batch) is)

@@ -21,4 +21,4 @@ pub mod Resumed
 pub mod ReadBack
 pub mod HeadBack
 pub mod Stored
-pub mod StoredMine
+pub mod StoredPrefix

@@ -3,7 +3,7 @@ use Rattle.std.proofs.Common.{◌≡◌, ℕ, suc, ◌+◌, ◌*◌, ◌≤◌, 
 use Rattle.std.specs.Option.{option_map}
 use Rattle.hp_outside.specs.Disks.{Store}
 use Rattle.hp_outside.specs.Since.{Quiet, LeavesOnly}
-use Rattle.hp_problem.specs.Sealed.{Sealed}
+use Rattle.hp_problem.specs.Validated.{Validated}
 use Rattle.hp_theory.specs.Bound.{Under}
 use Rattle.hp_theory.specs.Pools.{pool, Sound}
 use Rattle.hp_theory.specs.View.{problem_of}
@@ -11,21 +11,21 @@ use Rattle.hp_cut.specs.AtNodes.{PoolsFit}
 use Rattle.hp_cut.specs.declared.entry.Entry.{Entry}
 use Rattle.hp_record.specs.Spelling.{spell}
 use Rattle.hp_journal.specs.Layout.{Title, IsBody, body_of, journal, records}
-use Rattle.hp_journal.specs.Mine.{GrownFrom}
+use Rattle.hp_journal.specs.IsPrefix.{IsGrownPrefix}
 use Rattle.hp_journal.proofs.Growing.{body_short}
 use Rattle.hp_load.specs.declared.loaded.Loaded.{Loaded}
-use Rattle.hp_load.specs.Load.{Outcome, seen}
+use Rattle.hp_load.specs.Load.{Outcome, seen_outcome}
 use Rattle.hp_solver.specs.Solving.{Solving}
 use Rattle.hp_settle.specs.declared.plan_fault.PlanFault.{PlanFault}
 use Rattle.hp_train.specs.Continuing.{Continued, with_step}
 use Rattle.hp_settle.specs.Faults.{Stops}
 use Rattle.hp_train.specs.Iterating.{EndsShut, behind, iterated}
-use Rattle.hp_train.specs.Training.{GoOnWith, StopsAs, WhenWhole, payloads}
+use Rattle.hp_train.specs.Training.{GoesOnWith, StopsAs, WhenWhole, payloads}
 use Rattle.hp_train.proofs.Continuing.{goes_on}
-use Rattle.hp_train.proofs.Grows.{HasIterated, HasRecorded, LeavesAppended, WasStepped, after, all_stopped, gate_is, iterated_more, list_more, moment_on, moved, recorded_ends, recorded_on, stops_as, was_stepped, was_stopped, when_whole}
+use Rattle.hp_train.proofs.Grows.{HasIterated, HasRecorded, LeavesAppended, WasStepped, after, all_stopped, commit_byte_is, iterated_more, list_more, moment_on, moved, recorded_ends, recorded_on, stops_as, was_stepped, was_stopped, when_whole}
 
 -- n iterations were done, and the next one has the number k
-module _ {Start Chain : Type 0} {v : Solving Start Chain} {p : Sealed} {seed n : ℕ} {old mid : Loaded} (has : HasIterated v p seed n old mid) (left k : ℕ) (below : suc n ≤ left) (number : k ≡ suc (length old.bounds + n)) where
+module _ {Start Chain : Type 0} {v : Solving Start Chain} {p : Validated} {seed n : ℕ} {old mid : Loaded} (has : HasIterated v p seed n old mid) (left k : ℕ) (below : suc n ≤ left) (number : k ≡ suc (length old.bounds + n)) where
   -- the records of those that were done, and of all
   abbrev done : List (List Entry)
   done = (after v p seed old n).lists
@@ -46,54 +46,54 @@ module _ {Start Chain : Type 0} {v : Solving Start Chain} {p : Sealed} {seed n :
       (λ f is. subst (λ (x : Continued). now.reads ≡ option_map (behind old.end x.lists) before.reads) (sym (all_ended f is)) recorded.reads)
 
   -- it gave a body for its record
-  module _ (m : Loaded) (body : List ℕ) (is : iterated v p mid seed k ≡ Ok (seen m, body)) where
-    w : WasStepped v p seed n old mid body (seen m)
-    w = was_stepped v p seed n k old mid body (seen m) has number is
+  module _ (m : Loaded) (body : List ℕ) (is : iterated v p mid seed k ≡ Ok (seen_outcome m, body)) where
+    w : WasStepped v p seed n old mid body (seen_outcome m)
+    w = was_stepped v p seed n k old mid body (seen_outcome m) has number is
 
     counted : suc n ≡ n + 1
     counted = omega arith
 
-    pub next_gate : m.end ≡ mid.end
-    next_gate = ap (λ (o : Outcome). o.end) w.outcome
+    pub next_commit_byte : m.end ≡ mid.end
+    next_commit_byte = ap (λ (o : Outcome). o.end) w.outcome
 
-    place : old.born ≡ true → m.end ≡ old.end + length (records (payloads done))
-    place born = next_gate ∙ ap (λ (o : Outcome). o.end) has.value ∙ ap (λ (k : ℕ). k + length (records (payloads done))) (gate_is old born)
+    place : old.committed ≡ true → m.end ≡ old.end + length (records (payloads done))
+    place committed = next_commit_byte ∙ ap (λ (o : Outcome). o.end) has.value ∙ ap (λ (k : ℕ). k + length (records (payloads done))) (commit_byte_is old committed)
 
     pub next_near : m.end ≤ old.end + n * (2 ^ 26 + 5)
-    next_near = omega (arith, next_gate, has.end)
+    next_near = omega (arith, next_commit_byte, has.end)
 
-    module _ (before during : Store) (born : old.born ≡ true) (recorded : HasRecorded before during old.end done final) (ends : IfSome before.reads (EndsShut old.end)) where
+    module _ (before during : Store) (committed : old.committed ≡ true) (recorded : HasRecorded before during old.end done final) (ends : IfSome before.reads (EndsShut old.end)) where
       pub next_ends : IfSome during.reads (EndsShut m.end)
-      next_ends = subst (λ (k : ℕ). IfSome during.reads (EndsShut k)) (sym (place born)) (recorded_ends before during old.end done final recorded ends)
+      next_ends = subst (λ (k : ℕ). IfSome during.reads (EndsShut k)) (sym (place committed)) (recorded_ends before during old.end done final recorded ends)
 
       -- its record is appended
       module _ (now : Store) (bytes : List ℕ) (same : bytes ≡ body) (leaves : LeavesAppended bytes during now) where
-        more : (rest : List (List Entry)) × (final ≡ done ++ w.s.entries ∷ rest)
-        more = list_more v p seed n left old mid body (seen m) below has w
+        more : (tail : List (List Entry)) × (final ≡ done ++ w.s.entries ∷ tail)
+        more = list_more v p seed n left old mid body (seen_outcome m) below has w
 
         spells : bytes ≡ body_of (spell w.s.entries)
         spells = same ∙ w.spells
 
-        pub next_moment : IfSome before.reads (λ bytes. (t : Title) (ps : List (List ℕ)) (j : ℕ) → bytes ≡ journal t (take j ps) 0 [] → GoOnWith j ps final → LeavesOnly before now (GrownFrom t ps j))
+        pub next_moment : IfSome before.reads (λ bytes. (t : Title) (ps : List (List ℕ)) (j : ℕ) → bytes ≡ journal t (take j ps) 0 [] → GoesOnWith j ps final → LeavesOnly before now (IsGrownPrefix t ps j))
         next_moment = moment_on before during now old.end done final w.s.entries more.0 bytes recorded ends more.1 spells leaves
 
         pub next_recorded : Quiet now → now.reads ≡ option_map (λ b. take m.end b ++ 1 ∷ bytes) during.reads → HasRecorded before now old.end (after v p seed old (n + 1)).lists final
         next_recorded quiet reads =
             subst (λ (i : ℕ). HasRecorded before now old.end (after v p seed old i).lists final) counted
-            (recorded_on before during now old.end done final w.s.entries more.0 bytes recorded ends more.1 spells leaves quiet m.end (place born) reads (after v p seed old (suc n)).lists
+            (recorded_on before during now old.end done final w.s.entries more.0 bytes recorded ends more.1 spells leaves quiet m.end (place committed) reads (after v p seed old (suc n)).lists
             (ap (λ (x : Continued). x.lists) (goes_on v p old.pools.lists seed old.batch (length old.bounds) n (Ok w.s) has.running w.step)))
 
     -- the loaded journal ends behind its record
-    pub next_iterated : (new : Loaded) (end : ℕ) (bytes : List ℕ) → bytes ≡ body → end ≡ m.end + length bytes → seen new ≡ moved v p seed (seen m) end
+    pub next_iterated : (new : Loaded) (end : ℕ) (bytes : List ℕ) → bytes ≡ body → end ≡ m.end + length bytes → seen_outcome new ≡ moved v p seed (seen_outcome m) end
         → IsBody body
         → PoolsFit p m.pools.lists
         → ((i : ℕ) → length (pool m.pools.lists i) ≤ 1 + k * mid.batch)
         → (Sound (problem_of p) mid.pools.lists → Sound (problem_of p) m.pools.lists)
         → (Sound (problem_of p) mid.pools.lists → All (Under (problem_of p)) mid.bounds → All (Under (problem_of p)) m.bounds)
-        → m.unsettled ≤ mid.unsettled + 2 ^ 38
+        → m.unanswered ≤ mid.unanswered + 2 ^ 38
         → HasIterated v p seed (n + 1) old new
-    next_iterated new end bytes same next moves is_body fit cuts sound under unsettled =
-        let behind_it : end ≡ mid.end + length body = next ∙ ap (λ (b : List ℕ). m.end + length b) same ∙ ap (λ (i : ℕ). i + length body) next_gate in
+    next_iterated new end bytes same next moves is_body fit cuts sound under unanswered =
+        let behind_it : end ≡ mid.end + length body = next ∙ ap (λ (b : List ℕ). m.end + length b) same ∙ ap (λ (i : ℕ). i + length body) next_commit_byte in
         subst (λ (i : ℕ). HasIterated v p seed i old new) counted
-        (iterated_more v p seed n old mid m new body has w (moves ∙ ap (λ (e : ℕ). moved v p seed (seen m) e) behind_it) (body_short body is_body) fit
-        (λ i. subst (λ (j : ℕ). length (pool m.pools.lists i) ≤ 1 + j * mid.batch) number (cuts i)) sound under unsettled)
+        (iterated_more v p seed n old mid m new body has w (moves ∙ ap (λ (e : ℕ). moved v p seed (seen_outcome m) e) behind_it) (body_short body is_body) fit
+        (λ i. subst (λ (j : ℕ). length (pool m.pools.lists i) ≤ 1 + j * mid.batch) number (cuts i)) sound under unanswered)

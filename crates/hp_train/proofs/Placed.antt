@@ -17,7 +17,7 @@ records-append (p ∷ ps) qs =
     ap (λ (l : List ℕ). 1 ∷ to_be_bytes w32 (length p) ++ p ++ l) (records-append ps qs)
     ∙ ap (λ (l : List ℕ). 1 ∷ l) (sym (append_assoc (to_be_bytes w32 (length p) ++ p) (records ps) (records qs)))
 
--- one record, with the gate behind it
+-- one record, with the commit byte behind it
 one_record : (p : List ℕ) → records (p ∷ []) ++ 0 ∷ [] ≡ 1 ∷ body_of p
 unfolding records body_of
 one_record p = ap (λ (l : List ℕ). 1 ∷ l ++ 0 ∷ []) (append-nil (to_be_bytes w32 (length p) ++ p))
@@ -26,7 +26,7 @@ one_record p = ap (λ (l : List ℕ). 1 ∷ l ++ 0 ∷ []) (append-nil (to_be_by
 pub one_length : (p : List ℕ) → length (records (p ∷ [])) ≡ length (body_of p)
 one_length p = omega (arith, ap length (one_record p), length-append (records (p ∷ [])) (0 ∷ []))
 
--- a record more behind others, with the gate behind it
+-- a record more behind others, with the commit byte behind it
 pub record_more : (x : List ℕ) (ps : List (List ℕ)) (p : List ℕ) → x ++ records (ps ++ p ∷ []) ++ 0 ∷ [] ≡ (x ++ records ps) ++ 1 ∷ body_of p
 record_more x ps p =
     ap (λ (l : List ℕ). x ++ l ++ 0 ∷ []) (records-append ps (p ∷ []))
@@ -38,32 +38,32 @@ pub payloads-append : (xs ys : List (List Entry)) → payloads (xs ++ ys) ≡ pa
 payloads-append [] ys = refl
 payloads-append (x ∷ xs) ys = ap (λ (l : List (List ℕ)). spell x ∷ l) (payloads-append xs ys)
 
--- the bytes before the gate behind more records
+-- the bytes before the commit byte behind more records
 pub front-append : (t : Title) (ps qs : List (List ℕ)) → front t (ps ++ qs) ≡ front t ps ++ records qs
 front-append t ps qs = ap (λ (l : List ℕ). 1 ∷ title_bytes t ++ l) (records-append ps qs) ∙ ap (λ (l : List ℕ). 1 ∷ l) (sym (append_assoc (title_bytes t) (records ps) (records qs)))
 
 -- where a list goes on with these
-pub record Parted {A : Type 0} (rest : A) (j : ℕ) (ps xs : List A) (y : A) : Type 0 where
+pub record Parted {A : Type 0} (tail : A) (j : ℕ) (ps xs : List A) (y : A) : Type 0 where
   pub below : j + length xs < length ps
   pub front : take (j + length xs) ps ≡ take j ps ++ xs
-  pub here : get_or ps (j + length xs) rest ≡ y
+  pub here : get_or ps (j + length xs) tail ≡ y
 
-head_parted : {A : Type 0} (rest : A) (xs : List A) (y : A) (zs : List A) → Parted rest 0 (xs ++ y ∷ zs) xs y
-head_parted rest [] y zs = record { below = omega arith; front = refl; here = refl }
-head_parted rest (x ∷ xs) y zs =
-    let h = head_parted rest xs y zs in
+head_parted : {A : Type 0} (tail : A) (xs : List A) (y : A) (zs : List A) → Parted tail 0 (xs ++ y ∷ zs) xs y
+head_parted tail [] y zs = record { below = omega arith; front = refl; here = refl }
+head_parted tail (x ∷ xs) y zs =
+    let h = head_parted tail xs y zs in
     let e : 0 + suc (length xs) ≡ suc (0 + length xs) = omega arith in
     record { below = omega (arith, h.below); front = rw e (ap (λ l. x ∷ l) h.front); here = rw e h.here }
 
-pub parted : {A : Type 0} (rest : A) (j : ℕ) (ps xs : List A) (y : A) (zs : List A) → j ≤ length ps → drop j ps ≡ xs ++ y ∷ zs → Parted rest j ps xs y
-parted rest zero ps xs y zs le is = subst (λ l. Parted rest 0 l xs y) (sym is) (head_parted rest xs y zs)
-parted rest (suc j) [] xs y zs le is = absurd (omega (arith, le))
-parted rest (suc j) (p ∷ ps) xs y zs le is =
-    let h = parted rest j ps xs y zs (omega (arith, le)) is in
+pub parted : {A : Type 0} (tail : A) (j : ℕ) (ps xs : List A) (y : A) (zs : List A) → j ≤ length ps → drop j ps ≡ xs ++ y ∷ zs → Parted tail j ps xs y
+parted tail zero ps xs y zs le is = subst (λ l. Parted tail 0 l xs y) (sym is) (head_parted tail xs y zs)
+parted tail (suc j) [] xs y zs le is = absurd (omega (arith, le))
+parted tail (suc j) (p ∷ ps) xs y zs le is =
+    let h = parted tail j ps xs y zs (omega (arith, le)) is in
     let e : suc j + length xs ≡ suc (j + length xs) = omega arith in
     record { below = omega (arith, h.below); front = rw e (ap (λ l. p ∷ l) h.front); here = rw e h.here }
 
--- a gate of 0 that is the last byte, and what stands before it
+-- a commit byte of 0 that is the last byte, and what stands before it
 pub last_byte : (at : ℕ) (bytes f : List ℕ) → EndsShut at bytes → bytes ≡ f ++ 0 ∷ [] → (at ≡ length f) × (take at bytes ≡ f)
 last_byte at bytes f ends is =
     let place : at ≡ length f = omega (arith, ends.0, ap length ends.1, ap length is, length-append (take at bytes) (0 ∷ []), length-take at bytes, length-append f (0 ∷ [])) in
@@ -77,7 +77,7 @@ pub behind_none : (at : ℕ) (bytes : List ℕ) → EndsShut at bytes → behind
 unfolding records
 behind_none at bytes ends = ap (λ (l : List ℕ). l ++ 0 ∷ []) (append-nil (take at bytes)) ∙ sym ends.1
 
--- the gate behind the records stands there
+-- the commit byte behind the records stands there
 pub behind_ends : (at : ℕ) (bytes : List ℕ) (lists : List (List Entry)) → EndsShut at bytes → EndsShut (at + length (records (payloads lists))) (behind at lists bytes)
 behind_ends at bytes lists ends =
     let f : List ℕ = take at bytes ++ records (payloads lists) in

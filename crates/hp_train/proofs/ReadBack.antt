@@ -10,23 +10,23 @@ use Rattle.std.proofs.lemmas.Nat.{be_bytes_4}
 use Rattle.hp_num.specs.Steps.{◌>>=◌}
 use Rattle.hp_problem.specs.declared.formulas.TooMuch.{TooMuch}
 use Rattle.hp_problem.specs.Formulas.{too_much}
-use Rattle.hp_problem.specs.Sealed.{Sealed}
+use Rattle.hp_problem.specs.Validated.{Validated}
 use Rattle.hp_cut.specs.declared.entry.Entry.{Entry}
 use Rattle.hp_record.specs.declared.fault.EntryFault.TheVariants.{Bad}
 use Rattle.hp_record.specs.Reading.{read_batch}
 use Rattle.hp_record.specs.Spelling.{spell}
 use Rattle.hp_record.proofs.Fields.{IsBytes}
 use Rattle.hp_record.proofs.Whole.{batch_spelled}
-use Rattle.hp_journal.specs.declared.gate.Gate.TheVariants.{Shut, Ajar}
-use Rattle.hp_journal.specs.declared.gate.GateFault.TheVariants as gates
-use Rattle.hp_journal.specs.declared.gate.PayloadFault.{PayloadFault}
-use Rattle.hp_journal.specs.Gates.{gate_of, payload_of, length_at, IsShutAt}
+use Rattle.hp_journal.specs.declared.commit_byte.CommitByte.TheVariants.{Shut, Ajar}
+use Rattle.hp_journal.specs.declared.commit_byte.CommitByteFault.TheVariants as commit_bytes
+use Rattle.hp_journal.specs.declared.commit_byte.PayloadFault.{PayloadFault}
+use Rattle.hp_journal.specs.CommitBytes.{commit_byte_of, payload_of, length_at, IsShutAt}
 use Rattle.hp_journal.specs.Layout.{Title, front, records}
 use Rattle.hp_load.specs.declared.refusal.LoadFault.{LoadFault}
 use Rattle.hp_load.specs.declared.refusal.LoadFault.TheVariants.{Refused}
 use Rattle.hp_load.specs.declared.refusal.JournalRefusal.TheVariants.{TooMany}
-use Rattle.hp_load.specs.Refusals.{of_gate, of_payload, of_entries, with_fault, within}
-use Rattle.hp_load.specs.Records.{Found, Ended, rest_behind, rest_at, or_more, entries_at, record_at, record_added, records_at}
+use Rattle.hp_load.specs.Refusals.{of_commit_byte, of_payload, of_entries, with_fault, within_formula}
+use Rattle.hp_load.specs.Records.{Found, Ended, rest_behind, rest_at, or_more, record_entries_at, record_at, record_added, records_at}
 use Rattle.hp_load.proofs.Binding.{bind_ok}
 use Rattle.hp_train.specs.Training.{payloads}
 use Rattle.hp_train.proofs.Placed.{front-append, payloads-append}
@@ -54,18 +54,18 @@ failed_not false e r x h = (refl, h)
 not_less : (a b : ℕ) → nat_lt a b ≡ false → b ≤ a
 not_less a b e = grind (arith, nat_tests)
 
--- ---- the gate at a place
+-- ---- the commit byte at a place
 
 -- the byte is there; it is 1 where no rest is told, and else the rest is what stands behind it
-abbrev GateIs : List ℕ → ℕ → Option ℕ → Type 0
-GateIs bytes at o = (at < length bytes) × (((o ≡ None) × (get_or bytes at 1 ≡ 1)) ⊎ ((o ≡ Some (length bytes - (at + 1))) × (get_or bytes at 1 ≢ 1)))
+abbrev CommitByteIs : List ℕ → ℕ → Option ℕ → Type 0
+CommitByteIs bytes at o = (at < length bytes) × (((o ≡ None) × (get_or bytes at 1 ≡ 1)) ⊎ ((o ≡ Some (length bytes - (at + 1))) × (get_or bytes at 1 ≢ 1)))
 
-gate_is : (bytes : List ℕ) (at : ℕ) (o : Option ℕ) → rest_at bytes at ≡ Ok o → GateIs bytes at o
-unfolding rest_at gate_of
-gate_is bytes at o e = by (nat_le (length bytes) at) refl (get_or bytes at 1 == 1) refl e
+commit_byte_is : (bytes : List ℕ) (at : ℕ) (o : Option ℕ) → rest_at bytes at ≡ Ok o → CommitByteIs bytes at o
+unfolding rest_at commit_byte_of
+commit_byte_is bytes at o e = by (nat_le (length bytes) at) refl (get_or bytes at 1 == 1) refl e
   where
     by : (b : Bool) → nat_le (length bytes) at ≡ b → (c : Bool) → (get_or bytes at 1 == 1) ≡ c
-        → (with_fault of_gate (if b then Err (gates.Short at) else if c then Ok Ajar else Ok (Shut (length bytes - (at + 1)))) >>= λ gate. Ok (rest_behind gate)) ≡ Ok o → GateIs bytes at o
+        → (with_fault of_commit_byte (if b then Err (commit_bytes.Short at) else if c then Ok Ajar else Ok (Shut (length bytes - (at + 1)))) >>= λ commit_byte. Ok (rest_behind commit_byte)) ≡ Ok o → CommitByteIs bytes at o
     by true past c one e = absurd cc
     by false past true one e = (grind (arith, nat_tests), inl (sym (same_ok None o e), grind (arith, nat_tests)))
     by false past false one e = (grind (arith, nat_tests), inr (sym (same_ok (Some (length bytes - (at + 1))) o e), grind (arith, nat_tests)))
@@ -92,7 +92,7 @@ payload_at bytes at x e =
       says = long;
     }
 
--- the bytes up to the next gate
+-- the bytes up to the next commit byte
 record_bytes : (bytes : List ℕ) (at : ℕ) (x : List ℕ) → IsBytes bytes → at < length bytes → get_or bytes at 1 ≡ 1 → PayloadIs bytes at x → take (at + 5 + length x) bytes ≡ take at bytes ++ records (x ∷ [])
 unfolding records
 record_bytes bytes at x fits there one q =
@@ -105,8 +105,8 @@ record_bytes bytes at x fits there one q =
 
 -- ---- the records from a place on
 
-module _ (p : Sealed) (batch : ℕ) (t : Title) (bytes : List ℕ) (fits : IsBytes bytes) where
-  -- the bytes up to a gate
+module _ (p : Validated) (batch : ℕ) (t : Title) (bytes : List ℕ) (fits : IsBytes bytes) where
+  -- the bytes up to a commit byte
   abbrev StandsTo : ℕ → List (List Entry) → Type 0
   StandsTo at lists = take at bytes ≡ front t (payloads lists)
 
@@ -147,11 +147,11 @@ module _ (p : Sealed) (batch : ℕ) (t : Title) (bytes : List ℕ) (fits : IsByt
   payload_part k at after es (Ok x) is e = payload_back k at after es x is e
   payload_part k at after es (Err f) is e = absurd cc
 
-  entries_back : (k at after : ℕ) (es : List Entry) → entries_at p batch bytes k at ≡ Ok (es, after) → (payload_of bytes at ≡ Ok (spell es)) × (after ≡ at + 5 + length (spell es))
-  unfolding entries_at
+  entries_back : (k at after : ℕ) (es : List Entry) → record_entries_at p batch bytes k at ≡ Ok (es, after) → (payload_of bytes at ≡ Ok (spell es)) × (after ≡ at + 5 + length (spell es))
+  unfolding record_entries_at
   entries_back k at after es e = by (too_much p k batch) e
     where
-      by : (o : Option TooMuch) → (within o >>= λ formulas. of_read k at (payload_of bytes at)) ≡ Ok (es, after)
+      by : (o : Option TooMuch) → (within_formula o >>= λ formulas. of_read k at (payload_of bytes at)) ≡ Ok (es, after)
           → (payload_of bytes at ≡ Ok (spell es)) × (after ≡ at + 5 + length (spell es))
       by None w = payload_part k at after es (payload_of bytes at) refl w
       by (Some f) w = absurd cc
@@ -169,21 +169,21 @@ module _ (p : Sealed) (batch : ℕ) (t : Title) (bytes : List ℕ) (fits : IsByt
   stands_more : (at after : ℕ) (found next : Found) (es : List Entry) (lists : List (List Entry)) → StandsTo at lists → at < length bytes → get_or bytes at 1 ≡ 1 → record_at p batch bytes at found ≡ Ok (es, after, next) → StandsTo after (lists ++ es ∷ [])
   unfolding record_at
   stands_more at after found next es lists stands there one e =
-      let q = entries_back (suc (length found.bounds)) at after es (record_part at after found next es (entries_at p batch bytes (suc (length found.bounds)) at) e) in
+      let q = entries_back (suc (length found.bounds)) at after es (record_part at after found next es (record_entries_at p batch bytes (suc (length found.bounds)) at) e) in
       ap (λ (n : ℕ). take n bytes) q.1
       ∙ record_bytes bytes at (spell es) fits there one (payload_at bytes at (spell es) q.0)
       ∙ ap (λ (l : List ℕ). l ++ records (spell es ∷ [])) stands
       ∙ sym (front-append t (payloads lists) (spell es ∷ []))
       ∙ ap (λ (ps : List (List ℕ)). front t ps) (sym (payloads-append lists (es ∷ [])))
 
-  -- the bytes up to the last gate, which is shut, and behind it
+  -- the bytes up to the last commit byte, which is shut, and behind it
   pub record EndsThere (e : Ended) : Type 0 where
     pub stands : take e.end bytes ≡ front t (payloads e.lists)
     pub shut : IsShutAt e.end bytes
-    pub rest : e.rest ≡ length bytes - (e.end + 1)
+    pub tail : e.tail ≡ length bytes - (e.end + 1)
 
   abbrev ended : ℕ → Found → List (List Entry) → ℕ → Ended
-  ended at found lists n = record { found = found; lists = lists; end = at; rest = n }
+  ended at found lists n = record { found = found; lists = lists; end = at; tail = n }
 
   not_both : (n : ℕ) → None ≡ Some n → ⊥
   not_both n e = cc
@@ -191,34 +191,34 @@ module _ (p : Sealed) (batch : ℕ) (t : Title) (bytes : List ℕ) (fits : IsByt
   some_is : (m n : ℕ) → Some m ≡ Some n → m ≡ n
   some_is m n e = cc
 
-  -- at a gate that is shut
-  ends_here : (at n : ℕ) (found : Found) (lists : List (List Entry)) (e : Ended) → StandsTo at lists → GateIs bytes at (Some n) → ended at found lists n ≡ e → EndsThere e
-  ends_here at n found lists e stands gate is =
+  -- at a commit byte that is shut
+  ends_here : (at n : ℕ) (found : Found) (lists : List (List Entry)) (e : Ended) → StandsTo at lists → CommitByteIs bytes at (Some n) → ended at found lists n ≡ e → EndsThere e
+  ends_here at n found lists e stands commit_byte is =
       ⊎_elim (λ ajar. absurd (not_both n (sym ajar.0)))
-      (λ shut. subst EndsThere is (record { stands = stands; shut = (gate.0, shut.1); rest = some_is n (length bytes - (at + 1)) shut.0 })) gate.1
+      (λ shut. subst EndsThere is (record { stands = stands; shut = (commit_byte.0, shut.1); tail = some_is n (length bytes - (at + 1)) shut.0 })) commit_byte.1
 
   -- at one that is open
-  is_open : (at : ℕ) → GateIs bytes at None → get_or bytes at 1 ≡ 1
-  is_open at gate = ⊎_elim (λ ajar. ajar.1) (λ shut. absurd (not_both (length bytes - (at + 1)) shut.0)) gate.1
+  is_open : (at : ℕ) → CommitByteIs bytes at None → get_or bytes at 1 ≡ 1
+  is_open at commit_byte = ⊎_elim (λ ajar. ajar.1) (λ shut. absurd (not_both (length bytes - (at + 1)) shut.0)) commit_byte.1
 
   pub ends_there : (left at : ℕ) (found : Found) (lists : List (List Entry)) (e : Ended) → StandsTo at lists → records_at p batch bytes left at found lists ≡ Ok e → EndsThere e
   unfolding records_at
   ends_there zero at found lists e stands is =
-      let b = bind_ok (rest_at bytes at) (λ rest. or_more rest (ended at found lists) (Err (Refused TooMany))) e is in
+      let b = bind_ok (rest_at bytes at) (λ tail. or_more tail (ended at found lists) (Err (Refused TooMany))) e is in
       by b.0 b.1 b.2
     where
       by : (o : Option ℕ) → rest_at bytes at ≡ Ok o → or_more o (ended at found lists) (Err (Refused TooMany)) ≡ Ok e → EndsThere e
-      by (Some n) read done = ends_here at n found lists e stands (gate_is bytes at (Some n) read) (same_ok (ended at found lists n) e done)
+      by (Some n) read done = ends_here at n found lists e stands (commit_byte_is bytes at (Some n) read) (same_ok (ended at found lists n) e done)
       by None read done = absurd cc
   ends_there (suc left) at found lists e stands is =
       let more : Result Ended LoadFault = record_at p batch bytes at found >>= λ read. records_at p batch bytes left read.1 read.2 (lists ++ read.0 ∷ []) in
-      let b = bind_ok (rest_at bytes at) (λ rest. or_more rest (ended at found lists) more) e is in
+      let b = bind_ok (rest_at bytes at) (λ tail. or_more tail (ended at found lists) more) e is in
       by (λ after next es s w. ends_there left after next (lists ++ es ∷ []) e s w) b.0 b.1 b.2
     where
       by : ((after : ℕ) (next : Found) (es : List Entry) → StandsTo after (lists ++ es ∷ []) → records_at p batch bytes left after next (lists ++ es ∷ []) ≡ Ok e → EndsThere e) → (o : Option ℕ) → rest_at bytes at ≡ Ok o
           → or_more o (ended at found lists) (record_at p batch bytes at found >>= λ read. records_at p batch bytes left read.1 read.2 (lists ++ read.0 ∷ [])) ≡ Ok e → EndsThere e
-      by later (Some n) read done = ends_here at n found lists e stands (gate_is bytes at (Some n) read) (same_ok (ended at found lists n) e done)
+      by later (Some n) read done = ends_here at n found lists e stands (commit_byte_is bytes at (Some n) read) (same_ok (ended at found lists n) e done)
       by later None read done =
-          let gate = gate_is bytes at None read in
+          let commit_byte = commit_byte_is bytes at None read in
           let r = bind_ok (record_at p batch bytes at found) (λ read. records_at p batch bytes left read.1 read.2 (lists ++ read.0 ∷ [])) e done in
-          later r.0.1 r.0.2 r.0.0 (stands_more at r.0.1 found r.0.2 r.0.0 lists stands gate.0 (is_open at gate) r.1) r.2
+          later r.0.1 r.0.2 r.0.0 (stands_more at r.0.1 found r.0.2 r.0.0 lists stands commit_byte.0 (is_open at commit_byte) r.1) r.2

@@ -5,16 +5,16 @@ use Rattle.std.specs.List.{AllByRecursion}
 use Rattle.std.specs.Int.{w64}
 use Rattle.std.proofs.lemmas.Int.{ints, clamps}
 use Rattle.std.proofs.lemmas.List.Elements.{All-head, All-tail}
-use Rattle.hp_problem.specs.declared.raw.Row.{Row}
+use Rattle.hp_parts.specs.declared.parts.Row.{Row}
 use Rattle.hp_theory.specs.declared.cut.Cut.{Cut}
 use Rattle.hp_theory.specs.declared.cut.Certificate.{Certificate}
-use Rattle.hp_theory.specs.Problem.{S, Link, Node}
+use Rattle.hp_theory.specs.Problem.{S, Successor, Node}
 use Rattle.hp_theory.specs.Pools.{pool}
 use Rattle.hp_theory.specs.Certificates.{Rising, multipliers, PairsRight, RightAt}
 use Rattle.hp_solver.specs.declared.fixed.Fx.{Fx}
 use Rattle.hp_solver.specs.declared.programs.Answer.{Answer}
-use Rattle.hp_dual.specs.Acceptance.{is_sign}
-use Rattle.hp_settle.specs.Settling.{dual_at, clamped, rescaled, signed, settled_rows, settled_duals, used_duals, settled_of}
+use Rattle.hp_cut_making.specs.Acceptance.{is_sign}
+use Rattle.hp_settle.specs.Settling.{row_dual, clamped_number, rescaled_multiplier, signed, settled_rows, settled_duals, used_duals, settled_of}
 use Rattle.hp_settle.proofs.SettledRight.{HasCuts, duals_right, settled_used}
 use Rattle.hp_record.specs.Shape.{PairFits, PairsFit, CertificateFits}
 
@@ -23,8 +23,8 @@ in_width : (y : ℤ) → negsuc (2 ^ 63 - 1) ≤ℤ y → y ≤ℤ pos (2 ^ 63 -
 in_width (pos n) low high = let h : n < 2 ^ 63 = omega (arith, ints, high) in record { sfits = h }
 in_width (negsuc n) low high = let h : n < 2 ^ 63 = omega (arith, ints, low) in record { sfits = h }
 
-clamped_fits : (z : ℤ) → FitsSigned w64 (clamped z)
-clamped_fits z = in_width (clamped z) (omega (arith, ints, clamps)) (omega (arith, ints, clamps))
+clamped_fits : (z : ℤ) → FitsSigned w64 (clamped_number z)
+clamped_fits z = in_width (clamped_number z) (omega (arith, ints, clamps)) (omega (arith, ints, clamps))
 
 signed_fits : (row : Row) (y : ℤ) → FitsSigned w64 y → FitsSigned w64 (signed row y)
 signed_fits row y f = by (is_sign row y)
@@ -35,7 +35,7 @@ signed_fits row y f = by (is_sign row y)
 
 rows_fit : (i : ℕ) (rows : List Row) (duals : List Fx) → AllByRecursion (λ z. FitsSigned w64 z) (settled_rows i rows duals)
 rows_fit i [] duals = tt
-rows_fit i (row ∷ rows) duals = (signed_fits row (clamped (rescaled (dual_at duals i))) (clamped_fits (rescaled (dual_at duals i))), rows_fit (suc i) rows duals)
+rows_fit i (row ∷ rows) duals = (signed_fits row (clamped_number (rescaled_multiplier (row_dual duals i))) (clamped_fits (rescaled_multiplier (row_dual duals i))), rows_fit (suc i) rows duals)
 
 -- pairs whose places rise below a count are no more than that
 abbrev Below : ℕ → ℕ × ℕ → Type 0
@@ -57,7 +57,7 @@ pairs_small count most (q ∷ qs) few small a h = ((omega (arith, few, All-head 
 abbrev IsShort : ℕ → List (ℕ × ℕ) → Type 0
 IsShort n qs = (length qs ≤ n) × PairsFit qs
 
-abbrev pub IsLight : Link → Type 0
+abbrev pub IsLight : Successor → Type 0
 IsLight l = l.weight ≤ 65535
 
 target_small : (w : ℕ) → w ≤ 65535 → S * w < 2 ^ 64
@@ -65,19 +65,19 @@ unfolding S
 target_small w h = omega (arith, h)
 
 module _ (pools : List (List Cut)) (n : ℕ) (small : n < 2 ^ 32) (few : (m : ℕ) → length (pool pools m) ≤ n) where
-  link_short : (l : Link) (qs : List (ℕ × ℕ)) → IsLight l → PairsRight pools (l, qs) → IsShort n qs
-  link_short l qs light r =
+  successor_short : (l : Successor) (qs : List (ℕ × ℕ)) → IsLight l → PairsRight pools (l, qs) → IsShort n qs
+  successor_short l qs light r =
       let count : length qs ≤ length (pool pools l.node) = pairs_few (length (pool pools l.node)) qs r.rising r.there in
       let most = few l.node in
       (omega (arith, count, most), (omega (arith, count, most, small), pairs_small (length (pool pools l.node)) (S * l.weight) qs (omega (arith, most, small)) (target_small l.weight light) r.there (omega (arith, r.sum))))
 
-  links_short : (ls : List Link) (cuts : List (List (ℕ × ℕ))) → length cuts ≡ length ls → All IsLight ls → All (PairsRight pools) (zip ls cuts) → AllByRecursion (IsShort n) cuts
-  links_short [] [] e w r = tt
-  links_short [] (c ∷ cuts) e w r = absurd (omega (arith, e))
-  links_short (l ∷ ls) [] e w r = tt
-  links_short (l ∷ ls) (qs ∷ cuts) e w r = (
-    link_short l qs (All-head IsLight l ls w) (All-head (PairsRight pools) (l, qs) (zip ls cuts) r),
-    links_short ls cuts (omega (arith, e)) (All-tail IsLight l ls w) (All-tail (PairsRight pools) (l, qs) (zip ls cuts) r),
+  successors_short : (ls : List Successor) (cuts : List (List (ℕ × ℕ))) → length cuts ≡ length ls → All IsLight ls → All (PairsRight pools) (zip ls cuts) → AllByRecursion (IsShort n) cuts
+  successors_short [] [] e w r = tt
+  successors_short [] (c ∷ cuts) e w r = absurd (omega (arith, e))
+  successors_short (l ∷ ls) [] e w r = tt
+  successors_short (l ∷ ls) (qs ∷ cuts) e w r = (
+    successor_short l qs (All-head IsLight l ls w) (All-head (PairsRight pools) (l, qs) (zip ls cuts) r),
+    successors_short ls cuts (omega (arith, e)) (All-tail IsLight l ls w) (All-tail (PairsRight pools) (l, qs) (zip ls cuts) r),
   )
 
 short_lists : (n : ℕ) (cuts : List (List (ℕ × ℕ))) → AllByRecursion (IsShort n) cuts → AllByRecursion (λ qs. length qs ≤ n) cuts
@@ -91,18 +91,18 @@ fitting_lists n (c ∷ cuts) h = (h.0.1, fitting_lists n cuts h.1)
 -- the premises under which a certificate of the node n can be written, with at most so many pairs to a list
 pub record HasText (most : ℕ) (n : Node) (c : Certificate) : Type 0 where
   pub rows : length c.rows ≡ length n.rows
-  pub cuts : length c.cuts ≡ length n.links
+  pub cuts : length c.cuts ≡ length n.successors
   pub fits : CertificateFits c
   pub within : AllByRecursion (λ qs. length qs ≤ most) c.cuts
 
-module _ (pools : List (List Cut)) (n : Node) (most : ℕ) (here : All (HasCuts pools) n.links) (light : All IsLight n.links) (small : most < 2 ^ 32) (few : (m : ℕ) → length (pool pools m) ≤ most) where
+module _ (pools : List (List Cut)) (n : Node) (most : ℕ) (here : All (HasCuts pools) n.successors) (light : All IsLight n.successors) (small : most < 2 ^ 32) (few : (m : ℕ) → length (pool pools m) ≤ most) where
   duals_text : (duals : List Fx) → HasText most n (settled_duals pools n duals)
   duals_text duals =
       let r : RightAt pools n (settled_duals pools n duals) = duals_right pools n duals here in
-      let short = links_short pools most small few n.links (settled_duals pools n duals).cuts r.links light r.pairs in
+      let short = successors_short pools most small few n.successors (settled_duals pools n duals).cuts r.successors light r.pairs in
       record {
         rows = r.rows;
-        cuts = r.links;
+        cuts = r.successors;
         fits = record { rows = rows_fit 0 n.rows duals; cuts = fitting_lists most (settled_duals pools n duals).cuts short };
         within = short_lists most (settled_duals pools n duals).cuts short;
       }

@@ -2,14 +2,14 @@
 use Rattle.std.proofs.Common.{◌≡◌, ◌∙◌, ℕ, zero, suc, ◌+◌, ◌<◌, ◌≤◌, ℤ, List, [], ◌∷◌, ◌++◌, length, take, Option, Some, None, Result, Ok, Err, refl, sym, ap, ap₂, subst, append_assoc, arith}
 use Rattle.std.proofs.lemmas.List.{append-nil}
 use Rattle.std.proofs.Math.Seq.{take-append_seam}
-use Rattle.hp_problem.specs.Sealed.{Sealed}
+use Rattle.hp_problem.specs.Validated.{Validated}
 use Rattle.hp_theory.specs.declared.cut.Cut.{Cut}
 use Rattle.hp_theory.specs.Bound.{bound}
 use Rattle.hp_theory.specs.View.{problem_of}
 use Rattle.hp_cut.specs.declared.entry.Entry.{Entry}
 use Rattle.hp_solver.specs.Solving.{Solving}
 use Rattle.hp_settle.specs.declared.plan_fault.PlanFault.{PlanFault}
-use Rattle.hp_train.specs.Stepping.{Stepped, step_of}
+use Rattle.hp_train.specs.Stepping.{Stepped, training_step}
 use Rattle.hp_train.specs.Continuing.{Continued, before_any, with_step, with_iteration, continued}
 use Rattle.hp_train.proofs.Continuing.{goes_on, stays, in_front, counted}
 use Rattle.hp_train.proofs.Answered.{none_some}
@@ -23,7 +23,7 @@ joined_none c running =
     ap (λ (o : Option PlanFault). record { pools = c.pools; lists = c.lists; bounds = c.bounds; stop = o }) running
     ∙ ap₂ (λ (ls : List (List Entry)) (bs : List ℤ). record { pools = c.pools; lists = ls; bounds = bs; stop = None }) (sym (append-nil c.lists)) (sym (append-nil c.bounds))
 
-module _ {Start Chain : Type 0} (v : Solving Start Chain) (p : Sealed) (seed batch : ℕ) where
+module _ {Start Chain : Type 0} (v : Solving Start Chain) (p : Validated) (seed batch : ℕ) where
   joined_step : (b r : Continued) (s : Result Stepped PlanFault) → with_step p (joined b r) s ≡ joined b (with_step p r s)
   joined_step b r (Ok s) =
       ap₂ (λ (ls : List (List Entry)) (bs : List ℤ). record { pools = s.pools; lists = ls; bounds = bs; stop = None })
@@ -31,7 +31,7 @@ module _ {Start Chain : Type 0} (v : Solving Start Chain) (p : Sealed) (seed bat
   joined_step b r (Err f) = refl
 
   joined_iteration : (k : ℕ) (b r : Continued) (o : Option PlanFault) → with_iteration v p seed batch k (joined b r) o ≡ joined b (with_iteration v p seed batch k r o)
-  joined_iteration k b r None = joined_step b r (step_of v p r.pools seed batch k)
+  joined_iteration k b r None = joined_step b r (training_step v p r.pools seed batch k)
   joined_iteration k b r (Some f) = refl
 
   module _ (pools : List (List Cut)) where
@@ -42,19 +42,19 @@ module _ {Start Chain : Type 0} (v : Solving Start Chain) (p : Sealed) (seed bat
     unfolding continued
     one_more n = refl
 
-    abbrev rest : ℕ → ℕ → Continued
-    rest j n = continued v p (after j).pools seed batch j n
+    abbrev tail : ℕ → ℕ → Continued
+    tail j n = continued v p (after j).pools seed batch j n
 
-    more_rest : (j n : ℕ) → rest j (suc n) ≡ with_iteration v p seed batch (suc (j + n)) (rest j n) (rest j n).stop
+    more_rest : (j n : ℕ) → tail j (suc n) ≡ with_iteration v p seed batch (suc (j + n)) (tail j n) (tail j n).stop
     unfolding continued
     more_rest j n = refl
 
-    no_rest : (j : ℕ) → rest j 0 ≡ before_any (after j).pools
+    no_rest : (j : ℕ) → tail j 0 ≡ before_any (after j).pools
     unfolding continued
     no_rest j = refl
 
     -- j iterations that did not stop, and then n
-    pub split : (j n : ℕ) → (after j).stop ≡ None → after (j + n) ≡ joined (after j) (rest j n)
+    pub split : (j n : ℕ) → (after j).stop ≡ None → after (j + n) ≡ joined (after j) (tail j n)
     split j zero running =
         let same : j + 0 ≡ j = omega arith in
         ap after same ∙ joined_none (after j) running ∙ ap (joined (after j)) (sym (no_rest j))
@@ -64,7 +64,7 @@ module _ {Start Chain : Type 0} (v : Solving Start Chain) (p : Sealed) (seed bat
         ap after same ∙ one_more (j + n)
         ∙ ap (λ (k : ℕ). with_iteration v p seed batch k (after (j + n)) (after (j + n)).stop) number
         ∙ ap (λ (c : Continued). with_iteration v p seed batch (suc (j + n)) c c.stop) (split j n running)
-        ∙ joined_iteration (suc (j + n)) (after j) (rest j n) (rest j n).stop
+        ∙ joined_iteration (suc (j + n)) (after j) (tail j n) (tail j n).stop
         ∙ ap (joined (after j)) (sym (more_rest j n))
 
     -- where an iteration has stopped, fewer lists are there
@@ -74,8 +74,8 @@ module _ {Start Chain : Type 0} (v : Solving Start Chain) (p : Sealed) (seed bat
 
     fewer_more : (n : ℕ) (f : PlanFault) (o : Option PlanFault) → (after n).stop ≡ o → ((g : PlanFault) → (after n).stop ≡ Some g → length (after n).lists < n) → (after (suc n)).stop ≡ Some f → length (after (suc n)).lists < suc n
     fewer_more n f None running before stopped =
-        let is = goes_on v p pools seed batch 0 n (step_of v p (after n).pools seed batch (suc (0 + n))) running refl in
-        subst (λ (c : Continued). length c.lists < suc n) (sym is) (fewer_step n f (step_of v p (after n).pools seed batch (suc (0 + n))) (counted v p pools seed batch 0 n running).0 (ap (λ (c : Continued). c.stop) (sym is) ∙ stopped))
+        let is = goes_on v p pools seed batch 0 n (training_step v p (after n).pools seed batch (suc (0 + n))) running refl in
+        subst (λ (c : Continued). length c.lists < suc n) (sym is) (fewer_step n f (training_step v p (after n).pools seed batch (suc (0 + n))) (counted v p pools seed batch 0 n running).0 (ap (λ (c : Continued). c.stop) (sym is) ∙ stopped))
     fewer_more n f (Some g) is before stopped =
         let same = stays v p pools seed batch 0 (suc n) n g (omega arith) is in
         omega (arith, ap (λ (c : Continued). length c.lists) same, before g is)

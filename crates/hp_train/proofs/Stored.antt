@@ -5,7 +5,7 @@ use Rattle.std.proofs.lemmas.Bool.Decides.{nat_tests}
 use Rattle.std.proofs.lemmas.List.Elements.{recursion_from_All}
 use Rattle.std.proofs.lemmas.Slice.Eq.{bytes_eq-Decides}
 use Rattle.hp_num.specs.Steps.{◌>>=◌}
-use Rattle.hp_problem.specs.Sealed.{Sealed}
+use Rattle.hp_problem.specs.Validated.{Validated}
 use Rattle.hp_theory.specs.declared.cut.Cut.{Cut}
 use Rattle.hp_cut.specs.declared.entry.Entry.{Entry}
 use Rattle.hp_record.proofs.Fields.{IsBytes, bytes_from_All}
@@ -18,8 +18,8 @@ use Rattle.hp_load.specs.declared.refusal.LoadFault.{LoadFault}
 use Rattle.hp_load.specs.declared.refusal.LoadFault.TheVariants.{Refused}
 use Rattle.hp_load.specs.declared.refusal.JournalRefusal.TheVariants.{OtherProblem, OtherSeed, OtherBatch}
 use Rattle.hp_load.specs.Refusals.{of_head, with_fault}
-use Rattle.hp_load.specs.Records.{Ended, fresh, records_at}
-use Rattle.hp_load.specs.Load.{Outcome, born, unborn, first_gate, same_problem, same_seed, same_batch, title_asked, load_records, load_from, load_of}
+use Rattle.hp_load.specs.Records.{Ended, fresh_found, records_at}
+use Rattle.hp_load.specs.Load.{Outcome, committed, uncommitted, first_commit_byte, same_problem, same_seed, same_batch, title_asked, load_records, load_from, load_of}
 use Rattle.hp_load.proofs.Binding.{bind_ok}
 use Rattle.hp_train.specs.Stored.{IsStored, StandsThere}
 use Rattle.hp_train.proofs.HeadBack.{HeadIs, head_gives}
@@ -60,56 +60,56 @@ title_is digest kept seed asked own paths e =
     let b = bind_ok (same_seed seed own) (λ seed'. same_batch asked paths) tt a.2 in
     (problem_is digest kept a.1, seed_is seed own b.1, batch_is asked paths b.2)
 
-abbrev as_born : ℕ → ℕ → Ended → Result (Outcome × List (List Entry)) LoadFault
-as_born version paths e = Ok (born version paths e, e.lists)
+abbrev as_committed : ℕ → ℕ → Ended → Result (Outcome × List (List Entry)) LoadFault
+as_committed version paths e = Ok (committed version paths e, e.lists)
 
-module _ (p : Sealed) (base : List (List Cut)) (digest : List ℕ) (seed asked : Option ℕ) (bytes : List ℕ) (fits : IsBytes bytes) where
+module _ (p : Validated) (base : List (List Cut)) (digest : List ℕ) (seed asked : Option ℕ) (bytes : List ℕ) (fits : IsBytes bytes) where
   abbrev There : Outcome → List (List Entry) → Type 0
   There o lists = StandsThere base digest seed asked bytes o lists
 
   not_true : false ≡ true → ⊥
   not_true e = cc
 
-  -- not born
-  stands_unborn : (n : ℕ) → head_of bytes ≡ Ok (heads.Unborn n) → There (unborn base asked) []
-  stands_unborn n head = record {
-    born = λ e. absurd (not_true e);
-    unborn = λ e. record { none = refl; head = (head_gives bytes fits (heads.Unborn n) head).0; outcome = refl };
+  -- not committed
+  stands_uncommitted : (n : ℕ) → head_of bytes ≡ Ok (heads.Uncommitted n) → There (uncommitted base asked) []
+  stands_uncommitted n head = record {
+    committed = λ e. absurd (not_true e);
+    uncommitted = λ e. record { none = refl; head = (head_gives bytes fits (heads.Uncommitted n) head).0; outcome = refl };
   }
 
-  -- born
-  stored : (version own paths : ℕ) (kept : List ℕ) (e : Ended) → head_of bytes ≡ Ok (heads.Born version kept own paths) → (kept ≡ digest) × IfSome seed (λ s. s ≡ own) × IfSome asked (λ b. b ≡ paths)
-      → records_at p paths bytes 2000 (first_gate version) (fresh base) [] ≡ Ok e → IsStored digest seed asked bytes (born version paths e) e.lists own
+  -- committed
+  stored : (version own paths : ℕ) (kept : List ℕ) (e : Ended) → head_of bytes ≡ Ok (heads.Committed version kept own paths) → (kept ≡ digest) × IfSome seed (λ s. s ≡ own) × IfSome asked (λ b. b ≡ paths)
+      → records_at p paths bytes 2000 (first_commit_byte version) (fresh_found base) [] ≡ Ok e → IsStored digest seed asked bytes (committed version paths e) e.lists own
   stored version own paths kept e head named read =
       let t : Title = record { version = version; digest = kept; seed = own; batch = paths } in
-      let h : HeadIs bytes t = head_gives bytes fits (heads.Born version kept own paths) head in
-      let there = ends_there p paths t bytes fits 2000 (first_gate version) (fresh base) [] e h.stands read in
-      subst (λ (d : List ℕ). IsStored d seed asked bytes (born version paths e) e.lists own) named.0
-      (record { title = h.title; same_seed = named.1; same_batch = named.2; stands = there.stands; shut = there.shut; rest = there.rest })
+      let h : HeadIs bytes t = head_gives bytes fits (heads.Committed version kept own paths) head in
+      let there = ends_there p paths t bytes fits 2000 (first_commit_byte version) (fresh_found base) [] e h.stands read in
+      subst (λ (d : List ℕ). IsStored d seed asked bytes (committed version paths e) e.lists own) named.0
+      (record { title = h.title; same_seed = named.1; same_batch = named.2; stands = there.stands; shut = there.shut; tail = there.tail })
 
-  stands_born : (version own paths : ℕ) (kept : List ℕ) (e : Ended) → head_of bytes ≡ Ok (heads.Born version kept own paths) → (kept ≡ digest) × IfSome seed (λ s. s ≡ own) × IfSome asked (λ b. b ≡ paths)
-      → records_at p paths bytes 2000 (first_gate version) (fresh base) [] ≡ Ok e → There (born version paths e) e.lists
-  stands_born version own paths kept e head named read = record {
-    born = λ is. (own, stored version own paths kept e head named read);
-    unborn = λ is. absurd (not_true (sym is));
+  stands_committed : (version own paths : ℕ) (kept : List ℕ) (e : Ended) → head_of bytes ≡ Ok (heads.Committed version kept own paths) → (kept ≡ digest) × IfSome seed (λ s. s ≡ own) × IfSome asked (λ b. b ≡ paths)
+      → records_at p paths bytes 2000 (first_commit_byte version) (fresh_found base) [] ≡ Ok e → There (committed version paths e) e.lists
+  stands_committed version own paths kept e head named read = record {
+    committed = λ is. (own, stored version own paths kept e head named read);
+    uncommitted = λ is. absurd (not_true (sym is));
   }
 
   as_loaded : (o o' : Outcome) (lists lists' : List (List Entry)) → ◌≡◌ {A = Result (Outcome × List (List Entry)) LoadFault} (Ok (o, lists)) (Ok (o', lists')) → There o lists → There o' lists'
   as_loaded o o' lists lists' e h = subst (λ (q : Outcome × List (List Entry)). There q.0 q.1) (same_ok (o, lists) (o', lists') e) h
 
-  from_records : (version own paths : ℕ) (kept : List ℕ) (o : Outcome) (lists : List (List Entry)) → head_of bytes ≡ Ok (heads.Born version kept own paths) → (kept ≡ digest) × IfSome seed (λ s. s ≡ own) × IfSome asked (λ b. b ≡ paths)
+  from_records : (version own paths : ℕ) (kept : List ℕ) (o : Outcome) (lists : List (List Entry)) → head_of bytes ≡ Ok (heads.Committed version kept own paths) → (kept ≡ digest) × IfSome seed (λ s. s ≡ own) × IfSome asked (λ b. b ≡ paths)
       → load_records p base bytes version paths ≡ Ok (o, lists) → There o lists
   unfolding load_records
-  from_records version own paths kept o lists head named e = by (records_at p paths bytes 2000 (first_gate version) (fresh base) []) refl e
+  from_records version own paths kept o lists head named e = by (records_at p paths bytes 2000 (first_commit_byte version) (fresh_found base) []) refl e
     where
-      by : (r : Result Ended LoadFault) → records_at p paths bytes 2000 (first_gate version) (fresh base) [] ≡ r → (r >>= as_born version paths) ≡ Ok (o, lists) → There o lists
-      by (Ok x) is w = as_loaded (born version paths x) o x.lists lists w (stands_born version own paths kept x head named is)
+      by : (r : Result Ended LoadFault) → records_at p paths bytes 2000 (first_commit_byte version) (fresh_found base) [] ≡ r → (r >>= as_committed version paths) ≡ Ok (o, lists) → There o lists
+      by (Ok x) is w = as_loaded (committed version paths x) o x.lists lists w (stands_committed version own paths kept x head named is)
       by (Err f) is w = absurd cc
 
   from_head : (h : Head) (o : Outcome) (lists : List (List Entry)) → head_of bytes ≡ Ok h → load_from p base digest seed asked bytes h ≡ Ok (o, lists) → There o lists
   unfolding load_from
-  from_head (heads.Unborn n) o lists head e = as_loaded (unborn base asked) o [] lists e (stands_unborn n head)
-  from_head (heads.Born version kept own paths) o lists head e = by (title_asked digest seed asked kept own paths) refl e
+  from_head (heads.Uncommitted n) o lists head e = as_loaded (uncommitted base asked) o [] lists e (stands_uncommitted n head)
+  from_head (heads.Committed version kept own paths) o lists head e = by (title_asked digest seed asked kept own paths) refl e
     where
       by : (r : Result (Unit {0}) LoadFault) → title_asked digest seed asked kept own paths ≡ r → (r >>= λ title. load_records p base bytes version paths) ≡ Ok (o, lists) → There o lists
       by (Ok u) is w = from_records version own paths kept o lists head (title_is digest kept seed asked own paths is) w
@@ -124,5 +124,5 @@ module _ (p : Sealed) (base : List (List Cut)) (digest : List ℕ) (seed asked :
       by (Err f) is w = absurd cc
 
 -- A loaded outcome stands in the journal's bytes.
-pub stands_there : (p : Sealed) (base : List (List Cut)) (digest : List ℕ) (seed asked : Option ℕ) (bytes : List ℕ) (o : Outcome) (lists : List (List Entry)) → All (λ b. b < 256) bytes → load_of p base digest seed asked bytes ≡ Ok (o, lists) → StandsThere base digest seed asked bytes o lists
+pub stands_there : (p : Validated) (base : List (List Cut)) (digest : List ℕ) (seed asked : Option ℕ) (bytes : List ℕ) (o : Outcome) (lists : List (List Entry)) → All (λ b. b < 256) bytes → load_of p base digest seed asked bytes ≡ Ok (o, lists) → StandsThere base digest seed asked bytes o lists
 stands_there p base digest seed asked bytes o lists small e = from_load p base digest seed asked bytes (bytes_from_All bytes (recursion_from_All (λ b. b < 256) bytes small)) o lists e

@@ -4,28 +4,28 @@ use Rattle.std.specs.Option.{option_map}
 use Rattle.hp_outside.specs.Disks.{Store}
 use Rattle.hp_outside.specs.Since.{LeavesOnly}
 use Rattle.hp_outside.proofs.RunsOfCalls.{then_on}
-use Rattle.hp_problem.specs.Sealed.{Sealed}
+use Rattle.hp_problem.specs.Validated.{Validated}
 use Rattle.hp_cut.specs.declared.entry.Entry.{Entry}
-use Rattle.hp_journal.specs.Gates.{IsShutAt}
+use Rattle.hp_journal.specs.CommitBytes.{IsShutAt}
 use Rattle.hp_journal.specs.Layout.{Title, IsTitle, journal}
-use Rattle.hp_journal.specs.Mine.{GrownFrom}
+use Rattle.hp_journal.specs.IsPrefix.{IsGrownPrefix}
 use Rattle.hp_journal.proofs.Told.{told, known, mapped}
 use Rattle.hp_load.specs.Load.{Outcome}
 use Rattle.hp_solver.specs.Solving.{Solving}
 use Rattle.hp_train.specs.Continuing.{Continued, continued}
 use Rattle.hp_train.specs.Iterating.{EndsShut, behind}
-use Rattle.hp_train.specs.Training.{GoOnWith, MineFrom, StandsIn, WhenWhole, grown_journal, iterations, last_gate, loaded_front, opened, title_of}
+use Rattle.hp_train.specs.Training.{GoesOnWith, IsPrefixFrom, HoldsPrefix, WhenWhole, grown_journal, iterations, last_commit_byte, loaded_front, opened, title_of}
 use Rattle.hp_settle.specs.declared.plan_fault.PlanFault.{PlanFault}
 use Rattle.hp_settle.specs.declared.plan_fault.PlanFault.TheVariants as faults
-use Rattle.hp_train.proofs.Opened.{behind_front, front_ends, front_length, front_stands, grown_mine}
+use Rattle.hp_train.proofs.Opened.{behind_front, front_ends, front_length, front_stands, grown_prefix}
 
 -- the iterations behind what was loaded, once the end is ready
-same_iterations : {Start Chain : Type 0} (v : Solving Start Chain) (p : Sealed) (seed count : ℕ) (o m : Outcome) (left : ℕ) → m ≡ opened o → left ≡ count - length m.bounds → continued v p m.pools seed m.batch (length m.bounds) left ≡ iterations v p seed count o
+same_iterations : {Start Chain : Type 0} (v : Solving Start Chain) (p : Validated) (seed count : ℕ) (o m : Outcome) (left : ℕ) → m ≡ opened o → left ≡ count - length m.bounds → continued v p m.pools seed m.batch (length m.bounds) left ≡ iterations v p seed count o
 same_iterations v p seed count o m left is so = subst (λ (x : Outcome). left ≡ count - length x.bounds → continued v p x.pools seed x.batch (length x.bounds) left ≡ iterations v p seed count o) (sym is) (λ h. ap (λ (n : ℕ). continued v p o.pools seed o.batch (length o.bounds) n) h) so
 
 pub when_also : {A : Type 0} (r : Result A PlanFault) (P Q : Type 0) → WhenWhole r P → (P → Q) → WhenWhole r Q
 when_also (Ok x) P Q h so = so h
-when_also (Err (faults.NoStage dead)) P Q h so = so h
+when_also (Err (faults.Infeasible infeasible)) P Q h so = so h
 when_also (Err (faults.Range k m i)) P Q h so = so h
 when_also (Err faults.DiskFault) P Q h so = tt
 when_also (Err faults.Memory) P Q h so = tt
@@ -42,42 +42,42 @@ module _ (digest : List ℕ) (seed : ℕ) (o : Outcome) (title : IsTitle (title_
   abbrev ready : List ℕ → List ℕ
   ready b = loaded_front digest seed o b ++ 0 ∷ []
 
-  long : (r : Option (List ℕ)) → (o.born ≡ true → IfSome r (IsShutAt o.end)) → (bytes : List ℕ) → r ≡ Some bytes → length (loaded_front digest seed o bytes) ≡ last_gate o
-  long r shut bytes is = front_length digest seed o bytes title (λ born. known (IsShutAt o.end) r bytes is (shut born))
+  long : (r : Option (List ℕ)) → (o.committed ≡ true → IfSome r (IsShutAt o.end)) → (bytes : List ℕ) → r ≡ Some bytes → length (loaded_front digest seed o bytes) ≡ last_commit_byte o
+  long r shut bytes is = front_length digest seed o bytes title (λ committed. known (IsShutAt o.end) r bytes is (shut committed))
 
   -- the end is ready
-  pub ready_ends : (r now : Option (List ℕ)) (end : ℕ) → (o.born ≡ true → IfSome r (IsShutAt o.end)) → now ≡ option_map ready r → end ≡ last_gate o → IfSome now (EndsShut end)
+  pub ready_ends : (r now : Option (List ℕ)) (end : ℕ) → (o.committed ≡ true → IfSome r (IsShutAt o.end)) → now ≡ option_map ready r → end ≡ last_commit_byte o → IfSome now (EndsShut end)
   ready_ends r now end shut reads is =
       subst (λ (x : Option (List ℕ)). IfSome x (EndsShut end)) (sym reads) (subst (λ (n : ℕ). IfSome (option_map ready r) (EndsShut n)) (sym is)
-      (some_map r ready (EndsShut (last_gate o)) (told r (λ bytes there. front_ends digest seed o bytes (long r shut bytes there)))))
+      (some_map r ready (EndsShut (last_commit_byte o)) (told r (λ bytes there. front_ends digest seed o bytes (long r shut bytes there)))))
 
   -- the records behind it
-  ready_grows : (r now : Option (List ℕ)) (end : ℕ) (lists : List (List Entry)) → (o.born ≡ true → IfSome r (IsShutAt o.end)) → now ≡ option_map ready r → end ≡ last_gate o → option_map (behind end lists) now ≡ option_map (λ b. grown_journal digest seed o b lists) r
+  ready_grows : (r now : Option (List ℕ)) (end : ℕ) (lists : List (List Entry)) → (o.committed ≡ true → IfSome r (IsShutAt o.end)) → now ≡ option_map ready r → end ≡ last_commit_byte o → option_map (behind end lists) now ≡ option_map (λ b. grown_journal digest seed o b lists) r
   ready_grows r now end lists shut reads is =
       ap (λ (x : Option (List ℕ)). option_map (behind end lists) x) reads ∙ ap (λ (n : ℕ). option_map (behind n lists) (option_map ready r)) is
-      ∙ map_map r ready (behind (last_gate o) lists) (λ b. grown_journal digest seed o b lists) (told r (λ bytes there. behind_front digest seed o bytes lists (long r shut bytes there)))
+      ∙ map_map r ready (behind (last_commit_byte o) lists) (λ b. grown_journal digest seed o b lists) (told r (λ bytes there. behind_front digest seed o bytes lists (long r shut bytes there)))
 
   -- a crash at any moment
   all_moments : (old mid new : Store) (lists : List (List Entry)) → mid.reads ≡ option_map ready old.reads
-      → IfSome old.reads (λ bytes. (ps : List (List ℕ)) (j : ℕ) → StandsIn (title_of digest seed o) o ps j bytes → LeavesOnly old mid (MineFrom (title_of digest seed o) ps j))
-      → IfSome mid.reads (λ bytes. (t : Title) (ps : List (List ℕ)) (j : ℕ) → bytes ≡ journal t (take j ps) 0 [] → GoOnWith j ps lists → LeavesOnly mid new (GrownFrom t ps j))
-      → IfSome old.reads (λ bytes. (ps : List (List ℕ)) (j : ℕ) → StandsIn (title_of digest seed o) o ps j bytes → GoOnWith j ps lists → LeavesOnly old new (MineFrom (title_of digest seed o) ps j))
+      → IfSome old.reads (λ bytes. (ps : List (List ℕ)) (j : ℕ) → HoldsPrefix (title_of digest seed o) o ps j bytes → LeavesOnly old mid (IsPrefixFrom (title_of digest seed o) ps j))
+      → IfSome mid.reads (λ bytes. (t : Title) (ps : List (List ℕ)) (j : ℕ) → bytes ≡ journal t (take j ps) 0 [] → GoesOnWith j ps lists → LeavesOnly mid new (IsGrownPrefix t ps j))
+      → IfSome old.reads (λ bytes. (ps : List (List ℕ)) (j : ℕ) → HoldsPrefix (title_of digest seed o) o ps j bytes → GoesOnWith j ps lists → LeavesOnly old new (IsPrefixFrom (title_of digest seed o) ps j))
   all_moments old mid new lists reads first then = told old.reads (λ bytes there ps j stands goes.
       let t : Title = title_of digest seed o in
-      let one = known (λ b. (ps : List (List ℕ)) (j : ℕ) → StandsIn t o ps j b → LeavesOnly old mid (MineFrom t ps j)) old.reads bytes there first ps j stands in
+      let one = known (λ b. (ps : List (List ℕ)) (j : ℕ) → HoldsPrefix t o ps j b → LeavesOnly old mid (IsPrefixFrom t ps j)) old.reads bytes there first ps j stands in
       let now : mid.reads ≡ Some (ready bytes) = mapped old.reads mid.reads ready bytes there reads in
       let is : ready bytes ≡ journal t (take j ps) 0 [] = ap (λ (f : List ℕ). f ++ 0 ∷ []) (front_stands digest seed o ps j bytes stands) in
-      let two = known (λ b. (t : Title) (ps : List (List ℕ)) (j : ℕ) → b ≡ journal t (take j ps) 0 [] → GoOnWith j ps lists → LeavesOnly mid new (GrownFrom t ps j)) mid.reads (ready bytes) now then t ps j is goes in
-      then_on old mid new (MineFrom t ps j) (MineFrom t ps j) one (grown_mine t ps j mid new two) (λ c x. x))
+      let two = known (λ b. (t : Title) (ps : List (List ℕ)) (j : ℕ) → b ≡ journal t (take j ps) 0 [] → GoesOnWith j ps lists → LeavesOnly mid new (IsGrownPrefix t ps j)) mid.reads (ready bytes) now then t ps j is goes in
+      then_on old mid new (IsPrefixFrom t ps j) (IsPrefixFrom t ps j) one (grown_prefix t ps j mid new two) (λ c x. x))
 
 -- while the end is made ready
 pub first_moments : (digest : List ℕ) (seed : ℕ) (o : Outcome) (old mid : Store) (lists : List (List Entry))
-    → IfSome old.reads (λ bytes. (ps : List (List ℕ)) (j : ℕ) → StandsIn (title_of digest seed o) o ps j bytes → LeavesOnly old mid (MineFrom (title_of digest seed o) ps j))
-    → IfSome old.reads (λ bytes. (ps : List (List ℕ)) (j : ℕ) → StandsIn (title_of digest seed o) o ps j bytes → GoOnWith j ps lists → LeavesOnly old mid (MineFrom (title_of digest seed o) ps j))
-first_moments digest seed o old mid lists first = told old.reads (λ bytes there ps j stands goes. known (λ b. (ps : List (List ℕ)) (j : ℕ) → StandsIn (title_of digest seed o) o ps j b → LeavesOnly old mid (MineFrom (title_of digest seed o) ps j)) old.reads bytes there first ps j stands)
+    → IfSome old.reads (λ bytes. (ps : List (List ℕ)) (j : ℕ) → HoldsPrefix (title_of digest seed o) o ps j bytes → LeavesOnly old mid (IsPrefixFrom (title_of digest seed o) ps j))
+    → IfSome old.reads (λ bytes. (ps : List (List ℕ)) (j : ℕ) → HoldsPrefix (title_of digest seed o) o ps j bytes → GoesOnWith j ps lists → LeavesOnly old mid (IsPrefixFrom (title_of digest seed o) ps j))
+first_moments digest seed o old mid lists first = told old.reads (λ bytes there ps j stands goes. known (λ b. (ps : List (List ℕ)) (j : ℕ) → HoldsPrefix (title_of digest seed o) o ps j b → LeavesOnly old mid (IsPrefixFrom (title_of digest seed o) ps j)) old.reads bytes there first ps j stands)
 
 -- training, once the end is ready: the iterations behind what was loaded leave the same journal as all of them
-module _ {Start Chain : Type 0} (v : Solving Start Chain) (p : Sealed) (digest : List ℕ) (seed count : ℕ) (o m : Outcome) (left : ℕ) (opens : m ≡ opened o) (rest : left ≡ count - length m.bounds) (title : IsTitle (title_of digest seed o)) (old mid new : Store)
+module _ {Start Chain : Type 0} (v : Solving Start Chain) (p : Validated) (digest : List ℕ) (seed count : ℕ) (o m : Outcome) (left : ℕ) (opens : m ≡ opened o) (tail : left ≡ count - length m.bounds) (title : IsTitle (title_of digest seed o)) (old mid new : Store)
     (reads : mid.reads ≡ option_map (λ b. loaded_front digest seed o b ++ 0 ∷ []) old.reads) where
   abbrev going : Continued
   going = continued v p m.pools seed m.batch (length m.bounds) left
@@ -86,16 +86,16 @@ module _ {Start Chain : Type 0} (v : Solving Start Chain) (p : Sealed) (digest :
   lists = (iterations v p seed count o).lists
 
   same : going ≡ iterations v p seed count o
-  same = same_iterations v p seed count o m left opens rest
+  same = same_iterations v p seed count o m left opens tail
 
-  pub trained_reads : (o.born ≡ true → IfSome old.reads (IsShutAt o.end)) → new.reads ≡ option_map (behind m.end going.lists) mid.reads → new.reads ≡ option_map (λ b. grown_journal digest seed o b lists) old.reads
+  pub trained_reads : (o.committed ≡ true → IfSome old.reads (IsShutAt o.end)) → new.reads ≡ option_map (behind m.end going.lists) mid.reads → new.reads ≡ option_map (λ b. grown_journal digest seed o b lists) old.reads
   trained_reads shut is =
       is ∙ ap (λ (x : Continued). option_map (behind m.end x.lists) mid.reads) same
       ∙ ready_grows digest seed o title old.reads mid.reads m.end lists shut reads (ap (λ (x : Outcome). x.end) opens)
 
-  pub trained_moments : IfSome old.reads (λ bytes. (ps : List (List ℕ)) (j : ℕ) → StandsIn (title_of digest seed o) o ps j bytes → LeavesOnly old mid (MineFrom (title_of digest seed o) ps j))
-      → IfSome mid.reads (λ bytes. (t : Title) (ps : List (List ℕ)) (j : ℕ) → bytes ≡ journal t (take j ps) 0 [] → GoOnWith j ps going.lists → LeavesOnly mid new (GrownFrom t ps j))
-      → IfSome old.reads (λ bytes. (ps : List (List ℕ)) (j : ℕ) → StandsIn (title_of digest seed o) o ps j bytes → GoOnWith j ps lists → LeavesOnly old new (MineFrom (title_of digest seed o) ps j))
+  pub trained_moments : IfSome old.reads (λ bytes. (ps : List (List ℕ)) (j : ℕ) → HoldsPrefix (title_of digest seed o) o ps j bytes → LeavesOnly old mid (IsPrefixFrom (title_of digest seed o) ps j))
+      → IfSome mid.reads (λ bytes. (t : Title) (ps : List (List ℕ)) (j : ℕ) → bytes ≡ journal t (take j ps) 0 [] → GoesOnWith j ps going.lists → LeavesOnly mid new (IsGrownPrefix t ps j))
+      → IfSome old.reads (λ bytes. (ps : List (List ℕ)) (j : ℕ) → HoldsPrefix (title_of digest seed o) o ps j bytes → GoesOnWith j ps lists → LeavesOnly old new (IsPrefixFrom (title_of digest seed o) ps j))
   trained_moments first then =
       all_moments digest seed o title old mid new lists reads first
-      (subst (λ (x : Continued). IfSome mid.reads (λ bytes. (t : Title) (ps : List (List ℕ)) (j : ℕ) → bytes ≡ journal t (take j ps) 0 [] → GoOnWith j ps x.lists → LeavesOnly mid new (GrownFrom t ps j))) same then)
+      (subst (λ (x : Continued). IfSome mid.reads (λ bytes. (t : Title) (ps : List (List ℕ)) (j : ℕ) → bytes ≡ journal t (take j ps) 0 [] → GoesOnWith j ps x.lists → LeavesOnly mid new (IsGrownPrefix t ps j))) same then)

@@ -1,11 +1,11 @@
 -- The paths of an iteration.
 use Rattle.std.specs.Prelude.{ℕ, zero, suc, ◌+◌, ◌-◌, ◌*◌, List, [], ◌∷◌}
-use Rattle.hp_problem.specs.Sealed.{Sealed}
-use Rattle.hp_sampler.specs.declared.steps.Step.{Step}
+use Rattle.hp_problem.specs.Validated.{Validated}
+use Rattle.hp_sampler.specs.declared.steps.PathStep.{PathStep}
 use Rattle.hp_sampler.specs.Drawn.{path}
 
 -- so many paths, which the streams from this one on draw
-abbrev pub paths_from : Sealed → ℕ → ℕ → ℕ → List (List Step)
+abbrev pub paths_from : Validated → ℕ → ℕ → ℕ → List (List PathStep)
 paths_from p seed stream zero = []
 paths_from p seed stream (suc n) = path p seed stream ∷ paths_from p seed (suc stream) n
 

@@ -4,7 +4,7 @@ use Rattle.hp_theory.specs.declared.cut.Cut.{Cut}
 use Rattle.hp_theory.specs.Pools.{pool}
 
 -- each node's cuts stand in front, with at most so many behind them
-pub record Extends (most : ℕ) (old new : List (List Cut)) : Type 0 where
+pub record ExtendsPools (most : ℕ) (old new : List (List Cut)) : Type 0 where
   pub count : length new ≡ length old
-  pub front : (m : ℕ) → (rest : List Cut) × (pool new m ≡ pool old m ++ rest)
+  pub front : (m : ℕ) → (tail : List Cut) × (pool new m ≡ pool old m ++ tail)
   pub few : (m : ℕ) → length (pool new m) ≤ length (pool old m) + most

@@ -2,7 +2,7 @@
 use Rattle.std.specs.Prelude.{◌≡◌, ◌<◌, ℕ, ◌+◌, List, [], ◌∷◌, ◌++◌, length, take, Result, Ok}
 use Rattle.std.specs.List.{sum_by}
 use Rattle.hp_num.specs.Steps.{◌>>=◌}
-use Rattle.hp_problem.specs.Sealed.{Sealed}
+use Rattle.hp_problem.specs.Validated.{Validated}
 use Rattle.hp_theory.specs.Bound.{bound}
 use Rattle.hp_theory.specs.View.{problem_of}
 use Rattle.hp_cut.specs.declared.entry.Entry.{Entry}
@@ -12,30 +12,30 @@ use Rattle.hp_load.specs.declared.loaded.Loaded.{Loaded}
 use Rattle.hp_load.specs.Load.{Outcome}
 use Rattle.hp_solver.specs.Solving.{Solving}
 use Rattle.hp_settle.specs.declared.plan_fault.PlanFault.{PlanFault}
-use Rattle.hp_train.specs.Stepping.{Stepped, step_of}
+use Rattle.hp_train.specs.Stepping.{Stepped, training_step}
 use Rattle.hp_train.specs.Training.{payloads}
 
 -- the loaded outcome with an iteration's, but for the journal's end
-abbrev pub with_stepped : Sealed → Loaded → Stepped → Outcome
+abbrev pub with_stepped : Validated → Loaded → Stepped → Outcome
 with_stepped p l s = record {
   pools = s.pools;
   bounds = l.bounds ++ bound (problem_of p) s.pools ∷ [];
-  unsettled = l.unsettled + sum_by (λ (e : Entry). e.unsettled) s.entries;
-  born = l.born;
+  unanswered = l.unanswered + sum_by (λ (e : Entry). e.unanswered) s.entries;
+  committed = l.committed;
   end = l.end;
-  rest = l.rest;
+  tail = l.tail;
   version = l.version;
   batch = l.batch;
 }
 
--- with iteration k, and the bytes behind the gate of its record
-unfoldable pub iterated : {Start Chain : Type 0} → Solving Start Chain → Sealed → Loaded → ℕ → ℕ → Result (Outcome × List ℕ) PlanFault
-iterated v p l seed k = step_of v p l.pools.lists seed l.batch k >>= λ s. Ok (with_stepped p l s, body_of (spell s.entries))
+-- with iteration k, and the bytes behind the commit byte of its record
+unfoldable pub iterated : {Start Chain : Type 0} → Solving Start Chain → Validated → Loaded → ℕ → ℕ → Result (Outcome × List ℕ) PlanFault
+iterated v p l seed k = training_step v p l.pools.lists seed l.batch k >>= λ s. Ok (with_stepped p l s, body_of (spell s.entries))
 
--- the records of these lists behind the gate at a place, and a gate of 0 behind them
+-- the records of these lists behind the commit byte at a place, and a commit byte of 0 behind them
 abbrev pub behind : ℕ → List (List Entry) → List ℕ → List ℕ
 behind at lists bytes = take at bytes ++ records (payloads lists) ++ 0 ∷ []
 
--- a gate of 0 is the last byte
+-- a commit byte of 0 is the last byte
 abbrev pub EndsShut : ℕ → List ℕ → Type 0
 EndsShut at bytes = (at < length bytes) × (bytes ≡ take at bytes ++ 0 ∷ [])

@@ -3,13 +3,13 @@
 -- Source: Pereira and Pinto 1991.
 use Rattle.std.specs.Prelude.{ℕ, List, [], ◌∷◌, ◌++◌, zip, Result, Ok}
 use Rattle.hp_num.specs.Steps.{◌>>=◌}
-use Rattle.hp_problem.specs.Sealed.{Sealed}
+use Rattle.hp_problem.specs.Validated.{Validated}
 use Rattle.hp_theory.specs.declared.cut.Cut.{Cut}
 use Rattle.hp_cut.specs.declared.entry.Entry.{Entry}
 use Rattle.hp_settle.specs.declared.plan_fault.PlanFault.{PlanFault}
-use Rattle.hp_settle.specs.Faults.{or_dead}
+use Rattle.hp_settle.specs.Faults.{or_infeasible}
 use Rattle.hp_solver.specs.Solving.{Solving}
-use Rattle.hp_sampler.specs.declared.steps.Step.{Step}
+use Rattle.hp_sampler.specs.declared.steps.PathStep.{PathStep}
 use Rattle.hp_sampler.specs.declared.steps.Trajectory.{Trajectory}
 use Rattle.hp_forward.specs.Walking.{walks_of}
 use Rattle.hp_backward.specs.Sweeping.{Swept, swept, taken_back}
@@ -21,12 +21,12 @@ pub record Stepped : Type 0 where
   pub entries : List Entry
 
 abbrev pub entry_of : ℕ → Swept → Entry
-entry_of k s = record { iteration = k; unsettled = s.unsettled; steps = s.steps }
+entry_of k s = record { iteration = k; unanswered = s.unanswered; steps = s.steps }
 
 -- with one path more, by its backward pass at the states of its trajectory
-unfoldable pub with_path : {Start Chain : Type 0} → Solving Start Chain → Sealed → ℕ → Stepped → List Step × Trajectory → Result Stepped PlanFault
+unfoldable pub with_path : {Start Chain : Type 0} → Solving Start Chain → Validated → ℕ → Stepped → List PathStep × Trajectory → Result Stepped PlanFault
 with_path v p k before walked =
-    swept v p before.pools k walked.0 walked.1.states walked.1.unsettled
+    swept v p before.pools k walked.0 walked.1.states walked.1.unanswered
     >>= λ s. Ok (record { pools = s.pools; entries = before.entries ++ entry_of k s ∷ [] })
 
 -- one after another, the first one first
@@ -38,20 +38,20 @@ abbrev pub before_paths : List (List Cut) → Stepped
 before_paths pools = record { pools = pools; entries = [] }
 
 -- the backward passes of the paths, one after another along their trajectories
-unfoldable pub with_walks : {Start Chain : Type 0} → Solving Start Chain → Sealed → List (List Cut) → ℕ → List (List Step) → List Trajectory → Result Stepped PlanFault
+unfoldable pub with_walks : {Start Chain : Type 0} → Solving Start Chain → Validated → List (List Cut) → ℕ → List (List PathStep) → List Trajectory → Result Stepped PlanFault
 with_walks v p pools k paths walks = forwards (with_path v p k) (zip paths walks) (before_paths pools)
 
 -- the forward passes of these paths over the pools as they are, and then their backward passes
-unfoldable pub along : {Start Chain : Type 0} → Solving Start Chain → Sealed → List (List Cut) → ℕ → List (List Step) → Result Stepped PlanFault
-along v p pools k paths = or_dead (walks_of v p pools k paths) >>= with_walks v p pools k paths
+unfoldable pub along : {Start Chain : Type 0} → Solving Start Chain → Validated → List (List Cut) → ℕ → List (List PathStep) → Result Stepped PlanFault
+along v p pools k paths = or_infeasible (walks_of v p pools k paths) >>= with_walks v p pools k paths
 
--- Step: iteration k of training with so many paths, from these pools
-unfoldable pub step_of : {Start Chain : Type 0} → Solving Start Chain → Sealed → List (List Cut) → ℕ → ℕ → ℕ → Result Stepped PlanFault
-step_of v p pools seed batch k = along v p pools k (paths_from p seed (first_stream batch k) batch)
+-- PathStep: iteration k of training with so many paths, from these pools
+unfoldable pub training_step : {Start Chain : Type 0} → Solving Start Chain → Validated → List (List Cut) → ℕ → ℕ → ℕ → Result Stepped PlanFault
+training_step v p pools seed batch k = along v p pools k (paths_from p seed (first_stream batch k) batch)
 
 -- the visible part of pools and entries
-abbrev pub seen : List (List Cut) → List Entry → Stepped
-seen pools entries = record { pools = pools; entries = entries }
+abbrev pub seen_stepped : List (List Cut) → List Entry → Stepped
+seen_stepped pools entries = record { pools = pools; entries = entries }
 
 -- the pools without the cuts of the entries' steps, those of the last entry taken first
 abbrev pub all_taken_back : List (List Cut) → List Entry → List (List Cut)

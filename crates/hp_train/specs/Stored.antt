@@ -2,13 +2,13 @@
 use Rattle.std.specs.Prelude.{◌≡◌, ℕ, ◌+◌, ◌-◌, true, false, List, [], length, take, Option, IfSome}
 use Rattle.hp_theory.specs.declared.cut.Cut.{Cut}
 use Rattle.hp_cut.specs.declared.entry.Entry.{Entry}
-use Rattle.hp_journal.specs.Gates.{IsShutAt}
-use Rattle.hp_journal.specs.Head.{IsUnborn}
+use Rattle.hp_journal.specs.CommitBytes.{IsShutAt}
+use Rattle.hp_journal.specs.Head.{IsUncommitted}
 use Rattle.hp_journal.specs.Layout.{IsTitle, front}
-use Rattle.hp_load.specs.Load.{Outcome, unborn}
+use Rattle.hp_load.specs.Load.{Outcome, uncommitted}
 use Rattle.hp_train.specs.Training.{payloads, title_of}
 
--- Of a born journal: behind the head of its title, with its own seed, stand the records of these lists, up to a gate
+-- Of a journal with a committed header: behind the head of its title, with its own seed, stand the records of these lists, up to a commit byte
 -- that is shut, with the rest behind it. A seed and a batch that are asked are its own.
 pub record IsStored (digest : List ℕ) (asked_seed asked_batch : Option ℕ) (bytes : List ℕ) (o : Outcome) (lists : List (List Entry)) (seed : ℕ) : Type 0 where
   pub title : IsTitle (title_of digest seed o)
@@ -16,15 +16,15 @@ pub record IsStored (digest : List ℕ) (asked_seed asked_batch : Option ℕ) (b
   pub same_batch : IfSome asked_batch (λ b. b ≡ o.batch)
   pub stands : take o.end bytes ≡ front (title_of digest seed o) (payloads lists)
   pub shut : IsShutAt o.end bytes
-  pub rest : o.rest ≡ length bytes - (o.end + 1)
+  pub tail : o.tail ≡ length bytes - (o.end + 1)
 
--- Of one that is not born: no list, over the base cuts.
+-- Of one that is not committed: no list, over the base cuts.
 pub record IsNotStored (base : List (List Cut)) (asked_batch : Option ℕ) (bytes : List ℕ) (o : Outcome) (lists : List (List Entry)) : Type 0 where
   pub none : lists ≡ []
-  pub head : IsUnborn bytes
-  pub outcome : o ≡ unborn base asked_batch
+  pub head : IsUncommitted bytes
+  pub outcome : o ≡ uncommitted base asked_batch
 
 -- one or the other
 pub record StandsThere (base : List (List Cut)) (digest : List ℕ) (asked_seed asked_batch : Option ℕ) (bytes : List ℕ) (o : Outcome) (lists : List (List Entry)) : Type 0 where
-  pub born : o.born ≡ true → (seed : ℕ) × IsStored digest asked_seed asked_batch bytes o lists seed
-  pub unborn : o.born ≡ false → IsNotStored base asked_batch bytes o lists
+  pub committed : o.committed ≡ true → (seed : ℕ) × IsStored digest asked_seed asked_batch bytes o lists seed
+  pub uncommitted : o.committed ≡ false → IsNotStored base asked_batch bytes o lists

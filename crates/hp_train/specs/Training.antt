@@ -1,22 +1,22 @@
 -- The loaded outcome and the journal, as training leaves them.
 use Rattle.std.specs.Prelude.{◌≡◌, ◌⊎◌, ℕ, ◌+◌, ◌-◌, ◌*◌, ◌≤◌, ◌^◌, max, true, false, List, [], ◌∷◌, ◌++◌, length, map, take, drop, if◌then◌else◌, Option, Some, None, Result, Ok, Err}
 use Rattle.std.specs.List.{sum_by}
-use Rattle.hp_problem.specs.Sealed.{Sealed}
+use Rattle.hp_problem.specs.Validated.{Validated}
 use Rattle.hp_problem.specs.Formulas.{too_much}
 use Rattle.hp_theory.specs.Pools.{pool}
 use Rattle.hp_cut.specs.AtNodes.{PoolsFit}
 use Rattle.hp_settle.specs.declared.plan_fault.PlanFault.{PlanFault}
-use Rattle.hp_settle.specs.declared.plan_fault.PlanFault.TheVariants.{NoStage, Range, DiskFault, Memory}
+use Rattle.hp_settle.specs.declared.plan_fault.PlanFault.TheVariants.{Infeasible, Range, DiskFault, Memory}
 use Rattle.hp_cut.specs.declared.entry.Entry.{Entry}
 use Rattle.hp_record.specs.Spelling.{spell}
 use Rattle.hp_journal.specs.Layout.{Title, front, records}
-use Rattle.hp_journal.specs.Mine.{Unborn, Grown, Mine}
-use Rattle.hp_load.specs.Load.{Outcome, first_gate}
+use Rattle.hp_journal.specs.IsPrefix.{Uncommitted, Grown, IsPrefix}
+use Rattle.hp_load.specs.Load.{Outcome, first_commit_byte}
 use Rattle.hp_solver.specs.Solving.{Solving}
 use Rattle.hp_train.specs.Continuing.{Continued, continued}
 
 -- the premises of training on the loaded outcome, with so many iterations to come to in all
-pub record CanTrain (p : Sealed) (count : ℕ) (o : Outcome) : Type 0 where
+pub record CanTrain (p : Validated) (count : ℕ) (o : Outcome) : Type 0 where
   pub fit : PoolsFit p o.pools
   pub iterations : count ≤ 2000
   pub few : length o.bounds ≤ 2000
@@ -24,7 +24,7 @@ pub record CanTrain (p : Sealed) (count : ℕ) (o : Outcome) : Type 0 where
   pub cuts : (m : ℕ) → length (pool o.pools m) ≤ 1 + length o.bounds * o.batch
   pub version : ((o.version ≡ 1) × (o.batch ≡ 1)) ⊎ ((o.version ≡ 2) × (1 ≤ o.batch) × (o.batch ≤ 64))
   pub end : o.end ≤ 2 ^ 38
-  pub unsettled : o.unsettled ≤ 2 ^ 50
+  pub unanswered : o.unanswered ≤ 2 ^ 50
   pub room : too_much p (max count (length o.bounds)) o.batch ≡ None
 
 -- the title of the journal
@@ -35,60 +35,60 @@ title_of digest seed o = record { version = o.version; digest = digest; seed = s
 abbrev pub payloads : List (List Entry) → List (List ℕ)
 payloads lists = map spell lists
 
--- the sum of the unsettled solves that all entries state
-abbrev pub unsettled_in : List (List Entry) → ℕ
-unsettled_in lists = sum_by (sum_by (λ (e : Entry). e.unsettled)) lists
+-- the sum of the unanswered solves that all entries state
+abbrev pub unanswered_in : List (List Entry) → ℕ
+unanswered_in lists = sum_by (sum_by (λ (e : Entry). e.unanswered)) lists
 
--- the place of the last gate that was loaded, or of the first one of a journal that is not born yet
-abbrev pub last_gate : Outcome → ℕ
-last_gate o = if o.born then o.end else first_gate o.version
+-- the place of the last commit byte that was loaded, or of the first one of a journal that is not committed yet
+abbrev pub last_commit_byte : Outcome → ℕ
+last_commit_byte o = if o.committed then o.end else first_commit_byte o.version
 
 -- the iterations behind those that were loaded, up to so many in all
-abbrev pub iterations : {Start Chain : Type 0} → Solving Start Chain → Sealed → ℕ → ℕ → Outcome → Continued
+abbrev pub iterations : {Start Chain : Type 0} → Solving Start Chain → Validated → ℕ → ℕ → Outcome → Continued
 iterations v p seed count o = continued v p o.pools seed o.batch (length o.bounds) (count - length o.bounds)
 
--- the loaded outcome, once the journal is born and ends with a gate of 0
+-- the loaded outcome, once the journal is committed and ends with a commit byte of 0
 abbrev pub opened : Outcome → Outcome
-opened o = record { pools = o.pools; bounds = o.bounds; unsettled = o.unsettled; born = true; end = last_gate o; rest = 0; version = o.version; batch = o.batch }
+opened o = record { pools = o.pools; bounds = o.bounds; unanswered = o.unanswered; committed = true; end = last_commit_byte o; tail = 0; version = o.version; batch = o.batch }
 
 -- the loaded outcome, with the outcome of iterations behind it
 abbrev pub trained : Outcome → Continued → Outcome
 trained o c = record {
   pools = c.pools;
   bounds = o.bounds ++ c.bounds;
-  unsettled = o.unsettled + unsettled_in c.lists;
-  born = true;
-  end = last_gate o + length (records (payloads c.lists));
-  rest = 0;
+  unanswered = o.unanswered + unanswered_in c.lists;
+  committed = true;
+  end = last_commit_byte o + length (records (payloads c.lists));
+  tail = 0;
   version = o.version;
   batch = o.batch;
 }
 
--- the bytes before the last gate that was loaded, as they were read
+-- the bytes before the last commit byte that was loaded, as they were read
 abbrev pub loaded_front : List ℕ → ℕ → Outcome → List ℕ → List ℕ
-loaded_front digest seed o bytes = if o.born then take o.end bytes else front (title_of digest seed o) []
+loaded_front digest seed o bytes = if o.committed then take o.end bytes else front (title_of digest seed o) []
 
--- the journal with the records of these lists behind those that were loaded, a gate of 0 and no rest
+-- the journal with the records of these lists behind those that were loaded, a commit byte of 0 and no rest
 abbrev pub grown_journal : List ℕ → ℕ → Outcome → List ℕ → List (List Entry) → List ℕ
 grown_journal digest seed o bytes lists = loaded_front digest seed o bytes ++ records (payloads lists) ++ 0 ∷ []
 
--- the loaded outcome stands in the bytes: a journal of the first j of these payloads up to its last gate, or one that is not born yet
-pub data StandsIn (t : Title) (o : Outcome) (ps : List (List ℕ)) (j : ℕ) (bytes : List ℕ) : Type 0 where
-  unborn : o.born ≡ false → j ≡ 0 → Unborn t bytes → StandsIn t o ps j bytes
-  born : o.born ≡ true → o.end ≡ length (front t (take j ps)) → Grown t ps j bytes → StandsIn t o ps j bytes
+-- the loaded outcome stands in the bytes: a journal of the first j of these payloads up to its last commit byte, or one that is not committed yet
+pub data HoldsPrefix (t : Title) (o : Outcome) (ps : List (List ℕ)) (j : ℕ) (bytes : List ℕ) : Type 0 where
+  uncommitted : o.committed ≡ false → j ≡ 0 → Uncommitted t bytes → HoldsPrefix t o ps j bytes
+  committed : o.committed ≡ true → o.end ≡ length (front t (take j ps)) → Grown t ps j bytes → HoldsPrefix t o ps j bytes
 
 -- the bytes stand for the first j of these payloads, or for more
-abbrev pub MineFrom : Title → List (List ℕ) → ℕ → List ℕ → Type 0
-MineFrom t ps j bytes = (k : ℕ) × (j ≤ k) × Mine t ps k bytes
+abbrev pub IsPrefixFrom : Title → List (List ℕ) → ℕ → List ℕ → Type 0
+IsPrefixFrom t ps j bytes = (k : ℕ) × (j ≤ k) × IsPrefix t ps k bytes
 
 -- from the number j on these payloads are those of the lists, and perhaps more behind them
-abbrev pub GoOnWith : ℕ → List (List ℕ) → List (List Entry) → Type 0
-GoOnWith j ps lists = (j ≤ length ps) × (more : List (List ℕ)) × (drop j ps ≡ payloads lists ++ more)
+abbrev pub GoesOnWith : ℕ → List (List ℕ) → List (List Entry) → Type 0
+GoesOnWith j ps lists = (j ≤ length ps) × (more : List (List ℕ)) × (drop j ps ≡ payloads lists ++ more)
 
 -- the fault at which the iterations stop, if they do; a fault of the disk and want of memory are free
 abbrev pub StopsAs : {A : Type 0} → Result A PlanFault → Option PlanFault → Type 0
 StopsAs (Ok x) stop = stop ≡ None
-StopsAs (Err (NoStage dead)) stop = stop ≡ Some (NoStage dead)
+StopsAs (Err (Infeasible infeasible)) stop = stop ≡ Some (Infeasible infeasible)
 StopsAs (Err (Range k m r)) stop = stop ≡ Some (Range k m r)
 StopsAs (Err DiskFault) stop = Unit {0}
 StopsAs (Err Memory) stop = Unit {0}
@@ -96,7 +96,7 @@ StopsAs (Err Memory) stop = Unit {0}
 -- a property once all iterations are done that the definition has
 abbrev pub WhenWhole : {A : Type 0} → Result A PlanFault → Type 0 → Type 0
 WhenWhole (Ok x) P = P
-WhenWhole (Err (NoStage dead)) P = P
+WhenWhole (Err (Infeasible infeasible)) P = P
 WhenWhole (Err (Range k m r)) P = P
 WhenWhole (Err DiskFault) P = Unit {0}
 WhenWhole (Err Memory) P = Unit {0}

@@ -5,7 +5,7 @@ ghost use Rattle.hp_train.specs.Drawing.{first_stream, paths_from};
 
 use hp_num::{List, Memory};
 use hp_problem::Problem;
-use hp_sampler::{Step, path};
+use hp_sampler::{PathStep, path};
 use std::alloc::Global;
 
 /// The stream of the first path of an iteration.
@@ -26,7 +26,7 @@ pub(crate) fn paths_from(
     seed: u64,
     first: u64,
     count: u16,
-) -> Result<List<List<Step>>, Memory>
+) -> Result<List<List<PathStep>>, Memory>
     requires { first ≤ 2 ^ 20 }
     ensures value { IfOk result (λ found. found ≡ paths_from problem.now seed first count) }
     ensures count { IfOk result (λ found. length found ≡ count) }

@@ -4,11 +4,11 @@ ghost use Rattle.hp_num.specs.Steps.{GivesOr};
 ghost use Rattle.hp_theory.specs.Pools.{pool, Sound};
 ghost use Rattle.hp_theory.specs.View.{problem_of};
 ghost use Rattle.hp_cut.specs.AtNodes.{PoolsFit};
-ghost use Rattle.hp_settle.specs.Faults.{IsDead, Stops};
+ghost use Rattle.hp_settle.specs.Faults.{IsInfeasible, Stops};
 ghost use Rattle.hp_sampler.specs.Drawn.{IsPath};
 ghost use Rattle.hp_forward.specs.Walking.{AreWalks, IsWalk};
-ghost use Rattle.hp_train.specs.Growing.{Extends};
-ghost use Rattle.hp_train.specs.Stepping.{along, seen, step_of, with_path, with_walks};
+ghost use Rattle.hp_train.specs.Growing.{ExtendsPools};
+ghost use Rattle.hp_train.specs.Stepping.{along, seen_stepped, training_step, with_path, with_walks};
 
 use crate::counts::{counts, cut_back};
 use crate::drawing::{first_stream, paths_from};
@@ -17,12 +17,12 @@ use hp_cut::{Entry, Pools};
 use hp_forward::forward_passes;
 use hp_lp::{Planner, Workspace};
 use hp_num::List;
-use hp_sampler::{Step, Trajectory};
+use hp_sampler::{PathStep, Trajectory};
 use hp_settle::PlanFault;
 use hp_solver::Solver;
 use std::thread::Threads;
 
-/// What the paths of an iteration are drawn by.
+/// The numbers by which the paths of an iteration are drawn.
 #[derive(Clone, Copy)]
 pub struct Draw {
     pub seed: u64,
@@ -36,7 +36,7 @@ pub struct Draw {
 #[derive(Drop)]
 struct Forward<'a> {
     iteration: u32,
-    paths: &'a [List<Step>],
+    paths: &'a [List<PathStep>],
     /// One for each path.
     trajectories: &'a [Trajectory],
 }
@@ -55,14 +55,14 @@ fn add_pass<R: Threads + Sync, V: Solver>(
     requires few { (m : ℕ) → length (pool pools.old.lists m) < 2 ^ 24 }
     requires path { IsPath planner.now.problem.now pass.now.path.now }
     requires walk { IsWalk planner.now.problem.now pass.now.path.now pass.now.trajectory.now }
-    ensures value { GivesOr Stops (λ _. seen pools.new.lists entries.new) result
-        (with_path (V.does planner.now.solver.now) planner.now.problem.now pass.now.iteration (seen pools.old.lists entries.old) (pass.now.path.now, pass.now.trajectory.now)) }
-    ensures extends { Extends 1 pools.old.lists pools.new.lists }
-    ensures dead { IfErr result (IsDead planner.now.problem.now) }
+    ensures value { GivesOr Stops (λ _. seen_stepped pools.new.lists entries.new) result
+        (with_path (V.does planner.now.solver.now) planner.now.problem.now pass.now.iteration (seen_stepped pools.old.lists entries.old) (pass.now.path.now, pass.now.trajectory.now)) }
+    ensures extends { ExtendsPools 1 pools.old.lists pools.new.lists }
+    ensures infeasible { IfErr result (IsInfeasible planner.now.problem.now) }
     ensures fit { PoolsFit planner.now.problem.now pools.new.lists }
     ensures sound { Sound (problem_of planner.now.problem.now) pools.old.lists → Sound (problem_of planner.now.problem.now) pools.new.lists }
 {
-    let _ = planner.problem().raw();
+    let _ = planner.problem().parts();
     let entry = backward_pass(rt, work, planner, pools, pass)?;
     entries.push(entry)?;
     Ok(())
@@ -82,10 +82,10 @@ fn add_passes<R: Threads + Sync, V: Solver>(
     requires batch { length forward.now.paths.now ≤ 64 }
     requires paths { All (IsPath planner.now.problem.now) forward.now.paths.now }
     requires walks { AreWalks planner.now.problem.now forward.now.paths.now forward.now.trajectories.now }
-    ensures value { GivesOr Stops (seen pools.new.lists) result
+    ensures value { GivesOr Stops (seen_stepped pools.new.lists) result
         (with_walks (V.does planner.now.solver.now) planner.now.problem.now pools.old.lists forward.now.iteration forward.now.paths.now forward.now.trajectories.now) }
-    ensures extends { Extends (length forward.now.paths.now) pools.old.lists pools.new.lists }
-    ensures dead { IfErr result (IsDead planner.now.problem.now) }
+    ensures extends { ExtendsPools (length forward.now.paths.now) pools.old.lists pools.new.lists }
+    ensures infeasible { IfErr result (IsInfeasible planner.now.problem.now) }
     ensures fit { PoolsFit planner.now.problem.now pools.new.lists }
     ensures sound { Sound (problem_of planner.now.problem.now) pools.old.lists → Sound (problem_of planner.now.problem.now) pools.new.lists }
 {
@@ -110,16 +110,16 @@ fn go_along<R: Threads + Sync, V: Solver>(
     planner: &Planner<V>,
     pools: &mut Pools,
     iteration: u32,
-    paths: &[List<Step>],
+    paths: &[List<PathStep>],
 ) -> Result<List<Entry>, PlanFault>
     requires fit { PoolsFit planner.now.problem.now pools.old.lists }
     requires few { (m : ℕ) → length (pool pools.old.lists m) ≤ 2 ^ 23 }
     requires batch { length paths.now ≤ 64 }
     requires paths { All (IsPath planner.now.problem.now) paths.now }
-    ensures value { GivesOr Stops (seen pools.new.lists) result
+    ensures value { GivesOr Stops (seen_stepped pools.new.lists) result
         (along (V.does planner.now.solver.now) planner.now.problem.now pools.old.lists iteration paths.now) }
-    ensures extends { Extends (length paths.now) pools.old.lists pools.new.lists }
-    ensures dead { IfErr result (IsDead planner.now.problem.now) }
+    ensures extends { ExtendsPools (length paths.now) pools.old.lists pools.new.lists }
+    ensures infeasible { IfErr result (IsInfeasible planner.now.problem.now) }
     ensures fit { PoolsFit planner.now.problem.now pools.new.lists }
     ensures sound { Sound (problem_of planner.now.problem.now) pools.old.lists → Sound (problem_of planner.now.problem.now) pools.new.lists }
 {
@@ -138,7 +138,7 @@ fn go_along<R: Threads + Sync, V: Solver>(
 ///
 /// Iterations count from 1 to 2,000, and a batch is 1 to 64 paths. No node has more than 2^23 cuts.
 ///
-/// NoStage and Range come exactly where the iteration, one path and one realization after another, meets a node that is
+/// Infeasible and Range come exactly where the iteration, one path and one realization after another, meets a node that is
 /// shown to have no decisions, or certificates whose size passes 2^127 - 1; [`PlanFault::Memory`] where memory was
 /// refused. After each of these the cuts of the pools are as before.
 pub fn iteration<R: Threads + Sync, V: Solver>(
@@ -154,16 +154,16 @@ pub fn iteration<R: Threads + Sync, V: Solver>(
     requires last { draw.iteration ≤ 2000 }
     requires paths { 1 ≤ draw.batch }
     requires most { draw.batch ≤ 64 }
-    ensures value { GivesOr Stops (seen pools.new.lists) result
-        (step_of (V.does planner.now.solver.now) planner.now.problem.now pools.old.lists draw.seed draw.batch draw.iteration) }
-    ensures extends { Extends draw.batch pools.old.lists pools.new.lists }
+    ensures value { GivesOr Stops (seen_stepped pools.new.lists) result
+        (training_step (V.does planner.now.solver.now) planner.now.problem.now pools.old.lists draw.seed draw.batch draw.iteration) }
+    ensures extends { ExtendsPools draw.batch pools.old.lists pools.new.lists }
     ensures kept { OnErr result (pools.new.lists ≡ pools.old.lists) }
-    ensures dead { IfErr result (IsDead planner.now.problem.now) }
+    ensures infeasible { IfErr result (IsInfeasible planner.now.problem.now) }
     ensures fit { PoolsFit planner.now.problem.now pools.new.lists }
     ensures sound { Sound (problem_of planner.now.problem.now) pools.old.lists → Sound (problem_of planner.now.problem.now) pools.new.lists }
 {
     let problem = planner.problem();
-    let _ = problem.raw();
+    let _ = problem.parts();
     let first = first_stream(draw.batch, draw.iteration);
     let paths = paths_from(work.alloc(), problem, draw.seed, first, draw.batch)?;
     let counts = counts(work.alloc(), pools)?;

@@ -1,48 +1,48 @@
 // The laws over the definitions. Each is the contract of a function with an empty body.
 ghost use Rattle.std.specs.Prelude.{◌≡◌, ◌<◌, ◌≤◌, ℕ, true, List, [], ◌++◌, length, Option, None, Some, Ok, All};
 ghost use Rattle.hp_problem.specs.Formulas.{too_much};
-ghost use Rattle.hp_problem.specs.Sealed.{Sealed, is_sealed};
+ghost use Rattle.hp_problem.specs.Validated.{Validated, is_validated};
 ghost use Rattle.hp_theory.specs.Range.{based};
 ghost use Rattle.hp_theory.specs.declared.cut.Cut.{Cut};
 ghost use Rattle.hp_cut.specs.declared.entry.Entry.{Entry};
 ghost use Rattle.hp_journal.specs.Layout.{IsTitle, journal, new_title};
-ghost use Rattle.hp_journal.specs.Mine.{Mine};
+ghost use Rattle.hp_journal.specs.IsPrefix.{IsPrefix};
 ghost use Rattle.hp_load.specs.Load.{Outcome, load_of};
 ghost use Rattle.hp_train.specs.Resuming.{Resumes, unstopped};
 ghost use Rattle.hp_train.specs.Stored.{StandsThere};
-ghost use Rattle.hp_train.specs.Training.{GoOnWith, StandsIn, grown_journal, payloads, title_of};
+ghost use Rattle.hp_train.specs.Training.{GoesOnWith, HoldsPrefix, grown_journal, payloads, title_of};
 
 use hp_solver::Solver;
 
 /// Training that is stopped within any write, and resumed, gives what unstopped training gives, whatever the solver.
 ///
 /// Of at most 2,000 iterations from the base cuts, for which the formulas are kept, let bytes stand for the first `j`
-/// lists, or for none of them while the journal is not born. Then they are loaded with these lists, and with the pools
+/// lists, or for none of them while the journal is not committed. Then they are loaded with these lists, and with the pools
 /// and bounds behind them; and the iterations that go on from there give the other lists, the other bounds, the same
 /// pools and the same stop, so that the journal grows to the same bytes.
 pub fn resume_equals_unstopped<V: Solver>(solver: &V)
-    ensures { (p : Sealed) (base : List (List Cut)) (digest : List ℕ) (seed count : ℕ) (asked : Option ℕ) (j : ℕ) (bytes : List ℕ)
-        → is_sealed p ≡ true → based p ≡ Ok base → IsTitle (new_title digest seed asked)
+    ensures { (p : Validated) (base : List (List Cut)) (digest : List ℕ) (seed count : ℕ) (asked : Option ℕ) (j : ℕ) (bytes : List ℕ)
+        → is_validated p ≡ true → based p ≡ Ok base → IsTitle (new_title digest seed asked)
         → count ≤ 2000 → too_much p count (new_title digest seed asked).batch ≡ None
-        → Mine (new_title digest seed asked) (payloads (unstopped (V.does solver.now) p base (new_title digest seed asked) count).lists) j bytes
+        → IsPrefix (new_title digest seed asked) (payloads (unstopped (V.does solver.now) p base (new_title digest seed asked) count).lists) j bytes
         → (o : Outcome) × Resumes (V.does solver.now) p base (new_title digest seed asked) asked count j bytes o }
 {}
 
-/// The loaded lists stand in the bytes: a born journal has its head, with the asked seed and batch where they are asked, then
-/// the records of the lists, and a shut gate; a journal that is not born gives no list.
+/// The loaded lists stand in the bytes: a journal with a committed header has its head, with the asked seed and batch where they are asked, then
+/// the records of the lists, and a commit byte of 0; a journal that is not committed gives no list.
 ///
 /// So with more lists behind those that were loaded, training leaves the journal of all of them. And bytes that stand
 /// for some of all these lists stand for those that were loaded, behind which the others go on.
 pub fn loaded_as_stored()
-    ensures stands { (p : Sealed) (base : List (List Cut)) (digest : List ℕ) (seed batch : Option ℕ) (bytes : List ℕ) (o : Outcome) (lists : List (List Entry))
+    ensures stands { (p : Validated) (base : List (List Cut)) (digest : List ℕ) (seed batch : Option ℕ) (bytes : List ℕ) (o : Outcome) (lists : List (List Entry))
         → All (λ b. b < 256) bytes → load_of p base digest seed batch bytes ≡ Ok (o, lists)
         → StandsThere base digest seed batch bytes o lists }
     ensures grows { (base : List (List Cut)) (digest : List ℕ) (seed : ℕ) (batch : Option ℕ) (bytes : List ℕ) (o : Outcome) (lists more : List (List Entry))
         → StandsThere base digest (Some seed) batch bytes o lists
         → grown_journal digest seed o bytes more ≡ journal (title_of digest seed o) (payloads (lists ++ more)) 0 [] }
-    ensures mine { (base : List (List Cut)) (digest : List ℕ) (seed : ℕ) (batch : Option ℕ) (bytes : List ℕ) (o : Outcome) (lists more : List (List Entry)) (j : ℕ)
+    ensures prefix { (base : List (List Cut)) (digest : List ℕ) (seed : ℕ) (batch : Option ℕ) (bytes : List ℕ) (o : Outcome) (lists more : List (List Entry)) (j : ℕ)
         → StandsThere base digest (Some seed) batch bytes o lists
-        → Mine (title_of digest seed o) (payloads (lists ++ more)) j bytes
-        → (j ≡ length lists) × StandsIn (title_of digest seed o) o (payloads (lists ++ more)) j bytes }
-    ensures more { (lists more : List (List Entry)) → GoOnWith (length lists) (payloads (lists ++ more)) more }
+        → IsPrefix (title_of digest seed o) (payloads (lists ++ more)) j bytes
+        → (j ≡ length lists) × HoldsPrefix (title_of digest seed o) o (payloads (lists ++ more)) j bytes }
+    ensures more { (lists more : List (List Entry)) → GoesOnWith (length lists) (payloads (lists ++ more)) more }
 {}

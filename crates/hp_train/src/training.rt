@@ -12,22 +12,22 @@ ghost use Rattle.hp_cut.specs.declared.entry.Entry.{Entry};
 ghost use Rattle.hp_record.specs.Shape.{Writable};
 ghost use Rattle.hp_record.specs.Spelling.{spell};
 ghost use Rattle.hp_journal.specs.Causes.{DiskCause};
-ghost use Rattle.hp_journal.specs.Gates.{IsShutAt};
-ghost use Rattle.hp_journal.specs.Head.{IsUnborn};
+ghost use Rattle.hp_journal.specs.CommitBytes.{IsShutAt};
+ghost use Rattle.hp_journal.specs.Head.{IsUncommitted};
 ghost use Rattle.hp_journal.specs.Layout.{IsBody, Title, body_of, journal};
-ghost use Rattle.hp_journal.specs.Mine.{GrownFrom};
-ghost use Rattle.hp_load.specs.Load.{seen};
-ghost use Rattle.hp_settle.specs.Faults.{IsDead, Stops};
+ghost use Rattle.hp_journal.specs.IsPrefix.{IsGrownPrefix};
+ghost use Rattle.hp_load.specs.Load.{seen_outcome};
+ghost use Rattle.hp_settle.specs.Faults.{IsInfeasible, Stops};
 ghost use Rattle.hp_settle.specs.declared.plan_fault.PlanFault.TheVariants.{DiskFault};
 ghost use Rattle.hp_train.specs.Continuing.{continued};
 ghost use Rattle.hp_train.specs.Iterating.{EndsShut, behind, iterated};
-ghost use Rattle.hp_train.specs.Training.{CanTrain, GoOnWith, MineFrom, StandsIn, StopsAs, WhenWhole, grown_journal, iterations, title_of, trained};
+ghost use Rattle.hp_train.specs.Training.{CanTrain, GoesOnWith, IsPrefixFrom, HoldsPrefix, StopsAs, WhenWhole, grown_journal, iterations, title_of, trained};
 
 use crate::iterations::{Draw, iteration};
 use crate::opening::open_end;
 use hp_cut::Entry;
 use hp_journal::append;
-use hp_load::{Loaded, unsettled};
+use hp_load::{Loaded, unanswered};
 use hp_lp::{Planner, Workspace};
 use hp_num::{List, Memory};
 use hp_outside::Disk;
@@ -38,7 +38,7 @@ use hp_solver::Solver;
 use std::alloc::Global;
 use std::thread::Threads;
 
-/// What a training is asked to do.
+/// The task of a training.
 #[derive(Drop)]
 pub struct Training<'a> {
     /// The digest of the problem's bytes.
@@ -56,7 +56,7 @@ struct Course<'a, V: Solver> {
     seed: u64,
 }
 
-/// Spells the bytes behind the gate of a record: the payload's length, the payload, and a shut gate.
+/// Spells the bytes behind the commit byte of a record: the payload's length, the payload, and a commit byte of 0.
 fn body_of(alloc: Global, problem: &Problem, entries: &[Entry]) -> Result<Vec<u8>, Memory>
     requires shape { AllByRecursion (Writable problem.now) entries.now }
     requires short { length (spell entries.now) ≤ 2 ^ 26 }
@@ -70,7 +70,7 @@ fn body_of(alloc: Global, problem: &Problem, entries: &[Entry]) -> Result<Vec<u8
     Ok(body)
 }
 
-/// Runs an iteration: adds its cuts, its bound and its counts to `loaded`, and gives the bytes behind the gate of its record.
+/// Runs an iteration: adds its cuts, its bound and its counts to `loaded`, and gives the bytes behind the commit byte of its record.
 #[tactic(auto, unfolding(crate::specs::Iterating::iterated))]
 fn iterate<R: Threads + Sync, V: Solver>(
     rt: &R,
@@ -86,20 +86,20 @@ fn iterate<R: Threads + Sync, V: Solver>(
     requires most { loaded.old.batch ≤ 64 }
     requires cuts { (m : ℕ) → length (pool loaded.old.pools.lists m) ≤ 1 + (number - 1) * loaded.old.batch }
     requires room { too_much course.now.planner.now.problem.now number loaded.old.batch ≡ None }
-    requires unsettled { loaded.old.unsettled ≤ 2 ^ 60 }
-    ensures value { GivesOr Stops (λ body. (seen loaded.new, body.items)) result
+    requires unanswered { loaded.old.unanswered ≤ 2 ^ 60 }
+    ensures value { GivesOr Stops (λ body. (seen_outcome loaded.new, body.items)) result
         (iterated (V.does course.now.planner.now.solver.now) course.now.planner.now.problem.now loaded.old course.now.seed number) }
     ensures body { IfOk result (λ body. IsBody body.items) }
     ensures cuts { (m : ℕ) → length (pool loaded.new.pools.lists m) ≤ 1 + number * loaded.old.batch }
     ensures own { IfErr result (λ fault. fault ≢ DiskFault) }
-    ensures dead { IfErr result (IsDead course.now.planner.now.problem.now) }
+    ensures infeasible { IfErr result (IsInfeasible course.now.planner.now.problem.now) }
     ensures fit { PoolsFit course.now.planner.now.problem.now loaded.new.pools.lists }
     ensures sound { Sound (problem_of course.now.planner.now.problem.now) loaded.old.pools.lists → Sound (problem_of course.now.planner.now.problem.now) loaded.new.pools.lists }
     ensures under { Sound (problem_of course.now.planner.now.problem.now) loaded.old.pools.lists → All (Under (problem_of course.now.planner.now.problem.now)) loaded.old.bounds → OnOk result (All (Under (problem_of course.now.planner.now.problem.now)) loaded.new.bounds) }
-    ensures unsettled { IfOk result (λ _. loaded.new.unsettled ≤ loaded.old.unsettled + 2 ^ 38) }
+    ensures unanswered { IfOk result (λ _. loaded.new.unanswered ≤ loaded.old.unanswered + 2 ^ 38) }
 {
     let problem = course.planner.problem();
-    let _ = problem.raw();
+    let _ = problem.parts();
     let draw = Draw {
         seed: course.seed,
         batch: loaded.batch,
@@ -108,11 +108,11 @@ fn iterate<R: Threads + Sync, V: Solver>(
     let entries = iteration(rt, work, course.planner, &mut loaded.pools, draw)?;
     let body = body_of(work.alloc(), problem, entries.as_slice())?;
     loaded.bounds.push(loaded.pools.bound(problem))?;
-    loaded.unsettled += unsettled(entries.as_slice());
+    loaded.unanswered += unanswered(entries.as_slice());
     Ok(body)
 }
 
-/// Runs so many iterations, each with its record behind the shut gate at the journal's end.
+/// Runs so many iterations, each with its record behind the commit byte of 0 at the journal's end.
 fn iterate_all<R: Threads + Sync, D: Disk, V: Solver>(
     rt: &R,
     work: &mut Workspace,
@@ -127,29 +127,29 @@ fn iterate_all<R: Threads + Sync, D: Disk, V: Solver>(
     requires most { loaded.old.batch ≤ 64 }
     requires cuts { (m : ℕ) → length (pool loaded.old.pools.lists m) ≤ 1 + length loaded.old.bounds * loaded.old.batch }
     requires room { too_much course.now.planner.now.problem.now (length loaded.old.bounds + left) loaded.old.batch ≡ None }
-    requires unsettled { loaded.old.unsettled ≤ 2 ^ 50 }
-    requires open { loaded.old.born ≡ true }
-    requires whole { loaded.old.rest ≡ 0 }
+    requires unanswered { loaded.old.unanswered ≤ 2 ^ 50 }
+    requires open { loaded.old.committed ≡ true }
+    requires whole { loaded.old.tail ≡ 0 }
     requires near { loaded.old.end ≤ 2 ^ 38 }
     requires end { IfSome (D.store disk.old).reads (EndsShut loaded.old.end) }
     requires quiet { Quiet (D.store disk.old) }
     ensures stop { StopsAs result (continued (V.does course.now.planner.now.solver.now) course.now.planner.now.problem.now loaded.old.pools.lists course.now.seed loaded.old.batch (length loaded.old.bounds) left).stop }
-    ensures value { OnOk result (seen loaded.new ≡ trained (seen loaded.old) (continued (V.does course.now.planner.now.solver.now) course.now.planner.now.problem.now loaded.old.pools.lists course.now.seed loaded.old.batch (length loaded.old.bounds) left)) }
+    ensures value { OnOk result (seen_outcome loaded.new ≡ trained (seen_outcome loaded.old) (continued (V.does course.now.planner.now.solver.now) course.now.planner.now.problem.now loaded.old.pools.lists course.now.seed loaded.old.batch (length loaded.old.bounds) left)) }
     ensures reads { WhenWhole result ((D.store disk.new).reads
         ≡ option_map (behind loaded.old.end (continued (V.does course.now.planner.now.solver.now) course.now.planner.now.problem.now loaded.old.pools.lists course.now.seed loaded.old.batch (length loaded.old.bounds) left).lists) (D.store disk.old).reads) }
     ensures quiet { WhenWhole result (Quiet (D.store disk.new)) }
     ensures any_moment { IfSome (D.store disk.old).reads (λ bytes. (t : Title) (ps : List (List ℕ)) (j : ℕ)
         → bytes ≡ journal t (take j ps) 0 []
-        → GoOnWith j ps (continued (V.does course.now.planner.now.solver.now) course.now.planner.now.problem.now loaded.old.pools.lists course.now.seed loaded.old.batch (length loaded.old.bounds) left).lists
-        → LeavesOnly (D.store disk.old) (D.store disk.new) (GrownFrom t ps j)) }
-    ensures tells { is_some (D.store disk.new).reads ≡ is_some (D.store disk.old).reads }
+        → GoesOnWith j ps (continued (V.does course.now.planner.now.solver.now) course.now.planner.now.problem.now loaded.old.pools.lists course.now.seed loaded.old.batch (length loaded.old.bounds) left).lists
+        → LeavesOnly (D.store disk.old) (D.store disk.new) (IsGrownPrefix t ps j)) }
+    ensures observable { is_some (D.store disk.new).reads ≡ is_some (D.store disk.old).reads }
     ensures cause { DiskCause (D.faults disk.old) (D.faults disk.new) (result ≡ Err DiskFault) }
-    ensures dead { IfErr result (IsDead course.now.planner.now.problem.now) }
+    ensures infeasible { IfErr result (IsInfeasible course.now.planner.now.problem.now) }
     ensures fit { OnOk result (PoolsFit course.now.planner.now.problem.now loaded.new.pools.lists) }
     ensures sound { Sound (problem_of course.now.planner.now.problem.now) loaded.old.pools.lists → OnOk result (Sound (problem_of course.now.planner.now.problem.now) loaded.new.pools.lists) }
     ensures under { Sound (problem_of course.now.planner.now.problem.now) loaded.old.pools.lists → All (Under (problem_of course.now.planner.now.problem.now)) loaded.old.bounds → OnOk result (All (Under (problem_of course.now.planner.now.problem.now)) loaded.new.bounds) }
 {
-    let _ = course.planner.problem().raw();
+    let _ = course.planner.problem().parts();
     let before = loaded.bounds.len() as u32;
     for done in 0..left {
         let body = iterate(rt, work, course, loaded, before + done + 1)?;
@@ -159,14 +159,14 @@ fn iterate_all<R: Threads + Sync, D: Disk, V: Solver>(
 }
 
 /// Trains up to an iteration (Pereira and Pinto 1991): iterations go on behind those that were loaded, with their seed and
-/// batch, until there are `count`, and after each its record stands in the journal. Where the journal is not born yet,
+/// batch, until there are `count`, and after each its record stands in the journal. Where the journal is not committed yet,
 /// it is made first, and else its end is repaired. No iteration is done where `count` are there.
 ///
 /// `loaded` is what the journal gives with this digest of the problem's bytes and this seed, and nothing is pending on the
 /// disk. After Ok `loaded` has the cuts, the bounds and the count of all
-/// iterations, and the journal ends at its gate of 0.
+/// iterations, and the journal ends at its commit byte of 0.
 ///
-/// [`PlanFault::NoStage`] and [`PlanFault::Range`] come exactly where an iteration stops so; the records of those before it
+/// [`PlanFault::Infeasible`] and [`PlanFault::Range`] come exactly where an iteration stops so; the records of those before it
 /// stand in the journal. [`PlanFault::DiskFault`] comes only where the disk's count of faults rose; [`PlanFault::Memory`]
 /// where memory was refused. A crash at any moment leaves a journal of the records that were loaded and of the first of those
 /// that training adds. After a fault nothing is promised of `loaded`.
@@ -178,30 +178,30 @@ pub fn train<R: Threads + Sync, D: Disk, V: Solver>(
     training: &Training,
     loaded: &mut Loaded,
 ) -> Result<(), PlanFault>
-    requires can { CanTrain planner.now.problem.now training.now.count (seen loaded.old) }
-    requires unborn { loaded.old.born ≡ false → IfSome (D.store disk.old).reads IsUnborn }
-    requires shut { loaded.old.born ≡ true → IfSome (D.store disk.old).reads (IsShutAt loaded.old.end) }
+    requires can { CanTrain planner.now.problem.now training.now.count (seen_outcome loaded.old) }
+    requires uncommitted { loaded.old.committed ≡ false → IfSome (D.store disk.old).reads IsUncommitted }
+    requires shut { loaded.old.committed ≡ true → IfSome (D.store disk.old).reads (IsShutAt loaded.old.end) }
     requires quiet { Quiet (D.store disk.old) }
 
     // It stops exactly where the iterations do.
-    ensures stop { StopsAs result (iterations (V.does planner.now.solver.now) planner.now.problem.now training.now.seed training.now.count (seen loaded.old)).stop }
-    ensures value { OnOk result (seen loaded.new ≡ trained (seen loaded.old) (iterations (V.does planner.now.solver.now) planner.now.problem.now training.now.seed training.now.count (seen loaded.old))) }
+    ensures stop { StopsAs result (iterations (V.does planner.now.solver.now) planner.now.problem.now training.now.seed training.now.count (seen_outcome loaded.old)).stop }
+    ensures value { OnOk result (seen_outcome loaded.new ≡ trained (seen_outcome loaded.old) (iterations (V.does planner.now.solver.now) planner.now.problem.now training.now.seed training.now.count (seen_outcome loaded.old))) }
 
     // The journal has the records that were loaded, and one for each iteration.
     ensures reads { WhenWhole result ((D.store disk.new).reads
-        ≡ option_map (λ bytes. grown_journal training.now.digest.now training.now.seed (seen loaded.old) bytes (iterations (V.does planner.now.solver.now) planner.now.problem.now training.now.seed training.now.count (seen loaded.old)).lists) (D.store disk.old).reads) }
+        ≡ option_map (λ bytes. grown_journal training.now.digest.now training.now.seed (seen_outcome loaded.old) bytes (iterations (V.does planner.now.solver.now) planner.now.problem.now training.now.seed training.now.count (seen_outcome loaded.old)).lists) (D.store disk.old).reads) }
     ensures quiet { WhenWhole result (Quiet (D.store disk.new)) }
 
     // A crash at any moment leaves the records that were loaded, and the first of those that are added.
     ensures any_moment { IfSome (D.store disk.old).reads (λ bytes. (ps : List (List ℕ)) (j : ℕ)
-        → StandsIn (title_of training.now.digest.now training.now.seed (seen loaded.old)) (seen loaded.old) ps j bytes
-        → GoOnWith j ps (iterations (V.does planner.now.solver.now) planner.now.problem.now training.now.seed training.now.count (seen loaded.old)).lists
-        → LeavesOnly (D.store disk.old) (D.store disk.new) (MineFrom (title_of training.now.digest.now training.now.seed (seen loaded.old)) ps j)) }
-    ensures tells { is_some (D.store disk.new).reads ≡ is_some (D.store disk.old).reads }
+        → HoldsPrefix (title_of training.now.digest.now training.now.seed (seen_outcome loaded.old)) (seen_outcome loaded.old) ps j bytes
+        → GoesOnWith j ps (iterations (V.does planner.now.solver.now) planner.now.problem.now training.now.seed training.now.count (seen_outcome loaded.old)).lists
+        → LeavesOnly (D.store disk.old) (D.store disk.new) (IsPrefixFrom (title_of training.now.digest.now training.now.seed (seen_outcome loaded.old)) ps j)) }
+    ensures observable { is_some (D.store disk.new).reads ≡ is_some (D.store disk.old).reads }
     ensures cause { DiskCause (D.faults disk.old) (D.faults disk.new) (result ≡ Err DiskFault) }
 
     // For every solver and over any disk.
-    ensures dead { IfErr result (IsDead planner.now.problem.now) }
+    ensures infeasible { IfErr result (IsInfeasible planner.now.problem.now) }
     ensures fit { OnOk result (PoolsFit planner.now.problem.now loaded.new.pools.lists) }
     ensures sound { Sound (problem_of planner.now.problem.now) loaded.old.pools.lists → OnOk result (Sound (problem_of planner.now.problem.now) loaded.new.pools.lists) }
     ensures under { Sound (problem_of planner.now.problem.now) loaded.old.pools.lists → All (Under (problem_of planner.now.problem.now)) loaded.old.bounds → OnOk result (All (Under (problem_of planner.now.problem.now)) loaded.new.bounds) }

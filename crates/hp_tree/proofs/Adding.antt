@@ -5,24 +5,24 @@ use Rattle.std.proofs.Math.Nat.{mul-le-mul}
 use Rattle.std.proofs.lemmas.Int.{ints, unsigned_abs-mul, fits_signed_from_abs}
 use Rattle.std.proofs.lemmas.List.Sums.{sum_by-cons}
 use Rattle.hp_num.proofs.Sums.{All_head, All_tail}
-use Rattle.hp_problem.specs.Sealed.{Sealed}
-use Rattle.hp_theory.specs.Problem.{S, Link, link_weights}
+use Rattle.hp_problem.specs.Validated.{Validated}
+use Rattle.hp_theory.specs.Problem.{S, Successor, successor_weights}
 use Rattle.hp_theory.specs.View.{problem_of}
 use Rattle.hp_tree.specs.declared.costs.Walked.{Walked}
 use Rattle.hp_tree.specs.Multiples.{gcd, lcm, lcm_all}
 use Rattle.hp_tree.specs.PolicyTree.{Stop}
-use Rattle.hp_tree.specs.Costs.{add_cost, link_costs, no_cost}
+use Rattle.hp_tree.specs.Costs.{add_cost, successor_costs, no_cost}
 use Rattle.hp_tree.specs.TooBig.{branches, denominator, most_size}
-use Rattle.hp_tree.specs.Small.{AddsUp, IsCost, IsSmall, link_branches, link_denominator, most_cost}
+use Rattle.hp_tree.specs.Small.{AddsUp, IsCost, IsSmall, successor_branches, successor_denominator, most_cost}
 use Rattle.hp_tree.proofs.Divisors.{Parted, factor_positive, parts_of, lcm_second, lcm_positive, lcm_all_least}
 use Rattle.hp_tree.proofs.Positive.{dens}
 
 -- over plain numbers: x / A and y / B are added, y with the weight w; W is the whole weight and rest the weight left
-step_small : (x y A B a b g w rest W C : ℕ) → A ≡ g * a → B ≡ g * b → x + A * ((w + rest) * C) ≤ A * (W * C) → y ≤ B * (1 * C) → x * b + w * y * a + a * B * (rest * C) ≤ a * B * (W * C)
-step_small x y A B a b g w rest W C e f h k =
-    let h' : x + g * a * ((w + rest) * C) ≤ g * a * (W * C) = subst (λ (A : ℕ). x + A * ((w + rest) * C) ≤ A * (W * C)) e h in
+step_small : (x y A B a b g w tail W C : ℕ) → A ≡ g * a → B ≡ g * b → x + A * ((w + tail) * C) ≤ A * (W * C) → y ≤ B * (1 * C) → x * b + w * y * a + a * B * (tail * C) ≤ a * B * (W * C)
+step_small x y A B a b g w tail W C e f h k =
+    let h' : x + g * a * ((w + tail) * C) ≤ g * a * (W * C) = subst (λ (A : ℕ). x + A * ((w + tail) * C) ≤ A * (W * C)) e h in
     let k' : y ≤ g * b * (1 * C) = subst (λ (B : ℕ). y ≤ B * (1 * C)) f k in
-    subst (λ (B : ℕ). x * b + w * y * a + a * B * (rest * C) ≤ a * B * (W * C)) (sym f)
+    subst (λ (B : ℕ). x * b + w * y * a + a * B * (tail * C) ≤ a * B * (W * C)) (sym f)
     (omega (arith, mul-le-mul_left b h', mul-le-mul_left (w * a) k'))
 
 -- the greatest sum
@@ -32,7 +32,7 @@ most M L W C k h i j l =
     let two : L * W * C ≤ 2 ^ 40 * 2 ^ 84 = mul-le-mul i j in
     omega (arith, one, two, l)
 
-pub cost_limit : (p : Sealed) (n : ℕ) → n * most_size p ≤ 2 ^ 60 → most_cost p n ≤ 2 ^ 84
+pub cost_limit : (p : Validated) (n : ℕ) → n * most_size p ≤ 2 ^ 60 → most_cost p n ≤ 2 ^ 84
 unfolding S
 cost_limit p n h = omega (arith, h)
 
@@ -51,36 +51,36 @@ pub at_least_once : (k a : ℕ) → 0 < a → k ≤ k * a
 at_least_once k zero h = absurd (omega arith)
 at_least_once k (suc a) h = omega arith
 
--- the invariant of the sum so far, where the costs of `rest` are still to be added
-pub record LinksGo (p : Sealed) (n k : ℕ) (go : ℕ → ℕ → Result Walked Stop) (ls rest : List Link) (total : Walked) : Type 0 where
-  pub value : link_costs go total rest ≡ link_costs go (no_cost k) ls
+-- the invariant of the sum so far, where the costs of `tail` are still to be added
+pub record SuccessorsGo (p : Validated) (n k : ℕ) (go : ℕ → ℕ → Result Walked Stop) (ls tail : List Successor) (total : Walked) : Type 0 where
+  pub value : successor_costs go total tail ≡ successor_costs go (no_cost k) ls
   pub some : 0 < total.under
-  pub under : lcm_all total.under (dens p n rest) ≡ link_denominator p n ls
-  pub small : nat_abs total.up + total.under * (sum (link_weights rest) * most_cost p n) ≤ total.under * (sum (link_weights ls) * most_cost p n)
-  pub decided : total.decided + link_branches p n rest ≡ k + link_branches p n ls
+  pub under : lcm_all total.under (dens p n tail) ≡ successor_denominator p n ls
+  pub small : nat_abs total.up + total.under * (sum (successor_weights tail) * most_cost p n) ≤ total.under * (sum (successor_weights ls) * most_cost p n)
+  pub decided : total.decided + successor_branches p n tail ≡ k + successor_branches p n ls
 
-pub links_first : (p : Sealed) (n decided : ℕ) (go : ℕ → ℕ → Result Walked Stop) (ls : List Link) → LinksGo p n decided go ls ls (no_cost decided)
-links_first p n decided go ls = record { value = refl; some = omega arith; under = refl; small = omega arith; decided = refl }
+pub successors_first : (p : Validated) (n decided : ℕ) (go : ℕ → ℕ → Result Walked Stop) (ls : List Successor) → SuccessorsGo p n decided go ls ls (no_cost decided)
+successors_first p n decided go ls = record { value = refl; some = omega arith; under = refl; small = omega arith; decided = refl }
 
 -- the cost of the next successor, of which this is known
-module _ (p : Sealed) (n decided : ℕ) (go : ℕ → ℕ → Result Walked Stop) (ls : List Link) (l : Link) (rest : List Link) (total w : Walked) (h : LinksGo p n decided go ls (l ∷ rest) total)
-    (some : All (λ b. 0 < b) (dens p n (l ∷ rest))) (small : IsSmall p n (link_denominator p n ls) (sum (link_weights ls)) decided (link_branches p n ls)) where
+module _ (p : Validated) (n decided : ℕ) (go : ℕ → ℕ → Result Walked Stop) (ls : List Successor) (l : Successor) (tail : List Successor) (total w : Walked) (h : SuccessorsGo p n decided go ls (l ∷ tail) total)
+    (some : All (λ b. 0 < b) (dens p n (l ∷ tail))) (small : IsSmall p n (successor_denominator p n ls) (sum (successor_weights ls)) decided (successor_branches p n ls)) where
   own_some : 0 < denominator (problem_of p) n l.node
-  own_some = All_head (λ b. 0 < b) (denominator (problem_of p) n l.node) (dens p n rest) some
+  own_some = All_head (λ b. 0 < b) (denominator (problem_of p) n l.node) (dens p n tail) some
 
-  rest_some : All (λ b. 0 < b) (dens p n rest)
-  rest_some = All_tail (λ b. 0 < b) (denominator (problem_of p) n l.node) (dens p n rest) some
+  rest_some : All (λ b. 0 < b) (dens p n tail)
+  rest_some = All_tail (λ b. 0 < b) (denominator (problem_of p) n l.node) (dens p n tail) some
 
   -- the least common multiple with the successor's
-  below : lcm total.under (denominator (problem_of p) n l.node) ≤ link_denominator p n ls
+  below : lcm total.under (denominator (problem_of p) n l.node) ≤ successor_denominator p n ls
   below =
       subst (λ (k : ℕ). lcm total.under (denominator (problem_of p) n l.node) ≤ k) h.under
-      (lcm_all_least (lcm total.under (denominator (problem_of p) n l.node)) (dens p n rest) (lcm_positive total.under (denominator (problem_of p) n l.node) h.some own_some) rest_some)
+      (lcm_all_least (lcm total.under (denominator (problem_of p) n l.node)) (dens p n tail) (lcm_positive total.under (denominator (problem_of p) n l.node) h.some own_some) rest_some)
 
-  pub link_small : IsSmall p n (denominator (problem_of p) n l.node) 1 total.decided (branches (problem_of p) n l.node)
-  link_small =
+  pub successor_small : IsSmall p n (denominator (problem_of p) n l.node) 1 total.decided (branches (problem_of p) n l.node)
+  successor_small =
       let second = lcm_second total.under (denominator (problem_of p) n l.node) h.some in
-      let count : link_branches p n (l ∷ rest) ≡ branches (problem_of p) n l.node + link_branches p n rest = sum_by-cons (λ k. k) (branches (problem_of p) n l.node) (map (λ (l : Link). branches (problem_of p) n l.node) rest) in
+      let count : successor_branches p n (l ∷ tail) ≡ branches (problem_of p) n l.node + successor_branches p n tail = sum_by-cons (λ k. k) (branches (problem_of p) n l.node) (map (λ (l : Successor). branches (problem_of p) n l.node) tail) in
       record {
         under = omega (arith, second, below, small.under);
         weighted = omega (arith, second, below, small.under);
@@ -92,22 +92,22 @@ module _ (p : Sealed) (n decided : ℕ) (go : ℕ → ℕ → Result Walked Stop
     w_some : 0 < w.under
     w_some = subst (λ (k : ℕ). 0 < k) (sym c.under) own_some
 
-    below_w : lcm total.under w.under ≤ link_denominator p n ls
-    below_w = subst (λ (k : ℕ). lcm total.under k ≤ link_denominator p n ls) (sym c.under) below
+    below_w : lcm total.under w.under ≤ successor_denominator p n ls
+    below_w = subst (λ (k : ℕ). lcm total.under k ≤ successor_denominator p n ls) (sym c.under) below
 
-    summed : nat_abs total.up * (w.under / gcd total.under w.under) + l.weight * nat_abs w.up * (total.under / gcd total.under w.under) + lcm total.under w.under * (sum (link_weights rest) * most_cost p n) ≤ lcm total.under w.under * (sum (link_weights ls) * most_cost p n)
+    summed : nat_abs total.up * (w.under / gcd total.under w.under) + l.weight * nat_abs w.up * (total.under / gcd total.under w.under) + lcm total.under w.under * (sum (successor_weights tail) * most_cost p n) ≤ lcm total.under w.under * (sum (successor_weights ls) * most_cost p n)
     summed =
         let q : Parted total.under w.under = parts_of total.under w.under h.some in
-        let count : sum (link_weights (l ∷ rest)) ≡ l.weight + sum (link_weights rest) = sum_by-cons (λ k. k) l.weight (link_weights rest) in
-        let left : nat_abs total.up + total.under * ((l.weight + sum (link_weights rest)) * most_cost p n) ≤ total.under * (sum (link_weights ls) * most_cost p n) = subst (λ (k : ℕ). nat_abs total.up + total.under * (k * most_cost p n) ≤ total.under * (sum (link_weights ls) * most_cost p n)) count h.small in
+        let count : sum (successor_weights (l ∷ tail)) ≡ l.weight + sum (successor_weights tail) = sum_by-cons (λ k. k) l.weight (successor_weights tail) in
+        let left : nat_abs total.up + total.under * ((l.weight + sum (successor_weights tail)) * most_cost p n) ≤ total.under * (sum (successor_weights ls) * most_cost p n) = subst (λ (k : ℕ). nat_abs total.up + total.under * (k * most_cost p n) ≤ total.under * (sum (successor_weights ls) * most_cost p n)) count h.small in
         let own : nat_abs w.up ≤ w.under * (1 * most_cost p n) = subst (λ (k : ℕ). nat_abs w.up ≤ k * (1 * most_cost p n)) (sym c.under) c.small in
-        step_small (nat_abs total.up) (nat_abs w.up) total.under w.under (total.under / gcd total.under w.under) (w.under / gcd total.under w.under) (gcd total.under w.under) l.weight (sum (link_weights rest)) (sum (link_weights ls)) (most_cost p n) q.first q.second left own
+        step_small (nat_abs total.up) (nat_abs w.up) total.under w.under (total.under / gcd total.under w.under) (w.under / gcd total.under w.under) (gcd total.under w.under) l.weight (sum (successor_weights tail)) (sum (successor_weights ls)) (most_cost p n) q.first q.second left own
 
-    in_range : (k : ℕ) → k ≤ lcm total.under w.under * (sum (link_weights ls) * most_cost p n) → k < 2 ^ 127
-    in_range k le = most (lcm total.under w.under) (link_denominator p n ls) (sum (link_weights ls)) (most_cost p n) k below_w small.weighted (cost_limit p n small.sizes) le
+    in_range : (k : ℕ) → k ≤ lcm total.under w.under * (sum (successor_weights ls) * most_cost p n) → k < 2 ^ 127
+    in_range k le = most (lcm total.under w.under) (successor_denominator p n ls) (sum (successor_weights ls)) (most_cost p n) k below_w small.weighted (cost_limit p n small.sizes) le
 
-    pub link_adds : AddsUp total l.weight w
-    link_adds =
+    pub successor_adds : AddsUp total l.weight w
+    successor_adds =
         let q : Parted total.under w.under = parts_of total.under w.under h.some in
         let a : ℕ = total.under / gcd total.under w.under in
         let b : ℕ = w.under / gcd total.under w.under in
@@ -124,30 +124,30 @@ module _ (p : Sealed) (n decided : ℕ) (go : ℕ → ℕ → Result Walked Stop
           under = omega (arith, below_w, small.under);
         }
 
-    pub link_next : go total.decided l.node ≡ Ok w → LinksGo p n decided go ls rest (add_cost total l.weight w)
-    link_next e =
-        let count : link_branches p n (l ∷ rest) ≡ branches (problem_of p) n l.node + link_branches p n rest = sum_by-cons (λ k. k) (branches (problem_of p) n l.node) (map (λ (l : Link). branches (problem_of p) n l.node) rest) in
+    pub successor_next : go total.decided l.node ≡ Ok w → SuccessorsGo p n decided go ls tail (add_cost total l.weight w)
+    successor_next e =
+        let count : successor_branches p n (l ∷ tail) ≡ branches (problem_of p) n l.node + successor_branches p n tail = sum_by-cons (λ k. k) (branches (problem_of p) n l.node) (map (λ (l : Successor). branches (problem_of p) n l.node) tail) in
         record {
           value = went e ∙ h.value;
           some = lcm_positive total.under w.under h.some w_some;
-          under = ap (λ (k : ℕ). lcm_all (lcm total.under k) (dens p n rest)) c.under ∙ h.under;
+          under = ap (λ (k : ℕ). lcm_all (lcm total.under k) (dens p n tail)) c.under ∙ h.under;
           small = omega (arith, abs_sum total.up w.up (w.under / gcd total.under w.under) l.weight (total.under / gcd total.under w.under), summed);
           decided = omega (arith, c.decided, count, h.decided);
         }
       where
-        went : go total.decided l.node ≡ Ok w → link_costs go (add_cost total l.weight w) rest ≡ link_costs go total (l ∷ rest)
+        went : go total.decided l.node ≡ Ok w → successor_costs go (add_cost total l.weight w) tail ≡ successor_costs go total (l ∷ tail)
         went e = rw e refl
 
-  pub link_stops : (s : Stop) → go total.decided l.node ≡ Err s → link_costs go (no_cost decided) ls ≡ Err s
-  link_stops s e = sym h.value ∙ stopped e
+  pub successor_stops : (s : Stop) → go total.decided l.node ≡ Err s → successor_costs go (no_cost decided) ls ≡ Err s
+  successor_stops s e = sym h.value ∙ stopped e
     where
-      stopped : go total.decided l.node ≡ Err s → link_costs go total (l ∷ rest) ≡ Err s
+      stopped : go total.decided l.node ≡ Err s → successor_costs go total (l ∷ tail) ≡ Err s
       stopped e = rw e refl
 
-pub links_last : (p : Sealed) (n decided : ℕ) (go : ℕ → ℕ → Result Walked Stop) (ls : List Link) (total : Walked) → LinksGo p n decided go ls [] total → IsCost p n (link_denominator p n ls) (sum (link_weights ls)) (decided + link_branches p n ls) total
-links_last p n decided go ls total h = record {
+pub successors_last : (p : Validated) (n decided : ℕ) (go : ℕ → ℕ → Result Walked Stop) (ls : List Successor) (total : Walked) → SuccessorsGo p n decided go ls [] total → IsCost p n (successor_denominator p n ls) (sum (successor_weights ls)) (decided + successor_branches p n ls) total
+successors_last p n decided go ls total h = record {
   under = h.under;
-  small = subst (λ (k : ℕ). nat_abs total.up ≤ k * (sum (link_weights ls) * most_cost p n)) h.under (omega (arith, h.small));
+  small = subst (λ (k : ℕ). nat_abs total.up ≤ k * (sum (successor_weights ls) * most_cost p n)) h.under (omega (arith, h.small));
   decided = none_left ∙ h.decided;
 }
   where

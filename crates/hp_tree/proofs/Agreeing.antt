@@ -3,18 +3,18 @@ use Rattle.std.proofs.Common.{◌≡◌, ◌∙◌, ℕ, zero, suc, ◌*◌, ◌
 use Rattle.std.proofs.lemmas.Int.{ints}
 use Rattle.hp_num.specs.Steps.{◌>>=◌}
 use Rattle.hp_num.proofs.Ring.{ring, var, num, ◌⊕◌, ◌⊗◌}
-use Rattle.hp_sampler.specs.declared.steps.Step.{Step}
+use Rattle.hp_sampler.specs.declared.steps.PathStep.{PathStep}
 use Rattle.hp_theory.specs.Cost.{stage, cost, cost_sum, costs_of, policy_cost}
 use Rattle.hp_theory.specs.Fraction.{Fraction, nothing, plus, times, over, weighted}
-use Rattle.hp_theory.specs.Problem.{S, Realization, Link, Node, Problem, node_at, link_weights, weight_of_realizations, realization_weight, successor_weight}
+use Rattle.hp_theory.specs.Problem.{S, Realization, Successor, Node, Problem, node_at, successor_weights, weight_of_realizations, realization_weight, successor_weight}
 use Rattle.hp_theory.specs.Tree.{Tree, Forest, no_branch, branch, tree, next_state, times_all}
 use Rattle.hp_forward.specs.declared.deciding.Decided.{Decided}
 use Rattle.hp_forward.specs.Costing.{stage_cost_of}
 use Rattle.hp_tree.specs.declared.costs.Walked.{Walked}
 use Rattle.hp_tree.specs.Multiples.{gcd, lcm, lcm_all}
 use Rattle.hp_tree.specs.TooBig.{denominator}
-use Rattle.hp_tree.specs.PolicyTree.{Deciding, Stop, dead, missed, Grown, behind, forest_of, branch_of, tree_of, grow, whole_tree}
-use Rattle.hp_tree.specs.Costs.{no_cost, add_cost, add_stage, add_branch, share, link_costs, branch_cost, branch_costs, tree_cost}
+use Rattle.hp_tree.specs.PolicyTree.{Deciding, Stop, infeasible, missed, GrownPart, stop_behind, grown_forest, branch_of, grown_tree, grow, whole_tree}
+use Rattle.hp_tree.specs.Costs.{no_cost, add_cost, add_stage, add_branch, share, successor_costs, branch_cost, branch_costs, tree_cost}
 use Rattle.hp_tree.proofs.Divisors.{is_gcd, parted}
 
 -- the fraction is a / k
@@ -89,13 +89,13 @@ added g a b A B f h x y w e i p q =
         turn s b a = omega arith
 
 -- the cost and the tree stop at the same place, or have this in common
-abbrev pub Agree : {A : Type 0} → (Walked → A → Type 0) → Result Walked Stop → Grown A → Type 0
+abbrev pub Agree : {A : Type 0} → (Walked → A → Type 0) → Result Walked Stop → GrownPart A → Type 0
 Agree R (Ok w) (Ok t) = (w.decided ≡ t.1) × R w t.0
 Agree R (Ok w) (Err s) = ⊥
 Agree R (Err s) (Ok t) = ⊥
 Agree R (Err s) (Err u) = s ≡ u
 
-agree_then : {A B : Type 0} (R : Walked → A → Type 0) (Q : Walked → B → Type 0) (a : Result Walked Stop) (b : Grown A) (f : Walked → Result Walked Stop) (g : A × ℕ → Grown B) → Agree R a b
+agree_then : {A B : Type 0} (R : Walked → A → Type 0) (Q : Walked → B → Type 0) (a : Result Walked Stop) (b : GrownPart A) (f : Walked → Result Walked Stop) (g : A × ℕ → GrownPart B) → Agree R a b
     → ((w : Walked) (t : A × ℕ) → w.decided ≡ t.1 → R w t.0 → Agree Q (f w) (g t)) → Agree Q (a >>= f) (b >>= g)
 agree_then R Q (Ok w) (Ok t) f g h k = k w t h.0 h.1
 agree_then R Q (Ok w) (Err s) f g h k = absurd h
@@ -103,21 +103,21 @@ agree_then R Q (Err s) (Ok t) f g h k = absurd h
 agree_then R Q (Err s) (Err u) f g h k = h
 
 -- like agree_then, where only the tree goes on
-agree_into : {A B : Type 0} (R : Walked → A → Type 0) (Q : Walked → B → Type 0) (a : Result Walked Stop) (b : Grown A) (g : A × ℕ → Grown B) → Agree R a b
+agree_into : {A B : Type 0} (R : Walked → A → Type 0) (Q : Walked → B → Type 0) (a : Result Walked Stop) (b : GrownPart A) (g : A × ℕ → GrownPart B) → Agree R a b
     → ((w : Walked) (t : A × ℕ) → w.decided ≡ t.1 → R w t.0 → Agree Q (Ok w) (g t)) → Agree Q a (b >>= g)
 agree_into R Q (Ok w) (Ok t) g h k = k w t h.0 h.1
 agree_into R Q (Ok w) (Err s) g h k = absurd h
 agree_into R Q (Err s) (Ok t) g h k = absurd h
 agree_into R Q (Err s) (Err u) g h k = h
 
-agree_behind : {A : Type 0} (R : Walked → A → Type 0) (s : Step) (a : Result Walked Stop) (b : Grown A) → Agree R a b → Agree R (behind s a) (behind s b)
+agree_behind : {A : Type 0} (R : Walked → A → Type 0) (s : PathStep) (a : Result Walked Stop) (b : GrownPart A) → Agree R a b → Agree R (stop_behind s a) (stop_behind s b)
 agree_behind R s (Ok w) (Ok t) h = h
 agree_behind R s (Ok w) (Err u) h = absurd h
 agree_behind R s (Err u) (Ok t) h = absurd h
-agree_behind R s (Err u) (Err v) h = subst (λ (v : Stop). Agree R (behind s (Err u)) (behind s (Err v))) h (same u)
+agree_behind R s (Err u) (Err v) h = subst (λ (v : Stop). Agree R (stop_behind s (Err u)) (stop_behind s (Err v))) h (same u)
   where
-    same : (u : Stop) → Agree R (behind s (Err u)) (behind s (Err u))
-    same (dead d) = refl
+    same : (u : Stop) → Agree R (stop_behind s (Err u)) (stop_behind s (Err u))
+    same (infeasible d) = refl
     same (missed m) = refl
 
 module _ (p : Problem) where
@@ -125,30 +125,30 @@ module _ (p : Problem) where
   abbrev IsTree : ℕ → List ℤ → ℕ → Walked → Tree → Type 0
   IsTree n x m w t = Is (cost p S m x t) w.up (S * w.under) × (w.under ≡ denominator p n m)
 
-  abbrev dens : ℕ → List Link → List ℕ
-  dens n ls = map (λ (l : Link). denominator p n l.node) ls
+  abbrev dens : ℕ → List Successor → List ℕ
+  dens n ls = map (λ (l : Successor). denominator p n l.node) ls
 
   -- costs of successors, behind others that make f
-  abbrev IsLinks : ℕ → List ℤ → List Link → Fraction → ℕ → Walked → Forest → Type 0
-  IsLinks n x ls f u w trees = Is (plus f (weighted (link_weights ls) (costs_of p S ls x trees))) w.up (S * w.under) × (w.under ≡ lcm_all u (dens n ls))
+  abbrev IsSuccessors : ℕ → List ℤ → List Successor → Fraction → ℕ → Walked → Forest → Type 0
+  IsSuccessors n x ls f u w trees = Is (plus f (weighted (successor_weights ls) (costs_of p S ls x trees))) w.up (S * w.under) × (w.under ≡ lcm_all u (dens n ls))
 
-  links_agree : (n : ℕ) (x : List ℤ) (go : ℕ → ℕ → Result Walked Stop) (grow_at : ℕ → ℕ → Grown Tree) → ((k m : ℕ) → Agree (IsTree n x m) (go k m) (grow_at k m))
-      → (ls : List Link) (f : Fraction) (total : Walked) (k : ℕ) → total.decided ≡ k → Is f total.up (S * total.under) → Agree (IsLinks n x ls f total.under) (link_costs go total ls) (forest_of grow_at k ls)
-  links_agree n x go grow_at each [] f total k e h = (e, (is_with_nothing f total.up (S * total.under) h, refl))
-  links_agree n x go grow_at each (l ∷ ls) f total k e h =
-      agree_then (IsTree n x l.node) (IsLinks n x (l ∷ ls) f total.under) (go total.decided l.node) (grow_at k l.node)
-      (λ w. link_costs go (add_cost total l.weight w) ls) (λ t. forest_of grow_at t.1 ls >>= λ trees. Ok (tree t.0 trees.0, trees.1))
+  successors_agree : (n : ℕ) (x : List ℤ) (go : ℕ → ℕ → Result Walked Stop) (grow_at : ℕ → ℕ → GrownPart Tree) → ((k m : ℕ) → Agree (IsTree n x m) (go k m) (grow_at k m))
+      → (ls : List Successor) (f : Fraction) (total : Walked) (k : ℕ) → total.decided ≡ k → Is f total.up (S * total.under) → Agree (IsSuccessors n x ls f total.under) (successor_costs go total ls) (grown_forest grow_at k ls)
+  successors_agree n x go grow_at each [] f total k e h = (e, (is_with_nothing f total.up (S * total.under) h, refl))
+  successors_agree n x go grow_at each (l ∷ ls) f total k e h =
+      agree_then (IsTree n x l.node) (IsSuccessors n x (l ∷ ls) f total.under) (go total.decided l.node) (grow_at k l.node)
+      (λ w. successor_costs go (add_cost total l.weight w) ls) (λ t. grown_forest grow_at t.1 ls >>= λ trees. Ok (tree t.0 trees.0, trees.1))
       (subst (λ (j : ℕ). Agree (IsTree n x l.node) (go total.decided l.node) (grow_at j l.node)) e (each total.decided l.node))
       (λ w t same own.
-      agree_into (IsLinks n x ls (plus f (times l.weight (cost p S l.node x t.0))) (lcm total.under w.under)) (IsLinks n x (l ∷ ls) f total.under) (link_costs go (add_cost total l.weight w) ls) (forest_of grow_at t.1 ls)
+      agree_into (IsSuccessors n x ls (plus f (times l.weight (cost p S l.node x t.0))) (lcm total.under w.under)) (IsSuccessors n x (l ∷ ls) f total.under) (successor_costs go (add_cost total l.weight w) ls) (grown_forest grow_at t.1 ls)
       (λ trees. Ok (tree t.0 trees.0, trees.1))
-      (links_agree n x go grow_at each ls (plus f (times l.weight (cost p S l.node x t.0))) (add_cost total l.weight w) t.1 same
+      (successors_agree n x go grow_at each ls (plus f (times l.weight (cost p S l.node x t.0))) (add_cost total l.weight w) t.1 same
       (added (gcd total.under w.under) (total.under / gcd total.under w.under) (w.under / gcd total.under w.under) total.under w.under f (cost p S l.node x t.0) total.up w.up l.weight
       (parted (gcd total.under w.under) total.under (is_gcd total.under w.under).0) (parted (gcd total.under w.under) w.under (is_gcd total.under w.under).1) h own.0))
       (λ v trees same' all. (
         same',
         (
-          is_grouped f (times l.weight (cost p S l.node x t.0)) (weighted (link_weights ls) (costs_of p S ls x trees.0)) v.up (S * v.under) all.0,
+          is_grouped f (times l.weight (cost p S l.node x t.0)) (weighted (successor_weights ls) (costs_of p S ls x trees.0)) v.up (S * v.under) all.0,
           all.1 ∙ ap (λ (j : ℕ). lcm_all (lcm total.under j) (dens n ls)) own.1,
         ),
       )))
@@ -156,12 +156,12 @@ module _ (p : Problem) where
   -- the node of a step, what was decided there, and the trees behind it
   abbrev IsBranch : ℕ → Node → List ℤ → List ℤ → Walked → List ℤ × Forest → Type 0
   IsBranch n node values x w b =
-      Is (plus (stage S node values x b.0) (over (weighted (link_weights node.links) (costs_of p S node.links (next_state node b.0) b.1)) (successor_weight node))) w.up (S * w.under)
-      × (w.under ≡ successor_weight node * lcm_all 1 (dens n node.links))
+      Is (plus (stage S node values x b.0) (over (weighted (successor_weights node.successors) (costs_of p S node.successors (next_state node b.0) b.1)) (successor_weight node))) w.up (S * w.under)
+      × (w.under ≡ successor_weight node * lcm_all 1 (dens n node.successors))
 
   -- the decisions leave the node as the next state
   abbrev pub Leaves : Deciding → Type 0
-  Leaves decide = (k : ℕ) (s : Step) (values x : List ℤ) (d : Decided) → decide k s values x ≡ Ok d → d.next ≡ next_state (node_at p s.node) d.decisions
+  Leaves decide = (k : ℕ) (s : PathStep) (values x : List ℤ) (d : Decided) → decide k s values x ≡ Ok d → d.next ≡ next_state (node_at p s.node) d.decisions
 
   module _ (decide : Deciding) (leaves : Leaves decide) where
     is_staged : (q u : ℕ) (c : Fraction) (f : Fraction) (up : ℤ) → c.under ≡ S → Is f up (S * u) → Is (plus c (over f q)) (pos (q * u) *ℤ c.up +ℤ up) (S * (q * u))
@@ -173,39 +173,39 @@ module _ (p : Problem) where
         turn : (s u q : ℕ) → s * u * q ≡ s * (q * u)
         turn s u q = omega arith
 
-    branch_agree : (n : ℕ) (go : List ℤ → ℕ → ℕ → Result Walked Stop) (grow_at : List ℤ → ℕ → ℕ → Grown Tree) → ((x : List ℤ) (k m : ℕ) → Agree (IsTree n x m) (go x k m) (grow_at x k m))
-        → (m i k : ℕ) (values x : List ℤ) → Agree (IsBranch n (node_at p m) values x) (branch_cost decide go (node_at p m) k (record { node = m; realization = i }) values x) (branch_of decide grow_at (node_at p m).links k (record { node = m; realization = i }) values x)
+    branch_agree : (n : ℕ) (go : List ℤ → ℕ → ℕ → Result Walked Stop) (grow_at : List ℤ → ℕ → ℕ → GrownPart Tree) → ((x : List ℤ) (k m : ℕ) → Agree (IsTree n x m) (go x k m) (grow_at x k m))
+        → (m i k : ℕ) (values x : List ℤ) → Agree (IsBranch n (node_at p m) values x) (branch_cost decide go (node_at p m) k (record { node = m; realization = i }) values x) (branch_of decide grow_at (node_at p m).successors k (record { node = m; realization = i }) values x)
     unfolding stage_cost_of
     branch_agree n go grow_at each m i k values x = by (decide k s values x) refl
       where
-        s : Step
+        s : PathStep
         s = record { node = m; realization = i }
 
         node : Node
         node = node_at p m
 
         by : (r : Result Decided Stop) → decide k s values x ≡ r
-            → Agree (IsBranch n node values x) (r >>= λ d. behind s (link_costs (go d.next) (no_cost (suc k)) node.links) >>= λ w. Ok (add_stage (successor_weight node) (stage_cost_of node d.decisions x values) w))
-            (r >>= λ d. behind s (forest_of (grow_at d.next) (suc k) node.links) >>= λ f. Ok ((d.decisions, f.0), f.1))
+            → Agree (IsBranch n node values x) (r >>= λ d. stop_behind s (successor_costs (go d.next) (no_cost (suc k)) node.successors) >>= λ w. Ok (add_stage (successor_weight node) (stage_cost_of node d.decisions x values) w))
+            (r >>= λ d. stop_behind s (grown_forest (grow_at d.next) (suc k) node.successors) >>= λ f. Ok ((d.decisions, f.0), f.1))
         by (Err stop) e = refl
         by (Ok d) e =
             let next : d.next ≡ next_state node d.decisions = leaves k s values x d e in
-            agree_then (IsLinks n d.next node.links nothing 1) (IsBranch n node values x) (behind s (link_costs (go d.next) (no_cost (suc k)) node.links)) (behind s (forest_of (grow_at d.next) (suc k) node.links))
+            agree_then (IsSuccessors n d.next node.successors nothing 1) (IsBranch n node values x) (stop_behind s (successor_costs (go d.next) (no_cost (suc k)) node.successors)) (stop_behind s (grown_forest (grow_at d.next) (suc k) node.successors))
             (λ w. Ok (add_stage (successor_weight node) (stage_cost_of node d.decisions x values) w)) (λ f. Ok ((d.decisions, f.0), f.1))
-            (agree_behind (IsLinks n d.next node.links nothing 1) s (link_costs (go d.next) (no_cost (suc k)) node.links) (forest_of (grow_at d.next) (suc k) node.links)
-            (links_agree n d.next (go d.next) (grow_at d.next) (each d.next) node.links nothing (no_cost (suc k)) (suc k) refl (is_nothing (S * 1))))
+            (agree_behind (IsSuccessors n d.next node.successors nothing 1) s (successor_costs (go d.next) (no_cost (suc k)) node.successors) (grown_forest (grow_at d.next) (suc k) node.successors)
+            (successors_agree n d.next (go d.next) (grow_at d.next) (each d.next) node.successors nothing (no_cost (suc k)) (suc k) refl (is_nothing (S * 1))))
             (λ w f same all.
-            let trees : Fraction = weighted (link_weights node.links) (costs_of p S node.links d.next f.0) in (
+            let trees : Fraction = weighted (successor_weights node.successors) (costs_of p S node.successors d.next f.0) in (
               same,
               (
-                staged d w f.0 (subst (λ (y : List ℤ). Is (weighted (link_weights node.links) (costs_of p S node.links y f.0)) w.up (S * w.under)) next (is_alone trees w.up (S * w.under) all.0)),
+                staged d w f.0 (subst (λ (y : List ℤ). Is (weighted (successor_weights node.successors) (costs_of p S node.successors y f.0)) w.up (S * w.under)) next (is_alone trees w.up (S * w.under) all.0)),
                 ap (λ (u : ℕ). successor_weight node * u) all.1,
               ),
             ))
           where
-            staged : (d : Decided) (w : Walked) (f : Forest) → Is (weighted (link_weights node.links) (costs_of p S node.links (next_state node d.decisions) f)) w.up (S * w.under)
-                → Is (plus (stage S node values x d.decisions) (over (weighted (link_weights node.links) (costs_of p S node.links (next_state node d.decisions) f)) (successor_weight node))) (pos (successor_weight node * w.under) *ℤ stage_cost_of node d.decisions x values +ℤ w.up) (S * (successor_weight node * w.under))
-            staged d w f h = is_staged (successor_weight node) w.under (stage S node values x d.decisions) (weighted (link_weights node.links) (costs_of p S node.links (next_state node d.decisions) f)) w.up refl h
+            staged : (d : Decided) (w : Walked) (f : Forest) → Is (weighted (successor_weights node.successors) (costs_of p S node.successors (next_state node d.decisions) f)) w.up (S * w.under)
+                → Is (plus (stage S node values x d.decisions) (over (weighted (successor_weights node.successors) (costs_of p S node.successors (next_state node d.decisions) f)) (successor_weight node))) (pos (successor_weight node * w.under) *ℤ stage_cost_of node d.decisions x values +ℤ w.up) (S * (successor_weight node * w.under))
+            staged d w f h = is_staged (successor_weight node) w.under (stage S node values x d.decisions) (weighted (successor_weights node.successors) (costs_of p S node.successors (next_state node d.decisions) f)) w.up refl h
 
     -- the denominator of a sum: v before the first branch, and then u
     abbrev last_under : ℕ → ℕ → List Realization → ℕ
@@ -224,23 +224,23 @@ module _ (p : Problem) where
     abbrev IsBranches : ℕ → ℕ → Node → List Realization → List ℤ → Fraction → Walked → Tree → Type 0
     IsBranches v u node rs x f w t = Is (plus f (cost_sum p S node rs x t)) w.up (S * u) × (w.under ≡ last_under v u rs)
 
-    branches_agree : (n : ℕ) (go : List ℤ → ℕ → ℕ → Result Walked Stop) (grow_at : List ℤ → ℕ → ℕ → Grown Tree) → ((x : List ℤ) (k m : ℕ) → Agree (IsTree n x m) (go x k m) (grow_at x k m))
-        → (m : ℕ) (x : List ℤ) (rs : List Realization) (i : ℕ) (f : Fraction) (total : Walked) (k : ℕ) → total.decided ≡ k → Is f total.up (S * (successor_weight (node_at p m) * lcm_all 1 (dens n (node_at p m).links)))
-        → Agree (IsBranches total.under (successor_weight (node_at p m) * lcm_all 1 (dens n (node_at p m).links)) (node_at p m) rs x f) (branch_costs decide go (node_at p m) m total i rs x) (tree_of decide grow_at (node_at p m).links m k i rs x)
+    branches_agree : (n : ℕ) (go : List ℤ → ℕ → ℕ → Result Walked Stop) (grow_at : List ℤ → ℕ → ℕ → GrownPart Tree) → ((x : List ℤ) (k m : ℕ) → Agree (IsTree n x m) (go x k m) (grow_at x k m))
+        → (m : ℕ) (x : List ℤ) (rs : List Realization) (i : ℕ) (f : Fraction) (total : Walked) (k : ℕ) → total.decided ≡ k → Is f total.up (S * (successor_weight (node_at p m) * lcm_all 1 (dens n (node_at p m).successors)))
+        → Agree (IsBranches total.under (successor_weight (node_at p m) * lcm_all 1 (dens n (node_at p m).successors)) (node_at p m) rs x f) (branch_costs decide go (node_at p m) m total i rs x) (grown_tree decide grow_at (node_at p m).successors m k i rs x)
     branches_agree n go grow_at each m x [] i f total k e h = (e, (is_with_nothing f total.up _ h, refl))
     branches_agree n go grow_at each m x (r ∷ rs) i f total k e h =
         let node : Node = node_at p m in
-        let u : ℕ = successor_weight node * lcm_all 1 (dens n node.links) in
-        let s : Step = record { node = m; realization = i } in
-        agree_then (IsBranch n node r.values x) (IsBranches total.under u node (r ∷ rs) x f) (branch_cost decide go node total.decided s r.values x) (branch_of decide grow_at node.links k s r.values x)
-        (λ w. branch_costs decide go node m (add_branch total r.weight w) (suc i) rs x) (λ b. tree_of decide grow_at node.links m b.1 (suc i) rs x >>= λ t. Ok (branch b.0.0 b.0.1 t.0, t.1))
-        (subst (λ (j : ℕ). Agree (IsBranch n node r.values x) (branch_cost decide go node total.decided s r.values x) (branch_of decide grow_at node.links j s r.values x)) e (branch_agree n go grow_at each m i total.decided r.values x))
+        let u : ℕ = successor_weight node * lcm_all 1 (dens n node.successors) in
+        let s : PathStep = record { node = m; realization = i } in
+        agree_then (IsBranch n node r.values x) (IsBranches total.under u node (r ∷ rs) x f) (branch_cost decide go node total.decided s r.values x) (branch_of decide grow_at node.successors k s r.values x)
+        (λ w. branch_costs decide go node m (add_branch total r.weight w) (suc i) rs x) (λ b. grown_tree decide grow_at node.successors m b.1 (suc i) rs x >>= λ t. Ok (branch b.0.0 b.0.1 t.0, t.1))
+        (subst (λ (j : ℕ). Agree (IsBranch n node r.values x) (branch_cost decide go node total.decided s r.values x) (branch_of decide grow_at node.successors j s r.values x)) e (branch_agree n go grow_at each m i total.decided r.values x))
         (λ w b same own.
-        let one : Fraction = plus (stage S node r.values x b.0.0) (over (weighted (link_weights node.links) (costs_of p S node.links (next_state node b.0.0) b.0.1)) (successor_weight node)) in
-        let mine : Is one w.up (S * u) = subst (λ (j : ℕ). Is one w.up (S * j)) own.1 own.0 in
-        agree_into (IsBranches w.under u node rs x (plus f (times r.weight one))) (IsBranches total.under u node (r ∷ rs) x f) (branch_costs decide go node m (add_branch total r.weight w) (suc i) rs x) (tree_of decide grow_at node.links m b.1 (suc i) rs x)
+        let one : Fraction = plus (stage S node r.values x b.0.0) (over (weighted (successor_weights node.successors) (costs_of p S node.successors (next_state node b.0.0) b.0.1)) (successor_weight node)) in
+        let prefix : Is one w.up (S * u) = subst (λ (j : ℕ). Is one w.up (S * j)) own.1 own.0 in
+        agree_into (IsBranches w.under u node rs x (plus f (times r.weight one))) (IsBranches total.under u node (r ∷ rs) x f) (branch_costs decide go node m (add_branch total r.weight w) (suc i) rs x) (grown_tree decide grow_at node.successors m b.1 (suc i) rs x)
         (λ t. Ok (branch b.0.0 b.0.1 t.0, t.1))
-        (branches_agree n go grow_at each m x rs (suc i) (plus f (times r.weight one)) (add_branch total r.weight w) b.1 same (is_plus f (times r.weight one) total.up (pos r.weight *ℤ w.up) (S * u) h (is_times r.weight one w.up (S * u) mine)))
+        (branches_agree n go grow_at each m x rs (suc i) (plus f (times r.weight one)) (add_branch total r.weight w) b.1 same (is_plus f (times r.weight one) total.up (pos r.weight *ℤ w.up) (S * u) h (is_times r.weight one w.up (S * u) prefix)))
         (λ v t same' all. (same', (is_grouped f (times r.weight one) (cost_sum p S node rs x t.0) v.up (S * u) all.0, all.1 ∙ ap (λ (j : ℕ). last_under j u rs) own.1 ∙ always u rs))))
 
     pub trees_agree : (n : ℕ) (x : List ℤ) (k m : ℕ) → Agree (IsTree n x m) (tree_cost decide p n x k m) (grow decide p n x k m)
@@ -250,12 +250,12 @@ module _ (p : Problem) where
         is_none = record { crossed = omega (arith, ints) }
     trees_agree (suc n) x k m =
         let node : Node = node_at p m in
-        let u : ℕ = successor_weight node * lcm_all 1 (dens n node.links) in
-        agree_into_share (IsBranches 1 u node node.realizations x nothing) (IsTree (suc n) x m) (realization_weight node) (branch_costs decide (tree_cost decide p n) node m (no_cost k) 0 node.realizations x) (tree_of decide (grow decide p n) node.links m k 0 node.realizations x)
+        let u : ℕ = successor_weight node * lcm_all 1 (dens n node.successors) in
+        agree_into_share (IsBranches 1 u node node.realizations x nothing) (IsTree (suc n) x m) (realization_weight node) (branch_costs decide (tree_cost decide p n) node m (no_cost k) 0 node.realizations x) (grown_tree decide (grow decide p n) node.successors m k 0 node.realizations x)
         (branches_agree n (tree_cost decide p n) (grow decide p n) (λ x k m. trees_agree n x k m) m x node.realizations 0 nothing (no_cost k) k refl (is_nothing (S * u)))
         (λ w t all. shares node u w t all.0 all.1)
       where
-        agree_into_share : {A : Type 0} (R Q : Walked → A → Type 0) (weight : ℕ) (a : Result Walked Stop) (b : Grown A) → Agree R a b → ((w : Walked) (t : A) → R w t → Q (share weight w) t) → Agree Q (a >>= λ w. Ok (share weight w)) b
+        agree_into_share : {A : Type 0} (R Q : Walked → A → Type 0) (weight : ℕ) (a : Result Walked Stop) (b : GrownPart A) → Agree R a b → ((w : Walked) (t : A) → R w t → Q (share weight w) t) → Agree Q (a >>= λ w. Ok (share weight w)) b
         agree_into_share R Q weight (Ok w) (Ok t) h k = (h.0, k w t.0 h.1)
         agree_into_share R Q weight (Ok w) (Err s) h k = absurd h
         agree_into_share R Q weight (Err s) (Ok t) h k = absurd h
@@ -276,21 +276,21 @@ module _ (p : Problem) where
 
     -- the whole policy
     abbrev pub IsPolicy : ℕ → Walked → Forest → Type 0
-    IsPolicy n w f = Is (policy_cost p S f) w.up (S * (sum (link_weights p.root) * w.under)) × (w.under ≡ lcm_all 1 (dens n p.root))
+    IsPolicy n w f = Is (policy_cost p S f) w.up (S * (sum (successor_weights p.root) * w.under)) × (w.under ≡ lcm_all 1 (dens n p.root))
 
-    pub policies_agree : (n : ℕ) → Agree (IsPolicy n) (link_costs (tree_cost decide p n (times_all S p.initial)) (no_cost 0) p.root) (whole_tree decide p n)
+    pub policies_agree : (n : ℕ) → Agree (IsPolicy n) (successor_costs (tree_cost decide p n (times_all S p.initial)) (no_cost 0) p.root) (whole_tree decide p n)
     policies_agree n =
-        agree_weaker (IsLinks n (times_all S p.initial) p.root nothing 1) (IsPolicy n) (link_costs (tree_cost decide p n (times_all S p.initial)) (no_cost 0) p.root) (whole_tree decide p n)
-        (links_agree n (times_all S p.initial) (tree_cost decide p n (times_all S p.initial)) (grow decide p n (times_all S p.initial)) (λ k m. trees_agree n (times_all S p.initial) k m) p.root nothing (no_cost 0) 0 refl (is_nothing (S * 1)))
+        agree_weaker (IsSuccessors n (times_all S p.initial) p.root nothing 1) (IsPolicy n) (successor_costs (tree_cost decide p n (times_all S p.initial)) (no_cost 0) p.root) (whole_tree decide p n)
+        (successors_agree n (times_all S p.initial) (tree_cost decide p n (times_all S p.initial)) (grow decide p n (times_all S p.initial)) (λ k m. trees_agree n (times_all S p.initial) k m) p.root nothing (no_cost 0) 0 refl (is_nothing (S * 1)))
         (λ w f all.
-        let q : ℕ = sum (link_weights p.root) in
-        let c : Fraction = weighted (link_weights p.root) (costs_of p S p.root (times_all S p.initial) f) in
+        let q : ℕ = sum (successor_weights p.root) in
+        let c : Fraction = weighted (successor_weights p.root) (costs_of p S p.root (times_all S p.initial) f) in
         (is_same (over c q) w.up w.up (S * w.under * q) (S * (q * w.under)) refl (turn S w.under q) (is_over c q w.up (S * w.under) (is_alone c w.up (S * w.under) all.0)), all.1))
       where
         turn : (s u w : ℕ) → s * u * w ≡ s * (w * u)
         turn s u w = omega arith
 
-        agree_weaker : {A : Type 0} (R Q : Walked → A → Type 0) (a : Result Walked Stop) (b : Grown A) → Agree R a b → ((w : Walked) (t : A) → R w t → Q w t) → Agree Q a b
+        agree_weaker : {A : Type 0} (R Q : Walked → A → Type 0) (a : Result Walked Stop) (b : GrownPart A) → Agree R a b → ((w : Walked) (t : A) → R w t → Q w t) → Agree Q a b
         agree_weaker R Q (Ok w) (Ok t) h k = (h.0, k w t.0 h.1)
         agree_weaker R Q (Ok w) (Err s) h k = absurd h
         agree_weaker R Q (Err s) (Ok t) h k = absurd h

@@ -3,46 +3,46 @@ use Rattle.std.proofs.Common.{◌≡◌, ◌∙◌, ℕ, suc, ◌+◌, ◌*◌, 
 use Rattle.std.specs.Int.{w128}
 use Rattle.std.proofs.Math.Nat.{mul-le-mul}
 use Rattle.std.proofs.lemmas.Int.{ints, unsigned_abs-mul}
-use Rattle.hp_problem.specs.Sealed.{Sealed}
+use Rattle.hp_problem.specs.Validated.{Validated}
 use Rattle.hp_theory.specs.Problem.{S, Realization, Node, node_at, weight_of_realizations, realization_weight, successor_weight}
 use Rattle.hp_theory.specs.View.{problem_of}
 use Rattle.hp_tree.specs.declared.costs.Walked.{Walked}
 use Rattle.hp_tree.specs.PolicyTree.{Deciding, Stop}
 use Rattle.hp_tree.specs.Costs.{add_stage, add_branch, branch_cost, branch_costs, no_cost, share}
 use Rattle.hp_tree.specs.TooBig.{branches, denominator, most_size}
-use Rattle.hp_tree.specs.Small.{IsCost, IsSmall, link_branches, link_denominator, most_cost}
+use Rattle.hp_tree.specs.Small.{IsCost, IsSmall, successor_branches, successor_denominator, most_cost}
 use Rattle.hp_tree.proofs.Adding.{at_least_once, cost_limit, fits, most}
 
 -- U is the number over which the branches stand, k how many branches each of them is
-pub record BranchesGo (p : Sealed) (n U k before : ℕ) (decide : Deciding) (go : List ℤ → ℕ → ℕ → Result Walked Stop) (node : Node) (m : ℕ) (x : List ℤ) (rs rest : List Realization) (i : ℕ) (total : Walked) : Type 0 where
-  pub value : branch_costs decide go node m total i rest x ≡ branch_costs decide go node m (no_cost before) 0 rs x
+pub record BranchesGo (p : Validated) (n U k before : ℕ) (decide : Deciding) (go : List ℤ → ℕ → ℕ → Result Walked Stop) (node : Node) (m : ℕ) (x : List ℤ) (rs tail : List Realization) (i : ℕ) (total : Walked) : Type 0 where
+  pub value : branch_costs decide go node m total i tail x ≡ branch_costs decide go node m (no_cost before) 0 rs x
   pub under : 0 < i → total.under ≡ U
-  pub small : nat_abs total.up + U * (weight_of_realizations rest * most_cost p n) ≤ U * (weight_of_realizations rs * most_cost p n)
-  pub decided : total.decided + length rest * k ≡ before + length rs * k
+  pub small : nat_abs total.up + U * (weight_of_realizations tail * most_cost p n) ≤ U * (weight_of_realizations rs * most_cost p n)
+  pub decided : total.decided + length tail * k ≡ before + length rs * k
 
-pub branches_first : (p : Sealed) (n U k decided : ℕ) (decide : Deciding) (go : List ℤ → ℕ → ℕ → Result Walked Stop) (node : Node) (m : ℕ) (x : List ℤ) (rs : List Realization) → BranchesGo p n U k decided decide go node m x rs rs 0 (no_cost decided)
+pub branches_first : (p : Validated) (n U k decided : ℕ) (decide : Deciding) (go : List ℤ → ℕ → ℕ → Result Walked Stop) (node : Node) (m : ℕ) (x : List ℤ) (rs : List Realization) → BranchesGo p n U k decided decide go node m x rs rs 0 (no_cost decided)
 branches_first p n U k decided decide go node m x rs = record { value = refl; under = λ h. absurd (omega (arith, h)); small = omega arith; decided = refl }
 
 -- over plain numbers: y is added w times
-branch_small : (x y U w rest W C : ℕ) → x + U * ((w + rest) * C) ≤ U * (W * C) → y ≤ U * (1 * C) → x + w * y + U * (rest * C) ≤ U * (W * C)
-branch_small x y U w rest W C h k = omega (arith, h, mul-le-mul_left w k)
+branch_small : (x y U w tail W C : ℕ) → x + U * ((w + tail) * C) ≤ U * (W * C) → y ≤ U * (1 * C) → x + w * y + U * (tail * C) ≤ U * (W * C)
+branch_small x y U w tail W C h k = omega (arith, h, mul-le-mul_left w k)
 
 some_left : (d k l e : ℕ) → d + suc l * k ≡ e → d + k ≤ e
 some_left d k l e h = omega (arith, h)
 
-module _ (p : Sealed) (n U k decided : ℕ) (decide : Deciding) (go : List ℤ → ℕ → ℕ → Result Walked Stop) (node : Node) (m : ℕ) (x : List ℤ) (rs : List Realization) (r : Realization) (rest : List Realization) (i : ℕ) (total w : Walked)
-    (h : BranchesGo p n U k decided decide go node m x rs (r ∷ rest) i total) (small : IsSmall p n U (weight_of_realizations rs) decided (length rs * k)) where
+module _ (p : Validated) (n U k decided : ℕ) (decide : Deciding) (go : List ℤ → ℕ → ℕ → Result Walked Stop) (node : Node) (m : ℕ) (x : List ℤ) (rs : List Realization) (r : Realization) (tail : List Realization) (i : ℕ) (total w : Walked)
+    (h : BranchesGo p n U k decided decide go node m x rs (r ∷ tail) i total) (small : IsSmall p n U (weight_of_realizations rs) decided (length rs * k)) where
   pub branch_small_here : IsSmall p n U 1 total.decided k
   branch_small_here = record {
     under = small.under;
     weighted = omega (arith, small.under);
-    branches = omega (arith, some_left total.decided k (length rest) (decided + length rs * k) h.decided, small.branches);
+    branches = omega (arith, some_left total.decided k (length tail) (decided + length rs * k) h.decided, small.branches);
     sizes = small.sizes;
   }
 
   module _ (c : IsCost p n U 1 (total.decided + k) w) where
-    summed : nat_abs total.up + r.weight * nat_abs w.up + U * (weight_of_realizations rest * most_cost p n) ≤ U * (weight_of_realizations rs * most_cost p n)
-    summed = branch_small (nat_abs total.up) (nat_abs w.up) U r.weight (weight_of_realizations rest) (weight_of_realizations rs) (most_cost p n) h.small c.small
+    summed : nat_abs total.up + r.weight * nat_abs w.up + U * (weight_of_realizations tail * most_cost p n) ≤ U * (weight_of_realizations rs * most_cost p n)
+    summed = branch_small (nat_abs total.up) (nat_abs w.up) U r.weight (weight_of_realizations tail) (weight_of_realizations rs) (most_cost p n) h.small c.small
 
     weighted : nat_abs (pos r.weight *ℤ w.up) ≡ r.weight * nat_abs w.up
     weighted = unsigned_abs-mul (pos r.weight) w.up
@@ -59,7 +59,7 @@ module _ (p : Sealed) (n U k decided : ℕ) (decide : Deciding) (go : List ℤ �
     pub branch_whole : FitsSigned w128 (total.up +ℤ pos r.weight *ℤ w.up)
     branch_whole = fits (total.up +ℤ pos r.weight *ℤ w.up) (in_range (nat_abs (total.up +ℤ pos r.weight *ℤ w.up)) (omega (arith, whole_abs, weighted, summed)))
 
-    pub branch_next : branch_cost decide go node total.decided (record { node = m; realization = i }) r.values x ≡ Ok w → BranchesGo p n U k decided decide go node m x rs rest (suc i) (add_branch total r.weight w)
+    pub branch_next : branch_cost decide go node total.decided (record { node = m; realization = i }) r.values x ≡ Ok w → BranchesGo p n U k decided decide go node m x rs tail (suc i) (add_branch total r.weight w)
     branch_next e = record {
       value = went e ∙ h.value;
       under = λ some. c.under;
@@ -67,38 +67,38 @@ module _ (p : Sealed) (n U k decided : ℕ) (decide : Deciding) (go : List ℤ �
       decided = omega (arith, c.decided, h.decided);
     }
       where
-        went : branch_cost decide go node total.decided (record { node = m; realization = i }) r.values x ≡ Ok w → branch_costs decide go node m (add_branch total r.weight w) (suc i) rest x ≡ branch_costs decide go node m total i (r ∷ rest) x
+        went : branch_cost decide go node total.decided (record { node = m; realization = i }) r.values x ≡ Ok w → branch_costs decide go node m (add_branch total r.weight w) (suc i) tail x ≡ branch_costs decide go node m total i (r ∷ tail) x
         went e = rw e refl
 
   pub branch_stops : (s : Stop) → branch_cost decide go node total.decided (record { node = m; realization = i }) r.values x ≡ Err s → branch_costs decide go node m (no_cost decided) 0 rs x ≡ Err s
   branch_stops s e = sym h.value ∙ stopped e
     where
-      stopped : branch_cost decide go node total.decided (record { node = m; realization = i }) r.values x ≡ Err s → branch_costs decide go node m total i (r ∷ rest) x ≡ Err s
+      stopped : branch_cost decide go node total.decided (record { node = m; realization = i }) r.values x ≡ Err s → branch_costs decide go node m total i (r ∷ tail) x ≡ Err s
       stopped e = rw e refl
 
-pub branches_last : (p : Sealed) (n U k decided : ℕ) (decide : Deciding) (go : List ℤ → ℕ → ℕ → Result Walked Stop) (node : Node) (m : ℕ) (x : List ℤ) (rs : List Realization) (i : ℕ) (total : Walked) → 0 < i → BranchesGo p n U k decided decide go node m x rs [] i total
+pub branches_last : (p : Validated) (n U k decided : ℕ) (decide : Deciding) (go : List ℤ → ℕ → ℕ → Result Walked Stop) (node : Node) (m : ℕ) (x : List ℤ) (rs : List Realization) (i : ℕ) (total : Walked) → 0 < i → BranchesGo p n U k decided decide go node m x rs [] i total
     → IsCost p n U (weight_of_realizations rs) (decided + length rs * k) total
 branches_last p n U k decided decide go node m x rs i total some h = record { under = h.under some; small = omega (arith, h.small); decided = omega (arith, h.decided) }
 
 -- a tree, of the branches that it has
-pub share_cost : (p : Sealed) (n m decided : ℕ) (w : Walked) → IsCost p (suc n) (successor_weight (node_at (problem_of p) m) * link_denominator p n (node_at (problem_of p) m).links) (realization_weight (node_at (problem_of p) m)) (decided + length (node_at (problem_of p) m).realizations * (1 + link_branches p n (node_at (problem_of p) m).links)) w
+pub share_cost : (p : Validated) (n m decided : ℕ) (w : Walked) → IsCost p (suc n) (successor_weight (node_at (problem_of p) m) * successor_denominator p n (node_at (problem_of p) m).successors) (realization_weight (node_at (problem_of p) m)) (decided + length (node_at (problem_of p) m).realizations * (1 + successor_branches p n (node_at (problem_of p) m).successors)) w
     → IsCost p (suc n) (denominator (problem_of p) (suc n) m) 1 (decided + branches (problem_of p) (suc n) m) (share (realization_weight (node_at (problem_of p) m)) w)
 share_cost p n m decided w c = record {
   under = ap (λ (k : ℕ). realization_weight (node_at (problem_of p) m) * k) c.under;
-  small = turned (realization_weight (node_at (problem_of p) m)) (successor_weight (node_at (problem_of p) m) * link_denominator p n (node_at (problem_of p) m).links) (most_cost p (suc n)) (nat_abs w.up) c.small;
+  small = turned (realization_weight (node_at (problem_of p) m)) (successor_weight (node_at (problem_of p) m) * successor_denominator p n (node_at (problem_of p) m).successors) (most_cost p (suc n)) (nat_abs w.up) c.small;
   decided = c.decided;
 }
   where
     turned : (W U C x : ℕ) → x ≤ U * (W * C) → x ≤ W * U * (1 * C)
     turned W U C x h = omega (arith, h)
 
-pub share_fits : (p : Sealed) (n U W decided : ℕ) (w : Walked) → IsCost p n U W decided w → U * W ≤ 2 ^ 40 → W * w.under < 2 ^ 64
+pub share_fits : (p : Validated) (n U W decided : ℕ) (w : Walked) → IsCost p n U W decided w → U * W ≤ 2 ^ 40 → W * w.under < 2 ^ 64
 share_fits p n U W decided w c h = subst (λ (k : ℕ). W * k < 2 ^ 64) (sym c.under) (omega (arith, h))
 
-pub tree_small : (p : Sealed) (n m decided : ℕ) → 0 < realization_weight (node_at (problem_of p) m) → IsSmall p (suc n) (denominator (problem_of p) (suc n) m) 1 decided (branches (problem_of p) (suc n) m)
-    → IsSmall p (suc n) (successor_weight (node_at (problem_of p) m) * link_denominator p n (node_at (problem_of p) m).links) (realization_weight (node_at (problem_of p) m)) decided (length (node_at (problem_of p) m).realizations * (1 + link_branches p n (node_at (problem_of p) m).links))
+pub tree_small : (p : Validated) (n m decided : ℕ) → 0 < realization_weight (node_at (problem_of p) m) → IsSmall p (suc n) (denominator (problem_of p) (suc n) m) 1 decided (branches (problem_of p) (suc n) m)
+    → IsSmall p (suc n) (successor_weight (node_at (problem_of p) m) * successor_denominator p n (node_at (problem_of p) m).successors) (realization_weight (node_at (problem_of p) m)) decided (length (node_at (problem_of p) m).realizations * (1 + successor_branches p n (node_at (problem_of p) m).successors))
 tree_small p n m decided some small =
-    let U : ℕ = successor_weight (node_at (problem_of p) m) * link_denominator p n (node_at (problem_of p) m).links in
+    let U : ℕ = successor_weight (node_at (problem_of p) m) * successor_denominator p n (node_at (problem_of p) m).successors in
     let W : ℕ = realization_weight (node_at (problem_of p) m) in
     let is : W * U ≤ 2 ^ 40 = small.under in
     record {
@@ -112,7 +112,7 @@ tree_small p n m decided some small =
     turned U W = omega arith
 
 -- a branch, of its stage and the trees behind it
-pub behind_small : (p : Sealed) (n q L wl decided count : ℕ) → 0 < q → wl ≤ q → IsSmall p (suc n) (q * L) 1 decided (1 + count) → IsSmall p n L wl (decided + 1) count
+pub behind_small : (p : Validated) (n q L wl decided count : ℕ) → 0 < q → wl ≤ q → IsSmall p (suc n) (q * L) 1 decided (1 + count) → IsSmall p n L wl (decided + 1) count
 behind_small p n q L wl decided count some le small =
     let once = at_least_once L q some in
     let turned : L * q ≡ q * L = omega arith in
@@ -131,7 +131,7 @@ stage_small q L wl n G z y le h k =
     let two : wl * (L * (S * (n * G))) ≤ q * (L * (S * (n * G))) = mul-le-mul le (omega arith) in
     omega (arith, one, two, k)
 
-module _ (p : Sealed) (n q L wl decided count : ℕ) (cost : ℤ) (w : Walked) (le : wl ≤ q) (small : IsSmall p (suc n) (q * L) 1 decided (1 + count)) (c : IsCost p n L wl (decided + 1 + count) w) (own : nat_abs cost ≤ most_cost p 1) where
+module _ (p : Validated) (n q L wl decided count : ℕ) (cost : ℤ) (w : Walked) (le : wl ≤ q) (small : IsSmall p (suc n) (q * L) 1 decided (1 + count)) (c : IsCost p n L wl (decided + 1 + count) w) (own : nat_abs cost ≤ most_cost p 1) where
   stage_abs : nat_abs (pos (q * w.under) *ℤ cost) ≡ q * w.under * nat_abs cost
   stage_abs = unsigned_abs-mul (pos (q * w.under)) cost
 

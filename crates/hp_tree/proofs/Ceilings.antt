@@ -8,7 +8,7 @@ use Rattle.hp_theory.specs.Cost.{policy_cost}
 use Rattle.hp_theory.specs.Fraction.{Fraction, ◌≤ᶠ◌}
 use Rattle.hp_theory.specs.Problem.{S, Problem}
 use Rattle.hp_theory.specs.Tree.{Forest}
-use Rattle.hp_tree.specs.Upper.{ceiling_over, scaled_up, upper_of, IsUpper}
+use Rattle.hp_tree.specs.Upper.{ceiling_over, scaled_up, upper_of, IsLeastUpper}
 
 -- a number whose multiple is positive
 positive_factor : (k : ℕ) (z : ℤ) → pos 0 <ℤ (pos k *ℤ z) → pos 0 <ℤ z
@@ -55,7 +55,7 @@ ceiling_same a b c d h k e =
     omega (arith, ints, one, two)
 
 -- Upper of a policy
-pub upper_is : (p : Problem) (f : Forest) → 0 < (policy_cost p S f).under → IsUpper p f (upper_of p f)
+pub upper_is : (p : Problem) (f : Forest) → 0 < (policy_cost p S f).under → IsLeastUpper p f (upper_of p f)
 unfolding upper_of
 upper_is p f h =
     let c : Fraction = policy_cost p S f in
@@ -68,7 +68,7 @@ upper_is p f h =
     }
 
 -- a number under the cost of each policy is at most the cost from above
-pub under_upper : (p : Problem) (f : Forest) (b u : ℤ) → 0 < (policy_cost p S f).under → record { up = b; under = S } ≤ᶠ policy_cost p S f → IsUpper p f u → b ≤ℤ u
+pub under_upper : (p : Problem) (f : Forest) (b u : ℤ) → 0 < (policy_cost p S f).under → record { up = b; under = S } ≤ᶠ policy_cost p S f → IsLeastUpper p f u → b ≤ℤ u
 under_upper p f b u h low up =
     let c : Fraction = policy_cost p S f in
     let all : (b *ℤ pos c.under) ≤ℤ (u *ℤ pos c.under) = le_trans (b *ℤ pos c.under) (c.up *ℤ pos S) (u *ℤ pos c.under) low.crossed up.above.crossed in

@@ -67,5 +67,5 @@ pub lcm_all_least : (a : ℕ) (bs : List ℕ) → 0 < a → All (λ b. 0 < b) bs
 lcm_all_least a [] h p = omega arith
 lcm_all_least a (b ∷ bs) h p =
     let k = All_head (λ b. 0 < b) b bs p in
-    let rest = lcm_all_least (lcm a b) bs (lcm_positive a b h k) (All_tail (λ b. 0 < b) b bs p) in
-    omega (arith, lcm_first a b h k, rest)
+    let tail = lcm_all_least (lcm a b) bs (lcm_positive a b h k) (All_tail (λ b. 0 < b) b bs p) in
+    omega (arith, lcm_first a b h k, tail)

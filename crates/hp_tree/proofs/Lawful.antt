@@ -4,21 +4,21 @@ use Rattle.std.specs.Ordering.{int_eq}
 use Rattle.std.proofs.lemmas.Bool.Decides.{Decides-int_eq}
 use Rattle.std.proofs.lemmas.List.Elements.{All-cons, All-nil}
 use Rattle.hp_num.specs.Steps.{◌>>=◌}
-use Rattle.hp_problem.specs.declared.raw.Row.{Row}
-use Rattle.hp_problem.specs.Sealed.{Sealed, is_sealed}
+use Rattle.hp_parts.specs.declared.parts.Row.{Row}
+use Rattle.hp_problem.specs.Validated.{Validated, is_validated}
 use Rattle.hp_theory.specs.declared.cut.Cut.{Cut}
 use Rattle.hp_theory.specs.Problem.{S, node_at}
 use Rattle.hp_theory.specs.Tree.{RowHolds}
 use Rattle.hp_theory.specs.View.{problem_of}
-use Rattle.hp_settle.specs.declared.judging.Dead.{Dead}
+use Rattle.hp_settle.specs.declared.classifying.Infeasibility.{Infeasibility}
 use Rattle.hp_solver.specs.Solving.{Solving}
-use Rattle.hp_sampler.specs.declared.steps.Step.{Step}
+use Rattle.hp_sampler.specs.declared.steps.PathStep.{PathStep}
 use Rattle.hp_forward.specs.declared.deciding.Decided.{Decided}
 use Rattle.hp_forward.specs.Costing.{residual_of, residuals_of}
 use Rattle.hp_forward.proofs.MetRows.{residual_met}
 use Rattle.hp_mend.specs.Deciding.{decide_mended_of}
 use Rattle.hp_mend.proofs.MendedDecisions.{inside_mended, next_mended}
-use Rattle.hp_tree.specs.PolicyTree.{Stop, dead, missed, or_dead, unless_missed, first_missed, decide_branch}
+use Rattle.hp_tree.specs.PolicyTree.{Stop, infeasible, missed, or_infeasible_stop, unless_missed, first_missed, decide_branch}
 use Rattle.hp_tree.proofs.Following.{Lawful}
 
 -- no row is missed where no residual is found
@@ -38,13 +38,13 @@ all_met i (row ∷ rows) u x values e = by (all_met (suc i) rows u x values) (in
     left = map (λ (row : Row). residual_of row u x values) rows
 
     by : (first_missed (suc i) left ≡ None → All (RowHolds S values x u) rows) → (b : Bool) → int_eq (residual_of row u x values) (pos 0) ≡ b → All (RowHolds S values x u) (row ∷ rows)
-    by rest true is =
+    by tail true is =
         All-cons (RowHolds S values x u) row rows ((residual_met row u x values).0 ((Decides-int_eq (residual_of row u x values) (pos 0)).0 is))
-        (rest (rows_left i (residual_of row u x values) left (int_eq (residual_of row u x values) (pos 0)) is e))
-    by rest false is = absurd (row_found i (residual_of row u x values) left (int_eq (residual_of row u x values) (pos 0)) is e)
+        (tail (rows_left i (residual_of row u x values) left (int_eq (residual_of row u x values) (pos 0)) is e))
+    by tail false is = absurd (row_found i (residual_of row u x values) left (int_eq (residual_of row u x values) (pos 0)) is e)
 
 -- a decision at a branch is that of its node, and misses no row
-record IsDecided (first : Result Decided Dead) (rs : Decided → List ℤ) (d : Decided) : Type 0 where
+record IsDecided (first : Result Decided Infeasibility) (rs : Decided → List ℤ) (d : Decided) : Type 0 where
   pub here : first ≡ Ok d
   pub rows : first_missed 0 (rs d) ≡ None
 
@@ -54,8 +54,8 @@ one_stop x d r e f = cc
 one_same : (x y : Decided) (r : Result Decided Stop) → r ≡ Ok x → r ≡ Ok y → x ≡ y
 one_same x y r e f = cc
 
-taken : (s : Step) (first : Result Decided Dead) (rs : Decided → List ℤ) (d : Decided) → (or_dead first >>= λ d. unless_missed s (first_missed 0 (rs d)) d) ≡ Ok d → IsDecided first rs d
-taken s (Err x) rs d e = absurd (one_stop (dead x) d (Err (dead x)) refl e)
+taken : (s : PathStep) (first : Result Decided Infeasibility) (rs : Decided → List ℤ) (d : Decided) → (or_infeasible_stop first >>= λ d. unless_missed s (first_missed 0 (rs d)) d) ≡ Ok d → IsDecided first rs d
+taken s (Err x) rs d e = absurd (one_stop (infeasible x) d (Err (infeasible x)) refl e)
 taken s (Ok y) rs d e = by (first_missed 0 (rs y)) refl e
   where
     by : (o : Option (ℕ × ℤ)) → first_missed 0 (rs y) ≡ o → unless_missed s o y ≡ Ok d → IsDecided (Ok y) rs d
@@ -64,17 +64,17 @@ taken s (Ok y) rs d e = by (first_missed 0 (rs y)) refl e
         subst (λ (z : Decided). IsDecided (Ok y) rs z) same (record { here = refl; rows = is })
     by (Some q) is f = absurd (one_stop (missed (record { branches = s ∷ []; row = q.0; residual = q.1 })) d (unless_missed s (Some q) y) refl f)
 
-module _ {Start Chain : Type 0} (v : Solving Start Chain) (p : Sealed) (pools : List (List Cut)) where
-  branch_decided : (k : ℕ) (s : Step) (values x : List ℤ) (d : Decided) → decide_branch v p pools k s values x ≡ Ok d → IsDecided (decide_mended_of v p pools k s.node values x) (λ d. residuals_of (node_at (problem_of p) s.node) d.decisions x values) d
+module _ {Start Chain : Type 0} (v : Solving Start Chain) (p : Validated) (pools : List (List Cut)) where
+  branch_decided : (k : ℕ) (s : PathStep) (values x : List ℤ) (d : Decided) → decide_branch v p pools k s values x ≡ Ok d → IsDecided (decide_mended_of v p pools k s.node values x) (λ d. residuals_of (node_at (problem_of p) s.node) d.decisions x values) d
   unfolding decide_branch
   branch_decided k s values x d e = taken s (decide_mended_of v p pools k s.node values x) (λ d. residuals_of (node_at (problem_of p) s.node) d.decisions x values) d e
 
-  pub lawful : is_sealed p ≡ true → Lawful (problem_of p) (length p.raw.nodes) (decide_branch v p pools)
-  lawful sealed = record {
+  pub lawful : is_validated p ≡ true → Lawful (problem_of p) (length p.parts.nodes) (decide_branch v p pools)
+  lawful validated = record {
     decides = λ k s values x d known e.
         let own = branch_decided k s values x d e in
         record {
-          box = inside_mended v p pools k s.node values x sealed known d own.here;
+          box = inside_mended v p pools k s.node values x validated known d own.here;
           rows = all_met 0 (node_at (problem_of p) s.node).rows d.decisions x values own.rows;
         };
     leaves = λ k s values x d e. next_mended v p pools k s.node values x d (branch_decided k s values x d e).here;

@@ -1,34 +1,34 @@
--- The parts of a node as code reads them, and as the definitions see them.
+-- The parts_of_node of a node as code reads them, and as the definitions see them.
 use Rattle.std.proofs.Common.{◌≡◌, ◌∙◌, ℕ, zero, suc, ◌+◌, ◌<◌, ◌≤◌, ℤ, true, nat_lt, List, [], ◌∷◌, length, get_or, drop, sum, Some, slice_get, Option, refl, sym, ap, ap₂, subst, arith}
 use Rattle.std.specs.List.{list_all}
 use Rattle.std.proofs.lemmas.List.{drop_more, get_or_default}
-use Rattle.hp_problem.specs.declared.raw.Node as nodes
+use Rattle.hp_parts.specs.declared.parts.Node as nodes
 use Rattle.hp_problem.specs.Formulas.{successor_total, total_weight}
-use Rattle.hp_problem.specs.Limits.{are_values}
-use Rattle.hp_problem.specs.Parts.{successors_at, weights_at}
-use Rattle.hp_problem.specs.Sealed.{Sealed, is_sealed, subproblem_of}
-use Rattle.hp_sampler.specs.declared.steps.Step.{Step}
+use Rattle.hp_parts.specs.Limits.{are_values}
+use Rattle.hp_parts.specs.Parts.{successors_at, weights_at}
+use Rattle.hp_problem.specs.Validated.{Validated, is_validated, subproblem_of}
+use Rattle.hp_sampler.specs.declared.steps.PathStep.{PathStep}
 use Rattle.hp_sampler.proofs.Draws.{made_at}
-use Rattle.hp_theory.specs.Problem.{Realization, Link, Node, node_at, link_weights, weight_of_realizations, realization_weight, weight_of_successors, successor_weight}
-use Rattle.hp_theory.specs.View.{links_of, realizations_of, problem_of}
-use Rattle.hp_theory.proofs.SealedParts.{Parts, parts, linked, links_known, weighty}
-use Rattle.hp_theory.proofs.Views.{length-links_of, link_at, link_weights-links_of, links-node_of, realizations-node_of, stop-node_of, weight-realizations_of}
+use Rattle.hp_theory.specs.Problem.{Realization, Successor, Node, node_at, successor_weights, weight_of_realizations, realization_weight, weight_of_successors, successor_weight}
+use Rattle.hp_theory.specs.View.{successors_of, realizations_of, problem_of}
+use Rattle.hp_theory.proofs.ValidatedParts.{Parts, parts_of_node, linked, successors_known, weighty}
+use Rattle.hp_theory.proofs.Views.{length-successors_of, successor_at, successor_weights-successors_of, successors-node_of, realizations-node_of, stop-node_of, weight-realizations_of}
 use Rattle.hp_forward.specs.Walking.{values_of}
-use Rattle.hp_forward.proofs.Arcs.{values-sealed}
+use Rattle.hp_forward.proofs.Arcs.{values-validated}
 
-no_link : Link
-no_link = record { node = 0; weight = 0 }
+no_successor : Successor
+no_successor = record { node = 0; weight = 0 }
 
 pub no_realization : Realization
 no_realization = record { weight = 0; values = [] }
 
--- the link at a place, and those behind it
-pub link_here : (ms ws : List ℕ) (i m w : ℕ) → length ws ≡ length ms → i < length ms → m ≡ get_or ms i m → w ≡ get_or ws i w → drop i (links_of ms ws) ≡ record { node = m; weight = w } ∷ drop (i + 1) (links_of ms ws)
-link_here ms ws i m w e h em ew =
+-- the arc at a place, and those behind it
+pub successor_here : (ms ws : List ℕ) (i m w : ℕ) → length ws ≡ length ms → i < length ms → m ≡ get_or ms i m → w ≡ get_or ws i w → drop i (successors_of ms ws) ≡ record { node = m; weight = w } ∷ drop (i + 1) (successors_of ms ws)
+successor_here ms ws i m w e h em ew =
     let node : get_or ms i 0 ≡ m = get_or_default ms i 0 m h ∙ sym em in
     let weight : get_or ws i 0 ≡ w = get_or_default ws i 0 w (omega (arith, e, h)) ∙ sym ew in
-    drop_more (links_of ms ws) i no_link (omega (arith, h, length-links_of ms ws e))
-    ∙ ap (λ (l : Link). l ∷ drop (i + 1) (links_of ms ws)) (link_at ms ws i no_link e h ∙ ap₂ (λ (m w : ℕ). record { node = m; weight = w }) node weight)
+    drop_more (successors_of ms ws) i no_successor (omega (arith, h, length-successors_of ms ws e))
+    ∙ ap (λ (l : Successor). l ∷ drop (i + 1) (successors_of ms ws)) (successor_at ms ws i no_successor e h ∙ ap₂ (λ (m w : ℕ). record { node = m; weight = w }) node weight)
 
 realization_at : (ws : List ℕ) (vs : List (List ℤ)) (i : ℕ) → length vs ≡ length ws → i < length ws → get_or (realizations_of ws vs) i no_realization ≡ record { weight = get_or ws i 0; values = get_or vs i [] }
 realization_at [] vs i e h = absurd (omega arith)
@@ -50,13 +50,13 @@ realization_here ws vs i w v e h ew ev =
     ∙ ap (λ (r : Realization). r ∷ drop (i + 1) (realizations_of ws vs)) (realization_at ws vs i e h ∙ ap₂ (λ (w : ℕ) (v : List ℤ). record { weight = w; values = v }) weight values)
 
 -- the node m is seen as this one
-pub record Seen (p : Sealed) (m : ℕ) (n : nodes.Node) : Type 0 where
-  pub links : (node_at (problem_of p) m).links ≡ links_of n.links n.link_weights
+pub record Seen (p : Validated) (m : ℕ) (n : nodes.Node) : Type 0 where
+  pub successors : (node_at (problem_of p) m).successors ≡ successors_of n.successors n.successor_weights
   pub realizations : (node_at (problem_of p) m).realizations ≡ realizations_of n.weights n.values
   pub stop : (node_at (problem_of p) m).stop ≡ n.stop
-  pub counted : length n.link_weights ≡ length n.links
+  pub counted : length n.successor_weights ≡ length n.successors
   pub valued : length n.values ≡ length n.weights
-  pub known : list_all (λ k. nat_lt k (length p.raw.nodes)) n.links ≡ true
+  pub known : list_all (λ k. nat_lt k (length p.parts.nodes)) n.successors ≡ true
   pub some : 0 < length n.weights
   pub few : length n.weights ≤ 100
   pub light : sum n.weights ≤ 65535
@@ -64,19 +64,19 @@ pub record Seen (p : Sealed) (m : ℕ) (n : nodes.Node) : Type 0 where
 pub node_same : (a b : nodes.Node) (o : Option nodes.Node) → o ≡ Some a → o ≡ Some b → a ≡ b
 node_same a b o e f = cc
 
-pub seen : (p : Sealed) (m : ℕ) (n : nodes.Node) → is_sealed p ≡ true → m < length p.raw.nodes → slice_get p.raw.nodes m ≡ Some n → Seen p m n
+pub seen : (p : Validated) (m : ℕ) (n : nodes.Node) → is_validated p ≡ true → m < length p.parts.nodes → slice_get p.parts.nodes m ≡ Some n → Seen p m n
 seen p m n e h is =
-    let q : Parts p m = parts p m e h in
+    let q : Parts p m = parts_of_node p m e h in
     let w = weighty q.node (length q.subproblem.randoms) q.fit.realizations in
-    let l = linked q.node (length p.raw.nodes) q.fit.links in
-    subst (Seen p m) (node_same q.node n (slice_get p.raw.nodes m) q.fit.the_node is)
+    let l = linked q.node (length p.parts.nodes) q.fit.successors in
+    subst (Seen p m) (node_same q.node n (slice_get p.parts.nodes m) q.fit.the_node is)
     (record {
-      links = ap (λ (n : Node). n.links) q.fit.is ∙ links-node_of q.node q.subproblem q.low q.high;
+      successors = ap (λ (n : Node). n.successors) q.fit.is ∙ successors-node_of q.node q.subproblem q.low q.high;
       realizations = ap (λ (n : Node). n.realizations) q.fit.is ∙ realizations-node_of q.node q.subproblem q.low q.high;
       stop = ap (λ (n : Node). n.stop) q.fit.is ∙ stop-node_of q.node q.subproblem q.low q.high;
       counted = l.1;
       valued = w.3;
-      known = links_known q.node (length p.raw.nodes) q.fit.links;
+      known = successors_known q.node (length p.parts.nodes) q.fit.successors;
       some = w.0;
       few = w.1;
       light = w.2;
@@ -88,10 +88,10 @@ pub record Read (own : nodes.Node) (i w : ℕ) (v : List ℤ) : Type 0 where
   pub weight : w ≡ get_or own.weights i w
   pub values : v ≡ get_or own.values i v
 
-pub read_at : (p : Sealed) (m : ℕ) (own other : nodes.Node) (ws : List ℕ) (vs : List (List ℤ)) (i : ℕ) (r v : List ℤ) → ws ≡ own.weights → vs ≡ other.values → slice_get p.raw.nodes m ≡ Some own → slice_get p.raw.nodes m ≡ Some other
+pub read_at : (p : Validated) (m : ℕ) (own other : nodes.Node) (ws : List ℕ) (vs : List (List ℤ)) (i : ℕ) (r v : List ℤ) → ws ≡ own.weights → vs ≡ other.values → slice_get p.parts.nodes m ≡ Some own → slice_get p.parts.nodes m ≡ Some other
     → i < length ws → r ≡ get_or vs i r → v ≡ r → Read own i (get_or ws i 0) v
 read_at p m own other ws vs i r v ew ev is again h at e =
-    let values : vs ≡ own.values = ev ∙ ap (λ (n : nodes.Node). n.values) (node_same other own (slice_get p.raw.nodes m) again is) in
+    let values : vs ≡ own.values = ev ∙ ap (λ (n : nodes.Node). n.values) (node_same other own (slice_get p.parts.nodes m) again is) in
     record {
       inside = omega (arith, h, ap (λ (ks : List ℕ). length ks) ew);
       weight = get_or_default ws i 0 (get_or ws i 0) h ∙ ap (λ (ks : List ℕ). get_or ks i (get_or ws i 0)) ew;
@@ -99,7 +99,7 @@ read_at p m own other ws vs i r v ew ev is again h at e =
     }
 
 -- the values of the realization at a place
-pub realization_values : (p : Sealed) (m i : ℕ) (n : nodes.Node) (v : List ℤ) → Seen p m n → i < length n.weights → v ≡ get_or n.values i v → (get_or (node_at (problem_of p) m).realizations i no_realization).values ≡ v
+pub realization_values : (p : Validated) (m i : ℕ) (n : nodes.Node) (v : List ℤ) → Seen p m n → i < length n.weights → v ≡ get_or n.values i v → (get_or (node_at (problem_of p) m).realizations i no_realization).values ≡ v
 realization_values p m i n v s inside ev =
     ap (λ (rs : List Realization). (get_or rs i no_realization).values) s.realizations
     ∙ ap (λ (r : Realization). r.values) (realization_at n.weights n.values i s.valued inside)
@@ -111,33 +111,33 @@ pub total_of : (ws : List ℕ) → 0 < length ws → total_weight ws ≡ sum ws
 total_of [] h = absurd (omega (arith, h))
 total_of (w ∷ ws) h = refl
 
-pub realization_total : (p : Sealed) (m : ℕ) (n : nodes.Node) → Seen p m n → total_weight n.weights ≡ realization_weight (node_at (problem_of p) m)
+pub realization_total : (p : Validated) (m : ℕ) (n : nodes.Node) → Seen p m n → total_weight n.weights ≡ realization_weight (node_at (problem_of p) m)
 realization_total p m n s = total_of n.weights s.some ∙ sym (weight-realizations_of n.weights n.values (sym s.valued)) ∙ ap weight_of_realizations (sym s.realizations)
 
-successors : (stop : ℕ) (ms ws : List ℕ) → length ws ≡ length ms → successor_total stop ws ≡ weight_of_successors stop (links_of ms ws)
+successors : (stop : ℕ) (ms ws : List ℕ) → length ws ≡ length ms → successor_total stop ws ≡ weight_of_successors stop (successors_of ms ws)
 successors stop [] [] e = refl
 successors stop [] (w ∷ ws) e = absurd (omega (arith, e))
 successors stop (m ∷ ms) [] e = absurd (omega (arith, e))
-successors stop (m ∷ ms) (w ∷ ws) e = ap (λ (k : List ℕ). stop + sum k) (sym (link_weights-links_of (m ∷ ms) (w ∷ ws) (sym e)))
+successors stop (m ∷ ms) (w ∷ ws) e = ap (λ (k : List ℕ). stop + sum k) (sym (successor_weights-successors_of (m ∷ ms) (w ∷ ws) (sym e)))
 
-pub successor_sum : (p : Sealed) (m : ℕ) (n : nodes.Node) → Seen p m n → successor_total n.stop n.link_weights ≡ successor_weight (node_at (problem_of p) m)
-successor_sum p m n s = successors n.stop n.links n.link_weights s.counted ∙ ap₂ weight_of_successors (sym s.stop) (sym s.links)
+pub successor_sum : (p : Validated) (m : ℕ) (n : nodes.Node) → Seen p m n → successor_total n.stop n.successor_weights ≡ successor_weight (node_at (problem_of p) m)
+successor_sum p m n s = successors n.stop n.successors n.successor_weights s.counted ∙ ap₂ weight_of_successors (sym s.stop) (sym s.successors)
 
 -- the successors' weights are at most that of all together
-pub within_successors : (stop : ℕ) (ls : List Link) → sum (link_weights ls) ≤ weight_of_successors stop ls
+pub within_successors : (stop : ℕ) (ls : List Successor) → sum (successor_weights ls) ≤ weight_of_successors stop ls
 within_successors stop [] = omega arith
 within_successors stop (l ∷ ls) = omega arith
 
-pub links_there : (p : Sealed) (m : ℕ) (n : nodes.Node) → slice_get p.raw.nodes m ≡ Some n → successors_at p.raw m ≡ n.links
-links_there p m n is = made_at (λ (n : nodes.Node). n.links) p.raw.nodes m n [] is
+pub successors_there : (p : Validated) (m : ℕ) (n : nodes.Node) → slice_get p.parts.nodes m ≡ Some n → successors_at p.parts m ≡ n.successors
+successors_there p m n is = made_at (λ (n : nodes.Node). n.successors) p.parts.nodes m n [] is
 
 -- the values of a realization
-pub values_here : (p : Sealed) (m i : ℕ) (n : nodes.Node) (v : List ℤ) → is_sealed p ≡ true → m < length p.raw.nodes → slice_get p.raw.nodes m ≡ Some n → i < length n.weights → v ≡ get_or n.values i v → are_values (subproblem_of p m) v ≡ true
+pub values_here : (p : Validated) (m i : ℕ) (n : nodes.Node) (v : List ℤ) → is_validated p ≡ true → m < length p.parts.nodes → slice_get p.parts.nodes m ≡ Some n → i < length n.weights → v ≡ get_or n.values i v → are_values (subproblem_of p m) v ≡ true
 values_here p m i n v e h is inside ev =
     let s : Seen p m n = seen p m n e h is in
-    let step : Step = record { node = m; realization = i } in
-    let weights = made_at (λ (n : nodes.Node). n.weights) p.raw.nodes m n [] is in
-    let values = made_at (λ (n : nodes.Node). n.values) p.raw.nodes m n [] is in
-    let there : i < length (weights_at p.raw m) = subst (λ (ws : List ℕ). i < length ws) (sym weights) inside in
-    let same : values_of p.raw step ≡ v = ap (λ (vs : List (List ℤ)). get_or vs i []) values ∙ get_or_default n.values i [] v (omega (arith, inside, s.valued)) ∙ sym ev in
-    subst (λ (vs : List ℤ). are_values (subproblem_of p m) vs ≡ true) same (values-sealed p step e (h, there))
+    let step : PathStep = record { node = m; realization = i } in
+    let weights = made_at (λ (n : nodes.Node). n.weights) p.parts.nodes m n [] is in
+    let values = made_at (λ (n : nodes.Node). n.values) p.parts.nodes m n [] is in
+    let there : i < length (weights_at p.parts m) = subst (λ (ws : List ℕ). i < length ws) (sym weights) inside in
+    let same : values_of p.parts step ≡ v = ap (λ (vs : List (List ℤ)). get_or vs i []) values ∙ get_or_default n.values i [] v (omega (arith, inside, s.valued)) ∙ sym ev in
+    subst (λ (vs : List ℤ). are_values (subproblem_of p m) vs ≡ true) same (values-validated p step e (h, there))

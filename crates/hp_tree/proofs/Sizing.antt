@@ -5,15 +5,15 @@ use Rattle.std.proofs.lemmas.Bool.Decides.{nat_tests}
 use Rattle.std.proofs.lemmas.List.{drop_all}
 use Rattle.hp_num.proofs.Tests.{all_at}
 use Rattle.hp_paths.specs.Ranks.{greatest}
-use Rattle.hp_problem.specs.declared.raw.Node as nodes
-use Rattle.hp_problem.specs.declared.raw.Subproblem.{Subproblem}
-use Rattle.hp_problem.specs.Limits.{are_numbers, costs_fit, realizations_fit}
-use Rattle.hp_problem.specs.Sealed.{Sealed}
-use Rattle.hp_problem.proofs.SubproblemFacts.{costs-subproblem_fits}
+use Rattle.hp_parts.specs.declared.parts.Node as nodes
+use Rattle.hp_parts.specs.declared.parts.Subproblem.{Subproblem}
+use Rattle.hp_parts.specs.Limits.{are_numbers, costs_fit, realizations_fit}
+use Rattle.hp_problem.specs.Validated.{Validated}
+use Rattle.hp_parts.proofs.SubproblemFacts.{costs-subproblem_fits}
 use Rattle.hp_theory.specs.Problem.{Realization, node_at}
 use Rattle.hp_theory.specs.View.{node_of, realizations_of, problem_of}
-use Rattle.hp_theory.proofs.SealedParts.{PartsFit, counted, numbers_counted}
-use Rattle.hp_tree.specs.TooBig.{node_size, reaches, sizes, stage_size}
+use Rattle.hp_theory.proofs.ValidatedParts.{PartsFit, counted, numbers_counted}
+use Rattle.hp_tree.specs.TooBig.{node_size, reaches, sizes, stage_cost_size}
 use Rattle.hp_tree.proofs.Seen.{Seen}
 
 -- the greatest of numbers, of which those from i on are still to come
@@ -34,16 +34,16 @@ most_done {A} g xs cap i most h goes =
 pub four_stop : (k a b d cap : ℕ) → min (min (min (k + min a cap) cap + min b cap) cap + min d cap) cap ≡ min (k + a + b + d) cap
 four_stop k a b d cap = omega arith
 
-pub stage_size-node_of : (n : nodes.Node) (s : Subproblem) (low high values : List ℤ) (cap v : ℕ)
+pub stage_cost_size-node_of : (n : nodes.Node) (s : Subproblem) (low high values : List ℤ) (cap v : ℕ)
     → v ≡ min (min (min (nat_abs s.constant + min (sizes s.random_costs values) cap) cap + min (reaches (node_of n s low high).costs (node_of n s low high).decision_low (node_of n s low high).decision_high) cap) cap + min (reaches s.state_costs low high) cap) cap
-    → v ≡ min (stage_size (node_of n s low high) values) cap
+    → v ≡ min (stage_cost_size (node_of n s low high) values) cap
 unfolding node_of
-stage_size-node_of n s low high values cap v e = e ∙ four_stop (nat_abs s.constant) (sizes s.random_costs values) _ (reaches s.state_costs low high) cap
+stage_cost_size-node_of n s low high values cap v e = e ∙ four_stop (nat_abs s.constant) (sizes s.random_costs values) _ (reaches s.state_costs low high) cap
 
 -- the lists of a node's parts are as long as its costs
-module _ (p : Sealed) (m : ℕ) (n : nodes.Node) (s : Subproblem) (low high : List ℤ) (q : PartsFit p m n s low high) where
+module _ (p : Validated) (m : ℕ) (n : nodes.Node) (s : Subproblem) (low high : List ℤ) (q : PartsFit p m n s low high) where
   random_costs : length s.random_costs ≡ length s.randoms
-  random_costs = let costs : costs_fit (length p.raw.states) s ≡ true = costs-subproblem_fits (length p.raw.states) s q.subproblem in grind (arith, nat_tests, costs)
+  random_costs = let costs : costs_fit (length p.parts.states) s ≡ true = costs-subproblem_fits (length p.parts.states) s q.subproblem in grind (arith, nat_tests, costs)
 
   pub values_counted : (i : ℕ) → i < length n.values → length (get_or n.values i []) ≡ length s.random_costs
   values_counted i h =
@@ -52,10 +52,10 @@ module _ (p : Sealed) (m : ℕ) (n : nodes.Node) (s : Subproblem) (low high : Li
       numbers_counted (get_or n.values i []) (length s.randoms) (all_at (are_numbers (length s.randoms)) n.values i [] all h) ∙ sym random_costs
 
   pub lows_counted : length low ≡ length s.state_costs
-  lows_counted = numbers_counted low (length p.raw.states) q.lows ∙ sym (counted s (length p.raw.states) q.subproblem).0
+  lows_counted = numbers_counted low (length p.parts.states) q.lows ∙ sym (counted s (length p.parts.states) q.subproblem).0
 
   pub highs_counted : length high ≡ length s.state_costs
-  highs_counted = numbers_counted high (length p.raw.states) q.highs ∙ sym (counted s (length p.raw.states) q.subproblem).0
+  highs_counted = numbers_counted high (length p.parts.states) q.highs ∙ sym (counted s (length p.parts.states) q.subproblem).0
 
 -- over the values of realizations
 map_values : (g : List ℤ → ℕ) (ws : List ℕ) (vs : List (List ℤ)) → length vs ≡ length ws → map (λ (r : Realization). g r.values) (realizations_of ws vs) ≡ map g vs
@@ -64,7 +64,7 @@ map_values g [] (v ∷ vs) e = absurd (omega (arith, e))
 map_values g (w ∷ ws) [] e = absurd (omega (arith, e))
 map_values g (w ∷ ws) (v ∷ vs) e = ap (λ (ks : List ℕ). g v ∷ ks) (map_values g ws vs (omega (arith, e)))
 
-pub node_size-values : (p : Sealed) (m : ℕ) (n : nodes.Node) → Seen p m n → greatest (map (stage_size (node_at (problem_of p) m)) n.values) ≡ node_size (problem_of p) m
+pub node_size-values : (p : Validated) (m : ℕ) (n : nodes.Node) → Seen p m n → greatest (map (stage_cost_size (node_at (problem_of p) m)) n.values) ≡ node_size (problem_of p) m
 node_size-values p m n s =
-    let g : List ℤ → ℕ = stage_size (node_at (problem_of p) m) in
+    let g : List ℤ → ℕ = stage_cost_size (node_at (problem_of p) m) in
     ap (λ (ks : List ℕ). greatest ks) (sym (ap (λ (rs : List Realization). map (λ (r : Realization). g r.values) rs) s.realizations ∙ map_values g n.weights n.values s.valued))

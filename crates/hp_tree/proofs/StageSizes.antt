@@ -7,28 +7,28 @@ use Rattle.hp_paths.specs.Paths.{numbers}
 use Rattle.hp_paths.specs.Ranks.{greatest}
 use Rattle.hp_paths.proofs.AllRanked.{greatest_over}
 use Rattle.hp_paths.proofs.Falling.{numbered}
-use Rattle.hp_problem.specs.declared.raw.Decision.{Decision}
-use Rattle.hp_problem.specs.declared.raw.Node as nodes
-use Rattle.hp_problem.specs.declared.raw.Subproblem.{Subproblem}
-use Rattle.hp_problem.specs.Sealed.{Sealed, is_sealed}
+use Rattle.hp_parts.specs.declared.parts.Decision.{Decision}
+use Rattle.hp_parts.specs.declared.parts.Node as nodes
+use Rattle.hp_parts.specs.declared.parts.Subproblem.{Subproblem}
+use Rattle.hp_problem.specs.Validated.{Validated, is_validated}
 use Rattle.hp_theory.specs.Problem.{S, Realization, Node, node_at}
 use Rattle.hp_theory.specs.Tree.{InBox}
 use Rattle.hp_theory.specs.View.{node_of, problem_of}
-use Rattle.hp_theory.proofs.SealedParts.{Parts, parts, numbers_counted}
+use Rattle.hp_theory.proofs.ValidatedParts.{Parts, parts_of_node, numbers_counted}
 use Rattle.hp_forward.specs.Costing.{stage_cost_of}
 use Rattle.hp_cut.specs.AtNodes.{IsStateAt}
 use Rattle.hp_tree.specs.Small.{most_cost}
-use Rattle.hp_tree.specs.TooBig.{sizes, reach, reaches, stage_size, node_size, most_size}
+use Rattle.hp_tree.specs.TooBig.{sizes, box_reach, reaches, stage_cost_size, node_size, most_size}
 
 -- a number in a box, at scale S
-in_reach : (u l h : ℤ) → (pos S *ℤ l) ≤ℤ u → u ≤ℤ (pos S *ℤ h) → nat_abs u ≤ S * reach l h
+in_reach : (u l h : ℤ) → (pos S *ℤ l) ≤ℤ u → u ≤ℤ (pos S *ℤ h) → nat_abs u ≤ S * box_reach l h
 in_reach u l h p q =
     let one : nat_abs (pos S *ℤ l) ≡ S * nat_abs l = unsigned_abs-mul (pos S) l in
     let two : nat_abs (pos S *ℤ h) ≡ S * nat_abs h = unsigned_abs-mul (pos S) h in
-    let low : nat_abs l ≤ reach l h = omega arith in
-    let high : nat_abs h ≤ reach l h = omega arith in
-    let low' : S * nat_abs l ≤ S * reach l h = mul-le-mul_left S low in
-    let high' : S * nat_abs h ≤ S * reach l h = mul-le-mul_left S high in
+    let low : nat_abs l ≤ box_reach l h = omega arith in
+    let high : nat_abs h ≤ box_reach l h = omega arith in
+    let low' : S * nat_abs l ≤ S * box_reach l h = mul-le-mul_left S low in
+    let high' : S * nat_abs h ≤ S * box_reach l h = mul-le-mul_left S high in
     omega (arith, ints, one, two, low', high', p, q)
 
 sum_abs : (a b : ℤ) (x y : ℕ) → nat_abs a ≤ x → nat_abs b ≤ y → nat_abs (a +ℤ b) ≤ x + y
@@ -44,10 +44,10 @@ dot_size (c ∷ cs) [] ls hs e f p q = omega (arith, ints)
 dot_size (c ∷ cs) (u ∷ us) [] hs e f p q = absurd (omega (arith, e))
 dot_size (c ∷ cs) (u ∷ us) (l ∷ ls) [] e f p q = absurd (omega (arith, f))
 dot_size (c ∷ cs) (u ∷ us) (l ∷ ls) (h ∷ hs) e f p q =
-    let rest : nat_abs (dot cs us) ≤ S * reaches cs ls hs = dot_size cs us ls hs (omega (arith, e)) (omega (arith, f)) (λ k i. p (suc k) (omega (arith, i))) (λ k i. q (suc k) (omega (arith, i))) in
-    let own : nat_abs u ≤ S * reach l h = in_reach u l h (p 0 (omega arith)) (q 0 (omega arith)) in
-    let one : nat_abs (c *ℤ u) ≤ nat_abs c * (S * reach l h) = product_abs c u (S * reach l h) own in
-    omega (arith, sum_abs (c *ℤ u) (dot cs us) (nat_abs c * (S * reach l h)) (S * reaches cs ls hs) one rest)
+    let tail : nat_abs (dot cs us) ≤ S * reaches cs ls hs = dot_size cs us ls hs (omega (arith, e)) (omega (arith, f)) (λ k i. p (suc k) (omega (arith, i))) (λ k i. q (suc k) (omega (arith, i))) in
+    let own : nat_abs u ≤ S * box_reach l h = in_reach u l h (p 0 (omega arith)) (q 0 (omega arith)) in
+    let one : nat_abs (c *ℤ u) ≤ nat_abs c * (S * box_reach l h) = product_abs c u (S * box_reach l h) own in
+    omega (arith, sum_abs (c *ℤ u) (dot cs us) (nat_abs c * (S * box_reach l h)) (S * reaches cs ls hs) one tail)
 
 -- costs of values
 values_size : (cs zs : List ℤ) → nat_abs (dot cs zs) ≤ sizes cs zs
@@ -64,13 +64,13 @@ counted-node_of : (n : nodes.Node) (s : Subproblem) (low high : List ℤ) → le
 unfolding node_of
 counted-node_of n s low high e = record { decisions = length-map s.decisions (λ (d : Decision). d.high) ∙ sym (length-map s.decisions (λ (d : Decision). d.low)); states = e }
 
-counted-sealed : (p : Sealed) (m : ℕ) → is_sealed p ≡ true → m < length p.raw.nodes → Counted (node_at (problem_of p) m)
-counted-sealed p m e h =
-    let q : Parts p m = parts p m e h in
+counted-validated : (p : Validated) (m : ℕ) → is_validated p ≡ true → m < length p.parts.nodes → Counted (node_at (problem_of p) m)
+counted-validated p m e h =
+    let q : Parts p m = parts_of_node p m e h in
     subst (λ (n : Node). Counted n) (sym q.fit.is)
-    (counted-node_of q.node q.subproblem q.low q.high (numbers_counted q.high (length p.raw.states) q.fit.highs ∙ sym (numbers_counted q.low (length p.raw.states) q.fit.lows)))
+    (counted-node_of q.node q.subproblem q.low q.high (numbers_counted q.high (length p.parts.states) q.fit.highs ∙ sym (numbers_counted q.low (length p.parts.states) q.fit.lows)))
 
-stage_within : (n : Node) (u x values : List ℤ) → Counted n → InBox S n.decision_low n.decision_high u → InBox S n.low n.high x → nat_abs (stage_cost_of n u x values) ≤ S * stage_size n values
+stage_within : (n : Node) (u x values : List ℤ) → Counted n → InBox S n.decision_low n.decision_high u → InBox S n.low n.high x → nat_abs (stage_cost_of n u x values) ≤ S * stage_cost_size n values
 unfolding stage_cost_of
 stage_within n u x values c b d =
     let constant : nat_abs (pos S *ℤ n.constant) ≡ S * nat_abs n.constant = unsigned_abs-mul (pos S) n.constant in
@@ -89,19 +89,19 @@ in_greatest f [] i d h = absurd (omega (arith, h))
 in_greatest f (r ∷ rs) zero d h = omega arith
 in_greatest f (r ∷ rs) (suc i) d h = omega (arith, in_greatest f rs i d (omega (arith, h)))
 
-node_within : (p : Sealed) (m : ℕ) → m < length p.raw.nodes → node_size (problem_of p) m ≤ most_size p
+node_within : (p : Validated) (m : ℕ) → m < length p.parts.nodes → node_size (problem_of p) m ≤ most_size p
 unfolding most_size
-node_within p m h = greatest_over (node_size (problem_of p)) (numbers (length p.raw.nodes)) m (numbered (length p.raw.nodes) m h)
+node_within p m h = greatest_over (node_size (problem_of p)) (numbers (length p.parts.nodes)) m (numbered (length p.parts.nodes) m h)
 
 -- the cost of a branch's stage
-pub branch_within : (p : Sealed) (m i : ℕ) (d : Realization) (u x : List ℤ) → is_sealed p ≡ true → m < length p.raw.nodes → i < length (node_at (problem_of p) m).realizations → IsStateAt p m x
+pub branch_within : (p : Validated) (m i : ℕ) (d : Realization) (u x : List ℤ) → is_validated p ≡ true → m < length p.parts.nodes → i < length (node_at (problem_of p) m).realizations → IsStateAt p m x
     → InBox S (node_at (problem_of p) m).decision_low (node_at (problem_of p) m).decision_high u
     → nat_abs (stage_cost_of (node_at (problem_of p) m) u x (get_or (node_at (problem_of p) m).realizations i d).values) ≤ most_cost p 1
 branch_within p m i d u x e h l state box =
     let n : Node = node_at (problem_of p) m in
     let r : Realization = get_or n.realizations i d in
-    let own = stage_within n u x r.values (counted-sealed p m e h) box state in
-    let here : stage_size n r.values ≤ node_size (problem_of p) m = in_greatest (λ (r : Realization). stage_size n r.values) n.realizations i d l in
-    let all : stage_size n r.values ≤ 1 * most_size p = omega (arith, here, node_within p m h) in
-    let scaled : S * stage_size n r.values ≤ S * (1 * most_size p) = mul-le-mul_left S all in
+    let own = stage_within n u x r.values (counted-validated p m e h) box state in
+    let here : stage_cost_size n r.values ≤ node_size (problem_of p) m = in_greatest (λ (r : Realization). stage_cost_size n r.values) n.realizations i d l in
+    let all : stage_cost_size n r.values ≤ 1 * most_size p = omega (arith, here, node_within p m h) in
+    let scaled : S * stage_cost_size n r.values ≤ S * (1 * most_size p) = mul-le-mul_left S all in
     omega (arith, own, scaled)

@@ -6,83 +6,83 @@ use Rattle.std.proofs.lemmas.Bool.Decides.{nat_tests}
 use Rattle.std.proofs.lemmas.List.{get_or_default}
 use Rattle.std.proofs.lemmas.List.Elements.{All-drop}
 use Rattle.hp_num.proofs.Tests.{all_at}
-use Rattle.hp_problem.specs.declared.raw.Node as nodes
-use Rattle.hp_problem.specs.Sealed.{Sealed, is_sealed}
-use Rattle.hp_theory.specs.Problem.{Realization, Link, Node, node_at, link_weights, realization_weight, weight_of_realizations}
-use Rattle.hp_theory.specs.View.{links_of, problem_of}
-use Rattle.hp_theory.proofs.Views.{All-links_of, length-links_of}
+use Rattle.hp_parts.specs.declared.parts.Node as nodes
+use Rattle.hp_problem.specs.Validated.{Validated, is_validated}
+use Rattle.hp_theory.specs.Problem.{Realization, Successor, Node, node_at, successor_weights, realization_weight, weight_of_realizations}
+use Rattle.hp_theory.specs.View.{successors_of, problem_of}
+use Rattle.hp_theory.proofs.Views.{All-successors_of, length-successors_of}
 use Rattle.hp_tree.specs.declared.costs.Walked.{Walked}
 use Rattle.hp_tree.specs.declared.walking.Fault.{Fault}
 use Rattle.hp_tree.specs.PolicyTree.{Deciding, Stop}
-use Rattle.hp_tree.specs.Costs.{add_branch, add_cost, branch_cost, branch_costs, link_costs, no_cost}
-use Rattle.hp_tree.specs.Small.{AddsUp, IsCost, IsSmall, link_branches, link_denominator}
+use Rattle.hp_tree.specs.Costs.{add_branch, add_cost, branch_cost, branch_costs, successor_costs, no_cost}
+use Rattle.hp_tree.specs.Small.{AddsUp, IsCost, IsSmall, successor_branches, successor_denominator}
 use Rattle.hp_tree.specs.TooBig.{branches, denominator}
-use Rattle.hp_tree.specs.Verdicts.{Stops}
-use Rattle.hp_tree.proofs.Adding.{LinksGo, link_adds, link_next, link_small, link_stops, links_last}
+use Rattle.hp_tree.specs.Verdicts.{VerdictStops}
+use Rattle.hp_tree.proofs.Adding.{SuccessorsGo, successor_adds, successor_next, successor_small, successor_stops, successors_last}
 use Rattle.hp_tree.proofs.Branching.{BranchesGo, branch_next, branch_small_here, branch_stops, branch_weighted, branch_whole, branches_last}
 use Rattle.hp_tree.proofs.Faults.{stops_on}
 use Rattle.hp_tree.proofs.Positive.{dens, dens_some}
-use Rattle.hp_tree.proofs.Seen.{Read, Seen, length-realizations_of, link_here, realization_here}
+use Rattle.hp_tree.proofs.Seen.{Read, Seen, length-realizations_of, successor_here, realization_here}
 
 less : (m n : ℕ) → nat_lt m n ≡ true → m < n
 less m n e = grind (arith, nat_tests)
 
-links_known : (count : ℕ) (ms ws : List ℕ) → length ws ≡ length ms → list_all (λ m. nat_lt m count) ms ≡ true → All (λ (l : Link). l.node < count) (links_of ms ws)
-links_known count ms ws e h = All-links_of (λ (l : Link). l.node < count) ms ws e (λ i inside. less (get_or ms i 0) count (all_at (λ m. nat_lt m count) ms i 0 h inside))
+successors_known : (count : ℕ) (ms ws : List ℕ) → length ws ≡ length ms → list_all (λ m. nat_lt m count) ms ≡ true → All (λ (l : Successor). l.node < count) (successors_of ms ws)
+successors_known count ms ws e h = All-successors_of (λ (l : Successor). l.node < count) ms ws e (λ i inside. less (get_or ms i 0) count (all_at (λ m. nat_lt m count) ms i 0 h inside))
 
 -- a step of the loop through successors
-module _ (p : Sealed) (e : is_sealed p ≡ true) (n k : ℕ) (go : ℕ → ℕ → Result Walked Stop) (ms ws : List ℕ) (known : list_all (λ m. nat_lt m (length p.raw.nodes)) ms ≡ true) (counted : length ws ≡ length ms)
-    (small : IsSmall p n (link_denominator p n (links_of ms ws)) (sum (link_weights (links_of ms ws))) k (link_branches p n (links_of ms ws))) (i : ℕ) (inside : i < length ms) (total : Walked)
-    (h : LinksGo p n k go (links_of ms ws) (drop i (links_of ms ws)) total) where
+module _ (p : Validated) (e : is_validated p ≡ true) (n k : ℕ) (go : ℕ → ℕ → Result Walked Stop) (ms ws : List ℕ) (known : list_all (λ m. nat_lt m (length p.parts.nodes)) ms ≡ true) (counted : length ws ≡ length ms)
+    (small : IsSmall p n (successor_denominator p n (successors_of ms ws)) (sum (successor_weights (successors_of ms ws))) k (successor_branches p n (successors_of ms ws))) (i : ℕ) (inside : i < length ms) (total : Walked)
+    (h : SuccessorsGo p n k go (successors_of ms ws) (drop i (successors_of ms ws)) total) where
   abbrev m : ℕ
   m = get_or ms i 0
 
   abbrev w : ℕ
   w = get_or ws i 0
 
-  abbrev rest : List Link
-  rest = drop (i + 1) (links_of ms ws)
+  abbrev tail : List Successor
+  tail = drop (i + 1) (successors_of ms ws)
 
-  abbrev link : Link
-  link = record { node = m; weight = w }
+  abbrev successor : Successor
+  successor = record { node = m; weight = w }
 
-  split : drop i (links_of ms ws) ≡ link ∷ rest
-  split = link_here ms ws i m w counted inside (get_or_default ms i 0 m inside) (get_or_default ws i 0 w (omega (arith, inside, counted)))
+  split : drop i (successors_of ms ws) ≡ successor ∷ tail
+  split = successor_here ms ws i m w counted inside (get_or_default ms i 0 m inside) (get_or_default ws i 0 w (omega (arith, inside, counted)))
 
-  here : LinksGo p n k go (links_of ms ws) (link ∷ rest) total
-  here = subst (λ (ls : List Link). LinksGo p n k go (links_of ms ws) ls total) split h
+  here : SuccessorsGo p n k go (successors_of ms ws) (successor ∷ tail) total
+  here = subst (λ (ls : List Successor). SuccessorsGo p n k go (successors_of ms ws) ls total) split h
 
-  some : All (λ b. 0 < b) (dens p n (link ∷ rest))
+  some : All (λ b. 0 < b) (dens p n (successor ∷ tail))
   some =
-      dens_some p e n (link ∷ rest)
-      (subst (λ (ls : List Link). All (λ (l : Link). l.node < length p.raw.nodes) ls) split (All-drop (λ (l : Link). l.node < length p.raw.nodes) i (links_of ms ws) (links_known (length p.raw.nodes) ms ws counted known)))
+      dens_some p e n (successor ∷ tail)
+      (subst (λ (ls : List Successor). All (λ (l : Successor). l.node < length p.parts.nodes) ls) split (All-drop (λ (l : Successor). l.node < length p.parts.nodes) i (successors_of ms ws) (successors_known (length p.parts.nodes) ms ws counted known)))
 
   pub step_small : IsSmall p n (denominator (problem_of p) n m) 1 total.decided (branches (problem_of p) n m)
-  step_small = link_small p n k go (links_of ms ws) link rest total total here some small
+  step_small = successor_small p n k go (successors_of ms ws) successor tail total total here some small
 
-  pub step_known : m < length p.raw.nodes
-  step_known = less m (length p.raw.nodes) (all_at (λ m. nat_lt m (length p.raw.nodes)) ms i 0 known inside)
+  pub step_known : m < length p.parts.nodes
+  step_known = less m (length p.parts.nodes) (all_at (λ m. nat_lt m (length p.parts.nodes)) ms i 0 known inside)
 
   pub step_adds : (c : Walked) → IsCost p n (denominator (problem_of p) n m) 1 (total.decided + branches (problem_of p) n m) c → AddsUp total w c
-  step_adds c is = link_adds p n k go (links_of ms ws) link rest total c here some small is
+  step_adds c is = successor_adds p n k go (successors_of ms ws) successor tail total c here some small is
 
-  pub step_next : (c next : Walked) → IsCost p n (denominator (problem_of p) n m) 1 (total.decided + branches (problem_of p) n m) c → go total.decided m ≡ Ok c → next ≡ add_cost total w c → LinksGo p n k go (links_of ms ws) (drop (i + 1) (links_of ms ws)) next
-  step_next c next is e same = subst (λ (s : Walked). LinksGo p n k go (links_of ms ws) rest s) (sym same) (link_next p n k go (links_of ms ws) link rest total c here some small is e)
+  pub step_next : (c next : Walked) → IsCost p n (denominator (problem_of p) n m) 1 (total.decided + branches (problem_of p) n m) c → go total.decided m ≡ Ok c → next ≡ add_cost total w c → SuccessorsGo p n k go (successors_of ms ws) (drop (i + 1) (successors_of ms ws)) next
+  step_next c next is e same = subst (λ (s : Walked). SuccessorsGo p n k go (successors_of ms ws) tail s) (sym same) (successor_next p n k go (successors_of ms ws) successor tail total c here some small is e)
 
-  pub step_stops : (s : Stop) → go total.decided m ≡ Err s → link_costs go (no_cost k) (links_of ms ws) ≡ Err s
-  step_stops s e = link_stops p n k go (links_of ms ws) link rest total total here some small s e
+  pub step_stops : (s : Stop) → go total.decided m ≡ Err s → successor_costs go (no_cost k) (successors_of ms ws) ≡ Err s
+  step_stops s e = successor_stops p n k go (successors_of ms ws) successor tail total total here some small s e
 
-  pub step_fault : (f : Fault) → Stops f (go total.decided m) → Stops f (link_costs go (no_cost k) (links_of ms ws))
-  step_fault f e = stops_on f (go total.decided m) (link_costs go (no_cost k) (links_of ms ws)) step_stops e
+  pub step_fault : (f : Fault) → VerdictStops f (go total.decided m) → VerdictStops f (successor_costs go (no_cost k) (successors_of ms ws))
+  step_fault f e = stops_on f (go total.decided m) (successor_costs go (no_cost k) (successors_of ms ws)) step_stops e
 
-pub steps_last : (p : Sealed) (n k : ℕ) (go : ℕ → ℕ → Result Walked Stop) (ms ws : List ℕ) (i : ℕ) (total : Walked) → length ws ≡ length ms → length ms ≤ i → LinksGo p n k go (links_of ms ws) (drop i (links_of ms ws)) total
-    → (link_costs go (no_cost k) (links_of ms ws) ≡ Ok total) × IsCost p n (link_denominator p n (links_of ms ws)) (sum (link_weights (links_of ms ws))) (k + link_branches p n (links_of ms ws)) total
+pub steps_last : (p : Validated) (n k : ℕ) (go : ℕ → ℕ → Result Walked Stop) (ms ws : List ℕ) (i : ℕ) (total : Walked) → length ws ≡ length ms → length ms ≤ i → SuccessorsGo p n k go (successors_of ms ws) (drop i (successors_of ms ws)) total
+    → (successor_costs go (no_cost k) (successors_of ms ws) ≡ Ok total) × IsCost p n (successor_denominator p n (successors_of ms ws)) (sum (successor_weights (successors_of ms ws))) (k + successor_branches p n (successors_of ms ws)) total
 steps_last p n k go ms ws i total counted past h =
-    let all : LinksGo p n k go (links_of ms ws) [] total = subst (λ (ls : List Link). LinksGo p n k go (links_of ms ws) ls total) (drop_of_length-le (links_of ms ws) (omega (arith, past, length-links_of ms ws counted))) h in
-    (sym all.value, links_last p n k go (links_of ms ws) total all)
+    let all : SuccessorsGo p n k go (successors_of ms ws) [] total = subst (λ (ls : List Successor). SuccessorsGo p n k go (successors_of ms ws) ls total) (drop_of_length-le (successors_of ms ws) (omega (arith, past, length-successors_of ms ws counted))) h in
+    (sym all.value, successors_last p n k go (successors_of ms ws) total all)
 
 -- a step of the loop through branches
-module _ (p : Sealed) (n U j k : ℕ) (decide : Deciding) (go : List ℤ → ℕ → ℕ → Result Walked Stop) (m : ℕ) (x : List ℤ) (read : nodes.Node) (q : Seen p m read)
+module _ (p : Validated) (n U j k : ℕ) (decide : Deciding) (go : List ℤ → ℕ → ℕ → Result Walked Stop) (m : ℕ) (x : List ℤ) (read : nodes.Node) (q : Seen p m read)
     (small : IsSmall p n U (realization_weight (node_at (problem_of p) m)) k (length (node_at (problem_of p) m).realizations * j)) (i w : ℕ) (v : List ℤ) (r : Read read i w v) (total : Walked)
     (h : BranchesGo p n U j k decide go (node_at (problem_of p) m) m x (node_at (problem_of p) m).realizations (drop i (node_at (problem_of p) m).realizations) i total) where
   abbrev node : Node
@@ -121,17 +121,17 @@ module _ (p : Sealed) (n U j k : ℕ) (decide : Deciding) (go : List ℤ → ℕ
   pub adds_stops : (s : Stop) → branch_cost decide go node total.decided (record { node = m; realization = i }) v x ≡ Err s → branch_costs decide go node m (no_cost k) 0 node.realizations x ≡ Err s
   adds_stops s e = branch_stops p n U j k decide go node m x node.realizations own left i total total now small s e
 
-  pub adds_fault : (f : Fault) → Stops f (branch_cost decide go node total.decided (record { node = m; realization = i }) v x) → Stops f (branch_costs decide go node m (no_cost k) 0 node.realizations x)
+  pub adds_fault : (f : Fault) → VerdictStops f (branch_cost decide go node total.decided (record { node = m; realization = i }) v x) → VerdictStops f (branch_costs decide go node m (no_cost k) 0 node.realizations x)
   adds_fault f e = stops_on f (branch_cost decide go node total.decided (record { node = m; realization = i }) v x) (branch_costs decide go node m (no_cost k) 0 node.realizations x) adds_stops e
 
-branches_end : (p : Sealed) (n U j k : ℕ) (decide : Deciding) (go : List ℤ → ℕ → ℕ → Result Walked Stop) (node : Node) (m : ℕ) (x : List ℤ) (i : ℕ) (total : Walked) → 0 < i → length node.realizations ≤ i → BranchesGo p n U j k decide go node m x node.realizations (drop i node.realizations) i total
+branches_end : (p : Validated) (n U j k : ℕ) (decide : Deciding) (go : List ℤ → ℕ → ℕ → Result Walked Stop) (node : Node) (m : ℕ) (x : List ℤ) (i : ℕ) (total : Walked) → 0 < i → length node.realizations ≤ i → BranchesGo p n U j k decide go node m x node.realizations (drop i node.realizations) i total
     → (branch_costs decide go node m (no_cost k) 0 node.realizations x ≡ Ok total) × IsCost p n U (weight_of_realizations node.realizations) (k + length node.realizations * j) total
 branches_end p n U j k decide go node m x i total some past h =
     let all : BranchesGo p n U j k decide go node m x node.realizations [] i total = subst (λ (rs : List Realization). BranchesGo p n U j k decide go node m x node.realizations rs i total) (drop_of_length-le node.realizations past) h in
     (sym all.value, branches_last p n U j k decide go node m x node.realizations i total some all)
 
 -- the end of the loop through branches, by the weights that code reads
-pub branches_ended : (p : Sealed) (n U j k : ℕ) (decide : Deciding) (go : List ℤ → ℕ → ℕ → Result Walked Stop) (m : ℕ) (x : List ℤ) (own : nodes.Node) (ws : List ℕ) (i : ℕ) (total : Walked) → Seen p m own → ws ≡ own.weights → length ws ≤ i
+pub branches_ended : (p : Validated) (n U j k : ℕ) (decide : Deciding) (go : List ℤ → ℕ → ℕ → Result Walked Stop) (m : ℕ) (x : List ℤ) (own : nodes.Node) (ws : List ℕ) (i : ℕ) (total : Walked) → Seen p m own → ws ≡ own.weights → length ws ≤ i
     → BranchesGo p n U j k decide go (node_at (problem_of p) m) m x (node_at (problem_of p) m).realizations (drop i (node_at (problem_of p) m).realizations) i total
     → (branch_costs decide go (node_at (problem_of p) m) m (no_cost k) 0 (node_at (problem_of p) m).realizations x ≡ Ok total) × IsCost p n U (realization_weight (node_at (problem_of p) m)) (k + length (node_at (problem_of p) m).realizations * j) total
 branches_ended p n U j k decide go m x own ws i total q weights past h =

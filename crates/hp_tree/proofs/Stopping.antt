@@ -31,8 +31,8 @@ pub sum_stops : (f g : ℕ → ℕ) (cap : ℕ) (ks : List ℕ) → ((k : ℕ) �
 sum_stops f g cap [] h = refl
 sum_stops f g cap (k ∷ ks) h =
     let first : f k ≡ min (g k) cap = h k (0, omega arith, refl) in
-    let rest : min (sum (map f ks)) cap ≡ min (sum (map g ks)) cap = sum_stops f g cap ks (λ i c. h i (suc c.0, omega (arith, c.1), c.2)) in
-    omega (arith, first, rest, sum_by-cons (λ i. i) (f k) (map f ks), sum_by-cons (λ i. i) (g k) (map g ks))
+    let tail : min (sum (map f ks)) cap ≡ min (sum (map g ks)) cap = sum_stops f g cap ks (λ i c. h i (suc c.0, omega (arith, c.1), c.2)) in
+    omega (arith, first, tail, sum_by-cons (λ i. i) (f k) (map f ks), sum_by-cons (λ i. i) (g k) (map g ks))
 
 pub all_positive : (f : ℕ → ℕ) (ks : List ℕ) → ((k : ℕ) → Contains ks k → 0 < f k) → All (λ b. 0 < b) (map f ks)
 all_positive f [] h = All-nil (λ b. 0 < b)
@@ -64,10 +64,10 @@ multiples_stop f g a cap (k ∷ ks) h some e = by (cases_lt (g k) cap) (multiple
     positive = omega (arith, here.0, here.1, some)
 
     by : (g k < cap) ⊎ (cap ≤ g k) → min (lcm_all (lcm a (g k)) (map f ks)) cap ≡ min (lcm_all (lcm a (g k)) (map g ks)) cap → min (lcm_all (lcm a (f k)) (map f ks)) cap ≡ min (lcm_all (lcm a (g k)) (map g ks)) cap
-    by (inl l) rest =
+    by (inl l) tail =
         let same : f k ≡ g k = omega (arith, here.0) in
-        ap (λ (b : ℕ). min (lcm_all (lcm a b) (map f ks)) cap) same ∙ rest
-    by (inr l) rest =
+        ap (λ (b : ℕ). min (lcm_all (lcm a b) (map f ks)) cap) same ∙ tail
+    by (inr l) tail =
         let full : f k ≡ cap = omega (arith, here.0) in
         let left : lcm a (f k) ≤ lcm_all (lcm a (f k)) (map f ks) = lcm_all_least (lcm a (f k)) (map f ks) (lcm_positive a (f k) h positive) (all_positive f ks (λ i c. let q = later i c in omega (arith, q.0, q.1, some))) in
         let right : lcm a (g k) ≤ lcm_all (lcm a (g k)) (map g ks) = lcm_all_least (lcm a (g k)) (map g ks) (lcm_positive a (g k) h here.1) (all_positive g ks (λ i c. (later i c).1)) in

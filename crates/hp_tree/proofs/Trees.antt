@@ -1,19 +1,19 @@
 -- The tree of a node, by its branches, as code reads them.
 use Rattle.std.proofs.Common.{◌≡◌, ◌∙◌, ℕ, suc, ◌+◌, ◌-◌, ◌*◌, ◌<◌, ◌≤◌, ◌^◌, true, List, length, sum, Some, slice_get, sym, ap, subst}
-use Rattle.hp_problem.specs.declared.raw.Node as nodes
+use Rattle.hp_parts.specs.declared.parts.Node as nodes
 use Rattle.hp_problem.specs.Formulas.{total_weight}
-use Rattle.hp_problem.specs.Sealed.{Sealed, is_sealed}
+use Rattle.hp_problem.specs.Validated.{Validated, is_validated}
 use Rattle.hp_theory.specs.Problem.{Node, Problem, node_at, realization_weight, successor_weight}
 use Rattle.hp_theory.specs.View.{problem_of}
-use Rattle.hp_theory.proofs.SealedPremises.{known-sealed}
+use Rattle.hp_theory.proofs.ValidatedPremises.{known-validated}
 use Rattle.hp_tree.specs.declared.costs.Walked.{Walked}
 use Rattle.hp_tree.specs.Costs.{share}
-use Rattle.hp_tree.specs.Small.{IsCost, IsSmall, link_branches, link_denominator}
+use Rattle.hp_tree.specs.Small.{IsCost, IsSmall, successor_branches, successor_denominator}
 use Rattle.hp_tree.specs.TooBig.{branches, denominator}
 use Rattle.hp_tree.proofs.Branching.{share_cost, share_fits, tree_small}
 use Rattle.hp_tree.proofs.Seen.{Seen, realization_total, seen}
 
-module _ (p : Sealed) (e : is_sealed p ≡ true) (m : ℕ) (known : m < length p.raw.nodes) (k decided : ℕ) (one : k ≡ suc (k - 1)) where
+module _ (p : Validated) (e : is_validated p ≡ true) (m : ℕ) (known : m < length p.parts.nodes) (k decided : ℕ) (one : k ≡ suc (k - 1)) where
   abbrev P : Problem
   P = problem_of p
 
@@ -22,19 +22,19 @@ module _ (p : Sealed) (e : is_sealed p ≡ true) (m : ℕ) (known : m < length p
 
   -- the branches of the tree stand over this number, and are so many
   abbrev under : ℕ
-  under = successor_weight n * link_denominator p (k - 1) n.links
+  under = successor_weight n * successor_denominator p (k - 1) n.successors
 
   abbrev count : ℕ
-  count = length n.realizations * (1 + link_branches p (k - 1) n.links)
+  count = length n.realizations * (1 + successor_branches p (k - 1) n.successors)
 
   abbrev IsLittle : Type 0
   IsLittle = IsSmall p k (denominator P k m) 1 decided (branches P k m)
 
   pub tree_less : IsLittle → IsSmall p (suc (k - 1)) under (realization_weight n) decided count
-  tree_less small = tree_small p (k - 1) m decided ((known-sealed p e).realizations m known) (subst (λ (i : ℕ). IsSmall p i (denominator P i m) 1 decided (branches P i m)) one small)
+  tree_less small = tree_small p (k - 1) m decided ((known-validated p e).realizations m known) (subst (λ (i : ℕ). IsSmall p i (denominator P i m) 1 decided (branches P i m)) one small)
 
   -- over the weights of the branches, as they were read
-  module _ (own : nodes.Node) (is : slice_get p.raw.nodes m ≡ Some own) (ws : List ℕ) (weights : ws ≡ own.weights) where
+  module _ (own : nodes.Node) (is : slice_get p.parts.nodes m ≡ Some own) (ws : List ℕ) (weights : ws ≡ own.weights) where
     q : Seen p m own
     q = seen p m own e known is
 

@@ -1,12 +1,12 @@
 -- The cost of the tree while it is walked through, over the least common denominator.
 use Rattle.std.specs.Prelude.{ℕ, zero, suc, ◌*◌, ◌/◌, ℤ, pos, ◌+ℤ◌, ◌*ℤ◌, List, [], ◌∷◌, Result, Ok, sum}
 use Rattle.hp_num.specs.Steps.{◌>>=◌}
-use Rattle.hp_theory.specs.Problem.{S, Realization, Link, Node, Problem, node_at, link_weights, realization_weight, successor_weight}
+use Rattle.hp_theory.specs.Problem.{S, Realization, Successor, Node, Problem, node_at, successor_weights, realization_weight, successor_weight}
 use Rattle.hp_theory.specs.Tree.{times_all}
-use Rattle.hp_sampler.specs.declared.steps.Step.{Step}
+use Rattle.hp_sampler.specs.declared.steps.PathStep.{PathStep}
 use Rattle.hp_forward.specs.Costing.{stage_cost_of}
 use Rattle.hp_tree.specs.Multiples.{gcd, lcm}
-use Rattle.hp_tree.specs.PolicyTree.{Deciding, Stop, behind}
+use Rattle.hp_tree.specs.PolicyTree.{Deciding, Stop, stop_behind}
 use Rattle.hp_tree.specs.declared.costs.Walked.{Walked}
 
 -- no cost, after so many branches
@@ -22,17 +22,17 @@ add_cost sum weight w = record {
 }
 
 -- the costs of successors, times their weights
-abbrev pub link_costs : (ℕ → ℕ → Result Walked Stop) → Walked → List Link → Result Walked Stop
-link_costs go sum [] = Ok sum
-link_costs go sum (l ∷ ls) = go sum.decided l.node >>= λ w. link_costs go (add_cost sum l.weight w) ls
+abbrev pub successor_costs : (ℕ → ℕ → Result Walked Stop) → Walked → List Successor → Result Walked Stop
+successor_costs go sum [] = Ok sum
+successor_costs go sum (l ∷ ls) = go sum.decided l.node >>= λ w. successor_costs go (add_cost sum l.weight w) ls
 
 -- the cost of a stage, and behind it the successors by their weight of q together
 abbrev pub add_stage : ℕ → ℤ → Walked → Walked
 add_stage q cost w = record { up = pos (q * w.under) *ℤ cost +ℤ w.up; under = q * w.under; decided = w.decided }
 
-abbrev pub branch_cost : Deciding → (List ℤ → ℕ → ℕ → Result Walked Stop) → Node → ℕ → Step → List ℤ → List ℤ → Result Walked Stop
+abbrev pub branch_cost : Deciding → (List ℤ → ℕ → ℕ → Result Walked Stop) → Node → ℕ → PathStep → List ℤ → List ℤ → Result Walked Stop
 branch_cost decide go n decided s values x =
-    decide decided s values x >>= λ d. behind s (link_costs (go d.next) (no_cost (suc decided)) n.links) >>= λ w. Ok (add_stage (successor_weight n) (stage_cost_of n d.decisions x values) w)
+    decide decided s values x >>= λ d. stop_behind s (successor_costs (go d.next) (no_cost (suc decided)) n.successors) >>= λ w. Ok (add_stage (successor_weight n) (stage_cost_of n d.decisions x values) w)
 
 -- all branches of a node stand over the same number
 abbrev pub add_branch : Walked → ℕ → Walked → Walked
@@ -55,4 +55,4 @@ tree_cost decide p (suc n) x decided m =
 
 -- the cost of the whole policy
 abbrev pub root_cost : Deciding → Problem → ℕ → Result Walked Stop
-root_cost decide p n = link_costs (tree_cost decide p n (times_all S p.initial)) (no_cost 0) p.root >>= λ w. Ok (share (sum (link_weights p.root)) w)
+root_cost decide p n = successor_costs (tree_cost decide p n (times_all S p.initial)) (no_cost 0) p.root >>= λ w. Ok (share (sum (successor_weights p.root)) w)

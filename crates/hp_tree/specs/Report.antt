@@ -1,18 +1,18 @@
 -- The report of a verdict.
 use Rattle.std.specs.Prelude.{ℕ, pos, List, ◌++◌, codes}
 use Rattle.std.specs.List.{flat_map}
-use Rattle.hp_problem.specs.Sealed.{Sealed}
+use Rattle.hp_problem.specs.Validated.{Validated}
 use Rattle.hp_theory.specs.declared.cut.Cut.{Cut}
 use Rattle.hp_theory.specs.Bound.{bound}
 use Rattle.hp_theory.specs.View.{problem_of}
-use Rattle.hp_sampler.specs.declared.steps.Step.{Step}
+use Rattle.hp_sampler.specs.declared.steps.PathStep.{PathStep}
 use Rattle.hp_report.specs.Report.{bound_line, head_text, word}
 use Rattle.hp_report.specs.Traces.{row_line}
 use Rattle.hp_tree.specs.declared.walking.Verdict.{Verdict}
 use Rattle.hp_tree.specs.declared.walking.Verdict.TheVariants.{Cost, Missed}
 
 -- a node and its realization
-abbrev pub branch_line : Step → List ℕ
+abbrev pub branch_line : PathStep → List ℕ
 branch_line s = codes "branch" ++ word (pos s.node) ++ word (pos s.realization) ++ codes "\n"
 
 -- the cost of the policy from above; or the branches from the root to the one that misses a row, and that row's residual
@@ -21,5 +21,5 @@ verdict_lines (Cost upper) = codes "upper" ++ word upper ++ codes "\n"
 verdict_lines (Missed branches row residual) = flat_map branch_line branches ++ row_line row residual
 
 -- the report of a verdict: its lines, and the bound over the pools
-unfoldable pub verdict_text : Sealed → List (List Cut) → Verdict → List ℕ
-verdict_text p pools verdict = head_text p.raw ++ verdict_lines verdict ++ bound_line (bound (problem_of p) pools)
+unfoldable pub verdict_text : Validated → List (List Cut) → Verdict → List ℕ
+verdict_text p pools verdict = head_text p.parts ++ verdict_lines verdict ++ bound_line (bound (problem_of p) pools)

@@ -1,33 +1,33 @@
 -- Bounds that keep the costs of a walk through the tree inside 128 bits, and the facts that such a walk keeps.
 use Rattle.std.specs.Prelude.{◌≡◌, ℕ, ◌+◌, ◌*◌, ◌/◌, ◌<◌, ◌≤◌, ◌^◌, pos, ◌+ℤ◌, ◌*ℤ◌, nat_abs, List, map, sum, FitsSigned}
 use Rattle.std.specs.Int.{w128}
-use Rattle.hp_problem.specs.Sealed.{Sealed}
-use Rattle.hp_theory.specs.Problem.{S, Link}
+use Rattle.hp_problem.specs.Validated.{Validated}
+use Rattle.hp_theory.specs.Problem.{S, Successor}
 use Rattle.hp_theory.specs.View.{problem_of}
 use Rattle.hp_tree.specs.Multiples.{gcd, lcm, lcm_all}
 use Rattle.hp_tree.specs.TooBig.{branches, denominator, most_size}
 use Rattle.hp_tree.specs.declared.costs.Walked.{Walked}
 
 -- the most that a tree of n stages costs, in absolute value and at scale 2^24
-abbrev pub most_cost : Sealed → ℕ → ℕ
+abbrev pub most_cost : Validated → ℕ → ℕ
 most_cost p n = S * (n * most_size p)
 
 -- the number over which the costs of these successors stand together, and how many branches they have
-abbrev pub link_denominator : Sealed → ℕ → List Link → ℕ
-link_denominator p n ls = lcm_all 1 (map (λ (l : Link). denominator (problem_of p) n l.node) ls)
+abbrev pub successor_denominator : Validated → ℕ → List Successor → ℕ
+successor_denominator p n ls = lcm_all 1 (map (λ (l : Successor). denominator (problem_of p) n l.node) ls)
 
-abbrev pub link_branches : Sealed → ℕ → List Link → ℕ
-link_branches p n ls = sum (map (λ (l : Link). branches (problem_of p) n l.node) ls)
+abbrev pub successor_branches : Validated → ℕ → List Successor → ℕ
+successor_branches p n ls = sum (map (λ (l : Successor). branches (problem_of p) n l.node) ls)
 
 -- no sum of costs over this number with this total weight leaves 128 bits, and the branches are few
-pub record IsSmall (p : Sealed) (n u weight k count : ℕ) : Type 0 where
+pub record IsSmall (p : Validated) (n u weight k count : ℕ) : Type 0 where
   pub under : u ≤ 2 ^ 40
   pub weighted : u * weight ≤ 2 ^ 40
   pub branches : k + count ≤ 2 ^ 16
   pub sizes : n * most_size p ≤ 2 ^ 60
 
 -- a sum of costs over this number with this total weight, after so many branches
-pub record IsCost (p : Sealed) (n u weight k : ℕ) (w : Walked) : Type 0 where
+pub record IsCost (p : Validated) (n u weight k : ℕ) (w : Walked) : Type 0 where
   pub under : w.under ≡ u
   pub small : nat_abs w.up ≤ u * (weight * most_cost p n)
   pub decided : w.decided ≡ k

@@ -19,6 +19,6 @@ unfoldable pub upper_of : Problem → Forest → ℤ
 upper_of p f = scaled_up (policy_cost p S f)
 
 -- the least whole number u with cost ≤ u / S
-pub record IsUpper (p : Problem) (f : Forest) (u : ℤ) : Type 0 where
+pub record IsLeastUpper (p : Problem) (f : Forest) (u : ℤ) : Type 0 where
   pub above : policy_cost p S f ≤ᶠ record { up = u; under = S }
   pub least : (v : ℤ) → policy_cost p S f ≤ᶠ record { up = v; under = S } → u ≤ℤ v

@@ -18,9 +18,9 @@ impl TreeNumber for BranchCount {
     ghost number_of = { λ _ p. branches (problem_of p) };
 
     fn at_node(&self, problem: &Problem, table: &[u64], node: u32, cap: u64) -> u64 {
-        let _ = problem.raw();
+        let _ = problem.parts();
         let own = problem.node(node);
-        let behind = sum_at(table, own.links.as_slice(), cap);
+        let behind = sum_at(table, own.successors.as_slice(), cap);
         let each = capped_sum(1, behind, cap);
         capped_product(own.weights.len() as u64, each, cap)
     }
@@ -32,6 +32,6 @@ pub(crate) fn branch_count(alloc: Global, problem: &Problem, cap: u64) -> Result
     ensures { IfOk result (λ count. count ≡ min (branch_count problem.now) cap) }
 {
     let table = tree_table(alloc, problem, &BranchCount, cap)?;
-    let root = problem.raw().root.as_slice();
+    let root = problem.parts().root.as_slice();
     Ok(sum_at(table.as_slice(), root, cap))
 }

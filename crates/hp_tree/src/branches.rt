@@ -1,8 +1,8 @@
 // Decisions at one branch of the tree.
-ghost use Rattle.std.specs.Prelude.{◌≡◌, ◌<◌, ◌∷◌, [], ℕ, ℤ, length, true, Contains, IfOk, Option, Some, None};
-ghost use Rattle.hp_problem.specs.Limits.{are_values};
-ghost use Rattle.hp_problem.specs.Parts.{successors_at};
-ghost use Rattle.hp_problem.specs.Sealed.{subproblem_of};
+ghost use Rattle.std.specs.Prelude.{◌≡◌, ◌<◌, ℕ, length, true, Contains, IfOk, Option, Some, None};
+ghost use Rattle.hp_parts.specs.Limits.{are_values};
+ghost use Rattle.hp_parts.specs.Parts.{successors_at};
+ghost use Rattle.hp_problem.specs.Validated.{subproblem_of};
 ghost use Rattle.hp_theory.specs.Problem.{S, node_at};
 ghost use Rattle.hp_theory.specs.Tree.{InBox};
 ghost use Rattle.hp_theory.specs.View.{problem_of};
@@ -10,16 +10,16 @@ ghost use Rattle.hp_cut.specs.AtNodes.{IsStateAt, PoolsFit};
 ghost use Rattle.hp_settle.specs.Faults.{Refutes};
 ghost use Rattle.hp_forward.specs.Costing.{residuals_of};
 ghost use Rattle.hp_tree.specs.PolicyTree.{decide_branch, first_missed, unless_missed};
-ghost use Rattle.hp_tree.specs.Verdicts.{GivesWalk, OnDead};
+ghost use Rattle.hp_tree.specs.Verdicts.{GivesWalk, OnInfeasible};
 
 use crate::walking::{Fault, Missed};
 use hp_cut::Pools;
 use hp_forward::{Decided, StageInput, residual};
 use hp_lp::{Planner, Workspace};
-use hp_mend::decide_mended;
+use hp_mend::{decide_mended, row_count};
 use hp_num::List;
 use hp_problem::Problem;
-use hp_sampler::Step;
+use hp_sampler::PathStep;
 use hp_solver::Solver;
 use std::alloc::Global;
 
@@ -30,15 +30,6 @@ pub(crate) struct Course<'a, V: Solver> {
     pub(crate) pools: &'a Pools,
 }
 
-/// The number of rows of a node.
-fn row_count(problem: &Problem, node: u32) -> u32
-    requires { node < length problem.now.raw.nodes }
-    ensures { result ≡ length (node_at (problem_of problem.now) node).rows }
-{
-    let _ = problem.raw();
-    problem.sub(node).rows.len() as u32
-}
-
 /// The first row that decisions miss, and by how much.
 fn first_missed(
     problem: &Problem,
@@ -47,7 +38,7 @@ fn first_missed(
     state: &[i128],
     values: &[i64],
 ) -> Option<(u32, i128)>
-    requires known { node < length problem.now.raw.nodes }
+    requires known { node < length problem.now.parts.nodes }
     requires decisions { InBox S (node_at (problem_of problem.now) node).decision_low (node_at (problem_of problem.now) node).decision_high decisions.now }
     requires state { IsStateAt problem.now node state.now }
     requires values { are_values (subproblem_of problem.now node) values.now ≡ true }
@@ -65,7 +56,7 @@ fn first_missed(
 /// Gives the decisions, unless a row is missed.
 fn unless_missed(
     alloc: Global,
-    step: Step,
+    step: PathStep,
     missed: Option<(u32, i128)>,
     decided: Decided,
 ) -> Result<Decided, Fault>
@@ -93,7 +84,7 @@ pub(crate) fn decide_branch<V: Solver>(
     realization: u32,
     input: &StageInput,
 ) -> Result<Decided, Fault>
-    requires known { input.now.node < length course.now.planner.now.problem.now.raw.nodes }
+    requires known { input.now.node < length course.now.planner.now.problem.now.parts.nodes }
     requires values { are_values (subproblem_of course.now.planner.now.problem.now input.now.node) input.now.values.now ≡ true }
     requires state { IsStateAt course.now.planner.now.problem.now input.now.node input.now.state.now }
     requires fit { PoolsFit course.now.planner.now.problem.now course.now.pools.now.lists }
@@ -101,9 +92,9 @@ pub(crate) fn decide_branch<V: Solver>(
     ensures inside { let n = node_at (problem_of course.now.planner.now.problem.now) input.now.node in
         IfOk result (λ d. InBox S n.decision_low n.decision_high d.decisions) }
     ensures next { let p = course.now.planner.now.problem.now in
-        IfOk result (λ d. (m : ℕ) → Contains (successors_at p.raw input.now.node) m
+        IfOk result (λ d. (m : ℕ) → Contains (successors_at p.parts input.now.node) m
         → IsStateAt p m d.next) }
-    ensures dead { OnDead result (Refutes course.now.planner.now.problem.now) }
+    ensures infeasible { OnInfeasible result (Refutes course.now.planner.now.problem.now) }
 {
     let decided = decide_mended(work, course.planner, course.pools, input)?;
     let node = input.node;
@@ -114,5 +105,10 @@ pub(crate) fn decide_branch<V: Solver>(
         input.state,
         input.values,
     );
-    unless_missed(work.alloc(), Step { node, realization }, missed, decided)
+    unless_missed(
+        work.alloc(),
+        PathStep { node, realization },
+        missed,
+        decided,
+    )
 }

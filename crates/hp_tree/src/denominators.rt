@@ -18,9 +18,9 @@ impl TreeNumber for Denominator {
     ghost number_of = { λ _ p. denominator (problem_of p) };
 
     fn at_node(&self, problem: &Problem, table: &[u64], node: u32, cap: u64) -> u64 {
-        let _ = problem.raw();
+        let _ = problem.parts();
         let own = problem.node(node);
-        let common = multiple_at(table, own.links.as_slice(), cap);
+        let common = multiple_at(table, own.successors.as_slice(), cap);
         let behind = capped_product(u64::from(problem.q(node)), common, cap);
         capped_product(u64::from(total(own.weights.as_slice())), behind, cap)
     }
@@ -32,8 +32,8 @@ pub(crate) fn root_denominator(alloc: Global, problem: &Problem, cap: u64) -> Re
     ensures { IfOk result (λ under. under ≡ min (root_denominator problem.now) cap) }
 {
     let table = tree_table(alloc, problem, &Denominator, cap)?;
-    let raw = problem.raw();
-    let common = multiple_at(table.as_slice(), raw.root.as_slice(), cap);
-    let weight = total(raw.root_weights.as_slice());
+    let parts = problem.parts();
+    let common = multiple_at(table.as_slice(), parts.root.as_slice(), cap);
+    let weight = total(parts.root_weights.as_slice());
     Ok(capped_product(u64::from(weight), common, cap))
 }

@@ -19,7 +19,7 @@ const MOST_SIZE: u64 = 1 << 60;
 /// The first of formulas 5 to 7 that is above its limit for a whole policy of a problem: its branches, above 2^16, where
 /// `value` stops at 2^32; the number over which its cost stands, above 2^40, where `value` stops at 2^41; and the number
 /// of nodes on the longest path times the greatest absolute stage cost sum, above 2^60, where `value` stops at 2^61. No
-/// branch is walked: it takes the time of the nodes, their links and their numbers. Memory where memory was refused.
+/// branch is walked: it takes the time of the nodes, their arcs and their numbers. Memory where memory was refused.
 pub fn too_big(alloc: Global, problem: &Problem) -> Result<Option<TooMuch>, Memory>
     ensures { IfOk result (λ found. found ≡ too_big_of problem.now) }
 {

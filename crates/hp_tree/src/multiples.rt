@@ -9,9 +9,9 @@ pub(crate) fn gcd(a: u64, b: u64) -> u64
     let mut x = a;
     let mut y = b;
     while y != 0 {
-        let rest = x % y;
+        let tail = x % y;
         x = y;
-        y = rest;
+        y = tail;
     }
     x
 }

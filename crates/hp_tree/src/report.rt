@@ -1,5 +1,5 @@
 // The report of a verdict.
-ghost use Rattle.std.specs.Prelude.{◌≡◌, ◌++◌, OnOk, IfOk, codes, length};
+ghost use Rattle.std.specs.Prelude.{◌≡◌, ◌++◌, OnOk, IfOk, codes};
 ghost use Rattle.std.specs.List.{flat_map};
 ghost use Rattle.hp_report.specs.Report.{word};
 ghost use Rattle.hp_tree.specs.Report.{branch_line, verdict_lines, verdict_text};
@@ -10,11 +10,11 @@ use hp_cut::Pools;
 use hp_num::Memory;
 use hp_problem::Problem;
 use hp_report::{push_bound, push_head, push_row, push_word};
-use hp_sampler::Step;
+use hp_sampler::PathStep;
 use hp_text::push_bytes;
 use std::alloc::Global;
 
-fn push_branch(out: &mut Vec<u8>, step: Step) -> Result<(), Memory>
+fn push_branch(out: &mut Vec<u8>, step: PathStep) -> Result<(), Memory>
     ensures { OnOk result (out.new.items ≡ out.old.items ++ branch_line step) }
 {
     push_bytes(out, b"branch")?;
@@ -23,7 +23,7 @@ fn push_branch(out: &mut Vec<u8>, step: Step) -> Result<(), Memory>
     push_bytes(out, b"\n")
 }
 
-fn push_branches(out: &mut Vec<u8>, branches: &[Step]) -> Result<(), Memory>
+fn push_branches(out: &mut Vec<u8>, branches: &[PathStep]) -> Result<(), Memory>
     ensures { OnOk result (out.new.items ≡ out.old.items ++ flat_map branch_line branches.now) }
 {
     for step in branches {
@@ -70,7 +70,7 @@ pub fn verdict_report(
     ensures { IfOk result (λ v. v.items ≡ verdict_text problem.now pools.now.lists verdict.now) }
 {
     let mut out = Vec::new(alloc);
-    push_head(&mut out, problem.raw())?;
+    push_head(&mut out, problem.parts())?;
     push_verdict(&mut out, verdict)?;
     push_bound(&mut out, pools.bound(problem))?;
     Ok(out)

@@ -1,16 +1,17 @@
 // Upper bounds on the absolute costs of a problem's stages.
 ghost use Rattle.std.specs.Prelude.{◌≡◌, ◌<◌, ◌+◌, ◌*◌, length, map, min, nat_abs};
-ghost use Rattle.hp_problem.specs.declared.raw.Decision.{Decision};
-ghost use Rattle.hp_problem.specs.declared.raw.Node as nodes;
+ghost use Rattle.hp_parts.specs.declared.parts.Decision.{Decision};
+ghost use Rattle.hp_parts.specs.declared.parts.Node as nodes;
 ghost use Rattle.hp_theory.specs.View.{node_of, problem_of};
-ghost use Rattle.hp_tree.specs.TooBig.{most_size, node_size, reach, reaches, sizes, stage_size};
+ghost use Rattle.hp_tree.specs.TooBig.{most_size, node_size, box_reach, reaches, sizes, stage_cost_size};
 
 use crate::capped::{capped_product, capped_sum};
-use hp_problem::{Decision, Problem, Subproblem};
+use hp_parts::{Decision, Subproblem};
+use hp_problem::Problem;
 
 /// The greatest absolute value in a box, and at least 1.
 fn reach(low: i64, high: i64) -> u64
-    ensures { result ≡ reach low high }
+    ensures { result ≡ box_reach low high }
 {
     low.unsigned_abs().max(high.unsigned_abs()).max(1)
 }
@@ -65,7 +66,7 @@ fn stage_size(subproblem: &Subproblem, lows: &[i64], highs: &[i64], values: &[i6
     requires values { length values.now ≡ length subproblem.now.random_costs }
     requires lows { length lows.now ≡ length subproblem.now.state_costs }
     requires highs { length highs.now ≡ length subproblem.now.state_costs }
-    ensures { (n : nodes.Node) → result ≡ min (stage_size (node_of n subproblem.now lows.now highs.now) values.now) cap }
+    ensures { (n : nodes.Node) → result ≡ min (stage_cost_size (node_of n subproblem.now lows.now highs.now) values.now) cap }
 {
     let of_values = sizes(subproblem.random_costs.as_slice(), values, cap);
     let of_decisions = decision_reaches(subproblem.decisions.as_slice(), cap);
@@ -76,10 +77,10 @@ fn stage_size(subproblem: &Subproblem, lows: &[i64], highs: &[i64], values: &[i6
 
 /// The greatest absolute stage cost sum of a node, and the cap where it is above that.
 fn node_size(problem: &Problem, node: u32, cap: u64) -> u64
-    requires { node < length problem.now.raw.nodes }
+    requires { node < length problem.now.parts.nodes }
     ensures { result ≡ min (node_size (problem_of problem.now) node) cap }
 {
-    let _ = problem.raw();
+    let _ = problem.parts();
     let subproblem = problem.sub(node);
     let (lows, highs) = (problem.lo(node), problem.hi(node));
     let mut most = 0u64;
@@ -94,7 +95,7 @@ fn node_size(problem: &Problem, node: u32, cap: u64) -> u64
 fn most_size(problem: &Problem, cap: u64) -> u64
     ensures { result ≡ min (most_size problem.now) cap }
 {
-    let count = problem.raw().nodes.len() as u32;
+    let count = problem.parts().nodes.len() as u32;
     let mut most = 0u64;
     for node in 0..count {
         most = most.max(node_size(problem, node, cap));

@@ -1,26 +1,23 @@
 // The cost of the tree, branch by branch.
-ghost use Rattle.std.specs.Int.{w128};
 ghost use Rattle.std.specs.List.{list_all};
-ghost use Rattle.std.specs.Prelude.{◌≡◌, ◌<◌, ◌≤◌, ◌+◌, ◌*◌, ◌^◌, ℕ, zero, suc, length, nat_lt, nat_abs, true, sum, List, ℤ, Result, Ok, Err, Contains, IfOk, FitsSigned};
-ghost use Rattle.hp_problem.specs.Limits.{are_values};
-ghost use Rattle.hp_problem.specs.Parts.{successors_at};
-ghost use Rattle.hp_problem.specs.Sealed.{subproblem_of};
-ghost use Rattle.hp_theory.specs.Problem.{S, node_at, link_weights, realization_weight, successor_weight};
+ghost use Rattle.std.specs.Prelude.{◌≡◌, ◌<◌, ◌≤◌, ◌+◌, ◌*◌, ℕ, suc, length, nat_lt, nat_abs, true, sum, List, ℤ, Result, Ok, Err, Contains, IfOk};
+ghost use Rattle.hp_parts.specs.Limits.{are_values};
+ghost use Rattle.hp_problem.specs.Validated.{subproblem_of};
+ghost use Rattle.hp_theory.specs.Problem.{S, node_at, successor_weights, realization_weight, successor_weight};
 ghost use Rattle.hp_theory.specs.Tree.{InBox};
-ghost use Rattle.hp_theory.specs.View.{links_of, problem_of};
+ghost use Rattle.hp_theory.specs.View.{successors_of, problem_of};
 ghost use Rattle.hp_cut.specs.AtNodes.{IsStateAt, PoolsFit};
 ghost use Rattle.hp_settle.specs.Faults.{Refutes};
-ghost use Rattle.hp_settle.specs.declared.judging.Dead.{Dead};
+ghost use Rattle.hp_settle.specs.declared.classifying.Infeasibility.{Infeasibility};
 ghost use Rattle.hp_settle.specs.declared.plan_fault.PlanFault.TheVariants as plans;
-ghost use Rattle.hp_sampler.specs.Drawn.{IsInRange};
 ghost use Rattle.hp_forward.specs.Costing.{stage_cost_of};
-ghost use Rattle.hp_tree.specs.Costs.{branch_cost, branch_costs, link_costs, no_cost, tree_cost};
-ghost use Rattle.hp_tree.specs.PolicyTree.{Stop, behind, decide_branch};
+ghost use Rattle.hp_tree.specs.Costs.{branch_cost, branch_costs, successor_costs, no_cost, tree_cost};
+ghost use Rattle.hp_tree.specs.PolicyTree.{Stop, stop_behind, decide_branch};
 ghost use Rattle.hp_tree.specs.declared.walking.Fault.TheVariants as faults;
 ghost use Rattle.hp_tree.specs.declared.costs.Walked.{Walked};
-ghost use Rattle.hp_tree.specs.Small.{IsCost, IsSmall, link_branches, link_denominator, most_cost};
+ghost use Rattle.hp_tree.specs.Small.{IsCost, IsSmall, successor_branches, successor_denominator, most_cost};
 ghost use Rattle.hp_tree.specs.TooBig.{branches, denominator};
-ghost use Rattle.hp_tree.specs.Verdicts.{GivesWalk, OnDead};
+ghost use Rattle.hp_tree.specs.Verdicts.{GivesWalk, OnInfeasible};
 
 use crate::branches::{Course, decide_branch};
 use crate::costs::{Walked, add_branch, add_cost, add_stage, no_cost, share};
@@ -28,14 +25,14 @@ use crate::walking::{Fault, Missed};
 use hp_forward::{StageInput, stage_cost};
 use hp_lp::Workspace;
 use hp_problem::total;
-use hp_sampler::Step;
+use hp_sampler::PathStep;
 use hp_solver::Solver;
 
 /// A stop behind a branch, which goes behind the branches that it came from.
-fn behind(step: Step, walked: Result<Walked, Fault>) -> Result<Walked, Fault>
-    ensures value { (defined : Result Walked Stop) → GivesWalk walked defined → GivesWalk result (behind step defined) }
+fn behind(step: PathStep, walked: Result<Walked, Fault>) -> Result<Walked, Fault>
+    ensures value { (defined : Result Walked Stop) → GivesWalk walked defined → GivesWalk result (stop_behind step defined) }
     ensures ok { (w : Walked) → result ≡ Ok w → walked ≡ Ok w }
-    ensures dead { (d : Dead) → result ≡ Err (faults.Stopped (plans.NoStage d)) → walked ≡ Err (faults.Stopped (plans.NoStage d)) }
+    ensures infeasible { (d : Infeasibility) → result ≡ Err (faults.Stopped (plans.Infeasible d)) → walked ≡ Err (faults.Stopped (plans.Infeasible d)) }
 {
     match walked {
         Ok(cost) => Ok(cost),
@@ -54,41 +51,48 @@ fn behind(step: Step, walked: Result<Walked, Fault>) -> Result<Walked, Fault>
 
 /// Nodes with their weights.
 #[derive(Drop)]
-pub(crate) struct Links<'a> {
+pub(crate) struct WeightedNodes<'a> {
     pub(crate) nodes: &'a [u32],
     pub(crate) weights: &'a [u32],
 }
 
 /// The cost of successors from a state, times their weights, over trees of at most `stages` stages.
 #[cycle(walk)]
-pub(crate) fn link_costs<V: Solver>(
+pub(crate) fn successor_costs<V: Solver>(
     work: &mut Workspace,
     course: &Course<V>,
     stages: u32,
     decided: u32,
-    links: &Links,
+    successors: &WeightedNodes,
     state: &[i128],
 ) -> Result<Walked, Fault>
-    requires known { list_all (λ m. nat_lt m (length course.now.planner.now.problem.now.raw.nodes)) links.now.nodes.now ≡ true }
-    requires counted { length links.now.weights.now ≡ length links.now.nodes.now }
-    requires state { (m : ℕ) → Contains links.now.nodes.now m → IsStateAt course.now.planner.now.problem.now m state.now }
+    requires known { list_all (λ m. nat_lt m (length course.now.planner.now.problem.now.parts.nodes)) successors.now.nodes.now ≡ true }
+    requires counted { length successors.now.weights.now ≡ length successors.now.nodes.now }
+    requires state { (m : ℕ) → Contains successors.now.nodes.now m → IsStateAt course.now.planner.now.problem.now m state.now }
     requires fit { PoolsFit course.now.planner.now.problem.now course.now.pools.now.lists }
     requires small { let p = course.now.planner.now.problem.now in
-        let ls = links_of links.now.nodes.now links.now.weights.now in
-        IsSmall p stages (link_denominator p stages ls) (sum (link_weights ls)) decided (link_branches p stages ls) }
+        let ls = successors_of successors.now.nodes.now successors.now.weights.now in
+        IsSmall p stages (successor_denominator p stages ls) (sum (successor_weights ls)) decided (successor_branches p stages ls) }
     ensures value { let p = course.now.planner.now.problem.now in
-        let ls = links_of links.now.nodes.now links.now.weights.now in
-        GivesWalk result (link_costs (tree_cost (decide_branch (V.does course.now.planner.now.solver.now) p course.now.pools.now.lists) (problem_of p) stages state.now) (no_cost decided) ls) }
+        let ls = successors_of successors.now.nodes.now successors.now.weights.now in
+        GivesWalk result (successor_costs (tree_cost (decide_branch (V.does course.now.planner.now.solver.now) p course.now.pools.now.lists) (problem_of p) stages state.now) (no_cost decided) ls) }
     ensures cost { let p = course.now.planner.now.problem.now in
-        let ls = links_of links.now.nodes.now links.now.weights.now in
-        IfOk result (IsCost p stages (link_denominator p stages ls) (sum (link_weights ls)) (decided + link_branches p stages ls)) }
-    ensures dead { OnDead result (Refutes course.now.planner.now.problem.now) }
+        let ls = successors_of successors.now.nodes.now successors.now.weights.now in
+        IfOk result (IsCost p stages (successor_denominator p stages ls) (sum (successor_weights ls)) (decided + successor_branches p stages ls)) }
+    ensures infeasible { OnInfeasible result (Refutes course.now.planner.now.problem.now) }
 {
-    let _ = course.planner.problem().raw();
+    let _ = course.planner.problem().parts();
     let mut sum = no_cost(decided);
-    for i in 0..links.nodes.len() {
-        let cost = tree_cost(work, course, stages, links.nodes[i], sum.decided, state)?;
-        sum = add_cost(sum, links.weights[i], cost);
+    for i in 0..successors.nodes.len() {
+        let cost = tree_cost(
+            work,
+            course,
+            stages,
+            successors.nodes[i],
+            sum.decided,
+            state,
+        )?;
+        sum = add_cost(sum, successors.weights[i], cost);
     }
     Ok(sum)
 }
@@ -103,7 +107,7 @@ fn branch_cost<V: Solver>(
     realization: u32,
     input: &StageInput,
 ) -> Result<Walked, Fault>
-    requires known { input.now.node < length course.now.planner.now.problem.now.raw.nodes }
+    requires known { input.now.node < length course.now.planner.now.problem.now.parts.nodes }
     requires values { are_values (subproblem_of course.now.planner.now.problem.now input.now.node) input.now.values.now ≡ true }
     requires stage { let p = course.now.planner.now.problem.now in
         (u : List ℤ) → InBox S (node_at (problem_of p) input.now.node).decision_low (node_at (problem_of p) input.now.node).decision_high u
@@ -112,28 +116,28 @@ fn branch_cost<V: Solver>(
     requires fit { PoolsFit course.now.planner.now.problem.now course.now.pools.now.lists }
     requires small { let p = course.now.planner.now.problem.now in
         let n = node_at (problem_of p) input.now.node in
-        IsSmall p (suc stages) (successor_weight n * link_denominator p stages n.links) 1 input.now.run (1 + link_branches p stages n.links) }
+        IsSmall p (suc stages) (successor_weight n * successor_denominator p stages n.successors) 1 input.now.run (1 + successor_branches p stages n.successors) }
     ensures value { let p = course.now.planner.now.problem.now in
         let n = node_at (problem_of p) input.now.node in
         let decide = decide_branch (V.does course.now.planner.now.solver.now) p course.now.pools.now.lists in
         GivesWalk result (branch_cost decide (tree_cost decide (problem_of p) stages) n input.now.run (record { node = input.now.node; realization = realization }) input.now.values.now input.now.state.now) }
     ensures cost { let p = course.now.planner.now.problem.now in
         let n = node_at (problem_of p) input.now.node in
-        IfOk result (IsCost p (suc stages) (successor_weight n * link_denominator p stages n.links) 1 (input.now.run + (1 + link_branches p stages n.links))) }
-    ensures dead { OnDead result (Refutes course.now.planner.now.problem.now) }
+        IfOk result (IsCost p (suc stages) (successor_weight n * successor_denominator p stages n.successors) 1 (input.now.run + (1 + successor_branches p stages n.successors))) }
+    ensures infeasible { OnInfeasible result (Refutes course.now.planner.now.problem.now) }
 {
     let problem = course.planner.problem();
-    let _ = problem.raw();
+    let _ = problem.parts();
     let found = decide_branch(work, course, realization, input)?;
     let node = input.node;
     let own = problem.node(node);
-    let links = Links {
-        nodes: own.links.as_slice(),
-        weights: own.link_weights.as_slice(),
+    let successors = WeightedNodes {
+        nodes: own.successors.as_slice(),
+        weights: own.successor_weights.as_slice(),
     };
     let next = found.next.as_slice();
-    let costs = link_costs(work, course, stages, input.run + 1, &links, next);
-    let costs = behind(Step { node, realization }, costs)?;
+    let costs = successor_costs(work, course, stages, input.run + 1, &successors, next);
+    let costs = behind(PathStep { node, realization }, costs)?;
     let decisions = found.decisions.as_slice();
     let stage = stage_cost(problem, node, decisions, input.state, input.values);
     Ok(add_stage(problem.q(node), stage, costs))
@@ -149,23 +153,23 @@ fn branch_costs<V: Solver>(
     node: u32,
     state: &[i128],
 ) -> Result<Walked, Fault>
-    requires known { node < length course.now.planner.now.problem.now.raw.nodes }
+    requires known { node < length course.now.planner.now.problem.now.parts.nodes }
     requires state { IsStateAt course.now.planner.now.problem.now node state.now }
     requires fit { PoolsFit course.now.planner.now.problem.now course.now.pools.now.lists }
     requires small { let p = course.now.planner.now.problem.now in
         let n = node_at (problem_of p) node in
-        IsSmall p (suc stages) (successor_weight n * link_denominator p stages n.links) (realization_weight n) decided (length n.realizations * (1 + link_branches p stages n.links)) }
+        IsSmall p (suc stages) (successor_weight n * successor_denominator p stages n.successors) (realization_weight n) decided (length n.realizations * (1 + successor_branches p stages n.successors)) }
     ensures value { let p = course.now.planner.now.problem.now in
         let n = node_at (problem_of p) node in
         let decide = decide_branch (V.does course.now.planner.now.solver.now) p course.now.pools.now.lists in
         GivesWalk result (branch_costs decide (tree_cost decide (problem_of p) stages) n node (no_cost decided) 0 n.realizations state.now) }
     ensures cost { let p = course.now.planner.now.problem.now in
         let n = node_at (problem_of p) node in
-        IfOk result (IsCost p (suc stages) (successor_weight n * link_denominator p stages n.links) (realization_weight n) (decided + length n.realizations * (1 + link_branches p stages n.links))) }
-    ensures dead { OnDead result (Refutes course.now.planner.now.problem.now) }
+        IfOk result (IsCost p (suc stages) (successor_weight n * successor_denominator p stages n.successors) (realization_weight n) (decided + length n.realizations * (1 + successor_branches p stages n.successors))) }
+    ensures infeasible { OnInfeasible result (Refutes course.now.planner.now.problem.now) }
 {
     let problem = course.planner.problem();
-    let _ = problem.raw();
+    let _ = problem.parts();
     let weights = problem.node(node).weights.as_slice();
     let values = problem.node(node).values.as_slice();
     let mut sum = no_cost(decided);
@@ -192,7 +196,7 @@ fn tree_cost<V: Solver>(
     decided: u32,
     state: &[i128],
 ) -> Result<Walked, Fault>
-    requires known { node < length course.now.planner.now.problem.now.raw.nodes }
+    requires known { node < length course.now.planner.now.problem.now.parts.nodes }
     requires state { IsStateAt course.now.planner.now.problem.now node state.now }
     requires fit { PoolsFit course.now.planner.now.problem.now course.now.pools.now.lists }
     requires small { let p = course.now.planner.now.problem.now in
@@ -201,10 +205,10 @@ fn tree_cost<V: Solver>(
         GivesWalk result (tree_cost (decide_branch (V.does course.now.planner.now.solver.now) p course.now.pools.now.lists) (problem_of p) stages state.now decided node) }
     ensures cost { let p = course.now.planner.now.problem.now in
         IfOk result (IsCost p stages (denominator (problem_of p) stages node) 1 (decided + branches (problem_of p) stages node)) }
-    ensures dead { OnDead result (Refutes course.now.planner.now.problem.now) }
+    ensures infeasible { OnInfeasible result (Refutes course.now.planner.now.problem.now) }
 {
     let problem = course.planner.problem();
-    let _ = problem.raw();
+    let _ = problem.parts();
     if stages == 0 {
         return Ok(no_cost(decided));
     }

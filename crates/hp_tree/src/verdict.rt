@@ -1,30 +1,30 @@
 // The cost of the whole policy from above, or where it misses a row.
-ghost use Rattle.std.specs.Prelude.{◌≡◌, ◌<◌, ◌≤◌, ◌+◌, ◌*◌, ◌^◌, ℤ, pos, ◌*ℤ◌, ◌≤ℤ◌, length, map, nat_abs, reverse, Result, None, IfOk};
-ghost use Rattle.hp_problem.specs.Sealed.{Sealed};
+ghost use Rattle.std.specs.Prelude.{◌≡◌, ◌<◌, ◌≤◌, ◌^◌, ℤ, ◌≤ℤ◌, nat_abs, reverse, Result, None, IfOk};
+ghost use Rattle.hp_problem.specs.Validated.{Validated};
 ghost use Rattle.hp_theory.specs.Bound.{bound};
 ghost use Rattle.hp_theory.specs.Pools.{Sound};
 ghost use Rattle.hp_theory.specs.Problem.{S};
-ghost use Rattle.hp_theory.specs.Tree.{Forest, Policy, times_all};
+ghost use Rattle.hp_theory.specs.Tree.{Forest, Policy};
 ghost use Rattle.hp_theory.specs.View.{problem_of};
 ghost use Rattle.hp_cut.specs.AtNodes.{PoolsFit};
-ghost use Rattle.hp_settle.specs.Faults.{Gives, OnNoStage, Refutes};
+ghost use Rattle.hp_settle.specs.Faults.{GivesOrRefutes, OnNoStage, Refutes};
 ghost use Rattle.hp_tree.specs.Costs.{root_cost};
 ghost use Rattle.hp_tree.specs.PolicyTree.{Stop, decide_branch, verdict_of};
 ghost use Rattle.hp_tree.specs.TooBig.{too_big_of};
-ghost use Rattle.hp_tree.specs.Upper.{IsUpper, ceiling_over};
-ghost use Rattle.hp_tree.specs.Verdicts.{GivesWalk, OnCost, OnDead, rounded};
+ghost use Rattle.hp_tree.specs.Upper.{IsLeastUpper, ceiling_over};
+ghost use Rattle.hp_tree.specs.Verdicts.{GivesWalk, OnCost, OnInfeasible, rounded_verdict};
 ghost use Rattle.hp_tree.specs.declared.costs.Walked.{Walked};
 
 use crate::branches::Course;
 use crate::costs::{Walked, share};
-use crate::tree::{Links, link_costs};
+use crate::tree::{WeightedNodes, successor_costs};
 use crate::walking::{Fault, Verdict};
 use hp_cut::Pools;
 use hp_forward::initial_state;
 use hp_lp::{Planner, Workspace};
 use hp_num::{List, floor_div};
 use hp_problem::total;
-use hp_sampler::Step;
+use hp_sampler::PathStep;
 use hp_settle::PlanFault;
 use hp_solver::Solver;
 
@@ -38,7 +38,7 @@ fn ceiling(up: i128, under: u64) -> i128
 }
 
 /// Puts the branches in reverse order.
-fn reversed(branches: List<Step>) -> List<Step>
+fn reversed(branches: List<PathStep>) -> List<PathStep>
     ensures { result ≡ reverse branches }
 {
     let mut items = branches.into_vec();
@@ -50,8 +50,8 @@ fn reversed(branches: List<Step>) -> List<Step>
 fn rounded(walked: Result<Walked, Fault>) -> Result<Verdict, PlanFault>
     requires some { IfOk walked (λ w. 0 < w.under) }
     requires small { IfOk walked (λ w. nat_abs w.up ≤ 2 ^ 126) }
-    ensures value { (defined : Result Walked Stop) → GivesWalk walked defined → Gives result (rounded defined) }
-    ensures dead { (p : Sealed) → OnDead walked (Refutes p) → OnNoStage result (Refutes p) }
+    ensures value { (defined : Result Walked Stop) → GivesWalk walked defined → GivesOrRefutes result (rounded_verdict defined) }
+    ensures infeasible { (p : Validated) → OnInfeasible walked (Refutes p) → OnNoStage result (Refutes p) }
 {
     match walked {
         Ok(cost) => Ok(Verdict::Cost {
@@ -77,19 +77,19 @@ fn whole_cost<V: Solver>(
     ensures value { GivesWalk result (root_cost (decide_branch (V.does planner.now.solver.now) planner.now.problem.now pools.now.lists) (problem_of planner.now.problem.now) planner.now.problem.now.longest) }
     ensures some { IfOk result (λ w. 0 < w.under) }
     ensures small { IfOk result (λ w. nat_abs w.up ≤ 2 ^ 126) }
-    ensures dead { OnDead result (Refutes planner.now.problem.now) }
+    ensures infeasible { OnInfeasible result (Refutes planner.now.problem.now) }
 {
     let problem = planner.problem();
-    let raw = problem.raw();
+    let parts = problem.parts();
     let state = initial_state(work.alloc(), problem)?;
     let course = Course { planner, pools };
-    let links = Links {
-        nodes: raw.root.as_slice(),
-        weights: raw.root_weights.as_slice(),
+    let successors = WeightedNodes {
+        nodes: parts.root.as_slice(),
+        weights: parts.root_weights.as_slice(),
     };
     let stages = problem.longest();
-    let sum = link_costs(work, &course, stages, 0, &links, state.as_slice())?;
-    Ok(share(total(links.weights), sum))
+    let sum = successor_costs(work, &course, stages, 0, &successors, state.as_slice())?;
+    Ok(share(total(successors.weights), sum))
 }
 
 /// Gives the cost of the whole policy over these pools, at scale 2^24, rounded up once. Each node of the graph is decided at
@@ -101,7 +101,7 @@ fn whole_cost<V: Solver>(
 ///
 /// Cost where each branch meets its rows: then these decisions are a policy, `upper` is the least whole number that is not
 /// below its cost, and over sound pools their bound is at most `upper`. Missed at the first branch, in order of the root's
-/// successors and then of the realizations, each before the trees behind it, whose decisions miss a row. NoStage exactly
+/// successors and then of the realizations, each before the trees behind it, whose decisions miss a row. Infeasible exactly
 /// at the first branch where no decisions exist, if no branch before it misses a row; its `run` is the number of the
 /// branches that were decided before. Memory where memory was refused.
 pub fn evaluate<V: Solver>(
@@ -111,11 +111,11 @@ pub fn evaluate<V: Solver>(
 ) -> Result<Verdict, PlanFault>
     requires fit { PoolsFit planner.now.problem.now pools.now.lists }
     requires small { too_big_of planner.now.problem.now ≡ None }
-    ensures value { Gives result (verdict_of (V.does planner.now.solver.now) planner.now.problem.now pools.now.lists) }
-    ensures two_sided { OnCost result (λ upper. (f : Forest) × Policy (problem_of planner.now.problem.now) S f × IsUpper (problem_of planner.now.problem.now) f upper
+    ensures value { GivesOrRefutes result (verdict_of (V.does planner.now.solver.now) planner.now.problem.now pools.now.lists) }
+    ensures two_sided { OnCost result (λ upper. (f : Forest) × Policy (problem_of planner.now.problem.now) S f × IsLeastUpper (problem_of planner.now.problem.now) f upper
         × (Sound (problem_of planner.now.problem.now) pools.now.lists → bound (problem_of planner.now.problem.now) pools.now.lists ≤ℤ upper)) }
-    ensures dead { OnNoStage result (Refutes planner.now.problem.now) }
+    ensures infeasible { OnNoStage result (Refutes planner.now.problem.now) }
 {
-    let _ = planner.problem().raw();
+    let _ = planner.problem().parts();
     rounded(whole_cost(work, planner, pools))
 }

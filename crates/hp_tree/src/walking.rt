@@ -4,7 +4,7 @@ ghost use Rattle.hp_settle.specs.declared.plan_fault.PlanFault.TheVariants as pl
 ghost use Rattle.hp_tree.specs.declared.walking.Fault.TheVariants as faults;
 
 use hp_num::{List, Memory};
-use hp_sampler::Step;
+use hp_sampler::PathStep;
 use hp_settle::PlanFault;
 
 /// The cost of the whole policy, or the first row that it misses.
@@ -18,7 +18,7 @@ pub enum Verdict {
     /// A branch misses a row.
     Missed {
         /// The nodes and realizations from the root to the first branch that misses a row.
-        branches: List<Step>,
+        branches: List<PathStep>,
         /// The number of the first row that it misses.
         row: u32,
         /// By how much it misses that row, at scale 2^24.
@@ -29,7 +29,7 @@ pub enum Verdict {
 // Where a branch misses a row: the branches from it back to the root, the row and its residual.
 #[derive(Drop)]
 pub(crate) struct Missed {
-    pub(crate) branches: List<Step>,
+    pub(crate) branches: List<PathStep>,
     pub(crate) row: u32,
     pub(crate) residual: i128,
 }

@@ -9,12 +9,12 @@ use Rattle.std.proofs.lemmas.Bool.Decides.{nat_tests}
 use Rattle.std.proofs.Math.IntN.{zero-*ℤ}
 use mir.Syntax.{w128}
 use Rattle.hp_num.specs.Sums.{entry}
-use Rattle.hp_warm_table.specs.declared.table.Table.{Table}
+use Rattle.hp_warm_table.specs.declared.table.WarmTable.{WarmTable}
 use Rattle.hp_solver.specs.Numbers.{held}
 use Rattle.hp_warm_table.specs.Numbers.{bits_of, shift_up, shift_of}
 use Rattle.hp_solver.proofs.Numbers.{fits-true}
 use Rattle.hp_warm_table.proofs.Powers.{power_more}
-use Rattle.hp_warm_answers.specs.Ray.{greater, with_digits, greatest_from, factor_at, top_of}
+use Rattle.hp_warm_answers.specs.Ray.{greater, with_digits, greatest_from, ray_factor_at, top_of_factors}
 
 not_below : (b x : ℤ) → b ≤ℤ greater (Some b) x
 not_below b x = by (int_lt b x) refl
@@ -50,9 +50,9 @@ abbrev Reached : ℤ → Option ℤ → Type 0
 Reached x None = ⊥
 Reached x (Some c) = x ≤ℤ c
 
-module _ (t : Table) (line : List ℤ) (v : ℕ) (above : Bool) where
+module _ (t : WarmTable) (line : List ℤ) (v : ℕ) (above : Bool) where
   abbrev digits : ℕ → ℕ
-  digits i = bits_of (factor_at t line v above i)
+  digits i = bits_of (ray_factor_at t line v above i)
 
   keeps : (es : List ℤ) (k : ℕ) (x b : ℤ) → x ≤ℤ b → Reached x (greatest_from t line v above k (Some b) es)
   keeps [] k x b h = h
@@ -73,8 +73,8 @@ module _ (t : Table) (line : List ℤ) (v : ℕ) (above : Bool) where
       (most es (suc k) i (with_digits best (digits k) e) (omega arith) (λ z. n (ap digits (sym next) ∙ z)))
 
   -- no factor of the first rows has more digits
-  pub top_most : (own i : ℕ) (top : ℤ) → i < length (take own t.scales.rows) → Some top ≡ top_of t line v above own → (digits i ≡ 0 → ⊥) → (pos (digits i) +ℤ entry (take own t.scales.rows) i) ≤ℤ top
-  unfolding top_of
+  pub top_most : (own i : ℕ) (top : ℤ) → i < length (take own t.scales.rows) → Some top ≡ top_of_factors t line v above own → (digits i ≡ 0 → ⊥) → (pos (digits i) +ℤ entry (take own t.scales.rows) i) ≤ℤ top
+  unfolding top_of_factors
   top_most own i top h e n =
       let first : 0 + i ≡ i = omega arith in
       subst (λ (j : ℕ). (pos (digits j) +ℤ entry (take own t.scales.rows) i) ≤ℤ top) first
@@ -112,11 +112,11 @@ only_zero (pos n) h = ap pos (omega arith)
 only_zero (negsuc n) h = absurd (omega arith)
 
 -- no shift of a factor stops
-pub never_stops : (t : Table) (line : List ℤ) (v : ℕ) (above : Bool) (own i : ℕ) (top : ℤ) → i < own → own ≤ length t.scales.rows → Some top ≡ top_of t line v above own → nat_abs (factor_at t line v above i) < 2 ^ 60 → IsSome (shift_of (factor_at t line v above i) ((entry t.scales.rows i +ℤ pos 60) -ℤ top))
-never_stops t line v above own i top h l w s = by (bits_of (factor_at t line v above i)) refl
+pub never_stops : (t : WarmTable) (line : List ℤ) (v : ℕ) (above : Bool) (own i : ℕ) (top : ℤ) → i < own → own ≤ length t.scales.rows → Some top ≡ top_of_factors t line v above own → nat_abs (ray_factor_at t line v above i) < 2 ^ 60 → IsSome (shift_of (ray_factor_at t line v above i) ((entry t.scales.rows i +ℤ pos 60) -ℤ top))
+never_stops t line v above own i top h l w s = by (bits_of (ray_factor_at t line v above i)) refl
   where
     x : ℤ
-    x = factor_at t line v above i
+    x = ray_factor_at t line v above i
 
     by : (d : ℕ) → bits_of x ≡ d → IsSome (shift_of x ((entry t.scales.rows i +ℤ pos 60) -ℤ top))
     by zero e = subst (λ (z : ℤ). IsSome (shift_of z ((entry t.scales.rows i +ℤ pos 60) -ℤ top))) (sym (only_zero x (subst (λ (m : ℕ). nat_abs x < 2 ^ m) e (digits_hold x (omega (arith, s)))))) (zero_there ((entry t.scales.rows i +ℤ pos 60) -ℤ top))
@@ -126,7 +126,7 @@ never_stops t line v above own i top h l w s = by (bits_of (factor_at t line v a
         let m : (pos (bits_of x) +ℤ entry t.scales.rows i) ≤ℤ top = subst (λ (z : ℤ). (pos (bits_of x) +ℤ z) ≤ℤ top) (get_or-take own t.scales.rows i (pos 0) h) (top_most t line v above own i top inside w n) in
         shift_there x ((entry t.scales.rows i +ℤ pos 60) -ℤ top) (omega (arith, s)) n (omega (arith, ints, m))
 
-pub there_by : (t : Table) (line : List ℤ) (v : ℕ) (above : Bool) (own i : ℕ) (r : Option ℤ) (x k top : ℤ) → i < own → own ≤ length t.scales.rows → nat_abs x < 2 ^ 60 → x ≡ factor_at t line v above i → k ≡ ((entry t.scales.rows i +ℤ pos 60) -ℤ top) → Some top ≡ top_of t line v above own → r ≡ shift_of x k → IsSome r
+pub there_by : (t : WarmTable) (line : List ℤ) (v : ℕ) (above : Bool) (own i : ℕ) (r : Option ℤ) (x k top : ℤ) → i < own → own ≤ length t.scales.rows → nat_abs x < 2 ^ 60 → x ≡ ray_factor_at t line v above i → k ≡ ((entry t.scales.rows i +ℤ pos 60) -ℤ top) → Some top ≡ top_of_factors t line v above own → r ≡ shift_of x k → IsSome r
 there_by t line v above own i r x k top h l s e f g w =
-    let small : nat_abs (factor_at t line v above i) < 2 ^ 60 = subst (λ (z : ℤ). nat_abs z < 2 ^ 60) e s in
+    let small : nat_abs (ray_factor_at t line v above i) < 2 ^ 60 = subst (λ (z : ℤ). nat_abs z < 2 ^ 60) e s in
     subst IsSome (sym (w ∙ ap₂ shift_of e f)) (never_stops t line v above own i top h l g small)

@@ -4,13 +4,13 @@ use lib.Count.{count_leading_zeros}
 use Rattle.hp_solver.specs.declared.programs.Column.{Column}
 use Rattle.hp_solver.specs.declared.programs.Program.{Program}
 use Rattle.hp_solver.specs.declared.programs.Kind.TheVariants as kinds
-use Rattle.hp_solver.specs.Numbers.{number, zero_fx, one, plus, minus}
-use Rattle.hp_warm_table.specs.declared.table.Table.{Table}
+use Rattle.hp_solver.specs.Numbers.{number, zero_fx, one, plus_fixed, minus}
+use Rattle.hp_warm_table.specs.declared.table.WarmTable.{WarmTable}
 use Rattle.hp_warm_table.specs.Numbers.{shift_up, shift_down}
-use Rattle.hp_warm_answers.specs.Proves.{side_of, lowered, whole_times, lessened, term_step, row_step, weights_of, side_step, box_step, excess_of, proves}
-use Rattle.hp_warm_answers.specs.Found.{rounded, clamped, basic_point, points_of, slack_dual, dual_at, dual_step, duals_of, found_of}
-use Rattle.hp_warm_answers.specs.Ray.{factor_at, top_of, ray_dual, ray_of}
-use Rattle.hp_warm_answers.specs.Enter.{is_fixed, is_eligible, rank_at, precedes, first_step, left_after, turn_of, enter_of}
+use Rattle.hp_warm_answers.specs.Proves.{side_of_multiplier, lowered, whole_times, lessened, term_step, row_step, weights_of, side_step, box_step, excess_of, proves}
+use Rattle.hp_warm_answers.specs.Found.{rounded, clamped_value, basic_point, points_of, slack_dual, dual_at, dual_step, duals_of, found_answer}
+use Rattle.hp_warm_answers.specs.Ray.{ray_factor_at, top_of_factors, clipped_ray_dual, ray_answer}
+use Rattle.hp_warm_answers.specs.Enter.{is_variable_fixed, is_place_eligible, rank_at, precedes, first_step, left_after, turn_behind, enter_of}
 use Rattle.hp_warm_answers.specs.Finish.{dual_of, less_place, plus_side, new_cost, finish_of}
 use Rattle.hp_warm_answers.proofs.WorkedProofs.{crossed}
 
@@ -46,7 +46,7 @@ zeros = pos 0 ∷ pos 0 ∷ pos 0 ∷ pos 0 ∷ []
 abbrev row : List ℤ
 row = pos (2 ^ 38) ∷ pos (2 ^ 39) ∷ pos (2 ^ 38) ∷ pos (2 ^ 38) ∷ []
 
-abbrev flipping : List ℕ → List (Option ℕ) → List Bool → List ℤ → List ℤ → Table
+abbrev flipping : List ℕ → List (Option ℕ) → List Bool → List ℤ → List ℤ → WarmTable
 flipping nonbasic places high reduced values =
     record {
       scales = record { rows = negsuc 1 ∷ []; columns = zeros; costs = negsuc 3; values = pos 0 };
@@ -67,15 +67,15 @@ flipping nonbasic places high reduced values =
       cuts = record { rows = []; waiting = replicate 4 false };
     }
 
-abbrev first_table : Table
+abbrev first_table : WarmTable
 first_table = flipping (0 ∷ 1 ∷ 2 ∷ 3 ∷ []) (Some 0 ∷ Some 1 ∷ Some 2 ∷ Some 3 ∷ None ∷ []) (false ∷ false ∷ false ∷ false ∷ []) (cost 1 ∷ cost 2 ∷ cost 7 ∷ cost 9 ∷ []) zeros
 
 -- 17 are missing: 8 and 3 are passed, of equal ratios the greater factor first, and 6 are left
 flips_enter : enter_of first_table row false (pos (17 * 2 ^ 30)) ≡ (Some (2, pos (6 * 2 ^ 30)), 1 ∷ 0 ∷ [])
-unfolding is_fixed is_eligible rank_at precedes first_step left_after turn_of
+unfolding is_variable_fixed is_place_eligible rank_at precedes first_step left_after turn_behind
 flips_enter = refl
 
-abbrev with_costs : List ℤ → List Bool → Table
+abbrev with_costs : List ℤ → List Bool → WarmTable
 with_costs reduced high = flipping (0 ∷ 1 ∷ 2 ∷ 3 ∷ []) (Some 0 ∷ Some 1 ∷ Some 2 ∷ Some 3 ∷ None ∷ []) high reduced zeros
 
 abbrev steep_row : List ℤ
@@ -83,25 +83,25 @@ steep_row = pos (2 ^ 39) ∷ pos (2 ^ 38) ∷ pos (2 ^ 38) ∷ pos (2 ^ 38) ∷ 
 
 -- of two ratios that count as 0 the greater factor is first
 noise_enter : enter_of (with_costs (pos 65535 ∷ pos 0 ∷ cost 1 ∷ cost 1 ∷ []) (false ∷ false ∷ false ∷ false ∷ [])) steep_row false (pos (17 * 2 ^ 30)) ≡ (Some (2, pos (7 * 2 ^ 30)), 0 ∷ 1 ∷ [])
-unfolding is_fixed is_eligible rank_at precedes first_step left_after turn_of
+unfolding is_variable_fixed is_place_eligible rank_at precedes first_step left_after turn_behind
 noise_enter = refl
 
 -- a cost of 2^16 counts
 beyond_noise : enter_of (with_costs (pos 65536 ∷ pos 0 ∷ cost 1 ∷ cost 1 ∷ []) (false ∷ false ∷ false ∷ false ∷ [])) steep_row false (pos (17 * 2 ^ 30)) ≡ (Some (2, pos (7 * 2 ^ 30)), 1 ∷ 0 ∷ [])
-unfolding is_fixed is_eligible rank_at precedes first_step left_after turn_of
+unfolding is_variable_fixed is_place_eligible rank_at precedes first_step left_after turn_behind
 beyond_noise = refl
 
 -- noise at high, for a violation of an upper bound
 noise_above : enter_of (with_costs (negsuc 65534 ∷ pos 0 ∷ minus_cost 1 ∷ minus_cost 1 ∷ []) (true ∷ true ∷ true ∷ true ∷ [])) steep_row true (pos (17 * 2 ^ 30)) ≡ (Some (2, pos (7 * 2 ^ 30)), 0 ∷ 1 ∷ [])
-unfolding is_fixed is_eligible rank_at precedes first_step left_after turn_of
+unfolding is_variable_fixed is_place_eligible rank_at precedes first_step left_after turn_behind
 noise_above = refl
 
 -- 2^10 are too many for all of them
 none_enters : enter_of first_table row false (pos (2 ^ 40)) ≡ (None, [])
-unfolding is_fixed is_eligible rank_at precedes first_step left_after turn_of
+unfolding is_variable_fixed is_place_eligible rank_at precedes first_step left_after turn_behind
 none_enters = refl
 
-abbrev last_table : List ℤ → Table
+abbrev last_table : List ℤ → WarmTable
 last_table reduced = flipping (0 ∷ 1 ∷ 4 ∷ 3 ∷ []) (Some 0 ∷ Some 1 ∷ None ∷ Some 3 ∷ Some 2 ∷ []) (true ∷ true ∷ false ∷ false ∷ []) reduced (units 3 ∷ units 4 ∷ units 6 ∷ minus_units 5 ∷ [])
 
 abbrev last_costs : List ℤ
@@ -111,12 +111,12 @@ flips_finish : finish_of (last_table (pos 5 ∷ pos 5 ∷ pos (7 * 2 ^ 38) ∷ p
 unfolding dual_of less_place plus_side new_cost finish_of
 flips_finish = refl
 
-flips_found : found_of (last_table last_costs) flips ≡ Some (record { kind = kinds.Found; point = number (pos 12884901888) ∷ number (pos 17179869184) ∷ number (pos 25769803776) ∷ number (negsuc 21474836479) ∷ []; duals = number (pos 30064771072) ∷ [] })
-unfolding shift_up shift_down rounded clamped basic_point points_of slack_dual dual_at dual_step duals_of found_of
+flips_found : found_answer (last_table last_costs) flips ≡ Some (record { kind = kinds.Found; point = number (pos 12884901888) ∷ number (pos 17179869184) ∷ number (pos 25769803776) ∷ number (negsuc 21474836479) ∷ []; duals = number (pos 30064771072) ∷ [] })
+unfolding shift_up shift_down rounded clamped_value basic_point points_of slack_dual dual_at dual_step duals_of found_answer
 flips_found = refl
 
 -- a table of the program with two rows
-abbrev crossing : List ℕ → List (Option ℕ) → Table
+abbrev crossing : List ℕ → List (Option ℕ) → WarmTable
 crossing nonbasic places =
     record {
       scales = record { rows = negsuc 1 ∷ negsuc 0 ∷ []; columns = pos 0 ∷ pos 0 ∷ []; costs = pos 0; values = pos 0 };
@@ -132,23 +132,23 @@ crossing nonbasic places =
     }
 
 -- the first row alone, which is below its low
-one_row : ray_of (crossing (0 ∷ 1 ∷ []) (Some 0 ∷ Some 1 ∷ None ∷ None ∷ [])) (pos (2 ^ 38) ∷ pos (3 * 2 ^ 38) ∷ []) 2 false (crossed 5 4) ≡ Some (record { kind = kinds.Ray; point = zero_fx ∷ zero_fx ∷ []; duals = number (pos 576460752303423488) ∷ zero_fx ∷ [] })
-unfolding plus minus side_of lowered whole_times lessened term_step row_step weights_of side_step box_step excess_of proves shift_up shift_down factor_at top_of ray_dual ray_of count_leading_zeros
+one_row : ray_answer (crossing (0 ∷ 1 ∷ []) (Some 0 ∷ Some 1 ∷ None ∷ None ∷ [])) (pos (2 ^ 38) ∷ pos (3 * 2 ^ 38) ∷ []) 2 false (crossed 5 4) ≡ Some (record { kind = kinds.Ray; point = zero_fx ∷ zero_fx ∷ []; duals = number (pos 576460752303423488) ∷ zero_fx ∷ [] })
+unfolding plus_fixed minus side_of_multiplier lowered whole_times lessened term_step row_step weights_of side_step box_step excess_of proves shift_up shift_down ray_factor_at top_of_factors clipped_ray_dual ray_answer count_leading_zeros
 one_row = refl
 
 -- in wider boxes it proves nothing
-no_ray : ray_of (crossing (0 ∷ 1 ∷ []) (Some 0 ∷ Some 1 ∷ None ∷ None ∷ [])) (pos (2 ^ 38) ∷ pos (3 * 2 ^ 38) ∷ []) 2 false (crossed 50 50) ≡ None
-unfolding plus minus side_of lowered whole_times lessened term_step row_step weights_of side_step box_step excess_of proves shift_up shift_down factor_at top_of ray_dual ray_of count_leading_zeros
+no_ray : ray_answer (crossing (0 ∷ 1 ∷ []) (Some 0 ∷ Some 1 ∷ None ∷ None ∷ [])) (pos (2 ^ 38) ∷ pos (3 * 2 ^ 38) ∷ []) 2 false (crossed 50 50) ≡ None
+unfolding plus_fixed minus side_of_multiplier lowered whole_times lessened term_step row_step weights_of side_step box_step excess_of proves shift_up shift_down ray_factor_at top_of_factors clipped_ray_dual ray_answer count_leading_zeros
 no_ray = refl
 
 -- both rows: the second is above its high, where the slack of the first stands at its low
-two_rows : ray_of (crossing (0 ∷ 2 ∷ []) (Some 0 ∷ None ∷ Some 1 ∷ None ∷ [])) (pos 366503875925 ∷ pos 733007751851 ∷ []) 3 true (crossed 50 50) ≡ Some (record { kind = kinds.Ray; point = zero_fx ∷ zero_fx ∷ []; duals = number (pos 192153584101228544) ∷ number (negsuc 576460752303423487) ∷ [] })
-unfolding plus minus side_of lowered whole_times lessened term_step row_step weights_of side_step box_step excess_of proves shift_up shift_down factor_at top_of ray_dual ray_of count_leading_zeros
+two_rows : ray_answer (crossing (0 ∷ 2 ∷ []) (Some 0 ∷ None ∷ Some 1 ∷ None ∷ [])) (pos 366503875925 ∷ pos 733007751851 ∷ []) 3 true (crossed 50 50) ≡ Some (record { kind = kinds.Ray; point = zero_fx ∷ zero_fx ∷ []; duals = number (pos 192153584101228544) ∷ number (negsuc 576460752303423487) ∷ [] })
+unfolding plus_fixed minus side_of_multiplier lowered whole_times lessened term_step row_step weights_of side_step box_step excess_of proves shift_up shift_down ray_factor_at top_of_factors clipped_ray_dual ray_answer count_leading_zeros
 two_rows = refl
 
 -- all factors are 0
-no_factor : ray_of (crossing (0 ∷ 1 ∷ []) (Some 0 ∷ Some 1 ∷ None ∷ None ∷ [])) (pos (2 ^ 38) ∷ pos (3 * 2 ^ 38) ∷ []) 4 false (crossed 5 4) ≡ None
-unfolding plus minus side_of lowered whole_times lessened term_step row_step weights_of side_step box_step excess_of proves shift_up shift_down factor_at top_of ray_dual ray_of count_leading_zeros
+no_factor : ray_answer (crossing (0 ∷ 1 ∷ []) (Some 0 ∷ Some 1 ∷ None ∷ None ∷ [])) (pos (2 ^ 38) ∷ pos (3 * 2 ^ 38) ∷ []) 4 false (crossed 5 4) ≡ None
+unfolding plus_fixed minus side_of_multiplier lowered whole_times lessened term_step row_step weights_of side_step box_step excess_of proves shift_up shift_down ray_factor_at top_of_factors clipped_ray_dual ray_answer count_leading_zeros
 no_factor = refl
 
 -- x in [0, 3] and theta in [0, 100]; x >= 5; the cuts theta - x >= 1 and theta + x >= 2
@@ -166,7 +166,7 @@ cut_off =
     }
 
 -- a table of the program with a row of the second cut alone
-abbrev with_cut : List ℕ → List (Option ℕ) → List Bool → List ℤ → List ℤ → Table
+abbrev with_cut : List ℕ → List (Option ℕ) → List Bool → List ℤ → List ℤ → WarmTable
 with_cut nonbasic places high reduced values =
     record {
       scales = record { rows = negsuc 0 ∷ negsuc 4 ∷ []; columns = pos 0 ∷ pos 3 ∷ []; costs = negsuc 3; values = pos 0 };
@@ -188,16 +188,16 @@ with_cut nonbasic places high reduced values =
     }
 
 -- the own row alone; the slack of the cut is nonbasic and has a greater cell
-cut_ray : ray_of (with_cut (0 ∷ 3 ∷ []) (Some 0 ∷ None ∷ None ∷ Some 1 ∷ []) (false ∷ false ∷ []) zeros zeros) (pos (2 ^ 39) ∷ pos (7 * 2 ^ 50) ∷ []) 2 false cut_off ≡ Some (record { kind = kinds.Ray; point = zero_fx ∷ zero_fx ∷ []; duals = number (pos 576460752303423488) ∷ zero_fx ∷ zero_fx ∷ [] })
-unfolding plus minus side_of lowered whole_times lessened term_step row_step weights_of side_step box_step excess_of proves shift_up shift_down factor_at top_of ray_dual ray_of count_leading_zeros
+cut_ray : ray_answer (with_cut (0 ∷ 3 ∷ []) (Some 0 ∷ None ∷ None ∷ Some 1 ∷ []) (false ∷ false ∷ []) zeros zeros) (pos (2 ^ 39) ∷ pos (7 * 2 ^ 50) ∷ []) 2 false cut_off ≡ Some (record { kind = kinds.Ray; point = zero_fx ∷ zero_fx ∷ []; duals = number (pos 576460752303423488) ∷ zero_fx ∷ zero_fx ∷ [] })
+unfolding plus_fixed minus side_of_multiplier lowered whole_times lessened term_step row_step weights_of side_step box_step excess_of proves shift_up shift_down ray_factor_at top_of_factors clipped_ray_dual ray_answer count_leading_zeros
 cut_ray = refl
 
 -- the first cut has no row in the table, and so a dual of 0
-cut_found : found_of (with_cut (2 ∷ 3 ∷ []) (None ∷ None ∷ Some 0 ∷ Some 1 ∷ []) (false ∷ false ∷ []) (cost 3 ∷ cost 5 ∷ []) (pos 10737418317 ∷ pos 41339072569 ∷ [])) cut_off ≡ Some (record { kind = kinds.Found; point = number (pos 10737418240) ∷ number (pos 330712580608) ∷ []; duals = number (pos 6442450944) ∷ zero_fx ∷ number (pos 671088640) ∷ [] })
-unfolding shift_up shift_down rounded clamped basic_point points_of slack_dual dual_at dual_step duals_of found_of
+cut_found : found_answer (with_cut (2 ∷ 3 ∷ []) (None ∷ None ∷ Some 0 ∷ Some 1 ∷ []) (false ∷ false ∷ []) (cost 3 ∷ cost 5 ∷ []) (pos 10737418317 ∷ pos 41339072569 ∷ [])) cut_off ≡ Some (record { kind = kinds.Found; point = number (pos 10737418240) ∷ number (pos 330712580608) ∷ []; duals = number (pos 6442450944) ∷ zero_fx ∷ number (pos 671088640) ∷ [] })
+unfolding shift_up shift_down rounded clamped_value basic_point points_of slack_dual dual_at dual_step duals_of found_answer
 cut_found = refl
 
 -- the own row's slack is basic
-cut_alone : found_of (with_cut (0 ∷ 3 ∷ []) (Some 0 ∷ None ∷ None ∷ Some 1 ∷ []) (true ∷ false ∷ []) (pos 0 ∷ negsuc 12344 ∷ []) (pos 0 ∷ pos 41339072569 ∷ [])) cut_off ≡ Some (record { kind = kinds.Found; point = number (pos 12884901888) ∷ number (pos 330712580608) ∷ []; duals = zero_fx ∷ zero_fx ∷ number (negsuc 24) ∷ [] })
-unfolding shift_up shift_down rounded clamped basic_point points_of slack_dual dual_at dual_step duals_of found_of
+cut_alone : found_answer (with_cut (0 ∷ 3 ∷ []) (Some 0 ∷ None ∷ None ∷ Some 1 ∷ []) (true ∷ false ∷ []) (pos 0 ∷ negsuc 12344 ∷ []) (pos 0 ∷ pos 41339072569 ∷ [])) cut_off ≡ Some (record { kind = kinds.Found; point = number (pos 12884901888) ∷ number (pos 330712580608) ∷ []; duals = zero_fx ∷ zero_fx ∷ number (negsuc 24) ∷ [] })
+unfolding shift_up shift_down rounded clamped_value basic_point points_of slack_dual dual_at dual_step duals_of found_answer
 cut_alone = refl

@@ -8,9 +8,9 @@ fold_from step k s [] = Some s
 fold_from step k s (x ∷ xs) = option_and_then (λ t. fold_from step (suc k) t xs) (step k s x)
 
 -- true where there is a new value, false where a step stops
-abbrev pub Reaches : {A : Type 0} → Bool → Option A → A → Type 0
-Reaches true made new = made ≡ Some new
-Reaches false made new = made ≡ None
+abbrev pub ReachesNew : {A : Type 0} → Bool → Option A → A → Type 0
+ReachesNew true made new = made ≡ Some new
+ReachesNew false made new = made ≡ None
 
 -- a step that stops leaves the old value
 abbrev pub ReachesOrKeeps : {A : Type 0} → Bool → Option A → A → A → Type 0

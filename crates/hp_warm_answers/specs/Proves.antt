@@ -6,7 +6,7 @@ use Rattle.hp_solver.specs.declared.fixed.Fx.{Fx}
 use Rattle.hp_solver.specs.declared.programs.Column.{Column}
 use Rattle.hp_solver.specs.declared.programs.LpRow.{LpRow}
 use Rattle.hp_solver.specs.declared.programs.Program.{Program}
-use Rattle.hp_solver.specs.Numbers.{number, zero_fx, held, plus, minus}
+use Rattle.hp_solver.specs.Numbers.{number, zero_fx, held, plus_fixed, minus}
 use Rattle.hp_warm_answers.specs.Folds.{fold_from}
 
 abbrev pub own_rows : Program → List LpRow
@@ -16,8 +16,8 @@ abbrev pub decisions_of : Program → List Column
 decisions_of lp = take lp.decisions lp.columns
 
 -- the side of a row that a multiplier speaks of: the low of a positive one, the high of a negative one
-unfoldable pub side_of : LpRow → Fx → Option Fx
-side_of r y = if int_lt (pos 0) y.0 then r.low else (if int_lt y.0 (pos 0) then r.high else None)
+unfoldable pub side_of_multiplier : LpRow → Fx → Option Fx
+side_of_multiplier r y = if int_lt (pos 0) y.0 then r.low else (if int_lt y.0 (pos 0) then r.high else None)
 
 -- the multiplier, where the row has the side that it speaks of
 abbrev pub with_side : Fx → Option Fx → Fx
@@ -26,11 +26,11 @@ with_side y (Some side) = y
 
 -- 0 for a positive multiplier without a low and for a negative one without a high
 abbrev pub clipped : LpRow → Fx → Fx
-clipped r y = with_side y (side_of r y)
+clipped r y = with_side y (side_of_multiplier r y)
 
 -- number k of some numbers, 0 where it is missing
-abbrev pub number_at : List Fx → ℕ → Fx
-number_at xs k = get_or xs k zero_fx
+abbrev pub number_or_zero : List Fx → ℕ → Fx
+number_or_zero xs k = get_or xs k zero_fx
 
 -- x over 2^k, rounded down
 unfoldable pub lowered : ℕ → Fx → Fx
@@ -42,7 +42,7 @@ whole_times x y = option_map number (held (x.0 *ℤ y.0))
 
 -- z_i: the multiplier of row i over 2^k, rounded down and clipped
 abbrev pub multiplier_at : ℕ → List Fx → ℕ → LpRow → Fx
-multiplier_at k ys i r = clipped r (lowered k (number_at ys i))
+multiplier_at k ys i r = clipped r (lowered k (number_or_zero ys i))
 
 -- the weight of a term's column less the term's whole factor times z; none where a result is absent
 unfoldable pub lessened : Fx → List Fx → ℕ × Fx → Option Fx
@@ -52,15 +52,15 @@ lessened z ws t = option_and_then (λ p. option_and_then (λ w. minus w p) (slic
 unfoldable pub term_step : Fx → List Fx → ℕ × Fx → Option (List Fx)
 term_step z ws t = option_map (λ w. slice_set ws t.0 w) (lessened z ws t)
 
-abbrev pub is_zero : Fx → Bool
-is_zero z = not (int_lt (pos 0) z.0) && not (int_lt z.0 (pos 0))
+abbrev pub is_multiplier_zero : Fx → Bool
+is_multiplier_zero z = not (int_lt (pos 0) z.0) && not (int_lt z.0 (pos 0))
 
 -- the weights less all terms of a row in order, where z is not 0
-abbrev pub less_terms : Fx → List Fx → LpRow → Option (List Fx)
-less_terms z ws r = if is_zero z then Some ws else fold_from (λ k vs t. term_step z vs t) 0 ws r.terms
+abbrev pub weights_less_terms : Fx → List Fx → LpRow → Option (List Fx)
+weights_less_terms z ws r = if is_multiplier_zero z then Some ws else fold_from (λ k vs t. term_step z vs t) 0 ws r.terms
 
 unfoldable pub row_step : ℕ → List Fx → ℕ → List Fx → LpRow → Option (List Fx)
-row_step k ys i ws r = less_terms (multiplier_at k ys i r) ws r
+row_step k ys i ws r = weights_less_terms (multiplier_at k ys i r) ws r
 
 -- 0 for each column
 abbrev pub no_weights : List Column → List Fx
@@ -72,21 +72,21 @@ weights_of lp ys k = fold_from (row_step k ys) 0 (no_weights lp.columns) (own_ro
 
 abbrev pub with_product : Fx → Fx → Option Fx → Option Fx
 with_product s z None = Some s
-with_product s z (Some side) = option_and_then (plus s) (whole_times z (lowered 8 side))
+with_product s z (Some side) = option_and_then (plus_fixed s) (whole_times z (lowered 8 side))
 
 -- s + z times the side that it speaks of
-abbrev pub with_row : Fx → Fx → LpRow → Option Fx
-with_row s z r = with_product s z (side_of r z)
+abbrev pub with_row_side : Fx → Fx → LpRow → Option Fx
+with_row_side s z r = with_product s z (side_of_multiplier r z)
 
 unfoldable pub side_step : ℕ → List Fx → ℕ → Fx → LpRow → Option Fx
-side_step k ys i s r = with_row s (multiplier_at k ys i r) r
+side_step k ys i s r = with_row_side s (multiplier_at k ys i r) r
 
 abbrev pub lesser : Fx → Fx → Fx
 lesser x y = if int_lt x.0 y.0 then x else y
 
 -- s + the least of w times a point of the box
 unfoldable pub box_step : List Fx → ℕ → Fx → Column → Option Fx
-box_step ws j s c = option_and_then (λ low. option_and_then (λ high. plus s (lesser low high)) (whole_times (number_at ws j) (lowered 8 c.high))) (whole_times (number_at ws j) (lowered 8 c.low))
+box_step ws j s c = option_and_then (λ low. option_and_then (λ high. plus_fixed s (lesser low high)) (whole_times (number_or_zero ws j) (lowered 8 c.high))) (whole_times (number_or_zero ws j) (lowered 8 c.low))
 
 -- W: the least that the rows demand, less the most that the decisions give
 unfoldable pub excess_of : Program → List Fx → ℕ → Option Fx

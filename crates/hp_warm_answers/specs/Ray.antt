@@ -9,11 +9,11 @@ use Rattle.hp_solver.specs.declared.programs.Answer.{Answer}
 use Rattle.hp_solver.specs.declared.programs.Kind.TheVariants as kinds
 use Rattle.hp_solver.specs.Numbers.{number}
 use Rattle.hp_solver.specs.Answers.{lows_of}
-use Rattle.hp_warm_table.specs.declared.table.Table.{Table}
+use Rattle.hp_warm_table.specs.declared.table.WarmTable.{WarmTable}
 use Rattle.hp_warm_table.specs.Numbers.{bits_of, shift_of}
 use Rattle.hp_simplex.specs.Each.{each_from}
-use Rattle.hp_warm_answers.specs.Found.{place_of}
-use Rattle.hp_warm_answers.specs.Padded.{padded}
+use Rattle.hp_warm_answers.specs.Found.{place_of_variable}
+use Rattle.hp_warm_answers.specs.Padded.{padded_numbers}
 use Rattle.hp_warm_answers.specs.Proves.{own_rows, clipped, proves}
 
 -- 1, at scale 2^40, of a variable that is below its bound; -1 of one that is above
@@ -21,16 +21,16 @@ abbrev pub own_factor : Bool → ℤ
 own_factor above = if above then neg_ℤ (pos (2 ^ 40)) else pos (2 ^ 40)
 
 -- a cell of the line, with the other sign where the variable is below
-abbrev pub turned : Bool → ℤ → ℤ
-turned above x = if above then x else neg_ℤ x
+abbrev pub turned_cell : Bool → ℤ → ℤ
+turned_cell above x = if above then x else neg_ℤ x
 
 abbrev pub factor_by : List ℤ → Bool → Option ℕ → ℤ
 factor_by line above None = pos 0
-factor_by line above (Some j) = turned above (entry line j)
+factor_by line above (Some j) = turned_cell above (entry line j)
 
 -- the scaled factor of row i, where the variable v violates its bound: that of v's own row, of a nonbasic slack by its cell, else 0
-unfoldable pub factor_at : Table → List ℤ → ℕ → Bool → ℕ → ℤ
-factor_at t line v above i = if length t.costs + i == v then own_factor above else factor_by line above (place_of t (length t.costs + i))
+unfoldable pub ray_factor_at : WarmTable → List ℤ → ℕ → Bool → ℕ → ℤ
+ray_factor_at t line v above i = if length t.costs + i == v then own_factor above else factor_by line above (place_of_variable t (length t.costs + i))
 
 abbrev pub greater : Option ℤ → ℤ → ℤ
 greater None x = x
@@ -41,29 +41,29 @@ abbrev pub with_digits : Option ℤ → ℕ → ℤ → Option ℤ
 with_digits best digits e = if digits == 0 then best else Some (greater best (pos digits +ℤ e))
 
 -- the greatest so far, and those of the rows from row i on
-abbrev pub greatest_from : Table → List ℤ → ℕ → Bool → ℕ → Option ℤ → List ℤ → Option ℤ
+abbrev pub greatest_from : WarmTable → List ℤ → ℕ → Bool → ℕ → Option ℤ → List ℤ → Option ℤ
 greatest_from t line v above i best [] = best
-greatest_from t line v above i best (e ∷ es) = greatest_from t line v above (suc i) (with_digits best (bits_of (factor_at t line v above i)) e) es
+greatest_from t line v above i best (e ∷ es) = greatest_from t line v above (suc i) (with_digits best (bits_of (ray_factor_at t line v above i)) e) es
 
 -- the most binary digits that a factor of one of the own rows has once it is no longer scaled; none where all factors are 0
-unfoldable pub top_of : Table → List ℤ → ℕ → Bool → ℕ → Option ℤ
-top_of t line v above own = greatest_from t line v above 0 None (take own t.scales.rows)
+unfoldable pub top_of_factors : WarmTable → List ℤ → ℕ → Bool → ℕ → Option ℤ
+top_of_factors t line v above own = greatest_from t line v above 0 None (take own t.scales.rows)
 
 -- the dual of row i: its factor, no longer scaled, so that the greatest has 60 digits; clipped
-unfoldable pub ray_dual : Table → List ℤ → ℕ → Bool → ℤ → ℕ → LpRow → Option Fx
-ray_dual t line v above top i r = option_map (λ y. clipped r (number y)) (shift_of (factor_at t line v above i) ((entry t.scales.rows i +ℤ pos 60) -ℤ top))
+unfoldable pub clipped_ray_dual : WarmTable → List ℤ → ℕ → Bool → ℤ → ℕ → LpRow → Option Fx
+clipped_ray_dual t line v above top i r = option_map (λ y. clipped r (number y)) (shift_of (ray_factor_at t line v above i) ((entry t.scales.rows i +ℤ pos 60) -ℤ top))
 
 -- the duals of the own rows
-abbrev pub ray_duals : Table → List ℤ → ℕ → Bool → Program → ℤ → Option (List Fx)
-ray_duals t line v above lp top = each_from (ray_dual t line v above top) 0 (own_rows lp)
+abbrev pub ray_duals : WarmTable → List ℤ → ℕ → Bool → Program → ℤ → Option (List Fx)
+ray_duals t line v above lp top = each_from (clipped_ray_dual t line v above top) 0 (own_rows lp)
 
 -- with 0 for each row of a cut
 abbrev pub ray_with : Program → List Fx → Answer
-ray_with lp ys = record { kind = kinds.Ray; point = lows_of lp.columns; duals = padded (length lp.rows) ys }
+ray_with lp ys = record { kind = kinds.Ray; point = lows_of lp.columns; duals = padded_numbers (length lp.rows) ys }
 
 abbrev pub where_proved : Program → List Fx → Option Answer
 where_proved lp ys = if proves lp ys then Some (ray_with lp ys) else None
 
 -- the answer by these duals, where they prove that no point keeps all own rows
-unfoldable pub ray_of : Table → List ℤ → ℕ → Bool → Program → Option Answer
-ray_of t line v above lp = option_and_then (λ top. option_and_then (where_proved lp) (ray_duals t line v above lp top)) (top_of t line v above lp.own)
+unfoldable pub ray_answer : WarmTable → List ℤ → ℕ → Bool → Program → Option Answer
+ray_answer t line v above lp = option_and_then (λ top. option_and_then (where_proved lp) (ray_duals t line v above lp top)) (top_of_factors t line v above lp.own)

@@ -1,17 +1,17 @@
 // The end of a run: reduced costs computed afresh from the duals of the rows, and whether they are to be trusted.
-ghost use Rattle.std.specs.Prelude.{◌≡◌, ◌<◌, ◌≤◌, ◌+◌, ◌*◌, ◌^◌, ◌+ℤ◌, ◌-ℤ◌, pos, nat_abs, ℕ, length, All, IfOk, OnOk, OnErr, IfSome};
+ghost use Rattle.std.specs.Prelude.{◌≡◌, ◌<◌, ◌≤◌, ◌+◌, ◌*◌, ◌^◌, ◌+ℤ◌, ◌-ℤ◌, pos, nat_abs, ℕ, length, All, IfOk, OnErr, IfSome};
 ghost use Rattle.hp_num.specs.Sums.{floor_over};
-ghost use Rattle.hp_warm_table.specs.Shape.{IsTable, AreRising, variables};
+ghost use Rattle.hp_warm_table.specs.Shape.{IsTable, AreTermsRising, variables};
 ghost use Rattle.hp_simplex.specs.Each.{each_from};
 ghost use Rattle.hp_warm_answers.specs.Folds.{ReachesOrKeeps};
-ghost use Rattle.hp_warm_answers.specs.Finish.{has_side, dual_of, is_column, terms_of, less_term, less_terms, less_place, less_places, whole_costs, rests_of, cell_at, costs_of, products_from, bound_by, plus_bound, columns_from, plus_side, sides_from, least_cost, is_apart, is_weak, new_cost, new_costs, finish_of};
-ghost use Rattle.hp_warm_answers.specs.Enter.{magnitude};
+ghost use Rattle.hp_warm_answers.specs.Finish.{has_side, dual_of, less_term, less_terms, less_place, less_places, whole_costs, rests_of, cell_at, reduced_costs_of, products_from, bound_by, plus_bound, columns_from, plus_side, sides_from, least_cost_by_duals, is_apart, is_weak, is_far, new_cost, new_costs, finish_of};
+ghost use Rattle.hp_warm_answers.specs.Enter.{cell_magnitude};
 ghost use Rattle.hp_warm_answers.specs.Within.{AreWithin};
 
-use crate::wide::Wide;
+use crate::wide::SumOfProducts;
 use hp_num::{List, Memory, floor_div};
 use hp_warm_table::lists::with_room;
-use hp_warm_table::{Bounds, Cell, Coefficient, Quantity, Table};
+use hp_warm_table::{Bounds, Cell, Coefficient, Quantity, WarmTable};
 use std::alloc::Global;
 
 // Tells whether a variable has the bound that a cost of this sign speaks of.
@@ -29,7 +29,7 @@ fn has_side(bounds: &Bounds, variable: usize, cost: Cell) -> bool
 
 // The dual of the row whose slack has this reduced cost.
 #[tactic(auto, unfolding(crate::specs::Finish::dual_of))]
-fn dual_of(table: &Table, variable: usize, cost: Cell) -> Cell
+fn dual_of(table: &WarmTable, variable: usize, cost: Cell) -> Cell
     requires sized { IsTable table.now }
     requires there { variable < variables table.now }
     ensures { result ≡ dual_of table.now variable cost }
@@ -42,7 +42,7 @@ fn dual_of(table: &Table, variable: usize, cost: Cell) -> Cell
 }
 
 // Subtracts a dual times a term.
-fn less_term(rests: &mut [Wide], term: (u32, Coefficient), dual: Cell)
+fn less_term(rests: &mut [SumOfProducts], term: (u32, Coefficient), dual: Cell)
     requires inside { term.0 < length rests.old }
     requires small { AreWithin (2 ^ 24) rests.old }
     ensures rests { rests.new ≡ less_term dual rests.old term }
@@ -54,8 +54,8 @@ fn less_term(rests: &mut [Wide], term: (u32, Coefficient), dual: Cell)
 }
 
 // Subtracts a dual times each of some terms.
-fn less_terms(rests: &mut [Wide], terms: &[(u32, Coefficient)], dual: Cell)
-    requires inside { AreRising 0 (length rests.old) terms.now }
+fn less_terms(rests: &mut [SumOfProducts], terms: &[(u32, Coefficient)], dual: Cell)
+    requires inside { AreTermsRising 0 (length rests.old) terms.now }
     requires few { length rests.old ≤ 1199 }
     requires small { AreWithin (2 ^ 23) rests.old }
     ensures rests { rests.new ≡ less_terms dual rests.old terms.now }
@@ -69,7 +69,7 @@ fn less_terms(rests: &mut [Wide], terms: &[(u32, Coefficient)], dual: Cell)
 
 // Subtracts the terms of the row whose slack stands at a place.
 #[tactic(auto, unfolding(crate::specs::Finish::less_place))]
-fn less_place(rests: &mut [Wide], table: &Table, place: usize, variable: usize)
+fn less_place(rests: &mut [SumOfProducts], table: &WarmTable, place: usize, variable: usize)
     requires sized { IsTable table.now }
     requires place { place < length table.now.costs }
     requires there { variable < variables table.now }
@@ -88,7 +88,7 @@ fn less_place(rests: &mut [Wide], table: &Table, place: usize, variable: usize)
 }
 
 // Subtracts the terms of the rows whose slacks stand at the places.
-fn less_places(rests: &mut [Wide], table: &Table, nonbasic: &[usize])
+fn less_places(rests: &mut [SumOfProducts], table: &WarmTable, nonbasic: &[usize])
     requires sized { IsTable table.now }
     requires places { length nonbasic.now ≡ length table.now.costs }
     requires there { All (λ v. v < variables table.now) nonbasic.now }
@@ -104,20 +104,20 @@ fn less_places(rests: &mut [Wide], table: &Table, nonbasic: &[usize])
 }
 
 // Brings costs to scale 2^80.
-fn whole_costs(alloc: Global, costs: &[Cell]) -> Result<List<Wide>, Memory>
+fn whole_costs(alloc: Global, costs: &[Cell]) -> Result<List<SumOfProducts>, Memory>
     ensures costs { IfOk result (λ found. found ≡ whole_costs costs.now) }
     ensures lengths { IfOk result (λ found. length found ≡ length costs.now) }
     ensures small { IfOk result (λ found. AreWithin 1 found) }
 {
     let mut found = with_room(alloc, costs.len())?;
     for j in 0..costs.len() {
-        found.push(Wide::of_cost(costs[j]))?;
+        found.push(SumOfProducts::of_cost(costs[j]))?;
     }
     Ok(found)
 }
 
 // Writes the rest of each column's cost, less the terms of all rows times their duals.
-fn rests_of(alloc: Global, table: &Table) -> Result<List<Wide>, Memory>
+fn rests_of(alloc: Global, table: &WarmTable) -> Result<List<SumOfProducts>, Memory>
     requires sized { IsTable table.now }
     ensures rests { IfOk result (λ found. found ≡ rests_of table.now) }
     ensures lengths { IfOk result (λ found. length found ≡ length table.now.costs) }
@@ -129,7 +129,7 @@ fn rests_of(alloc: Global, table: &Table) -> Result<List<Wide>, Memory>
 }
 
 // Numbers at scale 2^80 as cells.
-fn cells_of(alloc: Global, rests: &[Wide]) -> Result<Option<List<Cell>>, Memory>
+fn cells_of(alloc: Global, rests: &[SumOfProducts]) -> Result<Option<List<Cell>>, Memory>
     requires small { AreWithin (2 ^ 23) rests.now }
     ensures cells { IfOk result (λ found. found ≡ each_from cell_at 0 rests.now) }
     ensures lengths { IfOk result (λ found. IfSome found (λ cells. length cells ≡ length rests.now)) }
@@ -145,9 +145,9 @@ fn cells_of(alloc: Global, rests: &[Wide]) -> Result<Option<List<Cell>>, Memory>
 }
 
 // The reduced costs of all columns.
-fn costs_of(alloc: Global, table: &Table) -> Result<Option<List<Cell>>, Memory>
+fn costs_of(alloc: Global, table: &WarmTable) -> Result<Option<List<Cell>>, Memory>
     requires sized { IsTable table.now }
-    ensures costs { IfOk result (λ found. found ≡ costs_of table.now) }
+    ensures costs { IfOk result (λ found. found ≡ reduced_costs_of table.now) }
     ensures lengths { IfOk result (λ found. IfSome found (λ costs. length costs ≡ length table.now.costs)) }
 {
     let rests = rests_of(alloc, table)?;
@@ -155,13 +155,13 @@ fn costs_of(alloc: Global, table: &Table) -> Result<Option<List<Cell>>, Memory>
 }
 
 // The cost of a point.
-fn point_cost(costs: &[Cell], values: &[Quantity]) -> Wide
+fn point_cost(costs: &[Cell], values: &[Quantity]) -> SumOfProducts
     requires lengths { length values.now ≡ length costs.now }
     requires few { length costs.now ≤ 1199 }
     ensures value { result ≡ products_from (pos 0) costs.now values.now }
     ensures small { nat_abs result ≤ 1199 * 2 ^ 115 }
 {
-    let mut sum = Wide::zero();
+    let mut sum = SumOfProducts::zero();
     for j in 0..costs.len() {
         sum = sum.plus(costs[j], values[j]);
     }
@@ -182,7 +182,7 @@ fn bound_by(bounds: &Bounds, variable: usize, cost: Cell) -> Quantity
 }
 
 // A sum with a cost times the bound that its sign speaks of.
-fn plus_bound(table: &Table, sum: Wide, variable: usize, cost: Cell) -> Wide
+fn plus_bound(table: &WarmTable, sum: SumOfProducts, variable: usize, cost: Cell) -> SumOfProducts
     requires sized { IsTable table.now }
     requires there { variable < variables table.now }
     requires small { nat_abs sum ≤ 2398 * 2 ^ 115 }
@@ -193,13 +193,13 @@ fn plus_bound(table: &Table, sum: Wide, variable: usize, cost: Cell) -> Wide
 }
 
 // Computes the least cost of the columns.
-fn columns_cost(table: &Table, costs: &[Cell]) -> Wide
+fn columns_cost(table: &WarmTable, costs: &[Cell]) -> SumOfProducts
     requires sized { IsTable table.now }
     requires lengths { length costs.now ≡ length table.now.costs }
     ensures value { result ≡ columns_from table.now 0 (pos 0) costs.now }
     ensures small { nat_abs result ≤ 1199 * 2 ^ 115 }
 {
-    let mut sum = Wide::zero();
+    let mut sum = SumOfProducts::zero();
     for v in 0..costs.len() {
         sum = plus_bound(table, sum, v, costs[v]);
     }
@@ -208,7 +208,7 @@ fn columns_cost(table: &Table, costs: &[Cell]) -> Wide
 
 // Adds the least cost of the row whose slack stands at a place to a sum.
 #[tactic(auto, unfolding(crate::specs::Finish::plus_side))]
-fn plus_side(table: &Table, sum: Wide, place: usize, variable: usize) -> Wide
+fn plus_side(table: &WarmTable, sum: SumOfProducts, place: usize, variable: usize) -> SumOfProducts
     requires sized { IsTable table.now }
     requires place { place < length table.now.costs }
     requires there { variable < variables table.now }
@@ -224,7 +224,7 @@ fn plus_side(table: &Table, sum: Wide, place: usize, variable: usize) -> Wide
 }
 
 // Adds the least costs of the rows whose slacks stand at the places to a sum.
-fn plus_sides(table: &Table, sum: Wide, nonbasic: &[usize]) -> Wide
+fn plus_sides(table: &WarmTable, sum: SumOfProducts, nonbasic: &[usize]) -> SumOfProducts
     requires sized { IsTable table.now }
     requires places { length nonbasic.now ≡ length table.now.costs }
     requires there { All (λ v. v < variables table.now) nonbasic.now }
@@ -242,7 +242,7 @@ fn plus_sides(table: &Table, sum: Wide, nonbasic: &[usize]) -> Wide
 // The absolute value.
 fn magnitude(x: i128) -> i128
     requires small { nat_abs x ≤ 2 ^ 126 + 2 ^ 125 }
-    ensures value { result ≡ magnitude x }
+    ensures value { result ≡ cell_magnitude x }
     ensures small { nat_abs result ≡ nat_abs x }
 {
     if x < 0 { -x } else { x }
@@ -252,18 +252,26 @@ fn magnitude(x: i128) -> i128
 fn size_of(cost: i128, least: i128) -> i128
     requires cost { nat_abs cost ≤ 1199 * 2 ^ 115 }
     requires least { nat_abs least ≤ 2398 * 2 ^ 115 }
-    ensures value { result ≡ magnitude cost +ℤ magnitude least }
+    ensures value { result ≡ cell_magnitude cost +ℤ cell_magnitude least }
     ensures small { nat_abs result ≤ 3597 * 2 ^ 115 }
 {
     magnitude(cost) + magnitude(least)
 }
 
-// Computes by how much costs of this size may differ.
+// Computes by how much costs of this size may differ where the duals are to be trusted.
 fn tolerance(size: i128) -> i128
     requires small { nat_abs size ≤ 3597 * 2 ^ 115 }
     ensures { result ≡ floor_over size (2 ^ 26) +ℤ pos (2 ^ 56) }
 {
     floor_div(size, 1 << 26) + (1 << 56)
+}
+
+// Computes by how much costs of this size may differ where the point is not far from the best one.
+fn far_tolerance(size: i128) -> i128
+    requires small { nat_abs size ≤ 3597 * 2 ^ 115 }
+    ensures { result ≡ floor_over size (2 ^ 18) +ℤ pos (2 ^ 56) }
+{
+    floor_div(size, 1 << 18) + (1 << 56)
 }
 
 // Computes by how much a cost exceeds the least one.
@@ -275,33 +283,66 @@ fn gap(cost: i128, least: i128) -> i128
     cost - least
 }
 
-// Tells whether the cost of a point exceeds the least one by too much.
+// Tells whether the cost of a point exceeds the least one by too much for the duals to be trusted.
 fn is_apart(cost: i128, least: i128) -> bool
     requires cost { nat_abs cost ≤ 1199 * 2 ^ 115 }
     requires least { nat_abs least ≤ 2398 * 2 ^ 115 }
-    ensures { result ≡ is_apart cost least }
+    ensures { result ≡ is_apart (2 ^ 26) cost least }
 {
     tolerance(size_of(cost, least)) < gap(cost, least)
 }
 
+// Tells whether the cost of a point exceeds the least one by far.
+fn is_far_apart(cost: i128, least: i128) -> bool
+    requires cost { nat_abs cost ≤ 1199 * 2 ^ 115 }
+    requires least { nat_abs least ≤ 2398 * 2 ^ 115 }
+    ensures { result ≡ is_apart (2 ^ 18) cost least }
+{
+    far_tolerance(size_of(cost, least)) < gap(cost, least)
+}
+
+// Computes the least cost of all points, by the duals of the rows and the reduced costs of the columns.
+fn least_cost(table: &WarmTable, costs: &[Cell]) -> SumOfProducts
+    requires sized { IsTable table.now }
+    requires lengths { length costs.now ≡ length table.now.costs }
+    ensures value { result ≡ least_cost_by_duals table.now costs.now }
+    ensures small { nat_abs result ≤ 2398 * 2 ^ 115 }
+{
+    plus_sides(
+        table,
+        columns_cost(table, costs),
+        table.basis.nonbasic.as_slice(),
+    )
+}
+
 // Tells whether the reduced costs are not to be trusted.
-fn is_weak(table: &Table, costs: &[Cell]) -> bool
+fn is_weak(table: &WarmTable, costs: &[Cell]) -> bool
     requires sized { IsTable table.now }
     requires lengths { length costs.now ≡ length table.now.costs }
     ensures { result ≡ is_weak table.now costs.now }
 {
     let cost = point_cost(table.costs.as_slice(), table.values.as_slice());
-    let least = plus_sides(
-        table,
-        columns_cost(table, costs),
-        table.basis.nonbasic.as_slice(),
-    );
-    is_apart(cost.number(), least.number())
+    is_apart(cost.number(), least_cost(table, costs).number())
+}
+
+/// Tells whether the cost of a table's point is far from the least cost of all points, by the duals of its rows: by more than 2^-18
+/// of both and 2^-16, or where a reduced cost leaves the range of cells. [`Memory`] where memory was refused.
+#[tactic(auto, unfolding(crate::specs::Finish::is_far))]
+pub fn is_far(alloc: Global, table: &WarmTable) -> Result<bool, Memory>
+    requires sized { IsTable table.now }
+    ensures { IfOk result (λ far. far ≡ is_far table.now) }
+{
+    let Some(costs) = costs_of(alloc, table)? else {
+        return Ok(true);
+    };
+    let cost = point_cost(table.costs.as_slice(), table.values.as_slice());
+    let least = least_cost(table, costs.as_slice());
+    Ok(is_far_apart(cost.number(), least.number()))
 }
 
 // The reduced cost of a variable.
 #[tactic(auto, unfolding(crate::specs::Finish::new_cost))]
-fn new_cost(table: &Table, costs: &[Cell], variable: usize, cost: Cell) -> Cell
+fn new_cost(table: &WarmTable, costs: &[Cell], variable: usize, cost: Cell) -> Cell
     requires sized { IsTable table.now }
     requires lengths { length costs.now ≡ length table.now.costs }
     requires there { variable < variables table.now }
@@ -317,7 +358,7 @@ fn new_cost(table: &Table, costs: &[Cell], variable: usize, cost: Cell) -> Cell
 // The reduced costs at all places.
 fn new_costs(
     alloc: Global,
-    table: &Table,
+    table: &WarmTable,
     costs: &[Cell],
     nonbasic: &[usize],
 ) -> Result<List<Cell>, Memory>
@@ -341,7 +382,7 @@ fn new_costs(
 /// 2^-16. False, with the table as it was, where a reduced cost leaves the range of cells. [`Memory`] where memory was refused,
 /// with the table as it was.
 #[tactic(auto, unfolding(crate::specs::Finish::finish_of))]
-pub fn finish(alloc: Global, table: &mut Table) -> Result<bool, Memory>
+pub fn finish(alloc: Global, table: &mut WarmTable) -> Result<bool, Memory>
     requires sized { IsTable table.old }
     ensures sized { IsTable table.new }
     ensures finished { IfOk result (λ done. ReachesOrKeeps done (finish_of table.old) table.old table.new) }

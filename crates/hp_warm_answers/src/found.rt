@@ -4,8 +4,8 @@ ghost use Rattle.hp_num.specs.Sums.{entry, floor_over};
 ghost use Rattle.hp_warm_table.specs.Shape.{IsTable, variables};
 ghost use Rattle.hp_solver.specs.Numbers.{held};
 ghost use Rattle.hp_simplex.specs.Each.{each_from};
-ghost use Rattle.hp_warm_answers.specs.Folds.{fold_from, Reaches};
-ghost use Rattle.hp_warm_answers.specs.Found.{place_of, rounded, clamped, basic_point, bound_point, point_by, point_at, points_of, slack_dual, dual_by, dual_at, own_duals, dual_step, duals_of, found_with, found_of};
+ghost use Rattle.hp_warm_answers.specs.Folds.{fold_from, ReachesNew};
+ghost use Rattle.hp_warm_answers.specs.Found.{place_of_variable, rounded, clamped_value, basic_point, bound_point, point_value_at, points_of, slack_dual, dual_at, own_duals, dual_step, duals_of, found_answer};
 
 use crate::proving::own_rows;
 use crate::shifting::shift_by;
@@ -13,21 +13,21 @@ use crate::whole::sum;
 use hp_num::{List, Memory};
 use hp_solver::{Answer, Column, Duals, Fx, Kind, LpRow, StageLp};
 use hp_warm_table::lists::with_room;
-use hp_warm_table::{Scales, Table};
+use hp_warm_table::{Scales, WarmTable};
 use std::alloc::Global;
 
 // The place of a variable.
-pub(crate) fn place_of(table: &Table, variable: usize) -> Option<usize>
+pub(crate) fn place_of(table: &WarmTable, variable: usize) -> Option<usize>
     requires sized { IsTable table.now }
     requires there { variable < variables table.now }
-    ensures place { result ≡ place_of table.now variable }
+    ensures place { result ≡ place_of_variable table.now variable }
     ensures inside { IfSome result (λ j. j < length table.now.costs) }
 {
     table.basis.places.as_slice()[variable]
 }
 
 // The variable that is the slack of a row.
-pub(crate) fn slack_of(table: &Table, row: usize) -> usize
+pub(crate) fn slack_of(table: &WarmTable, row: usize) -> usize
     requires sized { IsTable table.now }
     requires row { row < length table.now.rows }
     ensures { result ≡ length table.now.costs + row }
@@ -52,9 +52,9 @@ fn rounded(x: i128) -> Option<i128>
 }
 
 /// A number in a column's box.
-#[tactic(auto, unfolding(crate::specs::Found::clamped))]
+#[tactic(auto, unfolding(crate::specs::Found::clamped_value))]
 pub fn clamped(column: &Column, x: i128) -> Fx
-    ensures { result ≡ clamped column.now x }
+    ensures { result ≡ clamped_value column.now x }
 {
     if x < column.low.0 {
         column.low
@@ -83,7 +83,7 @@ fn dual_exponent(scales: &Scales, row: usize) -> i64
 
 // The value of a basic column.
 #[tactic(auto, unfolding(crate::specs::Found::basic_point))]
-fn basic_point(table: &Table, number: usize, column: &Column) -> Option<Fx>
+fn basic_point(table: &WarmTable, number: usize, column: &Column) -> Option<Fx>
     requires sized { IsTable table.now }
     requires there { number < length table.now.costs }
     ensures { result ≡ basic_point table.now number column.now }
@@ -94,7 +94,7 @@ fn basic_point(table: &Table, number: usize, column: &Column) -> Option<Fx>
 }
 
 // The value of a nonbasic column.
-fn bound_point(table: &Table, column: &Column, place: usize) -> Fx
+fn bound_point(table: &WarmTable, column: &Column, place: usize) -> Fx
     requires sized { IsTable table.now }
     requires there { place < length table.now.costs }
     ensures { result ≡ bound_point table.now column.now place }
@@ -107,10 +107,10 @@ fn bound_point(table: &Table, column: &Column, place: usize) -> Fx
 }
 
 // The value of a column.
-fn point_at(table: &Table, number: usize, column: &Column) -> Option<Fx>
+fn point_at(table: &WarmTable, number: usize, column: &Column) -> Option<Fx>
     requires sized { IsTable table.now }
     requires there { number < length table.now.costs }
-    ensures { result ≡ point_at table.now number column.now }
+    ensures { result ≡ point_value_at table.now number column.now }
 {
     match place_of(table, number) {
         None => basic_point(table, number, column),
@@ -119,10 +119,10 @@ fn point_at(table: &Table, number: usize, column: &Column) -> Option<Fx>
 }
 
 // The values of all columns, put into a list; false where one is absent.
-fn fill(table: &Table, columns: &[Column], found: &mut List<Fx>) -> Result<bool, Memory>
+fn fill(table: &WarmTable, columns: &[Column], found: &mut List<Fx>) -> Result<bool, Memory>
     requires sized { IsTable table.now }
     requires columns { length columns.now ≡ length table.now.costs }
-    ensures { IfOk result (λ there. Reaches there (each_from (point_at table.now) 0 columns.now) found.new) }
+    ensures { IfOk result (λ there. ReachesNew there (each_from (point_value_at table.now) 0 columns.now) found.new) }
 {
     found.clear();
     for j in 0..columns.len() {
@@ -138,17 +138,17 @@ fn fill(table: &Table, columns: &[Column], found: &mut List<Fx>) -> Result<bool,
 /// column that is not basic is its bound in the program; of a basic one its value in the table, to the nearest multiple
 /// of 2^-24, in its box. False where a number on the way leaves 128 bits. [`Memory`] where memory was refused.
 #[tactic(auto, unfolding(crate::specs::Found::points_of))]
-pub fn points(table: &Table, lp: &StageLp, found: &mut List<Fx>) -> Result<bool, Memory>
+pub fn points(table: &WarmTable, lp: &StageLp, found: &mut List<Fx>) -> Result<bool, Memory>
     requires sized { IsTable table.now }
     requires columns { length lp.now.columns ≡ length table.now.costs }
-    ensures { IfOk result (λ there. Reaches there (points_of table.now lp.now) found.new) }
+    ensures { IfOk result (λ there. ReachesNew there (points_of table.now lp.now) found.new) }
 {
     fill(table, lp.columns(), found)
 }
 
 // The dual of a row whose slack is at a place.
 #[tactic(auto, unfolding(crate::specs::Found::slack_dual))]
-fn slack_dual(table: &Table, row: usize, place: usize) -> Option<Fx>
+fn slack_dual(table: &WarmTable, row: usize, place: usize) -> Option<Fx>
     requires sized { IsTable table.now }
     requires row { row < length table.now.rows }
     requires place { place < length table.now.costs }
@@ -160,7 +160,7 @@ fn slack_dual(table: &Table, row: usize, place: usize) -> Option<Fx>
 
 // The dual of a row of the table.
 #[tactic(auto, unfolding(crate::specs::Found::dual_at))]
-fn dual_at(table: &Table, row: usize) -> Option<Fx>
+fn dual_at(table: &WarmTable, row: usize) -> Option<Fx>
     requires sized { IsTable table.now }
     requires there { row < length table.now.rows }
     ensures { result ≡ dual_at table.now row }
@@ -172,7 +172,7 @@ fn dual_at(table: &Table, row: usize) -> Option<Fx>
 }
 
 // The duals of the program's own rows.
-fn own_duals(alloc: Global, table: &Table, rows: &[LpRow]) -> Result<Option<List<Fx>>, Memory>
+fn own_duals(alloc: Global, table: &WarmTable, rows: &[LpRow]) -> Result<Option<List<Fx>>, Memory>
     requires sized { IsTable table.now }
     requires rows { length rows.now ≤ length table.now.rows }
     ensures { IfOk result (λ found. found ≡ each_from (λ i r. dual_at table.now i) 0 rows.now) }
@@ -190,11 +190,16 @@ fn own_duals(alloc: Global, table: &Table, rows: &[LpRow]) -> Result<Option<List
 // Sets the dual of a row of the program to that of a row of the table; false where that is absent. [`Memory`] where memory
 // was refused.
 #[tactic(auto, unfolding(crate::specs::Found::dual_step))]
-fn set_dual(duals: &mut Duals, table: &Table, table_row: usize, row: usize) -> Result<bool, Memory>
+fn set_dual(
+    duals: &mut Duals,
+    table: &WarmTable,
+    table_row: usize,
+    row: usize,
+) -> Result<bool, Memory>
     requires sized { IsTable table.now }
     requires there { table_row < length table.now.rows }
     requires row { row < length duals.old }
-    ensures duals { IfOk result (λ there. Reaches there (dual_step table.now table_row duals.old row) duals.new) }
+    ensures duals { IfOk result (λ there. ReachesNew there (dual_step table.now table_row duals.old row) duals.new) }
     ensures lengths { OnOk result (length duals.new ≡ length duals.old) }
 {
     match dual_at(table, table_row) {
@@ -207,11 +212,16 @@ fn set_dual(duals: &mut Duals, table: &Table, table_row: usize, row: usize) -> R
 }
 
 // Sets the duals of the program's rows of cuts that have rows in the table, which are those behind the own ones.
-fn set_duals(duals: &mut Duals, table: &Table, own: usize, rows: &[usize]) -> Result<bool, Memory>
+fn set_duals(
+    duals: &mut Duals,
+    table: &WarmTable,
+    own: usize,
+    rows: &[usize],
+) -> Result<bool, Memory>
     requires sized { IsTable table.now }
     requires there { length table.now.rows ≡ own + length rows.now }
     requires rows { All (λ row. row < length duals.old) rows.now }
-    ensures { IfOk result (λ there. Reaches there (fold_from (dual_step table.now) own duals.old rows.now) duals.new) }
+    ensures { IfOk result (λ there. ReachesNew there (fold_from (dual_step table.now) own duals.old rows.now) duals.new) }
 {
     for i in own..table.rows.len() {
         if !set_dual(duals, table, i, rows[i - own])? {
@@ -223,7 +233,7 @@ fn set_duals(duals: &mut Duals, table: &Table, own: usize, rows: &[usize]) -> Re
 
 // A dual for each row of a program.
 #[tactic(auto, unfolding(crate::specs::Found::duals_of))]
-fn duals(alloc: Global, table: &Table, lp: &StageLp) -> Result<Option<Duals>, Memory>
+fn duals(alloc: Global, table: &WarmTable, lp: &StageLp) -> Result<Option<Duals>, Memory>
     requires sized { IsTable table.now }
     requires rows { length table.now.rows ≡ lp.now.own + length table.now.cuts.rows }
     requires cuts { All (λ row. row < length lp.now.rows) table.now.cuts.rows }
@@ -244,13 +254,13 @@ fn duals(alloc: Global, table: &Table, lp: &StageLp) -> Result<Option<Duals>, Me
 /// and the dual of each row. The dual of an own row, or of a cut that has a row in the table, is the reduced cost of the row's
 /// slack, 0 where that is basic; the dual of any other cut is 0. None where a number on the way leaves 128 bits. [`Memory`]
 /// where memory was refused.
-#[tactic(auto, unfolding(crate::specs::Found::found_of))]
-pub fn found(alloc: Global, table: &Table, lp: &StageLp) -> Result<Option<Answer>, Memory>
+#[tactic(auto, unfolding(crate::specs::Found::found_answer))]
+pub fn found(alloc: Global, table: &WarmTable, lp: &StageLp) -> Result<Option<Answer>, Memory>
     requires sized { IsTable table.now }
     requires columns { length lp.now.columns ≡ length table.now.costs }
     requires rows { length table.now.rows ≡ lp.now.own + length table.now.cuts.rows }
     requires cuts { All (λ row. row < length lp.now.rows) table.now.cuts.rows }
-    ensures { IfOk result (λ answer. answer ≡ found_of table.now lp.now) }
+    ensures { IfOk result (λ answer. answer ≡ found_answer table.now lp.now) }
 {
     let mut point = with_room(alloc, lp.columns().len())?;
     if !points(table, lp, &mut point)? {

@@ -2,8 +2,8 @@
 ghost use Rattle.std.specs.Prelude.{◌≡◌, ◌<◌, ◌≤◌, ◌*◌, take, length, IfOk, IfSome};
 ghost use Rattle.std.specs.Option.{option_and_then};
 ghost use Rattle.hp_solver.specs.Numbers.{zero_fx};
-ghost use Rattle.hp_warm_answers.specs.Folds.{fold_from, Reaches};
-ghost use Rattle.hp_warm_answers.specs.Proves.{own_rows, decisions_of, side_of, with_side, clipped, number_at, lowered, whole_times, multiplier_at, lessened, term_step, is_zero, less_terms, row_step, no_weights, weights_of, with_product, with_row, side_step, lesser, box_step, excess_of, is_above_zero, proves_from, proves};
+ghost use Rattle.hp_warm_answers.specs.Folds.{fold_from, ReachesNew};
+ghost use Rattle.hp_warm_answers.specs.Proves.{own_rows, decisions_of, side_of_multiplier, clipped, number_or_zero, lowered, whole_times, multiplier_at, lessened, term_step, is_multiplier_zero, weights_less_terms, row_step, weights_of, with_product, with_row_side, side_step, lesser, box_step, excess_of, is_above_zero, proves_from, proves};
 
 use crate::whole::whole_product;
 use hp_num::{Memory, floor_div};
@@ -31,9 +31,9 @@ pub(crate) fn own_rows<'b>(lp: &'b StageLp) -> &'b [LpRow]
 }
 
 // The side of a row that a multiplier speaks of.
-#[tactic(auto, unfolding(crate::specs::Proves::side_of))]
+#[tactic(auto, unfolding(crate::specs::Proves::side_of_multiplier))]
 fn side_of(row: &LpRow, multiplier: Fx) -> Option<Fx>
-    ensures { result ≡ side_of row.now multiplier }
+    ensures { result ≡ side_of_multiplier row.now multiplier }
 {
     if 0 < multiplier.0 {
         row.low
@@ -56,7 +56,7 @@ pub fn clipped(row: &LpRow, multiplier: Fx) -> Fx
 
 // A number of a list, 0 where it is missing.
 fn number_at(numbers: &[Fx], at: usize) -> Fx
-    ensures { result ≡ number_at numbers.now at }
+    ensures { result ≡ number_or_zero numbers.now at }
 {
     match numbers.get(at) {
         Some(number) => *number,
@@ -103,7 +103,7 @@ fn lessened(weights: &[Fx], term: (u32, Fx), multiplier: Fx) -> Option<Fx>
 // Lessens the weight of a term's column; false where a result is absent.
 #[tactic(auto, unfolding(crate::specs::Proves::term_step))]
 fn lessen(weights: &mut [Fx], term: (u32, Fx), multiplier: Fx) -> bool
-    ensures { Reaches result (term_step multiplier weights.old term) weights.new }
+    ensures { ReachesNew result (term_step multiplier weights.old term) weights.new }
 {
     match lessened(weights, term, multiplier) {
         Some(weight) => {
@@ -116,7 +116,7 @@ fn lessen(weights: &mut [Fx], term: (u32, Fx), multiplier: Fx) -> bool
 
 // Lessens the weights of the columns of some terms, in order.
 fn lessen_all(weights: &mut [Fx], terms: &[(u32, Fx)], multiplier: Fx) -> bool
-    ensures { Reaches result (fold_from (λ k ws t. term_step multiplier ws t) 0 weights.old terms.now) weights.new }
+    ensures { ReachesNew result (fold_from (λ k ws t. term_step multiplier ws t) 0 weights.old terms.now) weights.new }
 {
     for k in 0..terms.len() {
         if !lessen(weights, terms[k], multiplier) {
@@ -127,14 +127,14 @@ fn lessen_all(weights: &mut [Fx], terms: &[(u32, Fx)], multiplier: Fx) -> bool
 }
 
 fn is_zero(multiplier: Fx) -> bool
-    ensures { result ≡ is_zero multiplier }
+    ensures { result ≡ is_multiplier_zero multiplier }
 {
     !(0 < multiplier.0) && !(multiplier.0 < 0)
 }
 
 // Lessens the weights by a row with its multiplier.
 fn less_terms(weights: &mut [Fx], row: &LpRow, multiplier: Fx) -> bool
-    ensures { Reaches result (less_terms multiplier weights.old row.now) weights.new }
+    ensures { ReachesNew result (weights_less_terms multiplier weights.old row.now) weights.new }
 {
     if is_zero(multiplier) {
         true
@@ -147,7 +147,7 @@ fn less_terms(weights: &mut [Fx], row: &LpRow, multiplier: Fx) -> bool
 #[tactic(auto, unfolding(crate::specs::Proves::row_step))]
 fn take_row(weights: &mut [Fx], row: &LpRow, multipliers: &[Fx], number: usize, digits: u32) -> bool
     requires { digits ≤ 126 }
-    ensures { Reaches result (row_step digits multipliers.now number weights.old row.now) weights.new }
+    ensures { ReachesNew result (row_step digits multipliers.now number weights.old row.now) weights.new }
 {
     less_terms(
         weights,
@@ -159,7 +159,7 @@ fn take_row(weights: &mut [Fx], row: &LpRow, multipliers: &[Fx], number: usize, 
 // Lessens the weights by all rows, in order.
 fn take_rows(weights: &mut [Fx], rows: &[LpRow], multipliers: &[Fx], digits: u32) -> bool
     requires { digits ≤ 126 }
-    ensures { Reaches result (fold_from (row_step digits multipliers.now) 0 weights.old rows.now) weights.new }
+    ensures { ReachesNew result (fold_from (row_step digits multipliers.now) 0 weights.old rows.now) weights.new }
 {
     for i in 0..rows.len() {
         if !take_row(weights, &rows[i], multipliers, i, digits) {
@@ -181,7 +181,7 @@ fn with_product(sum: Fx, multiplier: Fx, side: Option<Fx>) -> Option<Fx>
 
 // A sum with a multiplier times the side that it speaks of.
 fn with_row(sum: Fx, row: &LpRow, multiplier: Fx) -> Option<Fx>
-    ensures { result ≡ with_row sum multiplier row.now }
+    ensures { result ≡ with_row_side sum multiplier row.now }
 {
     with_product(sum, multiplier, side_of(row, multiplier))
 }

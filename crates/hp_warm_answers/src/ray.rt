@@ -2,10 +2,9 @@
 ghost use Rattle.std.specs.Prelude.{◌≡◌, ◌<◌, ◌≤◌, ◌+◌, ◌^◌, ◌+ℤ◌, ◌-ℤ◌, pos, nat_abs, length, IfOk, IfSome, Some, None, OnOk};
 ghost use Rattle.std.specs.Option.{IsSome};
 ghost use Rattle.hp_num.specs.Sums.{entry};
-ghost use Rattle.hp_warm_table.specs.Shape.{IsTable, variables};
+ghost use Rattle.hp_warm_table.specs.Shape.{IsTable};
 ghost use Rattle.hp_warm_table.specs.Numbers.{bits_of, shift_of};
-ghost use Rattle.hp_simplex.specs.Each.{each_from};
-ghost use Rattle.hp_warm_answers.specs.Ray.{own_factor, turned, factor_by, factor_at, greater, with_digits, greatest_from, top_of, ray_dual, ray_duals, ray_with, where_proved, ray_of};
+ghost use Rattle.hp_warm_answers.specs.Ray.{own_factor, turned_cell, ray_factor_at, greater, with_digits, greatest_from, top_of_factors, clipped_ray_dual, ray_duals, where_proved, ray_answer};
 
 use crate::found::{place_of, slack_of};
 use crate::proving::{clipped, front, own_rows, proves};
@@ -14,13 +13,13 @@ use hp_num::{List, Memory};
 use hp_solver::{Answer, Duals, Fx, Kind, LpRow, StageLp};
 use hp_warm_table::lists::with_room;
 use hp_warm_table::numbers::bits;
-use hp_warm_table::{Cell, Scales, Table};
+use hp_warm_table::{Cell, Scales, WarmTable};
 use std::alloc::Global;
 
 /// A basic variable of a table that violates a bound, and that nothing brings back to it.
 #[derive(Clone, Copy)]
 struct Stuck<'a> {
-    table: &'a Table,
+    table: &'a WarmTable,
     /// The cells by which it depends on the nonbasic variables, one for each place.
     line: &'a [Cell],
     variable: usize,
@@ -38,19 +37,19 @@ fn own_factor(above: bool) -> i64
 
 // A cell of the line, with the other sign where the variable is below its bound.
 fn turned(above: bool, cell: Cell) -> i64
-    ensures value { result ≡ turned above cell }
+    ensures value { result ≡ turned_cell above cell }
     ensures small { nat_abs result < 2 ^ 60 }
 {
     if above { cell.number() } else { -cell.number() }
 }
 
 // The scaled factor of a row.
-#[tactic(auto, unfolding(crate::specs::Ray::factor_at))]
+#[tactic(auto, unfolding(crate::specs::Ray::ray_factor_at))]
 fn factor_at(stuck: &Stuck, row: usize) -> i64
     requires sized { IsTable stuck.now.table.now }
     requires line { length stuck.now.line.now ≡ length stuck.now.table.now.costs }
     requires row { row < length stuck.now.table.now.rows }
-    ensures value { result ≡ factor_at stuck.now.table.now stuck.now.line.now stuck.now.variable stuck.now.above row }
+    ensures value { result ≡ ray_factor_at stuck.now.table.now stuck.now.line.now stuck.now.variable stuck.now.above row }
     ensures small { nat_abs result < 2 ^ 60 }
 {
     let slack = slack_of(stuck.table, row);
@@ -103,11 +102,11 @@ fn greatest(stuck: &Stuck, exponents: &[i32]) -> Option<i64>
 }
 
 // The most binary digits that a factor of one of the own rows has once it is no longer scaled, if one is not 0.
-#[tactic(auto, unfolding(crate::specs::Ray::top_of))]
+#[tactic(auto, unfolding(crate::specs::Ray::top_of_factors))]
 fn top_of(stuck: &Stuck, own: usize) -> Option<i64>
     requires sized { IsTable stuck.now.table.now }
     requires line { length stuck.now.line.now ≡ length stuck.now.table.now.costs }
-    ensures value { result ≡ top_of stuck.now.table.now stuck.now.line.now stuck.now.variable stuck.now.above own }
+    ensures value { result ≡ top_of_factors stuck.now.table.now stuck.now.line.now stuck.now.variable stuck.now.above own }
     ensures small { IfSome result (λ top. nat_abs top ≤ 2 ^ 32) }
 {
     greatest(stuck, front(stuck.table.scales.rows.as_slice(), own))
@@ -128,9 +127,9 @@ fn unscaled(stuck: &Stuck, top: i64, own: usize, row: usize) -> Option<i128>
     requires line { length stuck.now.line.now ≡ length stuck.now.table.now.costs }
     requires own { own ≤ length stuck.now.table.now.rows }
     requires row { row < own }
-    requires top { Some top ≡ top_of stuck.now.table.now stuck.now.line.now stuck.now.variable stuck.now.above own }
+    requires top { Some top ≡ top_of_factors stuck.now.table.now stuck.now.line.now stuck.now.variable stuck.now.above own }
     requires small { nat_abs top ≤ 2 ^ 32 }
-    ensures value { result ≡ shift_of (factor_at stuck.now.table.now stuck.now.line.now stuck.now.variable stuck.now.above row) ((entry stuck.now.table.now.scales.rows row +ℤ pos 60) -ℤ top) }
+    ensures value { result ≡ shift_of (ray_factor_at stuck.now.table.now stuck.now.line.now stuck.now.variable stuck.now.above row) ((entry stuck.now.table.now.scales.rows row +ℤ pos 60) -ℤ top) }
     ensures there { IsSome result }
 {
     let factor = i128::from(factor_at(stuck, row));
@@ -138,15 +137,15 @@ fn unscaled(stuck: &Stuck, top: i64, own: usize, row: usize) -> Option<i128>
 }
 
 // The dual of a row. It is always there.
-#[tactic(auto, unfolding(crate::specs::Ray::ray_dual))]
+#[tactic(auto, unfolding(crate::specs::Ray::clipped_ray_dual))]
 fn ray_dual(stuck: &Stuck, top: i64, own: usize, number: usize, row: &LpRow) -> Option<Fx>
     requires sized { IsTable stuck.now.table.now }
     requires line { length stuck.now.line.now ≡ length stuck.now.table.now.costs }
     requires own { own ≤ length stuck.now.table.now.rows }
     requires row { number < own }
-    requires top { Some top ≡ top_of stuck.now.table.now stuck.now.line.now stuck.now.variable stuck.now.above own }
+    requires top { Some top ≡ top_of_factors stuck.now.table.now stuck.now.line.now stuck.now.variable stuck.now.above own }
     requires small { nat_abs top ≤ 2 ^ 32 }
-    ensures value { result ≡ ray_dual stuck.now.table.now stuck.now.line.now stuck.now.variable stuck.now.above top number row.now }
+    ensures value { result ≡ clipped_ray_dual stuck.now.table.now stuck.now.line.now stuck.now.variable stuck.now.above top number row.now }
     ensures there { IsSome result }
 {
     let dual = unscaled(stuck, top, own, number)?;
@@ -163,7 +162,7 @@ fn ray_duals(
     requires sized { IsTable stuck.now.table.now }
     requires line { length stuck.now.line.now ≡ length stuck.now.table.now.costs }
     requires own { lp.now.own ≤ length stuck.now.table.now.rows }
-    requires top { Some top ≡ top_of stuck.now.table.now stuck.now.line.now stuck.now.variable stuck.now.above lp.now.own }
+    requires top { Some top ≡ top_of_factors stuck.now.table.now stuck.now.line.now stuck.now.variable stuck.now.above lp.now.own }
     requires small { nat_abs top ≤ 2 ^ 32 }
     ensures value { IfOk result (λ found. found ≡ ray_duals stuck.now.table.now stuck.now.line.now stuck.now.variable stuck.now.above lp.now top) }
     ensures there { IfOk result (λ found. IsSome found) }
@@ -199,10 +198,10 @@ fn where_proved(alloc: Global, lp: &StageLp, duals: List<Fx>) -> Result<Option<A
 /// place. The duals of the own rows are the factors by which a sum of these rows shows that, clipped, as whole numbers;
 /// the greatest factor has 60 binary digits, so each of them is there. The duals of all cuts are 0. None where all
 /// factors are 0, or where they do not prove that no point keeps all own rows. [`Memory`] where memory was refused.
-#[tactic(auto, unfolding(crate::specs::Ray::ray_of))]
+#[tactic(auto, unfolding(crate::specs::Ray::ray_answer))]
 pub fn ray(
     alloc: Global,
-    table: &Table,
+    table: &WarmTable,
     line: &[Cell],
     variable: usize,
     above: bool,
@@ -211,8 +210,8 @@ pub fn ray(
     requires sized { IsTable table.now }
     requires line { length line.now ≡ length table.now.costs }
     requires own { lp.now.own ≤ length table.now.rows }
-    ensures answer { IfOk result (λ answer. answer ≡ ray_of table.now line.now variable above lp.now) }
-    ensures duals { OnOk result (IfSome (top_of table.now line.now variable above lp.now.own) (λ top. IsSome (ray_duals table.now line.now variable above lp.now top))) }
+    ensures answer { IfOk result (λ answer. answer ≡ ray_answer table.now line.now variable above lp.now) }
+    ensures duals { OnOk result (IfSome (top_of_factors table.now line.now variable above lp.now.own) (λ top. IsSome (ray_duals table.now line.now variable above lp.now top))) }
 {
     let stuck = Stuck {
         table: &*table,

@@ -8,11 +8,11 @@ use std::marker::Model;
 
 /// A sum of products, of absolute value at most 1.5 times 2^126.
 #[derive(Clone, Copy)]
-pub struct Wide {
+pub struct SumOfProducts {
     v: i128,
 }
 
-impl Model for Wide {
+impl Model for SumOfProducts {
     ghost use Rattle.std.specs.Prelude.{ℤ, ◌*◌, ◌^◌, ◌≤◌, nat_abs};
 
     ghost Value = { ℤ };
@@ -44,42 +44,42 @@ fn value_product(x: i64, y: i64) -> i128
     product(x, y)
 }
 
-impl Wide {
+impl SumOfProducts {
     /// The sum of nothing.
-    pub fn zero() -> Wide
+    pub fn zero() -> SumOfProducts
         ensures { result ≡ pos 0 }
     {
-        Wide { v: 0 }
+        SumOfProducts { v: 0 }
     }
 
     /// A cost at scale 2^80.
-    pub fn of_cost(cost: Cell) -> Wide
+    pub fn of_cost(cost: Cell) -> SumOfProducts
         ensures value { result ≡ cost *ℤ pos (2 ^ 40) }
         ensures small { nat_abs result ≤ 2 ^ 100 }
     {
-        Wide {
+        SumOfProducts {
             v: cost_product(cost.number(), 1 << 40),
         }
     }
 
     /// The sum less a dual times a term.
-    pub fn less_term(self, dual: Cell, term: Coefficient) -> Wide
+    pub fn less_term(self, dual: Cell, term: Coefficient) -> SumOfProducts
         requires { nat_abs self ≤ 2 ^ 126 }
         ensures value { result ≡ self -ℤ dual *ℤ term }
         ensures small { nat_abs result ≤ nat_abs self + 2 ^ 100 }
     {
-        Wide {
+        SumOfProducts {
             v: self.v - cost_product(dual.number(), term.number()),
         }
     }
 
     /// The sum with a cost times a value.
-    pub fn plus(self, cost: Cell, value: Quantity) -> Wide
+    pub fn plus(self, cost: Cell, value: Quantity) -> SumOfProducts
         requires { nat_abs self + 2 ^ 115 ≤ 3 * 2 ^ 125 }
         ensures value { result ≡ self +ℤ cost *ℤ value }
         ensures small { nat_abs result ≤ nat_abs self + 2 ^ 115 }
     {
-        Wide {
+        SumOfProducts {
             v: self.v + value_product(cost.number(), value.number()),
         }
     }

@@ -9,10 +9,10 @@ use Rattle.std.proofs.Math.ListN.{drop_of_length-le}
 use lib.IntN.{*ℤ_comm, *ℤ-zero, zero-*ℤ, +ℤ_idl}
 use Rattle.hp_num.specs.Sums.{entry, dot, at_terms}
 use Rattle.hp_simplex.specs.Each.{each_from}
-use Rattle.hp_warm_table.specs.Numbers.{down_of, value_of}
-use Rattle.hp_warm_table.specs.declared.table.Table.{Table}
+use Rattle.hp_warm_table.specs.Numbers.{down_of, quantity_of}
+use Rattle.hp_warm_table.specs.declared.table.WarmTable.{WarmTable}
 use Rattle.hp_warm_table.specs.Shape.{IsTable}
-use Rattle.hp_warm_table.specs.Updates.{Gives}
+use Rattle.hp_warm_table.specs.Updates.{GivesNew}
 use Rattle.hp_simplex.proofs.Each.{each_length, map_some}
 use Rattle.hp_warm_line.specs.Refine.{shift_at, shifts_of, moved_value, moved_values, stood_table, refined}
 use Rattle.hp_warm_table.specs.Sparse.{sparse}
@@ -23,11 +23,11 @@ use Rattle.hp_warm_line.specs.Sparse.{moved_by}
 first_share : (j : ℕ) (q : ℤ) (qs : List ℤ) (x : ℕ → ℤ) → at_terms (sparse j (q ∷ qs)) x ≡ q *ℤ x j +ℤ at_terms (sparse (suc j) qs) x
 first_share j q qs x = by (int_eq q (pos 0)) refl
   where
-    rest : List (ℕ × ℤ)
-    rest = sparse (suc j) qs
+    tail : List (ℕ × ℤ)
+    tail = sparse (suc j) qs
 
-    by : (b : Bool) → int_eq q (pos 0) ≡ b → at_terms (cond b rest ((j, q) ∷ rest)) x ≡ q *ℤ x j +ℤ at_terms rest x
-    by true e = sym (ap (λ (z : ℤ). z *ℤ x j +ℤ at_terms rest x) ((Decides-int_eq q (pos 0)).0 e) ∙ ap (λ (z : ℤ). z +ℤ at_terms rest x) (zero-*ℤ (x j)) ∙ +ℤ_idl (at_terms rest x))
+    by : (b : Bool) → int_eq q (pos 0) ≡ b → at_terms (cond b tail ((j, q) ∷ tail)) x ≡ q *ℤ x j +ℤ at_terms tail x
+    by true e = sym (ap (λ (z : ℤ). z *ℤ x j +ℤ at_terms tail x) ((Decides-int_eq q (pos 0)).0 e) ∙ ap (λ (z : ℤ). z +ℤ at_terms tail x) (zero-*ℤ (x j)) ∙ +ℤ_idl (at_terms tail x))
     by false e = refl
 
 past_zero : (line : List ℤ) (j : ℕ) → length line ≤ j → entry line j ≡ pos 0
@@ -48,9 +48,9 @@ dot_none [] = refl
 dot_none (x ∷ xs) = refl
 
 first_of_line : (line : List ℤ) (j : ℕ) (q : ℤ) (qs : List ℤ) → at_terms (sparse (suc j) qs) (entry line) ≡ dot (drop (suc j) line) qs → j < length line → at_terms (sparse j (q ∷ qs)) (entry line) ≡ dot (drop j line) (q ∷ qs)
-first_of_line line j q qs rest h =
+first_of_line line j q qs tail h =
     first_share j q qs (entry line)
-    ∙ ap₂ (λ (y z : ℤ). y +ℤ z) (*ℤ_comm q (entry line j)) (rest ∙ ap (λ (i : ℕ). dot (drop i line) qs) (sym (add-one j)))
+    ∙ ap₂ (λ (y z : ℤ). y +ℤ z) (*ℤ_comm q (entry line j)) (tail ∙ ap (λ (i : ℕ). dot (drop i line) qs) (sym (add-one j)))
     ∙ sym (ap (λ (xs : List ℤ). dot xs (q ∷ qs)) (drop_more line j (pos 0) h))
 
 after_line : (line : List ℤ) (j : ℕ) (q : ℤ) (qs : List ℤ) → length line ≤ j → at_terms (sparse j (q ∷ qs)) (entry line) ≡ dot (drop j line) (q ∷ qs)
@@ -63,20 +63,20 @@ all_shares line j (q ∷ qs) = ⊎_elim (first_of_line line j q qs (all_shares l
 
 pub moved_same : (places : List (Option ℕ)) (lines : List (List ℤ)) (qs : List ℤ) (v : ℕ) (x : ℤ) → moved_value places lines qs v x ≡ moved_by places lines (sparse 0 qs) v x
 unfolding moved_value moved_by
-moved_same places lines qs v x = ap (λ (s : ℤ). cond (is_none (get_or places v None)) (value_of (x +ℤ down_of s)) (Some x)) (sym (all_shares (get_or lines v []) 0 qs))
+moved_same places lines qs v x = ap (λ (s : ℤ). cond (is_none (get_or places v None)) (quantity_of (x +ℤ down_of s)) (Some x)) (sym (all_shares (get_or lines v []) 0 qs))
 
 each_same : {A B : Type 0} (f g : ℕ → A → Option B) (j : ℕ) (xs : List A) → ((k : ℕ) (x : A) → f k x ≡ g k x) → each_from f j xs ≡ each_from g j xs
 each_same f g j [] h = refl
-each_same {A} {B} f g j (x ∷ xs) h = ap₂ (λ (o : Option B) (rest : Option (List B)). option_and_then (λ y. option_map (λ ys. y ∷ ys) rest) o) (h j x) (each_same f g (suc j) xs h)
+each_same {A} {B} f g j (x ∷ xs) h = ap₂ (λ (o : Option B) (tail : Option (List B)). option_and_then (λ y. option_map (λ ys. y ∷ ys) tail) o) (h j x) (each_same f g (suc j) xs h)
 
 pub all_moved : (places : List (Option ℕ)) (lines : List (List ℤ)) (qs values : List ℤ) → each_from (moved_value places lines qs) 0 values ≡ each_from (moved_by places lines (sparse 0 qs)) 0 values
 all_moved places lines qs values = each_same (moved_value places lines qs) (moved_by places lines (sparse 0 qs)) 0 values (moved_same places lines qs)
 
 -- some shifts that are not 0, and those of the rest behind them
 abbrev pub kept : List (ℕ × ℤ) → ℕ → Option (List ℤ) → Option (List (ℕ × ℤ))
-kept done j rest = option_map (λ qs. done ++ sparse j qs) rest
+kept done j tail = option_map (λ qs. done ++ sparse j qs) tail
 
-some_kept : (done : List (ℕ × ℤ)) (j : ℕ) (q : ℤ) (rest : Option (List ℤ)) → kept done j (option_map (λ qs. q ∷ qs) rest) ≡ kept (done ++ sparse j (q ∷ [])) (suc j) rest
+some_kept : (done : List (ℕ × ℤ)) (j : ℕ) (q : ℤ) (tail : Option (List ℤ)) → kept done j (option_map (λ qs. q ∷ qs) tail) ≡ kept (done ++ sparse j (q ∷ [])) (suc j) tail
 some_kept done j q None = refl
 some_kept done j q (Some qs) = ap Some (one_kept done j q qs)
 
@@ -97,7 +97,7 @@ pub kept_done : {A : Type 0} (f : ℕ → A → Option ℤ) (whole : Option (Lis
 kept_done {A} f whole xs j done h w = w ∙ ap (λ (r : List A). kept done j (each_from f j r)) (drop_of_length-le xs h) ∙ ap Some (append-nil done)
 
 -- the places of a table's shifts are there
-pub shifts_inside : (t : Table) (shifts : List (ℕ × ℤ)) → IsTable t → option_map (sparse 0) (shifts_of t) ≡ Some shifts → All (λ (s : ℕ × ℤ). s.0 < length t.lines) shifts
+pub shifts_inside : (t : WarmTable) (shifts : List (ℕ × ℤ)) → IsTable t → option_map (sparse 0) (shifts_of t) ≡ Some shifts → All (λ (s : ℕ × ℤ). s.0 < length t.lines) shifts
 unfolding shifts_of
 shifts_inside t shifts s e =
     let m = map_some (sparse 0) (each_from (shift_at t) 0 t.basis.nonbasic) shifts e in
@@ -105,10 +105,10 @@ shifts_inside t shifts s e =
     subst (λ (ps : List (ℕ × ℤ)). All (λ (p : ℕ × ℤ). p.0 < length t.lines) ps) m.2 (sparse_inside (length t.lines) 0 m.0 (omega (arith, n)))
 
 -- the values of a basis, by the shifts that are not 0
-pub refined_by : (t s : Table) (shifts : List (ℕ × ℤ)) (r : Bool) (x : List ℤ) → s ≡ stood_table t → option_map (sparse 0) (shifts_of s) ≡ Some shifts → Gives r (each_from (moved_by s.basis.places s.lines shifts) 0 s.values) x → Gives r (refined t) x
+pub refined_by : (t s : WarmTable) (shifts : List (ℕ × ℤ)) (r : Bool) (x : List ℤ) → s ≡ stood_table t → option_map (sparse 0) (shifts_of s) ≡ Some shifts → GivesNew r (each_from (moved_by s.basis.places s.lines shifts) 0 s.values) x → GivesNew r (refined t) x
 unfolding refined moved_values
 refined_by t s shifts r x a e g =
     let m = map_some (sparse 0) (shifts_of s) shifts e in
     let whole : refined t ≡ each_from (moved_by s.basis.places s.lines shifts) 0 s.values =
-    ap (λ (u : Table). option_and_then (moved_values u) (shifts_of u)) (sym a) ∙ ap (option_and_then (moved_values s)) m.1 ∙ all_moved s.basis.places s.lines m.0 s.values ∙ ap (λ (ps : List (ℕ × ℤ)). each_from (moved_by s.basis.places s.lines ps) 0 s.values) m.2 in
-    subst (λ (o : Option (List ℤ)). Gives r o x) (sym whole) g
+    ap (λ (u : WarmTable). option_and_then (moved_values u) (shifts_of u)) (sym a) ∙ ap (option_and_then (moved_values s)) m.1 ∙ all_moved s.basis.places s.lines m.0 s.values ∙ ap (λ (ps : List (ℕ × ℤ)). each_from (moved_by s.basis.places s.lines ps) 0 s.values) m.2 in
+    subst (λ (o : Option (List ℤ)). GivesNew r o x) (sym whole) g

@@ -1,16 +1,16 @@
 -- Tables that change keep their shape.
 use Rattle.std.proofs.Common.{◌≡◌, ◌∙◌, ◌<◌, ℕ, ℤ, Bool, true, false, not, cond, nat_lt, Option, Some, None, IfSome, List, [], ◌∷◌, length, length-set, get_or, slice_set, refl}
 use Rattle.std.proofs.lemmas.List.Elements.{All-set}
-use Rattle.hp_warm_table.specs.declared.table.Table.{Table}
+use Rattle.hp_warm_table.specs.declared.table.WarmTable.{WarmTable}
 use Rattle.hp_warm_table.specs.Shape.{IsTable, variables}
 use Rattle.hp_warm_table.proofs.Shapes.{scales_of, bounds_of, basis_of, same_shape}
 use Rattle.hp_warm_table.specs.Kept.{with_values, with_basis}
-use Rattle.hp_warm_line.specs.Pivot.{entered, flipped, exchanged, replaced}
+use Rattle.hp_warm_line.specs.Pivot.{entered, flipped, exchanged_basis, replaced}
 
-pub sized_values : (t : Table) (x : List ℤ) → IsTable t → length x ≡ length t.values → IsTable (with_values t x)
+pub sized_values : (t : WarmTable) (x : List ℤ) → IsTable t → length x ≡ length t.values → IsTable (with_values t x)
 sized_values t x s e = same_shape t (with_values t x) s (scales_of t s) (bounds_of t s) (basis_of t s) s.reduced s.lines (e ∙ s.values)
 
-pub sized_parts : (t : Table) (reduced : List ℤ) (lines : List (List ℤ)) → IsTable t → length reduced ≡ length t.reduced → length lines ≡ length t.lines → IsTable (with_basis t t.basis reduced lines)
+pub sized_parts : (t : WarmTable) (reduced : List ℤ) (lines : List (List ℤ)) → IsTable t → length reduced ≡ length t.reduced → length lines ≡ length t.lines → IsTable (with_basis t t.basis reduced lines)
 sized_parts t reduced lines s e f = same_shape t (with_basis t t.basis reduced lines) s (scales_of t s) (bounds_of t s) (basis_of t s) (e ∙ s.reduced) (f ∙ s.lines) s.values
 
 flipped_length : (high : List Bool) (js : List ℕ) → length (flipped high js) ≡ length high
@@ -25,8 +25,8 @@ entered_length lines u n = by (nat_lt u (length lines))
     by true = length-set lines u n
     by false = refl
 
-pub sized_replaced : (t : Table) (n : List ℤ) (v : ℕ) (above : Bool) (e : ℕ) (flips : List ℕ) → IsTable t → v < variables t → e < length t.costs → IsTable (replaced t n v above e flips)
-unfolding replaced exchanged
+pub sized_replaced : (t : WarmTable) (n : List ℤ) (v : ℕ) (above : Bool) (e : ℕ) (flips : List ℕ) → IsTable t → v < variables t → e < length t.costs → IsTable (replaced t n v above e flips)
+unfolding replaced exchanged_basis
 sized_replaced t n v above e flips s there place =
     same_shape t (replaced t n v above e flips) s (scales_of t s) (bounds_of t s)
     (record {

@@ -4,14 +4,14 @@ use Rattle.std.specs.List.{range_with_len}
 use Rattle.std.proofs.lemmas.List.{length-replicate}
 use Rattle.std.proofs.lemmas.List.FromFn.{length-map-range_with_len, get_or-map-range_with_len}
 use Rattle.std.proofs.lemmas.Bool.Decides.{nat_tests}
-use Rattle.hp_warm_table.specs.declared.table.Table.{Table}
+use Rattle.hp_warm_table.specs.declared.table.WarmTable.{WarmTable}
 use Rattle.hp_warm_table.specs.declared.table.Basis.{Basis}
 use Rattle.hp_warm_table.specs.Shape.{IsTable, variables}
 use Rattle.hp_warm_table.proofs.Shapes.{scales_of, bounds_of, other_highs, same_shape}
 use Rattle.hp_warm_line.specs.Clean.{first_place, slack_basis, clean_of}
 use Rattle.hp_warm_line.specs.Standings.{map_from, standing_at, stood_up}
 
-pub numbers_inside : (t : Table) (n : ℕ) → IsTable t → n ≡ variables t → All (λ v. v < n) t.basis.nonbasic
+pub numbers_inside : (t : WarmTable) (n : ℕ) → IsTable t → n ≡ variables t → All (λ v. v < n) t.basis.nonbasic
 numbers_inside t n s e = subst (λ (m : ℕ). All (λ v. v < m) t.basis.nonbasic) (sym e) s.numbers
 
 map_length : {A B : Type 0} (f : ℕ → A → B) (j : ℕ) (xs : List A) → length (map_from f j xs) ≡ length xs
@@ -31,7 +31,7 @@ place_inside columns v = by (nat_lt v columns) refl
     by true e = grind (arith, nat_tests)
     by false e = tt
 
-pub sized_clean : (t : Table) → IsTable t → IsTable (clean_of t)
+pub sized_clean : (t : WarmTable) → IsTable t → IsTable (clean_of t)
 unfolding clean_of slack_basis
 sized_clean t s =
     same_shape t (clean_of t) s (scales_of t s) (bounds_of t s)
@@ -43,7 +43,7 @@ sized_clean t s =
       inside = each_number (λ p. IfSome p (λ j. j < length t.costs)) (first_place (length t.costs)) (length t.costs + length t.rows) (λ k h. place_inside (length t.costs) k);
     }) refl s.lines (length-replicate (length t.costs) (pos 0))
 
-pub sized_stood : (b : Basis) (t : Table) → IsTable t → IsTable (stood_up b t)
+pub sized_stood : (b : Basis) (t : WarmTable) → IsTable t → IsTable (stood_up b t)
 unfolding stood_up
 sized_stood b t s =
     same_shape t (stood_up b t) s (scales_of t s) (bounds_of t s) (other_highs t (map_from (standing_at b t.basis.nonbasic t.reduced) 0 t.basis.high) s (map_length (standing_at b t.basis.nonbasic t.reduced) 0 t.basis.high ∙ s.high)) s.reduced s.lines s.values

@@ -1,13 +1,13 @@
 -- The value of a row at the columns' values.
 use Rattle.std.specs.Prelude.{ℕ, ℤ, List, [], get_or, Option}
 use Rattle.hp_num.specs.Sums.{entry, at_terms}
-use Rattle.hp_warm_table.specs.Numbers.{down_of, value_of}
-use Rattle.hp_warm_table.specs.declared.table.Table.{Table}
+use Rattle.hp_warm_table.specs.Numbers.{down_of, quantity_of}
+use Rattle.hp_warm_table.specs.declared.table.WarmTable.{WarmTable}
 
 -- the sum of terms at the values x, rounded once; none where it is no quantity
-abbrev pub row_value : List (ℕ × ℤ) → List ℤ → Option ℤ
-row_value terms x = value_of (down_of (at_terms terms (entry x)))
+abbrev pub row_activity : List (ℕ × ℤ) → List ℤ → Option ℤ
+row_activity terms x = quantity_of (down_of (at_terms terms (entry x)))
 
 -- the value of row i
-abbrev pub activity_of : Table → ℕ → Option ℤ
-activity_of t i = row_value (get_or t.rows i []) t.values
+abbrev pub activity_of : WarmTable → ℕ → Option ℤ
+activity_of t i = row_activity (get_or t.rows i []) t.values

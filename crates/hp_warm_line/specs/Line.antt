@@ -4,7 +4,7 @@ use Rattle.std.specs.Option.{option_map, option_and_then}
 use Rattle.hp_num.specs.Sums.{entry}
 use Rattle.hp_warm_table.specs.Numbers.{cell_of}
 use Rattle.hp_warm_table.specs.Updates.{added_row}
-use Rattle.hp_warm_table.specs.declared.table.Table.{Table}
+use Rattle.hp_warm_table.specs.declared.table.WarmTable.{WarmTable}
 
 -- the line r with the term of column u and coefficient a added, by u's place: the coefficient is added there, or, where u is basic, its line times the coefficient
 abbrev pub added_term : List (List ℤ) → List ℤ → ℕ → ℤ → Option ℕ → Option (List ℤ)
@@ -17,6 +17,6 @@ added_terms places lines r [] = Some r
 added_terms places lines r (t ∷ ts) = option_and_then (λ s. added_terms places lines s ts) (added_term lines r t.0 t.1 (get_or places t.0 None))
 
 -- the line of a basic variable; none where one of its numbers is no cell on the way
-unfoldable pub line_of : Table → ℕ → Option (List ℤ)
+unfoldable pub line_of : WarmTable → ℕ → Option (List ℤ)
 line_of t v =
     if nat_lt v (length t.costs) then Some (get_or t.lines v []) else added_terms t.basis.places t.lines (replicate (length t.costs) (pos 0)) (get_or t.rows (v - length t.costs) [])

@@ -3,7 +3,7 @@ use Rattle.std.specs.Prelude.{ℕ, suc, ℤ, pos, Bool, not, ◌&&◌, ◌||◌,
 use Rattle.std.specs.Option.{option_map}
 use Rattle.hp_num.specs.Sums.{entry}
 use Rattle.hp_warm_table.specs.declared.table.Basis.{Basis}
-use Rattle.hp_warm_table.specs.declared.table.Table.{Table}
+use Rattle.hp_warm_table.specs.declared.table.WarmTable.{WarmTable}
 use Rattle.hp_warm_table.specs.Kept.{with_basis}
 use Rattle.hp_warm_line.specs.Clean.{clean_of}
 use Rattle.hp_warm_line.specs.Tighten.{was_high, tightened}
@@ -22,9 +22,9 @@ unfoldable pub standing_at : Basis → List ℕ → List ℤ → ℕ → Bool �
 standing_at b vs reduced j high = standing b (length vs) (get_or vs j 0) (entry reduced j) high
 
 -- the table where each nonbasic column stands by its reduced cost
-unfoldable pub stood_up : Basis → Table → Table
+unfoldable pub stood_up : Basis → WarmTable → WarmTable
 stood_up b t = with_basis t (record { nonbasic = t.basis.nonbasic; places = t.basis.places; high = map_from (standing_at b t.basis.nonbasic t.reduced) 0 t.basis.high }) t.reduced t.lines
 
 -- the basis of a table in a clean one; none where a number is out of range
-unfoldable pub rebuilt_of : Table → Option Table
+unfoldable pub rebuilt_of : WarmTable → Option WarmTable
 rebuilt_of t = option_map (stood_up t.basis) (tightened t.basis (clean_of t) (length t.costs) (length t.rows))

@@ -3,7 +3,7 @@ use Rattle.std.specs.Prelude.{ℕ, zero, suc, ◌^◌, ℤ, Bool, true, false, �
 use Rattle.std.specs.Option.{option_and_then}
 use Rattle.hp_num.specs.Sums.{entry}
 use Rattle.hp_warm_table.specs.declared.table.Basis.{Basis}
-use Rattle.hp_warm_table.specs.declared.table.Table.{Table}
+use Rattle.hp_warm_table.specs.declared.table.WarmTable.{WarmTable}
 use Rattle.hp_warm_line.specs.Line.{line_of}
 use Rattle.hp_warm_line.specs.Pivot.{pivoted}
 
@@ -40,19 +40,19 @@ large_enough line (Some j) = if nat_le (2 ^ 24) (nat_abs (entry line j)) then So
 unfoldable pub best_place : Basis → List ℕ → List ℤ → Option ℕ
 best_place b vs line = large_enough line (place_from b line None 0 vs)
 
-abbrev pub by_place : Basis → Table → ℕ → List ℤ → Option ℕ → Option Table
+abbrev pub by_place : Basis → WarmTable → ℕ → List ℤ → Option ℕ → Option WarmTable
 by_place b t v line None = Some t
 by_place b t v line (Some j) = pivoted t line v (was_high b v) j []
 
 -- the slack v leaves, where a place is found for it; none where a number is out of range
-unfoldable pub left : Basis → Table → ℕ → Option Table
+unfoldable pub left : Basis → WarmTable → ℕ → Option WarmTable
 left b t v = option_and_then (λ line. by_place b t v line (best_place b t.basis.nonbasic line)) (line_of t v)
 
 -- the slack v leaves, where it was not basic
-unfoldable pub tight : Basis → Table → ℕ → Option Table
+unfoldable pub tight : Basis → WarmTable → ℕ → Option WarmTable
 tight b t v = if is_none (get_or b.places v None) then Some t else left b t v
 
 -- so many slacks from v on leave, where they were not basic
-abbrev pub tightened : Basis → Table → ℕ → ℕ → Option Table
+abbrev pub tightened : Basis → WarmTable → ℕ → ℕ → Option WarmTable
 tightened b t v zero = Some t
 tightened b t v (suc count) = option_and_then (λ next. tightened b next (suc v) count) (tight b t v)

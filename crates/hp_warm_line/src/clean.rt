@@ -1,14 +1,14 @@
 // The table before any pivot.
-ghost use Rattle.std.specs.Prelude.{◌≡◌, ◌+◌, ◌≤◌, pos, false, length, replicate};
+ghost use Rattle.std.specs.Prelude.{◌≡◌, ◌+◌, pos, false, length, replicate};
 ghost use Rattle.hp_warm_table.specs.Shape.{IsTable};
-ghost use Rattle.hp_warm_line.specs.Clean.{first_place, numbers, first_places, slack_basis, clean_of};
+ghost use Rattle.hp_warm_line.specs.Clean.{first_place, place_numbers, first_places, slack_basis, clean_of};
 
 use hp_num::List;
-use hp_warm_table::{Basis, Cell, Quantity, Table};
+use hp_warm_table::{Basis, Cell, Quantity, WarmTable};
 
 // Writes each number at its place.
 fn write_numbers(nonbasic: &mut List<usize>)
-    ensures { nonbasic.new ≡ numbers (length nonbasic.old) }
+    ensures { nonbasic.new ≡ place_numbers (length nonbasic.old) }
 {
     for j in 0..nonbasic.len() {
         nonbasic.set(j, j);
@@ -76,7 +76,7 @@ fn write_basis(basis: &mut Basis, columns: usize, rows: usize)
 
 // Writes the table of the basis of all slacks over a table.
 #[tactic(auto, unfolding(crate::specs::Clean::clean_of))]
-pub(crate) fn clean(table: &mut Table)
+pub(crate) fn clean(table: &mut WarmTable)
     requires { IsTable table.old }
     ensures { table.new ≡ clean_of table.old }
 {

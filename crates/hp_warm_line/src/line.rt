@@ -4,12 +4,12 @@ ghost use Rattle.std.specs.Option.{option_map};
 ghost use Rattle.hp_num.specs.Sums.{entry};
 ghost use Rattle.hp_warm_table.specs.Numbers.{cell_of};
 ghost use Rattle.hp_warm_table.specs.Shape.{IsTable, variables};
-ghost use Rattle.hp_warm_table.specs.Updates.{Gives};
+ghost use Rattle.hp_warm_table.specs.Updates.{GivesNew};
 ghost use Rattle.hp_warm_line.specs.Line.{added_term, added_terms, line_of};
 
 use hp_num::List;
 use hp_warm_table::updates::add_row;
-use hp_warm_table::{Cell, Coefficient, Square, Table};
+use hp_warm_table::{Cell, Coefficient, Square, WarmTable};
 
 // A cell with a coefficient added.
 fn added(cell: Cell, a: Coefficient) -> Option<Cell>
@@ -22,7 +22,7 @@ fn added(cell: Cell, a: Coefficient) -> Option<Cell>
 fn add_at(line: &mut [Cell], place: usize, a: Coefficient) -> bool
     requires { place < length line.old }
     ensures width { length line.new ≡ length line.old }
-    ensures added { Gives result
+    ensures added { GivesNew result
         (option_map (slice_set line.old place) (cell_of (entry line.old place +ℤ a))) line.new }
 {
     match added(line[place], a) {
@@ -46,7 +46,7 @@ fn add_term(
     requires column { column < length lines.now }
     requires inside { IfSome place (λ j. j < length line.old) }
     ensures width { length line.new ≡ length line.old }
-    ensures added { Gives result (added_term lines.now line.old column a place) line.new }
+    ensures added { GivesNew result (added_term lines.now line.old column a place) line.new }
 {
     match place {
         Some(j) => add_at(line, j, a),
@@ -66,7 +66,7 @@ fn add_terms(
     requires inside { All (λ p. IfSome p (λ j. j < length line.old)) places.now }
     requires columns { All (λ t. t.0 < length lines.now) terms.now }
     ensures width { length line.new ≡ length line.old }
-    ensures added { Gives result (added_terms places.now lines.now line.old terms.now) line.new }
+    ensures added { GivesNew result (added_terms places.now lines.now line.old terms.now) line.new }
 {
     for k in 0..terms.len() {
         let column = terms[k].0 as usize;
@@ -88,12 +88,12 @@ fn clear(line: &mut [Cell])
 
 // Writes the line of a row's slack.
 #[tactic(auto, using(crate::proofs::Inside::row_columns, crate::proofs::Inside::places_inside))]
-fn write_slack(table: &Table, row: usize, line: &mut [Cell]) -> bool
+fn write_slack(table: &WarmTable, row: usize, line: &mut [Cell]) -> bool
     requires sized { IsTable table.now }
     requires there { row < length table.now.rows }
     requires width { length line.old ≡ length table.now.costs }
     ensures width { length line.new ≡ length line.old }
-    ensures line { Gives result (added_terms table.now.basis.places table.now.lines
+    ensures line { GivesNew result (added_terms table.now.basis.places table.now.lines
         (replicate (length table.now.costs) (pos 0)) (get_or table.now.rows row [])) line.new }
 {
     clear(line);
@@ -107,12 +107,12 @@ fn write_slack(table: &Table, row: usize, line: &mut [Cell]) -> bool
 
 // Writes the line of a variable over a slice.
 #[tactic(auto, unfolding(crate::specs::Line::line_of))]
-fn write_over(table: &Table, variable: usize, line: &mut [Cell]) -> bool
+fn write_over(table: &WarmTable, variable: usize, line: &mut [Cell]) -> bool
     requires sized { IsTable table.now }
     requires there { variable < variables table.now }
     requires width { length line.old ≡ length table.now.costs }
     ensures width { length line.new ≡ length line.old }
-    ensures line { Gives result (line_of table.now variable) line.new }
+    ensures line { GivesNew result (line_of table.now variable) line.new }
 {
     let columns = table.costs.len();
     if variable < columns {
@@ -126,12 +126,12 @@ fn write_over(table: &Table, variable: usize, line: &mut [Cell]) -> bool
 /// Writes the line of a basic variable: the cells by which it is a sum over the places. The answer
 /// is false exactly where a cell of it, on the way too, has an absolute value of 2^60 or more:
 /// nothing but its length is promised of the line then.
-pub fn write_line(table: &Table, variable: usize, line: &mut List<Cell>) -> bool
+pub fn write_line(table: &WarmTable, variable: usize, line: &mut List<Cell>) -> bool
     requires sized { IsTable table.now }
     requires there { variable < variables table.now }
     requires width { length line.old ≡ length table.now.costs }
     ensures width { length line.new ≡ length line.old }
-    ensures line { Gives result (line_of table.now variable) line.new }
+    ensures line { GivesNew result (line_of table.now variable) line.new }
 {
     write_over(table, variable, line.as_mut_slice())
 }

@@ -1,21 +1,20 @@
 // The point where a variable leaves for another.
-ghost use Rattle.std.specs.Prelude.{◌≡◌, ◌^◌, ◌+◌, ◌<◌, ◌≤◌, pos, ◌+ℤ◌, ◌*ℤ◌, ◌∷◌, length, take, map, not, get_or, slice_set, false, nat_abs, All};
+ghost use Rattle.std.specs.Prelude.{◌≡◌, ◌^◌, ◌+◌, ◌<◌, ◌≤◌, pos, ◌+ℤ◌, ◌*ℤ◌, length, take, not, get_or, slice_set, false, nat_abs, All};
 ghost use Rattle.std.specs.Option.{option_map};
 ghost use Rattle.hp_num.specs.Sums.{at_terms, entry};
 ghost use Rattle.hp_simplex.specs.Each.{each_from};
 ghost use Rattle.hp_warm_table.specs.Shape.{IsTable, variables};
-ghost use Rattle.hp_warm_table.specs.Updates.{Gives};
-ghost use Rattle.hp_warm_table.specs.Numbers.{down_of, value_of};
+ghost use Rattle.hp_warm_table.specs.Updates.{GivesNew};
+ghost use Rattle.hp_warm_table.specs.Numbers.{down_of, quantity_of};
 ghost use Rattle.hp_warm_table.specs.Kept.{with_values};
-ghost use Rattle.hp_warm_line.specs.Refine.{IsWhole, stand_of};
-ghost use Rattle.hp_warm_line.specs.Move.{length_of, step_of, span_of, span_at, steps_of, carried, put, passed, reached, arrived, moved_along, moved_of};
+ghost use Rattle.hp_warm_line.specs.Move.{length_of, step_of, bound_span, span_at, steps_of, carried, put_at_bound, passed, reached_values, arrived_values, moved_along, moved_of};
 
 use crate::points::{shifted, stand};
 use crate::shift::Shift;
 use crate::sums::shares;
 use hp_num::List;
 use hp_warm_table::numbers::quotient;
-use hp_warm_table::{Cell, Quantity, Square, Table};
+use hp_warm_table::{Cell, Quantity, Square, WarmTable};
 
 /// A variable that leaves, and the place of the one that enters for it.
 #[derive(Clone, Copy)]
@@ -27,16 +26,16 @@ pub struct Swap {
     /// The place of the variable that enters.
     pub place: usize,
     /// The violation that is left once those that flip have gone to their other bounds.
-    pub rest: i128,
+    pub tail: i128,
 }
 
 // The number times 2^40.
-fn raised(rest: i128) -> i128
-    requires { nat_abs rest ≤ 2 ^ 80 }
-    ensures value { result ≡ rest *ℤ pos (2 ^ 40) }
+fn raised(tail: i128) -> i128
+    requires { nat_abs tail ≤ 2 ^ 80 }
+    ensures value { result ≡ tail *ℤ pos (2 ^ 40) }
     ensures small { nat_abs result ≤ 2 ^ 120 }
 {
-    rest * (1 << 40)
+    tail * (1 << 40)
 }
 
 // The absolute value of a cell.
@@ -51,12 +50,12 @@ fn size(cell: Cell) -> i128
 
 // Divides the violation that is left by the size of a cell. None where the result is no quantity.
 #[tactic(auto, unfolding(crate::specs::Move::length_of))]
-fn length_of(rest: i128, cell: Cell) -> Option<Quantity>
+fn length_of(tail: i128, cell: Cell) -> Option<Quantity>
     requires { 0 < nat_abs cell }
-    ensures { result ≡ length_of rest cell }
+    ensures { result ≡ length_of tail cell }
 {
-    if rest.unsigned_abs() <= 1 << 80 {
-        Quantity::new(quotient(raised(rest), size(cell)))
+    if tail.unsigned_abs() <= 1 << 80 {
+        Quantity::new(quotient(raised(tail), size(cell)))
     } else {
         None
     }
@@ -67,20 +66,20 @@ fn length_of(rest: i128, cell: Cell) -> Option<Quantity>
 fn step_of(line: &[Cell], swap: Swap) -> Option<Shift>
     requires place { swap.place < length line.now }
     requires pivot { 0 < nat_abs (entry line.now swap.place) }
-    ensures { result ≡ step_of line.now swap.above swap.place swap.rest }
+    ensures { result ≡ step_of line.now swap.above swap.place swap.tail }
 {
     let cell = line[swap.place];
-    let length = length_of(swap.rest, cell)?;
+    let length = length_of(swap.tail, cell)?;
     let down = cell.number() < 0;
     Some(Shift::by(length).turned_by(down).turned_by(swap.above))
 }
 
 // Gives the distance to a variable's other bound.
-#[tactic(auto, unfolding(crate::specs::Move::span_of), using(crate::proofs::Inside::whole_bounds))]
-fn span_of(table: &Table, high: bool, variable: usize) -> Shift
+#[tactic(auto, unfolding(crate::specs::Move::bound_span), using(crate::proofs::Inside::whole_bounds))]
+fn span_of(table: &WarmTable, high: bool, variable: usize) -> Shift
     requires sized { IsTable table.now }
     requires there { variable < variables table.now }
-    ensures { result ≡ span_of table.now high variable }
+    ensures { result ≡ bound_span table.now high variable }
 {
     let here = stand(&table.bounds, high, variable);
     Shift::between(here, stand(&table.bounds, !high, variable))
@@ -88,7 +87,7 @@ fn span_of(table: &Table, high: bool, variable: usize) -> Shift
 
 // Like `span_of`, for the variable at a place.
 #[tactic(auto, unfolding(crate::specs::Move::span_at))]
-fn span_at(table: &Table, place: usize) -> Shift
+fn span_at(table: &WarmTable, place: usize) -> Shift
     requires sized { IsTable table.now }
     requires place { place < length table.now.costs }
     ensures { result ≡ span_at table.now place }
@@ -102,7 +101,7 @@ fn span_at(table: &Table, place: usize) -> Shift
 
 // Writes how far the variables go that enter and flip, each with its place.
 fn write_steps(
-    table: &Table,
+    table: &WarmTable,
     shifts: &mut List<(usize, Shift)>,
     place: usize,
     step: Shift,
@@ -126,8 +125,8 @@ fn carry_by(values: &mut [Quantity], line: &[Cell], steps: &[(usize, Shift)], k:
     requires inside { All (λ s. s.0 < length line.now) steps.now }
     requires few { length steps.now ≤ 1199 }
     ensures count { length values.new ≡ length values.old }
-    ensures moved { Gives result (option_map (slice_set values.old k)
-        (value_of (entry values.old k +ℤ down_of (at_terms steps.now (entry line.now))))) values.new }
+    ensures moved { GivesNew result (option_map (slice_set values.old k)
+        (quantity_of (entry values.old k +ℤ down_of (at_terms steps.now (entry line.now))))) values.new }
 {
     match shifted(values[k], shares(steps, line)) {
         Some(x) => {
@@ -154,7 +153,7 @@ fn carry(
     requires inside { All (λ s. s.0 < length lines.now) steps.now }
     requires few { length steps.now ≤ 1199 }
     ensures count { length values.new ≡ length values.old }
-    ensures moved { Gives result (option_map (slice_set values.old k)
+    ensures moved { GivesNew result (option_map (slice_set values.old k)
         (carried places.now lines.now leaving steps.now k (entry values.old k))) values.new }
 {
     if places[k].is_none() && k != leaving {
@@ -177,7 +176,7 @@ fn carry_each(
     requires inside { All (λ s. s.0 < length lines.now) steps.now }
     requires few { length steps.now ≤ 1199 }
     ensures count { length values.new ≡ length values.old }
-    ensures moved { Gives result
+    ensures moved { GivesNew result
         (each_from (carried places.now lines.now leaving steps.now) 0 values.old) values.new }
 {
     for k in 0..values.len() {
@@ -201,7 +200,7 @@ fn carry_all(
     requires inside { All (λ s. s.0 < length lines.now) steps.now }
     requires few { length steps.now ≤ 1199 }
     ensures count { length values.new ≡ length values.old }
-    ensures moved { Gives result
+    ensures moved { GivesNew result
         (each_from (carried places.now lines.now leaving steps.now) 0 values.old) values.new }
 {
     carry_each(values.as_mut_slice(), places, lines, leaving, steps)
@@ -209,13 +208,13 @@ fn carry_all(
 
 // Moves the values of a table's basic columns but the one that leaves by the steps.
 #[tactic(auto, using(crate::proofs::Sized::sized_values))]
-fn carry_columns(table: &mut Table, leaving: usize, steps: &[(usize, Shift)]) -> bool
+fn carry_columns(table: &mut WarmTable, leaving: usize, steps: &[(usize, Shift)]) -> bool
     requires sized { IsTable table.old }
     requires inside { All (λ s. s.0 < length table.old.lines) steps.now }
     requires few { length steps.now ≤ 1199 }
     ensures sized { IsTable table.new }
     ensures kept { table.new ≡ with_values table.old table.new.values }
-    ensures moved { Gives result (each_from
+    ensures moved { GivesNew result (each_from
         (carried table.old.basis.places table.old.lines leaving steps.now) 0 table.old.values)
         table.new.values }
 {
@@ -229,13 +228,13 @@ fn carry_columns(table: &mut Table, leaving: usize, steps: &[(usize, Shift)]) ->
 }
 
 // Puts a variable, where it is a column, at a bound.
-#[tactic(auto, unfolding(crate::specs::Move::put), using(crate::proofs::Inside::whole_bounds, crate::proofs::Sized::sized_values))]
-fn put(table: &mut Table, high: bool, variable: usize)
+#[tactic(auto, unfolding(crate::specs::Move::put_at_bound), using(crate::proofs::Inside::whole_bounds, crate::proofs::Sized::sized_values))]
+fn put(table: &mut WarmTable, high: bool, variable: usize)
     requires sized { IsTable table.old }
     requires there { variable < variables table.old }
     ensures sized { IsTable table.new }
     ensures kept { table.new ≡ with_values table.old table.new.values }
-    ensures put { table.new.values ≡ put table.old high variable table.old.values }
+    ensures put { table.new.values ≡ put_at_bound table.old high variable table.old.values }
 {
     if variable < table.values.len() {
         let bound = stand(&table.bounds, high, variable);
@@ -244,12 +243,12 @@ fn put(table: &mut Table, high: bool, variable: usize)
 }
 
 // Puts the variable at a place, where it is a column, at its other bound.
-fn pass(table: &mut Table, place: usize)
+fn pass(table: &mut WarmTable, place: usize)
     requires sized { IsTable table.old }
     requires place { place < length table.old.costs }
     ensures sized { IsTable table.new }
     ensures kept { table.new ≡ with_values table.old table.new.values }
-    ensures passed { table.new.values ≡ put table.old (not (get_or table.old.basis.high place false))
+    ensures passed { table.new.values ≡ put_at_bound table.old (not (get_or table.old.basis.high place false))
         (get_or table.old.basis.nonbasic place 0) table.old.values }
 {
     let high = table.basis.high.as_slice()[place];
@@ -258,7 +257,7 @@ fn pass(table: &mut Table, place: usize)
 }
 
 // Puts each column that flips at its other bound.
-fn pass_all(table: &mut Table, flips: &[usize])
+fn pass_all(table: &mut WarmTable, flips: &[usize])
     requires sized { IsTable table.old }
     requires flips { All (λ j. j < length table.old.costs) flips.now }
     ensures sized { IsTable table.new }
@@ -272,20 +271,20 @@ fn pass_all(table: &mut Table, flips: &[usize])
 
 // A bound and a step from there.
 fn stepped(bound: Quantity, step: Shift) -> Option<Quantity>
-    ensures { result ≡ value_of (bound +ℤ step) }
+    ensures { result ≡ quantity_of (bound +ℤ step) }
 {
     Quantity::new(i128::from(bound.number()) + i128::from(step.number()))
 }
 
 // Puts a variable, where it is a column, so far from its bound.
-#[tactic(auto, unfolding(crate::specs::Move::reached), using(crate::proofs::Inside::whole_bounds, crate::proofs::Sized::sized_values))]
-fn reach(table: &mut Table, high: bool, variable: usize, step: Shift) -> bool
+#[tactic(auto, unfolding(crate::specs::Move::reached_values), using(crate::proofs::Inside::whole_bounds, crate::proofs::Sized::sized_values))]
+fn reach(table: &mut WarmTable, high: bool, variable: usize, step: Shift) -> bool
     requires sized { IsTable table.old }
     requires there { variable < variables table.old }
     ensures sized { IsTable table.new }
     ensures kept { table.new ≡ with_values table.old table.new.values }
-    ensures reached { Gives result
-        (reached table.old high variable step table.old.values) table.new.values }
+    ensures reached { GivesNew result
+        (reached_values table.old high variable step table.old.values) table.new.values }
 {
     if variable >= table.values.len() {
         return true;
@@ -300,12 +299,12 @@ fn reach(table: &mut Table, high: bool, variable: usize, step: Shift) -> bool
 }
 
 // Puts the variable at a place, where it is a column, so far from its bound.
-fn enter(table: &mut Table, place: usize, step: Shift) -> bool
+fn enter(table: &mut WarmTable, place: usize, step: Shift) -> bool
     requires sized { IsTable table.old }
     requires place { place < length table.old.costs }
     ensures sized { IsTable table.new }
     ensures kept { table.new ≡ with_values table.old table.new.values }
-    ensures reached { Gives result (reached table.old (get_or table.old.basis.high place false)
+    ensures reached { GivesNew result (reached_values table.old (get_or table.old.basis.high place false)
         (get_or table.old.basis.nonbasic place 0) step table.old.values) table.new.values }
 {
     let high = table.basis.high.as_slice()[place];
@@ -314,16 +313,16 @@ fn enter(table: &mut Table, place: usize, step: Shift) -> bool
 }
 
 // Puts the variables that flip, enter and leave where they arrive.
-#[tactic(auto, unfolding(crate::specs::Move::arrived))]
-fn arrive(table: &mut Table, swap: Swap, step: Shift, flips: &[usize]) -> bool
+#[tactic(auto, unfolding(crate::specs::Move::arrived_values))]
+fn arrive(table: &mut WarmTable, swap: Swap, step: Shift, flips: &[usize]) -> bool
     requires sized { IsTable table.old }
     requires there { swap.leaving < variables table.old }
     requires place { swap.place < length table.old.costs }
     requires flips { All (λ j. j < length table.old.costs) flips.now }
     ensures sized { IsTable table.new }
     ensures kept { table.new ≡ with_values table.old table.new.values }
-    ensures arrived { Gives result
-        (arrived table.old swap.leaving swap.above swap.place step flips.now table.old.values)
+    ensures arrived { GivesNew result
+        (arrived_values table.old swap.leaving swap.above swap.place step flips.now table.old.values)
         table.new.values }
 {
     pass_all(table, flips);
@@ -337,7 +336,7 @@ fn arrive(table: &mut Table, swap: Swap, step: Shift, flips: &[usize]) -> bool
 // Moves the point where the entering variable goes so far.
 #[tactic(auto, unfolding(crate::specs::Move::moved_along))]
 fn move_along(
-    table: &mut Table,
+    table: &mut WarmTable,
     shifts: &mut List<(usize, Shift)>,
     swap: Swap,
     step: Shift,
@@ -352,7 +351,7 @@ fn move_along(
     ensures sized { IsTable table.new }
     ensures shifts { length shifts.new ≡ length shifts.old }
     ensures kept { table.new ≡ with_values table.old table.new.values }
-    ensures moved { Gives result
+    ensures moved { GivesNew result
         (moved_along table.old swap.leaving swap.above swap.place flips.now step)
         table.new.values }
 {
@@ -371,7 +370,7 @@ fn move_along(
 /// promised of the values then. All else of the table stays. `shifts` is for work: as many places with shifts as columns.
 #[tactic(auto, unfolding(crate::specs::Move::moved_of))]
 pub fn move_point(
-    table: &mut Table,
+    table: &mut WarmTable,
     line: &[Cell],
     shifts: &mut List<(usize, Shift)>,
     swap: Swap,
@@ -388,7 +387,7 @@ pub fn move_point(
     ensures sized { IsTable table.new }
     ensures shifts { length shifts.new ≡ length shifts.old }
     ensures kept { table.new ≡ with_values table.old table.new.values }
-    ensures moved { Gives result (moved_of table.old line.now swap.leaving swap.above swap.place swap.rest flips.now)
+    ensures moved { GivesNew result (moved_of table.old line.now swap.leaving swap.above swap.place swap.tail flips.now)
         table.new.values }
 {
     match step_of(line, swap) {

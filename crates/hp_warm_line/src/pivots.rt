@@ -6,9 +6,9 @@ ghost use Rattle.hp_warm_table.specs.Numbers.{bits_of, quotient_of, cell_of};
 ghost use Rattle.hp_simplex.specs.Each.{each_from};
 ghost use Rattle.hp_warm_table.specs.Shape.{IsTable, variables};
 ghost use Rattle.hp_warm_table.specs.Kept.{with_basis};
-ghost use Rattle.hp_warm_table.specs.Updates.{Gives, moved_row};
+ghost use Rattle.hp_warm_table.specs.Updates.{GivesNew, moved_table_row};
 ghost use Rattle.hp_warm_table.specs.Sparse.{sparse};
-ghost use Rattle.hp_warm_line.specs.Pivot.{minus_one, inverse_of, turned, turned_line, moved_or_kept, entered, flipped, exchanged, eliminated, replaced, pivoted};
+ghost use Rattle.hp_warm_line.specs.Pivot.{minus_one, inverse_of, turned_entry, turned_line, moved_or_kept, entered, flipped, exchanged_basis, eliminated, replaced, pivoted};
 
 use crate::moves::Swap;
 use crate::sums::plus;
@@ -16,7 +16,7 @@ use hp_num::List;
 use hp_warm_table::numbers::{bits, power, product, quotient};
 use hp_warm_table::steps::write_steps;
 use hp_warm_table::updates::move_row;
-use hp_warm_table::{Basis, Cell, Square, Table};
+use hp_warm_table::{Basis, Cell, Square, WarmTable};
 
 // The number in 64 bits.
 fn short(v: i128) -> i64
@@ -126,7 +126,7 @@ fn turn_by(line: &mut [Cell], inverse: i64, k: u32, j: usize) -> bool
     requires some { 1 ≤ k }
     requires there { j < length line.old }
     ensures width { length line.new ≡ length line.old }
-    ensures turned { Gives result (option_map (slice_set line.old j)
+    ensures turned { GivesNew result (option_map (slice_set line.old j)
         (cell_of (neg_ℤ (floor_over (entry line.old j *ℤ inverse +ℤ pos (2 ^ (k - 1))) (2 ^ k))))) line.new }
 {
     match turned_product(inverse, k, line[j]) {
@@ -139,14 +139,14 @@ fn turn_by(line: &mut [Cell], inverse: i64, k: u32, j: usize) -> bool
 }
 
 // Turns a cell by the inverse of the pivot, but that 0 stays 0: most cells of a line are 0, and nothing is written there.
-#[tactic(auto, unfolding(crate::specs::Pivot::turned), using(crate::proofs::Values::kept_zero))]
+#[tactic(auto, unfolding(crate::specs::Pivot::turned_entry), using(crate::proofs::Values::kept_zero))]
 fn turn_at(line: &mut [Cell], inverse: i64, k: u32, j: usize) -> bool
     requires inverse { nat_abs inverse ≤ 2 ^ 57 }
     requires places { k ≤ 76 }
     requires some { 1 ≤ k }
     requires there { j < length line.old }
     ensures width { length line.new ≡ length line.old }
-    ensures turned { Gives result (option_map (slice_set line.old j) (turned inverse k (entry line.old j))) line.new }
+    ensures turned { GivesNew result (option_map (slice_set line.old j) (turned_entry inverse k (entry line.old j))) line.new }
 {
     if line[j].number() == 0 {
         true
@@ -161,7 +161,7 @@ fn turn_all(line: &mut [Cell], inverse: i64, k: u32) -> bool
     requires places { k ≤ 76 }
     requires some { 1 ≤ k }
     ensures width { length line.new ≡ length line.old }
-    ensures turned { Gives result (each_from (λ j x. turned inverse k x) 0 line.old) line.new }
+    ensures turned { GivesNew result (each_from (λ j x. turned_entry inverse k x) 0 line.old) line.new }
 {
     for j in 0..line.len() {
         if !turn_at(line, inverse, k, j) {
@@ -177,7 +177,7 @@ fn turn(line: &mut [Cell], place: usize) -> bool
     requires place { place < length line.old }
     requires pivot { 0 < nat_abs (entry line.old place) }
     ensures width { length line.new ≡ length line.old }
-    ensures turned { Gives result (turned_line place line.old) line.new }
+    ensures turned { GivesNew result (turned_line place line.old) line.new }
 {
     let pivot = line[place];
     line[place] = Cell::minus_one();
@@ -189,7 +189,7 @@ fn turn_line(line: &mut List<Cell>, place: usize) -> bool
     requires place { place < length line.old }
     requires pivot { 0 < nat_abs (entry line.old place) }
     ensures width { length line.new ≡ length line.old }
-    ensures turned { Gives result (turned_line place line.old) line.new }
+    ensures turned { GivesNew result (turned_line place line.old) line.new }
 {
     turn(line.as_mut_slice(), place)
 }
@@ -218,7 +218,7 @@ fn move_line(lines: &mut Square, by: &Elimination, k: usize) -> bool
     requires place { by.now.place < length lines.old }
     requires width { length by.now.entering.now ≡ length lines.old }
     ensures count { length lines.new ≡ length lines.old }
-    ensures moved { Gives result (option_map (slice_set lines.old k)
+    ensures moved { GivesNew result (option_map (slice_set lines.old k)
         (moved_or_kept by.now.places.now by.now.leaving by.now.place by.now.entering.now k (get_or lines.old k [])))
         lines.new }
 {
@@ -236,7 +236,7 @@ fn move_lines(lines: &mut Square, by: &Elimination) -> bool
     requires place { by.now.place < length lines.old }
     requires width { length by.now.entering.now ≡ length lines.old }
     ensures count { length lines.new ≡ length lines.old }
-    ensures moved { Gives result
+    ensures moved { GivesNew result
         (each_from (moved_or_kept by.now.places.now by.now.leaving by.now.place by.now.entering.now) 0 lines.old)
         lines.new }
 {
@@ -273,14 +273,14 @@ fn flip(high: &mut List<bool>, flips: &[usize])
 }
 
 /// A variable takes a place, and the one that was there is basic.
-#[tactic(auto, unfolding(crate::specs::Pivot::exchanged))]
+#[tactic(auto, unfolding(crate::specs::Pivot::exchanged_basis))]
 pub fn exchange(basis: &mut Basis, leaving: usize, above: bool, place: usize, flips: &[usize])
     requires leaving { leaving < length basis.old.places }
     requires entering { All (λ v. v < length basis.old.places) basis.old.nonbasic }
     requires place { place < length basis.old.nonbasic }
     requires high { length basis.old.high ≡ length basis.old.nonbasic }
     requires flips { All (λ j. j < length basis.old.high) flips.now }
-    ensures { basis.new ≡ exchanged basis.old leaving above place flips.now }
+    ensures { basis.new ≡ exchanged_basis basis.old leaving above place flips.now }
 {
     let entering = basis.nonbasic.as_slice()[place];
     basis.places.set(entering, None);
@@ -301,7 +301,7 @@ fn move_reduced(
     requires place { place < length reduced.old }
     requires width { length line.now ≡ length reduced.old }
     ensures count { length reduced.new ≡ length reduced.old }
-    ensures moved { Gives result (moved_row place line.now reduced.old) reduced.new }
+    ensures moved { GivesNew result (moved_table_row place line.now reduced.old) reduced.new }
 {
     move_row(reduced.as_mut_slice(), place, line, steps)
 }
@@ -309,7 +309,7 @@ fn move_reduced(
 // The lines and the reduced costs after the pivot, but for the line of the entering variable.
 #[tactic(auto, unfolding(crate::specs::Pivot::eliminated), using(crate::proofs::Sized::sized_parts))]
 fn eliminate_by(
-    table: &mut Table,
+    table: &mut WarmTable,
     line: &[Cell],
     steps: &[(usize, Cell)],
     leaving: usize,
@@ -322,7 +322,7 @@ fn eliminate_by(
     ensures sized { IsTable table.new }
     ensures kept { table.new
         ≡ with_basis table.old table.old.basis table.new.reduced table.new.lines }
-    ensures eliminated { Gives result (eliminated table.old line.now leaving place) table.new }
+    ensures eliminated { GivesNew result (eliminated table.old line.now leaving place) table.new }
 {
     let places = table.basis.places.as_slice();
     let by = Elimination {
@@ -340,7 +340,7 @@ fn eliminate_by(
 
 // Like `eliminate_by`. `steps` is for work.
 fn eliminate(
-    table: &mut Table,
+    table: &mut WarmTable,
     line: &[Cell],
     steps: &mut List<(usize, Cell)>,
     leaving: usize,
@@ -354,7 +354,7 @@ fn eliminate(
     ensures steps { length steps.new ≡ length steps.old }
     ensures kept { table.new
         ≡ with_basis table.old table.old.basis table.new.reduced table.new.lines }
-    ensures eliminated { Gives result (eliminated table.old line.now leaving place) table.new }
+    ensures eliminated { GivesNew result (eliminated table.old line.now leaving place) table.new }
 {
     let count = write_steps(line, steps);
     eliminate_by(
@@ -369,7 +369,7 @@ fn eliminate(
 // The variables change places, and the line of the entering one is written.
 #[tactic(auto, unfolding(crate::specs::Pivot::replaced))]
 fn replace(
-    table: &mut Table,
+    table: &mut WarmTable,
     line: &[Cell],
     leaving: usize,
     above: bool,
@@ -395,7 +395,7 @@ fn replace(
 /// reduced costs and of the lines. All else of the table stays.
 #[tactic(auto, unfolding(crate::specs::Pivot::pivoted, crate::specs::Pivot::replaced))]
 pub fn pivot(
-    table: &mut Table,
+    table: &mut WarmTable,
     line: &mut List<Cell>,
     steps: &mut List<(usize, Cell)>,
     swap: Swap,
@@ -414,7 +414,7 @@ pub fn pivot(
     ensures kept { table.new
         ≡ with_basis table.old table.new.basis table.new.reduced table.new.lines }
     ensures stopped { result ≡ false → table.new.basis ≡ table.old.basis }
-    ensures pivoted { Gives result (pivoted table.old line.old swap.leaving swap.above swap.place flips.now)
+    ensures pivoted { GivesNew result (pivoted table.old line.old swap.leaving swap.above swap.place flips.now)
         table.new }
 {
     if !turn_line(line, swap.place) {

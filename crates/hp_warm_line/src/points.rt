@@ -3,22 +3,22 @@ ghost use Rattle.std.specs.Prelude.{◌≡◌, ◌^◌, ◌+◌, ◌*◌, ◌<�
 ghost use Rattle.std.specs.Option.{option_map};
 ghost use Rattle.hp_simplex.specs.Each.{each_from};
 ghost use Rattle.hp_warm_table.specs.Shape.{IsTable, variables};
-ghost use Rattle.hp_warm_table.specs.Updates.{Gives};
-ghost use Rattle.hp_warm_table.specs.Numbers.{down_of, value_of};
+ghost use Rattle.hp_warm_table.specs.Updates.{GivesNew};
+ghost use Rattle.hp_warm_table.specs.Numbers.{down_of, quantity_of};
 ghost use Rattle.hp_warm_table.specs.Kept.{with_values};
-ghost use Rattle.hp_warm_line.specs.Refine.{IsWhole, stand_of, placed, stood, off, shift_at, shifts_of, stood_table, refined};
+ghost use Rattle.hp_warm_line.specs.Refine.{AreBoundsWhole, stand_of, placed_at_bound, stood, off, shift_at, shifts_of, stood_table, refined};
 ghost use Rattle.hp_warm_table.specs.Sparse.{sparse};
 ghost use Rattle.hp_warm_line.specs.Sparse.{moved_by};
 
 use crate::shift::Shift;
 use crate::sums::{activity, down_far, shares};
 use hp_num::List;
-use hp_warm_table::{Bounds, Quantity, Square, Table};
+use hp_warm_table::{Bounds, Quantity, Square, WarmTable};
 
 // The upper or the lower bound of a variable, 0 where it is absent.
 #[tactic(auto, unfolding(crate::specs::Refine::stand_of))]
 pub(crate) fn stand(bounds: &Bounds, high: bool, variable: usize) -> Quantity
-    requires whole { IsWhole bounds.now }
+    requires whole { AreBoundsWhole bounds.now }
     requires there { variable < length bounds.now.lows }
     ensures { result ≡ stand_of bounds.now high variable }
 {
@@ -34,7 +34,7 @@ pub(crate) fn stand(bounds: &Bounds, high: bool, variable: usize) -> Quantity
 }
 
 // Puts the variable at place j at its bound, where it is a column.
-#[tactic(auto, unfolding(crate::specs::Refine::placed))]
+#[tactic(auto, unfolding(crate::specs::Refine::placed_at_bound))]
 fn place_value(
     values: &mut List<Quantity>,
     bounds: &Bounds,
@@ -42,10 +42,10 @@ fn place_value(
     j: usize,
     variable: usize,
 )
-    requires whole { IsWhole bounds.now }
+    requires whole { AreBoundsWhole bounds.now }
     requires there { variable < length bounds.now.lows }
     requires high { j < length high.now }
-    ensures value { values.new ≡ placed bounds.now high.now j variable values.old }
+    ensures value { values.new ≡ placed_at_bound bounds.now high.now j variable values.old }
     ensures count { length values.new ≡ length values.old }
 {
     if variable < values.len() {
@@ -55,7 +55,7 @@ fn place_value(
 
 // Puts each nonbasic column at its bound.
 fn stand_all(values: &mut List<Quantity>, bounds: &Bounds, high: &[bool], nonbasic: &[usize])
-    requires whole { IsWhole bounds.now }
+    requires whole { AreBoundsWhole bounds.now }
     requires there { All (λ v. v < length bounds.now.lows) nonbasic.now }
     requires high { length nonbasic.now ≡ length high.now }
     ensures values { values.new ≡ stood bounds.now high.now 0 nonbasic.now values.old }
@@ -76,7 +76,7 @@ fn off(stand: Quantity, found: Option<Quantity>) -> Option<Quantity>
 
 // The shift at a place.
 #[tactic(auto, unfolding(crate::specs::Refine::shift_at), using(crate::proofs::Inside::whole_bounds))]
-fn shift_at(table: &Table, j: usize, variable: usize) -> Option<Quantity>
+fn shift_at(table: &WarmTable, j: usize, variable: usize) -> Option<Quantity>
     requires sized { IsTable table.now }
     requires place { j < length table.now.costs }
     requires there { variable < variables table.now }
@@ -110,7 +110,7 @@ fn keep_shift(shifts: &mut List<(usize, Shift)>, count: usize, j: usize, shift: 
 
 // Writes the shifts that are not 0, each with its place. The answer is how many these are.
 #[tactic(auto, unfolding(crate::specs::Refine::shifts_of))]
-fn write_shifts(table: &Table, shifts: &mut List<(usize, Shift)>) -> Option<usize>
+fn write_shifts(table: &WarmTable, shifts: &mut List<(usize, Shift)>) -> Option<usize>
     requires sized { IsTable table.now }
     requires count { length shifts.old ≡ length table.now.costs }
     ensures count { length shifts.new ≡ length shifts.old }
@@ -131,7 +131,7 @@ fn write_shifts(table: &Table, shifts: &mut List<(usize, Shift)>) -> Option<usiz
 // A value with a sum of shares added.
 pub(crate) fn shifted(x: Quantity, sum: i128) -> Option<Quantity>
     requires { nat_abs sum ≤ 1199 * 2 ^ 116 }
-    ensures { result ≡ value_of (x +ℤ down_of sum) }
+    ensures { result ≡ quantity_of (x +ℤ down_of sum) }
 {
     Quantity::new(i128::from(x.number()) + down_far(sum))
 }
@@ -170,7 +170,7 @@ fn move_all(
     requires inside { All (λ s. s.0 < length lines.now) shifts.now }
     requires few { length shifts.now ≤ 1199 }
     ensures count { length values.new ≡ length values.old }
-    ensures moved { Gives result
+    ensures moved { GivesNew result
         (each_from (moved_by places.now lines.now shifts.now) 0 values.old) values.new }
 {
     for v in 0..values.len() {
@@ -184,7 +184,7 @@ fn move_all(
 
 // Puts each nonbasic column of a table at its bound.
 #[tactic(auto, unfolding(crate::specs::Refine::stood_table), using(crate::proofs::Inside::whole_bounds, crate::proofs::Sized::sized_values))]
-fn stand_columns(table: &mut Table)
+fn stand_columns(table: &mut WarmTable)
     requires sized { IsTable table.old }
     ensures sized { IsTable table.new }
     ensures stood { table.new ≡ stood_table table.old }
@@ -200,13 +200,13 @@ fn stand_columns(table: &mut Table)
 
 // Moves the values of a table's basic columns by the shifts.
 #[tactic(auto, using(crate::proofs::Sized::sized_values))]
-fn move_columns(table: &mut Table, shifts: &[(usize, Shift)]) -> bool
+fn move_columns(table: &mut WarmTable, shifts: &[(usize, Shift)]) -> bool
     requires sized { IsTable table.old }
     requires inside { All (λ s. s.0 < length table.old.lines) shifts.now }
     requires few { length shifts.now ≤ 1199 }
     ensures sized { IsTable table.new }
     ensures kept { table.new ≡ with_values table.old table.new.values }
-    ensures moved { Gives result (each_from
+    ensures moved { GivesNew result (each_from
         (moved_by table.old.basis.places table.old.lines shifts.now) 0 table.old.values)
         table.new.values }
 {
@@ -224,13 +224,13 @@ fn move_columns(table: &mut Table, shifts: &[(usize, Shift)]) -> bool
 /// nothing is promised of the values then. All else of the table stays. `shifts` is for work: as
 /// many places with shifts as columns.
 #[tactic(auto, unfolding(crate::specs::Refine::refined))]
-pub fn refine(table: &mut Table, shifts: &mut List<(usize, Shift)>) -> bool
+pub fn refine(table: &mut WarmTable, shifts: &mut List<(usize, Shift)>) -> bool
     requires sized { IsTable table.old }
     requires shifts { length shifts.old ≡ length table.old.costs }
     ensures sized { IsTable table.new }
     ensures shifts { length shifts.new ≡ length shifts.old }
     ensures kept { table.new ≡ with_values table.old table.new.values }
-    ensures refined { Gives result (refined table.old) table.new.values }
+    ensures refined { GivesNew result (refined table.old) table.new.values }
 {
     stand_columns(table);
     match write_shifts(table, shifts) {

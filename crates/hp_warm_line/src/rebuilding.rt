@@ -1,7 +1,7 @@
 // A basis in a clean table.
 ghost use Rattle.std.specs.Prelude.{◌≡◌, length, IfOk, OnErr};
 ghost use Rattle.hp_warm_table.specs.Shape.{IsTable};
-ghost use Rattle.hp_warm_table.specs.Updates.{Gives};
+ghost use Rattle.hp_warm_table.specs.Updates.{GivesNew};
 ghost use Rattle.hp_warm_table.specs.Kept.{KeepsProgram};
 ghost use Rattle.hp_warm_line.specs.Standings.{rebuilt_of};
 
@@ -9,13 +9,13 @@ use crate::clean::clean;
 use crate::standings::stand_up;
 use crate::tighten::tighten_all;
 use hp_num::{List, Memory};
-use hp_warm_table::{Basis, Cell, Table};
+use hp_warm_table::{Basis, Cell, WarmTable};
 use std::alloc::Global;
 
 // Rebuilds a basis, of which a copy is given.
 #[tactic(auto, unfolding(crate::specs::Standings::rebuilt_of))]
 fn rebuild_from(
-    table: &mut Table,
+    table: &mut WarmTable,
     line: &mut List<Cell>,
     steps: &mut List<(usize, Cell)>,
     was: &Basis,
@@ -28,7 +28,7 @@ fn rebuild_from(
     ensures width { length line.new ≡ length line.old }
     ensures steps { length steps.new ≡ length steps.old }
     ensures program { KeepsProgram table.old table.new }
-    ensures rebuilt { Gives result (rebuilt_of table.old) table.new }
+    ensures rebuilt { GivesNew result (rebuilt_of table.old) table.new }
 {
     clean(table);
     if !tighten_all(table, line, steps, was) {
@@ -47,7 +47,7 @@ fn rebuild_from(
 /// `line` and `steps` are for work: as many numbers, and as many places with cells, as columns.
 pub fn rebuild(
     alloc: Global,
-    table: &mut Table,
+    table: &mut WarmTable,
     line: &mut List<Cell>,
     steps: &mut List<(usize, Cell)>,
 ) -> Result<bool, Memory>
@@ -58,7 +58,7 @@ pub fn rebuild(
     ensures width { length line.new ≡ length line.old }
     ensures steps { length steps.new ≡ length steps.old }
     ensures program { KeepsProgram table.old table.new }
-    ensures rebuilt { IfOk result (λ done. Gives done (rebuilt_of table.old) table.new) }
+    ensures rebuilt { IfOk result (λ done. GivesNew done (rebuilt_of table.old) table.new) }
     ensures refused { OnErr result (table.new ≡ table.old) }
 {
     let was = table.basis.copy(alloc)?;

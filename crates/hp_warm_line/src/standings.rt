@@ -1,11 +1,11 @@
 // Where the columns of a basis stand that is rebuilt.
-ghost use Rattle.std.specs.Prelude.{◌≡◌, ◌<◌, ◌≤◌, length, All, IfSome};
+ghost use Rattle.std.specs.Prelude.{◌≡◌, ◌<◌, length, All, IfSome};
 ghost use Rattle.hp_warm_table.specs.Shape.{IsTable, variables};
 ghost use Rattle.hp_warm_line.specs.Tighten.{stands_high, was_high};
 ghost use Rattle.hp_warm_line.specs.Standings.{map_from, standing, standing_at, stood_up};
 
 use hp_num::List;
-use hp_warm_table::{Basis, Cell, Table};
+use hp_warm_table::{Basis, Cell, WarmTable};
 
 // Tells whether the variable at a place, if it has one, stands at its upper bound.
 fn stands_high(basis: &Basis, place: Option<usize>) -> bool
@@ -72,7 +72,7 @@ fn write_standings(high: &mut List<bool>, basis: &Basis, nonbasic: &[usize], red
 
 // Sets each nonbasic column of a table to stand by its reduced cost, and as it was where that is 0.
 #[tactic(auto, unfolding(crate::specs::Standings::stood_up), using(crate::proofs::Sizes::numbers_inside))]
-pub(crate) fn stand_up(table: &mut Table, was: &Basis)
+pub(crate) fn stand_up(table: &mut WarmTable, was: &Basis)
     requires sized { IsTable table.old }
     requires places { length was.now.places ≡ variables table.old }
     requires inside { All (λ p. IfSome p (λ j. j < length was.now.high)) was.now.places }

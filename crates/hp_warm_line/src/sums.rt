@@ -1,13 +1,13 @@
 // Sums of products, and the value of a row.
-ghost use Rattle.std.specs.Prelude.{◌≡◌, ◌^◌, ◌+◌, ◌*◌, ◌<◌, ◌≤◌, pos, ◌+ℤ◌, ◌*ℤ◌, length, nat_abs, All};
+ghost use Rattle.std.specs.Prelude.{◌≡◌, ◌^◌, ◌+◌, ◌*◌, ◌<◌, ◌≤◌, ◌+ℤ◌, ◌*ℤ◌, length, nat_abs, All};
 ghost use Rattle.hp_num.specs.Sums.{at_terms, entry};
 ghost use Rattle.hp_warm_table.specs.Numbers.{down_of};
 ghost use Rattle.hp_warm_table.specs.Shape.{IsTable};
-ghost use Rattle.hp_warm_line.specs.Activity.{row_value, activity_of};
+ghost use Rattle.hp_warm_line.specs.Activity.{row_activity, activity_of};
 
 use crate::shift::Shift;
 use hp_warm_table::numbers::{down, product};
-use hp_warm_table::{Cell, Coefficient, Quantity, Table};
+use hp_warm_table::{Cell, Coefficient, Quantity, WarmTable};
 
 // A term's value.
 #[tactic(auto, using(crate::proofs::Products::term_small))]
@@ -78,14 +78,14 @@ pub(crate) fn down_far(sum: i128) -> i128
 pub fn row_value(terms: &[(u32, Coefficient)], x: &[Quantity]) -> Option<Quantity>
     requires inside { All (λ t. t.0 < length x.now) terms.now }
     requires few { length terms.now ≤ 2 ^ 11 }
-    ensures { result ≡ row_value terms.now x.now }
+    ensures { result ≡ row_activity terms.now x.now }
 {
     Quantity::new(down(terms_at(terms, x)))
 }
 
 /// The value of a row at the columns' values. None exactly where its absolute value is 2^55 or more.
 #[tactic(auto, using(crate::proofs::Inside::row_inside, crate::proofs::Inside::row_few))]
-pub fn activity(table: &Table, row: usize) -> Option<Quantity>
+pub fn activity(table: &WarmTable, row: usize) -> Option<Quantity>
     requires sized { IsTable table.now }
     requires there { row < length table.now.rows }
     ensures { result ≡ activity_of table.now row }

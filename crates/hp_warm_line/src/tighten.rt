@@ -1,17 +1,17 @@
 // The slacks that were not basic leave the basis of a clean table again.
-ghost use Rattle.std.specs.Prelude.{◌≡◌, ◌+◌, ◌-◌, ◌^◌, ◌<◌, ◌≤◌, [], length, nat_abs, All, IfSome, None};
+ghost use Rattle.std.specs.Prelude.{◌≡◌, ◌-◌, ◌<◌, [], length, nat_abs, All, IfSome, None};
 ghost use Rattle.hp_num.specs.Sums.{entry};
 ghost use Rattle.hp_warm_table.specs.Shape.{IsTable, variables};
-ghost use Rattle.hp_warm_table.specs.Updates.{Gives};
+ghost use Rattle.hp_warm_table.specs.Updates.{GivesNew};
 ghost use Rattle.hp_warm_table.specs.Kept.{with_basis};
-ghost use Rattle.hp_warm_line.specs.Tighten.{was_basic, is_greater, better_place, place_from, large_enough, best_place, by_place, left, tight, tightened};
+ghost use Rattle.hp_warm_line.specs.Tighten.{was_basic, is_greater, better_place, place_from, large_enough, best_place, left, tight, tightened};
 
 use crate::line::write_line;
 use crate::moves::Swap;
 use crate::pivots::pivot;
 use crate::standings::was_high;
 use hp_num::List;
-use hp_warm_table::{Basis, Cell, Table};
+use hp_warm_table::{Basis, Cell, WarmTable};
 
 const LEAST: u64 = 1 << 24;
 
@@ -113,7 +113,7 @@ fn best_place(basis: &Basis, nonbasic: &[usize], line: &[Cell]) -> Option<usize>
 // A slack leaves, where it was not basic and a place is found for it.
 #[tactic(auto, unfolding(crate::specs::Tighten::tight, crate::specs::Tighten::left), using(crate::proofs::Sizes::numbers_inside))]
 fn tighten(
-    table: &mut Table,
+    table: &mut WarmTable,
     line: &mut List<Cell>,
     steps: &mut List<(usize, Cell)>,
     was: &Basis,
@@ -130,7 +130,7 @@ fn tighten(
     ensures steps { length steps.new ≡ length steps.old }
     ensures kept { table.new
         ≡ with_basis table.old table.new.basis table.new.reduced table.new.lines }
-    ensures tight { Gives result (tight was.now table.old slack) table.new }
+    ensures tight { GivesNew result (tight was.now table.old slack) table.new }
 {
     if was.places.as_slice()[slack].is_none() {
         return true;
@@ -145,7 +145,7 @@ fn tighten(
                 leaving: slack,
                 above: was_high(was, slack),
                 place,
-                rest: 0,
+                tail: 0,
             };
             pivot(table, line, steps, swap, &[])
         }
@@ -154,7 +154,7 @@ fn tighten(
 
 // Lets all slacks leave that were not basic, in order.
 pub(crate) fn tighten_all(
-    table: &mut Table,
+    table: &mut WarmTable,
     line: &mut List<Cell>,
     steps: &mut List<(usize, Cell)>,
     was: &Basis,
@@ -169,7 +169,7 @@ pub(crate) fn tighten_all(
     ensures steps { length steps.new ≡ length steps.old }
     ensures kept { table.new
         ≡ with_basis table.old table.new.basis table.new.reduced table.new.lines }
-    ensures tightened { Gives result
+    ensures tightened { GivesNew result
         (tightened was.now table.old (length table.old.costs) (length table.old.rows)) table.new }
 {
     let columns = table.costs.len();

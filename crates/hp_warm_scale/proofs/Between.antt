@@ -4,7 +4,7 @@ use Rattle.std.proofs.lemmas.Int.{ints, clamps}
 use Rattle.hp_num.specs.Sums.{floor_over}
 use Rattle.hp_num.proofs.Order.{floor_at_most, floor_above}
 use Rattle.hp_warm_scale.specs.declared.spans.Span.{Span}
-use Rattle.hp_warm_scale.specs.Spans.{grown, joined, span_of, lift, AreBetween}
+use Rattle.hp_warm_scale.specs.Spans.{grown, joined_span, span_of, lift, AreBetween}
 use Rattle.hp_warm_scale.proofs.Walking.{walk_keeps}
 
 pub grown_between : (low high : ℤ) (s : Option Span) (x : ℤ) → low ≤ℤ x → x ≤ℤ high → AreBetween low high s → AreBetween low high (grown s x)
@@ -20,12 +20,12 @@ grown_between low high (Some s) x h k b = record {
 abbrev pub GivesBetween : {A : Type 0} → ℤ → ℤ → (ℕ → A → Option ℤ) → Type 0
 GivesBetween {A} low high f = (j : ℕ) (a : A) (x : ℤ) → f j a ≡ Some x → (low ≤ℤ x) × (x ≤ℤ high)
 
-joined_between : (low high : ℤ) (s : Option Span) (o : Option ℤ) → ((x : ℤ) → o ≡ Some x → (low ≤ℤ x) × (x ≤ℤ high)) → AreBetween low high s → AreBetween low high (joined s o)
+joined_between : (low high : ℤ) (s : Option Span) (o : Option ℤ) → ((x : ℤ) → o ≡ Some x → (low ≤ℤ x) × (x ≤ℤ high)) → AreBetween low high s → AreBetween low high (joined_span s o)
 joined_between low high s None h b = b
 joined_between low high s (Some x) h b = grown_between low high s x (h x refl).0 (h x refl).1 b
 
 pub span_between : {A : Type 0} (low high : ℤ) (f : ℕ → A → Option ℤ) (xs : List A) → GivesBetween low high f → AreBetween low high (span_of f xs)
-span_between low high f xs h = walk_keeps (λ j s x. joined s (f j x)) (AreBetween low high) (λ j s x b. joined_between low high s (f j x) (h j x) b) 0 None xs tt
+span_between low high f xs h = walk_keeps (λ j s x. joined_span s (f j x)) (AreBetween low high) (λ j s x b. joined_between low high s (f j x) (h j x) b) 0 None xs tt
 
 half_between : (low high z : ℤ) → (low +ℤ low) ≤ℤ z → z ≤ℤ (high +ℤ high) → (low ≤ℤ floor_over z 2) × (floor_over z 2 ≤ℤ high)
 half_between low high z h k =

@@ -6,20 +6,20 @@ use Rattle.std.proofs.lemmas.List.Elements.{All-take}
 use Rattle.hp_solver.specs.declared.programs.LpRow.{LpRow}
 use Rattle.hp_solver.specs.declared.programs.Program.{Program}
 use Rattle.hp_solver.specs.Proper.{AreRising, IsProper}
-use Rattle.hp_warm_scale.specs.Exponents.{Term, AreUpTo}
+use Rattle.hp_warm_scale.specs.Exponents.{ColumnTerm, AreUpTo}
 use Rattle.hp_warm_scale.specs.Waiting.{last_column}
 
 -- a term of rising ones is in a column that is there
-term_inside : (least n k : ℕ) (ts : List Term) → AreRising least n ts → IfSome (slice_get ts k) (λ (t : Term). t.0 < n)
+term_inside : (least n k : ℕ) (ts : List ColumnTerm) → AreRising least n ts → IfSome (slice_get ts k) (λ (t : ColumnTerm). t.0 < n)
 term_inside least n k [] r = tt
 term_inside least n zero (t ∷ ts) r = r.1
 term_inside least n (suc k) (t ∷ ts) r = term_inside (suc t.0) n k ts r.2
 
-mapped : (n : ℕ) (o : Option Term) → IfSome o (λ (t : Term). t.0 < n) → IfSome (option_map (λ (t : Term). t.0) o) (λ j. j < n)
+mapped : (n : ℕ) (o : Option ColumnTerm) → IfSome o (λ (t : ColumnTerm). t.0 < n) → IfSome (option_map (λ (t : ColumnTerm). t.0) o) (λ j. j < n)
 mapped n None h = tt
 mapped n (Some t) h = h
 
-pub last_inside : (least n : ℕ) (ts : List Term) → AreRising least n ts → IfSome (last_column ts) (λ j. j < n)
+pub last_inside : (least n : ℕ) (ts : List ColumnTerm) → AreRising least n ts → IfSome (last_column ts) (λ j. j < n)
 last_inside least n ts r = mapped n (slice_get ts (length ts - 1)) (term_inside least n (length ts - 1) ts r)
 
 -- one exponent written over

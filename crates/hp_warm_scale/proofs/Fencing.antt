@@ -13,7 +13,7 @@ use Rattle.hp_warm_table.specs.Numbers.{bits_of}
 use Rattle.hp_warm_scale.specs.declared.spans.Span.{Span}
 use Rattle.hp_warm_scale.specs.Spans.{grown, IsBetween}
 use Rattle.hp_warm_scale.specs.Packed.{greater_digits, most_digits, grown_above_zero}
-use Rattle.hp_warm_scale.specs.Fences.{near, AreBelowLimits, AreLimits, Reaches, Keeps}
+use Rattle.hp_warm_scale.specs.Fences.{near, AreBelowLimits, AreLimits, ReachesDigits, Keeps}
 use Rattle.hp_warm_scale.proofs.Digits.{below_power, some_digits, few_digits}
 use Rattle.hp_warm_scale.proofs.Standing.{small_slope, entry_small, greatest_from}
 
@@ -93,7 +93,7 @@ reached_one least top lift slope small reach = by (int_eq slope (pos 0)) refl
         omega (arith, ints, clamps, bits, y)
 
 -- the lead of a place
-pub lead_reaches : (lifts : List (ℕ × ℤ)) (least : ℤ) (place state size : ℕ) (lift : ℤ) → slice_get lifts place ≡ Some (state, lift) → size ≡ 2 ^ near ((least -ℤ pos 1) -ℤ lift) → Reaches lifts least state size
+pub lead_reaches : (lifts : List (ℕ × ℤ)) (least : ℤ) (place state size : ℕ) (lift : ℤ) → slice_get lifts place ≡ Some (state, lift) → size ≡ 2 ^ near ((least -ℤ pos 1) -ℤ lift) → ReachesDigits lifts least state size
 lead_reaches lifts least place state size lift e s slopes small reach = by lifts place e (pos 0) 0
   where
     by : (ls : List (ℕ × ℤ)) (i : ℕ) → slice_get ls i ≡ Some (state, lift) → (top : ℤ) (k : ℕ) → least ≤ℤ greatest_from slopes k top ls
@@ -123,7 +123,7 @@ within_kept s top h k = by (int_eq top (pos 0))
     by false = ap (λ (x : ℤ). Some (record { least = x; greatest = int_max s.greatest top })) least ∙ ap (λ (x : ℤ). Some (record { least = s.least; greatest = x })) greatest
 
 -- limits and a lead keep the span that they were made of
-pub fence_keeps : (lifts : List (ℕ × ℤ)) (s : Span) (limits : List ℕ) (state size : ℕ) → IsBetween (pos 0) (pos 640) s → AreLimits s.greatest lifts limits → Reaches lifts s.least state size → Keeps lifts (Some s) limits state size
+pub fence_keeps : (lifts : List (ℕ × ℤ)) (s : Span) (limits : List ℕ) (state size : ℕ) → IsBetween (pos 0) (pos 640) s → AreLimits s.greatest lifts limits → ReachesDigits lifts s.least state size → Keeps lifts (Some s) limits state size
 fence_keeps lifts s limits state size b are reaches slopes small below reach =
     within_kept s (most_digits lifts slopes) (reaches slopes small reach) (below_most s.greatest limits slopes 0 (pos 0) lifts small below are b.low_greatest)
 

@@ -5,12 +5,12 @@ use Rattle.std.proofs.lemmas.List.{take_at, length-take-le, length-drop, length-
 use Rattle.hp_solver.specs.declared.programs.Column.{Column}
 use Rattle.hp_solver.specs.declared.programs.LpRow.{LpRow}
 use Rattle.hp_solver.specs.declared.programs.Program.{Program}
-use Rattle.hp_warm_table.specs.declared.table.Table.{Table}
+use Rattle.hp_warm_table.specs.declared.table.WarmTable.{WarmTable}
 use Rattle.hp_warm_scale.specs.Scaling.{columns_table}
 use Rattle.hp_warm_scale.specs.Appending.{appended}
 use Rattle.hp_warm_scale.specs.First.{first_of, own_part, idle}
 
-abbrev by_parts : ℕ → List Column → List LpRow → Option Table
+abbrev by_parts : ℕ → List Column → List LpRow → Option WarmTable
 by_parts n decisions rows = cond (nat_lt 1199 n) None (option_and_then (appended rows) (columns_table n decisions rows))
 
 pub first_of_own_part : (lp : Program) → lp.decisions ≤ length lp.columns → lp.own ≤ length lp.rows → first_of (own_part lp) ≡ first_of lp

@@ -7,7 +7,7 @@ use Rattle.hp_solver.specs.declared.programs.LpRow.{LpRow}
 use Rattle.hp_warm_scale.specs.declared.spans.Span.{Span}
 use Rattle.hp_warm_table.specs.Numbers.{bits_of}
 use Rattle.hp_warm_scale.specs.Spans.{grown, span_of, AreBetween}
-use Rattle.hp_warm_scale.specs.Exponents.{Term, size_of, row_weight_of, border_of, weight_of, counted_weight, row_lift, with_term, with_terms, with_row, spans_of, column_lift, pass_of, AreUpTo, SpansBetween, ReachUpTo, reach_of}
+use Rattle.hp_warm_scale.specs.Exponents.{ColumnTerm, term_size, row_weight_of, border_of, weight_of, counted_weight, row_lift, with_term, with_terms, with_row_terms, spans_of, column_lift, pass_of, AreUpTo, SpansBetween, ReachUpTo, reach_of}
 use Rattle.hp_warm_scale.proofs.Walking.{walk_keeps}
 use Rattle.hp_warm_scale.proofs.Between.{grown_between, span_between, lift_between, GivesBetween}
 
@@ -17,20 +17,20 @@ some_is h = cc
 pub bits_small : (v : ℤ) → bits_of v ≤ 128
 bits_small v = omega arith
 
-pub weight_between : (k : ℕ) (fs : List ℤ) (t : Term) → AreUpTo k fs → (pos 0 ≤ℤ weight_of fs t) × (weight_of fs t ≤ℤ pos (k + 128))
+pub weight_between : (k : ℕ) (fs : List ℤ) (t : ColumnTerm) → AreUpTo k fs → (pos 0 ≤ℤ weight_of fs t) × (weight_of fs t ≤ℤ pos (k + 128))
 weight_between k fs t h = let b = bits_small t.1.0 in let f = h t.0 in (omega (arith, ints, f.0), omega (arith, ints, b, f.1))
 
-counted_between : (k border : ℕ) (rs : List ℕ) (fs : List ℤ) → AreUpTo k fs → GivesBetween (pos 0) (pos (k + 128)) (λ (j : ℕ) (t : Term). counted_weight border rs fs t)
-counted_between k border rs fs h j t x e = by (nat_le border (size_of rs t)) e
+counted_between : (k border : ℕ) (rs : List ℕ) (fs : List ℤ) → AreUpTo k fs → GivesBetween (pos 0) (pos (k + 128)) (λ (j : ℕ) (t : ColumnTerm). counted_weight border rs fs t)
+counted_between k border rs fs h j t x e = by (nat_le border (term_size rs t)) e
   where
     by : (b : Bool) → cond b (Some (weight_of fs t)) None ≡ Some x → (pos 0 ≤ℤ x) × (x ≤ℤ pos (k + 128))
     by true e = subst (λ (z : ℤ). (pos 0 ≤ℤ z) × (z ≤ℤ pos (k + 128))) (some_is e) (weight_between k fs t h)
     by false e = absurd (cc)
 
-pub row_span_between : (k border : ℕ) (rs : List ℕ) (fs : List ℤ) (ts : List Term) → AreUpTo k fs → AreBetween (pos 0) (pos (k + 128)) (span_of (λ (j : ℕ) t. counted_weight border rs fs t) ts)
-row_span_between k border rs fs ts h = span_between (pos 0) (pos (k + 128)) (λ (j : ℕ) (t : Term). counted_weight border rs fs t) ts (counted_between k border rs fs h)
+pub row_span_between : (k border : ℕ) (rs : List ℕ) (fs : List ℤ) (ts : List ColumnTerm) → AreUpTo k fs → AreBetween (pos 0) (pos (k + 128)) (span_of (λ (j : ℕ) t. counted_weight border rs fs t) ts)
+row_span_between k border rs fs ts h = span_between (pos 0) (pos (k + 128)) (λ (j : ℕ) (t : ColumnTerm). counted_weight border rs fs t) ts (counted_between k border rs fs h)
 
-pub row_lift_between : (k border : ℕ) (rs : List ℕ) (fs : List ℤ) (ts : List Term) → AreUpTo k fs → ((pos 33 -ℤ pos (k + 128)) ≤ℤ row_lift border rs fs ts) × (row_lift border rs fs ts ≤ℤ pos 33)
+pub row_lift_between : (k border : ℕ) (rs : List ℕ) (fs : List ℤ) (ts : List ColumnTerm) → AreUpTo k fs → ((pos 33 -ℤ pos (k + 128)) ≤ℤ row_lift border rs fs ts) × (row_lift border rs fs ts ≤ℤ pos 33)
 row_lift_between k border rs fs ts h =
     let l = lift_between (pos 0) (pos (k + 128)) (span_of (λ (j : ℕ) t. counted_weight border rs fs t) ts) (omega (arith, ints)) (omega (arith, ints)) (row_span_between k border rs fs ts h) in
     (l.0, omega (arith, ints, l.1))
@@ -43,8 +43,8 @@ set_between low high (x ∷ xs) zero s b h (suc j) = h (suc j)
 set_between low high (x ∷ xs) (suc i) s b h zero = h 0
 set_between low high (x ∷ xs) (suc i) s b h (suc j) = set_between low high xs i s b (λ k. h (suc k)) j
 
-pub term_between : (low high : ℤ) (decisions border : ℕ) (rs : List ℕ) (e : ℤ) (spans : List (Option Span)) (t : Term) → low ≤ℤ e → (e +ℤ pos 128) ≤ℤ high → SpansBetween low high spans → SpansBetween low high (with_term decisions border rs e spans t)
-term_between low high decisions border rs e spans t l g h = by (nat_lt t.0 decisions && nat_le border (size_of rs t))
+pub term_between : (low high : ℤ) (decisions border : ℕ) (rs : List ℕ) (e : ℤ) (spans : List (Option Span)) (t : ColumnTerm) → low ≤ℤ e → (e +ℤ pos 128) ≤ℤ high → SpansBetween low high spans → SpansBetween low high (with_term decisions border rs e spans t)
+term_between low high decisions border rs e spans t l g h = by (nat_lt t.0 decisions && nat_le border (term_size rs t))
   where
     by : (b : Bool) → SpansBetween low high (cond b (slice_set spans t.0 (grown (get_or spans t.0 None) (row_weight_of e t))) spans)
     by true =
@@ -52,12 +52,12 @@ term_between low high decisions border rs e spans t l g h = by (nat_lt t.0 decis
         set_between low high spans t.0 _ (grown_between low high (get_or spans t.0 None) (row_weight_of e t) (omega (arith, ints)) (omega (arith, ints, b)) (h t.0)) h
     by false = h
 
-pub terms_between : (low high : ℤ) (decisions border : ℕ) (rs : List ℕ) (e : ℤ) (spans : List (Option Span)) (ts : List Term) → low ≤ℤ e → (e +ℤ pos 128) ≤ℤ high → SpansBetween low high spans → SpansBetween low high (with_terms decisions border rs e spans ts)
+pub terms_between : (low high : ℤ) (decisions border : ℕ) (rs : List ℕ) (e : ℤ) (spans : List (Option Span)) (ts : List ColumnTerm) → low ≤ℤ e → (e +ℤ pos 128) ≤ℤ high → SpansBetween low high spans → SpansBetween low high (with_terms decisions border rs e spans ts)
 terms_between low high decisions border rs e spans ts l g h =
     walk_keeps (λ (j : ℕ) ss t. with_term decisions border rs e ss t) (SpansBetween low high) (λ j s t b. term_between low high decisions border rs e s t l g b) 0 spans ts h
 
-pub row_between : (k decisions : ℕ) (rs : List ℕ) (fs : List ℤ) (spans : List (Option Span)) (ts : List Term) → AreUpTo k fs → SpansBetween (pos 33 -ℤ pos (k + 128)) (pos 161) spans → SpansBetween (pos 33 -ℤ pos (k + 128)) (pos 161) (with_row decisions rs fs spans ts)
-unfolding with_row
+pub row_between : (k decisions : ℕ) (rs : List ℕ) (fs : List ℤ) (spans : List (Option Span)) (ts : List ColumnTerm) → AreUpTo k fs → SpansBetween (pos 33 -ℤ pos (k + 128)) (pos 161) spans → SpansBetween (pos 33 -ℤ pos (k + 128)) (pos 161) (with_row_terms decisions rs fs spans ts)
+unfolding with_row_terms
 row_between k decisions rs fs spans ts f h =
     let e = row_lift_between k _ rs fs ts f in
     terms_between (pos 33 -ℤ pos (k + 128)) (pos 161) decisions _ rs _ spans ts e.0 (omega (arith, ints, e.1)) h
@@ -70,7 +70,7 @@ nones_between low high (suc n) (suc j) = nones_between low high n j
 pub spans_between : (k decisions : ℕ) (rs : List ℕ) (rows : List LpRow) (fs : List ℤ) → AreUpTo k fs → SpansBetween (pos 33 -ℤ pos (k + 128)) (pos 161) (spans_of decisions rs rows fs)
 unfolding spans_of
 spans_between k decisions rs rows fs h =
-    walk_keeps (λ (i : ℕ) ss (row : LpRow). with_row decisions rs fs ss row.terms) (SpansBetween (pos 33 -ℤ pos (k + 128)) (pos 161)) (λ i s row b. row_between k decisions rs fs s row.terms h b) 0 (replicate (length fs) None) rows
+    walk_keeps (λ (i : ℕ) ss (row : LpRow). with_row_terms decisions rs fs ss row.terms) (SpansBetween (pos 33 -ℤ pos (k + 128)) (pos 161)) (λ i s row b. row_between k decisions rs fs s row.terms h b) 0 (replicate (length fs) None) rows
     (nones_between (pos 33 -ℤ pos (k + 128)) (pos 161) (length fs))
 
 column_up_to : (k : ℕ) (s : Option Span) → AreBetween (pos 33 -ℤ pos (k + 128)) (pos 161) s → (pos 0 ≤ℤ column_lift s) × (column_lift s ≤ℤ pos (k + 128))
@@ -98,8 +98,8 @@ pub up_to_more : (k m : ℕ) (fs : List ℤ) → k ≤ m → AreUpTo k fs → Ar
 up_to_more k m fs l h j = ((h j).0, let f = (h j).1 in omega (arith, ints, f))
 
 -- the steps of a row's code, together
-pub row_is : (decisions border : ℕ) (rs : List ℕ) (fs : List ℤ) (e : ℤ) (spans now : List (Option Span)) (ts : List Term) → border ≡ border_of rs ts → e ≡ row_lift border rs fs ts → now ≡ with_terms decisions border rs e spans ts → now ≡ with_row decisions rs fs spans ts
-unfolding with_row
+pub row_is : (decisions border : ℕ) (rs : List ℕ) (fs : List ℤ) (e : ℤ) (spans now : List (Option Span)) (ts : List ColumnTerm) → border ≡ border_of rs ts → e ≡ row_lift border rs fs ts → now ≡ with_terms decisions border rs e spans ts → now ≡ with_row_terms decisions rs fs spans ts
+unfolding with_row_terms
 row_is decisions border rs fs e spans now ts b r w = w ∙ ap₂ (λ (n : ℕ) (z : ℤ). with_terms decisions n rs z spans ts) b (r ∙ ap (λ (n : ℕ). row_lift n rs fs ts) b)
 
 abbrev pub no_span : Option Span → Option Span

@@ -4,20 +4,20 @@ use Rattle.std.proofs.lemmas.List.{length-map, length-replicate}
 use Rattle.std.proofs.lemmas.List.Elements.{All-weaker, All-push, All-nil, All-cons, All-map}
 use Rattle.hp_warm_table.specs.declared.table.Scales.{Scales}
 use Rattle.hp_warm_table.specs.declared.table.Bounds.{Bounds}
-use Rattle.hp_warm_table.specs.declared.table.Table.{Table}
-use Rattle.hp_warm_table.specs.Shape.{IsTable, AreRising}
+use Rattle.hp_warm_table.specs.declared.table.WarmTable.{WarmTable}
+use Rattle.hp_warm_table.specs.Shape.{IsTable, AreTermsRising}
 use Rattle.hp_warm_table.proofs.Shapes.{scales_of, bounds_of, basis_of, other_highs, same_shape}
 use Rattle.hp_warm_scale.specs.declared.sides.Sides.{Sides}
 use Rattle.hp_warm_scale.specs.declared.scaling.ScaledColumn.{ScaledColumn}
-use Rattle.hp_warm_scale.specs.Walks.{count_from, Gives}
-use Rattle.hp_warm_scale.specs.Scaling.{numbers, blank_with, with_column, stood, is_negative, AreSmall}
+use Rattle.hp_warm_scale.specs.Walks.{count_from, GivesWalked}
+use Rattle.hp_warm_scale.specs.Scaling.{column_numbers, blank_with, with_column, standing_table, is_below_zero, AreSmall}
 use Rattle.std.proofs.lemmas.Int.{ints}
 use Rattle.hp_warm_scale.specs.Exponents.{AreUpTo}
 use Rattle.hp_warm_scale.proofs.Passes.{up_to_more}
 use Rattle.hp_warm_scale.specs.Widening.{with_scales}
-use Rattle.hp_warm_scale.specs.Appending.{with_row, with_bounds}
+use Rattle.hp_warm_scale.specs.Appending.{with_appended_row, with_bounds}
 
-pub column_table : (j : ℕ) (s : ScaledColumn) (t : Table) → IsTable t → IsTable (with_column j s t)
+pub column_table : (j : ℕ) (s : ScaledColumn) (t : WarmTable) → IsTable t → IsTable (with_column j s t)
 column_table j s t w =
     let n = length-set t.costs j s.cost in
     let v = ap (λ (k : ℕ). k + length t.rows) n in
@@ -38,20 +38,20 @@ column_table j s t w =
       values = w.values ∙ sym n;
       numbers = subst (λ (k : ℕ). All (λ u. u < k) t.basis.nonbasic) (sym v) w.numbers;
       inside = subst (λ (k : ℕ). All (λ p. IfSome p (λ j. j < k)) t.basis.places) (sym n) w.inside;
-      terms = subst (λ (k : ℕ). All (AreRising 0 k) t.rows) (sym n) w.terms;
+      terms = subst (λ (k : ℕ). All (AreTermsRising 0 k) t.rows) (sym n) w.terms;
     }
 
-pub stood_table : (t : Table) → IsTable t → IsTable (stood t)
-stood_table t w = same_shape t (stood t) w (scales_of t w) (bounds_of t w) (other_highs t (map is_negative t.reduced) w (length-map t.reduced is_negative ∙ w.reduced)) w.reduced w.lines w.values
+pub stood_table : (t : WarmTable) → IsTable t → IsTable (standing_table t)
+stood_table t w = same_shape t (standing_table t) w (scales_of t w) (bounds_of t w) (other_highs t (map is_below_zero t.reduced) w (length-map t.reduced is_below_zero ∙ w.reduced)) w.reduced w.lines w.values
 
-pub bounds_table : (b : Bounds) (t : Table) → length b.lows ≡ length t.bounds.lows → length b.ups ≡ length t.bounds.ups → length b.has_low ≡ length t.bounds.has_low → length b.has_up ≡ length t.bounds.has_up → IsTable t → IsTable (with_bounds b t)
+pub bounds_table : (b : Bounds) (t : WarmTable) → length b.lows ≡ length t.bounds.lows → length b.ups ≡ length t.bounds.ups → length b.has_low ≡ length t.bounds.has_low → length b.has_up ≡ length t.bounds.has_up → IsTable t → IsTable (with_bounds b t)
 bounds_table b t l u hl hu w = same_shape t (with_bounds b t) w (scales_of t w) (record { lows = l ∙ w.lows; ups = u ∙ w.ups; has_low = hl ∙ w.has_low; has_up = hu ∙ w.has_up }) (basis_of t w) w.reduced w.lines w.values
 
 -- one entry more, in two lists
 one_more : {A B : Type 0} (xs : List A) (ys : List B) (x : A) (y : B) (n : ℕ) → length xs ≡ n + length ys → length (xs ++ x ∷ []) ≡ n + length (ys ++ y ∷ [])
 one_more xs ys x y n h = omega (arith, h, length-append xs (x ∷ []), length-append ys (y ∷ []))
 
-pub row_table : (e : ℤ) (ts : List (ℕ × ℤ)) (s : Sides) (t : Table) → AreRising 0 (length t.costs) ts → IsTable t → IsTable (with_row e ts s t)
+pub row_table : (e : ℤ) (ts : List (ℕ × ℤ)) (s : Sides) (t : WarmTable) → AreTermsRising 0 (length t.costs) ts → IsTable t → IsTable (with_appended_row e ts s t)
 row_table e ts s t r w = record {
   few = w.few;
   row_scales = omega (arith, w.row_scales, length-append t.scales.rows (e ∷ []), length-append t.rows (ts ∷ []));
@@ -69,7 +69,7 @@ row_table e ts s t r w = record {
   values = w.values;
   numbers = All-weaker (λ (v : ℕ). v < length t.costs + length t.rows) (λ (v : ℕ). v < length t.costs + length (t.rows ++ ts ∷ [])) (λ v h. omega (arith, h, length-append t.rows (ts ∷ []))) t.basis.nonbasic w.numbers;
   inside = All-push (λ (p : Option ℕ). IfSome p (λ j. j < length t.costs)) t.basis.places None w.inside tt;
-  terms = All-push (AreRising 0 (length t.costs)) t.rows ts w.terms r;
+  terms = All-push (AreTermsRising 0 (length t.costs)) t.rows ts w.terms r;
 }
 
 count_length : (j n : ℕ) → length (count_from j n) ≡ n
@@ -95,14 +95,14 @@ blank_table n fs g h few count =
       has_low = omega (arith, zs, length-replicate n true);
       has_up = omega (arith, zs, length-replicate n true);
       nonbasic = count_length 0 n ∙ sym zs;
-      places = omega (arith, zs, length-map (numbers n) some, count_length 0 n);
+      places = omega (arith, zs, length-map (column_numbers n) some, count_length 0 n);
       high = length-replicate n false ∙ sym zs;
       reduced = refl;
       lines = length-replicate n (replicate n z) ∙ sym zs;
       values = refl;
       numbers = count_below 0 n (length (replicate n z) + 0) (omega (arith, zs));
-      inside = All-map (λ (p : Option ℕ). IfSome p (λ j. j < length (replicate n z))) Some (numbers n) (count_below 0 n (length (replicate n z)) (omega (arith, zs)));
-      terms = All-nil (AreRising 0 (length (replicate n z)));
+      inside = All-map (λ (p : Option ℕ). IfSome p (λ j. j < length (replicate n z))) Some (column_numbers n) (count_below 0 n (length (replicate n z)) (omega (arith, zs)));
+      terms = All-nil (AreTermsRising 0 (length (replicate n z)));
     }
 
 pub blank_small : (most n : ℕ) (fs : List ℤ) (g h : ℤ) → AreUpTo most fs → negsuc 1299 ≤ℤ g → g ≤ℤ pos 1300 → negsuc 1299 ≤ℤ h → h ≤ℤ pos 0 → AreSmall most (blank_with n fs g h).scales
@@ -146,14 +146,14 @@ pub if_ok_more : {T E : Type 0} (P Q : T → Type 0) (r : Result T E) → ((x : 
 if_ok_more P Q (Ok t) f p = f t p
 if_ok_more P Q (Err e) f p = tt
 
-pub gives_true : {A : Type 0} (made : Bool) (o : Option A) (x : A) → made ≡ true → Gives made o x → o ≡ Some x
+pub gives_true : {A : Type 0} (made : Bool) (o : Option A) (x : A) → made ≡ true → GivesWalked made o x → o ≡ Some x
 gives_true true o x e g = g
 gives_true false o x e g = absurd (cc)
 
-pub scales_table : (fs : List ℤ) (t : Table) → length fs ≡ length t.scales.columns → IsTable t → IsTable (with_scales fs t)
+pub scales_table : (fs : List ℤ) (t : WarmTable) → length fs ≡ length t.scales.columns → IsTable t → IsTable (with_scales fs t)
 scales_table fs t n w = same_shape t (with_scales fs t) w (record { row_scales = w.row_scales; column_scales = n ∙ w.column_scales }) (bounds_of t w) (basis_of t w) w.reduced w.lines w.values
 
-pub scales_small : (k m : ℕ) (fs : List ℤ) (t : Table) → AreUpTo m fs → AreSmall k t.scales → AreSmall m (with_scales fs t).scales
+pub scales_small : (k m : ℕ) (fs : List ℤ) (t : WarmTable) → AreUpTo m fs → AreSmall k t.scales → AreSmall m (with_scales fs t).scales
 scales_small k m fs t f w = record {
   columns = f;
   rows = w.rows;

@@ -18,8 +18,8 @@ use Rattle.hp_solver.specs.Packed.{at_scale, slope_term, packed_row, packed_rows
 use Rattle.hp_warm_table.specs.Numbers.{bits_of}
 use Rattle.hp_warm_scale.specs.declared.spans.Span.{Span}
 use Rattle.hp_warm_scale.specs.Walks.{walk}
-use Rattle.hp_warm_scale.specs.Spans.{grown, joined, span_of, AreBetween}
-use Rattle.hp_warm_scale.specs.Exponents.{Term, weight_of, AreUpTo}
+use Rattle.hp_warm_scale.specs.Spans.{grown, joined_span, span_of, AreBetween}
+use Rattle.hp_warm_scale.specs.Exponents.{ColumnTerm, weight_of, AreUpTo}
 use Rattle.hp_warm_scale.specs.Waiting.{last_column, slopes_of}
 use Rattle.hp_warm_scale.specs.Widening.{top, top_of, with_top}
 use Rattle.hp_warm_scale.specs.Packed.{lift_of, greater_digits, most_digits, grown_above_zero, AreLifts}
@@ -28,20 +28,20 @@ use Rattle.hp_warm_scale.proofs.Walking.{walk_more}
 use Rattle.hp_warm_scale.proofs.Digits.{more_digits, some_digits}
 
 -- ---- the terms of a row
-last_get : (ts : List Term) (t : Term) → slice_get (ts ++ t ∷ []) (length ts) ≡ Some t
+last_get : (ts : List ColumnTerm) (t : ColumnTerm) → slice_get (ts ++ t ∷ []) (length ts) ≡ Some t
 last_get [] t = refl
 last_get (u ∷ ts) t = last_get ts t
 
-one_less : (ts : List Term) (t : Term) → length (ts ++ t ∷ []) - 1 ≡ length ts
+one_less : (ts : List ColumnTerm) (t : ColumnTerm) → length (ts ++ t ∷ []) - 1 ≡ length ts
 one_less ts t = omega (arith, length-append ts (t ∷ []))
 
-pub last_behind : (ts : List Term) (t : Term) → last_column (ts ++ t ∷ []) ≡ Some t.0
-last_behind ts t = ap (λ (n : ℕ). option_map (λ (u : Term). u.0) (slice_get (ts ++ t ∷ []) n)) (one_less ts t) ∙ ap (option_map (λ (u : Term). u.0)) (last_get ts t)
+pub last_behind : (ts : List ColumnTerm) (t : ColumnTerm) → last_column (ts ++ t ∷ []) ≡ Some t.0
+last_behind ts t = ap (λ (n : ℕ). option_map (λ (u : ColumnTerm). u.0) (slice_get (ts ++ t ∷ []) n)) (one_less ts t) ∙ ap (option_map (λ (u : ColumnTerm). u.0)) (last_get ts t)
 
-pub slopes_before : (ts : List Term) (t : Term) → slopes_of (ts ++ t ∷ []) ≡ ts
+pub slopes_before : (ts : List ColumnTerm) (t : ColumnTerm) → slopes_of (ts ++ t ∷ []) ≡ ts
 slopes_before ts t = ap (λ (n : ℕ). take n (ts ++ t ∷ [])) (one_less ts t) ∙ take-append-le (length ts) ts (t ∷ []) (omega arith) ∙ take_all (length ts) ts (omega arith)
 
-abbrev pub slope_terms : List Out → PackedCut → List Term
+abbrev pub slope_terms : List Out → PackedCut → List ColumnTerm
 slope_terms outs c = flat_map (slope_term c.slopes) outs
 
 pub packed_last : (outs : List Out) (column : ℕ) (c : PackedCut) → last_column (packed_row outs column c).terms ≡ Some column
@@ -101,21 +101,21 @@ same_test s = by (int_eq s (pos 0)) (nat_abs s == 0) refl refl
     by true false e f = absurd (grind (arith, ints, nat_tests))
     by false true e f = absurd (grind (arith, ints, nat_tests))
 
-abbrev spanned : List ℤ → ℕ → Option Span → List Term → Option Span
-spanned fs i s ts = walk (λ j s t. joined s (Some (weight_of fs t))) i s ts
+abbrev spanned : List ℤ → ℕ → Option Span → List ColumnTerm → Option Span
+spanned fs i s ts = walk (λ j s t. joined_span s (Some (weight_of fs t))) i s ts
 
 abbrev pub greatest_from : List ℤ → ℕ → ℤ → List (ℕ × ℤ) → ℤ
 greatest_from slopes k m ls = walk (λ k most (l : ℕ × ℤ). greater_digits most l.1 (entry slopes l.0)) k m ls
 
 -- one term more, unless the slope is 0
-term_tops : (fs slopes : List ℤ) (o : Out) (ts : List Term) (ls : List (ℕ × ℤ)) (i k : ℕ) (s : Option Span) (m slope : ℤ) (b : Bool) → (nat_abs slope == 0) ≡ b → nat_abs slope < 2 ^ 57 → pos 0 ≤ℤ (entry fs o.decision +ℤ pos 8) → Tops s m
+term_tops : (fs slopes : List ℤ) (o : Out) (ts : List ColumnTerm) (ls : List (ℕ × ℤ)) (i k : ℕ) (s : Option Span) (m slope : ℤ) (b : Bool) → (nat_abs slope == 0) ≡ b → nat_abs slope < 2 ^ 57 → pos 0 ≤ℤ (entry fs o.decision +ℤ pos 8) → Tops s m
     → ((i : ℕ) (s : Option Span) (m : ℤ) → Tops s m → Tops (spanned fs i s ts) (greatest_from slopes (suc k) m ls))
     → Tops (spanned fs i s (cond b [] ((o.decision, at_scale (neg_ℤ slope)) ∷ []) ++ ts)) (greatest_from slopes (suc k) (cond b m (int_max m ((entry fs o.decision +ℤ pos 8) +ℤ pos (bits_of slope)))) ls)
 term_tops fs slopes o ts ls i k s m slope true e small lift h go = go i s m h
 term_tops fs slopes o ts ls i k s m slope false e small lift h go =
     let p : 0 < nat_abs slope = grind (arith, nat_tests) in
     let more : ℤ = (entry fs o.decision +ℤ pos 8) +ℤ pos (bits_of slope) in
-    let term : Term = (o.decision, at_scale (neg_ℤ slope)) in
+    let term : ColumnTerm = (o.decision, at_scale (neg_ℤ slope)) in
     let w : weight_of fs term ≡ more = term_weight fs o slope p small in
     let some = some_digits slope p small in
     let least : pos 1 ≤ℤ more = omega (arith, ints, lift, some) in
@@ -126,15 +126,15 @@ terms_tops fs slopes [] i k s m small lifts h = h
 terms_tops fs slopes (o ∷ outs) i k s m small lifts h =
     let slope : ℤ = entry slopes o.state in
     let first = All-head (λ (l : ℕ × ℤ). (pos 0 ≤ℤ l.1) × (l.1 ≤ℤ pos 520)) (lift_of fs o) (map (lift_of fs) outs) lifts in
-    let rest = All-tail (λ (l : ℕ × ℤ). (pos 0 ≤ℤ l.1) × (l.1 ≤ℤ pos 520)) (lift_of fs o) (map (lift_of fs) outs) lifts in
+    let tail = All-tail (λ (l : ℕ × ℤ). (pos 0 ≤ℤ l.1) × (l.1 ≤ℤ pos 520)) (lift_of fs o) (map (lift_of fs) outs) lifts in
     let more : ℤ = (entry fs o.decision +ℤ pos 8) +ℤ pos (bits_of slope) in
     subst (λ (b : Bool). Tops (spanned fs i s (flat_map (slope_term slopes) (o ∷ outs))) (greatest_from slopes (suc k) (cond b m (int_max m more)) (map (lift_of fs) outs))) (sym (same_test slope))
-    (term_tops fs slopes o (flat_map (slope_term slopes) outs) (map (lift_of fs) outs) i k s m slope (nat_abs slope == 0) refl (entry_small slopes o.state small) first.0 h (λ i s m h. terms_tops fs slopes outs i (suc k) s m small rest h))
+    (term_tops fs slopes o (flat_map (slope_term slopes) outs) (map (lift_of fs) outs) i k s m slope (nat_abs slope == 0) refl (entry_small slopes o.state small) first.0 h (λ i s m h. terms_tops fs slopes outs i (suc k) s m small tail h))
 
 pub packed_top : (fs : List ℤ) (outs : List Out) (column : ℕ) (c : PackedCut) → small_slope c.slopes → AreLifts (map (lift_of fs) outs) → top_of fs (packed_row outs column c).terms ≡ cond (int_eq (most_digits (map (lift_of fs) outs) c.slopes) (pos 0)) None (Some (most_digits (map (lift_of fs) outs) c.slopes))
 unfolding top_of
 packed_top fs outs column c small lifts =
-    ap (λ (ts : List Term). top (span_of (λ (k : ℕ) t. Some (weight_of fs t)) ts)) (slopes_before (slope_terms outs c) (column, one))
+    ap (λ (ts : List ColumnTerm). top (span_of (λ (k : ℕ) t. Some (weight_of fs t)) ts)) (slopes_before (slope_terms outs c) (column, one))
     ∙ top_tops (span_of (λ (k : ℕ) t. Some (weight_of fs t)) (slope_terms outs c)) (most_digits (map (lift_of fs) outs) c.slopes) (terms_tops fs c.slopes outs 0 0 None (pos 0) small lifts refl)
 
 -- ---- the spans of tops
@@ -173,14 +173,14 @@ pub spans_written : (decisions column : ℕ) (fs : List ℤ) (outs : List Out) (
 spans_written decisions column fs outs [] i ss h there lifts small = sym (set-get_or ss column None)
 spans_written decisions column fs outs (c ∷ cuts) i ss h there lifts small =
     let first = All-head (λ (c : PackedCut). small_slope c.slopes) c cuts small in
-    let rest = All-tail (λ (c : PackedCut). small_slope c.slopes) c cuts small in
+    let tail = All-tail (λ (c : PackedCut). small_slope c.slopes) c cuts small in
     let now : Option Span = cut_step (map (lift_of fs) outs) (get_or ss column None) c in
     let one : top_step decisions fs ss (packed_row outs column c) ≡ set ss column now =
     ap₂ (λ (o : Option ℤ) (l : Option ℕ). with_top decisions ss o l) (packed_top fs outs column c first lifts) (packed_last outs column c)
     ∙ written_top decisions column ss (most_digits (map (lift_of fs) outs) c.slopes) h in
     let count : length (set ss column now) ≡ length ss = length-set ss column now in
     ap (λ (xs : List (Option Span)). steps (top_step decisions fs) (suc i) xs (map (packed_row outs column) cuts)) one
-    ∙ spans_written decisions column fs outs cuts (suc i) (set ss column now) h (omega (arith, count, there)) lifts rest
+    ∙ spans_written decisions column fs outs cuts (suc i) (set ss column now) h (omega (arith, count, there)) lifts tail
     ∙ ap (λ (s : Option Span). set (set ss column now) column (steps (cut_step (map (lift_of fs) outs)) (suc i) s cuts)) (get_or-set_same ss column now None there)
     ∙ set-set ss column now (steps (cut_step (map (lift_of fs) outs)) (suc i) now cuts)
 

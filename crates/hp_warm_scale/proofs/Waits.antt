@@ -11,10 +11,10 @@ use Rattle.hp_solver.specs.declared.programs.LpRow.{LpRow}
 use Rattle.hp_solver.specs.Numbers.{one}
 use Rattle.hp_solver.specs.PackedCut.{PackedCut}
 use Rattle.hp_solver.specs.Packed.{at_scale, slope_term, packed_row, packed_rows}
-use Rattle.hp_warm_table.specs.declared.table.Table.{Table}
+use Rattle.hp_warm_table.specs.declared.table.WarmTable.{WarmTable}
 use Rattle.hp_warm_table.specs.Numbers.{bits_of}
 use Rattle.hp_warm_scale.specs.Walks.{walk, run}
-use Rattle.hp_warm_scale.specs.Exponents.{Term}
+use Rattle.hp_warm_scale.specs.Exponents.{ColumnTerm}
 use Rattle.hp_warm_scale.specs.Waiting.{last_column, is_short, is_short_side, is_narrow, closed, closed_by, all_closed, waits_in, waits}
 use Rattle.hp_warm_scale.specs.Appending.{appended_cut}
 use Rattle.hp_warm_scale.specs.Widening.{put_cut, put_cuts}
@@ -44,8 +44,8 @@ few_terms slopes [] = omega arith
 few_terms slopes (o ∷ outs) = by (nat_abs (entry slopes o.state) == 0) (few_terms slopes outs)
   where
     by : (b : Bool) → length (flat_map (slope_term slopes) outs) ≤ length outs → length (cond b [] ((o.decision, at_scale (neg_ℤ (entry slopes o.state))) ∷ []) ++ flat_map (slope_term slopes) outs) ≤ suc (length outs)
-    by true rest = omega (arith, rest)
-    by false rest = omega (arith, rest)
+    by true tail = omega (arith, tail)
+    by false tail = omega (arith, tail)
 
 short_slope : (s : ℤ) → nat_abs s < 2 ^ 57 → nat_le (bits_of (pos 256 *ℤ neg_ℤ s)) 65 ≡ true
 short_slope s h =
@@ -57,9 +57,9 @@ short_side z h =
     let few = few_digits (pos 256 *ℤ z) 108 (omega arith) (omega (arith, unsigned_abs-mul (pos 256) z, h)) in
     grind (arith, nat_tests)
 
-short_term : (rs : List ℕ) (o : Out) (slope : ℤ) (ts : List Term) (b : Bool) → nat_abs slope < 2 ^ 57 → is_short_out rs o ≡ true → list_all (is_short rs) ts ≡ true → list_all (is_short rs) (cond b [] ((o.decision, at_scale (neg_ℤ slope)) ∷ []) ++ ts) ≡ true
-short_term rs o slope ts true small here rest = rest
-short_term rs o slope ts false small here rest = both _ _ (both _ _ (short_slope slope small) here) rest
+short_term : (rs : List ℕ) (o : Out) (slope : ℤ) (ts : List ColumnTerm) (b : Bool) → nat_abs slope < 2 ^ 57 → is_short_out rs o ≡ true → list_all (is_short rs) ts ≡ true → list_all (is_short rs) (cond b [] ((o.decision, at_scale (neg_ℤ slope)) ∷ []) ++ ts) ≡ true
+short_term rs o slope ts true small here tail = tail
+short_term rs o slope ts false small here tail = both _ _ (both _ _ (short_slope slope small) here) tail
 
 short_terms : (rs : List ℕ) (slopes : List ℤ) (outs : List Out) → All (λ (s : ℤ). nat_abs s < 2 ^ 57) slopes → list_all (is_short_out rs) outs ≡ true → list_all (is_short rs) (flat_map (slope_term slopes) outs) ≡ true
 short_terms rs slopes [] small h = refl
@@ -70,7 +70,7 @@ short_terms rs slopes (o ∷ outs) small h =
 narrow_row : (rs : List ℕ) (outs : List Out) (column : ℕ) (c : PackedCut) → length outs ≤ 50 → list_all (is_short_out rs) outs ≡ true → IsSmallCut c → is_narrow rs (packed_row outs column c) ≡ true
 unfolding is_narrow
 narrow_row rs outs column c few short small =
-    let terms : List Term = slope_terms outs c in
+    let terms : List ColumnTerm = slope_terms outs c in
     let some = few_terms c.slopes outs in
     let count = length-append terms ((column, one) ∷ []) in
     let counted : nat_le (length (terms ++ (column, one) ∷ [])) 51 ≡ true = grind (arith, nat_tests) in
@@ -110,20 +110,20 @@ all_wait ws outs column cs h = All-map (Wait ws) (packed_row outs column) cs (λ
 
 -- the rows of one successor more
 pub wait_more : (ws : List Bool) (outs : List Out) (first i : ℕ) (css : List (List PackedCut)) → i < length css → get_or ws (first + i) false ≡ true → All (λ (r : LpRow). waits ws r ≡ true) (packed_rows outs (first + (i + 1)) (drop (i + 1) css)) → All (λ (r : LpRow). waits ws r ≡ true) (packed_rows outs (first + i) (drop i css))
-wait_more ws outs first i css l h rest =
+wait_more ws outs first i css l h tail =
     let e : first + (i + 1) ≡ suc (first + i) = omega arith in
     subst (All (Wait ws)) (sym (next_rows outs (first + i) i css [] l))
     (All-append (Wait ws) (map (packed_row outs (first + i)) (get_or css i [])) (packed_rows outs (suc (first + i)) (drop (i + 1) css)) (all_wait ws outs (first + i) (get_or css i []) h)
-    (subst (λ (k : ℕ). All (Wait ws) (packed_rows outs k (drop (i + 1) css))) e rest))
+    (subst (λ (k : ℕ). All (Wait ws) (packed_rows outs k (drop (i + 1) css))) e tail))
 
 -- where all rows wait none is put
-none_put : (ws : List Bool) (cuts : List LpRow) (i : ℕ) (t : Table) → All (Wait ws) cuts → run (put_cut ws) i cuts t ≡ Some t
+none_put : (ws : List Bool) (cuts : List LpRow) (i : ℕ) (t : WarmTable) → All (Wait ws) cuts → run (put_cut ws) i cuts t ≡ Some t
 none_put ws [] i t h = refl
 none_put ws (r ∷ cuts) i t h =
     ap (λ (b : Bool). option_and_then (run (put_cut ws) (suc i) cuts) (cond b (Some t) (appended_cut i r t))) (All-head (Wait ws) r cuts h)
     ∙ none_put ws cuts (suc i) t (All-tail (Wait ws) r cuts h)
 
-pub puts_none : (ws : List Bool) (cuts : List LpRow) (i : ℕ) (t : Table) → All (λ (r : LpRow). waits ws r ≡ true) cuts → put_cuts ws i cuts t ≡ Some t
+pub puts_none : (ws : List Bool) (cuts : List LpRow) (i : ℕ) (t : WarmTable) → All (λ (r : LpRow). waits ws r ≡ true) cuts → put_cuts ws i cuts t ≡ Some t
 puts_none ws cuts i t h = none_put ws cuts i t h
 
 -- ---- what is true of each item as far as it was read

@@ -10,24 +10,24 @@ use Rattle.hp_solver.specs.declared.programs.Column.{Column}
 use Rattle.hp_warm_table.specs.Numbers.{bits_of}
 use Rattle.hp_warm_scale.specs.declared.spans.Span.{Span}
 use Rattle.hp_warm_scale.specs.Walks.{walk, count_from}
-use Rattle.hp_warm_scale.specs.Spans.{joined, span_of, AreBetween}
-use Rattle.hp_warm_scale.specs.Exponents.{Term, reach_of, weight_of, AreUpTo}
+use Rattle.hp_warm_scale.specs.Spans.{joined_span, span_of, AreBetween}
+use Rattle.hp_warm_scale.specs.Exponents.{ColumnTerm, reach_of, weight_of, AreUpTo}
 use Rattle.hp_warm_scale.specs.Scaling.{cost_weight, box_weight, room, AreSmall, AreRowScales}
-use Rattle.hp_warm_scale.specs.Appending.{row_scale, AreBelow, with_row}
+use Rattle.hp_warm_scale.specs.Appending.{row_scale, AreBelow, with_appended_row}
 use Rattle.hp_warm_scale.specs.Widening.{top}
 use Rattle.hp_warm_scale.specs.declared.sides.Sides.{Sides}
-use Rattle.hp_warm_table.specs.declared.table.Table.{Table}
+use Rattle.hp_warm_table.specs.declared.table.WarmTable.{WarmTable}
 use Rattle.hp_warm_scale.proofs.Between.{span_between, wider, GivesBetween}
 use Rattle.hp_warm_scale.proofs.Passes.{bits_small, weight_between}
 
 some_is : {A : Type 0} {x y : A} → Some x ≡ Some y → x ≡ y
 some_is h = cc
 
-terms_give : (k : ℕ) (fs : List ℤ) → AreUpTo k fs → GivesBetween (pos 0) (pos (k + 128)) (λ (j : ℕ) (t : Term). Some (weight_of fs t))
+terms_give : (k : ℕ) (fs : List ℤ) → AreUpTo k fs → GivesBetween (pos 0) (pos (k + 128)) (λ (j : ℕ) (t : ColumnTerm). Some (weight_of fs t))
 terms_give k fs h j t x e = subst (λ (z : ℤ). (pos 0 ≤ℤ z) × (z ≤ℤ pos (k + 128))) (some_is e) (weight_between k fs t h)
 
-pub term_span_between : (k : ℕ) (fs : List ℤ) (ts : List Term) → AreUpTo k fs → AreBetween (pos 0) (pos (k + 128)) (span_of (λ (j : ℕ) t. Some (weight_of fs t)) ts)
-term_span_between k fs ts h = span_between (pos 0) (pos (k + 128)) (λ (j : ℕ) (t : Term). Some (weight_of fs t)) ts (terms_give k fs h)
+pub term_span_between : (k : ℕ) (fs : List ℤ) (ts : List ColumnTerm) → AreUpTo k fs → AreBetween (pos 0) (pos (k + 128)) (span_of (λ (j : ℕ) t. Some (weight_of fs t)) ts)
+term_span_between k fs ts h = span_between (pos 0) (pos (k + 128)) (λ (j : ℕ) (t : ColumnTerm). Some (weight_of fs t)) ts (terms_give k fs h)
 
 costs_give : (k : ℕ) (fs : List ℤ) → AreUpTo k fs → GivesBetween (pos 0) (pos (k + 128)) (cost_weight fs)
 costs_give k fs h j c x e = by (int_eq c.cost.0 (pos 0)) e
@@ -61,28 +61,28 @@ count_more n j h =
     ap (count_from j) e ∙ ap (λ (k : ℕ). j ∷ count_from k (n - (j + 1))) f
 
 -- the terms of a row are at most the greatest of their span
-reached : (fs : List ℤ) (j : ℕ) (s : Span) (ts : List Term) → (r : Span) × (walk (λ (k : ℕ) z t. joined z (Some (weight_of fs t))) j (Some s) ts ≡ Some r) × (s.greatest ≤ℤ r.greatest) × All (λ (t : Term). weight_of fs t ≤ℤ r.greatest) ts
-reached fs j s [] = (s, refl, omega (arith, ints), All-nil (λ (t : Term). weight_of fs t ≤ℤ s.greatest))
+reached : (fs : List ℤ) (j : ℕ) (s : Span) (ts : List ColumnTerm) → (r : Span) × (walk (λ (k : ℕ) z t. joined_span z (Some (weight_of fs t))) j (Some s) ts ≡ Some r) × (s.greatest ≤ℤ r.greatest) × All (λ (t : ColumnTerm). weight_of fs t ≤ℤ r.greatest) ts
+reached fs j s [] = (s, refl, omega (arith, ints), All-nil (λ (t : ColumnTerm). weight_of fs t ≤ℤ s.greatest))
 reached fs j s (t ∷ ts) =
     let w : ℤ = weight_of fs t in
     let g : Span = record { least = int_min s.least w; greatest = int_max s.greatest w } in
     let r = reached fs (suc j) g ts in
     let a = r.2 in
-    (r.0, r.1, omega (arith, ints, clamps, a), All-cons (λ (t : Term). weight_of fs t ≤ℤ r.0.greatest) t ts (omega (arith, ints, clamps, a)) r.3)
+    (r.0, r.1, omega (arith, ints, clamps, a), All-cons (λ (t : ColumnTerm). weight_of fs t ≤ℤ r.0.greatest) t ts (omega (arith, ints, clamps, a)) r.3)
 
-below_limit : (fs : List ℤ) (g : ℤ) (ts : List Term) → All (λ (t : Term). weight_of fs t ≤ℤ g) ts → AreBelow fs (pos 32 -ℤ g) ts
-below_limit fs g ts h = All-weaker (λ (t : Term). weight_of fs t ≤ℤ g) (λ (t : Term). ((pos 32 -ℤ g) +ℤ weight_of fs t) ≤ℤ pos 32) (λ t k. omega (arith, ints, k)) ts h
+below_limit : (fs : List ℤ) (g : ℤ) (ts : List ColumnTerm) → All (λ (t : ColumnTerm). weight_of fs t ≤ℤ g) ts → AreBelow fs (pos 32 -ℤ g) ts
+below_limit fs g ts h = All-weaker (λ (t : ColumnTerm). weight_of fs t ≤ℤ g) (λ (t : ColumnTerm). ((pos 32 -ℤ g) +ℤ weight_of fs t) ≤ℤ pos 32) (λ t k. omega (arith, ints, k)) ts h
 
 -- with the exponent of their row they have at most 32 binary digits
-pub scale_below : (fs : List ℤ) (ts : List Term) → AreBelow fs (row_scale fs ts) ts
+pub scale_below : (fs : List ℤ) (ts : List ColumnTerm) → AreBelow fs (row_scale fs ts) ts
 unfolding row_scale
-scale_below fs [] = All-nil (λ (t : Term). (pos 0 +ℤ weight_of fs t) ≤ℤ pos 32)
+scale_below fs [] = All-nil (λ (t : ColumnTerm). (pos 0 +ℤ weight_of fs t) ≤ℤ pos 32)
 scale_below fs (t ∷ ts) =
     let w : ℤ = weight_of fs t in
     let g : Span = record { least = w; greatest = w } in
     let r = reached fs 1 g ts in
     let a = r.2 in
-    let all : All (λ (t : Term). weight_of fs t ≤ℤ r.0.greatest) (t ∷ ts) = All-cons (λ (t : Term). weight_of fs t ≤ℤ r.0.greatest) t ts a r.3 in
+    let all : All (λ (t : ColumnTerm). weight_of fs t ≤ℤ r.0.greatest) (t ∷ ts) = All-cons (λ (t : ColumnTerm). weight_of fs t ≤ℤ r.0.greatest) t ts a r.3 in
     subst (λ (e : ℤ). AreBelow fs e (t ∷ ts)) (sym (ap (room (pos 32)) r.1)) (below_limit fs r.0.greatest (t ∷ ts) all)
 
 -- one exponent more
@@ -92,7 +92,7 @@ scales_more [] e h k r (suc i) = (omega (arith, ints), omega (arith, ints))
 scales_more (x ∷ es) e h k r zero = r 0
 scales_more (x ∷ es) e h k r (suc i) = scales_more es e h k (λ j. r (suc j)) i
 
-pub row_small : (most : ℕ) (e : ℤ) (ts : List (ℕ × ℤ)) (s : Sides) (t : Table) → negsuc 1299 ≤ℤ e → e ≤ℤ pos 1300 → AreSmall most t.scales → AreSmall most (with_row e ts s t).scales
+pub row_small : (most : ℕ) (e : ℤ) (ts : List (ℕ × ℤ)) (s : Sides) (t : WarmTable) → negsuc 1299 ≤ℤ e → e ≤ℤ pos 1300 → AreSmall most t.scales → AreSmall most (with_appended_row e ts s t).scales
 row_small most e ts s t h k w = record {
   columns = w.columns;
   rows = scales_more t.scales.rows e h k w.rows;

@@ -4,10 +4,10 @@ use Rattle.std.specs.Option.{option_map, option_and_then}
 use lib.Count.{count_leading_zeros}
 use Rattle.hp_solver.specs.declared.programs.Program.{Program}
 use Rattle.hp_solver.specs.Numbers.{number}
-use Rattle.hp_warm_table.specs.declared.table.Table.{Table}
+use Rattle.hp_warm_table.specs.declared.table.WarmTable.{WarmTable}
 use Rattle.hp_warm_table.specs.Numbers.{shift_up, shift_down}
-use Rattle.hp_warm_scale.specs.Exponents.{with_row, spans_of, pass_of, columns_of}
-use Rattle.hp_warm_scale.specs.Scaling.{scaled_value, scaled_cell, costs_scale, values_scale, scaled_column, column_step, blank_of, columns_table}
+use Rattle.hp_warm_scale.specs.Exponents.{with_row_terms, spans_of, pass_of, columns_of}
+use Rattle.hp_warm_scale.specs.Scaling.{scaled_quantity, scaled_cell, costs_scale, values_scale, scaled_column, column_step, blank_of, columns_table}
 use Rattle.hp_warm_scale.specs.Appending.{scaled_sides, row_scale, scaled_term, scaled_terms, appended_row, appended_cut}
 use Rattle.hp_warm_scale.specs.First.{first_of}
 use Rattle.hp_warm_scale.specs.Waiting.{is_narrow, waiting_of, waits}
@@ -23,16 +23,16 @@ one_row =
       own = 1;
     }
 
-one_row_scales : option_map (λ (t : Table). t.scales) (first_of one_row) ≡ Some (record { rows = negsuc 0 ∷ []; columns = pos 0 ∷ []; costs = negsuc 1; values = pos 0 })
-unfolding with_row spans_of pass_of columns_of count_leading_zeros scaled_value scaled_cell costs_scale values_scale scaled_column column_step blank_of columns_table scaled_sides row_scale scaled_term scaled_terms appended_row first_of shift_up shift_down
+one_row_scales : option_map (λ (t : WarmTable). t.scales) (first_of one_row) ≡ Some (record { rows = negsuc 0 ∷ []; columns = pos 0 ∷ []; costs = negsuc 1; values = pos 0 })
+unfolding with_row_terms spans_of pass_of columns_of count_leading_zeros scaled_quantity scaled_cell costs_scale values_scale scaled_column column_step blank_of columns_table scaled_sides row_scale scaled_term scaled_terms appended_row first_of shift_up shift_down
 one_row_scales = refl
 
-one_row_terms : option_map (λ (t : Table). t.rows) (first_of one_row) ≡ Some (((0, pos 549755813888) ∷ []) ∷ [])
-unfolding with_row spans_of pass_of columns_of count_leading_zeros scaled_value scaled_cell costs_scale values_scale scaled_column column_step blank_of columns_table scaled_sides row_scale scaled_term scaled_terms appended_row first_of shift_up shift_down
+one_row_terms : option_map (λ (t : WarmTable). t.rows) (first_of one_row) ≡ Some (((0, pos 549755813888) ∷ []) ∷ [])
+unfolding with_row_terms spans_of pass_of columns_of count_leading_zeros scaled_quantity scaled_cell costs_scale values_scale scaled_column column_step blank_of columns_table scaled_sides row_scale scaled_term scaled_terms appended_row first_of shift_up shift_down
 one_row_terms = refl
 
-one_row_costs : option_map (λ (t : Table). t.reduced) (first_of one_row) ≡ Some (pos 549755813888 ∷ [])
-unfolding with_row spans_of pass_of columns_of count_leading_zeros scaled_value scaled_cell costs_scale values_scale scaled_column column_step blank_of columns_table scaled_sides row_scale scaled_term scaled_terms appended_row first_of shift_up shift_down
+one_row_costs : option_map (λ (t : WarmTable). t.reduced) (first_of one_row) ≡ Some (pos 549755813888 ∷ [])
+unfolding with_row_terms spans_of pass_of columns_of count_leading_zeros scaled_quantity scaled_cell costs_scale values_scale scaled_column column_step blank_of columns_table scaled_sides row_scale scaled_term scaled_terms appended_row first_of shift_up shift_down
 one_row_costs = refl
 
 -- a reservoir, a turbine and a plant
@@ -45,12 +45,12 @@ stage =
       own = 2;
     }
 
-stage_scales : option_map (λ (t : Table). t.scales) (first_of stage) ≡ Some (record { rows = negsuc 0 ∷ negsuc 0 ∷ []; columns = pos 0 ∷ pos 0 ∷ pos 0 ∷ []; costs = negsuc 2; values = pos 0 })
-unfolding with_row spans_of pass_of columns_of count_leading_zeros scaled_value scaled_cell costs_scale values_scale scaled_column column_step blank_of columns_table scaled_sides row_scale scaled_term scaled_terms appended_row first_of shift_up shift_down
+stage_scales : option_map (λ (t : WarmTable). t.scales) (first_of stage) ≡ Some (record { rows = negsuc 0 ∷ negsuc 0 ∷ []; columns = pos 0 ∷ pos 0 ∷ pos 0 ∷ []; costs = negsuc 2; values = pos 0 })
+unfolding with_row_terms spans_of pass_of columns_of count_leading_zeros scaled_quantity scaled_cell costs_scale values_scale scaled_column column_step blank_of columns_table scaled_sides row_scale scaled_term scaled_terms appended_row first_of shift_up shift_down
 stage_scales = refl
 
-stage_costs : option_map (λ (t : Table). t.reduced) (first_of stage) ≡ Some (pos 0 ∷ pos 0 ∷ pos 687194767360 ∷ [])
-unfolding with_row spans_of pass_of columns_of count_leading_zeros scaled_value scaled_cell costs_scale values_scale scaled_column column_step blank_of columns_table scaled_sides row_scale scaled_term scaled_terms appended_row first_of shift_up shift_down
+stage_costs : option_map (λ (t : WarmTable). t.reduced) (first_of stage) ≡ Some (pos 0 ∷ pos 0 ∷ pos 687194767360 ∷ [])
+unfolding with_row_terms spans_of pass_of columns_of count_leading_zeros scaled_quantity scaled_cell costs_scale values_scale scaled_column column_step blank_of columns_table scaled_sides row_scale scaled_term scaled_terms appended_row first_of shift_up shift_down
 stage_costs = refl
 
 -- four columns in one row
@@ -63,12 +63,12 @@ flips =
       own = 1;
     }
 
-flips_scales : option_map (λ (t : Table). t.scales) (first_of flips) ≡ Some (record { rows = negsuc 1 ∷ []; columns = pos 0 ∷ pos 0 ∷ pos 0 ∷ pos 0 ∷ []; costs = negsuc 3; values = pos 0 })
-unfolding with_row spans_of pass_of columns_of count_leading_zeros scaled_value scaled_cell costs_scale values_scale scaled_column column_step blank_of columns_table scaled_sides row_scale scaled_term scaled_terms appended_row first_of shift_up shift_down
+flips_scales : option_map (λ (t : WarmTable). t.scales) (first_of flips) ≡ Some (record { rows = negsuc 1 ∷ []; columns = pos 0 ∷ pos 0 ∷ pos 0 ∷ pos 0 ∷ []; costs = negsuc 3; values = pos 0 })
+unfolding with_row_terms spans_of pass_of columns_of count_leading_zeros scaled_quantity scaled_cell costs_scale values_scale scaled_column column_step blank_of columns_table scaled_sides row_scale scaled_term scaled_terms appended_row first_of shift_up shift_down
 flips_scales = refl
 
-flips_terms : option_map (λ (t : Table). t.rows) (first_of flips) ≡ Some (((0, pos 274877906944) ∷ (1, pos 549755813888) ∷ (2, pos 274877906944) ∷ (3, pos 274877906944) ∷ []) ∷ [])
-unfolding with_row spans_of pass_of columns_of count_leading_zeros scaled_value scaled_cell costs_scale values_scale scaled_column column_step blank_of columns_table scaled_sides row_scale scaled_term scaled_terms appended_row first_of shift_up shift_down
+flips_terms : option_map (λ (t : WarmTable). t.rows) (first_of flips) ≡ Some (((0, pos 274877906944) ∷ (1, pos 549755813888) ∷ (2, pos 274877906944) ∷ (3, pos 274877906944) ∷ []) ∷ [])
+unfolding with_row_terms spans_of pass_of columns_of count_leading_zeros scaled_quantity scaled_cell costs_scale values_scale scaled_column column_step blank_of columns_table scaled_sides row_scale scaled_term scaled_terms appended_row first_of shift_up shift_down
 flips_terms = refl
 
 -- a factor of 3
@@ -81,8 +81,8 @@ thirds =
       own = 1;
     }
 
-thirds_terms : option_map (λ (t : Table). t.rows) (first_of thirds) ≡ Some (((0, pos 824633720832) ∷ []) ∷ [])
-unfolding with_row spans_of pass_of columns_of count_leading_zeros scaled_value scaled_cell costs_scale values_scale scaled_column column_step blank_of columns_table scaled_sides row_scale scaled_term scaled_terms appended_row first_of shift_up shift_down
+thirds_terms : option_map (λ (t : WarmTable). t.rows) (first_of thirds) ≡ Some (((0, pos 824633720832) ∷ []) ∷ [])
+unfolding with_row_terms spans_of pass_of columns_of count_leading_zeros scaled_quantity scaled_cell costs_scale values_scale scaled_column column_step blank_of columns_table scaled_sides row_scale scaled_term scaled_terms appended_row first_of shift_up shift_down
 thirds_terms = refl
 
 -- columns and rows of very different size
@@ -95,8 +95,8 @@ steep =
       own = 4;
     }
 
-steep_scales : option_map (λ (t : Table). t.scales) (first_of steep) ≡ Some (record { rows = negsuc 0 ∷ negsuc 0 ∷ negsuc 19 ∷ negsuc 18 ∷ []; columns = pos 0 ∷ pos 0 ∷ pos 0 ∷ pos 17 ∷ []; costs = negsuc 17; values = pos 0 })
-unfolding with_row spans_of pass_of columns_of count_leading_zeros scaled_value scaled_cell costs_scale values_scale scaled_column column_step blank_of columns_table scaled_sides row_scale scaled_term scaled_terms appended_row first_of shift_up shift_down
+steep_scales : option_map (λ (t : WarmTable). t.scales) (first_of steep) ≡ Some (record { rows = negsuc 0 ∷ negsuc 0 ∷ negsuc 19 ∷ negsuc 18 ∷ []; columns = pos 0 ∷ pos 0 ∷ pos 0 ∷ pos 17 ∷ []; costs = negsuc 17; values = pos 0 })
+unfolding with_row_terms spans_of pass_of columns_of count_leading_zeros scaled_quantity scaled_cell costs_scale values_scale scaled_column column_step blank_of columns_table scaled_sides row_scale scaled_term scaled_terms appended_row first_of shift_up shift_down
 steep_scales = refl
 
 -- a box that is wider than values may be
@@ -109,8 +109,8 @@ tall =
       own = 2;
     }
 
-tall_values : option_map (λ (t : Table). t.scales.values) (first_of tall) ≡ Some (negsuc 18)
-unfolding with_row spans_of pass_of columns_of count_leading_zeros scaled_value scaled_cell costs_scale values_scale scaled_column column_step blank_of columns_table scaled_sides row_scale scaled_term scaled_terms appended_row first_of shift_up shift_down
+tall_values : option_map (λ (t : WarmTable). t.scales.values) (first_of tall) ≡ Some (negsuc 18)
+unfolding with_row_terms spans_of pass_of columns_of count_leading_zeros scaled_quantity scaled_cell costs_scale values_scale scaled_column column_step blank_of columns_table scaled_sides row_scale scaled_term scaled_terms appended_row first_of shift_up shift_down
 tall_values = refl
 
 -- factors, bounds and costs below 0
@@ -123,8 +123,8 @@ interval =
       own = 2;
     }
 
-interval_stands : option_map (λ (t : Table). t.basis.high) (first_of interval) ≡ Some (false ∷ true ∷ false ∷ [])
-unfolding with_row spans_of pass_of columns_of count_leading_zeros scaled_value scaled_cell costs_scale values_scale scaled_column column_step blank_of columns_table scaled_sides row_scale scaled_term scaled_terms appended_row first_of shift_up shift_down
+interval_stands : option_map (λ (t : WarmTable). t.basis.high) (first_of interval) ≡ Some (false ∷ true ∷ false ∷ [])
+unfolding with_row_terms spans_of pass_of columns_of count_leading_zeros scaled_quantity scaled_cell costs_scale values_scale scaled_column column_step blank_of columns_table scaled_sides row_scale scaled_term scaled_terms appended_row first_of shift_up shift_down
 interval_stands = refl
 
 -- exponents above 0
@@ -137,8 +137,8 @@ runaway =
       own = 3;
     }
 
-runaway_scales : option_map (λ (t : Table). t.scales) (first_of runaway) ≡ Some (record { rows = negsuc 9 ∷ negsuc 7 ∷ negsuc 9 ∷ []; columns = pos 1 ∷ pos 0 ∷ pos 2 ∷ []; costs = negsuc 16; values = negsuc 2 })
-unfolding with_row spans_of pass_of columns_of count_leading_zeros scaled_value scaled_cell costs_scale values_scale scaled_column column_step blank_of columns_table scaled_sides row_scale scaled_term scaled_terms appended_row first_of shift_up shift_down
+runaway_scales : option_map (λ (t : WarmTable). t.scales) (first_of runaway) ≡ Some (record { rows = negsuc 9 ∷ negsuc 7 ∷ negsuc 9 ∷ []; columns = pos 1 ∷ pos 0 ∷ pos 2 ∷ []; costs = negsuc 16; values = negsuc 2 })
+unfolding with_row_terms spans_of pass_of columns_of count_leading_zeros scaled_quantity scaled_cell costs_scale values_scale scaled_column column_step blank_of columns_table scaled_sides row_scale scaled_term scaled_terms appended_row first_of shift_up shift_down
 runaway_scales = refl
 
 -- a side that leaves the range of values
@@ -152,7 +152,7 @@ too_large =
     }
 
 no_table : first_of too_large ≡ None
-unfolding with_row spans_of pass_of columns_of count_leading_zeros scaled_value scaled_cell costs_scale values_scale scaled_column column_step blank_of columns_table scaled_sides row_scale scaled_term scaled_terms appended_row first_of shift_up shift_down
+unfolding with_row_terms spans_of pass_of columns_of count_leading_zeros scaled_quantity scaled_cell costs_scale values_scale scaled_column column_step blank_of columns_table scaled_sides row_scale scaled_term scaled_terms appended_row first_of shift_up shift_down
 no_table = refl
 
 -- two decisions, and a successor's column that stands at 0
@@ -165,8 +165,8 @@ reference =
       own = 1;
     }
 
-reference_scales : option_map (λ (t : Table). t.scales) (first_of reference) ≡ Some (record { rows = negsuc 0 ∷ []; columns = pos 0 ∷ pos 0 ∷ pos 0 ∷ []; costs = negsuc 1; values = pos 0 })
-unfolding with_row spans_of pass_of columns_of count_leading_zeros scaled_value scaled_cell costs_scale values_scale scaled_column column_step blank_of columns_table scaled_sides row_scale scaled_term scaled_terms appended_row first_of shift_up shift_down
+reference_scales : option_map (λ (t : WarmTable). t.scales) (first_of reference) ≡ Some (record { rows = negsuc 0 ∷ []; columns = pos 0 ∷ pos 0 ∷ pos 0 ∷ []; costs = negsuc 1; values = pos 0 })
+unfolding with_row_terms spans_of pass_of columns_of count_leading_zeros scaled_quantity scaled_cell costs_scale values_scale scaled_column column_step blank_of columns_table scaled_sides row_scale scaled_term scaled_terms appended_row first_of shift_up shift_down
 reference_scales = refl
 
 -- this program with its successor's cuts
@@ -179,12 +179,12 @@ with_cuts =
       own = 1;
     }
 
-cuts_scales : option_map (λ (t : Table). t.scales) (option_and_then (widened_in_full with_cuts) (first_of reference)) ≡ Some (record { rows = negsuc 0 ∷ negsuc 2 ∷ negsuc 2 ∷ []; columns = pos 0 ∷ pos 0 ∷ pos 2 ∷ []; costs = negsuc 1; values = pos 0 })
-unfolding with_row spans_of pass_of columns_of count_leading_zeros scaled_value scaled_cell costs_scale values_scale scaled_column column_step blank_of columns_table scaled_sides row_scale scaled_term scaled_terms appended_row first_of shift_up shift_down appended_cut waits top_of cut_spans rescaled widened_columns widened_by widened_in_full
+cuts_scales : option_map (λ (t : WarmTable). t.scales) (option_and_then (widened_in_full with_cuts) (first_of reference)) ≡ Some (record { rows = negsuc 0 ∷ negsuc 2 ∷ negsuc 2 ∷ []; columns = pos 0 ∷ pos 0 ∷ pos 2 ∷ []; costs = negsuc 1; values = pos 0 })
+unfolding with_row_terms spans_of pass_of columns_of count_leading_zeros scaled_quantity scaled_cell costs_scale values_scale scaled_column column_step blank_of columns_table scaled_sides row_scale scaled_term scaled_terms appended_row first_of shift_up shift_down appended_cut waits top_of cut_spans rescaled widened_columns widened_by widened_in_full
 cuts_scales = refl
 
-cuts_costs : option_map (λ (t : Table). t.reduced) (option_and_then (widened with_cuts) (first_of reference)) ≡ Some (pos 0 ∷ pos 824633720832 ∷ pos 1099511627776 ∷ [])
-unfolding with_row spans_of pass_of columns_of count_leading_zeros scaled_value scaled_cell costs_scale values_scale scaled_column column_step blank_of columns_table scaled_sides row_scale scaled_term scaled_terms appended_row first_of shift_up shift_down appended_cut is_narrow waiting_of waits top_of cut_spans rescaled widened_columns widened_by widened
+cuts_costs : option_map (λ (t : WarmTable). t.reduced) (option_and_then (widened with_cuts) (first_of reference)) ≡ Some (pos 0 ∷ pos 824633720832 ∷ pos 1099511627776 ∷ [])
+unfolding with_row_terms spans_of pass_of columns_of count_leading_zeros scaled_quantity scaled_cell costs_scale values_scale scaled_column column_step blank_of columns_table scaled_sides row_scale scaled_term scaled_terms appended_row first_of shift_up shift_down appended_cut is_narrow waiting_of waits top_of cut_spans rescaled widened_columns widened_by widened
 cuts_costs = refl
 
 -- rows that are nearly parallel
@@ -197,12 +197,12 @@ parallel =
       own = 4;
     }
 
-parallel_rows : option_map (λ (t : Table). t.scales.rows) (first_of parallel) ≡ Some (negsuc 0 ∷ negsuc 0 ∷ negsuc 0 ∷ negsuc 0 ∷ [])
-unfolding with_row spans_of pass_of columns_of count_leading_zeros scaled_value scaled_cell costs_scale values_scale scaled_column column_step blank_of columns_table scaled_sides row_scale scaled_term scaled_terms appended_row first_of shift_up shift_down
+parallel_rows : option_map (λ (t : WarmTable). t.scales.rows) (first_of parallel) ≡ Some (negsuc 0 ∷ negsuc 0 ∷ negsuc 0 ∷ negsuc 0 ∷ [])
+unfolding with_row_terms spans_of pass_of columns_of count_leading_zeros scaled_quantity scaled_cell costs_scale values_scale scaled_column column_step blank_of columns_table scaled_sides row_scale scaled_term scaled_terms appended_row first_of shift_up shift_down
 parallel_rows = refl
 
-parallel_values : option_map (λ (t : Table). t.scales.values) (first_of parallel) ≡ Some (negsuc 9)
-unfolding with_row spans_of pass_of columns_of count_leading_zeros scaled_value scaled_cell costs_scale values_scale scaled_column column_step blank_of columns_table scaled_sides row_scale scaled_term scaled_terms appended_row first_of shift_up shift_down
+parallel_values : option_map (λ (t : WarmTable). t.scales.values) (first_of parallel) ≡ Some (negsuc 9)
+unfolding with_row_terms spans_of pass_of columns_of count_leading_zeros scaled_quantity scaled_cell costs_scale values_scale scaled_column column_step blank_of columns_table scaled_sides row_scale scaled_term scaled_terms appended_row first_of shift_up shift_down
 parallel_values = refl
 
 -- a reservoir, a turbine and a plant, and a successor's column that stands at 0
@@ -225,8 +225,8 @@ two_cuts =
       own = 2;
     }
 
-two_cuts_scales : option_map (λ (t : Table). t.scales) (option_and_then (widened_in_full two_cuts) (first_of own_rows)) ≡ Some (record { rows = negsuc 0 ∷ negsuc 0 ∷ negsuc 2 ∷ negsuc 2 ∷ []; columns = pos 0 ∷ pos 0 ∷ pos 0 ∷ pos 2 ∷ []; costs = negsuc 2; values = pos 0 })
-unfolding with_row spans_of pass_of columns_of count_leading_zeros scaled_value scaled_cell costs_scale values_scale scaled_column column_step blank_of columns_table scaled_sides row_scale scaled_term scaled_terms appended_row first_of shift_up shift_down appended_cut waits top_of cut_spans rescaled widened_columns widened_by widened_in_full
+two_cuts_scales : option_map (λ (t : WarmTable). t.scales) (option_and_then (widened_in_full two_cuts) (first_of own_rows)) ≡ Some (record { rows = negsuc 0 ∷ negsuc 0 ∷ negsuc 2 ∷ negsuc 2 ∷ []; columns = pos 0 ∷ pos 0 ∷ pos 0 ∷ pos 2 ∷ []; costs = negsuc 2; values = pos 0 })
+unfolding with_row_terms spans_of pass_of columns_of count_leading_zeros scaled_quantity scaled_cell costs_scale values_scale scaled_column column_step blank_of columns_table scaled_sides row_scale scaled_term scaled_terms appended_row first_of shift_up shift_down appended_cut waits top_of cut_spans rescaled widened_columns widened_by widened_in_full
 two_cuts_scales = refl
 
 -- two decisions, and two successors' columns that stand at 0
@@ -249,26 +249,26 @@ two_successors =
       own = 1;
     }
 
-two_cuts_of : option_map (λ (t : Table). t.cuts) (option_and_then (widened two_successors) (first_of two_idle)) ≡ Some (record { rows = 3 ∷ 4 ∷ []; waiting = false ∷ false ∷ true ∷ false ∷ [] })
-unfolding with_row spans_of pass_of columns_of count_leading_zeros scaled_value scaled_cell costs_scale values_scale scaled_column column_step blank_of columns_table scaled_sides row_scale scaled_term scaled_terms appended_row first_of shift_up shift_down appended_cut is_narrow waiting_of waits top_of cut_spans rescaled widened_columns widened_by widened
+two_cuts_of : option_map (λ (t : WarmTable). t.cuts) (option_and_then (widened two_successors) (first_of two_idle)) ≡ Some (record { rows = 3 ∷ 4 ∷ []; waiting = false ∷ false ∷ true ∷ false ∷ [] })
+unfolding with_row_terms spans_of pass_of columns_of count_leading_zeros scaled_quantity scaled_cell costs_scale values_scale scaled_column column_step blank_of columns_table scaled_sides row_scale scaled_term scaled_terms appended_row first_of shift_up shift_down appended_cut is_narrow waiting_of waits top_of cut_spans rescaled widened_columns widened_by widened
 two_cuts_of = refl
 
-two_scales : option_map (λ (t : Table). t.scales) (option_and_then (widened two_successors) (first_of two_idle)) ≡ Some (record { rows = negsuc 0 ∷ negsuc 23 ∷ negsuc 33 ∷ []; columns = pos 0 ∷ pos 0 ∷ pos 2 ∷ pos 23 ∷ []; costs = negsuc 1; values = pos 0 })
-unfolding with_row spans_of pass_of columns_of count_leading_zeros scaled_value scaled_cell costs_scale values_scale scaled_column column_step blank_of columns_table scaled_sides row_scale scaled_term scaled_terms appended_row first_of shift_up shift_down appended_cut is_narrow waiting_of waits top_of cut_spans rescaled widened_columns widened_by widened
+two_scales : option_map (λ (t : WarmTable). t.scales) (option_and_then (widened two_successors) (first_of two_idle)) ≡ Some (record { rows = negsuc 0 ∷ negsuc 23 ∷ negsuc 33 ∷ []; columns = pos 0 ∷ pos 0 ∷ pos 2 ∷ pos 23 ∷ []; costs = negsuc 1; values = pos 0 })
+unfolding with_row_terms spans_of pass_of columns_of count_leading_zeros scaled_quantity scaled_cell costs_scale values_scale scaled_column column_step blank_of columns_table scaled_sides row_scale scaled_term scaled_terms appended_row first_of shift_up shift_down appended_cut is_narrow waiting_of waits top_of cut_spans rescaled widened_columns widened_by widened
 two_scales = refl
 
-two_rows : option_map (λ (t : Table). t.rows) (option_and_then (widened two_successors) (first_of two_idle)) ≡ Some (((0, pos 549755813888) ∷ (1, pos 549755813888) ∷ []) ∷ ((0, pos 65536) ∷ (3, pos 549755813888) ∷ []) ∷ ((0, pos 549755813888) ∷ (3, pos 536870912) ∷ []) ∷ [])
-unfolding with_row spans_of pass_of columns_of count_leading_zeros scaled_value scaled_cell costs_scale values_scale scaled_column column_step blank_of columns_table scaled_sides row_scale scaled_term scaled_terms appended_row first_of shift_up shift_down appended_cut is_narrow waiting_of waits top_of cut_spans rescaled widened_columns widened_by widened
+two_rows : option_map (λ (t : WarmTable). t.rows) (option_and_then (widened two_successors) (first_of two_idle)) ≡ Some (((0, pos 549755813888) ∷ (1, pos 549755813888) ∷ []) ∷ ((0, pos 65536) ∷ (3, pos 549755813888) ∷ []) ∷ ((0, pos 549755813888) ∷ (3, pos 536870912) ∷ []) ∷ [])
+unfolding with_row_terms spans_of pass_of columns_of count_leading_zeros scaled_quantity scaled_cell costs_scale values_scale scaled_column column_step blank_of columns_table scaled_sides row_scale scaled_term scaled_terms appended_row first_of shift_up shift_down appended_cut is_narrow waiting_of waits top_of cut_spans rescaled widened_columns widened_by widened
 two_rows = refl
 
-two_bounds : option_map (λ (t : Table). t.bounds.lows) (option_and_then (widened two_successors) (first_of two_idle)) ≡ Some (pos 0 ∷ pos 0 ∷ pos 0 ∷ pos 0 ∷ pos 8589934592 ∷ pos 5120 ∷ pos 0 ∷ [])
-unfolding with_row spans_of pass_of columns_of count_leading_zeros scaled_value scaled_cell costs_scale values_scale scaled_column column_step blank_of columns_table scaled_sides row_scale scaled_term scaled_terms appended_row first_of shift_up shift_down appended_cut is_narrow waiting_of waits top_of cut_spans rescaled widened_columns widened_by widened
+two_bounds : option_map (λ (t : WarmTable). t.bounds.lows) (option_and_then (widened two_successors) (first_of two_idle)) ≡ Some (pos 0 ∷ pos 0 ∷ pos 0 ∷ pos 0 ∷ pos 8589934592 ∷ pos 5120 ∷ pos 0 ∷ [])
+unfolding with_row_terms spans_of pass_of columns_of count_leading_zeros scaled_quantity scaled_cell costs_scale values_scale scaled_column column_step blank_of columns_table scaled_sides row_scale scaled_term scaled_terms appended_row first_of shift_up shift_down appended_cut is_narrow waiting_of waits top_of cut_spans rescaled widened_columns widened_by widened
 two_bounds = refl
 
-two_full_cuts : option_map (λ (t : Table). t.cuts) (option_and_then (widened_in_full two_successors) (first_of two_idle)) ≡ Some (record { rows = 1 ∷ 2 ∷ 3 ∷ 4 ∷ []; waiting = false ∷ false ∷ false ∷ false ∷ [] })
-unfolding with_row spans_of pass_of columns_of count_leading_zeros scaled_value scaled_cell costs_scale values_scale scaled_column column_step blank_of columns_table scaled_sides row_scale scaled_term scaled_terms appended_row first_of shift_up shift_down appended_cut waits top_of cut_spans rescaled widened_columns widened_by widened_in_full
+two_full_cuts : option_map (λ (t : WarmTable). t.cuts) (option_and_then (widened_in_full two_successors) (first_of two_idle)) ≡ Some (record { rows = 1 ∷ 2 ∷ 3 ∷ 4 ∷ []; waiting = false ∷ false ∷ false ∷ false ∷ [] })
+unfolding with_row_terms spans_of pass_of columns_of count_leading_zeros scaled_quantity scaled_cell costs_scale values_scale scaled_column column_step blank_of columns_table scaled_sides row_scale scaled_term scaled_terms appended_row first_of shift_up shift_down appended_cut waits top_of cut_spans rescaled widened_columns widened_by widened_in_full
 two_full_cuts = refl
 
-two_full_scales : option_map (λ (t : Table). t.scales.rows) (option_and_then (widened_in_full two_successors) (first_of two_idle)) ≡ Some (negsuc 0 ∷ negsuc 2 ∷ negsuc 2 ∷ negsuc 23 ∷ negsuc 33 ∷ [])
-unfolding with_row spans_of pass_of columns_of count_leading_zeros scaled_value scaled_cell costs_scale values_scale scaled_column column_step blank_of columns_table scaled_sides row_scale scaled_term scaled_terms appended_row first_of shift_up shift_down appended_cut waits top_of cut_spans rescaled widened_columns widened_by widened_in_full
+two_full_scales : option_map (λ (t : WarmTable). t.scales.rows) (option_and_then (widened_in_full two_successors) (first_of two_idle)) ≡ Some (negsuc 0 ∷ negsuc 2 ∷ negsuc 2 ∷ negsuc 23 ∷ negsuc 33 ∷ [])
+unfolding with_row_terms spans_of pass_of columns_of count_leading_zeros scaled_quantity scaled_cell costs_scale values_scale scaled_column column_step blank_of columns_table scaled_sides row_scale scaled_term scaled_terms appended_row first_of shift_up shift_down appended_cut waits top_of cut_spans rescaled widened_columns widened_by widened_in_full
 two_full_scales = refl

@@ -11,53 +11,53 @@ use Rattle.hp_warm_scale.specs.Walks.{walk}
 use Rattle.hp_warm_scale.specs.Spans.{grown, span_of, lift, AreBetween}
 
 -- a column number and its factor
-abbrev pub Term : Type 0
-Term = ℕ × Fx
+abbrev pub ColumnTerm : Type 0
+ColumnTerm = ℕ × Fx
 
 -- the binary digits of a column's box
 abbrev pub reach_of : Column → ℕ
 reach_of c = max (bits_of c.low.0) (bits_of c.high.0)
 
 -- the binary digits that a term can come to, by the reaches of the columns
-abbrev pub size_of : List ℕ → Term → ℕ
-size_of rs t = bits_of t.1.0 + get_or rs t.0 0
+abbrev pub term_size : List ℕ → ColumnTerm → ℕ
+term_size rs t = bits_of t.1.0 + get_or rs t.0 0
 
 -- the greatest size of a row's terms less 20: what a term counts from
-abbrev pub border_of : List ℕ → List Term → ℕ
-border_of rs ts = walk (λ j m t. max m (size_of rs t)) 0 0 ts - 20
+abbrev pub border_of : List ℕ → List ColumnTerm → ℕ
+border_of rs ts = walk (λ j m t. max m (term_size rs t)) 0 0 ts - 20
 
 -- the binary digits of a term whose column is scaled by the exponents fs
-abbrev pub weight_of : List ℤ → Term → ℤ
+abbrev pub weight_of : List ℤ → ColumnTerm → ℤ
 weight_of fs t = pos (bits_of t.1.0) +ℤ entry fs t.0
 
 -- the binary digits of a term whose row is scaled by the exponent e
-abbrev pub row_weight_of : ℤ → Term → ℤ
+abbrev pub row_weight_of : ℤ → ColumnTerm → ℤ
 row_weight_of e t = pos (bits_of t.1.0) +ℤ e
 
 -- the weight of a term that counts
-abbrev pub counted_weight : ℕ → List ℕ → List ℤ → Term → Option ℤ
-counted_weight border rs fs t = if nat_le border (size_of rs t) then Some (weight_of fs t) else None
+abbrev pub counted_weight : ℕ → List ℕ → List ℤ → ColumnTerm → Option ℤ
+counted_weight border rs fs t = if nat_le border (term_size rs t) then Some (weight_of fs t) else None
 
 -- the exponent of a row whose terms count from a border; a row without such terms keeps the 0 that it begins with
-abbrev pub row_lift : ℕ → List ℕ → List ℤ → List Term → ℤ
+abbrev pub row_lift : ℕ → List ℕ → List ℤ → List ColumnTerm → ℤ
 row_lift border rs fs ts = lift (span_of (λ j t. counted_weight border rs fs t) ts)
 
 -- the spans of the columns with one term more, of a row with the exponent e
-abbrev pub with_term : ℕ → ℕ → List ℕ → ℤ → List (Option Span) → Term → List (Option Span)
+abbrev pub with_term : ℕ → ℕ → List ℕ → ℤ → List (Option Span) → ColumnTerm → List (Option Span)
 with_term decisions border rs e spans t =
-    if nat_lt t.0 decisions && nat_le border (size_of rs t) then slice_set spans t.0 (grown (get_or spans t.0 None) (row_weight_of e t)) else spans
+    if nat_lt t.0 decisions && nat_le border (term_size rs t) then slice_set spans t.0 (grown (get_or spans t.0 None) (row_weight_of e t)) else spans
 
 -- with some terms more
-abbrev pub with_terms : ℕ → ℕ → List ℕ → ℤ → List (Option Span) → List Term → List (Option Span)
+abbrev pub with_terms : ℕ → ℕ → List ℕ → ℤ → List (Option Span) → List ColumnTerm → List (Option Span)
 with_terms decisions border rs e spans ts = walk (λ j ss t. with_term decisions border rs e ss t) 0 spans ts
 
 -- with the terms of one row more
-unfoldable pub with_row : ℕ → List ℕ → List ℤ → List (Option Span) → List Term → List (Option Span)
-with_row decisions rs fs spans ts = with_terms decisions (border_of rs ts) rs (row_lift (border_of rs ts) rs fs ts) spans ts
+unfoldable pub with_row_terms : ℕ → List ℕ → List ℤ → List (Option Span) → List ColumnTerm → List (Option Span)
+with_row_terms decisions rs fs spans ts = with_terms decisions (border_of rs ts) rs (row_lift (border_of rs ts) rs fs ts) spans ts
 
 -- for each column the span of its terms in all rows, each by the exponent of its row
 unfoldable pub spans_of : ℕ → List ℕ → List LpRow → List ℤ → List (Option Span)
-spans_of decisions rs rows fs = walk (λ i ss (row : LpRow). with_row decisions rs fs ss row.terms) 0 (replicate (length fs) None) rows
+spans_of decisions rs rows fs = walk (λ i ss (row : LpRow). with_row_terms decisions rs fs ss row.terms) 0 (replicate (length fs) None) rows
 
 -- the exponent of a column is at least 0
 abbrev pub column_lift : Option Span → ℤ

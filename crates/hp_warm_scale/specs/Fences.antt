@@ -18,8 +18,8 @@ abbrev pub AreLimits : ℤ → List (ℕ × ℤ) → List ℕ → Type 0
 AreLimits most lifts limits = All (λ (l : ℕ × ℤ). get_or limits l.0 1 ≤ 2 ^ near (most -ℤ l.1)) lifts
 
 -- where a state's slope is not below a size, the most digits of a cut are not below a number
-abbrev pub Reaches : List (ℕ × ℤ) → ℤ → ℕ → ℕ → Type 0
-Reaches lifts least state size = (slopes : List ℤ) → All (λ s. nat_abs s < 2 ^ 57) slopes → size ≤ nat_abs (entry slopes state) → least ≤ℤ most_digits lifts slopes
+abbrev pub ReachesDigits : List (ℕ × ℤ) → ℤ → ℕ → ℕ → Type 0
+ReachesDigits lifts least state size = (slopes : List ℤ) → All (λ s. nat_abs s < 2 ^ 57) slopes → size ≤ nat_abs (entry slopes state) → least ≤ℤ most_digits lifts slopes
 
 -- a cut whose slopes are below the limits, and that of a state is not below a size, leaves a span as it is
 abbrev pub Keeps : List (ℕ × ℤ) → Option Span → List ℕ → ℕ → ℕ → Type 0

@@ -4,7 +4,7 @@ use Rattle.std.specs.Option.{option_and_then}
 use Rattle.hp_solver.specs.declared.programs.Column.{Column}
 use Rattle.hp_solver.specs.declared.programs.Program.{Program}
 use Rattle.hp_solver.specs.Numbers.{zero_fx}
-use Rattle.hp_warm_table.specs.declared.table.Table.{Table}
+use Rattle.hp_warm_table.specs.declared.table.WarmTable.{WarmTable}
 use Rattle.hp_warm_scale.specs.Scaling.{columns_table}
 use Rattle.hp_warm_scale.specs.Appending.{appended}
 
@@ -23,6 +23,6 @@ own_part lp = record {
 
 -- the first table of a program's own part: of its own rows, with its decisions, where the other columns stand at 0 and cost
 -- nothing. Absent where there are more than 1,199 columns, or where a number leaves its range
-unfoldable pub first_of : Program → Option Table
+unfoldable pub first_of : Program → Option WarmTable
 first_of lp =
     if nat_lt 1199 (length lp.columns) then None else option_and_then (appended (take lp.own lp.rows)) (columns_table (length lp.columns) (take lp.decisions lp.columns) (take lp.own lp.rows))

@@ -2,14 +2,14 @@
 use Rattle.std.specs.Prelude.{◌≡◌, ◌+◌, ◌≤◌, ◌<◌, Bool, true, List, [], map, drop, length, All}
 use Rattle.hp_solver.specs.declared.programs.LpRow.{LpRow}
 use Rattle.hp_solver.specs.declared.programs.Program.{Program}
-use Rattle.hp_warm_table.specs.declared.table.Table.{Table}
+use Rattle.hp_warm_table.specs.declared.table.WarmTable.{WarmTable}
 use Rattle.hp_warm_table.specs.Shape.{IsTable}
 use Rattle.hp_warm_scale.specs.Exponents.{reach_of}
 use Rattle.hp_warm_scale.specs.Scaling.{AreSmall}
 use Rattle.hp_warm_scale.specs.Waiting.{is_narrow, waits}
 
 -- a table of the own part of a program, and of its columns
-pub record Suits (t : Table) (lp : Program) : Type 0 where
+pub record Suits (t : WarmTable) (lp : Program) : Type 0 where
   pub table : IsTable t
   pub small : AreSmall 512 t.scales
   pub columns : length lp.columns ≡ length t.costs
@@ -21,7 +21,7 @@ abbrev pub AreNarrow : Program → List Bool → Type 0
 AreNarrow lp ws = All (λ (r : LpRow). waits ws r ≡ true → is_narrow (map reach_of lp.columns) r ≡ true) (drop lp.own lp.rows)
 
 -- a table that has a column for each column of the program, a row for each own row, and rows of some of its cuts
-pub record Fits (t : Table) (lp : Program) : Type 0 where
+pub record Fits (t : WarmTable) (lp : Program) : Type 0 where
   pub table : IsTable t
   pub small : AreSmall 1000 t.scales
   pub columns : length lp.columns ≡ length t.costs

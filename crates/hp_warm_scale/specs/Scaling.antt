@@ -10,9 +10,9 @@ use Rattle.hp_solver.specs.declared.programs.LpRow.{LpRow}
 use Rattle.hp_warm_table.specs.declared.table.Scales.{Scales}
 use Rattle.hp_warm_table.specs.declared.table.Bounds.{Bounds}
 use Rattle.hp_warm_table.specs.declared.table.Basis.{Basis}
-use Rattle.hp_warm_table.specs.declared.table.Cuts.{Cuts}
-use Rattle.hp_warm_table.specs.declared.table.Table.{Table}
-use Rattle.hp_warm_table.specs.Numbers.{bits_of, cell_of, value_of, shift_of}
+use Rattle.hp_warm_table.specs.declared.table.CutRows.{CutRows}
+use Rattle.hp_warm_table.specs.declared.table.WarmTable.{WarmTable}
+use Rattle.hp_warm_table.specs.Numbers.{bits_of, cell_of, quantity_of, shift_of}
 use Rattle.hp_warm_scale.specs.declared.spans.Span.{Span}
 use Rattle.hp_warm_scale.specs.declared.scaling.ScaledColumn.{ScaledColumn}
 use Rattle.hp_warm_scale.specs.Walks.{run, count_from}
@@ -20,8 +20,8 @@ use Rattle.hp_warm_scale.specs.Spans.{span_of}
 use Rattle.hp_warm_scale.specs.Exponents.{reach_of, AreUpTo, columns_of}
 
 -- a number times 2^k, as a point, a bound or a side; absent where it leaves their range
-unfoldable pub scaled_value : Fx → ℤ → Option ℤ
-scaled_value x k = option_and_then value_of (shift_of x.0 k)
+unfoldable pub scaled_quantity : Fx → ℤ → Option ℤ
+scaled_quantity x k = option_and_then quantity_of (shift_of x.0 k)
 
 -- a number times 2^k, as a cell; absent where it leaves the range of cells
 unfoldable pub scaled_cell : Fx → ℤ → Option ℤ
@@ -54,10 +54,10 @@ column_of low up cost = option_and_then (λ l. option_and_then (λ u. option_map
 
 -- the bounds and the cost of a column with the exponent f; g and h are the exponents of costs and of values
 unfoldable pub scaled_column : Column → ℤ → ℤ → ℤ → Option ScaledColumn
-scaled_column c f g h = column_of (scaled_value c.low (h -ℤ f)) (scaled_value c.high (h -ℤ f)) (scaled_cell c.cost (g +ℤ f +ℤ pos 8))
+scaled_column c f g h = column_of (scaled_quantity c.low (h -ℤ f)) (scaled_quantity c.high (h -ℤ f)) (scaled_cell c.cost (g +ℤ f +ℤ pos 8))
 
 -- with the bounds, the cost and the reduced cost of column j, which is nonbasic at place j
-abbrev pub with_column : ℕ → ScaledColumn → Table → Table
+abbrev pub with_column : ℕ → ScaledColumn → WarmTable → WarmTable
 with_column j s t = record t {
   costs = slice_set t.costs j s.cost;
   reduced = slice_set t.reduced j s.cost;
@@ -65,25 +65,25 @@ with_column j s t = record t {
 }
 
 -- the table with column j of a program
-unfoldable pub column_step : ℕ → Column → Table → Option Table
+unfoldable pub column_step : ℕ → Column → WarmTable → Option WarmTable
 column_step j c t = option_map (λ s. with_column j s t) (scaled_column c (entry t.scales.columns j) t.scales.costs t.scales.values)
 
 -- 0, 1, .. , n - 1
-abbrev pub numbers : ℕ → List ℕ
-numbers n = count_from 0 n
+abbrev pub column_numbers : ℕ → List ℕ
+column_numbers n = count_from 0 n
 
 abbrev pub blank_bounds_of : ℕ → Bounds
 blank_bounds_of n = record { lows = replicate n (pos 0); ups = replicate n (pos 0); has_low = replicate n true; has_up = replicate n true }
 
 abbrev pub blank_basis_of : ℕ → Basis
-blank_basis_of n = record { nonbasic = numbers n; places = map Some (numbers n); high = replicate n false }
+blank_basis_of n = record { nonbasic = column_numbers n; places = map Some (column_numbers n); high = replicate n false }
 
 -- no rows of cuts, and none that wait
-abbrev pub blank_cuts_of : ℕ → Cuts
+abbrev pub blank_cuts_of : ℕ → CutRows
 blank_cuts_of n = record { rows = []; waiting = replicate n false }
 
 -- a table without rows, whose columns are 0, by the exponents of columns, costs and values
-abbrev pub blank_with : ℕ → List ℤ → ℤ → ℤ → Table
+abbrev pub blank_with : ℕ → List ℤ → ℤ → ℤ → WarmTable
 blank_with n fs g h = record {
   scales = record { rows = []; columns = fs; costs = g; values = h };
   rows = [];
@@ -98,21 +98,21 @@ blank_with n fs g h = record {
 }
 
 -- the blank table with the exponents for some decisions and rows
-unfoldable pub blank_of : ℕ → List Column → List LpRow → Table
+unfoldable pub blank_of : ℕ → List Column → List LpRow → WarmTable
 blank_of n decisions rows =
     let fs = columns_of n decisions rows in
     blank_with n fs (costs_scale fs decisions) (values_scale fs decisions)
 
-abbrev pub is_negative : ℤ → Bool
-is_negative d = int_lt d (pos 0)
+abbrev pub is_below_zero : ℤ → Bool
+is_below_zero d = int_lt d (pos 0)
 
 -- each column stands at its upper bound where its reduced cost is negative
-abbrev pub stood : Table → Table
-stood t = record t { basis = record t.basis { high = map is_negative t.reduced } }
+abbrev pub standing_table : WarmTable → WarmTable
+standing_table t = record t { basis = record t.basis { high = map is_below_zero t.reduced } }
 
 -- the columns of the first table; absent where a number leaves its range
-unfoldable pub columns_table : ℕ → List Column → List LpRow → Option Table
-columns_table n decisions rows = option_map stood (run column_step 0 decisions (blank_of n decisions rows))
+unfoldable pub columns_table : ℕ → List Column → List LpRow → Option WarmTable
+columns_table n decisions rows = option_map standing_table (run column_step 0 decisions (blank_of n decisions rows))
 
 abbrev pub AreRowScales : List ℤ → Type 0
 AreRowScales es = (i : ℕ) → (negsuc 1299 ≤ℤ entry es i) × (entry es i ≤ℤ pos 1300)

@@ -11,13 +11,13 @@ grown None x = Some (record { least = x; greatest = x })
 grown (Some s) x = Some (record { least = int_min s.least x; greatest = int_max s.greatest x })
 
 -- with one number more, if there is one
-abbrev pub joined : Option Span → Option ℤ → Option Span
-joined s None = s
-joined s (Some x) = grown s x
+abbrev pub joined_span : Option Span → Option ℤ → Option Span
+joined_span s None = s
+joined_span s (Some x) = grown s x
 
 -- the span of the numbers that f gives along a list; none where it gives none
 abbrev pub span_of : {A : Type 0} → (ℕ → A → Option ℤ) → List A → Option Span
-span_of f xs = walk (λ j s x. joined s (f j x)) 0 None xs
+span_of f xs = walk (λ j s x. joined_span s (f j x)) 0 None xs
 
 -- half the sum of the least and the greatest, rounded down
 abbrev pub middle : Span → ℤ

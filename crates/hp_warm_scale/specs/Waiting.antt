@@ -7,18 +7,18 @@ use Rattle.hp_solver.specs.declared.programs.LpRow.{LpRow}
 use Rattle.hp_solver.specs.declared.programs.Program.{Program}
 use Rattle.hp_warm_table.specs.Numbers.{bits_of}
 use Rattle.hp_warm_scale.specs.Walks.{walk}
-use Rattle.hp_warm_scale.specs.Exponents.{Term, reach_of}
+use Rattle.hp_warm_scale.specs.Exponents.{ColumnTerm, reach_of}
 
 -- the column of a cut's last term, which is the successor's
-abbrev pub last_column : List Term → Option ℕ
-last_column ts = option_map (λ (t : Term). t.0) (slice_get ts (length ts - 1))
+abbrev pub last_column : List ColumnTerm → Option ℕ
+last_column ts = option_map (λ (t : ColumnTerm). t.0) (slice_get ts (length ts - 1))
 
 -- the terms of a cut but the last: its slopes, over the columns of states
-abbrev pub slopes_of : List Term → List Term
+abbrev pub slopes_of : List ColumnTerm → List ColumnTerm
 slopes_of ts = take (length ts - 1) ts
 
 -- a slope of at most 65 binary digits, in a column whose bounds have at most 71
-abbrev pub is_short : List ℕ → Term → Bool
+abbrev pub is_short : List ℕ → ColumnTerm → Bool
 is_short rs t = nat_le (bits_of t.1.0) 65 && nat_le (get_or rs t.0 0) 71
 
 -- a side that is there, of at most 108 binary digits

@@ -18,6 +18,6 @@ count_from j zero = []
 count_from j (suc n) = j ∷ count_from (suc j) n
 
 -- true where there is a new value, false where it is absent
-abbrev pub Gives : {A : Type 0} → Bool → Option A → A → Type 0
-Gives true made new = made ≡ Some new
-Gives false made new = made ≡ None
+abbrev pub GivesWalked : {A : Type 0} → Bool → Option A → A → Type 0
+GivesWalked true made new = made ≡ Some new
+GivesWalked false made new = made ≡ None

@@ -7,11 +7,11 @@ use Rattle.hp_num.specs.Sums.{floor_over}
 use Rattle.hp_solver.specs.declared.programs.Column.{Column}
 use Rattle.hp_solver.specs.declared.programs.LpRow.{LpRow}
 use Rattle.hp_solver.specs.declared.programs.Program.{Program}
-use Rattle.hp_warm_table.specs.declared.table.Table.{Table}
+use Rattle.hp_warm_table.specs.declared.table.WarmTable.{WarmTable}
 use Rattle.hp_warm_scale.specs.declared.spans.Span.{Span}
 use Rattle.hp_warm_scale.specs.Walks.{walk, run}
 use Rattle.hp_warm_scale.specs.Spans.{grown, span_of}
-use Rattle.hp_warm_scale.specs.Exponents.{Term, reach_of, weight_of}
+use Rattle.hp_warm_scale.specs.Exponents.{ColumnTerm, reach_of, weight_of}
 use Rattle.hp_warm_scale.specs.Scaling.{column_step}
 use Rattle.hp_warm_scale.specs.Appending.{appended_cut}
 use Rattle.hp_warm_scale.specs.Waiting.{last_column, slopes_of, waiting_of, waits}
@@ -22,7 +22,7 @@ top None = None
 top (Some s) = if int_eq s.greatest (pos 0) then None else Some s.greatest
 
 -- the most binary digits of a cut's terms but the last; none where these are 0 or there are no such terms
-unfoldable pub top_of : List ℤ → List Term → Option ℤ
+unfoldable pub top_of : List ℤ → List ColumnTerm → Option ℤ
 top_of fs ts = top (span_of (λ k t. Some (weight_of fs t)) (slopes_of ts))
 
 -- the spans of the columns from `decisions` on with one number more, in column j
@@ -56,40 +56,40 @@ with_scale h spans k fs c = slice_set fs k (successor_scale h (get_or spans k No
 abbrev pub successor_scales : ℤ → List (Option Span) → ℕ → List Column → List ℤ → List ℤ
 successor_scales h spans j cs fs = walk (with_scale h spans) j fs cs
 
-abbrev pub with_scales : List ℤ → Table → Table
+abbrev pub with_scales : List ℤ → WarmTable → WarmTable
 with_scales fs t = record t { scales = record t.scales { columns = fs } }
 
 -- the table with the scales of successors' columns, from number `decisions` on, each by the exponents of the other terms of
 -- its cuts as they were before
-unfoldable pub rescaled : ℕ → List Column → List LpRow → Table → Table
+unfoldable pub rescaled : ℕ → List Column → List LpRow → WarmTable → WarmTable
 rescaled decisions successors cuts t =
     with_scales (successor_scales t.scales.values (cut_spans decisions (length t.costs) t.scales.columns cuts) decisions successors t.scales.columns) t
 
 -- with these columns as those whose cuts wait
-abbrev pub with_waiting : List Bool → Table → Table
+abbrev pub with_waiting : List Bool → WarmTable → WarmTable
 with_waiting ws t = record t { cuts = record { rows = t.cuts.rows; waiting = ws } }
 
 -- with the cut more that is the program's row i, unless it waits
-abbrev pub put_cut : List Bool → ℕ → LpRow → Table → Option Table
+abbrev pub put_cut : List Bool → ℕ → LpRow → WarmTable → Option WarmTable
 put_cut ws i r t = if waits ws r then Some t else appended_cut i r t
 
 -- with the cuts more that do not wait, of which the first is the program's row i
-abbrev pub put_cuts : List Bool → ℕ → List LpRow → Table → Option Table
+abbrev pub put_cuts : List Bool → ℕ → List LpRow → WarmTable → Option WarmTable
 put_cuts ws i cuts t = run (put_cut ws) i cuts t
 
 -- the table with scales, bounds and costs of successors' columns; absent where a number leaves its range
-unfoldable pub widened_columns : Program → Table → Option Table
+unfoldable pub widened_columns : Program → WarmTable → Option WarmTable
 widened_columns lp t = run column_step lp.decisions (drop lp.decisions lp.columns) (rescaled lp.decisions (drop lp.decisions lp.columns) (drop lp.own lp.rows) t)
 
 -- the table of a program that has successors' columns and cuts, from one of its own part, where the cuts in these columns
 -- wait; absent where a number leaves its range
-unfoldable pub widened_by : List Bool → Program → Table → Option Table
+unfoldable pub widened_by : List Bool → Program → WarmTable → Option WarmTable
 widened_by ws lp t = option_and_then (put_cuts ws lp.own (drop lp.own lp.rows)) (option_map (with_waiting ws) (widened_columns lp t))
 
 -- the widened table, where cuts wait as far as that can be asked of them
-unfoldable pub widened : Program → Table → Option Table
+unfoldable pub widened : Program → WarmTable → Option WarmTable
 widened lp t = widened_by (waiting_of lp) lp t
 
 -- the widened table, where no cut waits
-unfoldable pub widened_in_full : Program → Table → Option Table
+unfoldable pub widened_in_full : Program → WarmTable → Option WarmTable
 widened_in_full lp t = widened_by (replicate (length lp.columns) false) lp t

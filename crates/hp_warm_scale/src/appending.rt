@@ -1,17 +1,16 @@
 // Rows that are put behind a table.
-ghost use Rattle.std.specs.Prelude.{◌≡◌, ℕ, ◌+◌, ◌+ℤ◌, ◌<◌, ◌≤◌, ◌≤ℤ◌, pos, negsuc, length, All, Some, true, false, IfOk, OnOk, IfSome};
-ghost use Rattle.hp_num.specs.Sums.{entry};
+ghost use Rattle.std.specs.Prelude.{◌≡◌, ℕ, ◌+◌, ◌+ℤ◌, ◌<◌, ◌≤◌, ◌≤ℤ◌, pos, negsuc, length, All, Some, true, false, IfOk, OnOk};
 ghost use Rattle.hp_solver.specs.Proper.{AreRising};
 ghost use Rattle.hp_solver.specs.declared.programs.LpRow.{LpRow};
 ghost use Rattle.hp_warm_table.specs.Shape.{IsTable};
 ghost use Rattle.hp_warm_table.specs.Shape as shape;
-ghost use Rattle.hp_warm_scale.specs.Walks.{Gives};
+ghost use Rattle.hp_warm_scale.specs.Walks.{GivesWalked};
 ghost use Rattle.std.specs.Option.{option_and_then};
 ghost use Rattle.hp_warm_table.specs.Numbers.{bits_of, cell_of, coefficient_of, shift_of};
-ghost use Rattle.hp_warm_scale.specs.Spans.{span_of, AreBetween};
+ghost use Rattle.hp_warm_scale.specs.Spans.{span_of};
 ghost use Rattle.hp_warm_scale.specs.Exponents.{weight_of, AreUpTo};
 ghost use Rattle.hp_warm_scale.specs.Scaling.{AreSmall};
-ghost use Rattle.hp_warm_scale.specs.Appending.{row_scale, scaled_term, scaled_terms, with_row, row_step, appended_row, appended_cut, appended, AreBelow};
+ghost use Rattle.hp_warm_scale.specs.Appending.{row_scale, scaled_term, scaled_terms, with_appended_row, appended_row, appended_cut, appended, AreBelow};
 
 use crate::exponents::{exponent_at, weight};
 use crate::scaling::{power, room};
@@ -20,7 +19,7 @@ use crate::spans::{Span, join};
 use hp_num::{List, Memory};
 use hp_solver::{Fx, LpRow};
 use hp_warm_table::numbers::shift;
-use hp_warm_table::{Coefficient, Table};
+use hp_warm_table::{Coefficient, WarmTable};
 use std::alloc::Global;
 
 // The span of the binary digits of a row's terms.
@@ -49,12 +48,12 @@ pub fn row_scale(exponents: &[i32], terms: &[(u32, Fx)]) -> i32
 
 // Puts a row behind the others.
 fn push_row(
-    table: &mut Table,
+    table: &mut WarmTable,
     exponent: i32,
     terms: &[(u32, Coefficient)],
     sides: Sides,
 ) -> Result<(), Memory>
-    ensures { OnOk result (table.new ≡ with_row exponent terms.now sides table.old) }
+    ensures { OnOk result (table.new ≡ with_appended_row exponent terms.now sides table.old) }
 {
     table.scales.rows.push(exponent)?;
     table.rows.push(terms)?;
@@ -106,7 +105,7 @@ pub fn scale_terms(
     requires least { negsuc 1299 ≤ℤ exponent }
     requires greatest { exponent ≤ℤ pos 1300 }
     requires fits { AreBelow exponents.now exponent terms.now }
-    ensures { IfOk result (λ made. Gives made (scaled_terms exponents.now exponent terms.now) found.new) }
+    ensures { IfOk result (λ made. GivesWalked made (scaled_terms exponents.now exponent terms.now) found.new) }
 {
     found.clear();
     for k in 0..terms.len() {
@@ -120,16 +119,16 @@ pub fn scale_terms(
 
 /// Puts a row behind the others, which makes a table of a table. [`Memory`] where memory was refused.
 pub fn put_row(
-    table: &mut Table,
+    table: &mut WarmTable,
     exponent: i32,
     terms: &[(u32, Coefficient)],
     sides: Sides,
 ) -> Result<(), Memory>
     requires whole { IsTable table.old }
-    requires rising { shape.AreRising 0 (length table.old.costs) terms.now }
+    requires rising { shape.AreTermsRising 0 (length table.old.costs) terms.now }
     requires least { negsuc 1299 ≤ℤ exponent }
     requires greatest { exponent ≤ℤ pos 1300 }
-    ensures value { OnOk result (table.new ≡ with_row exponent terms.now sides table.old) }
+    ensures value { OnOk result (table.new ≡ with_appended_row exponent terms.now sides table.old) }
     ensures whole { OnOk result (IsTable table.new) }
     ensures small { OnOk result ((most : ℕ) → AreSmall most table.old.scales → AreSmall most table.new.scales) }
     ensures count { OnOk result (length table.new.costs ≡ length table.old.costs) }
@@ -142,14 +141,14 @@ pub fn put_row(
 // `scaled` is for work.
 #[tactic(auto, unfolding(crate::specs::Appending::appended_row))]
 fn append_row(
-    table: &mut Table,
+    table: &mut WarmTable,
     row: &LpRow,
     scaled: &mut List<(u32, Coefficient)>,
 ) -> Result<bool, Memory>
     requires whole { IsTable table.old }
     requires small { AreSmall 1000 table.old.scales }
     requires rising { AreRising 0 (length table.old.costs) row.now.terms }
-    ensures value { IfOk result (λ made. Gives made (appended_row row.now table.old) table.new) }
+    ensures value { IfOk result (λ made. GivesWalked made (appended_row row.now table.old) table.new) }
     ensures kept { IfOk result (λ made. made ≡ false → table.new ≡ table.old) }
     ensures whole { IfOk result (λ made. made ≡ true → IsTable table.new) }
     ensures small { IfOk result (λ made. made ≡ true → (most : ℕ) → AreSmall most table.old.scales → AreSmall most table.new.scales) }
@@ -172,7 +171,7 @@ fn append_row(
 /// was refused: nothing is promised of the table then. `scaled` is for work.
 #[tactic(auto, unfolding(crate::specs::Appending::appended_cut))]
 pub fn append_cut(
-    table: &mut Table,
+    table: &mut WarmTable,
     i: usize,
     row: &LpRow,
     scaled: &mut List<(u32, Coefficient)>,
@@ -180,7 +179,7 @@ pub fn append_cut(
     requires whole { IsTable table.old }
     requires small { AreSmall 1000 table.old.scales }
     requires rising { AreRising 0 (length table.old.costs) row.now.terms }
-    ensures value { IfOk result (λ made. Gives made (appended_cut i row.now table.old) table.new) }
+    ensures value { IfOk result (λ made. GivesWalked made (appended_cut i row.now table.old) table.new) }
     ensures kept { IfOk result (λ made. made ≡ false → table.new ≡ table.old) }
     ensures whole { IfOk result (λ made. made ≡ true → IsTable table.new) }
     ensures small { IfOk result (λ made. made ≡ true → (most : ℕ) → AreSmall most table.old.scales → AreSmall most table.new.scales) }
@@ -196,11 +195,11 @@ pub fn append_cut(
 /// Puts some rows of a program behind the others, one after the other. The answer is false exactly
 /// where a number leaves its range: nothing is promised of the table then. [`Memory`] where memory
 /// was refused.
-pub(crate) fn append(alloc: Global, table: &mut Table, rows: &[LpRow]) -> Result<bool, Memory>
+pub(crate) fn append(alloc: Global, table: &mut WarmTable, rows: &[LpRow]) -> Result<bool, Memory>
     requires whole { IsTable table.old }
     requires small { AreSmall 1000 table.old.scales }
     requires rising { All (λ (r : LpRow). AreRising 0 (length table.old.costs) r.terms) rows.now }
-    ensures value { IfOk result (λ made. Gives made (appended rows.now table.old) table.new) }
+    ensures value { IfOk result (λ made. GivesWalked made (appended rows.now table.old) table.new) }
     ensures whole { IfOk result (λ made. made ≡ true → IsTable table.new) }
     ensures small { IfOk result (λ made. made ≡ true → (most : ℕ) → AreSmall most table.old.scales → AreSmall most table.new.scales) }
     ensures count { IfOk result (λ made. made ≡ true → length table.new.costs ≡ length table.old.costs) }

@@ -3,7 +3,7 @@ ghost use Rattle.std.specs.Prelude.{◌≡◌, ◌+◌, ◌≤◌, ◌≤ℤ◌,
 ghost use Rattle.hp_solver.specs.declared.programs.Column.{Column};
 ghost use Rattle.hp_num.specs.Sums.{entry};
 ghost use Rattle.hp_warm_scale.specs.Spans.{AreBetween, span_of};
-ghost use Rattle.hp_warm_scale.specs.Exponents.{reach_of, size_of, border_of, weight_of, row_weight_of, counted_weight, row_lift, with_term, with_terms, with_row, columns_of, spans_of, column_lift, pass_of, passes_of, AreUpTo, ReachUpTo, SpansBetween};
+ghost use Rattle.hp_warm_scale.specs.Exponents.{reach_of, term_size, border_of, weight_of, row_weight_of, counted_weight, row_lift, with_term, with_terms, with_row_terms, columns_of, spans_of, column_lift, pass_of, passes_of, AreUpTo, ReachUpTo, SpansBetween};
 
 use crate::spans::{Span, grow, join, lift};
 use hp_num::{List, Memory};
@@ -37,7 +37,7 @@ pub fn exponent_at(exponents: &[i32], at: usize) -> i32
 // The binary digits that a term can come to, by the reaches of the columns.
 fn size(reaches: &[u32], term: (u32, Fx)) -> u32
     requires { ReachUpTo 128 reaches.now }
-    ensures value { result ≡ size_of reaches.now term }
+    ensures value { result ≡ term_size reaches.now term }
     ensures small { result ≤ 256 }
 {
     bits(term.1.0) + reach_at(reaches, term.0 as usize)
@@ -159,7 +159,7 @@ fn add_terms(
 }
 
 // Adds the terms of one row to the spans of the columns.
-#[tactic(auto, unfolding(crate::specs::Exponents::with_row))]
+#[tactic(auto, unfolding(crate::specs::Exponents::with_row_terms))]
 fn add_row(
     decisions: usize,
     reaches: &[u32],
@@ -171,7 +171,7 @@ fn add_row(
     requires exponents { AreUpTo 384 exponents.now }
     requires decisions { decisions ≤ length spans.old }
     requires spans { SpansBetween (negsuc 478) (pos 161) spans.old }
-    ensures value { spans.new ≡ with_row decisions reaches.now exponents.now spans.old terms.now }
+    ensures value { spans.new ≡ with_row_terms decisions reaches.now exponents.now spans.old terms.now }
     ensures count { length spans.new ≡ length spans.old }
     ensures spans { SpansBetween (negsuc 478) (pos 161) spans.new }
 {

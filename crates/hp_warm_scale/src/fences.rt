@@ -3,7 +3,7 @@ ghost use Rattle.std.specs.Prelude.{◌≡◌, ◌≤◌, ◌<◌, ◌^◌, ◌�
 ghost use Rattle.hp_num.specs.Sums.{entry};
 ghost use Rattle.hp_warm_scale.specs.Spans.{IsBetween};
 ghost use Rattle.hp_warm_scale.specs.Packed.{most_digits, grown_above_zero, AreLifts};
-ghost use Rattle.hp_warm_scale.specs.Fences.{near, AreBelowLimits, AreLimits, Reaches, Keeps};
+ghost use Rattle.hp_warm_scale.specs.Fences.{near, AreBelowLimits, AreLimits, ReachesDigits, Keeps};
 
 use crate::slope_digits::greater;
 use crate::spans::Span;
@@ -157,7 +157,7 @@ fn lead_at(lifts: &[(u32, i32)], place: usize, least: i32) -> Lead
     requires lifts { AreLifts lifts.now }
     requires some { pos 0 ≤ℤ least }
     requires few { least ≤ℤ pos 640 }
-    ensures { Reaches lifts.now least result.state result.size }
+    ensures { ReachesDigits lifts.now least result.state result.size }
 {
     match lifts.get(place) {
         None => no_lead(),

@@ -1,7 +1,7 @@
 // Cuts that stand side by side: the spans of their slopes' digits, and whether they wait.
 ghost use Rattle.std.specs.Prelude.{◌≡◌, ◌≤◌, ◌<◌, ◌^◌, ◌≤ℤ◌, ℤ, pos, List, true, false, length, map, replicate, nat_abs, nat_le, get_or, All, None, IfOk, OnOk};
 ghost use Rattle.std.specs.List.{list_all};
-ghost use Rattle.hp_solver.specs.PackedCut.{PackedCut, IsSmallCut, no_packed_cut};
+ghost use Rattle.hp_solver.specs.PackedCut.{PackedCut, IsSmallCut};
 ghost use Rattle.hp_solver.specs.Packed.{packed_row, rows_of, IsView};
 ghost use Rattle.hp_solver.specs.declared.packed.Out.{Out};
 ghost use Rattle.hp_solver.specs.declared.programs.LpRow.{LpRow};

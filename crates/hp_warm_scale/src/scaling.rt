@@ -1,13 +1,8 @@
 // Numbers of a program by the scales of a table, and the columns of the first table.
-ghost use Rattle.std.specs.Prelude.{◌≡◌, ◌<◌, ◌≤◌, ◌≤ℤ◌, ◌+◌, ◌+ℤ◌, ◌-ℤ◌, ◌∷◌, pos, negsuc, length, map, replicate, int_lt, slice_set, Some, IfOk};
-ghost use Rattle.std.specs.Option.{option_map};
-ghost use Rattle.hp_num.specs.Sums.{entry};
-ghost use Rattle.hp_warm_table.specs.Shape.{IsTable};
-ghost use Rattle.hp_warm_scale.specs.Walks.{Gives};
-ghost use Rattle.hp_warm_scale.specs.Walks.{run};
+ghost use Rattle.std.specs.Prelude.{◌≡◌, ◌<◌, ◌≤◌, ◌≤ℤ◌, ◌+◌, ◌+ℤ◌, ◌-ℤ◌, pos, negsuc, Some};
 ghost use Rattle.hp_warm_scale.specs.Spans.{AreBetween, span_of};
 ghost use Rattle.hp_warm_scale.specs.Exponents.{AreUpTo};
-ghost use Rattle.hp_warm_scale.specs.Scaling.{scaled_value, scaled_cell, room, cost_weight, costs_scale, box_weight, values_scale, column_of, scaled_column, with_column, column_step, numbers, blank_of, stood, columns_table, AreSmall};
+ghost use Rattle.hp_warm_scale.specs.Scaling.{scaled_quantity, scaled_cell, room, cost_weight, costs_scale, box_weight, values_scale, column_of, scaled_column};
 
 use crate::exponents::{exponent_at, reach};
 use crate::spans::{Span, join};
@@ -16,9 +11,9 @@ use hp_warm_table::numbers::{bits, shift};
 use hp_warm_table::{Cell, Quantity};
 
 /// A number times 2^exponent, as a point, a bound or a side. None where it leaves their range.
-#[tactic(auto, unfolding(crate::specs::Scaling::scaled_value))]
+#[tactic(auto, unfolding(crate::specs::Scaling::scaled_quantity))]
 pub fn scaled_value(number: Fx, exponent: i32) -> Option<Quantity>
-    ensures { result ≡ scaled_value number exponent }
+    ensures { result ≡ scaled_quantity number exponent }
 {
     Quantity::new(shift(number.0, exponent)?)
 }
@@ -165,7 +160,7 @@ fn scaled_bound(bound: Fx, values: i32, exponent: i32) -> Option<Quantity>
     requires values_greatest { values ≤ℤ pos 0 }
     requires least { pos 0 ≤ℤ exponent }
     requires greatest { exponent ≤ℤ pos 1000 }
-    ensures { result ≡ scaled_value bound (values -ℤ exponent) }
+    ensures { result ≡ scaled_quantity bound (values -ℤ exponent) }
 {
     scaled_value(bound, values - exponent)
 }

@@ -1,14 +1,13 @@
 // The sides of rows.
 ghost use Rattle.std.specs.Prelude.{◌≡◌, ◌+◌, ◌<◌, ◌≤◌, ◌≤ℤ◌, pos, negsuc, length, take};
-ghost use Rattle.hp_num.specs.Sums.{entry};
 ghost use Rattle.hp_warm_table.specs.Shape.{IsTable};
 ghost use Rattle.hp_warm_scale.specs.Scaling.{AreSmall, AreRowScales};
-ghost use Rattle.hp_warm_scale.specs.Appending.{scaled_side, scaled_sides, with_sides, sided_from, sided, with_bounds};
+ghost use Rattle.hp_warm_scale.specs.Appending.{scaled_side, scaled_sides, with_slack_sides, sided_from, sided, with_bounds};
 
 use crate::exponents::exponent_at;
 use crate::scaling::scaled_value;
 use hp_solver::{Fx, LpRow, StageLp};
-use hp_warm_table::{Bounds, Quantity, Table};
+use hp_warm_table::{Bounds, Quantity, WarmTable};
 
 /// The sides of a row, scaled.
 #[derive(Clone, Copy)]
@@ -53,7 +52,7 @@ fn write_sides(bounds: &mut Bounds, slack: usize, sides: Sides)
     requires ups { slack < length bounds.old.ups }
     requires has_low { slack < length bounds.old.has_low }
     requires has_up { slack < length bounds.old.has_up }
-    ensures { bounds.new ≡ with_sides slack sides bounds.old }
+    ensures { bounds.new ≡ with_slack_sides slack sides bounds.old }
 {
     bounds.lows.set(slack, sides.low);
     bounds.ups.set(slack, sides.up);
@@ -96,7 +95,7 @@ fn set_all(
 /// Sets the sides of the first rows to those of a program's own rows, in order. The answer is false exactly where a side
 /// leaves its range: that row and those after it keep the sides that they had. Rows of cuts keep theirs.
 #[tactic(auto, unfolding(crate::specs::Appending::sided))]
-pub fn set_sides(table: &mut Table, lp: &StageLp) -> bool
+pub fn set_sides(table: &mut WarmTable, lp: &StageLp) -> bool
     requires whole { IsTable table.old }
     requires small { AreSmall 1000 table.old.scales }
     requires own { lp.now.own ≤ length lp.now.rows }

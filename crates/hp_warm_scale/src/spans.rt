@@ -1,6 +1,6 @@
 // The least and the greatest of some numbers.
-ghost use Rattle.std.specs.Prelude.{◌≡◌, pos, negsuc, ◌≤ℤ◌};
-ghost use Rattle.hp_warm_scale.specs.Spans.{grown, joined, lift, AreBetween};
+ghost use Rattle.std.specs.Prelude.{◌≡◌, pos, negsuc};
+ghost use Rattle.hp_warm_scale.specs.Spans.{grown, joined_span, lift, AreBetween};
 
 /// The least and the greatest of some numbers.
 #[derive(Clone, Copy)]
@@ -29,7 +29,7 @@ pub fn grow(span: Option<Span>, number: i32) -> Option<Span>
 
 /// The span with one number more, if there is one.
 pub fn join(span: Option<Span>, number: Option<i32>) -> Option<Span>
-    ensures { result ≡ joined span number }
+    ensures { result ≡ joined_span span number }
 {
     match number {
         None => span,

@@ -1,12 +1,12 @@
 // The first table of a program.
-ghost use Rattle.std.specs.Prelude.{◌≡◌, ◌+◌, ◌≤◌, ◌++◌, ◌<◌, length, map, replicate, true, false, Some, int_lt, pos, IfOk, IfSome};
+ghost use Rattle.std.specs.Prelude.{◌≡◌, ◌+◌, ◌≤◌, ◌<◌, length, map, replicate, true, false, Some, pos, IfOk, IfSome};
 ghost use Rattle.hp_solver.specs.Proper.{IsProper};
 ghost use Rattle.hp_warm_table.specs.Shape.{IsTable};
-ghost use Rattle.hp_warm_scale.specs.Walks.{Gives};
-ghost use Rattle.hp_warm_scale.specs.Walks.{run, count_from};
+ghost use Rattle.hp_warm_scale.specs.Walks.{GivesWalked};
+ghost use Rattle.hp_warm_scale.specs.Walks.{run};
 ghost use Rattle.hp_warm_scale.specs.First.{first_of};
 ghost use Rattle.hp_warm_scale.specs.Fitting.{Suits};
-ghost use Rattle.hp_warm_scale.specs.Scaling.{column_step, with_column, blank_with, blank_of, blank_bounds_of, blank_basis_of, blank_cuts_of, stood, columns_table, AreSmall, numbers, is_negative};
+ghost use Rattle.hp_warm_scale.specs.Scaling.{column_step, with_column, blank_with, blank_of, blank_bounds_of, blank_basis_of, blank_cuts_of, columns_table, AreSmall, column_numbers, is_below_zero};
 
 use crate::appending::append;
 use crate::exponents::columns;
@@ -14,7 +14,7 @@ use crate::scaling::{ScaledColumn, costs_scale, scaled_column, values_scale};
 use hp_num::{List, Memory};
 use hp_solver::{Column, LpRow, StageLp};
 use hp_warm_table::lists::repeated;
-use hp_warm_table::{Basis, Bounds, Cell, Cuts, Quantity, Rows, Scales, Square, Table};
+use hp_warm_table::{Basis, Bounds, Cell, CutRows, Quantity, Rows, Scales, Square, WarmTable};
 use std::alloc::Global;
 
 fn blank_bounds(alloc: Global, count: usize) -> Result<Bounds, Memory>
@@ -29,7 +29,7 @@ fn blank_bounds(alloc: Global, count: usize) -> Result<Bounds, Memory>
 }
 
 fn counted(alloc: Global, count: usize) -> Result<List<usize>, Memory>
-    ensures { IfOk result (λ found. found ≡ numbers count) }
+    ensures { IfOk result (λ found. found ≡ column_numbers count) }
 {
     let mut found = List::new(alloc);
     for j in 0..count {
@@ -39,7 +39,7 @@ fn counted(alloc: Global, count: usize) -> Result<List<usize>, Memory>
 }
 
 fn counted_places(alloc: Global, count: usize) -> Result<List<Option<usize>>, Memory>
-    ensures { IfOk result (λ found. found ≡ map Some (numbers count)) }
+    ensures { IfOk result (λ found. found ≡ map Some (column_numbers count)) }
 {
     let mut found = List::new(alloc);
     for j in 0..count {
@@ -59,17 +59,17 @@ pub fn blank_basis(alloc: Global, count: usize) -> Result<Basis, Memory>
     })
 }
 
-fn blank_cuts(alloc: Global, count: usize) -> Result<Cuts, Memory>
+fn blank_cuts(alloc: Global, count: usize) -> Result<CutRows, Memory>
     ensures { IfOk result (λ cuts. cuts ≡ blank_cuts_of count) }
 {
-    Ok(Cuts {
+    Ok(CutRows {
         rows: List::new(alloc),
         waiting: repeated(alloc, count, false)?,
     })
 }
 
 // Bounds, basis and cuts of a table without rows.
-fn blank_variables(alloc: Global, count: usize) -> Result<(Bounds, Basis, Cuts), Memory>
+fn blank_variables(alloc: Global, count: usize) -> Result<(Bounds, Basis, CutRows), Memory>
     ensures bounds { IfOk result (λ made. made.0 ≡ blank_bounds_of count) }
     ensures basis { IfOk result (λ made. made.1 ≡ blank_basis_of count) }
     ensures cuts { IfOk result (λ made. made.2 ≡ blank_cuts_of count) }
@@ -97,7 +97,7 @@ fn blank_with(
     columns: List<i32>,
     costs_exponent: i32,
     values_exponent: i32,
-) -> Result<Table, Memory>
+) -> Result<WarmTable, Memory>
     requires few { count ≤ 1199 }
     ensures { IfOk result (λ table. table ≡ blank_with count columns costs_exponent values_exponent) }
 {
@@ -110,7 +110,7 @@ fn blank_with(
         costs: costs_exponent,
         values: values_exponent,
     };
-    Ok(Table {
+    Ok(WarmTable {
         scales,
         rows: Rows::new(alloc),
         cuts,
@@ -126,7 +126,12 @@ fn blank_with(
 
 // Makes a table without rows, by the exponents for some decisions and rows.
 #[tactic(auto, unfolding(crate::specs::Scaling::blank_of))]
-fn blank(alloc: Global, count: usize, decisions: &[Column], rows: &[LpRow]) -> Result<Table, Memory>
+fn blank(
+    alloc: Global,
+    count: usize,
+    decisions: &[Column],
+    rows: &[LpRow],
+) -> Result<WarmTable, Memory>
     requires few { count ≤ 1199 }
     requires decisions { length decisions.now ≤ count }
     ensures value { IfOk result (λ table. table ≡ blank_of count decisions.now rows.now) }
@@ -141,7 +146,7 @@ fn blank(alloc: Global, count: usize, decisions: &[Column], rows: &[LpRow]) -> R
 }
 
 // Writes the bounds, the cost and the reduced cost of column j, which is nonbasic at place j.
-fn write_column(table: &mut Table, j: usize, column: ScaledColumn)
+fn write_column(table: &mut WarmTable, j: usize, column: ScaledColumn)
     requires costs { j < length table.old.costs }
     requires reduced { j < length table.old.reduced }
     requires lows { j < length table.old.bounds.lows }
@@ -157,11 +162,11 @@ fn write_column(table: &mut Table, j: usize, column: ScaledColumn)
 // Column j of a program, scaled. The answer is false exactly where a number leaves its range: the
 // table is then as before.
 #[tactic(auto, unfolding(crate::specs::Scaling::column_step))]
-fn scale_column(table: &mut Table, j: usize, column: &Column) -> bool
+fn scale_column(table: &mut WarmTable, j: usize, column: &Column) -> bool
     requires whole { IsTable table.old }
     requires small { AreSmall 1000 table.old.scales }
     requires there { j < length table.old.costs }
-    ensures value { Gives result (column_step j column.now table.old) table.new }
+    ensures value { GivesWalked result (column_step j column.now table.old) table.new }
     ensures whole { IsTable table.new }
     ensures scales { table.new.scales ≡ table.old.scales }
     ensures count { length table.new.costs ≡ length table.old.costs }
@@ -178,11 +183,11 @@ fn scale_column(table: &mut Table, j: usize, column: &Column) -> bool
 
 /// Scales some columns of a program, from number `first` on: their bounds, costs and reduced costs. The answer is false exactly
 /// where a number leaves its range.
-pub(crate) fn scale_columns(table: &mut Table, first: usize, columns: &[Column]) -> bool
+pub(crate) fn scale_columns(table: &mut WarmTable, first: usize, columns: &[Column]) -> bool
     requires whole { IsTable table.old }
     requires small { AreSmall 1000 table.old.scales }
     requires there { first + length columns.now ≤ length table.old.costs }
-    ensures value { Gives result (run column_step first columns.now table.old) table.new }
+    ensures value { GivesWalked result (run column_step first columns.now table.old) table.new }
     ensures whole { IsTable table.new }
     ensures scales { table.new.scales ≡ table.old.scales }
     ensures count { length table.new.costs ≡ length table.old.costs }
@@ -196,7 +201,7 @@ pub(crate) fn scale_columns(table: &mut Table, first: usize, columns: &[Column])
 }
 
 fn is_negative(cell: Cell) -> bool
-    ensures { result ≡ is_negative cell }
+    ensures { result ≡ is_below_zero cell }
 {
     cell.number() < 0
 }
@@ -204,7 +209,7 @@ fn is_negative(cell: Cell) -> bool
 // Sets each column to its upper bound where its reduced cost is negative.
 fn stand(high: &mut [bool], reduced: &[Cell])
     requires { length high.old ≡ length reduced.now }
-    ensures { high.new ≡ map is_negative reduced.now }
+    ensures { high.new ≡ map is_below_zero reduced.now }
 {
     for j in 0..reduced.len() {
         high[j] = is_negative(reduced[j]);
@@ -218,7 +223,7 @@ fn columns_table(
     count: usize,
     decisions: &[Column],
     rows: &[LpRow],
-) -> Result<Option<Table>, Memory>
+) -> Result<Option<WarmTable>, Memory>
     requires few { count ≤ 1199 }
     requires decisions { length decisions.now ≤ count }
     ensures value { IfOk result (λ table. table ≡ columns_table count decisions.now rows.now) }
@@ -238,7 +243,7 @@ fn columns_table(
 /// with its decisions, where the other columns stand at 0 and cost nothing. None where there are
 /// more than 1,199 columns, or where a number leaves its range. [`Memory`] where memory was refused.
 #[tactic(auto, unfolding(crate::specs::First::first_of))]
-pub fn first(alloc: Global, lp: &StageLp) -> Result<Option<Table>, Memory>
+pub fn first(alloc: Global, lp: &StageLp) -> Result<Option<WarmTable>, Memory>
     requires proper { IsProper lp.now }
     ensures value { IfOk result (λ table. table ≡ first_of lp.now) }
     ensures whole { IfOk result (λ table. IfSome table IsTable) }

@@ -5,7 +5,7 @@ ghost use Rattle.hp_solver.specs.Packed.{rows_of, IsView};
 ghost use Rattle.hp_solver.specs.Proper.{IsProper, AreRising};
 ghost use Rattle.hp_solver.specs.declared.programs.LpRow.{LpRow};
 ghost use Rattle.hp_warm_table.specs.Shape.{IsTable};
-ghost use Rattle.hp_warm_scale.specs.Walks.{Gives};
+ghost use Rattle.hp_warm_scale.specs.Walks.{GivesWalked};
 ghost use Rattle.hp_warm_scale.specs.Spans.{IsBetween, AreBetween};
 ghost use Rattle.std.specs.Int.{int_max};
 ghost use Rattle.hp_warm_scale.specs.Exponents.{AreUpTo, SpansBetween, reach_of};
@@ -22,7 +22,7 @@ use crate::waiting::{last_column, slopes, waiting, waits};
 use hp_num::{List, Memory};
 use hp_solver::{Column, Cuts, Fx, LpRow, PackedView, StageLp};
 use hp_warm_table::lists::repeated;
-use hp_warm_table::{Coefficient, Table};
+use hp_warm_table::{Coefficient, WarmTable};
 use std::alloc::Global;
 
 // The greatest of a span, none where it is 0.
@@ -224,7 +224,7 @@ pub(crate) fn write_scales(
 
 // Writes the exponents of successors' columns, from number `decisions` on, by their cuts.
 #[tactic(auto, unfolding(crate::specs::Widening::rescaled))]
-fn write_successors(alloc: Global, table: &mut Table, lp: &StageLp) -> Result<(), Memory>
+fn write_successors(alloc: Global, table: &mut WarmTable, lp: &StageLp) -> Result<(), Memory>
     requires whole { IsTable table.old }
     requires small { AreSmall 512 table.old.scales }
     requires proper { IsProper lp.now }
@@ -253,7 +253,7 @@ fn write_successors(alloc: Global, table: &mut Table, lp: &StageLp) -> Result<()
 }
 
 // Scales the columns of successors, from number `decisions` on, which makes a table of a table.
-fn rescale(alloc: Global, table: &mut Table, lp: &StageLp) -> Result<(), Memory>
+fn rescale(alloc: Global, table: &mut WarmTable, lp: &StageLp) -> Result<(), Memory>
     requires whole { IsTable table.old }
     requires small { AreSmall 512 table.old.scales }
     requires proper { IsProper lp.now }
@@ -268,10 +268,10 @@ fn rescale(alloc: Global, table: &mut Table, lp: &StageLp) -> Result<(), Memory>
 
 // Scales the columns of successors and gives them bounds and costs. The answer is false exactly where a number leaves its range.
 #[tactic(auto, unfolding(crate::specs::Widening::widened_columns))]
-fn widen_columns(alloc: Global, table: &mut Table, lp: &StageLp) -> Result<bool, Memory>
+fn widen_columns(alloc: Global, table: &mut WarmTable, lp: &StageLp) -> Result<bool, Memory>
     requires suits { Suits table.old lp.now }
     requires proper { IsProper lp.now }
-    ensures value { IfOk result (λ made. Gives made (widened_columns lp.now table.old) table.new) }
+    ensures value { IfOk result (λ made. GivesWalked made (widened_columns lp.now table.old) table.new) }
     ensures whole { OnOk result (IsTable table.new) }
     ensures small { OnOk result (AreSmall 1000 table.new.scales) }
     ensures count { OnOk result (length table.new.costs ≡ length table.old.costs) }
@@ -284,7 +284,7 @@ fn widen_columns(alloc: Global, table: &mut Table, lp: &StageLp) -> Result<bool,
 
 // Puts the cut behind the rows that is the program's row i, unless it waits.
 fn put_cut(
-    table: &mut Table,
+    table: &mut WarmTable,
     i: usize,
     row: &LpRow,
     scaled: &mut List<(u32, Coefficient)>,
@@ -292,7 +292,7 @@ fn put_cut(
     requires whole { IsTable table.old }
     requires small { AreSmall 1000 table.old.scales }
     requires rising { AreRising 0 (length table.old.costs) row.now.terms }
-    ensures value { IfOk result (λ made. Gives made (put_cut table.old.cuts.waiting i row.now table.old) table.new) }
+    ensures value { IfOk result (λ made. GivesWalked made (put_cut table.old.cuts.waiting i row.now table.old) table.new) }
     ensures whole { IfOk result (λ made. made ≡ true → IsTable table.new) }
     ensures small { IfOk result (λ made. made ≡ true → AreSmall 1000 table.new.scales) }
     ensures count { IfOk result (λ made. made ≡ true → length table.new.costs ≡ length table.old.costs) }
@@ -306,12 +306,17 @@ fn put_cut(
 }
 
 // Puts the cuts behind the rows that do not wait, of which the first is the program's row `first`.
-fn put_cuts(alloc: Global, table: &mut Table, first: usize, cuts: &[LpRow]) -> Result<bool, Memory>
+fn put_cuts(
+    alloc: Global,
+    table: &mut WarmTable,
+    first: usize,
+    cuts: &[LpRow],
+) -> Result<bool, Memory>
     requires whole { IsTable table.old }
     requires small { AreSmall 1000 table.old.scales }
     requires few { first + length cuts.now < 2 ^ 64 }
     requires rising { All (λ (r : LpRow). AreRising 0 (length table.old.costs) r.terms) cuts.now }
-    ensures value { IfOk result (λ made. Gives made (put_cuts table.old.cuts.waiting first cuts.now table.old) table.new) }
+    ensures value { IfOk result (λ made. GivesWalked made (put_cuts table.old.cuts.waiting first cuts.now table.old) table.new) }
     ensures whole { IfOk result (λ made. made ≡ true → IsTable table.new) }
     ensures small { IfOk result (λ made. made ≡ true → AreSmall 1000 table.new.scales) }
     ensures count { IfOk result (λ made. made ≡ true → length table.new.costs ≡ length table.old.costs) }
@@ -328,7 +333,7 @@ fn put_cuts(alloc: Global, table: &mut Table, first: usize, cuts: &[LpRow]) -> R
 // Puts the cuts of a program behind the rows that are listed and do not wait.
 fn put_listed(
     alloc: Global,
-    table: &mut Table,
+    table: &mut WarmTable,
     lp: &StageLp,
     cuts: &[LpRow],
 ) -> Result<bool, Memory>
@@ -337,7 +342,7 @@ fn put_listed(
     requires proper { IsProper lp.now }
     requires columns { length lp.now.columns ≡ length table.old.costs }
     requires cuts { cuts.now ≡ drop lp.now.own lp.now.rows }
-    ensures value { IfOk result (λ made. Gives made (put_cuts table.old.cuts.waiting lp.now.own cuts.now table.old) table.new) }
+    ensures value { IfOk result (λ made. GivesWalked made (put_cuts table.old.cuts.waiting lp.now.own cuts.now table.old) table.new) }
     ensures whole { IfOk result (λ made. made ≡ true → IsTable table.new) }
     ensures small { IfOk result (λ made. made ≡ true → AreSmall 1000 table.new.scales) }
     ensures count { IfOk result (λ made. made ≡ true → length table.new.costs ≡ length table.old.costs) }
@@ -349,7 +354,7 @@ fn put_listed(
 // Puts the cuts of a program behind the rows that stand side by side and do not wait.
 fn put_packed(
     alloc: Global,
-    table: &mut Table,
+    table: &mut WarmTable,
     lp: &StageLp,
     view: &PackedView,
 ) -> Result<bool, Memory>
@@ -359,7 +364,7 @@ fn put_packed(
     requires columns { length lp.now.columns ≡ length table.old.costs }
     requires cuts { rows_of view.now ≡ drop lp.now.own lp.now.rows }
     requires view { IsView view.now }
-    ensures value { IfOk result (λ made. Gives made (put_cuts table.old.cuts.waiting lp.now.own (drop lp.now.own lp.now.rows) table.old) table.new) }
+    ensures value { IfOk result (λ made. GivesWalked made (put_cuts table.old.cuts.waiting lp.now.own (drop lp.now.own lp.now.rows) table.old) table.new) }
     ensures whole { IfOk result (λ made. made ≡ true → IsTable table.new) }
     ensures small { IfOk result (λ made. made ≡ true → AreSmall 1000 table.new.scales) }
     ensures count { IfOk result (λ made. made ≡ true → length table.new.costs ≡ length table.old.costs) }
@@ -373,12 +378,12 @@ fn put_packed(
 }
 
 // Puts the cuts of a program behind the rows that do not wait.
-fn put_program_cuts(alloc: Global, table: &mut Table, lp: &StageLp) -> Result<bool, Memory>
+fn put_program_cuts(alloc: Global, table: &mut WarmTable, lp: &StageLp) -> Result<bool, Memory>
     requires whole { IsTable table.old }
     requires small { AreSmall 1000 table.old.scales }
     requires proper { IsProper lp.now }
     requires columns { length lp.now.columns ≡ length table.old.costs }
-    ensures value { IfOk result (λ made. Gives made (put_cuts table.old.cuts.waiting lp.now.own (drop lp.now.own lp.now.rows) table.old) table.new) }
+    ensures value { IfOk result (λ made. GivesWalked made (put_cuts table.old.cuts.waiting lp.now.own (drop lp.now.own lp.now.rows) table.old) table.new) }
     ensures whole { IfOk result (λ made. made ≡ true → IsTable table.new) }
     ensures small { IfOk result (λ made. made ≡ true → AreSmall 1000 table.new.scales) }
     ensures count { IfOk result (λ made. made ≡ true → length table.new.costs ≡ length table.old.costs) }
@@ -393,7 +398,7 @@ fn put_program_cuts(alloc: Global, table: &mut Table, lp: &StageLp) -> Result<bo
 #[tactic(auto, unfolding(crate::specs::Widening::widened_by))]
 fn widen_by(
     alloc: Global,
-    table: &mut Table,
+    table: &mut WarmTable,
     lp: &StageLp,
     waiting: List<bool>,
 ) -> Result<bool, Memory>
@@ -401,7 +406,7 @@ fn widen_by(
     requires proper { IsProper lp.now }
     requires count { length waiting ≡ length lp.now.columns }
     requires narrow { AreNarrow lp.now waiting }
-    ensures value { IfOk result (λ made. Gives made (widened_by waiting lp.now table.old) table.new) }
+    ensures value { IfOk result (λ made. GivesWalked made (widened_by waiting lp.now table.old) table.new) }
     ensures fits { IfOk result (λ made. made ≡ true → Fits table.new lp.now) }
 {
     if !widen_columns(alloc, table, lp)? {
@@ -416,10 +421,10 @@ fn widen_by(
 /// those of successors all of whose cuts are narrow: these wait. The answer is false exactly where a number leaves its range:
 /// nothing is promised of the table then. [`Memory`] where memory was refused.
 #[tactic(auto, unfolding(crate::specs::Widening::widened))]
-pub fn widen(alloc: Global, table: &mut Table, lp: &StageLp) -> Result<bool, Memory>
+pub fn widen(alloc: Global, table: &mut WarmTable, lp: &StageLp) -> Result<bool, Memory>
     requires suits { Suits table.old lp.now }
     requires proper { IsProper lp.now }
-    ensures value { IfOk result (λ made. Gives made (widened lp.now table.old) table.new) }
+    ensures value { IfOk result (λ made. GivesWalked made (widened lp.now table.old) table.new) }
     ensures fits { IfOk result (λ made. made ≡ true → Fits table.new lp.now) }
 {
     let waiting = waiting(alloc, lp)?;
@@ -428,10 +433,10 @@ pub fn widen(alloc: Global, table: &mut Table, lp: &StageLp) -> Result<bool, Mem
 
 /// Widens a table by a program as [`widen`] does, where no cut waits: all are put behind the rows.
 #[tactic(auto, unfolding(crate::specs::Widening::widened_in_full))]
-pub fn widen_in_full(alloc: Global, table: &mut Table, lp: &StageLp) -> Result<bool, Memory>
+pub fn widen_in_full(alloc: Global, table: &mut WarmTable, lp: &StageLp) -> Result<bool, Memory>
     requires suits { Suits table.old lp.now }
     requires proper { IsProper lp.now }
-    ensures value { IfOk result (λ made. Gives made (widened_in_full lp.now table.old) table.new) }
+    ensures value { IfOk result (λ made. GivesWalked made (widened_in_full lp.now table.old) table.new) }
     ensures fits { IfOk result (λ made. made ≡ true → Fits table.new lp.now) }
 {
     let waiting = repeated(alloc, lp.columns().len(), false)?;

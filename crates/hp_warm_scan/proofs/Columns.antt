@@ -9,60 +9,60 @@ use Rattle.hp_solver.specs.Proper.{IsProper, AreRising}
 use Rattle.hp_warm_scale.specs.Walks.{walk}
 use Rattle.hp_warm_scale.specs.Waiting.{last_column, waits, waits_in}
 use Rattle.hp_warm_scale.proofs.Cuts.{last_inside}
-use Rattle.hp_warm_scan.specs.Values.{Valued, is_greater, greater, greatest_in, greatest_step, greatest_cuts, cut_value, IsCut, AreCuts}
+use Rattle.hp_warm_scan.specs.Values.{Valued, is_value_greater, greater_valued, greatest_in, greatest_step, greatest_cuts, cut_row_value, IsCutRow, AreBestCuts}
 
 pub waits_at : (ws : List Bool) (r : LpRow) (j : ℕ) (b : Bool) → last_column r.terms ≡ Some j → get_or ws j false ≡ b → waits ws r ≡ b
 unfolding waits
 waits_at ws r j b e g = ap (waits_in ws) e ∙ g
 
 -- a step at a cut that waits
-pub step_in : (ws : List Bool) (xs : List ℤ) (i : ℕ) (bests : List (Option Valued)) (r : LpRow) (j : ℕ) → last_column r.terms ≡ Some j → waits ws r ≡ true → greatest_step ws xs i bests r ≡ slice_set bests j (greater (get_or bests j None) (i, cut_value xs r))
+pub step_in : (ws : List Bool) (xs : List ℤ) (i : ℕ) (bests : List (Option Valued)) (r : LpRow) (j : ℕ) → last_column r.terms ≡ Some j → waits ws r ≡ true → greatest_step ws xs i bests r ≡ slice_set bests j (greater_valued (get_or bests j None) (i, cut_row_value xs r))
 unfolding greatest_step
 step_in ws xs i bests r j e w =
-    let v : Valued = (i, cut_value xs r) in
+    let v : Valued = (i, cut_row_value xs r) in
     ap (λ (b : Bool). cond b (greatest_in bests (last_column r.terms) v) bests) w ∙ ap (λ (o : Option ℕ). greatest_in bests o v) e
 
-pub step_waits : (ws : List Bool) (xs : List ℤ) (i : ℕ) (bests : List (Option Valued)) (r : LpRow) (j : ℕ) → last_column r.terms ≡ Some j → waits ws r ≡ true → is_greater (get_or bests j None) (cut_value xs r) ≡ true → greatest_step ws xs i bests r ≡ slice_set bests j (Some (i, cut_value xs r))
+pub step_waits : (ws : List Bool) (xs : List ℤ) (i : ℕ) (bests : List (Option Valued)) (r : LpRow) (j : ℕ) → last_column r.terms ≡ Some j → waits ws r ≡ true → is_value_greater (get_or bests j None) (cut_row_value xs r) ≡ true → greatest_step ws xs i bests r ≡ slice_set bests j (Some (i, cut_row_value xs r))
 unfolding greatest_step
 step_waits ws xs i bests r j e w g =
-    let v : Valued = (i, cut_value xs r) in
+    let v : Valued = (i, cut_row_value xs r) in
     ap (λ (b : Bool). cond b (greatest_in bests (last_column r.terms) v) bests) w
     ∙ ap (λ (o : Option ℕ). greatest_in bests o v) e
     ∙ ap (λ (b : Bool). slice_set bests j (cond b (Some v) (get_or bests j None))) g
 
 pub step_rests : (ws : List Bool) (xs : List ℤ) (i : ℕ) (bests : List (Option Valued)) (r : LpRow) → waits ws r ≡ false → greatest_step ws xs i bests r ≡ bests
 unfolding greatest_step
-step_rests ws xs i bests r w = ap (λ (b : Bool). cond b (greatest_in bests (last_column r.terms) (i, cut_value xs r)) bests) w
+step_rests ws xs i bests r w = ap (λ (b : Bool). cond b (greatest_in bests (last_column r.terms) (i, cut_row_value xs r)) bests) w
 
 abbrev IsKept : Program → Option Valued → Type 0
-IsKept lp b = IfSome b (λ v. IsCut lp v.0)
+IsKept lp b = IfSome b (λ v. IsCutRow lp v.0)
 
-read_kept : (lp : Program) (bests : List (Option Valued)) (j : ℕ) → AreCuts lp bests → IsKept lp (get_or bests j None)
+read_kept : (lp : Program) (bests : List (Option Valued)) (j : ℕ) → AreBestCuts lp bests → IsKept lp (get_or bests j None)
 read_kept lp bests j h = ⊎_elim (λ (a : j < length bests). h j None a) (λ (a : length bests ≤ j). subst (IsKept lp) (sym (get_or_past bests j None a)) tt) (cases_lt j (length bests))
 
-greater_kept : (lp : Program) (b : Bool) (old : Option Valued) (v : Valued) → IsCut lp v.0 → IsKept lp old → IsKept lp (cond b (Some v) old)
+greater_kept : (lp : Program) (b : Bool) (old : Option Valued) (v : Valued) → IsCutRow lp v.0 → IsKept lp old → IsKept lp (cond b (Some v) old)
 greater_kept lp true old v c k = c
 greater_kept lp false old v c k = k
 
-in_kept : (lp : Program) (bests : List (Option Valued)) (o : Option ℕ) (v : Valued) → IsCut lp v.0 → AreCuts lp bests → AreCuts lp (greatest_in bests o v)
+in_kept : (lp : Program) (bests : List (Option Valued)) (o : Option ℕ) (v : Valued) → IsCutRow lp v.0 → AreBestCuts lp bests → AreBestCuts lp (greatest_in bests o v)
 in_kept lp bests None v c h = h
-in_kept lp bests (Some j) v c h = All-set (IsKept lp) bests j (greater (get_or bests j None) v) (greater_kept lp (is_greater (get_or bests j None) v.1) (get_or bests j None) v c (read_kept lp bests j h)) h
+in_kept lp bests (Some j) v c h = All-set (IsKept lp) bests j (greater_valued (get_or bests j None) v) (greater_kept lp (is_value_greater (get_or bests j None) v.1) (get_or bests j None) v c (read_kept lp bests j h)) h
 
 -- a step keeps that each that is greatest is none or a cut
-step_kept : (lp : Program) (ws : List Bool) (xs : List ℤ) (i : ℕ) (bests : List (Option Valued)) (r : LpRow) → IsCut lp i → AreCuts lp bests → AreCuts lp (greatest_step ws xs i bests r)
+step_kept : (lp : Program) (ws : List Bool) (xs : List ℤ) (i : ℕ) (bests : List (Option Valued)) (r : LpRow) → IsCutRow lp i → AreBestCuts lp bests → AreBestCuts lp (greatest_step ws xs i bests r)
 unfolding greatest_step
 step_kept lp ws xs i bests r c h = by (waits ws r)
   where
-    by : (b : Bool) → AreCuts lp (cond b (greatest_in bests (last_column r.terms) (i, cut_value xs r)) bests)
-    by true = in_kept lp bests (last_column r.terms) (i, cut_value xs r) c h
+    by : (b : Bool) → AreBestCuts lp (cond b (greatest_in bests (last_column r.terms) (i, cut_row_value xs r)) bests)
+    by true = in_kept lp bests (last_column r.terms) (i, cut_row_value xs r) c h
     by false = h
 
-all_kept : (lp : Program) (ws : List Bool) (xs : List ℤ) (i : ℕ) (bests : List (Option Valued)) (rs : List LpRow) → lp.own ≤ i → i + length rs ≤ length lp.rows → AreCuts lp bests → AreCuts lp (walk (λ (i : ℕ) bests (r : LpRow). greatest_step ws xs i bests r) i bests rs)
+all_kept : (lp : Program) (ws : List Bool) (xs : List ℤ) (i : ℕ) (bests : List (Option Valued)) (rs : List LpRow) → lp.own ≤ i → i + length rs ≤ length lp.rows → AreBestCuts lp bests → AreBestCuts lp (walk (λ (i : ℕ) bests (r : LpRow). greatest_step ws xs i bests r) i bests rs)
 all_kept lp ws xs i bests [] o n h = h
 all_kept lp ws xs i bests (r ∷ rs) o n h =
     all_kept lp ws xs (suc i) (greatest_step ws xs i bests r) rs (omega (arith, o)) (omega (arith, n)) (step_kept lp ws xs i bests r (record { behind = o; there = omega (arith, n) }) h)
 
-pub greatest_kept : (lp : Program) (ws : List Bool) (xs : List ℤ) → lp.own ≤ length lp.rows → AreCuts lp (greatest_cuts lp ws xs)
+pub greatest_kept : (lp : Program) (ws : List Bool) (xs : List ℤ) → lp.own ≤ length lp.rows → AreBestCuts lp (greatest_cuts lp ws xs)
 unfolding greatest_cuts
 greatest_kept lp ws xs o =
     let none : Option Valued = None in

@@ -4,9 +4,9 @@ use Rattle.std.proofs.lemmas.Bool.{cases_lt}
 use Rattle.std.proofs.lemmas.Grind.{common_steps}
 use Rattle.std.proofs.lemmas.Int.{ints}
 use Rattle.hp_solver.specs.PackedCut.{PackedCut}
-use Rattle.hp_solver.specs.Covering.{value_of, cut_at, AreInside, IsBefore, IsCovered, AreRisingPlaces, CoverAll}
+use Rattle.hp_solver.specs.Covering.{value_of, packed_cut_at, AreInside, IsBefore, IsCovered, AreRisingPlaces, CoverAll}
 use Rattle.hp_warm_scale.specs.Walks.{walk, count_from}
-use Rattle.hp_warm_scan.specs.Values.{Valued, is_greater, greater}
+use Rattle.hp_warm_scan.specs.Values.{Valued, is_value_greater, greater_valued}
 
 -- go on from what holds below a number, and of that
 pub for_more : (P : ℕ → Type 0) (k : ℕ) → ((j : ℕ) → j < k → P j) → P k → (j : ℕ) → j < k + 1 → P j
@@ -23,11 +23,11 @@ not_above x y e = grind (arith, ints, common_steps, e)
 
 -- find the greatest so far of the values at some places
 abbrev greatest_at : (ℕ → ℤ) → ℕ → ℕ → Option Valued → List ℕ → Option Valued
-greatest_at f first k b ps = walk (λ k b (p : ℕ). greater b (first + p, f p)) k b ps
+greatest_at f first k b ps = walk (λ k b (p : ℕ). greater_valued b (first + p, f p)) k b ps
 
 -- say that no value is above the greatest so far
 abbrev Stays : (ℕ → ℤ) → Option Valued → List ℕ → Option Valued → Type 0
-Stays f b ps r = (r ≡ b) × All (λ (p : ℕ). is_greater b (f p) ≡ false) ps
+Stays f b ps r = (r ≡ b) × All (λ (p : ℕ). is_value_greater b (f p) ≡ false) ps
 
 -- say that a place is one of a list
 record IsAmong (ps : List ℕ) (p : ℕ) : Type 0 where
@@ -46,7 +46,7 @@ record Comes (f : ℕ → ℤ) (first : ℕ) (b : Option Valued) (ps : List ℕ)
   place : ℕ
   among : IsAmong ps place
   is : r ≡ Some (first + place, f place)
-  more : is_greater b (f place) ≡ true
+  more : is_value_greater b (f place) ≡ true
   before : All (λ (q : ℕ). IsBefore place (f place) q (f q)) ps
 
 rising_more : (least count : ℕ) (ps : List ℕ) → AreRisingPlaces least count ps → All (λ (q : ℕ). least ≤ q) ps
@@ -55,28 +55,28 @@ rising_more least count (p ∷ ps) h zero d l = h.0
 rising_more least count (p ∷ ps) h (suc k) d l = let a = h.0 in let r = rising_more (suc p) count ps h.2 k d (omega (arith, l)) in omega (arith, a, r)
 
 -- rise from a value that is above the greatest so far to a greater one
-greater_trans : (b : Option Valued) (x y : ℤ) → is_greater b x ≡ true → x <ℤ y → is_greater b y ≡ true
+greater_trans : (b : Option Valued) (x y : ℤ) → is_value_greater b x ≡ true → x <ℤ y → is_value_greater b y ≡ true
 greater_trans None x y h l = refl
 greater_trans (Some v) x y h l = let a = above v.1 x h in grind (arith, ints, common_steps, a, l)
 
-greater_not : (b : Option Valued) (x y : ℤ) → is_greater b x ≡ false → is_greater b y ≡ true → x <ℤ y
+greater_not : (b : Option Valued) (x y : ℤ) → is_value_greater b x ≡ false → is_value_greater b y ≡ true → x <ℤ y
 greater_not None x y h g = absurd (cc)
 greater_not (Some v) x y h g = let a = not_above v.1 x h in let c = above v.1 y g in omega (arith, ints, a, c)
 
 -- rise to one that is not the lesser
-greater_more : (b : Option Valued) (x y : ℤ) → is_greater b x ≡ true → x ≤ℤ y → is_greater b y ≡ true
+greater_more : (b : Option Valued) (x y : ℤ) → is_value_greater b x ≡ true → x ≤ℤ y → is_value_greater b y ≡ true
 greater_more None x y h l = refl
 greater_more (Some v) x y h l = let a = above v.1 x h in grind (arith, ints, common_steps, a, l)
 
 -- come to the first of the greatest by a walk over places that rise
 by_places : (f : ℕ → ℤ) (first least count k : ℕ) (b : Option Valued) (ps : List ℕ) → AreRisingPlaces least count ps → Stays f b ps (greatest_at f first k b ps) ⊎ Comes f first b ps (greatest_at f first k b ps)
 by_places f first least count k b [] h = inl (refl, λ k d l. absurd (omega (arith, l)))
-by_places f first least count k b (p ∷ ps) h = by (is_greater b (f p)) refl (λ c. by_places f first (suc p) count (suc k) c ps h.2)
+by_places f first least count k b (p ∷ ps) h = by (is_value_greater b (f p)) refl (λ c. by_places f first (suc p) count (suc k) c ps h.2)
   where
     later : All (λ (q : ℕ). suc p ≤ q) ps
     later = rising_more (suc p) count ps h.2
 
-    by : (g : Bool) → is_greater b (f p) ≡ g → ((c : Option Valued) → Stays f c ps (greatest_at f first (suc k) c ps) ⊎ Comes f first c ps (greatest_at f first (suc k) c ps)) → Stays f b (p ∷ ps) (greatest_at f first (suc k) (cond g (Some (first + p, f p)) b) ps) ⊎ Comes f first b (p ∷ ps) (greatest_at f first (suc k) (cond g (Some (first + p, f p)) b) ps)
+    by : (g : Bool) → is_value_greater b (f p) ≡ g → ((c : Option Valued) → Stays f c ps (greatest_at f first (suc k) c ps) ⊎ Comes f first c ps (greatest_at f first (suc k) c ps)) → Stays f b (p ∷ ps) (greatest_at f first (suc k) (cond g (Some (first + p, f p)) b) ps) ⊎ Comes f first b (p ∷ ps) (greatest_at f first (suc k) (cond g (Some (first + p, f p)) b) ps)
     by true e next = ⊎_elim
         (λ (s : Stays f (Some (first + p, f p)) ps (greatest_at f first (suc k) (Some (first + p, f p)) ps)). inr (record {
           place = p;
@@ -94,7 +94,7 @@ by_places f first least count k b (p ∷ ps) h = by (is_greater b (f p)) refl (�
         }))
         (next (Some (first + p, f p)))
       where
-        here : All (λ (q : ℕ). is_greater (Some (first + p, f p)) (f q) ≡ false) ps → All (λ (q : ℕ). IsBefore p (f p) q (f q)) (p ∷ ps)
+        here : All (λ (q : ℕ). is_value_greater (Some (first + p, f p)) (f q) ≡ false) ps → All (λ (q : ℕ). IsBefore p (f p) q (f q)) (p ∷ ps)
         here s zero d l = inr (omega (arith, ints), omega arith)
         here s (suc i) d l = let m = later i d (omega (arith, l)) in inr (not_above (f p) (f (get_or ps i d)) (s i d (omega (arith, l))), omega (arith, m))
 
@@ -112,7 +112,7 @@ by_places f first least count k b (p ∷ ps) h = by (is_greater b (f p)) refl (�
         }))
         (next b)
       where
-        none : All (λ (q : ℕ). is_greater b (f q) ≡ false) ps → All (λ (q : ℕ). is_greater b (f q) ≡ false) (p ∷ ps)
+        none : All (λ (q : ℕ). is_value_greater b (f q) ≡ false) ps → All (λ (q : ℕ). is_value_greater b (f q) ≡ false) (p ∷ ps)
         none s zero d l = e
         none s (suc i) d l = s i d (omega (arith, l))
 
@@ -144,13 +144,13 @@ one_place p q r x y z a b c =
 same_greatest : (f : ℕ → ℤ) (b : Option Valued) (first : ℕ) (all ps : List ℕ) (r s : Option Valued) → All (IsAmong all) ps → All (Covering f ps) all → Stays f b all r ⊎ Comes f first b all r → Stays f b ps s ⊎ Comes f first b ps s → r ≡ s
 same_greatest f b first all ps r s inside cover (inl x) (inl y) = x.0 ∙ sym y.0
 same_greatest f b first all ps r s inside cover (inl x) (inr y) =
-    let no : is_greater b (f y.place) ≡ false = held (λ (p : ℕ). is_greater b (f p) ≡ false) all y.place (held (IsAmong all) ps y.place y.among inside) x.1 in
+    let no : is_value_greater b (f y.place) ≡ false = held (λ (p : ℕ). is_value_greater b (f p) ≡ false) all y.place (held (IsAmong all) ps y.place y.among inside) x.1 in
     let yes = y.more in
     absurd (cc)
 same_greatest f b first all ps r s inside cover (inr x) (inl y) =
     let c : Covering f ps x.place = held (Covering f ps) all x.place x.among cover in
-    let yes : is_greater b (f c.place) ≡ true = greater_more b (f x.place) (f c.place) x.more (not_less c.place x.place (f c.place) (f x.place) c.before) in
-    let no : is_greater b (f c.place) ≡ false = held (λ (p : ℕ). is_greater b (f p) ≡ false) ps c.place c.among y.1 in
+    let yes : is_value_greater b (f c.place) ≡ true = greater_more b (f x.place) (f c.place) x.more (not_less c.place x.place (f c.place) (f x.place) c.before) in
+    let no : is_value_greater b (f c.place) ≡ false = held (λ (p : ℕ). is_value_greater b (f p) ≡ false) ps c.place c.among y.1 in
     absurd (cc)
 same_greatest f b first all ps r s inside cover (inr x) (inr y) =
     let c : Covering f ps x.place = held (Covering f ps) all x.place x.among cover in
@@ -176,14 +176,14 @@ count_own : (n k d : ℕ) → k < n → get_or (count_from 0 n) k d ≡ k
 count_own n k d h = let r = count_at 0 n k d h in omega (arith, r)
 
 -- turn a walk over cuts into one over their places
-all_places : (xs : List ℤ) (f : ℕ → ℤ) (first j k : ℕ) (b : Option Valued) (cs : List PackedCut) → ((i : ℕ) → i < length cs → f (j + i) ≡ value_of (cut_at cs i) xs) → walk (λ i b (c : PackedCut). greater b (i, value_of c xs)) (first + j) b cs ≡ greatest_at f first k b (count_from j (length cs))
+all_places : (xs : List ℤ) (f : ℕ → ℤ) (first j k : ℕ) (b : Option Valued) (cs : List PackedCut) → ((i : ℕ) → i < length cs → f (j + i) ≡ value_of (packed_cut_at cs i) xs) → walk (λ i b (c : PackedCut). greater_valued b (i, value_of c xs)) (first + j) b cs ≡ greatest_at f first k b (count_from j (length cs))
 all_places xs f first j k b [] h = refl
 all_places xs f first j k b (c ∷ cs) h =
     let n : suc (first + j) ≡ first + suc j = omega arith in
     let here : j + 0 ≡ j = omega arith in
     let v : value_of c xs ≡ f j = sym (h 0 (omega arith)) ∙ ap f here in
-    ap₂ (λ (i : ℕ) (x : ℤ). walk (λ i b (c : PackedCut). greater b (i, value_of c xs)) i (greater b (first + j, x)) cs) n v
-    ∙ all_places xs f first (suc j) (suc k) (greater b (first + j, f j)) cs (λ i l. let e : suc j + i ≡ j + suc i = omega arith in ap f e ∙ h (suc i) (omega (arith, l)))
+    ap₂ (λ (i : ℕ) (x : ℤ). walk (λ i b (c : PackedCut). greater_valued b (i, value_of c xs)) i (greater_valued b (first + j, x)) cs) n v
+    ∙ all_places xs f first (suc j) (suc k) (greater_valued b (first + j, f j)) cs (λ i l. let e : suc j + i ≡ j + suc i = omega arith in ap f e ∙ h (suc i) (omega (arith, l)))
 
 places_below : (least count : ℕ) (ps : List ℕ) → AreRisingPlaces least count ps → All (λ (q : ℕ). q < count) ps
 places_below least count [] h k d l = absurd (omega (arith, l))
@@ -198,16 +198,16 @@ all_inside n ps h k d l =
     let m = h k d l in
     record { index = get_or ps k d; there = omega (arith, m, count_length 0 n); is = count_own n (get_or ps k d) 0 m }
 
-all_covered : (xs : List ℤ) (cs : List PackedCut) (ps : List ℕ) (lows highs : List ℤ) → CoverAll cs ps lows highs → AreInside lows highs xs → All (Covering (λ p. value_of (cut_at cs p) xs) ps) (count_from 0 (length cs))
+all_covered : (xs : List ℤ) (cs : List PackedCut) (ps : List ℕ) (lows highs : List ℤ) → CoverAll cs ps lows highs → AreInside lows highs xs → All (Covering (λ p. value_of (packed_cut_at cs p) xs) ps) (count_from 0 (length cs))
 all_covered xs cs ps lows highs h box k d l =
     let m : k < length cs = omega (arith, l, count_length 0 (length cs)) in
     let c : IsCovered cs lows highs ps k = h.covered k m in
-    subst (Covering (λ p. value_of (cut_at cs p) xs) ps) (sym (count_own (length cs) k d m)) (record { place = get_or ps c.by 0; among = record { index = c.by; there = c.there; is = refl }; before = c.covers xs box })
+    subst (Covering (λ p. value_of (packed_cut_at cs p) xs) ps) (sym (count_own (length cs) k d m)) (record { place = get_or ps c.by 0; among = record { index = c.by; there = c.there; is = refl }; before = c.covers xs box })
 
 -- find the same greatest by all cuts and by those that cover them
-pub covered_same : (xs : List ℤ) (first : ℕ) (b : Option Valued) (cs : List PackedCut) (ps : List ℕ) (lows highs : List ℤ) → CoverAll cs ps lows highs → AreInside lows highs xs → walk (λ k b (p : ℕ). greater b (first + p, value_of (cut_at cs p) xs)) 0 b ps ≡ walk (λ i b (c : PackedCut). greater b (i, value_of c xs)) first b cs
+pub covered_same : (xs : List ℤ) (first : ℕ) (b : Option Valued) (cs : List PackedCut) (ps : List ℕ) (lows highs : List ℤ) → CoverAll cs ps lows highs → AreInside lows highs xs → walk (λ k b (p : ℕ). greater_valued b (first + p, value_of (packed_cut_at cs p) xs)) 0 b ps ≡ walk (λ i b (c : PackedCut). greater_valued b (i, value_of c xs)) first b cs
 covered_same xs first b cs ps lows highs h box =
-    let f : ℕ → ℤ = λ p. value_of (cut_at cs p) xs in
+    let f : ℕ → ℤ = λ p. value_of (packed_cut_at cs p) xs in
     let n : ℕ = length cs in
     let all : List ℕ = count_from 0 n in
     let start : first + 0 ≡ first = omega arith in
@@ -215,4 +215,4 @@ covered_same xs first b cs ps lows highs h box =
     let part = by_places f first 0 n 0 b ps h.rising in
     sym (same_greatest f b first all ps _ _ (all_inside n ps (covering_below cs ps lows highs h)) (all_covered xs cs ps lows highs h box) whole part)
     ∙ sym (all_places xs f first 0 0 b cs (λ i l. let e : 0 + i ≡ i = omega arith in ap f e))
-    ∙ ap (λ (i : ℕ). walk (λ i b (c : PackedCut). greater b (i, value_of c xs)) i b cs) start
+    ∙ ap (λ (i : ℕ). walk (λ i b (c : PackedCut). greater_valued b (i, value_of c xs)) i b cs) start

@@ -12,8 +12,8 @@ use Rattle.hp_solver.specs.declared.programs.Column.{Column}
 use Rattle.hp_warm_table.specs.Numbers.{bits_of}
 use Rattle.hp_warm_table.proofs.Powers.{power_more}
 use Rattle.hp_warm_scale.specs.Exponents.{reach_of}
-use Rattle.hp_warm_answers.specs.Found.{clamped}
-use Rattle.hp_warm_scan.specs.Values.{state_of}
+use Rattle.hp_warm_answers.specs.Found.{clamped_value}
+use Rattle.hp_warm_scan.specs.Values.{state_number}
 
 -- a number of at most m of k binary digits, where m is less than k
 few_digits : (k n m : ℕ) → k ≤ count_leading_zeros k n + m → m < k → n < 2 ^ m
@@ -35,8 +35,8 @@ box_small c h = (below_bits c.low.0 71 (omega (arith, h)) (omega arith), below_b
 not_below : (x y : ℤ) → int_lt x y ≡ false → y ≤ℤ x
 not_below x y e = grind (arith, ints, common_steps, e)
 
-pub clamped_small : (c : Column) (x : ℤ) (n : ℕ) → nat_abs c.low.0 < n → nat_abs c.high.0 < n → nat_abs (clamped c x).0 < n
-unfolding clamped
+pub clamped_small : (c : Column) (x : ℤ) (n : ℕ) → nat_abs c.low.0 < n → nat_abs c.high.0 < n → nat_abs (clamped_value c x).0 < n
+unfolding clamped_value
 clamped_small c x n l h = by (int_lt x c.low.0) (int_lt c.high.0 x) refl refl
   where
     by : (a b : Bool) → int_lt x c.low.0 ≡ a → int_lt c.high.0 x ≡ b → nat_abs (cond a c.low (cond b c.high (record { 0 = x }))).0 < n
@@ -44,7 +44,7 @@ clamped_small c x n l h = by (int_lt x c.low.0) (int_lt c.high.0 x) refl refl
     by false true e f = h
     by false false e f = omega (arith, ints, l, h, not_below x c.low.0 e, not_below c.high.0 x f)
 
-pub state_fits : (x : Fx) → nat_abs x.0 < 2 ^ 71 → FitsSigned w64 (state_of x)
+pub state_fits : (x : Fx) → nat_abs x.0 < 2 ^ 71 → FitsSigned w64 (state_number x)
 state_fits x h = by x.0 h
   where
     by : (z : ℤ) → nat_abs z < 2 ^ 71 → FitsSigned w64 (floor_over z (2 ^ 8))

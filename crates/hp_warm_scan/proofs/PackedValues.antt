@@ -17,9 +17,9 @@ use Rattle.hp_solver.specs.Covering.{value_of}
 use Rattle.hp_solver.specs.Packed.{at_scale, slope_term, packed_row}
 use Rattle.hp_solver.proofs.Behind.{slice_get-later}
 use Rattle.hp_warm_scale.specs.Walks.{walk}
-use Rattle.hp_warm_scale.specs.Exponents.{Term}
+use Rattle.hp_warm_scale.specs.Exponents.{ColumnTerm}
 use Rattle.hp_warm_scale.specs.Waiting.{last_column, slopes_of, waits, waits_in}
-use Rattle.hp_warm_scan.specs.Values.{height_of, slope_of, plus_slope, cut_value, IsPlain, IsWithin}
+use Rattle.hp_warm_scan.specs.Values.{height_of, slope_of, plus_slope, cut_row_value, IsPlain, IsValueWithin}
 use Rattle.hp_warm_scan.specs.Packed.{short_or_zero, added, with_leaving, leaving_of}
 
 -- a number that 64 bits hold stays
@@ -72,11 +72,11 @@ dot_front (b ∷ bs) (l ∷ ls) (suc n) h = ap (λ (z : ℤ). b *ℤ l +ℤ z) (
 -- one product more
 pub dot_more : (bs ls : List ℤ) (k : ℕ) (s p new whole : ℤ) → k < length bs → length bs ≡ length ls → whole ≡ s +ℤ dot (drop k bs) (drop k ls) → p ≡ entry bs k *ℤ entry ls k → new ≡ s +ℤ p → whole ≡ new +ℤ dot (drop (k + 1) bs) (drop (k + 1) ls)
 dot_more bs ls k s p new whole l n w product is =
-    let rest : ℤ = dot (drop (k + 1) bs) (drop (k + 1) ls) in
+    let tail : ℤ = dot (drop (k + 1) bs) (drop (k + 1) ls) in
     w ∙ ap₂ (λ (us vs : List ℤ). s +ℤ dot us vs) (drop_more bs k (pos 0) l) (drop_more ls k (pos 0) (omega (arith, l, n)))
-    ∙ ap (λ (z : ℤ). s +ℤ (z +ℤ rest)) (sym product)
-    ∙ ring (s ∷ p ∷ rest ∷ []) (var 0 ⊕ (var 1 ⊕ var 2)) ((var 0 ⊕ var 1) ⊕ var 2) tt
-    ∙ ap (λ (z : ℤ). z +ℤ rest) (sym is)
+    ∙ ap (λ (z : ℤ). s +ℤ (z +ℤ tail)) (sym product)
+    ∙ ring (s ∷ p ∷ tail ∷ []) (var 0 ⊕ (var 1 ⊕ var 2)) ((var 0 ⊕ var 1) ⊕ var 2) tt
+    ∙ ap (λ (z : ℤ). z +ℤ tail) (sym is)
 
 -- all slopes times their states, by terms and side by side
 value_walk : (xs bs : List ℤ) (h : ℤ) (j k : ℕ) (ls : List ℤ) (outs : List Out) → length bs ≤ length ls → All (IsPlain xs) (flat_map (slope_term bs) outs) → walk (λ k s t. plus_slope xs s t) j (h +ℤ dot bs ls) (flat_map (slope_term bs) outs) ≡ h +ℤ dot bs (walk (λ k ls (o : Out). with_leaving xs ls o) k ls outs)
@@ -89,11 +89,11 @@ value_walk xs bs h j k ls (o ∷ outs) n p = by (nat_abs (entry bs o.state) == 0
     v : ℤ
     v = short_or_zero (entry xs o.decision)
 
-    t : Term
+    t : ColumnTerm
     t = (o.decision, at_scale (neg_ℤ a))
 
-    rest : List Term
-    rest = flat_map (slope_term bs) outs
+    tail : List ColumnTerm
+    tail = flat_map (slope_term bs) outs
 
     sum : ℤ
     sum = h +ℤ dot bs ls
@@ -104,30 +104,30 @@ value_walk xs bs h j k ls (o ∷ outs) n p = by (nat_abs (entry bs o.state) == 0
     adds : sum +ℤ a *ℤ v ≡ more
     adds = ring (h ∷ dot bs ls ∷ a ∷ v ∷ []) ((var 0 ⊕ var 1) ⊕ var 2 ⊗ var 3) (var 0 ⊕ (var 1 ⊕ var 2 ⊗ var 3)) tt ∙ ap (λ (z : ℤ). h +ℤ z) (sym (dot_added bs ls o.state v n))
 
-    listed : ℕ → ℤ → List Term → ℤ
+    listed : ℕ → ℤ → List ColumnTerm → ℤ
     listed i z ts = walk (λ k s t. plus_slope xs s t) i z ts
 
     whole : ℤ
     whole = h +ℤ dot bs (walk (λ k ls (o : Out). with_leaving xs ls o) (suc k) (with_leaving xs ls o) outs)
 
-    by : (b : Bool) → (nat_abs a == 0) ≡ b → All (IsPlain xs) (cond b [] (t ∷ []) ++ rest) → ((i : ℕ) → All (IsPlain xs) rest → listed i more rest ≡ whole) → listed j sum (cond b [] (t ∷ []) ++ rest) ≡ whole
-    by true e p next = ap (λ (z : ℤ). listed j z rest) (no_step a sum v e ∙ adds) ∙ next j p
+    by : (b : Bool) → (nat_abs a == 0) ≡ b → All (IsPlain xs) (cond b [] (t ∷ []) ++ tail) → ((i : ℕ) → All (IsPlain xs) tail → listed i more tail ≡ whole) → listed j sum (cond b [] (t ∷ []) ++ tail) ≡ whole
+    by true e p next = ap (λ (z : ℤ). listed j z tail) (no_step a sum v e ∙ adds) ∙ next j p
     by false e p next =
         let first : IsPlain xs t = p 0 t (omega arith) in
-        ap (λ (z : ℤ). listed (suc j) z rest) (term_step xs bs o sum first.state ∙ adds) ∙ next (suc j) (λ i d l. p (suc i) d (omega (arith, l)))
+        ap (λ (z : ℤ). listed (suc j) z tail) (term_step xs bs o sum first.state ∙ adds) ∙ next (suc j) (λ i d l. p (suc i) d (omega (arith, l)))
 
 -- the length but one of a list with one item behind it
 but_one : {A : Type 0} (ts : List A) (t : A) → length (ts ++ t ∷ []) - 1 ≡ length ts
 but_one ts t = omega (arith, length-append ts (t ∷ []))
 
-front_terms : (ts : List Term) (t : Term) → slopes_of (ts ++ t ∷ []) ≡ ts
+front_terms : (ts : List ColumnTerm) (t : ColumnTerm) → slopes_of (ts ++ t ∷ []) ≡ ts
 front_terms ts t = ap (λ (n : ℕ). take n (ts ++ t ∷ [])) (but_one ts t) ∙ take-append_seam ts (t ∷ [])
 
-last_there : (ts : List Term) (t : Term) → last_column (ts ++ t ∷ []) ≡ Some t.0
+last_there : (ts : List ColumnTerm) (t : ColumnTerm) → last_column (ts ++ t ∷ []) ≡ Some t.0
 last_there ts t =
     let none : length ts - length ts ≡ 0 = omega arith in
-    ap (λ (n : ℕ). option_map (λ (u : Term). u.0) (slice_get (ts ++ t ∷ []) n)) (but_one ts t)
-    ∙ ap (option_map (λ (u : Term). u.0)) (slice_get-later ts (t ∷ []) (length ts) (omega arith) ∙ ap (λ (n : ℕ). slice_get (t ∷ []) n) none)
+    ap (λ (n : ℕ). option_map (λ (u : ColumnTerm). u.0) (slice_get (ts ++ t ∷ []) n)) (but_one ts t)
+    ∙ ap (option_map (λ (u : ColumnTerm). u.0)) (slice_get-later ts (t ∷ []) (length ts) (omega arith) ∙ ap (λ (n : ℕ). slice_get (t ∷ []) n) none)
 
 -- the column of a cut's successor
 pub packed_column : (outs : List Out) (column : ℕ) (c : PackedCut) → last_column (packed_row outs column c).terms ≡ Some column
@@ -138,15 +138,15 @@ pub packed_waits : (ws : List Bool) (outs : List Out) (column : ℕ) (c : Packed
 unfolding waits
 packed_waits ws outs column c b e = ap (waits_in ws) (packed_column outs column c) ∙ e
 
-pub packed_same : (xs : List ℤ) (outs : List Out) (column : ℕ) (c : PackedCut) (n : ℕ) → length c.slopes ≡ n → n ≤ 50 → IsWithin xs (packed_row outs column c) → cut_value xs (packed_row outs column c) ≡ value_of c (take n (leaving_of xs outs))
-unfolding cut_value leaving_of
+pub packed_same : (xs : List ℤ) (outs : List Out) (column : ℕ) (c : PackedCut) (n : ℕ) → length c.slopes ≡ n → n ≤ 50 → IsValueWithin xs (packed_row outs column c) → cut_row_value xs (packed_row outs column c) ≡ value_of c (take n (leaving_of xs outs))
+unfolding cut_row_value leaving_of
 packed_same xs outs column c n many few w =
-    let ts : List Term = flat_map (slope_term c.slopes) outs in
+    let ts : List ColumnTerm = flat_map (slope_term c.slopes) outs in
     let front : slopes_of (ts ++ (column, one) ∷ []) ≡ ts = front_terms ts (column, one) in
     let zeros : List ℤ = replicate 50 (pos 0) in
     let h : ℤ = c.height *ℤ pos (2 ^ 24) in
     let start : h ≡ h +ℤ dot c.slopes zeros = ring (h ∷ []) (var 0) (var 0 ⊕ num (pos 0)) tt ∙ ap (λ (z : ℤ). h +ℤ z) (sym (dot_zeros c.slopes 50)) in
-    ap (λ (us : List Term). walk (λ k s t. plus_slope xs s t) 0 (height_of (Some (at_scale c.height)) *ℤ pos (2 ^ 24)) us) front
+    ap (λ (us : List ColumnTerm). walk (λ k s t. plus_slope xs s t) 0 (height_of (Some (at_scale c.height)) *ℤ pos (2 ^ 24)) us) front
     ∙ ap (λ (y : ℤ). walk (λ k s t. plus_slope xs s t) 0 (y *ℤ pos (2 ^ 24)) ts) (height_back c.height)
     ∙ ap (λ (y : ℤ). walk (λ k s t. plus_slope xs s t) 0 y ts) start
     ∙ value_walk xs c.slopes h 0 0 zeros outs (omega (arith, many, few, length-replicate 50 (pos 0))) (subst (All (IsPlain xs)) front w.slopes)

@@ -5,12 +5,12 @@ use Rattle.std.proofs.lemmas.List.{drop_more, get_or-drop, get_or_past, get_or_a
 use Rattle.hp_solver.specs.declared.packed.Out.{Out}
 use Rattle.hp_solver.specs.declared.programs.LpRow.{LpRow}
 use Rattle.hp_solver.specs.PackedCut.{PackedCut, no_packed_cut}
-use Rattle.hp_solver.specs.Covering.{value_of, cut_at}
+use Rattle.hp_solver.specs.Covering.{value_of, packed_cut_at}
 use Rattle.hp_solver.specs.Packed.{packed_row, packed_rows}
 use Rattle.hp_simplex.proofs.Each.{some_same}
 use Rattle.hp_warm_scale.specs.Walks.{walk}
 use Rattle.hp_warm_scale.specs.Waiting.{waits}
-use Rattle.hp_warm_scan.specs.Values.{Valued, greater, greatest_step, IsWithin}
+use Rattle.hp_warm_scan.specs.Values.{Valued, greater_valued, greatest_step, IsValueWithin}
 use Rattle.hp_warm_scan.specs.Packed.{leaving_of}
 use Rattle.hp_warm_scan.proofs.Columns.{step_rests, step_in}
 use Rattle.hp_warm_scan.proofs.PackedValues.{packed_column, packed_waits, packed_same}
@@ -48,34 +48,34 @@ pub true_inside : (ws : List Bool) (j n : ℕ) → get_or ws j false ≡ true �
 true_inside ws j n h e = ⊎_elim (λ (a : j < length ws). omega (arith, a, e)) (λ (a : length ws ≤ j). let f : false ≡ true = sym (get_or_past ws j false a) ∙ h in absurd (cc)) (cases_lt j (length ws))
 
 -- one cut more
-pub cut_more : (leaving : List ℤ) (first place : ℕ) (best new whole : Option Valued) (cs : List PackedCut) → place < length cs → whole ≡ walk (λ i b (c : PackedCut). greater b (i, value_of c leaving)) (first + place) best (drop place cs) → new ≡ greater best (first + place, value_of (cut_at cs place) leaving) → whole ≡ walk (λ i b (c : PackedCut). greater b (i, value_of c leaving)) (first + (place + 1)) new (drop (place + 1) cs)
+pub cut_more : (leaving : List ℤ) (first place : ℕ) (best new whole : Option Valued) (cs : List PackedCut) → place < length cs → whole ≡ walk (λ i b (c : PackedCut). greater_valued b (i, value_of c leaving)) (first + place) best (drop place cs) → new ≡ greater_valued best (first + place, value_of (packed_cut_at cs place) leaving) → whole ≡ walk (λ i b (c : PackedCut). greater_valued b (i, value_of c leaving)) (first + (place + 1)) new (drop (place + 1) cs)
 cut_more leaving first place best new whole cs l w e =
-    let step : ℕ → Option Valued → PackedCut → Option Valued = λ i b c. greater b (i, value_of c leaving) in
+    let step : ℕ → Option Valued → PackedCut → Option Valued = λ i b c. greater_valued b (i, value_of c leaving) in
     let n : suc (first + place) ≡ first + (place + 1) = omega arith in
-    w ∙ ap (λ (rest : List PackedCut). walk step (first + place) best rest) (drop_more cs place no_packed_cut l)
+    w ∙ ap (λ (tail : List PackedCut). walk step (first + place) best tail) (drop_more cs place no_packed_cut l)
     ∙ ap₂ (λ (i : ℕ) (b : Option Valued). walk step i b (drop (place + 1) cs)) n (sym e)
 
 -- one cut that waits
-one_cut : (ws : List Bool) (xs : List ℤ) (i : ℕ) (bests : List (Option Valued)) (b : Option Valued) (outs : List Out) (column : ℕ) (c : PackedCut) (n : ℕ) → length c.slopes ≡ n → n ≤ 50 → get_or ws column false ≡ true → column < length bests → IsWithin xs (packed_row outs column c) → greatest_step ws xs i (slice_set bests column b) (packed_row outs column c) ≡ slice_set bests column (greater b (i, value_of c (take n (leaving_of xs outs))))
+one_cut : (ws : List Bool) (xs : List ℤ) (i : ℕ) (bests : List (Option Valued)) (b : Option Valued) (outs : List Out) (column : ℕ) (c : PackedCut) (n : ℕ) → length c.slopes ≡ n → n ≤ 50 → get_or ws column false ≡ true → column < length bests → IsValueWithin xs (packed_row outs column c) → greatest_step ws xs i (slice_set bests column b) (packed_row outs column c) ≡ slice_set bests column (greater_valued b (i, value_of c (take n (leaving_of xs outs))))
 one_cut ws xs i bests b outs column c n many few h l w =
     let r : LpRow = packed_row outs column c in
     let v : Valued = (i, value_of c (take n (leaving_of xs outs))) in
     step_in ws xs i (slice_set bests column b) r column (packed_column outs column c) (packed_waits ws outs column c true h)
-    ∙ ap (λ (x : ℤ). slice_set (slice_set bests column b) column (greater (get_or (slice_set bests column b) column None) (i, x))) (packed_same xs outs column c n many few w)
-    ∙ ap (λ (o : Option Valued). slice_set (slice_set bests column b) column (greater o v)) (get_or-set_same bests column b None l)
-    ∙ set-set bests column b (greater b v)
+    ∙ ap (λ (x : ℤ). slice_set (slice_set bests column b) column (greater_valued (get_or (slice_set bests column b) column None) (i, x))) (packed_same xs outs column c n many few w)
+    ∙ ap (λ (o : Option Valued). slice_set (slice_set bests column b) column (greater_valued o v)) (get_or-set_same bests column b None l)
+    ∙ set-set bests column b (greater_valued b v)
 
-cuts_from : (ws : List Bool) (xs : List ℤ) (i : ℕ) (bests : List (Option Valued)) (b : Option Valued) (outs : List Out) (column n : ℕ) (cs : List PackedCut) → All (λ (c : PackedCut). length c.slopes ≡ n) cs → n ≤ 50 → get_or ws column false ≡ true → column < length bests → All (λ (r : LpRow). waits ws r ≡ true → IsWithin xs r) (map (packed_row outs column) cs) → walk (λ i bests (r : LpRow). greatest_step ws xs i bests r) i (slice_set bests column b) (map (packed_row outs column) cs) ≡ slice_set bests column (walk (λ i b (c : PackedCut). greater b (i, value_of c (take n (leaving_of xs outs)))) i b cs)
+cuts_from : (ws : List Bool) (xs : List ℤ) (i : ℕ) (bests : List (Option Valued)) (b : Option Valued) (outs : List Out) (column n : ℕ) (cs : List PackedCut) → All (λ (c : PackedCut). length c.slopes ≡ n) cs → n ≤ 50 → get_or ws column false ≡ true → column < length bests → All (λ (r : LpRow). waits ws r ≡ true → IsValueWithin xs r) (map (packed_row outs column) cs) → walk (λ i bests (r : LpRow). greatest_step ws xs i bests r) i (slice_set bests column b) (map (packed_row outs column) cs) ≡ slice_set bests column (walk (λ i b (c : PackedCut). greater_valued b (i, value_of c (take n (leaving_of xs outs)))) i b cs)
 cuts_from ws xs i bests b outs column n [] many few h l w = refl
 cuts_from ws xs i bests b outs column n (c ∷ cs) many few h l w =
     let r : LpRow = packed_row outs column c in
-    let within : IsWithin xs r = w 0 r (omega arith) (packed_waits ws outs column c true h) in
+    let within : IsValueWithin xs r = w 0 r (omega arith) (packed_waits ws outs column c true h) in
     let count : length c.slopes ≡ n = many 0 c (omega arith) in
     ap (λ (bs : List (Option Valued)). walk (λ i bests (r : LpRow). greatest_step ws xs i bests r) (suc i) bs (map (packed_row outs column) cs)) (one_cut ws xs i bests b outs column c n count few h l within)
-    ∙ cuts_from ws xs (suc i) bests (greater b (i, value_of c (take n (leaving_of xs outs)))) outs column n cs (λ k d m. many (suc k) d (omega (arith, m))) few h l (λ k d m. w (suc k) d (omega (arith, m)))
+    ∙ cuts_from ws xs (suc i) bests (greater_valued b (i, value_of c (take n (leaving_of xs outs)))) outs column n cs (λ k d m. many (suc k) d (omega (arith, m))) few h l (λ k d m. w (suc k) d (omega (arith, m)))
 
 -- the greatest of a successor's cuts comes into its column
-pub cuts_come : (ws : List Bool) (xs : List ℤ) (i : ℕ) (bests : List (Option Valued)) (outs : List Out) (column n : ℕ) (cs : List PackedCut) → All (λ (c : PackedCut). length c.slopes ≡ n) cs → n ≤ 50 → get_or ws column false ≡ true → column < length bests → All (λ (r : LpRow). waits ws r ≡ true → IsWithin xs r) (map (packed_row outs column) cs) → walk (λ i bests (r : LpRow). greatest_step ws xs i bests r) i bests (map (packed_row outs column) cs) ≡ slice_set bests column (walk (λ i b (c : PackedCut). greater b (i, value_of c (take n (leaving_of xs outs)))) i (get_or bests column None) cs)
+pub cuts_come : (ws : List Bool) (xs : List ℤ) (i : ℕ) (bests : List (Option Valued)) (outs : List Out) (column n : ℕ) (cs : List PackedCut) → All (λ (c : PackedCut). length c.slopes ≡ n) cs → n ≤ 50 → get_or ws column false ≡ true → column < length bests → All (λ (r : LpRow). waits ws r ≡ true → IsValueWithin xs r) (map (packed_row outs column) cs) → walk (λ i bests (r : LpRow). greatest_step ws xs i bests r) i bests (map (packed_row outs column) cs) ≡ slice_set bests column (walk (λ i b (c : PackedCut). greater_valued b (i, value_of c (take n (leaving_of xs outs)))) i (get_or bests column None) cs)
 cuts_come ws xs i bests outs column n cs many few h l w =
     ap (λ (bs : List (Option Valued)). walk (λ i bests (r : LpRow). greatest_step ws xs i bests r) i bs (map (packed_row outs column) cs)) (sym (set-get_or bests column None))
     ∙ cuts_from ws xs i bests (get_or bests column None) outs column n cs many few h l w
@@ -100,19 +100,19 @@ pub successor_more : (ws : List Bool) (xs : List ℤ) (outs : List Out) (first k
 successor_more ws xs outs first k row n whole bests new css cs l is count w e =
     let step : ℕ → List (Option Valued) → LpRow → List (Option Valued) = λ i bests r. greatest_step ws xs i bests r in
     let front : List LpRow = map (packed_row outs (first + k)) cs in
-    let rest : List LpRow = packed_rows outs (first + (k + 1)) (drop (k + 1) css) in
+    let tail : List LpRow = packed_rows outs (first + (k + 1)) (drop (k + 1) css) in
     let column : (first + k) + 1 ≡ first + (k + 1) = omega arith in
     let many : row + length front ≡ row + n = omega (arith, count, length-map cs (packed_row outs (first + k))) in
     w ∙ ap (walk step row bests) (next_rows outs (first + k) k css cs l ∙ ap₂ (λ (us : List PackedCut) (j : ℕ). map (packed_row outs (first + k)) us ++ packed_rows outs j (drop (k + 1) css)) (sym is) column)
-    ∙ walk_append step row bests front rest
-    ∙ ap₂ (λ (i : ℕ) (bs : List (Option Valued)). walk step i bs rest) many (sym e)
+    ∙ walk_append step row bests front tail
+    ∙ ap₂ (λ (i : ℕ) (bs : List (Option Valued)). walk step i bs tail) many (sym e)
 
 -- a property of the rows that are left holds of this successor's
 pub holds_here : (P : LpRow → Type 0) (outs : List Out) (column k : ℕ) (css : List (List PackedCut)) (cs : List PackedCut) → k < length css → cs ≡ get_or css k cs → All P (packed_rows outs column (drop k css)) → All P (map (packed_row outs column) cs)
 holds_here P outs column k css cs l is h =
     let here : List LpRow = map (packed_row outs column) (get_or css k cs) in
-    let rest : List LpRow = packed_rows outs (column + 1) (drop (k + 1) css) in
-    subst (λ (us : List PackedCut). All P (map (packed_row outs column) us)) (sym is) (All-former P here rest (subst (All P) (next_rows outs column k css cs l) h))
+    let tail : List LpRow = packed_rows outs (column + 1) (drop (k + 1) css) in
+    subst (λ (us : List PackedCut). All P (map (packed_row outs column) us)) (sym is) (All-former P here tail (subst (All P) (next_rows outs column k css cs l) h))
 
 -- and of the later ones
 pub holds_later : (P : LpRow → Type 0) (outs : List Out) (first k : ℕ) (css : List (List PackedCut)) (cs : List PackedCut) → k < length css → All P (packed_rows outs (first + k) (drop k css)) → All P (packed_rows outs (first + (k + 1)) (drop (k + 1) css))

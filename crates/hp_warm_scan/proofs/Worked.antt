@@ -4,22 +4,22 @@ use lib.Count.{count_leading_zeros}
 use Rattle.hp_solver.specs.declared.programs.Program.{Program}
 use Rattle.hp_solver.specs.Covering.{value_of}
 use Rattle.hp_solver.specs.Numbers.{number}
-use Rattle.hp_warm_table.specs.declared.table.Table.{Table}
+use Rattle.hp_warm_table.specs.declared.table.WarmTable.{WarmTable}
 use Rattle.hp_warm_table.specs.Numbers.{shift_up, shift_down}
-use Rattle.hp_warm_scale.specs.Scaling.{scaled_value, scaled_cell}
+use Rattle.hp_warm_scale.specs.Scaling.{scaled_quantity, scaled_cell}
 use Rattle.hp_warm_scale.specs.Appending.{scaled_sides, row_scale, scaled_term, scaled_terms, appended_row, appended_cut}
 use Rattle.hp_warm_scale.specs.Waiting.{waits}
-use Rattle.hp_warm_answers.specs.Found.{rounded, clamped, basic_point, points_of}
-use Rattle.hp_warm_scan.specs.Values.{states_of, plus_slope, cut_value, greatest_step, greatest_cuts}
+use Rattle.hp_warm_answers.specs.Found.{rounded, clamped_value, basic_point, points_of}
+use Rattle.hp_warm_scan.specs.Values.{states_of, plus_slope, cut_row_value, greatest_step, greatest_cuts}
 use Rattle.hp_warm_scan.specs.Scan.{scanned, violates_last, with_asked, scan_of}
 
 -- 5 + 10 and 20 - 10, where the state is 10
-value_2 : cut_value (pos 167772160 ∷ pos 0 ∷ pos 0 ∷ []) (record { low = Some (number (pos 21474836480)); high = None; terms = (0, number (negsuc 4294967295)) ∷ (1, number (pos 4294967296)) ∷ [] }) ≡ pos 4222124650659840
-unfolding plus_slope cut_value
+value_2 : cut_row_value (pos 167772160 ∷ pos 0 ∷ pos 0 ∷ []) (record { low = Some (number (pos 21474836480)); high = None; terms = (0, number (negsuc 4294967295)) ∷ (1, number (pos 4294967296)) ∷ [] }) ≡ pos 4222124650659840
+unfolding plus_slope cut_row_value
 value_2 = refl
 
-value_1 : cut_value (pos 167772160 ∷ pos 0 ∷ pos 0 ∷ []) (record { low = Some (number (pos 85899345920)); high = None; terms = (0, number (pos 4294967296)) ∷ (1, number (pos 4294967296)) ∷ [] }) ≡ pos 2814749767106560
-unfolding plus_slope cut_value
+value_1 : cut_row_value (pos 167772160 ∷ pos 0 ∷ pos 0 ∷ []) (record { low = Some (number (pos 85899345920)); high = None; terms = (0, number (pos 4294967296)) ∷ (1, number (pos 4294967296)) ∷ [] }) ≡ pos 2814749767106560
+unfolding plus_slope cut_row_value
 value_1 = refl
 
 -- the latter cut, where it stands side by side with others
@@ -37,7 +37,7 @@ first_of_equals_program =
       own = 1;
     }
 
-abbrev first_of_equals_before : Table
+abbrev first_of_equals_before : WarmTable
 first_of_equals_before =
     record {
       scales = record { rows = negsuc 0 ∷ []; columns = pos 0 ∷ pos 0 ∷ pos 0 ∷ []; costs = negsuc 0; values = pos 0 };
@@ -52,7 +52,7 @@ first_of_equals_before =
       weak = false;
     }
 
-abbrev first_of_equals_after : Table
+abbrev first_of_equals_after : WarmTable
 first_of_equals_after =
     record {
       scales = record { rows = negsuc 0 ∷ negsuc 0 ∷ []; columns = pos 0 ∷ pos 0 ∷ pos 0 ∷ []; costs = negsuc 0; values = pos 0 };
@@ -68,7 +68,7 @@ first_of_equals_after =
     }
 
 first_of_equals : scan_of first_of_equals_program first_of_equals_before ≡ scanned false first_of_equals_after
-unfolding scan_of states_of points_of basic_point rounded clamped waits greatest_cuts greatest_step plus_slope cut_value with_asked violates_last appended_cut appended_row row_scale scaled_terms scaled_term scaled_cell scaled_value scaled_sides shift_up shift_down count_leading_zeros
+unfolding scan_of states_of points_of basic_point rounded clamped_value waits greatest_cuts greatest_step plus_slope cut_row_value with_asked violates_last appended_cut appended_row row_scale scaled_terms scaled_term scaled_cell scaled_quantity scaled_sides shift_up shift_down count_leading_zeros
 first_of_equals = refl
 
 -- a state of 7/3
@@ -81,7 +81,7 @@ basic_state_program =
       own = 1;
     }
 
-abbrev basic_state_before : Table
+abbrev basic_state_before : WarmTable
 basic_state_before =
     record {
       scales = record { rows = negsuc 1 ∷ []; columns = pos 0 ∷ pos 0 ∷ pos 0 ∷ pos 0 ∷ []; costs = negsuc 0; values = pos 0 };
@@ -96,7 +96,7 @@ basic_state_before =
       weak = false;
     }
 
-abbrev basic_state_after : Table
+abbrev basic_state_after : WarmTable
 basic_state_after =
     record {
       scales = record { rows = negsuc 1 ∷ negsuc 0 ∷ negsuc 0 ∷ []; columns = pos 0 ∷ pos 0 ∷ pos 0 ∷ pos 0 ∷ []; costs = negsuc 0; values = pos 0 };
@@ -112,7 +112,7 @@ basic_state_after =
     }
 
 basic_state : scan_of basic_state_program basic_state_before ≡ scanned false basic_state_after
-unfolding scan_of states_of points_of basic_point rounded clamped waits greatest_cuts greatest_step plus_slope cut_value with_asked violates_last appended_cut appended_row row_scale scaled_terms scaled_term scaled_cell scaled_value scaled_sides shift_up shift_down count_leading_zeros
+unfolding scan_of states_of points_of basic_point rounded clamped_value waits greatest_cuts greatest_step plus_slope cut_row_value with_asked violates_last appended_cut appended_row row_scale scaled_terms scaled_term scaled_cell scaled_quantity scaled_sides shift_up shift_down count_leading_zeros
 basic_state = refl
 
 -- the second successor's cut leaves the range of sides; what came in before it stays
@@ -125,7 +125,7 @@ stops_program =
       own = 1;
     }
 
-abbrev stops_before : Table
+abbrev stops_before : WarmTable
 stops_before =
     record {
       scales = record { rows = negsuc 0 ∷ []; columns = pos 0 ∷ pos 0 ∷ pos 0 ∷ []; costs = negsuc 0; values = pos 0 };
@@ -140,7 +140,7 @@ stops_before =
       weak = false;
     }
 
-abbrev stops_after : Table
+abbrev stops_after : WarmTable
 stops_after =
     record {
       scales = record { rows = negsuc 0 ∷ negsuc 0 ∷ []; columns = pos 0 ∷ pos 0 ∷ pos 0 ∷ []; costs = negsuc 0; values = pos 0 };
@@ -156,5 +156,5 @@ stops_after =
     }
 
 stops : scan_of stops_program stops_before ≡ scanned true stops_after
-unfolding scan_of states_of points_of basic_point rounded clamped waits greatest_cuts greatest_step plus_slope cut_value with_asked violates_last appended_cut appended_row row_scale scaled_terms scaled_term scaled_cell scaled_value scaled_sides shift_up shift_down count_leading_zeros
+unfolding scan_of states_of points_of basic_point rounded clamped_value waits greatest_cuts greatest_step plus_slope cut_row_value with_asked violates_last appended_cut appended_row row_scale scaled_terms scaled_term scaled_cell scaled_quantity scaled_sides shift_up shift_down count_leading_zeros
 stops = refl

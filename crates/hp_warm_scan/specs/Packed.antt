@@ -3,7 +3,7 @@ use Rattle.std.specs.Prelude.{ℕ, ◌+◌, ◌^◌, ℤ, pos, negsuc, ◌+ℤ�
 use Rattle.hp_num.specs.Sums.{entry}
 use Rattle.hp_solver.specs.declared.packed.Out.{Out}
 use Rattle.hp_warm_scale.specs.Walks.{walk}
-use Rattle.hp_warm_scan.specs.Values.{Valued, greater}
+use Rattle.hp_warm_scan.specs.Values.{Valued, greater_valued}
 
 -- give the number, or 0 where 64 bits do not hold it
 abbrev pub short_or_zero : ℤ → ℤ
@@ -23,10 +23,10 @@ unfoldable pub leaving_of : List ℤ → List Out → List ℤ
 leaving_of xs outs = walk (λ k ls (o : Out). with_leaving xs ls o) 0 (replicate 50 (pos 0)) outs
 
 -- by a cut's number give the program's row of the place with that number in a list
-abbrev pub with_row : ℕ → List ℕ → Valued → Valued
-with_row first places v = (first + get_or places v.0 0, v.1)
+abbrev pub with_program_row : ℕ → List ℕ → Valued → Valued
+with_program_row first places v = (first + get_or places v.0 0, v.1)
 
 -- keep the greater of the greatest so far and another, where there is one
 abbrev pub greater_or : Option Valued → Option Valued → Option Valued
 greater_or best None = best
-greater_or best (Some v) = greater best v
+greater_or best (Some v) = greater_valued best v

@@ -1,12 +1,12 @@
 -- The contracts of a scan in place.
 use Rattle.std.specs.Prelude.{◌≡◌, ◌<◌, Bool, true, false, List, length, take, Option, Some, None}
-use Rattle.hp_warm_table.specs.declared.table.Table.{Table}
+use Rattle.hp_warm_table.specs.declared.table.WarmTable.{WarmTable}
 use Rattle.hp_warm_scan.specs.declared.scanning.Scan.{Scan}
 use Rattle.hp_warm_scan.specs.declared.scanning.Scan.TheVariants as scans
 use Rattle.hp_warm_scan.specs.Scan.{Scanned}
 
 -- the table with what another has for each row
-abbrev pub with_rows_of : Table → Table → Table
+abbrev pub with_rows_of : WarmTable → WarmTable → WarmTable
 with_rows_of new old = record old {
   scales = record old.scales { rows = new.scales.rows };
   rows = new.rows;
@@ -20,8 +20,8 @@ abbrev pub Begins : {A : Type 0} → List A → List A → Type 0
 Begins old new = take (length old) new ≡ old
 
 -- the table grows by rows behind those that it had, and is the same otherwise
-pub record Grows (old new : Table) : Type 0 where
-  pub rest : new ≡ with_rows_of new old
+pub record Grows (old new : WarmTable) : Type 0 where
+  pub tail : new ≡ with_rows_of new old
   pub rows : Begins old.rows new.rows
   pub cuts : Begins old.cuts.rows new.cuts.rows
   pub scales : Begins old.scales.rows new.scales.rows
@@ -32,12 +32,12 @@ pub record Grows (old new : Table) : Type 0 where
   pub places : Begins old.basis.places new.basis.places
 
 -- whether there is a new table; where it is absent the old one stays
-abbrev pub Asks : Bool → Option Table → Table → Table → Type 0
+abbrev pub Asks : Bool → Option WarmTable → WarmTable → WarmTable → Type 0
 Asks true made old new = made ≡ Some new
 Asks false made old new = (made ≡ None) × (new ≡ old)
 
 -- the scan leaves the new table
-abbrev pub Scans : Scan → Scanned → Table → Table → Type 0
+abbrev pub Scans : Scan → Scanned → WarmTable → WarmTable → Type 0
 Scans scans.Adds s old new = (s.stopped ≡ false) × (new ≡ s.table) × (length old.rows < length new.rows)
 Scans scans.Rests s old new = (s.stopped ≡ false) × (new ≡ s.table) × (length new.rows ≡ length old.rows)
 Scans scans.Stops s old new = (s.stopped ≡ true) × (new ≡ s.table)

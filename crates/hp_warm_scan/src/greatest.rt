@@ -5,7 +5,7 @@ ghost use Rattle.hp_solver.specs.Proper.{IsProper};
 ghost use Rattle.hp_solver.specs.declared.programs.LpRow.{LpRow};
 ghost use Rattle.hp_warm_scale.specs.Walks.{walk};
 ghost use Rattle.hp_warm_scale.specs.Waiting.{last_column, waits};
-ghost use Rattle.hp_warm_scan.specs.Values.{is_greater, greatest_step, greatest_cuts, AreWithin, AreCuts, IsWithin};
+ghost use Rattle.hp_warm_scan.specs.Values.{is_value_greater, greatest_step, greatest_cuts, AreWaitingCutsWithin, AreBestCuts, IsValueWithin};
 
 use crate::packed::{Lookup, take_packed, write_leaving};
 use crate::values::cut_value;
@@ -15,7 +15,7 @@ use hp_warm_scale::waiting::last_column;
 
 // Tells whether a value is above the greatest so far.
 pub(crate) fn is_greater(best: &Option<(usize, i128)>, value: i128) -> bool
-    ensures { result ≡ is_greater best.now value }
+    ensures { result ≡ is_value_greater best.now value }
 {
     match best {
         None => true,
@@ -34,7 +34,7 @@ fn take_row(
 )
     requires column { IfSome (last_column row.now.terms) (λ j. j < length greatest.old) }
     requires waiting { length waiting.now ≡ length greatest.old }
-    requires within { waits waiting.now row.now ≡ true → IsWithin states.now row.now }
+    requires within { waits waiting.now row.now ≡ true → IsValueWithin states.now row.now }
     ensures value { greatest.new ≡ greatest_step waiting.now states.now i greatest.old row.now }
     ensures count { length greatest.new ≡ length greatest.old }
 {
@@ -53,7 +53,7 @@ fn take_rows(greatest: &mut [Option<(usize, i128)>], lookup: &Lookup, cuts: &[Lp
     requires few { lookup.now.first + length cuts.now < 2 ^ 64 }
     requires columns { All (λ (r : LpRow). IfSome (last_column r.terms) (λ j. j < length greatest.old)) cuts.now }
     requires waiting { length lookup.now.waiting.now ≡ length greatest.old }
-    requires within { All (λ (r : LpRow). waits lookup.now.waiting.now r ≡ true → IsWithin lookup.now.states.now r) cuts.now }
+    requires within { All (λ (r : LpRow). waits lookup.now.waiting.now r ≡ true → IsValueWithin lookup.now.states.now r) cuts.now }
     ensures value { greatest.new ≡ walk (λ i bests (r : LpRow). greatest_step lookup.now.waiting.now lookup.now.states.now i bests r) lookup.now.first greatest.old cuts.now }
     ensures count { length greatest.new ≡ length greatest.old }
 {
@@ -86,7 +86,7 @@ fn take_written(
 ) -> Result<(), Memory>
     requires columns { All (λ (r : LpRow). IfSome (last_column r.terms) (λ j. j < length greatest.old)) (drop lookup.now.first lp.now.rows) }
     requires waiting { length lookup.now.waiting.now ≡ length greatest.old }
-    requires within { All (λ (r : LpRow). waits lookup.now.waiting.now r ≡ true → IsWithin lookup.now.states.now r) (drop lookup.now.first lp.now.rows) }
+    requires within { All (λ (r : LpRow). waits lookup.now.waiting.now r ≡ true → IsValueWithin lookup.now.states.now r) (drop lookup.now.first lp.now.rows) }
     ensures value { OnOk result (greatest.new ≡ walk (λ i bests (r : LpRow). greatest_step lookup.now.waiting.now lookup.now.states.now i bests r) lookup.now.first greatest.old (drop lookup.now.first lp.now.rows)) }
     ensures count { length greatest.new ≡ length greatest.old }
 {
@@ -111,7 +111,7 @@ fn take_view(
     requires rows { lookup.now.first + length (rows_of view.now) < 2 ^ 64 }
     requires columns { All (λ (r : LpRow). IfSome (last_column r.terms) (λ j. j < length greatest.old)) (drop lookup.now.first lp.now.rows) }
     requires waiting { length lookup.now.waiting.now ≡ length greatest.old }
-    requires within { All (λ (r : LpRow). waits lookup.now.waiting.now r ≡ true → IsWithin lookup.now.states.now r) (drop lookup.now.first lp.now.rows) }
+    requires within { All (λ (r : LpRow). waits lookup.now.waiting.now r ≡ true → IsValueWithin lookup.now.states.now r) (drop lookup.now.first lp.now.rows) }
     ensures value { OnOk result (greatest.new ≡ walk (λ i bests (r : LpRow). greatest_step lookup.now.waiting.now lookup.now.states.now i bests r) lookup.now.first greatest.old (drop lookup.now.first lp.now.rows)) }
     ensures count { length greatest.new ≡ length greatest.old }
 {
@@ -136,7 +136,7 @@ fn take_all(
     requires proper { IsProper lp.now }
     requires blank { greatest.old ≡ replicate (length lp.now.columns) None }
     requires waiting { length waiting.now ≡ length lp.now.columns }
-    requires within { AreWithin waiting.now states.now lp.now }
+    requires within { AreWaitingCutsWithin waiting.now states.now lp.now }
     ensures value { OnOk result (greatest.new ≡ greatest_cuts lp.now waiting.now states.now) }
     ensures count { length greatest.new ≡ length greatest.old }
 {
@@ -178,9 +178,9 @@ pub fn write_greatest(
 ) -> Result<(), Memory>
     requires proper { IsProper lp.now }
     requires waiting { length waiting.now ≡ length lp.now.columns }
-    requires within { AreWithin waiting.now states.now lp.now }
+    requires within { AreWaitingCutsWithin waiting.now states.now lp.now }
     ensures value { OnOk result (greatest.new ≡ greatest_cuts lp.now waiting.now states.now) }
-    ensures cuts { OnOk result (AreCuts lp.now greatest.new) }
+    ensures cuts { OnOk result (AreBestCuts lp.now greatest.new) }
 {
     clear(greatest, lp.columns().len())?;
     take_all(greatest.as_mut_slice(), waiting, states, lp, leaving, row)

@@ -4,13 +4,13 @@ ghost use Rattle.std.specs.Option.{option_map};
 ghost use Rattle.hp_num.specs.Sums.{entry, dot};
 ghost use Rattle.hp_solver.specs.PackedCut.{PackedCut};
 ghost use Rattle.hp_solver.specs.Packed.{packed_row, rows_of, IsView};
-ghost use Rattle.hp_solver.specs.Covering.{value_of, cut_at, AreInside};
+ghost use Rattle.hp_solver.specs.Covering.{value_of, packed_cut_at, AreInside};
 ghost use Rattle.hp_solver.specs.declared.packed.Out.{Out};
 ghost use Rattle.hp_solver.specs.declared.programs.LpRow.{LpRow};
 ghost use Rattle.hp_warm_scale.specs.Walks.{walk};
 ghost use Rattle.hp_warm_scale.specs.Waiting.{waits};
-ghost use Rattle.hp_warm_scan.specs.Values.{greater, greatest_step, IsWithin};
-ghost use Rattle.hp_warm_scan.specs.Packed.{short_or_zero, added, with_leaving, leaving_of, with_row, greater_or};
+ghost use Rattle.hp_warm_scan.specs.Values.{greater_valued, greatest_step, IsValueWithin};
+ghost use Rattle.hp_warm_scan.specs.Packed.{short_or_zero, added, with_leaving, leaving_of, with_program_row, greater_or};
 
 use crate::greatest::is_greater;
 use crate::values::{plus, product, raised};
@@ -128,14 +128,14 @@ fn packed_value(height: i128, slopes: &[i64], leaving: &[i64]) -> i128
 fn value_at(cuts: &CutList, place: usize, leaving: &[i64]) -> i128
     requires there { place < length cuts.now }
     requires counts { All (λ (c : PackedCut). length c.slopes ≡ length leaving.now) cuts.now }
-    ensures { result ≡ value_of (cut_at cuts.now place) leaving.now }
+    ensures { result ≡ value_of (packed_cut_at cuts.now place) leaving.now }
 {
     packed_value(cuts.height(place), cuts.slopes(place), leaving)
 }
 
 // Keeps the greater of the greatest so far and the value of a row, of equals the former.
 fn greater(best: Option<(usize, i128)>, row: usize, value: i128) -> Option<(usize, i128)>
-    ensures { result ≡ greater best (row, value) }
+    ensures { result ≡ greater_valued best (row, value) }
 {
     if is_greater(&best, value) {
         Some((row, value))
@@ -153,7 +153,7 @@ fn take_cuts(
 ) -> Option<(usize, i128)>
     requires rows { first + length cuts.now < 2 ^ 64 }
     requires counts { All (λ (c : PackedCut). length c.slopes ≡ length leaving.now) cuts.now }
-    ensures { result ≡ walk (λ i b (c : PackedCut). greater b (i, value_of c leaving.now)) first best cuts.now }
+    ensures { result ≡ walk (λ i b (c : PackedCut). greater_valued b (i, value_of c leaving.now)) first best cuts.now }
 {
     let mut best = best;
     for place in 0..cuts.len() {
@@ -164,7 +164,7 @@ fn take_cuts(
 
 // Keeps the greater of a cut's number with its value and another, of equals the former.
 fn greater_of(best: (usize, i128), number: usize, value: i128) -> (usize, i128)
-    ensures { Some result ≡ greater (Some best) (number, value) }
+    ensures { Some result ≡ greater_valued (Some best) (number, value) }
 {
     if best.1 < value {
         (number, value)
@@ -176,7 +176,7 @@ fn greater_of(best: (usize, i128), number: usize, value: i128) -> (usize, i128)
 // Finds the greatest of a cut's number with its value and of the cuts from number `from` on.
 fn greatest_from(best: (usize, i128), from: usize, cuts: &CutList, leaving: &[i64]) -> (usize, i128)
     requires counts { All (λ (c : PackedCut). length c.slopes ≡ length leaving.now) cuts.now }
-    ensures { Some result ≡ walk (λ i b (c : PackedCut). greater b (i, value_of c leaving.now)) from (Some best) (drop from cuts.now) }
+    ensures { Some result ≡ walk (λ i b (c : PackedCut). greater_valued b (i, value_of c leaving.now)) from (Some best) (drop from cuts.now) }
 {
     let mut best = best;
     for k in from..cuts.len() {
@@ -188,7 +188,7 @@ fn greatest_from(best: (usize, i128), from: usize, cuts: &CutList, leaving: &[i6
 // Finds the number and the value of the greatest of some cuts.
 fn greatest_of(cuts: &CutList, leaving: &[i64]) -> Option<(usize, i128)>
     requires counts { All (λ (c : PackedCut). length c.slopes ≡ length leaving.now) cuts.now }
-    ensures { result ≡ walk (λ i b (c : PackedCut). greater b (i, value_of c leaving.now)) 0 None cuts.now }
+    ensures { result ≡ walk (λ i b (c : PackedCut). greater_valued b (i, value_of c leaving.now)) 0 None cuts.now }
 {
     if cuts.len() == 0 {
         return None;
@@ -219,7 +219,7 @@ fn take_active(
 ) -> Option<(usize, i128)>
     requires rows { All (λ (p : ℕ). first + p < 2 ^ 64) places.now }
     requires counts { All (λ (c : PackedCut). length c.slopes ≡ length leaving.now) cuts.now }
-    ensures { result ≡ greater_or best (option_map (with_row first places.now) (walk (λ i b (c : PackedCut). greater b (i, value_of c leaving.now)) 0 None cuts.now)) }
+    ensures { result ≡ greater_or best (option_map (with_program_row first places.now) (walk (λ i b (c : PackedCut). greater_valued b (i, value_of c leaving.now)) 0 None cuts.now)) }
 {
     match greatest_of(cuts, leaving) {
         Some((number, value)) => greater(best, row_of(first, places, number), value),
@@ -260,7 +260,7 @@ fn take_best(
 ) -> Option<(usize, i128)>
     requires rows { first + length cuts.now < 2 ^ 64 }
     requires counts { All (λ (c : PackedCut). length c.slopes ≡ length leaving.now) cuts.now }
-    ensures { result ≡ walk (λ i b (c : PackedCut). greater b (i, value_of c leaving.now)) first best cuts.now }
+    ensures { result ≡ walk (λ i b (c : PackedCut). greater_valued b (i, value_of c leaving.now)) first best cuts.now }
 {
     if let Some(active) = cuts.active() {
         if are_inside(active.lows, active.highs, leaving) {
@@ -298,7 +298,7 @@ fn take_successor(
     requires rows { lookup.now.first + length cuts.now < 2 ^ 64 }
     requires leaving { leaving.now ≡ leaving_of lookup.now.states.now outs.now }
     requires waiting { length lookup.now.waiting.now ≡ length greatest.old }
-    requires within { All (λ (r : LpRow). waits lookup.now.waiting.now r ≡ true → IsWithin lookup.now.states.now r) (map (packed_row outs.now column) cuts.now) }
+    requires within { All (λ (r : LpRow). waits lookup.now.waiting.now r ≡ true → IsValueWithin lookup.now.states.now r) (map (packed_row outs.now column) cuts.now) }
     ensures value { greatest.new ≡ walk (λ i bests (r : LpRow). greatest_step lookup.now.waiting.now lookup.now.states.now i bests r) lookup.now.first greatest.old (map (packed_row outs.now column) cuts.now) }
     ensures count { length greatest.new ≡ length greatest.old }
 {
@@ -320,7 +320,7 @@ pub(crate) fn take_packed(
     requires count { length leaving.now ≡ 50 }
     requires leaving { leaving.now ≡ leaving_of lookup.now.states.now view.now.outs }
     requires waiting { length lookup.now.waiting.now ≡ length greatest.old }
-    requires within { All (λ (r : LpRow). waits lookup.now.waiting.now r ≡ true → IsWithin lookup.now.states.now r) (rows_of view.now) }
+    requires within { All (λ (r : LpRow). waits lookup.now.waiting.now r ≡ true → IsValueWithin lookup.now.states.now r) (rows_of view.now) }
     ensures value { greatest.new ≡ walk (λ i bests (r : LpRow). greatest_step lookup.now.waiting.now lookup.now.states.now i bests r) lookup.now.first greatest.old (rows_of view.now) }
     ensures count { length greatest.new ≡ length greatest.old }
 {

@@ -5,12 +5,12 @@ ghost use Rattle.std.specs.Option.{option_map};
 ghost use Rattle.hp_solver.specs.Proper.{IsProper, AreRising};
 ghost use Rattle.hp_warm_table.specs.Shape.{IsTable};
 ghost use Rattle.hp_warm_table.specs.Shape as shape;
-ghost use Rattle.hp_warm_scale.specs.Walks.{Gives};
+ghost use Rattle.hp_warm_scale.specs.Walks.{GivesWalked};
 ghost use Rattle.hp_warm_scale.specs.Scaling.{AreSmall};
 ghost use Rattle.hp_warm_scale.specs.Fitting.{Fits};
-ghost use Rattle.hp_warm_scale.specs.Appending.{with_row, with_cut, appended_row, appended_cut};
-ghost use Rattle.hp_warm_scan.specs.Values.{states_of, greatest_cuts, IsCut, AreCuts};
-ghost use Rattle.hp_warm_scan.specs.Scan.{scanned, is_below, where_violated, with_asked, asked_by, asked_for, scan_of};
+ghost use Rattle.hp_warm_scale.specs.Appending.{with_appended_row, with_cut, appended_row, appended_cut};
+ghost use Rattle.hp_warm_scan.specs.Values.{states_of, greatest_cuts, IsCutRow, AreBestCuts};
+ghost use Rattle.hp_warm_scan.specs.Scan.{scanned, is_value_below, where_violated, with_asked, asked_by, asked_for, scan_of};
 ghost use Rattle.hp_warm_scan.specs.Steps.{Grows, Asks, Scans};
 
 use crate::greatest::write_greatest;
@@ -21,7 +21,7 @@ use hp_warm_answers::found::points;
 use hp_warm_line::sums::row_value;
 use hp_warm_scale::appending::{put_row, row_scale, scale_terms};
 use hp_warm_scale::sides::{Sides, scaled_sides};
-use hp_warm_table::{Coefficient, Quantity, Table};
+use hp_warm_table::{Coefficient, Quantity, WarmTable};
 use std::alloc::Global;
 use std::marker::Model;
 
@@ -42,7 +42,7 @@ pub struct Room {
     work: ScanWork,
 }
 
-// What a scan works out on its way, from the point of the table to the rows that come in.
+// Numbers that a scan works out on its way, from the point of the table to the rows that come in.
 #[derive(Drop)]
 struct ScanWork {
     // The point of the table.
@@ -98,7 +98,7 @@ fn is_in(rows: &[usize], row: usize) -> bool
 
 // Tells whether the value of a row is below its lower side by more than may be passed. It is not where the value is no quantity.
 fn is_below(low: Quantity, value: Option<Quantity>) -> bool
-    ensures { result ≡ is_below low value }
+    ensures { result ≡ is_value_below low value }
 {
     match value {
         None => false,
@@ -108,7 +108,7 @@ fn is_below(low: Quantity, value: Option<Quantity>) -> bool
 
 // Puts the row of a cut behind the others, which is the program's row i.
 fn put_cut(
-    table: &mut Table,
+    table: &mut WarmTable,
     i: usize,
     exponent: i32,
     terms: &[(u32, Coefficient)],
@@ -116,11 +116,11 @@ fn put_cut(
     lp: &StageLp,
 ) -> Result<(), Memory>
     requires fits { Fits table.old lp.now }
-    requires cut { IsCut lp.now i }
-    requires rising { shape.AreRising 0 (length table.old.costs) terms.now }
+    requires cut { IsCutRow lp.now i }
+    requires rising { shape.AreTermsRising 0 (length table.old.costs) terms.now }
     requires least { negsuc 1299 ≤ℤ exponent }
     requires greatest { exponent ≤ℤ pos 1300 }
-    ensures value { OnOk result (table.new ≡ with_cut i (with_row exponent terms.now sides table.old)) }
+    ensures value { OnOk result (table.new ≡ with_cut i (with_appended_row exponent terms.now sides table.old)) }
     ensures fits { OnOk result (Fits table.new lp.now) }
     ensures grows { OnOk result (Grows table.old table.new) }
 {
@@ -131,7 +131,7 @@ fn put_cut(
 
 // Puts the row of a cut behind the others, where the point violates it.
 fn put_violated(
-    table: &mut Table,
+    table: &mut WarmTable,
     i: usize,
     exponent: i32,
     terms: &[(u32, Coefficient)],
@@ -139,11 +139,11 @@ fn put_violated(
     lp: &StageLp,
 ) -> Result<(), Memory>
     requires fits { Fits table.old lp.now }
-    requires cut { IsCut lp.now i }
-    requires rising { shape.AreRising 0 (length table.old.costs) terms.now }
+    requires cut { IsCutRow lp.now i }
+    requires rising { shape.AreTermsRising 0 (length table.old.costs) terms.now }
     requires least { negsuc 1299 ≤ℤ exponent }
     requires greatest { exponent ≤ℤ pos 1300 }
-    ensures value { OnOk result (where_violated table.old (Some (with_cut i (with_row exponent terms.now sides table.old))) ≡ Some table.new) }
+    ensures value { OnOk result (where_violated table.old (Some (with_cut i (with_appended_row exponent terms.now sides table.old))) ≡ Some table.new) }
     ensures fits { OnOk result (Fits table.new lp.now) }
     ensures grows { OnOk result (Grows table.old table.new) }
 {
@@ -157,15 +157,15 @@ fn put_violated(
 // Finds the exponent and the sides of a row of a program, whose terms are written scaled. None where a number leaves its range.
 #[tactic(auto, unfolding(hp_warm_scale::specs::Appending::appended_row))]
 fn scale_row(
-    table: &Table,
+    table: &WarmTable,
     row: &LpRow,
     scaled: &mut List<(u32, Coefficient)>,
 ) -> Result<Option<(i32, Sides)>, Memory>
     requires whole { IsTable table.now }
     requires small { AreSmall 1000 table.now.scales }
     requires rising { AreRising 0 (length table.now.costs) row.now.terms }
-    ensures value { IfOk result (λ made. appended_row row.now table.now ≡ option_map (λ m. with_row m.0 scaled.new m.1 table.now) made) }
-    ensures rising { IfOk result (λ made. OnSome made (shape.AreRising 0 (length table.now.costs) scaled.new)) }
+    ensures value { IfOk result (λ made. appended_row row.now table.now ≡ option_map (λ m. with_appended_row m.0 scaled.new m.1 table.now) made) }
+    ensures rising { IfOk result (λ made. OnSome made (shape.AreTermsRising 0 (length table.now.costs) scaled.new)) }
     ensures least { IfOk result (λ made. IfSome made (λ m. negsuc 1299 ≤ℤ m.0)) }
     ensures greatest { IfOk result (λ made. IfSome made (λ m. m.0 ≤ℤ pos 1300)) }
 {
@@ -185,13 +185,13 @@ fn scale_row(
 #[tactic(auto, unfolding(hp_warm_scale::specs::Appending::appended_cut))]
 fn add_violated(
     lp: &StageLp,
-    table: &mut Table,
+    table: &mut WarmTable,
     i: usize,
     row: &LpRow,
     scaled: &mut List<(u32, Coefficient)>,
 ) -> Result<bool, Memory>
     requires fits { Fits table.old lp.now }
-    requires cut { IsCut lp.now i }
+    requires cut { IsCutRow lp.now i }
     requires rising { AreRising 0 (length table.old.costs) row.now.terms }
     ensures value { IfOk result (λ whole. Asks whole (where_violated table.old (appended_cut i row.now table.old)) table.old table.new) }
     ensures fits { OnOk result (Fits table.new lp.now) }
@@ -208,10 +208,15 @@ fn add_violated(
 
 // Brings in the cut that is the program's row i, where it is not in yet and the point violates it.
 #[tactic(auto, unfolding(crate::specs::Scan::with_asked))]
-fn ask_for(lp: &StageLp, table: &mut Table, i: usize, added: &mut AddedRow) -> Result<bool, Memory>
+fn ask_for(
+    lp: &StageLp,
+    table: &mut WarmTable,
+    i: usize,
+    added: &mut AddedRow,
+) -> Result<bool, Memory>
     requires proper { IsProper lp.now }
     requires fits { Fits table.old lp.now }
-    requires cut { IsCut lp.now i }
+    requires cut { IsCutRow lp.now i }
     ensures value { IfOk result (λ whole. Asks whole (with_asked lp.now i table.old) table.old table.new) }
     ensures fits { OnOk result (Fits table.new lp.now) }
     ensures grows { OnOk result (Grows table.old table.new) }
@@ -227,13 +232,13 @@ fn ask_for(lp: &StageLp, table: &mut Table, i: usize, added: &mut AddedRow) -> R
 // Adds the greatest cut of a column, where there is one and the point violates it.
 fn ask(
     lp: &StageLp,
-    table: &mut Table,
+    table: &mut WarmTable,
     best: Option<(usize, i128)>,
     added: &mut AddedRow,
 ) -> Result<bool, Memory>
     requires proper { IsProper lp.now }
     requires fits { Fits table.old lp.now }
-    requires cut { IfSome best (λ v. IsCut lp.now v.0) }
+    requires cut { IfSome best (λ v. IsCutRow lp.now v.0) }
     ensures value { IfOk result (λ whole. Asks whole (asked_by lp.now best table.old) table.old table.new) }
     ensures fits { OnOk result (Fits table.new lp.now) }
     ensures grows { OnOk result (Grows table.old table.new) }
@@ -247,13 +252,13 @@ fn ask(
 // Adds the greatest cuts of all columns, where the point violates them, one after the other, until a number leaves its range.
 fn ask_all(
     lp: &StageLp,
-    table: &mut Table,
+    table: &mut WarmTable,
     greatest: &[Option<(usize, i128)>],
     added: &mut AddedRow,
 ) -> Result<bool, Memory>
     requires proper { IsProper lp.now }
     requires fits { Fits table.old lp.now }
-    requires cuts { AreCuts lp.now greatest.now }
+    requires cuts { AreBestCuts lp.now greatest.now }
     ensures value { IfOk result (λ whole. asked_for lp.now greatest.now table.old ≡ scanned (not whole) table.new) }
     ensures fits { OnOk result (Fits table.new lp.now) }
     ensures grows { OnOk result (Grows table.old table.new) }
@@ -269,13 +274,13 @@ fn ask_all(
 // Brings in the greatest cuts of all columns, where the point violates them.
 fn bring_in(
     lp: &StageLp,
-    table: &mut Table,
+    table: &mut WarmTable,
     greatest: &[Option<(usize, i128)>],
     added: &mut AddedRow,
 ) -> Result<Scan, Memory>
     requires proper { IsProper lp.now }
     requires fits { Fits table.old lp.now }
-    requires cuts { AreCuts lp.now greatest.now }
+    requires cuts { AreBestCuts lp.now greatest.now }
     ensures value { IfOk result (λ scan. Scans scan (asked_for lp.now greatest.now table.old) table.old table.new) }
     ensures fits { OnOk result (Fits table.new lp.now) }
     ensures grows { OnOk result (Grows table.old table.new) }
@@ -293,11 +298,11 @@ fn bring_in(
 
 // Writes for each column the greatest of its cuts that wait. False where a number on the way leaves 128 bits.
 #[tactic(auto, unfolding(crate::specs::Values::states_of))]
-fn look_up(lp: &StageLp, table: &Table, work: &mut ScanWork) -> Result<bool, Memory>
+fn look_up(lp: &StageLp, table: &WarmTable, work: &mut ScanWork) -> Result<bool, Memory>
     requires proper { IsProper lp.now }
     requires fits { Fits table.now lp.now }
-    ensures value { IfOk result (λ whole. Gives whole (option_map (greatest_cuts lp.now table.now.cuts.waiting) (states_of table.now lp.now)) work.new.greatest) }
-    ensures cuts { IfOk result (λ whole. whole ≡ true → AreCuts lp.now work.new.greatest) }
+    ensures value { IfOk result (λ whole. GivesWalked whole (option_map (greatest_cuts lp.now table.now.cuts.waiting) (states_of table.now lp.now)) work.new.greatest) }
+    ensures cuts { IfOk result (λ whole. whole ≡ true → AreBestCuts lp.now work.new.greatest) }
 {
     if !points(table, lp, &mut work.point)? {
         return Ok(false);
@@ -317,7 +322,7 @@ fn look_up(lp: &StageLp, table: &Table, work: &mut ScanWork) -> Result<bool, Mem
 /// Brings in the greatest waiting cut of each successor at the point of a table, where it is not in yet and the point
 /// violates it. [`Memory`] where memory was refused: nothing is promised of the table then.
 #[tactic(auto, unfolding(crate::specs::Scan::scan_of))]
-pub fn scan_cuts(lp: &StageLp, table: &mut Table, room: &mut Room) -> Result<Scan, Memory>
+pub fn scan_cuts(lp: &StageLp, table: &mut WarmTable, room: &mut Room) -> Result<Scan, Memory>
     requires proper { IsProper lp.now }
     requires fits { Fits table.old lp.now }
     ensures value { IfOk result (λ scan. Scans scan (scan_of lp.now table.old) table.old table.new) }

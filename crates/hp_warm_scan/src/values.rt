@@ -3,7 +3,7 @@ ghost use Rattle.std.specs.Prelude.{◌≡◌, ◌^◌, ◌+◌, ◌<◌, ◌≤
 ghost use Rattle.std.specs.Int.{w64};
 ghost use Rattle.hp_num.specs.Sums.{floor_over};
 ghost use Rattle.hp_warm_scale.specs.Walks.{walk};
-ghost use Rattle.hp_warm_scan.specs.Values.{state_of, height_of, slope_of, plus_slope, cut_value, IsPlain, IsWithin};
+ghost use Rattle.hp_warm_scan.specs.Values.{state_number, height_of, slope_of, plus_slope, cut_row_value, IsPlain, IsValueWithin};
 
 use hp_num::{List, Memory};
 use hp_solver::{Fx, LpRow};
@@ -108,10 +108,10 @@ fn height(low: Option<Fx>) -> i128
 }
 
 /// Finds the value of a cut at some states, at the scale 2^48.
-#[tactic(auto, unfolding(crate::specs::Values::cut_value))]
+#[tactic(auto, unfolding(crate::specs::Values::cut_row_value))]
 pub fn cut_value(states: &[i128], row: &LpRow) -> i128
-    requires { IsWithin states.now row.now }
-    ensures { result ≡ cut_value states.now row.now }
+    requires { IsValueWithin states.now row.now }
+    ensures { result ≡ cut_row_value states.now row.now }
 {
     plus_slopes(
         raised(height(row.low)),
@@ -122,14 +122,14 @@ pub fn cut_value(states: &[i128], row: &LpRow) -> i128
 
 // Brings a number to the scale of states.
 fn state(x: Fx) -> i128
-    ensures { result ≡ state_of x }
+    ensures { result ≡ state_number x }
 {
     floored(x.0)
 }
 
 /// Writes a point at the scale of states. [`Memory`] where memory was refused.
 pub fn write_states(point: &[Fx], states: &mut List<i128>) -> Result<(), Memory>
-    ensures { OnOk result (states.new ≡ map state_of point.now) }
+    ensures { OnOk result (states.new ≡ map state_number point.now) }
 {
     states.clear();
     for x in point {

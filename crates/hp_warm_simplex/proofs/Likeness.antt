@@ -6,21 +6,21 @@ use Rattle.hp_solver.specs.declared.programs.Column.{Column}
 use Rattle.hp_solver.specs.declared.programs.LpRow.{LpRow}
 use Rattle.hp_solver.specs.declared.programs.Program.{Program}
 use Rattle.hp_solver.specs.Proper.{IsReference, Extends, IsLike, terms_of}
-use Rattle.hp_warm_table.specs.declared.table.Table.{Table}
+use Rattle.hp_warm_table.specs.declared.table.WarmTable.{WarmTable}
 use Rattle.hp_warm_scale.specs.Exponents.{reach_of}
 use Rattle.hp_warm_scale.specs.Scaling.{AreSmall}
 use Rattle.hp_warm_scale.specs.Waiting.{is_narrow, waits}
 use Rattle.hp_warm_scale.specs.Fitting.{Suits, AreNarrow, Fits}
 use Rattle.hp_warm_scale.proofs.Shapes.{small_more}
 
-suits_more : (t : Table) (lp other : Program) → Suits t lp → Extends lp other → Suits t other
+suits_more : (t : WarmTable) (lp other : Program) → Suits t lp → Extends lp other → Suits t other
 suits_more t lp other s e = record { table = s.table; small = s.small; columns = e.count ∙ s.columns; rows = e.own ∙ s.rows; cuts = s.cuts }
 
-pub suits_others : (start : Option Table) (lp other : Program) → IfSome start (λ t. Suits t lp) → Extends lp other → IfSome start (λ t. Suits t other)
+pub suits_others : (start : Option WarmTable) (lp other : Program) → IfSome start (λ t. Suits t lp) → Extends lp other → IfSome start (λ t. Suits t other)
 suits_others None lp other s e = tt
 suits_others (Some t) lp other s e = suits_more t lp other s e
 
-pub start_suits : {E : Type 0} (r : Result (Option Table) E) (lp : Program) → IfOk r (λ start. IfSome start (λ t. Suits t lp)) → IfOk r (λ start. (other : Program) → Extends lp other → IfSome start (λ t. Suits t other))
+pub start_suits : {E : Type 0} (r : Result (Option WarmTable) E) (lp : Program) → IfOk r (λ start. IfSome start (λ t. Suits t lp)) → IfOk r (λ start. (other : Program) → Extends lp other → IfSome start (λ t. Suits t other))
 start_suits (Ok start) lp s = λ other e. suits_others start lp other s e
 start_suits (Err e) lp s = tt
 
@@ -34,7 +34,7 @@ CanWait columns ws cuts = All (λ (r : LpRow). waits ws r ≡ true → is_narrow
 narrow_like : (lp other : Program) (ws : List Bool) → IsLike lp other → AreNarrow lp ws → AreNarrow other ws
 narrow_like lp other ws e n = subst (CanWait other.columns ws) e.cuts (subst (λ (cs : List Column). CanWait cs ws (drop lp.own lp.rows)) e.columns n)
 
-fits_more : (t : Table) (lp other : Program) → Fits t lp → IsLike lp other → Fits t other
+fits_more : (t : WarmTable) (lp other : Program) → Fits t lp → IsLike lp other → Fits t other
 fits_more t lp other f e = record {
   table = f.table;
   small = f.small;
@@ -44,7 +44,7 @@ fits_more t lp other f e = record {
   narrow = narrow_like lp other t.cuts.waiting e f.narrow;
 }
 
-pub fits_others : (chain : Option Table) (lp other : Program) → IfSome chain (λ t. Fits t lp) → IsLike lp other → IfSome chain (λ t. Fits t other)
+pub fits_others : (chain : Option WarmTable) (lp other : Program) → IfSome chain (λ t. Fits t lp) → IsLike lp other → IfSome chain (λ t. Fits t other)
 fits_others None lp other f e = tt
 fits_others (Some t) lp other f e = fits_more t lp other f e
 
@@ -53,7 +53,7 @@ pub no_cuts : (lp : Program) → lp.own ≡ length lp.rows → drop lp.own lp.ro
 no_cuts lp h = drop_of_length-le lp.rows (omega (arith, h))
 
 -- a program of own rows alone
-pub reference_fits : (lp : Program) (t : Table) → IsReference lp → Suits t lp → Fits t lp
+pub reference_fits : (lp : Program) (t : WarmTable) → IsReference lp → Suits t lp → Fits t lp
 reference_fits lp t r s = record {
   table = s.table;
   small = small_more 512 1000 t.scales (omega arith) s.small;
@@ -68,11 +68,11 @@ none_between low high [] e h = refl
 none_between low high (x ∷ xs) e h = let a = All-head (λ (i : ℕ). (low ≤ i) × (i < high)) x xs h in absurd (omega (arith, a.0, a.1, e))
 
 -- a table that fits a program of own rows alone has rows of no cuts
-pub no_rows_in : (lp : Program) (t : Table) → lp.own ≡ length lp.rows → Fits t lp → t.cuts.rows ≡ []
+pub no_rows_in : (lp : Program) (t : WarmTable) → lp.own ≡ length lp.rows → Fits t lp → t.cuts.rows ≡ []
 no_rows_in lp t r f = none_between lp.own (length lp.rows) t.cuts.rows r f.cuts
 
 -- turns keep the scales
-pub ready_suits : (lp : Program) (old new : Table) → IsReference lp → Suits old lp → Fits new lp → new.scales ≡ old.scales → Suits new lp
+pub ready_suits : (lp : Program) (old new : WarmTable) → IsReference lp → Suits old lp → Fits new lp → new.scales ≡ old.scales → Suits new lp
 ready_suits lp old new r s f e = record {
   table = f.table;
   small = subst (AreSmall 512) (sym e) s.small;

@@ -8,8 +8,8 @@ use Rattle.hp_solver.specs.declared.programs.Program.{Program}
 use Rattle.hp_solver.specs.declared.programs.Answer.{Answer}
 use Rattle.hp_solver.specs.declared.programs.Kind.TheVariants as kinds
 use Rattle.hp_solver.specs.Numbers.{number}
-use Rattle.hp_warm_table.specs.declared.table.Table.{Table}
-use Rattle.hp_warm_simplex.specs.Chains.{started_of, begun_of, next_of}
+use Rattle.hp_warm_table.specs.declared.table.WarmTable.{WarmTable}
+use Rattle.hp_warm_simplex.specs.Chains.{started_of, begun_of, next_of_chain}
 use Rattle.hp_solver.specs.Answers as solver_answers
 use Rattle.hp_solver.specs.Numbers as solver_numbers
 use Rattle.hp_warm_table.specs.Numbers as table_numbers
@@ -55,18 +55,18 @@ abbrev ray : List ℤ → List ℤ → Answer
 ray point duals = record { kind = kinds.Ray; point = map number point; duals = map number duals }
 
 -- the view of each table along a chain that has this one
-abbrev along : {A : Type 0} → (Table → A) → Option Table → List Program → List (Option A)
+abbrev along : {A : Type 0} → (WarmTable → A) → Option WarmTable → List Program → List (Option A)
 along seen chain [] = []
-along seen chain (lp ∷ lps) = option_map seen (next_of chain lp).1 ∷ along seen (next_of chain lp).1 lps
+along seen chain (lp ∷ lps) = option_map seen (next_of_chain chain lp).1 ∷ along seen (next_of_chain chain lp).1 lps
 
 -- the answers along it
-abbrev answers : Option Table → List Program → List Answer
+abbrev answers : Option WarmTable → List Program → List Answer
 answers chain [] = []
-answers chain (lp ∷ lps) = (next_of chain lp).0 ∷ answers (next_of chain lp).1 lps
+answers chain (lp ∷ lps) = (next_of_chain chain lp).0 ∷ answers (next_of_chain chain lp).1 lps
 
 -- the answer of a chain that has none
 abbrev answer : Program → Answer
-answer lp = (next_of None lp).0
+answer lp = (next_of_chain None lp).0
 
 abbrev flips : Program
 flips =
@@ -134,7 +134,7 @@ abbrev with_content : ℤ → Program
 with_content content = reservoir content cuts (pos 100) (pos 1)
 
 -- a chain that begins with a start
-abbrev begun : Option Table
+abbrev begun : Option WarmTable
 begun = begun_of (started_of (reservoir (pos 4) [] (pos 0) (pos 0))) (with_content (pos 4))
 
 abbrev contents : List Program
@@ -167,5 +167,5 @@ Answers =
     ∷ []
 
 worked : Flips × GoesOn × Shows × Asks × Answers
-unfolding solver_answers.zero_of solver_numbers.plus solver_numbers.minus solver_numbers.times solver_numbers.over table_numbers.shift_up table_numbers.shift_down table_updates.moved table_updates.added_row table_updates.moved_row answers_enter.is_fixed answers_enter.is_eligible answers_enter.rank_at answers_enter.precedes answers_enter.first_step answers_enter.left_after answers_enter.turn_of answers_finish.dual_of answers_finish.less_place answers_finish.plus_side answers_finish.new_cost answers_finish.finish_of answers_found.rounded answers_found.clamped answers_found.basic_point answers_found.slack_dual answers_found.dual_at answers_found.points_of answers_found.dual_step answers_found.duals_of answers_found.found_of answers_proves.side_of answers_proves.lowered answers_proves.whole_times answers_proves.lessened answers_proves.term_step answers_proves.row_step answers_proves.weights_of answers_proves.side_step answers_proves.box_step answers_proves.excess_of answers_proves.proves answers_ray.factor_at answers_ray.top_of answers_ray.ray_dual answers_ray.ray_of line_line.line_of line_move.length_of line_move.step_of line_move.span_of line_move.span_at line_move.carried line_move.put line_move.reached line_move.arrived line_move.moved_along line_move.moved_of line_pivot.inverse_of line_pivot.turned line_pivot.turned_line line_pivot.moved_or_kept line_pivot.entered line_pivot.exchanged line_pivot.eliminated line_pivot.replaced line_pivot.pivoted line_refine.stand_of line_refine.placed line_refine.shift_at line_refine.moved_value line_refine.stood_table line_refine.shifts_of line_refine.moved_values line_refine.refined rebuild_clean.slack_basis rebuild_clean.clean_of rebuild_standings.standing rebuild_standings.standing_at rebuild_standings.stood_up rebuild_standings.rebuilt_of rebuild_tighten.was_basic rebuild_tighten.better_place rebuild_tighten.best_place rebuild_tighten.left rebuild_tighten.tight scale_appending.scaled_sides scale_appending.sided scale_appending.row_scale scale_appending.scaled_term scale_appending.scaled_terms scale_appending.appended_row scale_appending.appended_cut scale_exponents.with_row scale_exponents.spans_of scale_exponents.pass_of scale_exponents.columns_of scale_first.first_of scale_scaling.scaled_value scale_scaling.scaled_cell scale_scaling.costs_scale scale_scaling.values_scale scale_scaling.scaled_column scale_scaling.column_step scale_scaling.blank_of scale_scaling.columns_table scale_waiting.is_narrow scale_waiting.waiting_of scale_waiting.waits scale_widening.top_of scale_widening.cut_spans scale_widening.rescaled scale_widening.widened_columns scale_widening.widened_by scale_widening.widened scale_widening.widened_in_full scan_scan.violates_last scan_scan.with_asked scan_scan.scan_of scan_values.states_of scan_values.plus_slope scan_values.cut_value scan_values.greatest_step scan_values.greatest_cuts simplex_chains.new_table simplex_chains.stuck_of simplex_chains.next_of simplex_chains.started_of simplex_chains.begun_of simplex_going.gone_on simplex_going.go_of simplex_going.restored_of simplex_turns.inspection_of simplex_turns.survey_of simplex_turns.closed_of simplex_turns.finishing simplex_turns.asked simplex_turns.turn_of simplex_violations.violation_of simplex_violations.value_at simplex_violations.violations_step simplex_violations.violations_of simplex_violations.precedes simplex_violations.next_violation lib.Count.count_leading_zeros
+unfolding solver_answers.zero_of solver_numbers.plus_fixed solver_numbers.minus solver_numbers.times_fixed solver_numbers.over_fixed table_numbers.shift_up table_numbers.shift_down table_updates.moved_cell table_updates.added_row table_updates.moved_table_row answers_enter.is_variable_fixed answers_enter.is_place_eligible answers_enter.rank_at answers_enter.precedes answers_enter.first_step answers_enter.left_after answers_enter.turn_behind answers_finish.dual_of answers_finish.less_place answers_finish.plus_side answers_finish.new_cost answers_finish.finish_of answers_finish.is_far answers_found.rounded answers_found.clamped_value answers_found.basic_point answers_found.slack_dual answers_found.dual_at answers_found.points_of answers_found.dual_step answers_found.duals_of answers_found.found_answer answers_proves.side_of_multiplier answers_proves.lowered answers_proves.whole_times answers_proves.lessened answers_proves.term_step answers_proves.row_step answers_proves.weights_of answers_proves.side_step answers_proves.box_step answers_proves.excess_of answers_proves.proves answers_ray.ray_factor_at answers_ray.top_of_factors answers_ray.clipped_ray_dual answers_ray.ray_answer line_line.line_of line_move.length_of line_move.step_of line_move.bound_span line_move.span_at line_move.carried line_move.put_at_bound line_move.reached_values line_move.arrived_values line_move.moved_along line_move.moved_of line_pivot.inverse_of line_pivot.turned_entry line_pivot.turned_line line_pivot.moved_or_kept line_pivot.entered line_pivot.exchanged_basis line_pivot.eliminated line_pivot.replaced line_pivot.pivoted line_refine.stand_of line_refine.placed_at_bound line_refine.shift_at line_refine.moved_value line_refine.stood_table line_refine.shifts_of line_refine.moved_values line_refine.refined rebuild_clean.slack_basis rebuild_clean.clean_of rebuild_standings.standing rebuild_standings.standing_at rebuild_standings.stood_up rebuild_standings.rebuilt_of rebuild_tighten.was_basic rebuild_tighten.better_place rebuild_tighten.best_place rebuild_tighten.left rebuild_tighten.tight scale_appending.scaled_sides scale_appending.sided scale_appending.row_scale scale_appending.scaled_term scale_appending.scaled_terms scale_appending.appended_row scale_appending.appended_cut scale_exponents.with_row_terms scale_exponents.spans_of scale_exponents.pass_of scale_exponents.columns_of scale_first.first_of scale_scaling.scaled_quantity scale_scaling.scaled_cell scale_scaling.costs_scale scale_scaling.values_scale scale_scaling.scaled_column scale_scaling.column_step scale_scaling.blank_of scale_scaling.columns_table scale_waiting.is_narrow scale_waiting.waiting_of scale_waiting.waits scale_widening.top_of scale_widening.cut_spans scale_widening.rescaled scale_widening.widened_columns scale_widening.widened_by scale_widening.widened scale_widening.widened_in_full scan_scan.violates_last scan_scan.with_asked scan_scan.scan_of scan_values.states_of scan_values.plus_slope scan_values.cut_row_value scan_values.greatest_step scan_values.greatest_cuts simplex_chains.is_poor simplex_chains.new_table simplex_chains.stuck_answer simplex_chains.next_of_chain simplex_chains.started_of simplex_chains.begun_of simplex_going.gone_on simplex_going.go_of simplex_going.restored_of simplex_turns.inspection_of simplex_turns.survey_of simplex_turns.closed_of simplex_turns.finishing simplex_turns.asked simplex_turns.turn_on_table simplex_violations.violation_of simplex_violations.table_value_at simplex_violations.violations_step simplex_violations.violations_of simplex_violations.violation_precedes simplex_violations.next_violation lib.Count.count_leading_zeros
 worked = (refl, refl, refl, refl, refl)

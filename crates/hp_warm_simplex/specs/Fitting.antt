@@ -1,20 +1,20 @@
 -- The parts of a table that turns leave as they were.
 use Rattle.std.specs.Prelude.{◌≡◌, length}
 use Rattle.hp_solver.specs.declared.programs.Program.{Program}
-use Rattle.hp_warm_table.specs.declared.table.Table.{Table}
+use Rattle.hp_warm_table.specs.declared.table.WarmTable.{WarmTable}
 use Rattle.hp_warm_table.specs.Kept.{KeepsProgram, with_work}
-use Rattle.hp_warm_simplex.specs.declared.turns.Room.{Room}
+use Rattle.hp_warm_simplex.specs.declared.turns.WorkRoom.{WorkRoom}
 
 -- the program of the table is as it was, and its basis
-abbrev pub IsHeld : Table → Table → Type 0
+abbrev pub IsHeld : WarmTable → WarmTable → Type 0
 IsHeld old new = new ≡ with_work old old.basis new.reduced new.lines new.values new.weak
 
 -- of a program without cuts no rows come in
-abbrev pub KeepsOwn : Program → Table → Table → Type 0
+abbrev pub KeepsOwn : Program → WarmTable → WarmTable → Type 0
 KeepsOwn lp old new = lp.own ≡ length lp.rows → KeepsProgram old new
 
 -- lists for work are as long as the table asks
-pub record IsRoomy (room : Room) (t : Table) : Type 0 where
+pub record IsRoomy (room : WorkRoom) (t : WarmTable) : Type 0 where
   pub line : length room.line ≡ length t.costs
   pub steps : length room.steps ≡ length t.costs
   pub shifts : length room.shifts ≡ length t.costs

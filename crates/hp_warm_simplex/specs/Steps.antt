@@ -2,7 +2,7 @@
 use Rattle.std.specs.Prelude.{◌≡◌, ◌<◌, ◌≤◌, ◌^◌, ℕ, ℤ, nat_abs, List, length, Option, Some, None, ⊤}
 use Rattle.hp_num.specs.Sums.{entry}
 use Rattle.hp_solver.specs.declared.programs.Answer.{Answer}
-use Rattle.hp_warm_table.specs.declared.table.Table.{Table}
+use Rattle.hp_warm_table.specs.declared.table.WarmTable.{WarmTable}
 use Rattle.hp_warm_table.specs.Shape.{variables}
 use Rattle.hp_warm_line.specs.declared.moves.Swap.{Swap}
 use Rattle.hp_warm_answers.specs.Enters.{AreThere}
@@ -23,10 +23,10 @@ Inspects (inspections.Shows a) g line flips = g ≡ turns.shows a
 Inspects inspections.Stops g line flips = g ≡ turns.stops
 
 -- a variable and a place of the table, whose cell is not small, and places that flip, fewer than there are
-abbrev pub Enters : Table → List ℤ → List ℕ → Swap → Type 0
+abbrev pub Enters : WarmTable → List ℤ → List ℕ → Swap → Type 0
 Enters t line flips s = (s.leaving < variables t) × (s.place < length t.costs) × (2 ^ 24 ≤ nat_abs (entry line s.place)) × (length flips < length t.costs) × AreThere t flips
 
-abbrev pub InspectsInside : Inspection → Table → List ℤ → List ℕ → Type 0
+abbrev pub InspectsInside : Inspection → WarmTable → List ℤ → List ℕ → Type 0
 InspectsInside inspections.Passes t line flips = ⊤
 InspectsInside (inspections.Mends swap) t line flips = Enters t line flips swap
 InspectsInside (inspections.Shows a) t line flips = ⊤
@@ -39,27 +39,27 @@ Surveys (surveys.Mends swap) l line flips = l ≡ turns.takes swap line flips
 Surveys (surveys.Shows a) l line flips = l ≡ turns.finds a
 Surveys surveys.Stops l line flips = l ≡ turns.fails
 
-abbrev pub SurveysInside : Survey → Table → List ℤ → List ℕ → Type 0
+abbrev pub SurveysInside : Survey → WarmTable → List ℤ → List ℕ → Type 0
 SurveysInside (surveys.Rests passed) t line flips = ⊤
 SurveysInside (surveys.Mends swap) t line flips = Enters t line flips swap
 SurveysInside (surveys.Shows a) t line flips = ⊤
 SurveysInside surveys.Stops t line flips = ⊤
 
 -- the turn ends without an answer, with the program, the rows and the basis of this table
-abbrev pub Halts : turns.Turn → Table → Type 0
+abbrev pub Halts : turns.WarmTurn → WarmTable → Type 0
 Halts (turns.pivots u) new = ⊥
 Halts (turns.settles u) new = ⊥
 Halts (turns.ends None u) new = IsHeld u new
 Halts (turns.ends (Some a) u) new = ⊥
 
 -- the turn leaves this table
-abbrev pub Takes : Turn → turns.Turn → Table → Type 0
-Takes steps.Pivots turn new = turn ≡ turns.pivots new
-Takes steps.Settles turn new = turn ≡ turns.settles new
-Takes (steps.Ends a) turn new = turn ≡ turns.ends (Some a) new
-Takes steps.Stops turn new = Halts turn new
+abbrev pub TakesTurn : Turn → turns.WarmTurn → WarmTable → Type 0
+TakesTurn steps.Pivots turn new = turn ≡ turns.pivots new
+TakesTurn steps.Settles turn new = turn ≡ turns.settles new
+TakesTurn (steps.Ends a) turn new = turn ≡ turns.ends (Some a) new
+TakesTurn steps.Stops turn new = Halts turn new
 
 -- turns end with an answer and this table, or with none and this basis
-abbrev pub Ends : Option Answer → turns.Went → Table → Type 0
-Ends (Some a) went t = went ≡ turns.went (Some a) t
-Ends None went t = (went.answer ≡ None) × IsHeld went.table t
+abbrev pub EndsTurns : Option Answer → turns.Went → WarmTable → Type 0
+EndsTurns (Some a) went t = went ≡ turns.went (Some a) t
+EndsTurns None went t = (went.answer ≡ None) × IsHeld went.table t

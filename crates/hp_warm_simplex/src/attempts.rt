@@ -2,18 +2,22 @@
 // numbers.
 ghost use Rattle.std.specs.Prelude.{◌≡◌, Option, Some, None, IfOk, IfSome, OnOk, if◌then◌else◌};
 ghost use Rattle.hp_solver.specs.Proper.{IsProper};
+ghost use Rattle.hp_warm_table.specs.Shape.{IsTable};
 ghost use Rattle.hp_warm_scale.specs.Widening.{widened, widened_in_full};
 ghost use Rattle.hp_warm_scale.specs.Fitting.{Suits, Fits};
 ghost use Rattle.hp_warm_simplex.specs.Fitting.{IsRoomy};
 ghost use Rattle.hp_warm_simplex.specs.Going.{go_of, restored_of};
-ghost use Rattle.hp_warm_simplex.specs.Chains.{is_ray, is_good, replaced, tried, unless_good, warm_attempt, by_chain, new_table, then_anew, stuck_of, wide_unless, or_stuck, left_by, last_resort, next_of};
+ghost use Rattle.hp_warm_simplex.specs.Violations.{violations_of};
+ghost use Rattle.hp_warm_simplex.specs.Chains.{is_ray, is_good, is_violated_by, is_poor, replaced_attempt, tried, unless_good, warm_attempt, by_chain, new_table, then_anew, stuck_answer, wide_unless, or_stuck, table_left, last_resort, next_of_chain};
 
 use crate::going::{go, restore};
-use crate::turns::Room;
-use hp_num::Memory;
+use crate::turns::WorkRoom;
+use crate::violations::{Violation, violations};
+use hp_num::{List, Memory};
 use hp_solver::{Answer, Kind, StageLp};
+use hp_warm_answers::finishing::is_far;
 use hp_warm_scale::{first, widen, widen_in_full};
-use hp_warm_table::Table;
+use hp_warm_table::WarmTable;
 use hp_wide_simplex::wide;
 use std::alloc::Global;
 
@@ -22,10 +26,10 @@ use std::alloc::Global;
 pub(crate) struct Attempt {
     // An answer, if there is one.
     pub(crate) answer: Option<Answer>,
-    // True for a ray, or a point that is to be trusted.
+    // True for a ray, or a point that is to be trusted: one that is not weak, or behind the chain's table one that is not poor.
     pub(crate) good: bool,
     // The table that the chain goes on with, if there is one.
-    pub(crate) table: Option<Table>,
+    pub(crate) table: Option<WarmTable>,
 }
 
 fn is_ray(kind: Kind) -> bool
@@ -48,18 +52,42 @@ pub(crate) fn is_good(answer: &Option<Answer>, weak: bool) -> bool
     }
 }
 
+// Tells whether a basic variable violates a bound, or one has no value in range.
+fn is_violated(table: &WarmTable, found: &mut List<Violation>) -> Result<bool, Memory>
+    requires table { IsTable table.now }
+    ensures { IfOk result (λ violated. violated ≡ is_violated_by (violations_of table.now)) }
+{
+    let whole = violations(table, found)?;
+    Ok(!whole || 0 < found.len())
+}
+
+// Tells whether the point of a table is poor: it is weak, and a violation was passed over or it is far from the best one.
+#[tactic(auto, unfolding(crate::specs::Chains::is_poor))]
+fn is_poor(alloc: Global, table: &WarmTable, room: &mut WorkRoom) -> Result<bool, Memory>
+    requires table { IsTable table.now }
+    ensures { IfOk result (λ poor. poor ≡ is_poor table.now) }
+{
+    if !table.weak {
+        return Ok(false);
+    }
+    if is_violated(table, &mut room.violations)? {
+        return Ok(true);
+    }
+    is_far(alloc, table)
+}
+
 // Turns on another table. The answer before stays where they have none.
 #[tactic(auto, using(crate::proofs::Trying::replaced_on))]
 fn go_on(
     alloc: Global,
     lp: &StageLp,
     before: Option<Answer>,
-    mut table: Table,
-    room: &mut Room,
+    mut table: WarmTable,
+    room: &mut WorkRoom,
 ) -> Result<Attempt, Memory>
     requires proper { IsProper lp.now }
     requires fits { Fits table lp.now }
-    ensures attempt { IfOk result (λ attempt. attempt ≡ replaced before (go_of lp.now table)) }
+    ensures attempt { IfOk result (λ attempt. attempt ≡ replaced_attempt before (go_of lp.now table)) }
     ensures fits { IfOk result (λ attempt. IfSome attempt.table (λ t. Fits t lp.now)) }
 {
     let answer = go(alloc, lp, &mut table, room)?;
@@ -70,7 +98,8 @@ fn go_on(
             table: None,
         });
     }
-    let good = is_good(&answer, table.weak);
+    let poor = is_poor(alloc, &table, room)?;
+    let good = is_good(&answer, poor);
     Ok(Attempt {
         answer,
         good,
@@ -83,8 +112,8 @@ fn go_restored(
     alloc: Global,
     lp: &StageLp,
     before: Option<Answer>,
-    mut table: Table,
-    room: &mut Room,
+    mut table: WarmTable,
+    room: &mut WorkRoom,
 ) -> Result<Attempt, Memory>
     requires proper { IsProper lp.now }
     requires fits { Fits table lp.now }
@@ -107,8 +136,8 @@ fn unless_good(
     alloc: Global,
     lp: &StageLp,
     answer: Option<Answer>,
-    table: Table,
-    room: &mut Room,
+    table: WarmTable,
+    room: &mut WorkRoom,
 ) -> Result<Attempt, Memory>
     requires proper { IsProper lp.now }
     requires fits { Fits table lp.now }
@@ -131,8 +160,8 @@ fn unless_good(
 fn go_warm(
     alloc: Global,
     lp: &StageLp,
-    mut table: Table,
-    room: &mut Room,
+    mut table: WarmTable,
+    room: &mut WorkRoom,
 ) -> Result<Attempt, Memory>
     requires proper { IsProper lp.now }
     requires fits { Fits table lp.now }
@@ -147,8 +176,8 @@ fn go_warm(
 fn by_chain(
     alloc: Global,
     lp: &StageLp,
-    table: Option<Table>,
-    room: &mut Room,
+    table: Option<WarmTable>,
+    room: &mut WorkRoom,
 ) -> Result<Attempt, Memory>
     requires proper { IsProper lp.now }
     requires fits { IfSome table (λ t. Fits t lp.now) }
@@ -166,7 +195,7 @@ fn by_chain(
 }
 
 // The table, where it is made.
-fn where_made(made: bool, table: Table) -> Option<Table>
+fn where_made(made: bool, table: WarmTable) -> Option<WarmTable>
     ensures { result ≡ (if made then Some table else None) }
 {
     if made { Some(table) } else { None }
@@ -177,9 +206,9 @@ fn where_made(made: bool, table: Table) -> Option<Table>
 #[tactic(auto, using(crate::proofs::Trying::made_is, crate::proofs::Trying::made_fits))]
 pub(crate) fn widened(
     alloc: Global,
-    mut table: Table,
+    mut table: WarmTable,
     lp: &StageLp,
-) -> Result<Option<Table>, Memory>
+) -> Result<Option<WarmTable>, Memory>
     requires proper { IsProper lp.now }
     requires suits { Suits table lp.now }
     ensures table { IfOk result (λ wide. wide ≡ widened lp.now table) }
@@ -191,7 +220,11 @@ pub(crate) fn widened(
 
 // Widens the table where no cut waits.
 #[tactic(auto, using(crate::proofs::Trying::made_is, crate::proofs::Trying::made_fits))]
-fn widened_in_full(alloc: Global, mut table: Table, lp: &StageLp) -> Result<Option<Table>, Memory>
+fn widened_in_full(
+    alloc: Global,
+    mut table: WarmTable,
+    lp: &StageLp,
+) -> Result<Option<WarmTable>, Memory>
     requires proper { IsProper lp.now }
     requires suits { Suits table lp.now }
     ensures table { IfOk result (λ wide. wide ≡ widened_in_full lp.now table) }
@@ -203,7 +236,7 @@ fn widened_in_full(alloc: Global, mut table: Table, lp: &StageLp) -> Result<Opti
 
 // The table of a program from nothing, with the rows of all cuts.
 #[tactic(auto, unfolding(crate::specs::Chains::new_table))]
-fn new_table(alloc: Global, lp: &StageLp) -> Result<Option<Table>, Memory>
+fn new_table(alloc: Global, lp: &StageLp) -> Result<Option<WarmTable>, Memory>
     requires proper { IsProper lp.now }
     ensures table { IfOk result (λ table. table ≡ new_table lp.now) }
     ensures fits { IfOk result (λ table. IfSome table (λ t. Fits t lp.now)) }
@@ -219,8 +252,8 @@ fn try_on(
     alloc: Global,
     lp: &StageLp,
     before: Option<Answer>,
-    table: Option<Table>,
-    room: &mut Room,
+    table: Option<WarmTable>,
+    room: &mut WorkRoom,
 ) -> Result<Attempt, Memory>
     requires proper { IsProper lp.now }
     requires fits { IfSome table (λ t. Fits t lp.now) }
@@ -242,7 +275,7 @@ fn anew(
     alloc: Global,
     lp: &StageLp,
     before: Option<Answer>,
-    room: &mut Room,
+    room: &mut WorkRoom,
 ) -> Result<Attempt, Memory>
     requires proper { IsProper lp.now }
     ensures attempt { IfOk result (λ attempt. attempt ≡ tried lp.now before (new_table lp.now)) }
@@ -257,7 +290,7 @@ fn then_anew(
     alloc: Global,
     lp: &StageLp,
     before: Attempt,
-    room: &mut Room,
+    room: &mut WorkRoom,
 ) -> Result<Attempt, Memory>
     requires proper { IsProper lp.now }
     requires fits { IfSome before.table (λ t. Fits t lp.now) }
@@ -271,9 +304,9 @@ fn then_anew(
 }
 
 // The answer where nothing was found out.
-#[tactic(auto, unfolding(crate::specs::Chains::stuck_of))]
+#[tactic(auto, unfolding(crate::specs::Chains::stuck_answer))]
 fn stuck(alloc: Global, lp: &StageLp) -> Result<Answer, Memory>
-    ensures { IfOk result (λ answer. answer ≡ stuck_of lp.now) }
+    ensures { IfOk result (λ answer. answer ≡ stuck_answer lp.now) }
 {
     let point = lp.lows(alloc)?;
     Ok(Answer {
@@ -311,7 +344,7 @@ fn or_stuck(
 
 // Lets go of the table of attempts, but where their answer stays.
 fn leave(attempt: &mut Attempt, wide: &Option<Answer>)
-    ensures { attempt.new ≡ record attempt.old { table = left_by wide.now attempt.old.answer attempt.old.table } }
+    ensures { attempt.new ≡ record attempt.old { table = table_left wide.now attempt.old.answer attempt.old.table } }
 {
     if wide.is_some() || attempt.answer.is_none() {
         attempt.table = None;
@@ -336,7 +369,7 @@ fn resorted(
     alloc: Global,
     lp: &StageLp,
     mut attempt: Attempt,
-) -> Result<(Answer, Option<Table>), Memory>
+) -> Result<(Answer, Option<WarmTable>), Memory>
     requires proper { IsProper lp.now }
     requires fits { IfSome attempt.table (λ t. Fits t lp.now) }
     ensures answer { IfOk result (λ found. found ≡ last_resort lp.now attempt) }
@@ -348,16 +381,16 @@ fn resorted(
 
 /// The answer to a program of a chain that has this table, if it has one, and the table that it has then. [`Memory`]
 /// where memory was refused.
-#[tactic(auto, unfolding(crate::specs::Chains::next_of))]
+#[tactic(auto, unfolding(crate::specs::Chains::next_of_chain))]
 pub(crate) fn next_answer(
     alloc: Global,
     lp: &StageLp,
-    table: Option<Table>,
-    room: &mut Room,
-) -> Result<(Answer, Option<Table>), Memory>
+    table: Option<WarmTable>,
+    room: &mut WorkRoom,
+) -> Result<(Answer, Option<WarmTable>), Memory>
     requires proper { IsProper lp.now }
     requires fits { IfSome table (λ t. Fits t lp.now) }
-    ensures answer { IfOk result (λ found. found ≡ next_of table lp.now) }
+    ensures answer { IfOk result (λ found. found ≡ next_of_chain table lp.now) }
     ensures fits { IfOk result (λ found. IfSome found.1 (λ t. Fits t lp.now)) }
 {
     let warm = by_chain(alloc, lp, table, room)?;

@@ -2,20 +2,20 @@
 ghost use Rattle.std.specs.Prelude.{◌≡◌, length, take, IfOk, OnOk};
 ghost use Rattle.hp_solver.specs.Proper.{IsProper};
 ghost use Rattle.hp_warm_table.specs.Shape.{IsTable};
-ghost use Rattle.hp_warm_table.specs.Updates.{Gives};
+ghost use Rattle.hp_warm_table.specs.Updates.{GivesNew};
 ghost use Rattle.hp_warm_scale.specs.Appending.{sided, with_bounds};
 ghost use Rattle.hp_warm_scale.specs.Fitting.{Fits};
 ghost use Rattle.hp_warm_simplex.specs.Fitting.{KeepsOwn, IsRoomy};
 ghost use Rattle.hp_warm_simplex.specs.Going.{trusted, gone_on, cleared, go_of, restored_of};
-ghost use Rattle.hp_warm_simplex.specs.Steps.{Ends};
+ghost use Rattle.hp_warm_simplex.specs.Steps.{EndsTurns};
 
-use crate::turns::{Room, take_turns};
+use crate::turns::{WorkRoom, take_turns};
 use hp_num::{List, Memory};
 use hp_solver::{Answer, StageLp};
 use hp_warm_line::{Shift, rebuild, refine};
 use hp_warm_scale::set_sides;
 use hp_warm_table::lists::repeated;
-use hp_warm_table::{Cell, Square, Table};
+use hp_warm_table::{Cell, Square, WarmTable};
 use std::alloc::Global;
 
 // Makes a list so long, where it is not. Its values count for nothing then.
@@ -34,7 +34,7 @@ fn fit<T: Copy + Drop>(
 }
 
 // Makes the lists for work as long as a table asks.
-fn make_room(alloc: Global, room: &mut Room, table: &Table) -> Result<(), Memory>
+fn make_room(alloc: Global, room: &mut WorkRoom, table: &WarmTable) -> Result<(), Memory>
     ensures { OnOk result (IsRoomy room.new table.now) }
 {
     let columns = table.costs.len();
@@ -45,7 +45,7 @@ fn make_room(alloc: Global, room: &mut Room, table: &Table) -> Result<(), Memory
 
 // Sets the sides of own rows, and forgets what was known of the last answer. False where a side is out of range.
 #[tactic(auto, using(crate::proofs::Setting::prepared_fits))]
-fn prepare(lp: &StageLp, table: &mut Table) -> bool
+fn prepare(lp: &StageLp, table: &mut WarmTable) -> bool
     requires proper { IsProper lp.now }
     requires fits { Fits table.old lp.now }
     ensures fits { Fits table.new lp.now }
@@ -61,8 +61,8 @@ fn prepare(lp: &StageLp, table: &mut Table) -> bool
 fn take_all_turns(
     alloc: Global,
     lp: &StageLp,
-    table: &mut Table,
-    room: &mut Room,
+    table: &mut WarmTable,
+    room: &mut WorkRoom,
 ) -> Result<Option<Answer>, Memory>
     requires proper { IsProper lp.now }
     requires fits { Fits table.old lp.now }
@@ -70,7 +70,7 @@ fn take_all_turns(
     ensures fits { OnOk result (Fits table.new lp.now) }
     ensures room { OnOk result (IsRoomy room.new table.new) }
     ensures own { OnOk result (KeepsOwn lp.now table.old table.new) }
-    ensures went { IfOk result (λ answer. Ends answer (gone_on lp.now table.old) table.new) }
+    ensures went { IfOk result (λ answer. EndsTurns answer (gone_on lp.now table.old) table.new) }
 {
     if !refine(table, &mut room.shifts) {
         return Ok(None);
@@ -86,15 +86,15 @@ fn take_all_turns(
 pub(crate) fn go(
     alloc: Global,
     lp: &StageLp,
-    table: &mut Table,
-    room: &mut Room,
+    table: &mut WarmTable,
+    room: &mut WorkRoom,
 ) -> Result<Option<Answer>, Memory>
     requires proper { IsProper lp.now }
     requires fits { Fits table.old lp.now }
     ensures fits { OnOk result (Fits table.new lp.now) }
     ensures room { OnOk result (IsRoomy room.new table.new) }
     ensures scales { OnOk result (lp.now.own ≡ length lp.now.rows → table.new.scales ≡ table.old.scales) }
-    ensures went { IfOk result (λ answer. Ends answer (go_of lp.now table.old) table.new) }
+    ensures went { IfOk result (λ answer. EndsTurns answer (go_of lp.now table.old) table.new) }
 {
     make_room(alloc, room, table)?;
     if !prepare(lp, table) {
@@ -105,7 +105,7 @@ pub(crate) fn go(
 
 // Forgets the lines of a table.
 #[tactic(auto, using(crate::proofs::Setting::cleared_table))]
-fn clear(alloc: Global, table: &mut Table) -> Result<(), Memory>
+fn clear(alloc: Global, table: &mut WarmTable) -> Result<(), Memory>
     requires sized { IsTable table.old }
     ensures sized { OnOk result (IsTable table.new) }
     ensures cleared { OnOk result (table.new ≡ cleared table.old) }
@@ -120,13 +120,13 @@ fn clear(alloc: Global, table: &mut Table) -> Result<(), Memory>
 pub(crate) fn restore(
     alloc: Global,
     lp: &StageLp,
-    table: &mut Table,
-    room: &mut Room,
+    table: &mut WarmTable,
+    room: &mut WorkRoom,
 ) -> Result<bool, Memory>
     requires fits { Fits table.old lp.now }
     requires room { IsRoomy room.old table.old }
     ensures fits { OnOk result (Fits table.new lp.now) }
-    ensures restored { IfOk result (λ made. Gives made (restored_of table.old) table.new) }
+    ensures restored { IfOk result (λ made. GivesNew made (restored_of table.old) table.new) }
 {
     clear(alloc, table)?;
     rebuild(alloc, table, &mut room.line, &mut room.steps)

@@ -1,11 +1,11 @@
 // The violations of a table, looked at from the greatest on.
-ghost use Rattle.std.specs.Prelude.{◌≡◌, length, All, None, IfOk, OnOk};
+ghost use Rattle.std.specs.Prelude.{◌≡◌, length, All, None, IfOk};
 ghost use Rattle.hp_warm_scale.specs.Fitting.{Fits};
-ghost use Rattle.hp_warm_simplex.specs.Violations.{IsThere};
+ghost use Rattle.hp_warm_simplex.specs.Violations.{IsViolationThere};
 ghost use Rattle.hp_warm_simplex.specs.Turns.{inspection_of, by_entry, survey_from};
 ghost use Rattle.hp_warm_simplex.specs.Steps.{Inspects, InspectsInside, Surveys, SurveysInside};
 ghost use Rattle.hp_warm_answers.specs.Enter.{enter_of};
-ghost use Rattle.hp_warm_answers.specs.Ray.{ray_of};
+ghost use Rattle.hp_warm_answers.specs.Ray.{ray_answer};
 
 use crate::violations::{Violation, next_violation};
 use hp_num::{List, Memory};
@@ -13,17 +13,17 @@ use hp_solver::{Answer, StageLp};
 use hp_warm_answers::entering::{Rank, enter};
 use hp_warm_answers::ray::ray;
 use hp_warm_line::{Swap, write_line};
-use hp_warm_table::{Cell, Table};
+use hp_warm_table::{Cell, WarmTable};
 use std::alloc::Global;
 
 /// A program, and a table that fits it.
 #[derive(Clone, Copy)]
 pub(crate) struct Fitted<'a> {
     pub(crate) lp: &'a StageLp<'a>,
-    pub(crate) table: &'a Table,
+    pub(crate) table: &'a WarmTable,
 }
 
-// What is found out about one violation.
+// The finding about one violation.
 pub(crate) enum Inspection {
     // Nothing mends it, and nothing shows that no point keeps all bounds.
     Passes,
@@ -35,7 +35,7 @@ pub(crate) enum Inspection {
     Stops,
 }
 
-// What is found out about all violations.
+// The finding about all violations.
 pub(crate) enum Survey {
     // None of them can be mended; whether there were any.
     Rests(bool),
@@ -57,13 +57,13 @@ fn enter_or_show(
     candidates: &mut List<Rank>,
 ) -> Result<Inspection, Memory>
     requires fits { Fits fitted.now.table.now fitted.now.lp.now }
-    requires there { IsThere fitted.now.table.now violation }
+    requires there { IsViolationThere fitted.now.table.now violation }
     requires line { length line.now ≡ length fitted.now.table.now.costs }
-    ensures inspection { IfOk result (λ inspection. Inspects inspection (by_entry violation (ray_of fitted.now.table.now line.now violation.variable violation.above fitted.now.lp.now) line.now (enter_of fitted.now.table.now line.now violation.above violation.amount)) line.now flips.new) }
+    ensures inspection { IfOk result (λ inspection. Inspects inspection (by_entry violation (ray_answer fitted.now.table.now line.now violation.variable violation.above fitted.now.lp.now) line.now (enter_of fitted.now.table.now line.now violation.above violation.amount)) line.now flips.new) }
     ensures inside { IfOk result (λ inspection. InspectsInside inspection fitted.now.table.now line.now flips.new) }
 {
     let amount = i128::from(violation.amount);
-    if let Some((place, rest)) = enter(
+    if let Some((place, tail)) = enter(
         fitted.table,
         line,
         violation.above,
@@ -75,7 +75,7 @@ fn enter_or_show(
             leaving: violation.variable,
             above: violation.above,
             place,
-            rest,
+            tail,
         }));
     }
     match ray(
@@ -102,7 +102,7 @@ fn inspect(
     candidates: &mut List<Rank>,
 ) -> Result<Inspection, Memory>
     requires fits { Fits fitted.now.table.now fitted.now.lp.now }
-    requires there { IsThere fitted.now.table.now violation }
+    requires there { IsViolationThere fitted.now.table.now violation }
     requires line { length line.old ≡ length fitted.now.table.now.costs }
     ensures line { length line.new ≡ length line.old }
     ensures inspection { IfOk result (λ inspection. Inspects inspection (inspection_of fitted.now.lp.now fitted.now.table.now violation) line.new flips.new) }
@@ -124,7 +124,7 @@ pub(crate) fn inspect_all(
     candidates: &mut List<Rank>,
 ) -> Result<Survey, Memory>
     requires fits { Fits fitted.now.table.now fitted.now.lp.now }
-    requires there { All (IsThere fitted.now.table.now) violations.now }
+    requires there { All (IsViolationThere fitted.now.table.now) violations.now }
     requires line { length line.old ≡ length fitted.now.table.now.costs }
     ensures line { length line.new ≡ length line.old }
     ensures survey { IfOk result (λ survey. Surveys survey (survey_from fitted.now.lp.now fitted.now.table.now violations.now (length violations.now) None) line.new flips.new) }

@@ -3,12 +3,12 @@ ghost use Rattle.std.specs.Prelude.{◌≡◌, false, length, IfOk, OnOk};
 ghost use Rattle.hp_solver.specs.Proper.{IsProper};
 ghost use Rattle.hp_warm_table.specs.Shape.{IsTable};
 ghost use Rattle.hp_warm_table.specs.Kept.{KeepsProgram};
-ghost use Rattle.hp_warm_table.specs.Updates.{Gives};
+ghost use Rattle.hp_warm_table.specs.Updates.{GivesNew};
 ghost use Rattle.hp_warm_line.specs.Refine.{refined};
 ghost use Rattle.hp_warm_scale.specs.Fitting.{Fits};
 ghost use Rattle.hp_warm_simplex.specs.Fitting.{IsHeld, KeepsOwn, IsRoomy};
-ghost use Rattle.hp_warm_simplex.specs.Turns.{swapped, by_values, closed_of, finishing, asked, at_rest, turn_of, turns};
-ghost use Rattle.hp_warm_simplex.specs.Steps.{Enters, Takes, Ends};
+ghost use Rattle.hp_warm_simplex.specs.Turns.{swapped, by_values, closed_of, finishing, asked, turn_without_violation, turn_on_table, turns_on_table};
+ghost use Rattle.hp_warm_simplex.specs.Steps.{Enters, TakesTurn, EndsTurns};
 
 use crate::inspecting::{Fitted, Survey, inspect_all};
 use crate::violations::{Violation, violations};
@@ -19,12 +19,12 @@ use hp_warm_answers::finishing::finish;
 use hp_warm_answers::found::found;
 use hp_warm_line::{Shift, Swap, move_point, pivot, refine};
 use hp_warm_scan::{Room as ScanRoom, Scan, scan_cuts};
-use hp_warm_table::{Cell, Table};
+use hp_warm_table::{Cell, WarmTable};
 use std::alloc::Global;
 
 // Lists for work. No answer depends on what they hold.
 #[derive(Drop)]
-pub struct Room {
+pub struct WorkRoom {
     // The violations of a table.
     pub(crate) violations: List<Violation>,
     // The line of one of them, a cell for each place.
@@ -54,14 +54,14 @@ pub(crate) enum Turn {
 }
 
 // Moves the point along the line of the variable that leaves, and then exchanges the variables.
-fn exchange(table: &mut Table, room: &mut Room, swap: Swap) -> Turn
+fn exchange(table: &mut WarmTable, room: &mut WorkRoom, swap: Swap) -> Turn
     requires sized { IsTable table.old }
     requires room { IsRoomy room.old table.old }
     requires enters { Enters table.old room.old.line room.old.flips swap }
     ensures sized { IsTable table.new }
     ensures room { IsRoomy room.new table.new }
     ensures worked { KeepsProgram table.old table.new }
-    ensures turn { Takes result (swapped table.old swap room.old.line room.old.flips) table.new }
+    ensures turn { TakesTurn result (swapped table.old swap room.old.line room.old.flips) table.new }
 {
     let flips = room.flips.as_slice();
     if !move_point(table, room.line.as_slice(), &mut room.shifts, swap, flips) {
@@ -74,13 +74,13 @@ fn exchange(table: &mut Table, room: &mut Room, swap: Swap) -> Turn
 }
 
 // The point of a table afresh.
-fn settle(table: &mut Table, shifts: &mut List<(usize, Shift)>) -> Turn
+fn settle(table: &mut WarmTable, shifts: &mut List<(usize, Shift)>) -> Turn
     requires sized { IsTable table.old }
     requires shifts { length shifts.old ≡ length table.old.costs }
     ensures sized { IsTable table.new }
     ensures shifts { length shifts.new ≡ length shifts.old }
     ensures worked { KeepsProgram table.old table.new }
-    ensures turn { Takes result (by_values table.old (refined table.old)) table.new }
+    ensures turn { TakesTurn result (by_values table.old (refined table.old)) table.new }
 {
     if refine(table, shifts) {
         Turn::Settles
@@ -91,11 +91,11 @@ fn settle(table: &mut Table, shifts: &mut List<(usize, Shift)>) -> Turn
 
 // Computes the reduced costs afresh. An answer is not to be trusted where a violation was passed over.
 #[tactic(auto, unfolding(crate::specs::Turns::closed_of))]
-fn close(alloc: Global, lp: &StageLp, table: &mut Table, passed: bool) -> Result<bool, Memory>
+fn close(alloc: Global, lp: &StageLp, table: &mut WarmTable, passed: bool) -> Result<bool, Memory>
     requires fits { Fits table.old lp.now }
     ensures fits { OnOk result (Fits table.new lp.now) }
     ensures held { OnOk result (IsHeld table.old table.new) }
-    ensures closed { IfOk result (λ done. Gives done (closed_of passed table.old) table.new) }
+    ensures closed { IfOk result (λ done. GivesNew done (closed_of passed table.old) table.new) }
 {
     if !finish(alloc, table)? {
         return Ok(false);
@@ -106,11 +106,16 @@ fn close(alloc: Global, lp: &StageLp, table: &mut Table, passed: bool) -> Result
 
 // The answer by a table on which nothing is left to do.
 #[tactic(auto, unfolding(crate::specs::Turns::finishing), using(crate::proofs::Fitting::cuts_inside, crate::proofs::Ending::held_worked))]
-fn finishing(alloc: Global, lp: &StageLp, table: &mut Table, passed: bool) -> Result<Turn, Memory>
+fn finishing(
+    alloc: Global,
+    lp: &StageLp,
+    table: &mut WarmTable,
+    passed: bool,
+) -> Result<Turn, Memory>
     requires fits { Fits table.old lp.now }
     ensures fits { OnOk result (Fits table.new lp.now) }
     ensures worked { OnOk result (KeepsProgram table.old table.new) }
-    ensures turn { IfOk result (λ turn. Takes turn (finishing lp.now passed table.old) table.new) }
+    ensures turn { IfOk result (λ turn. TakesTurn turn (finishing lp.now passed table.old) table.new) }
 {
     if !close(alloc, lp, table, passed)? {
         return Ok(Turn::Stops);
@@ -126,8 +131,8 @@ fn finishing(alloc: Global, lp: &StageLp, table: &mut Table, passed: bool) -> Re
 fn ask(
     alloc: Global,
     lp: &StageLp,
-    table: &mut Table,
-    room: &mut Room,
+    table: &mut WarmTable,
+    room: &mut WorkRoom,
     passed: bool,
 ) -> Result<Turn, Memory>
     requires proper { IsProper lp.now }
@@ -136,7 +141,7 @@ fn ask(
     ensures fits { OnOk result (Fits table.new lp.now) }
     ensures room { OnOk result (IsRoomy room.new table.new) }
     ensures own { OnOk result (KeepsOwn lp.now table.old table.new) }
-    ensures turn { IfOk result (λ turn. Takes turn (asked lp.now passed table.old) table.new) }
+    ensures turn { IfOk result (λ turn. TakesTurn turn (asked lp.now passed table.old) table.new) }
 {
     match scan_cuts(lp, table, &mut room.scan)? {
         Scan::Adds => Ok(Turn::Settles),
@@ -147,11 +152,11 @@ fn ask(
 
 // A turn in which no violation is mended: the point is refined, and once that is so, cuts are asked for.
 #[tactic(auto, using(crate::proofs::Fitting::still_fits))]
-fn rest(
+fn tail(
     alloc: Global,
     lp: &StageLp,
-    table: &mut Table,
-    room: &mut Room,
+    table: &mut WarmTable,
+    room: &mut WorkRoom,
     fresh: bool,
     passed: bool,
 ) -> Result<Turn, Memory>
@@ -161,7 +166,7 @@ fn rest(
     ensures fits { OnOk result (Fits table.new lp.now) }
     ensures room { OnOk result (IsRoomy room.new table.new) }
     ensures own { OnOk result (KeepsOwn lp.now table.old table.new) }
-    ensures turn { IfOk result (λ turn. Takes turn (at_rest lp.now fresh passed table.old) table.new) }
+    ensures turn { IfOk result (λ turn. TakesTurn turn (turn_without_violation lp.now fresh passed table.old) table.new) }
 {
     if fresh {
         return ask(alloc, lp, table, room, passed);
@@ -170,12 +175,12 @@ fn rest(
 }
 
 // Takes one turn, on a table whose point is fresh, that is refined since the last pivot, or not.
-#[tactic(auto, unfolding(crate::specs::Turns::turn_of, crate::specs::Turns::survey_of), using(crate::proofs::Fitting::still_fits))]
+#[tactic(auto, unfolding(crate::specs::Turns::turn_on_table, crate::specs::Turns::survey_of), using(crate::proofs::Fitting::still_fits))]
 fn take_turn(
     alloc: Global,
     lp: &StageLp,
-    table: &mut Table,
-    room: &mut Room,
+    table: &mut WarmTable,
+    room: &mut WorkRoom,
     fresh: bool,
 ) -> Result<Turn, Memory>
     requires proper { IsProper lp.now }
@@ -184,7 +189,7 @@ fn take_turn(
     ensures fits { OnOk result (Fits table.new lp.now) }
     ensures room { OnOk result (IsRoomy room.new table.new) }
     ensures own { OnOk result (KeepsOwn lp.now table.old table.new) }
-    ensures turn { IfOk result (λ turn. Takes turn (turn_of lp.now fresh table.old) table.new) }
+    ensures turn { IfOk result (λ turn. TakesTurn turn (turn_on_table lp.now fresh table.old) table.new) }
 {
     if !violations(table, &mut room.violations)? {
         return Ok(Turn::Stops);
@@ -202,7 +207,7 @@ fn take_turn(
         &mut room.flips,
         &mut room.candidates,
     )? {
-        Survey::Rests(passed) => rest(alloc, lp, table, room, fresh, passed),
+        Survey::Rests(passed) => tail(alloc, lp, table, room, fresh, passed),
         Survey::Mends(swap) => Ok(exchange(table, room, swap)),
         Survey::Shows(answer) => Ok(Turn::Ends(answer)),
         Survey::Stops => Ok(Turn::Stops),
@@ -213,8 +218,8 @@ fn take_turn(
 pub(crate) fn take_turns(
     alloc: Global,
     lp: &StageLp,
-    table: &mut Table,
-    room: &mut Room,
+    table: &mut WarmTable,
+    room: &mut WorkRoom,
     limit: usize,
 ) -> Result<Option<Answer>, Memory>
     requires proper { IsProper lp.now }
@@ -223,7 +228,7 @@ pub(crate) fn take_turns(
     ensures fits { OnOk result (Fits table.new lp.now) }
     ensures room { OnOk result (IsRoomy room.new table.new) }
     ensures own { OnOk result (KeepsOwn lp.now table.old table.new) }
-    ensures went { IfOk result (λ answer. Ends answer (turns lp.now limit false table.old) table.new) }
+    ensures went { IfOk result (λ answer. EndsTurns answer (turns_on_table lp.now limit false table.old) table.new) }
 {
     let mut fresh = false;
     for _turn in 0..limit {

@@ -7,16 +7,16 @@ ghost use Rattle.hp_warm_scale.specs.First.{first_of};
 ghost use Rattle.hp_warm_scale.specs.Fitting.{Suits, Fits};
 ghost use Rattle.hp_warm_simplex.specs.Going.{go_of};
 ghost use Rattle.hp_warm_simplex.specs.Suiting.{suits_is_fact};
-ghost use Rattle.hp_warm_simplex.specs.Chains.{readied, started_of, begun_of, next_of};
+ghost use Rattle.hp_warm_simplex.specs.Chains.{readied, started_of, begun_of, next_of_chain};
 
 use crate::attempts::{is_good, next_answer, widened};
 use crate::going::go;
-use crate::turns::Room;
+use crate::turns::WorkRoom;
 use hp_num::{List, Memory};
 use hp_solver::{Answer, Solver, StageLp};
 use hp_warm_scale::first;
 use hp_warm_scan::Room as ScanRoom;
-use hp_warm_table::Table;
+use hp_warm_table::WarmTable;
 use std::alloc::Global;
 use std::marker::Model;
 
@@ -37,21 +37,21 @@ pub struct WarmSimplex;
 /// depends.
 #[derive(Drop)]
 pub struct Chain {
-    table: Option<Table>,
-    room: Room,
+    table: Option<WarmTable>,
+    room: WorkRoom,
 }
 
 impl Model for Chain {
     ghost use Rattle.std.specs.Prelude.{Option};
-    ghost use Rattle.hp_warm_table.specs.declared.table.Table.{Table};
+    ghost use Rattle.hp_warm_table.specs.declared.table.WarmTable.{WarmTable};
 
-    ghost Value = { Option Table };
+    ghost Value = { Option WarmTable };
 
     ghost view = { λ c. c.table };
 }
 
 impl Chain {
-    fn new(alloc: Global, table: Option<Table>) -> Chain
+    fn new(alloc: Global, table: Option<WarmTable>) -> Chain
         ensures { result ≡ table }
     {
         Chain {
@@ -61,8 +61,8 @@ impl Chain {
     }
 }
 
-fn new_room(alloc: Global) -> Room {
-    Room {
+fn new_room(alloc: Global) -> WorkRoom {
+    WorkRoom {
         violations: List::new(alloc),
         line: List::new(alloc),
         steps: List::new(alloc),
@@ -75,7 +75,7 @@ fn new_room(alloc: Global) -> Room {
 
 // The table after turns that came to something good, else as it was before them.
 #[tactic(auto, using(crate::proofs::Trying::readied_on, crate::proofs::Likeness::ready_suits))]
-fn ready(alloc: Global, lp: &StageLp, mut table: Table) -> Result<Option<Table>, Memory>
+fn ready(alloc: Global, lp: &StageLp, mut table: WarmTable) -> Result<Option<WarmTable>, Memory>
     requires proper { IsProper lp.now }
     requires suits { Suits table lp.now }
     requires reference { IsReference lp.now }
@@ -95,7 +95,7 @@ fn ready(alloc: Global, lp: &StageLp, mut table: Table) -> Result<Option<Table>,
 
 // Makes a start by a program of own rows: the table that its solve leaves, and its first table where that is of no use.
 #[tactic(auto, unfolding(crate::specs::Chains::started_of), using(crate::proofs::Likeness::reference_fits))]
-fn started(alloc: Global, lp: &StageLp) -> Result<Option<Table>, Memory>
+fn started(alloc: Global, lp: &StageLp) -> Result<Option<WarmTable>, Memory>
     requires proper { IsProper lp.now }
     requires reference { IsReference lp.now }
     ensures table { IfOk result (λ table. table ≡ started_of lp.now) }
@@ -109,7 +109,11 @@ fn started(alloc: Global, lp: &StageLp) -> Result<Option<Table>, Memory>
 
 // The table of a chain that begins with a program.
 #[tactic(auto, unfolding(crate::specs::Chains::begun_of))]
-fn begun(alloc: Global, start: &Option<Table>, lp: &StageLp) -> Result<Option<Table>, Memory>
+fn begun(
+    alloc: Global,
+    start: &Option<WarmTable>,
+    lp: &StageLp,
+) -> Result<Option<WarmTable>, Memory>
     requires proper { IsProper lp.now }
     requires suits { IfSome start.now (λ t. Suits t lp.now) }
     ensures table { IfOk result (λ table. table ≡ begun_of start.now lp.now) }
@@ -122,11 +126,11 @@ fn begun(alloc: Global, start: &Option<Table>, lp: &StageLp) -> Result<Option<Ta
 }
 
 impl Solver for WarmSimplex {
-    type Start = Option<Table>;
+    type Start = Option<WarmTable>;
 
     type Chain = Chain;
 
-    ghost does = { λ _. record { started = started_of; begun = begun_of; next = next_of } };
+    ghost does = { λ _. record { started = started_of; begun = begun_of; next = next_of_chain } };
 
     ghost suits = { λ _ start lp. IfSome start (λ t. Suits t lp) };
 
@@ -134,11 +138,16 @@ impl Solver for WarmSimplex {
 
     ghost fits = { λ _ chain lp. IfSome chain (λ t. Fits t lp) };
 
-    fn start(&self, alloc: Global, lp: &StageLp) -> Result<Option<Table>, Memory> {
+    fn start(&self, alloc: Global, lp: &StageLp) -> Result<Option<WarmTable>, Memory> {
         started(alloc, lp)
     }
 
-    fn begin(&self, alloc: Global, start: &Option<Table>, lp: &StageLp) -> Result<Chain, Memory> {
+    fn begin(
+        &self,
+        alloc: Global,
+        start: &Option<WarmTable>,
+        lp: &StageLp,
+    ) -> Result<Chain, Memory> {
         Ok(Chain::new(alloc, begun(alloc, start, lp)?))
     }
 

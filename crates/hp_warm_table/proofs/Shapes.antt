@@ -3,7 +3,7 @@ use Rattle.std.proofs.Common.{◌≡◌, ◌<◌, ℕ, Bool, List, length, All, 
 use Rattle.hp_warm_table.specs.declared.table.Scales.{Scales}
 use Rattle.hp_warm_table.specs.declared.table.Bounds.{Bounds}
 use Rattle.hp_warm_table.specs.declared.table.Basis.{Basis}
-use Rattle.hp_warm_table.specs.declared.table.Table.{Table}
+use Rattle.hp_warm_table.specs.declared.table.WarmTable.{WarmTable}
 use Rattle.hp_warm_table.specs.Shape.{IsTable, variables}
 
 -- an exponent for each row and each column
@@ -26,21 +26,21 @@ pub record IsBasis (columns all : ℕ) (b : Basis) : Type 0 where
   pub numbers : All (λ v. v < all) b.nonbasic
   pub inside : All (λ p. IfSome p (λ j. j < columns)) b.places
 
-pub scales_of : (t : Table) → IsTable t → AreScales (length t.rows) (length t.costs) t.scales
+pub scales_of : (t : WarmTable) → IsTable t → AreScales (length t.rows) (length t.costs) t.scales
 scales_of t s = record { row_scales = s.row_scales; column_scales = s.column_scales }
 
-pub bounds_of : (t : Table) → IsTable t → AreBounds (variables t) t.bounds
+pub bounds_of : (t : WarmTable) → IsTable t → AreBounds (variables t) t.bounds
 bounds_of t s = record { lows = s.lows; ups = s.ups; has_low = s.has_low; has_up = s.has_up }
 
-pub basis_of : (t : Table) → IsTable t → IsBasis (length t.costs) (variables t) t.basis
+pub basis_of : (t : WarmTable) → IsTable t → IsBasis (length t.costs) (variables t) t.basis
 basis_of t s = record { nonbasic = s.nonbasic; places = s.places; high = s.high; numbers = s.numbers; inside = s.inside }
 
 -- a basis stays one where its nonbasic variables stand at other bounds
-pub other_highs : (t : Table) (high : List Bool) → IsTable t → length high ≡ length t.costs → IsBasis (length t.costs) (variables t) (record t.basis { high = high })
+pub other_highs : (t : WarmTable) (high : List Bool) → IsTable t → length high ≡ length t.costs → IsBasis (length t.costs) (variables t) (record t.basis { high = high })
 other_highs t high s e = record { nonbasic = s.nonbasic; places = s.places; high = e; numbers = s.numbers; inside = s.inside }
 
 -- a table with the costs, the rows and the cuts of one, where its other parts fit them
-pub same_shape : (t u : Table) → IsTable t → AreScales (length t.rows) (length t.costs) u.scales → AreBounds (variables t) u.bounds → IsBasis (length t.costs) (variables t) u.basis
+pub same_shape : (t u : WarmTable) → IsTable t → AreScales (length t.rows) (length t.costs) u.scales → AreBounds (variables t) u.bounds → IsBasis (length t.costs) (variables t) u.basis
     → length u.reduced ≡ length t.costs → length u.lines ≡ length t.costs → length u.values ≡ length t.costs → IsTable (record u { costs = t.costs; rows = t.rows; cuts = t.cuts })
 same_shape t u s scales bounds basis reduced lines values =
     record {

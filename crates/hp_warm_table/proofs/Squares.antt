@@ -1,7 +1,7 @@
 -- As many rows as columns, one after the other in one list.
 use Rattle.std.proofs.Common.{◌≡◌, ℕ, ℤ, ◌+◌, ◌*◌, ◌<◌, ◌≤◌, List, ◌++◌, length, take, drop, slice_set, arith, ap, sym, ◌∙◌, subst}
 use Rattle.std.proofs.lemmas.List.{take_at}
-use Rattle.hp_simplex.specs.Rows.{rows_of, put}
+use Rattle.hp_simplex.specs.Rows.{rows_in_list, put}
 use Rattle.hp_simplex.proofs.Flat.{rows_set, inside_is, put_length}
 
 -- a row is inside the list
@@ -25,5 +25,5 @@ module _ (n v : ℕ) (old new r : List ℤ) (there : v < n) (width : length r �
   pub over_long : length (take (length old) (new ++ drop (length new) old)) ≡ n * n
   over_long = ap length over ∙ as_long ∙ square
 
-  pub over_rows : rows_of n n (take (length old) (new ++ drop (length new) old)) ≡ slice_set (rows_of n n old) v r
-  over_rows = ap (rows_of n n) (over ∙ whole) ∙ rows_set n n v old r there width (subst (λ (k : ℕ). n * n ≤ k) (sym square) (omega arith))
+  pub over_rows : rows_in_list n n (take (length old) (new ++ drop (length new) old)) ≡ slice_set (rows_in_list n n old) v r
+  over_rows = ap (rows_in_list n n) (over ∙ whole) ∙ rows_set n n v old r there width (subst (λ (k : ℕ). n * n ≤ k) (sym square) (omega arith))

@@ -7,7 +7,7 @@ use Rattle.std.proofs.Math.ListN.{drop_of_length-le}
 use Rattle.hp_num.specs.Sums.{entry}
 use Rattle.hp_simplex.specs.Each.{each_from}
 use Rattle.hp_warm_table.specs.Numbers.{down_of, cell_of}
-use Rattle.hp_warm_table.specs.Updates.{moved, added_row}
+use Rattle.hp_warm_table.specs.Updates.{moved_cell, added_row}
 use Rattle.hp_warm_table.specs.Sparse.{sparse, added_at}
 use Rattle.hp_simplex.proofs.Each.{behind, behind_one}
 
@@ -20,9 +20,9 @@ sparse_inside n j [] h = none_inside n
 sparse_inside n j (q ∷ qs) h = by (int_eq q (pos 0)) (sparse_inside n (suc j) qs (omega (arith, h)))
   where
     by : (b : Bool) → All (λ (s : ℕ × ℤ). s.0 < n) (sparse (suc j) qs) → All (λ (s : ℕ × ℤ). s.0 < n) (cond b (sparse (suc j) qs) ((j, q) ∷ sparse (suc j) qs))
-    by true rest k d p = rest k d p
-    by false rest zero d p = omega (arith, h)
-    by false rest (suc k) d p = rest k d (omega arith)
+    by true tail k d p = tail k d p
+    by false tail zero d p = omega (arith, h)
+    by false tail (suc k) d p = tail k d (omega arith)
 
 pub steps_inside : (n : ℕ) (qs : List ℤ) (ss : List (ℕ × ℤ)) → length qs ≡ n → ss ≡ sparse 0 qs → All (λ (s : ℕ × ℤ). s.0 < n) ss
 steps_inside n qs ss l e = subst (λ (ps : List (ℕ × ℤ)). All (λ (s : ℕ × ℤ). s.0 < n) ps) (sym e) (sparse_inside n 0 qs (omega (arith, l)))
@@ -45,12 +45,12 @@ pub steps_kept : (whole : List (ℕ × ℤ)) (line : List ℤ) (j : ℕ) (done :
 steps_kept whole line j done h w = sym (w ∙ ap (λ (r : List ℤ). done ++ sparse j r) (drop_of_length-le line h) ∙ append-nil done)
 
 -- one number is added
-pub at_step : (q : ℤ) (whole : Option (List ℤ)) (ss : List (ℕ × ℤ)) (k : ℕ) (d : ℕ × ℤ) (row : List ℤ) (x : ℤ) → k < length ss → moved q (get_or ss k d).1 (entry row (get_or ss k d).0) ≡ Some x → whole ≡ added_at q (drop k ss) row → whole ≡ added_at q (drop (k + 1) ss) (slice_set row (get_or ss k d).0 x)
+pub at_step : (q : ℤ) (whole : Option (List ℤ)) (ss : List (ℕ × ℤ)) (k : ℕ) (d : ℕ × ℤ) (row : List ℤ) (x : ℤ) → k < length ss → moved_cell q (get_or ss k d).1 (entry row (get_or ss k d).0) ≡ Some x → whole ≡ added_at q (drop k ss) row → whole ≡ added_at q (drop (k + 1) ss) (slice_set row (get_or ss k d).0 x)
 at_step q whole ss k d row x h e w =
     w ∙ ap (λ (r : List (ℕ × ℤ)). added_at q r row) (drop_more ss k d h)
     ∙ ap (option_and_then (λ (y : ℤ). added_at q (drop (k + 1) ss) (slice_set row (get_or ss k d).0 y))) e
 
-pub at_absent : (q : ℤ) (whole : Option (List ℤ)) (ss : List (ℕ × ℤ)) (k : ℕ) (d : ℕ × ℤ) (row : List ℤ) → k < length ss → moved q (get_or ss k d).1 (entry row (get_or ss k d).0) ≡ None → whole ≡ added_at q (drop k ss) row → whole ≡ None
+pub at_absent : (q : ℤ) (whole : Option (List ℤ)) (ss : List (ℕ × ℤ)) (k : ℕ) (d : ℕ × ℤ) (row : List ℤ) → k < length ss → moved_cell q (get_or ss k d).1 (entry row (get_or ss k d).0) ≡ None → whole ≡ added_at q (drop k ss) row → whole ≡ None
 at_absent q whole ss k d row h e w =
     w ∙ ap (λ (r : List (ℕ × ℤ)). added_at q r row) (drop_more ss k d h)
     ∙ ap (option_and_then (λ (y : ℤ). added_at q (drop (k + 1) ss) (slice_set row (get_or ss k d).0 y))) e
@@ -71,32 +71,32 @@ one_longer [] x = refl
 one_longer (d ∷ ds) x = ap suc (one_longer ds x)
 
 -- nothing is moved by 0
-still : (q n t : ℤ) → int_eq n (pos 0) ≡ true → moved q n t ≡ Some t
-unfolding moved
+still : (q n t : ℤ) → int_eq n (pos 0) ≡ true → moved_cell q n t ≡ Some t
+unfolding moved_cell
 still q n t e = ap (λ (b : Bool). cond b (Some t) (cell_of (t +ℤ down_of (q *ℤ n)))) e
 
 -- where the numbers ns stand, of which ms are those from place j on, one number and the others
 module _ (q : ℤ) (ns : List ℤ) where
   abbrev step : ℕ → ℤ → Option ℤ
-  step j t = moved q (entry ns j) t
+  step j t = moved_cell q (entry ns j) t
 
   -- one number, where the others are added behind it
   one_more : (done ts ms : List ℤ) (t m : ℤ) → entry ns (length done) ≡ m → ((x : ℤ) → added_at q (sparse (suc (length done)) ms) ((done ++ x ∷ []) ++ ts) ≡ behind (done ++ x ∷ []) (each_from step (suc (length done)) ts)) → added_at q (sparse (length done) (m ∷ ms)) (done ++ t ∷ ts) ≡ behind done (each_from step (length done) (t ∷ ts))
-  one_more done ts ms t m n rest = by (int_eq m (pos 0)) refl
+  one_more done ts ms t m n tail = by (int_eq m (pos 0)) refl
     where
       others : Option (List ℤ)
       others = each_from step (suc (length done)) ts
 
       same : (o : Option ℤ) → option_and_then (λ (x : ℤ). added_at q (sparse (suc (length done)) ms) (slice_set (done ++ t ∷ ts) (length done) x)) o ≡ behind done (option_and_then (λ (y : ℤ). option_map (λ (ys : List ℤ). y ∷ ys) others) o)
       same None = refl
-      same (Some x) = ap (added_at q (sparse (suc (length done)) ms)) (set_behind done t x ts) ∙ rest x ∙ sym (behind_one done x others)
+      same (Some x) = ap (added_at q (sparse (suc (length done)) ms)) (set_behind done t x ts) ∙ tail x ∙ sym (behind_one done x others)
 
       by : (b : Bool) → int_eq m (pos 0) ≡ b → added_at q (cond b (sparse (suc (length done)) ms) ((length done, m) ∷ sparse (suc (length done)) ms)) (done ++ t ∷ ts) ≡ behind done (each_from step (length done) (t ∷ ts))
       by true e =
-          ap (added_at q (sparse (suc (length done)) ms)) (sym (append_assoc done (t ∷ []) ts)) ∙ rest t ∙ sym (behind_one done t others)
-          ∙ sym (ap (λ (o : Option ℤ). behind done (option_and_then (λ (y : ℤ). option_map (λ (ys : List ℤ). y ∷ ys) others) o)) (ap (λ (z : ℤ). moved q z t) n ∙ still q m t e))
+          ap (added_at q (sparse (suc (length done)) ms)) (sym (append_assoc done (t ∷ []) ts)) ∙ tail t ∙ sym (behind_one done t others)
+          ∙ sym (ap (λ (o : Option ℤ). behind done (option_and_then (λ (y : ℤ). option_map (λ (ys : List ℤ). y ∷ ys) others) o)) (ap (λ (z : ℤ). moved_cell q z t) n ∙ still q m t e))
       by false e =
-          ap (option_and_then (λ (x : ℤ). added_at q (sparse (suc (length done)) ms) (slice_set (done ++ t ∷ ts) (length done) x))) (ap₂ (moved q) (sym n) (entry_behind done t ts))
+          ap (option_and_then (λ (x : ℤ). added_at q (sparse (suc (length done)) ms) (slice_set (done ++ t ∷ ts) (length done) x))) (ap₂ (moved_cell q) (sym n) (entry_behind done t ts))
           ∙ same (step (length done) t)
 
   added_behind : (done ts ms : List ℤ) → length ms ≡ length ts → ((i : ℕ) → entry ns (length done + i) ≡ entry ms i) → added_at q (sparse (length done) ms) (done ++ ts) ≡ behind done (each_from step (length done) ts)
@@ -115,4 +115,4 @@ nothing_before (Some ys) = refl
 -- numbers that are 0 change nothing
 pub sparse_added : (q : ℤ) (ns row : List ℤ) → length ns ≡ length row → added_at q (sparse 0 ns) row ≡ added_row q ns row
 unfolding added_row
-sparse_added q ns row h = added_behind q ns [] row ns h (λ i. let e : 0 + i ≡ i = omega arith in ap (entry ns) e) ∙ nothing_before (each_from (λ j t. moved q (entry ns j) t) 0 row)
+sparse_added q ns row h = added_behind q ns [] row ns h (λ i. let e : 0 + i ≡ i = omega arith in ap (entry ns) e) ∙ nothing_before (each_from (λ j t. moved_cell q (entry ns j) t) 0 row)

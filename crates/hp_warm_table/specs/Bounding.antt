@@ -4,9 +4,9 @@ use Rattle.hp_num.specs.Sums.{entry}
 use Rattle.hp_warm_table.specs.declared.table.Bounds.{Bounds}
 
 -- the lower bound of a variable, none where there is none
-abbrev pub low_of : Bounds → ℕ → Option ℤ
-low_of b v = if get_or b.has_low v false then Some (entry b.lows v) else None
+abbrev pub low_bound_of : Bounds → ℕ → Option ℤ
+low_bound_of b v = if get_or b.has_low v false then Some (entry b.lows v) else None
 
 -- the upper bound of a variable, none where there is none
-abbrev pub up_of : Bounds → ℕ → Option ℤ
-up_of b v = if get_or b.has_up v false then Some (entry b.ups v) else None
+abbrev pub up_bound_of : Bounds → ℕ → Option ℤ
+up_bound_of b v = if get_or b.has_up v false then Some (entry b.ups v) else None

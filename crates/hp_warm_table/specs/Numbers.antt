@@ -18,8 +18,8 @@ abbrev pub cell_of : ℤ → Option ℤ
 cell_of v = below 60 v
 
 -- a point, a bound or a side
-abbrev pub value_of : ℤ → Option ℤ
-value_of v = below 55 v
+abbrev pub quantity_of : ℤ → Option ℤ
+quantity_of v = below 55 v
 
 -- a scaled term of a row
 abbrev pub coefficient_of : ℤ → Option ℤ

@@ -1,17 +1,17 @@
 -- Tables whose lists are as long as they have to be, and whose numbers of variables and places are there.
 use Rattle.std.specs.Prelude.{◌≡◌, ℕ, suc, ◌+◌, ◌<◌, ◌≤◌, ℤ, List, [], ◌∷◌, length, All, IfSome, ⊤}
-use Rattle.hp_warm_table.specs.declared.table.Table.{Table}
+use Rattle.hp_warm_table.specs.declared.table.WarmTable.{WarmTable}
 
 -- column numbers rise from `least` on and are below the number of columns
-abbrev pub AreRising : ℕ → ℕ → List (ℕ × ℤ) → Type 0
-AreRising least columns [] = ⊤
-AreRising least columns (t ∷ ts) = (least ≤ t.0) × (t.0 < columns) × AreRising (suc t.0) columns ts
+abbrev pub AreTermsRising : ℕ → ℕ → List (ℕ × ℤ) → Type 0
+AreTermsRising least columns [] = ⊤
+AreTermsRising least columns (t ∷ ts) = (least ≤ t.0) × (t.0 < columns) × AreTermsRising (suc t.0) columns ts
 
 -- the number of variables: columns and slacks
-abbrev pub variables : Table → ℕ
+abbrev pub variables : WarmTable → ℕ
 variables t = length t.costs + length t.rows
 
-pub record IsTable (t : Table) : Type 0 where
+pub record IsTable (t : WarmTable) : Type 0 where
   pub few : length t.costs ≤ 1199
   pub row_scales : length t.scales.rows ≡ length t.rows
   pub waiting : length t.cuts.waiting ≡ length t.costs
@@ -28,4 +28,4 @@ pub record IsTable (t : Table) : Type 0 where
   pub values : length t.values ≡ length t.costs
   pub numbers : All (λ v. v < variables t) t.basis.nonbasic
   pub inside : All (λ p. IfSome p (λ j. j < length t.costs)) t.basis.places
-  pub terms : All (AreRising 0 (length t.costs)) t.rows
+  pub terms : All (AreTermsRising 0 (length t.costs)) t.rows

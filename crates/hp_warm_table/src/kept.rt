@@ -1,6 +1,6 @@
 // Numbers that keep their range.
 ghost use Rattle.std.specs.Prelude.{◌≡◌, ◌^◌, ◌<◌, ◌≤◌, pos, neg_ℤ, nat_abs};
-ghost use Rattle.hp_warm_table.specs.Numbers.{cell_of, value_of, coefficient_of};
+ghost use Rattle.hp_warm_table.specs.Numbers.{cell_of, quantity_of, coefficient_of};
 
 use std::marker::Model;
 
@@ -102,7 +102,7 @@ impl Quantity {
 
     // A number of 64 bits as a quantity.
     fn narrow(v: i64) -> Option<Quantity>
-        ensures { result ≡ value_of v }
+        ensures { result ≡ quantity_of v }
     {
         if -QUANTITIES < v && v < QUANTITIES {
             Some(Quantity { v })
@@ -113,7 +113,7 @@ impl Quantity {
 
     /// A number as a quantity. None exactly where its absolute value is 2^55 or more.
     pub fn new(v: i128) -> Option<Quantity>
-        ensures { result ≡ value_of v }
+        ensures { result ≡ quantity_of v }
     {
         match i64::try_from(v) {
             Ok(v) => Quantity::narrow(v),

@@ -13,4 +13,4 @@ pub mod updates;
 pub use kept::{Cell, Coefficient, Quantity};
 pub use rows::Rows;
 pub use square::Square;
-pub use table::{Basis, Bounds, Cuts, Scales, Table};
+pub use table::{Basis, Bounds, CutRows, Scales, WarmTable};

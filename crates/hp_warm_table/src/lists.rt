@@ -11,13 +11,6 @@ pub fn with_room<T>(alloc: Global, count: usize) -> Result<List<T>, Memory>
     Ok(List::from_vec(Vec::with_capacity(alloc, count)?))
 }
 
-/// Copies the values into a new list. [`Memory`] where memory was refused.
-pub fn copied<T: Copy + Drop>(alloc: Global, items: &[T]) -> Result<List<T>, Memory>
-    ensures { IfOk result (λ found. found ≡ items.now) }
-{
-    Ok(List::from_vec(Vec::from_slice(alloc, items)?))
-}
-
 /// Copies the values into a new list, with memory for so many more. [`Memory`] where memory was refused.
 pub fn copied_with_room<T: Copy + Drop>(
     alloc: Global,

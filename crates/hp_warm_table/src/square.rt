@@ -1,14 +1,14 @@
 // As many rows as columns.
 ghost use Rattle.std.specs.Prelude.{◌≡◌, ◌+◌, ◌*◌, ◌^◌, ◌<◌, ◌≤◌, [], pos, length, get_or, slice_set, take, drop, replicate, IfOk};
 ghost use Rattle.std.specs.Option.{option_map};
-ghost use Rattle.hp_simplex.specs.Rows.{rows_of, put};
-ghost use Rattle.hp_warm_table.specs.Updates.{Gives, moved_row, moved_at};
+ghost use Rattle.hp_simplex.specs.Rows.{rows_in_list, put};
+ghost use Rattle.hp_warm_table.specs.Updates.{GivesNew, moved_table_row, moved_at};
 ghost use Rattle.hp_warm_table.specs.Sparse.{sparse};
 
 use crate::kept::Cell;
-use crate::lists::{copied, repeated};
+use crate::lists::repeated;
 use crate::updates::move_row;
-use hp_num::{List, Memory};
+use hp_num::{List, Memory, copied};
 use std::alloc::Global;
 use std::marker::Model;
 
@@ -21,11 +21,11 @@ pub struct Square {
 
 impl Model for Square {
     ghost use Rattle.std.specs.Prelude.{List, ℤ, ◌≡◌, ◌*◌, length};
-    ghost use Rattle.hp_simplex.specs.Rows.{rows_of};
+    ghost use Rattle.hp_simplex.specs.Rows.{rows_in_list};
 
     ghost Value = { List (List ℤ) };
 
-    ghost view = { λ s. rows_of s.size s.size s.cells };
+    ghost view = { λ s. rows_in_list s.size s.size s.cells };
 
     ghost invariant = { λ s. length s.cells ≡ s.size * s.size };
 }
@@ -87,7 +87,7 @@ impl Square {
         requires width { length addend.now ≡ length self.old }
         requires steps { steps.now ≡ sparse 0 addend.now }
         ensures count { length self.new ≡ length self.old }
-        ensures moved { Gives result (moved_at v place addend.now self.old) self.new }
+        ensures moved { GivesNew result (moved_at v place addend.now self.old) self.new }
     {
         move_row_of(&mut self.cells, self.size, v, place, addend, steps)
     }
@@ -107,7 +107,7 @@ impl Square {
 fn row_of(cells: &[Cell], size: u32, v: usize) -> &[Cell]
     requires there { v < size }
     requires square { length cells.now ≡ size * size }
-    ensures row { result.now ≡ get_or (rows_of size size cells.now) v [] }
+    ensures row { result.now ≡ get_or (rows_in_list size size cells.now) v [] }
     ensures width { length result.now ≡ size }
 {
     let width = size as usize;
@@ -120,8 +120,8 @@ fn put_row(cells: &mut [Cell], start: usize, row: &[Cell])
     requires { start + length row.now ≤ length cells.old }
     ensures { cells.new ≡ put (length row.now) start cells.old row.now }
 {
-    let (_, rest) = cells.split_at_mut(start);
-    let (place, _) = rest.split_at_mut(row.len());
+    let (_, tail) = cells.split_at_mut(start);
+    let (place, _) = tail.split_at_mut(row.len());
     place.copy_from_slice(row);
 }
 
@@ -131,7 +131,7 @@ fn set_row_of(cells: &mut List<Cell>, size: u32, v: usize, row: &[Cell])
     requires width { length row.now ≡ size }
     requires square { length cells.old ≡ size * size }
     ensures square { length cells.new ≡ size * size }
-    ensures rows { rows_of size size cells.new ≡ slice_set (rows_of size size cells.old) v row.now }
+    ensures rows { rows_in_list size size cells.new ≡ slice_set (rows_in_list size size cells.old) v row.now }
 {
     put_row(cells.as_mut_slice(), v * size as usize, row);
 }
@@ -148,11 +148,11 @@ fn move_row_at(
     requires steps { steps.now ≡ sparse 0 addend.now }
     requires inside { start + length addend.now ≤ length cells.old }
     ensures lengths { length cells.new ≡ length cells.old }
-    ensures moved { Gives result (option_map (put (length addend.now) start cells.old)
-        (moved_row place addend.now (take (length addend.now) (drop start cells.old)))) cells.new }
+    ensures moved { GivesNew result (option_map (put (length addend.now) start cells.old)
+        (moved_table_row place addend.now (take (length addend.now) (drop start cells.old)))) cells.new }
 {
-    let (_, rest) = cells.split_at_mut(start);
-    let (row, _) = rest.split_at_mut(addend.len());
+    let (_, tail) = cells.split_at_mut(start);
+    let (row, _) = tail.split_at_mut(addend.len());
     move_row(row, place, addend, steps)
 }
 
@@ -171,8 +171,8 @@ fn move_row_of(
     requires width { length addend.now ≡ size }
     requires square { length cells.old ≡ size * size }
     ensures square { length cells.new ≡ size * size }
-    ensures moved { Gives result (moved_at v place addend.now (rows_of size size cells.old))
-        (rows_of size size cells.new) }
+    ensures moved { GivesNew result (moved_at v place addend.now (rows_in_list size size cells.old))
+        (rows_in_list size size cells.new) }
 {
     move_row_at(
         cells.as_mut_slice(),

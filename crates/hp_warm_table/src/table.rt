@@ -1,12 +1,12 @@
 // The table of a chain of solves.
 ghost use Rattle.std.specs.Prelude.{◌≡◌, ◌<◌, length, IfOk};
-ghost use Rattle.hp_warm_table.specs.Bounding.{low_of, up_of};
+ghost use Rattle.hp_warm_table.specs.Bounding.{low_bound_of, up_bound_of};
 
 use crate::kept::{Cell, Quantity};
-use crate::lists::{copied, copied_with_room};
+use crate::lists::copied_with_room;
 use crate::rows::Rows;
 use crate::square::Square;
-use hp_num::{List, Memory};
+use hp_num::{List, Memory, copied};
 use std::alloc::Global;
 
 /// Exponents of two: what is scaled is the number times 2 to the power of its exponents.
@@ -55,7 +55,7 @@ impl Bounds {
     pub fn low(&self, variable: usize) -> Option<Quantity>
         requires low { variable < length self.now.lows }
         requires flag { variable < length self.now.has_low }
-        ensures { result ≡ low_of self.now variable }
+        ensures { result ≡ low_bound_of self.now variable }
     {
         if self.has_low.as_slice()[variable] {
             Some(self.lows.as_slice()[variable])
@@ -68,7 +68,7 @@ impl Bounds {
     pub fn up(&self, variable: usize) -> Option<Quantity>
         requires up { variable < length self.now.ups }
         requires flag { variable < length self.now.has_up }
-        ensures { result ≡ up_of self.now variable }
+        ensures { result ≡ up_bound_of self.now variable }
     {
         if self.has_up.as_slice()[variable] {
             Some(self.ups.as_slice()[variable])
@@ -124,19 +124,19 @@ impl Basis {
 
 /// Which cuts have rows in a table, and which wait until a point violates them.
 #[derive(Drop)]
-pub struct Cuts {
+pub struct CutRows {
     /// The program's row of each row behind the own ones, in the order in which these came.
     pub rows: List<usize>,
     /// Whether each column is that of a successor whose cuts come in only as they are asked for.
     pub waiting: List<bool>,
 }
 
-impl Cuts {
+impl CutRows {
     // Copies the cuts, with memory for so many rows more.
-    fn copy(&self, alloc: Global, more: usize) -> Result<Cuts, Memory>
+    fn copy(&self, alloc: Global, more: usize) -> Result<CutRows, Memory>
         ensures { IfOk result (λ cuts. cuts ≡ self.now) }
     {
-        Ok(Cuts {
+        Ok(CutRows {
             rows: copied_with_room(alloc, self.rows.as_slice(), more)?,
             waiting: copied(alloc, self.waiting.as_slice())?,
         })
@@ -146,13 +146,13 @@ impl Cuts {
 /// The state of a chain of solves: a program in scaled numbers, with how its basic variables depend on the nonbasic ones. There
 /// are as many places, for nonbasic variables, as columns.
 #[derive(Drop)]
-pub struct Table {
+pub struct WarmTable {
     /// The scales of the numbers.
     pub scales: Scales,
     /// The terms of each row: first the program's own rows, then rows of cuts in the order in which they came.
     pub rows: Rows,
     /// Which cuts these are, and which wait.
-    pub cuts: Cuts,
+    pub cuts: CutRows,
     /// The cost of each column.
     pub costs: List<Cell>,
     /// The bounds of all variables.
@@ -169,9 +169,9 @@ pub struct Table {
     pub weak: bool,
 }
 
-impl Table {
+impl WarmTable {
     // The scales, the rows and their cuts, with memory for so many rows more.
-    fn copied_rows(&self, alloc: Global, more: usize) -> Result<(Scales, Rows, Cuts), Memory>
+    fn copied_rows(&self, alloc: Global, more: usize) -> Result<(Scales, Rows, CutRows), Memory>
         ensures scales { IfOk result (λ copied. copied.0 ≡ self.now.scales) }
         ensures rows { IfOk result (λ copied. copied.1 ≡ self.now.rows) }
         ensures cuts { IfOk result (λ copied. copied.2 ≡ self.now.cuts) }
@@ -211,13 +211,13 @@ impl Table {
     }
 
     /// Copies the table, with memory for so many rows more. [`Memory`] where memory was refused.
-    pub fn copy(&self, alloc: Global, more: usize) -> Result<Table, Memory>
+    pub fn copy(&self, alloc: Global, more: usize) -> Result<WarmTable, Memory>
         ensures { IfOk result (λ table. table ≡ self.now) }
     {
         let (scales, rows, cuts) = self.copied_rows(alloc, more)?;
         let (bounds, basis, lines) = self.copied_variables(alloc, more)?;
         let (costs, reduced, values) = self.copied_columns(alloc)?;
-        Ok(Table {
+        Ok(WarmTable {
             scales,
             rows,
             cuts,

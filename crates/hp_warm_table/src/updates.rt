@@ -1,9 +1,8 @@
 // Rows with a multiple of another row added.
-ghost use Rattle.std.specs.Prelude.{◌≡◌, true, ℤ, ◌^◌, ◌<◌, ◌≤◌, pos, ◌+ℤ◌, ◌*ℤ◌, [], length, get_or, slice_set, nat_abs, All};
-ghost use Rattle.std.specs.Option.{option_map};
+ghost use Rattle.std.specs.Prelude.{◌≡◌, true, ℤ, ◌^◌, ◌<◌, ◌≤◌, pos, ◌+ℤ◌, ◌*ℤ◌, length, nat_abs, All};
 ghost use Rattle.hp_num.specs.Sums.{floor_over};
 ghost use Rattle.hp_warm_table.specs.Numbers.{down_of, cell_of};
-ghost use Rattle.hp_warm_table.specs.Updates.{Gives, moved, added_row, moved_row};
+ghost use Rattle.hp_warm_table.specs.Updates.{GivesNew, moved_cell, added_row, moved_table_row};
 ghost use Rattle.hp_warm_table.specs.Sparse.{sparse, added_at};
 
 use crate::kept::Cell;
@@ -24,7 +23,7 @@ fn added(t: Cell, factor: Cell, n: Cell) -> Option<Cell>
 
 // The cell with a product added.
 fn moved(t: Cell, factor: Cell, n: Cell) -> Option<Cell>
-    ensures { result ≡ moved factor n t }
+    ensures { result ≡ moved_cell factor n t }
 {
     let _number = t.number();
     added(t, factor, n)
@@ -72,7 +71,7 @@ fn scaled(factor: Cell) -> i64
 
 // The cell with a product added, for `scaled` = 2^24 times the factor.
 fn moved_near(t: Cell, scaled: i64, n: Cell) -> Option<Cell>
-    ensures { (q : ℤ) → scaled ≡ pos (2 ^ 24) *ℤ q → result ≡ moved q n t }
+    ensures { (q : ℤ) → scaled ≡ pos (2 ^ 24) *ℤ q → result ≡ moved_cell q n t }
 {
     let _number = t.number();
     near_cell(t, high_product(scaled, n.number()))
@@ -82,7 +81,7 @@ fn moved_near(t: Cell, scaled: i64, n: Cell) -> Option<Cell>
 fn add_row_wide(row: &mut [Cell], factor: Cell, addend: &[Cell]) -> bool
     requires lengths { length addend.now ≡ length row.old }
     ensures lengths { length row.new ≡ length row.old }
-    ensures moved { Gives result (added_row factor addend.now row.old) row.new }
+    ensures moved { GivesNew result (added_row factor addend.now row.old) row.new }
 {
     for j in 0..row.len() {
         match moved(row[j], factor, addend[j]) {
@@ -99,7 +98,7 @@ fn add_row_near(row: &mut [Cell], factor: Cell, addend: &[Cell]) -> bool
     requires near { nat_abs factor < 2 ^ 39 }
     requires lengths { length addend.now ≡ length row.old }
     ensures lengths { length row.new ≡ length row.old }
-    ensures moved { Gives result (added_row factor addend.now row.old) row.new }
+    ensures moved { GivesNew result (added_row factor addend.now row.old) row.new }
 {
     let scaled = scaled(factor);
     for j in 0..row.len() {
@@ -117,7 +116,7 @@ fn add_row_near(row: &mut [Cell], factor: Cell, addend: &[Cell]) -> bool
 pub fn add_row(row: &mut [Cell], factor: Cell, addend: &[Cell]) -> bool
     requires lengths { length addend.now ≡ length row.old }
     ensures lengths { length row.new ≡ length row.old }
-    ensures moved { Gives result (added_row factor addend.now row.old) row.new }
+    ensures moved { GivesNew result (added_row factor addend.now row.old) row.new }
 {
     if is_near(factor) {
         add_row_near(row, factor, addend)
@@ -130,7 +129,7 @@ pub fn add_row(row: &mut [Cell], factor: Cell, addend: &[Cell]) -> bool
 fn add_wide_at(row: &mut [Cell], factor: Cell, steps: &[(usize, Cell)]) -> bool
     requires { All (λ s. s.0 < length row.old) steps.now }
     ensures lengths { length row.new ≡ length row.old }
-    ensures added { Gives result (added_at factor steps.now row.old) row.new }
+    ensures added { GivesNew result (added_at factor steps.now row.old) row.new }
 {
     for k in 0..steps.len() {
         let step = steps[k];
@@ -147,7 +146,7 @@ fn add_near_at(row: &mut [Cell], factor: Cell, steps: &[(usize, Cell)]) -> bool
     requires near { nat_abs factor < 2 ^ 39 }
     requires inside { All (λ s. s.0 < length row.old) steps.now }
     ensures lengths { length row.new ≡ length row.old }
-    ensures added { Gives result (added_at factor steps.now row.old) row.new }
+    ensures added { GivesNew result (added_at factor steps.now row.old) row.new }
 {
     let scaled = scaled(factor);
     for k in 0..steps.len() {
@@ -164,7 +163,7 @@ fn add_near_at(row: &mut [Cell], factor: Cell, steps: &[(usize, Cell)]) -> bool
 fn add_at(row: &mut [Cell], factor: Cell, steps: &[(usize, Cell)]) -> bool
     requires { All (λ s. s.0 < length row.old) steps.now }
     ensures lengths { length row.new ≡ length row.old }
-    ensures added { Gives result (added_at factor steps.now row.old) row.new }
+    ensures added { GivesNew result (added_at factor steps.now row.old) row.new }
 {
     if is_near(factor) {
         add_near_at(row, factor, steps)
@@ -179,7 +178,7 @@ fn add_steps(row: &mut [Cell], factor: Cell, addend: &[Cell], steps: &[(usize, C
     requires lengths { length addend.now ≡ length row.old }
     requires steps { steps.now ≡ sparse 0 addend.now }
     ensures lengths { length row.new ≡ length row.old }
-    ensures moved { Gives result (added_row factor addend.now row.old) row.new }
+    ensures moved { GivesNew result (added_row factor addend.now row.old) row.new }
 {
     if steps.len() < addend.len() {
         add_at(row, factor, steps)
@@ -191,13 +190,13 @@ fn add_steps(row: &mut [Cell], factor: Cell, addend: &[Cell], steps: &[(usize, C
 /// The row after the variable at a place is replaced by the sum that the addend is. The answer is
 /// false exactly where a result leaves the range of cells: nothing but its length is promised of
 /// the row then. `steps` are the addend's cells that are not 0, each with its place.
-#[tactic(auto, unfolding(crate::specs::Updates::moved_row))]
+#[tactic(auto, unfolding(crate::specs::Updates::moved_table_row))]
 pub fn move_row(row: &mut [Cell], place: usize, addend: &[Cell], steps: &[(usize, Cell)]) -> bool
     requires place { place < length row.old }
     requires lengths { length addend.now ≡ length row.old }
     requires steps { steps.now ≡ sparse 0 addend.now }
     ensures lengths { length row.new ≡ length row.old }
-    ensures moved { Gives result (moved_row place addend.now row.old) row.new }
+    ensures moved { GivesNew result (moved_table_row place addend.now row.old) row.new }
 {
     let factor = row[place];
     if factor.number() == 0 {

@@ -8,7 +8,7 @@ use Rattle.std.proofs.lemmas.Bool.Decides.{nat_tests}
 use Rattle.hp_num.specs.Sums.{floor_over}
 use Rattle.hp_num.proofs.Ring.{ring, var, num, ◌⊕◌, ◌⊗◌}
 use Rattle.hp_num.proofs.Order.{floor_at_most}
-use Rattle.hp_wide.specs.Numbers.{fits, held, rest_over}
+use Rattle.hp_wide.specs.Numbers.{fits_wide, held_wide, rest_over}
 use Rattle.hp_wide.proofs.Held.{less_true, less_false, fits_read, some_same}
 
 -- a number is its multiple and its rest
@@ -53,27 +53,27 @@ lt_same m n p q f g = ⊎_elim (λ (h : p < q). less_true m n (g h) ∙ sym (les
 below_zero : (n l : ℕ) → l < 2 ^ 128 → pos (2 ^ 128) *ℤ negsuc n +ℤ pos l ≡ negsuc (2 ^ 128 * n + (2 ^ 128 - 1 - l))
 below_zero n l h = omega (arith, ints, h)
 
-pub fits_up : (h : ℤ) (l : ℕ) → l < 2 ^ 128 → fits 255 (pos (2 ^ 128) *ℤ h +ℤ pos l) ≡ fits 127 h
+pub fits_up : (h : ℤ) (l : ℕ) → l < 2 ^ 128 → fits_wide 255 (pos (2 ^ 128) *ℤ h +ℤ pos l) ≡ fits_wide 127 h
 fits_up (pos n) l h = lt_same (2 ^ 128 * n + l) (2 ^ 255) n (2 ^ 127) (λ p. omega (arith, p, h)) (λ p. omega (arith, p, h))
-fits_up (negsuc n) l h = ap (fits 255) (below_zero n l h) ∙ lt_same (2 ^ 128 * n + (2 ^ 128 - 1 - l)) (2 ^ 255) n (2 ^ 127) (λ p. omega (arith, p, h)) (λ p. omega (arith, p, h))
+fits_up (negsuc n) l h = ap (fits_wide 255) (below_zero n l h) ∙ lt_same (2 ^ 128 * n + (2 ^ 128 - 1 - l)) (2 ^ 255) n (2 ^ 127) (λ p. omega (arith, p, h)) (λ p. omega (arith, p, h))
 
 -- a result of two halves
-pub some_up : (h s z : ℤ) (l : ℕ) → l < 2 ^ 128 → z ≡ pos (2 ^ 128) *ℤ s +ℤ pos l → Some h ≡ held 127 s → Some (pos (2 ^ 128) *ℤ to_z w128 (of_z w128 h) +ℤ pos l) ≡ held 255 z
-some_up h s z l p e i = by (fits 127 s) refl i
+pub some_up : (h s z : ℤ) (l : ℕ) → l < 2 ^ 128 → z ≡ pos (2 ^ 128) *ℤ s +ℤ pos l → Some h ≡ held_wide 127 s → Some (pos (2 ^ 128) *ℤ to_z w128 (of_z w128 h) +ℤ pos l) ≡ held_wide 255 z
+some_up h s z l p e i = by (fits_wide 127 s) refl i
   where
-    by : (t : Bool) → fits 127 s ≡ t → Some h ≡ cond t (Some s) None → Some (pos (2 ^ 128) *ℤ to_z w128 (of_z w128 h) +ℤ pos l) ≡ held 255 z
+    by : (t : Bool) → fits_wide 127 s ≡ t → Some h ≡ cond t (Some s) None → Some (pos (2 ^ 128) *ℤ to_z w128 (of_z w128 h) +ℤ pos l) ≡ held_wide 255 z
     by true k j =
         let same : h ≡ s = some_same j in
-        let read : to_z w128 (of_z w128 h) ≡ s = to_z-of_z w128 h (fits_read h (ap (fits 127) same ∙ k)) ∙ same in
-        rw (ap (fits 255) e ∙ fits_up s l p ∙ k) (ap Some (ap (λ (n : ℤ). pos (2 ^ 128) *ℤ n +ℤ pos l) read ∙ sym e))
+        let read : to_z w128 (of_z w128 h) ≡ s = to_z-of_z w128 h (fits_read h (ap (fits_wide 127) same ∙ k)) ∙ same in
+        rw (ap (fits_wide 255) e ∙ fits_up s l p ∙ k) (ap Some (ap (λ (n : ℤ). pos (2 ^ 128) *ℤ n +ℤ pos l) read ∙ sym e))
     by false k j = absurd (cc)
 
-pub none_up : (s z : ℤ) (l : ℕ) → l < 2 ^ 128 → z ≡ pos (2 ^ 128) *ℤ s +ℤ pos l → None ≡ held 127 s → None ≡ held 255 z
-none_up s z l p e i = by (fits 127 s) refl i
+pub none_up : (s z : ℤ) (l : ℕ) → l < 2 ^ 128 → z ≡ pos (2 ^ 128) *ℤ s +ℤ pos l → None ≡ held_wide 127 s → None ≡ held_wide 255 z
+none_up s z l p e i = by (fits_wide 127 s) refl i
   where
-    by : (t : Bool) → fits 127 s ≡ t → None ≡ cond t (Some s) None → None ≡ held 255 z
+    by : (t : Bool) → fits_wide 127 s ≡ t → None ≡ cond t (Some s) None → None ≡ held_wide 255 z
     by true k j = absurd (cc)
-    by false k j = rw (ap (fits 255) e ∙ fits_up s l p ∙ k) refl
+    by false k j = rw (ap (fits_wide 255) e ∙ fits_up s l p ∙ k) refl
 
 pub sum_by_halves : (x y h k : ℤ) (l m n : ℕ) (carry : Bool) → pos (2 ^ 128) *ℤ h +ℤ pos l ≡ x → pos (2 ^ 128) *ℤ k +ℤ pos m ≡ y → n + from_bool carry * 2 ^ 128 ≡ l + m → x +ℤ y ≡ pos (2 ^ 128) *ℤ (h +ℤ k +ℤ pos (from_bool carry)) +ℤ pos n
 sum_by_halves x y h k l m n carry d e f = omega (arith, ints, d, e, f)

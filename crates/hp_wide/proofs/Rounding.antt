@@ -7,7 +7,7 @@ use Rattle.hp_num.specs.Sums.{floor_over}
 use Rattle.hp_num.proofs.Ring.{ring, var, num, ◌⊕◌, ◌⊗◌}
 use Rattle.hp_num.proofs.Order.{floor_at_most, floor_above, le_scale}
 use Rattle.hp_num.proofs.Floors.{floor_unique}
-use Rattle.hp_wide.specs.Numbers.{fits, held, nearest_of}
+use Rattle.hp_wide.specs.Numbers.{fits_wide, held_wide, nearest_of}
 use Rattle.hp_wide.proofs.Held.{less_true, held_same}
 use Rattle.hp_wide.proofs.Shifts.{power_positive}
 
@@ -35,7 +35,7 @@ nearest_is s k z =
     ap (λ (d : ℕ). floor_over (s +ℤ pos (2 ^ (k - 1))) d) (ap (λ (n : ℕ). 2 ^ n) (sym whole) ∙ pow-add 2 (k - 1) 1) ∙ half_more s (2 ^ (k - 1)) (power_positive (k - 1))
 
 -- a number is held by 256 bits where its half is held by 128
-held_before : (z : ℤ) → fits 127 (floor_over z 2) ≡ true → fits 255 z ≡ true
+held_before : (z : ℤ) → fits_wide 127 (floor_over z 2) ≡ true → fits_wide 255 z ≡ true
 held_before (pos n) e = less_true n (2 ^ 255) (by (grind (arith, nat_tests)))
   where
     by : n / 2 < 2 ^ 127 → n < 2 ^ 255
@@ -45,19 +45,19 @@ held_before (negsuc n) e = less_true n (2 ^ 255) (by (grind (arith, nat_tests)))
     by : n / 2 < 2 ^ 127 → n < 2 ^ 255
     by h = omega (arith, h)
 
-absent_after : (z : ℤ) → None ≡ held 255 z → None ≡ held 127 (floor_over z 2)
-absent_after z e = by (fits 127 (floor_over z 2)) refl
+absent_after : (z : ℤ) → None ≡ held_wide 255 z → None ≡ held_wide 127 (floor_over z 2)
+absent_after z e = by (fits_wide 127 (floor_over z 2)) refl
   where
-    by : (t : Bool) → fits 127 (floor_over z 2) ≡ t → None ≡ cond t (Some (floor_over z 2)) None
+    by : (t : Bool) → fits_wide 127 (floor_over z 2) ≡ t → None ≡ cond t (Some (floor_over z 2)) None
     by true h = absurd (let there = held_before z h in let f = rw there at e in cc)
     by false h = refl
 
-pub nearest_some : (s t one more v : ℤ) (r : Option ℤ) (k : ℕ) → 0 < k → t ≡ floor_over s (2 ^ (k - 1)) → one ≡ pos 1 → Some more ≡ held 255 (t +ℤ one) → v ≡ floor_over more 2 → r ≡ held 127 v → r ≡ held 127 (nearest_of s k)
+pub nearest_some : (s t one more v : ℤ) (r : Option ℤ) (k : ℕ) → 0 < k → t ≡ floor_over s (2 ^ (k - 1)) → one ≡ pos 1 → Some more ≡ held_wide 255 (t +ℤ one) → v ≡ floor_over more 2 → r ≡ held_wide 127 v → r ≡ held_wide 127 (nearest_of s k)
 nearest_some s t one more v r k z et eo em ev er =
     let whole : more ≡ floor_over s (2 ^ (k - 1)) +ℤ pos 1 = held_same 255 (t +ℤ one) more em ∙ ap₂ (λ (x y : ℤ). x +ℤ y) et eo in
-    er ∙ ap (held 127) (ev ∙ ap (λ (x : ℤ). floor_over x 2) whole ∙ sym (nearest_is s k z))
+    er ∙ ap (held_wide 127) (ev ∙ ap (λ (x : ℤ). floor_over x 2) whole ∙ sym (nearest_is s k z))
 
-pub nearest_none : (s t one : ℤ) (k : ℕ) → 0 < k → t ≡ floor_over s (2 ^ (k - 1)) → one ≡ pos 1 → None ≡ held 255 (t +ℤ one) → None ≡ held 127 (nearest_of s k)
+pub nearest_none : (s t one : ℤ) (k : ℕ) → 0 < k → t ≡ floor_over s (2 ^ (k - 1)) → one ≡ pos 1 → None ≡ held_wide 255 (t +ℤ one) → None ≡ held_wide 127 (nearest_of s k)
 nearest_none s t one k z et eo en =
     let whole : t +ℤ one ≡ floor_over s (2 ^ (k - 1)) +ℤ pos 1 = ap₂ (λ (x y : ℤ). x +ℤ y) et eo in
-    absent_after (t +ℤ one) en ∙ ap (λ (x : ℤ). held 127 (floor_over x 2)) whole ∙ ap (held 127) (sym (nearest_is s k z))
+    absent_after (t +ℤ one) en ∙ ap (λ (x : ℤ). held_wide 127 (floor_over x 2)) whole ∙ ap (held_wide 127) (sym (nearest_is s k z))

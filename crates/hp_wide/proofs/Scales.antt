@@ -7,7 +7,7 @@ use Rattle.std.proofs.lemmas.Bool.Decides.{nat_tests, Decides-int_eq}
 use Rattle.std.proofs.lemmas.Int.{to_z-of_z, unsigned_abs-mul}
 use Rattle.std.proofs.lemmas.Nat.{leading_top, pow-add}
 use Rattle.std.proofs.Math.Nat.{mul-lt-mul_of_pos_right}
-use Rattle.hp_wide.specs.Numbers.{bits_of, held, shift_up}
+use Rattle.hp_wide.specs.Numbers.{bits_of_wide, held_wide, shift_up_wide}
 use Rattle.hp_wide.proofs.Held.{held_within}
 use Rattle.hp_wide.proofs.Shifts.{power_more, power_positive}
 
@@ -34,9 +34,9 @@ size_fits : (v : ℤ) → FitsSigned w128 v → nat_abs v < 2 ^ 128
 size_fits (pos n) f = let h : n < 2 ^ 127 = f.sfits in omega (arith, h)
 size_fits (negsuc n) f = let h : n < 2 ^ 127 = f.sfits in omega (arith, h)
 
-up_held : (v : ℤ) (k : ℕ) → FitsSigned w128 v → 0 < nat_abs v → bits_of v + k ≤ 250 → held 255 (v *ℤ pos (2 ^ k)) ≡ Some (v *ℤ pos (2 ^ k))
+up_held : (v : ℤ) (k : ℕ) → FitsSigned w128 v → 0 < nat_abs v → bits_of_wide v + k ≤ 250 → held_wide 255 (v *ℤ pos (2 ^ k)) ≡ Some (v *ℤ pos (2 ^ k))
 up_held v k f p h =
-    let small : nat_abs v * 2 ^ k < 2 ^ 255 = scaled_below (nat_abs v) (bits_of v) k (below_power (nat_abs v) p (size_fits v f)) h in
+    let small : nat_abs v * 2 ^ k < 2 ^ 255 = scaled_below (nat_abs v) (bits_of_wide v) k (below_power (nat_abs v) p (size_fits v f)) h in
     held_within 255 (v *ℤ pos (2 ^ k)) (subst (λ (n : ℕ). n < 2 ^ 255) (sym (unsigned_abs-mul v (pos (2 ^ k)))) small)
 
 not_none : (v : ℤ) → 0 < nat_abs v → int_eq v (pos 0) ≡ false
@@ -49,10 +49,10 @@ not_none v p = by (int_eq v (pos 0)) refl
 few_true : (n : ℕ) → n ≤ 250 → nat_le n 250 ≡ true
 few_true n h = grind (arith, nat_tests)
 
-pub shift_up_is : (v : ℤ) (b k : ℕ) (r : Option ℤ) → FitsSigned w128 v → (of_z w128 v ≡ 0 → ⊥) → b ≡ bits_of (to_z w128 (of_z w128 v)) → b + k ≤ 250 → r ≡ held 255 (to_z w128 (of_z w128 v) *ℤ pos (2 ^ k)) → r ≡ shift_up v k
-unfolding shift_up
+pub shift_up_is : (v : ℤ) (b k : ℕ) (r : Option ℤ) → FitsSigned w128 v → (of_z w128 v ≡ 0 → ⊥) → b ≡ bits_of_wide (to_z w128 (of_z w128 v)) → b + k ≤ 250 → r ≡ held_wide 255 (to_z w128 (of_z w128 v) *ℤ pos (2 ^ k)) → r ≡ shift_up_wide v k
+unfolding shift_up_wide
 shift_up_is v b k r f n e h i =
     let read = to_z-of_z w128 v f in
     let size = some_size v n in
-    let digits : bits_of v + k ≤ 250 = subst (λ (m : ℕ). m + k ≤ 250) (e ∙ ap bits_of read) h in
-    rw (not_none v size, few_true (bits_of v + k) digits) (i ∙ ap (λ (z : ℤ). held 255 (z *ℤ pos (2 ^ k))) read ∙ up_held v k f size digits)
+    let digits : bits_of_wide v + k ≤ 250 = subst (λ (m : ℕ). m + k ≤ 250) (e ∙ ap bits_of_wide read) h in
+    rw (not_none v size, few_true (bits_of_wide v + k) digits) (i ∙ ap (λ (z : ℤ). held_wide 255 (z *ℤ pos (2 ^ k))) read ∙ up_held v k f size digits)

@@ -9,7 +9,7 @@ use Rattle.hp_num.specs.Sums.{floor_over}
 use Rattle.hp_num.proofs.Ring.{ring, var, num, ◌⊕◌, ◌⊗◌}
 use Rattle.hp_num.proofs.Order.{floor_at_most, floor_above, le_scale}
 use Rattle.hp_num.proofs.Floors.{floor_unique}
-use Rattle.hp_wide.specs.Numbers.{fits, held, rest_over}
+use Rattle.hp_wide.specs.Numbers.{fits_wide, held_wide, rest_over}
 use Rattle.hp_wide.proofs.ByHalves.{split}
 use Rattle.hp_wide.proofs.Held.{fits_read}
 
@@ -127,8 +127,8 @@ shift_small v h f l k r n less hf ff view ef er en =
     let e : ℕ = 2 ^ (128 - k) in
     let whole : d * e ≡ 2 ^ 128 = powers_join k less in
     let floor : to_z w128 (of_z w128 f) ≡ floor_over h d = to_z-of_z w128 f ff ∙ ef ∙ ap (λ (z : ℤ). floor_over z d) read in
-    let rest : n ≡ rest_over h d * e + l / d = en ∙ ap (λ (x : ℕ). x + l / d) (er ∙ ap (λ (z : ℤ). rest_over z d * e) read) in
-    ap₂ (λ (z : ℤ) (x : ℕ). pos (2 ^ 128) *ℤ z +ℤ pos x) floor rest
+    let tail : n ≡ rest_over h d * e + l / d = en ∙ ap (λ (x : ℕ). x + l / d) (er ∙ ap (λ (z : ℤ). rest_over z d * e) read) in
+    ap₂ (λ (z : ℤ) (x : ℕ). pos (2 ^ 128) *ℤ z +ℤ pos x) floor tail
     ∙ ap (λ (w : ℕ). pos w *ℤ floor_over h d +ℤ pos (rest_over h d * e + l / d)) (sym whole)
     ∙ sym (floor_joined d e (floor_over h d) (rest_over h d) l (power_positive k))
     ∙ ap₂ (λ (w : ℕ) (z : ℤ). floor_over (pos w *ℤ z +ℤ pos l) d) whole (sym (split h d (power_positive k)))
@@ -155,10 +155,10 @@ pos_times a b = refl
 neg_times : (a b : ℕ) → negsuc a *ℤ pos b ≡ neg_ℤ (pos (suc a * b))
 neg_times a b = refl
 
-absent_from : (z : ℤ) → (FitsSigned w128 z → ⊥) → None ≡ held 127 z
-absent_from z h = by (fits 127 z) refl
+absent_from : (z : ℤ) → (FitsSigned w128 z → ⊥) → None ≡ held_wide 127 z
+absent_from z h = by (fits_wide 127 z) refl
   where
-    by : (t : Bool) → fits 127 z ≡ t → None ≡ cond t (Some z) None
+    by : (t : Bool) → fits_wide 127 z ≡ t → None ≡ cond t (Some z) None
     by true e = absurd (h (fits_read z e))
     by false e = refl
 
@@ -169,7 +169,7 @@ too_small : (n : ℕ) → 2 ^ 127 < n → FitsSigned w128 (neg_ℤ (pos n)) → 
 too_small zero h f = absurd (omega arith)
 too_small (suc n) h f = let g : n < 2 ^ 127 = f.sfits in absurd (omega (arith, g))
 
-pub up_absent : (v : ℤ) (k : ℕ) → 126 < k → (of_z w128 v ≡ 0 → ⊥) → ((k ≡ 127) × (of_z w128 v ≡ 2 ^ 128 - 1 → ⊥)) ⊎ (k ≡ 127 → ⊥) → None ≡ held 127 (v *ℤ pos (2 ^ k))
+pub up_absent : (v : ℤ) (k : ℕ) → 126 < k → (of_z w128 v ≡ 0 → ⊥) → ((k ≡ 127) × (of_z w128 v ≡ 2 ^ 128 - 1 → ⊥)) ⊎ (k ≡ 127 → ⊥) → None ≡ held_wide 127 (v *ℤ pos (2 ^ k))
 up_absent (pos zero) k h a b = absurd (a refl)
 up_absent (pos (suc n)) k h a b = rw (pos_times (suc n) (2 ^ k)) (absent_from (pos (suc n * 2 ^ k)) (too_great (suc n * 2 ^ k) (omega (arith, power_more k 127 h))))
 up_absent (negsuc zero) k h a b = ⊎_elim (λ (p : (k ≡ 127) × (of_z w128 (negsuc zero) ≡ 2 ^ 128 - 1 → ⊥)). absurd (p.1 refl)) (λ (p : k ≡ 127 → ⊥). rw (neg_times 0 (2 ^ k)) (absent_from (neg_ℤ (pos (suc 0 * 2 ^ k))) (too_small (suc 0 * 2 ^ k) (omega (arith, power_more k 128 (omega (arith, p))))))) b

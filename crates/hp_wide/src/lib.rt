@@ -1,7 +1,7 @@
 //! Whole numbers of 256 bits.
 #![tactic(auto)]
 
-mod halves;
+mod double_words;
 pub mod quotients;
 pub mod scaling;
 pub mod wide;

@@ -1,10 +1,10 @@
 // Quotients by long division.
 ghost use Rattle.std.specs.Prelude.{◌≡◌, ◌≤◌, ◌<◌, ◌+◌, ◌*◌, ◌/◌, ◌%◌, ◌^◌, nat_abs};
-ghost use Rattle.hp_wide.specs.Numbers.{bits_of, inverse_of};
+ghost use Rattle.hp_wide.specs.Numbers.{bits_of_wide, inverse_of_wide};
 
 /// The number of binary digits of |v|, 0 for 0.
 pub fn bits(v: i128) -> u32
-    ensures value { result ≡ bits_of v }
+    ensures value { result ≡ bits_of_wide v }
     ensures small { result ≤ 128 }
 {
     128 - v.unsigned_abs().leading_zeros()
@@ -19,17 +19,17 @@ fn power_of_two(k: u32) -> u128
 }
 
 // The quotient and the rest of twice the dividend, by those of the dividend.
-fn doubled(quotient: u128, rest: u128, divisor: u128) -> (u128, u128)
+fn doubled(quotient: u128, tail: u128, divisor: u128) -> (u128, u128)
     requires few { quotient < 2 ^ 126 }
-    requires below { rest < divisor }
+    requires below { tail < divisor }
     requires small { divisor < 2 ^ 127 }
-    ensures value { result.0 * divisor + result.1 ≡ 2 * (quotient * divisor + rest) }
+    ensures value { result.0 * divisor + result.1 ≡ 2 * (quotient * divisor + tail) }
     ensures below { result.1 < divisor }
 {
-    if 2 * rest >= divisor {
-        (2 * quotient + 1, 2 * rest - divisor)
+    if 2 * tail >= divisor {
+        (2 * quotient + 1, 2 * tail - divisor)
     } else {
-        (2 * quotient, 2 * rest)
+        (2 * quotient, 2 * tail)
     }
 }
 
@@ -42,9 +42,9 @@ fn power_over(divisor: u128, digits: u32) -> u128
 {
     let power = power_of_two(digits);
     let mut quotient = power / divisor;
-    let mut rest = power % divisor;
+    let mut tail = power % divisor;
     for _ in 0u32..124 {
-        (quotient, rest) = doubled(quotient, rest, divisor);
+        (quotient, tail) = doubled(quotient, tail, divisor);
     }
     quotient
 }
@@ -53,7 +53,7 @@ fn power_over(divisor: u128, digits: u32) -> u128
 pub fn inverse(p: i128) -> i128
     requires least { 0 < nat_abs p }
     requires most { nat_abs p < 2 ^ 124 }
-    ensures value { result ≡ inverse_of p }
+    ensures value { result ≡ inverse_of_wide p }
     ensures small { nat_abs result ≤ 2 ^ 125 }
 {
     let size = power_over(p.unsigned_abs(), bits(p)).cast_signed();

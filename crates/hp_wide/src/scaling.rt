@@ -1,15 +1,15 @@
 // Numbers of 128 bits times powers of 2.
 ghost use Rattle.std.specs.Prelude.{◌≡◌, ◌≤◌, ◌^◌};
-ghost use Rattle.hp_wide.specs.Numbers.{shift_up, shift_of};
+ghost use Rattle.hp_wide.specs.Numbers.{shift_up_wide, shift_of_wide};
 
-use crate::halves::shift_down;
+use crate::double_words::shift_down;
 use crate::quotients::bits;
 use crate::wide::Wide;
 
-#[tactic(auto, unfolding(crate::specs::Numbers::shift_up))]
+#[tactic(auto, unfolding(crate::specs::Numbers::shift_up_wide))]
 fn shift_up(v: i128, k: u32) -> Option<Wide>
     requires { k ≤ 2 ^ 31 }
-    ensures { result ≡ shift_up v k }
+    ensures { result ≡ shift_up_wide v k }
 {
     if v == 0 {
         Some(Wide::zero())
@@ -23,7 +23,7 @@ fn shift_up(v: i128, k: u32) -> Option<Wide>
 /// The number times 2^k, rounded down. None exactly where it is not 0, and k and its binary digits
 /// are more than 250 together.
 pub fn shift(v: i128, k: i32) -> Option<Wide>
-    ensures { result ≡ shift_of v k }
+    ensures { result ≡ shift_of_wide v k }
 {
     if k >= 0 {
         shift_up(v, k.unsigned_abs())

@@ -2,9 +2,9 @@
 ghost use Rattle.std.specs.Prelude.{◌≡◌, ◌<◌, ◌^◌, pos, neg_ℤ, ◌+ℤ◌, ◌-ℤ◌, ◌*ℤ◌, int_lt, nat_abs};
 ghost use Rattle.std.specs.Ordering.{int_eq};
 ghost use Rattle.hp_num.specs.Sums.{floor_over};
-ghost use Rattle.hp_wide.specs.Numbers.{held, nearest_of, down_of};
+ghost use Rattle.hp_wide.specs.Numbers.{held_wide, nearest_of, down_of_wide};
 
-use crate::halves::{
+use crate::double_words::{
     cross_product, high_bits, high_difference, high_product, high_sum, high_total, join, low_bits,
     low_difference, low_product, low_sum, lower, power, shift_down, shift_in, shift_up,
     shifted_out, upper,
@@ -77,7 +77,7 @@ impl Wide {
 
     /// The sum. None exactly where 256 bits do not hold it.
     pub fn plus(self, other: Wide) -> Option<Wide>
-        ensures { result ≡ held 255 (self +ℤ other) }
+        ensures { result ≡ held_wide 255 (self +ℤ other) }
     {
         let (low, carry) = low_sum(self.low, other.low);
         let high = high_sum(self.high, other.high, carry)?;
@@ -86,7 +86,7 @@ impl Wide {
 
     /// The difference. None exactly where 256 bits do not hold it.
     pub fn minus(self, other: Wide) -> Option<Wide>
-        ensures { result ≡ held 255 (self -ℤ other) }
+        ensures { result ≡ held_wide 255 (self -ℤ other) }
     {
         let (low, lent) = low_difference(self.low, other.low);
         let high = high_difference(self.high, other.high, lent)?;
@@ -95,7 +95,7 @@ impl Wide {
 
     /// The sum with a product. None exactly where 256 bits do not hold it.
     pub fn plus_product(self, a: i128, b: i128) -> Option<Wide>
-        ensures { result ≡ held 255 (self +ℤ a *ℤ b) }
+        ensures { result ≡ held_wide 255 (self +ℤ a *ℤ b) }
     {
         self.plus(Wide::product(a, b))
     }
@@ -113,7 +113,7 @@ impl Wide {
 
     /// The number in 128 bits. None exactly where 128 bits do not hold it.
     pub fn narrowed(self) -> Option<i128>
-        ensures { result ≡ held 127 self }
+        ensures { result ≡ held_wide 127 self }
     {
         let number = self.low.cast_signed();
         if self.high == number >> 127 {
@@ -139,7 +139,7 @@ impl Wide {
 
     /// The number with the other sign. None exactly where 256 bits do not hold it.
     pub fn negated(self) -> Option<Wide>
-        ensures { result ≡ held 255 (neg_ℤ self) }
+        ensures { result ≡ held_wide 255 (neg_ℤ self) }
     {
         Wide::zero().minus(self)
     }
@@ -162,7 +162,7 @@ impl Wide {
 
     /// A number of 128 bits times 2^k. None exactly where 256 bits do not hold it.
     pub fn shifted(number: i128, k: u32) -> Option<Wide>
-        ensures { result ≡ held 255 (number *ℤ pos (2 ^ k)) }
+        ensures { result ≡ held_wide 255 (number *ℤ pos (2 ^ k)) }
     {
         if k <= 126 {
             Some(Wide::product(number, power(k)))
@@ -177,7 +177,7 @@ impl Wide {
     /// hold it.
     pub fn nearest(self, k: u32) -> Option<i128>
         requires { 0 < k }
-        ensures { result ≡ held 127 (nearest_of self k) }
+        ensures { result ≡ held_wide 127 (nearest_of self k) }
     {
         let more = self.shift_down(k - 1).plus(Wide::from_i128(1))?;
         more.shift_down(1).narrowed()
@@ -186,7 +186,7 @@ impl Wide {
     /// The number over 2^80, rounded to the nearest, halves up. None exactly where 128 bits do not
     /// hold it.
     pub fn down(self) -> Option<i128>
-        ensures { result ≡ held 127 (down_of self) }
+        ensures { result ≡ held_wide 127 (down_of_wide self) }
     {
         self.nearest(80)
     }
@@ -195,7 +195,7 @@ impl Wide {
     /// hold it.
     pub fn nearest_product(a: i128, b: i128, k: u32) -> Option<i128>
         requires { 0 < k }
-        ensures { result ≡ held 127 (nearest_of (a *ℤ b) k) }
+        ensures { result ≡ held_wide 127 (nearest_of (a *ℤ b) k) }
     {
         Wide::product(a, b).nearest(k)
     }

@@ -2,11 +2,11 @@
 use Rattle.std.proofs.Common.{◌≡◌, ℕ, suc, ◌+◌, ◌-◌, ◌<◌, Bool, Option, Some, arith, ap, sym, ◌∙◌}
 use Rattle.hp_solver.specs.declared.programs.Program.{Program}
 use Rattle.hp_solver.specs.declared.programs.Answer.{Answer}
-use Rattle.hp_wide_table.specs.declared.table.Table.{Table}
-use Rattle.hp_wide_simplex.specs.Turns.{ends, by_turn, turn_of, turns}
+use Rattle.hp_wide_table.specs.declared.table.WideTable.{WideTable}
+use Rattle.hp_wide_simplex.specs.Turns.{ends, wide_after_turn, wide_turn_on_table, wide_turns_on_table}
 
 -- a turn that shows an answer
-pub turn_shows : (lp : Program) (t : Table) (idle : Bool) (limit i : ℕ) (a : Answer) (whole : Option Answer) → i < limit → turn_of lp t ≡ ends a → whole ≡ turns lp (limit - i) idle t → Some a ≡ whole
+pub turn_shows : (lp : Program) (t : WideTable) (idle : Bool) (limit i : ℕ) (a : Answer) (whole : Option Answer) → i < limit → wide_turn_on_table lp t ≡ ends a → whole ≡ wide_turns_on_table lp (limit - i) idle t → Some a ≡ whole
 turn_shows lp t idle limit i a whole h e w =
     let left : limit - i ≡ suc (limit - (i + 1)) = omega arith in
-    sym (w ∙ ap (λ (n : ℕ). turns lp n idle t) left ∙ ap (by_turn lp (turns lp (limit - (i + 1))) idle) e)
+    sym (w ∙ ap (λ (n : ℕ). wide_turns_on_table lp n idle t) left ∙ ap (wide_after_turn lp (wide_turns_on_table lp (limit - (i + 1))) idle) e)

@@ -4,19 +4,19 @@ use Rattle.std.specs.Option.{option_and_then}
 use Rattle.std.proofs.lemmas.List.{drop_more, get_or_default}
 use Rattle.hp_num.specs.Sums.{entry}
 use Rattle.hp_wide_table.specs.Numbers.{sum_of}
-use Rattle.hp_wide_simplex.specs.Activity.{terms_from}
+use Rattle.hp_wide_simplex.specs.Activity.{wide_terms_from}
 use Rattle.hp_wide_simplex.specs.Refine.{shares_from}
 
 module _ (whole : Option ℤ) (terms : List (ℕ × ℤ)) (x : List ℤ) (k : ℕ) (d : ℕ × ℤ) (s : ℤ) where
-  term_next : (o : Option ℤ) → k < length terms → sum_of s ((get_or terms k d).1 *ℤ entry x (get_or terms k d).0) ≡ o → whole ≡ terms_from s (drop k terms) x → whole ≡ option_and_then (λ r. terms_from r (drop (k + 1) terms) x) o
+  term_next : (o : Option ℤ) → k < length terms → sum_of s ((get_or terms k d).1 *ℤ entry x (get_or terms k d).0) ≡ o → whole ≡ wide_terms_from s (drop k terms) x → whole ≡ option_and_then (λ r. wide_terms_from r (drop (k + 1) terms) x) o
   term_next o h e w =
-      w ∙ ap (λ (ts : List (ℕ × ℤ)). terms_from s ts x) (drop_more terms k d h)
-      ∙ ap (option_and_then (λ r. terms_from r (drop (k + 1) terms) x)) e
+      w ∙ ap (λ (ts : List (ℕ × ℤ)). wide_terms_from s ts x) (drop_more terms k d h)
+      ∙ ap (option_and_then (λ r. wide_terms_from r (drop (k + 1) terms) x)) e
 
-  pub term_added : (r : ℤ) → k < length terms → sum_of s ((get_or terms k d).1 *ℤ entry x (get_or terms k d).0) ≡ Some r → whole ≡ terms_from s (drop k terms) x → whole ≡ terms_from r (drop (k + 1) terms) x
+  pub term_added : (r : ℤ) → k < length terms → sum_of s ((get_or terms k d).1 *ℤ entry x (get_or terms k d).0) ≡ Some r → whole ≡ wide_terms_from s (drop k terms) x → whole ≡ wide_terms_from r (drop (k + 1) terms) x
   term_added r h e w = term_next (Some r) h e w
 
-  pub term_stops : k < length terms → sum_of s ((get_or terms k d).1 *ℤ entry x (get_or terms k d).0) ≡ None → whole ≡ terms_from s (drop k terms) x → whole ≡ None
+  pub term_stops : k < length terms → sum_of s ((get_or terms k d).1 *ℤ entry x (get_or terms k d).0) ≡ None → whole ≡ wide_terms_from s (drop k terms) x → whole ≡ None
   term_stops h e w = term_next None h e w
 
 -- the product of two numbers that were read at a place

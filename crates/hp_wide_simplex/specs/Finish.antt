@@ -3,53 +3,53 @@ use Rattle.std.specs.Prelude.{ℕ, suc, ◌^◌, ◌-◌, ℤ, pos, ◌-ℤ◌, 
 use Rattle.std.specs.Option.{option_map, option_and_then}
 use Rattle.hp_num.specs.Sums.{Term, entry}
 use Rattle.hp_simplex.specs.Each.{each_from}
-use Rattle.hp_wide.specs.Numbers.{held}
-use Rattle.hp_wide_table.specs.Numbers.{down_of, cell_of}
-use Rattle.hp_wide_table.specs.declared.table.Bounds.{Bounds}
-use Rattle.hp_wide_table.specs.declared.table.Table.{Table}
+use Rattle.hp_wide.specs.Numbers.{held_wide}
+use Rattle.hp_wide_table.specs.Numbers.{wide_down_of, wide_cell_of}
+use Rattle.hp_wide_table.specs.declared.table.WideBounds.{WideBounds}
+use Rattle.hp_wide_table.specs.declared.table.WideTable.{WideTable}
 
 -- whether a variable has the bound that a cost of this sign speaks of: the lower one of a positive cost
-abbrev pub has_side : Bounds → ℕ → ℤ → Bool
-has_side b v d = if int_lt (pos 0) d then get_or b.has_low v false else get_or b.has_up v false
+abbrev pub wide_has_side : WideBounds → ℕ → ℤ → Bool
+wide_has_side b v d = if int_lt (pos 0) d then get_or b.has_low v false else get_or b.has_up v false
 
 -- the dual of the row whose slack v has the reduced cost d
-unfoldable pub dual_of : Table → ℕ → ℤ → ℤ
-dual_of t v d = if has_side t.bounds v d then d else pos 0
+unfoldable pub wide_dual_of : WideTable → ℕ → ℤ → ℤ
+wide_dual_of t v d = if wide_has_side t.bounds v d then d else pos 0
 
-abbrev pub is_column : Table → ℕ → Bool
-is_column t v = nat_lt v (length t.costs)
+abbrev pub is_wide_column : WideTable → ℕ → Bool
+is_wide_column t v = nat_lt v (length t.costs)
 
 -- the terms of the row whose slack is v
-abbrev pub terms_of : Table → ℕ → List Term
-terms_of t v = get_or t.rows (v - length t.costs) []
+abbrev pub wide_terms_of_slack : WideTable → ℕ → List Term
+wide_terms_of_slack t v = get_or t.rows (v - length t.costs) []
 
 -- the rests of the columns' costs, less a term times the dual y; none where 256 bits do not hold one
-unfoldable pub less_term : ℤ → List ℤ → Term → Option (List ℤ)
-less_term y rests a = option_map (slice_set rests a.0) (held 255 (entry rests a.0 -ℤ y *ℤ a.1))
+unfoldable pub wide_less_term : ℤ → List ℤ → Term → Option (List ℤ)
+wide_less_term y rests a = option_map (slice_set rests a.0) (held_wide 255 (entry rests a.0 -ℤ y *ℤ a.1))
 
-abbrev pub less_terms : ℤ → List ℤ → List Term → Option (List ℤ)
-less_terms y rests [] = Some rests
-less_terms y rests (a ∷ ts) = option_and_then (λ next. less_terms y next ts) (less_term y rests a)
+abbrev pub wide_less_terms : ℤ → List ℤ → List Term → Option (List ℤ)
+wide_less_terms y rests [] = Some rests
+wide_less_terms y rests (a ∷ ts) = option_and_then (λ next. wide_less_terms y next ts) (wide_less_term y rests a)
 
 -- less the terms of the row whose slack v stands at place j; all of it where v is a column
-unfoldable pub less_place : Table → ℕ → List ℤ → ℕ → Option (List ℤ)
-less_place t j rests v = if is_column t v then Some rests else less_terms (dual_of t v (entry t.reduced j)) rests (terms_of t v)
+unfoldable pub wide_less_place : WideTable → ℕ → List ℤ → ℕ → Option (List ℤ)
+wide_less_place t j rests v = if is_wide_column t v then Some rests else wide_less_terms (wide_dual_of t v (entry t.reduced j)) rests (wide_terms_of_slack t v)
 
-abbrev pub less_places : Table → ℕ → List ℤ → List ℕ → Option (List ℤ)
-less_places t j rests [] = Some rests
-less_places t j rests (v ∷ vs) = option_and_then (λ next. less_places t (suc j) next vs) (less_place t j rests v)
+abbrev pub wide_less_places : WideTable → ℕ → List ℤ → List ℕ → Option (List ℤ)
+wide_less_places t j rests [] = Some rests
+wide_less_places t j rests (v ∷ vs) = option_and_then (λ next. wide_less_places t (suc j) next vs) (wide_less_place t j rests v)
 
 -- costs at scale 2^160
-abbrev pub whole_costs : List ℤ → List ℤ
-whole_costs costs = map (λ c. c *ℤ pos (2 ^ 80)) costs
+abbrev pub wide_whole_costs : List ℤ → List ℤ
+wide_whole_costs costs = map (λ c. c *ℤ pos (2 ^ 80)) costs
 
 -- the rest of each column's cost, less the terms of all rows times their duals, at scale 2^160
-abbrev pub rests_of : Table → Option (List ℤ)
-rests_of t = less_places t 0 (whole_costs t.costs) t.basis.nonbasic
+abbrev pub wide_rests_of : WideTable → Option (List ℤ)
+wide_rests_of t = wide_less_places t 0 (wide_whole_costs t.costs) t.basis.nonbasic
 
-abbrev pub cell_at : ℕ → ℤ → Option ℤ
-cell_at v rest = option_and_then cell_of (down_of rest)
+abbrev pub wide_cell_at : ℕ → ℤ → Option ℤ
+wide_cell_at v tail = option_and_then wide_cell_of (wide_down_of tail)
 
 -- the reduced costs of all columns; none where one is no cell
-unfoldable pub costs_of : Table → Option (List ℤ)
-costs_of t = option_and_then (each_from cell_at 0) (rests_of t)
+unfoldable pub wide_reduced_costs_of : WideTable → Option (List ℤ)
+wide_reduced_costs_of t = option_and_then (each_from wide_cell_at 0) (wide_rests_of t)

@@ -10,61 +10,61 @@ use Rattle.hp_solver.specs.declared.programs.Kind.TheVariants as kinds
 use Rattle.hp_solver.specs.Numbers.{number}
 use Rattle.hp_solver.specs.Answers.{lows_of}
 use Rattle.hp_simplex.specs.Each.{each_from}
-use Rattle.hp_wide.specs.Numbers.{held}
+use Rattle.hp_wide.specs.Numbers.{held_wide}
 use Rattle.hp_warm_table.specs.Numbers.{bits_of}
 use Rattle.hp_warm_answers.specs.Proves.{clipped, proves}
-use Rattle.hp_wide_table.specs.Numbers.{shift_of}
-use Rattle.hp_wide_table.specs.declared.table.Table.{Table}
-use Rattle.hp_wide_simplex.specs.Found.{place_of}
+use Rattle.hp_wide_table.specs.Numbers.{wide_shift_of}
+use Rattle.hp_wide_table.specs.declared.table.WideTable.{WideTable}
+use Rattle.hp_wide_simplex.specs.Found.{wide_place_of_variable}
 
 -- 1, at scale 2^80, of a variable that is below its bound; -1 of one that is above
-abbrev pub own_factor : Bool → ℤ
-own_factor above = if above then neg_ℤ (pos (2 ^ 80)) else pos (2 ^ 80)
+abbrev pub wide_own_factor : Bool → ℤ
+wide_own_factor above = if above then neg_ℤ (pos (2 ^ 80)) else pos (2 ^ 80)
 
 -- a cell of the line, with the other sign where the variable is below
-abbrev pub turned : Bool → ℤ → ℤ
-turned above x = if above then x else neg_ℤ x
+abbrev pub wide_turned_cell : Bool → ℤ → ℤ
+wide_turned_cell above x = if above then x else neg_ℤ x
 
-abbrev pub factor_by : List ℤ → Bool → Option ℕ → ℤ
-factor_by line above None = pos 0
-factor_by line above (Some j) = turned above (entry line j)
+abbrev pub wide_factor_by : List ℤ → Bool → Option ℕ → ℤ
+wide_factor_by line above None = pos 0
+wide_factor_by line above (Some j) = wide_turned_cell above (entry line j)
 
 -- the scaled factor of row i, where the variable v violates its bound: that of v's own row, of a nonbasic slack by its cell, else 0
-unfoldable pub factor_at : Table → List ℤ → ℕ → Bool → ℕ → ℤ
-factor_at t line v above i = if length t.costs + i == v then own_factor above else factor_by line above (place_of t (length t.costs + i))
+unfoldable pub wide_ray_factor_at : WideTable → List ℤ → ℕ → Bool → ℕ → ℤ
+wide_ray_factor_at t line v above i = if length t.costs + i == v then wide_own_factor above else wide_factor_by line above (wide_place_of_variable t (length t.costs + i))
 
-abbrev pub greater : Option ℤ → ℤ → ℤ
-greater None x = x
-greater (Some best) x = if int_lt best x then x else best
+abbrev pub wide_greater : Option ℤ → ℤ → ℤ
+wide_greater None x = x
+wide_greater (Some best) x = if int_lt best x then x else best
 
 -- the greatest so far of digits and exponent, and those of a factor other than 0
-abbrev pub with_digits : Option ℤ → ℕ → ℤ → Option ℤ
-with_digits best digits e = if digits == 0 then best else Some (greater best (pos digits +ℤ e))
+abbrev pub wide_with_digits : Option ℤ → ℕ → ℤ → Option ℤ
+wide_with_digits best digits e = if digits == 0 then best else Some (wide_greater best (pos digits +ℤ e))
 
 -- the greatest so far, and those of the rows from row i on, whose exponents these are
-abbrev pub greatest_from : Table → List ℤ → ℕ → Bool → ℕ → Option ℤ → List ℤ → Option ℤ
-greatest_from t line v above i best [] = best
-greatest_from t line v above i best (e ∷ es) = greatest_from t line v above (suc i) (with_digits best (bits_of (factor_at t line v above i)) e) es
+abbrev pub wide_greatest_from : WideTable → List ℤ → ℕ → Bool → ℕ → Option ℤ → List ℤ → Option ℤ
+wide_greatest_from t line v above i best [] = best
+wide_greatest_from t line v above i best (e ∷ es) = wide_greatest_from t line v above (suc i) (wide_with_digits best (bits_of (wide_ray_factor_at t line v above i)) e) es
 
 -- the most binary digits that a factor of the first `own` rows has once it is no longer scaled; none where all are 0
-unfoldable pub top_of : Table → List ℤ → ℕ → Bool → ℕ → Option ℤ
-top_of t line v above own = greatest_from t line v above 0 None (take own t.scales.rows)
+unfoldable pub wide_top_of_factors : WideTable → List ℤ → ℕ → Bool → ℕ → Option ℤ
+wide_top_of_factors t line v above own = wide_greatest_from t line v above 0 None (take own t.scales.rows)
 
 -- the multiplier of row i: its factor, no longer scaled, so that the greatest has 60 digits, and rounded down; clipped
-unfoldable pub ray_dual : Table → List ℤ → ℕ → Bool → ℤ → ℕ → LpRow → Option Fx
-ray_dual t line v above top i r =
-    option_map (λ y. clipped r (number y)) (option_and_then (held 127) (shift_of (factor_at t line v above i) (entry t.scales.rows i +ℤ pos 60 -ℤ top)))
+unfoldable pub wide_clipped_ray_dual : WideTable → List ℤ → ℕ → Bool → ℤ → ℕ → LpRow → Option Fx
+wide_clipped_ray_dual t line v above top i r =
+    option_map (λ y. clipped r (number y)) (option_and_then (held_wide 127) (wide_shift_of (wide_ray_factor_at t line v above i) (entry t.scales.rows i +ℤ pos 60 -ℤ top)))
 
 -- the duals of all own rows
-unfoldable pub ray_duals : Table → List ℤ → ℕ → Bool → Program → ℤ → Option (List Fx)
-ray_duals t line v above lp top = each_from (ray_dual t line v above top) 0 (take lp.own lp.rows)
+unfoldable pub wide_ray_duals : WideTable → List ℤ → ℕ → Bool → Program → ℤ → Option (List Fx)
+wide_ray_duals t line v above lp top = each_from (wide_clipped_ray_dual t line v above top) 0 (take lp.own lp.rows)
 
-abbrev pub ray_with : Program → List Fx → Answer
-ray_with lp ys = record { kind = kinds.Ray; point = lows_of lp.columns; duals = ys }
+abbrev pub wide_ray_with : Program → List Fx → Answer
+wide_ray_with lp ys = record { kind = kinds.Ray; point = lows_of lp.columns; duals = ys }
 
-abbrev pub where_proved : Program → List Fx → Option Answer
-where_proved lp ys = if proves lp ys then Some (ray_with lp ys) else None
+abbrev pub wide_where_proved : Program → List Fx → Option Answer
+wide_where_proved lp ys = if proves lp ys then Some (wide_ray_with lp ys) else None
 
 -- the answer by these multipliers, where they prove that no point keeps all own rows
-unfoldable pub ray_of : Table → List ℤ → ℕ → Bool → Program → Option Answer
-ray_of t line v above lp = option_and_then (where_proved lp) (option_and_then (ray_duals t line v above lp) (top_of t line v above lp.own))
+unfoldable pub wide_ray_answer : WideTable → List ℤ → ℕ → Bool → Program → Option Answer
+wide_ray_answer t line v above lp = option_and_then (wide_where_proved lp) (option_and_then (wide_ray_duals t line v above lp) (wide_top_of_factors t line v above lp.own))

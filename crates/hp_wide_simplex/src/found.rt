@@ -5,10 +5,10 @@ ghost use Rattle.hp_num.specs.Sums.{entry, floor_over};
 ghost use Rattle.hp_solver.specs.Numbers.{number};
 ghost use Rattle.hp_simplex.specs.Each.{each_from};
 ghost use Rattle.hp_warm_scale.specs.Scaling.{AreSmall};
-ghost use Rattle.hp_wide.specs.Numbers.{held};
-ghost use Rattle.hp_wide_table.specs.Numbers.{sum_of, shift_of};
-ghost use Rattle.hp_wide_table.specs.Shape.{Fits, IsTable, variables};
-ghost use Rattle.hp_wide_simplex.specs.Found.{place_of, rounded, basic_point, bound_point, point_at, slack_dual, dual_at, found_of, finished_of};
+ghost use Rattle.hp_wide.specs.Numbers.{held_wide};
+ghost use Rattle.hp_wide_table.specs.Numbers.{sum_of, wide_shift_of};
+ghost use Rattle.hp_wide_table.specs.Shape.{WideFits, IsWideTable, wide_variables};
+ghost use Rattle.hp_wide_simplex.specs.Found.{wide_place_of_variable, wide_rounded, wide_basic_point, wide_bound_point, wide_point_value_at, wide_slack_dual, wide_dual_at, wide_found_answer, finished_of};
 
 use crate::finishing::{dual_of, has_costs};
 use hp_num::{List, Memory, floor_div};
@@ -18,22 +18,22 @@ use hp_warm_table::Scales;
 use hp_warm_table::lists::with_room;
 use hp_wide::Wide;
 use hp_wide_table::numbers::shift;
-use hp_wide_table::{Cell, Table};
+use hp_wide_table::{WideCell, WideTable};
 use std::alloc::Global;
 
 // The place of a variable.
-pub(crate) fn place_of(table: &Table, variable: usize) -> Option<usize>
-    requires sized { IsTable table.now }
-    requires there { variable < variables table.now }
-    ensures place { result ≡ place_of table.now variable }
+pub(crate) fn place_of(table: &WideTable, variable: usize) -> Option<usize>
+    requires sized { IsWideTable table.now }
+    requires there { variable < wide_variables table.now }
+    ensures place { result ≡ wide_place_of_variable table.now variable }
     ensures inside { IfSome result (λ j. j < length table.now.costs) }
 {
     table.basis.places.as_slice()[variable]
 }
 
 // The variable that is the slack of a row.
-pub(crate) fn slack_of(table: &Table, row: usize) -> usize
-    requires sized { IsTable table.now }
+pub(crate) fn slack_of(table: &WideTable, row: usize) -> usize
+    requires sized { IsWideTable table.now }
     requires row { row < length table.now.rows }
     ensures { result ≡ length table.now.costs + row }
 {
@@ -42,15 +42,15 @@ pub(crate) fn slack_of(table: &Table, row: usize) -> usize
 
 // A number with 128 added, where 128 bits hold it.
 fn raised(x: Wide) -> Option<i128>
-    ensures { result ≡ option_and_then (held 127) (sum_of x (pos (2 ^ 7))) }
+    ensures { result ≡ option_and_then (held_wide 127) (sum_of x (pos (2 ^ 7))) }
 {
     x.plus(Wide::from_i128(128))?.narrowed()
 }
 
 // The nearest multiple of 2^8. None where 128 bits do not hold what is rounded.
-#[tactic(auto, unfolding(crate::specs::Found::rounded))]
+#[tactic(auto, unfolding(crate::specs::Found::wide_rounded))]
 fn rounded(x: Wide) -> Option<i128>
-    ensures { result ≡ rounded x }
+    ensures { result ≡ wide_rounded x }
 {
     Some(whole_part(raised(x)?))
 }
@@ -81,11 +81,11 @@ fn dual_exponent(scales: &Scales, row: usize) -> i32
 }
 
 // The value of a basic column.
-#[tactic(auto, unfolding(crate::specs::Found::basic_point))]
-fn basic_point(table: &Table, number: usize, column: &Column) -> Option<Fx>
-    requires sized { IsTable table.now }
+#[tactic(auto, unfolding(crate::specs::Found::wide_basic_point))]
+fn basic_point(table: &WideTable, number: usize, column: &Column) -> Option<Fx>
+    requires sized { IsWideTable table.now }
     requires there { number < length table.now.costs }
-    ensures { result ≡ basic_point table.now number column.now }
+    ensures { result ≡ wide_basic_point table.now number column.now }
 {
     let value = table.values.as_slice()[number].number();
     let x = shift(value, value_exponent(&table.scales, number))?;
@@ -93,10 +93,10 @@ fn basic_point(table: &Table, number: usize, column: &Column) -> Option<Fx>
 }
 
 // The value of a nonbasic column.
-fn bound_point(table: &Table, column: &Column, place: usize) -> Fx
-    requires sized { IsTable table.now }
+fn bound_point(table: &WideTable, column: &Column, place: usize) -> Fx
+    requires sized { IsWideTable table.now }
     requires there { place < length table.now.costs }
-    ensures { result ≡ bound_point table.now column.now place }
+    ensures { result ≡ wide_bound_point table.now column.now place }
 {
     if table.basis.high.as_slice()[place] {
         column.high
@@ -106,10 +106,10 @@ fn bound_point(table: &Table, column: &Column, place: usize) -> Fx
 }
 
 // The value of a column.
-fn point_at(table: &Table, number: usize, column: &Column) -> Option<Fx>
-    requires sized { IsTable table.now }
+fn point_at(table: &WideTable, number: usize, column: &Column) -> Option<Fx>
+    requires sized { IsWideTable table.now }
     requires there { number < length table.now.costs }
-    ensures { result ≡ point_at table.now number column.now }
+    ensures { result ≡ wide_point_value_at table.now number column.now }
 {
     match place_of(table, number) {
         None => basic_point(table, number, column),
@@ -118,10 +118,10 @@ fn point_at(table: &Table, number: usize, column: &Column) -> Option<Fx>
 }
 
 // The values of all columns.
-fn point(alloc: Global, table: &Table, columns: &[Column]) -> Result<Option<List<Fx>>, Memory>
-    requires sized { IsTable table.now }
+fn point(alloc: Global, table: &WideTable, columns: &[Column]) -> Result<Option<List<Fx>>, Memory>
+    requires sized { IsWideTable table.now }
     requires columns { length columns.now ≡ length table.now.costs }
-    ensures { IfOk result (λ found. found ≡ each_from (point_at table.now) 0 columns.now) }
+    ensures { IfOk result (λ found. found ≡ each_from (wide_point_value_at table.now) 0 columns.now) }
 {
     let mut found = with_room(alloc, columns.len())?;
     for j in 0..columns.len() {
@@ -135,28 +135,28 @@ fn point(alloc: Global, table: &Table, columns: &[Column]) -> Result<Option<List
 
 // A dual, no longer scaled. None where 128 bits do not hold it.
 fn unscaled(dual: i128, exponent: i32) -> Option<Fx>
-    ensures { result ≡ option_map number (option_and_then (held 127) (shift_of dual exponent)) }
+    ensures { result ≡ option_map number (option_and_then (held_wide 127) (wide_shift_of dual exponent)) }
 {
     Some(Fx(shift(dual, exponent)?.narrowed()?))
 }
 
 // The dual of a row whose slack has this reduced cost.
-#[tactic(auto, unfolding(crate::specs::Found::slack_dual))]
-fn slack_dual(table: &Table, row: usize, slack: usize, cost: Cell) -> Option<Fx>
-    requires sized { IsTable table.now }
+#[tactic(auto, unfolding(crate::specs::Found::wide_slack_dual))]
+fn slack_dual(table: &WideTable, row: usize, slack: usize, cost: WideCell) -> Option<Fx>
+    requires sized { IsWideTable table.now }
     requires row { row < length table.now.rows }
-    requires slack { slack < variables table.now }
-    ensures { result ≡ slack_dual table.now row slack cost }
+    requires slack { slack < wide_variables table.now }
+    ensures { result ≡ wide_slack_dual table.now row slack cost }
 {
     let dual = dual_of(table, slack, cost);
     unscaled(dual.number(), dual_exponent(&table.scales, row))
 }
 
 // The dual of a row.
-fn dual_at(table: &Table, number: usize, row: &LpRow) -> Option<Fx>
-    requires sized { IsTable table.now }
+fn dual_at(table: &WideTable, number: usize, row: &LpRow) -> Option<Fx>
+    requires sized { IsWideTable table.now }
     requires there { number < length table.now.rows }
-    ensures { result ≡ dual_at table.now number row.now }
+    ensures { result ≡ wide_dual_at table.now number row.now }
 {
     let slack = slack_of(table, number);
     match place_of(table, slack) {
@@ -166,10 +166,10 @@ fn dual_at(table: &Table, number: usize, row: &LpRow) -> Option<Fx>
 }
 
 // The duals of all rows.
-fn duals(alloc: Global, table: &Table, rows: &[LpRow]) -> Result<Option<List<Fx>>, Memory>
-    requires sized { IsTable table.now }
+fn duals(alloc: Global, table: &WideTable, rows: &[LpRow]) -> Result<Option<List<Fx>>, Memory>
+    requires sized { IsWideTable table.now }
     requires rows { length rows.now ≡ length table.now.rows }
-    ensures { IfOk result (λ found. found ≡ each_from (dual_at table.now) 0 rows.now) }
+    ensures { IfOk result (λ found. found ≡ each_from (wide_dual_at table.now) 0 rows.now) }
 {
     let mut found = with_room(alloc, rows.len())?;
     for i in 0..rows.len() {
@@ -185,10 +185,10 @@ fn duals(alloc: Global, table: &Table, rows: &[LpRow]) -> Result<Option<List<Fx>
 // not basic is its bound in the program; of a basic one its value in the table, to the nearest
 // multiple of 2^-24, in its box. The dual of a row is the reduced cost of its slack, 0 where that
 // is basic. None where a number on the way leaves 128 bits. [`Memory`] where memory was refused.
-#[tactic(auto, unfolding(crate::specs::Found::found_of))]
-fn found(alloc: Global, table: &Table, lp: &StageLp) -> Result<Option<Answer>, Memory>
-    requires fits { Fits table.now lp.now }
-    ensures { IfOk result (λ answer. answer ≡ found_of table.now lp.now) }
+#[tactic(auto, unfolding(crate::specs::Found::wide_found_answer))]
+fn found(alloc: Global, table: &WideTable, lp: &StageLp) -> Result<Option<Answer>, Memory>
+    requires fits { WideFits table.now lp.now }
+    ensures { IfOk result (λ answer. answer ≡ wide_found_answer table.now lp.now) }
 {
     let Some(point) = point(alloc, table, lp.columns())? else {
         return Ok(None);
@@ -210,8 +210,8 @@ fn found(alloc: Global, table: &Table, lp: &StageLp) -> Result<Option<Answer>, M
 /// is basic or where it speaks of a side that is absent. None where a number on the way leaves its
 /// range. [`Memory`] where memory was refused.
 #[tactic(auto, unfolding(crate::specs::Found::finished_of))]
-pub fn finish(alloc: Global, table: &Table, lp: &StageLp) -> Result<Option<Answer>, Memory>
-    requires fits { Fits table.now lp.now }
+pub fn finish(alloc: Global, table: &WideTable, lp: &StageLp) -> Result<Option<Answer>, Memory>
+    requires fits { WideFits table.now lp.now }
     ensures { IfOk result (λ answer. answer ≡ finished_of table.now lp.now) }
 {
     if has_costs(alloc, table)? {

@@ -1,29 +1,29 @@
 // The violations of a table, looked at from the greatest on.
-ghost use Rattle.std.specs.Prelude.{◌≡◌, length, All, None, IfOk, IfSome};
+ghost use Rattle.std.specs.Prelude.{◌≡◌, length, All, None, IfOk};
 ghost use Rattle.hp_solver.specs.Proper.{IsProper};
-ghost use Rattle.hp_wide_table.specs.Shape.{Fits};
-ghost use Rattle.hp_wide_simplex.specs.Enter.{enter_of};
-ghost use Rattle.hp_wide_simplex.specs.Ray.{ray_of};
-ghost use Rattle.hp_wide_simplex.specs.Steps.{IsInside};
-ghost use Rattle.hp_wide_simplex.specs.Turns.{by_ray, by_entry, inspection_at, inspection_from, inspection_of};
-ghost use Rattle.hp_wide_simplex.specs.Violations.{IsThere};
+ghost use Rattle.hp_wide_table.specs.Shape.{WideFits};
+ghost use Rattle.hp_wide_simplex.specs.Enter.{wide_enter_of};
+ghost use Rattle.hp_wide_simplex.specs.Ray.{wide_ray_answer};
+ghost use Rattle.hp_wide_simplex.specs.Steps.{IsWideInspectionInside};
+ghost use Rattle.hp_wide_simplex.specs.Turns.{wide_by_ray, wide_by_entry, inspection_at, inspection_from, wide_inspection_of};
+ghost use Rattle.hp_wide_simplex.specs.Violations.{IsWideViolationThere};
 
 use crate::entering::enter;
 use crate::line::line;
 use crate::ray::ray;
-use crate::violations::{Violation, next_violation, violations};
+use crate::violations::{WideViolation, next_violation, violations};
 use hp_num::{List, Memory};
 use hp_solver::{Answer, StageLp};
-use hp_wide_table::{Cell, Table};
+use hp_wide_table::{WideCell, WideTable};
 use std::alloc::Global;
 
 /// The mend of a violation.
 #[derive(Drop)]
 pub struct Mend {
     /// The violation.
-    pub violation: Violation,
+    pub violation: WideViolation,
     /// The line of its variable.
-    pub line: List<Cell>,
+    pub line: List<WideCell>,
     /// The place that enters.
     pub place: usize,
     /// The places that flip.
@@ -31,7 +31,7 @@ pub struct Mend {
 }
 
 /// The outcome of one violation, or of all violations.
-pub enum Inspection {
+pub enum WideInspection {
     /// None can be mended, and none shows that no point keeps all own rows.
     Rests,
     /// One is mended.
@@ -46,19 +46,19 @@ pub enum Inspection {
 fn show(
     alloc: Global,
     lp: &StageLp,
-    table: &Table,
-    violation: Violation,
-    line: &[Cell],
-) -> Result<Inspection, Memory>
-    requires fits { Fits table.now lp.now }
+    table: &WideTable,
+    violation: WideViolation,
+    line: &[WideCell],
+) -> Result<WideInspection, Memory>
+    requires fits { WideFits table.now lp.now }
     requires proper { IsProper lp.now }
     requires line { length line.now ≡ length table.now.costs }
-    ensures inspection { IfOk result (λ inspection. inspection ≡ by_ray (ray_of table.now line.now violation.variable violation.above lp.now)) }
-    ensures inside { IfOk result (IsInside table.now) }
+    ensures inspection { IfOk result (λ inspection. inspection ≡ wide_by_ray (wide_ray_answer table.now line.now violation.variable violation.above lp.now)) }
+    ensures inside { IfOk result (IsWideInspectionInside table.now) }
 {
     match ray(alloc, table, line, violation.variable, violation.above, lp)? {
-        Some(answer) => Ok(Inspection::Shows(answer)),
-        None => Ok(Inspection::Rests),
+        Some(answer) => Ok(WideInspection::Shows(answer)),
+        None => Ok(WideInspection::Rests),
     }
 }
 
@@ -66,16 +66,16 @@ fn show(
 fn enter_or_show(
     alloc: Global,
     lp: &StageLp,
-    table: &Table,
-    violation: Violation,
-    line: List<Cell>,
-) -> Result<Inspection, Memory>
-    requires fits { Fits table.now lp.now }
+    table: &WideTable,
+    violation: WideViolation,
+    line: List<WideCell>,
+) -> Result<WideInspection, Memory>
+    requires fits { WideFits table.now lp.now }
     requires proper { IsProper lp.now }
-    requires there { IsThere table.now violation }
+    requires there { IsWideViolationThere table.now violation }
     requires line { length line ≡ length table.now.costs }
-    ensures inspection { IfOk result (λ inspection. inspection ≡ by_entry (ray_of table.now line violation.variable violation.above lp.now) violation line (enter_of table.now line violation.above violation.amount)) }
-    ensures inside { IfOk result (IsInside table.now) }
+    ensures inspection { IfOk result (λ inspection. inspection ≡ wide_by_entry (wide_ray_answer table.now line violation.variable violation.above lp.now) violation line (wide_enter_of table.now line violation.above violation.amount)) }
+    ensures inside { IfOk result (IsWideInspectionInside table.now) }
 {
     let entry = enter(
         alloc,
@@ -85,10 +85,10 @@ fn enter_or_show(
         violation.amount,
     )?;
     let Some(entry) = entry else {
-        return Ok(Inspection::Stops);
+        return Ok(WideInspection::Stops);
     };
     match entry.place {
-        Some(place) => Ok(Inspection::Mends(Mend {
+        Some(place) => Ok(WideInspection::Mends(Mend {
             violation,
             line,
             place,
@@ -103,18 +103,18 @@ fn enter_or_show(
 fn inspect(
     alloc: Global,
     lp: &StageLp,
-    table: &Table,
-    violation: Violation,
-) -> Result<Inspection, Memory>
-    requires fits { Fits table.now lp.now }
+    table: &WideTable,
+    violation: WideViolation,
+) -> Result<WideInspection, Memory>
+    requires fits { WideFits table.now lp.now }
     requires proper { IsProper lp.now }
-    requires there { IsThere table.now violation }
+    requires there { IsWideViolationThere table.now violation }
     ensures inspection { IfOk result (λ inspection. inspection ≡ inspection_at lp.now table.now violation) }
-    ensures inside { IfOk result (IsInside table.now) }
+    ensures inside { IfOk result (IsWideInspectionInside table.now) }
 {
     match line(alloc, table, violation.variable)? {
         Some(line) => enter_or_show(alloc, lp, table, violation, line),
-        None => Ok(Inspection::Stops),
+        None => Ok(WideInspection::Stops),
     }
 }
 
@@ -122,41 +122,45 @@ fn inspect(
 fn inspect_all(
     alloc: Global,
     lp: &StageLp,
-    table: &Table,
-    violations: &[Violation],
-) -> Result<Inspection, Memory>
-    requires fits { Fits table.now lp.now }
+    table: &WideTable,
+    violations: &[WideViolation],
+) -> Result<WideInspection, Memory>
+    requires fits { WideFits table.now lp.now }
     requires proper { IsProper lp.now }
-    requires there { All (IsThere table.now) violations.now }
+    requires there { All (IsWideViolationThere table.now) violations.now }
     ensures inspection { IfOk result (λ inspection. inspection ≡ inspection_from lp.now table.now violations.now (length violations.now) None) }
-    ensures inside { IfOk result (IsInside table.now) }
+    ensures inside { IfOk result (IsWideInspectionInside table.now) }
 {
     let mut last = None;
     for _violation in 0..violations.len() {
         let Some(violation) = next_violation(last, violations) else {
-            return Ok(Inspection::Rests);
+            return Ok(WideInspection::Rests);
         };
         match inspect(alloc, lp, table, violation)? {
-            Inspection::Rests => last = Some(violation),
-            Inspection::Mends(mend) => return Ok(Inspection::Mends(mend)),
-            Inspection::Shows(answer) => return Ok(Inspection::Shows(answer)),
-            Inspection::Stops => return Ok(Inspection::Stops),
+            WideInspection::Rests => last = Some(violation),
+            WideInspection::Mends(mend) => return Ok(WideInspection::Mends(mend)),
+            WideInspection::Shows(answer) => return Ok(WideInspection::Shows(answer)),
+            WideInspection::Stops => return Ok(WideInspection::Stops),
         }
     }
-    Ok(Inspection::Rests)
+    Ok(WideInspection::Rests)
 }
 
 /// Looks at the violations of a table, the greatest first, until one is mended or shows that no point keeps all own rows.
 /// [`Memory`] where memory was refused.
-#[tactic(auto, unfolding(crate::specs::Turns::inspection_of))]
-pub fn inspect_table(alloc: Global, lp: &StageLp, table: &Table) -> Result<Inspection, Memory>
-    requires fits { Fits table.now lp.now }
+#[tactic(auto, unfolding(crate::specs::Turns::wide_inspection_of))]
+pub fn inspect_table(
+    alloc: Global,
+    lp: &StageLp,
+    table: &WideTable,
+) -> Result<WideInspection, Memory>
+    requires fits { WideFits table.now lp.now }
     requires proper { IsProper lp.now }
-    ensures inspection { IfOk result (λ inspection. inspection ≡ inspection_of lp.now table.now) }
-    ensures inside { IfOk result (IsInside table.now) }
+    ensures inspection { IfOk result (λ inspection. inspection ≡ wide_inspection_of lp.now table.now) }
+    ensures inside { IfOk result (IsWideInspectionInside table.now) }
 {
     match violations(alloc, table)? {
         Some(all) => inspect_all(alloc, lp, table, all.as_slice()),
-        None => Ok(Inspection::Stops),
+        None => Ok(WideInspection::Stops),
     }
 }

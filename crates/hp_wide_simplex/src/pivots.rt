@@ -4,30 +4,30 @@ ghost use Rattle.std.specs.Option.{option_map};
 ghost use Rattle.hp_num.specs.Sums.{entry};
 ghost use Rattle.hp_simplex.specs.Each.{each_from};
 ghost use Rattle.hp_warm_table.specs.Numbers.{bits_of};
-ghost use Rattle.hp_warm_table.specs.Updates.{Gives};
-ghost use Rattle.hp_wide_table.specs.Kept.{with_basis};
-ghost use Rattle.hp_wide_table.specs.Shape.{IsTable, variables};
-ghost use Rattle.hp_wide_table.specs.Updates.{moved_row};
-ghost use Rattle.hp_wide_simplex.specs.Pivot.{inverse_of, turned, turned_line, moved_or_kept, entered, eliminated, replaced, pivoted};
+ghost use Rattle.hp_warm_table.specs.Updates.{GivesNew};
+ghost use Rattle.hp_wide_table.specs.Kept.{wide_with_basis};
+ghost use Rattle.hp_wide_table.specs.Shape.{IsWideTable, wide_variables};
+ghost use Rattle.hp_wide_table.specs.Updates.{wide_moved_table_row};
+ghost use Rattle.hp_wide_simplex.specs.Pivot.{wide_inverse_of, wide_turned_entry, wide_turned_line, wide_moved_or_kept, wide_entered, wide_eliminated, wide_replaced, wide_pivoted};
 
 use hp_num::List;
 use hp_warm_line::pivots::exchange;
 use hp_wide::{Wide, bits, inverse};
 use hp_wide_table::numbers::nearest;
 use hp_wide_table::updates::move_row;
-use hp_wide_table::{Cell, Square, Table};
+use hp_wide_table::{WideCell, WideSquare, WideTable};
 
 // 1 over the pivot.
-#[tactic(auto, unfolding(crate::specs::Pivot::inverse_of))]
-fn inverse_of(pivot: Cell) -> i128
+#[tactic(auto, unfolding(crate::specs::Pivot::wide_inverse_of))]
+fn inverse_of(pivot: WideCell) -> i128
     requires { 0 < nat_abs pivot }
-    ensures { result ≡ inverse_of pivot }
+    ensures { result ≡ wide_inverse_of pivot }
 {
     inverse(pivot.number())
 }
 
 // The number of binary digits of a cell.
-fn digits(cell: Cell) -> u32
+fn digits(cell: WideCell) -> u32
     ensures value { result ≡ bits_of cell }
     ensures small { result ≤ 128 }
 {
@@ -35,26 +35,26 @@ fn digits(cell: Cell) -> u32
 }
 
 // A cell times the inverse of the pivot, with the other sign; 0 stays 0.
-#[tactic(auto, unfolding(crate::specs::Pivot::turned))]
-fn turned(inverse: i128, k: u32, x: Cell) -> Option<Cell>
+#[tactic(auto, unfolding(crate::specs::Pivot::wide_turned_entry))]
+fn turned(inverse: i128, k: u32, x: WideCell) -> Option<WideCell>
     requires least { 1 ≤ k }
     requires greatest { k ≤ 250 }
-    ensures { result ≡ turned inverse k x }
+    ensures { result ≡ wide_turned_entry inverse k x }
 {
     if x.number() == 0 {
-        Some(Cell::zero())
+        Some(WideCell::zero())
     } else {
         let quotient = nearest(Wide::product(x.number(), inverse), k)?;
-        Some(Cell::new(quotient)?.negated())
+        Some(WideCell::new(quotient)?.negated())
     }
 }
 
 // Multiplies all cells of a line by the inverse of the pivot, with the other sign.
-fn turn_all(line: &mut [Cell], inverse: i128, k: u32) -> bool
+fn turn_all(line: &mut [WideCell], inverse: i128, k: u32) -> bool
     requires least { 1 ≤ k }
     requires greatest { k ≤ 250 }
     ensures width { length line.new ≡ length line.old }
-    ensures turned { Gives result (each_from (λ j x. turned inverse k x) 0 line.old) line.new }
+    ensures turned { GivesNew result (each_from (λ j x. wide_turned_entry inverse k x) 0 line.old) line.new }
 {
     for j in 0..line.len() {
         match turned(inverse, k, line[j]) {
@@ -66,36 +66,36 @@ fn turn_all(line: &mut [Cell], inverse: i128, k: u32) -> bool
 }
 
 // The line of the entering variable in place of that of the leaving one.
-#[tactic(auto, unfolding(crate::specs::Pivot::turned_line))]
-fn turn(line: &mut [Cell], place: usize) -> bool
+#[tactic(auto, unfolding(crate::specs::Pivot::wide_turned_line))]
+fn turn(line: &mut [WideCell], place: usize) -> bool
     requires place { place < length line.old }
     requires pivot { 0 < nat_abs (entry line.old place) }
     ensures width { length line.new ≡ length line.old }
-    ensures turned { Gives result (turned_line place line.old) line.new }
+    ensures turned { GivesNew result (wide_turned_line place line.old) line.new }
 {
     let pivot = line[place];
-    line[place] = Cell::minus_one();
+    line[place] = WideCell::minus_one();
     turn_all(line, inverse_of(pivot), digits(pivot) + 44)
 }
 
 // Like `turn`, for a list.
-fn turn_line(line: &mut List<Cell>, place: usize) -> bool
+fn turn_line(line: &mut List<WideCell>, place: usize) -> bool
     requires place { place < length line.old }
     requires pivot { 0 < nat_abs (entry line.old place) }
     ensures width { length line.new ≡ length line.old }
-    ensures turned { Gives result (turned_line place line.old) line.new }
+    ensures turned { GivesNew result (wide_turned_line place line.old) line.new }
 {
     turn(line.as_mut_slice(), place)
 }
 
 // The line of column k after the pivot.
-#[tactic(auto, unfolding(crate::specs::Pivot::moved_or_kept), using(hp_warm_line::proofs::Lines::kept_line))]
+#[tactic(auto, unfolding(crate::specs::Pivot::wide_moved_or_kept), using(hp_warm_line::proofs::Lines::kept_line))]
 fn move_line(
-    lines: &mut Square,
+    lines: &mut WideSquare,
     places: &[Option<usize>],
     leaving: usize,
     place: usize,
-    entering: &[Cell],
+    entering: &[WideCell],
     k: usize,
 ) -> bool
     requires there { k < length lines.old }
@@ -103,8 +103,8 @@ fn move_line(
     requires place { place < length lines.old }
     requires width { length entering.now ≡ length lines.old }
     ensures count { length lines.new ≡ length lines.old }
-    ensures moved { Gives result (option_map (slice_set lines.old k)
-        (moved_or_kept places.now leaving place entering.now k (get_or lines.old k []))) lines.new }
+    ensures moved { GivesNew result (option_map (slice_set lines.old k)
+        (wide_moved_or_kept places.now leaving place entering.now k (get_or lines.old k []))) lines.new }
 {
     if places[k].is_none() && k != leaving {
         lines.move_row(k, place, entering)
@@ -115,18 +115,18 @@ fn move_line(
 
 // The lines of all columns after the pivot, but for that of the entering one.
 fn move_lines(
-    lines: &mut Square,
+    lines: &mut WideSquare,
     places: &[Option<usize>],
     leaving: usize,
     place: usize,
-    entering: &[Cell],
+    entering: &[WideCell],
 ) -> bool
     requires places { length lines.old ≤ length places.now }
     requires place { place < length lines.old }
     requires width { length entering.now ≡ length lines.old }
     ensures count { length lines.new ≡ length lines.old }
-    ensures moved { Gives result
-        (each_from (moved_or_kept places.now leaving place entering.now) 0 lines.old) lines.new }
+    ensures moved { GivesNew result
+        (each_from (wide_moved_or_kept places.now leaving place entering.now) 0 lines.old) lines.new }
 {
     for k in 0..lines.size() {
         if !move_line(lines, places, leaving, place, entering, k) {
@@ -137,10 +137,10 @@ fn move_lines(
 }
 
 // Writes the line of the entering variable, where it is a column.
-#[tactic(auto, unfolding(crate::specs::Pivot::entered))]
-fn enter(lines: &mut Square, variable: usize, line: &[Cell])
+#[tactic(auto, unfolding(crate::specs::Pivot::wide_entered))]
+fn enter(lines: &mut WideSquare, variable: usize, line: &[WideCell])
     requires width { length line.now ≡ length lines.old }
-    ensures lines { lines.new ≡ entered lines.old variable line.now }
+    ensures lines { lines.new ≡ wide_entered lines.old variable line.now }
     ensures count { length lines.new ≡ length lines.old }
 {
     if variable < lines.size() {
@@ -149,25 +149,25 @@ fn enter(lines: &mut Square, variable: usize, line: &[Cell])
 }
 
 // A list of reduced costs after the pivot.
-fn move_reduced(reduced: &mut List<Cell>, place: usize, line: &[Cell]) -> bool
+fn move_reduced(reduced: &mut List<WideCell>, place: usize, line: &[WideCell]) -> bool
     requires place { place < length reduced.old }
     requires width { length line.now ≡ length reduced.old }
     ensures count { length reduced.new ≡ length reduced.old }
-    ensures moved { Gives result (moved_row place line.now reduced.old) reduced.new }
+    ensures moved { GivesNew result (wide_moved_table_row place line.now reduced.old) reduced.new }
 {
     move_row(reduced.as_mut_slice(), place, line)
 }
 
 // The lines and the reduced costs after the pivot, but for the line of the entering variable.
-#[tactic(auto, unfolding(crate::specs::Pivot::eliminated), using(crate::proofs::Sized::sized_parts))]
-fn eliminate(table: &mut Table, line: &[Cell], leaving: usize, place: usize) -> bool
-    requires sized { IsTable table.old }
+#[tactic(auto, unfolding(crate::specs::Pivot::wide_eliminated), using(crate::proofs::Sized::sized_parts))]
+fn eliminate(table: &mut WideTable, line: &[WideCell], leaving: usize, place: usize) -> bool
+    requires sized { IsWideTable table.old }
     requires width { length line.now ≡ length table.old.costs }
     requires place { place < length table.old.costs }
-    ensures sized { IsTable table.new }
+    ensures sized { IsWideTable table.new }
     ensures kept { table.new
-        ≡ with_basis table.old table.old.basis table.new.reduced table.new.lines }
-    ensures eliminated { Gives result (eliminated table.old line.now leaving place) table.new }
+        ≡ wide_with_basis table.old table.old.basis table.new.reduced table.new.lines }
+    ensures eliminated { GivesNew result (wide_eliminated table.old line.now leaving place) table.new }
 {
     let places = table.basis.places.as_slice();
     if !move_lines(&mut table.lines, places, leaving, place, line) {
@@ -177,21 +177,21 @@ fn eliminate(table: &mut Table, line: &[Cell], leaving: usize, place: usize) -> 
 }
 
 // The variables change places, and the line of the entering one is written.
-#[tactic(auto, unfolding(crate::specs::Pivot::replaced))]
+#[tactic(auto, unfolding(crate::specs::Pivot::wide_replaced))]
 fn replace(
-    table: &mut Table,
-    line: &[Cell],
+    table: &mut WideTable,
+    line: &[WideCell],
     leaving: usize,
     above: bool,
     place: usize,
     flips: &[usize],
 )
-    requires sized { IsTable table.old }
+    requires sized { IsWideTable table.old }
     requires width { length line.now ≡ length table.old.costs }
-    requires there { leaving < variables table.old }
+    requires there { leaving < wide_variables table.old }
     requires place { place < length table.old.costs }
     requires flips { All (λ j. j < length table.old.costs) flips.now }
-    ensures replaced { table.new ≡ replaced table.old line.now leaving above place flips.now }
+    ensures replaced { table.new ≡ wide_replaced table.old line.now leaving above place flips.now }
 {
     let entering = table.basis.nonbasic.as_slice()[place];
     enter(&mut table.lines, entering, line);
@@ -203,25 +203,25 @@ fn replace(
 /// bounds. `line` is for work after that. The answer is false exactly where a number of it has an
 /// absolute value of 2^124 or more: nothing is promised then of the reduced costs and of the lines.
 /// All else of the table stays.
-#[tactic(auto, unfolding(crate::specs::Pivot::pivoted, crate::specs::Pivot::replaced))]
+#[tactic(auto, unfolding(crate::specs::Pivot::wide_pivoted, crate::specs::Pivot::wide_replaced))]
 pub fn pivot(
-    table: &mut Table,
-    line: &mut List<Cell>,
+    table: &mut WideTable,
+    line: &mut List<WideCell>,
     leaving: usize,
     above: bool,
     place: usize,
     flips: &[usize],
 ) -> bool
-    requires sized { IsTable table.old }
+    requires sized { IsWideTable table.old }
     requires width { length line.old ≡ length table.old.costs }
-    requires there { leaving < variables table.old }
+    requires there { leaving < wide_variables table.old }
     requires place { place < length table.old.costs }
     requires pivot { 0 < nat_abs (entry line.old place) }
     requires flips { All (λ j. j < length table.old.costs) flips.now }
-    ensures sized { IsTable table.new }
+    ensures sized { IsWideTable table.new }
     ensures kept { table.new
-        ≡ with_basis table.old table.new.basis table.new.reduced table.new.lines }
-    ensures pivoted { Gives result (pivoted table.old line.old leaving above place flips.now)
+        ≡ wide_with_basis table.old table.new.basis table.new.reduced table.new.lines }
+    ensures pivoted { GivesNew result (wide_pivoted table.old line.old leaving above place flips.now)
         table.new }
 {
     if !turn_line(line, place) {

@@ -1,15 +1,15 @@
 // The multipliers of own rows by which a variable that nothing brings back to its bound shows that no point keeps these rows.
-ghost use Rattle.std.specs.Prelude.{◌≡◌, ◌<◌, ◌≤◌, ◌^◌, ◌≤ℤ◌, ◌+ℤ◌, ◌-ℤ◌, pos, negsuc, nat_abs, length, take, None, IfOk, IfSome};
+ghost use Rattle.std.specs.Prelude.{◌≡◌, ◌<◌, ◌≤◌, ◌^◌, ◌≤ℤ◌, ◌+ℤ◌, ◌-ℤ◌, pos, negsuc, nat_abs, length, None, IfOk, IfSome};
 ghost use Rattle.std.specs.Option.{option_and_then};
 ghost use Rattle.hp_num.specs.Sums.{entry};
 ghost use Rattle.hp_simplex.specs.Each.{each_from};
 ghost use Rattle.hp_solver.specs.Proper.{IsProper};
 ghost use Rattle.hp_warm_scale.specs.Scaling.{AreSmall, AreRowScales};
 ghost use Rattle.hp_warm_table.specs.Numbers.{bits_of};
-ghost use Rattle.hp_wide.specs.Numbers.{held};
-ghost use Rattle.hp_wide_table.specs.Numbers.{shift_of};
-ghost use Rattle.hp_wide_table.specs.Shape.{Fits, IsTable};
-ghost use Rattle.hp_wide_simplex.specs.Ray.{own_factor, turned, factor_at, greater, with_digits, greatest_from, top_of, ray_dual, ray_duals, where_proved, ray_of};
+ghost use Rattle.hp_wide.specs.Numbers.{held_wide};
+ghost use Rattle.hp_wide_table.specs.Numbers.{wide_shift_of};
+ghost use Rattle.hp_wide_table.specs.Shape.{WideFits, IsWideTable};
+ghost use Rattle.hp_wide_simplex.specs.Ray.{wide_own_factor, wide_turned_cell, wide_ray_factor_at, wide_greater, wide_with_digits, wide_greatest_from, wide_top_of_factors, wide_clipped_ray_dual, wide_ray_duals, wide_where_proved, wide_ray_answer};
 
 use crate::found::{place_of, slack_of};
 use hp_num::{List, Memory};
@@ -19,15 +19,15 @@ use hp_warm_table::Scales;
 use hp_warm_table::lists::with_room;
 use hp_warm_table::numbers::bits;
 use hp_wide_table::numbers::shift;
-use hp_wide_table::{Cell, Table};
+use hp_wide_table::{WideCell, WideTable};
 use std::alloc::Global;
 
 /// A basic variable of a table that violates a bound, and that nothing brings back to it.
 #[derive(Clone, Copy)]
 struct Stuck<'a> {
-    table: &'a Table,
+    table: &'a WideTable,
     /// The cells by which it depends on the nonbasic variables, one for each place.
-    line: &'a [Cell],
+    line: &'a [WideCell],
     variable: usize,
     /// Whether it is above its upper bound, and else below its lower one.
     above: bool,
@@ -35,27 +35,27 @@ struct Stuck<'a> {
 
 // The factor of the violated variable's own row.
 fn own_factor(above: bool) -> i128
-    ensures value { result ≡ own_factor above }
+    ensures value { result ≡ wide_own_factor above }
     ensures small { nat_abs result < 2 ^ 124 }
 {
     if above { -(1 << 80) } else { 1 << 80 }
 }
 
 // A cell of the line, with the other sign where the variable is below its bound.
-fn turned(above: bool, cell: Cell) -> i128
-    ensures value { result ≡ turned above cell }
+fn turned(above: bool, cell: WideCell) -> i128
+    ensures value { result ≡ wide_turned_cell above cell }
     ensures small { nat_abs result < 2 ^ 124 }
 {
     if above { cell.number() } else { -cell.number() }
 }
 
 // The scaled factor of a row.
-#[tactic(auto, unfolding(crate::specs::Ray::factor_at))]
+#[tactic(auto, unfolding(crate::specs::Ray::wide_ray_factor_at))]
 fn factor_at(stuck: &Stuck, row: usize) -> i128
-    requires sized { IsTable stuck.now.table.now }
+    requires sized { IsWideTable stuck.now.table.now }
     requires line { length stuck.now.line.now ≡ length stuck.now.table.now.costs }
     requires row { row < length stuck.now.table.now.rows }
-    ensures value { result ≡ factor_at stuck.now.table.now stuck.now.line.now stuck.now.variable stuck.now.above row }
+    ensures value { result ≡ wide_ray_factor_at stuck.now.table.now stuck.now.line.now stuck.now.variable stuck.now.above row }
     ensures small { nat_abs result < 2 ^ 124 }
 {
     let slack = slack_of(stuck.table, row);
@@ -72,7 +72,7 @@ fn factor_at(stuck: &Stuck, row: usize) -> i128
 fn greater(best: Option<i32>, x: i32) -> i32
     requires best { IfSome best (λ b. nat_abs b ≤ 2000) }
     requires small { nat_abs x ≤ 2000 }
-    ensures value { result ≡ greater best x }
+    ensures value { result ≡ wide_greater best x }
     ensures small { nat_abs result ≤ 2000 }
 {
     match best {
@@ -96,7 +96,7 @@ fn with_digits(best: Option<i32>, factor: i128, exponent: i32) -> Option<i32>
     requires least { negsuc 1299 ≤ℤ exponent }
     requires greatest { exponent ≤ℤ pos 1300 }
     requires small { IfSome best (λ b. nat_abs b ≤ 2000) }
-    ensures value { result ≡ with_digits best (bits_of factor) exponent }
+    ensures value { result ≡ wide_with_digits best (bits_of factor) exponent }
     ensures small { IfSome result (λ b. nat_abs b ≤ 2000) }
 {
     if bits(factor) == 0 {
@@ -108,11 +108,11 @@ fn with_digits(best: Option<i32>, factor: i128, exponent: i32) -> Option<i32>
 
 // The greatest digits and exponent of all factors other than 0 of the first rows, which have these exponents.
 fn greatest(stuck: &Stuck, exponents: &[i32]) -> Option<i32>
-    requires sized { IsTable stuck.now.table.now }
+    requires sized { IsWideTable stuck.now.table.now }
     requires line { length stuck.now.line.now ≡ length stuck.now.table.now.costs }
     requires rows { length exponents.now ≤ length stuck.now.table.now.rows }
     requires small { AreRowScales exponents.now }
-    ensures value { result ≡ greatest_from stuck.now.table.now stuck.now.line.now stuck.now.variable stuck.now.above 0 None exponents.now }
+    ensures value { result ≡ wide_greatest_from stuck.now.table.now stuck.now.line.now stuck.now.variable stuck.now.above 0 None exponents.now }
     ensures small { IfSome result (λ b. nat_abs b ≤ 2000) }
 {
     let mut best = None;
@@ -123,12 +123,12 @@ fn greatest(stuck: &Stuck, exponents: &[i32]) -> Option<i32>
 }
 
 // The most binary digits that a factor of the first `own` rows has once it is no longer scaled.
-#[tactic(auto, unfolding(crate::specs::Ray::top_of))]
+#[tactic(auto, unfolding(crate::specs::Ray::wide_top_of_factors))]
 fn top_of(stuck: &Stuck, own: usize) -> Option<i32>
-    requires sized { IsTable stuck.now.table.now }
+    requires sized { IsWideTable stuck.now.table.now }
     requires line { length stuck.now.line.now ≡ length stuck.now.table.now.costs }
     requires own { own ≤ length stuck.now.table.now.rows }
-    ensures value { result ≡ top_of stuck.now.table.now stuck.now.line.now stuck.now.variable stuck.now.above own }
+    ensures value { result ≡ wide_top_of_factors stuck.now.table.now stuck.now.line.now stuck.now.variable stuck.now.above own }
     ensures small { IfSome result (λ b. nat_abs b ≤ 2000) }
 {
     let (exponents, _) = stuck.table.scales.rows.as_slice().split_at(own);
@@ -147,19 +147,19 @@ fn ray_exponent(scales: &Scales, row: usize, top: i32) -> i32
 
 // A number times 2^exponent, where 128 bits hold it.
 fn narrow_shift(number: i128, exponent: i32) -> Option<i128>
-    ensures { result ≡ option_and_then (held 127) (shift_of number exponent) }
+    ensures { result ≡ option_and_then (held_wide 127) (wide_shift_of number exponent) }
 {
     shift(number, exponent)?.narrowed()
 }
 
 // The multiplier of a row.
-#[tactic(auto, unfolding(crate::specs::Ray::ray_dual))]
+#[tactic(auto, unfolding(crate::specs::Ray::wide_clipped_ray_dual))]
 fn ray_dual(stuck: &Stuck, top: i32, number: usize, row: &LpRow) -> Option<Fx>
-    requires sized { IsTable stuck.now.table.now }
+    requires sized { IsWideTable stuck.now.table.now }
     requires line { length stuck.now.line.now ≡ length stuck.now.table.now.costs }
     requires row { number < length stuck.now.table.now.rows }
     requires small { nat_abs top ≤ 2000 }
-    ensures { result ≡ ray_dual stuck.now.table.now stuck.now.line.now stuck.now.variable stuck.now.above top number row.now }
+    ensures { result ≡ wide_clipped_ray_dual stuck.now.table.now stuck.now.line.now stuck.now.variable stuck.now.above top number row.now }
 {
     let factor = factor_at(stuck, number);
     let exponent = ray_exponent(&stuck.table.scales, number, top);
@@ -173,11 +173,11 @@ fn row_duals(
     top: i32,
     rows: &[LpRow],
 ) -> Result<Option<List<Fx>>, Memory>
-    requires sized { IsTable stuck.now.table.now }
+    requires sized { IsWideTable stuck.now.table.now }
     requires line { length stuck.now.line.now ≡ length stuck.now.table.now.costs }
     requires rows { length rows.now ≤ length stuck.now.table.now.rows }
     requires small { nat_abs top ≤ 2000 }
-    ensures { IfOk result (λ found. found ≡ each_from (ray_dual stuck.now.table.now stuck.now.line.now stuck.now.variable stuck.now.above top) 0 rows.now) }
+    ensures { IfOk result (λ found. found ≡ each_from (wide_clipped_ray_dual stuck.now.table.now stuck.now.line.now stuck.now.variable stuck.now.above top) 0 rows.now) }
 {
     let mut found = with_room(alloc, rows.len())?;
     for i in 0..rows.len() {
@@ -190,18 +190,18 @@ fn row_duals(
 }
 
 // The multipliers of all own rows.
-#[tactic(auto, unfolding(crate::specs::Ray::ray_duals))]
+#[tactic(auto, unfolding(crate::specs::Ray::wide_ray_duals))]
 fn ray_duals(
     alloc: Global,
     stuck: &Stuck,
     lp: &StageLp,
     top: i32,
 ) -> Result<Option<List<Fx>>, Memory>
-    requires fits { Fits stuck.now.table.now lp.now }
+    requires fits { WideFits stuck.now.table.now lp.now }
     requires proper { IsProper lp.now }
     requires line { length stuck.now.line.now ≡ length stuck.now.table.now.costs }
     requires small { nat_abs top ≤ 2000 }
-    ensures { IfOk result (λ found. found ≡ ray_duals stuck.now.table.now stuck.now.line.now stuck.now.variable stuck.now.above lp.now top) }
+    ensures { IfOk result (λ found. found ≡ wide_ray_duals stuck.now.table.now stuck.now.line.now stuck.now.variable stuck.now.above lp.now top) }
 {
     let own = lp.own_rows();
     row_duals(alloc, stuck, top, own)
@@ -209,7 +209,7 @@ fn ray_duals(
 
 // The answer by multipliers, where they prove that no point keeps all own rows.
 fn where_proved(alloc: Global, lp: &StageLp, duals: List<Fx>) -> Result<Option<Answer>, Memory>
-    ensures { IfOk result (λ answer. answer ≡ where_proved lp.now duals) }
+    ensures { IfOk result (λ answer. answer ≡ wide_where_proved lp.now duals) }
 {
     if !proves(alloc, lp, duals.as_slice())? {
         return Ok(None);
@@ -226,19 +226,19 @@ fn where_proved(alloc: Global, lp: &StageLp, duals: List<Fx>) -> Result<Option<A
 /// place. The duals of the own rows are whole multipliers of these, the factors by which a sum of the rows shows that,
 /// clipped; the greatest factor has 60 binary digits. None where they do not prove that no point keeps all own rows.
 /// [`Memory`] where memory was refused.
-#[tactic(auto, unfolding(crate::specs::Ray::ray_of))]
+#[tactic(auto, unfolding(crate::specs::Ray::wide_ray_answer))]
 pub fn ray(
     alloc: Global,
-    table: &Table,
-    line: &[Cell],
+    table: &WideTable,
+    line: &[WideCell],
     variable: usize,
     above: bool,
     lp: &StageLp,
 ) -> Result<Option<Answer>, Memory>
-    requires fits { Fits table.now lp.now }
+    requires fits { WideFits table.now lp.now }
     requires proper { IsProper lp.now }
     requires line { length line.now ≡ length table.now.costs }
-    ensures { IfOk result (λ answer. answer ≡ ray_of table.now line.now variable above lp.now) }
+    ensures { IfOk result (λ answer. answer ≡ wide_ray_answer table.now line.now variable above lp.now) }
 {
     let stuck = Stuck {
         table: &*table,

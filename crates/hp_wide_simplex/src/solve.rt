@@ -1,19 +1,19 @@
 // The answer to a program in wide numbers, from nothing.
 ghost use Rattle.std.specs.Prelude.{◌≡◌, IfOk};
 ghost use Rattle.hp_solver.specs.Proper.{IsProper};
-ghost use Rattle.hp_wide_table.specs.Shape.{Fits};
+ghost use Rattle.hp_wide_table.specs.Shape.{WideFits};
 ghost use Rattle.hp_wide_simplex.specs.Solve.{solved, wide_of};
 
 use crate::turns::take_turns;
 use hp_num::Memory;
 use hp_solver::{Answer, StageLp};
-use hp_wide_table::{Table, whole_table};
+use hp_wide_table::{WideTable, whole_table};
 use std::alloc::Global;
 
 // The answer by the table of the whole program.
-fn solved(alloc: Global, lp: &StageLp, table: Table) -> Result<Option<Answer>, Memory>
+fn solved(alloc: Global, lp: &StageLp, table: WideTable) -> Result<Option<Answer>, Memory>
     requires proper { IsProper lp.now }
-    requires fits { Fits table lp.now }
+    requires fits { WideFits table lp.now }
     ensures { IfOk result (λ answer. answer ≡ solved lp.now table) }
 {
     let mut table = table;

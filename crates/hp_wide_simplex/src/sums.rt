@@ -1,25 +1,25 @@
 // Sums of products, and the value of a row.
 ghost use Rattle.std.specs.Prelude.{◌≡◌, ◌<◌, pos, ◌*ℤ◌, length, All};
 ghost use Rattle.hp_wide_table.specs.Numbers.{sum_of};
-ghost use Rattle.hp_wide_table.specs.Shape.{IsTable};
-ghost use Rattle.hp_wide_simplex.specs.Activity.{terms_from, row_value, activity_of};
+ghost use Rattle.hp_wide_table.specs.Shape.{IsWideTable};
+ghost use Rattle.hp_wide_simplex.specs.Activity.{wide_terms_from, wide_row_activity, wide_activity_of};
 ghost use Rattle.hp_wide_simplex.specs.Refine.{shares_from};
 
 use hp_wide::Wide;
 use hp_wide_table::numbers::down;
-use hp_wide_table::{Cell, Quantity, Table};
+use hp_wide_table::{WideCell, WideQuantity, WideTable};
 
 // The sum with a cell times a quantity. None where 256 bits do not hold it.
-fn plus_share(sum: Wide, a: Cell, x: Quantity) -> Option<Wide>
+fn plus_share(sum: Wide, a: WideCell, x: WideQuantity) -> Option<Wide>
     ensures { result ≡ sum_of sum (a *ℤ x) }
 {
     sum.plus_product(a.number(), x.number())
 }
 
 // The sum of terms at the values x. None where 256 bits do not hold a sum on the way.
-fn terms_at(terms: &[(u32, Cell)], x: &[Quantity]) -> Option<Wide>
+fn terms_at(terms: &[(u32, WideCell)], x: &[WideQuantity]) -> Option<Wide>
     requires { All (λ t. t.0 < length x.now) terms.now }
-    ensures { result ≡ terms_from (pos 0) terms.now x.now }
+    ensures { result ≡ wide_terms_from (pos 0) terms.now x.now }
 {
     let mut sum = Wide::zero();
     for k in 0..terms.len() {
@@ -29,7 +29,7 @@ fn terms_at(terms: &[(u32, Cell)], x: &[Quantity]) -> Option<Wide>
 }
 
 // The sum of cells times the shifts at their places. None where 256 bits do not hold a sum on the way.
-pub(crate) fn shares(line: &[Cell], shifts: &[Quantity]) -> Option<Wide>
+pub(crate) fn shares(line: &[WideCell], shifts: &[WideQuantity]) -> Option<Wide>
     requires { length shifts.now ≡ length line.now }
     ensures { result ≡ shares_from (pos 0) line.now shifts.now }
 {
@@ -41,20 +41,20 @@ pub(crate) fn shares(line: &[Cell], shifts: &[Quantity]) -> Option<Wide>
 }
 
 // The value of a row with these terms, at the values x.
-fn row_value(terms: &[(u32, Cell)], x: &[Quantity]) -> Option<Quantity>
+fn row_value(terms: &[(u32, WideCell)], x: &[WideQuantity]) -> Option<WideQuantity>
     requires { All (λ t. t.0 < length x.now) terms.now }
-    ensures { result ≡ row_value terms.now x.now }
+    ensures { result ≡ wide_row_activity terms.now x.now }
 {
-    Quantity::new(down(terms_at(terms, x)?)?)
+    WideQuantity::new(down(terms_at(terms, x)?)?)
 }
 
 /// The value of a row at the columns' values. None exactly where 256 bits do not hold a sum on the way, or where its
 /// absolute value is 2^110 or more.
-#[tactic(auto, unfolding(crate::specs::Activity::activity_of), using(crate::proofs::Inside::row_inside))]
-pub fn activity(table: &Table, row: usize) -> Option<Quantity>
-    requires sized { IsTable table.now }
+#[tactic(auto, unfolding(crate::specs::Activity::wide_activity_of), using(crate::proofs::Inside::row_inside))]
+pub fn activity(table: &WideTable, row: usize) -> Option<WideQuantity>
+    requires sized { IsWideTable table.now }
     requires there { row < length table.now.rows }
-    ensures { result ≡ activity_of table.now row }
+    ensures { result ≡ wide_activity_of table.now row }
 {
     row_value(table.rows.row(row), table.values.as_slice())
 }

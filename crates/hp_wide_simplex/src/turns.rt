@@ -1,17 +1,17 @@
 // Turns of the bounded dual simplex method on a table in place.
 ghost use Rattle.std.specs.Prelude.{◌≡◌, false, IfOk};
 ghost use Rattle.hp_solver.specs.Proper.{IsProper};
-ghost use Rattle.hp_wide_table.specs.Shape.{Fits};
-ghost use Rattle.hp_wide_simplex.specs.Steps.{Mends, Takes};
-ghost use Rattle.hp_wide_simplex.specs.Turns.{by_pivot, mended, by_inspection, inspection_of, turn_of, turns};
+ghost use Rattle.hp_wide_table.specs.Shape.{WideFits};
+ghost use Rattle.hp_wide_simplex.specs.Steps.{Mends, WideTakesTurn};
+ghost use Rattle.hp_wide_simplex.specs.Turns.{wide_by_pivoted_table, mended, wide_by_inspection, wide_inspection_of, wide_turn_on_table, wide_turns_on_table};
 
 use crate::found::finish;
-use crate::inspecting::{Inspection, Mend, inspect_table};
+use crate::inspecting::{Mend, WideInspection, inspect_table};
 use crate::pivots::pivot;
 use crate::points::refine;
 use hp_num::Memory;
 use hp_solver::{Answer, StageLp};
-use hp_wide_table::Table;
+use hp_wide_table::WideTable;
 use std::alloc::Global;
 
 /// The outcome of a turn.
@@ -28,11 +28,11 @@ pub enum Turn {
 
 // The pivot that mends a violation.
 #[tactic(auto, unfolding(crate::specs::Turns::mended), using(crate::proofs::Fitting::still_fits))]
-fn exchange(lp: &StageLp, table: &mut Table, mend: Mend) -> Turn
-    requires fits { Fits table.old lp.now }
+fn exchange(lp: &StageLp, table: &mut WideTable, mend: Mend) -> Turn
+    requires fits { WideFits table.old lp.now }
     requires mends { Mends table.old mend }
-    ensures fits { Fits table.new lp.now }
-    ensures turn { Takes result (by_pivot (mended table.old mend)) table.new }
+    ensures fits { WideFits table.new lp.now }
+    ensures turn { WideTakesTurn result (wide_by_pivoted_table (mended table.old mend)) table.new }
 {
     let Mend {
         violation,
@@ -55,27 +55,27 @@ fn exchange(lp: &StageLp, table: &mut Table, mend: Mend) -> Turn
 }
 
 // Takes a turn by the violations of a table with the values of its basis.
-fn mend_table(alloc: Global, lp: &StageLp, table: &mut Table) -> Result<Turn, Memory>
-    requires fits { Fits table.old lp.now }
+fn mend_table(alloc: Global, lp: &StageLp, table: &mut WideTable) -> Result<Turn, Memory>
+    requires fits { WideFits table.old lp.now }
     requires proper { IsProper lp.now }
-    ensures fits { Fits table.new lp.now }
-    ensures turn { IfOk result (λ turn. Takes turn (by_inspection table.old (inspection_of lp.now table.old)) table.new) }
+    ensures fits { WideFits table.new lp.now }
+    ensures turn { IfOk result (λ turn. WideTakesTurn turn (wide_by_inspection table.old (wide_inspection_of lp.now table.old)) table.new) }
 {
     match inspect_table(alloc, lp, table)? {
-        Inspection::Rests => Ok(Turn::Idles),
-        Inspection::Mends(mend) => Ok(exchange(lp, table, mend)),
-        Inspection::Shows(answer) => Ok(Turn::Ends(answer)),
-        Inspection::Stops => Ok(Turn::Stops),
+        WideInspection::Rests => Ok(Turn::Idles),
+        WideInspection::Mends(mend) => Ok(exchange(lp, table, mend)),
+        WideInspection::Shows(answer) => Ok(Turn::Ends(answer)),
+        WideInspection::Stops => Ok(Turn::Stops),
     }
 }
 
 // Takes one turn.
-#[tactic(auto, unfolding(crate::specs::Turns::turn_of), using(crate::proofs::Fitting::still_fits))]
-fn take_turn(alloc: Global, lp: &StageLp, table: &mut Table) -> Result<Turn, Memory>
-    requires fits { Fits table.old lp.now }
+#[tactic(auto, unfolding(crate::specs::Turns::wide_turn_on_table), using(crate::proofs::Fitting::still_fits))]
+fn take_turn(alloc: Global, lp: &StageLp, table: &mut WideTable) -> Result<Turn, Memory>
+    requires fits { WideFits table.old lp.now }
     requires proper { IsProper lp.now }
-    ensures fits { Fits table.new lp.now }
-    ensures turn { IfOk result (λ turn. Takes turn (turn_of lp.now table.old) table.new) }
+    ensures fits { WideFits table.new lp.now }
+    ensures turn { IfOk result (λ turn. WideTakesTurn turn (wide_turn_on_table lp.now table.old) table.new) }
 {
     if !refine(alloc, table)? {
         return Ok(Turn::Stops);
@@ -88,12 +88,12 @@ fn take_turn(alloc: Global, lp: &StageLp, table: &mut Table) -> Result<Turn, Mem
 pub fn take_turns(
     alloc: Global,
     lp: &StageLp,
-    table: &mut Table,
+    table: &mut WideTable,
     limit: usize,
 ) -> Result<Option<Answer>, Memory>
-    requires fits { Fits table.old lp.now }
+    requires fits { WideFits table.old lp.now }
     requires proper { IsProper lp.now }
-    ensures { IfOk result (λ answer. answer ≡ turns lp.now limit false table.old) }
+    ensures { IfOk result (λ answer. answer ≡ wide_turns_on_table lp.now limit false table.old) }
 {
     let mut idle = false;
     for _turn in 0..limit {

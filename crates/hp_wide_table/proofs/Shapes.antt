@@ -1,11 +1,11 @@
 -- Tables of which some parts are replaced keep their shape.
 use Rattle.std.proofs.Common.{◌≡◌, ◌<◌, ℕ, Bool, List, length, All, IfSome}
 use Rattle.hp_warm_table.specs.declared.table.Scales.{Scales}
-use Rattle.hp_wide_table.specs.declared.table.Bounds.{Bounds}
+use Rattle.hp_wide_table.specs.declared.table.WideBounds.{WideBounds}
 use Rattle.hp_warm_table.specs.declared.table.Basis.{Basis}
-use Rattle.hp_wide_table.specs.declared.table.Table.{Table}
+use Rattle.hp_wide_table.specs.declared.table.WideTable.{WideTable}
 use Rattle.hp_warm_scale.specs.Scaling.{AreSmall}
-use Rattle.hp_wide_table.specs.Shape.{IsTable, variables}
+use Rattle.hp_wide_table.specs.Shape.{IsWideTable, wide_variables}
 
 -- an exponent for each row and each column, and none is great
 pub record AreScales (rows columns : ℕ) (s : Scales) : Type 0 where
@@ -14,7 +14,7 @@ pub record AreScales (rows columns : ℕ) (s : Scales) : Type 0 where
   pub small : AreSmall 1000 s
 
 -- bounds for each variable
-pub record AreBounds (all : ℕ) (b : Bounds) : Type 0 where
+pub record AreBounds (all : ℕ) (b : WideBounds) : Type 0 where
   pub lows : length b.lows ≡ all
   pub ups : length b.ups ≡ all
   pub has_low : length b.has_low ≡ all
@@ -28,22 +28,22 @@ pub record IsBasis (columns all : ℕ) (b : Basis) : Type 0 where
   pub numbers : All (λ v. v < all) b.nonbasic
   pub inside : All (λ p. IfSome p (λ j. j < columns)) b.places
 
-pub scales_of : (t : Table) → IsTable t → AreScales (length t.rows) (length t.costs) t.scales
+pub scales_of : (t : WideTable) → IsWideTable t → AreScales (length t.rows) (length t.costs) t.scales
 scales_of t s = record { row_scales = s.row_scales; column_scales = s.column_scales; small = s.small }
 
-pub bounds_of : (t : Table) → IsTable t → AreBounds (variables t) t.bounds
+pub bounds_of : (t : WideTable) → IsWideTable t → AreBounds (wide_variables t) t.bounds
 bounds_of t s = record { lows = s.lows; ups = s.ups; has_low = s.has_low; has_up = s.has_up }
 
-pub basis_of : (t : Table) → IsTable t → IsBasis (length t.costs) (variables t) t.basis
+pub basis_of : (t : WideTable) → IsWideTable t → IsBasis (length t.costs) (wide_variables t) t.basis
 basis_of t s = record { nonbasic = s.nonbasic; places = s.places; high = s.high; numbers = s.numbers; inside = s.inside }
 
 -- a basis stays one where its nonbasic variables stand at other bounds
-pub other_highs : (t : Table) (high : List Bool) → IsTable t → length high ≡ length t.costs → IsBasis (length t.costs) (variables t) (record t.basis { high = high })
+pub other_highs : (t : WideTable) (high : List Bool) → IsWideTable t → length high ≡ length t.costs → IsBasis (length t.costs) (wide_variables t) (record t.basis { high = high })
 other_highs t high s e = record { nonbasic = s.nonbasic; places = s.places; high = e; numbers = s.numbers; inside = s.inside }
 
 -- a table with the costs and the rows of one, where its other parts fit them
-pub same_shape : (t u : Table) → IsTable t → AreScales (length t.rows) (length t.costs) u.scales → AreBounds (variables t) u.bounds → IsBasis (length t.costs) (variables t) u.basis
-    → length u.reduced ≡ length t.costs → length u.lines ≡ length t.costs → length u.values ≡ length t.costs → IsTable (record u { costs = t.costs; rows = t.rows })
+pub same_shape : (t u : WideTable) → IsWideTable t → AreScales (length t.rows) (length t.costs) u.scales → AreBounds (wide_variables t) u.bounds → IsBasis (length t.costs) (wide_variables t) u.basis
+    → length u.reduced ≡ length t.costs → length u.lines ≡ length t.costs → length u.values ≡ length t.costs → IsWideTable (record u { costs = t.costs; rows = t.rows })
 same_shape t u s scales bounds basis reduced lines values =
     record {
       few = s.few;

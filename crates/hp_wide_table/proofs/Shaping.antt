@@ -3,19 +3,19 @@ use Rattle.std.proofs.Common.{◌≡◌, ◌≤ℤ◌, ℕ, zero, suc, ◌+◌, 
 use Rattle.std.proofs.lemmas.List.{length-map, length-replicate}
 use Rattle.std.proofs.lemmas.List.Elements.{All-weaker, All-push, All-nil, All-cons, All-map}
 use Rattle.hp_warm_table.specs.declared.table.Scales.{Scales}
-use Rattle.hp_warm_table.specs.Shape.{AreRising}
+use Rattle.hp_warm_table.specs.Shape.{AreTermsRising}
 use Rattle.hp_warm_scale.specs.Walks.{count_from}
-use Rattle.hp_warm_scale.specs.Scaling.{numbers, is_negative, AreSmall}
+use Rattle.hp_warm_scale.specs.Scaling.{column_numbers, is_below_zero, AreSmall}
 use Rattle.hp_warm_scale.proofs.Weights.{scales_more}
-use Rattle.hp_wide_table.specs.declared.table.Table.{Table}
-use Rattle.hp_wide_table.specs.declared.scaling.ScaledColumn.{ScaledColumn}
-use Rattle.hp_wide_table.specs.declared.appending.Sides.{Sides}
-use Rattle.hp_wide_table.specs.Shape.{IsTable}
-use Rattle.hp_wide_table.specs.Scaling.{blank_of, with_column, stood}
-use Rattle.hp_wide_table.specs.Appending.{with_row}
+use Rattle.hp_wide_table.specs.declared.table.WideTable.{WideTable}
+use Rattle.hp_wide_table.specs.declared.scaling.WideScaledColumn.{WideScaledColumn}
+use Rattle.hp_wide_table.specs.declared.appending.WideSides.{WideSides}
+use Rattle.hp_wide_table.specs.Shape.{IsWideTable}
+use Rattle.hp_wide_table.specs.Scaling.{wide_blank_of, wide_with_column, wide_standing_table}
+use Rattle.hp_wide_table.specs.Appending.{wide_with_appended_row}
 use Rattle.hp_wide_table.proofs.Shapes.{scales_of, bounds_of, other_highs, same_shape}
 
-pub column_table : (j : ℕ) (s : ScaledColumn) (t : Table) → IsTable t → IsTable (with_column j s t)
+pub column_table : (j : ℕ) (s : WideScaledColumn) (t : WideTable) → IsWideTable t → IsWideTable (wide_with_column j s t)
 column_table j s t w =
     let n = length-set t.costs j s.cost in
     let v = ap (λ (k : ℕ). k + length t.rows) n in
@@ -36,17 +36,17 @@ column_table j s t w =
       values = w.values ∙ sym n;
       numbers = subst (λ (k : ℕ). All (λ u. u < k) t.basis.nonbasic) (sym v) w.numbers;
       inside = subst (λ (k : ℕ). All (λ p. IfSome p (λ j. j < k)) t.basis.places) (sym n) w.inside;
-      terms = subst (λ (k : ℕ). All (AreRising 0 k) t.rows) (sym n) w.terms;
+      terms = subst (λ (k : ℕ). All (AreTermsRising 0 k) t.rows) (sym n) w.terms;
     }
 
-pub stood_table : (t : Table) → IsTable t → IsTable (stood t)
-stood_table t w = same_shape t (stood t) w (scales_of t w) (bounds_of t w) (other_highs t (map is_negative t.reduced) w (length-map t.reduced is_negative ∙ w.reduced)) w.reduced w.lines w.values
+pub stood_table : (t : WideTable) → IsWideTable t → IsWideTable (wide_standing_table t)
+stood_table t w = same_shape t (wide_standing_table t) w (scales_of t w) (bounds_of t w) (other_highs t (map is_below_zero t.reduced) w (length-map t.reduced is_below_zero ∙ w.reduced)) w.reduced w.lines w.values
 
 -- one entry more, in two lists
 one_more : {A B : Type 0} (xs : List A) (ys : List B) (x : A) (y : B) (n : ℕ) → length xs ≡ n + length ys → length (xs ++ x ∷ []) ≡ n + length (ys ++ y ∷ [])
 one_more xs ys x y n h = omega (arith, h, length-append xs (x ∷ []), length-append ys (y ∷ []))
 
-pub row_table : (e : ℤ) (ts : List (ℕ × ℤ)) (s : Sides) (t : Table) → AreRising 0 (length t.costs) ts → AreSmall 1000 (with_row e ts s t).scales → IsTable t → IsTable (with_row e ts s t)
+pub row_table : (e : ℤ) (ts : List (ℕ × ℤ)) (s : WideSides) (t : WideTable) → AreTermsRising 0 (length t.costs) ts → AreSmall 1000 (wide_with_appended_row e ts s t).scales → IsWideTable t → IsWideTable (wide_with_appended_row e ts s t)
 row_table e ts s t r small w = record {
   few = w.few;
   small = small;
@@ -64,7 +64,7 @@ row_table e ts s t r small w = record {
   values = w.values;
   numbers = All-weaker (λ (v : ℕ). v < length t.costs + length t.rows) (λ (v : ℕ). v < length t.costs + length (t.rows ++ ts ∷ [])) (λ v h. omega (arith, h, length-append t.rows (ts ∷ []))) t.basis.nonbasic w.numbers;
   inside = All-push (λ (p : Option ℕ). IfSome p (λ j. j < length t.costs)) t.basis.places None w.inside tt;
-  terms = All-push (AreRising 0 (length t.costs)) t.rows ts w.terms r;
+  terms = All-push (AreTermsRising 0 (length t.costs)) t.rows ts w.terms r;
 }
 
 count_length : (j n : ℕ) → length (count_from j n) ≡ n
@@ -75,7 +75,7 @@ count_below : (j n m : ℕ) → j + n ≤ m → All (λ (v : ℕ). v < m) (count
 count_below j zero m h = All-nil (λ (v : ℕ). v < m)
 count_below j (suc n) m h = All-cons (λ (v : ℕ). v < m) j (count_from (suc j) n) (omega arith) (count_below (suc j) n m (omega arith))
 
-pub blank_table : (n : ℕ) (s : Scales) → n ≤ 1199 → AreSmall 1000 s → length s.columns ≡ n → length s.rows ≡ 0 → IsTable (blank_of n s)
+pub blank_table : (n : ℕ) (s : Scales) → n ≤ 1199 → AreSmall 1000 s → length s.columns ≡ n → length s.rows ≡ 0 → IsWideTable (wide_blank_of n s)
 blank_table n s few small count rows =
     let z : ℤ = pos 0 in
     let some : ℕ → Option ℕ = λ j. Some j in
@@ -90,17 +90,17 @@ blank_table n s few small count rows =
       has_low = omega (arith, zs, length-replicate n true);
       has_up = omega (arith, zs, length-replicate n true);
       nonbasic = count_length 0 n ∙ sym zs;
-      places = omega (arith, zs, length-map (numbers n) some, count_length 0 n);
+      places = omega (arith, zs, length-map (column_numbers n) some, count_length 0 n);
       high = length-replicate n false ∙ sym zs;
       reduced = refl;
       lines = length-replicate n (replicate n z) ∙ sym zs;
       values = refl;
       numbers = count_below 0 n (length (replicate n z) + 0) (omega (arith, zs));
-      inside = All-map (λ (p : Option ℕ). IfSome p (λ j. j < length (replicate n z))) Some (numbers n) (count_below 0 n (length (replicate n z)) (omega (arith, zs)));
-      terms = All-nil (AreRising 0 (length (replicate n z)));
+      inside = All-map (λ (p : Option ℕ). IfSome p (λ j. j < length (replicate n z))) Some (column_numbers n) (count_below 0 n (length (replicate n z)) (omega (arith, zs)));
+      terms = All-nil (AreTermsRising 0 (length (replicate n z)));
     }
 
-pub row_small : (e : ℤ) (ts : List (ℕ × ℤ)) (s : Sides) (t : Table) → negsuc 1299 ≤ℤ e → e ≤ℤ pos 1300 → AreSmall 1000 t.scales → AreSmall 1000 (with_row e ts s t).scales
+pub row_small : (e : ℤ) (ts : List (ℕ × ℤ)) (s : WideSides) (t : WideTable) → negsuc 1299 ≤ℤ e → e ≤ℤ pos 1300 → AreSmall 1000 t.scales → AreSmall 1000 (wide_with_appended_row e ts s t).scales
 row_small e ts s t h k w = record {
   columns = w.columns;
   rows = scales_more t.scales.rows e h k w.rows;

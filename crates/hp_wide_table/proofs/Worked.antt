@@ -6,7 +6,7 @@ use Rattle.hp_solver.specs.declared.programs.Column.{Column}
 use Rattle.hp_solver.specs.declared.programs.LpRow.{LpRow}
 use Rattle.hp_solver.specs.declared.programs.Program.{Program}
 use Rattle.hp_solver.specs.Numbers.{number}
-use Rattle.hp_wide_table.specs.declared.table.Table.{Table}
+use Rattle.hp_wide_table.specs.declared.table.WideTable.{WideTable}
 use Rattle.hp_wide_table.specs.Making.{table_of}
 use Rattle.hp_warm_scale.specs.Appending as scale_appending
 use Rattle.hp_warm_scale.specs.Exponents as scale_exponents
@@ -34,18 +34,18 @@ with_cuts =
       own = 2;
     }
 
-scales_of_cuts : option_map (λ (t : Table). t.scales) (table_of with_cuts) ≡ Some (record { rows = neg_ℤ (pos 1) ∷ neg_ℤ (pos 1) ∷ neg_ℤ (pos 2) ∷ neg_ℤ (pos 1) ∷ []; columns = pos 0 ∷ pos 0 ∷ pos 0 ∷ pos 0 ∷ []; costs = neg_ℤ (pos 3); values = pos 0 })
-unfolding scale_appending.row_scale scale_exponents.with_row scale_exponents.spans_of scale_exponents.pass_of scale_exponents.columns_of scale_scaling.costs_scale scale_scaling.values_scale scale_widening.top_of scale_widening.cut_spans scale_whole.whole_scales table_numbers.nearest table_numbers.shift_up table_scaling.scaled_value table_scaling.scaled_cell table_scaling.scaled_column table_scaling.column_step table_scaling.columns_table table_appending.scaled_sides table_appending.scaled_term table_appending.scaled_terms table_appending.appended_row table_making.table_of lib.Count.count_leading_zeros
+scales_of_cuts : option_map (λ (t : WideTable). t.scales) (table_of with_cuts) ≡ Some (record { rows = neg_ℤ (pos 1) ∷ neg_ℤ (pos 1) ∷ neg_ℤ (pos 2) ∷ neg_ℤ (pos 1) ∷ []; columns = pos 0 ∷ pos 0 ∷ pos 0 ∷ pos 0 ∷ []; costs = neg_ℤ (pos 3); values = pos 0 })
+unfolding scale_appending.row_scale scale_exponents.with_row_terms scale_exponents.spans_of scale_exponents.pass_of scale_exponents.columns_of scale_scaling.costs_scale scale_scaling.values_scale scale_widening.top_of scale_widening.cut_spans scale_whole.whole_scales table_numbers.nearest table_numbers.wide_shift_up table_scaling.wide_scaled_quantity table_scaling.wide_scaled_cell table_scaling.wide_scaled_column table_scaling.wide_column_step table_scaling.wide_columns_table table_appending.wide_scaled_sides table_appending.wide_scaled_term table_appending.wide_scaled_terms table_appending.wide_appended_row table_making.table_of lib.Count.count_leading_zeros
 scales_of_cuts = refl
 
-rows_of_cuts : option_map (λ (t : Table). t.rows) (table_of with_cuts) ≡ Some (((0, pos 604462909807314587353088) ∷ (1, pos 604462909807314587353088) ∷ []) ∷ ((1, pos 604462909807314587353088) ∷ (2, pos 604462909807314587353088) ∷ []) ∷ ((0, pos 906694364710971881029632) ∷ (3, pos 302231454903657293676544) ∷ []) ∷ ((0, pos 604462909807314587353088) ∷ (3, pos 604462909807314587353088) ∷ []) ∷ [])
-unfolding scale_appending.row_scale scale_exponents.with_row scale_exponents.spans_of scale_exponents.pass_of scale_exponents.columns_of scale_scaling.costs_scale scale_scaling.values_scale scale_widening.top_of scale_widening.cut_spans scale_whole.whole_scales table_numbers.nearest table_numbers.shift_up table_scaling.scaled_value table_scaling.scaled_cell table_scaling.scaled_column table_scaling.column_step table_scaling.columns_table table_appending.scaled_sides table_appending.scaled_term table_appending.scaled_terms table_appending.appended_row table_making.table_of lib.Count.count_leading_zeros
+rows_of_cuts : option_map (λ (t : WideTable). t.rows) (table_of with_cuts) ≡ Some (((0, pos 604462909807314587353088) ∷ (1, pos 604462909807314587353088) ∷ []) ∷ ((1, pos 604462909807314587353088) ∷ (2, pos 604462909807314587353088) ∷ []) ∷ ((0, pos 906694364710971881029632) ∷ (3, pos 302231454903657293676544) ∷ []) ∷ ((0, pos 604462909807314587353088) ∷ (3, pos 604462909807314587353088) ∷ []) ∷ [])
+unfolding scale_appending.row_scale scale_exponents.with_row_terms scale_exponents.spans_of scale_exponents.pass_of scale_exponents.columns_of scale_scaling.costs_scale scale_scaling.values_scale scale_widening.top_of scale_widening.cut_spans scale_whole.whole_scales table_numbers.nearest table_numbers.wide_shift_up table_scaling.wide_scaled_quantity table_scaling.wide_scaled_cell table_scaling.wide_scaled_column table_scaling.wide_column_step table_scaling.wide_columns_table table_appending.wide_scaled_sides table_appending.wide_scaled_term table_appending.wide_scaled_terms table_appending.wide_appended_row table_making.table_of lib.Count.count_leading_zeros
 rows_of_cuts = refl
 
-costs_of_cuts : option_map (λ (t : Table). t.reduced) (table_of with_cuts) ≡ Some (pos 0 ∷ pos 151115727451828646838272 ∷ pos 755578637259143234191360 ∷ pos 151115727451828646838272 ∷ [])
-unfolding scale_appending.row_scale scale_exponents.with_row scale_exponents.spans_of scale_exponents.pass_of scale_exponents.columns_of scale_scaling.costs_scale scale_scaling.values_scale scale_widening.top_of scale_widening.cut_spans scale_whole.whole_scales table_numbers.nearest table_numbers.shift_up table_scaling.scaled_value table_scaling.scaled_cell table_scaling.scaled_column table_scaling.column_step table_scaling.columns_table table_appending.scaled_sides table_appending.scaled_term table_appending.scaled_terms table_appending.appended_row table_making.table_of lib.Count.count_leading_zeros
+costs_of_cuts : option_map (λ (t : WideTable). t.reduced) (table_of with_cuts) ≡ Some (pos 0 ∷ pos 151115727451828646838272 ∷ pos 755578637259143234191360 ∷ pos 151115727451828646838272 ∷ [])
+unfolding scale_appending.row_scale scale_exponents.with_row_terms scale_exponents.spans_of scale_exponents.pass_of scale_exponents.columns_of scale_scaling.costs_scale scale_scaling.values_scale scale_widening.top_of scale_widening.cut_spans scale_whole.whole_scales table_numbers.nearest table_numbers.wide_shift_up table_scaling.wide_scaled_quantity table_scaling.wide_scaled_cell table_scaling.wide_scaled_column table_scaling.wide_column_step table_scaling.wide_columns_table table_appending.wide_scaled_sides table_appending.wide_scaled_term table_appending.wide_scaled_terms table_appending.wide_appended_row table_making.table_of lib.Count.count_leading_zeros
 costs_of_cuts = refl
 
-bounds_of_cuts : option_map (λ (t : Table). t.bounds) (table_of with_cuts) ≡ Some (record { lows = pos 0 ∷ pos 0 ∷ pos 0 ∷ pos 0 ∷ pos 46116860184273879040 ∷ pos 55340232221128654848 ∷ pos 184467440737095516160 ∷ pos 276701161105643274240 ∷ []; ups = pos 184467440737095516160 ∷ pos 147573952589676412928 ∷ pos 368934881474191032320 ∷ pos 18446744073709551616000 ∷ pos 46116860184273879040 ∷ pos 55340232221128654848 ∷ pos 0 ∷ pos 0 ∷ []; has_low = true ∷ true ∷ true ∷ true ∷ true ∷ true ∷ true ∷ true ∷ []; has_up = true ∷ true ∷ true ∷ true ∷ true ∷ true ∷ false ∷ false ∷ [] })
-unfolding scale_appending.row_scale scale_exponents.with_row scale_exponents.spans_of scale_exponents.pass_of scale_exponents.columns_of scale_scaling.costs_scale scale_scaling.values_scale scale_widening.top_of scale_widening.cut_spans scale_whole.whole_scales table_numbers.nearest table_numbers.shift_up table_scaling.scaled_value table_scaling.scaled_cell table_scaling.scaled_column table_scaling.column_step table_scaling.columns_table table_appending.scaled_sides table_appending.scaled_term table_appending.scaled_terms table_appending.appended_row table_making.table_of lib.Count.count_leading_zeros
+bounds_of_cuts : option_map (λ (t : WideTable). t.bounds) (table_of with_cuts) ≡ Some (record { lows = pos 0 ∷ pos 0 ∷ pos 0 ∷ pos 0 ∷ pos 46116860184273879040 ∷ pos 55340232221128654848 ∷ pos 184467440737095516160 ∷ pos 276701161105643274240 ∷ []; ups = pos 184467440737095516160 ∷ pos 147573952589676412928 ∷ pos 368934881474191032320 ∷ pos 18446744073709551616000 ∷ pos 46116860184273879040 ∷ pos 55340232221128654848 ∷ pos 0 ∷ pos 0 ∷ []; has_low = true ∷ true ∷ true ∷ true ∷ true ∷ true ∷ true ∷ true ∷ []; has_up = true ∷ true ∷ true ∷ true ∷ true ∷ true ∷ false ∷ false ∷ [] })
+unfolding scale_appending.row_scale scale_exponents.with_row_terms scale_exponents.spans_of scale_exponents.pass_of scale_exponents.columns_of scale_scaling.costs_scale scale_scaling.values_scale scale_widening.top_of scale_widening.cut_spans scale_whole.whole_scales table_numbers.nearest table_numbers.wide_shift_up table_scaling.wide_scaled_quantity table_scaling.wide_scaled_cell table_scaling.wide_scaled_column table_scaling.wide_column_step table_scaling.wide_columns_table table_appending.wide_scaled_sides table_appending.wide_scaled_term table_appending.wide_scaled_terms table_appending.wide_appended_row table_making.table_of lib.Count.count_leading_zeros
 bounds_of_cuts = refl

@@ -1,12 +1,12 @@
--- Bounds of variables.
+-- WideBounds of variables.
 use Rattle.std.specs.Prelude.{ℕ, ℤ, false, get_or, Option, Some, None, if◌then◌else◌}
 use Rattle.hp_num.specs.Sums.{entry}
-use Rattle.hp_wide_table.specs.declared.table.Bounds.{Bounds}
+use Rattle.hp_wide_table.specs.declared.table.WideBounds.{WideBounds}
 
 -- the lower bound of a variable, none where there is none
-abbrev pub low_of : Bounds → ℕ → Option ℤ
-low_of b v = if get_or b.has_low v false then Some (entry b.lows v) else None
+abbrev pub wide_low_bound_of : WideBounds → ℕ → Option ℤ
+wide_low_bound_of b v = if get_or b.has_low v false then Some (entry b.lows v) else None
 
 -- the upper bound of a variable, none where there is none
-abbrev pub up_of : Bounds → ℕ → Option ℤ
-up_of b v = if get_or b.has_up v false then Some (entry b.ups v) else None
+abbrev pub wide_up_bound_of : WideBounds → ℕ → Option ℤ
+wide_up_bound_of b v = if get_or b.has_up v false then Some (entry b.ups v) else None

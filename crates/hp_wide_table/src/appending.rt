@@ -1,16 +1,16 @@
-// Rows that are put behind a table.
+// WideRows that are put behind a table.
 ghost use Rattle.std.specs.Prelude.{◌≡◌, ◌≤ℤ◌, ◌+◌, ◌+ℤ◌, pos, negsuc, length, true, All, IfOk, OnOk};
 ghost use Rattle.hp_solver.specs.Proper.{AreRising};
 ghost use Rattle.hp_solver.specs.declared.programs.LpRow.{LpRow};
 ghost use Rattle.hp_warm_table.specs.Shape as shape;
-ghost use Rattle.hp_warm_table.specs.Updates.{Gives};
+ghost use Rattle.hp_warm_table.specs.Updates.{GivesNew};
 ghost use Rattle.hp_warm_scale.specs.Exponents.{AreUpTo};
-ghost use Rattle.hp_wide_table.specs.Shape.{IsTable};
-ghost use Rattle.hp_wide_table.specs.Appending.{scaled_side, scaled_sides, scaled_term, scaled_terms, with_row, row_step, appended_row, appended};
+ghost use Rattle.hp_wide_table.specs.Shape.{IsWideTable};
+ghost use Rattle.hp_wide_table.specs.Appending.{wide_scaled_side, wide_scaled_sides, wide_scaled_term, wide_scaled_terms, wide_with_appended_row, wide_appended_row, wide_appended};
 
-use crate::kept::{Cell, Quantity};
+use crate::kept::{WideCell, WideQuantity};
 use crate::scaling::{power, scaled_cell, scaled_value};
-use crate::table::Table;
+use crate::table::WideTable;
 use hp_num::{List, Memory};
 use hp_solver::{Fx, LpRow};
 use hp_warm_scale::appending::row_scale;
@@ -19,34 +19,34 @@ use std::alloc::Global;
 
 /// The sides of a row, scaled.
 #[derive(Clone, Copy)]
-pub struct Sides {
+pub struct WideSides {
     /// The lower side, 0 where there is none.
-    pub low: Quantity,
+    pub low: WideQuantity,
     /// The upper side, 0 where there is none.
-    pub up: Quantity,
+    pub up: WideQuantity,
     /// Whether there is a lower side.
     pub has_low: bool,
     /// Whether there is an upper side.
     pub has_up: bool,
 }
 
-fn scaled_side(exponent: i32, side: Option<Fx>) -> Option<Quantity>
-    ensures { result ≡ scaled_side exponent side }
+fn scaled_side(exponent: i32, side: Option<Fx>) -> Option<WideQuantity>
+    ensures { result ≡ wide_scaled_side exponent side }
 {
     match side {
-        None => Some(Quantity::zero()),
+        None => Some(WideQuantity::zero()),
         Some(side) => scaled_value(side, exponent),
     }
 }
 
 // The sides of a row times 2^exponent. None where one leaves its range.
-#[tactic(auto, unfolding(crate::specs::Appending::scaled_sides))]
-fn scaled_sides(exponent: i32, row: &LpRow) -> Option<Sides>
-    ensures { result ≡ scaled_sides exponent row.now }
+#[tactic(auto, unfolding(crate::specs::Appending::wide_scaled_sides))]
+fn scaled_sides(exponent: i32, row: &LpRow) -> Option<WideSides>
+    ensures { result ≡ wide_scaled_sides exponent row.now }
 {
     let low = scaled_side(exponent, row.low)?;
     let up = scaled_side(exponent, row.high)?;
-    Some(Sides {
+    Some(WideSides {
         low,
         up,
         has_low: row.low.is_some(),
@@ -55,29 +55,29 @@ fn scaled_sides(exponent: i32, row: &LpRow) -> Option<Sides>
 }
 
 // A term of a row with an exponent, scaled.
-#[tactic(auto, unfolding(crate::specs::Appending::scaled_term))]
-fn scaled_term(exponents: &[i32], exponent: i32, term: (u32, Fx)) -> Option<(u32, Cell)>
+#[tactic(auto, unfolding(crate::specs::Appending::wide_scaled_term))]
+fn scaled_term(exponents: &[i32], exponent: i32, term: (u32, Fx)) -> Option<(u32, WideCell)>
     requires exponents { AreUpTo 1000 exponents.now }
     requires least { negsuc 1299 ≤ℤ exponent }
     requires greatest { exponent ≤ℤ pos 1300 }
-    ensures { result ≡ scaled_term exponents.now exponent term }
+    ensures { result ≡ wide_scaled_term exponents.now exponent term }
 {
     let power = power(exponent, exponent_at(exponents, term.0 as usize));
     Some((term.0, scaled_cell(term.1, power)?))
 }
 
 // Writes the terms of a row, scaled. False where one is out of range.
-#[tactic(auto, unfolding(crate::specs::Appending::scaled_terms))]
+#[tactic(auto, unfolding(crate::specs::Appending::wide_scaled_terms))]
 fn scale_terms(
     exponents: &[i32],
     exponent: i32,
     terms: &[(u32, Fx)],
-    found: &mut List<(u32, Cell)>,
+    found: &mut List<(u32, WideCell)>,
 ) -> Result<bool, Memory>
     requires exponents { AreUpTo 1000 exponents.now }
     requires least { negsuc 1299 ≤ℤ exponent }
     requires greatest { exponent ≤ℤ pos 1300 }
-    ensures { IfOk result (λ made. Gives made (scaled_terms exponents.now exponent terms.now) found.new) }
+    ensures { IfOk result (λ made. GivesNew made (wide_scaled_terms exponents.now exponent terms.now) found.new) }
 {
     found.clear();
     for k in 0..terms.len() {
@@ -91,12 +91,12 @@ fn scale_terms(
 
 // Puts a row behind the others.
 fn push_row(
-    table: &mut Table,
+    table: &mut WideTable,
     exponent: i32,
-    terms: &[(u32, Cell)],
-    sides: Sides,
+    terms: &[(u32, WideCell)],
+    sides: WideSides,
 ) -> Result<(), Memory>
-    ensures { OnOk result (table.new ≡ with_row exponent terms.now sides table.old) }
+    ensures { OnOk result (table.new ≡ wide_with_appended_row exponent terms.now sides table.old) }
 {
     table.scales.rows.push(exponent)?;
     table.rows.push(terms)?;
@@ -110,17 +110,17 @@ fn push_row(
 
 // Puts a row behind the others, which makes a table of a table.
 fn put_row(
-    table: &mut Table,
+    table: &mut WideTable,
     exponent: i32,
-    terms: &[(u32, Cell)],
-    sides: Sides,
+    terms: &[(u32, WideCell)],
+    sides: WideSides,
 ) -> Result<(), Memory>
-    requires whole { IsTable table.old }
-    requires rising { shape.AreRising 0 (length table.old.costs) terms.now }
+    requires whole { IsWideTable table.old }
+    requires rising { shape.AreTermsRising 0 (length table.old.costs) terms.now }
     requires least { negsuc 1299 ≤ℤ exponent }
     requires greatest { exponent ≤ℤ pos 1300 }
-    ensures value { OnOk result (table.new ≡ with_row exponent terms.now sides table.old) }
-    ensures whole { OnOk result (IsTable table.new) }
+    ensures value { OnOk result (table.new ≡ wide_with_appended_row exponent terms.now sides table.old) }
+    ensures whole { OnOk result (IsWideTable table.new) }
     ensures count { OnOk result (length table.new.costs ≡ length table.old.costs) }
     ensures rows { OnOk result (length table.new.rows ≡ length table.old.rows + 1) }
 {
@@ -141,16 +141,16 @@ fn side_exponent(exponent: i32, values: i32) -> i32
 // Puts a row of a program behind the others: its terms and sides, scaled, and its slack, which is
 // basic. The answer is false exactly where a number leaves its range: nothing is promised of the
 // table then. [`Memory`] where memory was refused. `scaled` is for work.
-#[tactic(auto, unfolding(crate::specs::Appending::appended_row))]
+#[tactic(auto, unfolding(crate::specs::Appending::wide_appended_row))]
 fn append_row(
-    table: &mut Table,
+    table: &mut WideTable,
     row: &LpRow,
-    scaled: &mut List<(u32, Cell)>,
+    scaled: &mut List<(u32, WideCell)>,
 ) -> Result<bool, Memory>
-    requires whole { IsTable table.old }
+    requires whole { IsWideTable table.old }
     requires rising { AreRising 0 (length table.old.costs) row.now.terms }
-    ensures value { IfOk result (λ made. Gives made (appended_row row.now table.old) table.new) }
-    ensures whole { IfOk result (λ made. made ≡ true → IsTable table.new) }
+    ensures value { IfOk result (λ made. GivesNew made (wide_appended_row row.now table.old) table.new) }
+    ensures whole { IfOk result (λ made. made ≡ true → IsWideTable table.new) }
     ensures count { IfOk result (λ made. made ≡ true → length table.new.costs ≡ length table.old.costs) }
     ensures rows { IfOk result (λ made. made ≡ true → length table.new.rows ≡ length table.old.rows + 1) }
 {
@@ -169,11 +169,11 @@ fn append_row(
 // Puts some rows of a program behind the others, one after the other. The answer is false exactly
 // where a number leaves its range: nothing is promised of the table then. [`Memory`] where memory
 // was refused.
-pub(crate) fn append(alloc: Global, table: &mut Table, rows: &[LpRow]) -> Result<bool, Memory>
-    requires whole { IsTable table.old }
+pub(crate) fn append(alloc: Global, table: &mut WideTable, rows: &[LpRow]) -> Result<bool, Memory>
+    requires whole { IsWideTable table.old }
     requires rising { All (λ (r : LpRow). AreRising 0 (length table.old.costs) r.terms) rows.now }
-    ensures value { IfOk result (λ made. Gives made (appended rows.now table.old) table.new) }
-    ensures whole { IfOk result (λ made. made ≡ true → IsTable table.new) }
+    ensures value { IfOk result (λ made. GivesNew made (wide_appended rows.now table.old) table.new) }
+    ensures whole { IfOk result (λ made. made ≡ true → IsWideTable table.new) }
     ensures count { IfOk result (λ made. made ≡ true → length table.new.costs ≡ length table.old.costs) }
     ensures rows { IfOk result (λ made. made ≡ true → length table.new.rows ≡ length table.old.rows + length rows.now) }
 {

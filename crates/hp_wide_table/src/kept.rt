@@ -1,6 +1,6 @@
 // Numbers that keep their range.
 ghost use Rattle.std.specs.Prelude.{◌≡◌, ◌^◌, ◌<◌, pos, neg_ℤ, nat_abs};
-ghost use Rattle.hp_wide_table.specs.Numbers.{cell_of, value_of, cell_sum, value_sum};
+ghost use Rattle.hp_wide_table.specs.Numbers.{wide_cell_of, wide_quantity_of, cell_sum, value_sum};
 
 use hp_wide::Wide;
 use std::marker::Model;
@@ -12,11 +12,11 @@ const QUANTITIES: i128 = 1 << 110;
 /// A number of the table, of absolute value below 2^124, at scale 2^80: a cell, a scaled term, a cost or a reduced
 /// cost.
 #[derive(Clone, Copy)]
-pub struct Cell {
+pub struct WideCell {
     v: i128,
 }
 
-impl Model for Cell {
+impl Model for WideCell {
     ghost use Rattle.std.specs.Prelude.{ℤ, ◌^◌, ◌<◌, nat_abs};
 
     ghost Value = { ℤ };
@@ -28,52 +28,52 @@ impl Model for Cell {
     ghost invariant = { λ c. nat_abs c.v < 2 ^ 124 };
 }
 
-impl Cell {
+impl WideCell {
     /// The number 0.
-    pub fn zero() -> Cell
+    pub fn zero() -> WideCell
         ensures { result ≡ pos 0 }
     {
-        Cell { v: 0 }
+        WideCell { v: 0 }
     }
 
     /// -2^80, which stands for -1.
-    pub fn minus_one() -> Cell
+    pub fn minus_one() -> WideCell
         ensures { result ≡ neg_ℤ (pos (2 ^ 80)) }
     {
-        Cell { v: -(1 << 80) }
+        WideCell { v: -(1 << 80) }
     }
 
     // A number of 128 bits as a cell.
-    fn narrow(v: i128) -> Option<Cell>
-        ensures { result ≡ cell_of v }
+    fn narrow(v: i128) -> Option<WideCell>
+        ensures { result ≡ wide_cell_of v }
     {
         if -CELLS < v && v < CELLS {
-            Some(Cell { v })
+            Some(WideCell { v })
         } else {
             None
         }
     }
 
     /// A number as a cell. None exactly where its absolute value is 2^124 or more.
-    pub fn new(number: Wide) -> Option<Cell>
-        ensures { result ≡ cell_of number }
+    pub fn new(number: Wide) -> Option<WideCell>
+        ensures { result ≡ wide_cell_of number }
     {
-        Cell::narrow(number.narrowed()?)
+        WideCell::narrow(number.narrowed()?)
     }
 
     /// The sum with a number. None exactly where 256 bits do not hold it, or where its absolute value is 2^124 or more.
     #[tactic(auto, unfolding(crate::specs::Numbers::cell_sum))]
-    pub fn plus(self, number: Wide) -> Option<Cell>
+    pub fn plus(self, number: Wide) -> Option<WideCell>
         ensures { result ≡ cell_sum self number }
     {
-        Cell::new(Wide::from_i128(self.v).plus(number)?)
+        WideCell::new(Wide::from_i128(self.v).plus(number)?)
     }
 
     /// The number with the other sign.
-    pub fn negated(self) -> Cell
+    pub fn negated(self) -> WideCell
         ensures { result ≡ neg_ℤ self }
     {
-        Cell { v: -self.v }
+        WideCell { v: -self.v }
     }
 
     /// The number.
@@ -87,11 +87,11 @@ impl Cell {
 
 /// A point, a bound or a side, of absolute value below 2^110, at scale 2^64.
 #[derive(Clone, Copy)]
-pub struct Quantity {
+pub struct WideQuantity {
     v: i128,
 }
 
-impl Model for Quantity {
+impl Model for WideQuantity {
     ghost use Rattle.std.specs.Prelude.{ℤ, ◌^◌, ◌<◌, nat_abs};
 
     ghost Value = { ℤ };
@@ -103,38 +103,38 @@ impl Model for Quantity {
     ghost invariant = { λ c. nat_abs c.v < 2 ^ 110 };
 }
 
-impl Quantity {
+impl WideQuantity {
     /// The number 0.
-    pub fn zero() -> Quantity
+    pub fn zero() -> WideQuantity
         ensures { result ≡ pos 0 }
     {
-        Quantity { v: 0 }
+        WideQuantity { v: 0 }
     }
 
     /// A number of 128 bits as a quantity. None exactly where its absolute value is 2^110 or more.
-    pub fn narrow(v: i128) -> Option<Quantity>
-        ensures { result ≡ value_of v }
+    pub fn narrow(v: i128) -> Option<WideQuantity>
+        ensures { result ≡ wide_quantity_of v }
     {
         if -QUANTITIES < v && v < QUANTITIES {
-            Some(Quantity { v })
+            Some(WideQuantity { v })
         } else {
             None
         }
     }
 
     /// A number as a quantity. None exactly where its absolute value is 2^110 or more.
-    pub fn new(number: Wide) -> Option<Quantity>
-        ensures { result ≡ value_of number }
+    pub fn new(number: Wide) -> Option<WideQuantity>
+        ensures { result ≡ wide_quantity_of number }
     {
-        Quantity::narrow(number.narrowed()?)
+        WideQuantity::narrow(number.narrowed()?)
     }
 
     /// The sum with a number. None exactly where 256 bits do not hold it, or where its absolute value is 2^110 or more.
     #[tactic(auto, unfolding(crate::specs::Numbers::value_sum))]
-    pub fn plus(self, number: Wide) -> Option<Quantity>
+    pub fn plus(self, number: Wide) -> Option<WideQuantity>
         ensures { result ≡ value_sum self number }
     {
-        Quantity::new(Wide::from_i128(self.v).plus(number)?)
+        WideQuantity::new(Wide::from_i128(self.v).plus(number)?)
     }
 
     /// The number.

@@ -12,8 +12,8 @@ pub mod table;
 pub mod tables;
 pub mod updates;
 
-pub use kept::{Cell, Quantity};
+pub use kept::{WideCell, WideQuantity};
 pub use making::whole_table;
-pub use rows::Rows;
-pub use square::Square;
-pub use table::{Bounds, Table};
+pub use rows::WideRows;
+pub use square::WideSquare;
+pub use table::{WideBounds, WideTable};

@@ -1,7 +1,6 @@
 // Scaled numbers.
 ghost use Rattle.std.specs.Prelude.{◌≡◌, ◌^◌, ◌-◌, ◌≤◌, pos, ◌*ℤ◌};
-ghost use Rattle.std.specs.Option.{option_and_then};
-ghost use Rattle.hp_wide_table.specs.Numbers.{nearest, down_of, shift_up, shift_of};
+ghost use Rattle.hp_wide_table.specs.Numbers.{nearest, wide_down_of, wide_shift_up, wide_shift_of};
 
 use hp_warm_table::numbers::bits;
 use hp_wide::Wide;
@@ -31,21 +30,21 @@ pub fn nearest(sum: Wide, k: u32) -> Option<Wide>
 
 /// The number over 2^80, rounded to the nearest, halves up. None exactly where 256 bits do not hold the sum with half of 2^80.
 pub fn down(sum: Wide) -> Option<Wide>
-    ensures { result ≡ down_of sum }
+    ensures { result ≡ wide_down_of sum }
 {
     nearest(sum, 80)
 }
 
 /// A product over 2^80, rounded to the nearest, halves up. None exactly where 256 bits do not hold its sum with half of 2^80.
 pub fn down_product(x: i128, y: i128) -> Option<Wide>
-    ensures { result ≡ down_of (x *ℤ y) }
+    ensures { result ≡ wide_down_of (x *ℤ y) }
 {
     down(Wide::product(x, y))
 }
 
-#[tactic(auto, unfolding(crate::specs::Numbers::shift_up))]
+#[tactic(auto, unfolding(crate::specs::Numbers::wide_shift_up))]
 fn shift_up(v: i128, k: u32) -> Option<Wide>
-    ensures { result ≡ shift_up v k }
+    ensures { result ≡ wide_shift_up v k }
 {
     if v == 0 {
         Some(Wide::zero())
@@ -58,7 +57,7 @@ fn shift_up(v: i128, k: u32) -> Option<Wide>
 
 /// The number times 2^k, rounded down. None exactly where it is not 0 and has more than 250 binary digits together with k.
 pub fn shift(v: i128, k: i32) -> Option<Wide>
-    ensures { result ≡ shift_of v k }
+    ensures { result ≡ wide_shift_of v k }
 {
     if k >= 0 {
         shift_up(v, k.unsigned_abs())

@@ -2,7 +2,7 @@
 ghost use Rattle.std.specs.Prelude.{◌≡◌, ◌<◌, ◌∷◌, ◌++◌, [], length, get_or, is_ok, if◌then◌else◌};
 ghost use Rattle.hp_warm_table.specs.Ends.{rows_by, AreEnds, begins_at};
 
-use crate::kept::Cell;
+use crate::kept::WideCell;
 use hp_num::Memory;
 use std::alloc::Global;
 use std::marker::Model;
@@ -10,13 +10,13 @@ use std::marker::Model;
 /// The terms of some rows, in order: for each row the numbers of columns with their cells. All stand one after the
 /// other in one list.
 #[derive(Drop)]
-pub struct Rows {
-    terms: Vec<(u32, Cell)>,
+pub struct WideRows {
+    terms: Vec<(u32, WideCell)>,
     /// Where the terms of each row end.
     ends: Vec<usize>,
 }
 
-impl Model for Rows {
+impl Model for WideRows {
     ghost use Rattle.std.specs.Prelude.{List, ℕ, ℤ, length};
     ghost use Rattle.hp_warm_table.specs.Ends.{rows_by, AreEnds};
 
@@ -27,12 +27,12 @@ impl Model for Rows {
     ghost invariant = { λ r. AreEnds 0 r.ends.items (length r.terms.items) };
 }
 
-impl Rows {
+impl WideRows {
     /// Starts with no rows.
-    pub fn new(alloc: Global) -> Rows
+    pub fn new(alloc: Global) -> WideRows
         ensures { result ≡ [] }
     {
-        Rows {
+        WideRows {
             terms: Vec::new(alloc),
             ends: Vec::new(alloc),
         }
@@ -48,7 +48,7 @@ impl Rows {
 
     /// The terms of row i.
     #[tactic(auto, using(hp_warm_table::proofs::ByEnds::rows_count))]
-    pub fn row(&self, i: usize) -> &[(u32, Cell)]
+    pub fn row(&self, i: usize) -> &[(u32, WideCell)]
         requires { i < length self.now }
         ensures { result.now ≡ get_or self.now i [] }
     {
@@ -56,7 +56,7 @@ impl Rows {
     }
 
     /// Puts a row behind the others. [`Memory`] where memory was refused: the rows are as before.
-    pub fn push(&mut self, terms: &[(u32, Cell)]) -> Result<(), Memory>
+    pub fn push(&mut self, terms: &[(u32, WideCell)]) -> Result<(), Memory>
         ensures { self.new ≡ (if is_ok result then self.old ++ terms.now ∷ [] else self.old) }
     {
         self.ends.reserve(1)?;
@@ -76,7 +76,7 @@ fn start_of(ends: &[usize], i: usize) -> usize
 
 // The terms of row i.
 #[tactic(auto, using(hp_warm_table::proofs::ByEnds::row_at, hp_warm_table::proofs::ByEnds::begins_before, hp_warm_table::proofs::ByEnds::ends_within))]
-fn row_of<'a>(terms: &'a [(u32, Cell)], ends: &[usize], i: usize) -> &'a [(u32, Cell)]
+fn row_of<'a>(terms: &'a [(u32, WideCell)], ends: &[usize], i: usize) -> &'a [(u32, WideCell)]
     requires ends { AreEnds 0 ends.now (length terms.now) }
     requires there { i < length ends.now }
     ensures { result.now ≡ get_or (rows_by 0 terms.now ends.now) i [] }

@@ -1,16 +1,16 @@
 // The table of a program's columns.
 ghost use Rattle.std.specs.Prelude.{◌≡◌, ◌≤◌, ◌<◌, length, map, replicate, pos, IfOk, IfSome};
-ghost use Rattle.hp_warm_table.specs.Updates.{Gives};
+ghost use Rattle.hp_warm_table.specs.Updates.{GivesNew};
 ghost use Rattle.hp_warm_scale.specs.Walks.{run};
-ghost use Rattle.hp_warm_scale.specs.Scaling.{AreSmall, blank_basis_of, is_negative};
-ghost use Rattle.hp_wide_table.specs.Shape.{IsTable};
-ghost use Rattle.hp_wide_table.specs.Scaling.{column_step, with_column, blank_of, blank_bounds_of, columns_table};
+ghost use Rattle.hp_warm_scale.specs.Scaling.{AreSmall, blank_basis_of, is_below_zero};
+ghost use Rattle.hp_wide_table.specs.Shape.{IsWideTable};
+ghost use Rattle.hp_wide_table.specs.Scaling.{wide_column_step, wide_with_column, wide_blank_of, wide_blank_bounds_of, wide_columns_table};
 
-use crate::kept::{Cell, Quantity};
-use crate::rows::Rows;
-use crate::scaling::{ScaledColumn, scaled_column};
-use crate::square::Square;
-use crate::table::{Bounds, Table};
+use crate::kept::{WideCell, WideQuantity};
+use crate::rows::WideRows;
+use crate::scaling::{WideScaledColumn, scaled_column};
+use crate::square::WideSquare;
+use crate::table::{WideBounds, WideTable};
 use hp_num::{List, Memory};
 use hp_solver::Column;
 use hp_warm_scale::tables::blank_basis;
@@ -18,20 +18,20 @@ use hp_warm_table::lists::repeated;
 use hp_warm_table::{Basis, Scales};
 use std::alloc::Global;
 
-fn blank_bounds(alloc: Global, count: usize) -> Result<Bounds, Memory>
-    ensures { IfOk result (λ bounds. bounds ≡ blank_bounds_of count) }
+fn blank_bounds(alloc: Global, count: usize) -> Result<WideBounds, Memory>
+    ensures { IfOk result (λ bounds. bounds ≡ wide_blank_bounds_of count) }
 {
-    Ok(Bounds {
-        lows: repeated(alloc, count, Quantity::zero())?,
-        ups: repeated(alloc, count, Quantity::zero())?,
+    Ok(WideBounds {
+        lows: repeated(alloc, count, WideQuantity::zero())?,
+        ups: repeated(alloc, count, WideQuantity::zero())?,
         has_low: repeated(alloc, count, true)?,
         has_up: repeated(alloc, count, true)?,
     })
 }
 
-// Bounds and basis of a table without rows.
-fn blank_variables(alloc: Global, count: usize) -> Result<(Bounds, Basis), Memory>
-    ensures bounds { IfOk result (λ made. made.0 ≡ blank_bounds_of count) }
+// WideBounds and basis of a table without rows.
+fn blank_variables(alloc: Global, count: usize) -> Result<(WideBounds, Basis), Memory>
+    ensures bounds { IfOk result (λ made. made.0 ≡ wide_blank_bounds_of count) }
     ensures basis { IfOk result (λ made. made.1 ≡ blank_basis_of count) }
 {
     let bounds = blank_bounds(alloc, count)?;
@@ -39,27 +39,34 @@ fn blank_variables(alloc: Global, count: usize) -> Result<(Bounds, Basis), Memor
 }
 
 // Zeros, one for each column: costs, reduced costs and values.
-fn zeros(alloc: Global, count: usize) -> Result<(List<Cell>, List<Cell>, List<Quantity>), Memory>
+fn zeros(
+    alloc: Global,
+    count: usize,
+) -> Result<(List<WideCell>, List<WideCell>, List<WideQuantity>), Memory>
     ensures costs { IfOk result (λ made. made.0 ≡ replicate count (pos 0)) }
     ensures reduced { IfOk result (λ made. made.1 ≡ replicate count (pos 0)) }
     ensures values { IfOk result (λ made. made.2 ≡ replicate count (pos 0)) }
 {
-    let costs = repeated(alloc, count, Cell::zero())?;
-    let reduced = repeated(alloc, count, Cell::zero())?;
-    Ok((costs, reduced, repeated(alloc, count, Quantity::zero())?))
+    let costs = repeated(alloc, count, WideCell::zero())?;
+    let reduced = repeated(alloc, count, WideCell::zero())?;
+    Ok((
+        costs,
+        reduced,
+        repeated(alloc, count, WideQuantity::zero())?,
+    ))
 }
 
 // A table without rows, whose columns are 0, with these exponents.
-fn blank(alloc: Global, count: usize, scales: Scales) -> Result<Table, Memory>
+fn blank(alloc: Global, count: usize, scales: Scales) -> Result<WideTable, Memory>
     requires few { count ≤ 1199 }
-    ensures { IfOk result (λ table. table ≡ blank_of count scales) }
+    ensures { IfOk result (λ table. table ≡ wide_blank_of count scales) }
 {
     let (bounds, basis) = blank_variables(alloc, count)?;
     let (costs, reduced, values) = zeros(alloc, count)?;
-    let lines = Square::new(alloc, count)?;
-    Ok(Table {
+    let lines = WideSquare::new(alloc, count)?;
+    Ok(WideTable {
         scales,
-        rows: Rows::new(alloc),
+        rows: WideRows::new(alloc),
         costs,
         bounds,
         basis,
@@ -70,13 +77,13 @@ fn blank(alloc: Global, count: usize, scales: Scales) -> Result<Table, Memory>
 }
 
 // Like `blank`, with the contract that the result is a table.
-fn blank_table(alloc: Global, count: usize, scales: Scales) -> Result<Table, Memory>
+fn blank_table(alloc: Global, count: usize, scales: Scales) -> Result<WideTable, Memory>
     requires few { count ≤ 1199 }
     requires small { AreSmall 1000 scales }
     requires columns { length scales.columns ≡ count }
     requires rows { length scales.rows ≡ 0 }
-    ensures value { IfOk result (λ table. table ≡ blank_of count scales) }
-    ensures whole { IfOk result IsTable }
+    ensures value { IfOk result (λ table. table ≡ wide_blank_of count scales) }
+    ensures whole { IfOk result IsWideTable }
     ensures count { IfOk result (λ table. length table.costs ≡ count) }
     ensures rows { IfOk result (λ table. length table.rows ≡ 0) }
 {
@@ -84,12 +91,12 @@ fn blank_table(alloc: Global, count: usize, scales: Scales) -> Result<Table, Mem
 }
 
 // Writes the bounds, the cost and the reduced cost of column j, which is nonbasic at place j.
-fn write_column(table: &mut Table, j: usize, column: ScaledColumn)
+fn write_column(table: &mut WideTable, j: usize, column: WideScaledColumn)
     requires costs { j < length table.old.costs }
     requires reduced { j < length table.old.reduced }
     requires lows { j < length table.old.bounds.lows }
     requires ups { j < length table.old.bounds.ups }
-    ensures { table.new ≡ with_column j column table.old }
+    ensures { table.new ≡ wide_with_column j column table.old }
 {
     table.costs.set(j, column.cost);
     table.reduced.set(j, column.cost);
@@ -99,12 +106,12 @@ fn write_column(table: &mut Table, j: usize, column: ScaledColumn)
 
 // Column j of a program, scaled. The answer is false exactly where a number leaves its range: the
 // table is then as before.
-#[tactic(auto, unfolding(crate::specs::Scaling::column_step))]
-fn scale_column(table: &mut Table, j: usize, column: &Column) -> bool
-    requires whole { IsTable table.old }
+#[tactic(auto, unfolding(crate::specs::Scaling::wide_column_step))]
+fn scale_column(table: &mut WideTable, j: usize, column: &Column) -> bool
+    requires whole { IsWideTable table.old }
     requires there { j < length table.old.costs }
-    ensures value { Gives result (column_step j column.now table.old) table.new }
-    ensures whole { IsTable table.new }
+    ensures value { GivesNew result (wide_column_step j column.now table.old) table.new }
+    ensures whole { IsWideTable table.new }
     ensures count { length table.new.costs ≡ length table.old.costs }
     ensures rows { table.new.rows ≡ table.old.rows }
 {
@@ -120,11 +127,11 @@ fn scale_column(table: &mut Table, j: usize, column: &Column) -> bool
 
 // The columns of a program, scaled: their bounds, costs and reduced costs. The answer is false
 // exactly where a number leaves its range.
-fn scale_columns(table: &mut Table, columns: &[Column]) -> bool
-    requires whole { IsTable table.old }
+fn scale_columns(table: &mut WideTable, columns: &[Column]) -> bool
+    requires whole { IsWideTable table.old }
     requires there { length columns.now ≤ length table.old.costs }
-    ensures value { Gives result (run column_step 0 columns.now table.old) table.new }
-    ensures whole { IsTable table.new }
+    ensures value { GivesNew result (run wide_column_step 0 columns.now table.old) table.new }
+    ensures whole { IsWideTable table.new }
     ensures count { length table.new.costs ≡ length table.old.costs }
     ensures rows { table.new.rows ≡ table.old.rows }
 {
@@ -136,16 +143,16 @@ fn scale_columns(table: &mut Table, columns: &[Column]) -> bool
     true
 }
 
-fn is_negative(cell: Cell) -> bool
-    ensures { result ≡ is_negative cell }
+fn is_negative(cell: WideCell) -> bool
+    ensures { result ≡ is_below_zero cell }
 {
     cell.number() < 0
 }
 
 // Sets each column to its upper bound where its reduced cost is negative.
-fn stand(high: &mut [bool], reduced: &[Cell])
+fn stand(high: &mut [bool], reduced: &[WideCell])
     requires { length high.old ≡ length reduced.now }
-    ensures { high.new ≡ map is_negative reduced.now }
+    ensures { high.new ≡ map is_below_zero reduced.now }
 {
     for j in 0..reduced.len() {
         high[j] = is_negative(reduced[j]);
@@ -153,20 +160,20 @@ fn stand(high: &mut [bool], reduced: &[Cell])
 }
 
 // The table of a program's columns, with these exponents. None where a number leaves its range.
-#[tactic(auto, unfolding(crate::specs::Scaling::columns_table))]
+#[tactic(auto, unfolding(crate::specs::Scaling::wide_columns_table))]
 pub(crate) fn columns_table(
     alloc: Global,
     count: usize,
     scales: Scales,
     columns: &[Column],
-) -> Result<Option<Table>, Memory>
+) -> Result<Option<WideTable>, Memory>
     requires few { count ≤ 1199 }
     requires small { AreSmall 1000 scales }
     requires exponents { length scales.columns ≡ count }
     requires rows { length scales.rows ≡ 0 }
     requires columns { length columns.now ≤ count }
-    ensures value { IfOk result (λ table. table ≡ columns_table count scales columns.now) }
-    ensures whole { IfOk result (λ table. IfSome table IsTable) }
+    ensures value { IfOk result (λ table. table ≡ wide_columns_table count scales columns.now) }
+    ensures whole { IfOk result (λ table. IfSome table IsWideTable) }
     ensures count { IfOk result (λ table. IfSome table (λ t. length t.costs ≡ count)) }
     ensures rows { IfOk result (λ table. IfSome table (λ t. length t.rows ≡ 0)) }
 {

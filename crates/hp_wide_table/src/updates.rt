@@ -1,15 +1,15 @@
-// Rows with a multiple of another row added.
+// WideRows with a multiple of another row added.
 ghost use Rattle.std.specs.Prelude.{◌≡◌, ◌<◌, length};
-ghost use Rattle.hp_warm_table.specs.Updates.{Gives};
-ghost use Rattle.hp_wide_table.specs.Updates.{moved, added_row, moved_row};
+ghost use Rattle.hp_warm_table.specs.Updates.{GivesNew};
+ghost use Rattle.hp_wide_table.specs.Updates.{wide_moved_cell, wide_added_row, wide_moved_table_row};
 
-use crate::kept::Cell;
+use crate::kept::WideCell;
 use crate::numbers::down_product;
 
 // The cell with a product added.
-#[tactic(auto, unfolding(crate::specs::Updates::moved))]
-fn moved(t: Cell, factor: Cell, n: Cell) -> Option<Cell>
-    ensures { result ≡ moved factor n t }
+#[tactic(auto, unfolding(crate::specs::Updates::wide_moved_cell))]
+fn moved(t: WideCell, factor: WideCell, n: WideCell) -> Option<WideCell>
+    ensures { result ≡ wide_moved_cell factor n t }
 {
     if n.number() == 0 {
         Some(t)
@@ -21,11 +21,11 @@ fn moved(t: Cell, factor: Cell, n: Cell) -> Option<Cell>
 /// Adds to each cell of a row the factor times a cell of the addend, over 2^80, rounded to the
 /// nearest. The answer is false exactly where a result leaves the range of cells: nothing but its
 /// length is promised of the row then.
-#[tactic(auto, unfolding(crate::specs::Updates::added_row))]
-pub fn add_row(row: &mut [Cell], factor: Cell, addend: &[Cell]) -> bool
+#[tactic(auto, unfolding(crate::specs::Updates::wide_added_row))]
+pub fn add_row(row: &mut [WideCell], factor: WideCell, addend: &[WideCell]) -> bool
     requires lengths { length addend.now ≡ length row.old }
     ensures lengths { length row.new ≡ length row.old }
-    ensures moved { Gives result (added_row factor addend.now row.old) row.new }
+    ensures moved { GivesNew result (wide_added_row factor addend.now row.old) row.new }
 {
     for j in 0..row.len() {
         match moved(row[j], factor, addend[j]) {
@@ -39,17 +39,17 @@ pub fn add_row(row: &mut [Cell], factor: Cell, addend: &[Cell]) -> bool
 /// The row after the variable at a place is replaced by the sum that the addend is. The answer is
 /// false exactly where a result leaves the range of cells: nothing but its length is promised of
 /// the row then.
-#[tactic(auto, unfolding(crate::specs::Updates::moved_row))]
-pub fn move_row(row: &mut [Cell], place: usize, addend: &[Cell]) -> bool
+#[tactic(auto, unfolding(crate::specs::Updates::wide_moved_table_row))]
+pub fn move_row(row: &mut [WideCell], place: usize, addend: &[WideCell]) -> bool
     requires place { place < length row.old }
     requires lengths { length addend.now ≡ length row.old }
     ensures lengths { length row.new ≡ length row.old }
-    ensures moved { Gives result (moved_row place addend.now row.old) row.new }
+    ensures moved { GivesNew result (wide_moved_table_row place addend.now row.old) row.new }
 {
     let factor = row[place];
     if factor.number() == 0 {
         return true;
     }
-    row[place] = Cell::zero();
+    row[place] = WideCell::zero();
     add_row(row, factor, addend)
 }

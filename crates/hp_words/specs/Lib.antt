@@ -1,1 +1,2 @@
+pub mod Traits
 pub mod Commands

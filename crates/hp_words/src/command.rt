@@ -1,4 +1,6 @@
 // The commands of the program.
+ghost use Rattle.std.specs.Prelude.{◌≡◌};
+ghost use Rattle.hp_words.specs.Traits.{trains};
 
 /// A command to the program.
 #[derive(Clone, Copy, Debug, PartialEq, Eq)]
@@ -32,4 +34,19 @@ pub enum Command {
     Hydro,
     /// The bound on the worst expectation.
     Robust,
+}
+
+/// The numbers behind `train`: the seed, how many iterations there are to be in all, and perhaps the paths of each.
+#[derive(Clone, Copy, Debug, PartialEq, Eq)]
+pub struct TrainingNumbers {
+    pub seed: u64,
+    pub count: u32,
+    pub batch: Option<u16>,
+}
+
+/// Tells whether a command trains. It is the one that writes its journal.
+pub fn trains(command: Command) -> bool
+    ensures { result ≡ trains command }
+{
+    matches!(command, Command::Train { .. })
 }

@@ -1,9 +1,9 @@
 // The forms of the command line.
-ghost use Rattle.std.specs.Prelude.{◌≡◌, ◌≤◌, ◌<◌, ◌^◌, IfSome, Some, None, map, string_bytes, codes};
+ghost use Rattle.std.specs.Prelude.{◌≡◌, ◌≤◌, ◌<◌, IfSome, Some, None, string_bytes};
 ghost use Rattle.hp_words.specs.Commands.{number_within, alone, on_journal, train_by, train_in_batches, train, simulate_by, simulate, gen_by, gen, command_by, command_of, texts, IsWithin};
 
 use crate::command::Command;
-use hp_problem::{
+use hp_parts::{
     MOST_GENERATED_RESERVOIRS, MOST_GENERATED_STAGES, MOST_ITERATIONS, MOST_PATHS, MOST_SIMULATIONS,
 };
 use hp_text::read_u64;
@@ -141,6 +141,6 @@ pub fn read_words(words: &[String]) -> Option<Command>
     ensures value { result ≡ command_of (texts words.now) }
     ensures within { IfSome result IsWithin }
 {
-    let (word, rest) = words.split_first()?;
-    command_by(word.as_str(), rest)
+    let (word, tail) = words.split_first()?;
+    command_by(word.as_str(), tail)
 }

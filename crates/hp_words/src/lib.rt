@@ -5,5 +5,5 @@ mod command;
 mod forms;
 pub mod worked;
 
-pub use command::Command;
+pub use command::{Command, TrainingNumbers, trains};
 pub use forms::read_words;

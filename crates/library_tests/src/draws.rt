@@ -3,7 +3,7 @@
 use crate::problems::TWO_ROWS;
 use hp_num::Memory;
 use hp_problem::Problem;
-use hp_sampler::{Step, path, pick};
+use hp_sampler::{PathStep, path, pick};
 use hp_sof::read_problem;
 use std::alloc::Global;
 
@@ -28,7 +28,7 @@ fn draws(
     stream: u64,
     realization: u32,
 ) -> Result<bool, Memory> {
-    let step = Step {
+    let step = PathStep {
         node: 0,
         realization,
     };

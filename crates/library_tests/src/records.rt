@@ -70,7 +70,7 @@ fn written(alloc: Global, problem: &Problem, entry: Entry) -> bool
 fn comes_again(alloc: Global, problem: &Problem) -> bool {
     match decode(alloc, problem, 1, &PAYLOAD) {
         Ok(entry) => {
-            let read = entry.unsettled == 0 && entry.steps.as_slice().iter().all(is_step);
+            let read = entry.unanswered == 0 && entry.steps.as_slice().iter().all(is_step);
             read && written(alloc, problem, entry)
         }
         Err(_) => false,

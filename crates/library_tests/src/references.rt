@@ -20,7 +20,7 @@ fn is_balance(row: &LpRow) -> bool {
 // The state of the reference program is 2.5, so its decision is 3.5.
 fn is_ready(alloc: Global, problem: &Problem) -> Result<bool, Memory> {
     let _ = WarmStarts::new(alloc, problem, &Zero)?;
-    if problem.raw().nodes.is_empty() {
+    if problem.parts().nodes.is_empty() {
         return Ok(false);
     }
     let program = reference(alloc, problem, 0)?;

@@ -1,9 +1,10 @@
-// Parts that are not sealed, which no problem in a file shows.
+// Parts that are not validated, which no problem in a file shows.
 use crate::problems::BARE;
 use hp_fields::ReadRefusal;
 use hp_num::{List, Memory};
-use hp_problem::{Node, Problem, Raw, SealFault};
-use hp_sof::read_raw;
+use hp_parts::{Node, ProblemParts};
+use hp_problem::{Problem, SealFault};
+use hp_sof::read_problem_parts;
 use std::alloc::Global;
 use std::test::Fail;
 
@@ -30,14 +31,14 @@ fn one<T: Drop>(alloc: Global, item: T) -> Result<List<T>, Memory> {
 // Seals these parts with this weight, with the order, the lows and the highs as they are given, and gives the fault.
 fn sealing(
     alloc: Global,
-    mut raw: Raw,
+    mut parts: ProblemParts,
     weight: u32,
     lists: (List<u32>, List<List<i64>>, List<List<i64>>),
     longest: u32,
 ) -> Option<SealFault> {
-    weigh_each(raw.nodes.as_mut_slice(), weight);
+    weigh_each(parts.nodes.as_mut_slice(), weight);
     let (order, lo, hi) = lists;
-    Problem::seal(alloc, raw, order, longest, lo, hi).err()
+    Problem::seal(alloc, parts, order, longest, lo, hi).err()
 }
 
 // The fault of a problem of one node with one realization of this weight.
@@ -45,8 +46,8 @@ fn fault(alloc: Global, weight: u32, longest: u32) -> Result<Option<SealFault>, 
     let order = one(alloc, 0)?;
     let lo = one(alloc, List::new(alloc))?;
     let hi = one(alloc, List::new(alloc))?;
-    match read_raw(alloc, BARE) {
-        Ok(raw) => Ok(sealing(alloc, raw, weight, (order, lo, hi), longest)),
+    match read_problem_parts(alloc, BARE) {
+        Ok(parts) => Ok(sealing(alloc, parts, weight, (order, lo, hi), longest)),
         Err(refusal) => Err(refusal),
     }
 }
@@ -55,9 +56,9 @@ fn fault(alloc: Global, weight: u32, longest: u32) -> Result<Option<SealFault>, 
 fn seals_what_fits_together(rt: HostRuntime) -> Result<(), Fail> {
     for (weight, longest, expected) in [
         (65535, 1, None),
-        (65536, 1, Some(SealFault::NotRaw)),
-        (0, 1, Some(SealFault::NotRaw)),
-        (1, 2, Some(SealFault::NotRaw)),
+        (65536, 1, Some(SealFault::NotParts)),
+        (0, 1, Some(SealFault::NotParts)),
+        (1, 2, Some(SealFault::NotParts)),
     ] {
         let found = fault(rt.alloc(), weight, longest)?;
         assert_eq!(rt;

@@ -1,5 +1,5 @@
 // Who is reached in small graphs, cycles and ranks.
-ghost use Rattle.std.specs.Prelude.{◌≡◌, length};
+ghost use Rattle.std.specs.Prelude.{◌≡◌};
 ghost use Rattle.hp_paths.specs.Paths.{are_known, is_graph};
 
 use hp_num::{List, Memory};
@@ -18,7 +18,7 @@ fn is_graph(graph: &[List<u32>]) -> bool
 {
     graph
         .iter()
-        .all(|links| are_known(graph.len(), links.as_slice()))
+        .all(|successors| are_known(graph.len(), successors.as_slice()))
 }
 
 fn copy_of(alloc: Global, nodes: &[u32]) -> Result<List<u32>, Memory> {
@@ -31,8 +31,8 @@ fn copy_of(alloc: Global, nodes: &[u32]) -> Result<List<u32>, Memory> {
 
 fn graph_of(alloc: Global, lists: &[&[u32]]) -> Result<List<List<u32>>, Memory> {
     let mut graph = List::new(alloc);
-    for links in lists {
-        graph.push(copy_of(alloc, links)?)?;
+    for successors in lists {
+        graph.push(copy_of(alloc, successors)?)?;
     }
     Ok(graph)
 }

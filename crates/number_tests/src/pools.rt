@@ -72,9 +72,9 @@ const OTHER: OutBox = OutBox {
     greatest: 11,
 };
 
-fn peak(pools: &Pools, ends: OutBox) -> Option<i128> {
+fn box_maximum(pools: &Pools, ends: OutBox) -> Option<i128> {
     if pools.nodes() > 0 {
-        pools.peak(0, [ends].as_slice())
+        pools.box_maximum(0, [ends].as_slice())
     } else {
         None
     }
@@ -84,24 +84,24 @@ fn prepares(alloc: Global, pools: &mut Pools) -> bool {
     pools.nodes() > 0 && pools.prepare(alloc, 0, [ENDS].as_slice()).is_ok()
 }
 
-// Tells whether a peak is kept: over [1, 10] the cut 7 - 2x is greatest at 1, and the cut 4 + x at 10.
-fn keeps_peak(alloc: Global, pools: &mut Pools) -> bool {
+// Tells whether a box maximum is kept: over [1, 10] the cut 7 - 2x is greatest at 1, and the cut 4 + x at 10.
+fn keeps_box_maximum(alloc: Global, pools: &mut Pools) -> bool {
     pushes(alloc, pools, 0, 7, -2)
-        && peak(pools, ENDS).is_none()
+        && box_maximum(pools, ENDS).is_none()
         && prepares(alloc, pools)
-        && peak(pools, ENDS) == Some(5)
-        && peak(pools, OTHER).is_none()
+        && box_maximum(pools, ENDS) == Some(5)
+        && box_maximum(pools, OTHER).is_none()
 }
 
-fn peak_follows(alloc: Global, pools: &mut Pools) -> bool {
-    pushes(alloc, pools, 0, 4, 1) && peak(pools, ENDS) == Some(14)
+fn box_maximum_follows(alloc: Global, pools: &mut Pools) -> bool {
+    pushes(alloc, pools, 0, 4, 1) && box_maximum(pools, ENDS) == Some(14)
 }
 
 #[test]
-fn keeps_peaks(rt: HostRuntime) -> Result<(), Fail> {
+fn keeps_box_maxima(rt: HostRuntime) -> Result<(), Fail> {
     let mut pools = Pools::new(rt.alloc(), 1)?;
-    assert!(rt; keeps_peak(rt.alloc(), &mut pools));
-    assert!(rt; peak_follows(rt.alloc(), &mut pools));
+    assert!(rt; keeps_box_maximum(rt.alloc(), &mut pools));
+    assert!(rt; box_maximum_follows(rt.alloc(), &mut pools));
     Ok(())
 }
 
@@ -145,7 +145,7 @@ fn keeps_cuts_side_by_side(rt: HostRuntime) -> Result<(), Fail> {
     assert!(rt; keeps_two(rt.alloc(), &mut pools));
     assert!(rt; keeps_few_digits(rt.alloc(), &mut pools));
     keeps_one(&mut pools, 0);
-    assert!(rt; peak(&pools, ENDS).is_none() && kept(&pools, 0).is_none());
+    assert!(rt; box_maximum(&pools, ENDS).is_none() && kept(&pools, 0).is_none());
     Ok(())
 }
 
@@ -201,7 +201,7 @@ fn threads_share_certificates_and_entries(rt: HostRuntime) {
     };
     let entry = Entry {
         iteration: 1,
-        unsettled: 0,
+        unanswered: 0,
         steps: List::new(rt.alloc()),
     };
     assert!(rt; is_shared(&certificate) && is_shared(&entry));

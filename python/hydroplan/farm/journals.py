@@ -1,4 +1,4 @@
-"""Journals as files (docs/FORMAT.md, The journal): their heads, their records one at a time, and a journal that grows by whole rounds."""
+"""Journals as files (docs/FORMAT.md, The journal): their headers, their records one at a time, and a journal that grows by whole rounds."""
 from __future__ import annotations
 
 import fcntl
@@ -30,7 +30,7 @@ class Head:
         return self.batch or 1
 
     def bytes(self) -> bytes:
-        """The head without its gate, with the birth byte of a journal that is there."""
+        """The header without the commit byte behind it, with the header's commit byte of a journal that is there."""
         parts = [b"\x01", MAGIC, (1 if self.batch is None else 2).to_bytes(2, "big"), self.digest, self.seed.to_bytes(8, "big")]
         return b"".join([*parts, b"" if self.batch is None else self.batch.to_bytes(2, "big")])
 
@@ -49,7 +49,7 @@ def opened(path: Path) -> BinaryIO:
 
 
 def read_head(file: BinaryIO, name: str) -> Head:
-    """The head at the front of an open journal, up to its first gate; FarmError (status 6) where it is none."""
+    """The header at the front of an open journal, up to its first commit byte; FarmError (status 6) where it is none."""
     front = file.read(51)
     if len(front) < 51 or front[0] != 1 or front[1:9] != MAGIC:
         raise refused(name, "it is no journal, or one that is not born yet")
@@ -63,13 +63,13 @@ def read_head(file: BinaryIO, name: str) -> Head:
 
 
 def payloads(file: BinaryIO, name: str) -> Iterator[bytes]:
-    """The payloads behind the head of an open journal, one at a time. FarmError (status 6) where the file ends within one."""
+    """The payloads behind the header of an open journal, one at a time. FarmError (status 6) where the file ends within one."""
     at, number = file.tell(), 0
     while True:
-        gate = file.read(1)
-        if not gate:
+        commit_byte = file.read(1)
+        if not commit_byte:
             raise refused(name, f"Short at {at}")
-        if gate != b"\x01":
+        if commit_byte != b"\x01":
             return
         if number == MOST_ITERATIONS:
             raise refused(name, "TooMany")
@@ -85,12 +85,12 @@ def payloads(file: BinaryIO, name: str) -> Iterator[bytes]:
 
 
 def framed(payload: bytes) -> bytes:
-    """What stands behind an open gate: the length of a payload, and the payload."""
+    """What stands behind a commit byte of 1: the length of a payload, and the payload."""
     return len(payload).to_bytes(4, "big") + payload
 
 
 def unframed(tail: bytes, most: int) -> List[bytes]:
-    """The payloads of records whose gates stand between them; at most so many. ValueError where the bytes are no such records."""
+    """The payloads of records whose commit bytes stand between them; at most so many. ValueError where the bytes are no such records."""
     found: List[bytes] = []
     at = 0
     while at < len(tail):
@@ -105,7 +105,7 @@ def unframed(tail: bytes, most: int) -> List[bytes]:
 
 
 class Growing:
-    """A journal that grows by all records of a round at once: they count, all of them, from the moment that their first gate opens."""
+    """A journal that grows by all records of a round at once: all count from the moment that the commit byte before them becomes 1."""
 
     def __init__(self, path: Path) -> None:
         self.path = path
@@ -122,7 +122,7 @@ class Growing:
             pass  # a file system without locks
         self.records = 0
         self.end = 0
-        """The place of the gate behind the last record."""
+        """The place of the commit byte behind the last record."""
 
     def __enter__(self) -> Growing:
         return self
@@ -141,7 +141,7 @@ class Growing:
                 self.end += 5 + len(payload)
 
     def head(self) -> Head:
-        """The head of the journal."""
+        """The header of the journal."""
         with opened(self.path) as file:
             return read_head(file, str(self.path))
 

@@ -156,7 +156,7 @@ class FarmTraining:
         }
 
     def _whole(self) -> bytes:
-        """The records of the scratch journal, with their gates."""
+        """The records of the scratch journal, with their commit bytes."""
         with self._scratch.path.open("rb") as file:
             file.seek(len(self._scratch.head().bytes()))
             return file.read(self._tip.end - file.tell())

@@ -1,12 +1,12 @@
 """Looks at a journal before training cuts off what stands behind its last record, and keeps a copy where that is too much.
 
-Outside the proved core. An interrupted write leaves, behind a gate that is not open, the front of one record: four bytes of its
-length, its payload, which begins with the number of the iteration, and the gate behind it (docs/FORMAT.md, The journal). Where
-anything else stands there, a gate or a head was changed; training would cut it off without a word. It is said on standard error, and
-JOURNAL.kept (or .kept-2 and so on) gets the same bytes.
+Outside the proved core. An interrupted write leaves, behind a commit byte other than 1, the front of one record: four bytes of its
+length, its payload, which begins with the number of the iteration, and the commit byte behind it (docs/FORMAT.md, The journal). Where
+anything else stands there, a commit byte or a header was changed; training would cut it off without a word. It is said on standard
+error, where a commit byte is called a gate, and JOURNAL.kept (or .kept-2 and so on) gets the same bytes.
 
-It reads the head and, of each record, the gate and the length. The script `hydroplan` runs it before each training that goes on, so it
-imports what it needs when it needs it.
+It reads the header and, of each record, the commit byte and the length. The script `hydroplan` runs it before each training that goes
+on, so it imports what it needs when it needs it.
 """
 from __future__ import annotations
 
@@ -19,8 +19,8 @@ if TYPE_CHECKING:
     from typing import BinaryIO, Iterator, Optional
 
 MAGIC = b"HYDPLAN1"
-# where the first gate stands, by the journal's version
-FIRST_GATES = {1: 51, 2: 53}
+# where the first commit byte stands, by the journal's version
+FIRST_COMMIT_BYTES = {1: 51, 2: 53}
 MOST_PAYLOAD = 1 << 26
 MOST_RECORDS = 2_000
 PIECE = 1 << 20
@@ -31,20 +31,20 @@ NO_COPY = 4
 class Tail:
     """What stands behind the last record that counts.
 
-    `records` counts the records before it, `gate` is the place of the gate that is not open, and `value` its byte; `size` is the
-    length of the file. `front` holds the first bytes behind the gate, at most eight.
+    `records` counts the records before it, `place` is that of the commit byte other than 1, and `value` what it is; `size` is the
+    length of the file. `front` holds the first bytes behind that byte, at most eight.
     """
 
-    def __init__(self, records: int, gate: int, value: int, size: int, front: bytes) -> None:
+    def __init__(self, records: int, place: int, value: int, size: int, front: bytes) -> None:
         self.records = records
-        self.gate = gate
+        self.place = place
         self.value = value
         self.size = size
         self.front = front
 
     def length(self) -> int:
-        """The number of bytes behind the gate."""
-        return max(0, self.size - self.gate - 1)
+        """The number of bytes behind the commit byte."""
+        return max(0, self.size - self.place - 1)
 
     def is_of_a_write(self) -> bool:
         """Whether an interrupted write of one record can have left this: its front, or nothing of it yet."""
@@ -56,44 +56,44 @@ class Tail:
         return self.length() < 8 or int.from_bytes(self.front[4:], "big") == self.records + 1
 
 
-def first_gate(descriptor: int) -> Optional[int]:
-    """The place of the first gate; None where the file is not born yet, or is none that training takes for a journal."""
+def first_commit_byte(descriptor: int) -> Optional[int]:
+    """The place of the first commit byte; None where the file's header is not committed, or training takes it for no journal."""
     head = os.pread(descriptor, 11, 0)
     if len(head) < 11 or head[0] != 1 or head[1:9] != MAGIC:
         return None
-    return FIRST_GATES.get(int.from_bytes(head[9:], "big"))
+    return FIRST_COMMIT_BYTES.get(int.from_bytes(head[9:], "big"))
 
 
-def walk(descriptor: int, gate: int, opened: bool = False) -> tuple[int, int, Optional[int]]:
-    """The number of whole records from a gate on, the place of the first gate that is not open, and its byte.
+def walk(descriptor: int, place: int, committed: bool = False) -> tuple[int, int, Optional[int]]:
+    """The number of whole records from a commit byte on, the place of the first such byte other than 1, and what it is.
 
-    `opened` takes the first gate for an open one. The byte is None where the file ends before a gate or within a record, or where a
+    `committed` takes the first one for 1. It is None where the file ends before a commit byte or within a record, or where a
     length is above the greatest: training refuses such a journal, and cuts nothing off.
     """
     records = 0
     while records <= MOST_RECORDS:
-        front = os.pread(descriptor, 5, gate)
+        front = os.pread(descriptor, 5, place)
         if not front:
-            return records, gate, None
-        if front[0] != 1 and not (opened and records == 0):
-            return records, gate, front[0]
+            return records, place, None
+        if front[0] != 1 and not (committed and records == 0):
+            return records, place, front[0]
         payload = int.from_bytes(front[1:], "big")
-        if len(front) < 5 or payload > MOST_PAYLOAD or not os.pread(descriptor, 1, gate + 5 + payload):
-            return records, gate, None
-        records, gate = records + 1, gate + 5 + payload
-    return records, gate, None
+        if len(front) < 5 or payload > MOST_PAYLOAD or not os.pread(descriptor, 1, place + 5 + payload):
+            return records, place, None
+        records, place = records + 1, place + 5 + payload
+    return records, place, None
 
 
 def tail_of(descriptor: int) -> Optional[Tail]:
     """What stands behind the last record of an open journal; None where training cuts nothing off."""
-    # the length comes first: where another training appends meanwhile, the gates that are read are the newer ones
-    size, gate = os.fstat(descriptor).st_size, first_gate(descriptor)
-    if gate is None:
+    # the length comes first: where another training appends meanwhile, the commit bytes that are read are the newer ones
+    size, place = os.fstat(descriptor).st_size, first_commit_byte(descriptor)
+    if place is None:
         return None
-    records, gate, value = walk(descriptor, gate)
+    records, place, value = walk(descriptor, place)
     if value is None:
         return None
-    return Tail(records, gate, value, size, os.pread(descriptor, 8, gate + 1))
+    return Tail(records, place, value, size, os.pread(descriptor, 8, place + 1))
 
 
 def is_blank(descriptor: int, start: int) -> bool:
@@ -194,10 +194,10 @@ def counted(number: int, what: str) -> str:
 
 def warn(descriptor: int, journal: str, tail: Tail) -> int:
     """Says what stands behind the last record and keeps a copy; the status."""
-    behind, _, _ = walk(descriptor, tail.gate, opened=True)
+    behind, _, _ = walk(descriptor, tail.place, committed=True)
     say(
         f"warning: {journal} has {counted(tail.records, 'record')} that count, and behind them {counted(tail.length(), 'byte')}, which is "
-        f"no record that was being written: the gate at byte {tail.gate:,} holds {tail.value} in place of 1, and "
+        f"no record that was being written: the gate at byte {tail.place:,} holds {tail.value} in place of 1, and "
         f"{counted(behind, 'whole record')} can be read behind it"
     )
     try:
@@ -219,7 +219,7 @@ def main(journal: str) -> int:
         if not stat.S_ISREG(os.fstat(descriptor).st_mode):
             return 0
         tail = tail_of(descriptor)
-        if tail is None or tail.is_of_a_write() or is_blank(descriptor, tail.gate + 1):
+        if tail is None or tail.is_of_a_write() or is_blank(descriptor, tail.place + 1):
             return 0
         return warn(descriptor, journal, tail)
     finally:

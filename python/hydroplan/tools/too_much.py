@@ -11,7 +11,7 @@ import stat
 import sys
 from typing import Any, Optional
 
-from .before_training import first_gate, walk
+from .before_training import first_commit_byte, walk
 from .limits import GREATEST, MEANINGS, Extent, branches, denominator, extent_of
 from .profile import MOST_FILE_BYTES
 
@@ -70,10 +70,10 @@ def journal_at(journal: str) -> tuple[int, Optional[int]]:
     except OSError:
         return 0, None
     try:
-        gate = first_gate(descriptor)
-        if gate is None:
+        commit_byte = first_commit_byte(descriptor)
+        if commit_byte is None:
             return 0, None
-        return walk(descriptor, gate)[0], int.from_bytes(os.pread(descriptor, gate - 51, 51), "big") or 1
+        return walk(descriptor, commit_byte)[0], int.from_bytes(os.pread(descriptor, commit_byte - 51, 51), "big") or 1
     finally:
         os.close(descriptor)
 

@@ -92,8 +92,8 @@ def rows(before: Look, now: Look, seconds: float, units: Units, most: int) -> It
 class Watch:
     """Looks at a journal again and again. The devices are handed in: a look, what tells of a change, a clock, a sleep.
 
-    While bytes stand behind the last gate a record is being written; its gate opens without a change of size, so each
-    such look is followed by another.
+    While bytes stand behind the last commit byte a record is being written; that byte becomes 1 without a change of size, so
+    each such look is followed by another.
     """
 
     look: Callable[[], Look]

@@ -30,7 +30,7 @@ def step_bytes(step: Step) -> bytes:
 
 def payload(entries: List[Entry]) -> bytes:
     """The payload of an iteration."""
-    heads = [number(it.iteration, 4) + number(it.unsettled, 4) + number(len(it.steps), 2) for it in entries]
+    heads = [number(it.iteration, 4) + number(it.unanswered, 4) + number(len(it.steps), 2) for it in entries]
     return b"".join(head + b"".join(map(step_bytes, entry.steps)) for head, entry in zip(heads, entries))
 
 
@@ -77,13 +77,13 @@ def entry_in(data: Bytes, problem: Problem) -> Entry:
 
 
 def records_in(data: Bytes, problem: Problem, batch: int) -> Iterator[List[Entry]]:
-    """The records up to the first gate that is shut."""
+    """The records up to the first commit byte other than 1."""
     while data.number(1) == 1:
         data.number(4)
         yield [entry_in(data, problem) for _ in range(batch)]
 
 
-def is_born(data: bytes) -> bool:
+def is_committed(data: bytes) -> bool:
     """Whether bytes are a journal, and not those of one that is still to be made."""
     return len(data) > 1 and data[0] == 1
 

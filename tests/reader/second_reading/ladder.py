@@ -78,9 +78,9 @@ def anew(program: Program, trace: Trace) -> Tuple[Optional[Answer], Chain]:
     return answer, None if answer is None else table
 
 
-def is_useful(answer: Optional[Answer]) -> bool:
-    """Whether an answer is there and good."""
-    return answer is not None and answer.is_good
+def is_useful(answer: Optional[Answer], chain: Chain) -> bool:
+    """Whether the last attempt left an answer, and with its table one that is not poor."""
+    return answer is not None and chain is not None and not answer.poor
 
 
 def answer_of(chain: Chain, program: Program, trace: Trace) -> Tuple[Answer, Chain]:
@@ -91,10 +91,10 @@ def answer_of(chain: Chain, program: Program, trace: Trace) -> Tuple[Answer, Cha
     answer: Optional[Answer] = None
     if chain is not None:
         answer, chain = warm(chain, program, trace)
-    if not is_useful(answer):
+    if not is_useful(answer, chain):
         other, chain = anew(program, trace)
         answer = answer if other is None else other
-    if not is_useful(answer):
+    if not is_useful(answer, chain):
         other = wide_answer(program)
         if other is not None:
             trace.append("wide")

@@ -134,13 +134,15 @@ FOUND, RAY, STUCK = "Found", "Ray", "Stuck"
 class Answer:
     """The answer of a solve: a point with duals, multipliers that show that no point keeps the own rows, or nothing.
 
-    `duals` has one number for each row of the program, cuts among them. `weak`: the point is found, and not to be trusted.
+    `duals` has one number for each row of the program, cuts among them. `weak`: the point is found, and not to be trusted. `poor`: it is weak,
+    and far from the best one or beside a bound.
     """
 
     kind: str
     point: Tuple[int, ...]
     duals: Tuple[int, ...]
     weak: bool = False
+    poor: bool = False
 
     @property
     def is_good(self) -> bool:

@@ -60,7 +60,7 @@ def train_lines(training: Training) -> List[str]:
     if training.stopped is not None:
         return [stopped_line(training.stopped)]
     bounds = [f"iteration {number + 1} bound {it}" for number, it in enumerate(training.bounds)]
-    total = f"total iterations {len(bounds)} unsettled {training.unsettled}"
+    total = f"total iterations {len(bounds)} unsettled {training.unanswered}"
     return [*head(training.problem), *bounds, total, bound_line(training.problem, training.pools)]
 
 

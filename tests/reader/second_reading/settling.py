@@ -56,7 +56,7 @@ def base_certificate(node: Node) -> Certificate:
     return Certificate((0,) * len(node.rows), tuple(((0, UNIT * it.weight),) for it in node.successors))
 
 
-def settled(node: Node, answer: Answer) -> Certificate:
+def certificate_of_duals(node: Node, answer: Answer) -> Certificate:
     """The certificate of an answer: that of its duals, rounded down, where a point was found, else the one without duals."""
     if answer.kind != FOUND:
         return base_certificate(node)
@@ -73,8 +73,8 @@ def has_right_signs(node: Node, rows: Sequence[int]) -> bool:
     return all((row.low is not None or it <= 0) and (row.high is not None or it >= 0) for row, it in zip(node.rows, rows))
 
 
-def refutation_size(node: Node, values: Sequence[int], state: Sequence[int], rows: Sequence[int]) -> int:
-    """The sum of the sizes of all products of a refutation, before anything cancels."""
+def farkas_size(node: Node, values: Sequence[int], state: Sequence[int], rows: Sequence[int]) -> int:
+    """The sum of the sizes of all products by which multipliers show an infeasibility, before anything cancels."""
     total = 0
     for row, multiplier in zip(node.rows, rows):
         side = row.low if multiplier > 0 else row.high
@@ -91,7 +91,7 @@ def refutes(node: Node, values: Sequence[int], state: Sequence[int], rows: Seque
 
     The sizes of all products may sum to 2^127 - 1 at most.
     """
-    if not has_right_signs(node, rows) or not fits(refutation_size(node, values, state, rows), 128):
+    if not has_right_signs(node, rows) or not fits(farkas_size(node, values, state, rows), 128):
         return False
     total = 0
     weights = [0] * len(node.boxes)
@@ -106,8 +106,8 @@ def refutes(node: Node, values: Sequence[int], state: Sequence[int], rows: Seque
     return total > 0
 
 
-def judged(node: Node, values: Sequence[int], state: Sequence[int], answer: Answer) -> Tuple[str, Optional[List[int]]]:
-    """Judges an answer: Found, Dead with multipliers of rows that refute, or Unsettled.
+def classified(node: Node, values: Sequence[int], state: Sequence[int], answer: Answer) -> Tuple[str, Optional[List[int]]]:
+    """Classifies an answer: Found, Infeasible with multipliers of rows that refute, or Unanswered.
 
     A ray's multipliers are whole. They are rounded down by one power of two after another, and the first that refute count.
     """
@@ -117,5 +117,5 @@ def judged(node: Node, values: Sequence[int], state: Sequence[int], answer: Answ
         for places in SCALES:
             rows = [settled_row(row, dual >> places) for row, dual in zip(node.rows, answer.duals)]
             if refutes(node, values, state, rows):
-                return "Dead", rows
-    return "Unsettled", None
+                return "Infeasible", rows
+    return "Unanswered", None

@@ -16,6 +16,8 @@ from .table import Table
 
 TRUSTED = 26
 """The binary digits to which the cost of a point and what its duals show have to be the same, or the answer is weak."""
+NEAR = 18
+"""The binary digits to which they have to be the same, or a weak answer is poor."""
 
 
 @dataclass(frozen=True)
@@ -216,7 +218,7 @@ def pivot(table: Table, leaving: int, sign: int, line: Sequence[int], place: int
 
 
 def finish(table: Table) -> None:
-    """Computes duals and reduced costs anew from the original rows, and whether the gap to the dual bound is too great."""
+    """Computes duals and reduced costs anew from the original rows, and whether the gap to the dual bound is too great, or far so."""
     numbers = table.numbers
     slacks = table.nonbasic_slacks()
     for row, place in slacks:
@@ -236,7 +238,7 @@ def finish(table: Table) -> None:
     for row, place in slacks:
         if table.reduced[place] != 0:
             dual += table.reduced[place] * (table.row_lows if table.reduced[place] > 0 else table.row_highs)[row]
-    table.weak = primal - dual > ((abs(primal) + abs(dual)) >> TRUSTED) + numbers.gap
+    table.weak, table.poor = (primal - dual > ((abs(primal) + abs(dual)) >> it) + numbers.gap for it in (TRUSTED, NEAR))
 
 
 def column_point(table: Table, program: Program, column: int) -> int:
@@ -261,4 +263,4 @@ def found(table: Table, program: Program) -> Answer:
         dual = in_128(table.numbers.shift(table.reduced[place], exponent))
         duals[row if row < table.own else table.cuts[row - table.own]] = dual
     names = [*range(table.own), *program.cut_names()]
-    return Answer(FOUND, point, tuple(duals.get(name, 0) for name in names), table.weak)
+    return Answer(FOUND, point, tuple(duals.get(name, 0) for name in names), table.weak, table.poor)

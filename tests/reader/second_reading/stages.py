@@ -10,7 +10,7 @@ from .node import UNIT, Node, StageRow, Successor, decisions_of, given_part
 from .problem import Place, Problem
 from .program import FINER, Answer, Column, Cut, Program, Row
 from .program import UNIT as RAW
-from .settling import judged
+from .settling import classified
 
 Ends = Tuple[int, int]
 
@@ -67,7 +67,7 @@ def reference(place: Place, pools: Pools) -> Program:
 
 
 def node_with_pools(place: Place, pools: Pools) -> Node:
-    """The node as answers are settled at it."""
+    """The node as certificates are made at it."""
     return replace(place.stage.node, successors=tuple(Successor(weight, len(pools[number])) for number, weight in place.successors))
 
 
@@ -93,8 +93,8 @@ class Solver:
 
     def worth(self, number: int, values: Sequence[int], state: Sequence[int], answer: Answer) -> bool:
         """Whether an answer is of use; a ray that shows that there are no decisions ends it all."""
-        kind, rows = judged(self.problem.places[number].stage.node, values, state, answer)
-        if kind == "Dead":
+        kind, rows = classified(self.problem.places[number].stage.node, values, state, answer)
+        if kind == "Infeasible":
             raise NoDecision(number, values, state, rows or ())
         return kind == "Found"
 

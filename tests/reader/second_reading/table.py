@@ -17,7 +17,8 @@ class Table:
 
     The variable `nonbasic[j]` stands at place j, at its upper bound where `at_high[j]`, and `reduced[j]` is its reduced cost; the
     reduced cost of a slack is its row's dual. Each basic column is a sum of the nonbasic variables, with the cells of `lines`.
-    Basic slacks have no line. `weak` says of the last point found that it is not to be trusted.
+    Basic slacks have no line. `weak` says of the last point found that it is not to be trusted, and `poor` that it is
+    far from the best one too, or beside a bound.
     """
 
     numbers: Numbers
@@ -39,6 +40,7 @@ class Table:
     row_highs: List[Optional[int]] = field(default_factory=list)
     cuts: List[CutName] = field(default_factory=list)
     weak: bool = False
+    poor: bool = False
 
     @property
     def width(self) -> int:

@@ -1,4 +1,4 @@
-"""Iterations of training: paths walked forward, certificates settled and cuts made backward, as one thread does it."""
+"""Iterations of training: paths walked forward, certificates and cuts made backward, as one thread does it."""
 from __future__ import annotations
 
 from dataclasses import dataclass, field
@@ -8,7 +8,7 @@ from .cuts import OutOfRange, Pools, base_pools, bound_of, cut_of
 from .drawing import Path, path_of, stream_of
 from .node import UNIT
 from .problem import Problem
-from .settling import Certificate, settled
+from .settling import Certificate, certificate_of_duals
 from .stages import NoDecision, Solver, node_with_pools
 
 Step = Tuple[int, List[Certificate]]
@@ -21,7 +21,7 @@ class Entry:
 
     iteration: int
     steps: List[Step] = field(default_factory=list)
-    unsettled: int = 0
+    unanswered: int = 0
 
 
 @dataclass
@@ -51,7 +51,7 @@ class Training:
             states.append(state)
             values = self.problem.places[number].realizations[realization].values
             _, of_use, decisions = self.solver.decided(number, self.pools, values, state)
-            entry.unsettled += not of_use
+            entry.unanswered += not of_use
             state = self.solver.left(number, decisions)
         return states
 
@@ -62,9 +62,9 @@ class Training:
         half = len(given) // 2
         answers = [it for part in (given[:half], given[half:]) for it in self.solver.answers(number, self.pools, part, state)]
         for values, answer in zip(given, answers):
-            entry.unsettled += not self.solver.worth(number, values, state, answer)
+            entry.unanswered += not self.solver.worth(number, values, state, answer)
         node = node_with_pools(place, self.pools)
-        return [settled(node, it) for it in answers]
+        return [certificate_of_duals(node, it) for it in answers]
 
     def sweep(self, path: Path, states: Sequence[Sequence[int]], entry: Entry) -> None:
         """Makes a cut at each node of a path, from its last to its first."""
@@ -110,6 +110,6 @@ class Training:
             pass
 
     @property
-    def unsettled(self) -> int:
+    def unanswered(self) -> int:
         """How many answers were of no use."""
-        return sum(entry.unsettled for entries in self.records for entry in entries)
+        return sum(entry.unanswered for entries in self.records for entry in entries)

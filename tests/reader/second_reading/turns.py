@@ -113,9 +113,9 @@ def most_turns(table: Table) -> int:
 
 
 def finished(table: Table, program: Program, passed_over: bool) -> Answer:
-    """The answer of a table in which nothing is left to mend; it is weak too where a violation was passed over."""
+    """The answer of a table in which nothing is left to mend; it is weak and poor too where a violation was passed over."""
     finish(table)
-    table.weak = table.weak or passed_over
+    table.weak, table.poor = table.weak or passed_over, table.poor or passed_over
     return found(table, program)
 
 
@@ -150,7 +150,7 @@ def go(table: Table, program: Program, trace: Trace) -> Optional[Answer]:
 
     Where it stops, what stands at each place is as it was when the turn began, and rows that came in stay.
     """
-    table.weak = False
+    table.weak = table.poor = False
     course = Course(False, table.basis())
     try:
         set_sides(table, program.own)

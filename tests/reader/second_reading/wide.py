@@ -34,7 +34,7 @@ def wide_table(program: Program) -> Table:
 
 def wide_turns(table: Table, program: Program) -> Optional[Answer]:
     """The answer after turns that refine the point each time; it is found where two turns in a row have nothing to mend."""
-    table.weak = False
+    table.weak = table.poor = False
     set_sides(table, program.all_rows())
     rested = False
     for _ in range(most_turns(table)):

@@ -11,15 +11,16 @@ ghost use Rattle.hp_theory.specs.CutOf.{divisor};
 ghost use Rattle.hp_theory.specs.Size.{size_of};
 ghost use Rattle.hp_theory.specs.Base.{base_list};
 ghost use Rattle.hp_theory.specs.Fit.{FitFor};
-ghost use Rattle.hp_dual.specs.Sized.{Sized};
-ghost use Rattle.hp_dual.specs.Acceptance.{right_fault, range_fault, fault_of, Accepts, SumsAccepted};
+ghost use Rattle.hp_cut_making.specs.Sized.{Sized};
+ghost use Rattle.hp_cut_making.specs.Acceptance.{right_fault, range_fault, fault_of, Accepts, SumsAccepted};
 
 use super::walk::{check_certificates, check_count};
-use crate::fault::CertFault;
-use crate::node_at::{NodeAt, own_weights};
 use crate::size::sums_in_range;
 use hp_cut::Pools;
-use hp_problem::{MOST_STATES, Problem};
+use hp_cut_making::CertFault;
+use hp_cut_making::node_at::{NodeAt, own_weights};
+use hp_parts::MOST_STATES;
+use hp_problem::Problem;
 use hp_theory::Certificate;
 
 /// B modulo 2^128 where the size stays in range.
@@ -61,7 +62,7 @@ pub(crate) fn check_right(here: &NodeAt, list: &[Certificate]) -> Result<(), Cer
     check_count(
         here.weights.len(),
         here.subproblem.rows.len(),
-        here.node.links.len(),
+        here.node.successors.len(),
         list,
     )?;
     check_certificates(here, list)
@@ -87,8 +88,8 @@ pub fn accept(
     node: u32,
     list: &[Certificate],
 ) -> Result<(), CertFault>
-    requires known { node < length problem.now.raw.nodes }
-    requires fit { FitFor (problem_of problem.now) (length problem.now.raw.nodes) pools.now.lists node }
+    requires known { node < length problem.now.parts.nodes }
+    requires fit { FitFor (problem_of problem.now) (length problem.now.parts.nodes) pools.now.lists node }
     ensures { Accepts result (fault_of pools.now.lists (node_at (problem_of problem.now) node) list.now) }
 {
     accept_with(problem, pools, node, own_weights(problem, node), list)
@@ -103,8 +104,8 @@ pub fn accept_with(
     weights: &[u32],
     list: &[Certificate],
 ) -> Result<(), CertFault>
-    requires known { node < length problem.now.raw.nodes }
-    requires fit { FitFor (problem_of problem.now) (length problem.now.raw.nodes) pools.now.lists node }
+    requires known { node < length problem.now.parts.nodes }
+    requires fit { FitFor (problem_of problem.now) (length problem.now.parts.nodes) pools.now.lists node }
     requires count { length weights.now ≡ length (node_at (problem_of problem.now) node).realizations }
     requires positive { All (λ w. 1 ≤ w) weights.now }
     requires total { sum weights.now ≤ 65535 }
@@ -125,6 +126,6 @@ pub fn acceptance()
         → 0 < divisor n → Right pools n list → size_of pools n list ≤ℤ pos (2 ^ 127 - 1)
         → fault_of pools n list ≡ None }
     ensures base { (pools : List (List Cut)) (n : problems.Node)
-        → All (λ (l : problems.Link). (0 < l.weight) × (0 < length (pool pools l.node))) n.links
+        → All (λ (l : problems.Successor). (0 < l.weight) × (0 < length (pool pools l.node))) n.successors
         → fault_of pools n (base_list n) ≡ range_fault pools n (base_list n) }
 {}

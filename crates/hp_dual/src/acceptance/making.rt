@@ -6,16 +6,15 @@ ghost use Rattle.hp_theory.specs.View.{node_of, problem_of};
 ghost use Rattle.hp_theory.specs.CutOf.{beta_sum, cut_of};
 ghost use Rattle.hp_theory.specs.Fit.{CutFits, FitFor};
 ghost use Rattle.hp_theory.specs.Pools.{Holds, Sound};
-ghost use Rattle.hp_dual.specs.Acceptance.{fault_of, Accepts};
-ghost use Rattle.hp_dual.specs.Parts.{Cuttable, Limited};
-ghost use Rattle.hp_dual.specs.Sized.{Sized, unboxed};
-ghost use Rattle.hp_dual.specs.Tabled.{Tabled};
+ghost use Rattle.hp_cut_making.specs.Acceptance.{fault_of, Accepts};
+ghost use Rattle.hp_cut_making.specs.Parts.{Cuttable, Limited};
+ghost use Rattle.hp_cut_making.specs.Sized.{Sized, unboxed};
+ghost use Rattle.hp_cut_making.specs.Tabled.{Tabled};
 
 use super::checker::{check_right, range_sums};
-use crate::cut_making::{constant_sum, write_cut_of};
-use crate::fault::CertFault;
-use crate::node_at::{NodeAt, own_weights};
 use hp_cut::{Cut, Pools};
+use hp_cut_making::node_at::{NodeAt, own_weights};
+use hp_cut_making::{CertFault, constant_sum, write_cut_of};
 use hp_problem::Problem;
 use hp_theory::Certificate;
 
@@ -58,9 +57,9 @@ pub fn accept_into(
     list: &[Certificate],
     cut: &mut Cut,
 ) -> Result<(), CertFault>
-    requires known { node < length problem.now.raw.nodes }
-    requires fit { FitFor (problem_of problem.now) (length problem.now.raw.nodes) pools.now.lists node }
-    requires slopes { length cut.old.beta ≡ length problem.now.raw.states }
+    requires known { node < length problem.now.parts.nodes }
+    requires fit { FitFor (problem_of problem.now) (length problem.now.parts.nodes) pools.now.lists node }
+    requires slopes { length cut.old.beta ≡ length problem.now.parts.states }
     ensures accepted { Accepts result (fault_of pools.now.lists (node_at (problem_of problem.now) node) list.now) }
     ensures value { IfOk result (λ u. cut.new ≡ cut_of pools.now.lists (node_at (problem_of problem.now) node) list.now) }
     ensures fits { IfOk result (λ u. CutFits (node_at (problem_of problem.now) node) cut.new) }

@@ -2,36 +2,35 @@
 ghost use Rattle.std.specs.Prelude.{◌≡◌, ℕ, ◌<◌, ◌≤◌, ◌^◌, ◌==◌, ◌&&◌, List, length, zip, All};
 ghost use Rattle.hp_theory.specs.Problem as problems;
 ghost use Rattle.hp_theory.specs.declared.cut.Certificate.{Certificate};
-ghost use Rattle.hp_theory.specs.View.{links_of};
+ghost use Rattle.hp_theory.specs.View.{successors_of};
 ghost use Rattle.hp_theory.specs.Certificates.{multipliers};
 ghost use Rattle.hp_theory.specs.Pools.{pool};
-ghost use Rattle.hp_dual.specs.Within.{Within};
-ghost use Rattle.hp_dual.specs.Acceptance.{Accepts, or_then, is_shaped, first_unshaped, shape_fault, sign_fault, is_pair, pair_fault, sum_fault, links_fault, certificates_fault};
+ghost use Rattle.hp_cut_making.specs.Within.{IsWithinLimits};
+ghost use Rattle.hp_cut_making.specs.Acceptance.{Accepts, or_then_fault, is_shaped, first_unshaped, shape_fault, sign_fault, is_pair, pair_fault, sum_fault, successors_fault, certificates_fault};
 
-use crate::fault::CertFault;
-use crate::node_at::NodeAt;
-use crate::sides::is_sign;
 use hp_cut::Pools;
+use hp_cut_making::node_at::NodeAt;
+use hp_cut_making::{CertFault, is_sign};
 use hp_num::List;
-use hp_problem::Row;
+use hp_parts::Row;
 use hp_theory::{Certificate, SCALE};
 
 /// Tells whether there is one multiplier per row and one list of pairs per successor.
-fn is_shaped(rows: usize, links: usize, certificate: &Certificate) -> bool
-    ensures { result ≡ (length certificate.now.rows == rows) && (length certificate.now.cuts == links) }
+fn is_shaped(rows: usize, successors: usize, certificate: &Certificate) -> bool
+    ensures { result ≡ (length certificate.now.rows == rows) && (length certificate.now.cuts == successors) }
 {
-    certificate.rows.len() == rows && certificate.cuts.len() == links
+    certificate.rows.len() == rows && certificate.cuts.len() == successors
 }
 
-fn check_shapes(rows: usize, links: usize, list: &[Certificate]) -> Result<(), CertFault>
+fn check_shapes(rows: usize, successors: usize, list: &[Certificate]) -> Result<(), CertFault>
     ghost n: { problems.Node }
     requires rows { rows ≡ length n.rows }
-    requires links { links ≡ length n.links }
+    requires successors { successors ≡ length n.successors }
     requires few { length list.now ≤ 100 }
     ensures { Accepts result (first_unshaped n 0 list.now) }
 {
     for (r, certificate) in list.iter().enumerate() {
-        if !is_shaped(rows, links, certificate) {
+        if !is_shaped(rows, successors, certificate) {
             return Err(CertFault::Shape {
                 realization: r as u32,
             });
@@ -44,13 +43,13 @@ fn check_shapes(rows: usize, links: usize, list: &[Certificate]) -> Result<(), C
 pub(crate) fn check_count(
     count: usize,
     rows: usize,
-    links: usize,
+    successors: usize,
     list: &[Certificate],
 ) -> Result<(), CertFault>
     ghost n: { problems.Node }
     requires count { count ≡ length n.realizations }
     requires rows { rows ≡ length n.rows }
-    requires links { links ≡ length n.links }
+    requires successors { successors ≡ length n.successors }
     requires few { count ≤ 100 }
     ensures { Accepts result (shape_fault n list.now) }
 {
@@ -59,7 +58,7 @@ pub(crate) fn check_count(
             realization: list.len().min(count) as u32,
         });
     }
-    check_shapes(rows, links, list)
+    check_shapes(rows, successors, list)
 }
 
 fn check_signs(r: u32, rows: &[Row], multipliers: &[i64]) -> Result<(), CertFault>
@@ -131,7 +130,7 @@ fn check_sum(r: u32, i: u32, weight: u32, pairs: &[(u32, u64)]) -> Result<(), Ce
 }
 
 /// The pairs of one successor, then their sum.
-fn check_link(
+fn check_successor(
     pools: &Pools,
     r: u32,
     i: u32,
@@ -140,28 +139,35 @@ fn check_link(
     pairs: &[(u32, u64)],
 ) -> Result<(), CertFault>
     requires { node < length pools.now.lists }
-    ensures { Accepts result (or_then (pair_fault r i (length (pool pools.now.lists node)) 0 0 pairs.now) (sum_fault r i (record { node = node; weight = weight }) pairs.now)) }
+    ensures { Accepts result (or_then_fault (pair_fault r i (length (pool pools.now.lists node)) 0 0 pairs.now) (sum_fault r i (record { node = node; weight = weight }) pairs.now)) }
 {
     check_pairs(r, i, pools.count(node), pairs)?;
     check_sum(r, i, weight, pairs)
 }
 
 /// The successors in order.
-fn check_links(
+fn check_successors(
     pools: &Pools,
     r: u32,
-    links: &[u32],
+    successors: &[u32],
     weights: &[u32],
     cuts: &[List<(u32, u64)>],
 ) -> Result<(), CertFault>
-    requires weights { length weights.now ≡ length links.now }
-    requires cuts { length cuts.now ≡ length links.now }
-    requires few { length links.now ≤ 2 ^ 16 }
-    requires known { All (λ m. m < length pools.now.lists) links.now }
-    ensures { Accepts result (links_fault pools.now.lists r 0 (zip (links_of links.now weights.now) cuts.now)) }
+    requires weights { length weights.now ≡ length successors.now }
+    requires cuts { length cuts.now ≡ length successors.now }
+    requires few { length successors.now ≤ 2 ^ 16 }
+    requires known { All (λ m. m < length pools.now.lists) successors.now }
+    ensures { Accepts result (successors_fault pools.now.lists r 0 (zip (successors_of successors.now weights.now) cuts.now)) }
 {
-    for i in 0..links.len() {
-        check_link(pools, r, i as u32, links[i], weights[i], cuts[i].as_slice())?;
+    for i in 0..successors.len() {
+        check_successor(
+            pools,
+            r,
+            i as u32,
+            successors[i],
+            weights[i],
+            cuts[i].as_slice(),
+        )?;
     }
     Ok(())
 }
@@ -169,21 +175,21 @@ fn check_links(
 /// The signs of one certificate, then its successors.
 fn check_certificate(here: &NodeAt, r: u32, certificate: &Certificate) -> Result<(), CertFault>
     requires shaped { (length certificate.now.rows ≡ length here.now.subproblem.now.rows)
-        × (length certificate.now.cuts ≡ length here.now.node.now.links) }
-    requires within { Within (length here.now.pools.now.lists) here.now.node.now here.now.subproblem.now }
-    ensures { Accepts result (or_then (sign_fault r 0 (zip here.now.subproblem.now.rows certificate.now.rows))
-        (links_fault here.now.pools.now.lists r 0 (zip (links_of here.now.node.now.links here.now.node.now.link_weights) certificate.now.cuts))) }
+        × (length certificate.now.cuts ≡ length here.now.node.now.successors) }
+    requires within { IsWithinLimits (length here.now.pools.now.lists) here.now.node.now here.now.subproblem.now }
+    ensures { Accepts result (or_then_fault (sign_fault r 0 (zip here.now.subproblem.now.rows certificate.now.rows))
+        (successors_fault here.now.pools.now.lists r 0 (zip (successors_of here.now.node.now.successors here.now.node.now.successor_weights) certificate.now.cuts))) }
 {
     check_signs(
         r,
         here.subproblem.rows.as_slice(),
         certificate.rows.as_slice(),
     )?;
-    check_links(
+    check_successors(
         here.pools,
         r,
-        here.node.links.as_slice(),
-        here.node.link_weights.as_slice(),
+        here.node.successors.as_slice(),
+        here.node.successor_weights.as_slice(),
         certificate.cuts.as_slice(),
     )
 }
@@ -192,11 +198,11 @@ fn check_certificate(here: &NodeAt, r: u32, certificate: &Certificate) -> Result
 pub(crate) fn check_certificates(here: &NodeAt, list: &[Certificate]) -> Result<(), CertFault>
     ghost n: { problems.Node }
     requires is_rows { n.rows ≡ here.now.subproblem.now.rows }
-    requires is_links { n.links ≡ links_of here.now.node.now.links here.now.node.now.link_weights }
+    requires is_successors { n.successors ≡ successors_of here.now.node.now.successors here.now.node.now.successor_weights }
     requires shaped { All (λ (c : Certificate). (length c.rows ≡ length here.now.subproblem.now.rows)
-        × (length c.cuts ≡ length here.now.node.now.links)) list.now }
+        × (length c.cuts ≡ length here.now.node.now.successors)) list.now }
     requires list { length list.now ≤ 100 }
-    requires within { Within (length here.now.pools.now.lists) here.now.node.now here.now.subproblem.now }
+    requires within { IsWithinLimits (length here.now.pools.now.lists) here.now.node.now here.now.subproblem.now }
     ensures { Accepts result (certificates_fault here.now.pools.now.lists n 0 list.now) }
 {
     for (r, certificate) in list.iter().enumerate() {

@@ -5,20 +5,20 @@ ghost use Rattle.hp_theory.specs.Problem as problems;
 ghost use Rattle.hp_theory.specs.Problem.{node_at, with_weights};
 ghost use Rattle.hp_theory.specs.View.{node_of, problem_of};
 ghost use Rattle.hp_theory.specs.Fit.{CutFits, FitFor};
-ghost use Rattle.hp_dual.specs.Acceptance.{right_fault};
-ghost use Rattle.hp_dual.specs.Parts.{Limited};
-ghost use Rattle.hp_dual.specs.Reweighting.{Weighs, cut_with};
+ghost use Rattle.hp_cut_making.specs.Acceptance.{right_fault};
+ghost use Rattle.hp_cut_making.specs.Parts.{Limited};
+ghost use Rattle.hp_cut_making.specs.Reweighting.{Weighs, cut_with};
 ghost use Rattle.hp_dual.specs.Shares.{Shares, SharesAt, SharesOf};
-ghost use Rattle.hp_dual.specs.Sized.{Sized};
+ghost use Rattle.hp_cut_making.specs.Sized.{Sized};
 
 use super::shares::{Share, all_shares};
 use super::weighted::weighted_sums;
 use crate::acceptance::checker::check_right;
 use crate::base_pools::no_slopes;
-use crate::cut_making::{slope_sums, write_cut_of};
-use crate::node_at::{NodeAt, own_weights};
 use crate::size::remainders_range;
 use hp_cut::{Cut, Pools};
+use hp_cut_making::node_at::{NodeAt, own_weights};
+use hp_cut_making::{slope_sums, write_cut_of};
 use hp_num::{List, Memory};
 use hp_problem::Problem;
 use hp_theory::Certificate;
@@ -78,8 +78,8 @@ fn cut_with(
     list: &[Certificate],
     shares: &Option<List<Share>>,
 ) -> Result<Option<Cut>, Memory>
-    requires known { node < length problem.now.raw.nodes }
-    requires fit { FitFor (problem_of problem.now) (length problem.now.raw.nodes) pools.now.lists node }
+    requires known { node < length problem.now.parts.nodes }
+    requires fit { FitFor (problem_of problem.now) (length problem.now.parts.nodes) pools.now.lists node }
     requires weighs { Weighs (node_at (problem_of problem.now) node) weights.now }
     requires shares { SharesAt problem.now node pools.now.lists list.now shares.now }
     ensures { IfOk result (λ cut. cut ≡ cut_with pools.now.lists (node_at (problem_of problem.now) node) list.now weights.now) }
@@ -99,8 +99,8 @@ fn shares_at(
     node: u32,
     list: &[Certificate],
 ) -> Result<Option<List<Share>>, Memory>
-    requires known { node < length problem.now.raw.nodes }
-    requires fit { FitFor (problem_of problem.now) (length problem.now.raw.nodes) pools.now.lists node }
+    requires known { node < length problem.now.parts.nodes }
+    requires fit { FitFor (problem_of problem.now) (length problem.now.parts.nodes) pools.now.lists node }
     ensures { IfOk result (SharesAt problem.now node pools.now.lists list.now) }
 {
     let here = NodeAt::of(problem, pools, node, own_weights(problem, node));
@@ -119,13 +119,13 @@ pub fn make_each(
     lists: &[List<u32>],
     list: &[Certificate],
 ) -> Result<List<Option<Cut>>, Memory>
-    requires known { node < length problem.now.raw.nodes }
-    requires fit { FitFor (problem_of problem.now) (length problem.now.raw.nodes) pools.now.lists node }
+    requires known { node < length problem.now.parts.nodes }
+    requires fit { FitFor (problem_of problem.now) (length problem.now.parts.nodes) pools.now.lists node }
     requires weighs { All (Weighs (node_at (problem_of problem.now) node)) lists.now }
     ensures value { IfOk result (λ cuts. cuts ≡ map (cut_with pools.now.lists (node_at (problem_of problem.now) node) list.now) lists.now) }
     ensures fits { IfOk result (λ cuts. All (λ (cut : Option Cut). IfSome cut (CutFits (node_at (problem_of problem.now) node))) cuts) }
 {
-    let _ = problem.raw();
+    let _ = problem.parts();
     let shares = shares_at(alloc, problem, pools, node, list)?;
     let mut found = List::new(alloc);
     for weights in lists {

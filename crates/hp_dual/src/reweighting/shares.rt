@@ -3,18 +3,18 @@ ghost use Rattle.std.specs.Prelude.{◌≡◌, ◌^◌, ◌<◌, ◌≤◌, List
 ghost use Rattle.hp_theory.specs.declared.cut.Certificate.{Certificate};
 ghost use Rattle.hp_theory.specs.CutOf.{scale};
 ghost use Rattle.hp_theory.specs.View.{node_of};
-ghost use Rattle.hp_dual.specs.Congruent.{Congruent};
-ghost use Rattle.hp_dual.specs.Parts.{Limited, PairsThere, constant_at};
+ghost use Rattle.hp_cut_making.specs.Congruent.{Congruent};
+ghost use Rattle.hp_cut_making.specs.Parts.{Limited, PairsThere, constant_at_scale};
 ghost use Rattle.hp_dual.specs.Shares.{Shares};
-ghost use Rattle.hp_dual.specs.Sized.{Sized};
-ghost use Rattle.hp_dual.specs.SizeByTerms.{Fixed, certificate_amount};
+ghost use Rattle.hp_cut_making.specs.Sized.{Sized};
+ghost use Rattle.hp_cut_making.specs.SizeByTerms.{Fixed, certificate_amount};
 
-use crate::cut_making::{constant_over, fixed_constant};
-use crate::node_at::NodeAt;
-use crate::scales::scale;
 use crate::size::{FixedAmounts, realization_size, write_rows};
+use hp_cut_making::node_at::NodeAt;
+use hp_cut_making::scales::scale;
+use hp_cut_making::{constant_over, fixed_constant};
 use hp_num::{List, Memory};
-use hp_problem::MOST_ROWS;
+use hp_parts::MOST_ROWS;
 use hp_theory::Certificate;
 use std::alloc::Global;
 
@@ -30,11 +30,11 @@ pub struct Share {
 fn share_of(here: &NodeAt, fixed: &FixedAmounts, values: &[i64], certificate: &Certificate) -> Share
     requires limits { Limited here.now.node.now here.now.subproblem.now }
     requires sized { Sized here.now.pools.now.lists here.now.node.now here.now.subproblem.now here.now.low.now here.now.weights.now }
-    requires there { PairsThere here.now.pools.now.lists here.now.node.now.links certificate.now.cuts }
+    requires there { PairsThere here.now.pools.now.lists here.now.node.now.successors certificate.now.cuts }
     requires fixed { Fixed here.now.subproblem.now here.now.low.now here.now.high.now fixed.now.rows.now fixed.now.costs }
     requires values { length values.now ≡ length here.now.subproblem.now.randoms }
     ensures size { result.size ≡ min (certificate_amount here.now.node.now here.now.subproblem.now here.now.low.now here.now.high.now here.now.pools.now.lists (values.now, certificate.now)) (2 ^ 127) }
-    ensures constant { result.size < 2 ^ 127 → Congruent result.constant (constant_at (scale (node_of here.now.node.now here.now.subproblem.now [] [])) here.now.pools.now.lists here.now.node.now here.now.subproblem.now values.now certificate.now) }
+    ensures constant { result.size < 2 ^ 127 → Congruent result.constant (constant_at_scale (scale (node_of here.now.node.now here.now.subproblem.now [] [])) here.now.pools.now.lists here.now.node.now here.now.subproblem.now values.now certificate.now) }
 {
     let Some(size) = realization_size(here, fixed, values, certificate) else {
         return Share {
@@ -59,7 +59,7 @@ pub(super) fn all_shares(
 ) -> Result<List<Share>, Memory>
     requires limits { Limited here.now.node.now here.now.subproblem.now }
     requires sized { Sized here.now.pools.now.lists here.now.node.now here.now.subproblem.now here.now.low.now here.now.weights.now }
-    requires there { All (λ (c : Certificate). PairsThere here.now.pools.now.lists here.now.node.now.links c.cuts) list.now }
+    requires there { All (λ (c : Certificate). PairsThere here.now.pools.now.lists here.now.node.now.successors c.cuts) list.now }
     requires list { length list.now ≡ length here.now.node.now.values }
     ensures { IfOk result (Shares here.now.pools.now.lists here.now.node.now here.now.subproblem.now here.now.low.now here.now.high.now list.now) }
 {

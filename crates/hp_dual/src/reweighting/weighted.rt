@@ -1,15 +1,15 @@
 // The sums of shares by the weights of their realizations.
 ghost use Rattle.std.specs.Prelude.{◌≡◌, ◌^◌, ◌≤◌, ◌*◌, ℕ, pos, ◌+ℤ◌, ◌*ℤ◌, List, length, min};
 ghost use Rattle.hp_theory.specs.declared.cut.Certificate.{Certificate};
-ghost use Rattle.hp_dual.specs.Congruent.{Congruent};
-ghost use Rattle.hp_dual.specs.Parts.{Limited};
+ghost use Rattle.hp_cut_making.specs.Congruent.{Congruent};
+ghost use Rattle.hp_cut_making.specs.Parts.{Limited};
 ghost use Rattle.hp_dual.specs.Shares.{Shares, SumsTo};
-ghost use Rattle.hp_dual.specs.Sized.{Sized};
-ghost use Rattle.hp_dual.specs.SizeByTerms.{Adds};
+ghost use Rattle.hp_cut_making.specs.Sized.{Sized};
+ghost use Rattle.hp_cut_making.specs.SizeByTerms.{AddsSize};
 
 use super::shares::Share;
-use crate::cut_making::wrapping_add_product;
-use crate::node_at::NodeAt;
+use hp_cut_making::node_at::NodeAt;
+use hp_cut_making::wrapping_add_product;
 use hp_num::Size;
 
 /// Sums over the realizations, each by its weight.
@@ -33,7 +33,7 @@ impl Sums {
 /// A realization's size by its weight.
 fn plus_share(size: Size, weight: u32, share: &Share) -> Option<Size>
     requires positive { 1 ≤ weight }
-    ensures { (amount : ℕ) → share.now.size ≡ min amount (2 ^ 127) → Adds size.total result (weight * amount) }
+    ensures { (amount : ℕ) → share.now.size ≡ min amount (2 ^ 127) → AddsSize size.total result (weight * amount) }
 {
     size.plus_product(u128::from(weight), share.size)
 }

@@ -1,16 +1,16 @@
 // The size of the cuts of a certificate.
 ghost use Rattle.std.specs.Prelude.{◌<◌, length, zip, All};
 ghost use Rattle.std.specs.List.{sum_by};
-ghost use Rattle.hp_dual.specs.SizeByTerms.{Adds, over_decisions, term_by, terms_by, cut_amount, pair_amount, link_amount, links_amount};
+ghost use Rattle.hp_cut_making.specs.SizeByTerms.{AddsSize, over_decisions, term_by, terms_by, cut_amount, pair_amount, successor_amount, successors_amount};
 
 use super::terms::{DecisionBoxes, Multiples, plus_scaled};
 use hp_cut::{Cut, Pools};
 use hp_num::{List, Size};
-use hp_problem::Decision;
+use hp_parts::Decision;
 
 /// A slope at the ends of the box of the decision that leaves the stage.
 fn plus_slope(size: Size, out: u32, slope: i128, decisions: &[Decision]) -> Option<Size>
-    ensures { Adds size.total result (term_by (over_decisions decisions.now) (out, slope)) }
+    ensures { AddsSize size.total result (term_by (over_decisions decisions.now) (out, slope)) }
 {
     let boxes = DecisionBoxes { decisions };
     size.plus_product(slope.unsigned_abs(), boxes.at(out as usize))
@@ -18,7 +18,7 @@ fn plus_slope(size: Size, out: u32, slope: i128, decisions: &[Decision]) -> Opti
 
 /// The slopes of a cut at the ends of the boxes of the decisions that leave the stage.
 fn plus_slopes(size: Size, outs: &[u32], slopes: &[i128], decisions: &[Decision]) -> Option<Size>
-    ensures { Adds size.total result (terms_by (over_decisions decisions.now) (zip outs.now slopes.now)) }
+    ensures { AddsSize size.total result (terms_by (over_decisions decisions.now) (zip outs.now slopes.now)) }
 {
     let mut sum = size;
     for k in 0..outs.len().min(slopes.len()) {
@@ -29,7 +29,7 @@ fn plus_slopes(size: Size, outs: &[u32], slopes: &[i128], decisions: &[Decision]
 
 /// A cut at the ends of the boxes of the decisions that leave the stage.
 fn cut_size(cut: &Cut, outs: &[u32], decisions: &[Decision]) -> Option<Size>
-    ensures { Adds 0 result (cut_amount decisions.now outs.now cut.now) }
+    ensures { AddsSize 0 result (cut_amount decisions.now outs.now cut.now) }
 {
     let fixed = Size::zero().plus_product(1, cut.alpha.unsigned_abs())?;
     plus_slopes(fixed, outs, cut.beta.as_slice(), decisions)
@@ -43,7 +43,7 @@ fn plus_pair(
     outs: &[u32],
     decisions: &[Decision],
 ) -> Option<Size>
-    ensures { Adds size.total result (pair_amount decisions.now outs.now cuts.now pair.now) }
+    ensures { AddsSize size.total result (pair_amount decisions.now outs.now cuts.now pair.now) }
 {
     let (place, multiplier) = *pair;
     if multiplier == 0 {
@@ -63,7 +63,7 @@ fn plus_pairs(
     outs: &[u32],
     decisions: &[Decision],
 ) -> Option<Size>
-    ensures { Adds size.total result (sum_by (pair_amount decisions.now outs.now cuts.now) pairs.now) }
+    ensures { AddsSize size.total result (sum_by (pair_amount decisions.now outs.now cuts.now) pairs.now) }
 {
     let mut sum = size;
     for pair in pairs {
@@ -73,40 +73,40 @@ fn plus_pairs(
 }
 
 /// The pairs of a successor, by its number.
-fn plus_link(
+fn plus_successor(
     size: Size,
-    link: u32,
+    successor: u32,
     pairs: &List<(u32, u64)>,
     pools: &Pools,
     outs: &[u32],
     decisions: &[Decision],
 ) -> Option<Size>
-    requires { link < length pools.now.lists }
-    ensures { Adds size.total result (link_amount decisions.now outs.now pools.now.lists (link, pairs.now)) }
+    requires { successor < length pools.now.lists }
+    ensures { AddsSize size.total result (successor_amount decisions.now outs.now pools.now.lists (successor, pairs.now)) }
 {
     plus_pairs(
         size,
         pairs.as_slice(),
-        pools.cuts(link as usize),
+        pools.cuts(successor as usize),
         outs,
         decisions,
     )
 }
 
 /// The pairs of all successors.
-pub(super) fn links_size(
-    links: &[u32],
+pub(super) fn successors_size(
+    successors: &[u32],
     pairs: &[List<(u32, u64)>],
     pools: &Pools,
     outs: &[u32],
     decisions: &[Decision],
 ) -> Option<Size>
-    requires known { All (λ m. m < length pools.now.lists) links.now }
-    ensures { Adds 0 result (links_amount decisions.now outs.now pools.now.lists links.now pairs.now) }
+    requires known { All (λ m. m < length pools.now.lists) successors.now }
+    ensures { AddsSize 0 result (successors_amount decisions.now outs.now pools.now.lists successors.now pairs.now) }
 {
     let mut sum = Size::zero();
-    for i in 0..links.len().min(pairs.len()) {
-        sum = plus_link(sum, links[i], &pairs[i], pools, outs, decisions)?;
+    for i in 0..successors.len().min(pairs.len()) {
+        sum = plus_successor(sum, successors[i], &pairs[i], pools, outs, decisions)?;
     }
     Some(sum)
 }

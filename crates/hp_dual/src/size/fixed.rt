@@ -1,13 +1,13 @@
 // The part of a certificate's size that is the same at all realizations of its node: rows and costs at the ends of the boxes.
 ghost use Rattle.std.specs.Prelude.{◌≡◌, ◌^◌, ◌≤◌, ℕ, length, min};
 ghost use Rattle.std.specs.List.{sum_by};
-ghost use Rattle.hp_dual.specs.SizeByTerms.{Adds, decision_amount, fixed_row, FixedRows, fixed_costs, Fixed};
+ghost use Rattle.hp_cut_making.specs.SizeByTerms.{AddsSize, decision_amount, fixed_row, FixedRows, fixed_costs, Fixed};
 
 use super::terms::{DecisionBoxes, StateBox, plus_numbers, plus_terms};
 use crate::magnitudes::{absolute, reach};
-use crate::node_at::NodeAt;
+use hp_cut_making::node_at::NodeAt;
 use hp_num::Size;
-use hp_problem::{Decision, Row, Subproblem};
+use hp_parts::{Decision, Row, Subproblem};
 
 /// The amounts that are the same at all realizations of a node, each 2^127 where it is more.
 #[derive(Clone, Copy)]
@@ -20,7 +20,7 @@ pub(crate) struct FixedAmounts<'a> {
 
 /// An amount, 2^127 where it is more.
 fn capped(size: Option<Size>) -> u128
-    ensures { (amount : ℕ) → Adds 0 size amount → result ≡ min amount (2 ^ 127) }
+    ensures { (amount : ℕ) → AddsSize 0 size amount → result ≡ min amount (2 ^ 127) }
 {
     match size {
         Some(size) => size.total(),
@@ -30,7 +30,7 @@ fn capped(size: Option<Size>) -> u128
 
 /// Adds an amount to a size; `fixed` is 2^127 where the amount is more.
 pub(super) fn plus_capped(size: Size, fixed: u128) -> Option<Size>
-    ensures { (amount : ℕ) → fixed ≡ min amount (2 ^ 127) → Adds size.total result amount }
+    ensures { (amount : ℕ) → fixed ≡ min amount (2 ^ 127) → AddsSize size.total result amount }
 {
     size.plus_product(1, fixed)
 }
@@ -44,7 +44,7 @@ struct Boxes<'a> {
 
 /// A row's terms of the decisions and of the incoming state.
 fn row_size(row: &Row, boxes: &Boxes) -> Option<Size>
-    ensures { Adds 0 result (fixed_row boxes.now.decisions.decisions.now boxes.now.states.low.now boxes.now.states.high.now row.now) }
+    ensures { AddsSize 0 result (fixed_row boxes.now.decisions.decisions.now boxes.now.states.low.now boxes.now.states.high.now row.now) }
 {
     let decided = plus_terms(Size::zero(), row.decisions.as_slice(), &boxes.decisions)?;
     plus_terms(decided, row.states.as_slice(), &boxes.states)
@@ -81,7 +81,7 @@ pub(crate) fn write_rows(here: &NodeAt, amounts: &mut [u128])
 
 /// The decisions' costs at the ends of their boxes.
 fn plus_decisions(size: Size, decisions: &[Decision]) -> Option<Size>
-    ensures { Adds size.total result (sum_by decision_amount decisions.now) }
+    ensures { AddsSize size.total result (sum_by decision_amount decisions.now) }
 {
     let mut sum = size;
     for decision in decisions {
@@ -92,7 +92,7 @@ fn plus_decisions(size: Size, decisions: &[Decision]) -> Option<Size>
 
 /// Sizes the stage costs without the random costs.
 fn costs_size(sub: &Subproblem, states: &StateBox) -> Option<Size>
-    ensures { Adds 0 result (fixed_costs sub.now states.now.low.now states.now.high.now) }
+    ensures { AddsSize 0 result (fixed_costs sub.now states.now.low.now states.now.high.now) }
 {
     let constant = Size::zero().plus_product(1, absolute(sub.constant))?;
     let decided = plus_decisions(constant, sub.decisions.as_slice())?;

@@ -7,20 +7,20 @@ ghost use Rattle.hp_theory.specs.Problem.{with_weights};
 ghost use Rattle.hp_theory.specs.View.{node_of};
 ghost use Rattle.hp_theory.specs.CutOf.{beta_sum};
 ghost use Rattle.hp_theory.specs.Range.{range_of};
-ghost use Rattle.hp_dual.specs.Parts.{slope_size};
-ghost use Rattle.hp_dual.specs.Sized.{Sized, Passes, unboxed, remainders_amount};
-ghost use Rattle.hp_dual.specs.SizeByTerms.{Adds, weighted_amount};
-ghost use Rattle.hp_dual.specs.Tabled.{SumsInRange, Tabled};
+ghost use Rattle.hp_cut_making.specs.Parts.{slope_size};
+ghost use Rattle.hp_cut_making.specs.Sized.{Sized, Passes, unboxed, remainders_amount};
+ghost use Rattle.hp_cut_making.specs.SizeByTerms.{AddsSize, weighted_amount};
+ghost use Rattle.hp_cut_making.specs.Tabled.{SumsInRange, Tabled};
 
 use super::fixed::{FixedAmounts, write_rows};
 use super::stages::realization_size;
 use super::terms::plus_scaled;
-use crate::cut_making::slope_sums;
 use crate::magnitudes::absolute;
-use crate::node_at::NodeAt;
-use crate::scales::divisor;
+use hp_cut_making::node_at::NodeAt;
+use hp_cut_making::scales::divisor;
+use hp_cut_making::slope_sums;
 use hp_num::Size;
-use hp_problem::{MOST_ROWS, MOST_STATES};
+use hp_parts::{MOST_ROWS, MOST_STATES};
 use hp_theory::Certificate;
 
 /// The sizes of all realizations by their weights, or the first that brings the sum above 2^127 - 1.
@@ -47,7 +47,7 @@ fn realizations_size(here: &NodeAt, list: &[Certificate]) -> Result<Size, usize>
 }
 
 /// Gives the remainder of a number by a positive divisor.
-fn rest(a: i128, d: i128) -> u128
+fn tail(a: i128, d: i128) -> u128
     requires { pos 1 ≤ℤ d }
     ensures { result ≡ nat_abs (a -ℤ pos (nat_abs d) *ℤ floor_over a (nat_abs d)) }
 {
@@ -60,12 +60,12 @@ fn plus_remainders(size: Size, here: &NodeAt, sums: &[i128]) -> Option<Size>
     requires table { length sums.now ≡ 50 }
     ensures { (list : List Certificate) → Tabled (beta_sum (unboxed here.now.weights.now here.now.node.now here.now.subproblem.now) list) sums.now
         → ((k : ℕ) → k < length here.now.low.now → slope_size (unboxed here.now.weights.now here.now.node.now here.now.subproblem.now) list k ≤ℤ pos (2 ^ 127 - 1))
-        → Adds size.total result (remainders_amount here.now.weights.now here.now.node.now here.now.subproblem.now here.now.low.now list) }
+        → AddsSize size.total result (remainders_amount here.now.weights.now here.now.node.now here.now.subproblem.now here.now.low.now list) }
 {
     let under = divisor(here.node, here.weights);
     let mut sum = size;
     for k in 0..here.low.len() {
-        let remainder = rest(sums[k], under);
+        let remainder = tail(sums[k], under);
         sum = sum.plus_product(remainder, absolute(here.low[k]))?;
     }
     Some(sum)

@@ -4,18 +4,18 @@ ghost use Rattle.std.specs.List.{sum_by};
 ghost use Rattle.hp_theory.specs.Problem.{with_weights};
 ghost use Rattle.hp_theory.specs.View.{node_of};
 ghost use Rattle.hp_theory.specs.Range.{range_of};
-ghost use Rattle.hp_dual.specs.Parts.{repeated};
-ghost use Rattle.hp_dual.specs.Sized.{Sized, Passes};
-ghost use Rattle.hp_dual.specs.SizeByTerms.{weighted_amount};
+ghost use Rattle.hp_cut_making.specs.Parts.{repeated};
+ghost use Rattle.hp_cut_making.specs.Sized.{Sized, Passes};
+ghost use Rattle.hp_cut_making.specs.SizeByTerms.{weighted_amount};
 
 use super::fixed::{FixedAmounts, write_rows};
 use super::range::remainders_range;
 use super::stages::{pairs_size, realization_over};
 use super::terms::plus_scaled;
-use crate::cut_making::repeated_slope_sums;
-use crate::node_at::NodeAt;
+use hp_cut_making::node_at::NodeAt;
+use hp_cut_making::repeated_slope_sums;
 use hp_num::Size;
-use hp_problem::MOST_ROWS;
+use hp_parts::MOST_ROWS;
 use hp_theory::Certificate;
 
 /// The sizes of all realizations by their weights, or the first that brings the sum above 2^127 - 1.

@@ -1,21 +1,21 @@
 // The size of a certificate: its rows, the costs of its stage and its cuts.
 ghost use Rattle.std.specs.Prelude.{◌≡◌, ◌+◌, ◌*◌, ◌^◌, ◌≤◌, ◌<◌, ℕ, length, min, sum, All};
 ghost use Rattle.hp_theory.specs.Problem.{S};
-ghost use Rattle.hp_dual.specs.SizeByTerms.{Adds, over_values, numbers_by, Fixed, link_weight, links_amount, stage_amount, certificate_amount};
+ghost use Rattle.hp_cut_making.specs.SizeByTerms.{AddsSize, over_values, numbers_by, Fixed, total_successor_weight, successors_amount, stage_amount, certificate_amount};
 
-use super::cuts::links_size;
+use super::cuts::successors_size;
 use super::fixed::{FixedAmounts, plus_capped};
 use super::rows::rows_size;
 use super::terms::{Values, plus_numbers, plus_scaled};
-use crate::node_at::NodeAt;
-use crate::scales::successor_weight;
+use hp_cut_making::node_at::NodeAt;
+use hp_cut_making::scales::successor_weight;
 use hp_num::Size;
-use hp_problem::Node;
+use hp_parts::Node;
 use hp_theory::{Certificate, SCALE};
 
 /// Sizes the stage costs: the random costs, and the part that is the same at all realizations.
 fn costs_size(random_costs: &[i64], fixed: u128, values: &Values) -> Option<Size>
-    ensures { (amount : ℕ) → fixed ≡ min amount (2 ^ 127) → Adds 0 result (amount + numbers_by (over_values values.now.values.now) random_costs.now) }
+    ensures { (amount : ℕ) → fixed ≡ min amount (2 ^ 127) → AddsSize 0 result (amount + numbers_by (over_values values.now.values.now) random_costs.now) }
 {
     plus_numbers(plus_capped(Size::zero(), fixed)?, random_costs, values)
 }
@@ -23,11 +23,11 @@ fn costs_size(random_costs: &[i64], fixed: u128, values: &Values) -> Option<Size
 /// S times the stop weight and the successor weights.
 #[tactic(auto, unfolding(hp_theory::specs::Problem::S))]
 fn unit(node: &Node) -> u128
-    requires links { length node.now.link_weights ≡ length node.now.links }
-    requires few { length node.now.links ≤ 2 ^ 16 }
-    requires stop { sum node.now.link_weights + node.now.stop ≤ 65535 }
-    requires scale { 0 < link_weight node.now }
-    ensures value { result ≡ S * link_weight node.now }
+    requires successors { length node.now.successor_weights ≡ length node.now.successors }
+    requires few { length node.now.successors ≤ 2 ^ 16 }
+    requires stop { sum node.now.successor_weights + node.now.stop ≤ 65535 }
+    requires scale { 0 < total_successor_weight node.now }
+    ensures value { result ≡ S * total_successor_weight node.now }
     ensures positive { 1 ≤ result }
 {
     u128::from(SCALE) * u128::from(successor_weight(node))
@@ -49,12 +49,12 @@ fn stage_size(
     values: &[i64],
     multipliers: &[i64],
 ) -> Option<Size>
-    requires links { length here.now.node.now.link_weights ≡ length here.now.node.now.links }
-    requires few { length here.now.node.now.links ≤ 2 ^ 16 }
-    requires stop { sum here.now.node.now.link_weights + here.now.node.now.stop ≤ 65535 }
-    requires scale { 0 < link_weight here.now.node.now }
+    requires successors { length here.now.node.now.successor_weights ≡ length here.now.node.now.successors }
+    requires few { length here.now.node.now.successors ≤ 2 ^ 16 }
+    requires stop { sum here.now.node.now.successor_weights + here.now.node.now.stop ≤ 65535 }
+    requires scale { 0 < total_successor_weight here.now.node.now }
     requires fixed { Fixed here.now.subproblem.now here.now.low.now here.now.high.now fixed.now.rows.now fixed.now.costs }
-    ensures { Adds 0 result (stage_amount here.now.node.now here.now.subproblem.now here.now.low.now here.now.high.now values.now multipliers.now) }
+    ensures { AddsSize 0 result (stage_amount here.now.node.now here.now.subproblem.now here.now.low.now here.now.high.now values.now multipliers.now) }
 {
     let values = Values { values };
     let sub = here.subproblem;
@@ -65,11 +65,11 @@ fn stage_size(
 
 /// The pairs of a certificate.
 pub(super) fn pairs_size(here: &NodeAt, certificate: &Certificate) -> Option<Size>
-    requires known { All (λ m. m < length here.now.pools.now.lists) here.now.node.now.links }
-    ensures { Adds 0 result (links_amount here.now.subproblem.now.decisions here.now.subproblem.now.outs here.now.pools.now.lists here.now.node.now.links certificate.now.cuts) }
+    requires known { All (λ m. m < length here.now.pools.now.lists) here.now.node.now.successors }
+    ensures { AddsSize 0 result (successors_amount here.now.subproblem.now.decisions here.now.subproblem.now.outs here.now.pools.now.lists here.now.node.now.successors certificate.now.cuts) }
 {
-    links_size(
-        here.node.links.as_slice(),
+    successors_size(
+        here.node.successors.as_slice(),
         certificate.cuts.as_slice(),
         here.pools,
         here.subproblem.outs.as_slice(),
@@ -85,13 +85,13 @@ pub(super) fn realization_over(
     values: &[i64],
     certificate: &Certificate,
 ) -> Option<Size>
-    requires links { length here.now.node.now.link_weights ≡ length here.now.node.now.links }
-    requires few { length here.now.node.now.links ≤ 2 ^ 16 }
-    requires stop { sum here.now.node.now.link_weights + here.now.node.now.stop ≤ 65535 }
-    requires scale { 0 < link_weight here.now.node.now }
+    requires successors { length here.now.node.now.successor_weights ≡ length here.now.node.now.successors }
+    requires few { length here.now.node.now.successors ≤ 2 ^ 16 }
+    requires stop { sum here.now.node.now.successor_weights + here.now.node.now.stop ≤ 65535 }
+    requires scale { 0 < total_successor_weight here.now.node.now }
     requires fixed { Fixed here.now.subproblem.now here.now.low.now here.now.high.now fixed.now.rows.now fixed.now.costs }
-    requires pairs { Adds 0 pairs (links_amount here.now.subproblem.now.decisions here.now.subproblem.now.outs here.now.pools.now.lists here.now.node.now.links certificate.now.cuts) }
-    ensures { Adds 0 result (certificate_amount here.now.node.now here.now.subproblem.now here.now.low.now here.now.high.now here.now.pools.now.lists (values.now, certificate.now)) }
+    requires pairs { AddsSize 0 pairs (successors_amount here.now.subproblem.now.decisions here.now.subproblem.now.outs here.now.pools.now.lists here.now.node.now.successors certificate.now.cuts) }
+    ensures { AddsSize 0 result (certificate_amount here.now.node.now here.now.subproblem.now here.now.low.now here.now.high.now here.now.pools.now.lists (values.now, certificate.now)) }
 {
     let pairs = pairs?;
     let stage = stage_size(here, fixed, values, certificate.rows.as_slice());
@@ -105,13 +105,13 @@ pub(crate) fn realization_size(
     values: &[i64],
     certificate: &Certificate,
 ) -> Option<Size>
-    requires links { length here.now.node.now.link_weights ≡ length here.now.node.now.links }
-    requires few { length here.now.node.now.links ≤ 2 ^ 16 }
-    requires stop { sum here.now.node.now.link_weights + here.now.node.now.stop ≤ 65535 }
-    requires scale { 0 < link_weight here.now.node.now }
+    requires successors { length here.now.node.now.successor_weights ≡ length here.now.node.now.successors }
+    requires few { length here.now.node.now.successors ≤ 2 ^ 16 }
+    requires stop { sum here.now.node.now.successor_weights + here.now.node.now.stop ≤ 65535 }
+    requires scale { 0 < total_successor_weight here.now.node.now }
     requires fixed { Fixed here.now.subproblem.now here.now.low.now here.now.high.now fixed.now.rows.now fixed.now.costs }
-    requires known { All (λ m. m < length here.now.pools.now.lists) here.now.node.now.links }
-    ensures { Adds 0 result (certificate_amount here.now.node.now here.now.subproblem.now here.now.low.now here.now.high.now here.now.pools.now.lists (values.now, certificate.now)) }
+    requires known { All (λ m. m < length here.now.pools.now.lists) here.now.node.now.successors }
+    ensures { AddsSize 0 result (certificate_amount here.now.node.now here.now.subproblem.now here.now.low.now here.now.high.now here.now.pools.now.lists (values.now, certificate.now)) }
 {
     realization_over(
         pairs_size(here, certificate),

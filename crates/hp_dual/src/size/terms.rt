@@ -1,11 +1,11 @@
 // Terms and numbers times the bounds of their variables, added to a size.
 ghost use Rattle.std.specs.Prelude.{◌≡◌, ◌*◌, ◌≤◌, ℕ, Option};
 ghost use Rattle.hp_num.specs.Sums.{entry};
-ghost use Rattle.hp_dual.specs.SizeByTerms.{Adds, over_decisions, over_box, over_values, term_by, terms_by, numbers_by};
+ghost use Rattle.hp_cut_making.specs.SizeByTerms.{AddsSize, over_decisions, over_box, over_values, term_by, terms_by, numbers_by};
 
 use crate::magnitudes::{absolute, reach};
 use hp_num::Size;
-use hp_problem::Decision;
+use hp_parts::Decision;
 
 /// The number at an index, 0 past the end.
 fn number_at(numbers: &[i64], index: usize) -> i64
@@ -76,7 +76,7 @@ impl Multiples for Values<'_> {
 
 /// A term's factor times its multiple.
 fn plus_term<M: Multiples>(size: Size, term: &(u32, i64), multiples: &M) -> Option<Size>
-    ensures { Adds size.total result (term_by (M.at multiples.now) term.now) }
+    ensures { AddsSize size.total result (term_by (M.at multiples.now) term.now) }
 {
     let (variable, factor) = *term;
     size.plus_product(absolute(factor), multiples.at(variable as usize))
@@ -88,7 +88,7 @@ pub(super) fn plus_terms<M: Multiples>(
     terms: &[(u32, i64)],
     multiples: &M,
 ) -> Option<Size>
-    ensures { Adds size.total result (terms_by (M.at multiples.now) terms.now) }
+    ensures { AddsSize size.total result (terms_by (M.at multiples.now) terms.now) }
 {
     let mut sum = size;
     for term in terms {
@@ -99,7 +99,7 @@ pub(super) fn plus_terms<M: Multiples>(
 
 /// Numbers times the multiples of their variables.
 pub(super) fn plus_numbers<M: Multiples>(size: Size, numbers: &[i64], multiples: &M) -> Option<Size>
-    ensures { Adds size.total result (numbers_by (M.at multiples.now) numbers.now) }
+    ensures { AddsSize size.total result (numbers_by (M.at multiples.now) numbers.now) }
 {
     let mut sum = size;
     for k in 0..numbers.len() {
@@ -111,7 +111,7 @@ pub(super) fn plus_numbers<M: Multiples>(size: Size, numbers: &[i64], multiples:
 /// An inner sum times a factor.
 pub(super) fn plus_scaled(size: Size, factor: u128, inner: Option<Size>) -> Option<Size>
     requires positive { 1 ≤ factor }
-    ensures { (amount : ℕ) → Adds 0 inner amount → Adds size.total result (factor * amount) }
+    ensures { (amount : ℕ) → AddsSize 0 inner amount → AddsSize size.total result (factor * amount) }
 {
     let inner = inner?;
     size.plus_product(factor, inner.total())

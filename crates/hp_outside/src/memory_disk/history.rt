@@ -8,7 +8,7 @@ use std::marker::Model;
 
 // A change; the bytes of a piece stand beside the entries.
 #[derive(Clone, Copy)]
-pub(crate) enum Entry {
+pub(crate) enum HistoryEntry {
     Wrote { at: usize, len: usize },
     CutTo { len: usize },
     Synced,
@@ -17,7 +17,7 @@ pub(crate) enum Entry {
 // All changes in order, in memory that is taken when the history is made.
 #[derive(Drop)]
 pub(crate) struct History {
-    entries: Vec<Entry>,
+    entries: Vec<HistoryEntry>,
     pieces: Vec<u8>,
     room: usize,
     changes: usize,
@@ -96,7 +96,7 @@ impl History {
     {
         let len = piece.len();
         let (Ok(()), Ok(())) = (
-            self.entries.push(Entry::Wrote { at, len }),
+            self.entries.push(HistoryEntry::Wrote { at, len }),
             self.pieces.extend_from_slice(piece),
         ) else {
             unreachable!();
@@ -108,7 +108,7 @@ impl History {
         requires change { length self.old.log < self.old.changes }
         ensures { self.new ≡ record self.old { log = self.old.log ++ cut_to len ∷ [] } }
     {
-        let Ok(()) = self.entries.push(Entry::CutTo { len }) else {
+        let Ok(()) = self.entries.push(HistoryEntry::CutTo { len }) else {
             unreachable!();
         };
     }
@@ -118,7 +118,7 @@ impl History {
         requires change { length self.old.log < self.old.changes }
         ensures { self.new ≡ record self.old { log = self.old.log ++ synced ∷ [] } }
     {
-        let Ok(()) = self.entries.push(Entry::Synced) else {
+        let Ok(()) = self.entries.push(HistoryEntry::Synced) else {
             unreachable!();
         };
     }

@@ -1,4 +1,3 @@
-use Rattle.std.proofs.Common.{length}
 use Rattle.hp_cut.specs.AtNodes.{PoolsFit}
 use Rattle.golden_library.proofs.stage_cuts.add_cuts.Given as goal
 

@@ -1,4 +1,4 @@
-use Rattle.hp_accepts.proofs.Raws.{few_stores}
+use Rattle.hp_accepts.proofs.AllParts.{few_stores}
 use Rattle.hp_accepts.proofs.Used.{few_variables, chances_count}
 use Rattle.hp_accepts.proofs.Subproblems.{rows_few}
 use Rattle.hp_accepts.proofs.laws.within_limits.Goals as goal

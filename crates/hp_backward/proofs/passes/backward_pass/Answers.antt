@@ -1,41 +1,41 @@
 use Rattle.std.proofs.Common.{◌≡◌, ◌∙◌, true, Result, refl, sym, subst}
-use Rattle.hp_problem.specs.Sealed.{Sealed, is_sealed}
+use Rattle.hp_problem.specs.Validated.{Validated, is_validated}
 use Rattle.hp_settle.specs.declared.plan_fault.PlanFault.{PlanFault}
 use Rattle.hp_settle.specs.Faults.{Stops}
 use Rattle.hp_backward.specs.Sweeping.{Swept, seen}
 use Rattle.hp_backward.proofs.Grown.{grown-swept, others-swept}
 use Rattle.hp_backward.proofs.PathNodes.{distinct-path, short-path}
-use Rattle.hp_backward.proofs.StepsBack.{dead_swept, swept-by}
+use Rattle.hp_backward.proofs.StepsBack.{infeasible_swept, swept-by}
 use Rattle.hp_backward.proofs.passes.backward_pass.Goals as goal
 
 pub go_back-requires-clause-distinct : goal.go_back-requires-clause-distinct
-go_back-requires-clause-distinct g c κs within = distinct-path c.args.planner.now.problem.now (subst (λ (p : Sealed). is_sealed p ≡ true) c.problem.ensures c.raw.ensures.sealed) c.args.pass.now.path.now c.requires.path.follows
+go_back-requires-clause-distinct g c κs within = distinct-path c.args.planner.now.problem.now (subst (λ (p : Validated). is_validated p ≡ true) c.problem.ensures c.parts.ensures.validated) c.args.pass.now.path.now c.requires.path.follows
 
 pub go_back-requires-clause-short : goal.go_back-requires-clause-short
-go_back-requires-clause-short g c κs within = short-path c.args.planner.now.problem.now (subst (λ (p : Sealed). is_sealed p ≡ true) c.problem.ensures c.raw.ensures.sealed) c.args.pass.now.path.now c.requires.path.follows c.requires.path.in_range
+go_back-requires-clause-short g c κs within = short-path c.args.planner.now.problem.now (subst (λ (p : Validated). is_validated p ≡ true) c.problem.ensures c.parts.ensures.validated) c.args.pass.now.path.now c.requires.path.follows c.requires.path.in_range
 
 pub returns-in-Ok-clause-value : goal.returns-in-Ok-clause-value
 returns-in-Ok-clause-value g c =
-    swept-by (g.V.Solver.does c.args.planner.now.solver.now) c.args.planner.now.problem.now c.args.pass.now.iteration c.args.pools.now.lists c.args.pass.now.path.now c.args.pass.now.trajectory.now.states c.args.pass.now.trajectory.now.states c.new.result c.args.pass.now.trajectory.now.unsettled refl c.new.ensures
+    swept-by (g.V.Solver.does c.args.planner.now.solver.now) c.args.planner.now.problem.now c.args.pass.now.iteration c.args.pools.now.lists c.args.pass.now.path.now c.args.pass.now.trajectory.now.states c.args.pass.now.trajectory.now.states c.new.result c.args.pass.now.trajectory.now.unanswered refl c.new.ensures
     ∙ c.in-Ok.ensures.value
 
 pub returns-in-Err-clause-value : goal.returns-in-Err-clause-value
 returns-in-Err-clause-value g c =
     subst (λ (r : Result Swept PlanFault). Stops c.in-Err.fault r)
-    (sym (swept-by (g.V.Solver.does c.args.planner.now.solver.now) c.args.planner.now.problem.now c.args.pass.now.iteration c.args.pools.now.lists c.args.pass.now.path.now c.args.pass.now.trajectory.now.states c.args.pass.now.trajectory.now.states c.new.result c.args.pass.now.trajectory.now.unsettled refl c.new.ensures))
+    (sym (swept-by (g.V.Solver.does c.args.planner.now.solver.now) c.args.planner.now.problem.now c.args.pass.now.iteration c.args.pools.now.lists c.args.pass.now.path.now c.args.pass.now.trajectory.now.states c.args.pass.now.trajectory.now.states c.new.result c.args.pass.now.trajectory.now.unanswered refl c.new.ensures))
     c.in-Err.ensures.value
 
-pub returns-in-Err-clause-dead : goal.returns-in-Err-clause-dead
-returns-in-Err-clause-dead g c =
-    dead_swept (g.V.Solver.does c.args.planner.now.solver.now) c.args.planner.now.problem.now c.args.pass.now.iteration c.args.pools.now.lists c.args.pass.now.path.now c.args.pass.now.trajectory.now.states c.args.pass.now.trajectory.now.unsettled c.in-Err.fault
+pub returns-in-Err-clause-infeasible : goal.returns-in-Err-clause-infeasible
+returns-in-Err-clause-infeasible g c =
+    infeasible_swept (g.V.Solver.does c.args.planner.now.solver.now) c.args.planner.now.problem.now c.args.pass.now.iteration c.args.pools.now.lists c.args.pass.now.path.now c.args.pass.now.trajectory.now.states c.args.pass.now.trajectory.now.unanswered c.in-Err.fault
     (returns-in-Err-clause-value g c)
 
 pub returns-in-Ok-clause-grown : goal.returns-in-Ok-clause-grown
 returns-in-Ok-clause-grown g c = λ m.
-    grown-swept (g.V.Solver.does c.args.planner.now.solver.now) c.args.planner.now.problem.now c.args.pass.now.iteration c.args.pools.now.lists c.args.pass.now.path.now c.args.pass.now.trajectory.now.states c.args.pass.now.trajectory.now.unsettled (seen c.go_back.new.pools.lists c.go_back.new.entry) m
-    (distinct-path c.args.planner.now.problem.now (subst (λ (p : Sealed). is_sealed p ≡ true) c.problem.ensures c.raw.ensures.sealed) c.args.pass.now.path.now c.requires.path.follows) (returns-in-Ok-clause-value g c)
+    grown-swept (g.V.Solver.does c.args.planner.now.solver.now) c.args.planner.now.problem.now c.args.pass.now.iteration c.args.pools.now.lists c.args.pass.now.path.now c.args.pass.now.trajectory.now.states c.args.pass.now.trajectory.now.unanswered (seen c.go_back.new.pools.lists c.go_back.new.entry) m
+    (distinct-path c.args.planner.now.problem.now (subst (λ (p : Validated). is_validated p ≡ true) c.problem.ensures c.parts.ensures.validated) c.args.pass.now.path.now c.requires.path.follows) (returns-in-Ok-clause-value g c)
 
 pub returns-in-Ok-clause-others : goal.returns-in-Ok-clause-others
 returns-in-Ok-clause-others g c = λ m none.
-    others-swept (g.V.Solver.does c.args.planner.now.solver.now) c.args.planner.now.problem.now c.args.pass.now.iteration c.args.pools.now.lists c.args.pass.now.path.now c.args.pass.now.trajectory.now.states c.args.pass.now.trajectory.now.unsettled (seen c.go_back.new.pools.lists c.go_back.new.entry) m
+    others-swept (g.V.Solver.does c.args.planner.now.solver.now) c.args.planner.now.problem.now c.args.pass.now.iteration c.args.pools.now.lists c.args.pass.now.path.now c.args.pass.now.trajectory.now.states c.args.pass.now.trajectory.now.unanswered (seen c.go_back.new.pools.lists c.go_back.new.entry) m
     (returns-in-Ok-clause-value g c) none

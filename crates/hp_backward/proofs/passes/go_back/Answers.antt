@@ -6,8 +6,8 @@ use Rattle.std.proofs.lemmas.Result.{err_from_is_err_and}
 use Rattle.std.proofs.lemmas.Slice.Zip.{length-zip}
 use Rattle.hp_theory.specs.Pools.{pool}
 use Rattle.hp_cut.specs.declared.entry.EntryStep.{EntryStep}
-use Rattle.hp_sampler.specs.declared.steps.Step.{Step}
-use Rattle.hp_backward.specs.Given.{IsInside}
+use Rattle.hp_sampler.specs.declared.steps.PathStep.{PathStep}
+use Rattle.hp_backward.specs.Given.{IsVisitInside}
 use Rattle.hp_backward.specs.Sweeping.{backwards, seen, step_back, taken_back}
 use Rattle.hp_backward.proofs.PathNodes.{few_before}
 use Rattle.hp_backward.proofs.StepsBack.{get_or-zip, visit_at, step_more, step_stops, stops_through}
@@ -19,13 +19,13 @@ loop-left-init g c =
     let step = step_back (g.V.Solver.does c.args.planner.now.solver.now) p c.args.entry.now.iteration in
     let none_left : drop (length c.args.pass.now.path.now) (zip c.args.pass.now.path.now c.args.pass.now.trajectory.now.states) ≡ [] = drop_of_length-le (zip c.args.pass.now.path.now c.args.pass.now.trajectory.now.states) (omega (arith, length-zip c.args.pass.now.path.now c.args.pass.now.trajectory.now.states)) in
     record {
-      value = ap (λ (visits : List (Step × List ℤ)). backwards step visits (seen c.args.pools.now.lists c.args.entry.now)) none_left;
+      value = ap (λ (visits : List (PathStep × List ℤ)). backwards step visits (seen c.args.pools.now.lists c.args.entry.now)) none_left;
       before = ap (taken_back c.args.pools.now.lists) c.requires.steps;
-      known = subst (λ (ss : List EntryStep). All (λ (s : EntryStep). s.node < length p.raw.nodes) ss) (sym c.requires.steps) (All-nil (λ (s : EntryStep). s.node < length p.raw.nodes));
+      known = subst (λ (ss : List EntryStep). All (λ (s : EntryStep). s.node < length p.parts.nodes) ss) (sym c.requires.steps) (All-nil (λ (s : EntryStep). s.node < length p.parts.nodes));
       fit = c.requires.fit;
       sound = λ s. s;
-      few = subst (λ (ss : List Step). All (λ (s : Step). length (pool c.args.pools.now.lists s.node) < 2 ^ 24) ss) (sym (take-length c.args.pass.now.path.now)) c.requires.few;
-      room = omega (arith, c.requires.unsettled);
+      few = subst (λ (ss : List PathStep). All (λ (s : PathStep). length (pool c.args.pools.now.lists s.node) < 2 ^ 24) ss) (sym (take-length c.args.pass.now.path.now)) c.requires.few;
+      room = omega (arith, c.requires.unanswered);
       within = omega arith;
       iteration = refl;
     }
@@ -35,25 +35,25 @@ step_back-requires-clause-visit g c κs within =
     let l = c.loop-left in
     let i = l.left - 1 in
     let p = c.args.planner.now.problem.now in
-    let none : Step = record { node = 0; realization = 0 } in
+    let none : PathStep = record { node = 0; realization = 0 } in
     let state : List ℤ = c.index-states-left.result in
     let read = ap (λ (states : List (List ℤ)). get_or states i state) c.as_slice-states.ensures in
     let in_path : i < length c.args.pass.now.path.now = omega (arith, l.invariant.within) in
     let in_states : i < length c.args.pass.now.trajectory.now.states = omega (arith, l.invariant.within, c.requires.states) in
     let zipped = get_or-zip c.args.pass.now.path.now c.args.pass.now.trajectory.now.states i none state in_path in_states in
-    let inside = subst (IsInside p) (sym zipped) (c.requires.inside i (get_or c.args.pass.now.path.now i none, get_or c.args.pass.now.trajectory.now.states i state) (omega (arith, length-zip c.args.pass.now.path.now c.args.pass.now.trajectory.now.states, in_path, in_states))) in
+    let inside = subst (IsVisitInside p) (sym zipped) (c.requires.inside i (get_or c.args.pass.now.path.now i none, get_or c.args.pass.now.trajectory.now.states i state) (omega (arith, length-zip c.args.pass.now.path.now c.args.pass.now.trajectory.now.states, in_path, in_states))) in
     record {
       known = (c.requires.known i none in_path).0;
       fit = l.invariant.fit;
-      inside = subst (λ (x : List ℤ). IsInside p (get_or c.args.pass.now.path.now i none, x)) (sym (c.as_slice.ensures ∙ c.index-states-left.is ∙ read)) inside;
+      inside = subst (λ (x : List ℤ). IsVisitInside p (get_or c.args.pass.now.path.now i none, x)) (sym (c.as_slice.ensures ∙ c.index-states-left.is ∙ read)) inside;
     }
 
 pub step_back-requires-clause-few : goal.step_back-requires-clause-few
 step_back-requires-clause-few g c κs within =
     let l = c.loop-left in
     let i = l.left - 1 in
-    let none : Step = record { node = 0; realization = 0 } in
-    subst (λ (s : Step). length (pool l.pools.lists s.node) < 2 ^ 24) (get_or-take l.left c.args.pass.now.path.now i none (omega arith)) (l.invariant.few i none (omega (arith, l.invariant.within, length-take-le l.left c.args.pass.now.path.now l.invariant.within)))
+    let none : PathStep = record { node = 0; realization = 0 } in
+    subst (λ (s : PathStep). length (pool l.pools.lists s.node) < 2 ^ 24) (get_or-take l.left c.args.pass.now.path.now i none (omega arith)) (l.invariant.few i none (omega (arith, l.invariant.within, length-take-le l.left c.args.pass.now.path.now l.invariant.within)))
 
 pub loop-left-preserved : goal.loop-left-preserved
 loop-left-preserved g c =
@@ -61,8 +61,8 @@ loop-left-preserved g c =
     let i = l.left - 1 in
     let p = c.args.planner.now.problem.now in
     let v = g.V.Solver.does c.args.planner.now.solver.now in
-    let none : Step = record { node = 0; realization = 0 } in
-    let s : Step = get_or c.args.pass.now.path.now i none in
+    let none : PathStep = record { node = 0; realization = 0 } in
+    let s : PathStep = get_or c.args.pass.now.path.now i none in
     let in_path : i < length c.args.pass.now.path.now = omega (arith, l.invariant.within) in
     let done = c.in_ok-step_back.ensures in
     let x : List ℤ = c.as_slice.result.now in
@@ -91,8 +91,8 @@ returns-in_err-step_back-clause-value g c =
     let i = l.left - 1 in
     let p = c.args.planner.now.problem.now in
     let v = g.V.Solver.does c.args.planner.now.solver.now in
-    let none : Step = record { node = 0; realization = 0 } in
-    let s : Step = get_or c.args.pass.now.path.now i none in
+    let none : PathStep = record { node = 0; realization = 0 } in
+    let s : PathStep = get_or c.args.pass.now.path.now i none in
     let in_path : i < length c.args.pass.now.path.now = omega (arith, l.invariant.within) in
     let x : List ℤ = c.as_slice.result.now in
     let read = ap (λ (states : List (List ℤ)). get_or states i c.index-states-left.result) c.as_slice-states.ensures in

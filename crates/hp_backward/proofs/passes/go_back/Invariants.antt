@@ -3,7 +3,7 @@ use Rattle.hp_theory.specs.Pools.{pool, Sound}
 use Rattle.hp_theory.specs.View.{problem_of}
 use Rattle.hp_cut.specs.AtNodes.{PoolsFit}
 use Rattle.hp_cut.specs.declared.entry.EntryStep.{EntryStep}
-use Rattle.hp_sampler.specs.declared.steps.Step.{Step}
+use Rattle.hp_sampler.specs.declared.steps.PathStep.{PathStep}
 use Rattle.hp_backward.specs.Sweeping.{backwards, seen, step_back, taken_back}
 use Rattle.hp_backward.proofs.passes.go_back.Given as goal
 
@@ -14,11 +14,11 @@ abbrev pub invariant-loop-left : goal.invariant-loop-left
 invariant-loop-left g l = record {
   value : backwards (step_back (g.V.Solver.does l.planner.solver.now) l.planner.problem.now l.initial.entry.iteration) (drop l.left (zip l.pass.path.now l.pass.trajectory.now.states)) (seen l.initial.pools.lists l.initial.entry) ≡ Ok (seen l.pools.lists l.entry);
   before : taken_back l.pools.lists l.entry.steps ≡ l.initial.pools.lists;
-  known : All (λ (s : EntryStep). s.node < length l.planner.problem.now.raw.nodes) l.entry.steps;
+  known : All (λ (s : EntryStep). s.node < length l.planner.problem.now.parts.nodes) l.entry.steps;
   fit : PoolsFit l.planner.problem.now l.pools.lists;
   sound : Sound (problem_of l.planner.problem.now) l.initial.pools.lists → Sound (problem_of l.planner.problem.now) l.pools.lists;
-  few : All (λ (s : Step). length (pool l.pools.lists s.node) < 2 ^ 24) (take l.left l.pass.path.now);
-  room : l.entry.unsettled + 100 * l.left ≤ 1000 + 100 * length l.pass.path.now;
+  few : All (λ (s : PathStep). length (pool l.pools.lists s.node) < 2 ^ 24) (take l.left l.pass.path.now);
+  room : l.entry.unanswered + 100 * l.left ≤ 1000 + 100 * length l.pass.path.now;
   within : l.left ≤ length l.pass.path.now;
   iteration : l.entry.iteration ≡ l.initial.entry.iteration;
 }

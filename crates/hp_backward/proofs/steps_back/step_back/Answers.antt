@@ -15,7 +15,7 @@ pub returns-clause-fit : goal.returns-clause-fit
 returns-clause-fit g c =
     let p = c.args.planner.now.problem.now in
     let pushed = c.in_ok-push-2.ensures.cuts ∙ ap (λ (lists : List (List Cut)). push lists c.args.reached.now.step.node c.in_ok-found.cut) c.in_ok-reserve.ensures.cuts in
-    subst (λ (lists : List (List Cut)). PoolsFit p lists) (sym pushed) (fit_push (problem_of p) (length p.raw.nodes) c.args.pools.now.lists c.args.reached.now.step.node c.in_ok-found.cut c.requires.visit.fit c.in_ok-found.ensures.fits)
+    subst (λ (lists : List (List Cut)). PoolsFit p lists) (sym pushed) (fit_push (problem_of p) (length p.parts.nodes) c.args.pools.now.lists c.args.reached.now.step.node c.in_ok-found.cut c.requires.visit.fit c.in_ok-found.ensures.fits)
 
 pub returns-clause-sound : goal.returns-clause-sound
 returns-clause-sound g c = λ sound.
@@ -36,4 +36,4 @@ returns-clause-others g c = λ k other.
 pub returns-clause-known : goal.returns-clause-known
 returns-clause-known g c = λ known.
     let p = c.args.planner.now.problem.now in
-    subst (λ (steps : List EntryStep). All (λ (s : EntryStep). s.node < length p.raw.nodes) steps) (sym c.in_ok-push.ensures) (All-push (λ (s : EntryStep). s.node < length p.raw.nodes) c.args.entry.now.steps (record { node = c.args.reached.now.step.node; list = c.in_ok-found.found.list }) known c.requires.visit.known)
+    subst (λ (steps : List EntryStep). All (λ (s : EntryStep). s.node < length p.parts.nodes) steps) (sym c.in_ok-push.ensures) (All-push (λ (s : EntryStep). s.node < length p.parts.nodes) c.args.entry.now.steps (record { node = c.args.reached.now.step.node; list = c.in_ok-found.found.list }) known c.requires.visit.known)

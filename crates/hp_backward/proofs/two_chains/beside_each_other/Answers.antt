@@ -3,7 +3,7 @@ use Rattle.hp_backward.specs.declared.certified.Certified.{Certified}
 use Rattle.hp_settle.specs.declared.plan_fault.PlanFault.{PlanFault}
 use Rattle.hp_backward.proofs.two_chains.beside_each_other.Goals as goal
 
-few : (f g : Result Certified PlanFault) (m n : ℕ) → IfOk f (λ a. a.unsettled ≤ m) → IfOk g (λ b. b.unsettled ≤ n) → m + n ≤ 100 → IfOk f (λ a. IfOk g (λ b. a.unsettled + b.unsettled ≤ 100))
+few : (f g : Result Certified PlanFault) (m n : ℕ) → IfOk f (λ a. a.unanswered ≤ m) → IfOk g (λ b. b.unanswered ≤ n) → m + n ≤ 100 → IfOk f (λ a. IfOk g (λ b. a.unanswered + b.unanswered ≤ 100))
 few (Ok a) (Ok b) m n h i s = omega (arith, h, i, s)
 few (Ok a) (Err e) m n h i s = tt
 few (Err d) g m n h i s = tt

@@ -2,7 +2,7 @@ use Rattle.std.proofs.Common.{◌∙◌, ◌+ℤ◌, ℤ, pos, get_or, SFits, to
 use mir.Syntax.{w128}
 use Rattle.std.proofs.lemmas.Int.{to_z-of_z}
 use Rattle.hp_cut.specs.Active.{lesser_over}
-use Rattle.hp_cut.proofs.RaisedPeaks.{summand}
+use Rattle.hp_cut.proofs.RaisedBoxMaxima.{summand}
 use Rattle.hp_cut.proofs.Leads.{lesser_is}
 use Rattle.hp_cut.proofs.active_cuts.sum_over.Goals as goal
 

@@ -1,12 +1,12 @@
 use Rattle.std.proofs.Common.{◌≡◌, ◌^◌, ◌<◌, pos, ◌≤ℤ◌, drop, length}
 use Rattle.hp_theory.specs.Size.{magnitude}
-use Rattle.hp_theory.specs.Bound.{greatest}
+use Rattle.hp_theory.specs.Bound.{greatest_cut_value}
 use Rattle.hp_cut.proofs.cut_value.greatest.Given as goal
 
 abbrev pub invariant-loop-i : goal.invariant-loop-i
 invariant-loop-i l = record {
   inside : l.i < length l.cuts;
-  value : l.best ≡ greatest (drop l.i l.cuts) l.state;
+  value : l.best ≡ greatest_cut_value (drop l.i l.cuts) l.state;
   small : magnitude l.best ≤ℤ pos (2 ^ 104);
 }
 

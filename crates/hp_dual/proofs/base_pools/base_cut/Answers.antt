@@ -3,7 +3,7 @@ use Rattle.std.proofs.lemmas.List.{length-map}
 use Rattle.hp_cut.specs.Pooled.{Pooled}
 use Rattle.hp_theory.specs.Problem.{with_weights}
 use Rattle.hp_theory.specs.View.{node_of}
-use Rattle.hp_dual.specs.Parts.{repeated}
+use Rattle.hp_cut_making.specs.Parts.{repeated}
 use Rattle.hp_dual.proofs.Basing.{range_same, cut_same, cuttable_same}
 use Rattle.hp_dual.proofs.Passing.{few-range_of}
 use Rattle.hp_dual.proofs.base_pools.base_cut.Goals as goal

@@ -1,5 +1,5 @@
 use Rattle.std.proofs.Common.{◌≡◌, pos, map, take}
-use Rattle.hp_problem.specs.declared.raw.Row.{Row}
+use Rattle.hp_parts.specs.declared.parts.Row.{Row}
 use Rattle.hp_dual.proofs.base_pools.no_multipliers.Given as goal
 
 abbrev pub invariant-loop : goal.invariant-loop

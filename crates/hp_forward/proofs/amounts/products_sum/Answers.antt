@@ -9,7 +9,7 @@ use Rattle.hp_forward.proofs.amounts.products_sum.Goals as goal
 pub loop-i-preserved : goal.loop-i-preserved
 loop-i-preserved g c =
     let factors : List ℤ = g.F.Factors.factors c.args.factors.now in
-    let numbers : List ℤ = g.N.Numbers.numbers c.args.numbers.now in
+    let numbers : List ℤ = g.N.Amounts.numbers c.args.numbers.now in
     let product = to_z-of_z w128 c.product.result (record { sfits = c.product.type_inv }) in
     let sum = to_z-of_z w128 c.more-total.result (record { sfits = c.more-total.type_inv }) ∙ c.more-total.ensures in
     let more = one_product (λ j. entry factors j *ℤ entry numbers j) c.loop-i.i (2 ^ 104) _ _ _ c.loop-i.invariant.value c.loop-i.invariant.small
@@ -19,6 +19,6 @@ loop-i-preserved g c =
 pub returns-clause-value : goal.returns-clause-value
 returns-clause-value g c =
     let factors : List ℤ = g.F.Factors.factors c.args.factors.now in
-    let numbers : List ℤ = g.N.Numbers.numbers c.args.numbers.now in
+    let numbers : List ℤ = g.N.Amounts.numbers c.args.numbers.now in
     let end : c.loop-i.i ≡ length factors = omega (arith, c.loop-i-test.false, c.requires.count, c.loop-i.auto.i-end) in
     c.loop-i.invariant.value ∙ ap (λ (n : ℕ). sum_to n (λ j. entry factors j *ℤ entry numbers j)) end ∙ sym (dot_sum factors numbers)

@@ -4,6 +4,6 @@ use Rattle.hp_forward.proofs.amounts.terms_sum.Given as goal
 
 abbrev pub invariant-loop-variable : goal.invariant-loop-variable
 invariant-loop-variable g l = record {
-  value : l.total ≡ at_terms (take l.variable-index l.terms) (entry (g.N.Numbers.numbers l.numbers));
+  value : l.total ≡ at_terms (take l.variable-index l.terms) (entry (g.N.Amounts.numbers l.numbers));
   small : nat_abs l.total ≤ l.variable-index * 2 ^ 104;
 }

@@ -2,7 +2,7 @@ use Rattle.std.proofs.Common.{◌∙◌, ℤ, List, ◌+ℤ◌, ◌*ℤ◌, pos,
 use mir.Syntax.{w128}
 use Rattle.std.proofs.lemmas.Int.{to_z-of_z}
 use Rattle.hp_num.specs.Sums.{dot}
-use Rattle.hp_problem.specs.declared.raw.Decision.{Decision}
+use Rattle.hp_parts.specs.declared.parts.Decision.{Decision}
 use Rattle.hp_theory.specs.Problem.{S}
 use Rattle.hp_theory.specs.Tree.{times_all}
 use Rattle.hp_theory.specs.View.{node_of}

@@ -8,10 +8,10 @@ use Rattle.hp_forward.proofs.GivenNumbers.{costs_over, numbers_given}
 use Rattle.hp_forward.proofs.costing.stage_cost.Goals as goal
 
 pub cost_of-requires-clause-given : goal.cost_of-requires-clause-given
-cost_of-requires-clause-given c = numbers_given c.args.problem.now c.raw.ensures.sealed c.args.node c.requires.known c.sub.result.now c.sub.ensures c.args.decisions.now c.args.state.now c.args.values.now c.requires.decisions c.requires.state c.requires.values
+cost_of-requires-clause-given c = numbers_given c.args.problem.now c.parts.ensures.validated c.args.node c.requires.known c.sub.result.now c.sub.ensures c.args.decisions.now c.args.state.now c.args.values.now c.requires.decisions c.requires.state c.requires.values
 
 pub cost_of-requires-clause-costs : goal.cost_of-requires-clause-costs
-cost_of-requires-clause-costs c = costs_over c.args.problem.now c.raw.ensures.sealed c.args.node c.requires.known c.sub.result.now c.sub.ensures c.args.decisions.now c.args.state.now c.args.values.now c.requires.decisions c.requires.state c.requires.values
+cost_of-requires-clause-costs c = costs_over c.args.problem.now c.parts.ensures.validated c.args.node c.requires.known c.sub.result.now c.sub.ensures c.args.decisions.now c.args.state.now c.args.values.now c.requires.decisions c.requires.state c.requires.values
 
 pub returns : goal.returns
 returns c =

@@ -1,8 +1,8 @@
 use Rattle.std.proofs.Common.{List, ℕ, ◌∙◌, ◌++◌, ◌∷◌, [], is_ok, IfOk, IsOk, Result, ap, sym, subst}
 use Rattle.serde_json.specs.View.{view}
 use Rattle.serde_json.specs.Written.{has_float, compact_text}
-use Rattle.hp_problem.specs.Sealed.{Sealed}
-use Rattle.hp_problem.specs.declared.refusal.Refusal.{Refusal}
+use Rattle.hp_problem.specs.Validated.{Validated}
+use Rattle.hp_parts.specs.declared.refusal.Refusal.{Refusal}
 use Rattle.hp_theory.specs.Range.{based}
 use Rattle.hp_gen.specs.Generated.{words, generated}
 use Rattle.hp_gen.proofs.Accepting.{printed_read}
@@ -19,5 +19,5 @@ returns c =
     record {
       text = c.in_ok-push.ensures.items ∙ ap (λ (t : List ℕ). t ++ 10 ∷ []) (c.in_ok-text.ensures.text no_float ∙ ap compact_text c.in_ok-value.ensures);
       accepted = ap is_ok accepted.1;
-      base_fits = subst (λ (r : Result Sealed Refusal). IfOk r (λ p. IsOk (based p))) (sym accepted.1) (ap is_ok accepted.3);
+      base_fits = subst (λ (r : Result Validated Refusal). IfOk r (λ p. IsOk (based p))) (sym accepted.1) (ap is_ok accepted.3);
     }

@@ -1,6 +1,6 @@
 use Rattle.std.proofs.Common.{ℕ, ◌+◌, ◌*◌, ◌∙◌, ap, arith}
 use Rattle.hp_sampler.specs.Drawn.{word_in}
-use Rattle.hp_gen.specs.Nodes.{realization}
+use Rattle.hp_gen.specs.Nodes.{generated_realization}
 use Rattle.hp_forms.proofs.Counted.{list_grown}
 use Rattle.hp_gen.proofs.Streams.{later, same_words, place_of}
 use Rattle.hp_gen.proofs.nodes.realizations.Goals as goal
@@ -11,10 +11,10 @@ loop-k-preserved c =
     let k = c.loop-k._k in
     let count = c.args.reservoirs in
     let been = c.loop-k.invariant.words in
-    let one = λ (j : ℕ). realization (word_in first) (first.word_pos + j * count) c.args.kind count in
+    let one = λ (j : ℕ). generated_realization (word_in first) (first.word_pos + j * count) c.args.kind count in
     record {
       words = later first c.loop-k.words c.realization.new.words (first.word_pos + k * count) count (first.word_pos + (k + 1) * count) been c.in_ok-realization.ensures.later (omega arith);
       list = list_grown one k c.loop-k.list.items c.push.new.self.items c.in_ok-realization.field-0 c.in_ok-push.ensures.items c.loop-k.invariant.list
-          (c.in_ok-realization.ensures.value ∙ ap (λ (w : ℕ → ℕ). realization w c.loop-k.words.word_pos c.args.kind count) (same_words first c.loop-k.words (first.word_pos + k * count) been)
-          ∙ ap (λ (n : ℕ). realization (word_in first) n c.args.kind count) (place_of first c.loop-k.words (first.word_pos + k * count) been));
+          (c.in_ok-realization.ensures.value ∙ ap (λ (w : ℕ → ℕ). generated_realization w c.loop-k.words.word_pos c.args.kind count) (same_words first c.loop-k.words (first.word_pos + k * count) been)
+          ∙ ap (λ (n : ℕ). generated_realization (word_in first) n c.args.kind count) (place_of first c.loop-k.words (first.word_pos + k * count) been));
     }

@@ -1,7 +1,7 @@
 use Rattle.std.proofs.Common.{ℕ, ◌≡◌, ◌+◌, ◌∙◌, ap, arith}
 use Rattle.serde_json.specs.View.{view, members_view}
 use Rattle.hp_sampler.specs.Drawn.{word_in}
-use Rattle.hp_forms.specs.Listed.{whole}
+use Rattle.hp_forms.specs.Listed.{whole_data}
 use Rattle.hp_gen.specs.Nodes.{inflow}
 use Rattle.hp_gen.proofs.Orders.{reservoir_grown}
 use Rattle.hp_gen.proofs.Streams.{later, same_words, place_of}
@@ -11,7 +11,7 @@ pub loop-reservoir-preserved : goal.loop-reservoir-preserved
 loop-reservoir-preserved c =
     let first = c.args.words.now in
     let j = c.loop-reservoir.reservoir in
-    let value = λ (k : ℕ). whole (inflow c.args.kind (word_in first (first.word_pos + k))) in
+    let value = λ (k : ℕ). whole_data (inflow c.args.kind (word_in first (first.word_pos + k))) in
     let been = c.loop-reservoir.invariant.words in
     let drawn : c.inflow.result ≡ inflow c.args.kind (word_in first (first.word_pos + j)) =
     c.inflow.ensures.value ∙ ap (λ (w : ℕ → ℕ). inflow c.args.kind (w c.loop-reservoir.words.word_pos)) (same_words first c.loop-reservoir.words (first.word_pos + j) been)
@@ -19,5 +19,5 @@ loop-reservoir-preserved c =
     record {
       words = later first c.loop-reservoir.words c.inflow.new.words (first.word_pos + j) 1 (first.word_pos + (j + 1)) been c.inflow.ensures.later (omega arith);
       members = reservoir_grown 119 value j (members_view c.loop-reservoir.map.entries) (members_view c.put.new.map.entries) c.text_of.result.now (view c.from-value.result)
-          (omega arith) c.in_ok-put.ensures.ok (c.text_of.ensures ∙ c.reservoir_name-name.ensures.value) (c.from-value.ensures ∙ ap whole drawn) c.loop-reservoir.invariant.members;
+          (omega arith) c.in_ok-put.ensures.ok (c.text_of.ensures ∙ c.reservoir_name-name.ensures.value) (c.from-value.ensures ∙ ap whole_data drawn) c.loop-reservoir.invariant.members;
     }

@@ -3,7 +3,7 @@ use Rattle.std.specs.List.{flat_map}
 use Rattle.serde_json.specs.Data.{Data}
 use Rattle.serde_json.specs.View.{view}
 use Rattle.hp_paths.specs.Paths.{numbers}
-use Rattle.hp_gen.specs.Stage.{bounds_of}
+use Rattle.hp_gen.specs.Stage.{reservoir_bounds}
 use Rattle.hp_forms.proofs.Counted.{flat_more}
 use Rattle.hp_gen.proofs.stage.push_bounds.Goals as goal
 
@@ -11,5 +11,5 @@ pub loop-reservoir-preserved : goal.loop-reservoir-preserved
 loop-reservoir-preserved c =
     let r = c.loop-reservoir.reservoir in
     let before = map view c.args.list.now.items in
-    c.in_ok-push_bounds_of.ensures ∙ ap (λ (l : List Data). l ++ bounds_of r) c.loop-reservoir.invariant ∙ append_assoc before (flat_map bounds_of (numbers r)) (bounds_of r)
-    ∙ ap (λ (l : List Data). before ++ l) (sym (flat_more bounds_of r))
+    c.in_ok-push_bounds_of.ensures ∙ ap (λ (l : List Data). l ++ reservoir_bounds r) c.loop-reservoir.invariant ∙ append_assoc before (flat_map reservoir_bounds (numbers r)) (reservoir_bounds r)
+    ∙ ap (λ (l : List Data). before ++ l) (sym (flat_more reservoir_bounds r))

@@ -5,4 +5,4 @@ use Rattle.hp_graph.specs.Hull.{given, hull}
 use Rattle.hp_graph.proofs.boxes.side_of.Given as goal
 
 abbrev pub invariant-loop-state : goal.invariant-loop-state
-invariant-loop-state l = l.found ≡ map (λ s. unwrap_or (given l.side l.raw l.node s) (entry (hull l.side l.raw l.node) s)) (numbers l.state)
+invariant-loop-state l = l.found ≡ map (λ s. unwrap_or (given l.side l.parts l.node s) (entry (hull l.side l.parts l.node) s)) (numbers l.state)

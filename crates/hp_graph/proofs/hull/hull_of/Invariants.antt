@@ -4,4 +4,4 @@ use Rattle.hp_graph.specs.Hull.{outermost, incoming}
 use Rattle.hp_graph.proofs.hull.hull_of.Given as goal
 
 abbrev pub invariant-loop-state : goal.invariant-loop-state
-invariant-loop-state l = l.found ≡ map (λ s. outermost l.side (incoming l.side l.raw l.node s)) (numbers l.state)
+invariant-loop-state l = l.found ≡ map (λ s. outermost l.side (incoming l.side l.parts l.node s)) (numbers l.state)

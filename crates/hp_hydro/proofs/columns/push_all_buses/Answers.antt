@@ -1,10 +1,10 @@
 use Rattle.std.proofs.Common.{map}
 use Rattle.hp_hydro.specs.Columns as columns
-use Rattle.hp_hydro.specs.Seen.{column_of}
+use Rattle.hp_hydro.specs.Seen.{seen_column}
 use Rattle.hp_hydro.specs.declared.columns.Column.TheVariants as column
 use Rattle.hp_forms.proofs.Counted.{pushed_two, flat_joined}
 use Rattle.hp_hydro.proofs.columns.push_all_buses.Goals as goal
 
 pub loop-b-preserved : goal.loop-b-preserved
 loop-b-preserved c =
-    flat_joined columns.bus_columns c.loop-b.b (map column_of c.args.list.now.items) (map column_of c.loop-b.list.items) _ (pushed_two column_of c.loop-b.list.items c.push.new.self.items c.push-in-loop-b.new.self.items (column.Demand c.loop-b.b) (column.Deficit c.loop-b.b) c.in_ok-push.ensures.items c.in_ok-push-2.ensures.items) c.loop-b.invariant
+    flat_joined columns.bus_columns c.loop-b.b (map seen_column c.args.list.now.items) (map seen_column c.loop-b.list.items) _ (pushed_two seen_column c.loop-b.list.items c.push.new.self.items c.push-in-loop-b.new.self.items (column.Demand c.loop-b.b) (column.Deficit c.loop-b.b) c.in_ok-push.ensures.items c.in_ok-push-2.ensures.items) c.loop-b.invariant

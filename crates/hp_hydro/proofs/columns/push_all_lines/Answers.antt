@@ -1,12 +1,11 @@
 use Rattle.std.proofs.Common.{map}
 use Rattle.hp_hydro.specs.Layout as layout
-use Rattle.hp_hydro.specs.Layout.{steps}
 use Rattle.hp_hydro.specs.Columns as columns
-use Rattle.hp_hydro.specs.Seen.{column_of}
+use Rattle.hp_hydro.specs.Seen.{seen_column}
 use Rattle.hp_hydro.specs.declared.columns.Column.TheVariants as column
 use Rattle.hp_forms.proofs.Counted.{pushed, map_joined}
 use Rattle.hp_hydro.proofs.columns.push_all_lines.Goals as goal
 
 pub loop-l-preserved : goal.loop-l-preserved
 loop-l-preserved c =
-    map_joined (λ i. columns.decided (layout.line_of i)) c.loop-l.l (map column_of c.args.list.now.items) (map column_of c.loop-l.list.items) _ (pushed column_of c.loop-l.list.items c.push.new.self.items (column.Line c.loop-l.l) c.in_ok-push.ensures.items) c.loop-l.invariant
+    map_joined (λ i. columns.decided (layout.line_of i)) c.loop-l.l (map seen_column c.args.list.now.items) (map seen_column c.loop-l.list.items) _ (pushed seen_column c.loop-l.list.items c.push.new.self.items (column.Line c.loop-l.l) c.in_ok-push.ensures.items) c.loop-l.invariant

@@ -1,12 +1,11 @@
 use Rattle.std.proofs.Common.{map}
 use Rattle.hp_hydro.specs.Layout as layout
-use Rattle.hp_hydro.specs.Layout.{steps}
 use Rattle.hp_hydro.specs.Columns as columns
-use Rattle.hp_hydro.specs.Seen.{column_of}
+use Rattle.hp_hydro.specs.Seen.{seen_column}
 use Rattle.hp_hydro.specs.declared.columns.Column.TheVariants as column
 use Rattle.hp_forms.proofs.Counted.{pushed, map_joined}
 use Rattle.hp_hydro.proofs.columns.push_all_thermals.Goals as goal
 
 pub loop-i-preserved : goal.loop-i-preserved
 loop-i-preserved c =
-    map_joined (λ i. columns.decided (layout.thermal_of i)) c.loop-i.i (map column_of c.args.list.now.items) (map column_of c.loop-i.list.items) _ (pushed column_of c.loop-i.list.items c.push.new.self.items (column.Thermal c.loop-i.i) c.in_ok-push.ensures.items) c.loop-i.invariant
+    map_joined (λ i. columns.decided (layout.thermal_of i)) c.loop-i.i (map seen_column c.args.list.now.items) (map seen_column c.loop-i.list.items) _ (pushed seen_column c.loop-i.list.items c.push.new.self.items (column.Thermal c.loop-i.i) c.in_ok-push.ensures.items) c.loop-i.invariant

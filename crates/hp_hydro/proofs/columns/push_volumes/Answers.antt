@@ -1,11 +1,10 @@
 use Rattle.std.proofs.Common.{map}
 use Rattle.hp_hydro.specs.Layout as layout
-use Rattle.hp_hydro.specs.Layout.{steps}
-use Rattle.hp_hydro.specs.Seen.{store_of}
+use Rattle.hp_hydro.specs.Seen.{seen_store}
 use Rattle.hp_hydro.specs.declared.columns.Store.TheVariants as store
 use Rattle.hp_forms.proofs.Counted.{pushed, map_joined}
 use Rattle.hp_hydro.proofs.columns.push_volumes.Goals as goal
 
 pub loop-j-preserved : goal.loop-j-preserved
 loop-j-preserved c =
-    map_joined (layout.volume_of) c.loop-j.j (map store_of c.args.list.now.items) (map store_of c.loop-j.list.items) _ (pushed store_of c.loop-j.list.items c.push.new.self.items (store.Volume c.loop-j.j) c.in_ok-push.ensures.items) c.loop-j.invariant
+    map_joined (layout.volume_of) c.loop-j.j (map seen_store c.args.list.now.items) (map seen_store c.loop-j.list.items) _ (pushed seen_store c.loop-j.list.items c.push.new.self.items (store.Volume c.loop-j.j) c.in_ok-push.ensures.items) c.loop-j.invariant

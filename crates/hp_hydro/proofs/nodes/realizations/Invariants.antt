@@ -4,4 +4,4 @@ use Rattle.hp_hydro.specs.Nodes as nodes
 use Rattle.hp_hydro.proofs.nodes.realizations.Given as goal
 
 abbrev pub invariant-loop-inflow : goal.invariant-loop-inflow
-invariant-loop-inflow l = map view l.list.items ≡ map (nodes.realization l.plants l.stage.demand) (take l.inflow-index l.stage.inflows)
+invariant-loop-inflow l = map view l.list.items ≡ map (nodes.node_realization l.plants l.stage.demand) (take l.inflow-index l.stage.inflows)

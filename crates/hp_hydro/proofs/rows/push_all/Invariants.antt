@@ -2,9 +2,9 @@ use Rattle.std.proofs.Common.{map, ◌++◌, ◌≡◌}
 use Rattle.std.specs.List.{flat_map}
 use Rattle.serde_json.specs.View.{view}
 use Rattle.hp_paths.specs.Paths.{numbers}
-use Rattle.hp_hydro.specs.Stage.{term_of}
+use Rattle.hp_hydro.specs.Stage.{column_term}
 use Rattle.hp_hydro.specs.Parts.{sum_at}
 use Rattle.hp_hydro.proofs.rows.push_all.Given as goal
 
 abbrev pub invariant-loop-at : goal.invariant-loop-at
-invariant-loop-at l = map view l.list.items ≡ map view l.initial.list.items ++ map (term_of l.plants) (flat_map (sum_at l.plants l.part) (numbers l.at))
+invariant-loop-at l = map view l.list.items ≡ map view l.initial.list.items ++ map (column_term l.plants) (flat_map (sum_at l.plants l.part) (numbers l.at))

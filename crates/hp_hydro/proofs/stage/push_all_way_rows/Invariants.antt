@@ -6,4 +6,4 @@ use Rattle.hp_hydro.specs.Stage as stage
 use Rattle.hp_hydro.proofs.stage.push_all_way_rows.Given as goal
 
 abbrev pub invariant-loop-j : goal.invariant-loop-j
-invariant-loop-j l = map view l.list.items ≡ map view l.initial.list.items ++ flat_map (stage.way_rows l.plants) (numbers l.j)
+invariant-loop-j l = map view l.list.items ≡ map view l.initial.list.items ++ flat_map (stage.way_constraints l.plants) (numbers l.j)

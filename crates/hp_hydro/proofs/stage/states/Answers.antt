@@ -5,7 +5,7 @@ use Rattle.hp_forms.proofs.Rises.{put_rising}
 use Rattle.hp_hydro.specs.Layout as layout
 use Rattle.hp_hydro.specs.Columns.{state_name}
 use Rattle.hp_hydro.specs.Stage as stage
-use Rattle.hp_hydro.specs.Seen.{store_of}
+use Rattle.hp_hydro.specs.Seen.{seen_store}
 use Rattle.hp_hydro.proofs.Orders.{stores_rise}
 use Rattle.hp_hydro.proofs.stage.states.Goals as goal
 
@@ -13,4 +13,4 @@ pub returns : goal.returns
 unfolding stage.states
 returns c =
     let h = c.args.plants.now in
-    c.in_ok-map.ensures ∙ ap (λ xs. put_by (state_name h) (stage.state h) xs no_members) (ap (map store_of) c.as_slice.ensures.value ∙ c.in_ok-stores.ensures) ∙ put_rising (state_name h) (stage.state h) (layout.stores h) (stores_rise h c.requires)
+    c.in_ok-map.ensures ∙ ap (λ xs. put_by (state_name h) (stage.state h) xs no_members) (ap (map seen_store) c.as_slice.ensures.value ∙ c.in_ok-stores.ensures) ∙ put_rising (state_name h) (stage.state h) (layout.stores h) (stores_rise h c.requires)

@@ -3,7 +3,7 @@ use Rattle.std.proofs.lemmas.Result.{err_from_is_err_and}
 use Rattle.hp_cut.specs.declared.entry.EntryStep.{EntryStep}
 use Rattle.hp_record.specs.Shape.{Writable}
 use Rattle.hp_record.proofs.LongestPath.{path_length, is_small}
-use Rattle.hp_load.specs.Refusals.{Fails}
+use Rattle.hp_load.specs.Refusals.{LoadFails}
 use Rattle.hp_load.specs.Cuts.{steps_added}
 use Rattle.hp_load.proofs.Adding.{Known}
 use Rattle.hp_load.proofs.Once.{known_steps}
@@ -21,7 +21,7 @@ add_steps-requires-clause-few c = λ m.
     let l = c.loop-entry in
     let p = c.args.problem.now in
     let writable = subst (Writable p) (sym c.entry-item.is) (at_recursion (Writable p) c.args.entries.now l.entry-index c.entry-item.result c.requires.writable c.loop-entry-test.true) in
-    omega (arith, l.invariant.0.few m, path_length p c.raw.ensures.sealed c.entry-item.result.steps writable.path, (is_small p c.raw.ensures.sealed).longest, ap (λ (ss : List EntryStep). length ss) c.as_slice.ensures)
+    omega (arith, l.invariant.0.few m, path_length p c.parts.ensures.validated c.entry-item.result.steps writable.path, (is_small p c.parts.ensures.validated).longest, ap (λ (ss : List EntryStep). length ss) c.as_slice.ensures)
 
 pub returns-in_err-add_steps-clause-value : goal.returns-in_err-add_steps-clause-value
 returns-in_err-add_steps-clause-value c =
@@ -29,7 +29,7 @@ returns-in_err-add_steps-clause-value c =
     let p = c.args.problem.now in
     let x = c.entry-item.result in
     let e = err_from_is_err_and c.from_residual.result c.from_residual.ensures.1 in
-    let fails = subst (λ (ss : List EntryStep). Fails c.in_err-add_steps.field-0.0 (steps_added p x.iteration l.pools.lists ss)) c.as_slice.ensures c.in_err-add_steps.ensures.value in
+    let fails = subst (λ (ss : List EntryStep). LoadFails c.in_err-add_steps.field-0.0 (steps_added p x.iteration l.pools.lists ss)) c.as_slice.ensures c.in_err-add_steps.ensures.value in
     rw (e.1, e.2) (entry_fails p c.args.pools.now.lists c.args.entries.now l.entry-index l.pools.lists c.loop-entry-test.true x c.entry-item.is l.invariant.0 c.in_err-add_steps.field-0.0 fails)
 
 pub loop-entry-preserved : goal.loop-entry-preserved
@@ -38,7 +38,7 @@ loop-entry-preserved c =
     let p = c.args.problem.now in
     let x = c.entry-item.result in
     let writable = subst (Writable p) (sym c.entry-item.is) (at_recursion (Writable p) c.args.entries.now l.entry-index x c.requires.writable c.loop-entry-test.true) in
-    let left = entry_more p c.args.pools.now.lists c.args.entries.now l.entry-index l.pools.lists c.loop-entry-test.true x c.entry-item.is l.invariant.0 c.raw.ensures.sealed writable c.add_steps.new.pools.lists
+    let left = entry_more p c.args.pools.now.lists c.args.entries.now l.entry-index l.pools.lists c.loop-entry-test.true x c.entry-item.is l.invariant.0 c.parts.ensures.validated writable c.add_steps.new.pools.lists
     (ap (λ (ss : List EntryStep). steps_added p x.iteration l.pools.lists ss) (sym c.as_slice.ensures) ∙ c.in_ok-add_steps.ensures.value) in
     (left, c.in_ok-add_steps.ensures.values)
 

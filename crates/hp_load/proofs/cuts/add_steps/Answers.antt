@@ -13,7 +13,7 @@ returns-in_err-add_cut-clause-value c =
 pub loop-step-preserved : goal.loop-step-preserved
 loop-step-preserved c =
     let l = c.loop-step in
-    let left = step_more c.args.problem.now c.args.iteration c.args.pools.now.lists c.args.steps.now l.step-index l.pools.lists c.loop-step-test.true c.step-item.result c.step-item.is l.invariant.0 c.raw.ensures.sealed
+    let left = step_more c.args.problem.now c.args.iteration c.args.pools.now.lists c.args.steps.now l.step-index l.pools.lists c.loop-step-test.true c.step-item.result c.step-item.is l.invariant.0 c.parts.ensures.validated
     (subst (Known c.args.problem.now) (sym c.step-item.is) (c.requires.known l.step-index c.step-item.result c.loop-step-test.true)) c.add_cut.new.pools.lists c.in_ok-add_cut.ensures.value in
     (left, c.in_ok-add_cut.ensures.values)
 

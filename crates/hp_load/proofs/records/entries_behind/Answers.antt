@@ -3,8 +3,8 @@ use Rattle.std.proofs.lemmas.Result.{err_from_is_err_and}
 use Rattle.hp_problem.specs.Formulas.{too_much}
 use Rattle.hp_record.specs.Reading.{read_batch}
 use Rattle.hp_record.specs.declared.fault.EntryFault.TheVariants.{Bad}
-use Rattle.hp_journal.specs.Gates.{payload_of}
-use Rattle.hp_load.specs.Refusals.{of_payload, of_entries, with_fault, within, Fails}
+use Rattle.hp_journal.specs.CommitBytes.{payload_of}
+use Rattle.hp_load.specs.Refusals.{of_payload, of_entries, with_fault, within_formula, LoadFails}
 use Rattle.hp_load.proofs.Binding.{fails_from}
 use Rattle.hp_load.proofs.Told.{told, known, formulas_bad, payload_bad, entries_bad, entries_read}
 use Rattle.hp_load.proofs.records.entries_behind.Goals as goal
@@ -14,7 +14,7 @@ returns-in_err-check_formulas-clause-value g c =
     let e = err_from_is_err_and c.from_residual.result c.from_residual.ensures.1 in
     let f = c.in_err-check_formulas.field-0.0 in
     let p = c.args.problem.now in
-    rw (e.1, e.2) (told (g.D.Disk.store c.args.disk.now).reads (λ b is. formulas_bad p c.args.batch c.args.iteration c.args.at b f (fails_from f (within (too_much p c.args.iteration c.args.batch)) c.in_err-check_formulas.ensures.value)))
+    rw (e.1, e.2) (told (g.D.Disk.store c.args.disk.now).reads (λ b is. formulas_bad p c.args.batch c.args.iteration c.args.at b f (fails_from f (within_formula (too_much p c.args.iteration c.args.batch)) c.in_err-check_formulas.ensures.value)))
 
 pub returns-in_err-next-clause-value : goal.returns-in_err-next-clause-value
 returns-in_err-next-clause-value g c =
@@ -22,7 +22,7 @@ returns-in_err-next-clause-value g c =
     let f = c.in_err-next.field-0.0 in
     let p = c.args.problem.now in
     let r = (g.D.Disk.store c.args.disk.now).reads in
-    rw (e.1, e.2) (told r (λ b is. payload_bad p c.args.batch c.args.iteration c.args.at b (sym c.in_ok-check_formulas.ensures.value) f (known (λ b. Fails f (with_fault (of_payload c.args.iteration) (payload_of b c.args.at))) r b is c.in_err-next.ensures.value)))
+    rw (e.1, e.2) (told r (λ b is. payload_bad p c.args.batch c.args.iteration c.args.at b (sym c.in_ok-check_formulas.ensures.value) f (known (λ b. LoadFails f (with_fault (of_payload c.args.iteration) (payload_of b c.args.at))) r b is c.in_err-next.ensures.value)))
 
 pub returns-in_err-entries-clause-value : goal.returns-in_err-entries-clause-value
 returns-in_err-entries-clause-value g c =
@@ -34,7 +34,7 @@ returns-in_err-entries-clause-value g c =
     let r = (g.D.Disk.store c.args.disk.now).reads in
     rw (e.1, e.2) (told r (λ b is. entries_bad p c.args.batch k c.args.at b (sym c.in_ok-check_formulas.ensures.value) bytes
     (known (λ b. with_fault (of_payload k) (payload_of b c.args.at) ≡ Ok bytes) r b is c.in_ok-next.ensures.value) f
-    (subst (λ (l : List ℕ). Fails f (with_fault (λ place. of_entries k (Bad place)) (read_batch p k c.args.batch l))) c.as_slice-payload.ensures.value c.in_err-entries.ensures.value)))
+    (subst (λ (l : List ℕ). LoadFails f (with_fault (λ place. of_entries k (Bad place)) (read_batch p k c.args.batch l))) c.as_slice-payload.ensures.value c.in_err-entries.ensures.value)))
 
 pub returns-clause-value : goal.returns-clause-value
 returns-clause-value g c =

@@ -4,7 +4,7 @@ use Rattle.hp_theory.specs.Pools.{pool}
 use Rattle.hp_solver.specs.declared.programs.LpRow.{LpRow}
 use Rattle.hp_solver.specs.declared.packed.Out.{Out}
 use Rattle.hp_lp.specs.Outs.{rows_over}
-use Rattle.hp_lp.specs.Spans.{IsWithin}
+use Rattle.hp_lp.specs.Spans.{IsSlopeWithin}
 use Rattle.hp_lp.proofs.OutSlopes.{rows-cut_rows, within-spans}
 use Rattle.hp_lp.proofs.cut_rows.push_cut_rows.Goals as goal
 
@@ -12,7 +12,7 @@ pub push_rows_over-requires-clause-within : goal.push_rows_over-requires-clause-
 push_rows_over-requires-clause-within c =
     let pools : List (List Cut) = c.args.pools.now.lists in
     let outs = c.as_slice.ensures ∙ c.in_ok-outs.ensures in
-    subst (λ (os : List Out). All (λ m. All (λ (x : Cut). All (IsWithin x.beta) os) (pool pools m)) c.args.links.now) (sym outs)
+    subst (λ (os : List Out). All (λ m. All (λ (x : Cut). All (IsSlopeWithin x.beta) os) (pool pools m)) c.args.successors.now) (sym outs)
     (λ i d h k e l. within-spans c.args.subproblem.now _ (c.requires.spans i d h k e l))
 
 pub returns : goal.returns
@@ -20,5 +20,5 @@ returns c =
     let pools : List (List Cut) = c.args.pools.now.lists in
     let outs = c.as_slice.ensures ∙ c.in_ok-outs.ensures in
     subst (λ (rs : List LpRow). OnOk c.push_rows_over.result (c.push_rows_over.new.rows ≡ c.args.rows.now ++ rs))
-    (ap₂ (λ (os : List Out) (k : ℕ). rows_over os pools k c.args.links.now) outs c.len-column.ensures ∙ rows-cut_rows c.args.subproblem.now pools (length c.args.subproblem.now.decisions) c.args.links.now c.requires.differ)
+    (ap₂ (λ (os : List Out) (k : ℕ). rows_over os pools k c.args.successors.now) outs c.len-column.ensures ∙ rows-cut_rows c.args.subproblem.now pools (length c.args.subproblem.now.decisions) c.args.successors.now c.requires.differ)
     c.push_rows_over.ensures

@@ -3,7 +3,7 @@ use mir.Syntax.{w128}
 use Rattle.std.proofs.lemmas.Int.{to_z-of_z}
 use Rattle.hp_theory.specs.Pools.{pool}
 use Rattle.hp_theory.specs.declared.cut.Cut.{Cut}
-use Rattle.hp_lp.specs.Spans.{IsWithin}
+use Rattle.hp_lp.specs.Spans.{IsSlopeWithin}
 use Rattle.hp_lp.proofs.cut_rows.push_pool_rows.Goals as goal
 
 pub push-requires : goal.push-requires
@@ -11,12 +11,12 @@ push-requires c =
     let cuts : List Cut = pool c.args.pools.now.lists c.args.successor in
     let there : c.loop-place.place < length cuts = subst (λ (cs : List Cut). c.loop-place.place < length cs) c.cuts-cuts.ensures c.loop-place-test.true in
     let slopes : Cut = c.index-cuts-place-in-loop-place.result in
-    let within : All (IsWithin (get_or c.cuts-cuts.result.now c.loop-place.place slopes).beta) c.args.outs.now =
-    subst (λ (cs : List Cut). All (IsWithin (get_or cs c.loop-place.place slopes).beta) c.args.outs.now) (sym c.cuts-cuts.ensures) (c.requires.within c.loop-place.place slopes there)
+    let within : All (IsSlopeWithin (get_or c.cuts-cuts.result.now c.loop-place.place slopes).beta) c.args.outs.now =
+    subst (λ (cs : List Cut). All (IsSlopeWithin (get_or cs c.loop-place.place slopes).beta) c.args.outs.now) (sym c.cuts-cuts.ensures) (c.requires.within c.loop-place.place slopes there)
     in
     let height : Cut = c.index-cuts-place.result in
     let alpha : ℤ = (get_or c.cuts-cuts.result.now c.loop-place.place height).alpha in
     let fits : SFits w128 alpha = search rules in (
-      subst (λ (bs : List ℤ). All (IsWithin bs) c.args.outs.now) (sym c.as_slice.ensures) within,
+      subst (λ (bs : List ℤ). All (IsSlopeWithin bs) c.args.outs.now) (sym c.as_slice.ensures) within,
       subst (λ (z : ℤ). nat_abs z ≤ 2 ^ 104) (sym (to_z-of_z w128 alpha fits)) (subst (λ (cs : List Cut). nat_abs (get_or cs c.loop-place.place height).alpha ≤ 2 ^ 104) (sym c.cuts-cuts.ensures) (c.requires.small c.loop-place.place height there)),
     )

@@ -4,8 +4,8 @@ use Rattle.std.specs.Int.{int_max}
 use Rattle.std.specs.Int.Signed.{lt_z}
 use Rattle.std.proofs.lemmas.Int.{to_z-of_z}
 use Rattle.hp_num.specs.Sums.{entry}
-use Rattle.hp_problem.specs.Sealed.{out_lows, out_highs}
-use Rattle.hp_cut.specs.declared.peaks.OutBox.{OutBox}
+use Rattle.hp_problem.specs.Validated.{out_lows, out_highs}
+use Rattle.hp_cut.specs.declared.box_maxima.OutBox.{OutBox}
 use Rattle.hp_lp.proofs.OutBoxes.{at_least, at_greatest}
 use Rattle.hp_lp.proofs.cut_values.greatest_product.Goals as goal
 

@@ -1,6 +1,6 @@
 use Rattle.std.proofs.Common.{◌++◌, ◌∷◌, [], List, ap₂, sym, ◌∙◌, arith}
 use Rattle.std.proofs.lemmas.List.FromFn.{map-range_with_len_more}
-use Rattle.hp_cut.specs.declared.peaks.OutBox.{OutBox}
+use Rattle.hp_cut.specs.declared.box_maxima.OutBox.{OutBox}
 use Rattle.hp_lp.specs.OutBoxes.{out_box}
 use Rattle.hp_lp.proofs.out_boxes.out_boxes.Goals as goal
 

@@ -7,15 +7,15 @@ use Rattle.hp_lp.proofs.packed_views.packed_view.Goals as goal
 
 pub returns-clause-cuts : goal.returns-clause-cuts
 returns-clause-cuts c =
-    let links : List ℕ = c.args.stage.now.node.now.links in
-    let cuts = found-cuts c.args.pools.now.lists c.as_slice.result.now links _ _ c.as_slice.ensures c.in-Some.is c.in_ok-cuts.ensures in
-    packed-cut_rows c.args.stage.now.subproblem.now c.args.pools.now.lists links _ _ _ c.requires.differ c.in_ok-outs_in_order.ensures c.len.ensures cuts
+    let successors : List ℕ = c.args.stage.now.node.now.successors in
+    let cuts = found-cuts c.args.pools.now.lists c.as_slice.result.now successors _ _ c.as_slice.ensures c.in-Some.is c.in_ok-cuts.ensures in
+    packed-cut_rows c.args.stage.now.subproblem.now c.args.pools.now.lists successors _ _ _ c.requires.differ c.in_ok-outs_in_order.ensures c.len.ensures cuts
 
 pub returns-clause-view : goal.returns-clause-view
 returns-clause-view c =
-    let links : List ℕ = c.args.stage.now.node.now.links in
-    let cuts = found-cuts c.args.pools.now.lists c.as_slice.result.now links _ _ c.as_slice.ensures c.in-Some.is c.in_ok-cuts.ensures in
+    let successors : List ℕ = c.args.stage.now.node.now.successors in
+    let cuts = found-cuts c.args.pools.now.lists c.as_slice.result.now successors _ _ c.as_slice.ensures c.in-Some.is c.in_ok-cuts.ensures in
     record {
       few = omega (arith, few-outs c.args.stage.now.subproblem.now, ap length c.in_ok-outs_in_order.ensures, c.requires.outs);
-      columns = omega (arith, c.len.ensures, ap length cuts, length-map links (λ (m : ℕ). map packed_cut (pool c.args.pools.now.lists m)), c.requires.decisions, c.requires.links);
+      columns = omega (arith, c.len.ensures, ap length cuts, length-map successors (λ (m : ℕ). map packed_cut (pool c.args.pools.now.lists m)), c.requires.decisions, c.requires.successors);
     }

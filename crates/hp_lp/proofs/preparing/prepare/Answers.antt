@@ -1,10 +1,10 @@
 use Rattle.std.proofs.Common.{◌≤◌, ◌∙◌, length, ap, arith}
-use Rattle.hp_problem.specs.declared.raw.Raw.{Raw}
-use Rattle.hp_problem.proofs.SealedFacts.{raw-is_sealed, few_nodes}
+use Rattle.hp_parts.specs.declared.parts.ProblemParts.{ProblemParts}
+use Rattle.hp_problem.proofs.ValidatedFacts.{parts-is_validated, few_nodes}
 use Rattle.hp_lp.proofs.preparing.prepare.Goals as goal
 
 pub overflow_cast-nodes : goal.overflow_cast-nodes
 overflow_cast-nodes c =
-    let few : length c.args.problem.now.raw.nodes ≤ 1000 = few_nodes c.args.problem.now.raw (raw-is_sealed c.args.problem.now c.raw.ensures.sealed) in
-    let len = c.len-nodes.ensures ∙ ap (λ (r : Raw). length r.nodes) c.raw.ensures.value in
+    let few : length c.args.problem.now.parts.nodes ≤ 1000 = few_nodes c.args.problem.now.parts (parts-is_validated c.args.problem.now c.parts.ensures.validated) in
+    let len = c.len-nodes.ensures ∙ ap (λ (r : ProblemParts). length r.nodes) c.parts.ensures.value in
     grind (arith, few, len)

@@ -1,6 +1,6 @@
 use Rattle.std.proofs.Common.{ℕ, ◌<◌, List, length, get_or, subst, sym}
 use Rattle.hp_cut.specs.Pooled.{Pooled}
-use Rattle.hp_lp.proofs.SealedStages.{within-fit}
+use Rattle.hp_lp.proofs.ValidatedStages.{within-fit}
 use Rattle.hp_lp.proofs.preparing.prepare_at.Goals as goal
 
 pub out_boxes-requires : goal.out_boxes-requires
@@ -8,8 +8,8 @@ out_boxes-requires c = record { known = (within-fit c.args.pools.now.lists c.of-
 
 pub prepare-requires : goal.prepare-requires
 prepare-requires c =
-    let links : List ℕ = c.of-stage.result.node.now.links in
+    let successors : List ℕ = c.of-stage.result.node.now.successors in
     let there = (within-fit c.args.pools.now.lists c.of-stage.ensures.stands c.requires.fit).there in
-    let at : c.loop-successor.successor-index < length links = subst (λ (ls : List ℕ). c.loop-successor.successor-index < length ls) c.as_slice-successor-items.ensures c.loop-successor-test.true in
+    let at : c.loop-successor.successor-index < length successors = subst (λ (ls : List ℕ). c.loop-successor.successor-index < length ls) c.as_slice-successor-items.ensures c.loop-successor-test.true in
     subst (λ (ls : List ℕ). get_or ls c.loop-successor.successor-index 0 < length c.loop-successor.pools.lists) (sym c.as_slice-successor-items.ensures)
-    (subst (λ (p : Pooled). get_or links c.loop-successor.successor-index 0 < length p.lists) (sym c.loop-successor.invariant) (there c.loop-successor.successor-index 0 at))
+    (subst (λ (p : Pooled). get_or successors c.loop-successor.successor-index 0 < length p.lists) (sym c.loop-successor.invariant) (there c.loop-successor.successor-index 0 at))

@@ -4,11 +4,11 @@ use Rattle.hp_solver.specs.declared.programs.Program.{Program}
 use Rattle.hp_solver.specs.Proper.{IsProper, IsReference}
 use Rattle.hp_lp.specs.Nodes.{reference_of, reference_in}
 use Rattle.hp_lp.proofs.Alike.{if_ok, reference_in-is, proper-reference, reference-reference_of}
-use Rattle.hp_lp.proofs.SealedStages.{reference-sealed}
+use Rattle.hp_lp.proofs.ValidatedStages.{reference-validated}
 use Rattle.hp_lp.proofs.references.reference.Goals as goal
 
 pub reference_of-requires-clause-parts : goal.reference_of-requires-clause-parts
-reference_of-requires-clause-parts c = reference-sealed c.lo.result.now c.hi.result.now c.of-stage.ensures.stands c.lo.ensures c.hi.ensures
+reference_of-requires-clause-parts c = reference-validated c.lo.result.now c.hi.result.now c.of-stage.ensures.stands c.lo.ensures c.hi.ensures
 
 pub returns-clause-value : goal.returns-clause-value
 returns-clause-value c =

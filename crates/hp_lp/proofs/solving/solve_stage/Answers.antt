@@ -1,5 +1,5 @@
 use Rattle.std.proofs.Common.{◌≡◌, Some, IfOk, subst}
-use Rattle.hp_problem.specs.Sealed.{Sealed}
+use Rattle.hp_problem.specs.Validated.{Validated}
 use Rattle.hp_lp.specs.Nodes.{stage_in}
 use Rattle.hp_lp.proofs.Alike.{if_ok}
 use Rattle.hp_lp.proofs.Answering.{answered-by}
@@ -9,7 +9,7 @@ pub returns : goal.returns
 returns g c =
     let lp = c.in_ok-lp.lp in
     let chain = c.in_ok-chain.chain in
-    let stage = subst (λ (p : Sealed). stage_in p c.args.pools.now.lists c.args.node c.args.values.now c.args.state.now ≡ Some lp) c.problem.ensures c.in_ok-lp.ensures.value in
+    let stage = subst (λ (p : Validated). stage_in p c.args.pools.now.lists c.args.node c.args.values.now c.args.state.now ≡ Some lp) c.problem.ensures c.in_ok-lp.ensures.value in
     let answer = subst (λ solver. IfOk c.solve-answer.result (λ a. a ≡ ((g.V.Solver.does solver).next chain lp).0)) c.solver.ensures c.solve-answer.ensures.answer in
     if_ok c.solve-answer.result _ _
     (λ a is. answered-by (g.V.Solver.does c.args.planner.now.solver.now)

@@ -1,5 +1,5 @@
 use Rattle.std.proofs.Common.{◌≡◌, ◌∙◌, true, Ok, ap, subst}
-use Rattle.hp_problem.specs.Sealed.{Sealed, is_sealed}
+use Rattle.hp_problem.specs.Validated.{Validated, is_validated}
 use Rattle.hp_theory.specs.Problem.{node_at}
 use Rattle.hp_theory.specs.View.{problem_of}
 use Rattle.hp_mend.specs.Deciding.{decide_mended_of, mend}
@@ -12,11 +12,11 @@ returns-clause-inside g c =
     let p = c.args.planner.now.problem.now in
     let i = c.args.input.now in
     let pools = c.args.pools.now.lists in
-    let sealed = subst (λ (q : Sealed). is_sealed q ≡ true) c.problem-problem.ensures c.raw.ensures.sealed in
-    let mended = c.in_ok-mend.ensures ∙ ap (λ (q : Sealed). mend (node_at (problem_of q) i.node) i.values.now i.state.now c.in_ok-decided.decided) c.problem-problem.ensures in
+    let validated = subst (λ (q : Validated). is_validated q ≡ true) c.problem-problem.ensures c.parts.ensures.validated in
+    let mended = c.in_ok-mend.ensures ∙ ap (λ (q : Validated). mend (node_at (problem_of q) i.node) i.values.now i.state.now c.in_ok-decided.decided) c.problem-problem.ensures in
     let is : decide_mended_of v p pools i.run i.node i.values.now i.state.now ≡ Ok c.in_ok-mend.field-0 =
     mended_from v p pools i.run i.node i.values.now i.state.now c.in_ok-decided.decided c.in_ok-mend.field-0 c.in_ok-decided.ensures.value mended in
-    inside_mended v p pools i.run i.node i.values.now i.state.now sealed c.requires.known c.in_ok-mend.field-0 is
+    inside_mended v p pools i.run i.node i.values.now i.state.now validated c.requires.known c.in_ok-mend.field-0 is
 
 pub returns-clause-next : goal.returns-clause-next
 returns-clause-next g c =
@@ -24,8 +24,8 @@ returns-clause-next g c =
     let p = c.args.planner.now.problem.now in
     let i = c.args.input.now in
     let pools = c.args.pools.now.lists in
-    let sealed = subst (λ (q : Sealed). is_sealed q ≡ true) c.problem-problem.ensures c.raw.ensures.sealed in
-    let mended = c.in_ok-mend.ensures ∙ ap (λ (q : Sealed). mend (node_at (problem_of q) i.node) i.values.now i.state.now c.in_ok-decided.decided) c.problem-problem.ensures in
+    let validated = subst (λ (q : Validated). is_validated q ≡ true) c.problem-problem.ensures c.parts.ensures.validated in
+    let mended = c.in_ok-mend.ensures ∙ ap (λ (q : Validated). mend (node_at (problem_of q) i.node) i.values.now i.state.now c.in_ok-decided.decided) c.problem-problem.ensures in
     let is : decide_mended_of v p pools i.run i.node i.values.now i.state.now ≡ Ok c.in_ok-mend.field-0 =
     mended_from v p pools i.run i.node i.values.now i.state.now c.in_ok-decided.decided c.in_ok-mend.field-0 c.in_ok-decided.ensures.value mended in
-    successors_mended v p pools i.run i.node i.values.now i.state.now sealed c.requires.known c.in_ok-mend.field-0 is
+    successors_mended v p pools i.run i.node i.values.now i.state.now validated c.requires.known c.in_ok-mend.field-0 is

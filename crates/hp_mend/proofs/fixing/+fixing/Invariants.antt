@@ -1,6 +1,6 @@
 use Rattle.std.proofs.Common.{◌≡◌, ◌+◌, ◌*◌, ◌-◌, length, drop}
-use Rattle.hp_mend.specs.Fixing.{below, kept, tried}
-use Rattle.hp_mend.specs.Stages.{frame_at, AreInside}
+use Rattle.hp_mend.specs.Fixing.{fixer_below, harmed_rows_fixed, tried_moves}
+use Rattle.hp_mend.specs.Stages.{frame_at, AreDecisionsInside}
 use Rattle.hp_mend.proofs.fixing.+fixing.Given as goal
 
 abbrev pub decreases-fix : goal.decreases-fix
@@ -21,9 +21,9 @@ decreases-fix_below l = 5 * l.depth
 abbrev pub invariant-keep_rows-loop-other : goal.invariant-keep_rows-loop-other
 invariant-keep_rows-loop-other l =
     let f = frame_at l.stage in
-    (kept f (below f l.depth) l.row l.before l.other (length f.rows - l.other) l.search ≡ kept f (below f l.depth) l.row l.before 0 (length f.rows) l.initial.search) × AreInside l.stage l.search.numbers
+    (harmed_rows_fixed f (fixer_below f l.depth) l.row l.before l.other (length f.rows - l.other) l.search ≡ harmed_rows_fixed f (fixer_below f l.depth) l.row l.before 0 (length f.rows) l.initial.search) × AreDecisionsInside l.stage l.search.numbers
 
 abbrev pub invariant-try_moves-loop-own : goal.invariant-try_moves-loop-own
 invariant-try_moves-loop-own l =
     let f = frame_at l.stage in
-    (tried f (below f l.depth) l.row (drop l.own-index l.moves) l.search ≡ tried f (below f l.depth) l.row l.moves l.initial.search) × AreInside l.stage l.search.numbers
+    (tried_moves f (fixer_below f l.depth) l.row (drop l.own-index l.moves) l.search ≡ tried_moves f (fixer_below f l.depth) l.row l.moves l.initial.search) × AreDecisionsInside l.stage l.search.numbers

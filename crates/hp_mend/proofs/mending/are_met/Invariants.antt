@@ -3,10 +3,10 @@ use Rattle.std.specs.List.{list_all}
 use Rattle.std.specs.Ordering.{int_eq}
 use Rattle.hp_forward.specs.Costing.{misses_of}
 use Rattle.hp_mend.specs.Mending.{all_met}
-use Rattle.hp_mend.specs.Stages.{stage_node}
+use Rattle.hp_mend.specs.Stages.{node_of_stage}
 use Rattle.hp_mend.proofs.mending.are_met.Given as goal
 
 abbrev pub invariant-loop-row : goal.invariant-loop-row
 invariant-loop-row l =
-    let n = stage_node l.stage in
+    let n = node_of_stage l.stage in
     list_all (λ (d : ℤ). int_eq d (pos 0)) (drop l.row (misses_of n l.numbers l.stage.state.now l.stage.values.now)) ≡ all_met n l.stage.values.now l.stage.state.now l.numbers

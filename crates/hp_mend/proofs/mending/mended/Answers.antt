@@ -1,7 +1,7 @@
 use Rattle.std.proofs.Common.{◌∙◌, sym, ap}
 use Rattle.hp_theory.specs.Problem.{node_at}
 use Rattle.hp_theory.specs.View.{problem_of}
-use Rattle.hp_mend.specs.Mending.{fresh, all_met}
+use Rattle.hp_mend.specs.Mending.{fresh_search, all_met}
 use Rattle.hp_mend.proofs.AllFixed.{found_mended, kept_mended}
 use Rattle.hp_mend.proofs.mending.mended.Goals as goal
 
@@ -10,7 +10,7 @@ returns-then-are_met-clause-value c =
     let n = node_at (problem_of c.args.problem.now) c.args.node in
     let values = c.args.values.now in
     let x = c.args.state.now in
-    let begun = c.in_ok-search.ensures ∙ ap fresh c.as_slice.ensures in
+    let begun = c.in_ok-search.ensures ∙ ap fresh_search c.as_slice.ensures in
     found_mended n values x c.args.decisions c.numbers_of.result c.in_ok-fix_all.field-0 c.in_ok-search.search c.fix_all.new.search begun c.in_ok-fix_all.ensures.value c.numbers_of.ensures
     (sym c.if-are_met.true ∙ c.are_met.ensures ∙ ap (all_met n values x) (c.as_slice-2.ensures ∙ sym c.numbers_of.ensures))
 
@@ -19,6 +19,6 @@ returns-else-are_met-clause-value c =
     let n = node_at (problem_of c.args.problem.now) c.args.node in
     let values = c.args.values.now in
     let x = c.args.state.now in
-    let begun = c.in_ok-search.ensures ∙ ap fresh c.as_slice.ensures in
+    let begun = c.in_ok-search.ensures ∙ ap fresh_search c.as_slice.ensures in
     kept_mended n values x c.args.decisions c.as_slice-2.result.now c.in_ok-fix_all.field-0 c.in_ok-search.search c.fix_all.new.search begun c.in_ok-fix_all.ensures.value c.as_slice-2.ensures
     (sym c.if-are_met.false ∙ c.are_met.ensures)

@@ -11,6 +11,6 @@ loop-other-preserved c =
     let l = c.loop-other in
     let there = c.loop-other-test.true in
     elim c.if-is_harmed.branch [
-      | then-is_harmed w ↦ (one_harmed f i c.args.before.now c.args.after.now l.other (length f.rows) _ l.count c.if-is_harmed.count (omega (arith, there, c.row_count-other-end.ensures)) l.invariant.0 (sym w.if-is_harmed.true ∙ c.is_harmed.ensures) w.count-is, omega (arith, w.count-is, l.invariant.1))
-      | else-is_harmed w ↦ (none_harmed f i c.args.before.now c.args.after.now l.other (length f.rows) _ l.count c.if-is_harmed.count (omega (arith, there, c.row_count-other-end.ensures)) l.invariant.0 (sym w.if-is_harmed.false ∙ c.is_harmed.ensures) w.count-is, omega (arith, w.count-is, l.invariant.1))
+      | then-is_harmed w ↦ (one_harmed f i c.args.before.now c.args.after.now l.other (length f.rows) _ l.count c.if-is_harmed.count (omega (arith, there, c.stage_row_count-other-end.ensures)) l.invariant.0 (sym w.if-is_harmed.true ∙ c.is_harmed.ensures) w.count-is, omega (arith, w.count-is, l.invariant.1))
+      | else-is_harmed w ↦ (none_harmed f i c.args.before.now c.args.after.now l.other (length f.rows) _ l.count c.if-is_harmed.count (omega (arith, there, c.stage_row_count-other-end.ensures)) l.invariant.0 (sym w.if-is_harmed.false ∙ c.is_harmed.ensures) w.count-is, omega (arith, w.count-is, l.invariant.1))
     ]

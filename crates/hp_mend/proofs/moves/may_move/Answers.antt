@@ -13,7 +13,7 @@ moved_to-requires-clause-number c =
     let u = c.args.search.now.numbers in
     let same = bounds_counted s.problem.now s.node c.sub.result.now c.requires.stage.known c.sub.ensures in
     let there = to_z-of_z w128 c.number_at.result (record { sfits = c.number_at.type_inv }) ∙ c.number_at.ensures ∙ ap (λ xs. entry xs c.args.at) c.as_slice-then-not-is_held.ensures in
-    subst (λ z. nat_abs z ≤ 2 ^ 64) (sym there) (number_small s.problem.now c.raw.ensures.sealed s.node c.requires.stage.known same u c.requires.inside c.args.at)
+    subst (λ z. nat_abs z ≤ 2 ^ 64) (sym there) (number_small s.problem.now c.parts.ensures.validated s.node c.requires.stage.known same u c.requires.inside c.args.at)
 
 pub returns-then-not-is_held-clause-value : goal.returns-then-not-is_held-clause-value
 returns-then-not-is_held-clause-value c =
@@ -26,18 +26,18 @@ pub returns-then-not-is_held-clause-small : goal.returns-then-not-is_held-clause
 returns-then-not-is_held-clause-small c = λ e.
     let s = c.args.stage.now in
     let same = bounds_counted s.problem.now s.node c.sub.result.now c.requires.stage.known c.sub.ensures in
-    amount_small s.problem.now c.raw.ensures.sealed s.node c.requires.stage.known same c.args.search.now.numbers c.requires.inside c.args.at c.args.amount
+    amount_small s.problem.now c.parts.ensures.validated s.node c.requires.stage.known same c.args.search.now.numbers c.requires.inside c.args.at c.args.amount
     (allowed (frame_at s) c.args.search.now c.args.at c.args.amount (sym (returns-then-not-is_held-clause-value c) ∙ e))
 
 pub returns-then-not-is_held-clause-inside : goal.returns-then-not-is_held-clause-inside
 returns-then-not-is_held-clause-inside c = λ e.
     let s = c.args.stage.now in
     let same = bounds_counted s.problem.now s.node c.sub.result.now c.requires.stage.known c.sub.ensures in
-    stays_inside s.problem.now c.raw.ensures.sealed s.node c.requires.stage.known same c.args.search.now.numbers c.requires.inside c.args.at c.args.amount
+    stays_inside s.problem.now c.parts.ensures.validated s.node c.requires.stage.known same c.args.search.now.numbers c.requires.inside c.args.at c.args.amount
     (allowed (frame_at s) c.args.search.now c.args.at c.args.amount (sym (returns-then-not-is_held-clause-value c) ∙ e))
 
 pub returns-then-not-is_held-clause-number : goal.returns-then-not-is_held-clause-number
 returns-then-not-is_held-clause-number c = λ e.
     let s = c.args.stage.now in
     let same = bounds_counted s.problem.now s.node c.sub.result.now c.requires.stage.known c.sub.ensures in
-    number_small s.problem.now c.raw.ensures.sealed s.node c.requires.stage.known same c.args.search.now.numbers c.requires.inside c.args.at
+    number_small s.problem.now c.parts.ensures.validated s.node c.requires.stage.known same c.args.search.now.numbers c.requires.inside c.args.at

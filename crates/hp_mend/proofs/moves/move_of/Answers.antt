@@ -9,4 +9,4 @@ moved-requires-clause-number c =
     let s = c.args.stage.now in
     let same = bounds_counted s.problem.now s.node c.sub.result.now c.requires.stage.known c.sub.ensures in
     subst (λ z. nat_abs z ≤ 2 ^ 64) (sym (ap (λ xs. entry xs c.args.at) c.as_slice-numbers.ensures))
-    (number_small s.problem.now c.raw.ensures.sealed s.node c.requires.stage.known same c.args.search.now.numbers c.requires.inside c.args.at)
+    (number_small s.problem.now c.parts.ensures.validated s.node c.requires.stage.known same c.args.search.now.numbers c.requires.inside c.args.at)

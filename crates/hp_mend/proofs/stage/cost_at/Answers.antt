@@ -13,4 +13,4 @@ pub returns-clause-small : goal.returns-clause-small
 returns-clause-small c =
     let s = c.args.stage.now in
     subst (λ z. nat_abs z ≤ 2 ^ 40) (sym (to_z-of_z w64 c.cost_in.result (record { sfits = c.cost_in.type_inv }) ∙ c.cost_in.ensures))
-    (cost_small s.problem.now s.node c.sub.result.now c.requires.known c.sub.ensures c.as_slice.result.now c.args.at c.as_slice.ensures c.raw.ensures.sealed)
+    (cost_small s.problem.now s.node c.sub.result.now c.requires.known c.sub.ensures c.as_slice.result.now c.args.at c.as_slice.ensures c.parts.ensures.validated)

@@ -46,8 +46,8 @@ visit-rank_above-requires t c =
           (
             omega (arith, length-set ms c.args.node Open),
             (
-              subst (λ ks. are_known (length g) ks ≡ true) (sym c.links.ensures) (all_at (are_known (length g)) g c.args.node [] c.requires.known c.requires.inside),
-              (opened g ms c.args.node inside c.in-Unseen.is c.requires.right, subst (LeadTo g (set ms c.args.node Open)) (sym c.links.ensures) (lead_on g ms c.args.node inside c.requires.lead)),
+              subst (λ ks. are_known (length g) ks ≡ true) (sym c.successors.ensures) (all_at (are_known (length g)) g c.args.node [] c.requires.known c.requires.inside),
+              (opened g ms c.args.node inside c.in-Unseen.is c.requires.right, subst (LeadTo g (set ms c.args.node Open)) (sym c.successors.ensures) (lead_on g ms c.args.node inside c.requires.lead)),
             ),
           ),
         ),
@@ -60,7 +60,7 @@ visit-returns-in_ok-rank-in-Unseen t c =
     let ms = c.args.marks.now in
     let mid = c.rank_above.new.marks in
     ranked_now g ms mid c.args.node c.in_ok-rank-in-Unseen.rank (omega arith) (omega (arith, length-set ms c.args.node Open)) c.in-Unseen.is c.in_ok-rank-in-Unseen.ensures.0
-    (subst (λ ks. RankAbove mid ks c.in_ok-rank-in-Unseen.rank) c.links.ensures c.in_ok-rank-in-Unseen.ensures.1)
+    (subst (λ ks. RankAbove mid ks c.in_ok-rank-in-Unseen.rank) c.successors.ensures c.in_ok-rank-in-Unseen.ensures.1)
 
 pub visit-returns-in-Open : goal.visit-returns-in-Open
 visit-returns-in-Open t c = cycle_met _ _ c.args.node c.requires.known c.requires.inside c.requires.lead c.in-Open.is

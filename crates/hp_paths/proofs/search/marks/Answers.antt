@@ -11,8 +11,8 @@ loop-at-init c =
       rw found (search_begun c.args.graph.now c.args.starts.now c.requires.starts),
     )
 
-pub links-requires : goal.links-requires
-links-requires c =
+pub successors-requires : goal.successors-requires
+successors-requires c =
     let place : c.loop-at.at < length c.loop-at.search.found = omega (arith, c.loop-at-test.true, c.len.ensures) in
     rw c.node.ensures (c.loop-at.invariant.1.below (get_or c.loop-at.search.found c.loop-at.at 0) (Contains-get_or c.loop-at.search.found c.loop-at.at 0 place))
 
@@ -24,7 +24,7 @@ pub loop-at-preserved : goal.loop-at-preserved
 loop-at-preserved c =
     let place : c.loop-at.at < length c.loop-at.search.found = omega (arith, c.loop-at-test.true, c.len.ensures) in (
       c.come_all-in-loop-at.ensures.count ∙ c.loop-at.invariant.0,
-      rw (c.in_ok-come_all-2.ensures.found, c.links.ensures, c.node.ensures)
+      rw (c.in_ok-come_all-2.ensures.found, c.successors.ensures, c.node.ensures)
           (search_goes_on c.args.graph.now c.args.starts.now c.loop-at.search.found c.loop-at.at c.requires.known place c.loop-at.invariant.1),
     )
 

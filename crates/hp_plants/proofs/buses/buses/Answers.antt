@@ -3,9 +3,10 @@ use Rattle.std.proofs.lemmas.Result.{err_from_is_err_and}
 use Rattle.std.proofs.lemmas.Grind.{common_steps}
 use Rattle.serde_json.specs.View.{view}
 use Rattle.serde_json.proofs.Views.{Entry}
-use Rattle.hp_plants.specs.Steps.{Fails}
+use Rattle.hp_plants.specs.Steps.{HydroFails}
 use Rattle.hp_plants.specs.Grid.{bus_at, buses_at}
-use Rattle.hp_plants.proofs.Walks.{members-go, members-fail, members-done}
+use Rattle.hp_fields.proofs.Walks.{members-go, members-done}
+use Rattle.hp_plants.proofs.Walks.{members-fail}
 use Rattle.hp_plants.proofs.buses.buses.Goals as goal
 
 pub loop-name-init : goal.loop-name-init
@@ -17,7 +18,7 @@ returns-in_err-bus c =
     let l = c.loop-name in
     let e : Entry = (c.in-Some.name.now, c.in-Some.value.now) in
     let p = err_from_is_err_and c.from_residual-in_err-bus.result c.from_residual-in_err-bus.ensures.1 in
-    let fails : Fails c.in_err-bus.field-0.0 ((bus_at) l.found l.i (string_bytes e.0) (view e.1)) = rw (← c.as_str.ensures.value) c.in_err-bus.ensures in
+    let fails : HydroFails c.in_err-bus.field-0.0 ((bus_at) l.found l.i (string_bytes e.0) (view e.1)) = rw (← c.as_str.ensures.value) c.in_err-bus.ensures in
     rw (p.1, p.2) (members-fail (bus_at) l.found l.i e c.next.new.self l.name-iterator _ c.in_err-bus.field-0.0 c.in-Some.ensures.steps fails l.invariant.walked)
 
 pub loop-name-preserved : goal.loop-name-preserved

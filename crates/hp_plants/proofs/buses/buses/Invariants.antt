@@ -1,7 +1,7 @@
 use Rattle.std.proofs.Common.{◌≡◌, ◌+◌}
 use Rattle.serde_json.specs.Events.{members_len}
 use Rattle.serde_json.specs.View.{members_view}
-use Rattle.hp_plants.specs.Steps.{walk_members}
+use Rattle.hp_fields.specs.Steps.{walk_members}
 use Rattle.hp_plants.specs.Grid.{bus_at, buses_at}
 use Rattle.hp_plants.proofs.buses.buses.Given as goal
 

@@ -2,16 +2,18 @@ use Rattle.std.proofs.Common.{◌≡◌, ℤ, [], get_or, to_z, of_z, w64, arith
 use Rattle.std.proofs.lemmas.Int.{to_z-of_z}
 use Rattle.std.proofs.lemmas.Result.{err_from_is_err_and}
 use Rattle.serde_json.specs.View.{members_view}
-use Rattle.hp_plants.specs.Steps.{Fails, walk_list}
-use Rattle.hp_plants.specs.Fields.{entry_at, entries_at}
-use Rattle.hp_plants.proofs.Walks.{list-go, list-fail, list-done}
+use Rattle.hp_fields.specs.Steps.{walk_list}
+use Rattle.hp_plants.specs.Steps.{HydroFails}
+use Rattle.hp_plants.specs.Fields.{hydro_entry_at, hydro_entries_at}
+use Rattle.hp_fields.proofs.Walks.{list-go, list-done}
+use Rattle.hp_plants.proofs.Walks.{list-fail}
 use Rattle.hp_plants.proofs.entries.entries.Goals as goal
 
 pub loop-i-init : goal.loop-i-init
-unfolding entries_at
+unfolding hydro_entries_at
 loop-i-init c =
     let a = c.args in
-    ap (λ f. walk_list (entry_at a.place (to_z w64 (of_z w64 a.least)) (members_view a.table.now.entries)) f a.names.now) c.new-found.ensures
+    ap (λ f. walk_list (hydro_entry_at a.place (to_z w64 (of_z w64 a.least)) (members_view a.table.now.entries)) f 0 a.names.now) c.new-found.ensures
 
 pub returns-in_err-entry : goal.returns-in_err-entry
 returns-in_err-entry c =
@@ -20,14 +22,14 @@ returns-in_err-entry c =
     let z = to_z w64 (of_z w64 a.least) in
     let ms = members_view a.table.now.entries in
     let p = err_from_is_err_and c.from_residual.result c.from_residual.ensures.1 in
-    let fails : Fails c.in_err-entry.field-0.0 (entries_at a.place z a.names.now ms) = list-fail (entry_at a.place z ms) l.found l.i (get_or a.names.now l.i []) [] a.names.now _ c.in_err-entry.field-0.0 (omega arith) refl c.in_err-entry.ensures l.invariant in
-    rw (p.1, p.2) (subst (λ (y : ℤ). Fails c.in_err-entry.field-0.0 (entries_at a.place y a.names.now ms)) (to_z-of_z w64 a.least c.ranges.least) fails)
+    let fails : HydroFails c.in_err-entry.field-0.0 (hydro_entries_at a.place z a.names.now ms) = list-fail (hydro_entry_at a.place z ms) l.found l.i (get_or a.names.now l.i []) [] a.names.now _ c.in_err-entry.field-0.0 (omega arith) refl c.in_err-entry.ensures l.invariant in
+    rw (p.1, p.2) (subst (λ (y : ℤ). HydroFails c.in_err-entry.field-0.0 (hydro_entries_at a.place y a.names.now ms)) (to_z-of_z w64 a.least c.ranges.least) fails)
 
 pub loop-i-preserved : goal.loop-i-preserved
 loop-i-preserved c =
     let a = c.args in
     let l = c.loop-i in
-    list-go (entry_at a.place (to_z w64 (of_z w64 a.least)) (members_view a.table.now.entries)) l.found c.entry.new.found l.i (get_or a.names.now l.i []) [] a.names.now _ (omega arith) refl c.in_ok-entry.ensures l.invariant
+    list-go (hydro_entry_at a.place (to_z w64 (of_z w64 a.least)) (members_view a.table.now.entries)) l.found c.entry.new.found l.i (get_or a.names.now l.i []) [] a.names.now _ (omega arith) refl c.in_ok-entry.ensures l.invariant
 
 pub returns : goal.returns
 returns c =
@@ -35,5 +37,5 @@ returns c =
     let l = c.loop-i in
     let z = to_z w64 (of_z w64 a.least) in
     let ms = members_view a.table.now.entries in
-    let done = list-done (entry_at a.place z ms) l.found l.i a.names.now (entries_at a.place z a.names.now ms) (omega arith) l.invariant in
-    subst (λ (y : ℤ). entries_at a.place y a.names.now ms ≡ Ok l.found) (to_z-of_z w64 a.least c.ranges.least) done
+    let done = list-done (hydro_entry_at a.place z ms) l.found l.i a.names.now (hydro_entries_at a.place z a.names.now ms) (omega arith) l.invariant in
+    subst (λ (y : ℤ). hydro_entries_at a.place y a.names.now ms ≡ Ok l.found) (to_z-of_z w64 a.least c.ranges.least) done

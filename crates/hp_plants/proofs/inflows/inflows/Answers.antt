@@ -1,7 +1,8 @@
 use Rattle.std.proofs.Common.{arith}
 use Rattle.std.proofs.lemmas.Result.{err_from_is_err_and}
 use Rattle.std.proofs.lemmas.Grind.{common_steps}
-use Rattle.hp_plants.proofs.Walks.{items-go, items-fail, items-done}
+use Rattle.hp_fields.proofs.Walks.{items-go, items-done}
+use Rattle.hp_plants.proofs.Walks.{items-fail}
 use Rattle.hp_plants.specs.Stages.{inflow_at, inflows_at}
 use Rattle.hp_plants.proofs.inflows.inflows.Goals as goal
 

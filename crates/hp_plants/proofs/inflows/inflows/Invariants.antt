@@ -1,6 +1,6 @@
 use Rattle.std.proofs.Common.{◌≡◌, drop}
 use Rattle.serde_json.specs.View.{items_view}
-use Rattle.hp_plants.specs.Steps.{walk_items}
+use Rattle.hp_fields.specs.Steps.{walk_items}
 use Rattle.hp_plants.specs.Stages.{inflow_at, inflows_at}
 use Rattle.hp_plants.proofs.inflows.inflows.Given as goal
 

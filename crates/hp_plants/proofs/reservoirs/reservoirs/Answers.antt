@@ -3,9 +3,10 @@ use Rattle.std.proofs.lemmas.Result.{err_from_is_err_and}
 use Rattle.std.proofs.lemmas.Grind.{common_steps}
 use Rattle.serde_json.specs.View.{view}
 use Rattle.serde_json.proofs.Views.{Entry}
-use Rattle.hp_plants.specs.Steps.{Fails}
-use Rattle.hp_plants.specs.Grid.{reservoir_at, reservoirs_at}
-use Rattle.hp_plants.proofs.Walks.{members-go, members-fail, members-done}
+use Rattle.hp_plants.specs.Steps.{HydroFails}
+use Rattle.hp_plants.specs.Grid.{read_reservoir_at, reservoirs_at}
+use Rattle.hp_fields.proofs.Walks.{members-go, members-done}
+use Rattle.hp_plants.proofs.Walks.{members-fail}
 use Rattle.hp_plants.proofs.reservoirs.reservoirs.Goals as goal
 
 pub loop-name-init : goal.loop-name-init
@@ -17,8 +18,8 @@ returns-in_err-reservoir c =
     let l = c.loop-name in
     let e : Entry = (c.in-Some.name.now, c.in-Some.value.now) in
     let p = err_from_is_err_and c.from_residual-in_err-reservoir.result c.from_residual-in_err-reservoir.ensures.1 in
-    let fails : Fails c.in_err-reservoir.field-0.0 ((reservoir_at c.args.buses.now c.args.names.now) l.found l.i (string_bytes e.0) (view e.1)) = rw (← c.as_str.ensures.value) c.in_err-reservoir.ensures in
-    rw (p.1, p.2) (members-fail (reservoir_at c.args.buses.now c.args.names.now) l.found l.i e c.next.new.self l.name-iterator _ c.in_err-reservoir.field-0.0 c.in-Some.ensures.steps fails l.invariant.walked)
+    let fails : HydroFails c.in_err-reservoir.field-0.0 ((read_reservoir_at c.args.names.now.buses.now c.args.names.now.reservoirs.now) l.found l.i (string_bytes e.0) (view e.1)) = rw (← c.as_str.ensures.value) c.in_err-reservoir.ensures in
+    rw (p.1, p.2) (members-fail (read_reservoir_at c.args.names.now.buses.now c.args.names.now.reservoirs.now) l.found l.i e c.next.new.self l.name-iterator _ c.in_err-reservoir.field-0.0 c.in-Some.ensures.steps fails l.invariant.walked)
 
 pub loop-name-preserved : goal.loop-name-preserved
 loop-name-preserved c =
@@ -28,8 +29,8 @@ loop-name-preserved c =
       can = tt;
       finite = tt;
       counted = grind (arith, common_steps);
-      walked = members-go (reservoir_at c.args.buses.now c.args.names.now) l.found c.reservoir.new.found l.i e c.next.new.self l.name-iterator _ c.in-Some.ensures.steps (rw (← c.as_str.ensures.value) c.in_ok-reservoir.ensures) l.invariant.walked;
+      walked = members-go (read_reservoir_at c.args.names.now.buses.now c.args.names.now.reservoirs.now) l.found c.reservoir.new.found l.i e c.next.new.self l.name-iterator _ c.in-Some.ensures.steps (rw (← c.as_str.ensures.value) c.in_ok-reservoir.ensures) l.invariant.walked;
     }
 
 pub returns : goal.returns
-returns c = let l = c.loop-name in members-done (reservoir_at c.args.buses.now c.args.names.now) l.found l.i l.name-iterator _ c.in-None.ensures.steps.0 l.invariant.walked
+returns c = let l = c.loop-name in members-done (read_reservoir_at c.args.names.now.buses.now c.args.names.now.reservoirs.now) l.found l.i l.name-iterator _ c.in-None.ensures.steps.0 l.invariant.walked

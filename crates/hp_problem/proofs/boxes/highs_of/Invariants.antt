@@ -1,6 +1,6 @@
 use Rattle.std.proofs.Common.{◌≡◌, map, take}
 use Rattle.hp_num.specs.Sums.{entry}
-use Rattle.hp_problem.specs.declared.raw.Decision.{Decision}
+use Rattle.hp_parts.specs.declared.parts.Decision.{Decision}
 use Rattle.hp_problem.proofs.boxes.highs_of.Given as goal
 
 abbrev pub invariant-loop-out : goal.invariant-loop-out

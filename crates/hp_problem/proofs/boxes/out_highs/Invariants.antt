@@ -1,5 +1,5 @@
 use Rattle.std.proofs.Common.{◌≡◌, map, take}
-use Rattle.hp_problem.specs.Sealed.{out_highs}
+use Rattle.hp_problem.specs.Validated.{out_highs}
 use Rattle.hp_problem.proofs.boxes.out_highs.Given as goal
 
 abbrev pub invariant-loop-subproblem : goal.invariant-loop-subproblem

@@ -4,4 +4,4 @@ use Rattle.hp_record.proofs.Loop.{with_front}
 use Rattle.hp_record.proofs.certificates.certificates.Given as goal
 
 abbrev pub invariant-loop : goal.invariant-loop
-invariant-loop l = with_front l.found.items (many (certificate_at l.sizes) (l.sizes.realizations - l.counter) l.rest) ≡ many (certificate_at l.sizes) l.sizes.realizations l.bytes
+invariant-loop l = with_front l.found.items (many (certificate_at l.sizes) (l.sizes.realizations - l.counter) l.tail) ≡ many (certificate_at l.sizes) l.sizes.realizations l.bytes

@@ -1,7 +1,7 @@
-use Rattle.std.proofs.Common.{◌≡◌, List, ℕ, sym, subst, rules}
+use Rattle.std.proofs.Common.{◌≡◌, sym, subst, rules}
 use Rattle.hp_theory.specs.View.{problem_of}
 use Rattle.hp_theory.proofs.BoundBelow.{sound_bound}
-use Rattle.hp_theory.proofs.SealedPremises.{root_shaped-sealed}
+use Rattle.hp_theory.proofs.ValidatedPremises.{root_shaped-validated}
 use Rattle.hp_cut.proofs.Weighted.{have_cuts-fit}
 use Rattle.hp_report.specs.Report.{check_text}
 use Rattle.hp_report.specs.SoundLines.{SoundLines}
@@ -13,7 +13,7 @@ unfolding check_text
 returns-clause-sound c = λ safe.
     let p = c.args.problem.now in
     let l = c.args.loaded.now in
-    let sealed = c.raw.ensures.sealed in
-    let text : c.push_rest.new.out.items ≡ check_text p l.pools.lists l.bounds l.unsettled l.rest = search rules in
+    let validated = c.parts.ensures.validated in
+    let text : c.push_rest.new.out.items ≡ check_text p l.pools.lists l.bounds l.unanswered l.tail = search rules in
     subst (SoundLines (problem_of p)) (sym text)
-    (sound_check p l.pools.lists l.bounds l.unsettled l.rest safe.sound safe.under (sound_bound (problem_of p) l.pools.lists (root_shaped-sealed p sealed) (have_cuts-fit p l.pools.lists sealed c.requires) safe.sound))
+    (sound_check p l.pools.lists l.bounds l.unanswered l.tail safe.sound safe.under (sound_bound (problem_of p) l.pools.lists (root_shaped-validated p validated) (have_cuts-fit p l.pools.lists validated c.requires) safe.sound))

@@ -1,5 +1,5 @@
 use Rattle.std.proofs.Common.{◌++◌, codes, arith}
-use Rattle.hp_problem.specs.declared.raw.State.{State}
+use Rattle.hp_parts.specs.declared.parts.State.{State}
 use Rattle.hp_report.specs.Traces.{in_lines}
 use Rattle.hp_report.proofs.NamedLines.{named-done}
 use Rattle.hp_report.proofs.traces.push_state.Goals as goal

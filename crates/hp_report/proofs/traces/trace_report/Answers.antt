@@ -1,7 +1,7 @@
 use Rattle.std.proofs.Common.{◌≡◌, sym, subst, rules}
 use Rattle.hp_theory.specs.View.{problem_of}
 use Rattle.hp_theory.proofs.BoundBelow.{sound_bound}
-use Rattle.hp_theory.proofs.SealedPremises.{root_shaped-sealed}
+use Rattle.hp_theory.proofs.ValidatedPremises.{root_shaped-validated}
 use Rattle.hp_cut.proofs.Weighted.{have_cuts-fit}
 use Rattle.hp_report.specs.SoundLines.{SoundLines}
 use Rattle.hp_report.specs.Traces.{trace_text}
@@ -13,7 +13,7 @@ unfolding trace_text
 returns-clause-sound c = λ sound.
     let p = c.args.problem.now in
     let pools = c.args.pools.now.lists in
-    let sealed = c.raw.ensures.sealed in
+    let validated = c.parts.ensures.validated in
     let text : c.push_bound.new.out.items ≡ trace_text p pools c.args.traces.now = search rules in
     subst (SoundLines (problem_of p)) (sym text)
-    (sound_traces p pools c.args.traces.now (sound_bound (problem_of p) pools (root_shaped-sealed p sealed) (have_cuts-fit p pools sealed c.requires.fit) sound))
+    (sound_traces p pools c.args.traces.now (sound_bound (problem_of p) pools (root_shaped-validated p validated) (have_cuts-fit p pools validated c.requires.fit) sound))

@@ -1,7 +1,7 @@
-use Rattle.std.proofs.Common.{◌≡◌, List, ℕ, sym, subst, rules}
+use Rattle.std.proofs.Common.{◌≡◌, sym, subst, rules}
 use Rattle.hp_theory.specs.View.{problem_of}
 use Rattle.hp_theory.proofs.BoundBelow.{sound_bound}
-use Rattle.hp_theory.proofs.SealedPremises.{root_shaped-sealed}
+use Rattle.hp_theory.proofs.ValidatedPremises.{root_shaped-validated}
 use Rattle.hp_cut.proofs.Weighted.{have_cuts-fit}
 use Rattle.hp_report.specs.Report.{train_text}
 use Rattle.hp_report.specs.SoundLines.{SoundLines}
@@ -13,7 +13,7 @@ unfolding train_text
 returns-clause-sound c = λ sound under.
     let p = c.args.problem.now in
     let l = c.args.loaded.now in
-    let sealed = c.raw.ensures.sealed in
-    let text : c.push_bound.new.out.items ≡ train_text p l.pools.lists l.bounds l.unsettled = search rules in
+    let validated = c.parts.ensures.validated in
+    let text : c.push_bound.new.out.items ≡ train_text p l.pools.lists l.bounds l.unanswered = search rules in
     subst (SoundLines (problem_of p)) (sym text)
-    (sound_training p l.pools.lists l.bounds l.unsettled under (sound_bound (problem_of p) l.pools.lists (root_shaped-sealed p sealed) (have_cuts-fit p l.pools.lists sealed c.requires) sound))
+    (sound_training p l.pools.lists l.bounds l.unanswered under (sound_bound (problem_of p) l.pools.lists (root_shaped-validated p validated) (have_cuts-fit p l.pools.lists validated c.requires) sound))

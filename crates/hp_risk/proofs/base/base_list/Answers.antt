@@ -1,7 +1,7 @@
 use Rattle.std.proofs.Common.{◌≡◌, ◌∙◌, ap, subst, List, ℕ, IfOk}
 use Rattle.hp_theory.specs.declared.cut.Certificate.{Certificate}
 use Rattle.hp_dual.specs.Bases.{certificate_of}
-use Rattle.hp_dual.specs.Parts.{repeated}
+use Rattle.hp_cut_making.specs.Parts.{repeated}
 use Rattle.hp_risk.proofs.Based.{list_made}
 use Rattle.hp_risk.proofs.base.base_list.Goals as goal
 
@@ -10,5 +10,5 @@ returns c =
     let p = c.args.problem.now in
     let n = c.node-here.result.now in
     let s = c.sub-sub.result.now in
-    let is = ap (λ (ws : List ℕ). repeated (certificate_of n s) ws) c.as_slice.ensures ∙ list_made p c.args.node n s c.lo.result.now c.hi.result.now c.raw.ensures.sealed c.node-here.ensures c.sub-sub.ensures c.lo.ensures c.hi.ensures in
+    let is = ap (λ (ws : List ℕ). repeated (certificate_of n s) ws) c.as_slice.ensures ∙ list_made p c.args.node n s c.lo.result.now c.hi.result.now c.parts.ensures.validated c.node-here.ensures c.sub-sub.ensures c.lo.ensures c.hi.ensures in
     subst (λ (list : List Certificate). IfOk c.certificates.result (λ (made : List Certificate). made ≡ list)) is c.certificates.ensures

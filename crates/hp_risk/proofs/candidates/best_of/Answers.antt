@@ -1,8 +1,8 @@
 use Rattle.std.proofs.Common.{◌≡◌, ◌∙◌, ℤ, List, [], ◌∷◌, All, IfSome, None, Option, sym, ap, subst, arith}
 use Rattle.hp_num.proofs.Sums.{All_head, All_tail}
 use Rattle.hp_theory.specs.declared.cut.Cut.{Cut}
-use Rattle.hp_cut.specs.Reaches.{Reaches}
-use Rattle.hp_risk.specs.Planes.{best_from}
+use Rattle.hp_cut.specs.Reaches.{CutReaches}
+use Rattle.hp_risk.specs.RiskCuts.{best_from}
 use Rattle.hp_risk.proofs.Planned.{better_has, none_left}
 use Rattle.hp_risk.proofs.candidates.best_of.Goals as goal
 
@@ -12,7 +12,7 @@ loop-cut-init c =
     record {
       so_far = ap (best_from c.args.state.now None) all;
       best = tt;
-      left = subst (λ (cuts : List (Option Cut)). All (λ (cut : Option Cut). IfSome cut (Reaches c.args.state.now)) cuts) (sym all) c.requires.reach;
+      left = subst (λ (cuts : List (Option Cut)). All (λ (cut : Option Cut). IfSome cut (CutReaches c.args.state.now)) cuts) (sym all) c.requires.reach;
     }
 
 pub loop-cut-preserved : goal.loop-cut-preserved
@@ -20,12 +20,12 @@ loop-cut-preserved c =
     let x : List ℤ = c.args.state.now in
     let next : List (Option Cut) = c.next.new.self.rest.items in
     let one : c.loop-cut.cut-iterator.rest.items ≡ c.in-Some.cut ∷ next = c.in-Some.ensures.steps.0 in
-    let left = subst (λ (cuts : List (Option Cut)). All (λ (cut : Option Cut). IfSome cut (Reaches x)) cuts) one c.loop-cut.invariant.left in
+    let left = subst (λ (cuts : List (Option Cut)). All (λ (cut : Option Cut). IfSome cut (CutReaches x)) cuts) one c.loop-cut.invariant.left in
     record {
       so_far = ap (λ (o : Option Cut). best_from x o next) c.better-best.ensures ∙ sym (ap (best_from x c.loop-cut.best) one) ∙ c.loop-cut.invariant.so_far;
-      best = subst (λ (o : Option Cut). IfSome o (Reaches x)) (sym c.better-best.ensures)
-          (better_has (Reaches x) x c.loop-cut.best c.in-Some.cut c.loop-cut.invariant.best (All_head (λ (cut : Option Cut). IfSome cut (Reaches x)) c.in-Some.cut next left));
-      left = All_tail (λ (cut : Option Cut). IfSome cut (Reaches x)) c.in-Some.cut next left;
+      best = subst (λ (o : Option Cut). IfSome o (CutReaches x)) (sym c.better-best.ensures)
+          (better_has (CutReaches x) x c.loop-cut.best c.in-Some.cut c.loop-cut.invariant.best (All_head (λ (cut : Option Cut). IfSome cut (CutReaches x)) c.in-Some.cut next left));
+      left = All_tail (λ (cut : Option Cut). IfSome cut (CutReaches x)) c.in-Some.cut next left;
     }
 
 pub returns : goal.returns

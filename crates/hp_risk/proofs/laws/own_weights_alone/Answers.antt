@@ -5,5 +5,5 @@ pub returns : goal.returns
 returns c = record {
   tree = λ p count x known alone m units xi t h. lemmas.own_cost p count x known alone units m xi t h;
   policy = λ p count x known alone h units f. lemmas.own_policy p count x known alone units h f;
-  plane = lemmas.plane-own;
+  risk_cut = lemmas.risk_cut-own;
 }

@@ -1,10 +1,10 @@
 use Rattle.std.proofs.Common.{◌≡◌, Ok, Result}
-use Rattle.hp_load.specs.Load.{Outcome, seen}
+use Rattle.hp_load.specs.Load.{Outcome, seen_outcome}
 use Rattle.hp_tree.specs.TooBig.{too_big_of}
 use Rattle.hp_run.specs.Loading.{NotLoaded}
 use Rattle.hp_run.specs.Outcome.{WithBase}
 use Rattle.hp_run.specs.declared.status.Status.{Status}
-use Rattle.hp_run.proofs.Evaluated.{judge, judges, not_judged, verdict_reported, verdict_sound}
+use Rattle.hp_run.proofs.Evaluated.{classify, classifies, not_classified, verdict_reported, verdict_sound}
 use Rattle.hp_run.proofs.Loaded.{loaded_by, not_loaded}
 use Rattle.hp_run.proofs.evaluating.report_evaluate.Goals as goal
 
@@ -15,7 +15,7 @@ returns-in-Err-load_within-clause-lacks g c =
     let kept = (g.D.Disk.store c.args.journal.now).reads in
     let fault = c.in-Err-load_within.fault in
     let told = loaded_by kept (λ (r : Result Outcome Status). NotLoaded fault r) b _ _ _ _ c.digest-digest.ensures c.in-Ok.ensures c.in-Err-load_within.ensures.value in
-    rw c.status_of_fault.ensures (not_loaded v _ kept c.args.accepted.bytes.now b (too_big_of b.problem) (judge v c.args.accepted.bytes.now b) (judges v c.args.accepted.bytes.now b c.requires.read) _ _ fault c.in-Err-load_within.ensures.cause.failed told)
+    rw c.status_of_fault.ensures (not_loaded v _ kept c.args.accepted.bytes.now b (too_big_of b.problem) (classify v c.args.accepted.bytes.now b) (classifies v c.args.accepted.bytes.now b c.requires.read) _ _ fault c.in-Err-load_within.ensures.cause told)
 
 pub returns-in-Err-verdict_of-clause-lacks : goal.returns-in-Err-verdict_of-clause-lacks
 returns-in-Err-verdict_of-clause-lacks g c =
@@ -23,8 +23,8 @@ returns-in-Err-verdict_of-clause-lacks g c =
     let b : WithBase = record { problem = c.args.accepted.problem.now; pools = c.args.accepted.pools.lists } in
     let kept = (g.D.Disk.store c.args.journal.now).reads in
     let loaded = c.in-Ok-load_within.loaded in
-    let told = loaded_by kept (λ (r : Result Outcome Status). r ≡ Ok (seen loaded)) b _ _ _ _ c.digest-digest.ensures c.in-Ok.ensures c.in-Ok-load_within.ensures.value in
-    rw c.status_of_plan.ensures (not_judged v c.args.accepted.bytes.now b kept c.requires.read (seen loaded) told _ _ c.in-Err-verdict_of.fault c.in-Err-verdict_of.ensures.value c.raw.ensures.sealed)
+    let told = loaded_by kept (λ (r : Result Outcome Status). r ≡ Ok (seen_outcome loaded)) b _ _ _ _ c.digest-digest.ensures c.in-Ok.ensures c.in-Ok-load_within.ensures.value in
+    rw c.status_of_plan.ensures (not_classified v c.args.accepted.bytes.now b kept c.requires.read (seen_outcome loaded) told _ _ c.in-Err-verdict_of.fault c.in-Err-verdict_of.ensures.value c.parts.ensures.validated (c.in-Ok-load_within.ensures.cause.otherwise (λ e. cc)))
 
 pub returns-in-Ok-verdict_report-clause-report : goal.returns-in-Ok-verdict_report-clause-report
 returns-in-Ok-verdict_report-clause-report g c =
@@ -32,11 +32,11 @@ returns-in-Ok-verdict_report-clause-report g c =
     let b : WithBase = record { problem = c.args.accepted.problem.now; pools = c.args.accepted.pools.lists } in
     let kept = (g.D.Disk.store c.args.journal.now).reads in
     let loaded = c.in-Ok-load_within.loaded in
-    let told = loaded_by kept (λ (r : Result Outcome Status). r ≡ Ok (seen loaded)) b _ _ _ _ c.digest-digest.ensures c.in-Ok.ensures c.in-Ok-load_within.ensures.value in
-    verdict_reported v c.args.accepted.bytes.now b kept c.requires.read (seen loaded) told c.in-Ok-verdict_of.verdict c.in-Ok-verdict_report.text.items c.in-Ok-verdict_of.ensures.value c.in-Ok-verdict_report.ensures
+    let told = loaded_by kept (λ (r : Result Outcome Status). r ≡ Ok (seen_outcome loaded)) b _ _ _ _ c.digest-digest.ensures c.in-Ok.ensures c.in-Ok-load_within.ensures.value in
+    verdict_reported v c.args.accepted.bytes.now b kept c.requires.read (seen_outcome loaded) told c.in-Ok-verdict_of.verdict c.in-Ok-verdict_report.text.items c.in-Ok-verdict_of.ensures.value c.in-Ok-verdict_report.ensures
 
 pub returns-in-Ok-verdict_report-clause-sound : goal.returns-in-Ok-verdict_report-clause-sound
 returns-in-Ok-verdict_report-clause-sound g c =
     let safe = c.in-Ok-load_within.ensures.safe in
     let pools = c.in-Ok-load_within.loaded.pools.lists in
-    (pools, verdict_sound c.args.accepted.bytes.now c.args.accepted.problem.now pools c.in-Ok-verdict_of.verdict c.in-Ok-verdict_report.text.items c.raw.ensures.sealed safe.fit safe.sound c.in-Ok-verdict_of.ensures.two_sided c.in-Ok-verdict_report.ensures)
+    (pools, verdict_sound c.args.accepted.bytes.now c.args.accepted.problem.now pools c.in-Ok-verdict_of.verdict c.in-Ok-verdict_report.text.items c.parts.ensures.validated safe.fit safe.sound c.in-Ok-verdict_of.ensures.two_sided c.in-Ok-verdict_report.ensures)

@@ -7,4 +7,4 @@ returns-in-Ok-clause-report g c =
 
 pub returns-in-Err-clause-lacks : goal.returns-in-Err-clause-lacks
 returns-in-Err-clause-lacks g c = rw c.status_of_fault.ensures (check_lacks (g.V.Solver.does c.args.solver.now) (λ v. v.items) (g.D.Disk.store c.args.journal.now).reads (g.D.Disk.faults c.args.journal.now) (g.D.Disk.faults c.check.new.journal)
-    c.args.accepted.bytes.now (record { problem = c.args.accepted.problem.now; pools = c.args.accepted.pools.lists }) c.in-Err.fault c.requires.read c.in-Err.ensures.cause.failed c.in-Err.ensures.value)
+    c.args.accepted.bytes.now (record { problem = c.args.accepted.problem.now; pools = c.args.accepted.pools.lists }) c.in-Err.fault c.requires.read c.in-Err.ensures.cause c.in-Err.ensures.value)

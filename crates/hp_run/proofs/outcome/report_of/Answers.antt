@@ -6,9 +6,9 @@ use Rattle.hp_run.proofs.Reports.{refused_as, sound_texts}
 use Rattle.hp_run.proofs.outcome.report_of.Goals as goal
 
 pub returns-clause-sound : goal.returns-clause-sound
-returns-clause-sound g c = sound_texts (λ v. v.items) c.args.task c.args.bytes.now _ _ c.in-Ok.ensures.read c.report_by.ensures.sound
+returns-clause-sound g c = sound_texts (λ v. v.items) c.args.command c.args.bytes.now _ _ c.in-Ok.ensures.read c.report_by.ensures.sound
 
 pub returns-in-Err-Refused-clause-lacks : goal.returns-in-Err-Refused-clause-lacks
 returns-in-Err-Refused-clause-lacks g c =
     let refused = subst (λ (f : ReadRefusal). Fails f (based_at c.args.bytes.now)) c.in-Err-Refused.field-0-is c.in-Err-Refused.ensures.value in
-    rw c.in-Err-Refused.refusal-is (refused_as c.args.task c.args.bytes.now c.in-Err-Refused.refusal refused)
+    rw c.in-Err-Refused.refusal-is (refused_as c.args.command c.args.bytes.now c.in-Err-Refused.refusal refused)

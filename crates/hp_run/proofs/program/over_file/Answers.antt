@@ -2,7 +2,7 @@ use Rattle.std.proofs.Common.{inl, inr, refl, subst}
 use Rattle.hp_outside.specs.Counted.{CountedFile}
 use Rattle.hp_run.specs.OwnSolver.{own_solver}
 use Rattle.hp_run.specs.Run.{IsRun, devices, telling_streams}
-use Rattle.hp_run.specs.Words.{asked}
+use Rattle.hp_run.specs.Words.{asked_command}
 use Rattle.hp_run.specs.declared.status.Status.TheVariants.{Memory}
 use Rattle.hp_run.proofs.program.over_file.Goals as goal
 
@@ -14,7 +14,7 @@ returns-in-Ok g c =
       run.ensures.1,
       inr (
         run.new.outside.1.0,
-        subst (λ (d : CountedFile). IsRun own_solver (asked c.args.words.now) (telling_streams g.I.Read.remaining g.O.Write.contents) (devices c.args.problem.now d c.args.out.now) (devices run.new.outside.0 run.new.outside.1.0 run.new.outside.1.1.0) run.ensures.0)
+        subst (λ (d : CountedFile). IsRun own_solver (asked_command c.args.words.now) (telling_streams g.I.Read.remaining g.O.Write.contents) (devices c.args.problem.now d c.args.out.now) (devices run.new.outside.0 run.new.outside.1.0 run.new.outside.1.1.0) run.ensures.0)
             c.in-Ok.ensures run.ensures.2,
       ),
     )

@@ -1,6 +1,6 @@
 use Rattle.std.proofs.Common.{inl, inr, refl, subst}
 use Rattle.hp_outside.specs.Counted.{Counted}
-use Rattle.hp_run.specs.Run.{Answers, fresh}
+use Rattle.hp_run.specs.Run.{AnswersWords, fresh_counted}
 use Rattle.hp_run.specs.declared.status.Status.TheVariants as statuses
 use Rattle.hp_run.proofs.program.start.Goals as goal
 
@@ -13,6 +13,6 @@ pub returns-in-Ok-words_given : goal.returns-in-Ok-words_given
 returns-in-Ok-words_given g c =
     let run = c.on_words in
     let words = c.as_slice.result.now in
-    let answers = λ (p : Counted _) (o : Counted _). Answers g.I.Read.remaining g.O.Write.contents words p run.new.problem o run.new.out run.ensures.0 in
+    let answers = λ (p : Counted _) (o : Counted _). AnswersWords g.I.Read.remaining g.O.Write.contents words p run.new.problem o run.new.out run.ensures.0 in
     let over_input = subst (λ (p : Counted _). answers p c.new-out.result) c.new-problem.ensures run.ensures.2 in
-    (run.ensures.0, run.ensures.1, inr (words, run.new.problem, run.new.out, subst (λ (o : Counted _). answers (fresh c.args.input) o) c.new-out.ensures over_input))
+    (run.ensures.0, run.ensures.1, inr (words, run.new.problem, run.new.out, subst (λ (o : Counted _). answers (fresh_counted c.args.input) o) c.new-out.ensures over_input))

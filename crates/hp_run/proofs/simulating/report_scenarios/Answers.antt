@@ -1,6 +1,6 @@
 use Rattle.std.proofs.Common.{◌≡◌, ◌∙◌, ℕ, List, Ok, Result, ap}
 use Rattle.hp_forward.specs.declared.traces.Trace.{Trace}
-use Rattle.hp_load.specs.Load.{Outcome, seen}
+use Rattle.hp_load.specs.Load.{Outcome, seen_outcome}
 use Rattle.hp_problem.specs.Formulas.{too_wide}
 use Rattle.hp_report.specs.Traces.{trace_text}
 use Rattle.hp_run.specs.Loading.{NotLoaded}
@@ -17,7 +17,7 @@ returns-in-Err-clause-lacks g c =
     let kept = (g.D.Disk.store c.args.journal.now).reads in
     let formula = c.too_wide-formula.ensures ∙ ap (λ (n : ℕ). too_wide b.problem n) c.count_of.ensures in
     let told = loaded_by kept (λ (r : Result Outcome Status). NotLoaded c.in-Err.fault r) b _ _ _ _ c.digest-digest.ensures formula c.in-Err.ensures.value in
-    rw c.status_of_fault.ensures (not_loaded v _ kept c.args.accepted.bytes.now b (width v c.args.scenarios c.args.accepted.bytes.now b) (follow v c.args.scenarios c.args.accepted.bytes.now b) (follows v c.args.scenarios c.args.accepted.bytes.now b c.requires.read) _ _ c.in-Err.fault c.in-Err.ensures.cause.failed told)
+    rw c.status_of_fault.ensures (not_loaded v _ kept c.args.accepted.bytes.now b (width v c.args.scenarios c.args.accepted.bytes.now b) (follow v c.args.scenarios c.args.accepted.bytes.now b) (follows v c.args.scenarios c.args.accepted.bytes.now b c.requires.read) _ _ c.in-Err.fault c.in-Err.ensures.cause told)
 
 pub returns-in-Err-traced-clause-lacks : goal.returns-in-Err-traced-clause-lacks
 returns-in-Err-traced-clause-lacks g c =
@@ -25,8 +25,8 @@ returns-in-Err-traced-clause-lacks g c =
     let b : WithBase = record { problem = c.args.accepted.problem.now; pools = c.args.accepted.pools.lists } in
     let kept = (g.D.Disk.store c.args.journal.now).reads in
     let formula = c.too_wide-formula.ensures ∙ ap (λ (n : ℕ). too_wide b.problem n) c.count_of.ensures in
-    let told = loaded_by kept (λ (r : Result Outcome Status). r ≡ Ok (seen c.in-Ok.loaded)) b _ _ _ _ c.digest-digest.ensures formula c.in-Ok.ensures.value in
-    rw c.status_of_plan.ensures (not_traced v c.args.scenarios c.args.accepted.bytes.now b kept c.requires.read (seen c.in-Ok.loaded) told _ _ c.in-Err-traced.fault c.in-Err-traced.ensures.value c.raw.ensures.sealed)
+    let told = loaded_by kept (λ (r : Result Outcome Status). r ≡ Ok (seen_outcome c.in-Ok.loaded)) b _ _ _ _ c.digest-digest.ensures formula c.in-Ok.ensures.value in
+    rw c.status_of_plan.ensures (not_traced v c.args.scenarios c.args.accepted.bytes.now b kept c.requires.read (seen_outcome c.in-Ok.loaded) told _ _ c.in-Err-traced.fault c.in-Err-traced.ensures.value c.parts.ensures.validated (c.in-Ok.ensures.cause.otherwise (λ e. cc)))
 
 pub returns-in-Ok-trace_report-clause-report : goal.returns-in-Ok-trace_report-clause-report
 returns-in-Ok-trace_report-clause-report g c =
@@ -34,12 +34,12 @@ returns-in-Ok-trace_report-clause-report g c =
     let b : WithBase = record { problem = c.args.accepted.problem.now; pools = c.args.accepted.pools.lists } in
     let kept = (g.D.Disk.store c.args.journal.now).reads in
     let formula = c.too_wide-formula.ensures ∙ ap (λ (n : ℕ). too_wide b.problem n) c.count_of.ensures in
-    let told = loaded_by kept (λ (r : Result Outcome Status). r ≡ Ok (seen c.in-Ok.loaded)) b _ _ _ _ c.digest-digest.ensures formula c.in-Ok.ensures.value in
+    let told = loaded_by kept (λ (r : Result Outcome Status). r ≡ Ok (seen_outcome c.in-Ok.loaded)) b _ _ _ _ c.digest-digest.ensures formula c.in-Ok.ensures.value in
     let text = c.in-Ok-trace_report.ensures.text ∙ ap (λ (traces : List Trace). trace_text b.problem c.in-Ok.loaded.pools.lists traces) c.as_slice.ensures in
-    traces_reported v c.args.scenarios c.args.accepted.bytes.now b kept c.requires.read (seen c.in-Ok.loaded) told c.in-Ok-traced.traces c.in-Ok-trace_report.text.items c.in-Ok-traced.ensures.value text
+    traces_reported v c.args.scenarios c.args.accepted.bytes.now b kept c.requires.read (seen_outcome c.in-Ok.loaded) told c.in-Ok-traced.traces c.in-Ok-trace_report.text.items c.in-Ok-traced.ensures.value text
 
 pub returns-in-Ok-trace_report-clause-sound : goal.returns-in-Ok-trace_report-clause-sound
 returns-in-Ok-trace_report-clause-sound g c =
     let safe = c.in-Ok.ensures.safe in
     let text = c.in-Ok-trace_report.ensures.text ∙ ap (λ (traces : List Trace). trace_text c.args.accepted.problem.now c.in-Ok.loaded.pools.lists traces) c.as_slice.ensures in
-    (c.in-Ok.loaded.pools.lists, scenarios_sound c.args.scenarios c.args.accepted.bytes.now c.args.accepted.problem.now c.in-Ok.loaded.pools.lists c.in-Ok-traced.traces c.in-Ok-trace_report.text.items c.raw.ensures.sealed safe.fit safe.sound text)
+    (c.in-Ok.loaded.pools.lists, scenarios_sound c.args.scenarios c.args.accepted.bytes.now c.args.accepted.problem.now c.in-Ok.loaded.pools.lists c.in-Ok-traced.traces c.in-Ok-trace_report.text.items c.parts.ensures.validated safe.fit safe.sound text)

@@ -2,4 +2,4 @@ use Rattle.hp_run.proofs.Sounding.{sound_done}
 use Rattle.hp_run.proofs.told.run_over_memory.Goals as goal
 
 pub returns : goal.returns
-returns g c task is done = sound_done _ task _ _ is done c.run.ensures.sound
+returns g c command is plans done = sound_done _ command _ _ is plans done c.run.ensures.sound

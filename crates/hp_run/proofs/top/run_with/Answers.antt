@@ -1,7 +1,7 @@
-use Rattle.hp_run.specs.Words.{asked}
+use Rattle.hp_run.specs.Words.{asked_command}
 use Rattle.hp_run.proofs.ResumedRuns.{asked_within, resumes}
-use Rattle.hp_run.proofs.Plans.{describes}
 use Rattle.hp_run.proofs.Meant.{meant}
+use Rattle.hp_run.proofs.Plans.{describes}
 use Rattle.hp_run.proofs.Reports.{completes}
 use Rattle.hp_run.proofs.Sounding.{sounds}
 use Rattle.hp_run.proofs.top.run_with.Goals as goal
@@ -9,14 +9,14 @@ use Rattle.hp_run.proofs.top.run_with.Goals as goal
 -- what the status tells of the run has the rest in it
 pub returns : goal.returns
 returns g c =
-    let job = asked c.args.words.now in
+    let wanted = asked_command c.args.words.now in
     let done = c.act.ensures in
     record {
       cause = done.cause;
-      complete = completes _ job _ _ done.cause;
-      means = meant _ job _ _ done.cause;
-      sound = sounds _ job _ _ done.cause;
-      described = describes _ job _ _ done.cause;
+      complete = completes _ wanted _ _ done.cause;
+      means = meant _ wanted _ _ done.cause;
+      sound = sounds _ wanted _ _ done.cause;
+      described = describes _ wanted _ _ done.cause;
       unwritten = done.unwritten;
       unread = done.unread;
       journal = done.journal;
@@ -24,5 +24,5 @@ returns g c =
       journal_later = done.journal_later;
       grown = done.grown;
       any_moment = done.any_moment;
-      resumed = resumes _ job _ _ (g.D.Disk.store c.act.new.outside.1.0) (asked_within c.args.words.now) done.cause done.grown;
+      resumed = resumes _ wanted _ _ (g.D.Disk.store c.act.new.outside.1.0) (asked_within c.args.words.now) done.cause done.grown;
     }

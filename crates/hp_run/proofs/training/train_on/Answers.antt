@@ -1,6 +1,5 @@
-use Rattle.std.proofs.Common.{arith}
 use Rattle.hp_run.proofs.Synced.{sync_leaves, train_leaves}
-use Rattle.hp_run.proofs.TrainReports.{plan_disk, plan_stops, plan_whole, rose_later}
+use Rattle.hp_run.proofs.TrainReports.{cause_as, cause_later, disk_plan, plan_disk, plan_stops, plan_whole}
 use Rattle.hp_run.proofs.training.train_on.Goals as goal
 
 pub returns-in_default-clause-any_moment : goal.returns-in_default-clause-any_moment
@@ -22,7 +21,5 @@ pub returns-in-Err-clause-any_moment : goal.returns-in-Err-clause-any_moment
 returns-in-Err-clause-any_moment g c = train_leaves _ _ _ _ _ _ (g.D.Disk.lawful c.args.journal.now) c.sync.ensures.crash c.sync.ensures.time _ c.sync.ensures.reads c.train.ensures.any_moment
 
 pub returns-in-Err-clause-cause : goal.returns-in-Err-clause-cause
-returns-in-Err-clause-cause g c = record {
-  later = omega (arith, c.sync.ensures.cause.later, c.train.ensures.cause.later);
-  failed = λ e. rose_later _ _ _ c.sync.ensures.cause.later (c.in-Err.ensures.cause.failed (plan_disk (Unit {0}) (Unit {0}) c.in-Err.fault _ c.status_of_plan.ensures e));
-}
+returns-in-Err-clause-cause g c = cause_later _ _ _ _ c.in-Ok.ensures.cause.succeeded
+    (cause_as _ _ _ _ c.in-Err.ensures.cause (plan_disk (Unit {0}) (Unit {0}) c.in-Err.fault _ c.status_of_plan.ensures) (disk_plan (Unit {0}) (Unit {0}) c.in-Err.fault _ c.status_of_plan.ensures))

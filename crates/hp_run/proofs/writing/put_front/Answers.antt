@@ -11,10 +11,10 @@ loop-preserved g c =
     let text = c.args.text.now in
     let at = c.loop.at in
     let front = λ (n : ℕ). Appends (holds c.args.output.now) (holds c.write.new.self) (take n text) in
-    let rest : take (length text - at) (drop at text) ≡ drop at text = grind (arith, common_steps) in
+    let tail : take (length text - at) (drop at text) ≡ drop at text = grind (arith, common_steps) in
     elim c.match-write.branch [
       | in-Ok w ↦ record {
-        front = subst front (sym w.at-is) (appends_piece (holds c.args.output.now) (holds c.loop.output) (holds c.write.new.self) at w.in-Ok.count text _ rest c.loop.invariant.front w.in-Ok.ensures.bytes);
+        front = subst front (sym w.at-is) (appends_piece (holds c.args.output.now) (holds c.loop.output) (holds c.write.new.self) at w.in-Ok.count text _ tail c.loop.invariant.front w.in-Ok.ensures.bytes);
         inside = grind (arith, common_steps, w.at-is, w.in-Ok.ensures.bound, c.loop.invariant.inside);
       }
       | in-Err w ↦ record {

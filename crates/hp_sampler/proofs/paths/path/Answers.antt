@@ -1,7 +1,7 @@
 use Rattle.std.proofs.Common.{◌≡◌, ℕ, ◌≤◌, List, length, All, Result, IfOk, sym, ap, subst, ◌∙◌, arith}
 use Rattle.std.proofs.lemmas.Result.{IfOk-weaker}
 use Rattle.rand_chacha.specs.ChaCha.{ChaCha}
-use Rattle.hp_sampler.specs.declared.steps.Step.{Step}
+use Rattle.hp_sampler.specs.declared.steps.PathStep.{PathStep}
 use Rattle.hp_sampler.specs.Drawn.{EndsRight, first_node, FollowsArcs, IsInRange, IsPath, path, StartsAtRoot}
 use Rattle.hp_sampler.proofs.Draws.{path_is, starts_at}
 use Rattle.hp_sampler.proofs.PathFacts.{drawn}
@@ -19,23 +19,23 @@ steps_from-requires-clause-place c =
     omega (arith, at, moved)
 
 -- a fact of the path is one of what was drawn
-holds : {E : Type 0} (result : Result (List Step) E) (whole : List Step) (P : List Step → Type 0) → IfOk result (λ steps. steps ≡ whole) → P whole → IfOk result P
+holds : {E : Type 0} (result : Result (List PathStep) E) (whole : List PathStep) (P : List PathStep → Type 0) → IfOk result (λ steps. steps ≡ whole) → P whole → IfOk result P
 holds result whole P value h = IfOk-weaker result (λ steps. steps ≡ whole) P (λ steps is. subst P (sym is) h) value
 
 pub returns : goal.returns
 returns c =
     let p = c.args.problem.now in
-    let first = ap (λ (w : ℕ). first_node p.raw w) (sym c.next.ensures.word) ∙ c.first_node-first.ensures.value in
+    let first = ap (λ (w : ℕ). first_node p.parts w) (sym c.next.ensures.word) ∙ c.first_node-first.ensures.value in
     let is = path_is p c.args.seed c.args.stream c.stream_of-words.result c.next.new.words c.first_node-first.result c.stream_of-words.ensures c.next.ensures.later first in
-    let steps : List Step = path p c.args.seed c.args.stream in
+    let steps : List PathStep = path p c.args.seed c.args.stream in
     let value : IfOk c.steps_from.result (λ ss. ss ≡ steps) = IfOk-weaker c.steps_from.result _ _ (λ ss e. e ∙ is) c.steps_from.ensures in
-    let facts = drawn p c.first_node-first.ensures.sealed c.args.seed c.args.stream in
+    let facts = drawn p c.first_node-first.ensures.validated c.args.seed c.args.stream in
     record {
       value = value;
-      starts = holds c.steps_from.result steps (StartsAtRoot p.raw) value facts.starts;
-      follows = holds c.steps_from.result steps (FollowsArcs p.raw) value facts.follows;
-      ends = holds c.steps_from.result steps (EndsRight p.raw) value facts.ends;
-      in_range = holds c.steps_from.result steps (All (IsInRange p.raw)) value facts.in_range;
+      starts = holds c.steps_from.result steps (StartsAtRoot p.parts) value facts.starts;
+      follows = holds c.steps_from.result steps (FollowsArcs p.parts) value facts.follows;
+      ends = holds c.steps_from.result steps (EndsRight p.parts) value facts.ends;
+      in_range = holds c.steps_from.result steps (All (IsInRange p.parts)) value facts.in_range;
       few = holds c.steps_from.result steps (λ ss. length ss ≤ p.longest) value facts.few;
       is_path = holds c.steps_from.result steps (IsPath p) value (record { starts = facts.starts; follows = facts.follows; in_range = facts.in_range });
     }

@@ -1,6 +1,6 @@
 use Rattle.std.proofs.Common.{◌≡◌, ◌∙◌, ℕ, ◌<◌, ◌≤◌, ◌+◌, ◌^◌, List, drop, All, ap, sym, subst, arith}
 use Rattle.hp_solver.specs.declared.fixed.Fx.{Fx}
-use Rattle.hp_solver.specs.Duals.{dual_in, not_zero}
+use Rattle.hp_solver.specs.Duals.{dual_in}
 use Rattle.hp_settle.specs.declared.settling.Shares.{Shares}
 use Rattle.hp_settle.specs.Kept.{kept_pairs, left_over}
 use Rattle.hp_settle.specs.Settling.{cut_multipliers, capped, missing, pairs_from}

@@ -1,5 +1,5 @@
 use Rattle.hp_settle.proofs.SettledRight.{settled_list_right, settled_fault}
-use Rattle.hp_settle.proofs.SettledNode.{only_range-sealed}
+use Rattle.hp_settle.proofs.SettledNode.{only_range-validated}
 use Rattle.hp_settle.proofs.settling_laws.settled_lists.Goals as goal
 
 pub returns-clause-right : goal.returns-clause-right
@@ -9,4 +9,4 @@ pub returns-clause-only_range : goal.returns-clause-only_range
 returns-clause-only_range c = settled_fault
 
 pub returns-clause-of_a_problem : goal.returns-clause-of_a_problem
-returns-clause-of_a_problem c = only_range-sealed
+returns-clause-of_a_problem c = only_range-validated

@@ -2,7 +2,7 @@ use Rattle.std.proofs.Common.{◌+◌, ◌*◌, ℕ, ℤ, pos, ◌*ℤ◌, nat_a
 use Rattle.std.specs.List.{sum_by}
 use Rattle.std.proofs.lemmas.Int.{to_z-of_z}
 use Rattle.hp_num.specs.Sums.{total}
-use Rattle.hp_problem.specs.declared.raw.Row.{Row}
+use Rattle.hp_parts.specs.declared.parts.Row.{Row}
 use Rattle.hp_dual.proofs.Amounts.{pairs_more, pairs_past, take_pairs}
 use Rattle.hp_settle.proofs.Beside.{totals_more}
 use Rattle.hp_settle.proofs.terms.rows_sum.Goals as goal

@@ -1,7 +1,7 @@
 use Rattle.std.proofs.Common.{◌≡◌, ◌+◌, ◌*◌, ℤ, ◌*ℤ◌, nat_abs, take, zip}
 use Rattle.std.specs.List.{sum_by}
 use Rattle.hp_num.specs.Sums.{total}
-use Rattle.hp_problem.specs.declared.raw.Row.{Row}
+use Rattle.hp_parts.specs.declared.parts.Row.{Row}
 use Rattle.hp_settle.proofs.terms.rows_sum.Given as goal
 
 abbrev pub invariant-loop-i : goal.invariant-loop-i

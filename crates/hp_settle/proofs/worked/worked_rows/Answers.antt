@@ -1,4 +1,4 @@
-use Rattle.hp_settle.proofs.WorkedRefutation as lemmas
+use Rattle.hp_settle.proofs.WorkedFarkas as lemmas
 use Rattle.hp_settle.proofs.worked.worked_rows.Goals as goal
 
 pub returns : goal.returns

@@ -1,13 +1,13 @@
 use Rattle.std.proofs.Common.{◌≡◌, ◌∙◌, List, map, ap, sym, subst}
-use Rattle.hp_problem.specs.declared.raw.Moment.{Moment}
+use Rattle.hp_parts.specs.declared.parts.Moment.{Moment}
 use Rattle.hp_lp.proofs.Alike.{if_ok}
-use Rattle.hp_sim.specs.Runs.{IsRun, moment_of}
+use Rattle.hp_sim.specs.Runs.{IsProblemRun, moment_of}
 use Rattle.hp_sim.proofs.Following.{path_run}
 use Rattle.hp_sim.proofs.runs.drawn.Goals as goal
 
 pub returns-clause-run : goal.returns-clause-run
 returns-clause-run c =
     let p = c.args.problem.now in
-    if_ok c.moments_of.result (λ (run : List Moment). run ≡ map (moment_of p.raw) c.as_slice.result.now) (IsRun p)
-    (λ run is. subst (IsRun p) (sym (is ∙ ap (map (moment_of p.raw)) c.as_slice.ensures)) (path_run p c.raw.ensures.sealed c.in_ok-path.path c.in_ok-path.ensures.is_path))
+    if_ok c.moments_of.result (λ (run : List Moment). run ≡ map (moment_of p.parts) c.as_slice.result.now) (IsProblemRun p)
+    (λ run is. subst (IsProblemRun p) (sym (is ∙ ap (map (moment_of p.parts)) c.as_slice.ensures)) (path_run p c.parts.ensures.validated c.in_ok-path.path c.in_ok-path.ensures.is_path))
     c.moments_of.ensures

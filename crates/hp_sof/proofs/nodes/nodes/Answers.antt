@@ -5,7 +5,7 @@ use Rattle.serde_json.specs.View.{view}
 use Rattle.serde_json.proofs.Views.{Entry}
 use Rattle.hp_fields.specs.Steps.{Fails}
 use Rattle.hp_fields.proofs.Walks.{members-go, members-fail, members-done}
-use Rattle.hp_sof.specs.Nodes.{node_at, nodes_at}
+use Rattle.hp_sof.specs.Nodes.{read_node_at, nodes_at}
 use Rattle.hp_sof.proofs.nodes.nodes.Goals as goal
 
 pub loop-name-init : goal.loop-name-init
@@ -17,8 +17,8 @@ returns-in_err-node c =
     let l = c.loop-name in
     let e : Entry = (c.in-Some.name.now, c.in-Some.value.now) in
     let p = err_from_is_err_and c.from_residual-in_err-node.result c.from_residual-in_err-node.ensures.1 in
-    let fails : Fails c.in_err-node.field-0.0 (node_at c.args.names.now c.args.subproblems.now l.found l.n (string_bytes e.0) (view e.1)) = rw (← c.as_str.ensures.value) c.in_err-node.ensures in
-    rw (p.1, p.2) (members-fail (node_at c.args.names.now c.args.subproblems.now) l.found l.n e c.next.new.self l.name-iterator _ c.in_err-node.field-0.0 c.in-Some.ensures.steps fails l.invariant.walked)
+    let fails : Fails c.in_err-node.field-0.0 (read_node_at c.args.names.now c.args.subproblems.now l.found l.n (string_bytes e.0) (view e.1)) = rw (← c.as_str.ensures.value) c.in_err-node.ensures in
+    rw (p.1, p.2) (members-fail (read_node_at c.args.names.now c.args.subproblems.now) l.found l.n e c.next.new.self l.name-iterator _ c.in_err-node.field-0.0 c.in-Some.ensures.steps fails l.invariant.walked)
 
 pub loop-name-preserved : goal.loop-name-preserved
 loop-name-preserved c =
@@ -28,8 +28,8 @@ loop-name-preserved c =
       can = tt;
       finite = tt;
       counted = grind (arith, common_steps);
-      walked = members-go (node_at c.args.names.now c.args.subproblems.now) l.found c.node.new.found l.n e c.next.new.self l.name-iterator _ c.in-Some.ensures.steps (rw (← c.as_str.ensures.value) c.in_ok-node.ensures) l.invariant.walked;
+      walked = members-go (read_node_at c.args.names.now c.args.subproblems.now) l.found c.node.new.found l.n e c.next.new.self l.name-iterator _ c.in-Some.ensures.steps (rw (← c.as_str.ensures.value) c.in_ok-node.ensures) l.invariant.walked;
     }
 
 pub returns : goal.returns
-returns c = let l = c.loop-name in members-done (node_at c.args.names.now c.args.subproblems.now) l.found l.n l.name-iterator _ c.in-None.ensures.steps.0 l.invariant.walked
+returns c = let l = c.loop-name in members-done (read_node_at c.args.names.now c.args.subproblems.now) l.found l.n l.name-iterator _ c.in-None.ensures.steps.0 l.invariant.walked

@@ -5,4 +5,4 @@ use Rattle.hp_sof.specs.Scenarios.{scenario_at, scenarios_at}
 use Rattle.hp_sof.proofs.scenarios.scenarios.Given as goal
 
 abbrev pub invariant-loop-k : goal.invariant-loop-k
-invariant-loop-k l = walk_items (scenario_at l.names l.raw) l.found l.k (items_view (drop l.k l.items)) ≡ scenarios_at l.names l.raw (items_view l.items)
+invariant-loop-k l = walk_items (scenario_at l.names l.parts) l.found l.k (items_view (drop l.k l.items)) ≡ scenarios_at l.names l.parts (items_view l.items)

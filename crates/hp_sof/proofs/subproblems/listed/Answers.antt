@@ -5,11 +5,11 @@ use Rattle.serde_json.specs.View.{view}
 use Rattle.serde_json.proofs.Views.{Entry}
 use Rattle.hp_fields.specs.Steps.{Fails}
 use Rattle.hp_fields.proofs.Walks.{members-go, members-fail, members-done}
-use Rattle.hp_sof.specs.Subproblems.{another_at, listed_at}
+use Rattle.hp_sof.specs.Subproblems.{another_at, listed_subproblems_at}
 use Rattle.hp_sof.proofs.subproblems.listed.Goals as goal
 
 pub loop-name-init : goal.loop-name-init
-unfolding listed_at
+unfolding listed_subproblems_at
 loop-name-init c = grind (arith, common_steps)
 
 pub returns-in_err-another : goal.returns-in_err-another

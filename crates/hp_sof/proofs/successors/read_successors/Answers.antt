@@ -4,12 +4,12 @@ use Rattle.std.proofs.lemmas.Grind.{common_steps}
 use Rattle.serde_json.specs.Data.{Data}
 use Rattle.serde_json.specs.View.{view}
 use Rattle.serde_json.proofs.Views.{Entry}
-use Rattle.hp_problem.specs.declared.refusal.Refusal.{Refusal}
-use Rattle.hp_problem.specs.declared.refusal.Part.{Part}
+use Rattle.hp_parts.specs.declared.refusal.Refusal.{Refusal}
+use Rattle.hp_parts.specs.declared.refusal.Part.{Part}
 use Rattle.hp_fields.specs.Fields.{place}
 use Rattle.hp_fields.specs.Steps.{Fails}
 use Rattle.hp_fields.proofs.Walks.{members-go, members-fail, members-done}
-use Rattle.hp_sof.specs.Successors.{successor_at, successors_at}
+use Rattle.hp_sof.specs.Successors.{successor_at, read_successors_at}
 use Rattle.hp_sof.specs.declared.successors.Successors.{Successors}
 use Rattle.hp_sof.proofs.successors.read_successors.Goals as goal
 
@@ -17,7 +17,7 @@ abbrev step : Part → ℕ → List (List ℕ) → Successors → ℕ → List �
 step part a names found i k d = successor_at (place part a i 0) names found k d
 
 pub loop-name-init : goal.loop-name-init
-unfolding successors_at
+unfolding read_successors_at
 loop-name-init c = grind (arith, common_steps)
 
 pub returns-in_err-successor : goal.returns-in_err-successor

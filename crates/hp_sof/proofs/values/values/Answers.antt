@@ -2,16 +2,16 @@ use Rattle.std.proofs.Common.{◌≡◌, ℕ, ℤ, List, Result, Ok, ap, arith}
 use Rattle.std.proofs.lemmas.Result.{err_from_is_err_and}
 use Rattle.serde_json.specs.Data.{Members}
 use Rattle.serde_json.specs.View.{members_view}
-use Rattle.hp_problem.specs.declared.refusal.Part.{Part}
-use Rattle.hp_problem.specs.declared.refusal.Refusal.{Refusal}
+use Rattle.hp_parts.specs.declared.refusal.Part.{Part}
+use Rattle.hp_parts.specs.declared.refusal.Refusal.{Refusal}
 use Rattle.hp_fields.specs.Fields.{place}
 use Rattle.hp_fields.specs.Steps.{Fails, walk_list}
 use Rattle.hp_fields.proofs.Walks.{list-go, list-fail, list-done}
-use Rattle.hp_sof.specs.Values.{value_at, values_at}
+use Rattle.hp_sof.specs.Values.{random_value_at, values_at}
 use Rattle.hp_sof.proofs.values.values.Goals as goal
 
 abbrev step : Part → ℕ → ℕ → Members → List ℤ → ℕ → List ℕ → Result (List ℤ) Refusal
-step part a b support found i name = value_at (place part a b i) support found name
+step part a b support found i name = random_value_at (place part a b i) support found name
 
 pub loop-i-init : goal.loop-i-init
 unfolding values_at

@@ -2,9 +2,9 @@ use Rattle.std.proofs.Common.{◌≡◌, drop}
 use Rattle.serde_json.specs.View.{members_view}
 use Rattle.hp_fields.specs.Fields.{place}
 use Rattle.hp_fields.specs.Steps.{walk_list}
-use Rattle.hp_sof.specs.Values.{value_at, values_at}
+use Rattle.hp_sof.specs.Values.{random_value_at, values_at}
 use Rattle.hp_sof.proofs.values.values.Given as goal
 
 abbrev pub invariant-loop-i : goal.invariant-loop-i
 invariant-loop-i l =
-    walk_list (λ found i name. value_at (place l.part l.a l.b i) (members_view l.support.entries) found name) l.found l.i (drop l.i l.randoms) ≡ values_at l.part l.a l.b l.randoms (members_view l.support.entries)
+    walk_list (λ found i name. random_value_at (place l.part l.a l.b i) (members_view l.support.entries) found name) l.found l.i (drop l.i l.randoms) ≡ values_at l.part l.a l.b l.randoms (members_view l.support.entries)

@@ -1,6 +1,6 @@
 use Rattle.std.proofs.Common.{◌+◌, ◌∷◌, [], List, length, All, ap, subst, sym, ◌∙◌, length-append, arith}
 use Rattle.std.proofs.lemmas.List.Elements.{All-append, All-cons, All-nil}
-use Rattle.hp_sampler.specs.declared.steps.Step.{Step}
+use Rattle.hp_sampler.specs.declared.steps.PathStep.{PathStep}
 use Rattle.hp_sampler.specs.Drawn.{path, IsPath}
 use Rattle.hp_train.proofs.Drawn.{paths-go}
 use Rattle.hp_train.proofs.drawing.paths_from.Goals as goal
@@ -10,7 +10,7 @@ loop-place-preserved c =
     let l = c.loop-place in
     let p = c.args.problem.now in
     let drawn = c.in_ok-path.ensures.value ∙ ap (λ n. path p c.args.seed (c.args.first + n)) c.from.ensures in
-    let more : List (List Step) = c.in_ok-path.field-0 ∷ [] in
+    let more : List (List PathStep) = c.in_ok-path.field-0 ∷ [] in
     record {
       value = paths-go p c.args.seed c.args.first c.args.count l.place l.found c.push.new.self _ c.in_ok-path.field-0 c.loop-place-test.true drawn c.in_ok-push.ensures l.invariant.value;
       count = omega (arith, ap length c.in_ok-push.ensures, length-append l.found more, l.invariant.count);

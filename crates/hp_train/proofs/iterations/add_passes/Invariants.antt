@@ -2,8 +2,8 @@ use Rattle.std.proofs.Common.{◌≡◌, [], drop, zip}
 use Rattle.hp_theory.specs.Pools.{Sound}
 use Rattle.hp_theory.specs.View.{problem_of}
 use Rattle.hp_cut.specs.AtNodes.{PoolsFit}
-use Rattle.hp_train.specs.Growing.{Extends}
-use Rattle.hp_train.specs.Stepping.{forwards, seen, with_path}
+use Rattle.hp_train.specs.Growing.{ExtendsPools}
+use Rattle.hp_train.specs.Stepping.{forwards, seen_stepped, with_path}
 use Rattle.hp_train.proofs.iterations.add_passes.Given as goal
 
 abbrev pub invariant-loop-i : goal.invariant-loop-i
@@ -11,8 +11,8 @@ invariant-loop-i g l =
     let p = l.planner.problem.now in
     let v = g.V.Solver.does l.planner.solver.now in
     record {
-      value : forwards (with_path v p l.forward.iteration) (drop l.i (zip l.forward.paths.now l.forward.trajectories.now)) (seen l.pools.lists l.entries) ≡ forwards (with_path v p l.forward.iteration) (zip l.forward.paths.now l.forward.trajectories.now) (seen l.initial.pools.lists []);
-      extends : Extends l.i l.initial.pools.lists l.pools.lists;
+      value : forwards (with_path v p l.forward.iteration) (drop l.i (zip l.forward.paths.now l.forward.trajectories.now)) (seen_stepped l.pools.lists l.entries) ≡ forwards (with_path v p l.forward.iteration) (zip l.forward.paths.now l.forward.trajectories.now) (seen_stepped l.initial.pools.lists []);
+      extends : ExtendsPools l.i l.initial.pools.lists l.pools.lists;
       fit : PoolsFit p l.pools.lists;
       sound : Sound (problem_of p) l.initial.pools.lists → Sound (problem_of p) l.pools.lists;
     }

@@ -3,7 +3,7 @@ use Rattle.std.proofs.lemmas.Result.{err_from_is_err_and}
 use Rattle.hp_sampler.specs.declared.steps.Trajectory.{Trajectory}
 use Rattle.hp_forward.specs.Walking.{walks_of}
 use Rattle.hp_train.specs.Stepping.{along, with_walks}
-use Rattle.hp_train.proofs.Forwards.{forward_dead, forward_stops}
+use Rattle.hp_train.proofs.Forwards.{forward_infeasible, forward_stops}
 use Rattle.hp_train.proofs.iterations.go_along.Goals as goal
 
 pub returns-in_err-trajectories-clause-value : goal.returns-in_err-trajectories-clause-value
@@ -17,7 +17,7 @@ returns-in_err-trajectories-clause-value g c =
     let e = err_from_is_err_and c.from_residual.result c.from_residual.ensures.1 in
     rw (e.1, e.2) (forward_stops c.in_err-trajectories.field-0.0 (walks_of v p pools k paths) (with_walks v p pools k paths) c.in_err-trajectories.ensures.value)
 
-pub returns-in_err-trajectories-clause-dead : goal.returns-in_err-trajectories-clause-dead
-returns-in_err-trajectories-clause-dead g c =
+pub returns-in_err-trajectories-clause-infeasible : goal.returns-in_err-trajectories-clause-infeasible
+returns-in_err-trajectories-clause-infeasible g c =
     let e = err_from_is_err_and c.from_residual.result c.from_residual.ensures.1 in
-    rw (e.1, e.2) (forward_dead (List Trajectory) c.args.planner.now.problem.now c.in_err-trajectories.field-0.0 c.in_err-trajectories.ensures.dead)
+    rw (e.1, e.2) (forward_infeasible (List Trajectory) c.args.planner.now.problem.now c.in_err-trajectories.field-0.0 c.in_err-trajectories.ensures.infeasible)

@@ -1,4 +1,4 @@
-use Rattle.std.proofs.Common.{◌≡◌, ℕ, ◌+◌, length, None, refl, sym, ap, subst, arith}
+use Rattle.std.proofs.Common.{◌≡◌, ℕ, ◌+◌, length, None, refl, sym, ap, ◌∙◌, subst, arith}
 use Rattle.std.proofs.lemmas.Result.{err_from_is_err_and}
 use Rattle.hp_problem.specs.Formulas.{too_much}
 use Rattle.hp_load.specs.declared.loaded.Loaded.{Loaded}
@@ -21,6 +21,7 @@ loop-done-init g c =
       iterated = iterated_none v p seed old c.requires.open c.requires.whole c.requires.fit c.requires.cuts;
       recorded = recorded_none s old.end (after v p seed old c.args.left).lists (g.D.Disk.lawful c.args.disk.now) c.requires.quiet c.requires.end;
       later = omega arith;
+      stayed = refl;
     }
 
 pub iterate-requires-clause-room : goal.iterate-requires-clause-room
@@ -55,9 +56,10 @@ returns-in_err-loaded-clause-any_moment g c = next_moment c.loop-done.invariant.
 pub loop-done-preserved : goal.loop-done-preserved
 loop-done-preserved g c =
     let m = c.iterate.new.loaded in
-    let new : Loaded = record { pools = m.pools; bounds = m.bounds; unsettled = m.unsettled; born = m.born; end = c.in_ok-loaded.field-0; rest = m.rest; version = m.version; batch = m.batch } in
+    let new : Loaded = record { pools = m.pools; bounds = m.bounds; unanswered = m.unanswered; committed = m.committed; end = c.in_ok-loaded.field-0; tail = m.tail; version = m.version; batch = m.batch } in
     record {
-      iterated = next_iterated c.loop-done.invariant.iterated c.args.left (c.len-before.result + c.loop-done.done + 1) (omega (arith, c.loop-done-test.true)) (omega (arith, c.len-before.ensures)) c.iterate.new.loaded c.in_ok-body.body.items c.in_ok-body.ensures.value new c.in_ok-loaded.field-0 c.as_slice.result.now c.as_slice.ensures.value c.in_ok-loaded.ensures.next refl c.in_ok-body.ensures.body c.iterate.ensures.fit c.iterate.ensures.cuts c.iterate.ensures.sound c.in_ok-body.ensures.under c.in_ok-body.ensures.unsettled;
+      iterated = next_iterated c.loop-done.invariant.iterated c.args.left (c.len-before.result + c.loop-done.done + 1) (omega (arith, c.loop-done-test.true)) (omega (arith, c.len-before.ensures)) c.iterate.new.loaded c.in_ok-body.body.items c.in_ok-body.ensures.value new c.in_ok-loaded.field-0 c.as_slice.result.now c.as_slice.ensures.value c.in_ok-loaded.ensures.next refl c.in_ok-body.ensures.body c.iterate.ensures.fit c.iterate.ensures.cuts c.iterate.ensures.sound c.in_ok-body.ensures.under c.in_ok-body.ensures.unanswered;
       recorded = next_recorded c.loop-done.invariant.iterated c.args.left (c.len-before.result + c.loop-done.done + 1) (omega (arith, c.loop-done-test.true)) (omega (arith, c.len-before.ensures)) c.iterate.new.loaded c.in_ok-body.body.items c.in_ok-body.ensures.value (g.D.Disk.store c.args.disk.now) (g.D.Disk.store c.loop-done.disk) c.requires.open c.loop-done.invariant.recorded c.requires.end (g.D.Disk.store c.append.new.disk) c.as_slice.result.now c.as_slice.ensures.value c.append.ensures.any_moment c.in_ok-loaded.ensures.quiet c.in_ok-loaded.ensures.reads;
       later = omega (arith, c.loop-done.invariant.later, c.append.ensures.cause.later);
+      stayed = c.in_ok-loaded.ensures.cause.succeeded ∙ c.loop-done.invariant.stayed;
     }

@@ -1,4 +1,4 @@
-use Rattle.std.proofs.Common.{◌≤◌, length}
+use Rattle.std.proofs.Common.{◌≡◌, ◌≤◌, length}
 use Rattle.hp_train.specs.Continuing.{continued}
 use Rattle.hp_train.proofs.Grows.{HasIterated, HasRecorded}
 use Rattle.hp_train.proofs.training.iterate_all.Given as goal
@@ -12,4 +12,5 @@ invariant-loop-done g l =
       iterated : HasIterated v p l.course.seed l.done first l.loaded;
       recorded : HasRecorded (g.D.Disk.store l.initial.disk) (g.D.Disk.store l.disk) first.end (continued v p first.pools.lists l.course.seed first.batch (length first.bounds) l.done).lists (continued v p first.pools.lists l.course.seed first.batch (length first.bounds) l.left).lists;
       later : g.D.Disk.faults l.initial.disk ≤ g.D.Disk.faults l.disk;
+      stayed : g.D.Disk.faults l.disk ≡ g.D.Disk.faults l.initial.disk;
     }

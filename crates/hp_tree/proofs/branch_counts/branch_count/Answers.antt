@@ -1,6 +1,6 @@
 use Rattle.std.proofs.Common.{◌≡◌, ◌∙◌, ℕ, min, true, List, length, get_or, map, sum, sym, ap, ap₂, subst}
 use Rattle.hp_paths.specs.Paths.{are_known}
-use Rattle.hp_problem.specs.declared.raw.Raw.{Raw}
+use Rattle.hp_parts.specs.declared.parts.ProblemParts.{ProblemParts}
 use Rattle.hp_sampler.proofs.Draws.{root_known}
 use Rattle.hp_tree.proofs.Standing.{branch_count_is}
 use Rattle.hp_tree.proofs.branch_counts.branch_count.Goals as goal
@@ -8,14 +8,14 @@ use Rattle.hp_tree.proofs.branch_counts.branch_count.Goals as goal
 pub sum_at-requires : goal.sum_at-requires
 sum_at-requires c =
     let p = c.args.problem.now in
-    let root = c.as_slice-root.ensures ∙ ap (λ (r : Raw). r.root) c.raw.ensures.value in
+    let root = c.as_slice-root.ensures ∙ ap (λ (r : ProblemParts). r.root) c.parts.ensures.value in
     let count = ap (λ (ks : List ℕ). length ks) c.as_slice.ensures ∙ c.in_ok-table.ensures.count in
-    subst (λ (k : ℕ). are_known k c.as_slice-root.result.now ≡ true) (sym count) (subst (λ (ks : List ℕ). are_known (length p.raw.nodes) ks ≡ true) (sym root) (root_known p c.raw.ensures.sealed))
+    subst (λ (k : ℕ). are_known k c.as_slice-root.result.now ≡ true) (sym count) (subst (λ (ks : List ℕ). are_known (length p.parts.nodes) ks ≡ true) (sym root) (root_known p c.parts.ensures.validated))
 
 pub returns : goal.returns
 returns c =
     let p = c.args.problem.now in
-    let root = c.as_slice-root.ensures ∙ ap (λ (r : Raw). r.root) c.raw.ensures.value in
+    let root = c.as_slice-root.ensures ∙ ap (λ (r : ProblemParts). r.root) c.parts.ensures.value in
     c.sum_at.ensures
     ∙ ap₂ (λ (table ks : List ℕ). min (sum (map (λ (m : ℕ). get_or table m 0) ks)) c.args.cap) c.as_slice.ensures root
-    ∙ branch_count_is p c.raw.ensures.sealed c.args.cap c.in_ok-table.table c.in_ok-table.ensures
+    ∙ branch_count_is p c.parts.ensures.validated c.args.cap c.in_ok-table.table c.in_ok-table.ensures

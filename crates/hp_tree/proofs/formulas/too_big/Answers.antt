@@ -24,8 +24,8 @@ returns-then-is_some c =
     let p = c.args.problem.now in
     let t = c.above-branches.result in
     let is = c.above-branches.ensures ∙ ap (λ (k : ℕ). above 5 (2 ^ 16) k) c.in_ok-branch_count.ensures in
-    let rest : Option TooMuch = or_then (above 6 (2 ^ 40) (min (root_denominator p) (2 ^ 41))) (above 7 (2 ^ 60) (min (p.longest * most_size p) (2 ^ 61))) in
-    first_there t rest (sym c.is_some.ensures ∙ c.if-is_some.true) ∙ ap (λ (o : Option TooMuch). or_then o rest) is
+    let tail : Option TooMuch = or_then (above 6 (2 ^ 40) (min (root_denominator p) (2 ^ 41))) (above 7 (2 ^ 60) (min (p.longest * most_size p) (2 ^ 61))) in
+    first_there t tail (sym c.is_some.ensures ∙ c.if-is_some.true) ∙ ap (λ (o : Option TooMuch). or_then o tail) is
 
 pub returns-then-is_some-2 : goal.returns-then-is_some-2
 unfolding too_big_of
@@ -35,9 +35,9 @@ returns-then-is_some-2 c =
     let u = c.above-denominator.result in
     let first = c.above-branches.ensures ∙ ap (λ (k : ℕ). above 5 (2 ^ 16) k) c.in_ok-branch_count.ensures in
     let second = c.above-denominator.ensures ∙ ap (λ (k : ℕ). above 6 (2 ^ 40) k) c.in_ok-denominator.ensures in
-    let rest : Option TooMuch = above 7 (2 ^ 60) (min (p.longest * most_size p) (2 ^ 61)) in
-    first_there u rest (sym c.is_some-2.ensures ∙ c.if-is_some-2.true) ∙ first_absent t (or_then u rest) (sym c.is_some.ensures ∙ c.if-is_some.false)
-    ∙ ap₂ (λ (a b : Option TooMuch). or_then a (or_then b rest)) first second
+    let tail : Option TooMuch = above 7 (2 ^ 60) (min (p.longest * most_size p) (2 ^ 61)) in
+    first_there u tail (sym c.is_some-2.ensures ∙ c.if-is_some-2.true) ∙ first_absent t (or_then u tail) (sym c.is_some.ensures ∙ c.if-is_some.false)
+    ∙ ap₂ (λ (a b : Option TooMuch). or_then a (or_then b tail)) first second
 
 pub returns : goal.returns
 unfolding too_big_of

@@ -1,5 +1,5 @@
 use Rattle.std.proofs.Common.{◌≡◌, ◌+◌, ◌≤◌, ℕ, List, drop, map, min}
-use Rattle.hp_problem.specs.declared.raw.Decision.{Decision}
+use Rattle.hp_parts.specs.declared.parts.Decision.{Decision}
 use Rattle.hp_tree.specs.TooBig.{reaches}
 use Rattle.hp_tree.proofs.stage_sizes.decision_reaches.Given as goal
 

@@ -2,8 +2,8 @@ use Rattle.std.proofs.Common.{◌∙◌, ℕ, ◌<◌, ◌≤◌, max, length, a
 use Rattle.std.proofs.lemmas.List.FromFn.{length-range_with_len}
 use Rattle.hp_paths.specs.Paths.{numbers}
 use Rattle.hp_paths.proofs.Numbers.{drop_next}
-use Rattle.hp_problem.specs.declared.raw.Raw.{Raw}
-use Rattle.hp_problem.proofs.SealedFacts.{raw-is_sealed, few_nodes}
+use Rattle.hp_parts.specs.declared.parts.ProblemParts.{ProblemParts}
+use Rattle.hp_problem.proofs.ValidatedFacts.{parts-is_validated, few_nodes}
 use Rattle.hp_theory.specs.View.{problem_of}
 use Rattle.hp_tree.specs.TooBig.{most_size, node_size}
 use Rattle.hp_tree.proofs.Sizing.{most_done, most_goes}
@@ -11,14 +11,14 @@ use Rattle.hp_tree.proofs.stage_sizes.most_size.Goals as goal
 
 pub overflow_cast-count : goal.overflow_cast-count
 overflow_cast-count c =
-    let few : length c.args.problem.now.raw.nodes ≤ 1000 = few_nodes c.args.problem.now.raw (raw-is_sealed c.args.problem.now c.raw.ensures.sealed) in
-    let len = c.len-count.ensures ∙ ap (λ (r : Raw). length r.nodes) c.raw.ensures.value in
+    let few : length c.args.problem.now.parts.nodes ≤ 1000 = few_nodes c.args.problem.now.parts (parts-is_validated c.args.problem.now c.parts.ensures.validated) in
+    let len = c.len-count.ensures ∙ ap (λ (r : ProblemParts). length r.nodes) c.parts.ensures.value in
     grind (arith, few, len)
 
 pub loop-node-preserved : goal.loop-node-preserved
 loop-node-preserved c =
-    let count = length c.args.problem.now.raw.nodes in
-    let len = c.len-count.ensures ∙ ap (λ (r : Raw). length r.nodes) c.raw.ensures.value in
+    let count = length c.args.problem.now.parts.nodes in
+    let len = c.len-count.ensures ∙ ap (λ (r : ProblemParts). length r.nodes) c.parts.ensures.value in
     let inside : c.loop-node.node < count = subst (λ (k : ℕ). c.loop-node.node < k) len c.loop-node-test.true in
     most_goes (node_size (problem_of c.args.problem.now)) (numbers count) c.loop-node.node c.args.cap c.loop-node.node c.loop-node.most c.max-most.result (drop_next c.loop-node.node count inside) c.loop-node.invariant
     (c.max-most.ensures ∙ ap (λ (k : ℕ). max c.loop-node.most k) c.node_size.ensures)
@@ -26,7 +26,7 @@ loop-node-preserved c =
 pub returns : goal.returns
 unfolding most_size
 returns c =
-    let count = length c.args.problem.now.raw.nodes in
-    let len = c.len-count.ensures ∙ ap (λ (r : Raw). length r.nodes) c.raw.ensures.value in
+    let count = length c.args.problem.now.parts.nodes in
+    let len = c.len-count.ensures ∙ ap (λ (r : ProblemParts). length r.nodes) c.parts.ensures.value in
     let end : length (numbers count) ≤ c.loop-node.node = omega (arith, length-range_with_len 0 count, len, c.loop-node-test.false) in
     most_done (node_size (problem_of c.args.problem.now)) (numbers count) c.args.cap c.loop-node.node c.loop-node.most end c.loop-node.invariant

@@ -6,4 +6,4 @@ use Rattle.hp_tree.proofs.Sizing.{MostGoes}
 use Rattle.hp_tree.proofs.stage_sizes.most_size.Given as goal
 
 abbrev pub invariant-loop-node : goal.invariant-loop-node
-invariant-loop-node l = MostGoes (node_size (problem_of l.problem)) (numbers (length l.problem.raw.nodes)) l.cap l.node l.most
+invariant-loop-node l = MostGoes (node_size (problem_of l.problem)) (numbers (length l.problem.parts.nodes)) l.cap l.node l.most

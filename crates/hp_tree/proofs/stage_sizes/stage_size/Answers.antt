@@ -1,9 +1,9 @@
 use Rattle.std.proofs.Common.{◌∙◌, ℕ, ℤ, ◌+◌, min, nat_abs, List, map, SFits, w64, rules, ap, ap₂}
 use Rattle.std.proofs.lemmas.Int.{to_z-of_z}
-use Rattle.hp_problem.specs.declared.raw.Decision.{Decision}
+use Rattle.hp_parts.specs.declared.parts.Decision.{Decision}
 use Rattle.hp_theory.specs.View.{node_of}
 use Rattle.hp_tree.specs.TooBig.{reaches, sizes}
-use Rattle.hp_tree.proofs.Sizing.{stage_size-node_of}
+use Rattle.hp_tree.proofs.Sizing.{stage_cost_size-node_of}
 use Rattle.hp_tree.proofs.stage_sizes.stage_size.Goals as goal
 
 pub returns : goal.returns
@@ -21,4 +21,4 @@ returns c = λ n.
     let given = c.capped_sum-given.ensures ∙ ap₂ (λ (a b : ℕ). min (a + b) cap) constant of_values in
     let three = c.capped_sum.ensures ∙ ap₂ (λ (a b : ℕ). min (a + b) cap) given of_decisions in
     let all = c.capped_sum-2.ensures ∙ ap₂ (λ (a b : ℕ). min (a + b) cap) three of_states in
-    stage_size-node_of n s low high c.args.values.now cap c.capped_sum-2.result all
+    stage_cost_size-node_of n s low high c.args.values.now cap c.capped_sum-2.result all

@@ -1,11 +1,11 @@
 use Rattle.std.proofs.Common.{Result, sym, subst}
-use Rattle.hp_settle.specs.declared.judging.Dead.{Dead}
-use Rattle.hp_settle.specs.Faults.{Gives}
+use Rattle.hp_settle.specs.declared.classifying.Infeasibility.{Infeasibility}
+use Rattle.hp_settle.specs.Faults.{GivesOrRefutes}
 use Rattle.hp_theory.specs.View.{problem_of}
 use Rattle.hp_tree.specs.Costs.{root_cost}
 use Rattle.hp_tree.specs.PolicyTree.{decide_branch}
 use Rattle.hp_tree.specs.declared.walking.Verdict.{Verdict}
-use Rattle.hp_tree.proofs.Planned.{sealed_there}
+use Rattle.hp_tree.proofs.Planned.{validated_there}
 use Rattle.hp_tree.proofs.Whole.{sides_by_verdict, verdict_by_cost}
 use Rattle.hp_tree.proofs.verdict.evaluate.Goals as goal
 
@@ -13,13 +13,13 @@ pub returns-clause-value : goal.returns-clause-value
 returns-clause-value g c =
     let p = c.args.planner.now.problem.now in
     let v = g.V.Solver.does c.args.planner.now.solver.now in
-    subst (λ (x : Result Verdict Dead). Gives c.rounded.result x) (sym (verdict_by_cost v p (sealed_there c.problem.ensures c.raw.ensures.sealed) c.args.pools.now.lists))
+    subst (λ (x : Result Verdict Infeasibility). GivesOrRefutes c.rounded.result x) (sym (verdict_by_cost v p (validated_there c.problem.ensures c.parts.ensures.validated) c.args.pools.now.lists))
     (c.rounded.ensures.value (root_cost (decide_branch v p c.args.pools.now.lists) (problem_of p) p.longest) c.whole_cost.ensures.value)
 
 pub returns-clause-two_sided : goal.returns-clause-two_sided
 returns-clause-two_sided g c =
     let p = c.args.planner.now.problem.now in
     let v = g.V.Solver.does c.args.planner.now.solver.now in
-    sides_by_verdict v p (sealed_there c.problem.ensures c.raw.ensures.sealed) c.args.pools.now.lists c.requires.fit c.rounded.result
-    (subst (λ (x : Result Verdict Dead). Gives c.rounded.result x) (sym (verdict_by_cost v p (sealed_there c.problem.ensures c.raw.ensures.sealed) c.args.pools.now.lists))
+    sides_by_verdict v p (validated_there c.problem.ensures c.parts.ensures.validated) c.args.pools.now.lists c.requires.fit c.rounded.result
+    (subst (λ (x : Result Verdict Infeasibility). GivesOrRefutes c.rounded.result x) (sym (verdict_by_cost v p (validated_there c.problem.ensures c.parts.ensures.validated) c.args.pools.now.lists))
     (c.rounded.ensures.value (root_cost (decide_branch v p c.args.pools.now.lists) (problem_of p) p.longest) c.whole_cost.ensures.value))

@@ -1,5 +1,5 @@
 use Rattle.std.proofs.Common.{◌<◌, length, sym, subst}
-use Rattle.hp_warm_table.specs.declared.table.Table.{Table}
+use Rattle.hp_warm_table.specs.declared.table.WarmTable.{WarmTable}
 use Rattle.hp_warm_table.specs.Shape.{IsTable, variables}
 use Rattle.hp_warm_line.proofs.Sized.{sized_replaced}
 use Rattle.hp_warm_line.proofs.pivots.pivot.Goals as goal
@@ -8,5 +8,5 @@ pub returns-clause-sized : goal.returns-clause-sized
 returns-clause-sized c =
     subst IsTable (sym c.replace.ensures.replaced)
     (sized_replaced c.eliminate.new.table c.as_slice-2.result.now c.args.swap.leaving c.args.swap.above c.args.swap.place c.args.flips.now c.eliminate.ensures.sized
-    (subst (λ (t : Table). c.args.swap.leaving < variables t) (sym c.eliminate.ensures.kept) c.requires.there)
-    (subst (λ (t : Table). c.args.swap.place < length t.costs) (sym c.eliminate.ensures.kept) c.requires.place))
+    (subst (λ (t : WarmTable). c.args.swap.leaving < variables t) (sym c.eliminate.ensures.kept) c.requires.there)
+    (subst (λ (t : WarmTable). c.args.swap.place < length t.costs) (sym c.eliminate.ensures.kept) c.requires.place))

@@ -1,11 +1,11 @@
 use Rattle.std.proofs.Common.{◌∙◌, ◌<◌, ℕ, ℤ, List, length, take, All, Some, ap, sym, subst}
 use Rattle.std.specs.Option.{option_map}
-use Rattle.hp_warm_table.specs.declared.table.Table.{Table}
+use Rattle.hp_warm_table.specs.declared.table.WarmTable.{WarmTable}
 use Rattle.hp_warm_line.proofs.Shifts.{shifts_inside, refined_by}
 use Rattle.hp_warm_line.proofs.points.refine.Goals as goal
 
 pub write_shifts-requires-clause-count : goal.write_shifts-requires-clause-count
-write_shifts-requires-clause-count c = c.requires.shifts ∙ sym (ap (λ (t : Table). length t.costs) c.stand_columns.ensures.kept)
+write_shifts-requires-clause-count c = c.requires.shifts ∙ sym (ap (λ (t : WarmTable). length t.costs) c.stand_columns.ensures.kept)
 
 pub move_columns-requires-clause-inside : goal.move_columns-requires-clause-inside
 move_columns-requires-clause-inside c =

@@ -1,5 +1,5 @@
 use Rattle.std.proofs.Common.{◌∙◌, length, Some, None, ap, sym, subst}
-use Rattle.hp_warm_table.specs.declared.table.Table.{Table}
+use Rattle.hp_warm_table.specs.declared.table.WarmTable.{WarmTable}
 use Rattle.hp_warm_table.specs.declared.table.Basis.{Basis}
 use Rattle.hp_warm_table.specs.Shape.{IsTable, variables}
 use Rattle.hp_warm_line.specs.Clean.{clean_of}
@@ -14,11 +14,11 @@ tighten_all-requires-clause-sized c = subst IsTable (sym c.clean.ensures) (sized
 
 pub tighten_all-requires-clause-width : goal.tighten_all-requires-clause-width
 unfolding clean_of
-tighten_all-requires-clause-width c = c.requires.width ∙ sym (ap (λ (t : Table). length t.costs) c.clean.ensures)
+tighten_all-requires-clause-width c = c.requires.width ∙ sym (ap (λ (t : WarmTable). length t.costs) c.clean.ensures)
 
 pub tighten_all-requires-clause-steps : goal.tighten_all-requires-clause-steps
 unfolding clean_of
-tighten_all-requires-clause-steps c = c.requires.steps ∙ sym (ap (λ (t : Table). length t.costs) c.clean.ensures)
+tighten_all-requires-clause-steps c = c.requires.steps ∙ sym (ap (λ (t : WarmTable). length t.costs) c.clean.ensures)
 
 pub tighten_all-requires-clause-places : goal.tighten_all-requires-clause-places
 unfolding clean_of

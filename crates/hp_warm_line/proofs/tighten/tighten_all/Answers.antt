@@ -1,5 +1,5 @@
 use Rattle.std.proofs.Common.{◌≡◌, ◌∙◌, ◌+◌, ◌-◌, ℕ, length, arith, refl, ap, sym}
-use Rattle.hp_warm_table.specs.declared.table.Table.{Table}
+use Rattle.hp_warm_table.specs.declared.table.WarmTable.{WarmTable}
 use Rattle.hp_warm_table.specs.Shape.{variables}
 use Rattle.hp_warm_table.specs.Kept.{with_basis}
 use Rattle.hp_warm_line.specs.Tighten.{tightened}
@@ -8,7 +8,7 @@ use Rattle.hp_warm_line.proofs.tighten.tighten_all.Goals as goal
 
 pub loop-slack-init : goal.loop-slack-init
 loop-slack-init c =
-    let t : Table = c.args.table.now in
+    let t : WarmTable = c.args.table.now in
     let e : length t.rows ≡ length t.costs + length t.rows - length t.costs = omega arith in
     record {
       sized = c.requires.sized;
@@ -23,7 +23,7 @@ loop-slack-preserved c = record {
   sized = c.tighten.ensures.sized;
   width = c.tighten.ensures.width ∙ c.loop-slack.invariant.width;
   steps = c.tighten.ensures.steps ∙ c.loop-slack.invariant.steps;
-  kept = c.tighten.ensures.kept ∙ ap (λ (t : Table). with_basis t c.tighten.new.table.basis c.tighten.new.table.reduced c.tighten.new.table.lines) c.loop-slack.invariant.kept;
+  kept = c.tighten.ensures.kept ∙ ap (λ (t : WarmTable). with_basis t c.tighten.new.table.basis c.tighten.new.table.reduced c.tighten.new.table.lines) c.loop-slack.invariant.kept;
   left = tight_step c.args.was.now c.loop-slack.table c.loop-slack.slack (variables c.args.table.now) _ c.tighten.new.table (omega (arith, c.loop-slack-test.true, c.len-variables.ensures, c.requires.places)) c.if-not-tighten.ensures.tight c.loop-slack.invariant.left;
 }
 

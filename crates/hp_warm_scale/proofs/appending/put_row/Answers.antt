@@ -1,5 +1,5 @@
 use Rattle.std.proofs.Common.{ℕ, pos, negsuc, length, ap, sym, subst}
-use Rattle.hp_warm_table.specs.declared.table.Table.{Table}
+use Rattle.hp_warm_table.specs.declared.table.WarmTable.{WarmTable}
 use Rattle.hp_warm_table.specs.Shape.{IsTable}
 use Rattle.hp_warm_scale.specs.Scaling.{AreSmall}
 use Rattle.hp_warm_scale.proofs.Shapes.{on_ok, row_table}
@@ -10,7 +10,7 @@ pub returns-clause-whole : goal.returns-clause-whole
 returns-clause-whole c = on_ok c.push_row.result c.push_row.ensures (λ e. subst IsTable (sym e) (row_table _ c.args.terms.now c.args.sides c.args.table.now c.requires.rising c.requires.whole))
 
 pub returns-clause-small : goal.returns-clause-small
-returns-clause-small c = on_ok c.push_row.result c.push_row.ensures (λ e. λ (most : ℕ) w. subst (λ (t : Table). AreSmall most t.scales) (sym e) (row_small most _ c.args.terms.now c.args.sides c.args.table.now (read_least (negsuc 1299) _ c.ranges.exponent c.requires.least) (read_greatest (pos 1300) _ c.ranges.exponent c.requires.greatest) w))
+returns-clause-small c = on_ok c.push_row.result c.push_row.ensures (λ e. λ (most : ℕ) w. subst (λ (t : WarmTable). AreSmall most t.scales) (sym e) (row_small most _ c.args.terms.now c.args.sides c.args.table.now (read_least (negsuc 1299) _ c.ranges.exponent c.requires.least) (read_greatest (pos 1300) _ c.ranges.exponent c.requires.greatest) w))
 
 pub returns-clause-count : goal.returns-clause-count
-returns-clause-count c = on_ok c.push_row.result c.push_row.ensures (λ e. ap (λ (t : Table). length t.costs) e)
+returns-clause-count c = on_ok c.push_row.result c.push_row.ensures (λ e. ap (λ (t : WarmTable). length t.costs) e)

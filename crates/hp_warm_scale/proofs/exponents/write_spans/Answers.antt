@@ -3,7 +3,7 @@ use Rattle.std.proofs.lemmas.List.{length-replicate}
 use Rattle.hp_solver.specs.declared.programs.LpRow.{LpRow}
 use Rattle.hp_warm_scale.specs.declared.spans.Span.{Span}
 use Rattle.hp_warm_scale.specs.Walks.{walk}
-use Rattle.hp_warm_scale.specs.Exponents.{with_row, spans_of, SpansBetween}
+use Rattle.hp_warm_scale.specs.Exponents.{with_row_terms, spans_of, SpansBetween}
 use Rattle.hp_warm_scale.proofs.Passes.{nones_between}
 use Rattle.hp_warm_scale.proofs.exponents.write_spans.Goals as goal
 
@@ -15,5 +15,5 @@ loop-i-init c =
     record {
       count = ap length c.clear.ensures ∙ length-replicate (length c.args.spans.now) None;
       between = subst (SpansBetween (negsuc 478) (pos 161)) (sym c.clear.ensures) (nones_between (negsuc 478) (pos 161) (length c.args.spans.now));
-      value = ap (λ (ss : List (Option Span)). walk (λ (i : ℕ) ss (row : LpRow). with_row c.args.decisions c.args.reaches.now c.args.exponents.now ss row.terms) 0 ss c.args.rows.now) (sym e);
+      value = ap (λ (ss : List (Option Span)). walk (λ (i : ℕ) ss (row : LpRow). with_row_terms c.args.decisions c.args.reaches.now c.args.exponents.now ss row.terms) 0 ss c.args.rows.now) (sym e);
     }

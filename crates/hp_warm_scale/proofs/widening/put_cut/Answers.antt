@@ -1,5 +1,5 @@
 use Rattle.std.proofs.Common.{◌≡◌, ℕ, Bool, true}
-use Rattle.hp_warm_scale.specs.Walks.{Gives}
+use Rattle.hp_warm_scale.specs.Walks.{GivesWalked}
 use Rattle.hp_warm_scale.specs.Scaling.{AreSmall}
 use Rattle.hp_warm_scale.specs.Appending.{appended_cut}
 use Rattle.hp_warm_scale.proofs.Counts.{cut_more}
@@ -13,5 +13,5 @@ returns-else-waits-clause-small c =
 
 pub returns-else-waits-clause-waiting : goal.returns-else-waits-clause-waiting
 returns-else-waits-clause-waiting c =
-    if_ok_more (λ (made : Bool). Gives made (appended_cut c.args.i c.args.row.now c.args.table.now) c.append_cut.new.table) (λ (made : Bool). made ≡ true → c.append_cut.new.table.cuts.waiting ≡ c.args.table.now.cuts.waiting) c.append_cut.result
+    if_ok_more (λ (made : Bool). GivesWalked made (appended_cut c.args.i c.args.row.now c.args.table.now) c.append_cut.new.table) (λ (made : Bool). made ≡ true → c.append_cut.new.table.cuts.waiting ≡ c.args.table.now.cuts.waiting) c.append_cut.result
     (λ made g t. (cut_more c.args.i c.args.row.now c.args.table.now c.append_cut.new.table (gives_true made _ _ t g)).waiting) c.append_cut.ensures.value

@@ -2,7 +2,7 @@ use Rattle.std.proofs.Common.{◌∙◌, ℤ, slice_set, get_or, Some, None, ap,
 use Rattle.std.proofs.lemmas.Int.{to_z-of_z}
 use mir.Syntax.{w128}
 use Rattle.hp_warm_scale.specs.Waiting.{last_column}
-use Rattle.hp_warm_scan.specs.Values.{is_greater}
+use Rattle.hp_warm_scan.specs.Values.{is_value_greater}
 use Rattle.hp_warm_scan.proofs.Columns.{waits_at, step_waits, step_rests}
 use Rattle.hp_warm_scan.proofs.greatest.take_row.Goals as goal
 
@@ -14,7 +14,7 @@ returns-then-is_greater-clause-value c =
     let j = c.in-Some.column in
     let e = sym (c.last_column.ensures ∙ ap last_column c.as_slice.ensures) ∙ c.in-Some.is in
     let v = to_z-of_z w128 c.cut_value-value.result (record { sfits = c.cut_value-value.type_inv }) ∙ c.cut_value-value.ensures in
-    let g = sym (c.is_greater.ensures ∙ ap (is_greater (get_or c.args.greatest.now j None)) v) ∙ c.if-is_greater.true in
+    let g = sym (c.is_greater.ensures ∙ ap (is_value_greater (get_or c.args.greatest.now j None)) v) ∙ c.if-is_greater.true in
     ap (λ (x : ℤ). slice_set c.args.greatest.now j (Some (c.args.i, x))) v ∙ sym (step_waits _ _ c.args.i c.args.greatest.now c.args.row.now j e (waits_at _ c.args.row.now j _ e c.if-waiting-column.true) g)
 
 pub returns-else-waiting-column-clause-value : goal.returns-else-waiting-column-clause-value

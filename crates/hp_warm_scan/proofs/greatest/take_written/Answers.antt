@@ -2,7 +2,7 @@ use Rattle.std.proofs.Common.{◌≡◌, ◌∙◌, ◌<◌, ◌+◌, true, List
 use Rattle.hp_solver.specs.declared.programs.LpRow.{LpRow}
 use Rattle.hp_warm_scale.specs.Walks.{walk}
 use Rattle.hp_warm_scale.specs.Waiting.{last_column, waits}
-use Rattle.hp_warm_scan.specs.Values.{Valued, greatest_step, IsWithin}
+use Rattle.hp_warm_scan.specs.Values.{Valued, greatest_step, IsValueWithin}
 use Rattle.hp_warm_scan.proofs.PackedWalks.{walk_more, got, got_holds}
 use Rattle.hp_warm_scan.proofs.greatest.take_written.Goals as goal
 
@@ -13,7 +13,7 @@ take_row-requires-clause-column c =
 
 pub take_row-requires-clause-within : goal.take_row-requires-clause-within
 take_row-requires-clause-within c =
-    got_holds (λ (r : LpRow). waits c.args.lookup.now.waiting.now r ≡ true → IsWithin c.args.lookup.now.states.now r) c.args.lookup.now.first c.loop-i.i c.args.lp.now.rows c.write_row.new.over (omega (arith, c.loop-i.auto.i)) (omega (arith, c.loop-i-test.true, c.row_count-i-end.ensures)) c.in_ok-write_row.ensures c.requires.within
+    got_holds (λ (r : LpRow). waits c.args.lookup.now.waiting.now r ≡ true → IsValueWithin c.args.lookup.now.states.now r) c.args.lookup.now.first c.loop-i.i c.args.lp.now.rows c.write_row.new.over (omega (arith, c.loop-i.auto.i)) (omega (arith, c.loop-i-test.true, c.row_count-i-end.ensures)) c.in_ok-write_row.ensures c.requires.within
 
 pub loop-i-preserved : goal.loop-i-preserved
 loop-i-preserved c =

@@ -1,10 +1,10 @@
 use Rattle.std.proofs.Common.{sym, subst, arith}
 use Rattle.std.proofs.lemmas.Grind.{common_steps}
 use Rattle.hp_warm_scale.proofs.Shapes.{on_ok}
-use Rattle.hp_warm_scan.specs.Values.{AreCuts}
+use Rattle.hp_warm_scan.specs.Values.{AreBestCuts}
 use Rattle.hp_warm_scan.proofs.Columns.{greatest_kept}
 use Rattle.hp_warm_scan.proofs.greatest.write_greatest.Goals as goal
 
 pub returns-clause-cuts : goal.returns-clause-cuts
 returns-clause-cuts c =
-    on_ok c.take_all.result c.take_all.ensures.value (λ e. subst (AreCuts c.args.lp.now) (sym (grind (arith, common_steps, e, c.take_all.auto))) (greatest_kept c.args.lp.now c.args.waiting.now c.args.states.now c.requires.proper.own))
+    on_ok c.take_all.result c.take_all.ensures.value (λ e. subst (AreBestCuts c.args.lp.now) (sym (grind (arith, common_steps, e, c.take_all.auto))) (greatest_kept c.args.lp.now c.args.waiting.now c.args.states.now c.requires.proper.own))

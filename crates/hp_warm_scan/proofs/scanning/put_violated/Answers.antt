@@ -1,11 +1,11 @@
 use Rattle.std.proofs.Common.{◌∙◌, ◌<◌, ℕ, ℤ, Bool, cond, Some, length, All, ap, sym, subst}
 use Rattle.std.proofs.lemmas.Int.{to_z-of_z}
 use mir.Syntax.{w32}
-use Rattle.hp_warm_table.specs.declared.table.Table.{Table}
-use Rattle.hp_warm_line.specs.Activity.{row_value}
-use Rattle.hp_warm_scale.specs.Appending.{with_row, with_cut}
+use Rattle.hp_warm_table.specs.declared.table.WarmTable.{WarmTable}
+use Rattle.hp_warm_line.specs.Activity.{row_activity}
+use Rattle.hp_warm_scale.specs.Appending.{with_appended_row, with_cut}
 use Rattle.hp_warm_scale.proofs.Shapes.{on_ok}
-use Rattle.hp_warm_scan.specs.Scan.{is_below}
+use Rattle.hp_warm_scan.specs.Scan.{is_value_below}
 use Rattle.hp_warm_scan.proofs.Grown.{rising_inside, rising_few, last_violated}
 use Rattle.hp_warm_scan.proofs.scanning.put_violated.Goals as goal
 
@@ -20,14 +20,14 @@ row_value-requires-clause-few c = rising_few (length c.args.table.now.costs) c.a
 pub returns-then-is_below-clause-value : goal.returns-then-is_below-clause-value
 returns-then-is_below-clause-value c =
     let t = c.args.table.now in
-    let u : ℤ → Table = λ e. with_cut c.args.i (with_row e c.args.terms.now c.args.sides t) in
-    let value = c.row_value.ensures ∙ ap (row_value c.args.terms.now) c.as_slice.ensures in
-    let violated = last_violated c.args.i c.args.exponent c.args.terms.now c.args.sides t c.requires.fits.table ∙ ap (is_below c.args.sides.low) (sym value) ∙ sym c.is_below.ensures ∙ c.if-is_below.true in
+    let u : ℤ → WarmTable = λ e. with_cut c.args.i (with_appended_row e c.args.terms.now c.args.sides t) in
+    let value = c.row_value.ensures ∙ ap (row_activity c.args.terms.now) c.as_slice.ensures in
+    let violated = last_violated c.args.i c.args.exponent c.args.terms.now c.args.sides t c.requires.fits.table ∙ ap (is_value_below c.args.sides.low) (sym value) ∙ sym c.is_below.ensures ∙ c.if-is_below.true in
     on_ok c.put_cut.result c.put_cut.ensures.value (λ e. ap (λ (b : Bool). cond b (Some (u c.args.exponent)) (Some t)) violated ∙ ap Some (sym (e ∙ ap u (to_z-of_z w32 c.args.exponent c.ranges.exponent))))
 
 pub returns-else-is_below-clause-value : goal.returns-else-is_below-clause-value
 returns-else-is_below-clause-value c =
     let t = c.args.table.now in
-    let u : Table = with_cut c.args.i (with_row c.args.exponent c.args.terms.now c.args.sides t) in
-    let value = c.row_value.ensures ∙ ap (row_value c.args.terms.now) c.as_slice.ensures in
-    ap (λ (b : Bool). cond b (Some u) (Some t)) (last_violated c.args.i c.args.exponent c.args.terms.now c.args.sides t c.requires.fits.table ∙ ap (is_below c.args.sides.low) (sym value) ∙ sym c.is_below.ensures ∙ c.if-is_below.false)
+    let u : WarmTable = with_cut c.args.i (with_appended_row c.args.exponent c.args.terms.now c.args.sides t) in
+    let value = c.row_value.ensures ∙ ap (row_activity c.args.terms.now) c.as_slice.ensures in
+    ap (λ (b : Bool). cond b (Some u) (Some t)) (last_violated c.args.i c.args.exponent c.args.terms.now c.args.sides t c.requires.fits.table ∙ ap (is_value_below c.args.sides.low) (sym value) ∙ sym c.is_below.ensures ∙ c.if-is_below.false)

@@ -1,5 +1,5 @@
 use Rattle.std.proofs.Common.{◌≡◌, true, false, take, rules, ap, ◌∙◌}
-use Rattle.hp_warm_table.specs.declared.table.Table.{Table}
+use Rattle.hp_warm_table.specs.declared.table.WarmTable.{WarmTable}
 use Rattle.hp_warm_scale.specs.Appending.{sided}
 use Rattle.hp_warm_scale.proofs.Shapes.{on_ok}
 use Rattle.hp_warm_simplex.specs.Going.{trusted}
@@ -17,4 +17,4 @@ returns-clause-went c =
     ends_on c.take_all_turns.result _ _ c.take_all_turns.new.table (go_turns c.args.lp.now c.args.table.now c.prepare.new.table e c.prepare.ensures.table) c.take_all_turns.ensures.went
 
 pub returns-clause-scales : goal.returns-clause-scales
-returns-clause-scales c = on_ok c.take_all_turns.result c.take_all_turns.ensures.own (λ k r. ap (λ (t : Table). t.scales) (k r) ∙ ap (λ (t : Table). t.scales) c.prepare.ensures.table)
+returns-clause-scales c = on_ok c.take_all_turns.result c.take_all_turns.ensures.own (λ k r. ap (λ (t : WarmTable). t.scales) (k r) ∙ ap (λ (t : WarmTable). t.scales) c.prepare.ensures.table)

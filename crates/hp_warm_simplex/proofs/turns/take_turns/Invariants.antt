@@ -1,7 +1,7 @@
 use Rattle.std.proofs.Common.{◌≡◌, ◌-◌, false}
 use Rattle.hp_warm_scale.specs.Fitting.{Fits}
 use Rattle.hp_warm_simplex.specs.Fitting.{KeepsOwn, IsRoomy}
-use Rattle.hp_warm_simplex.specs.Turns.{turns}
+use Rattle.hp_warm_simplex.specs.Turns.{turns_on_table}
 use Rattle.hp_warm_simplex.proofs.turns.take_turns.Given as goal
 
 abbrev pub invariant-loop-turn : goal.invariant-loop-turn
@@ -9,5 +9,5 @@ invariant-loop-turn l = record {
   fits : Fits l.table l.lp;
   room : IsRoomy l.room l.table;
   own : KeepsOwn l.lp l.fn.table l.table;
-  left : turns l.lp l.limit false l.fn.table ≡ turns l.lp (l.limit - l._turn) l.fresh l.table;
+  left : turns_on_table l.lp l.limit false l.fn.table ≡ turns_on_table l.lp (l.limit - l._turn) l.fresh l.table;
 }

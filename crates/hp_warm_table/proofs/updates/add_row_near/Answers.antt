@@ -2,7 +2,7 @@ use Rattle.std.proofs.Common.{◌≡◌, ◌∙◌, ◌*ℤ◌, ◌^◌, ap₂, 
 use Rattle.std.proofs.lemmas.List.{get_or_default}
 use Rattle.std.proofs.lemmas.Int.{to_z-of_z}
 use Rattle.hp_num.specs.Sums.{entry}
-use Rattle.hp_warm_table.specs.Updates.{moved}
+use Rattle.hp_warm_table.specs.Updates.{moved_cell}
 use Rattle.hp_simplex.proofs.Each.{each_step}
 use Rattle.hp_warm_table.proofs.updates.add_row_near.Goals as goal
 
@@ -12,6 +12,6 @@ loop-j-preserved c =
     let n : entry c.args.addend.now c.loop-j.j ≡ c.index-addend-j.result = get_or_default c.args.addend.now c.loop-j.j (pos 0) c.index-addend-j.result (omega (arith, c.requires.lengths, c.loop-j-test.true)) ∙ sym c.index-addend-j.is in
     record {
       count = length-set c.loop-j.row c.loop-j.j _ ∙ c.loop-j.invariant.count;
-      results = each_step (λ j t. moved c.args.factor (entry c.args.addend.now j) t) _ c.loop-j.row c.loop-j.j c.index-row-j.result _ (rw c.loop-j.invariant.count c.loop-j-test.true)
-          (ap₂ (moved c.args.factor) n (sym c.index-row-j.is) ∙ sym (c.moved_near.ensures c.args.factor e) ∙ c.in-Some.is) c.loop-j.invariant.results;
+      results = each_step (λ j t. moved_cell c.args.factor (entry c.args.addend.now j) t) _ c.loop-j.row c.loop-j.j c.index-row-j.result _ (rw c.loop-j.invariant.count c.loop-j-test.true)
+          (ap₂ (moved_cell c.args.factor) n (sym c.index-row-j.is) ∙ sym (c.moved_near.ensures c.args.factor e) ∙ c.in-Some.is) c.loop-j.invariant.results;
     }

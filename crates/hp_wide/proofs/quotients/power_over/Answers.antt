@@ -9,13 +9,13 @@ pub loop-init : goal.loop-init
 loop-init c = (first c.power_of_two-power.result c.args.divisor c.args.digits c.power_of_two-power.ensures, mod-lt c.power_of_two-power.result (some c.args.divisor c.args.digits c.requires.least))
 
 pub doubled-requires-clause-few : goal.doubled-requires-clause-few
-doubled-requires-clause-few c = small_yet c.loop.quotient c.args.divisor c.loop.rest c.args.digits c.loop.counter c.loop.invariant.0 c.requires.least c.loop-test.true
+doubled-requires-clause-few c = small_yet c.loop.quotient c.args.divisor c.loop.tail c.args.digits c.loop.counter c.loop.invariant.0 c.requires.least c.loop-test.true
 
 pub loop-preserved : goal.loop-preserved
-loop-preserved c = (next c.loop.quotient c.loop.rest c.doubled.result.0 c.doubled.result.1 c.args.divisor c.args.digits c.loop.counter c.doubled.ensures.value c.loop.invariant.0, c.doubled.ensures.below)
+loop-preserved c = (next c.loop.quotient c.loop.tail c.doubled.result.0 c.doubled.result.1 c.args.divisor c.args.digits c.loop.counter c.doubled.ensures.value c.loop.invariant.0, c.doubled.ensures.below)
 
 pub returns-clause-value : goal.returns-clause-value
-returns-clause-value c = last c.loop.quotient c.args.divisor c.loop.rest c.args.digits c.loop.counter c.loop.invariant.0 c.loop.invariant.1 c.loop-test.false c.loop.auto.counter-end
+returns-clause-value c = last c.loop.quotient c.args.divisor c.loop.tail c.args.digits c.loop.counter c.loop.invariant.0 c.loop.invariant.1 c.loop-test.false c.loop.auto.counter-end
 
 pub returns-clause-small : goal.returns-clause-small
-returns-clause-small c = small_at_last c.loop.quotient c.args.divisor c.loop.rest c.args.digits c.loop.counter c.loop.invariant.0 c.requires.least c.loop.auto.counter-end
+returns-clause-small c = small_at_last c.loop.quotient c.args.divisor c.loop.tail c.args.digits c.loop.counter c.loop.invariant.0 c.requires.least c.loop.auto.counter-end

@@ -2,4 +2,4 @@ use Rattle.std.proofs.Common.{◌≡◌, ◌<◌, ◌+◌, ◌*◌, ◌^◌}
 use Rattle.hp_wide.proofs.quotients.power_over.Given as goal
 
 abbrev pub invariant-loop : goal.invariant-loop
-invariant-loop l = (l.quotient * l.divisor + l.rest ≡ 2 ^ (l.digits + l.counter)) × (l.rest < l.divisor)
+invariant-loop l = (l.quotient * l.divisor + l.tail ≡ 2 ^ (l.digits + l.counter)) × (l.tail < l.divisor)

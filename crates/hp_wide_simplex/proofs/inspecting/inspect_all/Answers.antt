@@ -1,5 +1,5 @@
 use Rattle.std.proofs.Common.{◌≡◌, length, rules}
-use Rattle.hp_wide_simplex.specs.declared.inspecting.Inspection.TheVariants as inspections
+use Rattle.hp_wide_simplex.specs.declared.inspecting.WideInspection.TheVariants as inspections
 use Rattle.hp_wide_simplex.specs.Turns.{inspection_at}
 use Rattle.hp_wide_simplex.proofs.Steps.{inspection_passes, inspection_mends, inspection_shows, inspection_stops}
 use Rattle.hp_wide_simplex.proofs.inspecting.inspect_all.Goals as goal

@@ -1,11 +1,11 @@
 use Rattle.std.proofs.Common.{◌≡◌, length, take, drop}
 use Rattle.hp_simplex.specs.Each.{each_from}
 use Rattle.hp_simplex.proofs.Each.{behind}
-use Rattle.hp_wide_simplex.specs.Refine.{moved_value}
+use Rattle.hp_wide_simplex.specs.Refine.{wide_moved_value}
 use Rattle.hp_wide_simplex.proofs.points.move_all.Given as goal
 
 abbrev pub invariant-loop-v : goal.invariant-loop-v
 invariant-loop-v l = record {
   count : length l.values ≡ length l.fn.values;
-  moved : each_from (moved_value l.places l.lines l.shifts) 0 l.fn.values ≡ behind (take l.v l.values) (each_from (moved_value l.places l.lines l.shifts) l.v (drop l.v l.values));
+  moved : each_from (wide_moved_value l.places l.lines l.shifts) 0 l.fn.values ≡ behind (take l.v l.values) (each_from (wide_moved_value l.places l.lines l.shifts) l.v (drop l.v l.values));
 }

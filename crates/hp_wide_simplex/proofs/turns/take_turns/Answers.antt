@@ -1,11 +1,11 @@
 use Rattle.std.proofs.Common.{false, subst}
 use Rattle.hp_wide_simplex.specs.declared.turns.Turn.{Turn}
-use Rattle.hp_wide_simplex.specs.Steps.{Takes}
-use Rattle.hp_wide_simplex.specs.Turns.{turn_of, turns}
+use Rattle.hp_wide_simplex.specs.Steps.{WideTakesTurn}
+use Rattle.hp_wide_simplex.specs.Turns.{wide_turn_on_table, wide_turns_on_table}
 use Rattle.hp_wide_simplex.proofs.Ends.{turn_shows}
 use Rattle.hp_wide_simplex.proofs.turns.take_turns.Goals as goal
 
 pub returns-in-Ends : goal.returns-in-Ends
 returns-in-Ends c =
-    let ended = subst (λ (s : Turn). Takes s (turn_of c.args.lp.now c.loop-turn.table) c.take_turn.new.table) c.in-Ends.is c.in_ok-take_turn.ensures.turn in
-    turn_shows c.args.lp.now c.loop-turn.table c.loop-turn.idle c.args.limit c.loop-turn._turn c.in-Ends.answer (turns c.args.lp.now c.args.limit false c.args.table.now) c.loop-turn-test.true ended c.loop-turn.invariant.left
+    let ended = subst (λ (s : Turn). WideTakesTurn s (wide_turn_on_table c.args.lp.now c.loop-turn.table) c.take_turn.new.table) c.in-Ends.is c.in_ok-take_turn.ensures.turn in
+    turn_shows c.args.lp.now c.loop-turn.table c.loop-turn.idle c.args.limit c.loop-turn._turn c.in-Ends.answer (wide_turns_on_table c.args.lp.now c.args.limit false c.args.table.now) c.loop-turn-test.true ended c.loop-turn.invariant.left

@@ -1,7 +1,7 @@
 use Rattle.std.proofs.Common.{◌≡◌, rules, true, ap, sym, ◌∙◌, arith}
 use Rattle.std.proofs.lemmas.Bool.Decides.{nat_tests}
 use Rattle.hp_solver.specs.declared.programs.LpRow.{LpRow}
-use Rattle.hp_wide_table.specs.Appending.{appended_row}
+use Rattle.hp_wide_table.specs.Appending.{wide_appended_row}
 use Rattle.hp_wide_table.proofs.Giving.{gives_true}
 use Rattle.hp_warm_scale.proofs.Walking.{run_next}
 use Rattle.hp_wide_table.proofs.appending.append.Goals as goal
@@ -13,5 +13,5 @@ loop-i-preserved c =
       whole = c.in_ok-append_row.ensures.whole t;
       count = c.in_ok-append_row.ensures.count t ∙ c.loop-i.invariant.count;
       rows = omega (arith, c.in_ok-append_row.ensures.rows t, c.loop-i.invariant.rows);
-      value = run_next (λ i (r : LpRow) s. appended_row r s) _ c.args.rows.now c.loop-i.i c.index-rows-i.result c.loop-i.table c.append_row.new.table c.loop-i-test.true c.loop-i.invariant.value (ap (λ (r : LpRow). appended_row r c.loop-i.table) (sym c.index-rows-i.is) ∙ gives_true _ _ _ t c.in_ok-append_row.ensures.value);
+      value = run_next (λ i (r : LpRow) s. wide_appended_row r s) _ c.args.rows.now c.loop-i.i c.index-rows-i.result c.loop-i.table c.append_row.new.table c.loop-i-test.true c.loop-i.invariant.value (ap (λ (r : LpRow). wide_appended_row r c.loop-i.table) (sym c.index-rows-i.is) ∙ gives_true _ _ _ t c.in_ok-append_row.ensures.value);
     }

@@ -8,6 +8,6 @@ use Rattle.hp_wide_table.proofs.appending.append_row.Goals as goal
 pub put_row-requires-clause-rising : goal.put_row-requires-clause-rising
 put_row-requires-clause-rising c =
     let whole : c.in_ok-whole.whole ≡ true = c.if-whole.true in
-    subst (shape.AreRising 0 (length c.args.table.now.costs)) (sym c.as_slice-in-Some.ensures)
+    subst (shape.AreTermsRising 0 (length c.args.table.now.costs)) (sym c.as_slice-in-Some.ensures)
     (scaled_rising _ _ (length c.args.table.now.costs) c.as_slice-terms.result.now c.scale_terms.new.found (subst (AreRising 0 (length c.args.table.now.costs)) (sym c.as_slice-terms.ensures) c.requires.rising)
     (gives_true _ _ _ whole c.in_ok-whole.ensures))

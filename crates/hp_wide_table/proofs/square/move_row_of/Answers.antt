@@ -3,8 +3,8 @@ use Rattle.std.specs.Option.{option_map}
 use Rattle.hp_warm_table.proofs.Squares.{inside}
 use Rattle.hp_wide_table.proofs.Moves.{moved_rows, written}
 use Rattle.hp_simplex.specs.Rows.{put}
-use Rattle.hp_warm_table.specs.Updates.{Gives}
-use Rattle.hp_wide_table.specs.Updates.{moved_row}
+use Rattle.hp_warm_table.specs.Updates.{GivesNew}
+use Rattle.hp_wide_table.specs.Updates.{wide_moved_table_row}
 use Rattle.hp_wide_table.proofs.square.move_row_of.Goals as goal
 
 pub move_row_at-requires-clause-inside : goal.move_row_at-requires-clause-inside
@@ -18,4 +18,4 @@ pub returns-clause-moved : goal.returns-clause-moved
 returns-clause-moved c =
     moved_rows c.args.size c.args.v c.args.place c.args.addend.now c.args.cells.now c.move_row_at.new.cells c.move_row_at.result c.requires.there c.requires.width c.requires.square
     (c.move_row_at.ensures.lengths ∙ ap length c.as_mut_slice.ensures.value)
-    (subst (λ (xs : List ℤ). Gives c.move_row_at.result (option_map (put (length c.args.addend.now) (c.args.v * c.args.size) xs) (moved_row c.args.place c.args.addend.now (take (length c.args.addend.now) (drop (c.args.v * c.args.size) xs)))) c.move_row_at.new.cells) c.as_mut_slice.ensures.value c.move_row_at.ensures.moved)
+    (subst (λ (xs : List ℤ). GivesNew c.move_row_at.result (option_map (put (length c.args.addend.now) (c.args.v * c.args.size) xs) (wide_moved_table_row c.args.place c.args.addend.now (take (length c.args.addend.now) (drop (c.args.v * c.args.size) xs)))) c.move_row_at.new.cells) c.as_mut_slice.ensures.value c.move_row_at.ensures.moved)

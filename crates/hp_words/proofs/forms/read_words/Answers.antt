@@ -1,5 +1,4 @@
-use Rattle.std.proofs.Common.{sym, subst, Option, IfSome, map}
-use Rattle.std.specs.Prelude.{string_bytes}
+use Rattle.std.proofs.Common.{sym, subst, Option, IfSome}
 use Rattle.hp_words.specs.declared.command.Command.{Command}
 use Rattle.hp_words.specs.Commands.{IsWithin}
 use Rattle.hp_words.proofs.Within.{by-word}

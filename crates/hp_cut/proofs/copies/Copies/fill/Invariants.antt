@@ -1,6 +1,6 @@
 use Rattle.std.proofs.Common.{◌≡◌, map, take}
-use Rattle.hp_solver.specs.Covering.{cut_at}
+use Rattle.hp_solver.specs.Covering.{packed_cut_at}
 use Rattle.hp_cut.proofs.copies.Copies.fill.Given as goal
 
 abbrev pub invariant-loop-k : goal.invariant-loop-k
-invariant-loop-k l = l.self ≡ map (cut_at l.cuts) (take l.k l.places)
+invariant-loop-k l = l.self ≡ map (packed_cut_at l.cuts) (take l.k l.places)

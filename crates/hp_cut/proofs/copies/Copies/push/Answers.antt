@@ -1,7 +1,7 @@
 use Rattle.std.proofs.Common.{◌≡◌, ◌∙◌, ◌∷◌, ◌++◌, ◌<◌, ◌^◌, ℤ, [], length, arith, ap}
 use mir.Syntax.{w128}
 use Rattle.std.proofs.lemmas.Int.{to_z-of_z}
-use Rattle.hp_solver.specs.Covering.{cut_at}
+use Rattle.hp_solver.specs.Covering.{packed_cut_at}
 use Rattle.hp_cut.proofs.MoreCuts.{packed_with, seen_with}
 use Rattle.hp_cut.proofs.copies.Copies.push.Goals as goal
 
@@ -16,4 +16,4 @@ pub returns-in-Ok : goal.returns-in-Ok
 returns-in-Ok c =
     let held = c.self.inside.heights.items in
     let put : c.push_cut.new.heights.items ≡ held ++ c.height-height.result ∷ [] = c.in-Ok.ensures.heights ∙ ap (λ (z : ℤ). held ++ z ∷ []) (to_z-of_z w128 c.height-height.result (record { sfits = c.height-height.type_inv })) in
-    seen_with c.self.inside.states held c.self.inside.slopes.items c.push_cut.new.heights.items c.push_cut.new.slopes.items c.height-height.result c.slopes-own.result.now c.args.self.now (cut_at c.args.cuts.now c.args.place) c.self.invariant.count (omega (arith, c.if-own-self.false)) put c.in-Ok.ensures.slopes c.self.view_is c.height-height.ensures.value c.slopes-own.ensures.value
+    seen_with c.self.inside.states held c.self.inside.slopes.items c.push_cut.new.heights.items c.push_cut.new.slopes.items c.height-height.result c.slopes-own.result.now c.args.self.now (packed_cut_at c.args.cuts.now c.args.place) c.self.invariant.count (omega (arith, c.if-own-self.false)) put c.in-Ok.ensures.slopes c.self.view_is c.height-height.ensures.value c.slopes-own.ensures.value

@@ -5,7 +5,7 @@ use Rattle.hp_num.specs.Sums.{floor_over}
 use Rattle.hp_theory.specs.Bound.{bound, Under}
 use Rattle.hp_theory.specs.View.{problem_of}
 use Rattle.hp_theory.proofs.BoundBelow.{sound_bound}
-use Rattle.hp_theory.proofs.SealedPremises.{root_shaped-sealed}
+use Rattle.hp_theory.proofs.ValidatedPremises.{root_shaped-validated}
 use Rattle.hp_cut.proofs.Weighted.{have_cuts-fit}
 use Rattle.hp_cut.proofs.pools.Pools.bound.Goals as goal
 
@@ -15,4 +15,4 @@ returns-clause-sound c = λ sound.
     let up = to_z-of_z w128 c.weighted.result (record { sfits = c.weighted.type_inv }) ∙ c.weighted.ensures in
     let under = to_z-of_z w128 c.root_weight.result (record { sfits = c.root_weight.type_inv }) ∙ c.root_weight.ensures.value in
     let is : to_z w128 (of_z w128 c.floor_div.result) ≡ bound (problem_of p) c.args.self.now.lists = to_z-of_z w128 c.floor_div.result (record { sfits = c.floor_div.type_inv }) ∙ c.floor_div.ensures ∙ ap₂ floor_over up (ap nat_abs under) in
-    subst (λ (b : ℤ). Under (problem_of p) b) (sym is) (sound_bound (problem_of p) c.args.self.now.lists (root_shaped-sealed p c.root_weight.ensures.sealed) (have_cuts-fit p c.args.self.now.lists c.root_weight.ensures.sealed c.requires) sound)
+    subst (λ (b : ℤ). Under (problem_of p) b) (sym is) (sound_bound (problem_of p) c.args.self.now.lists (root_shaped-validated p c.root_weight.ensures.validated) (have_cuts-fit p c.args.self.now.lists c.root_weight.ensures.validated c.requires) sound)

@@ -2,7 +2,7 @@ use Rattle.std.proofs.Common.{◌<◌, List, All, length, subst, sym}
 use Rattle.hp_theory.specs.declared.cut.Cut.{Cut}
 use Rattle.hp_theory.specs.Problem.{node_at}
 use Rattle.hp_theory.specs.View.{problem_of}
-use Rattle.hp_cut.specs.Reaches.{Reaches}
+use Rattle.hp_cut.specs.Reaches.{CutReaches}
 use Rattle.hp_theory.specs.Pools.{pool}
 use Rattle.hp_cut.proofs.Reach.{all_reach}
 use Rattle.hp_cut.proofs.pools.Pools.value_at.Goals as goal
@@ -12,5 +12,5 @@ greatest-requires-clause-some c = subst (λ (cs : List Cut). 0 < length cs) (sym
 
 pub greatest-requires-clause-reach : goal.greatest-requires-clause-reach
 greatest-requires-clause-reach c =
-    subst (λ (cs : List Cut). All (Reaches c.args.state.now) cs) (sym c.cuts.ensures)
+    subst (λ (cs : List Cut). All (CutReaches c.args.state.now) cs) (sym c.cuts.ensures)
     (all_reach (node_at (problem_of c.args.problem.now) c.args.node) c.args.state.now (pool c.args.self.now.lists c.args.node) c.requires.inside (c.requires.fit.cuts c.args.node c.requires.known))

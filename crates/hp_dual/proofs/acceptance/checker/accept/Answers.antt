@@ -1,6 +1,6 @@
 use Rattle.std.proofs.Common.{subst}
 use Rattle.hp_theory.specs.Problem.{Node}
-use Rattle.hp_dual.specs.Acceptance.{Accepts, fault_of}
+use Rattle.hp_cut_making.specs.Acceptance.{Accepts, fault_of}
 use Rattle.hp_dual.proofs.acceptance.checker.accept.Goals as goal
 
 pub returns : goal.returns

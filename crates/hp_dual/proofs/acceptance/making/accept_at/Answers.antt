@@ -2,11 +2,11 @@ use Rattle.std.proofs.Common.{length, sym, ap, ◌∙◌}
 use Rattle.std.proofs.lemmas.Result.{err_from_is_err_and}
 use Rattle.hp_theory.specs.declared.cut.Cut.{Cut}
 use Rattle.hp_theory.specs.Problem.{Node}
-use Rattle.hp_dual.specs.Acceptance.{shape_fault, certificates_fault, range_fault}
-use Rattle.hp_dual.specs.Sized.{Sized}
-use Rattle.hp_dual.proofs.Accepted.{none-or_then, shaped-shape_fault, fault-right, fault-size}
+use Rattle.hp_cut_making.specs.Acceptance.{shape_fault, certificates_fault, range_fault}
+use Rattle.hp_cut_making.specs.Sized.{Sized}
+use Rattle.hp_dual.proofs.Accepted.{none-or_then_fault, shaped-shape_fault, fault-right, fault-size}
 use Rattle.hp_dual.proofs.AcceptedCuts.{range_none, cuttable_none, slopes_given}
-use Rattle.hp_dual.proofs.GivenNode.{Seen, seen}
+use Rattle.hp_cut_making.proofs.GivenNode.{Seen, seen}
 use Rattle.hp_dual.proofs.acceptance.making.accept_at.Goals as goal
 
 pub returns-in_err-check_right-clause-accepted : goal.returns-in_err-check_right-clause-accepted
@@ -18,7 +18,7 @@ pub range_sums-requires-clause-list : goal.range_sums-requires-clause-list
 range_sums-requires-clause-list g c =
     let z : Sized c.args.here.now.pools.now.lists c.args.here.now.node.now c.args.here.now.subproblem.now c.args.here.now.low.now c.args.here.now.weights.now = c.requires.1.1.0 in
     let s : Seen c.args.here.now.weights.now c.args.here.now.node.now c.args.here.now.subproblem.now g.n = seen g.n c.args.here.now.node.now c.args.here.now.subproblem.now c.args.here.now.low.now c.args.here.now.high.now c.args.here.now.weights.now c.requires.0 z.count z.values in
-    let f = shaped-shape_fault g.n c.args.list.now (none-or_then (shape_fault g.n c.args.list.now) (certificates_fault c.args.here.now.pools.now.lists g.n 0 c.args.list.now) c.in_ok-check_right.ensures).0 in
+    let f = shaped-shape_fault g.n c.args.list.now (none-or_then_fault (shape_fault g.n c.args.list.now) (certificates_fault c.args.here.now.pools.now.lists g.n 0 c.args.list.now) c.in_ok-check_right.ensures).0 in
     f.0 ∙ s.count
 
 pub returns-in_err-sums-clause-accepted : goal.returns-in_err-sums-clause-accepted

@@ -1,5 +1,5 @@
 use Rattle.std.proofs.Common.{◌≡◌, drop}
-use Rattle.hp_dual.specs.Acceptance.{certificates_fault}
+use Rattle.hp_cut_making.specs.Acceptance.{certificates_fault}
 use Rattle.hp_dual.proofs.acceptance.walk.check_certificates.Given as goal
 
 abbrev pub invariant-loop-r : goal.invariant-loop-r

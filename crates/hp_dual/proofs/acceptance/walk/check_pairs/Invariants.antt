@@ -1,5 +1,5 @@
 use Rattle.std.proofs.Common.{◌≡◌, ◌≤◌, drop}
-use Rattle.hp_dual.specs.Acceptance.{pair_fault}
+use Rattle.hp_cut_making.specs.Acceptance.{pair_fault}
 use Rattle.hp_dual.proofs.acceptance.walk.check_pairs.Given as goal
 
 abbrev pub invariant-loop-e : goal.invariant-loop-e

@@ -1,5 +1,5 @@
 use Rattle.std.proofs.Common.{◌≡◌, drop, zip}
-use Rattle.hp_dual.specs.Acceptance.{sign_fault}
+use Rattle.hp_cut_making.specs.Acceptance.{sign_fault}
 use Rattle.hp_dual.proofs.acceptance.walk.check_signs.Given as goal
 
 abbrev pub invariant-loop-i : goal.invariant-loop-i

@@ -4,11 +4,11 @@ use Rattle.std.specs.Int.{int_wrap}
 use Rattle.hp_theory.specs.Problem.{Node, with_weights}
 use Rattle.hp_theory.specs.View.{node_of}
 use Rattle.hp_theory.specs.Range.{range_of}
-use Rattle.hp_dual.specs.Acceptance.{fault_of}
+use Rattle.hp_cut_making.specs.Acceptance.{fault_of}
 use Rattle.hp_dual.proofs.Accepted.{right-fault_of, size-fault_of}
-use Rattle.hp_dual.proofs.Congruence.{same_read}
+use Rattle.hp_cut_making.proofs.Congruence.{same_read}
 use Rattle.hp_dual.proofs.Reweighted.{right_count, cut_some, cut_passed, cut_beyond, none_of, accepted}
-use Rattle.hp_dual.proofs.SealedCuttable.{cuttable}
+use Rattle.hp_cut_making.proofs.ValidatedCuttable.{cuttable}
 use Rattle.hp_dual.proofs.SizeRange.{range_stops}
 use Rattle.hp_dual.proofs.reweighting.cuts.cut_by.Goals as goal
 

@@ -3,7 +3,7 @@ use Rattle.hp_theory.specs.declared.cut.Cut.{Cut}
 use Rattle.hp_theory.specs.Fit.{CutFits}
 use Rattle.hp_theory.specs.Problem.{Node, node_at}
 use Rattle.hp_theory.specs.View.{problem_of}
-use Rattle.hp_dual.specs.Reweighting.{cut_with}
+use Rattle.hp_cut_making.specs.Reweighting.{cut_with}
 use Rattle.hp_dual.proofs.Reweighted.{cuts_fit}
 use Rattle.hp_dual.proofs.reweighting.cuts.make_each.Goals as goal
 
@@ -13,4 +13,4 @@ returns-clause-fits c =
     let k : Node = node_at (problem_of p) c.args.node in
     let made : List (List ℕ) → List (Option Cut) = map (cut_with c.args.pools.now.lists k c.args.list.now) in
     subst (λ (cuts : List (Option Cut)). All (λ (cut : Option Cut). IfSome cut (CutFits k)) cuts) (sym (c.loop-weights.invariant.so_far ∙ ap made (take_all c.loop-weights.weights-index c.args.lists.now c.loop-weights-test.false)))
-    (cuts_fit p c.args.node c.raw.ensures.sealed c.requires.known c.args.pools.now.lists c.args.list.now c.args.lists.now c.requires.weighs)
+    (cuts_fit p c.args.node c.parts.ensures.validated c.requires.known c.args.pools.now.lists c.args.list.now c.args.lists.now c.requires.weighs)

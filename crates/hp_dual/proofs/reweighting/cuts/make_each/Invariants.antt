@@ -1,7 +1,7 @@
 use Rattle.std.proofs.Common.{◌≡◌, map, take}
 use Rattle.hp_theory.specs.Problem.{node_at}
 use Rattle.hp_theory.specs.View.{problem_of}
-use Rattle.hp_dual.specs.Reweighting.{cut_with}
+use Rattle.hp_cut_making.specs.Reweighting.{cut_with}
 use Rattle.hp_dual.specs.Shares.{SharesAt}
 use Rattle.hp_dual.proofs.reweighting.cuts.make_each.Given as goal
 

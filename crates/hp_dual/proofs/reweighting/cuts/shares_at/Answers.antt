@@ -3,7 +3,7 @@ use Rattle.hp_theory.specs.Problem.{node_at}
 use Rattle.hp_theory.specs.View.{problem_of}
 use Rattle.hp_dual.specs.declared.reweighting.shares.Share.{Share}
 use Rattle.hp_dual.specs.Shares.{SharesAt, SharesOf}
-use Rattle.hp_dual.proofs.PartsOfNode.{own_weighted}
+use Rattle.hp_cut_making.proofs.PartsOfNode.{own_weighted}
 use Rattle.hp_dual.proofs.Reweighted.{if_ok, shares_by_parts}
 use Rattle.hp_dual.proofs.reweighting.cuts.shares_at.Goals as goal
 

@@ -4,9 +4,9 @@ use Rattle.std.specs.Int.{int_wrap}
 use Rattle.std.proofs.lemmas.Int.{to_z-of_z}
 use Rattle.hp_theory.specs.CutOf.{scale}
 use Rattle.hp_theory.specs.View.{node_of}
-use Rattle.hp_dual.specs.Parts.{ReducedFit, constant_at}
-use Rattle.hp_dual.specs.SizeByTerms.{certificate_amount}
-use Rattle.hp_dual.proofs.Congruence.{same_read}
+use Rattle.hp_cut_making.specs.Parts.{ReducedFit, constant_at_scale}
+use Rattle.hp_cut_making.specs.SizeByTerms.{certificate_amount}
+use Rattle.hp_cut_making.proofs.Congruence.{same_read}
 use Rattle.hp_dual.proofs.Sharing.{reduced_of_amount}
 use Rattle.hp_dual.proofs.reweighting.shares.share_of.Goals as goal
 
@@ -17,11 +17,11 @@ fixed_constant-fixed-requires-clause-small c =
     let factor : to_z w128 (of_z w128 c.scale-scale.result) ≡ scale (node_of a.node.now a.subproblem.now [] []) = to_z-of_z w128 c.scale-scale.result (record { sfits = c.scale-scale.type_inv }) ∙ c.scale-scale.ensures in
     let small : certificate_amount a.node.now a.subproblem.now a.low.now a.high.now a.pools.now.lists (c.args.values.now, c.args.certificate.now) < 2 ^ 127 = omega (arith, c.in-Some.ensures, c.in-Some.size.in_range) in
     subst (λ (k : ℤ). ReducedFit k a.pools.now.lists a.node.now a.subproblem.now c.args.certificate.now) (sym factor)
-    (reduced_of_amount a.pools.now.lists a.node.now a.subproblem.now a.low.now a.high.now c.args.values.now c.args.certificate.now c.requires.sized.subproblem c.requires.sized.link_weights small)
+    (reduced_of_amount a.pools.now.lists a.node.now a.subproblem.now a.low.now a.high.now c.args.values.now c.args.certificate.now c.requires.sized.subproblem c.requires.sized.successor_weights small)
 
 pub returns-clause-constant : goal.returns-clause-constant
 unfolding node_of
 returns-clause-constant c = λ h.
     let a = c.args.here.now in
     let factor : to_z w128 (of_z w128 c.scale-scale.result) ≡ scale (node_of a.node.now a.subproblem.now [] []) = to_z-of_z w128 c.scale-scale.result (record { sfits = c.scale-scale.type_inv }) ∙ c.scale-scale.ensures in
-    same_read c.constant_over-constant.result (record { sfits = c.constant_over-constant.type_inv }) ∙ c.constant_over-constant.ensures ∙ ap (λ (k : ℤ). int_wrap w128 (constant_at k a.pools.now.lists a.node.now a.subproblem.now c.args.values.now c.args.certificate.now)) factor
+    same_read c.constant_over-constant.result (record { sfits = c.constant_over-constant.type_inv }) ∙ c.constant_over-constant.ensures ∙ ap (λ (k : ℤ). int_wrap w128 (constant_at_scale k a.pools.now.lists a.node.now a.subproblem.now c.args.values.now c.args.certificate.now)) factor

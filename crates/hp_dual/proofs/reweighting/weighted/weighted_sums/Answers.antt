@@ -5,13 +5,13 @@ use Rattle.hp_theory.specs.declared.cut.Certificate.{Certificate}
 use Rattle.hp_theory.specs.Problem.{Realization, Node, with_weights}
 use Rattle.hp_theory.specs.View.{node_of}
 use Rattle.hp_theory.specs.CutOf.{alpha_at}
-use Rattle.hp_dual.specs.Congruent.{Congruent}
-use Rattle.hp_dual.specs.SizeByTerms.{weighted_amount}
+use Rattle.hp_cut_making.specs.Congruent.{Congruent}
+use Rattle.hp_cut_making.specs.SizeByTerms.{weighted_amount}
 use Rattle.hp_dual.proofs.Amounts.{take_pairs}
-use Rattle.hp_dual.proofs.Congruence.{sum_all, same_read}
+use Rattle.hp_cut_making.proofs.Congruence.{sum_all, same_read}
 use Rattle.hp_dual.proofs.Realizations.{counted}
 use Rattle.hp_dual.proofs.Sharing.{listed, amount, own_size, next_size, next_constant}
-use Rattle.hp_dual.proofs.Weighted.{weighted_all}
+use Rattle.hp_cut_making.proofs.Weighted.{weighted_all}
 use Rattle.hp_dual.proofs.reweighting.weighted.weighted_sums.Goals as goal
 
 pub loop-r-init : goal.loop-r-init

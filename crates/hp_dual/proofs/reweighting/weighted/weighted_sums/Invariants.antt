@@ -5,9 +5,9 @@ use Rattle.hp_theory.specs.declared.cut.Certificate.{Certificate}
 use Rattle.hp_theory.specs.Problem.{Realization, Node, with_weights}
 use Rattle.hp_theory.specs.View.{node_of}
 use Rattle.hp_theory.specs.CutOf.{alpha_at}
-use Rattle.hp_dual.specs.Congruent.{Congruent}
+use Rattle.hp_cut_making.specs.Congruent.{Congruent}
 use Rattle.hp_dual.specs.Shares.{Shares}
-use Rattle.hp_dual.specs.SizeByTerms.{weighted_amount}
+use Rattle.hp_cut_making.specs.SizeByTerms.{weighted_amount}
 use Rattle.hp_dual.proofs.reweighting.weighted.weighted_sums.Given as goal
 
 abbrev pub invariant-loop-r : goal.invariant-loop-r

@@ -1,6 +1,6 @@
 use Rattle.std.proofs.Common.{◌≡◌, ◌+◌, take}
 use Rattle.std.specs.List.{sum_by}
-use Rattle.hp_dual.specs.SizeByTerms.{pair_amount}
+use Rattle.hp_cut_making.specs.SizeByTerms.{pair_amount}
 use Rattle.hp_dual.proofs.size.cuts.plus_pairs.Given as goal
 
 abbrev pub invariant-loop-pair : goal.invariant-loop-pair

@@ -1,7 +1,7 @@
 use Rattle.std.proofs.Common.{ℕ, ℤ, ◌+◌, pos, get_or, SFits, rules, ap, ◌∙◌, refl, List}
 use Rattle.std.proofs.lemmas.Int.{to_z-of_z}
 use mir.Syntax.{w128}
-use Rattle.hp_dual.specs.SizeByTerms.{over_decisions, term_by, terms_by}
+use Rattle.hp_cut_making.specs.SizeByTerms.{over_decisions, term_by, terms_by}
 use Rattle.hp_dual.proofs.Amounts.{pairs_more, pairs_past, take_pairs}
 use Rattle.hp_dual.proofs.size.cuts.plus_slopes.Goals as goal
 

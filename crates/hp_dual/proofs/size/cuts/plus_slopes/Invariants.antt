@@ -1,5 +1,5 @@
 use Rattle.std.proofs.Common.{◌≡◌, ◌+◌, take, zip}
-use Rattle.hp_dual.specs.SizeByTerms.{over_decisions, terms_by}
+use Rattle.hp_cut_making.specs.SizeByTerms.{over_decisions, terms_by}
 use Rattle.hp_dual.proofs.size.cuts.plus_slopes.Given as goal
 
 abbrev pub invariant-loop-k : goal.invariant-loop-k

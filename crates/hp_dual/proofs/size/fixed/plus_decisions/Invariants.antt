@@ -1,6 +1,6 @@
 use Rattle.std.proofs.Common.{◌≡◌, ◌+◌, take}
 use Rattle.std.specs.List.{sum_by}
-use Rattle.hp_dual.specs.SizeByTerms.{decision_amount}
+use Rattle.hp_cut_making.specs.SizeByTerms.{decision_amount}
 use Rattle.hp_dual.proofs.size.fixed.plus_decisions.Given as goal
 
 abbrev pub invariant-loop-decision : goal.invariant-loop-decision

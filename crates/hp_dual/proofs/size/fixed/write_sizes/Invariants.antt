@@ -1,6 +1,6 @@
 use Rattle.std.proofs.Common.{◌≡◌, ◌<◌, ◌^◌, ℕ, length, get_or, min}
-use Rattle.hp_problem.specs.declared.raw.Row.{Row}
-use Rattle.hp_dual.specs.SizeByTerms.{fixed_row}
+use Rattle.hp_parts.specs.declared.parts.Row.{Row}
+use Rattle.hp_cut_making.specs.SizeByTerms.{fixed_row}
 use Rattle.hp_dual.proofs.size.fixed.write_sizes.Given as goal
 
 abbrev pub invariant-loop-i : goal.invariant-loop-i

@@ -4,15 +4,15 @@ use mir.Syntax.{w128}
 use Rattle.hp_num.specs.Sums.{entry, floor_over}
 use Rattle.hp_theory.specs.Problem.{Node}
 use Rattle.hp_theory.specs.CutOf.{beta_sum, divisor, remainder}
-use Rattle.hp_dual.specs.SizeByTerms.{count_by}
-use Rattle.hp_dual.specs.Sized.{unboxed}
+use Rattle.hp_cut_making.specs.SizeByTerms.{count_by}
+use Rattle.hp_cut_making.specs.Sized.{unboxed}
 use Rattle.hp_dual.proofs.Amounts.{counts_more, counts_past}
 use Rattle.hp_dual.proofs.SizeRange.{divisor_is, divisor_some}
-use Rattle.hp_dual.proofs.Slopes.{read_slope}
+use Rattle.hp_cut_making.proofs.CutSlopes.{read_slope}
 use Rattle.hp_dual.proofs.size.range.plus_remainders.Goals as goal
 
-pub rest-remainder-requires : goal.rest-remainder-requires
-rest-remainder-requires c =
+pub tail-remainder-requires : goal.tail-remainder-requires
+tail-remainder-requires c =
     let h = c.args.here.now in
     subst (λ (z : ℤ). pos 1 ≤ℤ z) (sym (to_z-of_z w128 c.divisor-under.result (record { sfits = c.divisor-under.type_inv }) ∙ c.divisor-under.ensures)) (one (divisor_some h.pools.now.lists h.node.now h.subproblem.now h.low.now [] h.weights.now c.requires.sized))
   where
@@ -31,8 +31,8 @@ returns-in_err-sum c = λ list table small.
     let own : to_z w128 (of_z w128 b) ≡ beta_sum n list k =
     to_z-of_z w128 b read ∙ read_slope n list c.args.sums.now k (omega (arith, c.requires.table, c.requires.sized.states, c.loop-k-test.true)) read table (small k c.loop-k-test.true) in
     let under : nat_abs (to_z w128 (of_z w128 c.divisor-under.result)) ≡ divisor n = ap nat_abs (to_z-of_z w128 c.divisor-under.result (record { sfits = c.divisor-under.type_inv }) ∙ c.divisor-under.ensures) ∙ sym (divisor_is h.pools.now.lists h.node.now h.subproblem.now h.low.now [] h.weights.now c.requires.sized) in
-    let left : c.rest-remainder.result ≡ nat_abs (remainder n list k) = c.rest-remainder.ensures ∙ ap₂ (λ (z : ℤ) (d : ℕ). nat_abs (z -ℤ pos d *ℤ floor_over z d)) own under in
-    let is : c.rest-remainder.result * c.absolute.result ≡ f k = ap₂ ◌*◌ left (c.absolute.ensures ∙ ap nat_abs (to_z-of_z w64 _ fits)) in
+    let left : c.tail-remainder.result ≡ nat_abs (remainder n list k) = c.tail-remainder.ensures ∙ ap₂ (λ (z : ℤ) (d : ℕ). nat_abs (z -ℤ pos d *ℤ floor_over z d)) own under in
+    let is : c.tail-remainder.result * c.absolute.result ≡ f k = ap₂ ◌*◌ left (c.absolute.ensures ∙ ap nat_abs (to_z-of_z w64 _ fits)) in
     rw c.from_residual.ensures
     (counts_past f k c.args.size.total c.loop-k.sum.total (c.loop-k.invariant list table small) (length h.low.now) c.loop-k-test.true (subst (λ (z : ℕ). 2 ^ 127 ≤ c.loop-k.sum.total + z) is c.in_err-sum.ensures))
 
@@ -48,8 +48,8 @@ loop-k-preserved c = λ list table small.
     let own : to_z w128 (of_z w128 b) ≡ beta_sum n list k =
     to_z-of_z w128 b read ∙ read_slope n list c.args.sums.now k (omega (arith, c.requires.table, c.requires.sized.states, c.loop-k-test.true)) read table (small k c.loop-k-test.true) in
     let under : nat_abs (to_z w128 (of_z w128 c.divisor-under.result)) ≡ divisor n = ap nat_abs (to_z-of_z w128 c.divisor-under.result (record { sfits = c.divisor-under.type_inv }) ∙ c.divisor-under.ensures) ∙ sym (divisor_is h.pools.now.lists h.node.now h.subproblem.now h.low.now [] h.weights.now c.requires.sized) in
-    let left : c.rest-remainder.result ≡ nat_abs (remainder n list k) = c.rest-remainder.ensures ∙ ap₂ (λ (z : ℤ) (d : ℕ). nat_abs (z -ℤ pos d *ℤ floor_over z d)) own under in
-    let is : c.rest-remainder.result * c.absolute.result ≡ f k = ap₂ ◌*◌ left (c.absolute.ensures ∙ ap nat_abs (to_z-of_z w64 _ fits)) in
+    let left : c.tail-remainder.result ≡ nat_abs (remainder n list k) = c.tail-remainder.ensures ∙ ap₂ (λ (z : ℤ) (d : ℕ). nat_abs (z -ℤ pos d *ℤ floor_over z d)) own under in
+    let is : c.tail-remainder.result * c.absolute.result ≡ f k = ap₂ ◌*◌ left (c.absolute.ensures ∙ ap nat_abs (to_z-of_z w64 _ fits)) in
     counts_more f k c.args.size.total c.loop-k.sum.total (c.loop-k.invariant list table small) c.in_ok-sum.sum.total (c.in_ok-sum.ensures ∙ ap (λ (z : ℕ). c.loop-k.sum.total + z) is)
 
 pub returns : goal.returns

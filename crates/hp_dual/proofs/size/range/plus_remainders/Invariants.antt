@@ -3,10 +3,10 @@ use Rattle.hp_num.specs.Sums.{entry}
 use Rattle.hp_theory.specs.declared.cut.Certificate.{Certificate}
 use Rattle.hp_theory.specs.Problem.{Node}
 use Rattle.hp_theory.specs.CutOf.{beta_sum, remainder}
-use Rattle.hp_dual.specs.Parts.{slope_size}
-use Rattle.hp_dual.specs.SizeByTerms.{count_by}
-use Rattle.hp_dual.specs.Sized.{unboxed}
-use Rattle.hp_dual.specs.Tabled.{Tabled}
+use Rattle.hp_cut_making.specs.Parts.{slope_size}
+use Rattle.hp_cut_making.specs.SizeByTerms.{count_by}
+use Rattle.hp_cut_making.specs.Sized.{unboxed}
+use Rattle.hp_cut_making.specs.Tabled.{Tabled}
 use Rattle.hp_dual.proofs.size.range.plus_remainders.Given as goal
 
 abbrev pub invariant-loop-k : goal.invariant-loop-k

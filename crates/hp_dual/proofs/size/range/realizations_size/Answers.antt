@@ -1,7 +1,7 @@
 use Rattle.std.proofs.Common.{◌≡◌, ◌+◌, ℕ, ℤ, List, length, get_or, zip, ap, sym, subst, ◌∙◌, arith}
 use Rattle.std.specs.List.{sum_by}
 use Rattle.hp_theory.specs.declared.cut.Certificate.{Certificate}
-use Rattle.hp_dual.specs.SizeByTerms.{Adds, certificate_amount, weighted_amount}
+use Rattle.hp_cut_making.specs.SizeByTerms.{AddsSize, certificate_amount, weighted_amount}
 use Rattle.hp_dual.proofs.Amounts.{take_pairs}
 use Rattle.hp_dual.proofs.Realizations.{counted, next}
 use Rattle.hp_dual.proofs.size.range.realizations_size.Goals as goal
@@ -10,7 +10,7 @@ pub returns-in_default : goal.returns-in_default
 returns-in_default c =
     let more = next c.args.here.now.weights.now c.args.here.now.node.now.values c.args.list.now c.loop-r.r c.loop-r.size.total c.from.result c.index-values-r.result c.index-list-r.result (weighted_amount c.args.here.now.node.now c.args.here.now.subproblem.now c.args.here.now.low.now c.args.here.now.high.now c.args.here.now.pools.now.lists)
     (c.requires.sized.values ∙ sym c.requires.sized.count) c.requires.list c.loop-r-test.true c.from.ensures (c.index-values-r.is ∙ ap (λ (k : List (List ℤ)). get_or k c.loop-r.r c.index-values-r.result) c.as_slice-values.ensures) c.index-list-r.is c.loop-r.invariant in
-    let out = c.in_default.ensures _ (subst (λ (k : List ℤ). Adds 0 c.realization_size-inner.result (certificate_amount c.args.here.now.node.now c.args.here.now.subproblem.now c.args.here.now.low.now c.args.here.now.high.now c.args.here.now.pools.now.lists (k, c.index-list-r.result))) c.as_slice.ensures c.realization_size-inner.ensures) in
+    let out = c.in_default.ensures _ (subst (λ (k : List ℤ). AddsSize 0 c.realization_size-inner.result (certificate_amount c.args.here.now.node.now c.args.here.now.subproblem.now c.args.here.now.low.now c.args.here.now.high.now c.args.here.now.pools.now.lists (k, c.index-list-r.result))) c.as_slice.ensures c.realization_size-inner.ensures) in
     record {
       within = more.0;
       before = omega (arith, c.loop-r.size.in_range, c.loop-r.invariant);
@@ -21,7 +21,7 @@ pub loop-r-preserved : goal.loop-r-preserved
 loop-r-preserved c =
     let more = next c.args.here.now.weights.now c.args.here.now.node.now.values c.args.list.now c.loop-r.r c.loop-r.size.total c.from.result c.index-values-r.result c.index-list-r.result (weighted_amount c.args.here.now.node.now c.args.here.now.subproblem.now c.args.here.now.low.now c.args.here.now.high.now c.args.here.now.pools.now.lists)
     (c.requires.sized.values ∙ sym c.requires.sized.count) c.requires.list c.loop-r-test.true c.from.ensures (c.index-values-r.is ∙ ap (λ (k : List (List ℤ)). get_or k c.loop-r.r c.index-values-r.result) c.as_slice-values.ensures) c.index-list-r.is c.loop-r.invariant in
-    c.in-Some.ensures _ (subst (λ (k : List ℤ). Adds 0 c.realization_size-inner.result (certificate_amount c.args.here.now.node.now c.args.here.now.subproblem.now c.args.here.now.low.now c.args.here.now.high.now c.args.here.now.pools.now.lists (k, c.index-list-r.result))) c.as_slice.ensures c.realization_size-inner.ensures) ∙ more.1
+    c.in-Some.ensures _ (subst (λ (k : List ℤ). AddsSize 0 c.realization_size-inner.result (certificate_amount c.args.here.now.node.now c.args.here.now.subproblem.now c.args.here.now.low.now c.args.here.now.high.now c.args.here.now.pools.now.lists (k, c.index-list-r.result))) c.as_slice.ensures c.realization_size-inner.ensures) ∙ more.1
 
 pub returns : goal.returns
 returns c =

@@ -2,8 +2,8 @@ use Rattle.std.proofs.Common.{◌≡◌, ◌+◌, ℕ, ℤ, List, length, get_or
 use Rattle.std.specs.List.{sum_by}
 use Rattle.std.proofs.lemmas.List.{length-map, get_or-map}
 use Rattle.hp_theory.specs.declared.cut.Certificate.{Certificate}
-use Rattle.hp_dual.specs.Parts.{repeated}
-use Rattle.hp_dual.specs.SizeByTerms.{Adds, certificate_amount, weighted_amount}
+use Rattle.hp_cut_making.specs.Parts.{repeated}
+use Rattle.hp_cut_making.specs.SizeByTerms.{AddsSize, certificate_amount, weighted_amount}
 use Rattle.hp_dual.proofs.Amounts.{take_pairs}
 use Rattle.hp_dual.proofs.Realizations.{counted, next}
 use Rattle.hp_dual.proofs.size.repeated.realizations_size.Goals as goal
@@ -12,7 +12,7 @@ pub returns-in-None : goal.returns-in-None
 returns-in-None c =
     let more = next c.args.here.now.weights.now c.args.here.now.node.now.values (repeated c.args.certificate.now c.args.here.now.weights.now) c.loop-r.r c.loop-r.size.total c.from.result c.index-values-r.result c.args.certificate.now (weighted_amount c.args.here.now.node.now c.args.here.now.subproblem.now c.args.here.now.low.now c.args.here.now.high.now c.args.here.now.pools.now.lists)
     (c.requires.sized.values ∙ sym c.requires.sized.count) (length-map c.args.here.now.weights.now (λ (w : ℕ). c.args.certificate.now)) c.loop-r-test.true c.from.ensures (c.index-values-r.is ∙ ap (λ (k : List (List ℤ)). get_or k c.loop-r.r c.index-values-r.result) c.as_slice-values.ensures) (sym (get_or-map (λ (w : ℕ). c.args.certificate.now) c.args.here.now.weights.now c.loop-r.r 0 c.args.certificate.now c.loop-r-test.true)) c.loop-r.invariant in
-    let out = c.in-None.ensures _ (subst (λ (k : List ℤ). Adds 0 c.realization_over-inner.result (certificate_amount c.args.here.now.node.now c.args.here.now.subproblem.now c.args.here.now.low.now c.args.here.now.high.now c.args.here.now.pools.now.lists (k, c.args.certificate.now))) c.as_slice.ensures c.realization_over-inner.ensures) in
+    let out = c.in-None.ensures _ (subst (λ (k : List ℤ). AddsSize 0 c.realization_over-inner.result (certificate_amount c.args.here.now.node.now c.args.here.now.subproblem.now c.args.here.now.low.now c.args.here.now.high.now c.args.here.now.pools.now.lists (k, c.args.certificate.now))) c.as_slice.ensures c.realization_over-inner.ensures) in
     record {
       within = more.0;
       before = omega (arith, c.loop-r.size.in_range, c.loop-r.invariant);
@@ -23,7 +23,7 @@ pub loop-r-preserved : goal.loop-r-preserved
 loop-r-preserved c =
     let more = next c.args.here.now.weights.now c.args.here.now.node.now.values (repeated c.args.certificate.now c.args.here.now.weights.now) c.loop-r.r c.loop-r.size.total c.from.result c.index-values-r.result c.args.certificate.now (weighted_amount c.args.here.now.node.now c.args.here.now.subproblem.now c.args.here.now.low.now c.args.here.now.high.now c.args.here.now.pools.now.lists)
     (c.requires.sized.values ∙ sym c.requires.sized.count) (length-map c.args.here.now.weights.now (λ (w : ℕ). c.args.certificate.now)) c.loop-r-test.true c.from.ensures (c.index-values-r.is ∙ ap (λ (k : List (List ℤ)). get_or k c.loop-r.r c.index-values-r.result) c.as_slice-values.ensures) (sym (get_or-map (λ (w : ℕ). c.args.certificate.now) c.args.here.now.weights.now c.loop-r.r 0 c.args.certificate.now c.loop-r-test.true)) c.loop-r.invariant in
-    c.in-Some.ensures _ (subst (λ (k : List ℤ). Adds 0 c.realization_over-inner.result (certificate_amount c.args.here.now.node.now c.args.here.now.subproblem.now c.args.here.now.low.now c.args.here.now.high.now c.args.here.now.pools.now.lists (k, c.args.certificate.now))) c.as_slice.ensures c.realization_over-inner.ensures) ∙ more.1
+    c.in-Some.ensures _ (subst (λ (k : List ℤ). AddsSize 0 c.realization_over-inner.result (certificate_amount c.args.here.now.node.now c.args.here.now.subproblem.now c.args.here.now.low.now c.args.here.now.high.now c.args.here.now.pools.now.lists (k, c.args.certificate.now))) c.as_slice.ensures c.realization_over-inner.ensures) ∙ more.1
 
 pub returns : goal.returns
 returns c =

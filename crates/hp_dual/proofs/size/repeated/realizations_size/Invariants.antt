@@ -1,7 +1,7 @@
 use Rattle.std.proofs.Common.{◌≡◌, ◌+◌, take, zip}
 use Rattle.std.specs.List.{sum_by}
-use Rattle.hp_dual.specs.Parts.{repeated}
-use Rattle.hp_dual.specs.SizeByTerms.{weighted_amount}
+use Rattle.hp_cut_making.specs.Parts.{repeated}
+use Rattle.hp_cut_making.specs.SizeByTerms.{weighted_amount}
 use Rattle.hp_dual.proofs.size.repeated.realizations_size.Given as goal
 
 abbrev pub invariant-loop-r : goal.invariant-loop-r

@@ -1,6 +1,6 @@
 use Rattle.std.proofs.Common.{ℕ, sym}
 use Rattle.std.proofs.lemmas.List.{length-map}
-use Rattle.hp_dual.specs.Parts.{repeated}
+use Rattle.hp_cut_making.specs.Parts.{repeated}
 use Rattle.hp_dual.proofs.SizeRange.{range_stops}
 use Rattle.hp_dual.proofs.size.repeated.repeated_range.Goals as goal
 

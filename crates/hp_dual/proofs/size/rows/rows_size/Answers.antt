@@ -1,8 +1,8 @@
-use Rattle.hp_problem.specs.declared.raw.Row.{Row}
+use Rattle.hp_parts.specs.declared.parts.Row.{Row}
 use Rattle.std.proofs.Common.{ℤ, ◌+◌, List, get_or, pos, SFits, w64, rules, arith, ap, ◌∙◌}
 use Rattle.std.proofs.lemmas.Int.{to_z-of_z}
 use Rattle.std.specs.List.{sum_by}
-use Rattle.hp_dual.specs.SizeByTerms.{scaled_row}
+use Rattle.hp_cut_making.specs.SizeByTerms.{scaled_row}
 use Rattle.hp_dual.proofs.Amounts.{pairs_more, pairs_past, take_pairs}
 use Rattle.hp_dual.proofs.Fixing.{fixed_at}
 use Rattle.hp_dual.proofs.size.rows.rows_size.Goals as goal

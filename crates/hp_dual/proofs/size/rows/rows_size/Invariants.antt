@@ -1,7 +1,7 @@
 use Rattle.std.proofs.Common.{◌≡◌, ℤ, List, ◌+◌, take, zip}
 use Rattle.std.specs.List.{sum_by}
-use Rattle.hp_problem.specs.declared.raw.Decision.{Decision}
-use Rattle.hp_dual.specs.SizeByTerms.{FixedRows, scaled_row}
+use Rattle.hp_parts.specs.declared.parts.Decision.{Decision}
+use Rattle.hp_cut_making.specs.SizeByTerms.{FixedRows, scaled_row}
 use Rattle.hp_dual.proofs.size.rows.rows_size.Given as goal
 
 abbrev pub invariant-loop-i : goal.invariant-loop-i

@@ -1,6 +1,6 @@
 use Rattle.std.proofs.Common.{◌≡◌, ◌+◌, ◌*◌, nat_abs}
 use Rattle.hp_num.specs.Sums.{entry}
-use Rattle.hp_dual.specs.SizeByTerms.{count_by}
+use Rattle.hp_cut_making.specs.SizeByTerms.{count_by}
 use Rattle.hp_dual.proofs.size.terms.plus_numbers.Given as goal
 
 abbrev pub invariant-loop-k : goal.invariant-loop-k

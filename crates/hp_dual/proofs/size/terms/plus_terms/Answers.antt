@@ -1,4 +1,4 @@
-use Rattle.hp_dual.specs.SizeByTerms.{term_by}
+use Rattle.hp_cut_making.specs.SizeByTerms.{term_by}
 use Rattle.hp_dual.proofs.Amounts.{adds_more, adds_past}
 use Rattle.hp_dual.proofs.size.terms.plus_terms.Goals as goal
 

@@ -1,5 +1,5 @@
 use Rattle.std.proofs.Common.{◌≡◌, ◌+◌, take}
-use Rattle.hp_dual.specs.SizeByTerms.{terms_by}
+use Rattle.hp_cut_making.specs.SizeByTerms.{terms_by}
 use Rattle.hp_dual.proofs.size.terms.plus_terms.Given as goal
 
 abbrev pub invariant-loop-term : goal.invariant-loop-term

@@ -1,20 +1,20 @@
-use Rattle.std.proofs.Common.{◌≡◌, IfOk, sym, ap, subst}
+use Rattle.std.proofs.Common.{◌≡◌, IfOk, subst}
 use Rattle.hp_lp.specs.Nodes.{reference_at}
-use Rattle.hp_lp.proofs.Alike.{proper_sealed, extends_sealed, reference_there}
+use Rattle.hp_lp.proofs.Alike.{proper_validated, extends_validated, reference_there}
 use Rattle.hp_lp.proofs.planner.Planner.begin.Goals as goal
 
 pub begin-requires-clause-proper : goal.begin-requires-clause-proper
 begin-requires-clause-proper g c =
     let p = c.args.self.now.problem.now in
     let t = c.requires.stage in
-    proper_sealed p c.raw.ensures.sealed c.args.node c.requires.known t.pools t.values t.state c.args.lp.now t.is
+    proper_validated p c.parts.ensures.validated c.args.node c.requires.known t.pools t.values t.state c.args.lp.now t.is
 
 pub begin-requires-clause-suits : goal.begin-requires-clause-suits
 begin-requires-clause-suits g c =
     let p = c.args.self.now.problem.now in
     let t = c.requires.stage in
     let r = c.args.self.now.ready.each c.args.node c.at.result.now c.at.ensures in
-    r.begins c.args.lp.now (extends_sealed p c.raw.ensures.sealed c.args.node c.requires.known t.pools t.values t.state c.args.lp.now (reference_at p c.args.node) (reference_there p c.raw.ensures.sealed c.args.node c.requires.known) t.is)
+    r.begins c.args.lp.now (extends_validated p c.parts.ensures.validated c.args.node c.requires.known t.pools t.values t.state c.args.lp.now (reference_at p c.args.node) (reference_there p c.parts.ensures.validated c.args.node c.requires.known) t.is)
 
 pub returns-clause-made : goal.returns-clause-made
 returns-clause-made g c =

@@ -6,5 +6,5 @@ use Rattle.hp_outside.proofs.faultless.FaultlessSourceSource.read.Goals as goal
 pub returns-clause-bytes : goal.returns-clause-bytes
 returns-clause-bytes c =
     let bytes = c.self.inside.bytes.items in
-    let rest = take_rest bytes c.self.inside.at in
+    let tail = take_rest bytes c.self.inside.at in
     read_rest bytes _ _ _ c.self.inside.at c.copy-count.result _ c.self.view_is (cc) c.copy-count.ensures.front (λ none some. c.copy-count.ensures.end none (omega arith))

@@ -3,7 +3,7 @@ use Rattle.std.proofs.Common.{◌≡◌, List, ℕ, ◌≤◌, min, length, take
 use Rattle.hp_outside.specs.Disks.{Torn, Cut, Follows, Elapses, Only, written}
 use Rattle.hp_outside.specs.Changes.{cut_to, synced}
 use Rattle.hp_outside.specs.MemoryDisks.{reads, store_of, after_failed, after_change, after_write}
-use Rattle.hp_outside.proofs.Untold.{torn_nothing, cut_nothing}
+use Rattle.hp_outside.proofs.Unobservable.{torn_nothing, cut_nothing}
 use Rattle.hp_outside.proofs.MemoryDisks.{by_outcome, after_ok, reads_write, reads_cut, reads_sync, longer_write, shorter_cut, follows_write, follows_cut, follows_nothing, durable_sync, image_synced, elapses_change, elapses_write, elapses_nothing}
 use Rattle.hp_outside.proofs.memory_disk.MemDiskDisk.TheImpl.Goals as goal
 
@@ -14,7 +14,7 @@ write_at-tells c =
     let done = after_write old c.args.at c.args.piece.now in
     let failed = after_failed old in record {
       written = after_ok (λ d. Some (reads d) ≡ Some (written (reads old) c.args.at c.args.piece.now)) c.result new done c.ensures.ok (ap (λ (l : List ℕ). Some l) (reads_write old c.args.at c.args.piece.now));
-      tells = refl;
+      observable = refl;
       readable = by_outcome (λ d. length (reads old) ≤ length (reads d)) c.result new done failed c.ensures.ok c.ensures.err (longer_write old c.args.at c.args.piece.now c.requires.place) (omega arith);
       crash =
           by_outcome (λ d. Follows (Torn c.args.at (length c.args.piece.now)) (store_of old) (store_of d)) c.result new done failed c.ensures.ok c.ensures.err (follows_write old c.args.at c.args.piece.now c.requires.place)
@@ -30,7 +30,7 @@ cut-tells c =
     let done = after_change old (cut_to c.args.len) in
     let failed = after_failed old in record {
       cut = after_ok (λ d. Some (reads d) ≡ Some (take c.args.len (reads old))) c.result new done c.ensures.ok (ap (λ (l : List ℕ). Some l) (reads_cut old c.args.len));
-      tells = refl;
+      observable = refl;
       readable = by_outcome (λ d. min (length (reads old)) c.args.len ≤ length (reads d)) c.result new done failed c.ensures.ok c.ensures.err (shorter_cut old c.args.len) (omega arith);
       crash = by_outcome (λ d. Follows (Cut c.args.len) (store_of old) (store_of d)) c.result new done failed c.ensures.ok c.ensures.err (follows_cut old c.args.len) (follows_nothing (Cut c.args.len) old (cut_nothing c.args.len));
       time = by_outcome (λ d. Elapses (store_of old) (store_of d)) c.result new done failed c.ensures.ok c.ensures.err (elapses_change old (cut_to c.args.len)) (elapses_nothing old);

@@ -3,7 +3,7 @@ use mir.Syntax.{w128}
 use Rattle.std.specs.Int.{int_min}
 use Rattle.std.proofs.lemmas.Int.{to_z-of_z}
 use Rattle.hp_num.proofs.Ring.{one_mul}
-use Rattle.hp_dual.specs.SizeByTerms.{span}
+use Rattle.hp_cut_making.specs.SizeByTerms.{span}
 use Rattle.hp_settle.specs.declared.sized_sum.SizedSum.{SizedSum}
 use Rattle.hp_settle.specs.SizedSums.{Sums}
 use Rattle.hp_settle.proofs.InRange.{low_fits, high_fits, least_fits, least_at_most}

@@ -1,29 +1,29 @@
 use Rattle.std.proofs.Common.{◌≡◌, ◌∙◌, ℕ, ◌*◌, ◌≤◌, min, true, Contains, List, Option, IfSome, length, get_or, map, sum, sym, ap, ap₂, subst}
 use Rattle.hp_paths.specs.Paths.{are_known}
-use Rattle.hp_problem.specs.declared.raw.Node as nodes
+use Rattle.hp_parts.specs.declared.parts.Node as nodes
 use Rattle.hp_problem.specs.Formulas.{successor_total, total_weight}
-use Rattle.hp_problem.specs.Parts.{successors_at}
+use Rattle.hp_parts.specs.Parts.{successors_at}
 use Rattle.hp_tree.specs.Multiples.{lcm_all}
 use Rattle.hp_tree.proofs.Ordered.{led_there}
-use Rattle.hp_tree.proofs.Seen.{links_there, seen}
+use Rattle.hp_tree.proofs.Seen.{successors_there, seen}
 use Rattle.hp_tree.proofs.Standing.{denominators_stand, stands_some}
 use Rattle.hp_tree.proofs.denominators.DenominatorTreeNumber.at_node.Goals as goal
 
 pub multiple_at-common-requires-clause-known : goal.multiple_at-common-requires-clause-known
 multiple_at-common-requires-clause-known c =
     let p = c.args.problem.now in
-    let s = seen p c.args.node c.node-own.result.now c.raw.ensures.sealed c.requires.known c.node-own.ensures in
-    subst (λ (k : ℕ). are_known k c.as_slice.result.now ≡ true) (sym c.requires.counted) (subst (λ (ks : List ℕ). are_known (length p.raw.nodes) ks ≡ true) (sym c.as_slice.ensures) s.known)
+    let s = seen p c.args.node c.node-own.result.now c.parts.ensures.validated c.requires.known c.node-own.ensures in
+    subst (λ (k : ℕ). are_known k c.as_slice.result.now ≡ true) (sym c.requires.counted) (subst (λ (ks : List ℕ). are_known (length p.parts.nodes) ks ≡ true) (sym c.as_slice.ensures) s.known)
 
 pub multiple_at-common-requires-clause-some : goal.multiple_at-common-requires-clause-some
 multiple_at-common-requires-clause-some c = λ m listed.
     let p = c.args.problem.now in
-    let led : Contains (successors_at p.raw c.args.node) m = subst (λ (ks : List ℕ). Contains ks m) (c.as_slice.ensures ∙ sym (links_there p c.args.node c.node-own.result.now c.node-own.ensures)) listed in
-    stands_some p c.raw.ensures.sealed c.args.cap c.args.table.now m (get_or c.args.table.now m 0) c.requires.cap (led_there p c.raw.ensures.sealed c.args.node m led) (c.requires.behind m led)
+    let led : Contains (successors_at p.parts c.args.node) m = subst (λ (ks : List ℕ). Contains ks m) (c.as_slice.ensures ∙ sym (successors_there p c.args.node c.node-own.result.now c.node-own.ensures)) listed in
+    stands_some p c.parts.ensures.validated c.args.cap c.args.table.now m (get_or c.args.table.now m 0) c.requires.cap (led_there p c.parts.ensures.validated c.args.node m led) (c.requires.behind m led)
 
 pub total-requires : goal.total-requires
 total-requires c =
-    let s = seen c.args.problem.now c.args.node c.node-own.result.now c.raw.ensures.sealed c.requires.known c.node-own.ensures in
+    let s = seen c.args.problem.now c.args.node c.node-own.result.now c.parts.ensures.validated c.requires.known c.node-own.ensures in
     subst (λ (ks : List ℕ). sum ks ≤ 65535) (sym c.as_slice-2.ensures) s.light
 
 pub returns : goal.returns
@@ -32,9 +32,9 @@ returns c =
     let cap = c.args.cap in
     let n = c.node-own.result.now in
     let at = λ (m : ℕ). get_or c.args.table.now m 0 in
-    let successors : c.q.result ≡ successor_total n.stop n.link_weights = subst (λ (o : Option nodes.Node). IfSome o (λ (k : nodes.Node). c.q.result ≡ successor_total k.stop k.link_weights)) c.node-own.ensures c.q.ensures in
+    let successors : c.q.result ≡ successor_total n.stop n.successor_weights = subst (λ (o : Option nodes.Node). IfSome o (λ (k : nodes.Node). c.q.result ≡ successor_total k.stop k.successor_weights)) c.node-own.ensures c.q.ensures in
     let common = c.multiple_at-common.ensures ∙ ap (λ (ks : List ℕ). min (lcm_all 1 (map at ks)) cap) c.as_slice.ensures in
     let behind = c.capped_product-behind.ensures ∙ ap₂ (λ (a b : ℕ). min (a * b) cap) (c.from.ensures ∙ successors) common in
     let weight = c.from-2.ensures ∙ c.total.ensures ∙ ap (λ (ks : List ℕ). total_weight ks) c.as_slice-2.ensures in
     let value = c.capped_product.ensures ∙ ap₂ (λ (a b : ℕ). min (a * b) cap) weight behind in
-    denominators_stand p c.raw.ensures.sealed cap c.args.table.now c.args.node c.requires.known n c.node-own.ensures c.requires.cap c.requires.behind c.capped_product.result value
+    denominators_stand p c.parts.ensures.validated cap c.args.table.now c.args.node c.requires.known n c.node-own.ensures c.requires.cap c.requires.behind c.capped_product.result value

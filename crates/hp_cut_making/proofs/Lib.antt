@@ -1,0 +1,15 @@
+pub mod GivenNode
+pub mod ValidatedWithin
+pub mod OwnWeights
+pub mod PartsOfNode
+pub mod Congruence
+pub mod Places
+pub mod SizeParts
+pub mod Tables
+pub mod Weighted
+pub mod Viewed
+pub mod InSize
+pub mod Divisor
+pub mod ValidatedCuttable
+pub mod Beside
+pub mod CutSlopes

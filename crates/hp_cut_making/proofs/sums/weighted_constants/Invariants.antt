@@ -1,0 +1,16 @@
+use Rattle.std.proofs.Common.{◌≡◌, pos, ◌*ℤ◌, [], take, zip, length}
+use Rattle.hp_num.specs.Sums.{total}
+use Rattle.hp_theory.specs.declared.cut.Certificate.{Certificate}
+use Rattle.hp_theory.specs.Problem.{Realization, Node, with_weights}
+use Rattle.hp_theory.specs.View.{node_of}
+use Rattle.hp_theory.specs.CutOf.{alpha_at}
+use Rattle.hp_cut_making.specs.Congruent.{Congruent}
+use Rattle.hp_cut_making.proofs.sums.weighted_constants.Given as goal
+
+abbrev pub invariant-loop-r : goal.invariant-loop-r
+invariant-loop-r l =
+    let n : Node = with_weights l.here.weights.now (node_of l.here.node.now l.here.subproblem.now [] []) in
+    record {
+      count : length l.reduced ≡ length l.initial.reduced;
+      value : Congruent l.sum (total (λ (q : Realization × Certificate). pos q.0.weight *ℤ alpha_at l.here.pools.now.lists n q.0.values q.1) (take l.r (zip n.realizations l.list)));
+    }

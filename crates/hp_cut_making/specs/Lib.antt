@@ -1,0 +1,9 @@
+pub mod Acceptance
+pub mod Within
+pub mod Congruent
+pub mod Tabled
+pub mod Parts
+pub mod SizeByTerms
+pub mod Sized
+pub mod Reweighting
+pub mod NodeParts

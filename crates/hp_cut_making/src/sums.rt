@@ -1,0 +1,165 @@
+// The first number of a cut, before the division: A_r of a realization, and their sum.
+ghost use Rattle.std.specs.Prelude.{◌≡◌, ◌-◌, ◌^◌, ◌<◌, ◌≤◌, ℕ, ℤ, pos, ◌+ℤ◌, ◌*ℤ◌, ◌≤ℤ◌, List, [], length, All};
+ghost use Rattle.hp_theory.specs.Problem.{with_weights};
+ghost use Rattle.hp_theory.specs.View.{node_of};
+ghost use Rattle.hp_theory.specs.declared.cut.Certificate.{Certificate};
+ghost use Rattle.hp_theory.specs.CutOf.{scale, alpha_sum};
+ghost use Rattle.hp_cut_making.specs.Congruent.{Congruent};
+ghost use Rattle.hp_cut_making.specs.Parts.{Limited, PairsThere, ReducedFit, costs_at_scale, over_successors, least_at, constant_at_scale};
+ghost use Rattle.hp_cut_making.specs.Tabled.{Tabled, IsScaled};
+
+use crate::constants::{boxes_least, products, sides, successor_constants};
+use crate::node_at::NodeAt;
+use crate::reduced_costs::{add_costs, add_multipliers};
+use crate::scaled_costs::ScaledCosts;
+use crate::scales::{SCALE, scale};
+use crate::wrapping::{wrapping_add, wrapping_add_product};
+use hp_parts::MOST_DECISIONS;
+use hp_theory::Certificate;
+
+/// The sum of the least products of the reduced costs over the decisions' boxes, modulo 2^128. The table has the
+/// decisions' costs at the scale before, and the reduced costs behind.
+fn least_sum(reduced: &mut [i128], here: &NodeAt, certificate: &Certificate) -> i128
+    requires limits { Limited here.now.node.now here.now.subproblem.now }
+    requires known { All (λ m. m < length here.now.pools.now.lists) here.now.node.now.successors }
+    requires there { PairsThere here.now.pools.now.lists here.now.node.now.successors certificate.now.cuts }
+    requires count { length reduced.old ≡ length here.now.subproblem.now.decisions }
+    ensures count { length reduced.new ≡ length reduced.old }
+    ensures value { (k : ℤ) → Tabled (costs_at_scale k here.now.subproblem.now) reduced.old
+        → ReducedFit k here.now.pools.now.lists here.now.node.now here.now.subproblem.now certificate.now
+        → Congruent result (least_at k here.now.pools.now.lists here.now.node.now here.now.subproblem.now certificate.now) }
+{
+    add_multipliers(reduced, here, certificate);
+    boxes_least(reduced, here.subproblem.decisions.as_slice())
+}
+
+/// The part of A_r that is the same at all values: its pairs and its decisions, modulo 2^128. The table has the
+/// decisions' costs at the scale before.
+fn fixed_part(reduced: &mut [i128], here: &NodeAt, certificate: &Certificate) -> i128
+    requires limits { Limited here.now.node.now here.now.subproblem.now }
+    requires known { All (λ m. m < length here.now.pools.now.lists) here.now.node.now.successors }
+    requires there { PairsThere here.now.pools.now.lists here.now.node.now.successors certificate.now.cuts }
+    requires count { length reduced.old ≡ length here.now.subproblem.now.decisions }
+    ensures count { length reduced.new ≡ length reduced.old }
+    ensures value { (k : ℤ) → Tabled (costs_at_scale k here.now.subproblem.now) reduced.old
+        → ReducedFit k here.now.pools.now.lists here.now.node.now here.now.subproblem.now certificate.now
+        → Congruent result (over_successors here.now.pools.now.lists here.now.node.now.successors certificate.now.cuts (λ cut. cut.alpha)
+        +ℤ least_at k here.now.pools.now.lists here.now.node.now here.now.subproblem.now certificate.now) }
+{
+    let least = least_sum(reduced, here, certificate);
+    let pairs = successor_constants(
+        here.node.successors.as_slice(),
+        here.pools,
+        certificate.cuts.as_slice(),
+    );
+    wrapping_add(pairs, least)
+}
+
+/// Gives the part of A_r that is the same at all values, for one certificate alone, modulo 2^128.
+pub fn fixed_constant(scale: i128, here: &NodeAt, certificate: &Certificate) -> i128
+    requires limits { Limited here.now.node.now here.now.subproblem.now }
+    requires known { All (λ m. m < length here.now.pools.now.lists) here.now.node.now.successors }
+    requires there { PairsThere here.now.pools.now.lists here.now.node.now.successors certificate.now.cuts }
+    requires small { ReducedFit scale here.now.pools.now.lists here.now.node.now here.now.subproblem.now certificate.now }
+    ensures { Congruent result (over_successors here.now.pools.now.lists here.now.node.now.successors certificate.now.cuts (λ cut. cut.alpha)
+        +ℤ least_at scale here.now.pools.now.lists here.now.node.now here.now.subproblem.now certificate.now) }
+{
+    let decisions = here.subproblem.decisions.as_slice();
+    let mut reduced: [i128; MOST_DECISIONS] = [0; MOST_DECISIONS];
+    add_costs(&mut reduced, scale, decisions);
+    fixed_part(&mut reduced[..decisions.len()], here, certificate)
+}
+
+/// A_r, modulo 2^128, over its fixed part.
+pub fn constant_over(
+    fixed: i128,
+    scale: i128,
+    here: &NodeAt,
+    values: &[i64],
+    certificate: &Certificate,
+) -> i128
+    requires limits { Limited here.now.node.now here.now.subproblem.now }
+    requires values { length values.now ≡ length here.now.subproblem.now.randoms }
+    requires fixed { Congruent fixed (over_successors here.now.pools.now.lists here.now.node.now.successors certificate.now.cuts (λ cut. cut.alpha)
+        +ℤ least_at scale here.now.pools.now.lists here.now.node.now here.now.subproblem.now certificate.now) }
+    ensures { Congruent result (constant_at_scale scale here.now.pools.now.lists here.now.node.now here.now.subproblem.now values.now certificate.now) }
+{
+    let random = products(here.subproblem.random_costs.as_slice(), values);
+    let cost = wrapping_add(i128::from(here.subproblem.constant), random);
+    let level = sides(
+        here.subproblem.rows.as_slice(),
+        certificate.rows.as_slice(),
+        values,
+    );
+    let staged = wrapping_add_product(wrapping_add_product(0, scale, cost), SCALE, level);
+    wrapping_add(staged, fixed)
+}
+
+/// A_r, modulo 2^128. The table has room for the decisions' reduced costs.
+fn constant_of(
+    reduced: &mut [i128],
+    costs: &ScaledCosts,
+    here: &NodeAt,
+    values: &[i64],
+    certificate: &Certificate,
+) -> i128
+    requires limits { Limited here.now.node.now here.now.subproblem.now }
+    requires known { All (λ m. m < length here.now.pools.now.lists) here.now.node.now.successors }
+    requires there { PairsThere here.now.pools.now.lists here.now.node.now.successors certificate.now.cuts }
+    requires count { length reduced.old ≡ length here.now.subproblem.now.decisions }
+    requires costs { IsScaled costs.now here.now.subproblem.now }
+    requires values { length values.now ≡ length here.now.subproblem.now.randoms }
+    requires small { ReducedFit costs.now.scale here.now.pools.now.lists here.now.node.now here.now.subproblem.now certificate.now }
+    ensures count { length reduced.new ≡ length reduced.old }
+    ensures value { Congruent result (constant_at_scale costs.now.scale here.now.pools.now.lists here.now.node.now here.now.subproblem.now values.now certificate.now) }
+{
+    costs.copy_into(reduced);
+    let fixed = fixed_part(reduced, here, certificate);
+    constant_over(fixed, costs.scale, here, values, certificate)
+}
+
+/// A: the sum over the realizations of the weight times A_r, modulo 2^128. The table has room for the decisions' reduced
+/// costs.
+fn weighted_constants(
+    reduced: &mut [i128],
+    costs: &ScaledCosts,
+    here: &NodeAt,
+    list: &[Certificate],
+) -> i128
+    requires limits { Limited here.now.node.now here.now.subproblem.now }
+    requires count { length here.now.weights.now ≡ length here.now.node.now.weights }
+    requires list { length list.now ≡ length here.now.node.now.weights }
+    requires known { All (λ m. m < length here.now.pools.now.lists) here.now.node.now.successors }
+    requires there { All (λ (c : Certificate). PairsThere here.now.pools.now.lists here.now.node.now.successors c.cuts) list.now }
+    requires small { All (ReducedFit (scale (node_of here.now.node.now here.now.subproblem.now [] [])) here.now.pools.now.lists here.now.node.now here.now.subproblem.now) list.now }
+    requires room { length reduced.old ≡ length here.now.subproblem.now.decisions }
+    requires costs { IsScaled costs.now here.now.subproblem.now }
+    requires scale { costs.now.scale ≡ scale (node_of here.now.node.now here.now.subproblem.now [] []) }
+    ensures { (low high : List ℤ)
+        → Congruent result (alpha_sum here.now.pools.now.lists (with_weights here.now.weights.now (node_of here.now.node.now here.now.subproblem.now low high)) list.now) }
+{
+    let mut sum: i128 = 0;
+    for r in 0..here.weights.len() {
+        let values = here.node.values.as_slice()[r].as_slice();
+        let constant = constant_of(reduced, costs, here, values, &list[r]);
+        sum = wrapping_add_product(sum, i128::from(here.weights[r]), constant);
+    }
+    sum
+}
+
+/// A: the sum over the realizations of the weight times A_r, modulo 2^128.
+pub fn constant_sum(here: &NodeAt, list: &[Certificate]) -> i128
+    requires limits { Limited here.now.node.now here.now.subproblem.now }
+    requires count { length here.now.weights.now ≡ length here.now.node.now.weights }
+    requires list { length list.now ≡ length here.now.node.now.weights }
+    requires known { All (λ m. m < length here.now.pools.now.lists) here.now.node.now.successors }
+    requires there { All (λ (c : Certificate). PairsThere here.now.pools.now.lists here.now.node.now.successors c.cuts) list.now }
+    requires small { All (ReducedFit (scale (node_of here.now.node.now here.now.subproblem.now [] [])) here.now.pools.now.lists here.now.node.now here.now.subproblem.now) list.now }
+    ensures { (low high : List ℤ)
+        → Congruent result (alpha_sum here.now.pools.now.lists (with_weights here.now.weights.now (node_of here.now.node.now here.now.subproblem.now low high)) list.now) }
+{
+    let decisions = here.subproblem.decisions.as_slice();
+    let costs = ScaledCosts::of(scale(here.node), decisions);
+    let mut reduced: [i128; MOST_DECISIONS] = [0; MOST_DECISIONS];
+    weighted_constants(&mut reduced[..decisions.len()], &costs, here, list)
+}
