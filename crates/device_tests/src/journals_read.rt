@@ -34,8 +34,8 @@ fn read_to_end<D: Disk>(disk: &mut D, buffer: &mut Vec<u8>) -> Ending {
             return Ending::Other;
         }
         match read_commit_byte(disk, at) {
-            Ok(CommitByte::Shut { tail }) => return Ending::Whole(tail),
-            Ok(CommitByte::Ajar) => {}
+            Ok(CommitByte::Clear { tail }) => return Ending::Whole(tail),
+            Ok(CommitByte::Set) => {}
             Err(CommitByteFault::Short { place }) => return Ending::Short(place),
             Err(CommitByteFault::DiskFault) => return Ending::Other,
         }

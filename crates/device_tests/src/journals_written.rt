@@ -52,7 +52,7 @@ fn header_commits(alloc: Global, bytes: &[u8], calls: u64) -> Result<(bool, bool
     Ok((outcome.is_ok(), lives_after_each(alloc, &disk)?))
 }
 
-// Birth goes through where it has so many calls.
+// The header is committed where it has so many calls.
 fn assert_committed(rt: &impl Abort, alloc: Global, bytes: &[u8], most: u64) -> Result<(), Memory> {
     for calls in 0..=most {
         let found = header_commits(alloc, bytes, calls)?;
@@ -92,7 +92,7 @@ fn may_be_left_of_growth(bytes: &[u8]) -> bool {
 // Adds the record to what a crash left, where it has none.
 fn regrown(disk: &mut Silent) -> Result<(), Failed> {
     match read_commit_byte(disk, 51) {
-        Ok(CommitByte::Shut { .. }) => {
+        Ok(CommitByte::Clear { .. }) => {
             recover(disk, 51)?;
             append(disk, 51, BODY).map(|_| ())
         }

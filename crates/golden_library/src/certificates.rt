@@ -1,15 +1,23 @@
 // Lists of certificates: the first fault, or the cut that they make.
-ghost use Rattle.std.specs.Prelude.{◌≤◌, sum, All};
+ghost use Rattle.std.specs.Prelude.{◌≡◌, ◌≤◌, ◌∷◌, [], sum, All, IfOk};
 ghost use Rattle.hp_cut.specs.AtNodes.{PoolsFit};
 
 use crate::fault::RowFault;
 use hp_cut::{Certificate, Cut, Pools};
 use hp_cut_making::CertFault;
-use hp_dual::{accept, accept_into, accept_with, base, make_into, make_with};
-use hp_num::List;
+use hp_dual::{accept_into, base, make_each};
+use hp_num::{List, Memory};
 use hp_problem::Problem;
 use serde_json::Value;
 use std::alloc::Global;
+
+/// Why a list makes no cut at a node.
+#[derive(Clone, Copy)]
+enum Refused {
+    /// The problem has no such node, or the cut has other slopes than one for each state.
+    NoNode,
+    Fault(CertFault),
+}
 
 /// The whole numbers of an array.
 fn multipliers(alloc: Global, value: &Value) -> Result<List<i64>, RowFault> {
@@ -73,90 +81,81 @@ fn bounded(weight: u32) -> u32
     weight.clamp(1, 1000)
 }
 
-/// Tells whether the list is accepted at the first node with these two weights, each from 1 to 1,000; then its cut is written.
-fn is_made_with_two(
-    problem: &Problem,
-    pools: &Pools,
-    first: u32,
-    second: u32,
-    list: &[Certificate],
-    cut: &mut Cut,
-) -> bool
-    requires fit { PoolsFit problem.now pools.now.lists }
+/// Two weights as a list.
+fn two(alloc: Global, first: u32, second: u32) -> Result<List<u32>, Memory>
+    ensures { IfOk result (λ weights. weights ≡ first ∷ second ∷ []) }
 {
-    let weights = [bounded(first), bounded(second)];
-    is_made_with(problem, pools, &weights, list, cut)
+    let mut weights = List::new(alloc);
+    weights.push(first)?;
+    weights.push(second)?;
+    Ok(weights)
 }
 
-/// The first fault of a list at a node.
-fn first_fault(
+/// A list of one list of weights.
+fn one(alloc: Global, weights: List<u32>) -> Result<List<List<u32>>, Memory>
+    ensures { IfOk result (λ lists. lists ≡ weights ∷ []) }
+{
+    let mut lists = List::new(alloc);
+    lists.push(weights)?;
+    Ok(lists)
+}
+
+/// The cut of a list at the first node with these weights. None where it is not accepted with them.
+fn cut_with(
+    alloc: Global,
+    problem: &Problem,
+    pools: &Pools,
+    weights: List<u32>,
+    list: &[Certificate],
+) -> Result<Option<Cut>, Memory>
+    requires fit { PoolsFit problem.now pools.now.lists }
+    requires positive { All (λ w. 1 ≤ w) weights }
+    requires total { sum weights ≤ 65535 }
+{
+    let parts = problem.parts();
+    if parts.nodes.is_empty() {
+        return Ok(None);
+    }
+    let own = &parts.nodes.as_slice()[0];
+    if own.weights.len() != weights.len() {
+        return Ok(None);
+    }
+    let lists = one(alloc, weights)?;
+    let cuts = make_each(alloc, problem, pools, 0, lists.as_slice(), list)?;
+    Ok(cuts.into_vec().pop().unwrap_or(None))
+}
+
+/// The cut of a list at the first node with two weights, each brought to 1 to 1,000.
+fn cut_with_two(
+    alloc: Global,
+    problem: &Problem,
+    pools: &Pools,
+    pair: (u32, u32),
+    list: &[Certificate],
+) -> Result<Option<Cut>, Memory>
+    requires { PoolsFit problem.now pools.now.lists }
+{
+    let weights = two(alloc, bounded(pair.0), bounded(pair.1))?;
+    cut_with(alloc, problem, pools, weights, list)
+}
+
+/// Writes the cut of a list at a node, or gives its first fault.
+fn make(
     problem: &Problem,
     pools: &Pools,
     node: u32,
     list: &[Certificate],
-) -> Option<CertFault>
-    requires { PoolsFit problem.now pools.now.lists }
-{
-    if node as usize >= problem.parts().nodes.len() {
-        return None;
-    }
-    accept(problem, pools, node, list).err()
-}
-
-/// Tells whether the list is accepted at the first node; then its cut is written.
-fn is_made(problem: &Problem, pools: &Pools, list: &[Certificate], cut: &mut Cut) -> bool
-    requires { PoolsFit problem.now pools.now.lists }
-{
-    let parts = problem.parts();
-    if parts.nodes.is_empty() || cut.beta.len() != parts.states.len() {
-        return false;
-    }
-    match accept(problem, pools, 0, list) {
-        Ok(()) => {
-            make_into(problem, pools, 0, list, cut);
-            true
-        }
-        Err(_) => false,
-    }
-}
-
-/// Like `is_made`, by one call.
-fn is_made_at_once(problem: &Problem, pools: &Pools, list: &[Certificate], cut: &mut Cut) -> bool
-    requires { PoolsFit problem.now pools.now.lists }
-{
-    let parts = problem.parts();
-    if parts.nodes.is_empty() || cut.beta.len() != parts.states.len() {
-        return false;
-    }
-    accept_into(problem, pools, 0, list, cut).is_ok()
-}
-
-/// Like `is_made`, with given weights.
-fn is_made_with(
-    problem: &Problem,
-    pools: &Pools,
-    weights: &[u32],
-    list: &[Certificate],
     cut: &mut Cut,
-) -> bool
-    requires fit { PoolsFit problem.now pools.now.lists }
-    requires positive { All (λ w. 1 ≤ w) weights.now }
-    requires total { sum weights.now ≤ 65535 }
+) -> Result<(), Refused>
+    requires { PoolsFit problem.now pools.now.lists }
 {
     let parts = problem.parts();
-    if parts.nodes.is_empty() || cut.beta.len() != parts.states.len() {
-        return false;
+    if node as usize >= parts.nodes.len() || cut.beta.len() != parts.states.len() {
+        return Err(Refused::NoNode);
     }
-    let own = &parts.nodes.as_slice()[0];
-    if own.weights.len() != weights.len() {
-        return false;
-    }
-    match accept_with(problem, pools, 0, weights, list) {
-        Ok(()) => {
-            make_with(problem, pools, 0, weights, list, cut);
-            true
-        }
-        Err(_) => false,
+    match accept_into(problem, pools, node, list, cut) {
+        Ok(()) => Ok(()),
+        Err(fault) => Err(Refused::Fault(fault)),
     }
 }
 
@@ -169,60 +168,47 @@ fn blank(alloc: Global, problem: &Problem) -> Result<Cut, RowFault> {
     Ok(Cut { alpha: 0, beta })
 }
 
-/// A cut as ALPHA BETA.., where it was made.
-fn cut_text(alloc: Global, is_made: bool, cut: &Cut) -> Result<String, RowFault> {
-    if is_made {
-        Ok(format!(in alloc; "cut {} {:?}", cut.alpha, cut.beta.as_slice())?)
-    } else {
-        Ok(String::from_str(alloc, "not accepted")?)
-    }
-}
-
-/// The cut of a list at the first node over the base cuts.
-fn cut_of(
+/// A cut at the first node as ALPHA BETA.., or the fault of a list.
+fn text_of(
     alloc: Global,
-    problem: &Problem,
-    weights: Option<(u32, u32)>,
-    list: &[Certificate],
+    node: u32,
+    made: Result<(), Refused>,
+    cut: &Cut,
 ) -> Result<String, RowFault> {
-    let pools = base(alloc, problem)?;
-    let mut cut = blank(alloc, problem)?;
-    let is_made = match weights {
-        Some((first, second)) => is_made_with_two(problem, &pools, first, second, list, &mut cut),
-        None => is_made(problem, &pools, list, &mut cut),
-    };
-    cut_text(alloc, is_made, &cut)
-}
-
-/// The cut of a list at the first node over the base cuts, by one call.
-fn cut_at_once(alloc: Global, problem: &Problem, list: &[Certificate]) -> Result<String, RowFault> {
-    let pools = base(alloc, problem)?;
-    let mut cut = blank(alloc, problem)?;
-    let is_made = is_made_at_once(problem, &pools, list, &mut cut);
-    cut_text(alloc, is_made, &cut)
-}
-
-/// The cut of a list at the first node with the realizations' own weights, which acceptance writes too: both ways, where
-/// they differ.
-fn own_cut(alloc: Global, problem: &Problem, list: &[Certificate]) -> Result<String, RowFault> {
-    let made = cut_of(alloc, problem, None, list)?;
-    let at_once = cut_at_once(alloc, problem, list)?;
-    if made.as_str() == at_once.as_str() {
-        Ok(made)
-    } else {
-        Ok(format!(in alloc; "{made}, at once {at_once}")?)
+    match made {
+        Err(Refused::Fault(fault)) => Ok(format!(in alloc; "{fault:?}")?),
+        Ok(()) if node == 0 => {
+            Ok(format!(in alloc; "cut {} {:?}", cut.alpha, cut.beta.as_slice())?)
+        }
+        _ => Ok(String::from_str(alloc, "accepted")?),
     }
 }
 
-/// The first fault of a list at a node over the base cuts.
-fn fault_of(
+/// The answer on a list at a node over the base cuts.
+fn answer(
     alloc: Global,
     problem: &Problem,
     node: u32,
     list: &[Certificate],
-) -> Result<Option<CertFault>, RowFault> {
+) -> Result<String, RowFault> {
     let pools = base(alloc, problem)?;
-    Ok(first_fault(problem, &pools, node, list))
+    let mut cut = blank(alloc, problem)?;
+    let made = make(problem, &pools, node, list, &mut cut);
+    text_of(alloc, node, made, &cut)
+}
+
+/// The answer on a list at the first node over the base cuts with two weights in place of the realizations' own.
+fn answer_with(
+    alloc: Global,
+    problem: &Problem,
+    weights: (u32, u32),
+    list: &[Certificate],
+) -> Result<String, RowFault> {
+    let pools = base(alloc, problem)?;
+    match cut_with_two(alloc, problem, &pools, weights, list)? {
+        Some(cut) => text_of(alloc, 0, Ok(()), &cut),
+        None => Ok(String::from_str(alloc, "not accepted")?),
+    }
 }
 
 /// A list of certificates at a node, with two weights or the realizations' own.
@@ -233,23 +219,12 @@ struct Asked {
     list: Vec<Certificate>,
 }
 
-/// Writes the answer on an accepted list: its cut at the first node.
-fn cut_at(alloc: Global, problem: &Problem, asked: &Asked) -> Result<String, RowFault> {
-    let list = asked.list.as_slice();
-    if asked.node != 0 {
-        return Ok(String::from_str(alloc, "accepted")?);
-    }
-    match asked.weights {
-        Some(_) => cut_of(alloc, problem, asked.weights, list),
-        None => own_cut(alloc, problem, list),
-    }
-}
-
-/// Writes the answer on a list: its first fault, or the cut of an accepted one.
+/// Writes the answer on a list.
 fn said(alloc: Global, problem: &Problem, asked: &Asked) -> Result<String, RowFault> {
-    match fault_of(alloc, problem, asked.node, asked.list.as_slice())? {
-        Some(fault) => Ok(format!(in alloc; "{fault:?}")?),
-        None => cut_at(alloc, problem, asked),
+    let list = asked.list.as_slice();
+    match asked.weights {
+        Some(weights) => answer_with(alloc, problem, weights, list),
+        None => answer(alloc, problem, asked.node, list),
     }
 }
 

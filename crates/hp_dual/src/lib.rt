@@ -4,13 +4,11 @@
 pub mod acceptance;
 pub mod base_pools;
 pub mod magnitudes;
-pub mod make;
 pub mod reweighting;
 mod size;
 
-pub use acceptance::checker::{accept, accept_with};
+pub use acceptance::checker::accept_with;
 pub use acceptance::making::accept_into;
 pub use base_pools::{BaseFault, base, base_certificate, no_slopes};
 pub use magnitudes::{absolute, reach};
-pub use make::{make_into, make_with};
 pub use reweighting::cuts::make_each;

@@ -13,7 +13,7 @@ use crate::side::Side;
 use hp_num::{List, Memory};
 use hp_parts::ProblemParts;
 use hp_paths::{RankFault, by_rank, first_unreached, longest_from, predecessors, ranks};
-use hp_problem::{Problem, SealFault, successors};
+use hp_problem::{Problem, successors};
 use std::alloc::Global;
 
 /// Why a graph is not arranged.

@@ -2,8 +2,6 @@
 ghost use Rattle.std.specs.Prelude.{◌≡◌};
 ghost use Rattle.hp_graph.specs.Hull.{outer, is_outside, encloses};
 
-use hp_parts::Subproblem;
-
 /// A side of a box.
 #[derive(Clone, Copy, Debug, PartialEq, Eq)]
 pub enum Side {

@@ -4,25 +4,25 @@ use Rattle.std.proofs.lemmas.List.{take_at, drop-drop}
 use Rattle.std.proofs.lemmas.Nat.{from_be_bytes-to_be_bytes_4}
 use Rattle.std.proofs.Math.Seq.{take-suc}
 use Rattle.std.specs.Int.{w32, to_be_bytes, from_be_bytes}
-use Rattle.hp_journal.specs.declared.commit_byte.CommitByte.TheVariants.{Shut, Ajar}
+use Rattle.hp_journal.specs.declared.commit_byte.CommitByte.TheVariants.{Clear, Set}
 use Rattle.hp_journal.specs.CommitBytes.{commit_byte_of, payload_of, length_at}
 use Rattle.hp_journal.specs.Layout.{Title, title_bytes, records, front, journal}
 use Rattle.hp_journal.proofs.Bytes.{byte_behind, rest_behind, parts_at}
-use Rattle.hp_journal.proofs.Reading.{commit_byte_ajar, commit_byte_shut, payload_whole}
+use Rattle.hp_journal.proofs.Reading.{commit_byte_set, commit_byte_clear, payload_whole}
 
 -- a commit byte behind a front
 module _ (f tail : List ℕ) where
-  shut_behind : (commit_byte : ℕ) → commit_byte ≢ 1 → commit_byte_of (f ++ commit_byte ∷ tail) (length f) ≡ Ok (Shut (length tail))
-  shut_behind commit_byte other =
+  clear_behind : (commit_byte : ℕ) → commit_byte ≢ 1 → commit_byte_of (f ++ commit_byte ∷ tail) (length f) ≡ Ok (Clear (length tail))
+  clear_behind commit_byte other =
       let bytes = f ++ commit_byte ∷ tail in
       let size : length bytes ≡ length f + 1 + length tail = omega (arith, length-append f (commit_byte ∷ tail)) in
-      sym (commit_byte_shut bytes (length f) (length bytes) commit_byte refl (sym (byte_behind f commit_byte tail (length f) 1 refl)) (omega (arith, size)) other)
-      ∙ ap (λ n. Ok (Shut n)) (omega (arith, size))
+      sym (commit_byte_clear bytes (length f) (length bytes) commit_byte refl (sym (byte_behind f commit_byte tail (length f) 1 refl)) (omega (arith, size)) other)
+      ∙ ap (λ n. Ok (Clear n)) (omega (arith, size))
 
-  ajar_behind : commit_byte_of (f ++ 1 ∷ tail) (length f) ≡ Ok Ajar
-  ajar_behind =
+  set_behind : commit_byte_of (f ++ 1 ∷ tail) (length f) ≡ Ok Set
+  set_behind =
       let bytes = f ++ 1 ∷ tail in
-      sym (commit_byte_ajar bytes (length f) (length bytes) 1 refl (sym (byte_behind f 1 tail (length f) 1 refl)) (omega (arith, length-append f (1 ∷ tail))) refl)
+      sym (commit_byte_set bytes (length f) (length bytes) 1 refl (sym (byte_behind f 1 tail (length f) 1 refl)) (omega (arith, length-append f (1 ∷ tail))) refl)
 
 four : (n : ℕ) → length (to_be_bytes w32 n) ≡ 4
 four n = refl
@@ -68,14 +68,14 @@ module _ (t : Title) (payloads : List (List ℕ)) (commit_byte : ℕ) (tail : Li
       ∙ append_assoc (front t ps) (records qs) (commit_byte ∷ tail)
       ∙ ap (λ (l : List ℕ). front t ps ++ l) (record_first (get_or payloads j []) (drop (j + 1) payloads) (commit_byte ∷ tail))
 
-  pub open_commit_byte : (j : ℕ) → j < length payloads → commit_byte_of (journal t payloads commit_byte tail) (length (front t (take j payloads))) ≡ Ok Ajar
-  open_commit_byte j below = ap (λ (b : List ℕ). commit_byte_of b (length (front t (take j payloads)))) (journal_at j below) ∙ ajar_behind (front t (take j payloads)) _
+  pub open_commit_byte : (j : ℕ) → j < length payloads → commit_byte_of (journal t payloads commit_byte tail) (length (front t (take j payloads))) ≡ Ok Set
+  open_commit_byte j below = ap (λ (b : List ℕ). commit_byte_of b (length (front t (take j payloads)))) (journal_at j below) ∙ set_behind (front t (take j payloads)) _
 
   pub payload_there : (j : ℕ) → j < length payloads → length (get_or payloads j []) ≤ 2 ^ 26 → payload_of (journal t payloads commit_byte tail) (length (front t (take j payloads))) ≡ Ok (get_or payloads j [])
   payload_there j below few = ap (λ (b : List ℕ). payload_of b (length (front t (take j payloads)))) (journal_at j below) ∙ payload_behind (front t (take j payloads)) (get_or payloads j []) _ few
 
-  pub last_commit_byte : commit_byte ≢ 1 → commit_byte_of (journal t payloads commit_byte tail) (length (front t payloads)) ≡ Ok (Shut (length tail))
-  last_commit_byte other = shut_behind (front t payloads) tail commit_byte other
+  pub last_commit_byte : commit_byte ≢ 1 → commit_byte_of (journal t payloads commit_byte tail) (length (front t payloads)) ≡ Ok (Clear (length tail))
+  last_commit_byte other = clear_behind (front t payloads) tail commit_byte other
 
 record_length : (p : List ℕ) → length (records (p ∷ [])) ≡ 5 + length p
 unfolding records

@@ -8,7 +8,7 @@ use Rattle.hp_outside.specs.Disks.{Store, Torn, Cut, Stays, Lawful, written}
 use Rattle.hp_outside.proofs.RunsOfCalls.{stays_on}
 use Rattle.hp_outside.specs.Since.{Quiet, LeavesOnly}
 use Rattle.hp_journal.specs.Layout.{Title, title_bytes, records, body_of, front, journal}
-use Rattle.hp_journal.specs.IsPrefix.{Grown, IsGrownPrefix, LeavesGrown, shut, half_open}
+use Rattle.hp_journal.specs.IsPrefix.{Grown, IsGrownPrefix, LeavesGrown, clear, half_open}
 use Rattle.hp_journal.specs.Layout.{IsBody}
 use Rattle.hp_journal.proofs.Bytes.{byte_behind, torn_byte, torn_end, cut_rest, written_byte, written_end}
 use Rattle.hp_journal.proofs.Told.{told, known, begins, puts, cuts, mapped}
@@ -39,39 +39,39 @@ module _ (t : Title) (payloads : List (List ℕ)) where
   -- any byte at the commit byte before the next body
   pub any_commit_byte : (j g : ℕ) → j < length payloads → IsGrownPrefix t payloads j (journal t (take j payloads) g (body_of (get_or payloads j [])))
   any_commit_byte j g below = elim (cases_eq g 0) [
-    | inl zero_commit_byte ↦ (j, omega arith, shut (omega (arith, below)) (body_of (get_or payloads j [])) (ap (λ (h : ℕ). journal t (take j payloads) h (body_of (get_or payloads j []))) zero_commit_byte))
+    | inl zero_commit_byte ↦ (j, omega arith, clear (omega (arith, below)) (body_of (get_or payloads j [])) (ap (λ (h : ℕ). journal t (take j payloads) h (body_of (get_or payloads j []))) zero_commit_byte))
     | inr not_zero ↦ elim (cases_eq g 1) [
-      | inl one ↦ (suc j, omega arith, shut (omega (arith, below)) [] (ap (λ (h : ℕ). journal t (take j payloads) h (body_of (get_or payloads j []))) one ∙ opened j below))
+      | inl one ↦ (suc j, omega arith, clear (omega (arith, below)) [] (ap (λ (h : ℕ). journal t (take j payloads) h (body_of (get_or payloads j []))) one ∙ opened j below))
       | inr not_one ↦ (j, omega arith, half_open below g not_zero not_one refl)
     ]
   ]
 
   -- a torn commit byte that was not 0
   pub commit_byte_torn : (j at : ℕ) (bytes : List ℕ) → at ≡ length (front t (take j payloads)) → Grown t payloads j bytes → get_or bytes at 1 ≢ 0 → (c : List ℕ) → Torn at 1 bytes c → IsGrownPrefix t payloads j c
-  commit_byte_torn j at bytes is (shut le tail same) not_zero c torn = absurd (not_zero (ap (λ (b : List ℕ). get_or b at 1) same ∙ byte_behind (front t (take j payloads)) 0 tail at 1 is))
+  commit_byte_torn j at bytes is (clear le tail same) not_zero c torn = absurd (not_zero (ap (λ (b : List ℕ). get_or b at 1) same ∙ byte_behind (front t (take j payloads)) 0 tail at 1 is))
   commit_byte_torn j at bytes is (half_open below commit_byte g0 g1 same) not_zero c torn =
       let from = torn_byte (front t (take j payloads)) commit_byte (body_of (get_or payloads j [])) c at is (subst (λ b. Torn at 1 b c) same torn) in
       subst (IsGrownPrefix t payloads j) (sym from.1) (any_commit_byte j from.0 below)
 
   -- once the commit byte is 0 the journal has any rest
-  pub commit_byte_is_shut : (j at : ℕ) (bytes : List ℕ) → at ≡ length (front t (take j payloads)) → Grown t payloads j bytes → (j ≤ length payloads) × (tail : List ℕ) × (written bytes at (0 ∷ []) ≡ journal t (take j payloads) 0 tail)
-  commit_byte_is_shut j at bytes is (shut le tail same) = (le, tail, ap (λ (b : List ℕ). written b at (0 ∷ [])) same ∙ written_byte (front t (take j payloads)) 0 0 tail at is)
-  commit_byte_is_shut j at bytes is (half_open below commit_byte g0 g1 same) =
+  pub commit_byte_is_clear : (j at : ℕ) (bytes : List ℕ) → at ≡ length (front t (take j payloads)) → Grown t payloads j bytes → (j ≤ length payloads) × (tail : List ℕ) × (written bytes at (0 ∷ []) ≡ journal t (take j payloads) 0 tail)
+  commit_byte_is_clear j at bytes is (clear le tail same) = (le, tail, ap (λ (b : List ℕ). written b at (0 ∷ [])) same ∙ written_byte (front t (take j payloads)) 0 0 tail at is)
+  commit_byte_is_clear j at bytes is (half_open below commit_byte g0 g1 same) =
       let tail = body_of (get_or payloads j []) in
       (omega (arith, below), tail, ap (λ (b : List ℕ). written b at (0 ∷ [])) same ∙ written_byte (front t (take j payloads)) commit_byte 0 tail at is)
 
   -- the rest is cut off
   pub rest_cut : (j at : ℕ) (bytes : List ℕ) → at ≡ length (front t (take j payloads)) → Grown t payloads j bytes → (c : List ℕ) → Cut (at + 1) (written bytes at (0 ∷ [])) c → IsGrownPrefix t payloads j c
   rest_cut j at bytes is grows c cut =
-      let closed = commit_byte_is_shut j at bytes is grows in
+      let closed = commit_byte_is_clear j at bytes is grows in
       let left = cut_rest (front t (take j payloads)) 0 closed.1 c at is (subst (λ b. Cut (at + 1) b c) closed.2 cut) in
-      (j, omega arith, shut closed.0 left.0 left.1)
+      (j, omega arith, clear closed.0 left.0 left.1)
 
   -- a body is torn behind the commit byte of 0 at the journal's end
   pub body_torn : (j at n : ℕ) (bytes : List ℕ) → j < length payloads → at ≡ length (front t (take j payloads)) → bytes ≡ journal t (take j payloads) 0 [] → (c : List ℕ) → Torn (at + 1) n bytes c → IsGrownPrefix t payloads j c
   body_torn j at n bytes below is same c torn =
       let tail = torn_end (front t (take j payloads)) 0 c at n is (subst (λ b. Torn (at + 1) n b c) same torn) in
-      (j, omega arith, shut (omega (arith, below)) tail.0 tail.1)
+      (j, omega arith, clear (omega (arith, below)) tail.0 tail.1)
 
   -- the commit byte is torn before a body that is there
   pub opening_torn : (j at : ℕ) → j < length payloads → at ≡ length (front t (take j payloads)) → (c : List ℕ) → Torn at 1 (journal t (take j payloads) 0 (body_of (get_or payloads j []))) c → IsGrownPrefix t payloads j c
@@ -82,7 +82,7 @@ module _ (t : Title) (payloads : List (List ℕ)) where
   -- a body is put behind the commit byte, and then the commit byte becomes 1
   pub first_put : (old new : Store) (bytes : List ℕ) (j at n : ℕ) → Lawful old → Quiet old → old.reads ≡ Some bytes → j < length payloads → at ≡ length (front t (take j payloads)) → bytes ≡ journal t (take j payloads) 0 [] → IfSome old.reads (λ b. LeavesOnly old new (Torn (at + 1) n b)) → LeavesOnly old new (IsGrownPrefix t payloads j)
   first_put old new bytes j at n lawful quiet is below place same moment =
-      let here : IsGrownPrefix t payloads j bytes = (j, omega arith, shut (omega (arith, below)) [] same) in
+      let here : IsGrownPrefix t payloads j bytes = (j, omega arith, clear (omega (arith, below)) [] same) in
       puts old (IsGrownPrefix t payloads j) old new bytes (at + 1) n (begins old (IsGrownPrefix t payloads j) bytes lawful is quiet here) is moment (body_torn j at n bytes below place same)
 
   pub second_put : (old mid new : Store) (bytes : List ℕ) (j at : ℕ) → LeavesOnly old mid (IsGrownPrefix t payloads j) → old.reads ≡ Some bytes → j < length payloads → at ≡ length (front t (take j payloads)) → bytes ≡ journal t (take j payloads) 0 [] → mid.reads ≡ option_map (λ b. written b (at + 1) (body_of (get_or payloads j []))) old.reads → IfSome mid.reads (λ b. LeavesOnly mid new (Torn at 1 b)) → LeavesOnly old new (IsGrownPrefix t payloads j)

@@ -10,7 +10,7 @@ use Rattle.hp_outside.specs.Since.{Quiet, LeavesOnly}
 use Rattle.hp_outside.proofs.RunsOfCalls.{stays_on}
 use Rattle.hp_journal.specs.Head.{IsUncommitted, is_uncommitted}
 use Rattle.hp_journal.specs.Layout.{Title, title_bytes, new_title, shared_title, magic, head_length, records, body_of, front, journal}
-use Rattle.hp_journal.specs.IsPrefix.{Uncommitted, Grown, IsPrefix, LeavesPrefix, short, zero_byte, half_committed, shut, half_open, uncommitted, committed}
+use Rattle.hp_journal.specs.IsPrefix.{Uncommitted, Grown, IsPrefix, LeavesPrefix, short, zero_byte, half_committed, clear, half_open, uncommitted, committed}
 use Rattle.hp_journal.proofs.Bytes.{torn_byte, written_byte}
 use Rattle.hp_journal.proofs.Told.{told, known, begins, puts, cuts, mapped}
 
@@ -42,7 +42,7 @@ no_uncommitted x some = grind (arith, nat_tests)
 
 -- a journal is committed
 not_grown : (t : Title) (payloads : List (List ℕ)) (bytes : List ℕ) → IsUncommitted bytes → Grown t payloads 0 bytes → ⊥
-not_grown t payloads bytes is (shut le tail same) = two (sym (subst IsUncommitted same is) ∙ no_uncommitted (title_bytes t ++ records [] ++ 0 ∷ tail) (omega (arith, length-append (title_bytes t ++ records []) (0 ∷ tail))))
+not_grown t payloads bytes is (clear le tail same) = two (sym (subst IsUncommitted same is) ∙ no_uncommitted (title_bytes t ++ records [] ++ 0 ∷ tail) (omega (arith, length-append (title_bytes t ++ records []) (0 ∷ tail))))
   where
     two : true ≡ false → ⊥
     two e = cc
@@ -69,7 +69,7 @@ module _ (t : Title) (payloads : List (List ℕ)) (long : length t.digest ≡ 32
   any_header_commit g = elim (cases_eq g 0) [
     | inl is_zero ↦ uncommitted refl (zero_byte is_zero (omega (arith, length-append (title_bytes t) (0 ∷ []), title_length t long)))
     | inr not_zero ↦ elim (cases_eq g 1) [
-      | inl is_one ↦ committed (shut (omega arith) [] (ap (λ (h : ℕ). h ∷ title_bytes t ++ 0 ∷ []) is_one ∙ ap (λ (l : List ℕ). 1 ∷ l ++ 0 ∷ []) (sym (append-nil (title_bytes t)))))
+      | inl is_one ↦ committed (clear (omega arith) [] (ap (λ (h : ℕ). h ∷ title_bytes t ++ 0 ∷ []) is_one ∙ ap (λ (l : List ℕ). 1 ∷ l ++ 0 ∷ []) (sym (append-nil (title_bytes t)))))
       | inr not_one ↦ uncommitted refl (half_committed g not_zero not_one refl)
     ]
   ]

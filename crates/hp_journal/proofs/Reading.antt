@@ -2,7 +2,7 @@
 use Rattle.std.proofs.Common.{◌≡◌, ◌≢◌, ◌⊎◌, inl, Option, Some, IfSome, ℕ, ◌+◌, ◌-◌, ◌^◌, ◌≤◌, ◌<◌, List, length, get_or, take, drop, min, ◌∙◌, ap, arith, Ok, Err}
 use Rattle.std.proofs.lemmas.Bool.Decides.{nat_tests}
 use Rattle.std.proofs.lemmas.List.{take_min}
-use Rattle.hp_journal.specs.declared.commit_byte.CommitByte.TheVariants.{Shut, Ajar}
+use Rattle.hp_journal.specs.declared.commit_byte.CommitByte.TheVariants.{Clear, Set}
 use Rattle.hp_journal.specs.declared.commit_byte.CommitByteFault.TheVariants as commit_bytes
 use Rattle.hp_journal.specs.declared.commit_byte.PayloadFault.TheVariants as payloads
 use Rattle.hp_journal.specs.CommitBytes.{commit_byte_of, payload_of, length_at}
@@ -15,13 +15,13 @@ module _ (bytes : List ℕ) (at : ℕ) where
   unfolding commit_byte_of
   commit_byte_short len is le = grind (arith, nat_tests)
 
-  pub commit_byte_ajar : (len byte : ℕ) → len ≡ length bytes → byte ≡ get_or bytes at 1 → at < len → byte ≡ 1 → Ok Ajar ≡ commit_byte_of bytes at
+  pub commit_byte_set : (len byte : ℕ) → len ≡ length bytes → byte ≡ get_or bytes at 1 → at < len → byte ≡ 1 → Ok Set ≡ commit_byte_of bytes at
   unfolding commit_byte_of
-  commit_byte_ajar len byte is read below one = grind (arith, nat_tests)
+  commit_byte_set len byte is read below one = grind (arith, nat_tests)
 
-  pub commit_byte_shut : (len byte : ℕ) → len ≡ length bytes → byte ≡ get_or bytes at 1 → at < len → byte ≢ 1 → Ok (Shut (len - (at + 1))) ≡ commit_byte_of bytes at
+  pub commit_byte_clear : (len byte : ℕ) → len ≡ length bytes → byte ≡ get_or bytes at 1 → at < len → byte ≢ 1 → Ok (Clear (len - (at + 1))) ≡ commit_byte_of bytes at
   unfolding commit_byte_of
-  commit_byte_shut len byte is read below other = grind (arith, nat_tests)
+  commit_byte_clear len byte is read below other = grind (arith, nat_tests)
 
   pub payload_headless : (len : ℕ) → len ≡ length bytes → len < at + 5 → payload_of bytes at ≡ Err (payloads.Short (at + 1))
   unfolding payload_of
@@ -60,11 +60,11 @@ module _ (reads : Option (List ℕ)) (at len : ℕ) (size : IfSome reads (λ b. 
     byte_of : (b : List ℕ) → reads ≡ Some b → byte ≡ get_or b at 1
     byte_of b is = known (λ b. byte ≡ get_or b at 1) reads b is read
 
-    pub told_commit_byte_ajar : (X : Type 0) → byte ≡ 1 → IfSome reads (λ b. (Ok Ajar ≡ commit_byte_of b at) ⊎ X)
-    told_commit_byte_ajar X one = told reads (λ b is. inl (commit_byte_ajar b at len byte (size_of b is) (byte_of b is) below one))
+    pub told_commit_byte_set : (X : Type 0) → byte ≡ 1 → IfSome reads (λ b. (Ok Set ≡ commit_byte_of b at) ⊎ X)
+    told_commit_byte_set X one = told reads (λ b is. inl (commit_byte_set b at len byte (size_of b is) (byte_of b is) below one))
 
-    pub told_commit_byte_shut : (X : Type 0) → byte ≢ 1 → IfSome reads (λ b. (Ok (Shut (len - (at + 1))) ≡ commit_byte_of b at) ⊎ X)
-    told_commit_byte_shut X other = told reads (λ b is. inl (commit_byte_shut b at len byte (size_of b is) (byte_of b is) below other))
+    pub told_commit_byte_clear : (X : Type 0) → byte ≢ 1 → IfSome reads (λ b. (Ok (Clear (len - (at + 1))) ≡ commit_byte_of b at) ⊎ X)
+    told_commit_byte_clear X other = told reads (λ b is. inl (commit_byte_clear b at len byte (size_of b is) (byte_of b is) below other))
 
   pub told_headless : (X : Type 0) → len < at + 5 → IfSome reads (λ b. (payload_of b at ≡ Err (payloads.Short (at + 1))) ⊎ X)
   told_headless X le = told reads (λ b is. inl (payload_headless b at len (size_of b is) le))

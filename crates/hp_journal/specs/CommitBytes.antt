@@ -2,7 +2,7 @@
 use Rattle.std.specs.Prelude.{◌≢◌, ◌<◌, ℕ, ◌+◌, ◌-◌, ◌^◌, ◌==◌, nat_le, nat_lt, List, length, take, drop, get_or, Result, Ok, Err, if◌then◌else◌}
 use Rattle.std.specs.Int.{w32, from_be_bytes}
 use Rattle.hp_journal.specs.declared.commit_byte.CommitByte.{CommitByte}
-use Rattle.hp_journal.specs.declared.commit_byte.CommitByte.TheVariants.{Shut, Ajar}
+use Rattle.hp_journal.specs.declared.commit_byte.CommitByte.TheVariants.{Clear, Set}
 use Rattle.hp_journal.specs.declared.commit_byte.CommitByteFault.{CommitByteFault}
 use Rattle.hp_journal.specs.declared.commit_byte.PayloadFault.{PayloadFault}
 use Rattle.hp_journal.specs.declared.commit_byte.CommitByteFault.TheVariants as commit_bytes
@@ -12,12 +12,12 @@ use Rattle.hp_journal.specs.declared.commit_byte.PayloadFault.TheVariants as pay
 unfoldable pub commit_byte_of : List ℕ → ℕ → Result CommitByte CommitByteFault
 commit_byte_of bytes at =
     if nat_le (length bytes) at then Err (commit_bytes.Short at)
-    else if get_or bytes at 1 == 1 then Ok Ajar
-    else Ok (Shut (length bytes - (at + 1)))
+    else if get_or bytes at 1 == 1 then Ok Set
+    else Ok (Clear (length bytes - (at + 1)))
 
 -- a commit byte that is not open stands at this place
-abbrev pub IsShutAt : ℕ → List ℕ → Type 0
-IsShutAt at bytes = (at < length bytes) × (get_or bytes at 1 ≢ 1)
+abbrev pub IsClearAt : ℕ → List ℕ → Type 0
+IsClearAt at bytes = (at < length bytes) × (get_or bytes at 1 ≢ 1)
 
 -- the payload's length that the record says whose commit byte stands at this place
 abbrev pub length_at : List ℕ → ℕ → ℕ

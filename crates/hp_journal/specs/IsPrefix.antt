@@ -14,7 +14,7 @@ pub data Uncommitted (t : Title) (bytes : List ℕ) : Type 0 where
 -- the bytes are a journal of the first j of these payloads: with a commit byte of 0 and any rest, or with a half-written
 -- commit byte before the next record
 pub data Grown (t : Title) (payloads : List (List ℕ)) (j : ℕ) (bytes : List ℕ) : Type 0 where
-  shut : j ≤ length payloads → (tail : List ℕ) → bytes ≡ journal t (take j payloads) 0 tail → Grown t payloads j bytes
+  clear : j ≤ length payloads → (tail : List ℕ) → bytes ≡ journal t (take j payloads) 0 tail → Grown t payloads j bytes
   half_open : j < length payloads → (commit_byte : ℕ) → commit_byte ≢ 0 → commit_byte ≢ 1 → bytes ≡ journal t (take j payloads) commit_byte (body_of (get_or payloads j [])) → Grown t payloads j bytes
 
 -- the bytes stand for the first j of these payloads

@@ -17,9 +17,9 @@ pub const MOST_PAYLOAD: u32 = 1 << 26;
 #[derive(Clone, Copy, Debug, PartialEq, Eq)]
 pub enum CommitByte {
     /// Any byte but 1, with the number of bytes behind it.
-    Shut { tail: u64 },
+    Clear { tail: u64 },
     /// The byte 1.
-    Ajar,
+    Set,
 }
 
 /// Why no commit byte could be read.
@@ -78,9 +78,9 @@ pub fn read_commit_byte<D: Disk>(disk: &mut D, at: u64) -> Result<CommitByte, Co
         return Err(CommitByteFault::Short { place: at });
     }
     if byte == 1 {
-        return Ok(CommitByte::Ajar);
+        return Ok(CommitByte::Set);
     }
-    Ok(CommitByte::Shut {
+    Ok(CommitByte::Clear {
         tail: len - (at + 1),
     })
 }

@@ -4,7 +4,7 @@ ghost use Rattle.std.specs.Option.{option_map};
 ghost use Rattle.hp_outside.specs.Causes.{HasCause};
 ghost use Rattle.hp_outside.specs.Disks.{written};
 ghost use Rattle.hp_outside.specs.Since.{Quiet, LeavesOnly};
-ghost use Rattle.hp_journal.specs.CommitBytes.{IsShutAt};
+ghost use Rattle.hp_journal.specs.CommitBytes.{IsClearAt};
 ghost use Rattle.hp_journal.specs.Layout.{Title, body_of, journal, IsBody};
 ghost use Rattle.hp_journal.specs.IsPrefix.{IsGrownPrefix, LeavesGrown};
 
@@ -16,7 +16,7 @@ use hp_outside::{Disk, Failed};
 /// behind it is cut off. `Failed` comes only where the disk's count of faults rose. It takes no memory.
 pub fn recover<D: Disk>(disk: &mut D, at: u64) -> Result<(), Failed>
     requires near { at ≤ 2 ^ 40 }
-    requires shut { IfSome (D.store disk.old).reads (IsShutAt at) }
+    requires clear { IfSome (D.store disk.old).reads (IsClearAt at) }
     requires quiet { Quiet (D.store disk.old) }
 
     // A crash at any moment leaves a journal of the same records, or with the one whose commit byte was half written.
@@ -27,7 +27,7 @@ pub fn recover<D: Disk>(disk: &mut D, at: u64) -> Result<(), Failed>
     ensures observable { is_some (D.store disk.new).reads ≡ is_some (D.store disk.old).reads }
     ensures cause { HasCause (D.faults disk.old) (D.faults disk.new) result }
 {
-    let len = shut_commit_byte(disk, at)?;
+    let len = clear_commit_byte(disk, at)?;
     if len > at + 1 {
         return cut_to(disk, at + 1);
     }
@@ -35,9 +35,9 @@ pub fn recover<D: Disk>(disk: &mut D, at: u64) -> Result<(), Failed>
 }
 
 // Makes the commit byte 0 where it is not, and answers the length that the disk had.
-fn shut_commit_byte<D: Disk>(disk: &mut D, at: u64) -> Result<u64, Failed>
+fn clear_commit_byte<D: Disk>(disk: &mut D, at: u64) -> Result<u64, Failed>
     requires near { at ≤ 2 ^ 40 }
-    requires shut { IfSome (D.store disk.old).reads (IsShutAt at) }
+    requires clear { IfSome (D.store disk.old).reads (IsClearAt at) }
     requires quiet { Quiet (D.store disk.old) }
     ensures any_moment { LeavesGrown at (D.store disk.old) (D.store disk.new) }
     ensures reads { OnOk result ((D.store disk.new).reads

@@ -1,7 +1,7 @@
 // A journal is read as it was written. Each law is the contract of a function with an empty body.
 ghost use Rattle.std.specs.Prelude.{◌≡◌, ◌≢◌, ◌≤◌, ◌<◌, ◌+◌, ◌^◌, ℕ, suc, List, [], length, take, get_or, Ok};
 ghost use Rattle.hp_journal.specs.declared.head.Head.TheVariants as heads;
-ghost use Rattle.hp_journal.specs.declared.commit_byte.CommitByte.TheVariants.{Shut, Ajar};
+ghost use Rattle.hp_journal.specs.declared.commit_byte.CommitByte.TheVariants.{Clear, Set};
 ghost use Rattle.hp_journal.specs.Head.{head_of};
 ghost use Rattle.hp_journal.specs.CommitBytes.{commit_byte_of, payload_of};
 ghost use Rattle.hp_journal.specs.Layout.{Title, IsTitle, head_length, front, journal};
@@ -18,11 +18,11 @@ pub fn head_as_written()
 {}
 
 /// The commit byte before each record of a journal is open, and the payload that is read behind it is that record's, up to the next
-/// commit byte. The commit byte behind the last record is shut before the rest.
+/// commit byte. The commit byte behind the last record is clear before the rest.
 pub fn records_as_written()
     ensures open { (t : Title) (payloads : List (List ℕ)) (commit_byte : ℕ) (tail : List ℕ) (j : ℕ)
         → j < length payloads
-        → commit_byte_of (journal t payloads commit_byte tail) (length (front t (take j payloads))) ≡ Ok Ajar }
+        → commit_byte_of (journal t payloads commit_byte tail) (length (front t (take j payloads))) ≡ Ok Set }
     ensures payload { (t : Title) (payloads : List (List ℕ)) (commit_byte : ℕ) (tail : List ℕ) (j : ℕ)
         → j < length payloads → length (get_or payloads j []) ≤ 2 ^ 26
         → payload_of (journal t payloads commit_byte tail) (length (front t (take j payloads)))
@@ -31,5 +31,5 @@ pub fn records_as_written()
         → length (front t (take (suc j) payloads))
         ≡ length (front t (take j payloads)) + 5 + length (get_or payloads j []) }
     ensures end { (t : Title) (payloads : List (List ℕ)) (commit_byte : ℕ) (tail : List ℕ) → commit_byte ≢ 1
-        → commit_byte_of (journal t payloads commit_byte tail) (length (front t payloads)) ≡ Ok (Shut (length tail)) }
+        → commit_byte_of (journal t payloads commit_byte tail) (length (front t payloads)) ≡ Ok (Clear (length tail)) }
 {}

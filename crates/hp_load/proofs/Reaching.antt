@@ -31,10 +31,10 @@ module _ (p : Validated) (batch : ℕ) (bytes : List ℕ) (at : ℕ) (found : Fo
   abbrev later : ℕ → Result Ended LoadFault
   later left = record_at p batch bytes at found >>= λ read. records_at p batch bytes left read.1 read.2 (lists ++ read.0 ∷ [])
 
-  at_shut : (left n : ℕ) → rest_at bytes at ≡ Ok (Some n) → records_at p batch bytes left at found lists ≡ Ok (ended found lists at n)
+  at_clear : (left n : ℕ) → rest_at bytes at ≡ Ok (Some n) → records_at p batch bytes left at found lists ≡ Ok (ended found lists at n)
   unfolding records_at
-  at_shut zero n e = bind_on (rest_at bytes at) (Some n) (λ tail. or_more tail (ended found lists at) (Err (faults.Refused TooMany))) e
-  at_shut (suc left) n e = bind_on (rest_at bytes at) (Some n) (λ tail. or_more tail (ended found lists at) (later left)) e
+  at_clear zero n e = bind_on (rest_at bytes at) (Some n) (λ tail. or_more tail (ended found lists at) (Err (faults.Refused TooMany))) e
+  at_clear (suc left) n e = bind_on (rest_at bytes at) (Some n) (λ tail. or_more tail (ended found lists at) (later left)) e
 
   at_fault : (left : ℕ) (fault : LoadFault) → LoadFails fault (rest_at bytes at) → LoadFails fault (records_at p batch bytes left at found lists)
   unfolding records_at
@@ -117,15 +117,15 @@ module _ (p : Validated) (base : List (List Cut)) (batch first : ℕ) (reads : O
     from_there bytes observable = known (λ b. records_at p batch b (2000 - i) at found r.lists ≡ records_at p batch b 2000 first (fresh_found base) []) reads bytes observable r.goes_on
 
     -- the commit byte is 0, or does not tell
-    pub reached_shut : (n : ℕ) → IfSome reads (λ bytes. rest_at bytes at ≡ Ok (Some n)) → IfSome reads (λ bytes. EndsAs kept found (Ok (record { end = at; tail = n })) (records_at p batch bytes 2000 first (fresh_found base) []))
-    reached_shut n shut = told reads (λ bytes observable. (r.lists, r.keeps, sym (from_there bytes observable) ∙ at_shut p batch bytes at found r.lists (2000 - i) n (known (λ b. rest_at b at ≡ Ok (Some n)) reads bytes observable shut)))
+    pub reached_clear : (n : ℕ) → IfSome reads (λ bytes. rest_at bytes at ≡ Ok (Some n)) → IfSome reads (λ bytes. EndsAs kept found (Ok (record { end = at; tail = n })) (records_at p batch bytes 2000 first (fresh_found base) []))
+    reached_clear n clear = told reads (λ bytes observable. (r.lists, r.keeps, sym (from_there bytes observable) ∙ at_clear p batch bytes at found r.lists (2000 - i) n (known (λ b. rest_at b at ≡ Ok (Some n)) reads bytes observable clear)))
 
     pub reached_fault : (fault : LoadFault) → IfSome reads (λ bytes. LoadFails fault (rest_at bytes at)) → IfSome reads (λ bytes. LoadFails fault (records_at p batch bytes 2000 first (fresh_found base) []))
     reached_fault fault bad = told reads (λ bytes observable. fails_as fault (records_at p batch bytes (2000 - i) at found r.lists) (records_at p batch bytes 2000 first (fresh_found base) []) (from_there bytes observable) (at_fault p batch bytes at found r.lists (2000 - i) fault (known (λ b. LoadFails fault (rest_at b at)) reads bytes observable bad)))
 
-    module _ (ajar : IfSome reads (λ bytes. rest_at bytes at ≡ Ok None)) where
+    module _ (set : IfSome reads (λ bytes. rest_at bytes at ≡ Ok None)) where
       is_open : (bytes : List ℕ) → reads ≡ Some bytes → rest_at bytes at ≡ Ok None
-      is_open bytes observable = known (λ b. rest_at b at ≡ Ok None) reads bytes observable ajar
+      is_open bytes observable = known (λ b. rest_at b at ≡ Ok None) reads bytes observable set
 
       pub reached_many : 2000 ≤ i → IfSome reads (λ bytes. LoadFails (faults.Refused TooMany) (records_at p batch bytes 2000 first (fresh_found base) []))
       reached_many last = told reads (λ bytes observable.

@@ -11,7 +11,7 @@ use Rattle.hp_cut.specs.declared.entry.Entry.{Entry}
 use Rattle.hp_record.specs.Reading.{read_batch}
 use Rattle.hp_record.specs.declared.fault.EntryFault.TheVariants.{Bad}
 use Rattle.hp_journal.specs.declared.commit_byte.CommitByte.{CommitByte}
-use Rattle.hp_journal.specs.declared.commit_byte.CommitByte.TheVariants.{Shut, Ajar}
+use Rattle.hp_journal.specs.declared.commit_byte.CommitByte.TheVariants.{Clear, Set}
 use Rattle.hp_journal.specs.CommitBytes.{commit_byte_of, payload_of}
 use Rattle.hp_load.specs.declared.refusal.JournalRefusal.TheVariants.{TooMany}
 use Rattle.hp_load.specs.declared.refusal.LoadFault.{LoadFault}
@@ -75,8 +75,8 @@ pub record Ended : Type 0 where
 
 -- the number of bytes behind the commit byte at a place where it is 0, none where it is 1
 abbrev pub rest_behind : CommitByte → Option ℕ
-rest_behind (Shut tail) = Some tail
-rest_behind Ajar = None
+rest_behind (Clear tail) = Some tail
+rest_behind Set = None
 
 unfoldable pub rest_at : List ℕ → ℕ → Result (Option ℕ) LoadFault
 rest_at bytes at = do

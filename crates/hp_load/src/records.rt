@@ -28,7 +28,7 @@ use hp_num::List;
 use hp_outside::Disk;
 use hp_parts::MOST_ITERATIONS;
 use hp_problem::Problem;
-use hp_record::{EntryFault, Spares, decode_batch_with};
+use hp_record::{Spares, decode_batch_with};
 use std::alloc::Global;
 
 /// The outcome of the records so far.
@@ -238,8 +238,8 @@ fn rest_at<D: Disk>(disk: &mut D, at: u64) -> Result<Option<u64>, LoadFault>
     ensures cause { DiskCause (D.faults disk.old) (D.faults disk.new) (result ≡ Err faults.DiskFault) }
 {
     match read_commit_byte(disk, at)? {
-        CommitByte::Shut { tail } => Ok(Some(tail)),
-        CommitByte::Ajar => Ok(None),
+        CommitByte::Clear { tail } => Ok(Some(tail)),
+        CommitByte::Set => Ok(None),
     }
 }
 

@@ -8,7 +8,7 @@ use Rattle.hp_theory.specs.declared.cut.Cut.{Cut}
 use Rattle.hp_cut.specs.declared.entry.Entry.{Entry}
 use Rattle.hp_record.specs.Spelling.{spell}
 use Rattle.hp_journal.specs.Layout.{Title, new_title}
-use Rattle.hp_journal.specs.IsPrefix.{IsPrefix, committed, half_open, short, shut, uncommitted}
+use Rattle.hp_journal.specs.IsPrefix.{IsPrefix, committed, half_open, short, clear, uncommitted}
 use Rattle.hp_load.specs.Load.{Outcome}
 use Rattle.hp_solver.specs.Solving.{Solving}
 use Rattle.hp_settle.specs.declared.plan_fault.PlanFault.{PlanFault}
@@ -38,7 +38,7 @@ at_some P x y is h = subst (λ z. IfSome z P) is h
 -- as many payloads as are stood for are there
 few_stood : (t : Title) (ps : List (List ℕ)) (j : ℕ) (c : List ℕ) → IsPrefix t ps j c → j ≤ length ps
 few_stood t ps j c (uncommitted none un) = omega (arith, none)
-few_stood t ps j c (committed (shut there tail same)) = there
+few_stood t ps j c (committed (clear there tail same)) = there
 few_stood t ps j c (committed (half_open there commit_byte z o same)) = omega (arith, there)
 
 module _ {Start Chain : Type 0} (v : Solving Start Chain) (bytes : List ℕ) (b : WithBase) (seed : ℕ) (batch : Option ℕ) (count : ℕ) (asked : IsAsked bytes b seed batch count) where

@@ -7,14 +7,14 @@ use Rattle.hp_problem.specs.Validated.{Validated}
 use Rattle.hp_theory.specs.declared.cut.Cut.{Cut}
 use Rattle.hp_cut.specs.declared.entry.Entry.{Entry}
 use Rattle.hp_journal.specs.declared.commit_byte.CommitByte.{CommitByte}
-use Rattle.hp_journal.specs.declared.commit_byte.CommitByte.TheVariants.{Shut, Ajar}
+use Rattle.hp_journal.specs.declared.commit_byte.CommitByte.TheVariants.{Clear, Set}
 use Rattle.hp_journal.specs.declared.commit_byte.CommitByteFault.{CommitByteFault}
 use Rattle.hp_journal.specs.declared.commit_byte.CommitByteFault.TheVariants as commit_bytes
 use Rattle.hp_journal.specs.declared.head.Head.{Head}
 use Rattle.hp_journal.specs.declared.head.Head.TheVariants.{Uncommitted, Committed}
 use Rattle.hp_journal.specs.declared.head.HeadFault.{HeadFault}
 use Rattle.hp_journal.specs.declared.head.HeadFault.TheVariants.{NotAJournal, OtherVersion, Short, BadBatch}
-use Rattle.hp_journal.specs.CommitBytes.{IsShutAt, commit_byte_of}
+use Rattle.hp_journal.specs.CommitBytes.{IsClearAt, commit_byte_of}
 use Rattle.hp_journal.specs.Head.{IsUncommitted, batch_of, byte_at, digest_of, has_magic, head_at, head_of, is_uncommitted, seed_of, title_at, version_of}
 use Rattle.hp_load.specs.declared.refusal.LoadFault.{LoadFault}
 use Rattle.hp_load.specs.declared.refusal.LoadFault.TheVariants.{Refused}
@@ -33,42 +33,42 @@ parts (Ok x) f y h = (x, refl, h)
 
 -- ---- commit bytes
 
-shut_is : (bytes : List ℕ) (at m tail : ℕ) (fault : CommitByteFault) (past ajar : Bool) → nat_le (length bytes) at ≡ past → (get_or bytes at 1 == 1) ≡ ajar → (if past then Err fault else if ajar then Ok Ajar else Ok (Shut tail)) ≡ Ok (Shut m) → IsShutAt at bytes
-shut_is bytes at m tail fault true ajar p o h = absurd cc
-shut_is bytes at m tail fault false true p o h = absurd cc
-shut_is bytes at m tail fault false false p o h = (grind (arith, nat_tests), grind (arith, nat_tests))
+clear_is : (bytes : List ℕ) (at m tail : ℕ) (fault : CommitByteFault) (past set : Bool) → nat_le (length bytes) at ≡ past → (get_or bytes at 1 == 1) ≡ set → (if past then Err fault else if set then Ok Set else Ok (Clear tail)) ≡ Ok (Clear m) → IsClearAt at bytes
+clear_is bytes at m tail fault true set p o h = absurd cc
+clear_is bytes at m tail fault false true p o h = absurd cc
+clear_is bytes at m tail fault false false p o h = (grind (arith, nat_tests), grind (arith, nat_tests))
 
-commit_byte_shut : (bytes : List ℕ) (at m : ℕ) → commit_byte_of bytes at ≡ Ok (Shut m) → IsShutAt at bytes
+commit_byte_clear : (bytes : List ℕ) (at m : ℕ) → commit_byte_of bytes at ≡ Ok (Clear m) → IsClearAt at bytes
 unfolding commit_byte_of
-commit_byte_shut bytes at m h = shut_is bytes at m (length bytes - (at + 1)) (commit_bytes.Short at) (nat_le (length bytes) at) (get_or bytes at 1 == 1) refl refl h
+commit_byte_clear bytes at m h = clear_is bytes at m (length bytes - (at + 1)) (commit_bytes.Short at) (nat_le (length bytes) at) (get_or bytes at 1 == 1) refl refl h
 
-rest_shut : (bytes : List ℕ) (at n : ℕ) → rest_at bytes at ≡ Ok (Some n) → IsShutAt at bytes
+rest_clear : (bytes : List ℕ) (at n : ℕ) → rest_at bytes at ≡ Ok (Some n) → IsClearAt at bytes
 unfolding rest_at
-rest_shut bytes at n h = by (commit_byte_of bytes at) refl h
+rest_clear bytes at n h = by (commit_byte_of bytes at) refl h
   where
-    by : (r : Result CommitByte CommitByteFault) → commit_byte_of bytes at ≡ r → (with_fault of_commit_byte r >>= λ g. Ok (rest_behind g)) ≡ Ok (Some n) → IsShutAt at bytes
-    by (Ok (Shut m)) is w = commit_byte_shut bytes at m is
-    by (Ok Ajar) is w = absurd cc
+    by : (r : Result CommitByte CommitByteFault) → commit_byte_of bytes at ≡ r → (with_fault of_commit_byte r >>= λ g. Ok (rest_behind g)) ≡ Ok (Some n) → IsClearAt at bytes
+    by (Ok (Clear m)) is w = commit_byte_clear bytes at m is
+    by (Ok Set) is w = absurd cc
     by (Err f) is w = absurd cc
 
 -- the records end at a commit byte of 0
-records_end : (p : Validated) (batch : ℕ) (bytes : List ℕ) (left at : ℕ) (found : Found) (lists : List (List Entry)) (e : Ended) → records_at p batch bytes left at found lists ≡ Ok e → IsShutAt e.end bytes
+records_end : (p : Validated) (batch : ℕ) (bytes : List ℕ) (left at : ℕ) (found : Found) (lists : List (List Entry)) (e : Ended) → records_at p batch bytes left at found lists ≡ Ok e → IsClearAt e.end bytes
 unfolding records_at
 records_end p batch bytes zero at found lists e h =
     let b = parts (rest_at bytes at) (λ tail. or_more tail (λ n. record { found = found; lists = lists; end = at; tail = n }) (Err (Refused TooMany))) e h in
     by b.0 b.1 b.2
   where
-    by : (o : Option ℕ) → rest_at bytes at ≡ Ok o → or_more o (λ n. record { found = found; lists = lists; end = at; tail = n }) (Err (Refused TooMany)) ≡ Ok e → IsShutAt e.end bytes
-    by (Some n) read done = subst (λ (x : Ended). IsShutAt x.end bytes) (same_ok (record { found = found; lists = lists; end = at; tail = n }) e done) (rest_shut bytes at n read)
+    by : (o : Option ℕ) → rest_at bytes at ≡ Ok o → or_more o (λ n. record { found = found; lists = lists; end = at; tail = n }) (Err (Refused TooMany)) ≡ Ok e → IsClearAt e.end bytes
+    by (Some n) read done = subst (λ (x : Ended). IsClearAt x.end bytes) (same_ok (record { found = found; lists = lists; end = at; tail = n }) e done) (rest_clear bytes at n read)
     by None read done = absurd cc
 records_end p batch bytes (suc left) at found lists e h =
     let more : Result Ended LoadFault = record_at p batch bytes at found >>= λ read. records_at p batch bytes left read.1 read.2 (lists ++ read.0 ∷ []) in
     let b = parts (rest_at bytes at) (λ tail. or_more tail (λ n. record { found = found; lists = lists; end = at; tail = n }) more) e h in
     by (λ after next ls w. records_end p batch bytes left after next ls e w) b.0 b.1 b.2
   where
-    by : ((after : ℕ) (next : Found) (ls : List (List Entry)) → records_at p batch bytes left after next ls ≡ Ok e → IsShutAt e.end bytes) → (o : Option ℕ) → rest_at bytes at ≡ Ok o
-        → or_more o (λ n. record { found = found; lists = lists; end = at; tail = n }) (record_at p batch bytes at found >>= λ read. records_at p batch bytes left read.1 read.2 (lists ++ read.0 ∷ [])) ≡ Ok e → IsShutAt e.end bytes
-    by later (Some n) read done = subst (λ (x : Ended). IsShutAt x.end bytes) (same_ok (record { found = found; lists = lists; end = at; tail = n }) e done) (rest_shut bytes at n read)
+    by : ((after : ℕ) (next : Found) (ls : List (List Entry)) → records_at p batch bytes left after next ls ≡ Ok e → IsClearAt e.end bytes) → (o : Option ℕ) → rest_at bytes at ≡ Ok o
+        → or_more o (λ n. record { found = found; lists = lists; end = at; tail = n }) (record_at p batch bytes at found >>= λ read. records_at p batch bytes left read.1 read.2 (lists ++ read.0 ∷ [])) ≡ Ok e → IsClearAt e.end bytes
+    by later (Some n) read done = subst (λ (x : Ended). IsClearAt x.end bytes) (same_ok (record { found = found; lists = lists; end = at; tail = n }) e done) (rest_clear bytes at n read)
     by later None read done =
         let r = parts (record_at p batch bytes at found) (λ read. records_at p batch bytes left read.1 read.2 (lists ++ read.0 ∷ [])) e done in
         later r.0.1 r.0.2 (lists ++ r.0.0 ∷ []) r.2
@@ -109,7 +109,7 @@ module _ (p : Validated) (base : List (List Cut)) (digest : List ℕ) (seed batc
   -- by the head: no journal yet, or one whose records end at a commit byte of 0
   data Kind (o : Outcome) : Type 0 where
     no_journal : o.committed ≡ false → IsUncommitted bytes → Kind o
-    a_journal : o.committed ≡ true → IsShutAt o.end bytes → Kind o
+    a_journal : o.committed ≡ true → IsClearAt o.end bytes → Kind o
 
   from_records : (version paths : ℕ) (x : Outcome × List (List Entry)) → load_records p base bytes version paths ≡ Ok x → Kind x.0
   unfolding load_records
@@ -141,14 +141,14 @@ module _ (p : Validated) (base : List (List Cut)) (digest : List ℕ) (seed batc
 
   not_committed : (o : Outcome) → Kind o → o.committed ≡ false → IsUncommitted bytes
   not_committed o (no_journal is file) none = file
-  not_committed o (a_journal is shut) none = absurd (true_false o.committed is none)
+  not_committed o (a_journal is clear) none = absurd (true_false o.committed is none)
 
-  is_committed : (o : Outcome) → Kind o → o.committed ≡ true → IsShutAt o.end bytes
+  is_committed : (o : Outcome) → Kind o → o.committed ≡ true → IsClearAt o.end bytes
   is_committed o (no_journal is file) so = absurd (true_false o.committed so is)
-  is_committed o (a_journal is shut) so = shut
+  is_committed o (a_journal is clear) so = clear
 
   pub loaded_uncommitted : (o : Outcome) → outcome_of (load_of p base digest seed batch bytes) ≡ Ok o → o.committed ≡ false → IsUncommitted bytes
   loaded_uncommitted o h none = not_committed o (is_found (load_of p base digest seed batch bytes) o refl h) none
 
-  pub loaded_shut : (o : Outcome) → outcome_of (load_of p base digest seed batch bytes) ≡ Ok o → o.committed ≡ true → IsShutAt o.end bytes
-  loaded_shut o h so = is_committed o (is_found (load_of p base digest seed batch bytes) o refl h) so
+  pub loaded_clear : (o : Outcome) → outcome_of (load_of p base digest seed batch bytes) ≡ Ok o → o.committed ≡ true → IsClearAt o.end bytes
+  loaded_clear o h so = is_committed o (is_found (load_of p base digest seed batch bytes) o refl h) so

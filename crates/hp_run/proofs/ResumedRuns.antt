@@ -31,7 +31,8 @@ use Rattle.hp_train.proofs.Resumed.{resumed}
 use Rattle.hp_words.specs.declared.command.Command.{Command}
 use Rattle.hp_words.specs.declared.command.Command.TheVariants.{Base, Train, Check, Simulate, Validate, Gen, Evaluate, Hydro, Robust}
 use Rattle.hp_words.specs.declared.command.TrainingNumbers.{TrainingNumbers}
-use Rattle.hp_words.specs.Commands.{IsWithin, texts}
+use Rattle.hp_words.specs.Commands.{texts}
+use Rattle.hp_words.specs.Traits.{IsWithin}
 use Rattle.hp_words.proofs.Within.{numbers_within}
 use Rattle.hp_run.specs.Causes.{Ends, Explains, ExplainsTask}
 use Rattle.hp_run.specs.Journals.{JournalGrows, IfTraining, IsResumed, OfTraining}

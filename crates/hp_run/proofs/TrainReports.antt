@@ -20,7 +20,7 @@ use Rattle.hp_theory.specs.declared.cut.Cut.{Cut}
 use Rattle.hp_cut.specs.AtNodes.{PoolsFit}
 use Rattle.hp_cut.specs.declared.entry.Entry.{Entry}
 use Rattle.hp_journal.specs.Causes.{DiskCause}
-use Rattle.hp_journal.specs.CommitBytes.{IsShutAt}
+use Rattle.hp_journal.specs.CommitBytes.{IsClearAt}
 use Rattle.hp_journal.specs.Head.{IsUncommitted}
 use Rattle.hp_journal.specs.Layout.{Title}
 use Rattle.hp_journal.proofs.Told.{told, known}
@@ -45,7 +45,7 @@ use Rattle.hp_run.specs.declared.status.Status.TheVariants.{Done, Usage, ReadFau
 use Rattle.hp_words.specs.declared.command.Command.{Command}
 use Rattle.hp_words.specs.declared.command.TrainingNumbers.{TrainingNumbers}
 use Rattle.hp_words.specs.declared.command.Command.TheVariants.{Train}
-use Rattle.hp_run.proofs.LoadedEnds.{loaded_shut, loaded_uncommitted}
+use Rattle.hp_run.proofs.LoadedEnds.{loaded_clear, loaded_uncommitted}
 use Rattle.hp_run.proofs.Located.{Located, refuted_here}
 use Rattle.hp_run.proofs.LocatedSweeps.{OnInfeasible}
 use Rattle.hp_run.proofs.LocatedTraining.{stop_located}
@@ -105,8 +105,8 @@ module _ {bytes : List ℕ} {b : WithBase} {seed count : ℕ} {batch : Option �
   ready_uncommitted none = subst (λ (x : Option (List ℕ)). IfSome x IsUncommitted) (sym same) (told reads (λ kept there. loaded_uncommitted b.problem b.pools (sha256 bytes) (Some seed) batch kept o (loads_at kept there) none))
 
   -- its records end at a commit byte of 0
-  pub ready_shut : o.committed ≡ true → IfSome now (IsShutAt o.end)
-  ready_shut so = subst (λ (x : Option (List ℕ)). IfSome x (IsShutAt o.end)) (sym same) (told reads (λ kept there. loaded_shut b.problem b.pools (sha256 bytes) (Some seed) batch kept o (loads_at kept there) so))
+  pub ready_clear : o.committed ≡ true → IfSome now (IsClearAt o.end)
+  ready_clear so = subst (λ (x : Option (List ℕ)). IfSome x (IsClearAt o.end)) (sym same) (told reads (λ kept there. loaded_clear b.problem b.pools (sha256 bytes) (Some seed) batch kept o (loads_at kept there) so))
 
 -- what the report of training shows
 text_trained : (p : Validated) (o new : Outcome) (c : Continued) (text : List ℕ) → new ≡ trained o c → text ≡ train_text p new.pools new.bounds new.unanswered → text ≡ train_text p c.pools (o.bounds ++ c.bounds) (o.unanswered + unanswered_in c.lists)

@@ -16,7 +16,7 @@ use Rattle.hp_run.specs.Causes.{expected}
 use Rattle.hp_run.specs.Kinds.{has_trained}
 use Rattle.hp_run.specs.Outcome.{WithBase, based_at}
 use Rattle.hp_run.specs.Run.{Devices, IsRun, Observable}
-use Rattle.hp_words.specs.Commands.{IsWithin}
+use Rattle.hp_words.specs.Traits.{IsWithin}
 use Rattle.hp_run.specs.declared.status.Status.{Status}
 use Rattle.hp_run.specs.declared.status.Status.TheVariants.{Done, Memory}
 use Rattle.hp_words.specs.declared.command.Command.TheVariants.{Train}

@@ -12,9 +12,9 @@ use Rattle.hp_run.specs.Refuted.{IsRefuted}
 use Rattle.hp_run.specs.SoundText.{SoundText}
 use Rattle.hp_words.specs.declared.command.Command.{Command}
 use Rattle.hp_words.specs.Traits.{Input, of_description, of_numbers, of_problem, traits}
-use Rattle.hp_run.specs.Kinds.{Output, all_written, partly_written, kind, none_written}
+use Rattle.hp_run.specs.Kinds.{Cause, Output, all_written, failed_disk, failed_reading, kind, large_certificates, long_source, no_decisions, none_written, partly_written, refused_description, refused_journal, refused_memory, refused_problem}
 use Rattle.hp_run.specs.declared.status.Status.{Status}
-use Rattle.hp_run.specs.declared.status.Status.TheVariants.{Done, Usage, ReadFault, TooLong, HydroRefused, ProblemRefused, JournalRefused, TooMuch, Range, Infeasible, DiskFault, Memory}
+use Rattle.hp_run.specs.declared.status.Status.TheVariants.{Done, Usage, TooLong, HydroRefused, Memory}
 
 -- a source, a disk and a sink, as far as they are known, before a call and after it
 pub record Ends : Type 0 where
@@ -82,19 +82,21 @@ of_bytes bytes = record { failed = ⊥; long = ⊥; quiet = λ P. P; ended = λ 
 abbrev pub reading : Ends → Reading
 reading e = record { failed = FaultCountRose e.reads e.reads_now; long = WasLong e.left e.left_now; quiet = λ P. P × (e.reads_now ≡ e.reads); ended = λ P. P × IsAtEnd e.left_now; says = ReadAll e }
 
--- Why a task gives no report, by what is told of the journal and how often the disk failed. The other statuses do not come of a task, or with
--- a text; want of memory says that no count of faults rose, and is free otherwise.
+-- Why a task gives no report, by what is told of the journal and how often the disk failed. Of the other causes, and with a text, it does
+-- not end so; want of memory says that no count of faults rose, and is free otherwise.
+abbrev pub StopsTaskBy : {Start Chain : Type 0} → Solving Start Chain → Command → Reading → Option (List ℕ) → ℕ → ℕ → Status → Cause → Type 0
+StopsTaskBy v command r told disk disk_now status failed_reading = r.failed
+StopsTaskBy v command r told disk disk_now status long_source = r.long
+StopsTaskBy v command r told disk disk_now status (refused_problem refusal) = r.says (λ bytes. IsRefused command bytes refusal)
+StopsTaskBy v command r told disk disk_now status refused_journal = ReadsJournal command × r.says (λ bytes. Reports v command told bytes (Err status))
+StopsTaskBy v command r told disk disk_now status (large_certificates iteration node realization) = Makes command × r.says (λ bytes. Reports v command told bytes (Err status))
+StopsTaskBy v command r told disk disk_now status (no_decisions infeasible) = Solves command × r.says (λ bytes. Reports v command told bytes (Err status) × IsRefuted command bytes infeasible)
+StopsTaskBy v command r told disk disk_now status failed_disk = r.ended (ReadsJournal command × FaultCountRose disk disk_now)
+StopsTaskBy v command r told disk disk_now status refused_memory = r.quiet (disk_now ≡ disk)
+StopsTaskBy v command r told disk disk_now status cause = ⊥
+
 abbrev pub StopsTask : {Start Chain : Type 0} → Solving Start Chain → Command → Reading → Option (List ℕ) → ℕ → ℕ → Status → Type 0
-StopsTask v command r told disk disk_now ReadFault = r.failed
-StopsTask v command r told disk disk_now TooLong = r.long
-StopsTask v command r told disk disk_now (ProblemRefused refusal) = r.says (λ bytes. IsRefused command bytes refusal)
-StopsTask v command r told disk disk_now (JournalRefused refusal) = ReadsJournal command × r.says (λ bytes. Reports v command told bytes (Err (JournalRefused refusal)))
-StopsTask v command r told disk disk_now (TooMuch formula) = ReadsJournal command × r.says (λ bytes. Reports v command told bytes (Err (TooMuch formula)))
-StopsTask v command r told disk disk_now (Range k m i) = Makes command × r.says (λ bytes. Reports v command told bytes (Err (Range k m i)))
-StopsTask v command r told disk disk_now (Infeasible infeasible) = Solves command × r.says (λ bytes. Reports v command told bytes (Err (Infeasible infeasible)) × IsRefuted command bytes infeasible)
-StopsTask v command r told disk disk_now DiskFault = r.ended (ReadsJournal command × FaultCountRose disk disk_now)
-StopsTask v command r told disk disk_now Memory = r.quiet (disk_now ≡ disk)
-StopsTask v command r told disk disk_now status = ⊥
+StopsTask v command r told disk disk_now status = StopsTaskBy v command r told disk disk_now status (kind status).cause
 
 -- why a task gives no report of these bytes
 abbrev pub Lacks : {Start Chain : Type 0} → Solving Start Chain → Command → Option (List ℕ) → ℕ → ℕ → List ℕ → Status → Type 0
@@ -113,12 +115,15 @@ abbrev pub ExplainsProblem : List ℕ → Option (List ℕ) → Option (List ℕ
 ExplainsProblem text taken taken_now writes writes_now status = RunEnds (kind status).output taken taken_now writes writes_now (λ written. IsOk (based_at text) × written text) (status ≡ Memory)
 
 -- why a description gives no problem
+abbrev pub StopsDescribedBy : Option (List ℕ) → Option (List ℕ) → ℕ → ℕ → Cause → Type 0
+StopsDescribedBy left left_now reads reads_now failed_reading = FaultCountRose reads reads_now
+StopsDescribedBy left left_now reads reads_now long_source = WasLong left left_now
+StopsDescribedBy left left_now reads reads_now (refused_description refusal) = WasRead left left_now (λ bytes. hydro_at bytes ≡ Err refusal)
+StopsDescribedBy left left_now reads reads_now refused_memory = reads_now ≡ reads
+StopsDescribedBy left left_now reads reads_now cause = ⊥
+
 abbrev pub StopsDescribed : Option (List ℕ) → Option (List ℕ) → ℕ → ℕ → Status → Type 0
-StopsDescribed left left_now reads reads_now ReadFault = FaultCountRose reads reads_now
-StopsDescribed left left_now reads reads_now TooLong = WasLong left left_now
-StopsDescribed left left_now reads reads_now (HydroRefused refusal) = WasRead left left_now (λ bytes. hydro_at bytes ≡ Err refusal)
-StopsDescribed left left_now reads reads_now Memory = reads_now ≡ reads
-StopsDescribed left left_now reads reads_now status = ⊥
+StopsDescribed left left_now reads reads_now status = StopsDescribedBy left left_now reads reads_now (kind status).cause
 
 -- the claim of each status on the problem that the description in the source means, which is one that the program accepts, and on the sink
 abbrev pub ExplainsDescribed : Option (List ℕ) → Option (List ℕ) → ℕ → ℕ → Option (List ℕ) → Option (List ℕ) → ℕ → ℕ → Status → Type 0

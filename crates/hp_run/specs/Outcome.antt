@@ -40,8 +40,8 @@ use Rattle.hp_run.specs.declared.simulating.Scenarios.TheVariants.{Drawn, Stored
 use Rattle.hp_run.specs.declared.status.Status.{Status}
 use Rattle.hp_run.specs.declared.status.Status.TheVariants.{Usage, ProblemRefused, JournalRefused, TooMuch, Range, Infeasible, DiskFault, Memory}
 use Rattle.hp_words.specs.declared.command.Command.{Command}
-use Rattle.hp_words.specs.declared.command.Command.TheVariants.{Base, Train, Check, Simulate, Validate, Evaluate, Robust}
-use Rattle.hp_words.specs.Traits.{Decisions, at_realizations, at_stored, nowhere, traits}
+use Rattle.hp_words.specs.declared.command.Command.TheVariants.{Simulate, Validate}
+use Rattle.hp_words.specs.Traits.{Decisions, Report, at_realizations, at_stored, no_report, nowhere, of_base_cuts, of_drawn_scenarios, of_journal, of_policy, of_risk_cuts, of_stored_scenarios, of_training, traits}
 
 -- a problem with its base cuts
 pub record WithBase : Type 0 where
@@ -188,16 +188,20 @@ abbrev pub command_for : Scenarios → Command
 command_for (Drawn seed count) = Simulate seed count
 command_for Stored = Validate
 
+-- a report over the bytes of a problem and of a journal
+abbrev pub reported : {Start Chain : Type 0} → Solving Start Chain → Report → List ℕ → List ℕ → WithBase → Result (List ℕ) Status
+reported v of_base_cuts bytes kept b = Ok (base_text b.problem b.pools)
+reported v (of_training numbers) bytes kept b = trained_for v bytes b numbers.seed numbers.count numbers.batch kept
+reported v of_journal bytes kept b = checked bytes b kept
+reported v (of_drawn_scenarios seed count) bytes kept b = simulated_for v bytes b (Drawn seed count) kept
+reported v of_stored_scenarios bytes kept b = simulated_for v bytes b Stored kept
+reported v of_policy bytes kept b = evaluated_for v bytes b kept
+reported v of_risk_cuts bytes kept b = robust_for bytes b kept
+reported v no_report bytes kept b = Err Usage
+
 -- the report of a command; one that does not plan has none
 abbrev pub report_by : {Start Chain : Type 0} → Solving Start Chain → Command → List ℕ → List ℕ → WithBase → Result (List ℕ) Status
-report_by v Base bytes kept b = Ok (base_text b.problem b.pools)
-report_by v (Train seed count batch) bytes kept b = trained_for v bytes b seed count batch kept
-report_by v Check bytes kept b = checked bytes b kept
-report_by v (Simulate seed count) bytes kept b = simulated_for v bytes b (Drawn seed count) kept
-report_by v Validate bytes kept b = simulated_for v bytes b Stored kept
-report_by v Evaluate bytes kept b = evaluated_for v bytes b kept
-report_by v Robust bytes kept b = robust_for bytes b kept
-report_by v command bytes kept b = Err Usage
+report_by v command bytes kept b = reported v (traits command).report bytes kept b
 
 -- the report of a command over the bytes of a problem and of a journal, or how the run ends without one
 unfoldable pub report_at : {Start Chain : Type 0} → Solving Start Chain → Command → List ℕ → List ℕ → Result (List ℕ) Status

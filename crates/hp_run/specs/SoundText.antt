@@ -21,7 +21,7 @@ use Rattle.hp_risk.specs.Alternatives.{alternatives_of}
 use Rattle.hp_risk.specs.RiskCost.{RiskHolds, RiskSound, RiskUnder}
 use Rattle.hp_risk.specs.Report.{robust_text}
 use Rattle.hp_words.specs.declared.command.Command.{Command}
-use Rattle.hp_words.specs.declared.command.Command.TheVariants.{Base, Train, Check, Simulate, Validate, Evaluate, Robust}
+use Rattle.hp_words.specs.Traits.{Report, no_report, of_base_cuts, of_drawn_scenarios, of_journal, of_policy, of_risk_cuts, of_stored_scenarios, of_training, traits}
 
 -- each risk cut holds, and the bound over them is under the cost of each policy, where each node weighs by the worst of its lists
 pub record IsWorst (p : Problem) (x : Alternatives) (risk_cuts : List (List Cut)) : Type 0 where
@@ -40,16 +40,20 @@ abbrev pub IsTwoSided : Problem → List (List Cut) → Verdict → Type 0
 IsTwoSided p pools (Cost upper) = CostsAtMost p pools upper
 IsTwoSided p pools (Missed branches row residual) = ⊤
 
--- the text is the report of these pools; a command that does not plan has none
+-- the text is a report of these pools
+abbrev pub IsReportOf : Report → List ℕ → Validated → List (List Cut) → List ℕ → Type 0
+IsReportOf of_base_cuts bytes p pools text = text ≡ base_text p pools
+IsReportOf (of_training numbers) bytes p pools text = (bounds : List ℤ) × (unanswered : ℕ) × (text ≡ train_text p pools bounds unanswered) × All (Under (problem_of p)) bounds
+IsReportOf of_journal bytes p pools text = (bounds : List ℤ) × (unanswered : ℕ) × (tail : ℕ) × (text ≡ check_text p pools bounds unanswered tail) × All (Under (problem_of p)) bounds
+IsReportOf (of_drawn_scenarios seed count) bytes p pools text = (traces : List Trace) × (text ≡ trace_text p pools traces)
+IsReportOf of_stored_scenarios bytes p pools text = (traces : List Trace) × (text ≡ trace_text p pools traces)
+IsReportOf of_policy bytes p pools text = (verdict : Verdict) × (text ≡ verdict_text p pools verdict) × IsTwoSided (problem_of p) pools verdict
+IsReportOf of_risk_cuts bytes p pools text = (x : Alternatives) × (risk_cuts : List (List Cut)) × (alternatives_of p bytes ≡ Ok x) × (text ≡ robust_text p risk_cuts) × IsWorst (problem_of p) x risk_cuts
+IsReportOf no_report bytes p pools text = ⊥
+
+-- the text is the report of a command over these pools; a command that does not plan has none
 abbrev pub IsReport : Command → List ℕ → Validated → List (List Cut) → List ℕ → Type 0
-IsReport Base bytes p pools text = text ≡ base_text p pools
-IsReport (Train seed count batch) bytes p pools text = (bounds : List ℤ) × (unanswered : ℕ) × (text ≡ train_text p pools bounds unanswered) × All (Under (problem_of p)) bounds
-IsReport Check bytes p pools text = (bounds : List ℤ) × (unanswered : ℕ) × (tail : ℕ) × (text ≡ check_text p pools bounds unanswered tail) × All (Under (problem_of p)) bounds
-IsReport (Simulate seed count) bytes p pools text = (traces : List Trace) × (text ≡ trace_text p pools traces)
-IsReport Validate bytes p pools text = (traces : List Trace) × (text ≡ trace_text p pools traces)
-IsReport Evaluate bytes p pools text = (verdict : Verdict) × (text ≡ verdict_text p pools verdict) × IsTwoSided (problem_of p) pools verdict
-IsReport Robust bytes p pools text = (x : Alternatives) × (risk_cuts : List (List Cut)) × (alternatives_of p bytes ≡ Ok x) × (text ≡ robust_text p risk_cuts) × IsWorst (problem_of p) x risk_cuts
-IsReport command bytes p pools text = ⊥
+IsReport command bytes p pools text = IsReportOf (traits command).report bytes p pools text
 
 -- the text is the report of pools whose cuts hold, and whose bound is under the cost of each policy
 pub record IsSoundReport (command : Command) (bytes : List ℕ) (p : Validated) (pools : List (List Cut)) (text : List ℕ) : Type 0 where

@@ -3,9 +3,8 @@ use Rattle.std.specs.Prelude.{◌≡◌, Option, Some, None, Result, Ok, Err, Ma
 use Rattle.hp_settle.specs.declared.plan_fault.PlanFault.{PlanFault}
 use Rattle.hp_settle.specs.declared.plan_fault.PlanFault.TheVariants as plans
 use Rattle.hp_run.specs.Journals.{status_of_report}
-use Rattle.hp_run.specs.Kinds.{Reach, after_training, anywhere, at_loading, before_journal, has_trained, kind}
+use Rattle.hp_run.specs.Kinds.{Cause, Reach, after_training, anywhere, at_loading, before_journal, failed_disk, has_trained, kind, large_certificates, no_decisions, refused_memory}
 use Rattle.hp_run.specs.declared.status.Status.{Status}
-use Rattle.hp_run.specs.declared.status.Status.TheVariants.{Range, Infeasible, DiskFault, Memory}
 
 abbrev pub RefusesAt : {A : Type 0} → Reach → Status → Result A Status → Type 0
 RefusesAt at_loading status defined = defined ≡ Err status
@@ -27,14 +26,18 @@ IsOfLoading after_training = ⊥
 abbrev pub ComesOfLoading : Status → Type 0
 ComesOfLoading status = IsOfLoading (kind status).reach
 
--- where iterations stop, as far as a status tells it; no other comes of them
+-- where iterations stop, by a cause; a fault of the disk and want of memory leave it open, and no other comes of iterations
+abbrev pub StopsBy : Cause → Option PlanFault → Type 0
+StopsBy (large_certificates iteration node realization) stop = stop ≡ Some (plans.Range iteration node realization)
+StopsBy (no_decisions infeasible) stop = stop ≡ Some (plans.Infeasible infeasible)
+StopsBy failed_disk stop = ⊤
+StopsBy refused_memory stop = ⊤
+StopsBy cause stop = ⊥
+
+-- where iterations stop, as far as a status tells it
 abbrev pub StatusStopsAs : {A : Type 0} → Result A Status → Option PlanFault → Type 0
 StatusStopsAs (Ok x) stop = stop ≡ None
-StatusStopsAs (Err (Range k m r)) stop = stop ≡ Some (plans.Range k m r)
-StatusStopsAs (Err (Infeasible infeasible)) stop = stop ≡ Some (plans.Infeasible infeasible)
-StatusStopsAs (Err DiskFault) stop = ⊤
-StatusStopsAs (Err Memory) stop = ⊤
-StatusStopsAs (Err status) stop = ⊥
+StatusStopsAs (Err status) stop = StopsBy (kind status).cause stop
 
 -- a fact that holds once all iterations are done that the definition has, as the status says
 abbrev pub WhenTrained : {A : Type 0} → Result A Status → Type 0 → Type 0

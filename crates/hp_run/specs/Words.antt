@@ -3,8 +3,8 @@ use Rattle.std.specs.Prelude.{◌≡◌, Bool, true, false, if◌then◌else◌,
 use Rattle.std.specs.Str.{bytes_eq}
 use Rattle.std.specs.declared.alloc.Global.{Global}
 use Rattle.hp_words.specs.declared.command.Command.{Command}
-use Rattle.hp_words.specs.Commands.{IsWithin, command_of, texts}
-use Rattle.hp_words.specs.Traits.{Input, of_description, of_numbers, of_problem, trains, traits}
+use Rattle.hp_words.specs.Commands.{command_of, texts}
+use Rattle.hp_words.specs.Traits.{Input, IsWithin, of_description, of_numbers, of_problem, trains, traits}
 use Rattle.hp_run.specs.declared.help.TheConstants.{HELP, VERSION}
 
 -- the command that the words ask for; none where they are no command

@@ -71,7 +71,7 @@ pub fn number(status: &Status) -> u8
     }
 }
 
-#[tactic(auto, unfolding(crate::specs::Status::status_text))]
+#[tactic(auto, unfolding(crate::specs::Status::status_text, crate::specs::Kinds::usage_text))]
 fn push_status(alloc: Global, out: &mut Vec<u8>, status: &Status) -> Result<(), Memory>
     ensures { OnOk result (out.new.items ≡ out.old.items ++ status_text status.now) }
 {

@@ -12,7 +12,7 @@ ghost use Rattle.hp_theory.specs.View.{problem_of};
 ghost use Rattle.hp_theory.specs.declared.cut.Cut.{Cut};
 ghost use Rattle.hp_cut.specs.AtNodes.{PoolsFit};
 ghost use Rattle.hp_journal.specs.Causes.{DiskCause};
-ghost use Rattle.hp_journal.specs.CommitBytes.{IsShutAt};
+ghost use Rattle.hp_journal.specs.CommitBytes.{IsClearAt};
 ghost use Rattle.hp_journal.specs.Head.{IsUncommitted};
 ghost use Rattle.hp_load.specs.Accepted.{IsSafe};
 ghost use Rattle.hp_load.specs.Load.{Outcome, seen_outcome};
@@ -104,7 +104,7 @@ fn train_on<R: Threads + Sync, D: Disk, V: Solver>(
 ) -> Result<(), Status>
     requires can { CanTrain planner.now.problem.now training.now.count (seen_outcome loaded.old) }
     requires uncommitted { loaded.old.committed ≡ false → IfSome (D.store journal.old).reads IsUncommitted }
-    requires shut { loaded.old.committed ≡ true → IfSome (D.store journal.old).reads (IsShutAt loaded.old.end) }
+    requires clear { loaded.old.committed ≡ true → IfSome (D.store journal.old).reads (IsClearAt loaded.old.end) }
     ensures stop { StatusStopsAs result (iterations (V.does planner.now.solver.now) planner.now.problem.now training.now.seed training.now.count (seen_outcome loaded.old)).stop }
     ensures value { OnOk result (seen_outcome loaded.new ≡ trained (seen_outcome loaded.old) (iterations (V.does planner.now.solver.now) planner.now.problem.now training.now.seed training.now.count (seen_outcome loaded.old))) }
     ensures reads { WhenTrained result ((D.store journal.new).reads

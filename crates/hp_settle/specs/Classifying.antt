@@ -14,7 +14,7 @@ use Rattle.hp_settle.specs.Settling.{row_multipliers_over}
 abbrev pub ray_rows : Node → List Fx → ℕ → List ℤ
 ray_rows n duals digits = row_multipliers_over (2 ^ digits) 0 n.rows duals
 
--- Dead by the first that refute, of those without so many digits, 4 more, and so on, so many in all
+-- an infeasibility by the first that refute, of those without so many digits, 4 more, and so on, so many in all
 abbrev pub first_infeasible : Node → List ℤ → List ℤ → List Fx → ℕ → ℕ → Classified
 first_infeasible n values x duals digits zero = Unanswered
 first_infeasible n values x duals digits (suc more) =
@@ -26,6 +26,6 @@ classified_by n values x duals kinds.Found = Found
 classified_by n values x duals kinds.Ray = first_infeasible n values x duals 0 15
 classified_by n values x duals kinds.Stuck = Unanswered
 
--- Judge: Dead exactly where the answer is a ray, and its rows refute without some number of digits
+-- classify an answer: an infeasibility exactly where it is a ray, and its rows refute without some number of digits
 unfoldable pub classify_of : Node → List ℤ → List ℤ → Answer → Classified
 classify_of n values x answer = classified_by n values x answer.duals answer.kind

@@ -109,9 +109,9 @@ fn classify_ray(
     Ok(Classified::Unanswered)
 }
 
-/// Judges an answer, for a node at values of its random variables and an incoming state at scale 2^24: Found for a found point,
-/// Dead exactly where the answer is a ray whose duals of rows refute over 2^0, 2^4, .. or 2^56, with the first of these that
-/// do, and else Unsettled. [`Memory`] where memory was refused.
+/// Classifies an answer, for a node at values of its random variables and an incoming state at scale 2^24: Found for a found
+/// point, Infeasibility exactly where the answer is a ray whose duals of rows refute over 2^0, 2^4, .. or 2^56, with the first of
+/// these that do, and else Unanswered. [`Memory`] where memory was refused.
 #[tactic(auto, unfolding(crate::specs::Classifying::classify_of))]
 pub fn classify(
     alloc: Global,

@@ -17,7 +17,7 @@ use Rattle.hp_cut.specs.AtNodes.{PoolsFit}
 use Rattle.hp_cut.specs.declared.entry.Entry.{Entry}
 use Rattle.hp_record.specs.Spelling.{spell}
 use Rattle.hp_journal.specs.Layout.{Title, body_of, journal, records}
-use Rattle.hp_journal.specs.IsPrefix.{IsGrownPrefix, shut}
+use Rattle.hp_journal.specs.IsPrefix.{IsGrownPrefix, clear}
 use Rattle.hp_journal.proofs.Told.{told, known, mapped, map_same, begins}
 use Rattle.hp_load.specs.declared.loaded.Loaded.{Loaded}
 use Rattle.hp_load.specs.Load.{Outcome, first_commit_byte, seen_outcome}
@@ -27,7 +27,7 @@ use Rattle.hp_train.specs.Stepping.{Stepped, training_step}
 use Rattle.hp_train.specs.Continuing.{Continued, before_any, with_step, continued}
 use Rattle.hp_settle.specs.declared.plan_fault.PlanFault.TheVariants as faults
 use Rattle.hp_settle.specs.Faults.{Stops}
-use Rattle.hp_train.specs.Iterating.{EndsShut, behind, iterated, with_stepped}
+use Rattle.hp_train.specs.Iterating.{EndsClear, behind, iterated, with_stepped}
 use Rattle.hp_train.specs.Training.{GoesOnWith, StopsAs, WhenWhole, last_commit_byte, payloads, trained, unanswered_in}
 use Rattle.hp_train.proofs.Continuing.{goes_on, next_list, stays}
 use Rattle.hp_train.proofs.Placed.{parted, behind_none, behind_ends, behind_more, behind_journal, records_longer, payloads-append}
@@ -43,19 +43,19 @@ pub record HasRecorded (old new : Store) (at : ℕ) (lists final : List (List En
   pub moment : IfSome old.reads (λ bytes. (t : Title) (ps : List (List ℕ)) (j : ℕ) → bytes ≡ journal t (take j ps) 0 [] → GoesOnWith j ps final → LeavesOnly old new (IsGrownPrefix t ps j))
 
 -- at the start
-pub recorded_none : (s : Store) (at : ℕ) (final : List (List Entry)) → Lawful s → Quiet s → IfSome s.reads (EndsShut at) → HasRecorded s s at [] final
+pub recorded_none : (s : Store) (at : ℕ) (final : List (List Entry)) → Lawful s → Quiet s → IfSome s.reads (EndsClear at) → HasRecorded s s at [] final
 recorded_none s at final lawful quiet ends = record {
-  reads = sym (map_same s.reads (behind at []) (told s.reads (λ bytes is. behind_none at bytes (known (EndsShut at) s.reads bytes is ends))));
+  reads = sym (map_same s.reads (behind at []) (told s.reads (λ bytes is. behind_none at bytes (known (EndsClear at) s.reads bytes is ends))));
   quiet = quiet;
-  moment = told s.reads (λ bytes is t ps j same goes. begins s (IsGrownPrefix t ps j) bytes lawful is quiet (j, omega arith, shut goes.0 [] same));
+  moment = told s.reads (λ bytes is t ps j same goes. begins s (IsGrownPrefix t ps j) bytes lawful is quiet (j, omega arith, clear goes.0 [] same));
 }
 
 -- the place of the commit byte behind the records, and what stands there
-pub recorded_ends : (old new : Store) (at : ℕ) (lists final : List (List Entry)) → HasRecorded old new at lists final → IfSome old.reads (EndsShut at) → IfSome new.reads (EndsShut (at + length (records (payloads lists))))
+pub recorded_ends : (old new : Store) (at : ℕ) (lists final : List (List Entry)) → HasRecorded old new at lists final → IfSome old.reads (EndsClear at) → IfSome new.reads (EndsClear (at + length (records (payloads lists))))
 recorded_ends old new at lists final has ends =
-    subst (λ (r : Option (List ℕ)). IfSome r (EndsShut (at + length (records (payloads lists))))) (sym has.reads) (each old.reads ends)
+    subst (λ (r : Option (List ℕ)). IfSome r (EndsClear (at + length (records (payloads lists))))) (sym has.reads) (each old.reads ends)
   where
-    each : (r : Option (List ℕ)) → IfSome r (EndsShut at) → IfSome (option_map (behind at lists) r) (EndsShut (at + length (records (payloads lists))))
+    each : (r : Option (List ℕ)) → IfSome r (EndsClear at) → IfSome (option_map (behind at lists) r) (EndsClear (at + length (records (payloads lists))))
     each None e = tt
     each (Some bytes) e = behind_ends at bytes lists e
 
@@ -63,11 +63,11 @@ recorded_ends old new at lists final has ends =
 abbrev pub LeavesAppended : List ℕ → Store → Store → Type 0
 LeavesAppended body old new = IfSome old.reads (λ bytes. (t : Title) (ps : List (List ℕ)) (j : ℕ) → j < length ps → bytes ≡ journal t (take j ps) 0 [] → body ≡ body_of (get_or ps j []) → LeavesOnly old new (IsGrownPrefix t ps j))
 
-module _ (old mid new : Store) (at : ℕ) (lists : List (List Entry)) (es : List Entry) (tail : List (List Entry)) (body : List ℕ) (has : HasRecorded old mid at lists (lists ++ es ∷ tail)) (ends : IfSome old.reads (EndsShut at)) (is : body ≡ body_of (spell es)) where
+module _ (old mid new : Store) (at : ℕ) (lists : List (List Entry)) (es : List Entry) (tail : List (List Entry)) (body : List ℕ) (has : HasRecorded old mid at lists (lists ++ es ∷ tail)) (ends : IfSome old.reads (EndsClear at)) (is : body ≡ body_of (spell es)) where
   -- while a record is appended
   pub moment_more : LeavesAppended body mid new → IfSome old.reads (λ bytes. (t : Title) (ps : List (List ℕ)) (j : ℕ) → bytes ≡ journal t (take j ps) 0 [] → GoesOnWith j ps (lists ++ es ∷ tail) → LeavesOnly old new (IsGrownPrefix t ps j))
   moment_more leaves = told old.reads (λ bytes reads t ps j same goes.
-      let e = known (EndsShut at) old.reads bytes reads ends in
+      let e = known (EndsClear at) old.reads bytes reads ends in
       let k : ℕ = j + length (payloads lists) in
       let later : List (List ℕ) = goes.1 in
       let parts = parted [] j ps (payloads lists) (spell es) (payloads tail ++ later) goes.0
@@ -85,7 +85,7 @@ module _ (old mid new : Store) (at : ℕ) (lists : List (List Entry)) (es : List
     moment = moment_more leaves;
   }
     where
-      each : (r : Option (List ℕ)) → IfSome r (EndsShut at) → option_map (λ bytes. take (at + length (records (payloads lists))) bytes ++ 1 ∷ body) (option_map (behind at lists) r) ≡ option_map (behind at (lists ++ es ∷ [])) r
+      each : (r : Option (List ℕ)) → IfSome r (EndsClear at) → option_map (λ bytes. take (at + length (records (payloads lists))) bytes ++ 1 ∷ body) (option_map (behind at lists) r) ≡ option_map (behind at (lists ++ es ∷ [])) r
       each None e = refl
       each (Some bytes) e = ap (λ (b : List ℕ). Some b) (behind_more at bytes lists es body e is)
 
@@ -229,7 +229,7 @@ pub commit_byte_is : (l : Loaded) → l.committed ≡ true → last_commit_byte 
 commit_byte_is l committed = ap (λ (b : Bool). if b then l.end else first_commit_byte l.version) committed
 
 -- an appended record, where the last lists are known
-module _ (old mid new : Store) (at : ℕ) (lists final : List (List Entry)) (es : List Entry) (tail : List (List Entry)) (body : List ℕ) (has : HasRecorded old mid at lists final) (ends : IfSome old.reads (EndsShut at)) (goes : final ≡ lists ++ es ∷ tail) (is : body ≡ body_of (spell es)) where
+module _ (old mid new : Store) (at : ℕ) (lists final : List (List Entry)) (es : List Entry) (tail : List (List Entry)) (body : List ℕ) (has : HasRecorded old mid at lists final) (ends : IfSome old.reads (EndsClear at)) (goes : final ≡ lists ++ es ∷ tail) (is : body ≡ body_of (spell es)) where
   pub moment_on : LeavesAppended body mid new → IfSome old.reads (λ bytes. (t : Title) (ps : List (List ℕ)) (j : ℕ) → bytes ≡ journal t (take j ps) 0 [] → GoesOnWith j ps final → LeavesOnly old new (IsGrownPrefix t ps j))
   moment_on leaves =
       subst (λ (f : List (List Entry)). IfSome old.reads (λ bytes. (t : Title) (ps : List (List ℕ)) (j : ℕ) → bytes ≡ journal t (take j ps) 0 [] → GoesOnWith j ps f → LeavesOnly old new (IsGrownPrefix t ps j))) (sym goes)

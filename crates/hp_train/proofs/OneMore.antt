@@ -19,7 +19,7 @@ use Rattle.hp_solver.specs.Solving.{Solving}
 use Rattle.hp_settle.specs.declared.plan_fault.PlanFault.{PlanFault}
 use Rattle.hp_train.specs.Continuing.{Continued, with_step}
 use Rattle.hp_settle.specs.Faults.{Stops}
-use Rattle.hp_train.specs.Iterating.{EndsShut, behind, iterated}
+use Rattle.hp_train.specs.Iterating.{EndsClear, behind, iterated}
 use Rattle.hp_train.specs.Training.{GoesOnWith, StopsAs, WhenWhole, payloads}
 use Rattle.hp_train.proofs.Continuing.{goes_on}
 use Rattle.hp_train.proofs.Grows.{HasIterated, HasRecorded, LeavesAppended, WasStepped, after, all_stopped, commit_byte_is, iterated_more, list_more, moment_on, moved, recorded_ends, recorded_on, stops_as, was_stepped, was_stopped, when_whole}
@@ -62,9 +62,9 @@ module _ {Start Chain : Type 0} {v : Solving Start Chain} {p : Validated} {seed 
     pub next_near : m.end ≤ old.end + n * (2 ^ 26 + 5)
     next_near = omega (arith, next_commit_byte, has.end)
 
-    module _ (before during : Store) (committed : old.committed ≡ true) (recorded : HasRecorded before during old.end done final) (ends : IfSome before.reads (EndsShut old.end)) where
-      pub next_ends : IfSome during.reads (EndsShut m.end)
-      next_ends = subst (λ (k : ℕ). IfSome during.reads (EndsShut k)) (sym (place committed)) (recorded_ends before during old.end done final recorded ends)
+    module _ (before during : Store) (committed : old.committed ≡ true) (recorded : HasRecorded before during old.end done final) (ends : IfSome before.reads (EndsClear old.end)) where
+      pub next_ends : IfSome during.reads (EndsClear m.end)
+      next_ends = subst (λ (k : ℕ). IfSome during.reads (EndsClear k)) (sym (place committed)) (recorded_ends before during old.end done final recorded ends)
 
       -- its record is appended
       module _ (now : Store) (bytes : List ℕ) (same : bytes ≡ body) (leaves : LeavesAppended bytes during now) where

@@ -6,7 +6,7 @@ use Rattle.std.proofs.Math.Seq.{take-append_seam}
 use Rattle.hp_outside.specs.Disks.{Store}
 use Rattle.hp_outside.specs.Since.{LeavesOnly}
 use Rattle.hp_outside.proofs.RunsOfCalls.{wider}
-use Rattle.hp_journal.specs.CommitBytes.{IsShutAt}
+use Rattle.hp_journal.specs.CommitBytes.{IsClearAt}
 use Rattle.hp_journal.specs.Layout.{Title, IsTitle, front, journal, records}
 use Rattle.hp_journal.specs.IsPrefix as prefix
 use Rattle.hp_journal.specs.IsPrefix.{Grown, IsGrownPrefix, IsPrefix, LeavesGrown}
@@ -14,7 +14,7 @@ use Rattle.hp_journal.proofs.HeadsRead.{first_commit_byte as head_commit_byte}
 use Rattle.hp_journal.proofs.Told.{told, known, map_as}
 use Rattle.hp_cut.specs.declared.entry.Entry.{Entry}
 use Rattle.hp_load.specs.Load.{Outcome, first_commit_byte}
-use Rattle.hp_train.specs.Iterating.{EndsShut, behind}
+use Rattle.hp_train.specs.Iterating.{EndsClear, behind}
 use Rattle.hp_train.specs.Training.{IsPrefixFrom, HoldsPrefix, uncommitted, committed, grown_journal, last_commit_byte, loaded_front, payloads, title_of}
 
 true_or_false : (b : Bool) → (b ≡ true) ⊎ (b ≡ false)
@@ -66,18 +66,18 @@ module _ (digest : List ℕ) (seed : ℕ) (l : Outcome) where
   -- a journal of the payloads that it stands for
   pub front_stands : (ps : List (List ℕ)) (j : ℕ) (bytes : List ℕ) → HoldsPrefix (title_of digest seed l) l ps j bytes → loaded_front digest seed l bytes ≡ front (title_of digest seed l) (take j ps)
   front_stands ps j bytes (uncommitted not_committed none file) = new_front bytes not_committed ∙ ap (λ (k : ℕ). front (title_of digest seed l) (take k ps)) (sym none)
-  front_stands ps j bytes (committed is_committed place (prefix.shut le tail same)) = old_front bytes is_committed ∙ front_of (front (title_of digest seed l) (take j ps)) bytes l.end 0 tail place same
+  front_stands ps j bytes (committed is_committed place (prefix.clear le tail same)) = old_front bytes is_committed ∙ front_of (front (title_of digest seed l) (take j ps)) bytes l.end 0 tail place same
   front_stands ps j bytes (committed is_committed place (prefix.half_open below commit_byte g0 g1 same)) = old_front bytes is_committed ∙ front_of (front (title_of digest seed l) (take j ps)) bytes l.end commit_byte _ place same
 
   -- its length
-  pub front_length : (bytes : List ℕ) → IsTitle (title_of digest seed l) → (l.committed ≡ true → IsShutAt l.end bytes) → length (loaded_front digest seed l bytes) ≡ last_commit_byte l
-  front_length bytes title shut = elim (true_or_false l.committed) [
-    | inl is_committed ↦ ap length (old_front bytes is_committed) ∙ omega (arith, length-take l.end bytes, (shut is_committed).0) ∙ ap (λ (b : Bool). if b then l.end else first_commit_byte l.version) (sym is_committed)
+  pub front_length : (bytes : List ℕ) → IsTitle (title_of digest seed l) → (l.committed ≡ true → IsClearAt l.end bytes) → length (loaded_front digest seed l bytes) ≡ last_commit_byte l
+  front_length bytes title clear = elim (true_or_false l.committed) [
+    | inl is_committed ↦ ap length (old_front bytes is_committed) ∙ omega (arith, length-take l.end bytes, (clear is_committed).0) ∙ ap (λ (b : Bool). if b then l.end else first_commit_byte l.version) (sym is_committed)
     | inr is_not ↦ ap length (new_front bytes is_not) ∙ omega (arith, head_commit_byte (title_of digest seed l) title) ∙ ap (λ (b : Bool). if b then l.end else first_commit_byte l.version) (sym is_not)
   ]
 
   -- the commit byte of 0 behind it is the last byte
-  pub front_ends : (bytes : List ℕ) → length (loaded_front digest seed l bytes) ≡ last_commit_byte l → EndsShut (last_commit_byte l) (loaded_front digest seed l bytes ++ 0 ∷ [])
+  pub front_ends : (bytes : List ℕ) → length (loaded_front digest seed l bytes) ≡ last_commit_byte l → EndsClear (last_commit_byte l) (loaded_front digest seed l bytes ++ 0 ∷ [])
   front_ends bytes is =
       let f : List ℕ = loaded_front digest seed l bytes in
       (omega (arith, is, length-append f (0 ∷ [])), ap (λ (x : List ℕ). x ++ 0 ∷ []) (sym (take-append_seam f (0 ∷ [])) ∙ ap (λ (n : ℕ). take n (f ++ 0 ∷ [])) is))

@@ -7,7 +7,7 @@ use Rattle.hp_cut.specs.declared.entry.Entry.{Entry}
 use Rattle.hp_record.specs.Spelling.{spell}
 use Rattle.hp_journal.specs.Layout.{Title, title_bytes, records, body_of, front, journal}
 use Rattle.hp_train.specs.Training.{payloads}
-use Rattle.hp_train.specs.Iterating.{behind, EndsShut}
+use Rattle.hp_train.specs.Iterating.{behind, EndsClear}
 
 -- records behind records
 pub records-append : (ps qs : List (List ℕ)) → records (ps ++ qs) ≡ records ps ++ records qs
@@ -64,32 +64,32 @@ parted tail (suc j) (p ∷ ps) xs y zs le is =
     record { below = omega (arith, h.below); front = rw e (ap (λ l. p ∷ l) h.front); here = rw e h.here }
 
 -- a commit byte of 0 that is the last byte, and what stands before it
-pub last_byte : (at : ℕ) (bytes f : List ℕ) → EndsShut at bytes → bytes ≡ f ++ 0 ∷ [] → (at ≡ length f) × (take at bytes ≡ f)
+pub last_byte : (at : ℕ) (bytes f : List ℕ) → EndsClear at bytes → bytes ≡ f ++ 0 ∷ [] → (at ≡ length f) × (take at bytes ≡ f)
 last_byte at bytes f ends is =
     let place : at ≡ length f = omega (arith, ends.0, ap length ends.1, ap length is, length-append (take at bytes) (0 ∷ []), length-take at bytes, length-append f (0 ∷ [])) in
     (place, ap (λ (b : List ℕ). take at b) is ∙ ap (λ (n : ℕ). take n (f ++ 0 ∷ [])) place ∙ take-append_seam f (0 ∷ []))
 
-pub shut_length : (at : ℕ) (bytes : List ℕ) → EndsShut at bytes → length (take at bytes) ≡ at
-shut_length at bytes ends = omega (arith, ends.0, length-take at bytes)
+pub clear_length : (at : ℕ) (bytes : List ℕ) → EndsClear at bytes → length (take at bytes) ≡ at
+clear_length at bytes ends = omega (arith, ends.0, length-take at bytes)
 
 -- no record more
-pub behind_none : (at : ℕ) (bytes : List ℕ) → EndsShut at bytes → behind at [] bytes ≡ bytes
+pub behind_none : (at : ℕ) (bytes : List ℕ) → EndsClear at bytes → behind at [] bytes ≡ bytes
 unfolding records
 behind_none at bytes ends = ap (λ (l : List ℕ). l ++ 0 ∷ []) (append-nil (take at bytes)) ∙ sym ends.1
 
 -- the commit byte behind the records stands there
-pub behind_ends : (at : ℕ) (bytes : List ℕ) (lists : List (List Entry)) → EndsShut at bytes → EndsShut (at + length (records (payloads lists))) (behind at lists bytes)
+pub behind_ends : (at : ℕ) (bytes : List ℕ) (lists : List (List Entry)) → EndsClear at bytes → EndsClear (at + length (records (payloads lists))) (behind at lists bytes)
 behind_ends at bytes lists ends =
     let f : List ℕ = take at bytes ++ records (payloads lists) in
-    let l : length f ≡ at + length (records (payloads lists)) = length-append (take at bytes) (records (payloads lists)) ∙ ap (λ (n : ℕ). n + length (records (payloads lists))) (shut_length at bytes ends) in
+    let l : length f ≡ at + length (records (payloads lists)) = length-append (take at bytes) (records (payloads lists)) ∙ ap (λ (n : ℕ). n + length (records (payloads lists))) (clear_length at bytes ends) in
     (omega (arith, l, length-append f (0 ∷ [])), ap (λ (x : List ℕ). x ++ 0 ∷ []) (sym (take-append_seam f (0 ∷ [])) ∙ ap (λ (n : ℕ). take n (f ++ 0 ∷ [])) l))
 
 -- a record more is put behind them
-pub behind_more : (at : ℕ) (bytes : List ℕ) (lists : List (List Entry)) (es : List Entry) (body : List ℕ) → EndsShut at bytes → body ≡ body_of (spell es)
+pub behind_more : (at : ℕ) (bytes : List ℕ) (lists : List (List Entry)) (es : List Entry) (body : List ℕ) → EndsClear at bytes → body ≡ body_of (spell es)
     → take (at + length (records (payloads lists))) (behind at lists bytes) ++ 1 ∷ body ≡ behind at (lists ++ es ∷ []) bytes
 behind_more at bytes lists es body ends is =
     let f : List ℕ = take at bytes ++ records (payloads lists) in
-    let l : length f ≡ at + length (records (payloads lists)) = length-append (take at bytes) (records (payloads lists)) ∙ ap (λ (n : ℕ). n + length (records (payloads lists))) (shut_length at bytes ends) in
+    let l : length f ≡ at + length (records (payloads lists)) = length-append (take at bytes) (records (payloads lists)) ∙ ap (λ (n : ℕ). n + length (records (payloads lists))) (clear_length at bytes ends) in
     ap (λ (n : ℕ). take n (f ++ 0 ∷ []) ++ 1 ∷ body) (sym l)
     ∙ ap (λ (x : List ℕ). x ++ 1 ∷ body) (take-append_seam f (0 ∷ []))
     ∙ ap (λ (b : List ℕ). f ++ 1 ∷ b) is
@@ -104,7 +104,7 @@ records_longer lists es =
     ∙ ap (λ (n : ℕ). length (records (payloads lists)) + n) (one_length (spell es))
 
 -- a journal of the first j payloads, with records behind it, is one of more payloads
-pub behind_journal : (t : Title) (ps : List (List ℕ)) (j at : ℕ) (bytes : List ℕ) (lists : List (List Entry)) → EndsShut at bytes → bytes ≡ journal t (take j ps) 0 [] → take (j + length (payloads lists)) ps ≡ take j ps ++ payloads lists
+pub behind_journal : (t : Title) (ps : List (List ℕ)) (j at : ℕ) (bytes : List ℕ) (lists : List (List Entry)) → EndsClear at bytes → bytes ≡ journal t (take j ps) 0 [] → take (j + length (payloads lists)) ps ≡ take j ps ++ payloads lists
     → behind at lists bytes ≡ journal t (take (j + length (payloads lists)) ps) 0 []
 behind_journal t ps j at bytes lists ends is front-is =
     ap (λ (l : List ℕ). l ++ records (payloads lists) ++ 0 ∷ []) (last_byte at bytes (front t (take j ps)) ends is).1

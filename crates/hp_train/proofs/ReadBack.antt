@@ -17,10 +17,10 @@ use Rattle.hp_record.specs.Reading.{read_batch}
 use Rattle.hp_record.specs.Spelling.{spell}
 use Rattle.hp_record.proofs.Fields.{IsBytes}
 use Rattle.hp_record.proofs.Whole.{batch_spelled}
-use Rattle.hp_journal.specs.declared.commit_byte.CommitByte.TheVariants.{Shut, Ajar}
+use Rattle.hp_journal.specs.declared.commit_byte.CommitByte.TheVariants.{Clear, Set}
 use Rattle.hp_journal.specs.declared.commit_byte.CommitByteFault.TheVariants as commit_bytes
 use Rattle.hp_journal.specs.declared.commit_byte.PayloadFault.{PayloadFault}
-use Rattle.hp_journal.specs.CommitBytes.{commit_byte_of, payload_of, length_at, IsShutAt}
+use Rattle.hp_journal.specs.CommitBytes.{commit_byte_of, payload_of, length_at, IsClearAt}
 use Rattle.hp_journal.specs.Layout.{Title, front, records}
 use Rattle.hp_load.specs.declared.refusal.LoadFault.{LoadFault}
 use Rattle.hp_load.specs.declared.refusal.LoadFault.TheVariants.{Refused}
@@ -65,7 +65,7 @@ unfolding rest_at commit_byte_of
 commit_byte_is bytes at o e = by (nat_le (length bytes) at) refl (get_or bytes at 1 == 1) refl e
   where
     by : (b : Bool) → nat_le (length bytes) at ≡ b → (c : Bool) → (get_or bytes at 1 == 1) ≡ c
-        → (with_fault of_commit_byte (if b then Err (commit_bytes.Short at) else if c then Ok Ajar else Ok (Shut (length bytes - (at + 1)))) >>= λ commit_byte. Ok (rest_behind commit_byte)) ≡ Ok o → CommitByteIs bytes at o
+        → (with_fault of_commit_byte (if b then Err (commit_bytes.Short at) else if c then Ok Set else Ok (Clear (length bytes - (at + 1)))) >>= λ commit_byte. Ok (rest_behind commit_byte)) ≡ Ok o → CommitByteIs bytes at o
     by true past c one e = absurd cc
     by false past true one e = (grind (arith, nat_tests), inl (sym (same_ok None o e), grind (arith, nat_tests)))
     by false past false one e = (grind (arith, nat_tests), inr (sym (same_ok (Some (length bytes - (at + 1))) o e), grind (arith, nat_tests)))
@@ -176,10 +176,10 @@ module _ (p : Validated) (batch : ℕ) (t : Title) (bytes : List ℕ) (fits : Is
       ∙ sym (front-append t (payloads lists) (spell es ∷ []))
       ∙ ap (λ (ps : List (List ℕ)). front t ps) (sym (payloads-append lists (es ∷ [])))
 
-  -- the bytes up to the last commit byte, which is shut, and behind it
+  -- the bytes up to the last commit byte, which is clear, and behind it
   pub record EndsThere (e : Ended) : Type 0 where
     pub stands : take e.end bytes ≡ front t (payloads e.lists)
-    pub shut : IsShutAt e.end bytes
+    pub clear : IsClearAt e.end bytes
     pub tail : e.tail ≡ length bytes - (e.end + 1)
 
   abbrev ended : ℕ → Found → List (List Entry) → ℕ → Ended
@@ -191,15 +191,15 @@ module _ (p : Validated) (batch : ℕ) (t : Title) (bytes : List ℕ) (fits : Is
   some_is : (m n : ℕ) → Some m ≡ Some n → m ≡ n
   some_is m n e = cc
 
-  -- at a commit byte that is shut
+  -- at a commit byte that is clear
   ends_here : (at n : ℕ) (found : Found) (lists : List (List Entry)) (e : Ended) → StandsTo at lists → CommitByteIs bytes at (Some n) → ended at found lists n ≡ e → EndsThere e
   ends_here at n found lists e stands commit_byte is =
-      ⊎_elim (λ ajar. absurd (not_both n (sym ajar.0)))
-      (λ shut. subst EndsThere is (record { stands = stands; shut = (commit_byte.0, shut.1); tail = some_is n (length bytes - (at + 1)) shut.0 })) commit_byte.1
+      ⊎_elim (λ set. absurd (not_both n (sym set.0)))
+      (λ clear. subst EndsThere is (record { stands = stands; clear = (commit_byte.0, clear.1); tail = some_is n (length bytes - (at + 1)) clear.0 })) commit_byte.1
 
   -- at one that is open
   is_open : (at : ℕ) → CommitByteIs bytes at None → get_or bytes at 1 ≡ 1
-  is_open at commit_byte = ⊎_elim (λ ajar. ajar.1) (λ shut. absurd (not_both (length bytes - (at + 1)) shut.0)) commit_byte.1
+  is_open at commit_byte = ⊎_elim (λ set. set.1) (λ clear. absurd (not_both (length bytes - (at + 1)) clear.0)) commit_byte.1
 
   pub ends_there : (left at : ℕ) (found : Found) (lists : List (List Entry)) (e : Ended) → StandsTo at lists → records_at p batch bytes left at found lists ≡ Ok e → EndsThere e
   unfolding records_at

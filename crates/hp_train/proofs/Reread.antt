@@ -13,7 +13,7 @@ use Rattle.hp_record.specs.Reading.{read_batch}
 use Rattle.hp_record.specs.Spelling.{spell}
 use Rattle.hp_record.proofs.Whole.{batch_again}
 use Rattle.hp_journal.specs.declared.commit_byte.CommitByte.{CommitByte}
-use Rattle.hp_journal.specs.declared.commit_byte.CommitByte.TheVariants.{Shut, Ajar}
+use Rattle.hp_journal.specs.declared.commit_byte.CommitByte.TheVariants.{Clear, Set}
 use Rattle.hp_journal.specs.declared.commit_byte.CommitByteFault.{CommitByteFault}
 use Rattle.hp_journal.specs.declared.head.Head.TheVariants.{Uncommitted, Committed}
 use Rattle.hp_journal.specs.CommitBytes.{commit_byte_of, payload_of}
@@ -56,7 +56,7 @@ here (y ∷ before) x behind = here before x behind
 
 -- its commit byte, its payload, and the commit byte behind it
 module _ (t : Title) (before : List (List ℕ)) (x : List ℕ) (behind : List (List ℕ)) (commit_byte : ℕ) (tail : List ℕ) where
-  open_there : commit_byte_of (journal t (before ++ x ∷ behind) commit_byte tail) (length (front t before)) ≡ Ok Ajar
+  open_there : commit_byte_of (journal t (before ++ x ∷ behind) commit_byte tail) (length (front t before)) ≡ Ok Set
   open_there =
       ap (λ (ps : List (List ℕ)). commit_byte_of (journal t (before ++ x ∷ behind) commit_byte tail) (length (front t ps))) (sym (ahead before x behind))
       ∙ open_commit_byte t (before ++ x ∷ behind) commit_byte tail (length before) (there before x behind)
@@ -80,13 +80,13 @@ module _ (bytes : List ℕ) (at : ℕ) where
   abbrev to_rest : Result CommitByte CommitByteFault → Result (Option ℕ) LoadFault
   to_rest g = with_fault of_commit_byte g >>= λ commit_byte. Ok (rest_behind commit_byte)
 
-  rest_open : commit_byte_of bytes at ≡ Ok Ajar → rest_at bytes at ≡ Ok None
+  rest_open : commit_byte_of bytes at ≡ Ok Set → rest_at bytes at ≡ Ok None
   unfolding rest_at
   rest_open e = ap to_rest e
 
-  rest_shut : (n : ℕ) → commit_byte_of bytes at ≡ Ok (Shut n) → rest_at bytes at ≡ Ok (Some n)
+  rest_clear : (n : ℕ) → commit_byte_of bytes at ≡ Ok (Clear n) → rest_at bytes at ≡ Ok (Some n)
   unfolding rest_at
-  rest_shut n e = ap to_rest e
+  rest_clear n e = ap to_rest e
 
 module _ (p : Validated) (batch : ℕ) (bytes : List ℕ) (at : ℕ) where
   entries_there : (k : ℕ) (x : List ℕ) (es : List Entry) → too_much p k batch ≡ None → payload_of bytes at ≡ Ok x → read_batch p k batch x ≡ Ok es → record_entries_at p batch bytes k at ≡ Ok (es, at + 5 + length x)
@@ -100,10 +100,10 @@ module _ (p : Validated) (batch : ℕ) (bytes : List ℕ) (at : ℕ) where
   abbrev ended : Found → List (List Entry) → ℕ → Ended
   ended found lists n = record { found = found; lists = lists; end = at; tail = n }
 
-  at_shut : (left n : ℕ) (found : Found) (lists : List (List Entry)) → rest_at bytes at ≡ Ok (Some n) → records_at p batch bytes left at found lists ≡ Ok (ended found lists n)
+  at_clear : (left n : ℕ) (found : Found) (lists : List (List Entry)) → rest_at bytes at ≡ Ok (Some n) → records_at p batch bytes left at found lists ≡ Ok (ended found lists n)
   unfolding records_at
-  at_shut zero n found lists e = rw e refl
-  at_shut (suc left) n found lists e = rw e refl
+  at_clear zero n found lists e = rw e refl
+  at_clear (suc left) n found lists e = rw e refl
 
   at_record : (left next : ℕ) (found more : Found) (es : List Entry) (lists : List (List Entry)) → rest_at bytes at ≡ Ok None → record_at p batch bytes at found ≡ Ok (es, next, more) → records_at p batch bytes (suc left) at found lists ≡ records_at p batch bytes left next more (lists ++ es ∷ [])
   unfolding records_at
@@ -123,12 +123,12 @@ module _ (p : Validated) (validated : is_validated p ≡ true) (batch : ℕ) (t 
       → (rest_at bytes (place done) ≡ Ok None) × (record_at p batch bytes (place done) found ≡ Ok (es, place (done ++ es ∷ []), next))
   one_there done left i found next es is r =
       let same : bytes ≡ journal t (payloads done ++ spell es ∷ payloads left) commit_byte tail = is ∙ ap (λ (ps : List (List ℕ)). journal t ps commit_byte tail) (payloads-append done (es ∷ left)) in
-      let ajar : commit_byte_of bytes (place done) ≡ Ok Ajar = ap (λ (b : List ℕ). commit_byte_of b (place done)) same ∙ open_there t (payloads done) (spell es) (payloads left) commit_byte tail in
+      let set : commit_byte_of bytes (place done) ≡ Ok Set = ap (λ (b : List ℕ). commit_byte_of b (place done)) same ∙ open_there t (payloads done) (spell es) (payloads left) commit_byte tail in
       let payload : payload_of bytes (place done) ≡ Ok (spell es) = ap (λ (b : List ℕ). payload_of b (place done)) same ∙ payload_is t (payloads done) (spell es) (payloads left) commit_byte tail r.short in
       let number : suc i ≡ suc (length found.bounds) = ap suc (sym r.count) in
       let next_at : place done + 5 + length (spell es) ≡ place (done ++ es ∷ []) = sym (next_place t (payloads done) (spell es) (payloads left) commit_byte tail) ∙ ap (λ (ps : List (List ℕ)). length (front t ps)) (sym (payloads-append done (es ∷ []))) in
       let entries : record_entries_at p batch bytes (suc i) (place done) ≡ Ok (es, place done + 5 + length (spell es)) = entries_there p batch bytes (place done) (suc i) (spell es) es r.room payload (batch_again p (suc i) batch es validated r.written) in (
-        rest_open bytes (place done) ajar,
+        rest_open bytes (place done) set,
         record_there p batch bytes (place done) found next es (place (done ++ es ∷ []))
             (ap (λ (k : ℕ). record_entries_at p batch bytes k (place done)) (sym number) ∙ entries ∙ ap (λ (n : ℕ). Ok (es, n)) next_at) r.added,
       )
@@ -138,8 +138,8 @@ module _ (p : Validated) (validated : is_validated p ≡ true) (batch : ℕ) (t 
   reread [] done i more found after few r is =
       let same : done ++ [] ≡ done = append-nil done in
       let whole : bytes ≡ journal t (payloads done) commit_byte tail = is ∙ ap (λ (ls : List (List Entry)). journal t (payloads ls) commit_byte tail) same in
-      let shut : commit_byte_of bytes (place done) ≡ Ok (Shut (length tail)) = ap (λ (b : List ℕ). commit_byte_of b (place done)) whole ∙ last_commit_byte t (payloads done) commit_byte tail other in
-      at_shut p batch bytes (place done) more (length tail) found done (rest_shut bytes (place done) (length tail) shut)
+      let clear : commit_byte_of bytes (place done) ≡ Ok (Clear (length tail)) = ap (λ (b : List ℕ). commit_byte_of b (place done)) whole ∙ last_commit_byte t (payloads done) commit_byte tail other in
+      at_clear p batch bytes (place done) more (length tail) found done (rest_clear bytes (place done) (length tail) clear)
       ∙ ap (λ (f : Found). Ok (finished f done)) r ∙ ap (λ (ls : List (List Entry)). Ok (finished after ls)) (sym same)
   reread (es ∷ left) done i zero found after few r is = absurd (omega (arith, few))
   reread (es ∷ left) done i (suc more) found after few r is =

@@ -12,7 +12,7 @@ use Rattle.hp_theory.specs.Range.{based}
 use Rattle.hp_cut.specs.declared.entry.Entry.{Entry}
 use Rattle.hp_record.specs.Spelling.{spell}
 use Rattle.hp_journal.specs.Layout.{Title, IsTitle, front, journal, new_title, body_of, records}
-use Rattle.hp_journal.specs.IsPrefix.{Uncommitted, Grown, shut, half_open, IsPrefix, uncommitted, committed}
+use Rattle.hp_journal.specs.IsPrefix.{Uncommitted, Grown, clear, half_open, IsPrefix, uncommitted, committed}
 use Rattle.hp_load.specs.Load as loads
 use Rattle.hp_load.specs.Load.{Outcome, load_of}
 use Rattle.hp_solver.specs.Solving.{Solving}
@@ -131,9 +131,9 @@ module _ {Start Chain : Type 0} (v : Solving Start Chain) (p : Validated) (valid
         (ap (λ (b : List ℕ). take (length (front t (payloads (after j).lists))) b) at ∙ front_of t (payloads (after j).lists) commit_byte tail)
 
   grown_resumes : (j : ℕ) (bytes : List ℕ) → Grown t (payloads whole.lists) j bytes → (o : Outcome) × Resumes v p base t asked count j bytes o
-  grown_resumes j bytes (shut there tail same) =
+  grown_resumes j bytes (clear there tail same) =
       let within : j ≤ length whole.lists = omega (arith, there, length-map whole.lists spell) in
-      (outcome j within tail, from_committed j within bytes 0 tail (not_open 0 refl) same (shut there tail same))
+      (outcome j within tail, from_committed j within bytes 0 tail (not_open 0 refl) same (clear there tail same))
   grown_resumes j bytes (half_open there commit_byte not_zero not_one same) =
       let within : j ≤ length whole.lists = omega (arith, there, length-map whole.lists spell) in
       let tail : List ℕ = body_of (get_or (payloads whole.lists) j []) in

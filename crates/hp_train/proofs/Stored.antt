@@ -85,7 +85,7 @@ module _ (p : Validated) (base : List (List Cut)) (digest : List ℕ) (seed aske
       let h : HeadIs bytes t = head_gives bytes fits (heads.Committed version kept own paths) head in
       let there = ends_there p paths t bytes fits 2000 (first_commit_byte version) (fresh_found base) [] e h.stands read in
       subst (λ (d : List ℕ). IsStored d seed asked bytes (committed version paths e) e.lists own) named.0
-      (record { title = h.title; same_seed = named.1; same_batch = named.2; stands = there.stands; shut = there.shut; tail = there.tail })
+      (record { title = h.title; same_seed = named.1; same_batch = named.2; stands = there.stands; clear = there.clear; tail = there.tail })
 
   stands_committed : (version own paths : ℕ) (kept : List ℕ) (e : Ended) → head_of bytes ≡ Ok (heads.Committed version kept own paths) → (kept ≡ digest) × IfSome seed (λ s. s ≡ own) × IfSome asked (λ b. b ≡ paths)
       → records_at p paths bytes 2000 (first_commit_byte version) (fresh_found base) [] ≡ Ok e → There (committed version paths e) e.lists

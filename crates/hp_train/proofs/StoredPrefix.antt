@@ -8,7 +8,7 @@ use Rattle.hp_cut.specs.declared.entry.Entry.{Entry}
 use Rattle.hp_record.specs.Spelling.{spell}
 use Rattle.hp_journal.specs.Head.{IsUncommitted, is_uncommitted}
 use Rattle.hp_journal.specs.Layout.{Title, title_bytes, front, journal, records}
-use Rattle.hp_journal.specs.IsPrefix.{Uncommitted, short, zero_byte, half_committed, Grown, shut, half_open, IsPrefix, uncommitted, committed}
+use Rattle.hp_journal.specs.IsPrefix.{Uncommitted, short, zero_byte, half_committed, Grown, clear, half_open, IsPrefix, uncommitted, committed}
 use Rattle.hp_journal.proofs.Bytes.{byte_behind}
 use Rattle.hp_load.specs.Load.{Outcome}
 use Rattle.hp_train.specs.Stored.{IsStored, StandsThere}
@@ -65,7 +65,7 @@ module _ (digest : List ℕ) (seed : ℕ) (asked : Option ℕ) (bytes : List ℕ
   stands = s.1.stands ∙ ap (λ (n : ℕ). front (title_of digest n o) (payloads lists)) (sym s.1.same_seed)
 
   place : o.end ≡ length (front t (payloads lists))
-  place = omega (arith, ap (λ (l : List ℕ). length l) stands, length-take o.end bytes, s.1.shut.0)
+  place = omega (arith, ap (λ (l : List ℕ). length l) stands, length-take o.end bytes, s.1.clear.0)
 
   ahead : loaded_front digest seed o bytes ≡ front t (payloads lists)
   ahead = ap (λ (b : Bool). if b then take o.end bytes else front (title_of digest seed o) []) is ∙ stands
@@ -87,7 +87,7 @@ module _ (digest : List ℕ) (seed : ℕ) (asked : Option ℕ) (bytes : List ℕ
       let g = goes_on t (payloads lists) x behind in
       let whole : bytes ≡ front t (payloads lists) ++ 1 ∷ (g.0 ++ commit_byte ∷ tail) =
       e ∙ ap (λ (ps : List (List ℕ)). front t ps ++ commit_byte ∷ tail) parts ∙ ap (λ (l : List ℕ). l ++ commit_byte ∷ tail) g.1 ∙ append_assoc (front t (payloads lists)) (1 ∷ g.0) (commit_byte ∷ tail) in
-      s.1.shut.1 (ap (λ (l : List ℕ). get_or l o.end 1) whole ∙ byte_behind (front t (payloads lists)) 1 (g.0 ++ commit_byte ∷ tail) o.end 1 place)
+      s.1.clear.1 (ap (λ (l : List ℕ). get_or l o.end 1) whole ∙ byte_behind (front t (payloads lists)) 1 (g.0 ++ commit_byte ∷ tail) o.end 1 place)
 
   -- so it is one of just these
   just_these : (more : List (List Entry)) (j commit_byte : ℕ) (tail : List ℕ) → j ≤ length (payloads (lists ++ more)) → commit_byte ≢ 1 → bytes ≡ journal t (take j (payloads (lists ++ more))) commit_byte tail → take j (payloads (lists ++ more)) ≡ payloads lists
@@ -119,13 +119,13 @@ module _ (digest : List ℕ) (seed : ℕ) (asked : Option ℕ) (bytes : List ℕ
   first = first_byte t (payloads lists) o.end bytes stands
 
   not_uncommitted : Uncommitted t bytes → ⊥
-  not_uncommitted (short few) = omega (arith, few, first.1, s.1.shut.0)
+  not_uncommitted (short few) = omega (arith, few, first.1, s.1.clear.0)
   not_uncommitted (zero_byte z few) = omega (arith, z, first.0)
   not_uncommitted (half_committed header_commit z one e) = one (sym (ap (λ (l : List ℕ). get_or l 0 0) e) ∙ first.0)
 
   prefix_committed : (more : List (List Entry)) (j : ℕ) → IsPrefix t (payloads (lists ++ more)) j bytes → Stands more j
   prefix_committed more j (uncommitted none un) = absurd (not_uncommitted un)
-  prefix_committed more j (committed (shut le tail e)) = stands_grown more j 0 tail le (not_zero 0 refl) e (shut le tail e)
+  prefix_committed more j (committed (clear le tail e)) = stands_grown more j 0 tail le (not_zero 0 refl) e (clear le tail e)
   prefix_committed more j (committed (half_open below commit_byte z one e)) = stands_grown more j commit_byte _ (omega (arith, below)) one e (half_open below commit_byte z one e)
 
 -- ---- what is loaded of one that is not committed
@@ -144,7 +144,7 @@ not_grown t ps commit_byte tail bytes un e =
 
 prefix_uncommitted : (t : Title) (o : Outcome) (ps : List (List ℕ)) (j : ℕ) (bytes : List ℕ) → o.committed ≡ false → IsUncommitted bytes → IsPrefix t ps j bytes → (j ≡ 0) × HoldsPrefix t o ps j bytes
 prefix_uncommitted t o ps j bytes is un (uncommitted none u) = (none, training.uncommitted is none u)
-prefix_uncommitted t o ps j bytes is un (committed (shut le tail e)) = absurd (not_grown t (take j ps) 0 tail bytes un e)
+prefix_uncommitted t o ps j bytes is un (committed (clear le tail e)) = absurd (not_grown t (take j ps) 0 tail bytes un e)
 prefix_uncommitted t o ps j bytes is un (committed (half_open below commit_byte z one e)) = absurd (not_grown t (take j ps) commit_byte _ bytes un e)
 
 -- ---- both

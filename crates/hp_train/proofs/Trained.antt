@@ -6,14 +6,14 @@ use Rattle.hp_outside.specs.Since.{LeavesOnly}
 use Rattle.hp_outside.proofs.RunsOfCalls.{then_on}
 use Rattle.hp_problem.specs.Validated.{Validated}
 use Rattle.hp_cut.specs.declared.entry.Entry.{Entry}
-use Rattle.hp_journal.specs.CommitBytes.{IsShutAt}
+use Rattle.hp_journal.specs.CommitBytes.{IsClearAt}
 use Rattle.hp_journal.specs.Layout.{Title, IsTitle, journal}
 use Rattle.hp_journal.specs.IsPrefix.{IsGrownPrefix}
 use Rattle.hp_journal.proofs.Told.{told, known, mapped}
 use Rattle.hp_load.specs.Load.{Outcome}
 use Rattle.hp_solver.specs.Solving.{Solving}
 use Rattle.hp_train.specs.Continuing.{Continued, continued}
-use Rattle.hp_train.specs.Iterating.{EndsShut, behind}
+use Rattle.hp_train.specs.Iterating.{EndsClear, behind}
 use Rattle.hp_train.specs.Training.{GoesOnWith, IsPrefixFrom, HoldsPrefix, WhenWhole, grown_journal, iterations, last_commit_byte, loaded_front, opened, title_of}
 use Rattle.hp_settle.specs.declared.plan_fault.PlanFault.{PlanFault}
 use Rattle.hp_settle.specs.declared.plan_fault.PlanFault.TheVariants as faults
@@ -42,20 +42,20 @@ module _ (digest : List ℕ) (seed : ℕ) (o : Outcome) (title : IsTitle (title_
   abbrev ready : List ℕ → List ℕ
   ready b = loaded_front digest seed o b ++ 0 ∷ []
 
-  long : (r : Option (List ℕ)) → (o.committed ≡ true → IfSome r (IsShutAt o.end)) → (bytes : List ℕ) → r ≡ Some bytes → length (loaded_front digest seed o bytes) ≡ last_commit_byte o
-  long r shut bytes is = front_length digest seed o bytes title (λ committed. known (IsShutAt o.end) r bytes is (shut committed))
+  long : (r : Option (List ℕ)) → (o.committed ≡ true → IfSome r (IsClearAt o.end)) → (bytes : List ℕ) → r ≡ Some bytes → length (loaded_front digest seed o bytes) ≡ last_commit_byte o
+  long r clear bytes is = front_length digest seed o bytes title (λ committed. known (IsClearAt o.end) r bytes is (clear committed))
 
   -- the end is ready
-  pub ready_ends : (r now : Option (List ℕ)) (end : ℕ) → (o.committed ≡ true → IfSome r (IsShutAt o.end)) → now ≡ option_map ready r → end ≡ last_commit_byte o → IfSome now (EndsShut end)
-  ready_ends r now end shut reads is =
-      subst (λ (x : Option (List ℕ)). IfSome x (EndsShut end)) (sym reads) (subst (λ (n : ℕ). IfSome (option_map ready r) (EndsShut n)) (sym is)
-      (some_map r ready (EndsShut (last_commit_byte o)) (told r (λ bytes there. front_ends digest seed o bytes (long r shut bytes there)))))
+  pub ready_ends : (r now : Option (List ℕ)) (end : ℕ) → (o.committed ≡ true → IfSome r (IsClearAt o.end)) → now ≡ option_map ready r → end ≡ last_commit_byte o → IfSome now (EndsClear end)
+  ready_ends r now end clear reads is =
+      subst (λ (x : Option (List ℕ)). IfSome x (EndsClear end)) (sym reads) (subst (λ (n : ℕ). IfSome (option_map ready r) (EndsClear n)) (sym is)
+      (some_map r ready (EndsClear (last_commit_byte o)) (told r (λ bytes there. front_ends digest seed o bytes (long r clear bytes there)))))
 
   -- the records behind it
-  ready_grows : (r now : Option (List ℕ)) (end : ℕ) (lists : List (List Entry)) → (o.committed ≡ true → IfSome r (IsShutAt o.end)) → now ≡ option_map ready r → end ≡ last_commit_byte o → option_map (behind end lists) now ≡ option_map (λ b. grown_journal digest seed o b lists) r
-  ready_grows r now end lists shut reads is =
+  ready_grows : (r now : Option (List ℕ)) (end : ℕ) (lists : List (List Entry)) → (o.committed ≡ true → IfSome r (IsClearAt o.end)) → now ≡ option_map ready r → end ≡ last_commit_byte o → option_map (behind end lists) now ≡ option_map (λ b. grown_journal digest seed o b lists) r
+  ready_grows r now end lists clear reads is =
       ap (λ (x : Option (List ℕ)). option_map (behind end lists) x) reads ∙ ap (λ (n : ℕ). option_map (behind n lists) (option_map ready r)) is
-      ∙ map_map r ready (behind (last_commit_byte o) lists) (λ b. grown_journal digest seed o b lists) (told r (λ bytes there. behind_front digest seed o bytes lists (long r shut bytes there)))
+      ∙ map_map r ready (behind (last_commit_byte o) lists) (λ b. grown_journal digest seed o b lists) (told r (λ bytes there. behind_front digest seed o bytes lists (long r clear bytes there)))
 
   -- a crash at any moment
   all_moments : (old mid new : Store) (lists : List (List Entry)) → mid.reads ≡ option_map ready old.reads
@@ -88,10 +88,10 @@ module _ {Start Chain : Type 0} (v : Solving Start Chain) (p : Validated) (diges
   same : going ≡ iterations v p seed count o
   same = same_iterations v p seed count o m left opens tail
 
-  pub trained_reads : (o.committed ≡ true → IfSome old.reads (IsShutAt o.end)) → new.reads ≡ option_map (behind m.end going.lists) mid.reads → new.reads ≡ option_map (λ b. grown_journal digest seed o b lists) old.reads
-  trained_reads shut is =
+  pub trained_reads : (o.committed ≡ true → IfSome old.reads (IsClearAt o.end)) → new.reads ≡ option_map (behind m.end going.lists) mid.reads → new.reads ≡ option_map (λ b. grown_journal digest seed o b lists) old.reads
+  trained_reads clear is =
       is ∙ ap (λ (x : Continued). option_map (behind m.end x.lists) mid.reads) same
-      ∙ ready_grows digest seed o title old.reads mid.reads m.end lists shut reads (ap (λ (x : Outcome). x.end) opens)
+      ∙ ready_grows digest seed o title old.reads mid.reads m.end lists clear reads (ap (λ (x : Outcome). x.end) opens)
 
   pub trained_moments : IfSome old.reads (λ bytes. (ps : List (List ℕ)) (j : ℕ) → HoldsPrefix (title_of digest seed o) o ps j bytes → LeavesOnly old mid (IsPrefixFrom (title_of digest seed o) ps j))
       → IfSome mid.reads (λ bytes. (t : Title) (ps : List (List ℕ)) (j : ℕ) → bytes ≡ journal t (take j ps) 0 [] → GoesOnWith j ps going.lists → LeavesOnly mid new (IsGrownPrefix t ps j))

@@ -37,5 +37,5 @@ abbrev pub behind : ℕ → List (List Entry) → List ℕ → List ℕ
 behind at lists bytes = take at bytes ++ records (payloads lists) ++ 0 ∷ []
 
 -- a commit byte of 0 is the last byte
-abbrev pub EndsShut : ℕ → List ℕ → Type 0
-EndsShut at bytes = (at < length bytes) × (bytes ≡ take at bytes ++ 0 ∷ [])
+abbrev pub EndsClear : ℕ → List ℕ → Type 0
+EndsClear at bytes = (at < length bytes) × (bytes ≡ take at bytes ++ 0 ∷ [])

@@ -2,20 +2,20 @@
 use Rattle.std.specs.Prelude.{◌≡◌, ℕ, ◌+◌, ◌-◌, true, false, List, [], length, take, Option, IfSome}
 use Rattle.hp_theory.specs.declared.cut.Cut.{Cut}
 use Rattle.hp_cut.specs.declared.entry.Entry.{Entry}
-use Rattle.hp_journal.specs.CommitBytes.{IsShutAt}
+use Rattle.hp_journal.specs.CommitBytes.{IsClearAt}
 use Rattle.hp_journal.specs.Head.{IsUncommitted}
 use Rattle.hp_journal.specs.Layout.{IsTitle, front}
 use Rattle.hp_load.specs.Load.{Outcome, uncommitted}
 use Rattle.hp_train.specs.Training.{payloads, title_of}
 
 -- Of a journal with a committed header: behind the head of its title, with its own seed, stand the records of these lists, up to a commit byte
--- that is shut, with the rest behind it. A seed and a batch that are asked are its own.
+-- that is clear, with the rest behind it. A seed and a batch that are asked are its own.
 pub record IsStored (digest : List ℕ) (asked_seed asked_batch : Option ℕ) (bytes : List ℕ) (o : Outcome) (lists : List (List Entry)) (seed : ℕ) : Type 0 where
   pub title : IsTitle (title_of digest seed o)
   pub same_seed : IfSome asked_seed (λ s. s ≡ seed)
   pub same_batch : IfSome asked_batch (λ b. b ≡ o.batch)
   pub stands : take o.end bytes ≡ front (title_of digest seed o) (payloads lists)
-  pub shut : IsShutAt o.end bytes
+  pub clear : IsClearAt o.end bytes
   pub tail : o.tail ≡ length bytes - (o.end + 1)
 
 -- Of one that is not committed: no list, over the base cuts.

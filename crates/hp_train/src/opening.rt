@@ -2,7 +2,7 @@
 ghost use Rattle.std.specs.Prelude.{◌≡◌, ◌⊎◌, ◌<◌, ◌≤◌, ◌^◌, ◌++◌, ◌∷◌, [], ℕ, List, true, false, length, is_some, option_map, IfSome, OnOk, None, Some};
 ghost use Rattle.hp_outside.specs.Causes.{HasCause};
 ghost use Rattle.hp_outside.specs.Since.{Quiet, LeavesOnly};
-ghost use Rattle.hp_journal.specs.CommitBytes.{IsShutAt};
+ghost use Rattle.hp_journal.specs.CommitBytes.{IsClearAt};
 ghost use Rattle.hp_journal.specs.Head.{IsUncommitted};
 ghost use Rattle.hp_journal.specs.Layout.{new_title};
 ghost use Rattle.hp_load.specs.Load.{seen_outcome};
@@ -62,7 +62,7 @@ fn open_old<D: Disk>(
 ) -> Result<(), Failed>
     requires committed { loaded.old.committed ≡ true }
     requires near { loaded.old.end ≤ 2 ^ 38 }
-    requires shut { IfSome (D.store disk.old).reads (IsShutAt loaded.old.end) }
+    requires clear { IfSome (D.store disk.old).reads (IsClearAt loaded.old.end) }
     requires quiet { Quiet (D.store disk.old) }
     ensures value { OnOk result (seen_outcome loaded.new ≡ opened (seen_outcome loaded.old)) }
     ensures reads { OnOk result ((D.store disk.new).reads
@@ -89,7 +89,7 @@ pub(crate) fn open_end<D: Disk>(
     requires version { ((loaded.old.version ≡ 1) × (loaded.old.batch ≡ 1)) ⊎ ((loaded.old.version ≡ 2) × (1 ≤ loaded.old.batch) × (loaded.old.batch ≤ 64)) }
     requires near { loaded.old.end ≤ 2 ^ 38 }
     requires uncommitted { loaded.old.committed ≡ false → IfSome (D.store disk.old).reads IsUncommitted }
-    requires shut { loaded.old.committed ≡ true → IfSome (D.store disk.old).reads (IsShutAt loaded.old.end) }
+    requires clear { loaded.old.committed ≡ true → IfSome (D.store disk.old).reads (IsClearAt loaded.old.end) }
     requires quiet { Quiet (D.store disk.old) }
     ensures digest { length digest.now ≡ 32 }
     ensures seed { seed < 2 ^ 64 }

@@ -12,7 +12,7 @@ ghost use Rattle.hp_cut.specs.declared.entry.Entry.{Entry};
 ghost use Rattle.hp_record.specs.Shape.{Writable};
 ghost use Rattle.hp_record.specs.Spelling.{spell};
 ghost use Rattle.hp_journal.specs.Causes.{DiskCause};
-ghost use Rattle.hp_journal.specs.CommitBytes.{IsShutAt};
+ghost use Rattle.hp_journal.specs.CommitBytes.{IsClearAt};
 ghost use Rattle.hp_journal.specs.Head.{IsUncommitted};
 ghost use Rattle.hp_journal.specs.Layout.{IsBody, Title, body_of, journal};
 ghost use Rattle.hp_journal.specs.IsPrefix.{IsGrownPrefix};
@@ -20,7 +20,7 @@ ghost use Rattle.hp_load.specs.Load.{seen_outcome};
 ghost use Rattle.hp_settle.specs.Faults.{IsInfeasible, Stops};
 ghost use Rattle.hp_settle.specs.declared.plan_fault.PlanFault.TheVariants.{DiskFault};
 ghost use Rattle.hp_train.specs.Continuing.{continued};
-ghost use Rattle.hp_train.specs.Iterating.{EndsShut, behind, iterated};
+ghost use Rattle.hp_train.specs.Iterating.{EndsClear, behind, iterated};
 ghost use Rattle.hp_train.specs.Training.{CanTrain, GoesOnWith, IsPrefixFrom, HoldsPrefix, StopsAs, WhenWhole, grown_journal, iterations, title_of, trained};
 
 use crate::iterations::{Draw, iteration};
@@ -131,7 +131,7 @@ fn iterate_all<R: Threads + Sync, D: Disk, V: Solver>(
     requires open { loaded.old.committed ≡ true }
     requires whole { loaded.old.tail ≡ 0 }
     requires near { loaded.old.end ≤ 2 ^ 38 }
-    requires end { IfSome (D.store disk.old).reads (EndsShut loaded.old.end) }
+    requires end { IfSome (D.store disk.old).reads (EndsClear loaded.old.end) }
     requires quiet { Quiet (D.store disk.old) }
     ensures stop { StopsAs result (continued (V.does course.now.planner.now.solver.now) course.now.planner.now.problem.now loaded.old.pools.lists course.now.seed loaded.old.batch (length loaded.old.bounds) left).stop }
     ensures value { OnOk result (seen_outcome loaded.new ≡ trained (seen_outcome loaded.old) (continued (V.does course.now.planner.now.solver.now) course.now.planner.now.problem.now loaded.old.pools.lists course.now.seed loaded.old.batch (length loaded.old.bounds) left)) }
@@ -180,7 +180,7 @@ pub fn train<R: Threads + Sync, D: Disk, V: Solver>(
 ) -> Result<(), PlanFault>
     requires can { CanTrain planner.now.problem.now training.now.count (seen_outcome loaded.old) }
     requires uncommitted { loaded.old.committed ≡ false → IfSome (D.store disk.old).reads IsUncommitted }
-    requires shut { loaded.old.committed ≡ true → IfSome (D.store disk.old).reads (IsShutAt loaded.old.end) }
+    requires clear { loaded.old.committed ≡ true → IfSome (D.store disk.old).reads (IsClearAt loaded.old.end) }
     requires quiet { Quiet (D.store disk.old) }
 
     // It stops exactly where the iterations do.

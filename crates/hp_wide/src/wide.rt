@@ -1,6 +1,5 @@
 // Whole numbers of 256 bits, in two halves.
 ghost use Rattle.std.specs.Prelude.{◌≡◌, ◌<◌, ◌^◌, pos, neg_ℤ, ◌+ℤ◌, ◌-ℤ◌, ◌*ℤ◌, int_lt, nat_abs};
-ghost use Rattle.std.specs.Ordering.{int_eq};
 ghost use Rattle.hp_num.specs.Sums.{floor_over};
 ghost use Rattle.hp_wide.specs.Numbers.{held_wide, nearest_of, down_of_wide};
 
@@ -130,13 +129,6 @@ impl Wide {
         self.high < other.high || (self.high == other.high && self.low < other.low)
     }
 
-    /// Tells whether the numbers are equal.
-    pub fn is_equal(self, other: Wide) -> bool
-        ensures { result ≡ int_eq self other }
-    {
-        self.high == other.high && self.low == other.low
-    }
-
     /// The number with the other sign. None exactly where 256 bits do not hold it.
     pub fn negated(self) -> Option<Wide>
         ensures { result ≡ held_wide 255 (neg_ℤ self) }
@@ -189,14 +181,5 @@ impl Wide {
         ensures { result ≡ held_wide 127 (down_of_wide self) }
     {
         self.nearest(80)
-    }
-
-    /// A product over 2^k, rounded to the nearest, halves up. None exactly where 128 bits do not
-    /// hold it.
-    pub fn nearest_product(a: i128, b: i128, k: u32) -> Option<i128>
-        requires { 0 < k }
-        ensures { result ≡ held_wide 127 (nearest_of (a *ℤ b) k) }
-    {
-        Wide::product(a, b).nearest(k)
     }
 }

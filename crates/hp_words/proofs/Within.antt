@@ -6,7 +6,8 @@ use Rattle.std.specs.Str.{bytes_eq}
 use Rattle.hp_text.specs.Numerals.{number_of}
 use Rattle.hp_words.specs.declared.command.Command.{Command}
 use Rattle.hp_words.specs.declared.command.Command.TheVariants.{Base, Train, Check, Simulate, Validate, Gen, Evaluate, Hydro, Robust}
-use Rattle.hp_words.specs.Commands.{if_within, number_within, alone, if_named, on_journal, train_by, train_in_batches, train, simulate_by, simulate, gen_by, gen, command_by, command_of, IsWithin}
+use Rattle.hp_words.specs.Commands.{if_within, number_within, alone, if_named, on_journal, train_by, train_in_batches, train, simulate_by, simulate, gen_by, gen, command_by, command_of}
+use Rattle.hp_words.specs.Traits.{IsWithin}
 
 either : {A : Type 0} (P : A → Type 0) (b : Bool) (x y : Option A) → IfSome x P → IfSome y P → IfSome (if b then x else y) P
 either P true x y h k = h

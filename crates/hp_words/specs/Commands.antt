@@ -1,5 +1,5 @@
 -- The words of the command line, as their bytes, and the commands that they ask for.
-use Rattle.std.specs.Prelude.{◌≤◌, ℕ, ◌&&◌, ◌==◌, List, [], ◌∷◌, length, map, codes, string_bytes, String, Option, Some, None, IfSome, option_and_then, nat_le, if◌then◌else◌}
+use Rattle.std.specs.Prelude.{ℕ, ◌&&◌, ◌==◌, List, [], ◌∷◌, length, map, codes, string_bytes, String, Option, Some, None, option_and_then, nat_le, if◌then◌else◌}
 use Rattle.std.specs.declared.alloc.Global.{Global}
 use Rattle.std.specs.Str.{bytes_eq}
 use Rattle.hp_text.specs.Numerals.{number_of}
@@ -82,10 +82,3 @@ command_of (word ∷ ws) = command_by word ws
 -- the words as their bytes
 abbrev pub texts : List (String Global) → List (List ℕ)
 texts words = map string_bytes words
-
--- the numbers of a command are in their ranges; the other commands have none
-abbrev pub IsWithin : Command → Type 0
-IsWithin (Train seed count batch) = (count ≤ 2000) × IfSome batch (λ b. (1 ≤ b) × (b ≤ 64))
-IsWithin (Simulate seed count) = count ≤ 1000
-IsWithin (Gen seed stages reservoirs) = (1 ≤ stages) × (stages ≤ 500) × (1 ≤ reservoirs) × (reservoirs ≤ 10)
-IsWithin c = Unit {0}

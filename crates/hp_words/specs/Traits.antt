@@ -1,5 +1,5 @@
 -- Says of each command what it does: a new command adds one row to `traits`.
-use Rattle.std.specs.Prelude.{ℕ, Bool, true, false, Option, Some, None, is_some}
+use Rattle.std.specs.Prelude.{◌≤◌, ℕ, Bool, true, false, Option, Some, None, IfSome, is_some, ⊤}
 use Rattle.hp_words.specs.declared.command.Command.{Command}
 use Rattle.hp_words.specs.declared.command.Command.TheVariants.{Base, Train, Check, Simulate, Validate, Gen, Evaluate, Hydro, Robust}
 use Rattle.hp_words.specs.declared.command.TrainingNumbers.{TrainingNumbers}
@@ -16,26 +16,45 @@ pub data Decisions : Type 0 where
   at_realizations : Decisions  -- at realizations of nodes
   at_stored : Decisions  -- at moments of the scenarios that the problem stores
 
-pub record CommandTraits : Type 0 where
+-- what a command reports of the problem over which it plans
+pub data Report : Type 0 where
+  no_report : Report  -- the command does not plan
+  of_base_cuts : Report
+  of_training : TrainingNumbers → Report  -- the cuts and the bounds of training by these
+  of_journal : Report  -- the cuts and the bounds that the journal holds
+  of_drawn_scenarios : ℕ → ℕ → Report  -- decisions in the scenarios that a seed draws, and how many
+  of_stored_scenarios : Report  -- decisions in the scenarios that the problem stores
+  of_policy : Report  -- what the whole policy costs
+  of_risk_cuts : Report  -- the risk cuts that the records of the journal give
+
+pub record CommandTraits : Type 1 where
   pub input : Input
   pub reads_journal : Bool
   pub training : Option TrainingNumbers  -- it trains by these, and writes the journal
   pub decisions : Decisions
   pub makes_cuts : Bool  -- it makes cuts, or risk cuts
   pub lists_weights : Bool  -- it reads the weights that the problem lists
+  pub report : Report
+  pub within : Type 0  -- its numbers are in their ranges
 
 abbrev pub traits : Command → CommandTraits
-traits Base = record { input = of_problem; reads_journal = false; training = None; decisions = nowhere; makes_cuts = false; lists_weights = false }
+traits Base = record { input = of_problem; reads_journal = false; training = None; decisions = nowhere; makes_cuts = false; lists_weights = false; report = of_base_cuts; within = ⊤ }
 traits (Train seed count batch) =
-    record { input = of_problem; reads_journal = true; training = Some (record { seed = seed; count = count; batch = batch }); decisions = at_realizations; makes_cuts = true; lists_weights = false }
-traits Check = record { input = of_problem; reads_journal = true; training = None; decisions = nowhere; makes_cuts = false; lists_weights = false }
-traits (Simulate seed count) = record { input = of_problem; reads_journal = true; training = None; decisions = at_realizations; makes_cuts = false; lists_weights = false }
-traits Validate = record { input = of_problem; reads_journal = true; training = None; decisions = at_stored; makes_cuts = false; lists_weights = false }
+    let numbers : TrainingNumbers = record { seed = seed; count = count; batch = batch } in
+    record { input = of_problem; reads_journal = true; training = Some numbers; decisions = at_realizations; makes_cuts = true; lists_weights = false; report = of_training numbers; within = (count ≤ 2000) × IfSome batch (λ b. (1 ≤ b) × (b ≤ 64)) }
+traits Check = record { input = of_problem; reads_journal = true; training = None; decisions = nowhere; makes_cuts = false; lists_weights = false; report = of_journal; within = ⊤ }
+traits (Simulate seed count) =
+    record { input = of_problem; reads_journal = true; training = None; decisions = at_realizations; makes_cuts = false; lists_weights = false; report = of_drawn_scenarios seed count; within = count ≤ 1000 }
+traits Validate = record { input = of_problem; reads_journal = true; training = None; decisions = at_stored; makes_cuts = false; lists_weights = false; report = of_stored_scenarios; within = ⊤ }
 traits (Gen seed stages reservoirs) =
-    record { input = of_numbers seed stages reservoirs; reads_journal = false; training = None; decisions = nowhere; makes_cuts = false; lists_weights = false }
-traits Evaluate = record { input = of_problem; reads_journal = true; training = None; decisions = at_realizations; makes_cuts = false; lists_weights = false }
-traits Hydro = record { input = of_description; reads_journal = false; training = None; decisions = nowhere; makes_cuts = false; lists_weights = false }
-traits Robust = record { input = of_problem; reads_journal = true; training = None; decisions = nowhere; makes_cuts = true; lists_weights = true }
+    record { input = of_numbers seed stages reservoirs; reads_journal = false; training = None; decisions = nowhere; makes_cuts = false; lists_weights = false; report = no_report; within = (1 ≤ stages) × (stages ≤ 500) × (1 ≤ reservoirs) × (reservoirs ≤ 10) }
+traits Evaluate = record { input = of_problem; reads_journal = true; training = None; decisions = at_realizations; makes_cuts = false; lists_weights = false; report = of_policy; within = ⊤ }
+traits Hydro = record { input = of_description; reads_journal = false; training = None; decisions = nowhere; makes_cuts = false; lists_weights = false; report = no_report; within = ⊤ }
+traits Robust = record { input = of_problem; reads_journal = true; training = None; decisions = nowhere; makes_cuts = true; lists_weights = true; report = of_risk_cuts; within = ⊤ }
+
+-- the numbers of the command are in their ranges; where it has none, nothing is said
+abbrev pub IsWithin : Command → Type 0
+IsWithin c = (traits c).within
 
 -- the command trains
 abbrev pub trains : Command → Bool

@@ -1,6 +1,7 @@
 // The forms of the command line.
 ghost use Rattle.std.specs.Prelude.{◌≡◌, ◌≤◌, ◌<◌, IfSome, Some, None, string_bytes};
-ghost use Rattle.hp_words.specs.Commands.{number_within, alone, on_journal, train_by, train_in_batches, train, simulate_by, simulate, gen_by, gen, command_by, command_of, texts, IsWithin};
+ghost use Rattle.hp_words.specs.Commands.{number_within, alone, on_journal, train_by, train_in_batches, train, simulate_by, simulate, gen_by, gen, command_by, command_of, texts};
+ghost use Rattle.hp_words.specs.Traits.{IsWithin};
 
 use crate::command::Command;
 use hp_parts::{

@@ -48,7 +48,7 @@ fn divides_and_adds(rt: HostRuntime) {
 fn rounds_wide_numbers(rt: HostRuntime) {
     assert_eq!(rt; inverse(-5), -34028236692093846346337460743176821145);
     assert_eq!(rt; Wide::product(1 << 40, -(1 << 39)).down(), Some(0));
-    assert_eq!(rt; Wide::nearest_product(7, -1, 1), Some(-3));
+    assert_eq!(rt; Wide::product(7, -1).nearest(1), Some(-3));
     assert_eq!(rt; shift(-5, 248).is_none(), true);
 }
 

@@ -18,7 +18,7 @@ use super::walk::{check_certificates, check_count};
 use crate::size::sums_in_range;
 use hp_cut::Pools;
 use hp_cut_making::CertFault;
-use hp_cut_making::node_at::{NodeAt, own_weights};
+use hp_cut_making::node_at::NodeAt;
 use hp_parts::MOST_STATES;
 use hp_problem::Problem;
 use hp_theory::Certificate;
@@ -79,24 +79,11 @@ fn check(here: &NodeAt, list: &[Certificate]) -> Result<(), CertFault>
     check_range(here, list)
 }
 
-/// Tells whether a list of certificates is accepted at a node, with its realizations' own weights: Ok, or the first fault.
+/// Tells whether a list of certificates is accepted at a node, with given weights in place of the realizations' own: Ok, or the
+/// first fault.
 ///
-/// The list has one certificate per realization. No memory is taken.
-pub fn accept(
-    problem: &Problem,
-    pools: &Pools,
-    node: u32,
-    list: &[Certificate],
-) -> Result<(), CertFault>
-    requires known { node < length problem.now.parts.nodes }
-    requires fit { FitFor (problem_of problem.now) (length problem.now.parts.nodes) pools.now.lists node }
-    ensures { Accepts result (fault_of pools.now.lists (node_at (problem_of problem.now) node) list.now) }
-{
-    accept_with(problem, pools, node, own_weights(problem, node), list)
-}
-
-/// Like [`accept`], with given weights in place of the realizations' own: one weight per realization, each at least 1, of at
-/// most 65,535 together.
+/// The list has one certificate per realization. There is one weight per realization, each at least 1, of at most 65,535
+/// together. No memory is taken.
 pub fn accept_with(
     problem: &Problem,
     pools: &Pools,

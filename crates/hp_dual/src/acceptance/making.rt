@@ -47,9 +47,11 @@ fn accept_at(here: &NodeAt, list: &[Certificate], cut: &mut Cut) -> Result<(), C
     Ok(())
 }
 
-/// Tells whether a list of certificates is accepted at a node, with its realizations' own weights: Ok, or the first fault, as
-/// `accept` answers. An accepted list's cut is written, as `make_into` writes it; the sums that its slopes come of are taken
-/// once for both. No memory is taken.
+/// Tells whether a list of certificates is accepted at a node, with its realizations' own weights: Ok, or the first fault. Writes
+/// the cut of an accepted list (Neumaier and Shcherbina 2004), with one rounding, downwards over the node's box; over sound pools
+/// it holds. The sums that its slopes come of are taken once for both.
+///
+/// The list has one certificate per realization. No memory is taken.
 pub fn accept_into(
     problem: &Problem,
     pools: &Pools,

@@ -6,7 +6,7 @@ use Rattle.hp_journal.proofs.Told.{told, known, map_as}
 use Rattle.hp_journal.proofs.growth.recover.Goals as goal
 
 pub returns-then-len-at-clause-any_moment : goal.returns-then-len-at-clause-any_moment
-returns-then-len-at-clause-any_moment g c = rest_off_leaves (g.D.Disk.store c.args.disk.now) _ _ (g.D.Disk.lawful c.args.disk.now) c.requires.quiet _ c.shut_commit_byte.ensures.any_moment c.in_ok-len.ensures.reads c.cut_to.ensures.any_moment
+returns-then-len-at-clause-any_moment g c = rest_off_leaves (g.D.Disk.store c.args.disk.now) _ _ (g.D.Disk.lawful c.args.disk.now) c.requires.quiet _ c.clear_commit_byte.ensures.any_moment c.in_ok-len.ensures.reads c.cut_to.ensures.any_moment
 
 pub returns-clause-reads : goal.returns-clause-reads
 returns-clause-reads g c =

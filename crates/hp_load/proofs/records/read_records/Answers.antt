@@ -3,7 +3,7 @@ use Rattle.std.proofs.lemmas.Result.{err_from_is_err_and}
 use Rattle.hp_load.specs.Refusals.{LoadFails}
 use Rattle.hp_load.specs.Records.{Found, gathered_found, rest_at, record_at}
 use Rattle.hp_load.proofs.Told.{same_bytes, stays_same, stays_on}
-use Rattle.hp_load.proofs.Reaching.{Reached, reached_none, reached_shut, reached_fault, reached_many, reached_bad, reached_more}
+use Rattle.hp_load.proofs.Reaching.{Reached, reached_none, reached_clear, reached_fault, reached_many, reached_bad, reached_more}
 use Rattle.hp_load.proofs.records.read_records.Goals as goal
 
 pub loop-init : goal.loop-init
@@ -31,7 +31,7 @@ pub returns-in-Some-clause-value : goal.returns-in-Some-clause-value
 returns-in-Some-clause-value g c =
     let l = c.loop in
     let r = (g.D.Disk.store c.args.disk.now).reads in
-    reached_shut c.args.problem.now c.args.found.now.pools.lists c.args.layout.batch c.args.layout.first r (g.K.Keeper.kept l.keep) l.counter l.at (gathered_found l.found) l.invariant.0 c.in-Some.tail
+    reached_clear c.args.problem.now c.args.found.now.pools.lists c.args.layout.batch c.args.layout.first r (g.K.Keeper.kept l.keep) l.counter l.at (gathered_found l.found) l.invariant.0 c.in-Some.tail
     (subst (λ (o : Option ℕ). IfSome r (λ b. rest_at b l.at ≡ Ok o)) c.in-Some.is (same_bytes (λ b. rest_at b l.at ≡ Ok c.in_ok-tail.field-0) r (g.D.Disk.store l.disk).reads l.invariant.1.reads c.in_ok-tail.ensures.value))
 
 pub returns-in_err-entries-clause-value : goal.returns-in_err-entries-clause-value
@@ -42,8 +42,8 @@ returns-in_err-entries-clause-value g c =
     let r = (g.D.Disk.store c.args.disk.now).reads in
     let f = c.in_err-entries.field-0.0 in
     let none : c.in_ok-tail.field-0 ≡ None = search rules in
-    let ajar = subst (λ (o : Option ℕ). IfSome r (λ b. rest_at b l.at ≡ Ok o)) none (same_bytes (λ b. rest_at b l.at ≡ Ok c.in_ok-tail.field-0) r (g.D.Disk.store l.disk).reads l.invariant.1.reads c.in_ok-tail.ensures.value) in
-    rw (e.1, e.2) (reached_bad p c.args.found.now.pools.lists c.args.layout.batch c.args.layout.first r (g.K.Keeper.kept l.keep) l.counter l.at (gathered_found l.found) l.invariant.0 ajar c.loop-test.true f
+    let set = subst (λ (o : Option ℕ). IfSome r (λ b. rest_at b l.at ≡ Ok o)) none (same_bytes (λ b. rest_at b l.at ≡ Ok c.in_ok-tail.field-0) r (g.D.Disk.store l.disk).reads l.invariant.1.reads c.in_ok-tail.ensures.value) in
+    rw (e.1, e.2) (reached_bad p c.args.found.now.pools.lists c.args.layout.batch c.args.layout.first r (g.K.Keeper.kept l.keep) l.counter l.at (gathered_found l.found) l.invariant.0 set c.loop-test.true f
     (same_bytes (λ b. LoadFails f (record_at p c.args.layout.batch b l.at (gathered_found l.found))) r (g.D.Disk.store c.rest_at.new.disk).reads (c.rest_at.ensures.stays.reads ∙ l.invariant.1.reads) c.in_err-entries.ensures.value))
 
 pub loop-preserved : goal.loop-preserved
@@ -52,11 +52,11 @@ loop-preserved g c =
     let p = c.args.problem.now in
     let r = (g.D.Disk.store c.args.disk.now).reads in
     let none : c.in_ok-tail.field-0 ≡ None = search rules in
-    let ajar = subst (λ (o : Option ℕ). IfSome r (λ b. rest_at b l.at ≡ Ok o)) none (same_bytes (λ b. rest_at b l.at ≡ Ok c.in_ok-tail.field-0) r (g.D.Disk.store l.disk).reads l.invariant.1.reads c.in_ok-tail.ensures.value) in
+    let set = subst (λ (o : Option ℕ). IfSome r (λ b. rest_at b l.at ≡ Ok o)) none (same_bytes (λ b. rest_at b l.at ≡ Ok c.in_ok-tail.field-0) r (g.D.Disk.store l.disk).reads l.invariant.1.reads c.in_ok-tail.ensures.value) in
     let es = c.in_ok-entries.entries in
     let next = c.in_ok-entries.next in
     let more = gathered_found c.read_record.new.found in (
-      reached_more p c.args.found.now.pools.lists c.args.layout.batch c.args.layout.first r (g.K.Keeper.kept l.keep) l.counter l.at (gathered_found l.found) l.invariant.0 ajar c.loop-test.true c.parts.ensures.validated c.requires.batch next es more (g.K.Keeper.kept c.keep.new.self)
+      reached_more p c.args.found.now.pools.lists c.args.layout.batch c.args.layout.first r (g.K.Keeper.kept l.keep) l.counter l.at (gathered_found l.found) l.invariant.0 set c.loop-test.true c.parts.ensures.validated c.requires.batch next es more (g.K.Keeper.kept c.keep.new.self)
           (same_bytes (λ b. record_at p c.args.layout.batch b l.at (gathered_found l.found) ≡ Ok (es, next, more)) r (g.D.Disk.store c.rest_at.new.disk).reads (c.rest_at.ensures.stays.reads ∙ l.invariant.1.reads) c.in_ok-entries.ensures.value)
           c.in_ok-entries.ensures.batch c.in_ok-entries.ensures.added c.in_ok-entries.ensures.next c.in_ok-keep.ensures,
       stays_on (g.D.Disk.store c.args.disk.now) (g.D.Disk.store l.disk) (g.D.Disk.store c.read_record.new.disk) l.invariant.1 (stays_on (g.D.Disk.store l.disk) (g.D.Disk.store c.rest_at.new.disk) (g.D.Disk.store c.read_record.new.disk) c.rest_at.ensures.stays c.read_record.ensures.stays),
@@ -77,7 +77,7 @@ pub returns-in-Some-2-clause-value : goal.returns-in-Some-2-clause-value
 returns-in-Some-2-clause-value g c =
     let l = c.loop in
     let r = (g.D.Disk.store c.args.disk.now).reads in
-    reached_shut c.args.problem.now c.args.found.now.pools.lists c.args.layout.batch c.args.layout.first r (g.K.Keeper.kept l.keep) l.counter l.at (gathered_found l.found) l.invariant.0 c.in-Some-2.tail
+    reached_clear c.args.problem.now c.args.found.now.pools.lists c.args.layout.batch c.args.layout.first r (g.K.Keeper.kept l.keep) l.counter l.at (gathered_found l.found) l.invariant.0 c.in-Some-2.tail
     (subst (λ (o : Option ℕ). IfSome r (λ b. rest_at b l.at ≡ Ok o)) c.in-Some-2.is (same_bytes (λ b. rest_at b l.at ≡ Ok c.in_ok-tail-2.field-0) r (g.D.Disk.store l.disk).reads l.invariant.1.reads c.in_ok-tail-2.ensures.value))
 
 pub returns-clause-value : goal.returns-clause-value

@@ -13,14 +13,14 @@ returns-in_err-tail-clause-value g c =
     let r = (g.D.Disk.store c.args.disk.now).reads in
     rw (e.1, e.2) (told r (λ b is. commit_byte_bad b c.args.at f (known (λ b. (no_commit_byte f ≡ commit_byte_of b c.args.at) ⊎ (no_commit_byte f ≡ no_commit_byte commit_bytes.DiskFault)) r b is c.in_err-tail.ensures.value)))
 
-pub returns-in-Shut-clause-value : goal.returns-in-Shut-clause-value
-returns-in-Shut-clause-value g c =
+pub returns-in-Clear-clause-value : goal.returns-in-Clear-clause-value
+returns-in-Clear-clause-value g c =
     let x = c.in_ok-tail.field-0 in
     let r = (g.D.Disk.store c.args.disk.now).reads in
-    told r (λ b is. commit_byte_good b c.args.at x (Some c.in-Shut.tail) (known (λ b. (a_commit_byte x ≡ commit_byte_of b c.args.at) ⊎ (a_commit_byte x ≡ no_commit_byte commit_bytes.DiskFault)) r b is c.in_ok-tail.ensures.value) (ap rest_behind c.in-Shut.is))
+    told r (λ b is. commit_byte_good b c.args.at x (Some c.in-Clear.tail) (known (λ b. (a_commit_byte x ≡ commit_byte_of b c.args.at) ⊎ (a_commit_byte x ≡ no_commit_byte commit_bytes.DiskFault)) r b is c.in_ok-tail.ensures.value) (ap rest_behind c.in-Clear.is))
 
-pub returns-in-Ajar-clause-value : goal.returns-in-Ajar-clause-value
-returns-in-Ajar-clause-value g c =
+pub returns-in-Set-clause-value : goal.returns-in-Set-clause-value
+returns-in-Set-clause-value g c =
     let x = c.in_ok-tail.field-0 in
     let r = (g.D.Disk.store c.args.disk.now).reads in
-    told r (λ b is. commit_byte_good b c.args.at x None (known (λ b. (a_commit_byte x ≡ commit_byte_of b c.args.at) ⊎ (a_commit_byte x ≡ no_commit_byte commit_bytes.DiskFault)) r b is c.in_ok-tail.ensures.value) (ap rest_behind c.in-Ajar.is))
+    told r (λ b is. commit_byte_good b c.args.at x None (known (λ b. (a_commit_byte x ≡ commit_byte_of b c.args.at) ⊎ (a_commit_byte x ≡ no_commit_byte commit_bytes.DiskFault)) r b is c.in_ok-tail.ensures.value) (ap rest_behind c.in-Set.is))

@@ -2,7 +2,7 @@ use Rattle.std.proofs.Common.{Ok, Err, ap, ◌∙◌}
 use Rattle.std.proofs.lemmas.Result.{err_from_is_err_and}
 use Rattle.hp_load.specs.Load.{seen_outcome}
 use Rattle.hp_run.specs.Outcome.{WithBase}
-use Rattle.hp_run.proofs.TrainReports.{cause_later, cause_of_status, grown_after, is_ready, leaves_read, leaves_trained, ready_shut, ready_uncommitted, stopped_lacks, train_is_sound, trained_reports, unloaded_lacks, when_as}
+use Rattle.hp_run.proofs.TrainReports.{cause_later, cause_of_status, grown_after, is_ready, leaves_read, leaves_trained, ready_clear, ready_uncommitted, stopped_lacks, train_is_sound, trained_reports, unloaded_lacks, when_as}
 use Rattle.hp_run.proofs.training.report_train.Goals as goal
 
 pub returns-in_err-loaded-clause-lacks : goal.returns-in_err-loaded-clause-lacks
@@ -25,10 +25,10 @@ train_on-requires-clause-uncommitted g c κs within = λ none.
     let ready = is_ready _ _ _ _ _ _ _ _ c.requires.read c.digest-digest.ensures c.in_ok-loaded.ensures.value in
     ready_uncommitted ready _ c.load_for.ensures.stays.reads none
 
-pub train_on-requires-clause-shut : goal.train_on-requires-clause-shut
-train_on-requires-clause-shut g c κs within = λ so.
+pub train_on-requires-clause-clear : goal.train_on-requires-clause-clear
+train_on-requires-clause-clear g c κs within = λ so.
     let ready = is_ready _ _ _ _ _ _ _ _ c.requires.read c.digest-digest.ensures c.in_ok-loaded.ensures.value in
-    ready_shut ready _ c.load_for.ensures.stays.reads so
+    ready_clear ready _ c.load_for.ensures.stays.reads so
 
 pub returns-in_err-train_on-clause-lacks : goal.returns-in_err-train_on-clause-lacks
 returns-in_err-train_on-clause-lacks g c =

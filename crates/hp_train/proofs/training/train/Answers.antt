@@ -24,7 +24,7 @@ iterate_all-requires-clause-end g c κs within =
     let long : length c.args.training.now.digest.now ≡ 32 = c.open_end.ensures.digest in
     let fits : c.args.training.now.seed < 2 ^ 64 = c.open_end.ensures.seed in
     let title : IsTitle (title_of c.args.training.now.digest.now c.args.training.now.seed o) = record { digest = long; seed = fits; version = c.requires.can.version } in
-    ready_ends c.args.training.now.digest.now c.args.training.now.seed o title (g.D.Disk.store c.args.disk.now).reads (g.D.Disk.store c.open_end.new.disk).reads c.open_end.new.loaded.end c.requires.shut c.in_ok-open_end.ensures.reads (ap (λ (x : Outcome). x.end) c.in_ok-open_end.ensures.value)
+    ready_ends c.args.training.now.digest.now c.args.training.now.seed o title (g.D.Disk.store c.args.disk.now).reads (g.D.Disk.store c.open_end.new.disk).reads c.open_end.new.loaded.end c.requires.clear c.in_ok-open_end.ensures.reads (ap (λ (x : Outcome). x.end) c.in_ok-open_end.ensures.value)
 
 pub returns-clause-reads : goal.returns-clause-reads
 returns-clause-reads g c =
@@ -33,7 +33,7 @@ returns-clause-reads g c =
     let fits : c.args.training.now.seed < 2 ^ 64 = c.open_end.ensures.seed in
     let title : IsTitle (title_of c.args.training.now.digest.now c.args.training.now.seed o) = record { digest = long; seed = fits; version = c.requires.can.version } in
     when_also c.iterate_all.result _ _ c.iterate_all.ensures.reads
-    (trained_reads (g.V.Solver.does c.args.planner.now.solver.now) c.args.planner.now.problem.now c.args.training.now.digest.now c.args.training.now.seed c.args.training.now.count o (seen_outcome c.open_end.new.loaded) c.saturating_sub-left.result c.in_ok-open_end.ensures.value (c.saturating_sub-left.ensures ∙ ap (λ (n : ℕ). c.args.training.now.count - n) c.len.ensures) title (g.D.Disk.store c.args.disk.now) (g.D.Disk.store c.open_end.new.disk) (g.D.Disk.store c.iterate_all.new.disk) c.in_ok-open_end.ensures.reads c.requires.shut)
+    (trained_reads (g.V.Solver.does c.args.planner.now.solver.now) c.args.planner.now.problem.now c.args.training.now.digest.now c.args.training.now.seed c.args.training.now.count o (seen_outcome c.open_end.new.loaded) c.saturating_sub-left.result c.in_ok-open_end.ensures.value (c.saturating_sub-left.ensures ∙ ap (λ (n : ℕ). c.args.training.now.count - n) c.len.ensures) title (g.D.Disk.store c.args.disk.now) (g.D.Disk.store c.open_end.new.disk) (g.D.Disk.store c.iterate_all.new.disk) c.in_ok-open_end.ensures.reads c.requires.clear)
 
 pub returns-clause-any_moment : goal.returns-clause-any_moment
 returns-clause-any_moment g c =

@@ -1,6 +1,6 @@
 use Rattle.std.proofs.Common.{sym, subst, Option, IfSome}
 use Rattle.hp_words.specs.declared.command.Command.{Command}
-use Rattle.hp_words.specs.Commands.{IsWithin}
+use Rattle.hp_words.specs.Traits.{IsWithin}
 use Rattle.hp_words.proofs.Within.{by-word}
 use Rattle.hp_words.proofs.forms.read_words.Goals as goal
 

@@ -1,5 +1,5 @@
 use Rattle.hp_journal.proofs.Growing.{commit_byte_read_leaves, commit_byte_put_leaves}
-use Rattle.hp_journal.proofs.growth.shut_commit_byte.Goals as goal
+use Rattle.hp_journal.proofs.growth.clear_commit_byte.Goals as goal
 
 pub returns-in_err-byte-clause-any_moment : goal.returns-in_err-byte-clause-any_moment
 returns-in_err-byte-clause-any_moment g c = commit_byte_read_leaves (g.D.Disk.store c.args.disk.now) _ (g.D.Disk.store c.args.disk.now) (g.D.Disk.lawful c.args.disk.now) c.requires.quiet _ c.byte_at.ensures.stays
