@@ -29,6 +29,7 @@ def drawn(seed) -> Case:
         low = whole(0, 3)
         elements.append(Reservoir(
             name, whole(30, 40), whole(5, 30), 200, low, Random(name), draw.choice(buses), whole(4, 12), whole(1, 6), downstream=to,
+            spill_penalty=draw.choice([0, whole(1, 9)]),
         ))
     if len(buses) == 2:
         elements.append(Line("tie", "north", "south", whole(0, 20), draw.choice([0, whole(1, 9)])))
@@ -78,7 +79,7 @@ class Described(Folder):
     def test_units_that_make_numbers_whole(self):
         elements = [
             Bus("b", "12.5", 90), Thermal("t", "b", "7.5", 10),
-            Reservoir("r", "20.5", 10, flow(1000), inflow=Random("r"), bus="b", turbine=flow(200), productivity=flow("0.9")),
+            Reservoir("r", "20.5", 10, flow(1000), inflow=Random("r"), bus="b", turbine=flow(200), productivity=flow("0.9"), spill_penalty=5),
         ]
         case = Case(2, {"month": 10}, elements, [[(1, {"r": "0.5"}), (2, {"r": 3})]] * 2)
         described, made = self.both(case, "units", water=10, energy=2, money=4)
@@ -86,6 +87,7 @@ class Described(Folder):
         said = json.loads(case.system().to_description(water=10, energy=2, money=4))
         # 7.2 hm3 go through the turbine in 10 hours at 200 m3/s, each giving 0.9 / 0.0036 MWh; 10 MW are 100 MWh
         self.assertEqual((said["reservoirs"]["r"]["turbine"], said["reservoirs"]["r"]["factor"]), (72, 50))
+        self.assertEqual(said["reservoirs"]["r"]["spill_cost"], 2)
         self.assertEqual(said["thermals"]["t"], {"bus": "b", "high": 200, "cost": 15})
         self.assertEqual(said["buses"]["b"], {"deficit_cost": 180})
         self.assertEqual([it["weight"] for it in said["stages"][0]["inflows"]], [1, 2])

@@ -20,7 +20,7 @@ use Rattle.hp_plants.specs.declared.plants.Stage.{Stage}
 use Rattle.hp_plants.specs.declared.plants.Plants.{Plants}
 use Rattle.hp_plants.specs.Stages.{total_inflow_weight}
 use Rattle.hp_plants.specs.Described.{IsInflow, IsPlants}
-use Rattle.hp_hydro.specs.Layout.{HydroStore, volume_of, way_of, Variable, after, turbine_of, spill_of, thermal_of, line_of, deficit_of, Chance, thermal, bus, stores, hydro_variables, chances, variable_least, variable_greatest, cost_of, store_low}
+use Rattle.hp_hydro.specs.Layout.{HydroStore, volume_of, way_of, Variable, after, turbine_of, spill_of, thermal_of, line_of, deficit_of, Chance, numbered_reservoir, thermal, bus, stores, hydro_variables, chances, variable_least, variable_greatest, cost_of, store_low}
 use Rattle.hp_hydro.specs.Rows.{no_store, no_chance}
 use Rattle.hp_hydro.specs.Made.{realization, following, stage_node, node_from}
 use Rattle.hp_hydro.specs.Nodes.{hydro_stage}
@@ -73,7 +73,7 @@ module _ (h : Plants) (i : IsPlants h) where
   free : (v : Variable) → cost_of h v *ℤ variable_least h v ≡ pos 0
   free (after s) = zero-*ℤ (store_low h s)
   free (turbine_of j) = refl
-  free (spill_of j) = refl
+  free (spill_of j) = *ℤ-zero (numbered_reservoir h j).spill_cost
   free (thermal_of n) = *ℤ-zero (thermal h n).cost
   free (line_of l) = refl
   free (deficit_of b) = *ℤ-zero (bus h b).deficit_cost
@@ -86,7 +86,7 @@ module _ (h : Plants) (i : IsPlants h) where
         volume = λ j p. (some_pos 0, above (store_low h (volume_of j)) (variable_greatest h (after (volume_of j))) (reservoir_is h i j p).low.low (b.volume j p));
         way = λ j k p low high. (some_pos 0, above (pos 0) (variable_greatest h (after (way_of j k))) (some_pos 0) (b.way j k p low high));
         turbine = λ j p. (some_pos 0, (b.turbine j p).order);
-        spill = λ j p. (some_pos 0, (b.spill j p).order);
+        spill = λ j p. ((reservoir_is h i j p).spill_cost.low, (b.spill j p).order);
         thermal = λ n p. ((thermal_is h i n p).cost.low, (b.thermal n p).order);
         line = λ l p. (some_pos 0, (b.line l p).order);
         deficit = λ n p. ((bus_is h i n p).deficit_cost.low, (b.deficit n p).order);
@@ -117,7 +117,7 @@ module _ (h : Plants) (i : IsPlants h) where
     volume = λ j p. costless (reach_of (variable_least h (after (volume_of j))) (variable_greatest h (after (volume_of j))));
     way = λ j k p low high. costless (reach_of (variable_least h (after (way_of j k))) (variable_greatest h (after (way_of j k))));
     turbine = λ j p. costless (reach_of (pos 0) (variable_greatest h (turbine_of j)));
-    spill = λ j p. costless (reach_of (pos 0) (variable_greatest h (spill_of j)));
+    spill = λ j p. let r = reservoir_is h i j p in costly (numbered_reservoir h j).spill (numbered_reservoir h j).spill_cost r.spill.low r.spill.high r.spill_cost.low r.spill_cost.high;
     thermal = λ n p. let t = thermal_is h i n p in costly (thermal h n).high (thermal h n).cost t.high.low t.high.high t.cost.low t.cost.high;
     line = λ l p. costless (reach_of (pos 0) (variable_greatest h (line_of l)));
     deficit = λ n p. let b = bus_is h i n p in costly (pos (2 ^ 20)) (bus h n).deficit_cost (omega (arith, ints)) (omega (arith, ints)) b.deficit_cost.low b.deficit_cost.high;

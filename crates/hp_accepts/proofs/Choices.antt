@@ -148,7 +148,7 @@ module _ (h : Plants) where
       ∙ sym (map_map (λ (r : Reservoir). travel_stages r.downstream) (numbered_reservoir h) (all_reservoirs h))
       ∙ ap (map (λ (r : Reservoir). travel_stages r.downstream)) (sym (fill_by_all (numbered_reservoir h) h.reservoirs (length h.reservoirs) (numbered_reservoir h (length h.reservoirs)) refl (λ k p. inside h.reservoirs k p)))
     where
-      inside : (rs : List Reservoir) (k : ℕ) → k < length rs → get_or rs k (numbered_reservoir h (length h.reservoirs)) ≡ get_or rs k (record { name = []; bus = 0; low = pos 0; high = pos 0; initial = pos 0; turbine = pos 0; spill = pos 0; factor = pos 0; downstream = None })
+      inside : (rs : List Reservoir) (k : ℕ) → k < length rs → get_or rs k (numbered_reservoir h (length h.reservoirs)) ≡ get_or rs k (record { name = []; bus = 0; low = pos 0; high = pos 0; initial = pos 0; turbine = pos 0; spill = pos 0; factor = pos 0; spill_cost = pos 0; downstream = None })
       inside [] k p = absurd (omega arith)
       inside (r ∷ rs) zero p = refl
       inside (r ∷ rs) (suc k) p = inside rs k (omega arith)

@@ -1,9 +1,12 @@
 -- The factors of the sums for water under way, for energy, and for costs.
-use Rattle.std.proofs.Common.{◌≡◌, ℕ, suc, ◌<◌, ◌≤◌, ◌⊎◌, inl, inr, ◌==◌, ℤ, pos, negsuc, ◌+ℤ◌, ◌*ℤ◌, List, [], ◌∷◌, ◌++◌, length, map, Bool, true, false, nat_lt, if◌then◌else◌, refl, sym, ap, ap₂, ◌∙◌, arith}
+use Rattle.std.proofs.Common.{◌≡◌, ℕ, suc, ◌<◌, ◌≤◌, ◌⊎◌, inl, inr, ◌==◌, ℤ, pos, negsuc, ◌+ℤ◌, ◌*ℤ◌, List, [], ◌∷◌, ◌++◌, length, map, Bool, true, false, not, cond, bytes_eq, nat_lt, if◌then◌else◌, refl, sym, ap, ap₂, ◌∙◌, arith}
 use Rattle.std.specs.List.{flat_map}
+use Rattle.std.specs.Ordering.{int_eq}
 use Rattle.std.proofs.lemmas.Bool.{cases_lt, ltb-true, ltb-false}
+use Rattle.std.proofs.lemmas.Bool.Decides.{Decides-int_eq}
 use lib.IntN.{zero-*ℤ, *ℤ-zero, +ℤ_idl, +ℤ_idr}
 use Rattle.hp_num.specs.Sums.{total, same_place}
+use Rattle.hp_num.proofs.Sums.{total_ext}
 use Rattle.hp_num.proofs.Ring.{ring, var, num, ◌⊕◌, ◌⊗◌, ⊖}
 use Rattle.hp_paths.specs.Paths.{numbers}
 use Rattle.hp_plants.specs.declared.plants.Plants.{Plants}
@@ -11,7 +14,7 @@ use Rattle.hp_plants.specs.Described.{IsPlants}
 use Rattle.hp_hydro.specs.Layout.{volume_of, way_of, after, turbine_of, spill_of, thermal_of, line_of, deficit_of, inflow_of, demand_of, numbered_reservoir, thermal, line, bus, travel, all_reservoirs, all_thermals, all_lines, all_buses, cost_of}
 use Rattle.hp_hydro.specs.Rows.{way_decided, way_before, no_chance, bus_decided, no_store, bus_asked}
 use Rattle.hp_hydro.specs.Columns.{Column, before, random, decided, named, before_name, after_name, variable_name, chance_name, column_name}
-use Rattle.hp_hydro.specs.Stage.{Sum, way_sum, turbined_at, burned_at, arriving_at, leaving_at, bus_sum, hydro_cost_sum}
+use Rattle.hp_hydro.specs.Stage.{Sum, way_sum, turbined_at, burned_at, arriving_at, leaving_at, bus_sum, spill_cost_at, hydro_cost_sum}
 use Rattle.hp_hydro.proofs.Described.{short}
 use Rattle.hp_hydro.proofs.Flow.{same_at, same_below}
 use Rattle.hp_hydro.proofs.Lists.{total_none, total_same, total_below}
@@ -216,31 +219,56 @@ module _ (h : Plants) (i : IsPlants h) where
   costs_of (random c) = pos 0
   costs_of (decided v) = cost_of h v
 
-  costs_are : (d : Column) (g u : ℤ) → total (λ n. pick h i (decided (thermal_of n)) d (thermal h n).cost) (all_thermals h) ≡ g → total (λ b. pick h i (decided (deficit_of b)) d (bus h b).deficit_cost) (all_buses h) ≡ u → F h i (hydro_cost_sum h) d ≡ g +ℤ u
+  -- a term that is there only where its factor is not 0
+  where_it_costs : (z : ℤ) (c d : Column) → F h i (if not (int_eq z (pos 0)) then (z, c) ∷ [] else []) d ≡ pick h i c d z
+  where_it_costs z c d = by (int_eq z (pos 0)) refl
+    where
+      either : (b : Bool) → pos 0 ≡ cond b (pos 0) (pos 0)
+      either true = refl
+      either false = refl
+
+      by : (b : Bool) → int_eq z (pos 0) ≡ b → F h i (if not b then (z, c) ∷ [] else []) d ≡ pick h i c d z
+      by true e = either (bytes_eq (column_name h c) (column_name h d)) ∙ ap (pick h i c d) (sym ((Decides-int_eq z (pos 0)).0 e))
+      by false e = +ℤ_idr (pick h i c d z)
+
+  spilled_is : (n : ℕ) (d : Column) → F h i (spill_cost_at h n) d ≡ pick h i (decided (spill_of n)) d (numbered_reservoir h n).spill_cost
+  unfolding spill_cost_at
+  spilled_is n d = where_it_costs (numbered_reservoir h n).spill_cost (decided (spill_of n)) d
+
+  costs_are : (d : Column) (g u z : ℤ) → total (λ n. pick h i (decided (thermal_of n)) d (thermal h n).cost) (all_thermals h) ≡ g → total (λ b. pick h i (decided (deficit_of b)) d (bus h b).deficit_cost) (all_buses h) ≡ u
+      → total (λ j. pick h i (decided (spill_of j)) d (numbered_reservoir h j).spill_cost) (all_reservoirs h) ≡ z → F h i (hydro_cost_sum h) d ≡ g +ℤ u +ℤ z
   unfolding hydro_cost_sum
-  costs_are d g u e1 e2 =
-      F-append h i (map (λ n. ((thermal h n).cost, decided (thermal_of n))) (all_thermals h)) (map (λ b. ((bus h b).deficit_cost, decided (deficit_of b))) (all_buses h)) d
-      ∙ ap₂ ◌+ℤ◌ (F-map h i (λ n. ((thermal h n).cost, decided (thermal_of n))) (all_thermals h) d ∙ e1) (F-map h i (λ b. ((bus h b).deficit_cost, decided (deficit_of b))) (all_buses h) d ∙ e2)
+  costs_are d g u z e1 e2 e3 =
+      let gs : Sum = map (λ n. ((thermal h n).cost, decided (thermal_of n))) (all_thermals h) in
+      let us : Sum = map (λ b. ((bus h b).deficit_cost, decided (deficit_of b))) (all_buses h) in
+      let spilled : ℕ → ℤ = λ j. pick h i (decided (spill_of j)) d (numbered_reservoir h j).spill_cost in
+      F-append h i (gs ++ us) (flat_map (spill_cost_at h) (all_reservoirs h)) d
+      ∙ ap₂ ◌+ℤ◌ (F-append h i gs us d ∙ ap₂ ◌+ℤ◌ (F-map h i (λ n. ((thermal h n).cost, decided (thermal_of n))) (all_thermals h) d ∙ e1) (F-map h i (λ b. ((bus h b).deficit_cost, decided (deficit_of b))) (all_buses h) d ∙ e2))
+      (F-flat h i (spill_cost_at h) (all_reservoirs h) d ∙ total_ext (λ j. F h i (spill_cost_at h j) d) spilled (all_reservoirs h) (λ j. spilled_is j d) ∙ e3)
 
   pub costs : OfColumns h (λ d. F h i (hydro_cost_sum h) d ≡ costs_of d)
   unfolding column_name before_name variable_name after_name chance_name named
   costs =
-      let none : (d : Column) → ((n : ℕ) → pick h i (decided (thermal_of n)) d (thermal h n).cost ≡ pos 0) → ((b : ℕ) → pick h i (decided (deficit_of b)) d (bus h b).deficit_cost ≡ pos 0) → F h i (hydro_cost_sum h) d ≡ pos 0 =
-      λ d e1 e2. costs_are d (pos 0) (pos 0) (total_none _ (all_thermals h) e1) (total_none _ (all_buses h) e2) in
+      let none : (d : Column) → ((n : ℕ) → pick h i (decided (thermal_of n)) d (thermal h n).cost ≡ pos 0) → ((b : ℕ) → pick h i (decided (deficit_of b)) d (bus h b).deficit_cost ≡ pos 0)
+      → ((j : ℕ) → pick h i (decided (spill_of j)) d (numbered_reservoir h j).spill_cost ≡ pos 0) → F h i (hydro_cost_sum h) d ≡ pos 0 =
+      λ d e1 e2 e3. costs_are d (pos 0) (pos 0) (pos 0) (total_none _ (all_thermals h) e1) (total_none _ (all_buses h) e2) (total_none _ (all_reservoirs h) e3) in
       record {
-        stores = record { volume = λ n p. none (before (volume_of n)) (λ j. refl) (λ j. refl); way = λ n k p low high. none (before (way_of n k)) (λ j. refl) (λ j. refl) };
-        chances = record { inflow = λ n p. none (random (inflow_of n)) (λ j. refl) (λ j. refl); demand = λ n p. none (random (demand_of n)) (λ j. refl) (λ j. refl) };
+        stores = record { volume = λ n p. none (before (volume_of n)) (λ j. refl) (λ j. refl) (λ j. refl); way = λ n k p low high. none (before (way_of n k)) (λ j. refl) (λ j. refl) (λ j. refl) };
+        chances = record { inflow = λ n p. none (random (inflow_of n)) (λ j. refl) (λ j. refl) (λ j. refl); demand = λ n p. none (random (demand_of n)) (λ j. refl) (λ j. refl) (λ j. refl) };
         variables = record {
-          volume = λ n p. none (decided (after (volume_of n))) (λ j. refl) (λ j. refl);
-          way = λ n k p low high. none (decided (after (way_of n k))) (λ j. refl) (λ j. refl);
-          turbine = λ n p. none (decided (turbine_of n)) (λ j. refl) (λ j. refl);
-          spill = λ n p. none (decided (spill_of n)) (λ j. refl) (λ j. refl);
-          thermal = λ n p. costs_are (decided (thermal_of n)) (thermal h n).cost (pos 0)
+          volume = λ n p. none (decided (after (volume_of n))) (λ j. refl) (λ j. refl) (λ j. refl);
+          way = λ n k p low high. none (decided (after (way_of n k))) (λ j. refl) (λ j. refl) (λ j. refl);
+          turbine = λ n p. none (decided (turbine_of n)) (λ j. refl) (λ j. refl) (λ j. refl);
+          spill = λ n p. costs_are (decided (spill_of n)) (pos 0) (pos 0) (numbered_reservoir h n).spill_cost (total_none _ (all_thermals h) (λ j. refl)) (total_none _ (all_buses h) (λ b. refl))
+              (total_below (length h.reservoirs) _ (λ m. same_place n m *ℤ (numbered_reservoir h m).spill_cost) (λ m q. of_reservoirs h i m n q p (numbered_reservoir h m).spill_cost ∙ ap (λ (s : ℤ). s *ℤ (numbered_reservoir h m).spill_cost) (same_turned m n))
+              ∙ total_same (length h.reservoirs) n (λ m. (numbered_reservoir h m).spill_cost) p)
+              ∙ +ℤ_idl (numbered_reservoir h n).spill_cost;
+          thermal = λ n p. costs_are (decided (thermal_of n)) (thermal h n).cost (pos 0) (pos 0)
               (total_below (length h.thermals) _ (λ m. same_place n m *ℤ (thermal h m).cost) (λ m q. of_thermals h i m n q p (thermal h m).cost ∙ ap (λ (s : ℤ). s *ℤ (thermal h m).cost) (same_turned m n)) ∙ total_same (length h.thermals) n (λ m. (thermal h m).cost) p)
-              (total_none _ (all_buses h) (λ b. refl)) ∙ +ℤ_idr (thermal h n).cost;
-          line = λ n p. none (decided (line_of n)) (λ j. refl) (λ j. refl);
-          deficit = λ n p. costs_are (decided (deficit_of n)) (pos 0) (bus h n).deficit_cost (total_none _ (all_thermals h) (λ j. refl))
+              (total_none _ (all_buses h) (λ b. refl)) (total_none _ (all_reservoirs h) (λ j. refl)) ∙ +ℤ_idr ((thermal h n).cost +ℤ pos 0) ∙ +ℤ_idr (thermal h n).cost;
+          line = λ n p. none (decided (line_of n)) (λ j. refl) (λ j. refl) (λ j. refl);
+          deficit = λ n p. costs_are (decided (deficit_of n)) (pos 0) (bus h n).deficit_cost (pos 0) (total_none _ (all_thermals h) (λ j. refl))
               (total_below (length h.buses) _ (λ m. same_place n m *ℤ (bus h m).deficit_cost) (λ m q. of_buses h i m n q p (bus h m).deficit_cost ∙ ap (λ (s : ℤ). s *ℤ (bus h m).deficit_cost) (same_turned m n)) ∙ total_same (length h.buses) n (λ m. (bus h m).deficit_cost) p)
-              ∙ +ℤ_idl (bus h n).deficit_cost;
+              (total_none _ (all_reservoirs h) (λ j. refl)) ∙ +ℤ_idr (pos 0 +ℤ (bus h n).deficit_cost) ∙ +ℤ_idl (bus h n).deficit_cost;
         };
       }

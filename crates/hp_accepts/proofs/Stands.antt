@@ -13,7 +13,7 @@ use Rattle.hp_plants.specs.Fields.{Within}
 use Rattle.hp_plants.specs.Described.{IsAmount, IsBus, IsReservoir, IsThermal, IsLine, IsPlants}
 use Rattle.hp_hydro.specs.Layout.{volume_of, way_of, after, turbine_of, spill_of, thermal_of, deficit_of, demand_of, numbered_reservoir, thermal, line, bus, travel, travel_of, all_reservoirs, all_thermals, all_lines, all_buses, store_low, store_high, variable_least, variable_greatest}
 use Rattle.hp_hydro.specs.Columns.{Column, before, random, decided, columns, column_name}
-use Rattle.hp_hydro.specs.Stage.{Sum, coming_by, coming, water_sum, way_sum, turbined_at, burned_at, arriving_at, leaving_at, bus_sum, hydro_cost_sum}
+use Rattle.hp_hydro.specs.Stage.{Sum, coming_by, coming, water_sum, way_sum, turbined_at, burned_at, arriving_at, leaving_at, bus_sum, spill_cost_at, hydro_cost_sum}
 use Rattle.hp_accepts.proofs.Named.{Stands, stands}
 use Rattle.hp_accepts.proofs.Functions.{IsSmall, IsTerm, factor}
 use Rattle.hp_accepts.proofs.Constraints.{IsBox}
@@ -267,23 +267,30 @@ module _ (h : Plants) (i : IsPlants h) where
       }
 
   pub cost_few : IsFew (hydro_cost_sum h)
-  unfolding hydro_cost_sum
+  unfolding hydro_cost_sum spill_cost_at
   cost_few =
       let f : ℕ → ℤ × Column = λ n. ((thermal h n).cost, decided (thermal_of n)) in
       let g : ℕ → ℤ × Column = λ b. ((bus h b).deficit_cost, decided (deficit_of b)) in
       let gs : Sum = map f (all_thermals h) in
       let us : Sum = map g (all_buses h) in
+      let ss : Sum = flat_map (spill_cost_at h) (all_reservoirs h) in
+      let a = flat_short (spill_cost_at h) 1 (all_reservoirs h) (λ n. one_or_none _ _) in
       let n1 = length-map (all_thermals h) f in
       let n2 = length-map (all_buses h) g in
       let n3 = length-range_with_len 0 (length h.thermals) in
       let n4 = length-range_with_len 0 (length h.buses) in
-      let l = length-append gs us in
+      let n5 = length-range_with_len 0 (length h.reservoirs) in
+      let l1 = length-append gs us in
+      let l2 = length-append (gs ++ us) ss in
       let m1 = i.few_thermals in
       let m2 = i.few_buses in
+      let m3 = i.few_reservoirs in
       record {
         terms =
-            all_append Good gs us
+            all_append Good (gs ++ us) ss
+            (all_append Good gs us
             (all_map Good f (all_thermals h) (all_numbers (λ n. Good (f n)) (length h.thermals) (λ n q. (amount_fine (thermal h n).cost (thermal_is n q).cost, standing.variables.thermal n q))))
-            (all_map Good g (all_buses h) (all_numbers (λ b. Good (g b)) (length h.buses) (λ b q. (amount_fine (bus h b).deficit_cost (bus_is b q).deficit_cost, standing.variables.deficit b q))));
-        few = omega (arith, n1, n2, n3, n4, l, m1, m2);
+            (all_map Good g (all_buses h) (all_numbers (λ b. Good (g b)) (length h.buses) (λ b q. (amount_fine (bus h b).deficit_cost (bus_is b q).deficit_cost, standing.variables.deficit b q)))))
+            (all_flat_map Good (spill_cost_at h) (all_reservoirs h) (all_numbers (λ n. AllByRecursion Good (spill_cost_at h n)) (length h.reservoirs) (λ n q. if_good _ _ (amount_fine _ (reservoir_is n q).spill_cost, standing.variables.spill n q))));
+        few = omega (arith, a, n1, n2, n3, n4, n5, l1, l2, m1, m2, m3);
       }

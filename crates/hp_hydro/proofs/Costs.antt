@@ -2,6 +2,7 @@
 use Rattle.std.proofs.Common.{◌≡◌, ℕ, suc, ◌+◌, ◌*◌, ◌<◌, ℤ, pos, ◌+ℤ◌, ◌*ℤ◌, List, [], ◌∷◌, length, map, drop, sum, refl, ap, ap₂, ◌∙◌, arith}
 use lib.IntN.{zero-*ℤ}
 use Rattle.hp_num.specs.Sums.{total, dot}
+use Rattle.hp_num.proofs.Sums.{total_ext}
 use Rattle.hp_num.proofs.Ring.{ring, var, num, ◌⊕◌, ◌⊗◌}
 use Rattle.hp_theory.specs.Cost.{stage, cost_sum, costs_of, policy_cost}
 use Rattle.hp_theory.specs.Fraction.{Fraction, plus, times, over, weighted}
@@ -10,7 +11,7 @@ use Rattle.hp_theory.specs.Tree.{next_state, times_all}
 use Rattle.hp_plants.specs.declared.plants.Inflow.{Inflow}
 use Rattle.hp_plants.specs.declared.plants.Stage.{Stage}
 use Rattle.hp_plants.specs.declared.plants.Plants.{Plants}
-use Rattle.hp_hydro.specs.Layout.{HydroStore, volume_of, way_of, Variable, thermal, bus, travel, all_reservoirs, all_thermals, all_lines, all_buses, steps, stores, hydro_variables, chances, cost_of}
+use Rattle.hp_hydro.specs.Layout.{HydroStore, volume_of, way_of, Variable, numbered_reservoir, thermal, bus, travel, all_reservoirs, all_thermals, all_lines, all_buses, steps, stores, hydro_variables, chances, cost_of}
 use Rattle.hp_hydro.specs.Rows.{no_store, no_chance}
 use Rattle.hp_hydro.specs.Made.{realization, following, stage_node, node_from, problem_of_plants}
 use Rattle.hp_hydro.specs.Plan.{Choice, Plan, no_plan, choose, LaterPlan, the_end, later, Moment, Past}
@@ -29,26 +30,35 @@ dot_none c [] ys h = refl
 dot_none c (d ∷ ds) [] h = refl
 dot_none c (d ∷ ds) (y ∷ ys) h = ap₂ ◌+ℤ◌ (ap (λ (z : ℤ). z *ℤ y) (h d) ∙ zero-*ℤ y) (dot_none c ds ys h)
 
--- thermals and deficits alone cost
+-- thermals, deficits and spills alone cost
 costs_sum : (h : Plants) (c : Choice) (next : HydroStore → ℤ) → total (λ d. cost_of h d *ℤ value_with c next d) (hydro_variables h)
     ≡ total (λ i. (thermal h i).cost *ℤ c.thermal i) (all_thermals h) +ℤ total (λ b. (bus h b).deficit_cost *ℤ c.deficit b) (all_buses h)
+    +ℤ total (λ j. (numbered_reservoir h j).spill_cost *ℤ c.spill j) (all_reservoirs h)
 costs_sum h c next =
     let f : Variable → ℤ = λ d. cost_of h d *ℤ value_with c next d in
     let ts : ℤ = total (λ i. (thermal h i).cost *ℤ c.thermal i) (all_thermals h) in
     let ds : ℤ = total (λ b. (bus h b).deficit_cost *ℤ c.deficit b) (all_buses h) in
+    let ss : ℤ = total spilled (all_reservoirs h) in
     total-hydro_variables h f
-    ∙ ap₂ (λ (x y : ℤ). x +ℤ ts +ℤ y +ℤ ds) (total_none (of_reservoir h f) (all_reservoirs h) block) (total_none (λ l. pos 0 *ℤ c.line l) (all_lines h) (λ l. none (c.line l)))
-    ∙ ring (ts ∷ ds ∷ []) (num (pos 0) ⊕ var 0 ⊕ num (pos 0) ⊕ var 1) (var 0 ⊕ var 1) tt
+    ∙ ap₂ (λ (x y : ℤ). x +ℤ ts +ℤ y +ℤ ds) (total_ext (of_reservoir h f) spilled (all_reservoirs h) block) (total_none (λ l. pos 0 *ℤ c.line l) (all_lines h) (λ l. none (c.line l)))
+    ∙ ring (ss ∷ ts ∷ ds ∷ []) (var 0 ⊕ var 1 ⊕ num (pos 0) ⊕ var 2) (var 1 ⊕ var 2 ⊕ var 0) tt
   where
-    block : (i : ℕ) → of_reservoir h (λ d. cost_of h d *ℤ value_with c next d) i ≡ pos 0
+    spilled : ℕ → ℤ
+    spilled j = (numbered_reservoir h j).spill_cost *ℤ c.spill j
+
+    block : (i : ℕ) → of_reservoir h (λ d. cost_of h d *ℤ value_with c next d) i ≡ spilled i
     block i =
-        ap₂ ◌+ℤ◌ (none (next (volume_of i))) (ap₂ ◌+ℤ◌ (none (c.turbine i)) (ap₂ ◌+ℤ◌ (none (c.spill i)) (total_none (λ k. pos 0 *ℤ next (way_of i k)) (steps (travel h i)) (λ k. none (next (way_of i k))))))
+        ap₂ ◌+ℤ◌ (none (next (volume_of i)))
+        (ap₂ ◌+ℤ◌ (none (c.turbine i)) (ap (λ (z : ℤ). spilled i +ℤ z) (total_none (λ k. pos 0 *ℤ next (way_of i k)) (steps (travel h i)) (λ k. none (next (way_of i k))))))
+        ∙ ring (spilled i ∷ []) (num (pos 0) ⊕ (num (pos 0) ⊕ (var 0 ⊕ num (pos 0)))) (var 0) tt
 
 stage_is : (h : Plants) (units : ℕ) (s : Stage) (successors : List Successor) (values xi : List ℤ) (past : Past) (here : Moment) → stage units (stage_node h s successors) values xi (full h units past here) ≡ choice_cost h units here.choice
 unfolding stage_node
 stage_is h units s successors values xi past here =
     let next : HydroStore → ℤ = ahead_of h units (here ∷ past) in
-    let own : ℤ = total (λ i. (thermal h i).cost *ℤ here.choice.thermal i) (all_thermals h) +ℤ total (λ b. (bus h b).deficit_cost *ℤ here.choice.deficit b) (all_buses h) in
+    let own : ℤ =
+    total (λ i. (thermal h i).cost *ℤ here.choice.thermal i) (all_thermals h) +ℤ total (λ b. (bus h b).deficit_cost *ℤ here.choice.deficit b) (all_buses h)
+    +ℤ total (λ j. (numbered_reservoir h j).spill_cost *ℤ here.choice.spill j) (all_reservoirs h) in
     ap (λ (z : ℤ). record { up = z; under = units })
     (ap₂ ◌+ℤ◌ (ap₂ ◌+ℤ◌ (ap (λ (z : ℤ). pos units *ℤ pos 0 +ℤ pos units *ℤ z) (dot_none no_chance (chances h) values (λ d. refl))) (dot-map (cost_of h) (value_with here.choice next) (hydro_variables h) ∙ costs_sum h here.choice next)) (dot_none no_store (stores h) xi (λ d. refl))
     ∙ ring (pos units ∷ own ∷ []) (var 0 ⊗ num (pos 0) ⊕ var 0 ⊗ num (pos 0) ⊕ var 1 ⊕ num (pos 0)) (var 1) tt)

@@ -32,6 +32,12 @@ one_each f [] = refl
 one_each f (x ∷ xs) = ap (λ l. f x ∷ l) (one_each f xs)
 
 -- like map_parts, where each gives a list of one
-pub single_parts : {A B C D : Type 0} (seen : C → D) (f : A → C) (g : B → C) (xs : List A) (ys : List B) → map seen (map f xs ++ map g ys) ≡ map seen (flat_map (λ x. f x ∷ []) xs) ++ map seen (flat_map (λ y. g y ∷ []) ys)
+single_parts : {A B C D : Type 0} (seen : C → D) (f : A → C) (g : B → C) (xs : List A) (ys : List B) → map seen (map f xs ++ map g ys) ≡ map seen (flat_map (λ x. f x ∷ []) xs) ++ map seen (flat_map (λ y. g y ∷ []) ys)
 single_parts {A} {B} {C} seen f g xs ys =
     map-append seen (map f xs) (map g ys) ∙ ap₂ (λ (a b : List C). map seen a ++ map seen b) (sym (one_each f xs)) (sym (one_each g ys))
+
+-- and behind them a list for each item of a third
+pub three_parts : {A B C D E : Type 0} (seen : D → E) (f : A → D) (g : B → D) (k : C → List D) (xs : List A) (ys : List B) (zs : List C)
+    → map seen (map f xs ++ map g ys ++ flat_map k zs) ≡ map seen (flat_map (λ x. f x ∷ []) xs) ++ map seen (flat_map (λ y. g y ∷ []) ys) ++ map seen (flat_map k zs)
+three_parts {A} {B} {C} {D} {E} seen f g k xs ys zs =
+    map-append seen (map f xs ++ map g ys) (flat_map k zs) ∙ ap (λ (l : List E). l ++ map seen (flat_map k zs)) (single_parts seen f g xs ys)

@@ -22,12 +22,12 @@ nine = record { turbine = λ j. pos 0; spill = λ j. pos 0; thermal = λ i. pos 
 abbrev pub nine_plan : Plan
 nine_plan = choose nine the_end no_plan
 
--- two reservoirs, of which the first leads to the second; the bus is served by both turbines
+-- two reservoirs, of which the first leads to the second, and has a cost of spill; the bus is served by both turbines
 abbrev pub cascade : ℕ → Plants
 cascade n = record {
   buses = record { name = 120 ∷ []; deficit_cost = pos 200 } ∷ [];
-  reservoirs = record { name = 97 ∷ []; bus = 0; low = pos 1; high = pos 10; initial = pos 5; turbine = pos 4; spill = pos 3; factor = pos 2; downstream = Some (record { target = 1; stages = n }) }
-      ∷ record { name = 98 ∷ []; bus = 0; low = pos 0; high = pos 20; initial = pos 6; turbine = pos 8; spill = pos 9; factor = pos 3; downstream = None } ∷ [];
+  reservoirs = record { name = 97 ∷ []; bus = 0; low = pos 1; high = pos 10; initial = pos 5; turbine = pos 4; spill = pos 3; factor = pos 2; spill_cost = pos 3; downstream = Some (record { target = 1; stages = n }) }
+      ∷ record { name = 98 ∷ []; bus = 0; low = pos 0; high = pos 20; initial = pos 6; turbine = pos 8; spill = pos 9; factor = pos 3; spill_cost = pos 0; downstream = None } ∷ [];
   thermals = [];
   lines = [];
   stages = record { demand = pos 9 ∷ []; inflows = record { weight = 1; water = pos 7 ∷ pos 2 ∷ [] } ∷ record { weight = 3; water = negsuc 0 ∷ pos 0 ∷ [] } ∷ [] }
@@ -67,7 +67,7 @@ abbrev pub two_stages_node : Node
 two_stages_node = record {
   decision_low = pos 1 ∷ pos 0 ∷ pos 0 ∷ pos 0 ∷ pos 0 ∷ pos 0 ∷ pos 0 ∷ pos 0 ∷ pos 0 ∷ [];
   decision_high = pos 10 ∷ pos 4 ∷ pos 3 ∷ pos 7 ∷ pos 7 ∷ pos 20 ∷ pos 8 ∷ pos 9 ∷ pos 1048576 ∷ [];
-  costs = pos 0 ∷ pos 0 ∷ pos 0 ∷ pos 0 ∷ pos 0 ∷ pos 0 ∷ pos 0 ∷ pos 0 ∷ pos 200 ∷ [];
+  costs = pos 0 ∷ pos 0 ∷ pos 3 ∷ pos 0 ∷ pos 0 ∷ pos 0 ∷ pos 0 ∷ pos 0 ∷ pos 200 ∷ [];
   outs = 3 ∷ 4 ∷ 0 ∷ 5 ∷ [];
   rows = zero_row_example ((0, pos 1) ∷ (1, pos 1) ∷ (2, pos 1) ∷ []) ((2, negsuc 0) ∷ []) ((0, negsuc 0) ∷ [])
       ∷ zero_row_example ((5, pos 1) ∷ (6, pos 1) ∷ (7, pos 1) ∷ []) ((0, negsuc 0) ∷ (3, negsuc 0) ∷ []) ((1, negsuc 0) ∷ [])
@@ -114,6 +114,11 @@ cascade_rows_text =
     ++ codes ",{\"function\":{\"constant\":0,\"terms\":[{\"coefficient\":1,\"variable\":\"b1:a\"},{\"coefficient\":-1,\"variable\":\"a2:a\"}],\"type\":\"ScalarAffineFunction\"},\"set\":{\"type\":\"EqualTo\",\"value\":0}}"
     ++ codes ",{\"function\":{\"constant\":0,\"terms\":[{\"coefficient\":1,\"variable\":\"b2:a\"},{\"coefficient\":-1,\"variable\":\"q:a\"},{\"coefficient\":-1,\"variable\":\"z:a\"}],\"type\":\"ScalarAffineFunction\"},\"set\":{\"type\":\"EqualTo\",\"value\":0}}"
     ++ codes ",{\"function\":{\"constant\":0,\"terms\":[{\"coefficient\":2,\"variable\":\"q:a\"},{\"coefficient\":3,\"variable\":\"q:b\"},{\"coefficient\":1,\"variable\":\"u:x\"},{\"coefficient\":-1,\"variable\":\"d:x\"}],\"type\":\"ScalarAffineFunction\"},\"set\":{\"type\":\"EqualTo\",\"value\":0}}]"
+
+-- its costs, as written
+unfoldable pub cascade_objective_text : List ℕ
+cascade_objective_text =
+    codes "{\"function\":{\"constant\":0,\"terms\":[{\"coefficient\":200,\"variable\":\"u:x\"},{\"coefficient\":3,\"variable\":\"z:a\"}],\"type\":\"ScalarAffineFunction\"},\"sense\":\"min\"}"
 
 -- its nodes, as written
 unfoldable pub cascade_nodes_text : List ℕ

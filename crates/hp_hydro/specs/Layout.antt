@@ -13,7 +13,7 @@ use Rattle.hp_plants.specs.declared.plants.Plants.{Plants}
 -- ---- the plants by their numbers
 
 abbrev pub numbered_reservoir : Plants → ℕ → Reservoir
-numbered_reservoir h j = get_or h.reservoirs j (record { name = []; bus = 0; low = pos 0; high = pos 0; initial = pos 0; turbine = pos 0; spill = pos 0; factor = pos 0; downstream = None })
+numbered_reservoir h j = get_or h.reservoirs j (record { name = []; bus = 0; low = pos 0; high = pos 0; initial = pos 0; turbine = pos 0; spill = pos 0; factor = pos 0; spill_cost = pos 0; downstream = None })
 
 abbrev pub thermal : Plants → ℕ → Thermal
 thermal h i = get_or h.thermals i (record { name = []; bus = 0; high = pos 0; cost = pos 0 })
@@ -130,7 +130,7 @@ variable_greatest h (deficit_of b) = pos greatest_deficit
 abbrev pub cost_of : Plants → Variable → ℤ
 cost_of h (after s) = pos 0
 cost_of h (turbine_of j) = pos 0
-cost_of h (spill_of j) = pos 0
+cost_of h (spill_of j) = (numbered_reservoir h j).spill_cost
 cost_of h (thermal_of i) = (thermal h i).cost
 cost_of h (line_of l) = pos 0
 cost_of h (deficit_of b) = (bus h b).deficit_cost

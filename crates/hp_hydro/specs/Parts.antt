@@ -5,7 +5,7 @@ use Rattle.hp_paths.specs.Paths.{numbers}
 use Rattle.hp_plants.specs.declared.plants.Plants.{Plants}
 use Rattle.hp_hydro.specs.declared.rows.Part.{Part}
 use Rattle.hp_hydro.specs.declared.rows.Part.TheVariants as part
-use Rattle.hp_hydro.specs.Stage.{Sum, coming, turbined_at, burned_at, arriving_at, leaving_at, thermal_cost, deficit_cost}
+use Rattle.hp_hydro.specs.Stage.{Sum, coming, turbined_at, burned_at, arriving_at, leaving_at, thermal_cost, deficit_cost, spill_cost_at}
 
 -- the number of plants of the kind
 abbrev pub count_of : Plants → Part → ℕ
@@ -16,6 +16,7 @@ count_of h (part.Arriving b) = length h.lines
 count_of h (part.Leaving b) = length h.lines
 count_of h part.ThermalCost = length h.thermals
 count_of h part.DeficitCost = length h.buses
+count_of h part.SpillCost = length h.reservoirs
 
 -- the terms of plant i
 abbrev pub sum_at : Plants → Part → ℕ → Sum
@@ -26,6 +27,7 @@ sum_at h (part.Arriving b) i = arriving_at h b i
 sum_at h (part.Leaving b) i = leaving_at h b i
 sum_at h part.ThermalCost i = thermal_cost h i ∷ []
 sum_at h part.DeficitCost i = deficit_cost h i ∷ []
+sum_at h part.SpillCost i = spill_cost_at h i
 
 -- the terms of all of them
 abbrev pub part_sum : Plants → Part → Sum

@@ -1,16 +1,21 @@
--- The expected cost of a plan: thermal and deficit costs and the cost of later stages, averaged by the weights.
+-- The expected cost of a plan: thermal, deficit and spill costs and the cost of later stages, averaged by the weights.
 use Rattle.std.specs.Prelude.{ℕ, ◌+◌, ◌+ℤ◌, ◌*ℤ◌, List, [], ◌∷◌}
 use Rattle.hp_num.specs.Sums.{total}
 use Rattle.hp_theory.specs.Fraction.{Fraction, nothing, plus, times, over}
 use Rattle.hp_plants.specs.declared.plants.Inflow.{Inflow}
 use Rattle.hp_plants.specs.declared.plants.Stage.{Stage}
 use Rattle.hp_plants.specs.declared.plants.Plants.{Plants}
-use Rattle.hp_hydro.specs.Layout.{thermal, bus, all_thermals, all_buses}
+use Rattle.hp_hydro.specs.Layout.{numbered_reservoir, thermal, bus, all_reservoirs, all_thermals, all_buses}
 use Rattle.hp_hydro.specs.Plan.{Choice, Plan, no_plan, choose, LaterPlan, the_end, later}
 
--- of thermals and deficits, divided by N
+-- of thermals, deficits and spills, divided by N
 abbrev pub choice_cost : Plants → ℕ → Choice → Fraction
-choice_cost h units c = record { up = total (λ i. (thermal h i).cost *ℤ c.thermal i) (all_thermals h) +ℤ total (λ b. (bus h b).deficit_cost *ℤ c.deficit b) (all_buses h); under = units }
+choice_cost h units c = record {
+  up =
+      total (λ i. (thermal h i).cost *ℤ c.thermal i) (all_thermals h) +ℤ total (λ b. (bus h b).deficit_cost *ℤ c.deficit b) (all_buses h)
+      +ℤ total (λ j. (numbered_reservoir h j).spill_cost *ℤ c.spill j) (all_reservoirs h);
+  under = units;
+}
 
 abbrev pub inflow_weight : List Inflow → ℕ
 inflow_weight [] = 0

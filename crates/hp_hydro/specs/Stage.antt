@@ -1,6 +1,7 @@
 -- The text of the subproblem of each stage.
-use Rattle.std.specs.Prelude.{ℕ, suc, ◌==◌, ℤ, pos, negsuc, List, [], ◌∷◌, ◌++◌, map, Option, Some, None, nat_lt, if◌then◌else◌}
+use Rattle.std.specs.Prelude.{ℕ, suc, ◌==◌, ℤ, pos, negsuc, List, [], ◌∷◌, ◌++◌, map, Option, Some, None, not, nat_lt, if◌then◌else◌}
 use Rattle.std.specs.List.{flat_map}
+use Rattle.std.specs.Ordering.{int_eq}
 use Rattle.serde_json.specs.Data.{Data, string, Members}
 use Rattle.hp_forms.specs.Listed.{members_by}
 use Rattle.hp_forms.specs.Stage.{variable, term, row, variable_bound, least_sum, state_between, program_form, subproblem_form}
@@ -67,8 +68,12 @@ thermal_cost h i = ((thermal h i).cost, decided (thermal_of i))
 abbrev pub deficit_cost : Plants → ℕ → ℤ × Column
 deficit_cost h b = ((bus h b).deficit_cost, decided (deficit_of b))
 
+-- none where it costs nothing
+unfoldable pub spill_cost_at : Plants → ℕ → Sum
+spill_cost_at h j = if not (int_eq (numbered_reservoir h j).spill_cost (pos 0)) then ((numbered_reservoir h j).spill_cost, decided (spill_of j)) ∷ [] else []
+
 unfoldable pub hydro_cost_sum : Plants → Sum
-hydro_cost_sum h = map (thermal_cost h) (all_thermals h) ++ map (deficit_cost h) (all_buses h)
+hydro_cost_sum h = map (thermal_cost h) (all_thermals h) ++ map (deficit_cost h) (all_buses h) ++ flat_map (spill_cost_at h) (all_reservoirs h)
 
 -- ---- their text
 

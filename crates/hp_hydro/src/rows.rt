@@ -65,6 +65,8 @@ enum Part {
     ThermalCost,
     // The cost of each bus's deficit.
     DeficitCost,
+    // The cost of each reservoir's spill.
+    SpillCost,
 }
 
 // Counts the plants of the kind.
@@ -72,7 +74,7 @@ fn count(plants: &Plants, part: Part) -> usize
     ensures { result ≡ count_of plants.now part }
 {
     match part {
-        Part::Coming(_) | Part::Turbined(_) => plants.reservoirs.len(),
+        Part::Coming(_) | Part::Turbined(_) | Part::SpillCost => plants.reservoirs.len(),
         Part::Burned(_) | Part::ThermalCost => plants.thermals.len(),
         Part::Arriving(_) | Part::Leaving(_) => plants.lines.len(),
         Part::DeficitCost => plants.buses.len(),
@@ -106,7 +108,7 @@ fn push_coming(
 }
 
 // Appends the terms of one plant.
-#[tactic(auto, unfolding(crate::specs::Stage::turbined_at, crate::specs::Stage::burned_at, crate::specs::Stage::arriving_at, crate::specs::Stage::leaving_at))]
+#[tactic(auto, unfolding(crate::specs::Stage::turbined_at, crate::specs::Stage::burned_at, crate::specs::Stage::arriving_at, crate::specs::Stage::leaving_at, crate::specs::Stage::spill_cost_at))]
 fn push_part(
     alloc: Global,
     plants: &Plants,
@@ -143,6 +145,10 @@ fn push_part(
         Part::DeficitCost => {
             let cost = bus(plants, at).deficit_cost;
             push(alloc, plants, list, cost, Column::Deficit(at))
+        }
+        Part::SpillCost => {
+            let cost = reservoir(plants, at).spill_cost;
+            push_where(alloc, plants, list, cost != 0, cost, Column::Spill(at))
         }
     }
 }
@@ -284,7 +290,7 @@ pub(crate) fn bus_row(alloc: Global, plants: &Plants, b: usize) -> Result<Value,
 
 // ---- costs
 
-/// Gives the costs of thermals and of deficits.
+/// Gives the costs of thermals, of deficits and of spills.
 #[tactic(auto, unfolding(crate::specs::Stage::hydro_cost_sum))]
 pub(crate) fn cost_terms(alloc: Global, plants: &Plants) -> Result<Vec<Value>, AllocError>
     ensures { IfOk result (λ list. map view list.items
@@ -293,5 +299,6 @@ pub(crate) fn cost_terms(alloc: Global, plants: &Plants) -> Result<Vec<Value>, A
     let mut list = Vec::new(alloc);
     push_all(alloc, plants, &mut list, Part::ThermalCost)?;
     push_all(alloc, plants, &mut list, Part::DeficitCost)?;
+    push_all(alloc, plants, &mut list, Part::SpillCost)?;
     Ok(list)
 }

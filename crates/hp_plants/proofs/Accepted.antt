@@ -18,7 +18,7 @@ use Rattle.hp_plants.specs.declared.refusal.HydroRefusal.{HydroRefusal}
 use Rattle.hp_plants.specs.declared.refusal.HydroKind.{HydroKind}
 use Rattle.hp_plants.specs.declared.refusal.HydroKind.TheVariants as kinds
 use Rattle.hp_plants.specs.declared.place.HydroPlace.{HydroPlace}
-use Rattle.hp_plants.specs.Fields.{Within, fault_at, hydro_refuse, greatest_number, hydro_present_at, hydro_string_at, within_at, hydro_value_at, hydro_number_at, amount_at, natural_at, hydro_entry_at, hydro_entries_at}
+use Rattle.hp_plants.specs.Fields.{Within, fault_at, hydro_refuse, greatest_number, hydro_present_at, hydro_string_at, within_at, hydro_value_at, hydro_number_at, amount_at, amount_or_zero_at, natural_at, hydro_entry_at, hydro_entries_at}
 use Rattle.hp_plants.specs.Names.{is_hydro_name, hydro_key_at, hydro_known_at, named_at}
 use Rattle.hp_plants.specs.Described.{AreEntries, IsAmount}
 
@@ -50,6 +50,11 @@ hydro_number_at-Ok p least most o z e = then-Ok (hydro_present_at _ _) _ z e (λ
 pub amount_at-Ok : (p : HydroPlace) (o : Option Data) (z : ℤ) → amount_at p o ≡ Ok z → IsAmount z
 unfolding amount_at
 amount_at-Ok p o z e = hydro_number_at-Ok p (pos 0) greatest_number o z e
+
+pub amount_or_zero_at-Ok : (p : HydroPlace) (o : Option Data) (z : ℤ) → amount_or_zero_at p o ≡ Ok z → IsAmount z
+unfolding amount_or_zero_at
+amount_or_zero_at-Ok p None z e = subst IsAmount (Ok-is (pos 0) z e) (record { low = omega (arith, ints); high = omega (arith, ints) })
+amount_or_zero_at-Ok p (Some d) z e = hydro_value_at-Ok p (pos 0) greatest_number d z e
 
 -- a number from least to most that is not negative
 natural : (least most : ℕ) (z : ℤ) → Within (pos least) (pos most) z → (least ≤ unsigned_abs z) × (unsigned_abs z ≤ most)

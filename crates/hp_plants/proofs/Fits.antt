@@ -22,14 +22,14 @@ use Rattle.hp_plants.specs.declared.plants.Line.{Line}
 use Rattle.hp_plants.specs.declared.plants.Inflow.{Inflow}
 use Rattle.hp_plants.specs.declared.plants.Stage.{Stage}
 use Rattle.hp_plants.specs.declared.plants.Plants.{Plants}
-use Rattle.hp_plants.specs.Fields.{Within, hydro_whole, hydro_json_at, hydro_object_at, hydro_table_at, hydro_members_at, hydro_items_at, amount_at, natural_at, hydro_entries_at}
+use Rattle.hp_plants.specs.Fields.{Within, hydro_whole, hydro_json_at, hydro_object_at, hydro_table_at, hydro_members_at, hydro_items_at, amount_at, amount_or_zero_at, natural_at, hydro_entries_at}
 use Rattle.hp_plants.specs.Names.{hydro_key_at, named_at}
 use Rattle.hp_plants.specs.Tables.{HydroTables, hydro_counts_at, parts_at, hydro_tables_at}
 use Rattle.hp_plants.specs.Grid.{bus_at, buses_at, travel_at, levels_at, read_reservoir_at, reservoirs_at, state_count, state_count_at, thermal_at, thermals_at, line_at, lines_at}
 use Rattle.hp_plants.specs.Stages.{least_inflow, inflow_at, inflows_at, inflow_count_at, total_inflow_weight, total_at, hydro_stage_at, stages_at}
 use Rattle.hp_plants.specs.Plants.{described_at, plants_of, plants_at}
 use Rattle.hp_plants.specs.Described.{IsBus, IsTravel, IsReservoir, IsThermal, IsLine, IsInflow, IsStage, IsPlants}
-use Rattle.hp_plants.proofs.Accepted.{then-Ok, Ok-is, test-Ok, Added, added, amount_at-Ok, natural_at-Ok, hydro_key_at-Ok, named_at-Ok, hydro_entries_at-Ok, from_none, walk_members-each, walk_items-each}
+use Rattle.hp_plants.proofs.Accepted.{then-Ok, Ok-is, test-Ok, Added, added, amount_at-Ok, amount_or_zero_at-Ok, natural_at-Ok, hydro_key_at-Ok, named_at-Ok, hydro_entries_at-Ok, from_none, walk_members-each, walk_items-each}
 use Rattle.hp_plants.proofs.Rising.{hydro_json_at-Rising, hydro_table_at-Rising, hydro_members_at-Rising}
 
 -- the entries that were read for these members: each has the property, and their names rise
@@ -95,6 +95,7 @@ read_reservoir_at-adds buses reservoirs found next i k d e =
     then-Ok (amount_at _ _) _ next e (λ turbine is_turbine e.
     then-Ok (amount_at _ _) _ next e (λ spill is_spill e.
     then-Ok (amount_at _ _) _ next e (λ factor is_factor e.
+    then-Ok (amount_or_zero_at _ _) _ next e (λ spill_cost is_spill_cost e.
     then-Ok (travel_at _ _ _ _) _ next e (λ downstream is_downstream e.
     then-Ok (levels_at _ _ _ _) _ next e (λ levels is_levels e.
     let n = hydro_key_at-Ok _ k name is_name_of in
@@ -107,8 +108,9 @@ read_reservoir_at-adds buses reservoirs found next i k d e =
       turbine = amount_at-Ok _ _ turbine is_turbine;
       spill = amount_at-Ok _ _ spill is_spill;
       factor = amount_at-Ok _ _ factor is_factor;
+      spill_cost = amount_or_zero_at-Ok _ _ spill_cost is_spill_cost;
       downstream = travel_at-Ok _ reservoirs d _ downstream is_downstream;
-    }) (sym n.0))))))))))))
+    }) (sym n.0)))))))))))))
 
 reservoirs_at-Ok : (buses : List (List ℕ)) (ms : Members) (names : List (List ℕ)) (reservoirs : List Reservoir) → RisingMembers ms → reservoirs_at buses ms names ≡ Ok reservoirs
     → Read (IsReservoir (length buses) (length names)) (λ (r : Reservoir). r.name) ms reservoirs

@@ -38,6 +38,7 @@ pub record IsReservoir (buses reservoirs : ℕ) (r : Reservoir) : Type 0 where
   pub turbine : IsAmount r.turbine
   pub spill : IsAmount r.spill
   pub factor : IsAmount r.factor
+  pub spill_cost : IsAmount r.spill_cost
   pub downstream : IfSome r.downstream (IsTravel reservoirs)
 
 pub record IsThermal (buses : ℕ) (t : Thermal) : Type 0 where

@@ -49,7 +49,8 @@ one_stage_plants = record {
 abbrev inflow_example : ℕ → Data → Data → Data
 inflow_example weight a b = object_of ((codes "inflow", object_of ((codes "a", a) ∷ (codes "b", b) ∷ [])) ∷ (codes "weight", natural_example weight) ∷ [])
 
--- reservoir `a` at a bus of this name and of this low volume, which leads to reservoir `b` in 2 stages, and two inflows, the first of this weight
+-- reservoir `a` at a bus of this name and of this low volume, which leads to reservoir `b`, where spill costs, in 2 stages, and two inflows, the first
+-- of this weight
 abbrev pub travel_example : List ℕ → ℕ → ℕ → Data
 travel_example bus low weight = object_of (
     (codes "buses", buses_example)
@@ -65,7 +66,7 @@ travel_example bus low weight = object_of (
             codes "b",
             object_of (
                 (codes "bus", text (codes "b")) ∷ (codes "factor", natural_example 1) ∷ (codes "high", natural_example 10) ∷ (codes "initial", natural_example 4) ∷ (codes "low", natural_example 0)
-                ∷ (codes "spill", natural_example 9) ∷ (codes "turbine", natural_example 8) ∷ []),
+                ∷ (codes "spill", natural_example 9) ∷ (codes "spill_cost", natural_example 4) ∷ (codes "turbine", natural_example 8) ∷ []),
           )
           ∷ []),
     )
@@ -81,8 +82,8 @@ abbrev pub travel_plants : Plants
 travel_plants = record {
   buses = record { name = codes "b"; deficit_cost = pos 200 } ∷ [];
   reservoirs =
-      record { name = codes "a"; bus = 0; low = pos 1; high = pos 7; initial = pos 7; turbine = pos 5; spill = pos 6; factor = pos 2; downstream = Some (record { target = 1; stages = 2 }) }
-      ∷ record { name = codes "b"; bus = 0; low = pos 0; high = pos 10; initial = pos 4; turbine = pos 8; spill = pos 9; factor = pos 1; downstream = None } ∷ [];
+      record { name = codes "a"; bus = 0; low = pos 1; high = pos 7; initial = pos 7; turbine = pos 5; spill = pos 6; factor = pos 2; spill_cost = pos 0; downstream = Some (record { target = 1; stages = 2 }) }
+      ∷ record { name = codes "b"; bus = 0; low = pos 0; high = pos 10; initial = pos 4; turbine = pos 8; spill = pos 9; factor = pos 1; spill_cost = pos 4; downstream = None } ∷ [];
   thermals = [];
   lines = [];
   stages = record { demand = pos 9 ∷ []; inflows = record { weight = 65534; water = negsuc 0 ∷ pos 3 ∷ [] } ∷ record { weight = 1; water = pos 0 ∷ pos 2 ∷ [] } ∷ [] } ∷ [];

@@ -1,5 +1,5 @@
 -- Numbers, names, objects and arrays at a place.
-use Rattle.std.specs.Prelude.{◌≤ℤ◌, ℕ, ◌^◌, ℤ, pos, ◌&&◌, List, [], ◌∷◌, ◌++◌, Option, Result, Ok, Err, ok_or, int_le, unsigned_abs, if◌then◌else◌}
+use Rattle.std.specs.Prelude.{◌≤ℤ◌, ℕ, ◌^◌, ℤ, pos, ◌&&◌, List, [], ◌∷◌, ◌++◌, Option, Some, None, Result, Ok, Err, ok_or, int_le, unsigned_abs, if◌then◌else◌}
 use Rattle.serde_json.specs.Data.{Data, Items, Members}
 use Rattle.serde_json.specs.Find.{get_member}
 use Rattle.hp_fields.specs.Steps.{walk_list}
@@ -88,6 +88,11 @@ hydro_number_at p least most o = do
 -- an amount or a cost: a whole number from 0 to 2^20
 unfoldable pub amount_at : HydroPlace → Option Data → Result ℤ HydroRefusal
 amount_at p o = hydro_number_at p (pos 0) greatest_number o
+
+-- an amount or a cost that may be absent, which is 0 then
+unfoldable pub amount_or_zero_at : HydroPlace → Option Data → Result ℤ HydroRefusal
+amount_or_zero_at p None = Ok (pos 0)
+amount_or_zero_at p (Some d) = hydro_value_at p (pos 0) greatest_number d
 
 -- a weight or a count of stages: a whole number that is not negative
 unfoldable pub natural_at : HydroPlace → ℕ → ℕ → Option Data → Result ℕ HydroRefusal

@@ -13,7 +13,7 @@ use Rattle.hp_plants.specs.declared.plants.Thermal.{Thermal}
 use Rattle.hp_plants.specs.declared.plants.Line.{Line}
 use Rattle.hp_fields.specs.Steps.{walk_members}
 use Rattle.hp_plants.specs.Steps.{◌>>=◌}
-use Rattle.hp_plants.specs.Fields.{hydro_place, hydro_whole, hydro_refuse, hydro_object_at, amount_at, natural_at}
+use Rattle.hp_plants.specs.Fields.{hydro_place, hydro_whole, hydro_refuse, hydro_object_at, amount_at, amount_or_zero_at, natural_at}
 use Rattle.hp_plants.specs.Names.{hydro_key_at, named_at}
 
 -- ---- buses
@@ -54,9 +54,10 @@ read_reservoir_at buses reservoirs found i k d = do
   turbine ← amount_at (hydro_place part_kinds.Reservoir i 0) (get (codes "turbine") d)
   spill ← amount_at (hydro_place part_kinds.Reservoir i 0) (get (codes "spill") d)
   factor ← amount_at (hydro_place part_kinds.Reservoir i 0) (get (codes "factor") d)
+  spill_cost ← amount_or_zero_at (hydro_place part_kinds.Reservoir i 0) (get (codes "spill_cost") d)
   downstream ← travel_at (hydro_place part_kinds.Reservoir i 0) reservoirs d (get (codes "downstream") d)
   levels ← levels_at (hydro_place part_kinds.Reservoir i 0) low high initial
-  Ok (found ++ record { name = name; bus = bus; low = low; high = high; initial = initial; turbine = turbine; spill = spill; factor = factor; downstream = downstream } ∷ [])
+  Ok (found ++ record { name = name; bus = bus; low = low; high = high; initial = initial; turbine = turbine; spill = spill; factor = factor; spill_cost = spill_cost; downstream = downstream } ∷ [])
 
 unfoldable pub reservoirs_at : List (List ℕ) → Members → List (List ℕ) → Result (List Reservoir) HydroRefusal
 reservoirs_at buses ms reservoirs = walk_members (read_reservoir_at buses reservoirs) [] 0 ms

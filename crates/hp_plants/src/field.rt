@@ -2,7 +2,7 @@
 ghost use Rattle.std.specs.Prelude.{◌≡◌, ◌≤ℤ◌, option_map, IfOk};
 ghost use Rattle.serde_json.specs.View.{view, members_view, items_view};
 ghost use Rattle.hp_fields.specs.Steps.{Shows};
-ghost use Rattle.hp_plants.specs.Fields.{hydro_table_at, hydro_items_at, within_at, hydro_value_at, hydro_number_at, amount_at, natural_at};
+ghost use Rattle.hp_plants.specs.Fields.{hydro_table_at, hydro_items_at, within_at, hydro_value_at, hydro_number_at, amount_at, amount_or_zero_at, natural_at};
 
 use crate::place::HydroPlace;
 use crate::refusal::{HydroKind, HydroRefusal};
@@ -88,6 +88,17 @@ pub(crate) fn amount(value: Option<&Value>, place: HydroPlace) -> Result<i64, Hy
     ensures { result ≡ amount_at place (option_map (λ v. view v.now) value.entry) }
 {
     number(value, 0, GREATEST, place)
+}
+
+/// An amount or a cost that may be absent, which is 0 then.
+#[tactic(auto, unfolding(crate::specs::Fields::amount_or_zero_at))]
+pub(crate) fn amount_or_zero(value: Option<&Value>, place: HydroPlace) -> Result<i64, HydroRefusal>
+    ensures { result ≡ amount_or_zero_at place (option_map (λ v. view v.now) value.entry) }
+{
+    match value {
+        Some(value) => whole(value, 0, GREATEST, place),
+        None => Ok(0),
+    }
 }
 
 /// A weight or a count of stages: a whole number from `least` to `most`.

@@ -39,6 +39,8 @@ pub struct Reservoir {
     pub spill: i64,
     /// The energy per unit of turbined water, 0 to 2^20.
     pub factor: i64,
+    /// The cost of each unit of spilled water, 0 to 2^20.
+    pub spill_cost: i64,
     /// Where turbined and spilled water goes; none where it leaves the system.
     pub downstream: Option<Travel>,
 }

@@ -4,7 +4,7 @@ ghost use Rattle.serde_json.specs.View.{view, members_view};
 ghost use Rattle.hp_plants.specs.Steps.{HydroGives};
 ghost use Rattle.hp_plants.specs.Grid.{travel_at, levels_at, read_reservoir_at, reservoirs_at, travel_stages, state_count_at};
 
-use crate::field::{amount, natural};
+use crate::field::{amount, amount_or_zero, natural};
 use crate::names::{AllNames, key, named};
 use crate::place::HydroPlace;
 use crate::plants::{Reservoir, Travel};
@@ -74,6 +74,7 @@ fn reservoir(
     let turbine = amount(value.get("turbine"), place)?;
     let spill = amount(value.get("spill"), place)?;
     let factor = amount(value.get("factor"), place)?;
+    let spill_cost = amount_or_zero(value.get("spill_cost"), place)?;
     let downstream = travel(names.reservoirs, value, value.get("downstream"), place)?;
     levels(low, high, initial, place)?;
     found.push(Reservoir {
@@ -85,6 +86,7 @@ fn reservoir(
         turbine,
         spill,
         factor,
+        spill_cost,
         downstream,
     })?;
     Ok(())

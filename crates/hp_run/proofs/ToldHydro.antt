@@ -14,7 +14,7 @@ use Rattle.hp_plants.specs.declared.plants.Inflow.{Inflow}
 use Rattle.hp_plants.specs.declared.plants.Stage.{Stage}
 use Rattle.hp_fields.specs.Steps.{walk_items, walk_members}
 use Rattle.hp_plants.specs.Steps.{◌>>=◌}
-use Rattle.hp_plants.specs.Fields.{hydro_place, hydro_whole, hydro_json_at, hydro_object_at, hydro_table_at, hydro_items_at, hydro_members_at, amount_at, natural_at, hydro_entries_at}
+use Rattle.hp_plants.specs.Fields.{hydro_place, hydro_whole, hydro_json_at, hydro_object_at, hydro_table_at, hydro_items_at, hydro_members_at, amount_at, amount_or_zero_at, natural_at, hydro_entries_at}
 use Rattle.hp_plants.specs.Names.{hydro_key_at, named_at}
 use Rattle.hp_plants.specs.Tables.{HydroTables, hydro_counts_at, parts_at, hydro_tables_at}
 use Rattle.hp_plants.specs.Grid.{bus_at, buses_at, travel_at, levels_at, read_reservoir_at, reservoirs_at, state_count_at, thermal_at, thermals_at, line_at, lines_at}
@@ -47,8 +47,9 @@ reservoir-same bs rs found i k d =
     refusal-same (amount_at (hydro_place part_kinds.Reservoir i 0) (get (codes "turbine") d)) _ _ (λ turbine.
     refusal-same (amount_at (hydro_place part_kinds.Reservoir i 0) (get (codes "spill") d)) _ _ (λ spill.
     refusal-same (amount_at (hydro_place part_kinds.Reservoir i 0) (get (codes "factor") d)) _ _ (λ factor.
+    refusal-same (amount_or_zero_at (hydro_place part_kinds.Reservoir i 0) (get (codes "spill_cost") d)) _ _ (λ spill_cost.
     refusal-same (travel_at (hydro_place part_kinds.Reservoir i 0) rs d (get (codes "downstream") d)) _ _ (λ downstream.
-    refusal-same (levels_at (hydro_place part_kinds.Reservoir i 0) low high initial) _ _ (λ levels. refl)))))))))))
+    refusal-same (levels_at (hydro_place part_kinds.Reservoir i 0) low high initial) _ _ (λ levels. refl))))))))))))
 
 thermal-same : (bs : List (List ℕ)) (found : List Thermal) (i : ℕ) (k : List ℕ) (d : Data) → refusal_of (thermal_at bs [] i k d) ≡ refusal_of (thermal_at bs found i k d)
 unfolding thermal_at

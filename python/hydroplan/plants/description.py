@@ -23,7 +23,7 @@ WORDS = (Bus, Thermal, Line, Reservoir)
 BESIDE = {"name", "spilled", "downstream"}
 DESCRIBED = {
     "bus": {"demand", "deficit"}, "thermal": {"bus", "cost", "maximum"}, "line": {"source", "target", "maximum", "reverse"},
-    "reservoir": {"bus", "minimum", "maximum", "initial", "inflow", "turbine", "spill", "productivity"},
+    "reservoir": {"bus", "minimum", "maximum", "initial", "inflow", "turbine", "spill", "spill_penalty", "productivity"},
 }
 
 
@@ -130,6 +130,10 @@ class _Describer:
         found.update({"turbine": self._volume(numbers, "turbine"), "spill": self._volume(numbers, "spill")})
         factors = {numbers.at("productivity", stage, self._block) for stage in self._stages}
         found["factor"] = self._constant(it, "productivity", factors, units.energy / units.water)
+        penalties = {numbers.at("spill_penalty", stage) for stage in self._stages}
+        penalty = self._constant(it, "spill_penalty", penalties, units.money / units.water)
+        if penalty:
+            found["spill_cost"] = penalty
         way = it.turbined_way()
         if it.spilled is not As.TURBINED and it.spilled_way() != way:
             raise NotDescribed(f'all water of a description goes one way: "spilled" of {it.called()}')

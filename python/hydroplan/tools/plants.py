@@ -26,12 +26,13 @@ TABLES = (
 STAGES = ("stages", 1, 100)
 
 AMOUNT = "amount"
-# the members of an entry in the order in which they are read: an amount, or a name of a table
+AMOUNT_OR_NONE = "amount that may be absent"
+# the members of an entry in the order in which they are read: an amount, one that may be absent, or a name of a table
 MEMBERS = {
     "bus": (("deficit_cost", AMOUNT),),
     "reservoir": (
         ("bus", "buses"), ("low", AMOUNT), ("high", AMOUNT), ("initial", AMOUNT), ("turbine", AMOUNT), ("spill", AMOUNT),
-        ("factor", AMOUNT),
+        ("factor", AMOUNT), ("spill_cost", AMOUNT_OR_NONE),
     ),
     "thermal": (("bus", "buses"), ("high", AMOUNT), ("cost", AMOUNT)),
     "line": (("from", "buses"), ("to", "buses"), ("high", AMOUNT)),
@@ -163,9 +164,9 @@ def _entry(root: Cursor, place: Place, name: str, entry: Cursor) -> int:
         _refuse("Limit", place, entry, f'the name "{name[:140]}" is not 1 to 16 letters, digits, `_` or `-`')
     _typed(place, entry, "an object")
     for key, kind in MEMBERS[place.part]:
-        if kind == AMOUNT:
+        if kind == AMOUNT or kind == AMOUNT_OR_NONE and entry.find(key) is not None:
             _number(place, entry, key)
-        else:
+        elif kind != AMOUNT_OR_NONE:
             _named(place, entry, key, names_of(root, kind))
     return _reservoir(root, place, entry) if place.part == "reservoir" else 0
 
