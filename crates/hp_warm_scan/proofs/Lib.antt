@@ -6,4 +6,5 @@ pub mod Narrow
 pub mod Numbered
 pub mod PackedValues
 pub mod PackedWalks
+pub mod Rewritten
 pub mod Worked

@@ -8,6 +8,7 @@ ghost use Rattle.hp_warm_scale.specs.Waiting.{last_column, waits};
 ghost use Rattle.hp_warm_scan.specs.Values.{is_value_greater, greatest_step, greatest_cuts, AreWaitingCutsWithin, AreBestCuts, IsValueWithin};
 
 use crate::packed::{Lookup, take_packed, write_leaving};
+use crate::refilled::refill;
 use crate::values::cut_value;
 use hp_num::{List, Memory};
 use hp_solver::{Cuts, LpRow, PackedView, StageLp};
@@ -155,17 +156,6 @@ fn take_all(
     }
 }
 
-// Makes a list of so many columns without cuts.
-fn clear(greatest: &mut List<Option<(usize, i128)>>, count: usize) -> Result<(), Memory>
-    ensures { OnOk result (greatest.new ≡ replicate count None) }
-{
-    greatest.clear();
-    for _column in 0..count {
-        greatest.push(None)?;
-    }
-    Ok(())
-}
-
 /// Writes for each column the row of the greatest of its cuts that wait, and its value, at some states. Writes beside it the
 /// outgoing states, where cuts stand side by side, and may write a row. [`Memory`] where memory was refused.
 pub fn write_greatest(
@@ -182,6 +172,6 @@ pub fn write_greatest(
     ensures value { OnOk result (greatest.new ≡ greatest_cuts lp.now waiting.now states.now) }
     ensures cuts { OnOk result (AreBestCuts lp.now greatest.new) }
 {
-    clear(greatest, lp.columns().len())?;
+    refill(greatest, lp.columns().len(), None)?;
     take_all(greatest.as_mut_slice(), waiting, states, lp, leaving, row)
 }

@@ -3,6 +3,7 @@
 
 pub mod greatest;
 pub mod packed;
+mod refilled;
 pub mod scanning;
 pub mod values;
 

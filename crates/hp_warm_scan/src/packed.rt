@@ -13,6 +13,7 @@ ghost use Rattle.hp_warm_scan.specs.Values.{greater_valued, greatest_step, IsVal
 ghost use Rattle.hp_warm_scan.specs.Packed.{short_or_zero, added, with_leaving, leaving_of, with_program_row, greater_or};
 
 use crate::greatest::is_greater;
+use crate::refilled::refill;
 use crate::values::{plus, product, raised};
 use hp_num::{List, Memory};
 use hp_solver::{CutList, Out, PackedCuts, PackedView};
@@ -88,11 +89,7 @@ fn add_all(found: &mut [i64], states: &[i128], outs: &[Out]) -> bool
 fn write_zeros(found: &mut List<i64>) -> Result<(), Memory>
     ensures { OnOk result (found.new ≡ replicate 50 (pos 0)) }
 {
-    found.clear();
-    for _state in 0..50usize {
-        found.push(0)?;
-    }
-    Ok(())
+    refill(found, 50, 0)
 }
 
 /// Writes the outgoing value of each of 50 states. False where 64 bits do not hold a sum. [`Memory`] where memory was refused.
