@@ -10,7 +10,9 @@ use Rattle.hp_cut.specs.AtNodes.{PoolsFit}
 use Rattle.hp_cut.specs.declared.entry.Entry.{Entry}
 use Rattle.hp_record.specs.Backwards.{IsPathFromRoot, nodes_back}
 use Rattle.hp_load.specs.declared.loaded.Loaded.{Loaded}
-use Rattle.hp_load.specs.Records.{Found, fresh_found, lists_added}
+use Rattle.hp_load.specs.declared.records.Gathered.{Gathered}
+use Rattle.hp_load.specs.Records.{Found, fresh_found, gathered_found, lists_added}
+use Rattle.hp_load.specs.RootValues.{root_values}
 
 -- at most 64 entries, and the nodes of each, read backwards, are a path from the root
 pub record IsRecord (p : Validated) (entries : List Entry) : Type 0 where
@@ -36,6 +38,12 @@ pub record IsSound (p : Validated) (batch i : ℕ) (found : Found) : Type 0 wher
   -- the base cut, and at most one for each path
   pub cuts : (m : ℕ) → length (pool found.pools m) ≤ 1 + i * batch
   pub unanswered : found.unanswered ≤ i * 2 ^ 38
+
+-- what was gathered from i records, one by one, over base cuts
+pub record IsGathered (p : Validated) (batch i : ℕ) (g : Gathered) : Type 0 where
+  pub sound : IsSound p batch i (gathered_found g)
+  -- the values are those of all cuts
+  pub values : g.values ≡ root_values p g.pools.lists
 
 -- the properties of everything that is loaded, over any disk
 pub record IsSafe (p : Validated) (l : Loaded) : Type 0 where

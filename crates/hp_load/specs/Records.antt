@@ -65,6 +65,13 @@ record_at p batch bytes at found = do
   next ← record_added p found read.0
   Ok (read.0, read.1, next)
 
+-- the findings with one record more, of this payload
+unfoldable pub payload_added : Validated → ℕ → List ℕ → Found → Result Found LoadFault
+payload_added p batch payload found = do
+  formulas ← within_formula (too_much p (length found.bounds + 1) batch)
+  entries ← with_fault (λ place. of_entries (length found.bounds + 1) (Bad place)) (read_batch p (length found.bounds + 1) batch payload)
+  record_added p found entries
+
 -- the end of the records, and their findings
 pub record Ended : Type 0 where
   pub found : Found

@@ -5,6 +5,7 @@ mod cuts;
 mod keeping;
 mod loaded;
 mod loading;
+mod payloads;
 mod records;
 mod refusal;
 mod title;
@@ -13,5 +14,6 @@ pub mod worked;
 
 pub use loaded::Loaded;
 pub use loading::{Asked, first_commit_byte, load, load_keep};
-pub use records::unanswered;
+pub use payloads::{add_payload, gathered_base};
+pub use records::{Gathered, unanswered};
 pub use refusal::{JournalRefusal, LoadFault};

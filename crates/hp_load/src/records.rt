@@ -33,15 +33,15 @@ use std::alloc::Global;
 
 /// The outcome of the records so far.
 #[derive(Drop)]
-pub(crate) struct Gathered {
+pub struct Gathered {
     /// The base cuts, and the cuts of the records.
-    pub(crate) pools: Pools,
+    pub pools: Pools,
     /// The values of the root's successors at the initial state, by all of these cuts.
-    pub(crate) values: List<i128>,
+    pub values: List<i128>,
     /// The bound after each record.
-    pub(crate) bounds: List<i128>,
+    pub bounds: List<i128>,
     /// The sum of the unanswered solves that the entries state.
-    pub(crate) unanswered: u64,
+    pub unanswered: u64,
 }
 
 /// Where the records of a journal begin, and how many paths an iteration has.
@@ -70,7 +70,7 @@ pub(crate) struct End {
 }
 
 // Checks the formulas with as many iterations as the record's number.
-fn check_formulas(problem: &Problem, iteration: u32, batch: u16) -> Result<(), LoadFault>
+pub(crate) fn check_formulas(problem: &Problem, iteration: u32, batch: u16) -> Result<(), LoadFault>
     requires iteration { iteration ≤ 2001 }
     requires some { 1 ≤ batch }
     requires batch { batch ≤ 64 }
@@ -105,7 +105,7 @@ fn read_payload<D: Disk>(
 }
 
 // Decodes the entries of an iteration from a payload.
-fn decode(
+pub(crate) fn decode(
     alloc: Global,
     spares: &mut Spares,
     problem: &Problem,
@@ -174,7 +174,7 @@ pub fn unanswered(entries: &[Entry]) -> u64
 
 // Adds the cuts of a record's entries, and then the bound.
 #[tactic(auto, unfolding(crate::specs::Records::record_added))]
-fn add_record(
+pub(crate) fn add_record(
     alloc: Global,
     problem: &Problem,
     entries: &[Entry],

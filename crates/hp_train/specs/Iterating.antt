@@ -3,6 +3,7 @@ use Rattle.std.specs.Prelude.{◌≡◌, ◌<◌, ℕ, ◌+◌, List, [], ◌∷
 use Rattle.std.specs.List.{sum_by}
 use Rattle.hp_num.specs.Steps.{◌>>=◌}
 use Rattle.hp_problem.specs.Validated.{Validated}
+use Rattle.hp_theory.specs.declared.cut.Cut.{Cut}
 use Rattle.hp_theory.specs.Bound.{bound}
 use Rattle.hp_theory.specs.View.{problem_of}
 use Rattle.hp_cut.specs.declared.entry.Entry.{Entry}
@@ -31,6 +32,10 @@ with_stepped p l s = record {
 -- with iteration k, and the bytes behind the commit byte of its record
 unfoldable pub iterated : {Start Chain : Type 0} → Solving Start Chain → Validated → Loaded → ℕ → ℕ → Result (Outcome × List ℕ) PlanFault
 iterated v p l seed k = training_step v p l.pools.lists seed l.batch k >>= λ s. Ok (with_stepped p l s, body_of (spell s.entries))
+
+-- the pools with iteration k, and the bytes behind the commit byte of its record
+unfoldable pub iteration_recorded : {Start Chain : Type 0} → Solving Start Chain → Validated → List (List Cut) → ℕ → ℕ → ℕ → Result (List (List Cut) × List ℕ) PlanFault
+iteration_recorded v p pools seed batch k = training_step v p pools seed batch k >>= λ s. Ok (s.pools, body_of (spell s.entries))
 
 -- the records of these lists behind the commit byte at a place, and a commit byte of 0 behind them
 abbrev pub behind : ℕ → List (List Entry) → List ℕ → List ℕ

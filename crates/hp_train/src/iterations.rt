@@ -10,8 +10,8 @@ ghost use Rattle.hp_forward.specs.Walking.{AreWalks, IsWalk};
 ghost use Rattle.hp_train.specs.Growing.{ExtendsPools};
 ghost use Rattle.hp_train.specs.Stepping.{along, seen_stepped, training_step, with_path, with_walks};
 
-use crate::counts::{counts, cut_back};
 use crate::drawing::{first_stream, paths_from};
+use crate::pool_counts::{counts, cut_back};
 use hp_backward::{Pass, backward_pass};
 use hp_cut::{Entry, Pools};
 use hp_forward::forward_passes;

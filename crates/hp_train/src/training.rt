@@ -20,12 +20,13 @@ ghost use Rattle.hp_load.specs.Load.{seen_outcome};
 ghost use Rattle.hp_settle.specs.Faults.{IsInfeasible, Stops};
 ghost use Rattle.hp_settle.specs.declared.plan_fault.PlanFault.TheVariants.{DiskFault};
 ghost use Rattle.hp_train.specs.Continuing.{continued};
-ghost use Rattle.hp_train.specs.Iterating.{EndsClear, behind, iterated};
+ghost use Rattle.hp_train.specs.Growing.{ExtendsPools};
+ghost use Rattle.hp_train.specs.Iterating.{EndsClear, behind, iterated, iteration_recorded};
 ghost use Rattle.hp_train.specs.Training.{CanTrain, GoesOnWith, IsPrefixFrom, HoldsPrefix, StopsAs, WhenWhole, grown_journal, iterations, title_of, trained};
 
 use crate::iterations::{Draw, iteration};
 use crate::opening::open_end;
-use hp_cut::Entry;
+use hp_cut::{Entry, Pools};
 use hp_journal::append;
 use hp_load::{Loaded, unanswered};
 use hp_lp::{Planner, Workspace};
@@ -68,6 +69,38 @@ fn body_of(alloc: Global, problem: &Problem, entries: &[Entry]) -> Result<Vec<u8
     body.extend_from_slice(payload.as_slice())?;
     body.push(0)?;
     Ok(body)
+}
+
+/// Takes an iteration over pools, as [`iteration`] does, and gives the body of its record: the payload's length, the payload,
+/// and a commit byte of 0. Nothing is written. No node has more cuts than the base cut and one for each path of the iterations
+/// before it, and the formulas hold with as many iterations as its number.
+#[tactic(auto, unfolding(crate::specs::Iterating::iteration_recorded))]
+pub fn iteration_body<R: Threads + Sync, V: Solver>(
+    rt: &R,
+    work: &mut Workspace,
+    planner: &Planner<V>,
+    pools: &mut Pools,
+    draw: Draw,
+) -> Result<Vec<u8>, PlanFault>
+    requires fit { PoolsFit planner.now.problem.now pools.old.lists }
+    requires first { 1 ≤ draw.iteration }
+    requires last { draw.iteration ≤ 2000 }
+    requires paths { 1 ≤ draw.batch }
+    requires most { draw.batch ≤ 64 }
+    requires cuts { (m : ℕ) → length (pool pools.old.lists m) ≤ 1 + (draw.iteration - 1) * draw.batch }
+    requires room { too_much planner.now.problem.now draw.iteration draw.batch ≡ None }
+    ensures value { GivesOr Stops (λ body. (pools.new.lists, body.items)) result
+        (iteration_recorded (V.does planner.now.solver.now) planner.now.problem.now pools.old.lists draw.seed draw.batch draw.iteration) }
+    ensures body { IfOk result (λ body. IsBody body.items) }
+    ensures extends { ExtendsPools draw.batch pools.old.lists pools.new.lists }
+    ensures infeasible { IfErr result (IsInfeasible planner.now.problem.now) }
+    ensures fit { PoolsFit planner.now.problem.now pools.new.lists }
+    ensures sound { Sound (problem_of planner.now.problem.now) pools.old.lists → Sound (problem_of planner.now.problem.now) pools.new.lists }
+{
+    let problem = planner.problem();
+    let _ = problem.parts();
+    let entries = iteration(rt, work, planner, pools, draw)?;
+    Ok(body_of(work.alloc(), problem, entries.as_slice())?)
 }
 
 /// Runs an iteration: adds its cuts, its bound and its counts to `loaded`, and gives the bytes behind the commit byte of its record.

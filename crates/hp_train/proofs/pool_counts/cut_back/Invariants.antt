@@ -1,6 +1,6 @@
 use Rattle.std.proofs.Common.{◌≡◌, ℕ, ◌<◌, ◌≤◌, length, take, get_or}
 use Rattle.hp_theory.specs.Pools.{pool}
-use Rattle.hp_train.proofs.counts.cut_back.Given as goal
+use Rattle.hp_train.proofs.pool_counts.cut_back.Given as goal
 
 abbrev pub invariant-loop-node : goal.invariant-loop-node
 invariant-loop-node l = record {

@@ -8,7 +8,7 @@ use hp_num::{List, Memory};
 use std::alloc::Global;
 
 /// The number of each node's cuts. [`Memory`] where memory was refused.
-pub(crate) fn counts(alloc: Global, pools: &Pools) -> Result<List<u32>, Memory>
+pub fn counts(alloc: Global, pools: &Pools) -> Result<List<u32>, Memory>
     requires { length pools.now.lists ≤ 1000 }
     ensures { IfOk result (λ found. found ≡ map (λ (cuts : List Cut). length cuts) pools.now.lists) }
 {
@@ -20,7 +20,7 @@ pub(crate) fn counts(alloc: Global, pools: &Pools) -> Result<List<u32>, Memory>
 }
 
 /// Keeps the first cuts of each node, as many as the counts say.
-pub(crate) fn cut_back(pools: &mut Pools, counts: &[u32])
+pub fn cut_back(pools: &mut Pools, counts: &[u32])
     requires count { length counts.now ≡ length pools.old.lists }
     requires nodes { length counts.now ≤ 1000 }
     ensures count { length pools.new.lists ≡ length pools.old.lists }

@@ -1,0 +1,5 @@
+use Rattle.hp_worker.specs.Holding.{Holds}
+use Rattle.hp_worker.proofs.rounds.take_turns.Given as goal
+
+abbrev pub invariant-loop-turn : goal.invariant-loop-turn
+invariant-loop-turn l = Holds l.task.problem.now l.task.batch l.held.found

@@ -1,0 +1,159 @@
+// Iterations behind the joined records, whose cuts are dropped once they are answered.
+ghost use Rattle.std.specs.Prelude.{◌≡◌, ◌≤◌, ◌+◌, ◌*◌, ◌-◌, ℕ, length, None, OnOk};
+ghost use Rattle.hp_problem.specs.Formulas.{too_much};
+ghost use Rattle.hp_theory.specs.Pools.{pool};
+ghost use Rattle.hp_cut.specs.AtNodes.{PoolsFit};
+ghost use Rattle.hp_train.specs.Growing.{ExtendsPools};
+
+use crate::ending::{Ending, ending_of_plan};
+use crate::writing::put;
+use hp_cut::Pools;
+use hp_lp::{Planner, Workspace, prepare};
+use hp_num::Memory;
+use hp_outside::Sink;
+use hp_parts::MOST_ITERATIONS;
+use hp_problem::Problem;
+use hp_solver::Solver;
+use hp_train::{Draw, counts, cut_back, iteration_body};
+use std::alloc::Global;
+use std::thread::Threads;
+
+// Fewer iterations than these do without what takes long to make ready.
+const FEW_ITERATIONS: u32 = 8;
+
+/// Iterations that go on behind joined records.
+#[derive(Clone, Copy)]
+pub(crate) struct Stretch {
+    pub(crate) seed: u64,
+    /// The paths of an iteration, 1 to 64.
+    pub(crate) batch: u16,
+    /// The number of joined records.
+    pub(crate) before: u32,
+    pub(crate) count: u32,
+}
+
+// An iteration of this number may be taken.
+fn check_room(problem: &Problem, iteration: u32, batch: u16) -> Result<(), Ending>
+    requires few { iteration ≤ 2000 }
+    requires some { 1 ≤ batch }
+    requires most { batch ≤ 64 }
+    ensures { OnOk result (too_much problem.now iteration batch ≡ None) }
+{
+    match problem.too_much(iteration, batch) {
+        None => Ok(()),
+        Some(_) => Err(Ending::TooMuch),
+    }
+}
+
+// Takes an iteration and answers the payload of its record behind the number of its bytes.
+fn answer<R: Threads + Sync, O: Sink, V: Solver>(
+    rt: &R,
+    work: &mut Workspace,
+    planner: &Planner<V>,
+    pools: &mut Pools,
+    draw: Draw,
+    out: &mut O,
+) -> Result<(), Ending>
+    requires fit { PoolsFit planner.now.problem.now pools.old.lists }
+    requires first { 1 ≤ draw.iteration }
+    requires last { draw.iteration ≤ 2000 }
+    requires paths { 1 ≤ draw.batch }
+    requires most { draw.batch ≤ 64 }
+    requires cuts { (m : ℕ) → length (pool pools.old.lists m) ≤ 1 + (draw.iteration - 1) * draw.batch }
+    ensures extends { OnOk result (ExtendsPools draw.batch pools.old.lists pools.new.lists) }
+    ensures fit { OnOk result (PoolsFit planner.now.problem.now pools.new.lists) }
+{
+    check_room(planner.problem(), draw.iteration, draw.batch)?;
+    let body = match iteration_body(rt, work, planner, pools, draw) {
+        Ok(body) => body,
+        Err(fault) => return Err(ending_of_plan(fault)),
+    };
+    let last = body.len().saturating_sub(1);
+    put(out, &body.as_slice()[..last])
+}
+
+// Takes the iterations and answers each.
+fn answer_all<R: Threads + Sync, O: Sink, V: Solver>(
+    rt: &R,
+    work: &mut Workspace,
+    planner: &Planner<V>,
+    pools: &mut Pools,
+    stretch: Stretch,
+    out: &mut O,
+) -> Result<(), Ending>
+    requires fit { PoolsFit planner.now.problem.now pools.old.lists }
+    requires last { stretch.before + stretch.count ≤ 2000 }
+    requires paths { 1 ≤ stretch.batch }
+    requires most { stretch.batch ≤ 64 }
+    requires cuts { (m : ℕ) → length (pool pools.old.lists m) ≤ 1 + stretch.before * stretch.batch }
+    ensures { OnOk result (ExtendsPools (stretch.count * stretch.batch) pools.old.lists pools.new.lists) }
+{
+    for done in 0..stretch.count {
+        let draw = Draw {
+            seed: stretch.seed,
+            batch: stretch.batch,
+            iteration: stretch.before + done + 1,
+        };
+        answer(rt, work, planner, pools, draw, out)?;
+    }
+    Ok(())
+}
+
+// Keeps the cuts of each node side by side, and no more of them. This takes the time of a copy.
+fn lay_side_by_side(alloc: Global, problem: &Problem, pools: &mut Pools) -> Result<(), Memory>
+    requires { PoolsFit problem.now pools.old.lists }
+    ensures { pools.new ≡ pools.old }
+{
+    let nodes = problem.parts().nodes.len() as u32;
+    for node in 0..nodes {
+        pools.prepare(alloc, node, &[])?;
+    }
+    Ok(())
+}
+
+// Makes the pools ready for iterations, whose answers do not depend on it. Finding the cuts that cover the others takes the time of
+// the square of their number, and pays only where there are many iterations.
+fn make_ready(
+    alloc: Global,
+    problem: &Problem,
+    pools: &mut Pools,
+    stretch: Stretch,
+) -> Result<(), Memory>
+    requires { PoolsFit problem.now pools.old.lists }
+    ensures { pools.new ≡ pools.old }
+{
+    let _ = problem.parts();
+    if stretch.count < FEW_ITERATIONS {
+        lay_side_by_side(alloc, problem, pools)
+    } else {
+        prepare(alloc, problem, pools)
+    }
+}
+
+/// Takes iterations behind the joined records, answers the payload of each, and cuts the pools back to what they were.
+pub(crate) fn go_ahead<R: Threads + Sync, O: Sink, V: Solver>(
+    rt: &R,
+    work: &mut Workspace,
+    planner: &Planner<V>,
+    pools: &mut Pools,
+    stretch: Stretch,
+    out: &mut O,
+) -> Result<(), Ending>
+    requires fit { PoolsFit planner.now.problem.now pools.old.lists }
+    requires before { stretch.before ≤ 2000 }
+    requires paths { 1 ≤ stretch.batch }
+    requires most { stretch.batch ≤ 64 }
+    requires cuts { (m : ℕ) → length (pool pools.old.lists m) ≤ 1 + stretch.before * stretch.batch }
+    ensures { OnOk result (pools.new.lists ≡ pools.old.lists) }
+{
+    if stretch.count > MOST_ITERATIONS - stretch.before {
+        return Err(Ending::TooMuch);
+    }
+    let problem = planner.problem();
+    let _ = problem.parts();
+    make_ready(work.alloc(), problem, pools, stretch)?;
+    let counts = counts(work.alloc(), pools)?;
+    answer_all(rt, work, planner, pools, stretch, out)?;
+    cut_back(pools, counts.as_slice());
+    Ok(())
+}

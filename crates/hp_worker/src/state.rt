@@ -1,0 +1,23 @@
+// What the worker holds between orders.
+use hp_load::Gathered;
+use hp_lp::Workspace;
+use hp_problem::Problem;
+use hp_record::Spares;
+use std::alloc::Global;
+
+/// What stays the same for all orders.
+#[derive(Clone, Copy)]
+pub(crate) struct Task<'a> {
+    pub(crate) alloc: Global,
+    pub(crate) problem: &'a Problem,
+    /// The paths of an iteration, 1 to 64.
+    pub(crate) batch: u16,
+}
+
+/// The joined records, and memory that orders lend each other.
+#[derive(Drop)]
+pub(crate) struct Held {
+    pub(crate) found: Gathered,
+    pub(crate) spares: Spares,
+    pub(crate) work: Workspace,
+}

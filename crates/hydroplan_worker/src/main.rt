@@ -1,0 +1,9 @@
+//! Trains behind records that others made.
+#![tactic(auto)]
+
+use hp_worker::start;
+use std::process::ExitCode;
+
+fn main(rt: HostRuntime) -> ExitCode {
+    start(&rt, rt.stdin(), rt.stdout(), &mut rt.stderr())
+}
