@@ -21,7 +21,6 @@ PACKAGES_WITH_COMMANDS = {"join": "farm", "train": "farm", "simulate": "farm"}
 # the libraries without which a command ends
 LIBRARIES = {
     "study": ("numpy", "pandas", "scipy", "jinja2"), "report": ("numpy", "pandas", "jinja2"), "export": ("numpy", "pandas"),
-    "train": ("distributed",), "simulate": ("distributed",),
 }
 
 
@@ -54,6 +53,8 @@ def libraries_of(name: str, rest: Sequence[str]) -> tuple[str, ...]:
     """The libraries that a command needs with the words behind its name."""
     if any(it in ("-h", "--help") for it in rest):
         return ()
+    if name in ("train", "simulate"):
+        return ("distributed",) if any(it.startswith("--s") for it in rest) else ()
     if name == "plot":
         return ("matplotlib",) if any(it.startswith("--o") for it in rest) else ()
     reads_toml = name == "study" and sys.version_info < (3, 11)

@@ -164,10 +164,9 @@ class OnACluster(unittest.TestCase):
             self.assertFalse((self.room / f"made-{running.pid}").exists(), journal)
 
 
-@unittest.skipUnless(HAS_DISTRIBUTED, "needs dask.distributed (Debian: python3-distributed)")
 class OnThisMachine(unittest.TestCase):
-    def test_a_local_cluster_of_processes(self) -> None:
-        """One line without a scheduler: in one part the journal is that of the program alone."""
+    def test_one_line_without_a_scheduler(self) -> None:
+        """In one part the journal is that of the program alone."""
         with tempfile.TemporaryDirectory() as room:
             journal, alone = Path(room) / "journal", trained(example("two_reservoirs"), Path(room) / "alone", 7, 12)
             ended = subprocess.run(

@@ -21,8 +21,9 @@ class Chosen(Folder):
             patch = mock.patch.object(program, name, place)
             patch.start()
             self.addCleanup(patch.stop)
-        program._is_stamped.cache_clear()
-        self.addCleanup(program._is_stamped.cache_clear)
+        for cached in (program._is_stamped, program._sources_of):
+            cached.cache_clear()
+            self.addCleanup(cached.cache_clear)
 
     def made(self, name: str, text: str) -> Path:
         """A program of some lines."""
@@ -52,6 +53,25 @@ class Chosen(Folder):
         os.chmod(self.newer, 0o644)
         program._is_stamped.cache_clear()
         self.assertEqual(program.built_program(), PROGRAM)
+
+    def test_a_worker_belongs_to_a_program(self) -> None:
+        """To the one in bin the one there; to a newer one of the same crates a worker of these, newer or in bin; to another none."""
+        kept, newer = self.made("hydroplan_worker-x86_64-linux", "kept"), self.made("hydroplan_worker", "newer")
+        with mock.patch.multiple(program, KEPT_WORKER=kept, NEWER_WORKER=newer), mock.patch.dict(os.environ):
+            os.environ.pop(program.WORKER_VARIABLE, None)
+            self.assertEqual(program.built_worker(PROGRAM), kept)
+            self.assertIsNone(program.built_worker(self.digest))
+            self.assertIsNone(program.built_worker(self.newer))
+            (self.room / "CRATES").write_text("crates of-these\nkit one\n", encoding="ascii")
+            self.assertEqual(program.built_worker(self.newer), kept)
+            newer.with_name("hydroplan_worker.sources").write_text(f"of-these {hashlib.sha256(b'newer').hexdigest()}\n", encoding="ascii")
+            program._is_stamped.cache_clear()
+            self.assertEqual(program.built_worker(self.newer), newer)
+
+    def test_a_worker_that_the_environment_names(self) -> None:
+        for named, found in ((str(self.digest), self.digest.resolve()), ("", None), (str(self.room / "none"), None)):
+            with mock.patch.dict(os.environ, {program.WORKER_VARIABLE: named}):
+                self.assertEqual(program.built_worker(PROGRAM), found)
 
     def test_the_one_that_is_given(self) -> None:
         self.assertEqual(program.built_program(self.digest), self.digest.resolve())

@@ -26,10 +26,8 @@ class Rounds(unittest.TestCase):
         self.assertTrue(all(0 <= it < 2 ** 64 for it in seeds))
 
     def test_iterations(self) -> None:
-        """One iteration a part at first, one more for each five records, and in the end what is left, the first parts first."""
+        """One iteration a part, and in the end what is left, the first parts first."""
         self.assertEqual(iterations_of_round(0, 100, 3), (1, 1, 1))
-        self.assertEqual(iterations_of_round(50, 200, 2), (11, 11))
-        self.assertEqual(iterations_of_round(95, 100, 3), (2, 2, 1))
         self.assertEqual(iterations_of_round(98, 100, 3), (1, 1))
         self.assertEqual(iterations_of_round(100, 100, 3), ())
 
@@ -107,8 +105,7 @@ class Training(Folder):
         self.farm("markov_year", engine, 60, 3)
         self.assertEqual([it["whole"] is not None for it in engine.orders], [True] * 3 + [False] * (len(engine.orders) - 3))
         for order in engine.orders[3:]:
-            sent = sum(isinstance(it, bytes) for it in order["tail"])
-            self.assertEqual(sent * 3, len(order["tail"]) * 2)
+            self.assertEqual([it is None for it in order["parts"]].count(True), 1)
 
     def test_limits_are_told_beforehand(self) -> None:
         """`gen 1 50 5` has room for 2,000 records of one path; in records of 4 paths formula 3 allows for fewer."""
@@ -154,8 +151,8 @@ def tampered(at: int) -> Callable[[Dict[str, object], bytes], bytes]:
 def of_another_problem(order: Dict[str, object], answer: bytes) -> bytes:
     """A lie that sends the records of a problem that was trained elsewhere."""
     own = example("markov_year")
-    return work.perform(dict(order, run="other", digest=hashlib.sha256(own).digest(), problem=own, whole=b"", token="x", next="x", own="",
-                             tail=[], count=int(str(order["count"]))))
+    return work.perform(dict(order, run="other", digest=hashlib.sha256(own).digest(), problem=own, whole=b"", base="", own="", parts=[],
+                             most=1 << 24))
 
 
 class Replay:

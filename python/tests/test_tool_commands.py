@@ -17,7 +17,8 @@ class Libraries(unittest.TestCase):
         self.assertEqual(commands.libraries_of("report", ["--help"]), ())
         self.assertEqual(commands.libraries_of("plot", ["bounds", "r.txt"]), ())
         self.assertEqual(commands.libraries_of("plot", ["bounds", "r.txt", "--output=x"]), ("matplotlib",))
-        self.assertEqual(commands.libraries_of("train", ["J", "7", "1", "--workers", "2"]), ("distributed",))
+        self.assertEqual(commands.libraries_of("train", ["J", "7", "1", "--workers", "2"]), ())
+        self.assertEqual(commands.libraries_of("simulate", ["J", "7", "1", "--scheduler=tcp://h:1"]), ("distributed",))
         for name in ("join", "explain", "convert", "watch"):
             self.assertEqual(commands.libraries_of(name, ["x"]), ())
 

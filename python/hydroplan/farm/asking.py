@@ -18,10 +18,12 @@ Say = Callable[[str], None]
 
 @dataclass
 class Given:
-    """An order that a worker has: the worker, the call, when it was given, the most bytes of its answer, and whether it lacks nothing."""
+    """An order that a worker has: the worker, the order's name, the call, when it was given, the most bytes of its answer, and whether it
+    lacks nothing."""
 
     address: str
     name: str
+    order: str
     call: Call
     begun: float
     most: int
@@ -30,11 +32,13 @@ class Given:
 
 @dataclass(frozen=True)
 class Came:
-    """What came of a part: the worker, its answer or what is wrong with it, the seconds, and whether the order lacked nothing."""
+    """What came of a part: the worker, the order's name, the answer or what is wrong with it, the seconds, and whether the order lacked
+    nothing."""
 
     part: int
     address: str
     name: str
+    order: str
     answer: Answer
     seconds: float
     is_whole: bool
@@ -78,9 +82,9 @@ class Asking:
             address = self._chosen(part, free, waiting)
             free.remove(address)
             self._home[part] = address
-            order = order_of(part, address)
+            order, begun = order_of(part, address), time.monotonic()
             call, is_whole = self._engine.begin(address, order), order["whole"] is not None
-            self._given[part] = Given(address, there[address], call, time.monotonic(), order["most"], is_whole)
+            self._given[part] = Given(address, there[address], order["order"], call, begun, order["most"], is_whole)
         self._require_workers()
 
     def _is_free(self, address: str, name: str) -> bool:
@@ -123,14 +127,14 @@ class Asking:
             elif state == RUNNING and took > self.seconds:
                 self._late[given.address] = self._given.pop(part).call
                 silent = WorkerFault(f"it is silent after {took:.0f} seconds")
-                yield Came(part, given.address, given.name, silent, took, given.is_whole)
+                yield Came(part, given.address, given.name, given.order, silent, took, given.is_whole)
             elif state in (DONE, FAILED):
                 answer = _answer(given)
                 if isinstance(answer, WorkerLeft):
                     self._lose(part, given)
                     continue
                 del self._given[part]
-                yield Came(part, given.address, given.name, answer, took, given.is_whole)
+                yield Came(part, given.address, given.name, given.order, answer, took, given.is_whole)
                 given.call.drop()
 
     def read(self, came: Came) -> Optional[Tuple[bytes, bytes]]:

@@ -9,13 +9,12 @@ from typing import List, Optional
 from ..tools.shown_names import shown_name
 
 from ..errors import ProgramMissing
-from .engine import DaskEngine
 from .errors import FarmError
 from .joining import join
 from .journals import DEVICE_FAILED
 from .shape import MOST_ITERATIONS, MOST_PATHS, shape_of
 from .simulate_command import SimulationWords, simulate
-from .train_command import Words, train
+from .train_command import Words, engine_of, train
 
 MOST_PROBLEM = 1 << 24
 MOST_SEED = (1 << 64) - 1
@@ -94,7 +93,8 @@ def run_train(words: argparse.Namespace) -> None:
 def run_simulate(words: argparse.Namespace) -> None:
     """Simulates, and prints the report as it comes."""
     asked = SimulationWords(words.journal, words.seed, words.count, float(words.timeout), words.program)
-    for line in simulate(asked, read_problem(), say, lambda: DaskEngine(words.scheduler, words.workers or 1)):
+    cluster = Words(words.journal, words.seed, words.count, None, words.workers, words.scheduler, float(words.timeout), words.program)
+    for line in simulate(asked, read_problem(), say, lambda: engine_of(cluster)):
         print(line)
 
 

@@ -1,6 +1,6 @@
-"""The engine, dask.distributed, by which orders reach workers and answers come back. All that this package knows of it stands here.
+"""By what orders reach workers and answers come back: workers by their addresses, calls on one of them, and what became of a call.
 
-Another engine gives the same: workers by their addresses, calls on one of them, and what became of a call.
+One such engine is dask.distributed, for machines of a cluster. All that this package knows of it stands here.
 """
 from __future__ import annotations
 
@@ -110,24 +110,18 @@ class DaskCall:
 
 
 class DaskEngine:
-    """Workers of a scheduler of dask, or of a cluster of so many processes on this machine."""
+    """Workers of a scheduler of dask."""
 
-    def __init__(self, scheduler: Optional[str], processes: int, seconds: float = 30) -> None:
+    def __init__(self, scheduler: str, seconds: float = 30) -> None:
         distributed = _distributed()
         for name in ("distributed", "asyncio"):
             logging.getLogger(name).setLevel(SILENT)
-        self._cluster: Any = None
         self._seen: Dict[str, str] = {}
         self._looked = -LOOKS_EVERY
+        importlib.import_module("dask.config").set({"distributed.scheduler.pickle": False})
         try:
-            if scheduler is not None:
-                importlib.import_module("dask.config").set({"distributed.scheduler.pickle": False})
-            else:
-                self._cluster = distributed.LocalCluster(
-                    n_workers=processes, threads_per_worker=1, processes=True, dashboard_address=None, silence_logs=SILENT,
-                )
             self._client: Any = distributed.Client(
-                self._cluster or scheduler, timeout=seconds, set_as_default=False, serializers=PLAIN, deserializers=PLAIN,
+                scheduler, timeout=seconds, set_as_default=False, serializers=PLAIN, deserializers=PLAIN,
             )
         except (OSError, ValueError) as fault:
             raise FarmError(f"the cluster cannot be reached: {fault}", NOT_RUN) from None
@@ -182,9 +176,7 @@ class DaskEngine:
     def close(self, run: str) -> None:
         """As `Engine.close`. Where the scheduler is gone there is nobody to tell."""
         with suppress(Exception):
-            for address in self.workers() if self._cluster is None else ():
+            for address in self.workers():
                 _distributed().fire_and_forget(self._client.submit(forget, run, workers=[address], pure=False))
         with suppress(Exception):
             self._client.close()
-        if self._cluster is not None:
-            self._cluster.close()

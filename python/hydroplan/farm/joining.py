@@ -10,7 +10,7 @@ from typing import BinaryIO, Iterator, List, Optional, Sequence, Tuple
 
 from .errors import FarmError, RecordFault
 from .journals import DEVICE_FAILED, Head, framed, opened, payloads, read_head, refused
-from .records import Mover, Numbers, Patch, Pools, base_pools, patched
+from .records import Mover, base_pools, entries
 from .shape import Shape, require_room
 
 WORDS_REFUSED = 2
@@ -62,17 +62,12 @@ class Source:
                 yield Piece(payload, self.head.paths, number)
 
     def _entries(self, payload: bytes, number: int) -> Iterator[Piece]:
-        """The entries of a payload, by a walk that knows of no place and so passes over all pairs."""
-        everywhere = Pools([1 << 32] * len(self._shape.nodes))
-        ignored: List[Patch] = []
-        mover, numbers, at = Mover(self._shape, everywhere, everywhere.copy()), Numbers(payload), 0
-        for _ in range(self.head.paths):
-            begin = at
-            try:
-                at = mover.entry(numbers, begin, number, ignored)
-            except RecordFault as fault:
-                raise self.fault(number, fault) from None
-            yield Piece(payload[begin:at], 1, number)
+        """The entries of a payload, one by one."""
+        try:
+            found = entries(self._shape, payload, self.head.paths, number)
+        except RecordFault as fault:
+            raise self.fault(number, fault) from None
+        return (Piece(it, 1, number) for it in found)
 
     def fault(self, number: int, fault: RecordFault) -> FarmError:
         """The refusal of one of its records."""
@@ -141,7 +136,7 @@ def _moved(shape: Shape, sources: Sequence[Source], split: bool, shared: int, si
 def _changed(source: Source, mover: Mover, piece: Piece, number: int) -> bytes:
     """A piece as it is in record `number` of the joined journal."""
     try:
-        return bytes(patched(piece.data, mover.record(piece.data, piece.paths, piece.iteration, number)))
+        return mover.record(piece.data, piece.paths, piece.iteration, number)
     except RecordFault as fault:
         raise source.fault(piece.iteration, fault) from None
 

@@ -105,10 +105,14 @@ def unframed(tail: bytes, most: int) -> List[bytes]:
 
 
 class Growing:
-    """A journal that grows by all records of a round at once: all count from the moment that the commit byte before them becomes 1."""
+    """A journal that grows by several records at once: all count from the moment that the commit byte before them becomes 1.
 
-    def __init__(self, path: Path) -> None:
+    A copy that nobody needs after a kill is not synced.
+    """
+
+    def __init__(self, path: Path, is_synced: bool = True) -> None:
         self.path = path
+        self._is_synced = is_synced
         try:
             self._file = path.open("r+b", buffering=0)
         except OSError as fault:
@@ -157,9 +161,9 @@ class Growing:
         if at == before:
             return
         self._write(b"\x00", at)
-        os.fsync(self._file.fileno())
+        self._sync()
         self._write(b"\x01", before)
-        os.fsync(self._file.fileno())
+        self._sync()
         self.end = at
 
     def cut(self, records: int, end: int) -> None:
@@ -167,6 +171,11 @@ class Growing:
         self.records, self.end = records, end
         os.ftruncate(self._file.fileno(), end)
         self._write(b"\x00", end)
+
+    def _sync(self) -> None:
+        """Waits until the disk has what was written, where that is wanted."""
+        if self._is_synced:
+            os.fsync(self._file.fileno())
 
     def _write(self, data: bytes, at: int) -> None:
         view = memoryview(data)

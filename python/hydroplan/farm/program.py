@@ -1,4 +1,4 @@
-"""The built program itself, which a farm runs many times, and how a run of it is begun so that it ends with whoever began it."""
+"""The built programs themselves, which a farm runs many times, and how a run is begun so that it ends with whoever began it."""
 from __future__ import annotations
 
 import hashlib
@@ -14,7 +14,10 @@ from ..core import Place, find_program
 
 KEPT = TOP / "bin" / "hydroplan-x86_64-linux"
 NEWER = TOP / "crates" / "hydroplan" / "out" / "hydroplan"
+KEPT_WORKER = TOP / "bin" / "worker" / "hydroplan_worker-x86_64-linux"
+NEWER_WORKER = TOP / "crates" / "hydroplan_worker" / "out" / "hydroplan_worker"
 DIGEST = TOP / "bin" / "crates-digest"
+WORKER_VARIABLE = "HYDROPLAN_WORKER"
 
 
 def built_program(given: Optional[Place] = None) -> Path:
@@ -28,6 +31,30 @@ def built_program(given: Optional[Place] = None) -> Path:
     return next((it for it in (NEWER, KEPT) if it.is_file() and (it == KEPT or is_of_these_sources(it))), found)
 
 
+def built_worker(program: Path) -> Optional[Path]:
+    """The program `hydroplan_worker` that belongs to a program, where it is there: in `bin` to the one there, else one of the crates at hand.
+
+    The environment's HYDROPLAN_WORKER names another; none where that is empty.
+    """
+    named = os.environ.get(WORKER_VARIABLE)
+    if named is not None:
+        return Path(named).resolve() if Path(named).is_file() else None
+    if not KEPT_WORKER.is_file() and not NEWER_WORKER.is_file():
+        return None
+    if _is_same(program, KEPT):
+        return KEPT_WORKER if KEPT_WORKER.is_file() else None
+    if not _is_same(program, NEWER):
+        return None
+    if NEWER_WORKER.is_file() and is_of_these_sources(NEWER_WORKER):
+        return NEWER_WORKER
+    return KEPT_WORKER if KEPT_WORKER.is_file() and _is_kept_of_these_sources(KEPT_WORKER) else None
+
+
+def _is_same(program: Path, other: Path) -> bool:
+    """Whether two programs are there and have the same bytes."""
+    return other.is_file() and digest_of(program) == digest_of(other)
+
+
 def is_of_these_sources(program: Path) -> bool:
     """Whether a program was built of the crates at hand, as the script `hydroplan` asks: the stamp beside it names them, and itself."""
     return _is_stamped(program, program.stat().st_mtime_ns)
@@ -37,10 +64,24 @@ def is_of_these_sources(program: Path) -> bool:
 def _is_stamped(program: Path, changed: int) -> bool:
     try:
         stamp = program.with_name(f"{program.name}.sources").read_text(encoding="ascii")
-        now = subprocess.run([str(DIGEST)], capture_output=True, check=True, text=True).stdout.strip()
+        now = _sources_of(program.name)
         return bool(now) and os.access(program, os.X_OK) and stamp.strip() == f"{now} {digest_of(program)}"
     except (OSError, ValueError, subprocess.CalledProcessError):
         return False
+
+
+def _is_kept_of_these_sources(program: Path) -> bool:
+    """Whether a program in `bin` is of the crates at hand, as the file CRATES beside it says."""
+    try:
+        return f"crates {_sources_of(program.name.partition('-')[0])}" in program.with_name("CRATES").read_text(encoding="ascii").splitlines()
+    except (OSError, ValueError, subprocess.CalledProcessError):
+        return False
+
+
+@lru_cache(maxsize=8)
+def _sources_of(crate: str) -> str:
+    """The digest of the sources of a crate and those below it."""
+    return subprocess.run([str(DIGEST), crate], capture_output=True, check=True, text=True).stdout.strip()
 
 
 def digest_of(program: Path) -> str:

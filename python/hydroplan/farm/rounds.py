@@ -5,9 +5,6 @@ from __future__ import annotations
 import hashlib
 from typing import Tuple
 
-RECORDS_AN_ITERATION = 5
-"""A part has an iteration more for so many records that are there. Loading them takes the time of less than half of it."""
-
 
 def part_seed(seed: int, part: int) -> int:
     """The seed of a part, 64 bits. Part 0 has the seed itself, so that training in one part is that of the program alone.
@@ -23,10 +20,6 @@ def part_seed(seed: int, part: int) -> int:
 def iterations_of_round(records: int, count: int, parts: int) -> Tuple[int, ...]:
     """The iterations of each part of the round that begins with so many records, of `count` in the end; empty where none is left.
 
-    Early rounds are short, since early cuts help all; later ones have more, since loading takes longer.
+    Each part has one: parts do not know of each other's cuts within a round, and what a round costs beside is little (docs/DECISIONS.md).
     """
-    left = count - records
-    each = 1 + records // RECORDS_AN_ITERATION
-    if left >= each * parts:
-        return (each,) * parts
-    return tuple(it for it in (left // parts + (part < left % parts) for part in range(parts)) if it)
+    return (1,) * min(parts, count - records)

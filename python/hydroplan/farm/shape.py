@@ -4,11 +4,13 @@ from __future__ import annotations
 import hashlib
 import json
 from dataclasses import dataclass
+from functools import cached_property
 from typing import Any, Dict, FrozenSet, Mapping, Optional, Sequence, Tuple
 
 from ..tools.limits import GREATEST, MEANINGS, MOST_ITERATIONS, MOST_PATHS, Extent, extent_of
 
 from .errors import FarmError
+from .lists import Lists, lists_of
 
 __all__ = ["MOST_ITERATIONS", "MOST_PATHS", "NodeShape", "Shape", "require_room", "shape_of"]
 
@@ -22,6 +24,11 @@ class NodeShape:
     rows: int
     realizations: int
     successors: Tuple[int, ...]
+
+    @cached_property
+    def lists(self) -> Tuple[Lists, ...]:
+        """The lists of pairs of all its realizations, as many together as are read at once."""
+        return lists_of(self.rows, len(self.successors), self.realizations)
 
 
 @dataclass(frozen=True)

@@ -116,10 +116,10 @@ class FarmSimulation:
         """The order of a part, with the journal for who has it not."""
         part, is_new = self._parts[number], not self._has.pop(address, False)
         return {
-            "kind": "simulate", "run": self.run_name, "program": digest_of(self._program), "place": "", "digest": self._shape.digest,
-            "seed": self._head.seed, "batch": self._head.batch, "token": "journal", "next": "journal", "own": "", "tail": [],
+            "kind": "simulate", "run": self.run_name, "program": digest_of(self._program), "place": "", "living": "", "digest": self._shape.digest,
+            "seed": self._head.seed, "batch": self._head.batch, "order": str(number), "base": "journal", "name": "journal", "own": "", "parts": [],
             "whole": self._records if is_new else None, "problem": self._problem if is_new else None, "draws": part.seed,
-            "count": part.count, "most": part.count * (self._shape.extent.numbers() + 2) * MOST_LINE + (1 << 20), "seconds": 3600.0,
+            "scenarios": part.count, "most": part.count * (self._shape.extent.numbers() + 2) * MOST_LINE + (1 << 20), "seconds": 3600.0,
         }
 
     def _take(self, asking: Asking, came: Came) -> None:

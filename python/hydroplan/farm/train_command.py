@@ -15,10 +15,12 @@ from .engine import DaskEngine, Engine
 from .errors import FarmError, RecordFault
 from .joined import front_of
 from .journals import Growing, refused
+from .local_engine import LocalEngine
 from .plan import Plan
-from .program import built_program
+from .program import built_program, built_worker
+from .proving import Job, Proving, Round
 from .shape import require_room, shape_of
-from .training import FarmTraining, Job
+from .training import FarmTraining
 
 UNIT = 1 << 24
 FIRST_WORKERS = 60.0
@@ -39,27 +41,29 @@ class Words:
 
 
 class Progress:
-    """Says a line for each round that is proved."""
+    """Says a line for each check that accepted the rounds up to one."""
 
     def __init__(self, records: int, say: Callable[[str], None]) -> None:
-        self._records = self._first = records
+        self._first = records
         self._say = say
         self._begun = time.monotonic()
         self._bound: Optional[int] = None
-        self._round = 0
 
-    def __call__(self, records: int, verdict: Verdict) -> None:
-        self._round += 1
+    def __call__(self, last: Round, records: int, verdict: Verdict) -> None:
         seconds = time.monotonic() - self._begun
         moved = "" if self._bound is None else f" (rose by {(verdict.bound - self._bound) / UNIT:.6f})"
         speed = (records - self._first) / max(seconds, 1e-9)
-        self._say(f"round {self._round}: {records} iterations, bound {verdict.bound / UNIT:.6f}{moved}, {seconds:.1f} s, {speed:.1f} a second")
-        self._records, self._bound = records, verdict.bound
+        self._say(
+            f"round {last.number}: {records} iterations, bound {verdict.bound / UNIT:.6f}{moved}, {seconds:.1f} s, {speed:.1f} a second"
+        )
+        self._bound = verdict.bound
 
 
 def engine_of(words: Words) -> Engine:
-    """The cluster that the words ask for."""
-    return DaskEngine(words.scheduler, words.workers or 1)
+    """The workers that the words ask for: those of a scheduler, or processes of this machine."""
+    if words.scheduler is None:
+        return LocalEngine(words.workers or 1, built_program(words.program))
+    return DaskEngine(words.scheduler)
 
 
 def train(words: Words, problem: bytes, say: Callable[[str], None], engine_from: Callable[[Words], Engine] = engine_of) -> List[str]:
@@ -79,11 +83,12 @@ def train(words: Words, problem: bytes, say: Callable[[str], None], engine_from:
         require_room(shape, max(words.count, front.records), head.paths)
         (room / "problem.json").write_bytes(problem)
         shutil.copyfile(words.journal, room / "journal")
-        with Growing(room / "journal") as scratch:
+        with Growing(room / "journal", is_synced=False) as scratch:
             scratch.cut(front.records, front.end)
             plan = Plan(words.journal, shape.digest)
-            job = Job(problem, shape, program, head.seed, head.batch, words.count, plan.run)
-            verdict = _trained(words, FarmTraining(job, plan, front, journal, scratch), engine_from, say) if front.records < words.count else None
+            job = Job(problem, shape, program, built_worker(program), head.seed, head.batch, words.count, plan.run)
+            training = FarmTraining(job, plan, Proving(job, front, journal, scratch), front.records)
+            verdict = _trained(words, training, engine_from, say) if front.records < words.count else None
             return (verdict or Checking(program, scratch.path, room / "problem.json").verdict()).report
 
 
@@ -109,21 +114,21 @@ def _prepare(words: Words, problem: bytes) -> None:
 
 
 def _trained(words: Words, training: FarmTraining, engine_from: Callable[[Words], Engine], say: Callable[[str], None]) -> Optional[Verdict]:
-    """Trains on a cluster, which is begun and ended; the verdict over the last round."""
+    """Trains by workers, which are begun and ended; the verdict over the last round."""
     engine = engine_from(words)
     try:
         training.plan.parts = words.workers or training.plan.parts or _workers_there(engine)
         training.plan.write()
-        training.proved = Progress(training.records, say)
+        training.proving.proved = Progress(training.records, say)
         training.run(Asking(engine, training.plan, words.seconds, say))
     finally:
-        training.stop()
+        training.proving.stop()
         engine.close(training.run_name)
-    spent = training.spent
+    spent = training.proving.spent
     say(f"joining took {spent.joining:.2f} s of a processor, checking {spent.checking:.2f} s beside training; "
         f"sent {spent.sent / 1e6:.1f} MB, received {spent.received / 1e6:.1f} MB")
     say("iterations by worker: " + ", ".join(f"{name} {count}" for name, count in sorted(training.shares.items())))
-    return training.verdict
+    return training.proving.verdict
 
 
 def _workers_there(engine: Engine) -> int:

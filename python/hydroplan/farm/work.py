@@ -1,72 +1,121 @@
-"""What a worker does: it keeps the joined journal between rounds, puts behind it what it is sent, trains, and sends its new records.
+"""What a worker does: it keeps the joined records between rounds, puts behind them what it is sent, trains, and sends its new records.
 
-An order is a dictionary, so that no class has to be known where it arrives. An answer is bytes, of which the first says what they are.
+An order is a dictionary, so that no class has to be known where it arrives. Its `base` names the records that the worker has to have, `parts`
+are those of the round before, with none in the place of its own, `name` is that of all of them together, and `whole` has them all for who has
+none. An answer is bytes, of which the first says what they are.
 """
 from __future__ import annotations
 
-import hashlib
-import shutil
-import subprocess
-import tempfile
 import threading
-from array import array
-from dataclasses import dataclass, field
-from itertools import chain
 from pathlib import Path
-from typing import Any, Dict, List, Mapping, Optional, Sequence, Tuple
+from typing import Any, Dict, List, Mapping, Optional, Sequence, Union
 
 from ..errors import ProgramMissing
-from .journals import Head, framed, unframed
-from .program import built_program, command, digest_of
-from .records import Patch, big_endian, patched
+from .joined import PartFault
+from .journals import JOURNAL_REFUSED, unframed
+from .kept import KeptJournal
+from .living import MOST_JOINED, MOST_LINE, Living, ProcessFault
+from .program import built_program, built_worker, digest_of
+from .shape import MOST_ITERATIONS
 
 TRAINED, LACKING, OTHER_PROGRAM, PROGRAM_FAILED, SIMULATED, BROKEN = b"T", b"L", b"P", b"F", b"S", b"E"
-MOST_LINE = 1 << 12
+LOOKS_EVERY = 0.2
 
 Order = Mapping[str, Any]
+Kept = Union[KeptJournal, Living]
 
 
-@dataclass
-class Kept:
-    """The joined journal as a worker has it: its folder, the token of its records, where they end, and the worker's own last records."""
+class Worker:
+    """Does orders, one at a time, since what it keeps of a run has one writer."""
 
-    folder: Path
-    token: str
-    end: int
-    own: List[bytes] = field(default_factory=list)
-    own_token: str = ""
+    def __init__(self) -> None:
+        self._kept: Dict[str, Kept] = {}
+        self._lock = threading.Lock()
 
+    def perform(self, order: Order) -> bytes:
+        """Does what an order says, `train` or `simulate`, to its end."""
+        with self._lock:
+            found = self.begin(order)
+            while found is None:
+                living = self.living(order["run"])
+                if living is not None:
+                    living.wait(LOOKS_EVERY)
+                found = self.look(order)
+            return found
 
-_KEPT: Dict[str, Kept] = {}
-_LOCK = threading.Lock()
-
-
-def packed_patches(patches: Sequence[Patch]) -> bytes:
-    """Patches as bytes: the place and the number of each, in four bytes each."""
-    return big_endian(array("I", chain.from_iterable(patches))).tobytes()
-
-
-def unpacked_patches(data: bytes) -> List[Patch]:
-    """The patches that bytes have."""
-    numbers = big_endian(array("I", data))
-    return list(zip(numbers[::2], numbers[1::2]))
-
-
-def perform(order: Order) -> bytes:
-    """Does what an order says: `train` or `simulate`. One order at a time, since a worker's journal has one writer."""
-    with _LOCK:
+    def begin(self, order: Order) -> Optional[bytes]:
+        """Begins an order. The answer, where it is there; none where a process is at work on it, at which `look` looks."""
+        living = self.living(order["run"])
+        if living is not None and _has_what_it_takes(living, order):
+            _give(living, order)
+            return None
         program = _program(order)
         if program is None:
             return OTHER_PROGRAM
-        kept = _KEPT.pop(order["run"], None)
-        if kept is None or kept.token != order["token"] or (order["own"] and kept.own_token != order["own"]):
+        kept = self._kept.pop(order["run"], None)
+        if kept is None or not _has_what_it_takes(kept, order):
+            _end(kept)
             if order["whole"] is None:
-                _forget(kept)
                 return LACKING
-            kept = _begun(kept, order)
-        _grow(kept, order)
-        _KEPT[order["run"]] = kept
-        return _trained(kept, order, program) if order["kind"] == "train" else _simulated(kept, order, program)
+            kept = _begun(order)
+        self._kept[order["run"]] = kept
+        if isinstance(kept, KeptJournal):
+            return _by_program(kept, order, program)
+        _give(kept, order)
+        return None
+
+    def look(self, order: Order) -> Optional[bytes]:
+        """The answer to an order that was begun, once it is there."""
+        kept = self._kept[order["run"]]
+        assert isinstance(kept, Living)
+        try:
+            records = kept.answer()
+        except ProcessFault as fault:
+            del self._kept[order["run"]]
+            return self._after(fault, kept, order)
+        if records is None:
+            return None
+        kept.own, kept.own_name = records, order["order"]
+        return TRAINED + b"\x01".join(len(it).to_bytes(4, "big") + it for it in records)
+
+    def _after(self, fault: ProcessFault, kept: Living, order: Order) -> Optional[bytes]:
+        """What comes of an order whose process ended. One that somebody killed is begun anew, once for the same order."""
+        if not fault.was_killed or kept.is_second:
+            return _failed(fault.status, str(fault))
+        if order["whole"] is None:
+            return LACKING
+        found = self.begin(order)
+        again = self.living(order["run"])
+        if again is not None:
+            again.is_second = True
+        return found
+
+    def can_live(self, order: Order) -> bool:
+        """Whether an order is done by a process that lives on."""
+        return self.living(order["run"]) is not None or _living_program(order) is not None
+
+    def living(self, run: str) -> Optional[Living]:
+        """The process that is kept of a run."""
+        kept = self._kept.get(run)
+        return kept if isinstance(kept, Living) else None
+
+    def forget(self, run: str) -> None:
+        """Ends and removes what is kept of a run."""
+        with self._lock:
+            _end(self._kept.pop(run, None))
+
+    def forget_all(self) -> None:
+        """Ends and removes all that is kept."""
+        for run in list(self._kept):
+            self.forget(run)
+
+
+_WORKER = Worker()
+
+
+def perform(order: Order) -> bytes:
+    """Does what an order says, by the worker of this process."""
+    return _WORKER.perform(order)
 
 
 def answer(order: Order) -> bytes:
@@ -74,18 +123,26 @@ def answer(order: Order) -> bytes:
     try:
         return perform(order)
     except Exception as fault:  # whatever it is, it is told
-        return BROKEN + repr(fault).encode("utf-8", "replace")[:MOST_LINE]
+        return broken(fault)
+
+
+def broken(fault: Exception) -> bytes:
+    """The answer that tells of an exception."""
+    return BROKEN + repr(fault).encode("utf-8", "replace")[:MOST_LINE]
 
 
 def forget(run: str) -> None:
     """Removes what is kept of a run."""
-    with _LOCK:
-        _forget(_KEPT.pop(run, None))
+    _WORKER.forget(run)
 
 
-def _forget(kept: Optional[Kept]) -> None:
+def _end(kept: Optional[Kept]) -> None:
     if kept is not None:
-        shutil.rmtree(kept.folder, ignore_errors=True)
+        kept.end()
+
+
+def _failed(status: int, line: str) -> bytes:
+    return PROGRAM_FAILED + f"{status} {line}".encode("utf-8", "replace")[:MOST_LINE]
 
 
 def _program(order: Order) -> Optional[Path]:
@@ -97,88 +154,58 @@ def _program(order: Order) -> Optional[Path]:
         return None
 
 
-def _place() -> Optional[str]:
-    """The folder in which a worker of dask keeps its files; none elsewhere."""
+def _living_program(order: Order) -> Optional[Path]:
+    """The program `hydroplan_worker` that the order names, if it is here and takes so many parts."""
+    if order["kind"] != "train" or not order["living"] or order["most_parts"] > MOST_JOINED:
+        return None
     try:
-        from distributed import get_worker
-        return str(get_worker().local_directory)
-    except (ImportError, ValueError):
+        found = built_worker(Path(order["place"]) if order["place"] else built_program())
+        return found if found is not None and digest_of(found) == order["living"] else None
+    except (OSError, ProgramMissing):
         return None
 
 
-def _begun(kept: Optional[Kept], order: Order) -> Kept:
-    """The joined journal, written anew from the whole of it."""
-    _forget(kept)
-    folder = Path(tempfile.mkdtemp(prefix="hydroplan-farm-", dir=_place()))
-    (folder / "problem.json").write_bytes(order["problem"])
-    (folder / "journal").write_bytes(_head(order) + order["whole"])
-    return Kept(folder, order["token"], (folder / "journal").stat().st_size)
+def _has_what_it_takes(kept: Kept, order: Order) -> bool:
+    """Whether the records that are kept are those behind which the order's come."""
+    is_there = order["whole"] is None and kept.name == order["base"] and (not order["own"] or kept.own_name == order["own"])
+    return is_there and (isinstance(kept, KeptJournal) or kept.is_alive())
 
 
-def _head(order: Order) -> bytes:
-    return Head(order["digest"], order["seed"], order["batch"]).bytes()
+def _begun(order: Order) -> Kept:
+    """The joined records anew, from the whole of them, in a process that lives on where that can be."""
+    program = _living_program(order)
+    if program is None:
+        return KeptJournal(order)
+    living = Living(program, order["problem"], order["batch"] or 1)
+    if order["whole"]:
+        living.join([unframed(order["whole"][1:], MOST_ITERATIONS)])
+    return living
 
 
-def _grow(kept: Kept, order: Order) -> None:
-    """Puts the records that an order brings behind those that are kept, and the head of the order's seed before them."""
-    with (kept.folder / "journal").open("r+b") as journal:
-        journal.write(_head(order))
-        journal.truncate(kept.end)
-        journal.seek(kept.end)
-        for piece in order["tail"]:
-            journal.write(b"\x01" + framed(_payload(kept, piece)))
-        kept.end = journal.tell()
-        journal.write(b"\x00")
-    kept.token = order["next"]
+def _parts(kept: Kept, order: Order) -> List[Sequence[bytes]]:
+    """The records of the round before, by parts: those that were sent, and the worker's own."""
+    return [kept.own if it is None else it for it in order["parts"]]
 
 
-def _payload(kept: Kept, piece: Any) -> bytes:
-    """A record of the joined journal: its bytes, or which one of the worker's own it is and what changes in that."""
-    return piece if isinstance(piece, bytes) else bytes(patched(kept.own[piece[0]], unpacked_patches(piece[1])))
+def _give(kept: Living, order: Order) -> None:
+    """Gives an order to a process that lives on."""
+    if order["parts"]:
+        kept.join(_parts(kept, order))
+    kept.name = order["name"]
+    kept.train(order["seed"], order["count"] - order["records"], order["most"], order["seconds"])
 
 
-def _run(kept: Kept, order: Order, words: List[str], output: Path) -> Tuple[int, str]:
-    """Runs the program; its status, below 0 where it was killed, and the front of what it said."""
-    with (kept.folder / "problem.json").open("rb") as source, output.open("wb") as report, tempfile.TemporaryFile() as errors:
-        try:
-            ended = subprocess.run(
-                words, stdin=source, stdout=report, stderr=errors, timeout=order["seconds"], check=False, cwd=kept.folder,
-            )
-        except subprocess.TimeoutExpired:
-            return -1, "the time was over"
-        errors.seek(0)
-        return ended.returncode, errors.read(MOST_LINE).decode("utf-8", "replace")
-
-
-def _trained(kept: Kept, order: Order, program: Path) -> bytes:
-    """Trains to the count of the order; the records that came, or how the program ended."""
-    words = ["train", "journal", str(order["seed"]), str(order["count"])]
-    status, line = _run(kept, order, command(program, words), Path("/dev/null"))
-    if status != 0:
-        return PROGRAM_FAILED + f"{status} {line}".encode()
-    with (kept.folder / "journal").open("rb") as journal:
-        journal.seek(kept.end)
-        tail = journal.read(order["most"] + 2)
-    if tail[:1] != b"\x01" or len(tail) > order["most"] + 1:
-        return TRAINED + tail
-    return TRAINED + _kept_own(kept, order, tail[1:-1])
-
-
-def _kept_own(kept: Kept, order: Order, tail: bytes) -> bytes:
-    """The same records, which the worker keeps for the next round."""
+def _by_program(kept: KeptJournal, order: Order, program: Path) -> bytes:
+    """Does an order by a run of the built program; the answer."""
     try:
-        kept.own = unframed(tail, order["most"])
-        kept.own_token = hashlib.sha256(tail).hexdigest()
-    except ValueError:
-        kept.own, kept.own_token = [], ""
-    return tail
-
-
-def _simulated(kept: Kept, order: Order, program: Path) -> bytes:
-    """Simulates; the report, or how the program ended."""
-    report = kept.folder / "report"
-    status, line = _run(kept, order, command(program, ["simulate", "journal", str(order["draws"]), str(order["count"])]), report)
+        if order["parts"]:
+            kept.join(_parts(kept, order), order["batch"] or 1)
+        kept.name = order["name"]
+    except PartFault as fault:
+        kept.name = ""
+        return _failed(JOURNAL_REFUSED, f"part {fault.part}: {fault}")
+    is_training = order["kind"] == "train"
+    status, line, found = kept.train(order, program) if is_training else kept.simulate(order, program)
     if status != 0:
-        return PROGRAM_FAILED + f"{status} {line}".encode()
-    with report.open("rb") as file:
-        return SIMULATED + file.read(order["most"] + 1)
+        return _failed(status, line)
+    return (TRAINED if is_training else SIMULATED) + found

@@ -1,0 +1,172 @@
+"""A process of `hydroplan_worker`, which lives on between rounds and keeps the records that were joined (docs/CLUSTER.md, The living worker).
+
+It is written to and read from without waiting, so that one thread can serve several of them.
+"""
+from __future__ import annotations
+
+import fcntl
+import os
+import select
+import subprocess
+import tempfile
+import time
+from contextlib import suppress
+from pathlib import Path
+from typing import List, Optional, Sequence
+
+from ..errors import HydroplanError
+from .journals import MOST_PAYLOAD
+from .program import command
+
+MOST_JOINED = 64
+"""The parts of a round that the program takes."""
+MOST_LINE = 1 << 12
+PIPE_BYTES = 1 << 20
+SET_PIPE_SIZE = 1031  # F_SETPIPE_SZ of Linux
+NO_STATUS = -1
+
+
+class ProcessFault(HydroplanError):
+    """How a process ended before it answered, with its status and what it said; or why it was ended, with NO_STATUS."""
+
+    def __init__(self, status: int, line: str, was_killed: bool = False) -> None:
+        super().__init__(line)
+        self.status = status
+        self.was_killed = was_killed
+        """Whether somebody else ended it."""
+
+
+def joining(parts: Sequence[Sequence[bytes]]) -> List[bytes]:
+    """The order that joins the records of so many parts, in pieces."""
+    pieces = [b"J" + len(parts).to_bytes(2, "big")]
+    for records in parts:
+        pieces.append(len(records).to_bytes(4, "big"))
+        for payload in records:
+            pieces += (len(payload).to_bytes(4, "big"), payload)
+    return pieces
+
+
+class Living:
+    """The process. `name` is that of the records that it has joined, `own` has its last answer, `own_name` the name of the order to it."""
+
+    def __init__(self, program: Path, problem: bytes, paths: int) -> None:
+        self.name, self.own_name = "", ""
+        self.own: List[bytes] = []
+        self.is_second = False
+        """Whether it is there in the place of one that was killed at the same order."""
+        self._errors = tempfile.TemporaryFile()
+        self._process = subprocess.Popen(
+            command(program, []), stdin=subprocess.PIPE, stdout=subprocess.PIPE, stderr=self._errors, bufsize=0,
+        )
+        assert self._process.stdin is not None and self._process.stdout is not None
+        self._input, self._output = self._process.stdin.fileno(), self._process.stdout.fileno()
+        for pipe in (self._input, self._output):
+            os.set_blocking(pipe, False)
+            with suppress(OSError):  # smaller pipes serve too
+                fcntl.fcntl(pipe, SET_PIPE_SIZE, PIPE_BYTES)
+        self._left = memoryview(b"")
+        self._came = bytearray()
+        self._wanted = self._most = 0
+        self._until = 0.0
+        self._begin = b"".join([paths.to_bytes(2, "big"), len(problem).to_bytes(4, "big"), problem])
+
+    def join(self, parts: Sequence[Sequence[bytes]]) -> None:
+        """Has it join the records of parts, when it is next asked to train."""
+        self._begin = b"".join([self._begin, *joining(parts)])
+
+    def train(self, seed: int, count: int, most: int, seconds: float) -> None:
+        """Begins to train so many iterations, whose records have so many bytes at most."""
+        self._left = memoryview(b"".join([self._begin, b"T", seed.to_bytes(8, "big"), count.to_bytes(4, "big")]))
+        self._begin, self._came = b"", bytearray()
+        self._wanted, self._most, self._until = count, most, time.monotonic() + seconds
+        self._write()
+
+    def is_alive(self) -> bool:
+        """Whether the process goes on."""
+        return self._process.poll() is None
+
+    def answer(self) -> Optional[List[bytes]]:
+        """The records that it was asked for, once all of them are there. ProcessFault where they will not be, and then it has been ended."""
+        try:
+            self._write()
+            while self._read():
+                found = self._records()
+                if found is not None:
+                    return found
+            if time.monotonic() > self._until:
+                raise ProcessFault(NO_STATUS, "the time was over")
+        except ProcessFault:
+            self.end()
+            raise
+        return None
+
+    def _write(self) -> None:
+        """Writes what it takes now. What becomes of a process that takes nothing is seen where it is read."""
+        try:
+            while self._left:
+                self._left = self._left[os.write(self._input, self._left):]
+        except BlockingIOError:
+            pass
+        except OSError:
+            self._left = memoryview(b"")
+
+    def _read(self) -> bool:
+        """Whether more came. ProcessFault where it has ended, or writes too much."""
+        try:
+            more = os.read(self._output, PIPE_BYTES)
+        except BlockingIOError:
+            return False
+        if not more:
+            raise self._ended()
+        self._came += more
+        if len(self._came) > self._most:
+            raise ProcessFault(NO_STATUS, f"it wrote more than {self._most:,} bytes")
+        return True
+
+    def _records(self) -> Optional[List[bytes]]:
+        """The records that came, if all are there. ProcessFault where what came is none."""
+        found: List[bytes] = []
+        at = 0
+        while len(found) < self._wanted and at + 4 <= len(self._came):
+            length = int.from_bytes(self._came[at:at + 4], "big")
+            if not 0 < length <= min(MOST_PAYLOAD, self._most):
+                raise ProcessFault(NO_STATUS, f"it wrote a record of {length:,} bytes")
+            found.append(bytes(self._came[at + 4:at + 4 + length]))
+            at += 4 + length
+        if len(found) < self._wanted or at > len(self._came):
+            return None
+        if at < len(self._came):
+            raise ProcessFault(NO_STATUS, "it wrote more than it was asked for")
+        return found
+
+    def _ended(self) -> ProcessFault:
+        """How the process ended, which wrote all that it will write."""
+        try:
+            status = self._process.wait(1)
+        except subprocess.TimeoutExpired:
+            return ProcessFault(NO_STATUS, "it closed its output")
+        self._errors.seek(0)
+        line = self._errors.read(MOST_LINE).decode("utf-8", "replace")
+        return ProcessFault(status, line or "it ended without a word", was_killed=status < 0)
+
+    def watch(self, poll: "select.poll") -> None:
+        """Has a poll wait for what this process does next."""
+        poll.register(self._output, select.POLLIN)
+        if self._left:
+            poll.register(self._input, select.POLLOUT)
+
+    def wait(self, seconds: float) -> None:
+        """Waits until it can be written to or read from, and no longer than so many seconds."""
+        poll = select.poll()
+        self.watch(poll)
+        poll.poll(seconds * 1000)
+
+    def end(self) -> None:
+        """Ends the process."""
+        if self._process.poll() is None:
+            self._process.kill()
+        self._process.wait()
+        for stream in (self._process.stdin, self._process.stdout, self._errors):
+            if stream is not None:
+                with suppress(OSError):
+                    stream.close()

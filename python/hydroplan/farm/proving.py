@@ -1,0 +1,194 @@
+"""What the coordinator does with rounds beside training: it joins them, has `check` go over them, and puts them into the journal.
+
+A check goes over all records from the first on. So it waits until the workers have trained much longer than the last one took, and then goes
+over all rounds that came meanwhile.
+"""
+from __future__ import annotations
+
+import time
+from dataclasses import dataclass, field
+from pathlib import Path
+from typing import Callable, Dict, List, Optional, Tuple
+
+from .checking import Checking, Verdict
+from .errors import FarmError
+from .joined import Front, PartFault, in_turns, moved_round
+from .journals import Growing, framed
+from .shape import Shape
+
+TRAINED_FOR_A_CHECK = 20.0
+"""The workers train so many times as long as a check takes before the next one begins."""
+
+
+@dataclass(frozen=True)
+class Job:
+    """What is trained: the problem, its shape, the program and the living worker's, the seed, the batch, the count, and a name of the run."""
+
+    problem: bytes
+    shape: Shape
+    program: Path
+    living: Optional[Path]
+    seed: int
+    batch: Optional[int]
+    count: int
+    run: str
+
+    @property
+    def paths(self) -> int:
+        """The paths of an iteration."""
+        return self.batch or 1
+
+
+@dataclass
+class Owner:
+    """Who did a part: the address and the name of the worker, the order, and the seconds an iteration took."""
+
+    address: str
+    name: str
+    order: str
+    pace: float
+
+
+@dataclass
+class Round:
+    """A round: its number, the records before it, by which name workers know these, the iterations of each part, the most bytes of an answer,
+    and what came of it."""
+
+    number: int
+    records: int
+    name: str
+    counts: Tuple[int, ...]
+    most: int
+    answers: Dict[int, List[bytes]] = field(default_factory=dict)
+    owners: Dict[int, Owner] = field(default_factory=dict)
+
+    def missing(self) -> List[int]:
+        """The parts that nobody answered yet."""
+        return [it for it in range(len(self.counts)) if it not in self.answers]
+
+    def parts(self) -> List[List[bytes]]:
+        """The records of all parts."""
+        return [self.answers[it] for it in range(len(self.counts))]
+
+
+@dataclass
+class Joined:
+    """A round that was joined: the front before it, and its records as they are behind that."""
+
+    round: Round
+    front: Front
+    records: List[bytes]
+
+
+class Overturned(Exception):
+    """A round that was refused, with the part that is to blame and what is wrong with it. What came behind it is dropped."""
+
+    def __init__(self, refused: Round, part: int, reason: str) -> None:
+        super().__init__(reason)
+        self.round = refused
+        self.part = part
+
+
+@dataclass
+class Spent:
+    """Processor seconds of joining, elapsed seconds of checking, seconds that workers trained, and the bytes of orders and of answers."""
+
+    joining: float = 0.0
+    checking: float = 0.0
+    training: float = 0.0
+    sent: int = 0
+    received: int = 0
+
+
+class Proving:
+    """The rounds behind a journal. `journal` has what is proved; `scratch` is a copy of it with the rounds that are being checked."""
+
+    def __init__(self, job: Job, front: Front, journal: Growing, scratch: Growing) -> None:
+        self._job = job
+        self._front = front
+        self._journal = journal
+        self._scratch = scratch
+        self._joined: List[Joined] = []
+        self._written = 0
+        self._checking: Optional[Checking] = None
+        self._next_check = 0.0
+        self.spent = Spent()
+        self.verdict: Optional[Verdict] = None
+        self.proved: Callable[[Round, int, Verdict], None] = lambda last, records, verdict: None
+        """Called with the last round, the records and the verdict of each check that accepted them."""
+        self.settled: Callable[[Round], None] = lambda it: None
+        """Called with each round that was put into the journal."""
+
+    def join(self, current: Round) -> None:
+        """Joins a round behind the others. Overturned where a part has what is no record."""
+        begun = time.thread_time()
+        try:
+            records, after = moved_round(self._job.shape, self._front, current.parts(), self._job.paths)
+        except PartFault as fault:
+            raise Overturned(current, fault.part, str(fault)) from None
+        self._joined.append(Joined(current, self._front, records))
+        self._front = after
+        self.spent.joining += time.thread_time() - begun
+
+    def look(self) -> None:
+        """Takes what a check says that is over, and begins another one where it is time. Overturned where a round was refused."""
+        if self._checking is not None and self._checking.is_over():
+            self._take_verdict()
+        if self._checking is None and self._joined and self.spent.training >= self._next_check:
+            self._begin_check()
+
+    def settle(self) -> None:
+        """Waits until all that was joined is proved. Overturned where a round was refused."""
+        if self._checking is not None and self._written < len(self._joined):
+            self.stop()
+        if self._checking is None and self._joined:
+            self._begin_check()
+        if self._checking is not None:
+            self._take_verdict()
+
+    def whole(self) -> bytes:
+        """All records with the commit byte before each."""
+        with self._scratch.path.open("rb") as file:
+            file.seek(len(self._scratch.head().bytes()))
+            there = file.read(self._scratch.end - file.tell())
+        return there + b"".join(b"\x01" + framed(record) for it in self._joined[self._written:] for record in it.records)
+
+    def stop(self) -> None:
+        """Ends a check that goes on."""
+        if self._checking is not None:
+            self._checking.end()
+            self._checking = None
+
+    def _begin_check(self) -> None:
+        """Begins a check of all that was joined."""
+        self._scratch.append(record for it in self._joined[self._written:] for record in it.records)
+        self._written = len(self._joined)
+        self._checking = Checking(self._job.program, self._scratch.path, self._scratch.path.with_name("problem.json"))
+
+    def _take_verdict(self) -> None:
+        """Waits for the check and puts what it proved into the journal."""
+        checking, self._checking = self._checking, None
+        if checking is None:
+            return
+        verdict = checking.verdict()
+        self.spent.checking += checking.seconds
+        self._next_check = self.spent.training + TRAINED_FOR_A_CHECK * checking.seconds
+        if verdict.refused is not None:
+            self._overturn(verdict.refused, verdict.line.replace("hydroplan: ", "", 1))
+        proved, self._joined = self._joined[:self._written], self._joined[self._written:]
+        self._written, self.verdict = 0, verdict
+        self._journal.append(record for it in proved for record in it.records)
+        for it in proved:
+            self.settled(it.round)
+        self.proved(proved[-1].round, self._journal.records, verdict)
+
+    def _overturn(self, number: int, line: str) -> None:
+        """Takes back the round of the record that `check` refused, and all behind it."""
+        at = next((at for at, it in enumerate(self._joined) if it.front.records < number <= it.front.records + len(it.records)), None)
+        if at is None:
+            raise FarmError(f"the journal itself was refused: {line}", 6)
+        refused, self._joined = self._joined[at], self._joined[:at]
+        self._written, self._front = at, refused.front
+        self._scratch.cut(refused.front.records, refused.front.end)
+        part = in_turns(refused.round.counts)[number - refused.front.records - 1][1]
+        raise Overturned(refused.round, part, f"`check` says: {line}")
