@@ -53,28 +53,34 @@ fn near_cell(t: Cell, step: i64) -> Option<Cell>
     Cell::narrow(t.number() + step)
 }
 
-// Tells whether a factor is below 2^39 in absolute value.
+// Tells whether a factor is below 2^42 in absolute value.
 fn is_near(factor: Cell) -> bool
-    ensures { result ≡ true → nat_abs factor < 2 ^ 39 }
+    ensures { result ≡ true → nat_abs factor < 2 ^ 42 }
 {
     let number = factor.number();
-    -(1 << 39) < number && number < 1 << 39
+    -(1 << 42) < number && number < 1 << 42
 }
 
-// 2^24 times the factor.
+// 2^21 times the factor.
 fn scaled(factor: Cell) -> i64
-    requires { nat_abs factor < 2 ^ 39 }
-    ensures { result ≡ pos (2 ^ 24) *ℤ factor }
+    requires { nat_abs factor < 2 ^ 42 }
+    ensures { result ≡ pos (2 ^ 21) *ℤ factor }
 {
-    (1 << 24) * factor.number()
+    (1 << 21) * factor.number()
 }
 
-// The cell with a product added, for `scaled` = 2^24 times the factor.
+fn eightfold(n: Cell) -> i64
+    ensures { result ≡ pos 8 *ℤ n }
+{
+    8 * n.number()
+}
+
+// The cell with a product added, for `scaled` = 2^21 times the factor.
 fn moved_near(t: Cell, scaled: i64, n: Cell) -> Option<Cell>
-    ensures { (q : ℤ) → scaled ≡ pos (2 ^ 24) *ℤ q → result ≡ moved_cell q n t }
+    ensures { (q : ℤ) → scaled ≡ pos (2 ^ 21) *ℤ q → result ≡ moved_cell q n t }
 {
     let _number = t.number();
-    near_cell(t, high_product(scaled, n.number()))
+    near_cell(t, high_product(scaled, eightfold(n)))
 }
 
 #[tactic(auto, unfolding(crate::specs::Updates::added_row))]
@@ -92,10 +98,10 @@ fn add_row_wide(row: &mut [Cell], factor: Cell, addend: &[Cell]) -> bool
     true
 }
 
-// Like `add_row_wide`, for a factor below 2^39, by the high half of a product of 64 bits.
+// Like `add_row_wide`, for a factor below 2^42 in absolute value, by the high half of a product of 64 bits.
 #[tactic(auto, unfolding(crate::specs::Updates::added_row))]
 fn add_row_near(row: &mut [Cell], factor: Cell, addend: &[Cell]) -> bool
-    requires near { nat_abs factor < 2 ^ 39 }
+    requires near { nat_abs factor < 2 ^ 42 }
     requires lengths { length addend.now ≡ length row.old }
     ensures lengths { length row.new ≡ length row.old }
     ensures moved { GivesNew result (added_row factor addend.now row.old) row.new }
@@ -141,9 +147,9 @@ fn add_wide_at(row: &mut [Cell], factor: Cell, steps: &[(usize, Cell)]) -> bool
     true
 }
 
-// Like `add_wide_at`, for a factor below 2^39.
+// Like `add_wide_at`, for a factor below 2^42 in absolute value.
 fn add_near_at(row: &mut [Cell], factor: Cell, steps: &[(usize, Cell)]) -> bool
-    requires near { nat_abs factor < 2 ^ 39 }
+    requires near { nat_abs factor < 2 ^ 42 }
     requires inside { All (λ s. s.0 < length row.old) steps.now }
     ensures lengths { length row.new ≡ length row.old }
     ensures added { GivesNew result (added_at factor steps.now row.old) row.new }
@@ -159,7 +165,7 @@ fn add_near_at(row: &mut [Cell], factor: Cell, steps: &[(usize, Cell)]) -> bool
     true
 }
 
-// Like `add_wide_at`, by `add_near_at` where the factor is below 2^39.
+// Like `add_wide_at`, by `add_near_at` where the factor is below 2^42 in absolute value.
 fn add_at(row: &mut [Cell], factor: Cell, steps: &[(usize, Cell)]) -> bool
     requires { All (λ s. s.0 < length row.old) steps.now }
     ensures lengths { length row.new ≡ length row.old }

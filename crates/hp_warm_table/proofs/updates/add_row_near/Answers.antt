@@ -8,7 +8,7 @@ use Rattle.hp_warm_table.proofs.updates.add_row_near.Goals as goal
 
 pub loop-j-preserved : goal.loop-j-preserved
 loop-j-preserved c =
-    let e : to_z w64 (of_z w64 c.scaled-scaled.result) ≡ pos (2 ^ 24) *ℤ c.args.factor = to_z-of_z w64 c.scaled-scaled.result (record { sfits = c.scaled-scaled.type_inv }) ∙ c.scaled-scaled.ensures in
+    let e : to_z w64 (of_z w64 c.scaled-scaled.result) ≡ pos (2 ^ 21) *ℤ c.args.factor = to_z-of_z w64 c.scaled-scaled.result (record { sfits = c.scaled-scaled.type_inv }) ∙ c.scaled-scaled.ensures in
     let n : entry c.args.addend.now c.loop-j.j ≡ c.index-addend-j.result = get_or_default c.args.addend.now c.loop-j.j (pos 0) c.index-addend-j.result (omega (arith, c.requires.lengths, c.loop-j-test.true)) ∙ sym c.index-addend-j.is in
     record {
       count = length-set c.loop-j.row c.loop-j.j _ ∙ c.loop-j.invariant.count;
