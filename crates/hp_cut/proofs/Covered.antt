@@ -7,7 +7,7 @@ use Rattle.std.proofs.lemmas.List.{length-append}
 use Rattle.std.proofs.lemmas.Int.{ints}
 use Rattle.hp_solver.specs.PackedCut.{PackedCut, no_packed_cut}
 use Rattle.hp_solver.specs.Covering.{value_of, packed_cut_at, IsBefore, Covers, IsCovered, AreRisingPlaces, CoverAll}
-use Rattle.hp_cut.specs.Active.{CoverFirst, IsLeft, AreFirst, IsActive}
+use Rattle.hp_cut.specs.Active.{CoverFirst, IsLeft, AreMarkedFirst, IsMarked, AreFirst, IsActive}
 use Rattle.hp_cut.specs.declared.active_cuts.Active.{Active}
 
 -- a place is below where they end
@@ -77,7 +77,7 @@ covered_on all lows highs ps i j c d = record {
 }
 
 -- the last of some numbers or one before it
-last_or_before : (j k : ℕ) → j < suc k → (j < k) ⊎ (j ≡ k)
+pub last_or_before : (j k : ℕ) → j < suc k → (j < k) ⊎ (j ≡ k)
 last_or_before zero zero h = inr refl
 last_or_before zero (suc k) h = inl (omega arith)
 last_or_before (suc j) zero h = absurd (omega (arith, h))
@@ -153,23 +153,28 @@ all_first all lows highs ps n first e = record {
   covered = λ j h. first.covered j (omega (arith, h, e));
 }
 
--- cuts that cover all cover these among more
-same_cut : (all : List PackedCut) (c : PackedCut) (i : ℕ) → i < length all → packed_cut_at all i ≡ packed_cut_at (all ++ c ∷ []) i
-same_cut all c i h = sym (get_or-append all (c ∷ []) no_packed_cut i h)
+-- two lists have the same first cuts
+abbrev pub AreSameTo : ℕ → List PackedCut → List PackedCut → Type 0
+AreSameTo n all others = (i : ℕ) → i < n → packed_cut_at all i ≡ packed_cut_at others i
 
-pub first_more : (all : List PackedCut) (c : PackedCut) (lows highs : List ℤ) (ps : List ℕ) → CoverAll all ps lows highs → CoverFirst (all ++ c ∷ []) (length all) ps lows highs
-first_more all c lows highs ps whole = record {
-  rising = whole.rising;
-  covered = λ j h. more j h (whole.covered j h);
+-- what covers the first cuts of a list covers those of each list with the same first cuts
+pub first_among : (all others : List PackedCut) (lows highs : List ℤ) (ps : List ℕ) (n : ℕ) → AreSameTo n all others → CoverFirst all n ps lows highs → CoverFirst others n ps lows highs
+first_among all others lows highs ps n same first = record {
+  rising = first.rising;
+  covered = λ j h. among j h (first.covered j h);
 }
   where
-    more : (j : ℕ) → j < length all → IsCovered all lows highs ps j → IsCovered (all ++ c ∷ []) lows highs ps j
-    more j h own = record {
+    among : (j : ℕ) → j < n → IsCovered all lows highs ps j → IsCovered others lows highs ps j
+    among j h own = record {
       by = own.by;
       there = own.there;
-      covers = λ xs inside. subst (λ (d : PackedCut). IsBefore (get_or ps own.by 0) (value_of (packed_cut_at (all ++ c ∷ []) (get_or ps own.by 0)) xs) j (value_of d xs)) (same_cut all c j h)
-          (subst (λ (d : PackedCut). IsBefore (get_or ps own.by 0) (value_of d xs) j (value_of (packed_cut_at all j) xs)) (same_cut all c (get_or ps own.by 0) (place_below 0 (length all) own.by ps whole.rising own.there)) (own.covers xs inside));
+      covers = λ xs inside. subst (λ (d : PackedCut). IsBefore (get_or ps own.by 0) (value_of (packed_cut_at others (get_or ps own.by 0)) xs) j (value_of d xs)) (same j h)
+          (subst (λ (d : PackedCut). IsBefore (get_or ps own.by 0) (value_of d xs) j (value_of (packed_cut_at all j) xs)) (same (get_or ps own.by 0) (place_below 0 n own.by ps first.rising own.there)) (own.covers xs inside));
     }
+
+-- one cut more leaves the first cuts as they are
+pub same_with : (all : List PackedCut) (c : PackedCut) → AreSameTo (length all) all (all ++ c ∷ [])
+same_with all c = λ i h. sym (get_or-append all (c ∷ []) no_packed_cut i h)
 
 -- the cover of cuts that are read
 pub covered_read : (all : List PackedCut) (lows highs los his : List ℤ) (ps qs : List ℕ) (p : ℕ) → los ≡ lows → his ≡ highs → qs ≡ ps → CoverFirst all p ps lows highs → IsCovered all los his qs p → CoverFirst all (p + 1) ps lows highs
@@ -178,10 +183,10 @@ covered_read all lows highs los his ps qs p el eh eq before own = first_covered 
 pub with_read : (all : List PackedCut) (lows highs los his : List ℤ) (ps qs room new : List ℕ) (p : ℕ) → los ≡ lows → his ≡ highs → qs ≡ ps → CoverFirst all p ps lows highs → AreRisingPlaces 0 p room → ((k : ℕ) → k < length qs → IsLeft all los his p room (get_or qs k 0)) → new ≡ room ++ p ∷ [] → CoverFirst all (p + 1) new lows highs
 with_read all lows highs los his ps qs room new p el eh eq before rising left put = first_with all lows highs ps room new p before rising (rw (el, eh, eq) at left) put
 
--- the cuts at places are the same among more cuts
-pub same_cuts : (all : List PackedCut) (c : PackedCut) (least : ℕ) (ps : List ℕ) → AreRisingPlaces least (length all) ps → map (packed_cut_at all) ps ≡ map (packed_cut_at (all ++ c ∷ [])) ps
-same_cuts all c least [] r = refl
-same_cuts all c least (p ∷ ps) r = ap₂ (λ (x : PackedCut) (xs : List PackedCut). x ∷ xs) (same_cut all c p r.1) (same_cuts all c (suc p) ps r.2)
+-- the cuts at places are the same in a list with the same first cuts
+same_cuts : (all others : List PackedCut) (least n : ℕ) (ps : List ℕ) → AreSameTo n all others → AreRisingPlaces least n ps → map (packed_cut_at all) ps ≡ map (packed_cut_at others) ps
+same_cuts all others least n [] same r = refl
+same_cuts all others least n (p ∷ ps) same r = ap₂ (λ (x : PackedCut) (xs : List PackedCut). x ∷ xs) (same p r.1) (same_cuts all others (suc p) n ps same r.2)
 
 -- rising places are below where they end
 pub all_below : (least count : ℕ) (ps : List ℕ) → AreRisingPlaces least count ps → All (λ (p : ℕ). p < count) ps
@@ -193,9 +198,71 @@ all_below least count (p ∷ ps) r (suc k) d l = all_below (suc p) count ps r.2 
 pub below_with : (count p : ℕ) (ps new : List ℕ) → AreRisingPlaces 0 p ps → p < count → new ≡ ps ++ p ∷ [] → All (λ (q : ℕ). q < count) new
 below_with count p ps new r h put = rw put (all_below 0 count (ps ++ p ∷ []) (rising_up 0 (suc p) count (ps ++ p ∷ []) (rising_more 0 p ps r (omega arith)) (omega (arith, h))))
 
+-- the cuts of a list are the first of a list with the same first cuts
+pub active_among : (all others : List PackedCut) (n : ℕ) (a : Active) → n ≡ length all → AreSameTo n all others → IsActive all a → AreFirst others n a
+active_among all others n a e same is =
+    let rising : AreRisingPlaces 0 n a.places.items = subst (λ (m : ℕ). AreRisingPlaces 0 m a.places.items) (sym e) is.cover.rising in
+    let few : a.marked_count ≤ n = omega (arith, is.mark.few, e) in
+    record {
+      cover = first_among all others a.lows.items a.highs.items a.places.items n same (record {
+        rising = rising;
+        covered = λ j h. is.cover.covered j (omega (arith, h, e));
+      });
+      same = is.same ∙ same_cuts all others 0 n a.places.items same rising;
+      mark = record {
+        few = few;
+        cover = first_among all others a.lows.items a.highs.items a.marked.items a.marked_count (λ i h. same i (omega (arith, h, few))) is.mark.cover;
+      };
+    }
+
 -- with as many as there are they cover all
 pub are_active : (all : List PackedCut) (n : ℕ) (a : Active) → AreFirst all n a → n ≡ length all → IsActive all a
 are_active all n a first e = record {
   cover = all_first all a.lows.items a.highs.items a.places.items n first.cover e;
   same = first.same;
+  mark = subst (λ (m : ℕ). AreMarkedFirst all m a) e first.mark;
+}
+
+-- the mark is set to cuts that cover all
+pub marked_now : (all : List PackedCut) (n : ℕ) (old new : Active) → n ≡ length all → IsActive all old → new.places.items ≡ old.places.items → new.lows.items ≡ old.lows.items → new.highs.items ≡ old.highs.items → new.copies ≡ old.copies → new.marked.items ≡ old.places.items → new.marked_count ≡ n → IsActive all new
+marked_now all n old new e is places lows highs copies marked count = record {
+  cover = rw (places, lows, highs) is.cover;
+  same = copies ∙ is.same ∙ ap (map (packed_cut_at all)) (sym places);
+  mark = record {
+    few = omega (arith, count, e);
+    cover = rw (marked, count, lows, highs, e) (record { rising = is.cover.rising; covered = is.cover.covered });
+  };
+}
+
+-- no cut is covered without places
+none_covered : (all : List PackedCut) (lows highs : List ℤ) → CoverFirst all 0 [] lows highs
+none_covered all lows highs = record {
+  rising = tt;
+  covered = λ j h. absurd (omega (arith, h));
+}
+
+-- there is no mark any more
+pub marked_never : (all : List PackedCut) (old new : Active) → IsActive all old → new.places.items ≡ old.places.items → new.lows.items ≡ old.lows.items → new.highs.items ≡ old.highs.items → new.copies ≡ old.copies → new.marked.items ≡ [] → new.marked_count ≡ 0 → IsActive all new
+marked_never all old new is places lows highs copies marked count = record {
+  cover = rw (places, lows, highs) is.cover;
+  same = copies ∙ is.same ∙ ap (map (packed_cut_at all)) (sym places);
+  mark = record {
+    few = omega (arith, count);
+    cover = rw (marked, count) (none_covered all new.lows.items new.highs.items);
+  };
+}
+
+-- the places of the mark are those of cuts
+pub marked_below : (all : List PackedCut) (a : Active) (ps : List ℕ) → IsMarked all a → a.marked_count ≡ length all → ps ≡ a.marked.items → All (λ (p : ℕ). p < length all) ps
+marked_below all a ps mark e same = rw same (all_below 0 (length all) a.marked.items (subst (λ (n : ℕ). AreRisingPlaces 0 n a.marked.items) e (mark e).rising))
+
+-- the places of the mark cover all cuts of a list that has as many
+pub gone_back : (all : List PackedCut) (old new : Active) → IsMarked all old → old.marked_count ≡ length all → new.places.items ≡ old.marked.items → new.lows.items ≡ old.lows.items → new.highs.items ≡ old.highs.items → new.copies ≡ map (packed_cut_at all) new.places.items → new.marked.items ≡ old.marked.items → new.marked_count ≡ old.marked_count → IsActive all new
+gone_back all old new mark e places lows highs copies marked count = record {
+  cover = rw (places, lows, highs) (all_first all old.lows.items old.highs.items old.marked.items old.marked_count (mark e) e);
+  same = copies;
+  mark = record {
+    few = omega (arith, count, e);
+    cover = rw (marked, count, lows, highs) (mark e);
+  };
 }

@@ -1,7 +1,7 @@
--- Cuts side by side, with one cut more.
-use Rattle.std.proofs.Common.{◌≡◌, ◌∙◌, ℕ, suc, ◌+◌, ◌*◌, ◌<◌, ◌≤◌, ◌^◌, ℤ, true, List, [], ◌∷◌, ◌++◌, length, drop, nat_abs, All, arith, ap, ap₂, sym, take_all}
-use Rattle.std.proofs.lemmas.List.{length-append, length-drop, take-append-le, drop-append-le, map-append}
-use Rattle.std.proofs.lemmas.List.Elements.{All-append, All-cons, All-nil}
+-- Cuts side by side, with one cut more, and cut back.
+use Rattle.std.proofs.Common.{◌≡◌, ◌∙◌, ℕ, zero, suc, ◌+◌, ◌*◌, ◌<◌, ◌≤◌, ◌^◌, ℤ, true, List, [], ◌∷◌, ◌++◌, length, take, drop, nat_abs, All, arith, ap, ap₂, sym, refl, take_all}
+use Rattle.std.proofs.lemmas.List.{length-append, length-drop, length-map, length-take-le, take-append-le, drop-append-le, drop-take, take-take, take-map, map-append}
+use Rattle.std.proofs.lemmas.List.Elements.{All-append, All-cons, All-nil, All-take}
 use Rattle.hp_solver.specs.PackedCut.{PackedCut, cuts_of, ArePacked}
 use Rattle.hp_theory.specs.declared.cut.Cut.{Cut}
 use Rattle.hp_cut.specs.FlatCuts.{packed_cut, IsFlat}
@@ -46,3 +46,42 @@ pub seen_with : (n : ℕ) (hs bs gs ss : List ℤ) (h : ℤ) (own : List ℤ) (o
 seen_with n hs bs gs ss h own old c count is heights slopes same eh es =
     let last : record { height = h; slopes = own } ≡ c = ap₂ (λ (x : ℤ) (xs : List ℤ). record { height = x; slopes = xs }) eh es in
     rw (heights, slopes) (cuts_of_more n hs bs h own count is ∙ ap₂ (λ (cs : List PackedCut) (d : PackedCut). cs ++ d ∷ []) same last)
+
+-- the first of the cuts
+cuts_of_front : (n k : ℕ) (hs bs : List ℤ) → cuts_of n (take k hs) (take (k * n) bs) ≡ take k (cuts_of n hs bs)
+cuts_of_front n zero hs bs = refl
+cuts_of_front n (suc k) [] bs = refl
+cuts_of_front n (suc k) (h ∷ hs) bs =
+    let whole : suc k * n ≡ n + k * n = omega arith in
+    ap₂ (λ (ss : List ℤ) (tail : List PackedCut). record { height = h; slopes = ss } ∷ tail)
+    (take-take n (suc k * n) bs (omega (arith, whole)))
+    (ap (λ (m : ℕ). cuts_of n (take k hs) (drop n (take m bs))) whole ∙ ap (cuts_of n (take k hs)) (drop-take n (k * n) bs) ∙ cuts_of_front n k hs (drop n bs))
+
+length_cuts_of : (n : ℕ) (hs bs : List ℤ) → length (cuts_of n hs bs) ≡ length hs
+length_cuts_of n [] bs = refl
+length_cuts_of n (h ∷ hs) bs = ap suc (length_cuts_of n hs (drop n bs))
+
+times_up : (k m n : ℕ) → k ≤ m → k * n ≤ m * n
+times_up zero m n h = omega arith
+times_up (suc k) zero n h = absurd (omega (arith, h))
+times_up (suc k) (suc m) n h = omega (arith, times_up k m n (omega (arith, h)))
+
+packed_front : (n k : ℕ) (hs bs : List ℤ) → ArePacked n hs bs → k ≤ length hs → ArePacked n (take k hs) (take (k * n) bs)
+packed_front n k hs bs p h =
+    let own : length (take k hs) ≡ k = length-take-le k hs h in
+    record {
+      few = omega (arith, own, p.few, h);
+      states = p.states;
+      count = length-take-le (k * n) bs (omega (arith, times_up k (length hs) n h, p.count)) ∙ ap (λ (m : ℕ). m * n) (sym own);
+      heights = All-take (λ z. nat_abs z < 2 ^ 100) k hs p.heights;
+      slopes = All-take (λ s. nat_abs s < 2 ^ 57) (k * n) bs p.slopes;
+    }
+
+-- the cuts are cut back
+pub front : (cs : List Cut) (k : ℕ) (old new : FlatCuts) → k ≤ length cs → IsFlat cs old → old.kept ≡ true → new.heights.items ≡ take k old.heights.items → new.slopes.items ≡ take (k * old.states) old.slopes.items → new.states ≡ old.states → IsFlat (take k cs) new
+front cs k old new few flat kept heights slopes states =
+    let count : length old.heights.items ≡ length cs = sym (length_cuts_of old.states old.heights.items old.slopes.items) ∙ ap length (flat.same kept) ∙ length-map cs packed_cut in
+    record {
+      packed = λ _. rw (heights, slopes, states) (packed_front old.states k old.heights.items old.slopes.items (flat.packed kept) (omega (arith, few, count)));
+      same = λ _. rw (heights, slopes, states) (cuts_of_front old.states k old.heights.items old.slopes.items ∙ ap (take k) (flat.same kept) ∙ take-map packed_cut k cs);
+    }

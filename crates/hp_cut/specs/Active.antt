@@ -1,5 +1,5 @@
 -- Cuts that cover the first cuts of a list.
-use Rattle.std.specs.Prelude.{◌≡◌, ℕ, ◌<◌, ◌^◌, ℤ, pos, ◌+ℤ◌, ◌-ℤ◌, ◌*ℤ◌, ◌≤ℤ◌, List, map, ◌⊎◌}
+use Rattle.std.specs.Prelude.{◌≡◌, ℕ, ◌<◌, ◌≤◌, ◌^◌, ℤ, pos, ◌+ℤ◌, ◌-ℤ◌, ◌*ℤ◌, ◌≤ℤ◌, List, length, map, ◌⊎◌}
 use Rattle.std.specs.Int.{int_min}
 use Rattle.hp_num.specs.Sums.{entry}
 use Rattle.hp_solver.specs.PackedCut.{PackedCut}
@@ -23,12 +23,23 @@ pub record CoverFirst (all : List PackedCut) (count : ℕ) (places : List ℕ) (
 abbrev pub IsLeft : List PackedCut → List ℤ → List ℤ → ℕ → List ℕ → ℕ → Type 0
 IsLeft all lows highs p places q = IsCovered all lows highs places q ⊎ Covers all lows highs p q
 
+-- at the mark there were so many cuts at most, and the places of the mark cover the first of a list
+pub record AreMarkedFirst (all : List PackedCut) (count : ℕ) (a : Active) : Type 0 where
+  pub few : a.marked_count ≤ count
+  pub cover : CoverFirst all a.marked_count a.marked.items a.lows.items a.highs.items
+
+-- where there were as many cuts at the mark as a list has, the places of the mark cover the list
+abbrev pub IsMarked : List PackedCut → Active → Type 0
+IsMarked all a = a.marked_count ≡ length all → CoverFirst all a.marked_count a.marked.items a.lows.items a.highs.items
+
 -- these cover the first cuts of a list, and stand side by side once more
 pub record AreFirst (all : List PackedCut) (count : ℕ) (a : Active) : Type 0 where
   pub cover : CoverFirst all count a.places.items a.lows.items a.highs.items
   pub same : a.copies ≡ map (packed_cut_at all) a.places.items
+  pub mark : AreMarkedFirst all count a
 
 -- these cover all cuts of a list, and stand side by side once more
 pub record IsActive (all : List PackedCut) (a : Active) : Type 0 where
   pub cover : CoverAll all a.places.items a.lows.items a.highs.items
   pub same : a.copies ≡ map (packed_cut_at all) a.places.items
+  pub mark : AreMarkedFirst all (length all) a

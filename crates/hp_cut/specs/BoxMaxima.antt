@@ -1,5 +1,5 @@
 -- The greatest values of cuts over a box of states.
-use Rattle.std.specs.Prelude.{◌≡◌, ℕ, ◌<◌, ℤ, pos, ◌+ℤ◌, ◌*ℤ◌, List, [], ◌∷◌, length, get_or}
+use Rattle.std.specs.Prelude.{◌≡◌, ℕ, suc, ◌<◌, ℤ, pos, ◌+ℤ◌, ◌*ℤ◌, List, [], ◌∷◌, length, take, get_or}
 use Rattle.std.specs.Int.{int_max}
 use Rattle.hp_num.specs.Sums.{sum_to, entry}
 use Rattle.hp_theory.specs.declared.cut.Cut.{Cut}
@@ -28,7 +28,7 @@ most_over boxes best (c ∷ cs) = most_over boxes (int_max best (greatest_over b
 abbrev pub box_maximum_over : List OutBox → List Cut → ℤ
 box_maximum_over boxes cuts = most_over boxes (greatest_over boxes (get_or cuts 0 no_cut)) cuts
 
--- the box maximum of these cuts, of which there are some
+-- the values are the greatest ones of the first cut, of the first two, and so on, up to all
 pub record IsBoxMaximum (cuts : List Cut) (p : BoxMaximum) : Type 0 where
-  pub some : 0 < length cuts
-  pub value : p.value ≡ box_maximum_over p.boxes cuts
+  pub count : length p.values.items ≡ length cuts
+  pub values : (k : ℕ) → k < length cuts → get_or p.values.items k (pos 0) ≡ box_maximum_over p.boxes (take (suc k) cuts)

@@ -4,7 +4,7 @@ ghost use Rattle.std.specs.Int.{int_min};
 ghost use Rattle.hp_num.specs.Sums.{sum_to};
 ghost use Rattle.hp_solver.specs.PackedCut.{PackedCut};
 ghost use Rattle.hp_solver.specs.Covering.{packed_cut_at, AreRisingPlaces, IsCovered, Covers, AreActive};
-ghost use Rattle.hp_cut.specs.Active.{lesser_over, IsLead, IsLeft, AreFirst, IsActive};
+ghost use Rattle.hp_cut.specs.Active.{lesser_over, IsLead, IsLeft, AreFirst, IsActive, IsMarked};
 
 use crate::box_maxima::{OutBox, sum};
 use crate::copies::Copies;
@@ -28,6 +28,10 @@ pub(crate) struct Active {
     corners: Vec<Corners>,
     /// The cuts at the places once more, side by side.
     copies: Copies,
+    /// The number of cuts at the mark, 0 where there is none.
+    marked_count: u32,
+    /// The places at the mark.
+    marked: Vec<u32>,
 }
 
 /// The values of a cut where all states are at their least ends, and where all are at their greatest, at scale 2^24. They only
@@ -204,6 +208,15 @@ fn keep_rest(all: &Compared, places: &[u32], place: u32, room: &mut Vec<u32>) ->
     Ok(())
 }
 
+/// Writes some places over others. [`Memory`] where memory was refused.
+fn copy_places(from: &[u32], to: &mut Vec<u32>) -> Result<(), Memory>
+    ensures { OnOk result (to.new.items ≡ from.now) }
+{
+    to.clear();
+    to.extend_from_slice(from)?;
+    Ok(())
+}
+
 impl Active {
     /// Makes room for the cuts of a list that cover the others over a box. [`Memory`] where memory was refused.
     fn new(alloc: Global, boxes: &[OutBox], cuts: &CutList) -> Result<Active, Memory>
@@ -222,6 +235,8 @@ impl Active {
             room: Vec::new(alloc),
             corners: Vec::new(alloc),
             copies: Copies::none(alloc, cuts),
+            marked_count: 0,
+            marked: Vec::new(alloc),
         })
     }
 
@@ -260,6 +275,33 @@ impl Active {
         self.room.push(place)?;
         self.copies.fill(cuts, self.room.as_slice())?;
         std::mem::swap(&mut self.places, &mut self.room);
+        Ok(())
+    }
+
+    /// Sets the mark to these cuts, all of a list. There is no mark where memory was refused.
+    pub(crate) fn mark(&mut self, count: u32)
+        ensures { (all : List PackedCut) → count ≡ length all → IsActive all self.old → IsActive all self.new }
+    {
+        if copy_places(self.places.as_slice(), &mut self.marked).is_ok() {
+            self.marked_count = count;
+        } else {
+            self.marked.clear();
+            self.marked_count = 0;
+        }
+    }
+
+    /// Goes back to the cuts at the mark, all of a list. [`Memory`] where the list has more or fewer cuts than there were at the
+    /// mark, and where memory was refused.
+    pub(crate) fn go_back(&mut self, cuts: &CutList) -> Result<(), Memory>
+        requires { IsMarked cuts.now self.old }
+        ensures { OnOk result (IsActive cuts.now self.new) }
+    {
+        if cuts.len() != self.marked_count as usize {
+            return Err(Memory);
+        }
+        copy_places(self.marked.as_slice(), &mut self.places)?;
+        self.copies.fill(cuts, self.places.as_slice())?;
+        self.corners.truncate(cuts.len());
         Ok(())
     }
 

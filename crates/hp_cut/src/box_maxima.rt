@@ -1,5 +1,5 @@
 // The greatest values of cuts over a box of states.
-ghost use Rattle.std.specs.Prelude.{◌≡◌, ◌<◌, ◌∷◌, ◌++◌, ◌+ℤ◌, ◌*ℤ◌, [], List, true, length, IfOk, IfSome};
+ghost use Rattle.std.specs.Prelude.{◌≡◌, ◌<◌, ◌≤◌, ◌-◌, ◌∷◌, ◌++◌, pos, ◌+ℤ◌, ◌*ℤ◌, [], List, true, length, take, get_or, IfOk, IfSome};
 ghost use Rattle.std.specs.Int.{int_max};
 ghost use Rattle.hp_num.specs.Sums.{entry};
 ghost use Rattle.hp_theory.specs.declared.cut.Cut.{Cut};
@@ -18,13 +18,13 @@ pub struct OutBox {
     pub greatest: i64,
 }
 
-/// The greatest value of a node's cuts over a box of states.
+/// The greatest value of a node's cuts over a box of states, and what it was when there were fewer cuts.
 #[derive(Drop)]
 pub(crate) struct BoxMaximum {
     /// The box, one entry per state.
     boxes: List<OutBox>,
-    /// The greatest value, at scale 2^24.
-    value: i128,
+    /// For each cut the greatest value of it and those before it, at scale 2^24.
+    values: Vec<i128>,
 }
 
 /// Finds the greater product of a slope with an end of a box, none where a product leaves i128.
@@ -81,21 +81,28 @@ fn are_same(a: &[OutBox], b: &[OutBox]) -> bool
     true
 }
 
-/// Finds the greatest value of some cuts over a box, none of no cuts, and where a product or a sum leaves i128.
-fn box_maximum_over(boxes: &[OutBox], cuts: &[Cut]) -> Option<i128>
-    ensures some { IfSome result (λ _. 0 < length cuts.now) }
-    ensures value { IfSome result (λ value. value ≡ box_maximum_over boxes.now cuts.now) }
+/// Gives the last of some values.
+fn last_of(values: &[i128]) -> Option<i128>
+    ensures { IfSome result (λ last. (0 < length values.now) × (last ≡ get_or values.now (length values.now - 1) (pos 0))) }
 {
-    let mut most = greatest_over(boxes, cuts.first()?)?;
-    for cut in cuts {
-        most = most.max(greatest_over(boxes, cut)?);
+    let place = values.len().checked_sub(1)?;
+    Some(values[place])
+}
+
+/// Gives the greater of the last of some values and one more, which is the only one where there are none.
+fn greatest_yet(values: &[i128], value: i128) -> i128
+    ensures first { length values.now ≡ 0 → result ≡ value }
+    ensures later { 0 < length values.now → result ≡ int_max (get_or values.now (length values.now - 1) (pos 0)) value }
+{
+    match values.last() {
+        Some(last) => (*last).max(value),
+        None => value,
     }
-    Some(most)
 }
 
 impl BoxMaximum {
-    /// Finds the box maximum of some cuts over a box, none of no cuts, and where a product or a sum leaves i128. [`Memory`] where memory
-    /// was refused.
+    /// Finds the box maximum of some cuts over a box, none of no cuts, where a product or a sum leaves i128, and where memory was
+    /// refused for the values. [`Memory`] where memory was refused for the box.
     pub(crate) fn of(
         alloc: Global,
         boxes: &[OutBox],
@@ -103,11 +110,19 @@ impl BoxMaximum {
     ) -> Result<Option<BoxMaximum>, Memory>
         ensures { IfOk result (λ found. IfSome found (IsBoxMaximum cuts.now)) }
     {
-        let Some(value) = box_maximum_over(boxes, cuts) else {
+        if cuts.is_empty() {
             return Ok(None);
+        }
+        let mut found = BoxMaximum {
+            boxes: List::from_vec(Vec::from_slice(alloc, boxes)?),
+            values: Vec::new(alloc),
         };
-        let boxes = List::from_vec(Vec::from_slice(alloc, boxes)?);
-        Ok(Some(BoxMaximum { boxes, value }))
+        for cut in cuts {
+            if !found.raise(cut) {
+                return Ok(None);
+            }
+        }
+        Ok(Some(found))
     }
 
     /// Gives the greatest value over a box, none where the box maximum is over another.
@@ -115,20 +130,27 @@ impl BoxMaximum {
         ensures { IfSome result (λ value. (cuts : List Cut) → IsBoxMaximum cuts self.now → value ≡ box_maximum_over boxes.now cuts) }
     {
         if are_same(self.boxes.as_slice(), boxes) {
-            Some(self.value)
+            last_of(self.values.as_slice())
         } else {
             None
         }
     }
 
-    /// Updates the greatest value with a new cut. False where a product or a sum leaves i128.
+    /// Takes a new cut in. False where a product or a sum leaves i128, and where memory was refused.
     pub(crate) fn raise(&mut self, cut: &Cut) -> bool
         ensures { result ≡ true → (cuts : List Cut) → IsBoxMaximum cuts self.old → IsBoxMaximum (cuts ++ cut.now ∷ []) self.new }
     {
         let Some(value) = greatest_over(self.boxes.as_slice(), cut) else {
             return false;
         };
-        self.value = self.value.max(value);
-        true
+        let greatest = greatest_yet(self.values.as_slice(), value);
+        self.values.push(greatest).is_ok()
+    }
+
+    /// Goes back to the first cuts, as many as the count says.
+    pub(crate) fn truncate(&mut self, count: u32)
+        ensures { (cuts : List Cut) → count ≤ length cuts → IsBoxMaximum cuts self.old → IsBoxMaximum (take count cuts) self.new }
+    {
+        self.values.truncate(count as usize);
     }
 }

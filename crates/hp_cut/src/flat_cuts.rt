@@ -1,5 +1,5 @@
 // A node's cuts once more, side by side in memory.
-ghost use Rattle.std.specs.Prelude.{◌≡◌, ◌∷◌, ◌++◌, ◌<◌, ◌^◌, [], List, length, map, nat_abs, nat_lt, All, IfSome, OnOk, true, false};
+ghost use Rattle.std.specs.Prelude.{◌≡◌, ◌≤◌, ◌∷◌, ◌++◌, ◌<◌, ◌^◌, [], List, length, map, take, nat_abs, nat_lt, All, IfSome, OnOk, true, false};
 ghost use Rattle.hp_theory.specs.declared.cut.Cut.{Cut};
 ghost use Rattle.hp_solver.specs.PackedCut.{ArePacked};
 ghost use Rattle.hp_cut.specs.FlatCuts.{packed_cut, IsFlat};
@@ -133,6 +133,17 @@ impl FlatCuts {
     {
         self.heights.push(cut.alpha)?;
         push_short(&mut self.slopes, cut.beta.as_slice())
+    }
+
+    /// Keeps the first cuts alone, as many as the count says.
+    pub(crate) fn truncate(&mut self, count: u32)
+        requires { self.old.kept ≡ true → ArePacked self.old.states self.old.heights.items self.old.slopes.items }
+        ensures { (cuts : List Cut) → count ≤ length cuts → IsFlat cuts self.old → IsFlat (take count cuts) self.new }
+    {
+        if self.kept {
+            self.heights.truncate(count as usize);
+            self.slopes.truncate(count as usize * self.states);
+        }
     }
 
     /// Keeps none any more.

@@ -2,7 +2,7 @@
 ghost use Rattle.std.specs.Prelude.{◌≡◌, ◌≤◌, ◌<◌, ◌+◌, ◌-◌, ◌^◌, ◌∷◌, ◌++◌, [], List, true, length, map, take, is_ok, if◌then◌else◌, All, IsOk, IfOk, IfSome, OnOk};
 ghost use Rattle.hp_theory.specs.declared.cut.Cut.{Cut};
 ghost use Rattle.hp_cut.specs.FlatCuts.{packed_cut, IsFlat};
-ghost use Rattle.hp_cut.specs.Active.{AreFirst, IsActive};
+ghost use Rattle.hp_cut.specs.Active.{AreFirst, IsActive, IsMarked};
 ghost use Rattle.hp_cut.specs.BoxMaxima.{box_maximum_over, IsBoxMaximum};
 
 use crate::active_cuts::{Active, lent};
@@ -45,7 +45,7 @@ impl Model for Pool {
     ghost invariant = { λ p. AreCutsKept p.cuts.items p.flat p.box_maxima.items p.active };
 }
 
-/// Updates each box maximum with a new cut. False where a product or a sum leaves i128.
+/// Updates each box maximum with a new cut. False where a product or a sum leaves i128, and where memory was refused.
 fn raise_all(box_maxima: &mut [BoxMaximum], cut: &Cut) -> bool
     ensures { result ≡ true → (cuts : List Cut) → All (IsBoxMaximum cuts) box_maxima.old → All (IsBoxMaximum (cuts ++ cut.now ∷ [])) box_maxima.new }
 {
@@ -57,7 +57,8 @@ fn raise_all(box_maxima: &mut [BoxMaximum], cut: &Cut) -> bool
     true
 }
 
-/// Updates each box maximum with a new cut, and drops all of them where a product or a sum leaves i128.
+/// Updates each box maximum with a new cut, and drops all of them where a product or a sum leaves i128, and where memory was
+/// refused.
 fn raise_or_clear(box_maxima: &mut Vec<BoxMaximum>, cut: &Cut)
     ensures { (cuts : List Cut) → All (IsBoxMaximum cuts) box_maxima.old.items → All (IsBoxMaximum (cuts ++ cut.now ∷ [])) box_maxima.new.items }
 {
@@ -117,6 +118,53 @@ fn renewed(active: Option<Active>, flat: &FlatCuts, cuts: &[Cut]) -> Option<Acti
     }
 }
 
+/// Takes each box maximum back to the first cuts, as many as the count says.
+fn truncate_all(box_maxima: &mut [BoxMaximum], count: u32)
+    ensures { (cuts : List Cut) → count ≤ length cuts → All (IsBoxMaximum cuts) box_maxima.old → All (IsBoxMaximum (take count cuts)) box_maxima.new }
+{
+    for i in 0..box_maxima.len() {
+        box_maxima[i].truncate(count);
+    }
+}
+
+/// Takes each box maximum back to the first cuts, as many as the count says, and drops all of them where no cut is left.
+fn truncate_or_clear(box_maxima: &mut Vec<BoxMaximum>, count: u32)
+    ensures { (cuts : List Cut) → count ≤ length cuts → All (IsBoxMaximum cuts) box_maxima.old.items → All (IsBoxMaximum (take count cuts)) box_maxima.new.items }
+{
+    if count == 0 {
+        box_maxima.clear();
+    } else {
+        truncate_all(box_maxima.as_mut_slice(), count);
+    }
+}
+
+/// Takes the covering cuts back to their mark. None where there are more or fewer cuts than at the mark, where the cuts are not
+/// side by side, and where memory was refused.
+fn gone_back(active: Option<Active>, flat: &FlatCuts, cuts: &[Cut]) -> Option<Active>
+    requires flat { IsFlat cuts.now flat.now }
+    requires marked { IfSome active (IsMarked (map packed_cut cuts.now)) }
+    ensures { IfSome result (IsActive (map packed_cut cuts.now)) }
+{
+    let _ = cuts;
+    let mut found = active?;
+    let list = flat.list()?;
+    match found.go_back(&list) {
+        Ok(()) => Some(found),
+        Err(_) => None,
+    }
+}
+
+/// Sets the mark of covering cuts to them.
+fn marked(active: Option<Active>, cuts: &[Cut]) -> Option<Active>
+    requires few { length cuts.now ≤ 2 ^ 24 }
+    requires before { IfSome active (IsActive (map packed_cut cuts.now)) }
+    ensures { IfSome result (IsActive (map packed_cut cuts.now)) }
+{
+    let mut found = active?;
+    found.mark(cuts.len() as u32);
+    Some(found)
+}
+
 impl Pool {
     /// Makes a pool without cuts.
     pub(crate) fn new(alloc: Global) -> Pool
@@ -164,15 +212,26 @@ impl Pool {
         }
     }
 
-    /// Keeps the first cuts, as many as the count says. The room of those that go is free. Nothing else is kept of the cuts.
+    /// Keeps the first cuts, as many as the count says, and the lists that are kept of them. The covering cuts stay where all cuts
+    /// do, and where the mark was set to as many. The room of those that go is free.
     pub(crate) fn truncate(&mut self, count: u32)
         ensures cuts { self.new.cuts ≡ take count self.old.cuts }
         ensures freed { self.old.spare + (length self.old.cuts - count) ≡ self.new.spare }
     {
-        self.box_maxima.clear();
-        self.flat.forget();
-        self.active = None;
+        if self.cuts.len() <= count as usize {
+            return;
+        }
+        truncate_or_clear(&mut self.box_maxima, count);
+        self.flat.truncate(count);
         self.cuts.truncate(count as usize);
+        self.active = gone_back(self.active.take(), &self.flat, self.cuts.as_slice());
+    }
+
+    /// Remembers which cuts cover the others now, for a truncation to as many cuts. The cuts and their room stay.
+    pub(crate) fn mark(&mut self)
+        ensures { self.new ≡ self.old }
+    {
+        self.active = marked(self.active.take(), self.cuts.as_slice());
     }
 
     /// Gives the number of cuts.

@@ -97,6 +97,15 @@ impl Pools {
         self.lists[node as usize].truncate(count);
     }
 
+    /// Remembers which cuts of a node cover the others now, so that they are known when the node is cut back to as many cuts. It is
+    /// a matter of time alone.
+    pub fn mark(&mut self, node: u32)
+        requires { node < length self.old.lists }
+        ensures { self.new ≡ self.old }
+    {
+        self.lists[node as usize].mark();
+    }
+
     /// The number of nodes.
     pub fn nodes(&self) -> usize
         ensures { result ≡ length self.now.lists }
@@ -132,8 +141,9 @@ impl Pools {
 
     /// Makes a node's cuts ready for stage problems of a predecessor from now on. Keeps them side by side once more, where they
     /// have few binary digits. Keeps those by which all are covered over the states that may leave the predecessor, one box per
-    /// state, and the greatest of their values there. It is a matter of time alone, and these lists are dropped where a node's
-    /// cuts are cut back. [`Memory`] where memory was refused. The cuts and their room stay in either case.
+    /// state, and the greatest of their values there. It is a matter of time alone. Where a node's cuts are cut back, those by which
+    /// all are covered are dropped, unless so many cuts were marked, and the other lists stay. [`Memory`] where memory was refused.
+    /// The cuts and their room stay in either case.
     pub fn prepare(&mut self, alloc: Global, node: u32, boxes: &[OutBox]) -> Result<(), Memory>
         requires { node < length self.old.lists }
         ensures { self.new ≡ self.old }

@@ -18,9 +18,6 @@ use hp_train::{Draw, counts, cut_back, iteration_body};
 use std::alloc::Global;
 use std::thread::Threads;
 
-// Fewer iterations than these do without what takes long to make ready.
-const FEW_ITERATIONS: u32 = 8;
-
 /// Iterations that go on behind joined records.
 #[derive(Clone, Copy)]
 pub(crate) struct Stretch {
@@ -99,35 +96,27 @@ fn answer_all<R: Threads + Sync, O: Sink, V: Solver>(
     Ok(())
 }
 
-// Keeps the cuts of each node side by side, and no more of them. This takes the time of a copy.
-fn lay_side_by_side(alloc: Global, problem: &Problem, pools: &mut Pools) -> Result<(), Memory>
+// Has the pools remember which cuts of each node cover the others, so that they need not be found again once the cuts behind them
+// are dropped.
+fn mark_all(problem: &Problem, pools: &mut Pools)
     requires { PoolsFit problem.now pools.old.lists }
     ensures { pools.new ≡ pools.old }
 {
     let nodes = problem.parts().nodes.len() as u32;
     for node in 0..nodes {
-        pools.prepare(alloc, node, &[])?;
+        pools.mark(node);
     }
-    Ok(())
 }
 
-// Makes the pools ready for iterations, whose answers do not depend on it. Finding the cuts that cover the others takes the time of
-// the square of their number, and pays only where there are many iterations.
-fn make_ready(
-    alloc: Global,
-    problem: &Problem,
-    pools: &mut Pools,
-    stretch: Stretch,
-) -> Result<(), Memory>
+// Makes the pools ready for iterations, whose answers do not depend on it. What was made ready before takes in the cuts that came
+// since, and stays when the pools are cut back.
+fn make_ready(alloc: Global, problem: &Problem, pools: &mut Pools) -> Result<(), Memory>
     requires { PoolsFit problem.now pools.old.lists }
     ensures { pools.new ≡ pools.old }
 {
-    let _ = problem.parts();
-    if stretch.count < FEW_ITERATIONS {
-        lay_side_by_side(alloc, problem, pools)
-    } else {
-        prepare(alloc, problem, pools)
-    }
+    prepare(alloc, problem, pools)?;
+    mark_all(problem, pools);
+    Ok(())
 }
 
 /// Takes iterations behind the joined records, answers the payload of each, and cuts the pools back to what they were.
@@ -151,7 +140,7 @@ pub(crate) fn go_ahead<R: Threads + Sync, O: Sink, V: Solver>(
     }
     let problem = planner.problem();
     let _ = problem.parts();
-    make_ready(work.alloc(), problem, pools, stretch)?;
+    make_ready(work.alloc(), problem, pools)?;
     let counts = counts(work.alloc(), pools)?;
     answer_all(rt, work, planner, pools, stretch, out)?;
     cut_back(pools, counts.as_slice());

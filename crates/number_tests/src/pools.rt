@@ -145,7 +145,7 @@ fn keeps_cuts_side_by_side(rt: HostRuntime) -> Result<(), Fail> {
     assert!(rt; keeps_two(rt.alloc(), &mut pools));
     assert!(rt; keeps_few_digits(rt.alloc(), &mut pools));
     keeps_one(&mut pools, 0);
-    assert!(rt; box_maximum(&pools, ENDS).is_none() && kept(&pools, 0).is_none());
+    assert!(rt; box_maximum(&pools, ENDS) == Some(5) && kept(&pools, 0).is_none());
     Ok(())
 }
 
@@ -172,6 +172,24 @@ fn keeps_covering(alloc: Global, pools: &mut Pools) -> bool {
         && are_covering(pools, [0, 1].as_slice())
         && pushes(alloc, pools, 0, 5, 1)
         && are_covering(pools, [0, 3].as_slice())
+}
+
+// Marks the first cut of node 0 and goes back to it once there are more.
+fn goes_back_to_mark(alloc: Global, pools: &mut Pools) -> bool {
+    if !pushes(alloc, pools, 0, 9, -2) || !prepares(alloc, pools) || pools.nodes() == 0 {
+        return false;
+    }
+    pools.mark(0);
+    let pushed = pushes(alloc, pools, 0, 4, 1) && are_covering(pools, [0, 1].as_slice());
+    keeps_one(pools, 0);
+    pushed && are_covering(pools, [0].as_slice()) && box_maximum(pools, ENDS) == Some(7)
+}
+
+#[test]
+fn keeps_what_is_marked(rt: HostRuntime) -> Result<(), Fail> {
+    let mut pools = Pools::new(rt.alloc(), 1)?;
+    assert!(rt; goes_back_to_mark(rt.alloc(), &mut pools));
+    Ok(())
 }
 
 #[test]

@@ -1,7 +1,7 @@
 use Rattle.std.proofs.Common.{◌≤◌, ◌∙◌, length, ap, arith}
 use Rattle.hp_parts.specs.declared.parts.ProblemParts.{ProblemParts}
 use Rattle.hp_problem.proofs.ValidatedFacts.{parts-is_validated, few_nodes}
-use Rattle.hp_worker.proofs.ahead.lay_side_by_side.Goals as goal
+use Rattle.hp_worker.proofs.ahead.mark_all.Goals as goal
 
 pub overflow_cast-nodes : goal.overflow_cast-nodes
 overflow_cast-nodes c =
