@@ -99,7 +99,7 @@ fn push_chain<V: Solver>(
     if !may_begin(alloc, reference, first)? {
         return Err(RowFault::Unlike);
     }
-    let mut chain = solver.begin(alloc, start, first)?;
+    let mut chain = solver.begin(alloc, start, first, &mut None)?;
     push_answers(alloc, solver, &mut chain, first, all, text)
 }
 

@@ -62,7 +62,7 @@ fn push_told(text: &mut String, entries: &[Entry], told: Told) -> Result<(), Row
 /// Takes one more iteration, over pools with room for it.
 fn step<R: Threads + Sync, V: Solver>(
     rt: &R,
-    work: &mut Workspace,
+    work: &mut Workspace<V>,
     planner: &Planner<V>,
     pools: &mut Pools,
     draw: Draw,
@@ -96,7 +96,7 @@ fn push_step(
 /// Takes the iterations of a plan, one after another, and appends what is told of them to the text.
 pub fn steps<R: Threads + Sync, V: Solver>(
     rt: &R,
-    work: &mut Workspace,
+    work: &mut Workspace<V>,
     planner: &Planner<V>,
     pools: &mut Pools,
     plan: Plan,

@@ -53,7 +53,7 @@ fn plan(words: &mut SplitWhitespace<'_>) -> Result<Plan, RowFault> {
 
 /// The traces of drawn scenarios, or of those that the problem stores.
 fn traced<V: Solver>(
-    work: &mut Workspace,
+    work: &mut Workspace<V>,
     planner: &Planner<V>,
     pools: &Pools,
     drawn: Option<(u64, u32)>,
@@ -86,7 +86,7 @@ fn push_report(
 
 /// Appends the report of scenarios over pools, or the node without decisions that stops them.
 fn push_traces<V: Solver>(
-    work: &mut Workspace,
+    work: &mut Workspace<V>,
     planner: &Planner<V>,
     pools: &Pools,
     drawn: Option<(u64, u32)>,

@@ -12,7 +12,7 @@ use crate::stage_moments::{Moment, first, last};
 use crate::stage_texts::{push_certificate, push_program};
 use crate::words::count;
 use hp_cut::Pools;
-use hp_lp::{Workspace, set_sides, stage_problem};
+use hp_lp::{StageMemory, set_sides, stage_problem};
 use hp_num::Memory;
 use hp_problem::Problem;
 use hp_settle::certificate_of_duals;
@@ -34,7 +34,7 @@ const NODE: u32 = 0;
 
 /// Builds the stage problem at a moment, in the workspace's memory.
 fn stage_at<'a>(
-    work: &mut Workspace,
+    memory: &mut StageMemory,
     problem: &Problem,
     pools: &'a Pools,
     moment: &Moment,
@@ -44,7 +44,7 @@ fn stage_at<'a>(
     ensures { IfOk result (IsStageAt problem.now 0) }
 {
     stage_problem(
-        work,
+        memory,
         problem,
         pools,
         NODE,
@@ -56,7 +56,7 @@ fn stage_at<'a>(
 /// The stage problem, built so many times and once, each time in the memory of the one before, as along a path of
 /// training.
 fn built<'a>(
-    work: &mut Workspace,
+    memory: &mut StageMemory,
     problem: &Problem,
     pools: &'a Pools,
     moment: &Moment,
@@ -67,10 +67,10 @@ fn built<'a>(
     ensures { IfOk result (IsStageAt problem.now 0) }
 {
     for _ in 0..builds {
-        let lp = stage_at(work, problem, pools, moment)?;
-        work.give_back(lp);
+        let lp = stage_at(memory, problem, pools, moment)?;
+        memory.give_back(lp);
     }
-    stage_at(work, problem, pools, moment)
+    stage_at(memory, problem, pools, moment)
 }
 
 /// Gives the stage problem the sides of a moment.
@@ -152,8 +152,8 @@ fn parts(
     requires last { MayStand problem.now 0 last.now.values.now last.now.state }
 {
     let mut text = String::new(alloc);
-    let mut work = Workspace::new(alloc);
-    let mut lp = built(&mut work, problem, pools, first, counts.builds)?;
+    let mut memory = StageMemory::new(alloc);
+    let mut lp = built(&mut memory, problem, pools, first, counts.builds)?;
     push_program(alloc, &mut text, &lp)?;
     turned(problem, first, last, counts.sides, &mut lp);
     push_program(alloc, &mut text, &lp)?;

@@ -33,8 +33,14 @@ impl<'a, V: Solver> Solver for Threaded<'a, V> {
         self.solver.start(alloc, lp)
     }
 
-    fn begin(&self, alloc: Global, start: &V::Start, lp: &StageLp) -> Result<V::Chain, Memory> {
-        self.solver.begin(alloc, start, lp)
+    fn begin(
+        &self,
+        alloc: Global,
+        start: &V::Start,
+        lp: &StageLp,
+        spare: &mut Option<V::Chain>,
+    ) -> Result<V::Chain, Memory> {
+        self.solver.begin(alloc, start, lp, spare)
     }
 
     fn solve(&self, alloc: Global, chain: &mut V::Chain, lp: &StageLp) -> Result<Answer, Memory> {

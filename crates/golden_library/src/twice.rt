@@ -39,9 +39,10 @@ impl<'a, V: Solver> Solver for Twice<'a, V> {
         alloc: Global,
         start: &V::Start,
         lp: &StageLp,
+        _spare: &mut Option<(V::Chain, V::Chain)>,
     ) -> Result<(V::Chain, V::Chain), Memory> {
-        let first = self.solver.begin(alloc, start, lp)?;
-        let second = self.solver.begin(alloc, start, lp)?;
+        let first = self.solver.begin(alloc, start, lp, &mut None)?;
+        let second = self.solver.begin(alloc, start, lp, &mut None)?;
         Ok((first, second))
     }
 

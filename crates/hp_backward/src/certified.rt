@@ -11,7 +11,7 @@ ghost use Rattle.hp_backward.specs.Certifying.{certify, nothing_certified};
 ghost use Rattle.hp_backward.specs.Given.{CanVisit, IsStageOver};
 
 use hp_cut::Pools;
-use hp_lp::{Planner, Workspace, stage_problem};
+use hp_lp::{Planner, StageMemory, stage_problem};
 use hp_num::{List, Memory};
 use hp_settle::{Classified, Infeasibility, PlanFault, certificate_of_duals, classify};
 use hp_solver::{Answer, Solver, StageLp};
@@ -51,14 +51,18 @@ impl Certified {
 }
 
 impl<'a, V: Solver> Visit<'a, V> {
-    /// Builds the stage problem of the node at these values, in the workspace's memory.
-    pub(crate) fn stage(&self, work: &mut Workspace, values: &[i64]) -> Result<StageLp<'a>, Memory>
+    /// Builds the stage problem of the node at these values, in the memory that is lent.
+    pub(crate) fn stage(
+        &self,
+        memory: &mut StageMemory,
+        values: &[i64],
+    ) -> Result<StageLp<'a>, Memory>
         requires visit { CanVisit self.now.planner.now.problem.now self.now.pools.now.lists self.now.node self.now.state.now }
         requires values { are_values (subproblem_of self.now.planner.now.problem.now self.now.node) values.now ≡ true }
         ensures stage { IfOk result (IsStageOver self.now.planner.now.problem.now self.now.pools.now.lists self.now.node) }
     {
         stage_problem(
-            work,
+            memory,
             self.planner.problem(),
             self.pools,
             self.node,

@@ -20,9 +20,10 @@ use hp_settle::PlanFault;
 use hp_solver::{Solver, StageLp};
 use std::alloc::Global;
 
-/// Certifies the realizations with these values, in a chain that has begun with a stage problem of the node.
+/// Certifies the realizations with these values, in a chain that has begun with a stage problem of the node. The chain's memory
+/// goes to the workspace afterwards.
 fn certify_in_chain<V: Solver>(
-    alloc: Global,
+    work: &mut Workspace<V>,
     here: &Visit<V>,
     values: &[List<i64>],
     lp: &mut StageLp,
@@ -39,6 +40,7 @@ fn certify_in_chain<V: Solver>(
         (answers (V.does here.now.planner.now.solver.now).next chain (map (λ (own : List ℤ). stage_at here.now.planner.now.problem.now here.now.pools.now.lists here.now.node own here.now.state.now) values.now))) }
     ensures few { IfOk result (λ found. found.unanswered ≤ length values.now) }
 {
+    let alloc = work.alloc();
     let mut chain = chain;
     let mut found = Certified::nothing(alloc);
     let (problem, solver) = (here.planner.problem(), here.planner.solver());
@@ -47,13 +49,15 @@ fn certify_in_chain<V: Solver>(
         let answer = solver.solve(alloc, &mut chain, lp)?;
         here.certify(alloc, own.as_slice(), &answer, &mut found)?;
     }
+    work.keep_chain(chain);
     Ok(found)
 }
 
 /// Certifies the realizations with these values, in a chain of their own, by a stage problem of the node over these pools,
-/// whose sides are set anew for each. Without values nothing is begun.
+/// whose sides are set anew for each. Without values nothing is begun. The chain's memory is the workspace's, and free again
+/// afterwards.
 pub(crate) fn certify_over<V: Solver>(
-    alloc: Global,
+    work: &mut Workspace<V>,
     here: &Visit<V>,
     values: &[List<i64>],
     lp: &mut StageLp,
@@ -68,12 +72,12 @@ pub(crate) fn certify_over<V: Solver>(
     ensures few { IfOk result (λ found. found.unanswered ≤ length values.now) }
 {
     let Some(first) = values.first() else {
-        return Ok(Certified::nothing(alloc));
+        return Ok(Certified::nothing(work.alloc()));
     };
     let problem = here.planner.problem();
     set_sides(problem, here.node, first.as_slice(), here.state, lp);
-    let chain = here.planner.begin(alloc, here.node, lp)?;
-    certify_in_chain(alloc, here, values, lp, chain)
+    let chain = here.planner.begin(work, here.node, lp)?;
+    certify_in_chain(work, here, values, lp, chain)
 }
 
 /// Like `certify_over`, with a stage problem of its own.
@@ -93,6 +97,6 @@ pub(crate) fn certify_each<V: Solver>(
         return Ok(Certified::nothing(alloc));
     };
     let mut work = Workspace::new(alloc);
-    let mut lp = here.stage(&mut work, first.as_slice())?;
-    certify_over(alloc, here, values, &mut lp)
+    let mut lp = here.stage(&mut work.stages, first.as_slice())?;
+    certify_over(&mut work, here, values, &mut lp)
 }

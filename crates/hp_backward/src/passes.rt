@@ -37,7 +37,7 @@ fn take_back(pools: &mut Pools, steps: &[EntryStep])
 /// The path backwards. After a fault the cuts of the entry's steps stand in the pools.
 fn go_back<R: Threads, V: Solver>(
     rt: &R,
-    work: &mut Workspace,
+    work: &mut Workspace<V>,
     planner: &Planner<V>,
     pools: &mut Pools,
     pass: &Pass,
@@ -97,7 +97,7 @@ pub struct Pass<'a> {
 /// no use.
 pub fn backward_pass<R: Threads, V: Solver>(
     rt: &R,
-    work: &mut Workspace,
+    work: &mut Workspace<V>,
     planner: &Planner<V>,
     pools: &mut Pools,
     pass: &Pass,

@@ -85,7 +85,7 @@ fn cut_of<V: Solver>(alloc: Global, here: &Visit<V>, list: &[Certificate]) -> Re
 #[tactic(auto, unfolding(crate::specs::Sweeping::made_at))]
 fn made_at<R: Threads, V: Solver>(
     rt: &R,
-    work: &mut Workspace,
+    work: &mut Workspace<V>,
     here: &Visit<V>,
 ) -> Result<(Certified, Cut), PlanFault>
     requires { CanVisit here.now.planner.now.problem.now here.now.pools.now.lists here.now.node here.now.state.now }
@@ -114,7 +114,7 @@ pub(crate) struct Reached<'a> {
 #[tactic(auto, unfolding(crate::specs::Sweeping::step_back))]
 pub(crate) fn step_back<R: Threads, V: Solver>(
     rt: &R,
-    work: &mut Workspace,
+    work: &mut Workspace<V>,
     planner: &Planner<V>,
     pools: &mut Pools,
     reached: &Reached,

@@ -136,7 +136,7 @@ fn beside_each_other<R: Threads, V: Solver>(
 
 /// Like `beside_each_other`, with the chains one after the other, over one stage problem.
 fn one_after_the_other<V: Solver>(
-    alloc: Global,
+    work: &mut Workspace<V>,
     here: &Visit<V>,
     left: &[List<i64>],
     right: &[List<i64>],
@@ -152,15 +152,15 @@ fn one_after_the_other<V: Solver>(
         (in_chain (V.does here.now.planner.now.solver.now) here.now.planner.now.problem.now here.now.pools.now.lists here.now.iteration here.now.node here.now.state.now right.now)) }
     ensures few { IfOk result (λ found. found.unanswered ≤ 100) }
 {
-    let first = certify_over(alloc, here, left, lp)?;
-    let second = certify_over(alloc, here, right, lp)?;
+    let first = certify_over(work, here, left, lp)?;
+    let second = certify_over(work, here, right, lp)?;
     Ok(joined(first, second)?)
 }
 
 /// Like `beside_each_other` where a thread is worth it, by a stage problem of the node, and else like `one_after_the_other`.
 fn in_two_chains<R: Threads, V: Solver>(
     rt: &R,
-    alloc: Global,
+    work: &mut Workspace<V>,
     here: &Visit<V>,
     left: &[List<i64>],
     right: &[List<i64>],
@@ -181,9 +181,9 @@ fn in_two_chains<R: Threads, V: Solver>(
         .solver()
         .worth_a_thread(lp, left.len() + right.len())
     {
-        beside_each_other(rt, alloc, here, left, right)
+        beside_each_other(rt, work.alloc(), here, left, right)
     } else {
-        one_after_the_other(alloc, here, left, right, lp)
+        one_after_the_other(work, here, left, right, lp)
     }
 }
 
@@ -192,7 +192,7 @@ fn in_two_chains<R: Threads, V: Solver>(
 /// afterwards.
 pub(crate) fn certified<R: Threads, V: Solver>(
     rt: &R,
-    work: &mut Workspace,
+    work: &mut Workspace<V>,
     here: &Visit<V>,
 ) -> Result<Certified, PlanFault>
     requires { CanVisit here.now.planner.now.problem.now here.now.pools.now.lists here.now.node here.now.state.now }
@@ -202,8 +202,8 @@ pub(crate) fn certified<R: Threads, V: Solver>(
 {
     let values = values_of(here.planner.problem(), here.node);
     let (left, right) = halves(values);
-    let mut lp = here.stage(work, values[0].as_slice())?;
-    let found = in_two_chains(rt, work.alloc(), here, left, right, &mut lp);
+    let mut lp = here.stage(&mut work.stages, values[0].as_slice())?;
+    let found = in_two_chains(rt, work, here, left, right, &mut lp);
     work.give_back(lp);
     found
 }

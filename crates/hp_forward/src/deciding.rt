@@ -99,7 +99,7 @@ fn decisions_at(alloc: Global, decisions: &[Decision], point: &[Fx]) -> Result<L
         let highs = map (λ (d : Decision). d.high) decisions.now in
         IfOk result (λ found. found ≡ table (length lows) (λ j. decision_from_point point.now j (entry lows j) (entry highs j))) }
 {
-    let mut found = List::new(alloc);
+    let mut found = List::from_vec(Vec::with_capacity(alloc, decisions.len())?);
     for (j, decision) in decisions.iter().enumerate() {
         found.push(decision_at(point, j, decision))?;
     }
@@ -121,7 +121,7 @@ fn number_at(decisions: &[i128], at: usize) -> i128
 pub fn next_state(alloc: Global, outs: &[u32], decisions: &[i128]) -> Result<List<i128>, Memory>
     ensures { IfOk result (λ found. found ≡ map (λ o. entry decisions.now o) outs.now) }
 {
-    let mut found = List::new(alloc);
+    let mut found = List::from_vec(Vec::with_capacity(alloc, outs.len())?);
     for out in outs {
         found.push(number_at(decisions, *out as usize))?;
     }
@@ -193,7 +193,7 @@ fn decide_by(
 /// where memory was refused.
 #[tactic(auto, unfolding(crate::specs::Deciding::decide_of))]
 pub fn decide<V: Solver>(
-    work: &mut Workspace,
+    work: &mut Workspace<V>,
     planner: &Planner<V>,
     pools: &Pools,
     input: &StageInput,

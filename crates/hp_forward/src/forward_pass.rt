@@ -38,7 +38,7 @@ fn values_of(problem: &Problem, step: PathStep) -> &[i64]
 fn scaled_all(alloc: Global, numbers: &[i64]) -> Result<List<i128>, Memory>
     ensures { IfOk result (λ found. found ≡ times_all S numbers.now) }
 {
-    let mut found = List::new(alloc);
+    let mut found = List::from_vec(Vec::with_capacity(alloc, numbers.len())?);
     for number in numbers {
         found.push(scaled(*number))?;
     }
@@ -62,7 +62,7 @@ struct Progress {
 
 /// Goes on through a step of a path: adds it to the trajectory, and comes to the state that leaves the step's node.
 fn step_on<V: Solver>(
-    work: &mut Workspace,
+    work: &mut Workspace<V>,
     planner: &Planner<V>,
     pools: &Pools,
     run: u32,
@@ -99,7 +99,7 @@ fn step_on<V: Solver>(
 /// Infeasible exactly at the first step where [`decide`] gives it; Memory where memory was refused.
 #[tactic(auto, unfolding(crate::specs::Walking::trajectory_of))]
 pub(crate) fn forward_pass<V: Solver>(
-    work: &mut Workspace,
+    work: &mut Workspace<V>,
     planner: &Planner<V>,
     pools: &Pools,
     run: u32,

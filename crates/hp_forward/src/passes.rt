@@ -22,7 +22,7 @@ use std::thread::{Threads, join};
 
 /// Passes forward along paths, one after another.
 fn passes_in_order<V: Solver>(
-    work: &mut Workspace,
+    work: &mut Workspace<V>,
     planner: &Planner<V>,
     pools: &Pools,
     run: u32,
@@ -123,7 +123,7 @@ fn passes_beside<R: Threads + Sync, V: Solver>(
 /// refused.
 pub fn forward_passes<R: Threads + Sync, V: Solver>(
     rt: &R,
-    work: &mut Workspace,
+    work: &mut Workspace<V>,
     planner: &Planner<V>,
     pools: &Pools,
     run: u32,

@@ -33,7 +33,8 @@ pub(crate) fn decision_columns(
 ) -> Result<List<Column>, Memory>
     ensures { IfOk result (λ found. found ≡ map (decision_column weight) decisions.now) }
 {
-    let mut found = List::from_vec(Vec::with_capacity(alloc, decisions.len())?);
+    // Room for a successor's column too.
+    let mut found = List::from_vec(Vec::with_capacity(alloc, decisions.len().saturating_add(1))?);
     for decision in decisions {
         found.push(decision_column(weight, decision))?;
     }

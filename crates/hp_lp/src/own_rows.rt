@@ -10,7 +10,7 @@ ghost use Rattle.hp_lp.specs.Stage.{whole_fixed, side_at_state, own_row};
 ghost use Rattle.hp_lp.specs.Given.{AreGiven, IsOver};
 
 use crate::scales::{CUT_SCALE, sum, whole};
-use crate::workspace::Workspace;
+use crate::stage_memory::StageMemory;
 use crate::written_rows::{RowParts, WrittenRows, cleared};
 use hp_num::{List, Memory};
 use hp_parts::Row;
@@ -170,7 +170,7 @@ impl RowParts for OwnRow<'_> {
 
 /// Writes the rows at the values and the state behind the others.
 pub(crate) fn push_own_rows(
-    work: &mut Workspace,
+    memory: &mut StageMemory,
     found: &mut WrittenRows,
     rows: &[Row],
     values: &[i64],
@@ -181,7 +181,7 @@ pub(crate) fn push_own_rows(
     ensures { OnOk result (found.new ≡ found.old ++ map (own_row values.now state.now) rows.now) }
 {
     for row in rows {
-        found.push(work, &OwnRow { row, values, state })?;
+        found.push(memory, &OwnRow { row, values, state })?;
     }
     Ok(())
 }

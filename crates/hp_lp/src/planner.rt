@@ -8,10 +8,10 @@ ghost use Rattle.hp_lp.specs.Nodes.{IsStageAt};
 ghost use Rattle.hp_lp.specs.Ready.{AreReady, AreReady-prop};
 
 use crate::warm_starts::WarmStarts;
+use crate::workspace::Workspace;
 use hp_num::Memory;
 use hp_problem::Problem;
 use hp_solver::{Solver, StageLp};
-use std::alloc::Global;
 
 /// A problem with a solver, and what the solver made ready for each of its nodes.
 #[derive(Drop)]
@@ -58,15 +58,22 @@ impl<'a, V: Solver> Planner<'a, V> {
         self.starts
     }
 
-    /// Begins a chain of a node with one of its stage problems, by the start of the node. The chain may take this stage problem
-    /// and each that [`set_sides`](crate::set_sides) makes of it. [`Memory`] where memory was refused.
-    pub fn begin(&self, alloc: Global, node: u32, lp: &StageLp) -> Result<V::Chain, Memory>
+    /// Begins a chain of a node with one of its stage problems, by the start of the node, in the memory of the chain that came
+    /// back to the workspace last. The chain may take this stage problem and each that [`set_sides`](crate::set_sides) makes of
+    /// it. [`Memory`] where memory was refused.
+    pub fn begin(
+        &self,
+        work: &mut Workspace<V>,
+        node: u32,
+        lp: &StageLp,
+    ) -> Result<V::Chain, Memory>
         requires known { node < length self.now.problem.now.parts.nodes }
         requires stage { IsStageAt self.now.problem.now node lp.now }
         ensures made { IfOk result (λ chain. chain ≡ begun_at (V.does self.now.solver.now) self.now.problem.now node lp.now) }
         ensures fits { IfOk result (λ chain. (other : Program) → IsLike lp.now other → V.fits self.now.solver.now chain other) }
     {
         let _ = self.problem.parts();
-        self.solver.begin(alloc, self.starts.at(node), lp)
+        self.solver
+            .begin(work.alloc(), self.starts.at(node), lp, &mut work.chain)
     }
 }

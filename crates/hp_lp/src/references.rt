@@ -8,8 +8,8 @@ ghost use Rattle.hp_lp.specs.Given.{HasReference};
 
 use crate::columns::decision_columns;
 use crate::own_rows::push_own_rows;
+use crate::stage_memory::StageMemory;
 use crate::stages::StageNode;
-use crate::workspace::Workspace;
 use crate::written_rows::WrittenRows;
 use hp_num::{List, Memory};
 use hp_problem::Problem;
@@ -29,7 +29,7 @@ fn quarter(low: i64, high: i64) -> i128
 fn quarters(alloc: Global, low: &[i64], high: &[i64]) -> Result<List<i128>, Memory>
     ensures { IfOk result (λ found. found ≡ quarters low.now high.now) }
 {
-    let mut found = List::new(alloc);
+    let mut found = List::from_vec(Vec::with_capacity(alloc, low.len())?);
     for k in 0..low.len().min(high.len()) {
         found.push(quarter(low[k], high[k]))?;
     }
@@ -69,16 +69,16 @@ fn reference_rows(
     ensures { IfOk result (λ found. found ≡ map (own_row (get_or stage.now.node.now.values 0 []) (quarters low.now high.now)) stage.now.subproblem.now.rows) }
 {
     let state = quarters(alloc, low, high)?;
-    let mut work = Workspace::new(alloc);
-    let mut rows = WrittenRows::new(&mut work);
+    let mut memory = StageMemory::new(alloc);
+    let mut rows = WrittenRows::new(&mut memory);
     push_own_rows(
-        &mut work,
+        &mut memory,
         &mut rows,
         stage.subproblem.rows.as_slice(),
         first_values(stage),
         state.as_slice(),
     )?;
-    Ok(rows.into_list(&mut work))
+    Ok(rows.into_list(&mut memory))
 }
 
 // The reference program of the node in a box.

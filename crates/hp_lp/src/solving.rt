@@ -15,7 +15,7 @@ use hp_solver::{Answer, Solver};
 /// Solves the stage problem of a node at values and a state, in a chain of its own, and gives the answer. Values and state are
 /// as in [`stage_problem`]. [`Memory`] where memory was refused.
 pub fn solve_stage<V: Solver>(
-    work: &mut Workspace,
+    work: &mut Workspace<V>,
     planner: &Planner<V>,
     pools: &Pools,
     node: u32,
@@ -28,9 +28,17 @@ pub fn solve_stage<V: Solver>(
     requires state { IsStateAt planner.now.problem.now node state.now }
     ensures { IfOk result (λ a. a ≡ stage_answer (V.does planner.now.solver.now) planner.now.problem.now pools.now.lists node values.now state.now) }
 {
-    let lp = stage_problem(work, planner.problem(), pools, node, values, state)?;
-    let mut chain = planner.begin(work.alloc(), node, &lp)?;
+    let lp = stage_problem(
+        &mut work.stages,
+        planner.problem(),
+        pools,
+        node,
+        values,
+        state,
+    )?;
+    let mut chain = planner.begin(work, node, &lp)?;
     let answer = planner.solver().solve(work.alloc(), &mut chain, &lp);
+    work.keep_chain(chain);
     work.give_back(lp);
     answer
 }

@@ -15,7 +15,7 @@ use crate::columns::{decision_columns, push_future_columns};
 use crate::cut_rows::push_cut_rows;
 use crate::own_rows::{push_own_rows, set_own_sides};
 use crate::packed_views::packed_view;
-use crate::workspace::Workspace;
+use crate::stage_memory::StageMemory;
 use crate::written_rows::WrittenRows;
 use hp_cut::Pools;
 use hp_num::{List, Memory};
@@ -68,7 +68,7 @@ fn columns(alloc: Global, stage: &StageNode, pools: &Pools) -> Result<List<Colum
 
 // The node's own rows.
 fn own_rows(
-    work: &mut Workspace,
+    memory: &mut StageMemory,
     stage: &StageNode,
     values: &[i64],
     state: &[i128],
@@ -76,20 +76,20 @@ fn own_rows(
     requires { AreOf stage.now.subproblem.now values.now state.now }
     ensures { IfOk result (λ found. found ≡ map (own_row values.now state.now) stage.now.subproblem.now.rows) }
 {
-    let mut found = WrittenRows::new(work);
+    let mut found = WrittenRows::new(memory);
     push_own_rows(
-        work,
+        memory,
         &mut found,
         stage.subproblem.rows.as_slice(),
         values,
         state,
     )?;
-    Ok(found.into_list(work))
+    Ok(found.into_list(memory))
 }
 
 // The node's own rows, and then the successors' cuts.
 fn rows(
-    work: &mut Workspace,
+    memory: &mut StageMemory,
     stage: &StageNode,
     pools: &Pools,
     values: &[i64],
@@ -100,22 +100,22 @@ fn rows(
     ensures { IfOk result (λ found. found ≡ map (own_row values.now state.now) stage.now.subproblem.now.rows
         ++ cut_rows stage.now.subproblem.now pools.now.lists (length stage.now.subproblem.now.decisions) stage.now.node.now.successors) }
 {
-    let mut found = WrittenRows::new(work);
+    let mut found = WrittenRows::new(memory);
     push_own_rows(
-        work,
+        memory,
         &mut found,
         stage.subproblem.rows.as_slice(),
         values,
         state,
     )?;
     push_cut_rows(
-        work,
+        memory,
         &mut found,
         stage.subproblem,
         pools,
         stage.node.successors.as_slice(),
     )?;
-    Ok(found.into_list(work))
+    Ok(found.into_list(memory))
 }
 
 // The columns with some rows, of which the first are the node's own.
@@ -135,7 +135,7 @@ fn program(stage: &StageNode, columns: List<Column>, rows: List<LpRow>) -> Progr
 // The stage problem of the node with its cuts as rows.
 #[tactic(auto, unfolding(crate::specs::Stage::stage_program))]
 fn listed_stage<'a>(
-    work: &mut Workspace,
+    memory: &mut StageMemory,
     stage: &StageNode,
     pools: &Pools,
     values: &[i64],
@@ -146,15 +146,15 @@ fn listed_stage<'a>(
     requires given { AreOf stage.now.subproblem.now values.now state.now }
     ensures { IfOk result (λ lp. lp ≡ stage_program pools.now.lists stage.now.node.now stage.now.subproblem.now values.now state.now) }
 {
-    let columns = columns(work.alloc(), stage, pools)?;
-    let rows = rows(work, stage, pools, values, state)?;
+    let columns = columns(memory.alloc(), stage, pools)?;
+    let rows = rows(memory, stage, pools, values, state)?;
     Ok(StageLp::of(program(stage, columns, rows)))
 }
 
 // The stage problem of the node with its cuts side by side.
 #[tactic(auto, unfolding(crate::specs::Stage::stage_program))]
 fn packed_stage<'a>(
-    work: &mut Workspace,
+    memory: &mut StageMemory,
     stage: &StageNode,
     pools: &Pools,
     cuts: PackedView<'a>,
@@ -168,14 +168,14 @@ fn packed_stage<'a>(
     requires view { IsView cuts }
     ensures { IfOk result (λ lp. lp ≡ stage_program pools.now.lists stage.now.node.now stage.now.subproblem.now values.now state.now) }
 {
-    let columns = columns(work.alloc(), stage, pools)?;
-    let rows = own_rows(work, stage, values, state)?;
+    let columns = columns(memory.alloc(), stage, pools)?;
+    let rows = own_rows(memory, stage, values, state)?;
     Ok(StageLp::with_cuts(program(stage, columns, rows), cuts))
 }
 
 // The stage problem of the node.
 fn stage_of<'a>(
-    work: &mut Workspace,
+    memory: &mut StageMemory,
     stage: &StageNode,
     pools: &'a Pools,
     values: &[i64],
@@ -186,20 +186,20 @@ fn stage_of<'a>(
     requires given { AreOf stage.now.subproblem.now values.now state.now }
     ensures { IfOk result (λ lp. lp ≡ stage_program pools.now.lists stage.now.node.now stage.now.subproblem.now values.now state.now) }
 {
-    match packed_view(work.alloc(), stage, pools)? {
-        Some(cuts) => packed_stage(work, stage, pools, cuts, values, state),
-        None => listed_stage(work, stage, pools, values, state),
+    match packed_view(memory.alloc(), stage, pools)? {
+        Some(cuts) => packed_stage(memory, stage, pools, cuts, values, state),
+        None => listed_stage(memory, stage, pools, values, state),
     }
 }
 
 /// Builds the stage problem of a node (Pereira and Pinto 1991): the cheapest decisions at these values and this state, with the
-/// cost of the future at each successor at least as high as its cuts. Its rows are in the workspace's memory, until
-/// [`Workspace::give_back`]. [`Memory`] where memory was refused.
+/// cost of the future at each successor at least as high as its cuts. Its rows are in the memory that is lent, until
+/// [`StageMemory::give_back`]. [`Memory`] where memory was refused.
 ///
 /// There is one value per random variable of the node's subproblem, each at most 2^40 in absolute value, and the state,
 /// at scale 2^24, lies in the node's box.
 pub fn stage_problem<'a>(
-    work: &mut Workspace,
+    memory: &mut StageMemory,
     problem: &Problem,
     pools: &'a Pools,
     node: u32,
@@ -214,7 +214,7 @@ pub fn stage_problem<'a>(
     ensures proper { IfOk result IsProper }
 {
     let stage = StageNode::of(problem, node);
-    stage_of(work, &stage, pools, values, state)
+    stage_of(memory, &stage, pools, values, state)
 }
 
 /// Gives a stage problem of a node the sides of other values and another state: it is then the stage problem of these, over the

@@ -43,7 +43,7 @@ fn started<V: Solver>(
     ensures { IfOk result (λ made. AreReady (V.does solver.now) (V.suits solver.now) problem.now made) }
 {
     let nodes = problem.parts().nodes.len() as u32;
-    let mut made = List::new(alloc);
+    let mut made = List::from_vec(Vec::with_capacity(alloc, nodes as usize)?);
     for node in 0..nodes {
         let program = reference(alloc, problem, node)?;
         made.push(solver.start(alloc, &program)?)?;

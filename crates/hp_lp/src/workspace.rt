@@ -1,54 +1,39 @@
 // The memory that calls lend each other.
-use hp_solver::{LpRow, StageLp, blank_row};
+use crate::stage_memory::StageMemory;
+use hp_solver::{Solver, StageLp};
 use std::alloc::Global;
-use std::mem;
 
-/// The allocator, and memory that stage problems are done with. The next stage problem is written over it; no result depends on
-/// it.
+/// The allocator, and memory that stage problems and chains of solves are done with. The next ones are written over it; no
+/// result depends on it.
 #[derive(Drop)]
-pub struct Workspace {
-    alloc: Global,
-    /// The rows of the stage problem that came back last.
-    rows: Vec<LpRow>,
-    /// Rows that stage problems with fewer rows had no use for.
-    left_over: Vec<LpRow>,
+pub struct Workspace<V: Solver> {
+    /// The allocator, and the memory of stage problems.
+    pub stages: StageMemory,
+    /// The chain that came back last.
+    pub(crate) chain: Option<V::Chain>,
 }
 
-impl Workspace {
+impl<V: Solver> Workspace<V> {
     /// Starts with nothing kept.
-    pub fn new(alloc: Global) -> Workspace {
+    pub fn new(alloc: Global) -> Workspace<V> {
         Workspace {
-            alloc,
-            rows: Vec::new(alloc),
-            left_over: Vec::new(alloc),
+            stages: StageMemory::new(alloc),
+            chain: None,
         }
     }
 
     /// The allocator.
     pub fn alloc(&self) -> Global {
-        self.alloc
+        self.stages.alloc()
     }
 
     /// Keeps the rows of a stage problem that is done with, in place of those that came back before.
     pub fn give_back(&mut self, lp: StageLp) {
-        self.rows = lp.into_rows().into_vec();
+        self.stages.give_back(lp);
     }
 
-    /// Takes the rows of the stage problem that came back last, none where they are taken already.
-    pub(crate) fn take_rows(&mut self) -> Vec<LpRow> {
-        mem::replace(&mut self.rows, Vec::new(self.alloc))
-    }
-
-    /// Takes a row that is left over, or makes one.
-    pub(crate) fn take_row(&mut self) -> LpRow {
-        match self.left_over.pop() {
-            Some(row) => row,
-            None => blank_row(self.alloc),
-        }
-    }
-
-    /// Keeps a row that is left over. Where memory for keeping it is refused, it is dropped.
-    pub(crate) fn keep(&mut self, row: LpRow) {
-        let _ = self.left_over.push(row);
+    /// Keeps a chain that is done with, in place of the one that came back before.
+    pub fn keep_chain(&mut self, chain: V::Chain) {
+        self.chain = Some(chain);
     }
 }

@@ -2,7 +2,7 @@
 ghost use Rattle.std.specs.Prelude.{◌≡◌, ◌≤◌, ◌∷◌, ◌++◌, [], length, take, IfOk, OnOk};
 ghost use Rattle.hp_solver.specs.declared.programs.LpRow.{LpRow};
 
-use crate::workspace::Workspace;
+use crate::stage_memory::StageMemory;
 use hp_num::{List, Memory};
 use hp_solver::{Fx, LpRow};
 use std::marker::Model;
@@ -44,13 +44,13 @@ pub(crate) trait RowParts {
 
 // Lets the rows behind so many go to those that are left over, the last first, so that a stage problem with more rows finds
 // each in its place again.
-fn let_go(work: &mut Workspace, rows: &mut Vec<LpRow>, count: usize)
+fn let_go(memory: &mut StageMemory, rows: &mut Vec<LpRow>, count: usize)
     requires { count ≤ length rows.old.items }
     ensures { rows.new.items ≡ take count rows.old.items }
 {
     for _ in count..rows.len() {
         if let Some(row) = rows.pop() {
-            work.keep(row);
+            memory.keep(row);
         }
     }
 }
@@ -67,11 +67,11 @@ pub(crate) fn cleared(terms: List<(u32, Fx)>, count: usize) -> Result<List<(u32,
 
 impl WrittenRows {
     /// Starts with no rows; those that are spare may be written over.
-    pub(crate) fn new(work: &mut Workspace) -> WrittenRows
+    pub(crate) fn new(memory: &mut StageMemory) -> WrittenRows
         ensures { result ≡ [] }
     {
         WrittenRows {
-            rows: work.take_rows(),
+            rows: memory.take_rows(),
             count: 0,
         }
     }
@@ -79,27 +79,27 @@ impl WrittenRows {
     /// Writes a row behind the others. [`Memory`] where memory was refused.
     pub(crate) fn push<P: RowParts>(
         &mut self,
-        work: &mut Workspace,
+        memory: &mut StageMemory,
         parts: &P,
     ) -> Result<(), Memory>
         requires { P.fit parts.now }
         ensures { OnOk result (self.new ≡ self.old ++ P.made parts.now ∷ []) }
     {
         if self.count == self.rows.len() {
-            self.rows.push(work.take_row())?;
+            self.rows.push(memory.take_row())?;
         }
-        let terms = mem::replace(&mut self.rows[self.count].terms, List::new(work.alloc()));
+        let terms = mem::replace(&mut self.rows[self.count].terms, List::new(memory.alloc()));
         self.rows[self.count] = parts.make(terms)?;
         self.count += 1;
         Ok(())
     }
 
     /// The rows as a list.
-    pub(crate) fn into_list(self, work: &mut Workspace) -> List<LpRow>
+    pub(crate) fn into_list(self, memory: &mut StageMemory) -> List<LpRow>
         ensures { result ≡ self }
     {
         let WrittenRows { mut rows, count } = self;
-        let_go(work, &mut rows, count);
+        let_go(memory, &mut rows, count);
         List::from_vec(rows)
     }
 }

@@ -114,7 +114,7 @@ fn mend(
 /// where memory was refused.
 #[tactic(auto, unfolding(crate::specs::Deciding::decide_mended_of))]
 pub fn decide_mended<V: Solver>(
-    work: &mut Workspace,
+    work: &mut Workspace<V>,
     planner: &Planner<V>,
     pools: &Pools,
     input: &StageInput,

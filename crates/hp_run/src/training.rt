@@ -96,7 +96,7 @@ fn load_for<D: Disk>(
 /// Trains on what was loaded, once what is pending on the disk is synced.
 fn train_on<R: Threads + Sync, D: Disk, V: Solver>(
     rt: &R,
-    work: &mut Workspace,
+    work: &mut Workspace<V>,
     planner: &Planner<V>,
     journal: &mut D,
     training: &Training,

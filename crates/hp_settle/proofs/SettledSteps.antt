@@ -1,14 +1,15 @@
 -- Sharing out a target over the duals of cuts, and the pairs that come of it.
-use Rattle.std.proofs.Common.{◌≡◌, ◌∙◌, ℕ, zero, suc, ◌+◌, ◌-◌, ◌<◌, ◌≤◌, ◌^◌, min, List, [], ◌∷◌, ◌++◌, length, get_or, drop, Bool, true, false, if◌then◌else◌, All, refl, sym, ap, ap₂, arith}
+use Rattle.std.proofs.Common.{◌≡◌, ◌∙◌, ℕ, zero, suc, ◌+◌, ◌-◌, ◌<◌, ◌≤◌, ◌^◌, min, ℤ, List, [], ◌∷◌, ◌++◌, length, get_or, drop, Bool, true, false, if◌then◌else◌, All, refl, sym, ap, ap₂, add-one, arith}
 use Rattle.std.proofs.lemmas.List.{append_assoc, drop_more}
 use Rattle.std.proofs.lemmas.List.Elements.{All-nil, All-cons}
+use Rattle.hp_parts.specs.declared.parts.Row.{Row}
 use Rattle.hp_theory.specs.Certificates.{multipliers}
 use Rattle.hp_solver.specs.declared.fixed.Fx.{Fx}
 use Rattle.hp_solver.specs.Numbers.{zero_fx}
 use Rattle.hp_solver.specs.Duals.{dual_in, not_zero, is_zero}
 use Rattle.hp_solver.proofs.SpreadDuals.{zero_is}
 use Rattle.hp_settle.specs.Kept.{kept_pairs, left_over}
-use Rattle.hp_settle.specs.Settling.{row_dual, cut_multiplier, cut_multipliers, capped, missing, pairs_from, topped, settled_pairs}
+use Rattle.hp_settle.specs.Settling.{row_dual, row_multiplier_over, row_multipliers_over, cut_multiplier, cut_multipliers, capped, missing, pairs_from, topped, settled_pairs}
 use Rattle.hp_settle.proofs.SettledPairs.{length-cut_multipliers, length-capped, total-capped, multipliers-pairs_from}
 use Rattle.hp_settle.proofs.ToppedPairs.{pairs_from-cons, topped-pairs}
 
@@ -57,6 +58,17 @@ places_below dual k (suc n) most h = by (places_below dual (suc k) n most (omega
     by : All (λ (p : ℕ × Fx). p.0 < most) (not_zero dual (suc k) n) → (t : Bool) → All (λ (p : ℕ × Fx). p.0 < most) (if t then not_zero dual (suc k) n else (k, dual k) ∷ not_zero dual (suc k) n)
     by behind true = behind
     by behind false = All-cons (λ (p : ℕ × Fx). p.0 < most) (k, dual k) (not_zero dual (suc k) n) (omega (arith, h)) behind
+
+-- the multiplier of one row more
+pub row_more : (divisor i : ℕ) (rows : List Row) (duals : List Fx) (row : Row) (found new all : List ℤ) (multiplier : ℤ) → i < length rows → row ≡ get_or rows i row
+    → multiplier ≡ row_multiplier_over divisor row (row_dual duals i) → new ≡ found ++ multiplier ∷ []
+    → found ++ row_multipliers_over divisor i (drop i rows) duals ≡ all → new ++ row_multipliers_over divisor (i + 1) (drop (i + 1) rows) duals ≡ all
+row_more divisor i rows duals row found new all multiplier h is e more w =
+    let later : List ℤ = row_multipliers_over divisor (i + 1) (drop (i + 1) rows) duals in
+    let behind : row_multipliers_over divisor i (drop i rows) duals ≡ multiplier ∷ later =
+    ap (λ (rs : List Row). row_multipliers_over divisor i rs duals) (drop_more rows i row h)
+    ∙ ap₂ (λ (m : ℤ) (j : ℕ). m ∷ row_multipliers_over divisor j (drop (i + 1) rows) duals) (ap (λ (r : Row). row_multiplier_over divisor r (row_dual duals i)) (sym is) ∙ sym e) (sym (add-one i)) in
+    ap (λ (ms : List ℤ). ms ++ later) more ∙ append_assoc found (multiplier ∷ []) later ∙ ap (λ (ms : List ℤ). found ++ ms) (sym behind) ∙ w
 
 -- one dual more
 pub one_kept : (pairs new : List (ℕ × ℕ)) (left now i : ℕ) (duals : List (ℕ × Fx)) (d : ℕ × Fx) (all : List (ℕ × ℕ)) (tail : ℕ) → i < length duals

@@ -67,7 +67,7 @@ pub(crate) fn rows_over(
     requires { 0 < divisor }
     ensures { IfOk result (λ found. found ≡ row_multipliers_over divisor 0 rows.now duals.now) }
 {
-    let mut found = List::new(alloc);
+    let mut found = List::from_vec(Vec::with_capacity(alloc, rows.len())?);
     for (i, row) in rows.iter().enumerate() {
         found.push(row_over(row, dual_at(duals, i), divisor))?;
     }
@@ -123,7 +123,7 @@ fn shares_of(alloc: Global, target: u64, duals: &[(usize, Fx)]) -> Result<Shares
     ensures pairs { IfOk result (λ found. found.pairs ≡ kept_pairs target duals.now) }
     ensures missing { IfOk result (λ found. found.missing ≡ left_over target duals.now) }
 {
-    let mut pairs = List::new(alloc);
+    let mut pairs = List::from_vec(Vec::with_capacity(alloc, duals.len())?);
     let mut missing = target;
     for i in 0..duals.len() {
         missing = keep(&mut pairs, duals[i], missing)?;
@@ -180,7 +180,7 @@ fn with_first(
 ) -> Result<List<(u32, u64)>, Memory>
     ensures { IfOk result (λ found. found ≡ (0, multiplier) ∷ pairs.now) }
 {
-    let mut found = List::new(alloc);
+    let mut found = List::from_vec(Vec::with_capacity(alloc, pairs.len().saturating_add(1))?);
     found.push((0, multiplier))?;
     for pair in pairs {
         found.push(*pair)?;
@@ -274,7 +274,7 @@ fn settled_successors(
     requires some { All (λ m. 0 < length (pool pools.now.lists m)) successors.now }
     ensures { IfOk result (λ found. found ≡ settled_successors pools.now.lists (successors_of successors.now weights.now) (drop from duals.now)) }
 {
-    let mut found = List::new(alloc);
+    let mut found = List::from_vec(Vec::with_capacity(alloc, successors.len())?);
     let mut at = from;
     for i in 0..successors.len() {
         let count = pools.count(successors[i]);

@@ -134,7 +134,7 @@ fn add_step(trace: &mut Trace, step: TraceStep) -> Result<(), Memory>
 /// Goes on through a moment of a run: adds it to the trace, and comes to the state that leaves the moment's node. An infeasibility
 /// carries the run's number.
 pub(crate) fn step_on<V: Solver>(
-    work: &mut Workspace,
+    work: &mut Workspace<V>,
     planner: &Planner<V>,
     pools: &Pools,
     run: u32,

@@ -70,7 +70,7 @@ pub(crate) fn drawn(
 /// Gives the trace of the run with a number.
 #[tactic(auto, unfolding(crate::specs::Tracing::trace_of))]
 pub(crate) fn trace_of<V: Solver>(
-    work: &mut Workspace,
+    work: &mut Workspace<V>,
     planner: &Planner<V>,
     pools: &Pools,
     run: u32,

@@ -27,7 +27,7 @@ use hp_solver::Solver;
 /// scenarios, where no decisions exist, as the multipliers that it carries show; its `run` is the number of the
 /// scenario. Memory where memory was refused.
 pub fn simulate<V: Solver>(
-    work: &mut Workspace,
+    work: &mut Workspace<V>,
     planner: &Planner<V>,
     pools: &Pools,
     seed: u64,
@@ -61,7 +61,7 @@ fn stored(problem: &Problem) -> &[List<Moment>]
 /// Infeasible exactly at the first step, in order of scenarios, where no decisions exist, with the number of the scenario as its
 /// `run`. Memory where memory was refused.
 pub fn validate<V: Solver>(
-    work: &mut Workspace,
+    work: &mut Workspace<V>,
     planner: &Planner<V>,
     pools: &Pools,
 ) -> Result<List<Trace>, PlanFault>

@@ -217,7 +217,13 @@ impl Solver for DualSimplex {
         Ok(())
     }
 
-    fn begin(&self, alloc: Global, _start: &(), _lp: &StageLp) -> Result<TableauRoom, Memory> {
+    fn begin(
+        &self,
+        alloc: Global,
+        _start: &(),
+        _lp: &StageLp,
+        _spare: &mut Option<TableauRoom>,
+    ) -> Result<TableauRoom, Memory> {
         Ok(TableauRoom::new(alloc))
     }
 

@@ -41,8 +41,15 @@ pub trait Solver: Sync {
             → suits self.now made other) };
 
     /// Begins a chain with its first program. It may take each program that differs from it in the sides of own rows
-    /// alone. [`Memory`] where memory was refused.
-    fn begin(&self, alloc: Global, start: &Self::Start, lp: &StageLp) -> Result<Self::Chain, Memory>
+    /// alone. `spare` may hold a chain that is done with: its memory may be taken, and nothing else of it plays a part.
+    /// [`Memory`] where memory was refused.
+    fn begin(
+        &self,
+        alloc: Global,
+        start: &Self::Start,
+        lp: &StageLp,
+        spare: &mut Option<Self::Chain>,
+    ) -> Result<Self::Chain, Memory>
         requires proper { IsProper lp.now }
         requires suits { suits self.now start.now lp.now }
         ensures made { IfOk result (λ made. made ≡ (does self.now).begun start.now lp.now) }

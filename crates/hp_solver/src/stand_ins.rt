@@ -46,7 +46,13 @@ impl Solver for Zero {
         Ok(())
     }
 
-    fn begin(&self, _alloc: Global, _start: &(), _lp: &StageLp) -> Result<(), Memory> {
+    fn begin(
+        &self,
+        _alloc: Global,
+        _start: &(),
+        _lp: &StageLp,
+        _spare: &mut Option<()>,
+    ) -> Result<(), Memory> {
         Ok(())
     }
 
@@ -87,7 +93,13 @@ impl Solver for Liar {
         Ok(())
     }
 
-    fn begin(&self, _alloc: Global, _start: &(), _lp: &StageLp) -> Result<(), Memory> {
+    fn begin(
+        &self,
+        _alloc: Global,
+        _start: &(),
+        _lp: &StageLp,
+        _spare: &mut Option<()>,
+    ) -> Result<(), Memory> {
         Ok(())
     }
 
@@ -182,7 +194,13 @@ impl Solver for Meeting {
         Ok(())
     }
 
-    fn begin(&self, _alloc: Global, _start: &(), _lp: &StageLp) -> Result<(), Memory> {
+    fn begin(
+        &self,
+        _alloc: Global,
+        _start: &(),
+        _lp: &StageLp,
+        _spare: &mut Option<()>,
+    ) -> Result<(), Memory> {
         Ok(())
     }
 

@@ -45,7 +45,7 @@ struct Forward<'a> {
 #[tactic(auto, unfolding(crate::specs::Stepping::with_path))]
 fn add_pass<R: Threads + Sync, V: Solver>(
     rt: &R,
-    work: &mut Workspace,
+    work: &mut Workspace<V>,
     planner: &Planner<V>,
     pools: &mut Pools,
     pass: &Pass,
@@ -72,7 +72,7 @@ fn add_pass<R: Threads + Sync, V: Solver>(
 #[tactic(auto, unfolding(crate::specs::Stepping::with_walks))]
 fn add_passes<R: Threads + Sync, V: Solver>(
     rt: &R,
-    work: &mut Workspace,
+    work: &mut Workspace<V>,
     planner: &Planner<V>,
     pools: &mut Pools,
     forward: &Forward,
@@ -106,7 +106,7 @@ fn add_passes<R: Threads + Sync, V: Solver>(
 #[tactic(auto, unfolding(crate::specs::Stepping::along))]
 fn go_along<R: Threads + Sync, V: Solver>(
     rt: &R,
-    work: &mut Workspace,
+    work: &mut Workspace<V>,
     planner: &Planner<V>,
     pools: &mut Pools,
     iteration: u32,
@@ -143,7 +143,7 @@ fn go_along<R: Threads + Sync, V: Solver>(
 /// refused. After each of these the cuts of the pools are as before.
 pub fn iteration<R: Threads + Sync, V: Solver>(
     rt: &R,
-    work: &mut Workspace,
+    work: &mut Workspace<V>,
     planner: &Planner<V>,
     pools: &mut Pools,
     draw: Draw,

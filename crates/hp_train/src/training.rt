@@ -77,7 +77,7 @@ fn body_of(alloc: Global, problem: &Problem, entries: &[Entry]) -> Result<Vec<u8
 #[tactic(auto, unfolding(crate::specs::Iterating::iteration_recorded))]
 pub fn iteration_body<R: Threads + Sync, V: Solver>(
     rt: &R,
-    work: &mut Workspace,
+    work: &mut Workspace<V>,
     planner: &Planner<V>,
     pools: &mut Pools,
     draw: Draw,
@@ -107,7 +107,7 @@ pub fn iteration_body<R: Threads + Sync, V: Solver>(
 #[tactic(auto, unfolding(crate::specs::Iterating::iterated))]
 fn iterate<R: Threads + Sync, V: Solver>(
     rt: &R,
-    work: &mut Workspace,
+    work: &mut Workspace<V>,
     course: &Course<V>,
     loaded: &mut Loaded,
     number: u32,
@@ -148,7 +148,7 @@ fn iterate<R: Threads + Sync, V: Solver>(
 /// Runs so many iterations, each with its record behind the commit byte of 0 at the journal's end.
 fn iterate_all<R: Threads + Sync, D: Disk, V: Solver>(
     rt: &R,
-    work: &mut Workspace,
+    work: &mut Workspace<V>,
     course: &Course<V>,
     disk: &mut D,
     loaded: &mut Loaded,
@@ -205,7 +205,7 @@ fn iterate_all<R: Threads + Sync, D: Disk, V: Solver>(
 /// that training adds. After a fault nothing is promised of `loaded`.
 pub fn train<R: Threads + Sync, D: Disk, V: Solver>(
     rt: &R,
-    work: &mut Workspace,
+    work: &mut Workspace<V>,
     planner: &Planner<V>,
     disk: &mut D,
     training: &Training,

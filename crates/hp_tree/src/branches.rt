@@ -79,7 +79,7 @@ fn unless_missed(
 /// Decides at a branch, after as many others as the input's `run` says, and mends the decisions where a point was found.
 #[tactic(auto, unfolding(crate::specs::PolicyTree::decide_branch))]
 pub(crate) fn decide_branch<V: Solver>(
-    work: &mut Workspace,
+    work: &mut Workspace<V>,
     course: &Course<V>,
     realization: u32,
     input: &StageInput,

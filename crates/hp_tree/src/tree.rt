@@ -59,7 +59,7 @@ pub(crate) struct WeightedNodes<'a> {
 /// The cost of successors from a state, times their weights, over trees of at most `stages` stages.
 #[cycle(walk)]
 pub(crate) fn successor_costs<V: Solver>(
-    work: &mut Workspace,
+    work: &mut Workspace<V>,
     course: &Course<V>,
     stages: u32,
     decided: u32,
@@ -101,7 +101,7 @@ pub(crate) fn successor_costs<V: Solver>(
 /// at most `stages` stages.
 #[cycle(walk)]
 fn branch_cost<V: Solver>(
-    work: &mut Workspace,
+    work: &mut Workspace<V>,
     course: &Course<V>,
     stages: u32,
     realization: u32,
@@ -146,7 +146,7 @@ fn branch_cost<V: Solver>(
 /// The costs of the branches of a node from a state, times their weights.
 #[cycle(walk)]
 fn branch_costs<V: Solver>(
-    work: &mut Workspace,
+    work: &mut Workspace<V>,
     course: &Course<V>,
     stages: u32,
     decided: u32,
@@ -189,7 +189,7 @@ fn branch_costs<V: Solver>(
 /// The cost of the tree of a node from a state, of at most `stages` stages.
 #[cycle(walk)]
 fn tree_cost<V: Solver>(
-    work: &mut Workspace,
+    work: &mut Workspace<V>,
     course: &Course<V>,
     stages: u32,
     node: u32,

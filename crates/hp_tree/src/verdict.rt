@@ -68,7 +68,7 @@ fn rounded(walked: Result<Walked, Fault>) -> Result<Verdict, PlanFault>
 
 /// The cost of the whole policy, over its least common denominator.
 fn whole_cost<V: Solver>(
-    work: &mut Workspace,
+    work: &mut Workspace<V>,
     planner: &Planner<V>,
     pools: &Pools,
 ) -> Result<Walked, Fault>
@@ -105,7 +105,7 @@ fn whole_cost<V: Solver>(
 /// at the first branch where no decisions exist, if no branch before it misses a row; its `run` is the number of the
 /// branches that were decided before. Memory where memory was refused.
 pub fn evaluate<V: Solver>(
-    work: &mut Workspace,
+    work: &mut Workspace<V>,
     planner: &Planner<V>,
     pools: &Pools,
 ) -> Result<Verdict, PlanFault>

@@ -14,9 +14,9 @@ use hp_num::{List, Memory};
 use hp_solver::{Answer, StageLp};
 use hp_warm_line::{Shift, rebuild, refine};
 use hp_warm_scale::set_sides;
-use hp_warm_table::lists::repeated;
 use hp_warm_table::{Cell, Square, WarmTable};
 use std::alloc::Global;
+use std::mem;
 
 // Makes a list so long, where it is not. Its values count for nothing then.
 fn fit<T: Copy + Drop>(
@@ -28,7 +28,10 @@ fn fit<T: Copy + Drop>(
     ensures { OnOk result (length list.new ≡ count) }
 {
     if list.len() != count {
-        *list = repeated(alloc, count, item)?;
+        let mut items = mem::replace(list, List::new(alloc)).into_vec();
+        items.clear();
+        items.resize(count, item)?;
+        *list = List::from_vec(items);
     }
     Ok(())
 }

@@ -50,14 +50,11 @@ impl Model for Chain {
     ghost view = { λ c. c.table };
 }
 
-impl Chain {
-    fn new(alloc: Global, table: Option<WarmTable>) -> Chain
-        ensures { result ≡ table }
-    {
-        Chain {
-            table,
-            room: new_room(alloc),
-        }
+// Gives the memory of a chain that is done with, and else memory that is new.
+fn memory_of(alloc: Global, spare: Option<Chain>) -> (Option<WarmTable>, WorkRoom) {
+    match spare {
+        Some(Chain { table, room }) => (table, room),
+        None => (None, new_room(alloc)),
     }
 }
 
@@ -107,12 +104,24 @@ fn started(alloc: Global, lp: &StageLp) -> Result<Option<WarmTable>, Memory>
     }
 }
 
-// The table of a chain that begins with a program.
+// Copies a table, into the memory of another one where there is one.
+fn copied(alloc: Global, table: &WarmTable, spare: Option<WarmTable>) -> Result<WarmTable, Memory>
+    ensures { IfOk result (λ found. found ≡ table.now) }
+{
+    let Some(mut found) = spare else {
+        return table.copy(alloc, FEW_CUTS);
+    };
+    found.write_over(alloc, table, FEW_CUTS)?;
+    Ok(found)
+}
+
+// The table of a chain that begins with a program, in the memory of a table that is done with.
 #[tactic(auto, unfolding(crate::specs::Chains::begun_of))]
 fn begun(
     alloc: Global,
     start: &Option<WarmTable>,
     lp: &StageLp,
+    spare: Option<WarmTable>,
 ) -> Result<Option<WarmTable>, Memory>
     requires proper { IsProper lp.now }
     requires suits { IfSome start.now (λ t. Suits t lp.now) }
@@ -121,7 +130,7 @@ fn begun(
 {
     match start {
         None => Ok(None),
-        Some(table) => widened(alloc, table.copy(alloc, FEW_CUTS)?, lp),
+        Some(table) => widened(alloc, copied(alloc, table, spare)?, lp),
     }
 }
 
@@ -147,8 +156,11 @@ impl Solver for WarmSimplex {
         alloc: Global,
         start: &Option<WarmTable>,
         lp: &StageLp,
+        spare: &mut Option<Chain>,
     ) -> Result<Chain, Memory> {
-        Ok(Chain::new(alloc, begun(alloc, start, lp)?))
+        let (left, room) = memory_of(alloc, spare.take());
+        let table = begun(alloc, start, lp, left)?;
+        Ok(Chain { table, room })
     }
 
     fn solve(&self, alloc: Global, chain: &mut Chain, lp: &StageLp) -> Result<Answer, Memory> {

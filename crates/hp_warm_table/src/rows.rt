@@ -1,5 +1,5 @@
 // The terms of rows.
-ghost use Rattle.std.specs.Prelude.{◌≡◌, ◌<◌, ◌∷◌, ◌++◌, [], length, get_or, IfOk, is_ok, if◌then◌else◌};
+ghost use Rattle.std.specs.Prelude.{◌≡◌, ◌<◌, ◌∷◌, ◌++◌, [], length, get_or, IfOk, OnOk, is_ok, if◌then◌else◌};
 ghost use Rattle.hp_warm_table.specs.Ends.{rows_by, AreEnds, begins_at};
 
 use crate::kept::Coefficient;
@@ -75,6 +75,45 @@ impl Rows {
             ends: copied_with_room(alloc, self.ends.as_slice(), more)?.into_vec(),
         })
     }
+
+    /// Writes other rows over these, with memory for the places of so many more. [`Memory`] where memory was refused.
+    pub fn write_over(&mut self, from: &Rows, more: usize) -> Result<(), Memory>
+        ensures { OnOk result (self.new ≡ from.now) }
+    {
+        match write_lists(
+            &mut self.terms,
+            &mut self.ends,
+            from.terms.as_slice(),
+            from.ends.as_slice(),
+            more,
+        ) {
+            Ok(()) => Ok(()),
+            Err(_) => {
+                self.terms.clear();
+                self.ends.clear();
+                Err(Memory)
+            }
+        }
+    }
+}
+
+// Writes terms and their ends over others, with memory for so many more ends. [`Memory`] where memory was refused.
+fn write_lists(
+    terms: &mut Vec<(u32, Coefficient)>,
+    ends: &mut Vec<usize>,
+    from_terms: &[(u32, Coefficient)],
+    from_ends: &[usize],
+    more: usize,
+) -> Result<(), Memory>
+    ensures terms { OnOk result (terms.new.items ≡ from_terms.now) }
+    ensures ends { OnOk result (ends.new.items ≡ from_ends.now) }
+{
+    terms.clear();
+    ends.clear();
+    terms.extend_from_slice(from_terms)?;
+    ends.reserve(from_ends.len().saturating_add(more))?;
+    ends.extend_from_slice(from_ends)?;
+    Ok(())
 }
 
 // Gives the place where row i begins.

@@ -1,12 +1,12 @@
 // As many rows as columns.
-ghost use Rattle.std.specs.Prelude.{◌≡◌, ◌+◌, ◌*◌, ◌^◌, ◌<◌, ◌≤◌, [], pos, length, get_or, slice_set, take, drop, replicate, IfOk};
+ghost use Rattle.std.specs.Prelude.{◌≡◌, ◌+◌, ◌*◌, ◌^◌, ◌<◌, ◌≤◌, [], pos, length, get_or, slice_set, take, drop, replicate, IfOk, OnOk};
 ghost use Rattle.std.specs.Option.{option_map};
 ghost use Rattle.hp_simplex.specs.Rows.{rows_in_list, put};
 ghost use Rattle.hp_warm_table.specs.Updates.{GivesNew, moved_table_row, moved_at};
 ghost use Rattle.hp_warm_table.specs.Sparse.{sparse};
 
 use crate::kept::Cell;
-use crate::lists::repeated;
+use crate::lists::{repeated, write_over};
 use crate::updates::move_row;
 use hp_num::{List, Memory, copied};
 use std::alloc::Global;
@@ -100,6 +100,16 @@ impl Square {
             size: self.size,
             cells: copied(alloc, self.cells.as_slice())?,
         })
+    }
+
+    /// Writes the rows of another square over these. [`Memory`] where memory was refused.
+    pub fn write_over(&mut self, alloc: Global, from: &Square) -> Result<(), Memory>
+        ensures { OnOk result (self.new ≡ from.now) }
+    {
+        self.size = 0;
+        write_over(alloc, &mut self.cells, from.cells.as_slice(), 0)?;
+        self.size = from.size;
+        Ok(())
     }
 }
 

@@ -1,9 +1,9 @@
 // The table of a chain of solves.
-ghost use Rattle.std.specs.Prelude.{◌≡◌, ◌<◌, length, IfOk};
+ghost use Rattle.std.specs.Prelude.{◌≡◌, ◌<◌, length, IfOk, OnOk};
 ghost use Rattle.hp_warm_table.specs.Bounding.{low_bound_of, up_bound_of};
 
 use crate::kept::{Cell, Quantity};
-use crate::lists::copied_with_room;
+use crate::lists::{copied_with_room, write_over};
 use crate::rows::Rows;
 use crate::square::Square;
 use hp_num::{List, Memory, copied};
@@ -33,6 +33,17 @@ impl Scales {
             costs: self.costs,
             values: self.values,
         })
+    }
+
+    // Writes other scales over these, with memory for so many rows more.
+    fn write_over(&mut self, alloc: Global, from: &Scales, more: usize) -> Result<(), Memory>
+        ensures { OnOk result (self.new ≡ from.now) }
+    {
+        write_over(alloc, &mut self.rows, from.rows.as_slice(), more)?;
+        write_over(alloc, &mut self.columns, from.columns.as_slice(), 0)?;
+        self.costs = from.costs;
+        self.values = from.values;
+        Ok(())
     }
 }
 
@@ -88,6 +99,16 @@ impl Bounds {
             has_up: copied_with_room(alloc, self.has_up.as_slice(), more)?,
         })
     }
+
+    // Writes other bounds over these, with memory for so many rows more.
+    fn write_over(&mut self, alloc: Global, from: &Bounds, more: usize) -> Result<(), Memory>
+        ensures { OnOk result (self.new ≡ from.now) }
+    {
+        write_over(alloc, &mut self.lows, from.lows.as_slice(), more)?;
+        write_over(alloc, &mut self.ups, from.ups.as_slice(), more)?;
+        write_over(alloc, &mut self.has_low, from.has_low.as_slice(), more)?;
+        write_over(alloc, &mut self.has_up, from.has_up.as_slice(), more)
+    }
 }
 
 /// Which variables are not basic, and where they stand. Variables are numbered: first the columns,
@@ -120,6 +141,15 @@ impl Basis {
             high: copied(alloc, self.high.as_slice())?,
         })
     }
+
+    // Writes another basis over this one, with memory for so many rows more.
+    fn write_over(&mut self, alloc: Global, from: &Basis, more: usize) -> Result<(), Memory>
+        ensures { OnOk result (self.new ≡ from.now) }
+    {
+        write_over(alloc, &mut self.nonbasic, from.nonbasic.as_slice(), 0)?;
+        write_over(alloc, &mut self.places, from.places.as_slice(), more)?;
+        write_over(alloc, &mut self.high, from.high.as_slice(), 0)
+    }
 }
 
 /// Which cuts have rows in a table, and which wait until a point violates them.
@@ -140,6 +170,14 @@ impl CutRows {
             rows: copied_with_room(alloc, self.rows.as_slice(), more)?,
             waiting: copied(alloc, self.waiting.as_slice())?,
         })
+    }
+
+    // Writes other cuts over these, with memory for so many rows more.
+    fn write_over(&mut self, alloc: Global, from: &CutRows, more: usize) -> Result<(), Memory>
+        ensures { OnOk result (self.new ≡ from.now) }
+    {
+        write_over(alloc, &mut self.rows, from.rows.as_slice(), more)?;
+        write_over(alloc, &mut self.waiting, from.waiting.as_slice(), 0)
     }
 }
 
@@ -229,5 +267,23 @@ impl WarmTable {
             values,
             weak: self.weak,
         })
+    }
+
+    /// Writes another table over this one, in its memory where that is large enough, with memory for so many rows more.
+    /// [`Memory`] where memory was refused: nothing is promised of the table then.
+    pub fn write_over(&mut self, alloc: Global, from: &WarmTable, more: usize) -> Result<(), Memory>
+        ensures { OnOk result (self.new ≡ from.now) }
+    {
+        self.scales.write_over(alloc, &from.scales, more)?;
+        self.rows.write_over(&from.rows, more)?;
+        self.cuts.write_over(alloc, &from.cuts, more)?;
+        self.bounds.write_over(alloc, &from.bounds, more)?;
+        self.basis.write_over(alloc, &from.basis, more)?;
+        self.lines.write_over(alloc, &from.lines)?;
+        write_over(alloc, &mut self.costs, from.costs.as_slice(), 0)?;
+        write_over(alloc, &mut self.reduced, from.reduced.as_slice(), 0)?;
+        write_over(alloc, &mut self.values, from.values.as_slice(), 0)?;
+        self.weak = from.weak;
+        Ok(())
     }
 }

@@ -45,7 +45,7 @@ fn check_room(problem: &Problem, iteration: u32, batch: u16) -> Result<(), Endin
 // Takes an iteration and answers the payload of its record behind the number of its bytes.
 fn answer<R: Threads + Sync, O: Sink, V: Solver>(
     rt: &R,
-    work: &mut Workspace,
+    work: &mut Workspace<V>,
     planner: &Planner<V>,
     pools: &mut Pools,
     draw: Draw,
@@ -72,7 +72,7 @@ fn answer<R: Threads + Sync, O: Sink, V: Solver>(
 // Takes the iterations and answers each.
 fn answer_all<R: Threads + Sync, O: Sink, V: Solver>(
     rt: &R,
-    work: &mut Workspace,
+    work: &mut Workspace<V>,
     planner: &Planner<V>,
     pools: &mut Pools,
     stretch: Stretch,
@@ -122,7 +122,7 @@ fn make_ready(alloc: Global, problem: &Problem, pools: &mut Pools) -> Result<(),
 /// Takes iterations behind the joined records, answers the payload of each, and cuts the pools back to what they were.
 pub(crate) fn go_ahead<R: Threads + Sync, O: Sink, V: Solver>(
     rt: &R,
-    work: &mut Workspace,
+    work: &mut Workspace<V>,
     planner: &Planner<V>,
     pools: &mut Pools,
     stretch: Stretch,

@@ -19,7 +19,7 @@ fn train<R: Threads + Sync, I: Source, O: Sink, V: Solver>(
     rt: &R,
     planner: &Planner<V>,
     task: Task,
-    held: &mut Held,
+    held: &mut Held<V>,
     input: &mut I,
     out: &mut O,
 ) -> Result<(), Ending>
@@ -45,7 +45,7 @@ fn next<R: Threads + Sync, I: Source, O: Sink, V: Solver>(
     rt: &R,
     planner: &Planner<V>,
     task: Task,
-    held: &mut Held,
+    held: &mut Held<V>,
     input: &mut I,
     out: &mut O,
 ) -> Result<bool, Ending>
@@ -67,7 +67,7 @@ pub(crate) fn serve<R: Threads + Sync, I: Source, O: Sink, V: Solver>(
     rt: &R,
     planner: &Planner<V>,
     task: Task,
-    held: &mut Held,
+    held: &mut Held<V>,
     input: &mut I,
     out: &mut O,
 ) -> Result<(), Ending>

@@ -57,7 +57,7 @@ fn base_of(alloc: Global, problem: &Problem) -> Result<Pools, Ending>
 }
 
 // What is held before the first order.
-fn held_at_first(task: Task) -> Result<Held, Ending>
+fn held_at_first<V: Solver>(task: Task) -> Result<Held<V>, Ending>
     requires some { 1 ≤ task.batch }
     requires most { task.batch ≤ 64 }
     ensures { IfOk result (λ held. Holds task.entry.problem.now task.entry.batch held.found) }

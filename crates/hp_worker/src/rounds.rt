@@ -11,12 +11,18 @@ use crate::state::{Held, Task};
 use hp_load::add_payload;
 use hp_outside::Source;
 use hp_parts::MOST_ITERATIONS;
+use hp_solver::Solver;
 use hp_train::counts;
 
 const MOST_PARTS: u16 = 64;
 
 // Checks and adds a record.
-fn add(task: Task, held: &mut Held, payload: &[u8], at: RecordAt) -> Result<(), Ending>
+fn add<V: Solver>(
+    task: Task,
+    held: &mut Held<V>,
+    payload: &[u8],
+    at: RecordAt,
+) -> Result<(), Ending>
     requires holds { Holds task.problem.now task.batch held.old.found }
     requires short { length payload.now ≤ 2 ^ 26 }
     ensures { OnOk result (Holds task.entry.problem.now task.entry.batch held.new.found) }
@@ -38,7 +44,11 @@ fn add(task: Task, held: &mut Held, payload: &[u8], at: RecordAt) -> Result<(), 
 }
 
 // Reads the records of the only part and adds them, one after another.
-fn join_one<I: Source>(task: Task, held: &mut Held, input: &mut I) -> Result<(), Ending>
+fn join_one<I: Source, V: Solver>(
+    task: Task,
+    held: &mut Held<V>,
+    input: &mut I,
+) -> Result<(), Ending>
     requires { Holds task.problem.now task.batch held.old.found }
     ensures { OnOk result (Holds task.entry.problem.now task.entry.batch held.new.found) }
 {
@@ -55,9 +65,9 @@ fn join_one<I: Source>(task: Task, held: &mut Held, input: &mut I) -> Result<(),
 }
 
 // Moves a record of a part to where it stands once joined, checks it and adds it.
-fn join_record(
+fn join_record<V: Solver>(
     task: Task,
-    held: &mut Held,
+    held: &mut Held<V>,
     places: &mut Places,
     moving: Move,
     payload: &[u8],
@@ -98,9 +108,9 @@ fn moving(part: u16, turn: u32, before: usize, now: usize) -> Move
 }
 
 // Takes the records of a turn, in the order of the parts.
-fn take_turn(
+fn take_turn<V: Solver>(
     task: Task,
-    held: &mut Held,
+    held: &mut Held<V>,
     places: &mut Places,
     round: &Round,
     turn: u32,
@@ -120,7 +130,12 @@ fn take_turn(
 }
 
 // Takes the records of all turns.
-fn take_turns(task: Task, held: &mut Held, places: &mut Places, round: &Round) -> Result<(), Ending>
+fn take_turns<V: Solver>(
+    task: Task,
+    held: &mut Held<V>,
+    places: &mut Places,
+    round: &Round,
+) -> Result<(), Ending>
     requires { Holds task.problem.now task.batch held.old.found }
     ensures { OnOk result (Holds task.entry.problem.now task.entry.batch held.new.found) }
 {
@@ -132,9 +147,9 @@ fn take_turns(task: Task, held: &mut Held, places: &mut Places, round: &Round) -
 }
 
 // Reads the records of so many parts and joins them.
-fn join_parts<I: Source>(
+fn join_parts<I: Source, V: Solver>(
     task: Task,
-    held: &mut Held,
+    held: &mut Held<V>,
     input: &mut I,
     parts: u16,
 ) -> Result<(), Ending>
@@ -149,7 +164,11 @@ fn join_parts<I: Source>(
 }
 
 /// Joins the records of a round behind those that are held, each checked by its certificates.
-pub(crate) fn join<I: Source>(task: Task, held: &mut Held, input: &mut I) -> Result<(), Ending>
+pub(crate) fn join<I: Source, V: Solver>(
+    task: Task,
+    held: &mut Held<V>,
+    input: &mut I,
+) -> Result<(), Ending>
     requires { Holds task.problem.now task.batch held.old.found }
     ensures { OnOk result (Holds task.entry.problem.now task.entry.batch held.new.found) }
 {

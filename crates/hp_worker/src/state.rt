@@ -3,6 +3,7 @@ use hp_load::Gathered;
 use hp_lp::Workspace;
 use hp_problem::Problem;
 use hp_record::Spares;
+use hp_solver::Solver;
 use std::alloc::Global;
 
 /// What stays the same for all orders.
@@ -16,8 +17,8 @@ pub(crate) struct Task<'a> {
 
 /// The joined records, and memory that orders lend each other.
 #[derive(Drop)]
-pub(crate) struct Held {
+pub(crate) struct Held<V: Solver> {
     pub(crate) found: Gathered,
     pub(crate) spares: Spares,
-    pub(crate) work: Workspace,
+    pub(crate) work: Workspace<V>,
 }

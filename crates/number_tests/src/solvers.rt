@@ -56,7 +56,7 @@ fn thirds<'a>(alloc: Global) -> Result<StageLp<'a>, Memory>
 fn alone<V: Solver>(alloc: Global, solver: &V) -> Result<Answer, Memory> {
     let lp = thirds(alloc)?;
     let start = solver.start(alloc, &lp)?;
-    let mut chain = solver.begin(alloc, &start, &lp)?;
+    let mut chain = solver.begin(alloc, &start, &lp, &mut None)?;
     solver.solve(alloc, &mut chain, &lp)
 }
 
@@ -117,7 +117,7 @@ fn second(alloc: Global, lp: &StageLp) -> Result<Answer, Memory>
     requires reference { IsReference lp.now }
 {
     DualSimplex.start(alloc, lp)?;
-    let mut chain = DualSimplex.begin(alloc, &(), lp)?;
+    let mut chain = DualSimplex.begin(alloc, &(), lp, &mut None)?;
     DualSimplex.solve(alloc, &mut chain, lp)?;
     DualSimplex.solve(alloc, &mut chain, lp)
 }

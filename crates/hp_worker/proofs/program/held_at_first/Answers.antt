@@ -4,7 +4,7 @@ use Rattle.hp_load.specs.Records.{Found}
 use Rattle.hp_worker.proofs.program.held_at_first.Goals as goal
 
 pub returns : goal.returns
-returns c =
+returns g c =
     let found = c.in_ok-found.found in
     let none : length found.bounds ≡ 0 = ap (λ (f : Found). length f.bounds) c.in_ok-found.ensures.value in
     record {

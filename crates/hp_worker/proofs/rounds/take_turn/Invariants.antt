@@ -2,4 +2,4 @@ use Rattle.hp_worker.specs.Holding.{Holds}
 use Rattle.hp_worker.proofs.rounds.take_turn.Given as goal
 
 abbrev pub invariant-loop-part : goal.invariant-loop-part
-invariant-loop-part l = Holds l.task.problem.now l.task.batch l.held.found
+invariant-loop-part g l = Holds l.task.problem.now l.task.batch l.held.found

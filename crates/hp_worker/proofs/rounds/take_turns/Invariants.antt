@@ -2,4 +2,4 @@ use Rattle.hp_worker.specs.Holding.{Holds}
 use Rattle.hp_worker.proofs.rounds.take_turns.Given as goal
 
 abbrev pub invariant-loop-turn : goal.invariant-loop-turn
-invariant-loop-turn l = Holds l.task.problem.now l.task.batch l.held.found
+invariant-loop-turn g l = Holds l.task.problem.now l.task.batch l.held.found
