@@ -123,6 +123,9 @@ class PlainEngine:
     def workers(self) -> Dict[str, str]:
         return {f"at-{name}": name for name in self.names}
 
+    def ready(self, problem: bytes, paths: int) -> None:
+        pass
+
     def begin(self, address: str, order: Dict[str, object]) -> PlainCall:
         name = address[3:]
         self.asked.append(name)

@@ -12,15 +12,18 @@ import sys
 import tempfile
 import time
 import unittest
+from contextlib import contextmanager
 from pathlib import Path
-from typing import Dict, List, Optional
+from typing import Dict, Iterator, List, Optional
 from unittest import mock
 
 from farm_support import PROGRAM, Folder, PlainEngine, example, farmed, ran, trained
 from cluster_support import environment, farm_command
 
+from hydroplan.farm import local_engine
 from hydroplan.farm.engine import Call
 from hydroplan.farm.errors import FarmError
+from hydroplan.farm.living import Living, behind
 from hydroplan.farm.local_engine import LocalEngine
 from hydroplan.farm.program import KEPT_WORKER, WORKER_VARIABLE
 from hydroplan.farm.simulate_command import SimulationWords, simulate
@@ -51,6 +54,20 @@ class Killing(LocalEngine):
         if busy:
             self._left = self._left - 1 if self._left else self._drawn.randint(0, 3)
         super().wait(calls, seconds)
+
+
+@contextmanager
+def noted() -> Iterator[List[Living]]:
+    """The processes that are begun."""
+    begun: List[Living] = []
+    begin = Living.__init__
+
+    def begin_noted(living: Living, *words: object) -> None:
+        begin(living, *words)
+        begun.append(living)
+
+    with mock.patch.object(Living, "__init__", begin_noted):
+        yield begun
 
 
 class OfOneMachine(Folder):
@@ -93,6 +110,32 @@ class OfOneMachine(Folder):
             self.assertEqual([it for it in said if it.startswith("worker")], [])
             for name in ("journal", "journal.farm"):
                 (self.room / name).unlink()
+
+    def test_processes_begin_before_their_first_orders(self) -> None:
+        """They read the problem while the program looks at it, and the first orders go to them."""
+        self.living(LIVING)
+        with noted() as begun:
+            self.trained_by(LocalEngine(3, PROGRAM))
+        self.assertEqual(len(begun), 3)
+
+    def test_a_problem_that_is_longer_than_pipes(self) -> None:
+        """It is given to processes as they take it."""
+        self.living(LIVING)
+        problem = example(NAME) + b" " * 5_000_000
+        farmed(problem, self.room / "journal", LocalEngine(3, PROGRAM), COUNT, PARTS)
+        with mock.patch.object(local_engine, "MOST_FEEDING", 0):
+            farmed(problem, self.room / "later", LocalEngine(3, PROGRAM), COUNT, PARTS)
+        with mock.patch.dict(os.environ, {WORKER_VARIABLE: ""}):
+            farmed(problem, self.room / "other", PlainEngine("abc"), COUNT, PARTS)
+        for name in ("journal", "later"):
+            self.assertEqual((self.room / name).read_bytes(), (self.room / "other").read_bytes())
+
+    def test_a_problem_that_is_refused(self) -> None:
+        """The program's line is told, and no process is left."""
+        self.living(LIVING)
+        with noted() as begun, self.assertRaisesRegex(FarmError, "problem refused: NotJson at whole") as raised:
+            farmed(b"no problem", self.room / "journal", LocalEngine(2, PROGRAM), COUNT, PARTS)
+        self.assertEqual((raised.exception.status, [it.is_alive() for it in begun]), (5, [False, False]))
 
     def test_goes_on_from_a_journal(self) -> None:
         """A process that begins behind records takes them as one part."""
@@ -167,22 +210,31 @@ class OfOneMachine(Folder):
         self.assertEqual(raised.exception.status, 9)
 
     def test_a_coordinator_that_is_killed(self) -> None:
-        """Begun again it goes on, and no process of a killed one lives on."""
+        """Before its first word or behind it: begun again it goes on, and no process of a killed one lives on."""
         kept, drawn = dict(environment(), **{WORKER_VARIABLE: str(LIVING)}), random.Random(3)
         (self.room / "problem.json").write_bytes(example(NAME))
         command = farm_command("train", str(self.room / "journal"), "7", str(COUNT), "--workers", str(PARTS))
-        for kill in (True, True, False):
+        for deed in ("begin", "begin", "begin", "go on", "go on", "end"):
             with (self.room / "problem.json").open("rb") as problem:
                 running = subprocess.Popen(command, stdin=problem, stdout=subprocess.DEVNULL, stderr=subprocess.PIPE, env=kept)
             with running:
                 assert running.stderr is not None
-                if kill:
+                if deed == "go on":
                     running.stderr.readline()
-                    time.sleep(drawn.uniform(0, 0.1))
+                if deed != "end":
+                    time.sleep(drawn.uniform(0, 0.1 if deed == "go on" else 0.5))
                     running.send_signal(signal.SIGKILL)
-                running.stderr.read()
-        self.assertEqual(running.returncode, 0)
+                said = running.stderr.read()
+        self.assertEqual(running.returncode, 0, said)
         self.assertEqual((self.room / "journal").read_bytes(), self.honest[None])
+
+
+class Pieces(unittest.TestCase):
+    def test_behind(self) -> None:
+        """Whatever was written of pieces, what is left of them is the end of their bytes."""
+        pieces = [b"ab", b"", b"c", memoryview(b"defg"), b""]
+        for written in range(8):
+            self.assertEqual(b"".join(behind(pieces, written)), b"abcdefg"[written:], written)
 
 
 class Simulating(Folder):

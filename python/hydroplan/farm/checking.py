@@ -1,10 +1,15 @@
-"""Runs of the program's `check` over a joined journal, beside all else, and what they say."""
+"""Runs of the program's `check` over a joined journal, beside all else, and what they say.
+
+`check` reads one record after another until it finds the end. So where a journal grows meanwhile, it accepts more records than there were when
+it began; its report says how many.
+"""
 from __future__ import annotations
 
+import os
 import re
 import subprocess
 import tempfile
-import time
+from contextlib import suppress
 from dataclasses import dataclass
 from pathlib import Path
 from typing import List, Optional
@@ -13,7 +18,9 @@ from .errors import FarmError
 from .program import command
 
 REFUSED = re.compile(r"journal refused: Bad(?:Record|Certificate|Length) iteration (\d+)")
-SHOWN = ("cut ", "rest ")
+SHOWN = (b"cut ", b"rest ")
+LATER = 10
+"""By so much a run that nobody waits for is nicer than those that train."""
 
 
 @dataclass(frozen=True)
@@ -25,42 +32,58 @@ class Verdict:
     report: List[str]
 
     @property
+    def records(self) -> int:
+        """The records that it accepted."""
+        return int(self.report[-2].split()[2])
+
+    @property
     def bound(self) -> int:
         """The bound of all cuts, times 2^24."""
         return int(self.report[-1].split()[1])
 
 
 class Checking:
-    """A run of `check` that goes on. Once it is over, `seconds` has the time that it took."""
+    """A run of `check` that goes on. Once it is over, `seconds` has the processor time that it took.
 
-    def __init__(self, program: Path, journal: Path, problem: Path) -> None:
+    One that nobody waits for takes what time of the processors others leave.
+    """
+
+    def __init__(self, program: Path, journal: Path, problem: Path, is_waited_for: bool = True) -> None:
         self._output, self._errors = tempfile.TemporaryFile(), tempfile.TemporaryFile()
-        self._begun, self.seconds = time.monotonic(), 0.0
+        self.seconds = 0.0
         with problem.open("rb") as source:
             self._process = subprocess.Popen(
                 command(program, ["check", str(journal)]), stdin=source, stdout=self._output, stderr=self._errors,
             )
+        if not is_waited_for:
+            with suppress(OSError):
+                os.setpriority(os.PRIO_PROCESS, self._process.pid, min(os.getpriority(os.PRIO_PROCESS, 0) + LATER, 19))
 
     def is_over(self) -> bool:
         """Whether the run has ended."""
-        over = self._process.poll() is not None
-        if over and not self.seconds:
-            self.seconds = time.monotonic() - self._begun
-        return over
+        return self._is_over(os.WNOHANG)
+
+    def _is_over(self, how: int) -> bool:
+        """Whether the run has ended; waits for it where `how` does not say otherwise."""
+        if self._process.returncode is None:
+            ended, status, used = os.wait4(self._process.pid, how)
+            if ended:
+                self._process.returncode = os.waitstatus_to_exitcode(status)
+                self.seconds = used.ru_utime + used.ru_stime
+        return self._process.returncode is not None
 
     def end(self) -> None:
         """Ends the run where it still goes on."""
         self._process.kill()
-        self._process.wait()
+        self._is_over(0)
         self._output.close()
         self._errors.close()
 
     def verdict(self) -> Verdict:
         """Waits for the end; what it said. FarmError where the program ended otherwise than by refusing a record."""
-        status = self._process.wait()
-        self.is_over()
+        self._is_over(0)
         with self._output, self._errors:
-            return self._read(status)
+            return self._read(self._process.returncode)
 
     def _read(self, status: int) -> Verdict:
         """The verdict by the status and what was written."""
@@ -72,5 +95,4 @@ class Checking:
         if status != 0:
             raise FarmError(line.replace("hydroplan: ", "", 1) or f"check ended with status {status}", max(status, 1))
         self._output.seek(0)
-        lines = (it.decode("utf-8", "replace").rstrip("\n") for it in self._output)
-        return Verdict(None, "", [it for it in lines if not it.startswith(SHOWN)])
+        return Verdict(None, "", [it.decode("utf-8", "replace").rstrip("\n") for it in self._output if not it.startswith(SHOWN)])

@@ -10,10 +10,8 @@ from ..tools.shown_names import shown_name
 
 from ..errors import ProgramMissing
 from .errors import FarmError
-from .joining import join
 from .journals import DEVICE_FAILED
 from .shape import MOST_ITERATIONS, MOST_PATHS, shape_of
-from .simulate_command import SimulationWords, simulate
 from .train_command import Words, engine_of, train
 
 MOST_PROBLEM = 1 << 24
@@ -75,6 +73,8 @@ def read_problem() -> bytes:
 
 def run_join(words: argparse.Namespace) -> None:
     """Joins journals, and says what came of it."""
+    from .joining import join
+
     made = join(shape_of(read_problem()), words.target, words.journals, words.batch)
     paths = "" if made.paths == 1 else f" of {made.paths} paths"
     print(
@@ -92,6 +92,8 @@ def run_train(words: argparse.Namespace) -> None:
 
 def run_simulate(words: argparse.Namespace) -> None:
     """Simulates, and prints the report as it comes."""
+    from .simulate_command import SimulationWords, simulate
+
     asked = SimulationWords(words.journal, words.seed, words.count, float(words.timeout), words.program)
     cluster = Words(words.journal, words.seed, words.count, None, words.workers, words.scheduler, float(words.timeout), words.program)
     for line in simulate(asked, read_problem(), say, lambda: engine_of(cluster)):

@@ -5,7 +5,6 @@ One such engine is dask.distributed, for machines of a cluster. All that this pa
 from __future__ import annotations
 
 import importlib
-import logging
 import time
 import warnings
 from contextlib import suppress
@@ -17,8 +16,6 @@ from .work import Order, answer, forget
 NOT_RUN = 1
 # what answers are written as: bytes and plain values, never pickled objects
 PLAIN = ["msgpack"]
-# what goes wrong with a worker is said in one line, so the library's own lines are not shown
-SILENT = logging.CRITICAL + 1
 LOOKS_EVERY = 0.2
 RUNNING, DONE, FAILED, GONE = "running", "done", "failed", "gone"
 
@@ -41,6 +38,9 @@ class Engine(Protocol):
 
     def workers(self) -> Dict[str, str]:
         """The workers that are there: their names by their addresses."""
+
+    def ready(self, problem: bytes, paths: int) -> None:
+        """Is told of what problem the first orders will be, and of how many paths an iteration, so that workers may begin to read it."""
 
     def begin(self, address: str, order: Order) -> Call:
         """Gives an order to a worker."""
@@ -114,8 +114,9 @@ class DaskEngine:
 
     def __init__(self, scheduler: str, seconds: float = 30) -> None:
         distributed = _distributed()
-        for name in ("distributed", "asyncio"):
-            logging.getLogger(name).setLevel(SILENT)
+        logging = importlib.import_module("logging")
+        for name in ("distributed", "asyncio"):  # what goes wrong with a worker is said in one line, so their own lines are not shown
+            logging.getLogger(name).setLevel(logging.CRITICAL + 1)
         self._seen: Dict[str, str] = {}
         self._looked = -LOOKS_EVERY
         importlib.import_module("dask.config").set({"distributed.scheduler.pickle": False})
@@ -158,6 +159,9 @@ class DaskEngine:
             return dict(self._client.scheduler_info()["workers"])
         except Exception:  # the library has several, among them KeyError
             raise FarmError("the scheduler does not answer any more; what was proved is kept, and the same words go on", NOT_RUN) from None
+
+    def ready(self, problem: bytes, paths: int) -> None:
+        """As `Engine.ready`. Workers elsewhere are told by their first order."""
 
     def begin(self, address: str, order: Order) -> Call:
         """As `Engine.begin`."""

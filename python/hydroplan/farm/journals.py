@@ -150,21 +150,22 @@ class Growing:
             return read_head(file, str(self.path))
 
     def append(self, records: Iterable[bytes]) -> None:
-        """Puts records behind those that are there. A kill at any moment leaves all of them or none."""
-        at, before = self.end, self.end
-        os.ftruncate(self._file.fileno(), self.end)
-        self._write(b"\x00", at)
-        for number, payload in enumerate(records):
-            self._write((b"\x01" if number else b"\x00") + framed(payload), at)
-            at += 5 + len(payload)
-            self.records += 1
-        if at == before:
+        """Puts records behind those that are there. A kill at any moment leaves all of them or none.
+
+        Whoever reads the journal meanwhile finds its end before them, or goes on to the last of them.
+        """
+        pieces = [piece for payload in records for piece in (b"\x01", framed(payload))]
+        if not pieces:
             return
-        self._write(b"\x00", at)
+        if os.fstat(self._file.fileno()).st_size > self.end + 1:
+            os.ftruncate(self._file.fileno(), self.end + 1)
+        data = b"".join([b"\x00", *pieces[1:], b"\x00"])
+        self._write(data, self.end)
         self._sync()
-        self._write(b"\x01", before)
+        self._write(b"\x01", self.end)
         self._sync()
-        self.end = at
+        self.records += len(pieces) // 2
+        self.end += len(data) - 1
 
     def cut(self, records: int, end: int) -> None:
         """Takes back what was appended behind an earlier end."""

@@ -12,7 +12,7 @@ import tempfile
 import time
 from contextlib import suppress
 from pathlib import Path
-from typing import List, Optional, Sequence
+from typing import List, Optional, Sequence, Union
 
 from ..errors import HydroplanError
 from .journals import MOST_PAYLOAD
@@ -22,8 +22,11 @@ MOST_JOINED = 64
 """The parts of a round that the program takes."""
 MOST_LINE = 1 << 12
 PIPE_BYTES = 1 << 20
+MOST_PIECES = 512
+"""So many pieces are written at once."""
 SET_PIPE_SIZE = 1031  # F_SETPIPE_SZ of Linux
 NO_STATUS = -1
+Piece = Union[bytes, memoryview]
 
 
 class ProcessFault(HydroplanError):
@@ -36,9 +39,9 @@ class ProcessFault(HydroplanError):
         """Whether somebody else ended it."""
 
 
-def joining(parts: Sequence[Sequence[bytes]]) -> List[bytes]:
+def joining(parts: Sequence[Sequence[bytes]]) -> List[Piece]:
     """The order that joins the records of so many parts, in pieces."""
-    pieces = [b"J" + len(parts).to_bytes(2, "big")]
+    pieces: List[Piece] = [b"J" + len(parts).to_bytes(2, "big")]
     for records in parts:
         pieces.append(len(records).to_bytes(4, "big"))
         for payload in records:
@@ -46,10 +49,24 @@ def joining(parts: Sequence[Sequence[bytes]]) -> List[bytes]:
     return pieces
 
 
+def behind(pieces: List[Piece], written: int) -> List[Piece]:
+    """What is left of pieces where so many of their bytes are written."""
+    for at, piece in enumerate(pieces):
+        if written < len(piece):
+            return [memoryview(piece)[written:], *pieces[at + 1:]]
+        written -= len(piece)
+    return []
+
+
 class Living:
-    """The process. `name` is that of the records that it has joined, `own` has its last answer, `own_name` the name of the order to it."""
+    """The process. `name` is that of the records that it has joined, `own` has its last answer, `own_name` the name of the order to it.
+
+    It begins to read the problem at once, before its first order.
+    """
 
     def __init__(self, program: Path, problem: bytes, paths: int) -> None:
+        self.is_of = (program, problem, paths)
+        """The program, the problem, and the paths of an iteration."""
         self.name, self.own_name = "", ""
         self.own: List[bytes] = []
         self.is_second = False
@@ -64,20 +81,28 @@ class Living:
             os.set_blocking(pipe, False)
             with suppress(OSError):  # smaller pipes serve too
                 fcntl.fcntl(pipe, SET_PIPE_SIZE, PIPE_BYTES)
-        self._left = memoryview(b"")
+        self._left: List[Piece] = [paths.to_bytes(2, "big") + len(problem).to_bytes(4, "big"), problem]
         self._came = bytearray()
         self._wanted = self._most = 0
         self._until = 0.0
-        self._begin = b"".join([paths.to_bytes(2, "big"), len(problem).to_bytes(4, "big"), problem])
+        self._write()
+
+    def feed(self, until: float) -> None:
+        """Writes what it takes until a moment of the monotonic clock, or until it has all."""
+        while self._left and time.monotonic() < until:
+            poll = select.poll()
+            poll.register(self._input, select.POLLOUT)
+            poll.poll(max(0, until - time.monotonic()) * 1000)
+            self._write()
 
     def join(self, parts: Sequence[Sequence[bytes]]) -> None:
         """Has it join the records of parts, when it is next asked to train."""
-        self._begin = b"".join([self._begin, *joining(parts)])
+        self._left += joining(parts)
 
     def train(self, seed: int, count: int, most: int, seconds: float) -> None:
         """Begins to train so many iterations, whose records have so many bytes at most."""
-        self._left = memoryview(b"".join([self._begin, b"T", seed.to_bytes(8, "big"), count.to_bytes(4, "big")]))
-        self._begin, self._came = b"", bytearray()
+        self._left.append(b"T" + seed.to_bytes(8, "big") + count.to_bytes(4, "big"))
+        self._came = bytearray()
         self._wanted, self._most, self._until = count, most, time.monotonic() + seconds
         self._write()
 
@@ -104,11 +129,11 @@ class Living:
         """Writes what it takes now. What becomes of a process that takes nothing is seen where it is read."""
         try:
             while self._left:
-                self._left = self._left[os.write(self._input, self._left):]
+                self._left = behind(self._left, os.writev(self._input, self._left[:MOST_PIECES]))
         except BlockingIOError:
             pass
         except OSError:
-            self._left = memoryview(b"")
+            self._left = []
 
     def _read(self) -> bool:
         """Whether more came. ProcessFault where it has ended, or writes too much."""
@@ -161,10 +186,14 @@ class Living:
         self.watch(poll)
         poll.poll(seconds * 1000)
 
-    def end(self) -> None:
-        """Ends the process."""
+    def kill(self) -> None:
+        """Kills the process, and does not wait for its end."""
         if self._process.poll() is None:
             self._process.kill()
+
+    def end(self) -> None:
+        """Ends the process."""
+        self.kill()
         self._process.wait()
         for stream in (self._process.stdin, self._process.stdout, self._errors):
             if stream is not None:

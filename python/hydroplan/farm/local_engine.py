@@ -8,13 +8,18 @@ from __future__ import annotations
 import os
 import select
 import threading
+import time
 from pathlib import Path
 from typing import Callable, Dict, Iterable, Optional
 
 from .engine import DONE, RUNNING, Call
 from .errors import WorkerFault
-from .living import Living
+from .living import MOST_JOINED, Living
+from .program import built_worker
 from .work import Order, Worker, broken
+
+MOST_FEEDING = 0.1
+"""So many seconds at most are spent on writing the problem to processes before their first orders; they are given the rest with these."""
 
 
 class LocalCall:
@@ -68,6 +73,15 @@ class LocalEngine:
         """As `Engine.workers`."""
         return {name: name for name in self._workers}
 
+    def ready(self, problem: bytes, paths: int) -> None:
+        """As `Engine.ready`."""
+        program = built_worker(self._program)
+        if program is not None and len(self._workers) <= MOST_JOINED:
+            begun = [it.ready(program, problem, paths) for it in self._workers.values()]
+            until = time.monotonic() + MOST_FEEDING
+            for living in begun:
+                living.feed(until)
+
     def begin(self, address: str, order: Order) -> Call:
         """As `Engine.begin`."""
         call = LocalCall(self._workers[address], {**order, "place": str(self._program)})
@@ -99,6 +113,8 @@ class LocalEngine:
 
     def close(self, run: str) -> None:
         """As `Engine.close`."""
+        for worker in self._workers.values():
+            worker.kill(run)
         for worker in self._workers.values():
             worker.forget(run)
         with self._lock:

@@ -1,23 +1,27 @@
 """What the coordinator does with rounds beside training: it joins them, has `check` go over them, and puts them into the journal.
 
 A check goes over all records from the first on. So it waits until the workers have trained much longer than the last one took, and then goes
-over all rounds that came meanwhile.
+over all rounds that came meanwhile, and over those that come while it is at that. The last one begins shortly before the last round is there.
 """
 from __future__ import annotations
 
 import time
+from collections import deque
 from dataclasses import dataclass, field
+from math import inf
 from pathlib import Path
 from typing import Callable, Dict, List, Optional, Tuple
 
 from .checking import Checking, Verdict
 from .errors import FarmError
 from .joined import Front, PartFault, in_turns, moved_round
-from .journals import Growing, framed
+from .journals import Growing
 from .shape import Shape
 
 TRAINED_FOR_A_CHECK = 20.0
 """The workers train so many times as long as a check takes before the next one begins."""
+BEFORE_THE_END = 0.6
+"""The last check begins when training will end within so much of the time that it takes."""
 
 
 @dataclass(frozen=True)
@@ -79,6 +83,11 @@ class Joined:
     front: Front
     records: List[bytes]
 
+    @property
+    def end(self) -> int:
+        """The records up to its last one."""
+        return self.front.records + len(self.records)
+
 
 class Overturned(Exception):
     """A round that was refused, with the part that is to blame and what is wrong with it. What came behind it is dropped."""
@@ -91,7 +100,7 @@ class Overturned(Exception):
 
 @dataclass
 class Spent:
-    """Processor seconds of joining, elapsed seconds of checking, seconds that workers trained, and the bytes of orders and of answers."""
+    """Processor seconds of joining and of checking, seconds that workers trained, and the bytes of orders and of answers."""
 
     joining: float = 0.0
     checking: float = 0.0
@@ -100,8 +109,28 @@ class Spent:
     received: int = 0
 
 
+class Pace:
+    """How long a record takes, by the last rounds that were joined."""
+
+    ROUNDS = 8
+
+    def __init__(self, records: int) -> None:
+        self._passed = deque([(time.monotonic(), records)], maxlen=self.ROUNDS + 1)
+
+    def add(self, records: int) -> None:
+        """So many records are joined now."""
+        self._passed.append((time.monotonic(), records))
+
+    def left(self, count: int) -> float:
+        """The seconds until so many records are joined; endless before the first round is."""
+        (begun, before), (ended, after) = self._passed[0], self._passed[-1]
+        if after == before:
+            return inf
+        return (ended - begun) / (after - before) * (count - after) - (time.monotonic() - ended)
+
+
 class Proving:
-    """The rounds behind a journal. `journal` has what is proved; `scratch` is a copy of it with the rounds that are being checked."""
+    """The rounds behind a journal. `journal` has what is proved; `scratch` is a copy of it with all rounds that were joined."""
 
     def __init__(self, job: Job, front: Front, journal: Growing, scratch: Growing) -> None:
         self._job = job
@@ -109,9 +138,10 @@ class Proving:
         self._journal = journal
         self._scratch = scratch
         self._joined: List[Joined] = []
-        self._written = 0
         self._checking: Optional[Checking] = None
         self._next_check = 0.0
+        self._least, self._lasting = inf, 0.0
+        self._pace = Pace(front.records)
         self.spent = Spent()
         self.verdict: Optional[Verdict] = None
         self.proved: Callable[[Round, int, Verdict], None] = lambda last, records, verdict: None
@@ -128,30 +158,39 @@ class Proving:
             raise Overturned(current, fault.part, str(fault)) from None
         self._joined.append(Joined(current, self._front, records))
         self._front = after
+        self._scratch.append(records)
+        self._pace.add(after.records)
         self.spent.joining += time.thread_time() - begun
 
     def look(self) -> None:
         """Takes what a check says that is over, and begins another one where it is time. Overturned where a round was refused."""
         if self._checking is not None and self._checking.is_over():
             self._take_verdict()
-        if self._checking is None and self._joined and self.spent.training >= self._next_check:
-            self._begin_check()
+        if self._checking is None and self._joined and self._is_time():
+            self._begin_check(is_waited_for=self._is_time_for_the_last())
+
+    def _is_time(self) -> bool:
+        """Whether a check is to begin: the last one, or one that ends long before that has to begin."""
+        if self._is_time_for_the_last():
+            return True
+        return self.spent.training >= self._next_check and self._pace.left(self._job.count) > 2 * self._lasting
+
+    def _is_time_for_the_last(self) -> bool:
+        """Whether training ends within the time that a check takes to come near the end."""
+        return self._pace.left(self._job.count) < BEFORE_THE_END * self._lasting
 
     def settle(self) -> None:
         """Waits until all that was joined is proved. Overturned where a round was refused."""
-        if self._checking is not None and self._written < len(self._joined):
-            self.stop()
-        if self._checking is None and self._joined:
-            self._begin_check()
-        if self._checking is not None:
+        while self._joined:
+            if self._checking is None:
+                self._begin_check(is_waited_for=True)
             self._take_verdict()
 
     def whole(self) -> bytes:
         """All records with the commit byte before each."""
         with self._scratch.path.open("rb") as file:
             file.seek(len(self._scratch.head().bytes()))
-            there = file.read(self._scratch.end - file.tell())
-        return there + b"".join(b"\x01" + framed(record) for it in self._joined[self._written:] for record in it.records)
+            return file.read(self._scratch.end - file.tell())
 
     def stop(self) -> None:
         """Ends a check that goes on."""
@@ -159,11 +198,9 @@ class Proving:
             self._checking.end()
             self._checking = None
 
-    def _begin_check(self) -> None:
-        """Begins a check of all that was joined."""
-        self._scratch.append(record for it in self._joined[self._written:] for record in it.records)
-        self._written = len(self._joined)
-        self._checking = Checking(self._job.program, self._scratch.path, self._scratch.path.with_name("problem.json"))
+    def _begin_check(self, is_waited_for: bool) -> None:
+        """Begins a check of all that was joined, and of what is joined before it comes to the end."""
+        self._checking = Checking(self._job.program, self._scratch.path, self._scratch.path.with_name("problem.json"), is_waited_for)
 
     def _take_verdict(self) -> None:
         """Waits for the check and puts what it proved into the journal."""
@@ -175,20 +212,27 @@ class Proving:
         self._next_check = self.spent.training + TRAINED_FOR_A_CHECK * checking.seconds
         if verdict.refused is not None:
             self._overturn(verdict.refused, verdict.line.replace("hydroplan: ", "", 1))
-        proved, self._joined = self._joined[:self._written], self._joined[self._written:]
-        self._written, self.verdict = 0, verdict
+        self._expect(checking.seconds, verdict.records)
+        proved = [it for it in self._joined if it.end <= verdict.records]
+        self._joined, self.verdict = self._joined[len(proved):], verdict
         self._journal.append(record for it in proved for record in it.records)
         for it in proved:
             self.settled(it.round)
-        self.proved(proved[-1].round, self._journal.records, verdict)
+        if proved:
+            self.proved(proved[-1].round, self._journal.records, verdict)
+
+    def _expect(self, seconds: float, records: int) -> None:
+        """Reckons how long a check of all records takes: the least that one took, and the rest of this one in proportion."""
+        self._least = min(self._least, seconds)
+        self._lasting = self._least + (seconds - self._least) * self._job.count / max(records, 1)
 
     def _overturn(self, number: int, line: str) -> None:
         """Takes back the round of the record that `check` refused, and all behind it."""
-        at = next((at for at, it in enumerate(self._joined) if it.front.records < number <= it.front.records + len(it.records)), None)
+        at = next((at for at, it in enumerate(self._joined) if it.front.records < number <= it.end), None)
         if at is None:
             raise FarmError(f"the journal itself was refused: {line}", 6)
         refused, self._joined = self._joined[at], self._joined[:at]
-        self._written, self._front = at, refused.front
+        self._front, self._pace = refused.front, Pace(refused.front.records)
         self._scratch.cut(refused.front.records, refused.front.end)
         part = in_turns(refused.round.counts)[number - refused.front.records - 1][1]
         raise Overturned(refused.round, part, f"`check` says: {line}")

@@ -3,23 +3,24 @@ from __future__ import annotations
 
 import shutil
 import time
-from contextlib import contextmanager
+from contextlib import closing, contextmanager
 from dataclasses import dataclass
+from functools import cached_property
 from pathlib import Path
-from typing import Callable, Iterator, List, Optional
+from typing import Callable, Iterator, List, Optional, Union
 
-from ..core import Place, find_program, run
+from ..core import Place, Running, find_program
 from .asking import Asking
 from .checking import Checking, Verdict
 from .engine import DaskEngine, Engine
 from .errors import FarmError, RecordFault
-from .joined import front_of
+from .joined import Front, front_of
 from .journals import Growing, refused
 from .local_engine import LocalEngine
 from .plan import Plan
-from .program import built_program, built_worker
+from .program import built_program, built_worker, command
 from .proving import Job, Proving, Round
-from .shape import require_room, shape_of
+from .shape import Shape, require_room, shape_of
 from .training import FarmTraining
 
 UNIT = 1 << 24
@@ -66,30 +67,44 @@ def engine_of(words: Words) -> Engine:
     return DaskEngine(words.scheduler)
 
 
+class AtWork:
+    """The workers, from the moment that they are asked for. `run` is the name of what they are at."""
+
+    def __init__(self, words: Words, engine_from: Callable[[Words], Engine]) -> None:
+        self._words = words
+        self._engine_from = engine_from
+        self.run = ""
+
+    @cached_property
+    def engine(self) -> Engine:
+        """By what they are reached."""
+        return self._engine_from(self._words)
+
+    def close(self) -> None:
+        """Ends those that were started, where there are any."""
+        if "engine" in self.__dict__:
+            self.engine.close(self.run)
+
+
 def train(words: Words, problem: bytes, say: Callable[[str], None], engine_from: Callable[[Words], Engine] = engine_of) -> List[str]:
     """Trains a journal until it has so many iterations; the lines of the report, as the program's `train` prints them.
 
     FarmError with a status as in docs/FORMAT.md where the program refuses the problem, the journal or the words, or no worker is left.
     """
     program = built_program(words.program)
-    _prepare(words, problem)
-    shape = shape_of(problem)
-    with Growing(words.journal) as journal, _room_beside(words.journal) as room:
-        head = journal.head()
-        try:
-            front = front_of(shape, journal)
-        except RecordFault as fault:
-            raise refused(str(words.journal), str(fault)) from None
-        require_room(shape, max(words.count, front.records), head.paths)
-        (room / "problem.json").write_bytes(problem)
-        shutil.copyfile(words.journal, room / "journal")
-        with Growing(room / "journal", is_synced=False) as scratch:
-            scratch.cut(front.records, front.end)
-            plan = Plan(words.journal, shape.digest)
-            job = Job(problem, shape, program, built_worker(program), head.seed, head.batch, words.count, plan.run)
-            training = FarmTraining(job, plan, Proving(job, front, journal, scratch), front.records)
-            verdict = _trained(words, training, engine_from, say) if front.records < words.count else None
-            return (verdict or Checking(program, scratch.path, room / "problem.json").verdict()).report
+    with closing(AtWork(words, engine_from)) as at_work:
+        shape = _prepared(words, problem, program, at_work)
+        with Growing(words.journal) as journal, _room_beside(words.journal) as room:
+            head, front = journal.head(), _front(words, shape, journal)
+            (room / "problem.json").write_bytes(problem)
+            shutil.copyfile(words.journal, room / "journal")
+            with Growing(room / "journal", is_synced=False) as scratch:
+                scratch.cut(front.records, front.end)
+                plan = Plan(words.journal, shape.digest)
+                job = Job(problem, shape, program, built_worker(program), head.seed, head.batch, words.count, plan.run)
+                training = FarmTraining(job, plan, Proving(job, front, journal, scratch), front.records)
+                verdict = _trained(words, training, at_work, say) if front.records < words.count else None
+                return (verdict or Checking(program, scratch.path, room / "problem.json").verdict()).report
 
 
 @contextmanager
@@ -104,28 +119,60 @@ def _room_beside(journal: Path) -> Iterator[Path]:
         shutil.rmtree(room, ignore_errors=True)
 
 
-def _prepare(words: Words, problem: bytes) -> None:
-    """Lets the program look at the problem and the journal, and make the journal where there is none."""
+def _prepared(words: Words, problem: bytes, program: Path, at_work: AtWork) -> Shape:
+    """Lets the program look at the problem and the journal, and make the journal where there is none; the shape of the problem.
+
+    Meanwhile workers begin to read the problem where the journal is new. Where it is there, the script looks at it first.
+    """
     asked = ["train", str(words.journal), str(words.seed), "0", *([] if words.batch is None else [str(words.batch)])]
-    ended = run(find_program(words.program), asked, problem)
+    is_new = not words.journal.is_file() or words.journal.stat().st_size == 0
+    first, *others = command(program if is_new else find_program(words.program), asked)
+    with Running(Path(first), others, problem) as running:
+        if is_new and words.count:
+            at_work.engine.ready(problem, words.batch or 1)
+        found = _shape_or_fault(problem)
+        running.wait()
+        ended = running.ended()
     if ended.status != 0:
         line = ended.errors.strip() or f"the program ended with status {ended.status}"
         raise FarmError(line.replace("hydroplan: ", "", 1), max(ended.status, 1))
+    if isinstance(found, FarmError):
+        raise found
+    return found
 
 
-def _trained(words: Words, training: FarmTraining, engine_from: Callable[[Words], Engine], say: Callable[[str], None]) -> Optional[Verdict]:
-    """Trains by workers, which are begun and ended; the verdict over the last round."""
-    engine = engine_from(words)
+def _shape_or_fault(problem: bytes) -> Union[Shape, FarmError]:
+    """The shape of a problem, or why it has none."""
     try:
-        training.plan.parts = words.workers or training.plan.parts or _workers_there(engine)
+        return shape_of(problem)
+    except FarmError as fault:
+        return fault
+
+
+def _front(words: Words, shape: Shape, journal: Growing) -> Front:
+    """The front of the journal. FarmError where a record is none of the problem, or where there is no room for as many as are asked for."""
+    try:
+        front = front_of(shape, journal)
+    except RecordFault as fault:
+        raise refused(str(words.journal), str(fault)) from None
+    require_room(shape, max(words.count, front.records), journal.head().paths)
+    return front
+
+
+def _trained(words: Words, training: FarmTraining, at_work: AtWork, say: Callable[[str], None]) -> Optional[Verdict]:
+    """Trains by workers; the verdict over the last round."""
+    at_work.run = training.run_name
+    try:
+        training.plan.parts = words.workers or training.plan.parts or _workers_there(at_work.engine)
         training.plan.write()
         training.proving.proved = Progress(training.records, say)
-        training.run(Asking(engine, training.plan, words.seconds, say))
+        training.run(Asking(at_work.engine, training.plan, words.seconds, say))
     finally:
         training.proving.stop()
-        engine.close(training.run_name)
     spent = training.proving.spent
-    say(f"joining took {spent.joining:.2f} s of a processor, checking {spent.checking:.2f} s beside training; "
+    there = len(training.shares) * training.seconds
+    say(f"joining took {spent.joining:.2f} s of a processor and checking {spent.checking:.2f} s; "
+        f"workers were busy {spent.training:.2f} of {there:.2f} s; "
         f"sent {spent.sent / 1e6:.1f} MB, received {spent.received / 1e6:.1f} MB")
     say("iterations by worker: " + ", ".join(f"{name} {count}" for name, count in sorted(training.shares.items())))
     return training.proving.verdict

@@ -6,6 +6,7 @@ checked. What stands in the journal is proved; what does not is on its way and i
 from __future__ import annotations
 
 import secrets
+import time
 from itertools import count
 from typing import Dict, List, Optional, Tuple
 
@@ -41,6 +42,8 @@ class FarmTraining:
         self._pace = 0.0
         self._digests = {"program": digest_of(job.program), "living": "" if job.living is None else digest_of(job.living)}
         self.shares: Dict[str, int] = {}
+        self.seconds = 0.0
+        """From the first order to the last answer."""
         proving.settled = self._settled
 
     @property
@@ -51,10 +54,11 @@ class FarmTraining:
     def run(self, asking: Asking) -> None:
         """Trains until the journal has as many records as the job says."""
         self._asking = asking
-        current = self._next()
+        begun, current = time.monotonic(), self._next()
         while current is not None:
             try:
                 self._collect(current)
+                self.seconds = time.monotonic() - begun
                 self._last = self._to_join = current
                 self.records = current.records + sum(current.counts)
                 current = self._next()

@@ -30,7 +30,13 @@ class Worker:
 
     def __init__(self) -> None:
         self._kept: Dict[str, Kept] = {}
+        self._spare: Optional[Living] = None
         self._lock = threading.Lock()
+
+    def ready(self, program: Path, problem: bytes, paths: int) -> Living:
+        """Begins a process before the first order, which it will be there for if it is of this program and this problem."""
+        self._spare = Living(program, problem, paths)
+        return self._spare
 
     def perform(self, order: Order) -> bytes:
         """Does what an order says, `train` or `simulate`, to its end."""
@@ -57,12 +63,30 @@ class Worker:
             _end(kept)
             if order["whole"] is None:
                 return LACKING
-            kept = _begun(order)
+            kept = self._begun(order)
         self._kept[order["run"]] = kept
         if isinstance(kept, KeptJournal):
             return _by_program(kept, order, program)
         _give(kept, order)
         return None
+
+    def _begun(self, order: Order) -> Kept:
+        """The joined records anew, from the whole of them, in a process that lives on where that can be."""
+        program = _living_program(order)
+        if program is None:
+            return KeptJournal(order)
+        living = self._begun_for(program, order["problem"], order["batch"] or 1)
+        if order["whole"]:
+            living.join([unframed(order["whole"][1:], MOST_ITERATIONS)])
+        return living
+
+    def _begun_for(self, program: Path, problem: bytes, paths: int) -> Living:
+        """A process that has no order yet: the one that was begun before, else a new one."""
+        spare, self._spare = self._spare, None
+        if spare is not None and spare.is_of == (program, problem, paths):
+            return spare
+        _end(spare)
+        return Living(program, problem, paths)
 
     def look(self, order: Order) -> Optional[bytes]:
         """The answer to an order that was begun, once it is there."""
@@ -99,9 +123,17 @@ class Worker:
         kept = self._kept.get(run)
         return kept if isinstance(kept, Living) else None
 
+    def kill(self, run: str) -> None:
+        """Kills the processes of a run, whose ends are waited for when it is forgotten."""
+        for living in (self.living(run), self._spare):
+            if living is not None:
+                living.kill()
+
     def forget(self, run: str) -> None:
         """Ends and removes what is kept of a run."""
         with self._lock:
+            spare, self._spare = self._spare, None
+            _end(spare)
             _end(self._kept.pop(run, None))
 
     def forget_all(self) -> None:
@@ -169,17 +201,6 @@ def _has_what_it_takes(kept: Kept, order: Order) -> bool:
     """Whether the records that are kept are those behind which the order's come."""
     is_there = order["whole"] is None and kept.name == order["base"] and (not order["own"] or kept.own_name == order["own"])
     return is_there and (isinstance(kept, KeptJournal) or kept.is_alive())
-
-
-def _begun(order: Order) -> Kept:
-    """The joined records anew, from the whole of them, in a process that lives on where that can be."""
-    program = _living_program(order)
-    if program is None:
-        return KeptJournal(order)
-    living = Living(program, order["problem"], order["batch"] or 1)
-    if order["whole"]:
-        living.join([unframed(order["whole"][1:], MOST_ITERATIONS)])
-    return living
 
 
 def _parts(kept: Kept, order: Order) -> List[Sequence[bytes]]:
