@@ -8,4 +8,5 @@ pub mod ShortSlopes
 pub mod Ends
 pub mod Covered
 pub mod Leads
+pub mod Limits
 pub mod PushedCuts

@@ -1,5 +1,5 @@
 -- The slopes of a cut, one after the other.
-use Rattle.std.proofs.Common.{◌≡◌, ◌∙◌, ℕ, ◌+◌, ◌<◌, ◌^◌, ℤ, pos, false, List, [], ◌∷◌, ◌++◌, length, take, get_or, nat_abs, All, Result, Ok, Err, OnOk, is_err, add-one, ap, sym, subst}
+use Rattle.std.proofs.Common.{◌≡◌, ◌∙◌, ℕ, ◌+◌, ◌<◌, ℤ, pos, false, List, [], ◌∷◌, ◌++◌, length, take, get_or, All, Result, Ok, Err, OnOk, is_err, add-one, ap, sym, subst}
 use Rattle.std.proofs.lemmas.List.{append_assoc}
 use Rattle.std.proofs.lemmas.List.Elements.{All-append, All-cons, All-nil}
 use Rattle.std.proofs.Math.Seq.{take-suc}
@@ -17,7 +17,8 @@ pub slope_more : (old found new all : List ℤ) (i : ℕ) (next : ℤ) → i < l
 slope_more old found new all i next h is e put =
     put ∙ ap (λ (zs : List ℤ). zs ++ next ∷ []) e ∙ append_assoc old (take i all) (next ∷ []) ∙ ap (λ (zs : List ℤ). old ++ zs) (sym (one_more all i next h is))
 
-pub small_more : (all : List ℤ) (i : ℕ) (next : ℤ) → i < length all → next ≡ get_or all i (pos 0) → All (λ s. nat_abs s < 2 ^ 57) (take i all) → nat_abs next < 2 ^ 57 → All (λ s. nat_abs s < 2 ^ 57) (take (i + 1) all)
-small_more all i next h is before small =
-    subst (All (λ s. nat_abs s < 2 ^ 57)) (sym (one_more all i next h is))
-    (All-append (λ s. nat_abs s < 2 ^ 57) (take i all) (next ∷ []) before (All-cons (λ s. nat_abs s < 2 ^ 57) next [] small (All-nil (λ s. nat_abs s < 2 ^ 57))))
+-- one more of the numbers that have a property
+pub all_more : (P : ℤ → Type 0) (all : List ℤ) (i : ℕ) (next : ℤ) → i < length all → next ≡ get_or all i (pos 0) → All P (take i all) → P next → All P (take (i + 1) all)
+all_more P all i next h is before own =
+    subst (All P) (sym (one_more all i next h is))
+    (All-append P (take i all) (next ∷ []) before (All-cons P next [] own (All-nil P)))

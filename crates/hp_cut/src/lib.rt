@@ -6,6 +6,7 @@ pub mod box_maxima;
 mod copies;
 mod cut_value;
 pub mod entry;
+mod falling;
 mod flat_cuts;
 mod pool;
 pub mod pools;

@@ -291,7 +291,7 @@ impl Pool {
         ensures { IfSome result (λ packed. packed ≡ map packed_cut self.now.cuts) }
     {
         let list = self.flat.list()?;
-        Some(PackedCuts::new(list, lent(&self.active)))
+        Some(PackedCuts::new(list, lent(&self.active), self.flat.falling()))
     }
 
     /// Gives the greatest value over a box, where it is kept.

@@ -1,5 +1,6 @@
 pub mod Numbers
 pub mod Duals
+pub mod Falling
 pub mod PackedCut
 pub mod Covering
 pub mod Packed

@@ -4,6 +4,7 @@ ghost use Rattle.hp_num.specs.Sums.{entry};
 ghost use Rattle.hp_solver.specs.PackedCut.{cuts_of, no_packed_cut, ArePacked, IsSmallCut};
 ghost use Rattle.hp_solver.specs.Packed.{rows_of, IsView};
 ghost use Rattle.hp_solver.specs.Covering.{AreActive};
+ghost use Rattle.hp_solver.specs.Falling.{IsFalling};
 
 use hp_num::List;
 use std::marker::Model;
@@ -101,32 +102,51 @@ pub struct ActiveCuts<'a> {
     pub cuts: CutList<'a>,
 }
 
+/// Limits of cuts none of which rises with a state: no slope is above 0.
+#[derive(Clone, Copy)]
+pub struct Falling {
+    /// No height is further from 0, at scale 2^24.
+    pub highest: u64,
+    /// No slope is further below 0, at scale 2^24.
+    pub steepest: u64,
+}
+
 /// Cuts of one node, side by side, at scale 2^24. Contracts see them as a list of cuts.
 #[derive(Drop)]
 pub struct PackedCuts<'a> {
     all: CutList<'a>,
     active: Option<ActiveCuts<'a>>,
+    falling: Option<Falling>,
 }
 
 impl<'a> Model for PackedCuts<'a> {
-    ghost use Rattle.std.specs.Prelude.{List, IfSome};
+    ghost use Rattle.std.specs.Prelude.{List};
     ghost use Rattle.hp_solver.specs.PackedCut.{PackedCut};
-    ghost use Rattle.hp_solver.specs.Covering.{AreActive};
+    ghost use Rattle.hp_solver.specs.Falling.{AreKnown};
 
     ghost Value = { List PackedCut };
 
     ghost view = { λ c. c.all };
 
-    ghost invariant = { λ c. IfSome c.active (AreActive c.all) };
+    ghost invariant = { λ c. AreKnown c.all c.active c.falling };
 }
 
 impl<'a> PackedCuts<'a> {
-    /// Joins the cuts of a list with those that cover the others, where these are known.
-    pub fn new(all: CutList<'a>, active: Option<ActiveCuts<'a>>) -> PackedCuts<'a>
-        requires { IfSome active (AreActive all) }
+    /// Joins the cuts of a list with those that cover the others and with the limits of all, where these are known.
+    pub fn new(
+        all: CutList<'a>,
+        active: Option<ActiveCuts<'a>>,
+        falling: Option<Falling>,
+    ) -> PackedCuts<'a>
+        requires active { IfSome active (AreActive all) }
+        requires falling { IfSome falling (λ f. All (IsFalling f) all) }
         ensures { result ≡ all.entry }
     {
-        PackedCuts { all, active }
+        PackedCuts {
+            all,
+            active,
+            falling,
+        }
     }
 
     /// Gives the number of cuts.
@@ -177,6 +197,13 @@ impl<'a> PackedCuts<'a> {
         ensures { IfSome result (λ a. AreActive self.now a.now) }
     {
         self.active.as_ref()
+    }
+
+    /// Gives the limits of the cuts, where these are known and no cut rises with a state.
+    pub fn falling(&self) -> Option<Falling>
+        ensures { IfSome result (λ f. All (IsFalling f) self.now) }
+    {
+        self.falling
     }
 }
 

@@ -1,3 +1,4 @@
+pub mod Below
 pub mod Columns
 pub mod Covered
 pub mod Digits
@@ -6,5 +7,6 @@ pub mod Narrow
 pub mod Numbered
 pub mod PackedValues
 pub mod PackedWalks
+pub mod Passed
 pub mod Rewritten
 pub mod Worked

@@ -1,5 +1,5 @@
 -- A list that is written anew from its front on.
-use Rattle.std.proofs.Common.{◌≡◌, ◌∙◌, ℕ, zero, suc, ◌+◌, ◌<◌, ◌≤◌, List, [], ◌∷◌, ◌++◌, length, drop, replicate, slice_set, append-nil, drop_of_length-le, arith, refl, ap, ap₂}
+use Rattle.std.proofs.Common.{◌≡◌, ◌∙◌, ℕ, zero, suc, ◌+◌, ◌<◌, List, [], ◌∷◌, ◌++◌, length, drop, replicate, slice_set, append-nil, drop_of_length-le, arith, refl, ap, ap₂}
 
 next_set : {A : Type 0} (x : A) (xs : List A) (k : ℕ) → k < length xs → slice_set (replicate k x ++ drop k xs) k x ≡ replicate (suc k) x ++ drop (suc k) xs
 next_set x [] k h = absurd (omega (arith, h))

@@ -1,6 +1,7 @@
 //! The cuts that come in because the point of a table violates them.
 #![tactic(auto)]
 
+mod bounds;
 pub mod greatest;
 pub mod packed;
 mod refilled;

@@ -1,22 +1,25 @@
 // Find the greatest at a point of each successor's cuts that wait, where cuts stand side by side.
-ghost use Rattle.std.specs.Prelude.{ℕ, Some, None, drop, ◌≡◌, ◌<◌, ◌≤◌, ◌^◌, ◌+◌, ◌+ℤ◌, ◌*ℤ◌, ◌≤ℤ◌, pos, true, false, length, map, take, replicate, nat_abs, get_or, All, IfOk, OnOk};
+ghost use Rattle.std.specs.Prelude.{ℕ, Some, None, drop, ◌≡◌, ◌<◌, ◌≤◌, ◌^◌, ◌+◌, ◌+ℤ◌, ◌*ℤ◌, ◌≤ℤ◌, pos, true, false, length, map, take, replicate, nat_abs, get_or, All, IfSome, IfOk, OnOk};
 ghost use Rattle.std.specs.Option.{option_map};
 ghost use Rattle.hp_num.specs.Sums.{entry, dot};
 ghost use Rattle.hp_solver.specs.PackedCut.{PackedCut};
 ghost use Rattle.hp_solver.specs.Packed.{packed_row, rows_of, IsView};
 ghost use Rattle.hp_solver.specs.Covering.{value_of, packed_cut_at, AreInside};
+ghost use Rattle.hp_solver.specs.Falling.{IsFalling};
 ghost use Rattle.hp_solver.specs.declared.packed.Out.{Out};
 ghost use Rattle.hp_solver.specs.declared.programs.LpRow.{LpRow};
 ghost use Rattle.hp_warm_scale.specs.Walks.{walk};
 ghost use Rattle.hp_warm_scale.specs.Waiting.{waits};
+ghost use Rattle.hp_warm_scan.specs.Bounds.{IsBounded, ArePassed};
 ghost use Rattle.hp_warm_scan.specs.Values.{greater_valued, greatest_step, IsValueWithin};
 ghost use Rattle.hp_warm_scan.specs.Packed.{short_or_zero, added, with_leaving, leaving_of, with_program_row, greater_or};
 
+use crate::bounds::{are_bounded, bound, limit_of};
 use crate::greatest::is_greater;
 use crate::refilled::refill;
-use crate::values::{plus, product, raised};
+use crate::values::{plus, product, raised, short};
 use hp_num::{List, Memory};
-use hp_solver::{CutList, Out, PackedCuts, PackedView};
+use hp_solver::{ActiveCuts, CutList, Falling, Out, PackedCuts, PackedView};
 
 /// Cuts among which the greatest are looked up: the columns in which cuts wait, the states at which they are compared, and the
 /// program's row of the first.
@@ -182,16 +185,67 @@ fn greatest_from(best: (usize, i128), from: usize, cuts: &CutList, leaving: &[i6
     best
 }
 
-// Finds the number and the value of the greatest of some cuts.
-fn greatest_of(cuts: &CutList, leaving: &[i64]) -> Option<(usize, i128)>
+// Finds a bound of the value of a cut of a list, in units.
+fn bound_at(cuts: &CutList, place: usize, leaving: &[i64]) -> i64
+    requires there { place < length cuts.now }
     requires counts { All (λ (c : PackedCut). length c.slopes ≡ length leaving.now) cuts.now }
+    requires bounded { All (IsBounded leaving.now) cuts.now }
+    ensures value { value_of (packed_cut_at cuts.now place) leaving.now ≤ℤ (result *ℤ pos (2 ^ 24)) }
+    ensures short { nat_abs result ≤ 2 ^ 62 }
+{
+    bound(short(cuts.height(place)), cuts.slopes(place), leaving)
+}
+
+// Finds the first cut from a number on whose bound is above a limit. The number of cuts where none is.
+fn next_above(cuts: &CutList, from: usize, limit: i64, leaving: &[i64]) -> usize
+    requires from { from ≤ length cuts.now }
+    requires counts { All (λ (c : PackedCut). length c.slopes ≡ length leaving.now) cuts.now }
+    requires bounded { All (IsBounded leaving.now) cuts.now }
+    ensures there { result ≤ length cuts.now }
+    ensures behind { from ≤ result }
+    ensures passed { ArePassed cuts.now leaving.now limit from result }
+{
+    let count = cuts.len();
+    for k in from..count {
+        if limit < bound_at(cuts, k, leaving) {
+            return k;
+        }
+    }
+    count
+}
+
+// Finds the greatest of a cut's number with its value and of the cuts behind the first, which are bounded. Most bounds are not
+// above the greatest value so far, and nothing more is to be done for these cuts.
+fn greatest_bounded(one: (usize, i128), cuts: &CutList, leaving: &[i64]) -> (usize, i128)
+    requires some { 1 ≤ length cuts.now }
+    requires counts { All (λ (c : PackedCut). length c.slopes ≡ length leaving.now) cuts.now }
+    requires bounded { All (IsBounded leaving.now) cuts.now }
+    ensures { Some result ≡ walk (λ i b (c : PackedCut). greater_valued b (i, value_of c leaving.now)) 1 (Some one) (drop 1 cuts.now) }
+{
+    let mut best = one;
+    let mut k = next_above(cuts, 1, limit_of(best.1), leaving);
+    while k < cuts.len() {
+        best = greater_of(best, k, value_at(cuts, k, leaving));
+        k = next_above(cuts, k + 1, limit_of(best.1), leaving);
+    }
+    best
+}
+
+// Finds the number and the value of the greatest of some cuts, by their limits, where these are known.
+fn greatest_of(cuts: &CutList, limits: Option<Falling>, leaving: &[i64]) -> Option<(usize, i128)>
+    requires counts { All (λ (c : PackedCut). length c.slopes ≡ length leaving.now) cuts.now }
+    requires limits { IfSome limits (λ f. All (IsFalling f) cuts.now) }
     ensures { result ≡ walk (λ i b (c : PackedCut). greater_valued b (i, value_of c leaving.now)) 0 None cuts.now }
 {
     if cuts.len() == 0 {
         return None;
     }
     let one = (0, value_at(cuts, 0, leaving));
-    Some(greatest_from(one, 1, cuts, leaving))
+    if are_bounded(limits, leaving) {
+        Some(greatest_bounded(one, cuts, leaving))
+    } else {
+        Some(greatest_from(one, 1, cuts, leaving))
+    }
 }
 
 // Gives the program's row of the cut whose place has a number in a list. The first cut is the program's row `first`.
@@ -210,16 +264,17 @@ fn row_of(first: usize, places: &[u32], number: usize) -> usize
 fn take_active(
     best: Option<(usize, i128)>,
     first: usize,
-    cuts: &CutList,
-    places: &[u32],
+    active: &ActiveCuts,
+    limits: Option<Falling>,
     leaving: &[i64],
 ) -> Option<(usize, i128)>
-    requires rows { All (λ (p : ℕ). first + p < 2 ^ 64) places.now }
-    requires counts { All (λ (c : PackedCut). length c.slopes ≡ length leaving.now) cuts.now }
-    ensures { result ≡ greater_or best (option_map (with_program_row first places.now) (walk (λ i b (c : PackedCut). greater_valued b (i, value_of c leaving.now)) 0 None cuts.now)) }
+    requires rows { All (λ (p : ℕ). first + p < 2 ^ 64) active.now.places.now }
+    requires counts { All (λ (c : PackedCut). length c.slopes ≡ length leaving.now) active.now.cuts }
+    requires limits { IfSome limits (λ f. All (IsFalling f) active.now.cuts) }
+    ensures { result ≡ greater_or best (option_map (with_program_row first active.now.places.now) (walk (λ i b (c : PackedCut). greater_valued b (i, value_of c leaving.now)) 0 None active.now.cuts)) }
 {
-    match greatest_of(cuts, leaving) {
-        Some((number, value)) => greater(best, row_of(first, places, number), value),
+    match greatest_of(&active.cuts, limits, leaving) {
+        Some((number, value)) => greater(best, row_of(first, active.places, number), value),
         None => best,
     }
 }
@@ -261,7 +316,7 @@ fn take_best(
 {
     if let Some(active) = cuts.active() {
         if are_inside(active.lows, active.highs, leaving) {
-            return take_active(best, first, &active.cuts, active.places, leaving);
+            return take_active(best, first, active, cuts.falling(), leaving);
         }
     }
     take_cuts(best, first, cuts.list(), leaving)

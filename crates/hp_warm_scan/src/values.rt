@@ -26,7 +26,7 @@ fn negated(x: i128) -> i128
 }
 
 // Gives the number in 64 bits.
-fn short(x: i128) -> i64
+pub(crate) fn short(x: i128) -> i64
     requires { FitsSigned w64 x }
     ensures { result ≡ x }
 {
