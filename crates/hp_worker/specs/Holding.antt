@@ -1,4 +1,4 @@
--- What the worker holds between orders.
+-- The joined records that a worker holds between orders.
 use Rattle.std.specs.Prelude.{ℕ, ◌≤◌, length}
 use Rattle.hp_problem.specs.Validated.{Validated}
 use Rattle.hp_load.specs.declared.records.Gathered.{Gathered}

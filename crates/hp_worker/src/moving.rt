@@ -6,7 +6,7 @@ use crate::places::{NodePlaces, Places};
 use hp_num::big_endian;
 use hp_problem::Problem;
 
-/// What becomes of a record: the part that made it, its number there and the one that it has once joined.
+/// The part that made a record, its number there, and the one that it has once joined.
 #[derive(Clone, Copy)]
 pub(crate) struct Move {
     /// From 0.

@@ -7,6 +7,7 @@ use crate::ending::Ending;
 use crate::reading::{order_from, u32_from, u64_from};
 use crate::rounds::join;
 use crate::state::{Held, Task};
+use crate::writing::put;
 use hp_lp::Planner;
 use hp_outside::{Sink, Source};
 use hp_solver::Solver;
@@ -40,6 +41,24 @@ fn train<R: Threads + Sync, I: Source, O: Sink, V: Solver>(
     Ok(())
 }
 
+// Joins records, and writes each as it stands joined.
+fn tell<I: Source, O: Sink, V: Solver>(
+    task: Task,
+    held: &mut Held<V>,
+    input: &mut I,
+    out: &mut O,
+) -> Result<(), Ending>
+    requires { Holds task.problem.now task.batch held.old.found }
+    ensures { OnOk result (Holds task.entry.problem.now task.entry.batch held.new.found) }
+{
+    held.told = Some(Vec::new(task.alloc));
+    join(task, held, input)?;
+    match held.told.take() {
+        Some(bytes) => put(out, bytes.as_slice()),
+        None => Ok(()),
+    }
+}
+
 // Takes the next order, and says whether there was one.
 fn next<R: Threads + Sync, I: Source, O: Sink, V: Solver>(
     rt: &R,
@@ -56,6 +75,7 @@ fn next<R: Threads + Sync, I: Source, O: Sink, V: Solver>(
     match order_from(input)? {
         None => return Ok(false),
         Some(b'J') => join(task, held, input)?,
+        Some(b'E') => tell(task, held, input, out)?,
         Some(b'T') => train(rt, planner, task, held, input, out)?,
         Some(_) => return Err(Ending::Usage),
     }

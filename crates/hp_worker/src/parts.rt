@@ -1,10 +1,10 @@
-// The records of a round as its parts made them.
+// The records of a round as its parts made them, but for the first of each part.
 use crate::ending::{Ending, RecordAt};
-use crate::reading::{payload_from, u32_from};
+use crate::reading::payload_from;
 use hp_outside::Source;
 use std::alloc::Global;
 
-/// The records of a round as its parts made them.
+/// The records of a round as its parts made them, but for the first of each part.
 #[derive(Drop)]
 pub(crate) struct Round {
     /// Those of the first part in their order, then those of the second, and so on.
@@ -27,45 +27,51 @@ fn read_record<I: Source>(
     }
 }
 
-// Reads the records of a part.
-fn read_part<I: Source>(
+// Reads so many records of a part behind its first one.
+fn read_others<I: Source>(
     alloc: Global,
     input: &mut I,
     round: &mut Round,
     part: u32,
+    count: u32,
 ) -> Result<(), Ending> {
-    let first = round.payloads.len();
-    let count = u32_from(input)?;
     for done in 0..count {
         let at = RecordAt {
             part,
-            record: done + 1,
+            record: done.saturating_add(2),
         };
         read_record(alloc, input, round, at)?;
     }
-    match round.spans.push((first, count)) {
-        Ok(()) => Ok(()),
-        Err(_) => Err(Ending::Memory),
+    Ok(())
+}
+
+impl Round {
+    /// No records yet.
+    pub(crate) fn new(alloc: Global) -> Round {
+        Round {
+            payloads: Vec::new(alloc),
+            spans: Vec::new(alloc),
+        }
+    }
+
+    /// Reads so many records of the next part behind its first one, which stands elsewhere.
+    pub(crate) fn read_part<I: Source>(
+        &mut self,
+        alloc: Global,
+        input: &mut I,
+        part: u16,
+        count: u32,
+    ) -> Result<(), Ending> {
+        let first = self.payloads.len();
+        read_others(alloc, input, self, u32::from(part) + 1, count)?;
+        match self.spans.push((first, count)) {
+            Ok(()) => Ok(()),
+            Err(_) => Err(Ending::Memory),
+        }
     }
 }
 
-/// Reads the records of so many parts.
-pub(crate) fn read_round<I: Source>(
-    alloc: Global,
-    input: &mut I,
-    parts: u16,
-) -> Result<Round, Ending> {
-    let mut round = Round {
-        payloads: Vec::new(alloc),
-        spans: Vec::new(alloc),
-    };
-    for part in 0..parts {
-        read_part(alloc, input, &mut round, u32::from(part) + 1)?;
-    }
-    Ok(round)
-}
-
-/// The record that a part made in a turn, both from 0.
+/// The record that a part made in a turn, from 0. The first ones are not counted.
 pub(crate) fn payload_at(round: &Round, part: u16, turn: u32) -> Option<&[u8]> {
     let span = round.spans.as_slice().get(usize::from(part))?;
     if turn >= span.1 {
@@ -78,7 +84,7 @@ pub(crate) fn payload_at(round: &Round, part: u16, turn: u32) -> Option<&[u8]> {
     Some(payload.as_slice())
 }
 
-/// The number of turns: that of the records of the part that made most.
+/// The number of turns, but for that of the first records: of the records of the part that made most.
 pub(crate) fn turns(round: &Round) -> u32 {
     let mut most = 0;
     for span in round.spans.as_slice() {

@@ -13,6 +13,7 @@ use hp_fields::ReadRefusal;
 use hp_load::gathered_base;
 use hp_lp::{Planner, WarmStarts, Workspace};
 use hp_outside::{Sink, Source, StdSink, StdSource};
+use hp_parts::MOST_PATHS;
 use hp_problem::Problem;
 use hp_record::Spares;
 use hp_sof::read_problem;
@@ -22,8 +23,6 @@ use std::alloc::Global;
 use std::io::{Read, Write};
 use std::process::ExitCode;
 use std::thread::Threads;
-
-const MOST_PATHS: u16 = 64;
 
 // Reads the paths of an iteration.
 fn batch_from<I: Source>(input: &mut I) -> Result<u16, Ending>
@@ -56,7 +55,7 @@ fn base_of(alloc: Global, problem: &Problem) -> Result<Pools, Ending>
     }
 }
 
-// What is held before the first order.
+// Begins with the base cuts alone, before the first order.
 fn held_at_first<V: Solver>(task: Task) -> Result<Held<V>, Ending>
     requires some { 1 ≤ task.batch }
     requires most { task.batch ≤ 64 }
@@ -68,6 +67,7 @@ fn held_at_first<V: Solver>(task: Task) -> Result<Held<V>, Ending>
         found,
         spares: Spares::new(task.alloc),
         work: Workspace::new(task.alloc),
+        told: None,
     })
 }
 

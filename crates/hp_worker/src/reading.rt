@@ -4,12 +4,8 @@ ghost use Rattle.std.specs.Prelude.{◌≡◌, ◌≤◌, ◌^◌, length, IfOk}
 use crate::ending::{Ending, RecordAt};
 use hp_num::Memory;
 use hp_outside::Source;
+use hp_parts::{PAYLOAD_BYTES, PROBLEM_BYTES};
 use std::alloc::Global;
-
-const MOST_PROBLEM: u32 = 1 << 24;
-
-/// The most bytes that a record's payload has.
-pub(crate) const MOST_PAYLOAD: u32 = 1 << 26;
 
 // Reads bytes until the slice is full. Usage where the input ends before.
 fn fill<I: Source>(input: &mut I, into: &mut [u8]) -> Result<(), Ending>
@@ -78,7 +74,7 @@ fn bytes_from<I: Source>(alloc: Global, input: &mut I, count: u32) -> Result<Vec
 /// The bytes of the problem, behind their number.
 pub(crate) fn problem_from<I: Source>(alloc: Global, input: &mut I) -> Result<Vec<u8>, Ending> {
     let count = u32_from(input)?;
-    if count > MOST_PROBLEM {
+    if count as usize > PROBLEM_BYTES {
         return Err(Ending::TooLong);
     }
     bytes_from(alloc, input, count)
@@ -93,7 +89,7 @@ pub(crate) fn payload_from<I: Source>(
     ensures { IfOk result (λ payload. length payload.items ≤ 2 ^ 26) }
 {
     let count = u32_from(input)?;
-    if count > MOST_PAYLOAD {
+    if u64::from(count) > PAYLOAD_BYTES {
         return Err(Ending::RecordRefused(at));
     }
     bytes_from(alloc, input, count)

@@ -4,19 +4,33 @@ ghost use Rattle.hp_worker.specs.Holding.{Holds};
 
 use crate::ending::{Ending, RecordAt, ending_of_record};
 use crate::moving::{Move, move_record};
-use crate::parts::{Round, payload_at, read_round, turns};
+use crate::parts::{Round, payload_at, turns};
 use crate::places::Places;
-use crate::reading::{MOST_PAYLOAD, payload_from, u16_from, u32_from};
+use crate::reading::{payload_from, u16_from, u32_from};
 use crate::state::{Held, Task};
 use hp_load::add_payload;
 use hp_outside::Source;
-use hp_parts::MOST_ITERATIONS;
+use hp_parts::{MOST_ITERATIONS, PAYLOAD_BYTES};
 use hp_solver::Solver;
 use hp_train::counts;
 
 const MOST_PARTS: u16 = 64;
 
-// Checks and adds a record.
+// Keeps a payload behind the number of its bytes, where an order asks for it.
+fn keep(told: &mut Option<Vec<u8>>, payload: &[u8]) -> Result<(), Ending>
+    requires { length payload.now ≤ 2 ^ 26 }
+{
+    if let Some(bytes) = told {
+        let count = (payload.len() as u32).to_be_bytes();
+        bytes.extend_from_slice(&count).map_err(|_| Ending::Memory)?;
+        bytes
+            .extend_from_slice(payload)
+            .map_err(|_| Ending::Memory)?;
+    }
+    Ok(())
+}
+
+// Checks and adds a record, and keeps it where an order asks for it.
 fn add<V: Solver>(
     task: Task,
     held: &mut Held<V>,
@@ -38,7 +52,7 @@ fn add<V: Solver>(
         payload,
         &mut held.found,
     ) {
-        Ok(()) => Ok(()),
+        Ok(()) => keep(&mut held.told, payload),
         Err(fault) => Err(ending_of_record(fault, at)),
     }
 }
@@ -75,7 +89,7 @@ fn join_record<V: Solver>(
     requires { Holds task.problem.now task.batch held.old.found }
     ensures { OnOk result (Holds task.entry.problem.now task.entry.batch held.new.found) }
 {
-    if payload.len() > MOST_PAYLOAD as usize {
+    if payload.len() as u64 > PAYLOAD_BYTES {
         return Err(Ending::RecordRefused(moving.at));
     }
     let Ok(mut moved) = Vec::from_slice(task.alloc, payload) else {
@@ -107,46 +121,95 @@ fn moving(part: u16, turn: u32, before: usize, now: usize) -> Move
     }
 }
 
-// Takes the records of a turn, in the order of the parts.
+// A round that is being joined: where cuts stand, the records that wait for their turn, and the number of records before it.
+#[derive(Drop)]
+struct Joining {
+    places: Places,
+    waiting: Round,
+    before: usize,
+}
+
+// Reads the records of a part, and joins the first of them at once. The others wait for those of other parts.
+fn take_part<I: Source, V: Solver>(
+    task: Task,
+    held: &mut Held<V>,
+    input: &mut I,
+    joining: &mut Joining,
+    part: u16,
+) -> Result<(), Ending>
+    requires holds { Holds task.problem.now task.batch held.old.found }
+    requires before { joining.old.before ≤ 2000 }
+    ensures holds { OnOk result (Holds task.entry.problem.now task.entry.batch held.new.found) }
+    ensures before { joining.new.before ≡ joining.old.before }
+{
+    let count = u32_from(input)?;
+    if count > 0 {
+        let moving = moving(part, 0, joining.before, held.found.bounds.len());
+        let payload = payload_from(task.alloc, input, moving.at)?;
+        join_record(task, held, &mut joining.places, moving, payload.as_slice())?;
+    }
+    let others = count.saturating_sub(1);
+    joining.waiting.read_part(task.alloc, input, part, others)
+}
+
+// Takes the records of all parts, the first of each in their order.
+fn take_parts<I: Source, V: Solver>(
+    task: Task,
+    held: &mut Held<V>,
+    input: &mut I,
+    joining: &mut Joining,
+    parts: u16,
+) -> Result<(), Ending>
+    requires holds { Holds task.problem.now task.batch held.old.found }
+    requires before { joining.old.before ≤ 2000 }
+    ensures holds { OnOk result (Holds task.entry.problem.now task.entry.batch held.new.found) }
+    ensures before { joining.new.before ≡ joining.old.before }
+{
+    for part in 0..parts {
+        take_part(task, held, input, joining, part)?;
+    }
+    Ok(())
+}
+
+// Takes the records of a turn behind the first, in the order of the parts.
 fn take_turn<V: Solver>(
     task: Task,
     held: &mut Held<V>,
-    places: &mut Places,
-    round: &Round,
+    joining: &mut Joining,
     turn: u32,
-    before: usize,
 ) -> Result<(), Ending>
     requires holds { Holds task.problem.now task.batch held.old.found }
-    requires before { before ≤ 2000 }
-    ensures { OnOk result (Holds task.entry.problem.now task.entry.batch held.new.found) }
+    requires before { joining.old.before ≤ 2000 }
+    ensures holds { OnOk result (Holds task.entry.problem.now task.entry.batch held.new.found) }
+    ensures before { joining.new.before ≡ joining.old.before }
 {
     for part in 0..MOST_PARTS {
-        if let Some(payload) = payload_at(round, part, turn) {
-            let moving = moving(part, turn, before, held.found.bounds.len());
-            join_record(task, held, places, moving, payload)?;
+        if let Some(payload) = payload_at(&joining.waiting, part, turn) {
+            let now = held.found.bounds.len();
+            let moving = moving(part, turn.saturating_add(1), joining.before, now);
+            join_record(task, held, &mut joining.places, moving, payload)?;
         }
     }
     Ok(())
 }
 
-// Takes the records of all turns.
+// Takes the records of all turns behind the first.
 fn take_turns<V: Solver>(
     task: Task,
     held: &mut Held<V>,
-    places: &mut Places,
-    round: &Round,
+    joining: &mut Joining,
 ) -> Result<(), Ending>
-    requires { Holds task.problem.now task.batch held.old.found }
+    requires holds { Holds task.problem.now task.batch held.old.found }
+    requires before { joining.old.before ≤ 2000 }
     ensures { OnOk result (Holds task.entry.problem.now task.entry.batch held.new.found) }
 {
-    let before = held.found.bounds.len();
-    for turn in 0..turns(round) {
-        take_turn(task, held, places, round, turn, before)?;
+    for turn in 0..turns(&joining.waiting) {
+        take_turn(task, held, joining, turn)?;
     }
     Ok(())
 }
 
-// Reads the records of so many parts and joins them.
+// Reads the records of so many parts and joins them, each as soon as it is there and its turn has come.
 fn join_parts<I: Source, V: Solver>(
     task: Task,
     held: &mut Held<V>,
@@ -157,10 +220,14 @@ fn join_parts<I: Source, V: Solver>(
     ensures { OnOk result (Holds task.entry.problem.now task.entry.batch held.new.found) }
 {
     let _ = task.problem.parts();
-    let round = read_round(task.alloc, input, parts)?;
     let counts = counts(task.alloc, &held.found.pools)?;
-    let mut places = Places::new(task.alloc, counts, parts)?;
-    take_turns(task, held, &mut places, &round)
+    let mut joining = Joining {
+        places: Places::new(task.alloc, counts, parts)?,
+        waiting: Round::new(task.alloc),
+        before: held.found.bounds.len(),
+    };
+    take_parts(task, held, input, &mut joining, parts)?;
+    take_turns(task, held, &mut joining)
 }
 
 /// Joins the records of a round behind those that are held, each checked by its certificates.

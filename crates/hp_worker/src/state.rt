@@ -1,4 +1,4 @@
-// What the worker holds between orders.
+// The worker between orders.
 use hp_load::Gathered;
 use hp_lp::Workspace;
 use hp_problem::Problem;
@@ -6,7 +6,7 @@ use hp_record::Spares;
 use hp_solver::Solver;
 use std::alloc::Global;
 
-/// What stays the same for all orders.
+/// The problem, and all else that stays the same for all orders.
 #[derive(Clone, Copy)]
 pub(crate) struct Task<'a> {
     pub(crate) alloc: Global,
@@ -21,4 +21,6 @@ pub(crate) struct Held<V: Solver> {
     pub(crate) found: Gathered,
     pub(crate) spares: Spares,
     pub(crate) work: Workspace<V>,
+    /// The payloads of records as they stand joined, each behind the number of its bytes; none where no order asks for them.
+    pub(crate) told: Option<Vec<u8>>,
 }
