@@ -16,6 +16,14 @@ pub struct Twice<'a, V: Solver> {
     pub solver: &'a V,
 }
 
+// Parts a pair of chains.
+fn parted<A, B>(pair: Option<(A, B)>) -> (Option<A>, Option<B>) {
+    match pair {
+        Some((one, other)) => (Some(one), Some(other)),
+        None => (None, None),
+    }
+}
+
 impl<'a, V: Solver> Solver for Twice<'a, V> {
     type Start = V::Start;
 
@@ -39,10 +47,11 @@ impl<'a, V: Solver> Solver for Twice<'a, V> {
         alloc: Global,
         start: &V::Start,
         lp: &StageLp,
-        _spare: &mut Option<(V::Chain, V::Chain)>,
+        spare: &mut Option<(V::Chain, V::Chain)>,
     ) -> Result<(V::Chain, V::Chain), Memory> {
-        let first = self.solver.begin(alloc, start, lp, &mut None)?;
-        let second = self.solver.begin(alloc, start, lp, &mut None)?;
+        let (mut one, mut other) = parted(spare.take());
+        let first = self.solver.begin(alloc, start, lp, &mut one)?;
+        let second = self.solver.begin(alloc, start, lp, &mut other)?;
         Ok((first, second))
     }
 

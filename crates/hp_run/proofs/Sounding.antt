@@ -1,4 +1,4 @@
--- What a run wrote, by what it works on: of each text this holds, since the status tells of the text.
+-- The text that a run wrote, by what it works on: of each text this holds, since the status tells of the text.
 use Rattle.std.proofs.Common.{◌≡◌, ℕ, List, Option, Some, None, IfSome, IsOk, Ok, subst}
 use Rattle.std.specs.Io.KnownBytes.{Appends}
 use Rattle.hp_gen.specs.Generated.{generated}

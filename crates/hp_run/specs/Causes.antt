@@ -181,7 +181,7 @@ Taken none_written taken taken_now W = ⊤
 abbrev pub IfWritten : (List ℕ → Type 0) → Ends → Status → Type 0
 IfWritten P e status = Taken (kind status).output e.taken e.taken_now (λ written. (text : List ℕ) × P text × written text)
 
--- What was written, over any disk, by what the command works on: a report of the problem that the source held, the problem that a description
+-- The text that was written, over any disk, by what the command works on: a report of the problem that the source held, the problem that a description
 -- means, or a generated problem.
 abbrev pub WrittenBy : Input → (List ℕ → List ℕ → Type 0) → (List ℕ → List ℕ → Type 0) → (List ℕ → Type 0) → Ends → Status → Type 0
 WrittenBy of_problem Report Described Generated e status = IfSome e.left (λ bytes. IfWritten (Report bytes) e status)
