@@ -8,3 +8,4 @@ pub mod Listed
 pub mod Meeting
 pub mod MendedDecisions
 pub mod Rows
+pub mod Untouched

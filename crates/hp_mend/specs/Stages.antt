@@ -1,5 +1,6 @@
 -- The stage that decisions are of.
-use Rattle.std.specs.Prelude.{◌≡◌, ◌<◌, ℤ, pos, true, List, [], length}
+use Rattle.std.specs.Prelude.{ℕ, ◌≡◌, ◌≢◌, ◌<◌, ℤ, pos, true, List, [], length, All}
+use Rattle.hp_num.specs.Sums.{Term, entry}
 use Rattle.hp_parts.specs.declared.parts.Decision.{Decision}
 use Rattle.hp_parts.specs.Limits.{are_values}
 use Rattle.hp_problem.specs.Validated.{subproblem_of}
@@ -29,3 +30,11 @@ no_decision = record { name = []; low = pos 0; high = pos 0; cost = pos 0 }
 -- the decisions lie in S times their boxes
 abbrev pub AreDecisionsInside : MendedStage → List ℤ → Type 0
 AreDecisionsInside s u = InBox S (node_of_stage s).decision_low (node_of_stage s).decision_high u
+
+-- no term is of the decision
+abbrev pub IsWithout : ℕ → List Term → Type 0
+IsWithout j ts = All (λ (t : Term). t.0 ≢ j) ts
+
+-- all decisions but one are the same
+abbrev pub AreSameBut : ℕ → List ℤ → List ℤ → Type 0
+AreSameBut j u v = (k : ℕ) → k ≢ j → entry v k ≡ entry u k

@@ -4,11 +4,13 @@ ghost use Rattle.std.specs.Prelude.{◌≡◌, ◌≢◌, ◌+◌, ◌<◌, ◌�
 ghost use Rattle.hp_theory.specs.Problem.{S};
 ghost use Rattle.hp_num.specs.Sums.{entry};
 ghost use Rattle.hp_mend.specs.Moves.{may_move, moved_decision, is_harmed, harm_from, is_other, move_of, moves_by, both_moves, moves_at, moves_of};
-ghost use Rattle.hp_mend.specs.Stages.{frame_at, IsNodeStage, AreDecisionsInside};
+ghost use Rattle.hp_mend.specs.Stages.{frame_at, IsNodeStage, AreDecisionsInside, AreSameBut};
 
 use crate::amounts::{Amount, directed, reaching, short_of};
 use crate::search::{Move, Search, put};
-use crate::stage::{MendedStage, box_at, cost_at, is_met, miss_at, stage_row_count, terms_at};
+use crate::stage::{
+    MendedStage, box_at, cost_at, has_term, is_met, miss_at, stage_row_count, terms_at,
+};
 use hp_forward::scaled;
 use hp_num::{List, Memory, copied};
 use std::alloc::Global;
@@ -110,16 +112,36 @@ pub(crate) fn is_harmed(
     (other == row || is_met(stage, before, other)) && !is_met(stage, after, other)
 }
 
-/// Counts the rows that are harmed.
-fn harm(stage: &MendedStage, row: u32, before: &[i128], after: &[i128]) -> u32
+/// Tells whether a row is harmed where one decision alone was moved. A row without a term of it is met as before.
+fn is_harmed_by(
+    stage: &MendedStage,
+    row: u32,
+    before: &[i128],
+    after: &[i128],
+    at: u32,
+    other: u32,
+) -> bool
     requires stage { IsNodeStage stage.now }
     requires before { AreDecisionsInside stage.now before.now }
     requires after { AreDecisionsInside stage.now after.now }
+    requires moved { AreSameBut at before.now after.now }
+    requires there { other < length (frame_at stage.now).rows }
+    ensures { result ≡ is_harmed (frame_at stage.now) row before.now after.now other }
+{
+    (other == row || has_term(stage, other, at)) && is_harmed(stage, row, before, after, other)
+}
+
+/// Counts the rows that are harmed where one decision alone was moved.
+fn harm(stage: &MendedStage, row: u32, before: &[i128], after: &[i128], at: u32) -> u32
+    requires stage { IsNodeStage stage.now }
+    requires before { AreDecisionsInside stage.now before.now }
+    requires after { AreDecisionsInside stage.now after.now }
+    requires moved { AreSameBut at before.now after.now }
     ensures { result ≡ harm_from (frame_at stage.now) row before.now after.now 0 (length (frame_at stage.now).rows) }
 {
     let mut count = 0;
     for other in 0..stage_row_count(stage) {
-        if is_harmed(stage, row, before, after, other) {
+        if is_harmed_by(stage, row, before, after, at, other) {
             count += 1;
         }
     }
@@ -157,7 +179,7 @@ fn move_of(
     Ok(Move {
         decision: at,
         amount: Amount::new(amount),
-        harm: harm(stage, row, numbers, after.as_slice()),
+        harm: harm(stage, row, numbers, after.as_slice(), at),
         cost: product(cost_at(stage, at), amount),
     })
 }

@@ -1,10 +1,10 @@
 // The stage that decisions are of.
-ghost use Rattle.std.specs.Prelude.{◌≡◌, ◌<◌, ◌≤◌, ◌^◌, [], length, get_or, nat_abs};
+ghost use Rattle.std.specs.Prelude.{◌≡◌, ◌<◌, ◌≤◌, ◌^◌, [], false, length, get_or, nat_abs};
 ghost use Rattle.hp_num.specs.Sums.{entry};
 ghost use Rattle.hp_theory.specs.Problem.{node_at};
 ghost use Rattle.hp_theory.specs.View.{problem_of};
 ghost use Rattle.hp_mend.specs.Moves.{is_met};
-ghost use Rattle.hp_mend.specs.Stages.{no_decision, frame_at, IsNodeStage, AreDecisionsInside};
+ghost use Rattle.hp_mend.specs.Stages.{no_decision, frame_at, IsNodeStage, AreDecisionsInside, IsWithout};
 
 use hp_forward::miss;
 use hp_parts::Decision;
@@ -87,6 +87,21 @@ pub(crate) fn terms_at<'a>(stage: &MendedStage<'a>, row: u32) -> &'a [(u32, i64)
     stage.problem.sub(stage.node).rows.as_slice()[row as usize]
         .decisions
         .as_slice()
+}
+
+/// Tells whether a row has a term of a decision.
+pub(crate) fn has_term(stage: &MendedStage, row: u32, at: u32) -> bool
+    requires stage { IsNodeStage stage.now }
+    requires row { row < length (frame_at stage.now).rows }
+    ensures { result ≡ false → IsWithout at (get_or (frame_at stage.now).rows row []) }
+{
+    let terms = terms_at(stage, row);
+    for k in 0..terms.len() {
+        if terms[k].0 == at {
+            return true;
+        }
+    }
+    false
 }
 
 /// Gives the miss of a row: by how much its left side has to rise for the decisions to meet it, negative where it has to fall.

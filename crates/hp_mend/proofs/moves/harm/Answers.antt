@@ -2,7 +2,7 @@ use Rattle.std.proofs.Common.{◌∙◌, length, sym, arith}
 use Rattle.hp_mend.specs.Stages.{frame_at}
 use Rattle.hp_mend.proofs.Harms.{one_harmed, none_harmed}
 use Rattle.hp_mend.proofs.moves.harm.Goals as goal
-use Rattle.hp_mend.proofs.moves.harm.Goals.{then-is_harmed, else-is_harmed}
+use Rattle.hp_mend.proofs.moves.harm.Goals.{then-is_harmed_by, else-is_harmed_by}
 
 pub loop-other-preserved : goal.loop-other-preserved
 loop-other-preserved c =
@@ -10,7 +10,7 @@ loop-other-preserved c =
     let i = c.args.row in
     let l = c.loop-other in
     let there = c.loop-other-test.true in
-    elim c.if-is_harmed.branch [
-      | then-is_harmed w ↦ (one_harmed f i c.args.before.now c.args.after.now l.other (length f.rows) _ l.count c.if-is_harmed.count (omega (arith, there, c.stage_row_count-other-end.ensures)) l.invariant.0 (sym w.if-is_harmed.true ∙ c.is_harmed.ensures) w.count-is, omega (arith, w.count-is, l.invariant.1))
-      | else-is_harmed w ↦ (none_harmed f i c.args.before.now c.args.after.now l.other (length f.rows) _ l.count c.if-is_harmed.count (omega (arith, there, c.stage_row_count-other-end.ensures)) l.invariant.0 (sym w.if-is_harmed.false ∙ c.is_harmed.ensures) w.count-is, omega (arith, w.count-is, l.invariant.1))
+    elim c.if-is_harmed_by.branch [
+      | then-is_harmed_by w ↦ (one_harmed f i c.args.before.now c.args.after.now l.other (length f.rows) _ l.count c.if-is_harmed_by.count (omega (arith, there, c.stage_row_count-other-end.ensures)) l.invariant.0 (sym w.if-is_harmed_by.true ∙ c.is_harmed_by.ensures) w.count-is, omega (arith, w.count-is, l.invariant.1))
+      | else-is_harmed_by w ↦ (none_harmed f i c.args.before.now c.args.after.now l.other (length f.rows) _ l.count c.if-is_harmed_by.count (omega (arith, there, c.stage_row_count-other-end.ensures)) l.invariant.0 (sym w.if-is_harmed_by.false ∙ c.is_harmed_by.ensures) w.count-is, omega (arith, w.count-is, l.invariant.1))
     ]
