@@ -11,6 +11,8 @@ LIST_BYTES = NUMBER_BYTES + PAIR_BYTES
 MULTIPLIER_BYTES = 8
 ONE_PAIR = 1 << 32
 """A length of one and a place of 0, as one number."""
+TWO_PAIRS = 2 << 32
+"""No list of one pair has a head as great."""
 MOST_LISTS = 40
 """So many lists are read at once."""
 
@@ -25,8 +27,8 @@ class Lists:
         one = f"{rows * MULTIPLIER_BYTES}x" + f"Q{MULTIPLIER_BYTES}x" * successors
         self.heads = Struct(">" + one * realizations).unpack_from
         first = rows * MULTIPLIER_BYTES + NUMBER_BYTES
-        self.offsets = [range(first + LIST_BYTES * it, self.bytes, size) for it in range(successors)]
-        """Where the places of each successor stand."""
+        self.offsets = [size * it + first + LIST_BYTES * own for it in range(realizations) for own in range(successors)]
+        """Where the place of each list stands."""
 
 
 @lru_cache(maxsize=1 << 12)

@@ -5,12 +5,11 @@ are gone through one by one. Places in a list rise, so where the last one is a c
 """
 from __future__ import annotations
 
-import struct
 from struct import Struct
 from typing import Dict, List, NoReturn, Sequence
 
 from .errors import RecordFault
-from .lists import MULTIPLIER_BYTES, ONE_PAIR, PAIR_BYTES, Lists
+from .lists import MULTIPLIER_BYTES, ONE_PAIR, PAIR_BYTES, TWO_PAIRS, Lists
 from .shape import NodeShape, Shape
 
 HEAD = Struct(">IIH")
@@ -44,9 +43,11 @@ class Mover:
 
     def __init__(self, shape: Shape, shared: Pools, joined: Pools) -> None:
         self._shape = shape
-        self._shared = shared.counts
         self._joined = joined.counts
+        self._same = list(shared.counts)
+        """How many cuts of each node stand in the same place in both, from the first on."""
         self._moved: Dict[int, List[int]] = {}
+        """Where the cuts behind these stand in the joined journal, by node."""
 
     def record(self, payload: bytes, paths: int, was: int, becomes: int) -> bytes:
         """What a payload of so many entries of iteration `was` is as that of iteration `becomes`.
@@ -71,12 +72,16 @@ class Mover:
         if not 0 < steps <= self._shape.extent.longest:
             raise RecordFault(f"a path of {steps} steps", begin + 8)
         at, before = begin + HEAD.size, -1
-        for left in reversed(range(steps)):
+        nodes, same, joined, moved = self._shape.nodes, self._same, self._joined, self._moved
+        for left in range(steps - 1, -1, -1):
             node = self._node(made, at, before, left == 0)
-            at = self._step(made, at + NODE.size, self._shape.nodes[node])
-            if self._joined is not self._shared:
-                self._moved.setdefault(node, []).append(self._joined[node])
-            self._joined[node] += 1
+            at = self._step(made, at + NODE.size, nodes[node])
+            place = joined[node]
+            if place == same[node] and node not in moved:
+                same[node] = place + 1
+            else:
+                moved.setdefault(node, []).append(place)
+            joined[node] = place + 1
             before = node
         return at
 
@@ -91,77 +96,74 @@ class Mover:
         return node
 
     def _step(self, made: bytearray, at: int, node: NodeShape) -> int:
-        """Goes through the certificates of a step; the byte behind them."""
+        """Moves the pairs of a step; the byte behind it."""
         begin = at
-        try:
-            for lists in node.lists:
-                if self._are_moved(made, at, node.successors, lists):
-                    at += lists.bytes
-                else:
-                    at = self._one_by_one(made, at, node, lists.realizations)
-        except struct.error:
-            raise RecordFault("the record ends within a certificate", begin) from None
-        if at > len(made):
-            raise RecordFault("the record ends within a certificate", begin)
+        for lists in node.lists:
+            if at + lists.bytes > len(made):
+                raise RecordFault("the record ends within a certificate", begin)
+            if node.successors:
+                at = self._pairs_of(made, at, node.successors, lists)
+            at += lists.bytes
         return at
 
-    def _are_moved(self, made: bytearray, at: int, successors: Sequence[int], lists: Lists) -> bool:
-        """Moves the pairs of some realizations where each list has one; whether that is so."""
-        if not successors:
-            return True
-        if at + lists.bytes > len(made):
-            return False
-        heads, count, shared = lists.heads(made, at), len(successors), self._shared
-        if min(heads) < ONE_PAIR or max(heads) >= 2 * ONE_PAIR:
-            return False
+    def _pairs_of(self, made: bytearray, at: int, successors: Sequence[int], lists: Lists) -> int:
+        """Moves the pairs of some lists; where these would begin if each had one pair and they ended where they do."""
+        heads, count, same, moving = lists.heads(made, at), len(successors), self._same, []
         for first, successor in enumerate(successors):
-            own = heads[first::count]
-            if max(own) >= ONE_PAIR + shared[successor]:
-                self._move(made, at, successor, own, lists.offsets[first])
-        return True
+            greatest = max(heads[first::count])
+            if greatest >= TWO_PAIRS:
+                return self._by_heads(made, at, successors, lists, heads)
+            if greatest >= ONE_PAIR + same[successor]:
+                moving.append(first)
+        if min(heads) < ONE_PAIR:
+            raise RecordFault("a list without pairs", at)
+        for first in moving:
+            self._move(made, at, successors[first], heads[first::count], lists.offsets[first::count])
+        return at
 
-    def _move(self, made: bytearray, at: int, successor: int, heads: Sequence[int], offsets: range) -> None:
+    def _move(self, made: bytearray, at: int, successor: int, heads: Sequence[int], offsets: Sequence[int]) -> None:
         """Moves the places of cuts of a successor, which stand at these offsets behind a length of one pair."""
-        first, moved, write = ONE_PAIR + self._shared[successor], self._moved.get(successor, ()), NUMBER.pack_into
+        first, moved, write = ONE_PAIR + self._same[successor], self._moved.get(successor, ()), NUMBER.pack_into
         for head, offset in zip(heads, offsets):
             if head >= first:
-                try:
-                    write(made, at + offset, moved[head - first])
-                except IndexError:
+                if head - first >= len(moved):
                     self._refuse(at + offset, successor, head - first)
+                write(made, at + offset, moved[head - first])
 
-    def _move_one(self, made: bytearray, at: int, successor: int, further: int) -> None:
-        """Moves the place of a further cut of a successor."""
-        try:
-            NUMBER.pack_into(made, at, self._moved.get(successor, ())[further])
-        except IndexError:
-            self._refuse(at, successor, further)
-
-    def _refuse(self, at: int, successor: int, further: int) -> NoReturn:
-        shared = self._shared[successor]
-        there = shared + len(self._moved.get(successor, ()))
-        raise RecordFault(f"a pair of cut {shared + further} of node {successor}, which has {there} there", at)
-
-    def _one_by_one(self, made: bytearray, at: int, node: NodeShape, realizations: int) -> int:
-        """Goes through the lists of some realizations; the byte behind them."""
-        rows, shared, read = node.rows * MULTIPLIER_BYTES, self._shared, NUMBER.unpack_from
-        for _ in range(realizations):
-            at += rows
-            for successor in node.successors:
-                begin = at + NUMBER.size
-                at = begin + read(made, at)[0] * PAIR_BYTES
-                if at != begin and read(made, at - PAIR_BYTES)[0] >= shared[successor]:
-                    self._pairs(made, begin, at, successor)
+    def _by_heads(self, made: bytearray, at: int, successors: Sequence[int], lists: Lists, heads: Sequence[int]) -> int:
+        """As `_pairs_of`, where some lists have several pairs: behind each of these the heads are read again, from where they stand then."""
+        limits = [min(ONE_PAIR + self._same[it], TWO_PAIRS) for it in successors] * lists.realizations
+        for index, offset in enumerate(lists.offsets):
+            head = heads[index]
+            if ONE_PAIR <= head < limits[index]:
+                continue
+            begin, pairs = at + offset, head >> 32
+            further = (pairs - 1) * PAIR_BYTES
+            if at + further + lists.bytes > len(made):
+                raise RecordFault("the record ends within a certificate", at)
+            if further < 0:
+                raise RecordFault("a list without pairs", begin)
+            self._pairs(made, begin, begin + pairs * PAIR_BYTES, successors[index % len(successors)])
+            if further:
+                at += further
+                heads = lists.heads(made, at)
         return at
 
+    def _refuse(self, at: int, successor: int, further: int) -> NoReturn:
+        same = self._same[successor]
+        there = same + len(self._moved.get(successor, ()))
+        raise RecordFault(f"a pair of cut {same + further} of node {successor}, which has {there} there", at)
+
     def _pairs(self, made: bytearray, begin: int, end: int, successor: int) -> None:
-        """Moves the places of a list, from its last pair back to the first that is shared."""
-        shared = self._shared[successor]
+        """Moves the places of a list, from its last pair back to the first that stays where it is."""
+        same, moved = self._same[successor], self._moved.get(successor, ())
         for at in range(end - PAIR_BYTES, begin - 1, -PAIR_BYTES):
-            further = NUMBER.unpack_from(made, at)[0] - shared
+            further = NUMBER.unpack_from(made, at)[0] - same
             if further < 0:
                 return
-            self._move_one(made, at, successor, further)
+            if further >= len(moved):
+                self._refuse(at, successor, further)
+            NUMBER.pack_into(made, at, moved[further])
 
 
 def entries(shape: Shape, payload: bytes, paths: int, number: int) -> List[bytes]:
