@@ -15,9 +15,10 @@ if TYPE_CHECKING:
 TOOLS = {"convert": "convert_command", "explain": "explain_command", "plot": "plot_command", "watch": "watch_command"}
 # what the script alone asks for: `main` takes the words one by one
 OF_THE_SCRIPT = {"before-training": "before_training", "too-much": "too_much", "wrong-words": "wrong_words"}
-# the packages that are run as `python3 -m` runs them: with the words behind the command's name, or with all of them
+# the packages that are run as `python3 -m` runs them, with the words behind the command's name
 PACKAGES = {"study": "study", "report": "report", "export": "export"}
-PACKAGES_WITH_COMMANDS = {"join": "farm", "train": "farm", "simulate": "farm"}
+# what the package `farm` does, whose function `main` takes all of the words
+OF_THE_FARM = ("join", "train", "simulate")
 # the libraries without which a command ends
 LIBRARIES = {
     "study": ("numpy", "pandas", "scipy", "jinja2"), "report": ("numpy", "pandas", "jinja2"), "export": ("numpy", "pandas"),
@@ -36,9 +37,9 @@ def main(words: Sequence[str]) -> int:
         return _main_of(TOOLS[name])(rest)
     if name in PACKAGES:
         return _run_package(PACKAGES[name], rest)
-    if name in PACKAGES_WITH_COMMANDS:
-        return _run_package(PACKAGES_WITH_COMMANDS[name], words)
-    print(f"usage: python3 -m hydroplan {'|'.join([*PACKAGES, *PACKAGES_WITH_COMMANDS, *TOOLS])} ..", file=sys.stderr)
+    if name in OF_THE_FARM:
+        return _main_of_the_farm()(list(words))
+    print(f"usage: python3 -m hydroplan {'|'.join([*PACKAGES, *OF_THE_FARM, *TOOLS])} ..", file=sys.stderr)
     return 2
 
 
@@ -89,6 +90,12 @@ def _end_with_the_reader() -> None:
 
 def _main_of(module: str) -> Callable[..., int]:
     found: Callable[..., int] = import_module(f"hydroplan.tools.{module}").main
+    return found
+
+
+def _main_of_the_farm() -> Callable[..., int]:
+    from .farm.command import main as found
+
     return found
 
 

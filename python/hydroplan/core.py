@@ -3,13 +3,10 @@ from __future__ import annotations
 
 import os
 import select
-import shutil
 import subprocess
-import tempfile
-from dataclasses import dataclass, replace
 from pathlib import Path
 from types import TracebackType
-from typing import BinaryIO, Optional, Sequence, Type, Union
+from typing import BinaryIO, NamedTuple, Optional, Sequence, Type, Union
 
 from .errors import ProgramMissing
 from .repository import TOP
@@ -19,8 +16,7 @@ LAST_SECONDS = 10
 Place = Union[str, "os.PathLike[str]"]
 
 
-@dataclass(frozen=True)
-class Ended:
+class Ended(NamedTuple):
     """How a run ended: its status (below 0: the signal that ended it), its report, and what it wrote on standard error."""
 
     status: int
@@ -41,6 +37,8 @@ def find_program(given: Optional[Place] = None) -> Path:
     front_door = TOP / "hydroplan"
     if front_door.is_file() and os.access(front_door, os.X_OK):
         return front_door
+    import shutil  # takes a while, as tempfile does
+
     command = shutil.which("hydroplan")
     if command is None:
         raise ProgramMissing("hydroplan is not found: name the program, as in train(.., program='bin/hydroplan-x86_64-linux')")
@@ -51,6 +49,8 @@ class Running:
     """A run of the program on a problem, in a folder of its own; leaving the context ends it."""
 
     def __init__(self, program: Path, words: Sequence[str], problem: bytes) -> None:
+        import tempfile
+
         self._folder = tempfile.TemporaryDirectory(prefix="hydroplan-")
         folder = Path(self._folder.name)
         self.problem = folder / "problem.json"
@@ -100,7 +100,7 @@ class Running:
 
     def ended(self) -> Ended:
         """How the run ended; it has to be over."""
-        return replace(self.outcome(), output=self._output.read_bytes().decode("utf-8", "replace"))
+        return self.outcome()._replace(output=self._output.read_bytes().decode("utf-8", "replace"))
 
     def outcome(self) -> Ended:
         """How the run ended, without its report; it has to be over."""

@@ -2,8 +2,7 @@
 from __future__ import annotations
 
 import time
-from dataclasses import dataclass
-from typing import Callable, Dict, Iterator, List, Optional, Sequence, Set, Tuple, Union
+from typing import Callable, Dict, Iterator, List, NamedTuple, Optional, Sequence, Set, Tuple, Union
 
 from .engine import DONE, FAILED, GONE, RUNNING, Call, Engine
 from .errors import FarmError, WorkerFault, WorkerLeft
@@ -16,8 +15,7 @@ Answer = Union[bytes, WorkerFault]
 Say = Callable[[str], None]
 
 
-@dataclass
-class Given:
+class Given(NamedTuple):
     """An order that a worker has: the worker, the order's name, the call, when it was given, the most bytes of its answer, and whether it
     lacks nothing."""
 
@@ -30,8 +28,7 @@ class Given:
     is_whole: bool
 
 
-@dataclass(frozen=True)
-class Came:
+class Came(NamedTuple):
     """What came of a part: the worker, the order's name, the answer or what is wrong with it, the seconds, and whether the order lacked
     nothing."""
 

@@ -5,26 +5,24 @@ it began; its report says how many.
 """
 from __future__ import annotations
 
+import mmap
 import os
 import re
 import subprocess
-import tempfile
 from contextlib import suppress
-from dataclasses import dataclass
 from pathlib import Path
-from typing import List, Optional
+from typing import BinaryIO, List, NamedTuple, Optional
 
 from .errors import FarmError
 from .program import command
 
 REFUSED = re.compile(r"journal refused: Bad(?:Record|Certificate|Length) iteration (\d+)")
-SHOWN = (b"cut ", b"rest ")
+CUT, REST = b"\ncut ", b"rest "
 LATER = 10
 """By so much a run that nobody waits for is nicer than those that train."""
 
 
-@dataclass(frozen=True)
-class Verdict:
+class Verdict(NamedTuple):
     """What `check` said: the record that it refused and its line, or neither, and then the report as `train` prints it."""
 
     refused: Optional[int]
@@ -49,7 +47,7 @@ class Checking:
     """
 
     def __init__(self, program: Path, journal: Path, problem: Path, is_waited_for: bool = True) -> None:
-        self._output, self._errors = tempfile.TemporaryFile(), tempfile.TemporaryFile()
+        self._output, self._errors = _unnamed(journal), _unnamed(journal)
         self.seconds = 0.0
         with problem.open("rb") as source:
             self._process = subprocess.Popen(
@@ -94,5 +92,21 @@ class Checking:
             return Verdict(int(found.group(1)), line, [])
         if status != 0:
             raise FarmError(line.replace("hydroplan: ", "", 1) or f"check ended with status {status}", max(status, 1))
-        self._output.seek(0)
-        return Verdict(None, "", [it.decode("utf-8", "replace").rstrip("\n") for it in self._output if not it.startswith(SHOWN)])
+        return Verdict(None, "", _without_cuts(self._output))
+
+
+def _unnamed(beside: Path) -> BinaryIO:
+    """A new file in the folder of another, without a name."""
+    place = beside.with_name(f"{beside.name}.said-{os.getpid()}")
+    file = place.open("w+b")
+    place.unlink()
+    return file
+
+
+def _without_cuts(report: BinaryIO) -> List[str]:
+    """The lines of a report of `check` but the last one, `rest`, and those of cuts, which stand together and are by far the most."""
+    with mmap.mmap(report.fileno(), 0, access=mmap.ACCESS_READ) as found:
+        first = found.find(CUT)
+        front, last = (len(found), len(found)) if first < 0 else (first + 1, found.find(b"\n", found.rfind(CUT) + 1) + 1)
+        lines = (found[:front] + found[last:]).split(b"\n")[:-1]
+    return [it.decode("utf-8", "replace") for it in lines if not it.startswith(REST)]

@@ -2,9 +2,10 @@
 from __future__ import annotations
 
 import argparse
+import os
 import sys
 from pathlib import Path
-from typing import List, Optional
+from typing import Any, List, Optional
 
 from ..tools.shown_names import shown_name
 
@@ -14,6 +15,7 @@ from .journals import DEVICE_FAILED
 from .shape import MOST_ITERATIONS, MOST_PATHS, shape_of
 from .train_command import Words, engine_of, train
 
+NAME = "python3 -m hydroplan.farm"
 MOST_PROBLEM = 1 << 24
 MOST_SEED = (1 << 64) - 1
 MOST_PARTS = 1_000
@@ -30,10 +32,35 @@ def whole(least: int, most: int) -> "type[int]":
     return read  # type: ignore[return-value]
 
 
+class Formatter(argparse.HelpFormatter):
+    """The texts of help, as wide as the terminal. The one of the library imports `shutil` for that, and is made for each word."""
+
+    def __init__(self, prog: str) -> None:
+        super().__init__(prog, width=_width() - 2)
+
+
+def _width() -> int:
+    """The columns of the terminal, as `shutil.get_terminal_size` has them."""
+    named = os.environ.get("COLUMNS", "")
+    if named.isascii() and named.isdigit() and int(named) > 0:
+        return int(named)
+    try:
+        return os.get_terminal_size(1).columns or 80
+    except OSError:
+        return 80
+
+
+class Parser(argparse.ArgumentParser):
+    """A parser of the words of a command."""
+
+    def __init__(self, **words: Any) -> None:
+        super().__init__(formatter_class=Formatter, **words)
+
+
 def parser() -> argparse.ArgumentParser:
     """The commands and their words."""
-    made = argparse.ArgumentParser(prog="python3 -m hydroplan.farm", description="Training on many machines, none of them trusted.")
-    commands = made.add_subparsers(dest="command", required=True, metavar="COMMAND")
+    made = Parser(prog=NAME, description="Training on many machines, none of them trusted.")
+    commands = made.add_subparsers(dest="command", required=True, metavar="COMMAND", prog=NAME)
     joining = commands.add_parser("join", help="joins journals of one problem into a new one, which `check` accepts")
     joining.add_argument("--batch", type=whole(1, MOST_PATHS), help="pack the paths into records of so many (default: as they are)")
     joining.add_argument("target", metavar="OUT", type=Path, help="the journal to write, which may not be there yet")

@@ -3,10 +3,9 @@ from __future__ import annotations
 
 import fcntl
 import os
-from dataclasses import dataclass
 from pathlib import Path
 from types import TracebackType
-from typing import BinaryIO, Iterable, Iterator, List, Optional, Type
+from typing import BinaryIO, Iterable, Iterator, List, NamedTuple, Optional, Type
 
 from .errors import FarmError
 from .shape import MOST_ITERATIONS, MOST_PATHS
@@ -16,8 +15,7 @@ MOST_PAYLOAD = 1 << 26
 JOURNAL_REFUSED, DEVICE_FAILED = 6, 10
 
 
-@dataclass(frozen=True)
-class Head:
+class Head(NamedTuple):
     """What a journal says of itself: the SHA-256 of its problem, its seed, and its batch, which is None in version 1."""
 
     digest: bytes

@@ -1,15 +1,13 @@
 """The joined journal as a worker keeps it for the built program, which reads all of it at each order."""
 from __future__ import annotations
 
-import shutil
 import subprocess
-import tempfile
 from pathlib import Path
 from typing import Any, List, Mapping, Optional, Sequence, Tuple
 
 from .joined import Front, front_of, moved_round
 from .journals import Growing, Head, framed, unframed
-from .program import command
+from .program import command, unnamed
 from .shape import Shape, shape_of
 
 MOST_LINE = 1 << 12
@@ -23,6 +21,8 @@ class KeptJournal:
     def __init__(self, order: Order) -> None:
         self.name, self.own_name = "", ""
         self.own: List[bytes] = []
+        import tempfile
+
         self.folder = Path(tempfile.mkdtemp(prefix="hydroplan-farm-", dir=_place()))
         self._journal = self.folder / "journal"
         self._problem: bytes = order["problem"]
@@ -59,7 +59,7 @@ class KeptJournal:
         self._cut()
         with self._journal.open("r+b") as journal:
             journal.write(_head(order))
-        with (self.folder / "problem.json").open("rb") as source, output.open("wb") as report, tempfile.TemporaryFile() as errors:
+        with (self.folder / "problem.json").open("rb") as source, output.open("wb") as report, unnamed() as errors:
             try:
                 ended = subprocess.run(
                     command(program, words), stdin=source, stdout=report, stderr=errors, timeout=order["seconds"], check=False, cwd=self.folder,
@@ -98,6 +98,8 @@ class KeptJournal:
 
     def end(self) -> None:
         """Removes the folder."""
+        import shutil
+
         shutil.rmtree(self.folder, ignore_errors=True)
 
 

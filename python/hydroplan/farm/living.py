@@ -8,7 +8,6 @@ import fcntl
 import os
 import select
 import subprocess
-import tempfile
 import time
 from contextlib import suppress
 from pathlib import Path
@@ -16,7 +15,7 @@ from typing import List, Optional, Sequence, Union
 
 from ..errors import HydroplanError
 from .journals import MOST_PAYLOAD
-from .program import command
+from .program import command, unnamed
 
 MOST_JOINED = 64
 """The parts of a round that the program takes."""
@@ -71,7 +70,7 @@ class Living:
         self.own: List[bytes] = []
         self.is_second = False
         """Whether it is there in the place of one that was killed at the same order."""
-        self._errors = tempfile.TemporaryFile()
+        self._errors = unnamed()
         self._process = subprocess.Popen(
             command(program, []), stdin=subprocess.PIPE, stdout=subprocess.PIPE, stderr=self._errors, bufsize=0,
         )

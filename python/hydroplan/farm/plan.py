@@ -6,7 +6,6 @@ from __future__ import annotations
 
 import json
 import os
-import secrets
 from pathlib import Path
 from typing import Dict, Optional
 
@@ -22,7 +21,7 @@ class Plan:
         self._problem = problem.hex()
         self.parts: Optional[int] = None
         self.refusals: Dict[str, int] = {}
-        self.run = secrets.token_hex(8)
+        self.run = os.urandom(8).hex()
         self._read()
 
     def _read(self) -> None:

@@ -7,10 +7,9 @@ from __future__ import annotations
 
 import time
 from collections import deque
-from dataclasses import dataclass, field
 from math import inf
 from pathlib import Path
-from typing import Callable, Dict, List, Optional, Tuple
+from typing import Callable, Dict, List, NamedTuple, Optional, Tuple
 
 from .checking import Checking, Verdict
 from .errors import FarmError
@@ -24,18 +23,14 @@ BEFORE_THE_END = 0.6
 """The last check begins when training will end within so much of the time that it takes."""
 
 
-@dataclass(frozen=True)
 class Job:
     """What is trained: the problem, its shape, the program and the living worker's, the seed, the batch, the count, and a name of the run."""
 
-    problem: bytes
-    shape: Shape
-    program: Path
-    living: Optional[Path]
-    seed: int
-    batch: Optional[int]
-    count: int
-    run: str
+    def __init__(
+        self, problem: bytes, shape: Shape, program: Path, living: Optional[Path], seed: int, batch: Optional[int], count: int, run: str,
+    ) -> None:
+        self.problem, self.shape, self.program, self.living = problem, shape, program, living
+        self.seed, self.batch, self.count, self.run = seed, batch, count, run
 
     @property
     def paths(self) -> int:
@@ -43,8 +38,7 @@ class Job:
         return self.batch or 1
 
 
-@dataclass
-class Owner:
+class Owner(NamedTuple):
     """Who did a part: the address and the name of the worker, the order, and the seconds an iteration took."""
 
     address: str
@@ -53,18 +47,14 @@ class Owner:
     pace: float
 
 
-@dataclass
 class Round:
     """A round: its number, the records before it, by which name workers know these, the iterations of each part, the most bytes of an answer,
     and what came of it."""
 
-    number: int
-    records: int
-    name: str
-    counts: Tuple[int, ...]
-    most: int
-    answers: Dict[int, List[bytes]] = field(default_factory=dict)
-    owners: Dict[int, Owner] = field(default_factory=dict)
+    def __init__(self, number: int, records: int, name: str, counts: Tuple[int, ...], most: int) -> None:
+        self.number, self.records, self.name, self.counts, self.most = number, records, name, counts, most
+        self.answers: Dict[int, List[bytes]] = {}
+        self.owners: Dict[int, Owner] = {}
 
     def missing(self) -> List[int]:
         """The parts that nobody answered yet."""
@@ -75,8 +65,7 @@ class Round:
         return [self.answers[it] for it in range(len(self.counts))]
 
 
-@dataclass
-class Joined:
+class Joined(NamedTuple):
     """A round that was joined: the front before it, and its records as they are behind that."""
 
     round: Round
@@ -98,15 +87,12 @@ class Overturned(Exception):
         self.part = part
 
 
-@dataclass
 class Spent:
     """Processor seconds of joining and of checking, seconds that workers trained, and the bytes of orders and of answers."""
 
-    joining: float = 0.0
-    checking: float = 0.0
-    training: float = 0.0
-    sent: int = 0
-    received: int = 0
+    def __init__(self) -> None:
+        self.joining = self.checking = self.training = 0.0
+        self.sent = self.received = 0
 
 
 class Pace:

@@ -3,9 +3,8 @@ from __future__ import annotations
 
 import hashlib
 import json
-from dataclasses import dataclass
 from functools import cached_property
-from typing import Any, Dict, FrozenSet, Mapping, Optional, Sequence, Tuple
+from typing import Any, Dict, FrozenSet, Mapping, NamedTuple, Optional, Sequence, Tuple
 
 from ..tools.limits import GREATEST, MEANINGS, MOST_ITERATIONS, MOST_PATHS, Extent, extent_of
 
@@ -17,13 +16,13 @@ __all__ = ["MOST_ITERATIONS", "MOST_PATHS", "NodeShape", "Shape", "require_room"
 PROBLEM_REFUSED, TOO_MUCH = 5, 7
 
 
-@dataclass(frozen=True)
 class NodeShape:
     """A node as its steps in records have it: rows and realizations are counts, successors are numbers of nodes."""
 
-    rows: int
-    realizations: int
-    successors: Tuple[int, ...]
+    def __init__(self, rows: int, realizations: int, successors: Tuple[int, ...]) -> None:
+        self.rows = rows
+        self.realizations = realizations
+        self.successors = successors
 
     @cached_property
     def lists(self) -> Tuple[Lists, ...]:
@@ -31,8 +30,7 @@ class NodeShape:
         return lists_of(self.rows, len(self.successors), self.realizations)
 
 
-@dataclass(frozen=True)
-class Shape:
+class Shape(NamedTuple):
     """A problem as its records have it: the SHA-256 of its bytes, its nodes in the byte order of their names, and its sizes."""
 
     digest: bytes

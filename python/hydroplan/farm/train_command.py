@@ -1,10 +1,8 @@
 """`train` on a cluster: the journal is made or looked at by the program, trained in rounds, and reported as the program reports it."""
 from __future__ import annotations
 
-import shutil
 import time
-from contextlib import closing, contextmanager
-from dataclasses import dataclass
+from contextlib import closing, contextmanager, suppress
 from functools import cached_property
 from pathlib import Path
 from typing import Callable, Iterator, List, Optional, Union
@@ -18,27 +16,25 @@ from .joined import Front, front_of
 from .journals import Growing, refused
 from .local_engine import LocalEngine
 from .plan import Plan
-from .program import built_program, built_worker, command
+from .program import Begun, built_program, built_worker, command
 from .proving import Job, Proving, Round
 from .shape import Shape, require_room, shape_of
 from .training import FarmTraining
 
 UNIT = 1 << 24
 FIRST_WORKERS = 60.0
+COPIED_AT_ONCE = 1 << 20
 
 
-@dataclass(frozen=True)
 class Words:
     """The words of `train`: the journal, the seed, the iterations in all, the batch, and the cluster."""
 
-    journal: Path
-    seed: int
-    count: int
-    batch: Optional[int]
-    workers: Optional[int]
-    scheduler: Optional[str]
-    seconds: float = 600.0
-    program: Optional[Place] = None
+    def __init__(
+        self, journal: Path, seed: int, count: int, batch: Optional[int], workers: Optional[int], scheduler: Optional[str],
+        seconds: float = 600.0, program: Optional[Place] = None,
+    ) -> None:
+        self.journal, self.seed, self.count, self.batch = journal, seed, count, batch
+        self.workers, self.scheduler, self.seconds, self.program = workers, scheduler, seconds, program
 
 
 class Progress:
@@ -97,7 +93,7 @@ def train(words: Words, problem: bytes, say: Callable[[str], None], engine_from:
         with Growing(words.journal) as journal, _room_beside(words.journal) as room:
             head, front = journal.head(), _front(words, shape, journal)
             (room / "problem.json").write_bytes(problem)
-            shutil.copyfile(words.journal, room / "journal")
+            _copy(words.journal, room / "journal")
             with Growing(room / "journal", is_synced=False) as scratch:
                 scratch.cut(front.records, front.end)
                 plan = Plan(words.journal, shape.digest)
@@ -111,12 +107,27 @@ def train(words: Words, problem: bytes, say: Callable[[str], None], engine_from:
 def _room_beside(journal: Path) -> Iterator[Path]:
     """A folder for the copy that is checked. One that a killed run left is emptied; the journal's lock keeps others out."""
     room = journal.resolve().with_name(f"{journal.name}.farm-work")
-    shutil.rmtree(room, ignore_errors=True)
+    _remove(room)
     room.mkdir()
     try:
         yield room
     finally:
-        shutil.rmtree(room, ignore_errors=True)
+        _remove(room)
+
+
+def _remove(room: Path) -> None:
+    """Removes a folder of files, as far as that can be."""
+    with suppress(OSError):
+        for file in room.iterdir():
+            file.unlink()
+        room.rmdir()
+
+
+def _copy(journal: Path, copy: Path) -> None:
+    """Copies a file."""
+    with journal.open("rb") as source, copy.open("wb") as target:
+        while target.write(source.read(COPIED_AT_ONCE)):
+            pass
 
 
 def _prepared(words: Words, problem: bytes, program: Path, at_work: AtWork) -> Shape:
@@ -127,7 +138,7 @@ def _prepared(words: Words, problem: bytes, program: Path, at_work: AtWork) -> S
     asked = ["train", str(words.journal), str(words.seed), "0", *([] if words.batch is None else [str(words.batch)])]
     is_new = not words.journal.is_file() or words.journal.stat().st_size == 0
     first, *others = command(program if is_new else find_program(words.program), asked)
-    with Running(Path(first), others, problem) as running:
+    with Begun([first, *others], problem) if is_new else Running(Path(first), others, problem) as running:
         if is_new and words.count:
             at_work.engine.ready(problem, words.batch or 1)
         found = _shape_or_fault(problem)

@@ -5,7 +5,7 @@ checked. What stands in the journal is proved; what does not is on its way and i
 """
 from __future__ import annotations
 
-import secrets
+import os
 import time
 from itertools import count
 from typing import Dict, List, Optional, Tuple
@@ -36,7 +36,7 @@ class FarmTraining:
         self._last: Optional[Round] = None
         self._to_join: Optional[Round] = None
         self._known: Dict[str, Tuple[str, str]] = {}
-        self._session = secrets.token_hex(8)
+        self._session = os.urandom(8).hex()
         self._names = count(1)
         self._round = 0
         self._pace = 0.0

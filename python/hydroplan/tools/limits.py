@@ -4,9 +4,8 @@ Outside the proved core: it reads the problem again on its own, and the program'
 """
 from __future__ import annotations
 
-from dataclasses import dataclass
 from math import lcm
-from typing import Any, Callable, Optional
+from typing import Any, Callable, NamedTuple, Optional
 
 MOST_ITERATIONS = 2_000
 MOST_PATHS = 64
@@ -25,8 +24,7 @@ MEANINGS = {
 }
 
 
-@dataclass(frozen=True)
-class Sizes:
+class Sizes(NamedTuple):
     """The counts of a node: its rows, decisions, random values, realizations and successors."""
 
     rows: int
@@ -44,8 +42,7 @@ class Sizes:
         return 2 + self.realizations * (8 * self.rows + self.successors * (4 + 12 * (paths + 1)))
 
 
-@dataclass(frozen=True)
-class Extent:
+class Extent(NamedTuple):
     """The counts of a problem: its states, the nodes on its longest path, and each node's, in the byte order of names."""
 
     states: int
