@@ -38,7 +38,7 @@ def main(words: Sequence[str]) -> int:
     if name in PACKAGES:
         return _run_package(PACKAGES[name], rest)
     if name in OF_THE_FARM:
-        return _main_of_the_farm()(list(words))
+        return _farm(words)
     print(f"usage: python3 -m hydroplan {'|'.join([*PACKAGES, *OF_THE_FARM, *TOOLS])} ..", file=sys.stderr)
     return 2
 
@@ -47,7 +47,10 @@ def run(words: Sequence[str]) -> int:
     """Runs a command as `main` does, in a process of its own: where nobody reads any more what it prints, that ends without a word."""
     if words and words[0] in (*TOOLS, "report", "export"):
         _end_with_the_reader()
-    return main(words)
+    status = main(words)
+    if words and words[0] in OF_THE_FARM and "distributed" not in sys.modules:
+        _leave(status)
+    return status
 
 
 def libraries_of(name: str, rest: Sequence[str]) -> tuple[str, ...]:
@@ -93,10 +96,31 @@ def _main_of(module: str) -> Callable[..., int]:
     return found
 
 
-def _main_of_the_farm() -> Callable[..., int]:
+def _farm(words: Sequence[str]) -> int:
+    """What a command of the farm does. What it imports is there to its end, so nothing of that is looked through for what may go."""
+    import gc
+
+    gc.disable()
+    from .farm.early import BEGUN
+
+    BEGUN.begin(list(words))
     from .farm.command import main as found
 
-    return found
+    gc.freeze()
+    gc.enable()
+    return found(list(words))
+
+
+def _leave(status: int) -> None:
+    """Ends this process with a status at once, where all that it printed can be written: Python takes a while to take itself down."""
+    import os
+
+    try:
+        sys.stdout.flush()
+        sys.stderr.flush()
+    except (OSError, ValueError, AttributeError):
+        return
+    os._exit(status)
 
 
 def _run_package(package: str, words: Sequence[str]) -> int:

@@ -10,6 +10,7 @@ from typing import Any, List, Optional
 from ..tools.shown_names import shown_name
 
 from ..errors import ProgramMissing
+from .early import BEGUN
 from .errors import FarmError
 from .journals import DEVICE_FAILED
 from .shape import MOST_ITERATIONS, MOST_PATHS, shape_of
@@ -90,7 +91,7 @@ def add_cluster(made: argparse.ArgumentParser) -> None:
 def read_problem() -> bytes:
     """The problem on standard input; FarmError with statuses 3 and 4, as the program has them."""
     try:
-        problem = sys.stdin.buffer.read(MOST_PROBLEM + 1)
+        problem = sys.stdin.buffer.read(MOST_PROBLEM + 1) if BEGUN.problem is None else BEGUN.problem
     except OSError:
         raise FarmError("problem could not be read", 3) from None
     if len(problem) > MOST_PROBLEM:
@@ -151,4 +152,6 @@ def main(words: Optional[List[str]] = None) -> int:
     except KeyboardInterrupt:
         say("interrupted: what was proved is kept, and the same words go on from there")
         return INTERRUPTED
+    finally:
+        BEGUN.end()
     return 0

@@ -4,26 +4,22 @@ It is written to and read from without waiting, so that one thread can serve sev
 """
 from __future__ import annotations
 
-import fcntl
 import os
 import select
-import subprocess
 import time
-from contextlib import suppress
 from pathlib import Path
 from typing import List, Optional, Sequence, Union
 
 from ..errors import HydroplanError
+from .early import Early, training
 from .journals import MOST_PAYLOAD
-from .program import command, unnamed
+from .process import PIPE_BYTES, Process, command
 
 MOST_JOINED = 64
 """The parts of a round that the program takes."""
 MOST_LINE = 1 << 12
-PIPE_BYTES = 1 << 20
 MOST_PIECES = 512
 """So many pieces are written at once."""
-SET_PIPE_SIZE = 1031  # F_SETPIPE_SZ of Linux
 NO_STATUS = -1
 Piece = Union[bytes, memoryview]
 
@@ -60,27 +56,21 @@ def behind(pieces: List[Piece], written: int) -> List[Piece]:
 class Living:
     """The process. `name` is that of the records that it has joined, `own` has its last answer, `own_name` the name of the order to it.
 
-    It begins to read the problem at once, before its first order.
+    It begins to read the problem at once, before its first order. One that began early may have that too.
     """
 
-    def __init__(self, program: Path, problem: bytes, paths: int) -> None:
+    def __init__(self, program: Path, problem: bytes, paths: int, early: Optional[Early] = None) -> None:
         self.is_of = (program, problem, paths)
         """The program, the problem, and the paths of an iteration."""
         self.name, self.own_name = "", ""
         self.own: List[bytes] = []
         self.is_second = False
         """Whether it is there in the place of one that was killed at the same order."""
-        self._errors = unnamed()
-        self._process = subprocess.Popen(
-            command(program, []), stdin=subprocess.PIPE, stdout=subprocess.PIPE, stderr=self._errors, bufsize=0,
-        )
-        assert self._process.stdin is not None and self._process.stdout is not None
-        self._input, self._output = self._process.stdin.fileno(), self._process.stdout.fileno()
-        for pipe in (self._input, self._output):
-            os.set_blocking(pipe, False)
-            with suppress(OSError):  # smaller pipes serve too
-                fcntl.fcntl(pipe, SET_PIPE_SIZE, PIPE_BYTES)
-        self._left: List[Piece] = [paths.to_bytes(2, "big") + len(problem).to_bytes(4, "big"), problem]
+        self._process = Process(command(program, [])) if early is None else early.process
+        self._input, self._output = self._process.input, self._process.output
+        front: List[Piece] = [paths.to_bytes(2, "big"), len(problem).to_bytes(4, "big"), problem]
+        self._first = None if early is None else early.first
+        self._left = behind(front, 0 if early is None else early.written)
         self._came = bytearray()
         self._wanted = self._most = 0
         self._until = 0.0
@@ -100,10 +90,16 @@ class Living:
 
     def train(self, seed: int, count: int, most: int, seconds: float) -> None:
         """Begins to train so many iterations, whose records have so many bytes at most."""
-        self._left.append(b"T" + seed.to_bytes(8, "big") + count.to_bytes(4, "big"))
+        first, self._first = self._first, None
+        if first != (seed, count):
+            self._left.append(training(seed, count))
         self._came = bytearray()
         self._wanted, self._most, self._until = count, most, time.monotonic() + seconds
         self._write()
+
+    def may_begin(self, seed: int, count: int, is_behind_records: bool) -> bool:
+        """Whether it may have this order for its first: where it began early with one, that is the only one it may have."""
+        return self._first is None or (self._first == (seed, count) and not is_behind_records)
 
     def is_alive(self) -> bool:
         """Whether the process goes on."""
@@ -165,13 +161,10 @@ class Living:
 
     def _ended(self) -> ProcessFault:
         """How the process ended, which wrote all that it will write."""
-        try:
-            status = self._process.wait(1)
-        except subprocess.TimeoutExpired:
+        if not self._process.ends_within(1):
             return ProcessFault(NO_STATUS, "it closed its output")
-        self._errors.seek(0)
-        line = self._errors.read(MOST_LINE).decode("utf-8", "replace")
-        return ProcessFault(status, line or "it ended without a word", was_killed=status < 0)
+        status = self._process.wait()
+        return ProcessFault(status, self._process.said(MOST_LINE) or "it ended without a word", was_killed=status < 0)
 
     def watch(self, poll: "select.poll") -> None:
         """Has a poll wait for what this process does next."""
@@ -187,14 +180,8 @@ class Living:
 
     def kill(self) -> None:
         """Kills the process, and does not wait for its end."""
-        if self._process.poll() is None:
-            self._process.kill()
+        self._process.kill()
 
     def end(self) -> None:
         """Ends the process."""
-        self.kill()
-        self._process.wait()
-        for stream in (self._process.stdin, self._process.stdout, self._errors):
-            if stream is not None:
-                with suppress(OSError):
-                    stream.close()
+        self._process.end()

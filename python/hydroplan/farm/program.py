@@ -6,10 +6,15 @@ import os
 import subprocess
 from functools import lru_cache
 from pathlib import Path
-from typing import BinaryIO, List, Optional, Sequence
+from typing import Optional, Sequence
 
 from ..repository import TOP
 from ..core import Ended, Place, find_program
+from .process import Process, command, unnamed
+
+__all__ = [
+    "KEPT_WORKER", "WORKER_VARIABLE", "Begun", "built_program", "built_worker", "command", "digest_of", "is_of_these_sources", "unnamed",
+]
 
 KEPT = TOP / "bin" / "hydroplan-x86_64-linux"
 NEWER = TOP / "crates" / "hydroplan" / "out" / "hydroplan"
@@ -17,6 +22,7 @@ KEPT_WORKER = TOP / "bin" / "worker" / "hydroplan_worker-x86_64-linux"
 NEWER_WORKER = TOP / "crates" / "hydroplan_worker" / "out" / "hydroplan_worker"
 DIGEST = TOP / "bin" / "crates-digest"
 WORKER_VARIABLE = "HYDROPLAN_WORKER"
+MOST_SAID = 1 << 20
 
 
 def built_program(given: Optional[Place] = None) -> Path:
@@ -93,48 +99,18 @@ def _digest(program: Path, changed: int) -> str:
     return hashlib.sha256(program.read_bytes()).hexdigest()
 
 
-def command(program: Path, words: Sequence[str]) -> List[str]:
-    """The command line of a run that the kernel kills where its parent dies, as far as the machine has setpriv (util-linux)."""
-    setpriv = found_on(os.environ.get("PATH", os.defpath), "setpriv")
-    prefix = [] if setpriv is None else [setpriv, "--pdeathsig", "KILL"]
-    return [*prefix, str(program), *words]
-
-
-@lru_cache(maxsize=8)
-def found_on(path: str, name: str) -> Optional[str]:
-    """The place of a command, looked for as a shell does; `shutil`, which does that too, takes a while to import."""
-    places = (os.path.join(folder or os.curdir, name) for folder in path.split(os.pathsep))
-    return next((it for it in places if os.path.isfile(it) and os.access(it, os.X_OK)), None)
-
-
-def unnamed(data: bytes = b"") -> BinaryIO:
-    """A file with these bytes in the memory of the machine, open at its front, for what a program reads or says."""
-    try:
-        file: BinaryIO = os.fdopen(os.memfd_create("hydroplan"), "w+b")
-    except (AttributeError, OSError):  # another system
-        import tempfile
-        file = tempfile.TemporaryFile()
-    file.write(data)
-    file.seek(0)
-    return file
-
-
 class Begun:
     """A run of the built program on a problem; leaving the context ends it."""
 
-    def __init__(self, words: Sequence[str], problem: bytes) -> None:
-        self._errors = unnamed()
+    def __init__(self, words: Sequence[str], problem: bytes, early: Optional[Process] = None) -> None:
         with unnamed(problem) as source:
-            self._process = subprocess.Popen(words, stdin=source, stdout=subprocess.DEVNULL, stderr=self._errors)
+            self._process = early or Process(words, source)
 
-    def __enter__(self) -> "Begun":
+    def __enter__(self) -> Begun:
         return self
 
     def __exit__(self, *fault: object) -> None:
-        if self._process.poll() is None:
-            self._process.kill()
-        self._process.wait()
-        self._errors.close()
+        self._process.end()
 
     def wait(self) -> None:
         """Waits for the end."""
@@ -142,5 +118,4 @@ class Begun:
 
     def ended(self) -> Ended:
         """How the run ended, without its report; it has to be over."""
-        self._errors.seek(0)
-        return Ended(self._process.returncode, "", self._errors.read().decode("utf-8", "replace"))
+        return Ended(self._process.wait(), "", self._process.said(MOST_SAID))

@@ -10,6 +10,7 @@ from typing import Callable, Iterator, List, Optional, Union
 from ..core import Place, Running, find_program
 from .asking import Asking
 from .checking import Checking, Verdict
+from .early import BEGUN
 from .engine import DaskEngine, Engine
 from .errors import FarmError, RecordFault
 from .joined import Front, front_of
@@ -136,9 +137,10 @@ def _prepared(words: Words, problem: bytes, program: Path, at_work: AtWork) -> S
     Meanwhile workers begin to read the problem where the journal is new. Where it is there, the script looks at it first.
     """
     asked = ["train", str(words.journal), str(words.seed), "0", *([] if words.batch is None else [str(words.batch)])]
-    is_new = not words.journal.is_file() or words.journal.stat().st_size == 0
+    early = BEGUN.making(command(program, asked), problem)
+    is_new = early is not None or not words.journal.is_file() or words.journal.stat().st_size == 0
     first, *others = command(program if is_new else find_program(words.program), asked)
-    with Begun([first, *others], problem) if is_new else Running(Path(first), others, problem) as running:
+    with Begun([first, *others], problem, early) if is_new else Running(Path(first), others, problem) as running:
         if is_new and words.count:
             at_work.engine.ready(problem, words.batch or 1)
         found = _shape_or_fault(problem)

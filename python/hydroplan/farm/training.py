@@ -36,6 +36,9 @@ class FarmTraining:
         self._last: Optional[Round] = None
         self._to_join: Optional[Round] = None
         self._known: Dict[str, Tuple[str, str]] = {}
+        least, with_one = (sum(it.bytes(paths) for it in job.shape.extent.nodes) for paths in (0, 1))
+        self._bytes = least, with_one - least
+        """What formula 3 has for an entry without cuts, and by how much it rises with each path."""
         self._session = os.urandom(8).hex()
         self._names = count(1)
         self._round = 0
@@ -139,9 +142,9 @@ class FarmTraining:
 
     def _most_bytes(self, records: int, iterations: int) -> int:
         """The most bytes that so many iterations may make behind so many records, by formula 3."""
-        job = self._job
-        paths = (records + iterations) * job.paths
-        return iterations * (5 + job.paths * (10 + sum(it.bytes(paths) for it in job.shape.extent.nodes))) + 1
+        paths = self._job.paths
+        least, more = self._bytes
+        return iterations * (5 + paths * (10 + least + more * (records + iterations) * paths)) + 1
 
     def _take(self, current: Round, came: Came) -> None:
         """Takes what came of a part, where it has the right form."""

@@ -12,6 +12,7 @@ from typing import Any, Dict, List, Mapping, Optional, Sequence, Union
 
 from ..errors import ProgramMissing
 from .joined import PartFault
+from .early import BEGUN
 from .journals import JOURNAL_REFUSED, unframed
 from .kept import KeptJournal
 from .living import MOST_JOINED, MOST_LINE, Living, ProcessFault
@@ -35,7 +36,7 @@ class Worker:
 
     def ready(self, program: Path, problem: bytes, paths: int) -> Living:
         """Begins a process before the first order, which it will be there for if it is of this program and this problem."""
-        self._spare = Living(program, problem, paths)
+        self._spare = Living(program, problem, paths, BEGUN.worker(program, problem, paths))
         return self._spare
 
     def perform(self, order: Order) -> bytes:
@@ -75,18 +76,19 @@ class Worker:
         program = _living_program(order)
         if program is None:
             return KeptJournal(order)
-        living = self._begun_for(program, order["problem"], order["batch"] or 1)
+        living = self._begun_for(program, order)
         if order["whole"]:
             living.join([unframed(order["whole"][1:], MOST_ITERATIONS)])
         return living
 
-    def _begun_for(self, program: Path, problem: bytes, paths: int) -> Living:
-        """A process that has no order yet: the one that was begun before, else a new one."""
+    def _begun_for(self, program: Path, order: Order) -> Living:
+        """A process that has no other order yet: the one that was begun before, else a new one."""
         spare, self._spare = self._spare, None
-        if spare is not None and spare.is_of == (program, problem, paths):
+        wanted = (program, order["problem"], order["batch"] or 1)
+        if spare is not None and spare.is_of == wanted and spare.may_begin(order["seed"], _count(order), bool(order["whole"])):
             return spare
         _end(spare)
-        return Living(program, problem, paths)
+        return Living(*wanted)
 
     def look(self, order: Order) -> Optional[bytes]:
         """The answer to an order that was begun, once it is there."""
@@ -213,7 +215,12 @@ def _give(kept: Living, order: Order) -> None:
     if order["parts"]:
         kept.join(_parts(kept, order))
     kept.name = order["name"]
-    kept.train(order["seed"], order["count"] - order["records"], order["most"], order["seconds"])
+    kept.train(order["seed"], _count(order), order["most"], order["seconds"])
+
+
+def _count(order: Order) -> int:
+    """The iterations that an order asks for."""
+    return int(order["count"] - order["records"])
 
 
 def _by_program(kept: KeptJournal, order: Order, program: Path) -> bytes:
