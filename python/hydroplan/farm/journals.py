@@ -153,17 +153,31 @@ class Growing:
         Whoever reads the journal meanwhile finds its end before them, or goes on to the last of them.
         """
         pieces = [piece for payload in records for piece in (b"\x01", framed(payload))]
-        if not pieces:
-            return
+        if pieces:
+            self._put(b"".join(pieces[1:]), len(pieces) // 2)
+
+    def _put(self, tail: bytes, records: int) -> None:
+        """Puts so many records behind those that are there, whose commit bytes stand between them."""
         if os.fstat(self._file.fileno()).st_size > self.end + 1:
             os.ftruncate(self._file.fileno(), self.end + 1)
-        data = b"".join([b"\x00", *pieces[1:], b"\x00"])
+        data = b"".join([b"\x00", tail, b"\x00"])
         self._write(data, self.end)
         self._sync()
         self._write(b"\x01", self.end)
         self._sync()
-        self.records += len(pieces) // 2
+        self.records += records
         self.end += len(data) - 1
+
+    def append_from(self, other: Growing, begin: int, end: int, records: int) -> None:
+        """As `append`, of so many records that stand in another journal from one commit byte to another."""
+        if records:
+            with opened(other.path) as file:
+                file.seek(begin + 1)
+                self._put(file.read(end - begin - 1), records)
+
+    def file(self) -> int:
+        """The descriptor of the file."""
+        return self._file.fileno()
 
     def cut(self, records: int, end: int) -> None:
         """Takes back what was appended behind an earlier end."""

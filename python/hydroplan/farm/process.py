@@ -63,10 +63,7 @@ class Process:
         try:
             for pipe in (self.input, self.output):
                 os.set_blocking(pipe, False)
-                try:
-                    fcntl.fcntl(pipe, SET_PIPE_SIZE, PIPE_BYTES)
-                except OSError:
-                    pass  # smaller pipes serve too
+                widen(pipe)
             self._spawn(words, read, written)
         except OSError:
             self.close()
@@ -127,6 +124,14 @@ class Process:
         for pipe in pipes:
             if pipe >= 0:
                 os.close(pipe)
+
+
+def widen(pipe: int) -> None:
+    """Has a pipe take more, where the system allows for that."""
+    try:
+        fcntl.fcntl(pipe, SET_PIPE_SIZE, PIPE_BYTES)
+    except OSError:
+        pass
 
 
 def _above(file: int) -> int:

@@ -13,7 +13,8 @@ from typing import Callable, Dict, List, NamedTuple, Optional, Tuple
 
 from .checking import Checking, Verdict
 from .errors import FarmError
-from .joined import Front, PartFault, in_turns, moved_round
+from .joined import Front, PartFault, in_turns
+from .joiner import Joiner
 from .journals import Growing
 from .shape import Shape
 
@@ -65,17 +66,14 @@ class Round:
         return [self.answers[it] for it in range(len(self.counts))]
 
 
-class Joined(NamedTuple):
-    """A round that was joined: the front before it, and its records as they are behind that."""
+class Joined:
+    """A round that is joined behind so many records: where it begins and ends in the copy, once it stands there."""
 
-    round: Round
-    front: Front
-    records: List[bytes]
-
-    @property
-    def end(self) -> int:
+    def __init__(self, current: Round, before: int) -> None:
+        self.round, self.before = current, before
+        self.end = before + sum(current.counts)
         """The records up to its last one."""
-        return self.front.records + len(self.records)
+        self.place: Optional[Tuple[int, int]] = None
 
 
 class Overturned(Exception):
@@ -120,9 +118,12 @@ class Proving:
 
     def __init__(self, job: Job, front: Front, journal: Growing, scratch: Growing) -> None:
         self._job = job
-        self._front = front
+        self._front: Optional[Front] = front
         self._journal = journal
         self._scratch = scratch
+        self._records, self._end = front.records, front.end
+        """The records with all rounds, and where those end that stand in the copy."""
+        self._joiner: Optional[Joiner] = None
         self._joined: List[Joined] = []
         self._checking: Optional[Checking] = None
         self._next_check = 0.0
@@ -136,24 +137,36 @@ class Proving:
         """Called with each round that was put into the journal."""
 
     def join(self, current: Round) -> None:
-        """Joins a round behind the others. Overturned where a part has what is no record."""
-        begun = time.thread_time()
-        try:
-            records, after = moved_round(self._job.shape, self._front, current.parts(), self._job.paths)
-        except PartFault as fault:
-            raise Overturned(current, fault.part, str(fault)) from None
-        self._joined.append(Joined(current, self._front, records))
-        self._front = after
-        self._scratch.append(records)
-        self._pace.add(after.records)
-        self.spent.joining += time.thread_time() - begun
+        """Has a round joined behind the others. Where a part has what is no record, that comes out later."""
+        if self._joiner is None:
+            self._joiner, self._front = Joiner(self._job.shape, self._front, self._scratch, self._job.paths), None
+        self._joined.append(Joined(current, self._records))
+        self._records += sum(current.counts)
+        self._joiner.give(current.parts())
 
     def look(self) -> None:
         """Takes what a check says that is over, and begins another one where it is time. Overturned where a round was refused."""
+        self._hear()
         if self._checking is not None and self._checking.is_over():
             self._take_verdict()
-        if self._checking is None and self._joined and self._is_time():
+        if self._checking is None and self._joined and self._joined[0].place is not None and self._is_time():
             self._begin_check(is_waited_for=self._is_time_for_the_last())
+
+    def _hear(self, records: int = 0) -> None:
+        """Takes what was said of rounds that are joined; waits for those up to so many records. Overturned where a part has what is no record."""
+        while self._joiner is not None:
+            for said in self._joiner.come():
+                at = next(at for at, it in enumerate(self._joined) if it.place is None)
+                if isinstance(said, PartFault):
+                    refused = self._joined[at].round
+                    self._take_back(at)
+                    raise Overturned(refused, said.part, str(said))
+                self._joined[at].place, self._end = (self._end, said.end), said.end
+                self._pace.add(said.records)
+                self.spent.joining += said.seconds
+            if all(it.place is not None for it in self._joined if it.end <= records):
+                return
+            self._joiner.wait()
 
     def _is_time(self) -> bool:
         """Whether a check is to begin: the last one, or one that ends long before that has to begin."""
@@ -167,22 +180,27 @@ class Proving:
 
     def settle(self) -> None:
         """Waits until all that was joined is proved. Overturned where a round was refused."""
+        self._hear(self._records)
         while self._joined:
             if self._checking is None:
                 self._begin_check(is_waited_for=True)
             self._take_verdict()
 
     def whole(self) -> bytes:
-        """All records with the commit byte before each."""
+        """All records with the commit byte before each. Overturned where a round was refused."""
+        self._hear(self._records)
         with self._scratch.path.open("rb") as file:
             file.seek(len(self._scratch.head().bytes()))
-            return file.read(self._scratch.end - file.tell())
+            return file.read(self._end - file.tell())
 
     def stop(self) -> None:
-        """Ends a check that goes on."""
+        """Ends a check that goes on, and joins no more."""
         if self._checking is not None:
             self._checking.end()
             self._checking = None
+        if self._joiner is not None:
+            self._joiner.end()
+            self._joiner = None
 
     def _begin_check(self, is_waited_for: bool) -> None:
         """Begins a check of all that was joined, and of what is joined before it comes to the end."""
@@ -199,13 +217,20 @@ class Proving:
         if verdict.refused is not None:
             self._overturn(verdict.refused, verdict.line.replace("hydroplan: ", "", 1))
         self._expect(checking.seconds, verdict.records)
+        self._hear(verdict.records)
         proved = [it for it in self._joined if it.end <= verdict.records]
         self._joined, self.verdict = self._joined[len(proved):], verdict
-        self._journal.append(record for it in proved for record in it.records)
+        self._put(proved)
         for it in proved:
             self.settled(it.round)
         if proved:
             self.proved(proved[-1].round, self._journal.records, verdict)
+
+    def _put(self, proved: List[Joined]) -> None:
+        """Puts rounds into the journal, from the copy."""
+        places = [it.place for it in proved if it.place is not None]
+        if places:
+            self._journal.append_from(self._scratch, places[0][0], places[-1][1], proved[-1].end - proved[0].before)
 
     def _expect(self, seconds: float, records: int) -> None:
         """Reckons how long a check of all records takes: the least that one took, and the rest of this one in proportion."""
@@ -214,11 +239,22 @@ class Proving:
 
     def _overturn(self, number: int, line: str) -> None:
         """Takes back the round of the record that `check` refused, and all behind it."""
-        at = next((at for at, it in enumerate(self._joined) if it.front.records < number <= it.end), None)
+        self._hear(number)
+        at = next((at for at, it in enumerate(self._joined) if it.before < number <= it.end), None)
         if at is None:
             raise FarmError(f"the journal itself was refused: {line}", 6)
-        refused, self._joined = self._joined[at], self._joined[:at]
-        self._front, self._pace = refused.front, Pace(refused.front.records)
-        self._scratch.cut(refused.front.records, refused.front.end)
-        part = in_turns(refused.round.counts)[number - refused.front.records - 1][1]
+        refused = self._joined[at]
+        self._take_back(at)
+        part = in_turns(refused.round.counts)[number - refused.before - 1][1]
         raise Overturned(refused.round, part, f"`check` says: {line}")
+
+    def _take_back(self, at: int) -> None:
+        """Drops a round and all behind it. What joins those that come instead looks at the records before them."""
+        dropped = self._joined[at]
+        if self._joiner is not None:
+            self._joiner.end()
+            self._joiner = None
+        self._records, self._end = dropped.before, self._end if dropped.place is None else dropped.place[0]
+        self._pace = Pace(dropped.before)
+        self._scratch.cut(dropped.before, self._end)
+        del self._joined[at:]
