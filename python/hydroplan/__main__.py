@@ -17,7 +17,7 @@ TOOLS = {"convert": "convert_command", "explain": "explain_command", "plot": "pl
 OF_THE_SCRIPT = {"before-training": "before_training", "too-much": "too_much", "wrong-words": "wrong_words"}
 # the packages that are run as `python3 -m` runs them, with the words behind the command's name
 PACKAGES = {"study": "study", "report": "report", "export": "export"}
-# what the package `farm` does, whose function `main` takes all of the words
+# what the package `farm` does with all of the words
 OF_THE_FARM = ("join", "train", "simulate")
 # the libraries without which a command ends
 LIBRARIES = {
@@ -97,18 +97,9 @@ def _main_of(module: str) -> Callable[..., int]:
 
 
 def _farm(words: Sequence[str]) -> int:
-    """What a command of the farm does. What it imports is there to its end, so nothing of that is looked through for what may go."""
-    import gc
-
-    gc.disable()
-    from .farm.early import BEGUN
-
-    BEGUN.begin(list(words))
-    from .farm.command import main as found
-
-    gc.freeze()
-    gc.enable()
-    return found(list(words))
+    sys.argv = ["farm", *words]
+    found: int = import_module("hydroplan.farm.__main__").main()
+    return found
 
 
 def _leave(status: int) -> None:

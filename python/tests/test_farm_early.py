@@ -14,10 +14,12 @@ from unittest import mock
 from cluster_support import environment
 from farm_support import PROGRAM, Folder, PlainEngine, example, farmed, trained
 
-from hydroplan.farm import early
+from hydroplan.farm import command, early
 from hydroplan.farm.early import BEGUN, Begun
+from hydroplan.farm.living import MOST_JOINED
 from hydroplan.farm.local_engine import LocalEngine
 from hydroplan.farm.program import KEPT_WORKER, NEWER, NEWER_WORKER, WORKER_VARIABLE
+from hydroplan.farm.shape import MOST_ITERATIONS, MOST_PATHS
 from hydroplan.farm.train_command import Words, train
 from hydroplan.repository import TOP
 
@@ -40,6 +42,16 @@ class Plain(unittest.TestCase):
         ):
             with self.subTest(words):
                 self.assertEqual(early._plain(words.split()), wanted)
+
+    def test_limits(self) -> None:
+        """They are those of whoever reads the words."""
+        self.assertEqual(early.MOST, {
+            "seed": command.MOST_SEED, "count": MOST_ITERATIONS, "batch": MOST_PATHS, "--workers": MOST_JOINED, "--timeout": 1_000_000,
+        })
+        self.assertEqual(early.MOST_PROBLEM, command.MOST_PROBLEM)
+        for name, most in (("SEED", "seed"), ("COUNT", "count"), ("BATCH", "batch")):
+            given = {"SEED": "7", "COUNT": "1", "BATCH": "1", name: str(early.MOST[most])}
+            command.parser().parse_args(["train", "j", *given.values(), "--workers", "64", "--timeout", str(early.MOST["--timeout"])])
 
     def test_places(self) -> None:
         """They are those that `built_program` and `built_worker` look at."""

@@ -2,7 +2,7 @@
 from __future__ import annotations
 
 import time
-from contextlib import closing, contextmanager, suppress
+from contextlib import closing, contextmanager
 from functools import cached_property
 from pathlib import Path
 from typing import Callable, Iterator, List, Optional, Union
@@ -117,11 +117,17 @@ def _room_beside(journal: Path) -> Iterator[Path]:
 
 
 def _remove(room: Path) -> None:
-    """Removes a folder of files, as far as that can be."""
-    with suppress(OSError):
+    """Removes a folder with what is in it, as far as that can be."""
+    try:
         for file in room.iterdir():
             file.unlink()
         room.rmdir()
+    except FileNotFoundError:
+        pass
+    except OSError:
+        import shutil  # takes a while, and is of use where somebody else put something there
+
+        shutil.rmtree(room, ignore_errors=True)
 
 
 def _copy(journal: Path, copy: Path) -> None:
