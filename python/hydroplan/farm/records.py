@@ -97,53 +97,47 @@ class Mover:
 
     def _step(self, made: bytearray, at: int, node: NodeShape) -> int:
         """Moves the pairs of a step; the byte behind it."""
-        begin = at
+        successors, same, begin = node.successors, self._same, at
         for lists in node.lists:
             if at + lists.bytes > len(made):
                 raise RecordFault("the record ends within a certificate", begin)
-            if node.successors:
-                at = self._pairs_of(made, at, node.successors, lists)
+            if lists.lengths(made, at) != lists.of_one:
+                at = self._by_heads(made, at, successors, lists)
+            else:
+                for successor, places, offsets in zip(successors, lists.places, lists.offsets):
+                    own = places(made, at)
+                    if max(own) >= same[successor]:
+                        self._move(made, at, successor, own, offsets)
             at += lists.bytes
         return at
 
-    def _pairs_of(self, made: bytearray, at: int, successors: Sequence[int], lists: Lists) -> int:
-        """Moves the pairs of some lists; where these would begin if each had one pair and they ended where they do."""
-        heads, count, same, moving = lists.heads(made, at), len(successors), self._same, []
-        for first, successor in enumerate(successors):
-            greatest = max(heads[first::count])
-            if greatest >= TWO_PAIRS:
-                return self._by_heads(made, at, successors, lists, heads)
-            if greatest >= ONE_PAIR + same[successor]:
-                moving.append(first)
-        if min(heads) < ONE_PAIR:
-            raise RecordFault("a list without pairs", at)
-        for first in moving:
-            self._move(made, at, successors[first], heads[first::count], lists.offsets[first::count])
-        return at
+    def _move(self, made: bytearray, at: int, successor: int, places: Sequence[int], offsets: range) -> None:
+        """Moves these places of cuts of a successor, which stand at these offsets."""
+        same, moved, write = self._same[successor], self._moved.get(successor, ()), NUMBER.pack_into
+        for place, offset in zip(places, offsets):
+            if place >= same:
+                if place - same >= len(moved):
+                    self._refuse(at + offset, successor, place - same)
+                write(made, at + offset, moved[place - same])
 
-    def _move(self, made: bytearray, at: int, successor: int, heads: Sequence[int], offsets: Sequence[int]) -> None:
-        """Moves the places of cuts of a successor, which stand at these offsets behind a length of one pair."""
-        first, moved, write = ONE_PAIR + self._same[successor], self._moved.get(successor, ()), NUMBER.pack_into
-        for head, offset in zip(heads, offsets):
-            if head >= first:
-                if head - first >= len(moved):
-                    self._refuse(at + offset, successor, head - first)
-                write(made, at + offset, moved[head - first])
+    def _by_heads(self, made: bytearray, at: int, successors: Sequence[int], lists: Lists) -> int:
+        """Moves the pairs of lists of which some have several; where they would begin if each had one and they ended where they do.
 
-    def _by_heads(self, made: bytearray, at: int, successors: Sequence[int], lists: Lists, heads: Sequence[int]) -> int:
-        """As `_pairs_of`, where some lists have several pairs: behind each of these the heads are read again, from where they stand then."""
+        Behind a list of several the heads are read again, from where they stand if all that follow have one pair.
+        """
+        heads, count = lists.heads(made, at), len(successors)
         limits = [min(ONE_PAIR + self._same[it], TWO_PAIRS) for it in successors] * lists.realizations
-        for index, offset in enumerate(lists.offsets):
+        for index in range(len(limits)):
             head = heads[index]
             if ONE_PAIR <= head < limits[index]:
                 continue
-            begin, pairs = at + offset, head >> 32
+            pairs, begin = head >> 32, at + lists.offsets[index % count][index // count]
             further = (pairs - 1) * PAIR_BYTES
             if at + further + lists.bytes > len(made):
                 raise RecordFault("the record ends within a certificate", at)
             if further < 0:
                 raise RecordFault("a list without pairs", begin)
-            self._pairs(made, begin, begin + pairs * PAIR_BYTES, successors[index % len(successors)])
+            self._pairs(made, begin, begin + pairs * PAIR_BYTES, successors[index % count])
             if further:
                 at += further
                 heads = lists.heads(made, at)
