@@ -4,6 +4,7 @@ The process is the one that HYDROPLAN_WORKER names, else the `hydroplan_worker` 
 """
 from __future__ import annotations
 
+import gc
 import os
 import random
 import signal
@@ -227,6 +228,18 @@ class OfOneMachine(Folder):
                 said = running.stderr.read()
         self.assertEqual(running.returncode, 0, said)
         self.assertEqual((self.room / "journal").read_bytes(), self.honest[None])
+
+
+class Dropped(unittest.TestCase):
+    def test_ends_with_its_input(self) -> None:
+        """A process that nobody ended ends where nobody knows of it any more, and its pipes are closed."""
+        begun = Living(LIVING, example(NAME), 1)
+        pid, pipes = begun._process.pid, (begun._process.input, begun._process.output)
+        del begun
+        gc.collect()
+        self.assertEqual(os.waitpid(pid, 0)[0], pid)
+        for pipe in pipes:
+            self.assertRaises(OSError, os.fstat, pipe)
 
 
 class Pieces(unittest.TestCase):

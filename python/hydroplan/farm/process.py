@@ -117,6 +117,13 @@ class Process:
         self.wait()
         self.close()
 
+    def __del__(self) -> None:
+        """Closes the files of one that nobody ended: it ends with its input."""
+        try:
+            self.close()
+        except (AttributeError, TypeError, OSError):
+            pass  # it never began, or Python itself is at its end
+
     def close(self) -> None:
         """Closes its files."""
         self._errors.close()
