@@ -1,4 +1,4 @@
-"""What the coordinator does with rounds beside training: it joins them, has `check` go over them, and puts them into the journal.
+"""What the coordinator does with rounds beside training: it has them joined, has `check` go over them, and puts them into the journal.
 
 A check goes over all records from the first on. So it waits until the workers have trained much longer than the last one took, and then goes
 over all rounds that came meanwhile, and over those that come while it is at that. The last one begins shortly before the last round is there.

@@ -9,7 +9,7 @@ from struct import Struct
 from typing import Dict, List, NoReturn, Sequence
 
 from .errors import RecordFault
-from .lists import MULTIPLIER_BYTES, ONE_PAIR, PAIR_BYTES, TWO_PAIRS, Lists
+from .lists import ONE_PAIR, PAIR_BYTES, TWO_PAIRS, Lists
 from .shape import NodeShape, Shape
 
 HEAD = Struct(">IIH")
