@@ -9,14 +9,16 @@ import time
 from collections import deque
 from math import inf
 from pathlib import Path
-from typing import Callable, Dict, List, NamedTuple, Optional, Tuple
+from typing import Callable, Dict, List, NamedTuple, Optional, Tuple, Union
 
 from .checking import Checking, Verdict
 from .errors import FarmError
 from .joined import Front, PartFault, in_turns
-from .joiner import Joiner
+from .joiner import Ended, Joiner
 from .journals import Growing
+from .living import MOST_JOINED
 from .shape import Shape
+from .worker_joiner import Gone, WorkerJoiner
 
 TRAINED_FOR_A_CHECK = 20.0
 """The workers train so many times as long as a check takes before the next one begins."""
@@ -123,7 +125,7 @@ class Proving:
         self._scratch = scratch
         self._records, self._end = front.records, front.end
         """The records with all rounds, and where those end that stand in the copy."""
-        self._joiner: Optional[Joiner] = None
+        self._joiner: Optional[Union[Joiner, WorkerJoiner]] = None
         self._joined: List[Joined] = []
         self._checking: Optional[Checking] = None
         self._next_check = 0.0
@@ -139,10 +141,17 @@ class Proving:
     def join(self, current: Round) -> None:
         """Has a round joined behind the others. Where a part has what is no record, that comes out later."""
         if self._joiner is None:
-            self._joiner, self._front = Joiner(self._job.shape, self._front, self._scratch, self._job.paths), None
+            self._joiner, self._front = self._begun(len(current.counts)), None
         self._joined.append(Joined(current, self._records))
         self._records += sum(current.counts)
         self._joiner.give(current.parts())
+
+    def _begun(self, parts: int) -> Union[Joiner, WorkerJoiner]:
+        """What joins rounds of so many parts: a process of the living worker's program, where it takes so many."""
+        job = self._job
+        if job.living is not None and parts <= MOST_JOINED:
+            return WorkerJoiner(job.living, job.problem, self._scratch, job.paths)
+        return Joiner(job.shape, self._front, self._scratch, job.paths)
 
     def look(self) -> None:
         """Takes what a check says that is over, and begins another one where it is time. Overturned where a round was refused."""
@@ -155,7 +164,7 @@ class Proving:
     def _hear(self, records: int = 0) -> None:
         """Takes what was said of rounds that are joined; waits for those up to so many records. Overturned where a part has what is no record."""
         while self._joiner is not None:
-            for said in self._joiner.come():
+            for said in self._come(self._joiner):
                 at = next(at for at, it in enumerate(self._joined) if it.place is None)
                 if isinstance(said, PartFault):
                     refused = self._joined[at].round
@@ -167,6 +176,19 @@ class Proving:
             if all(it.place is not None for it in self._joined if it.end <= records):
                 return
             self._joiner.wait()
+
+    def _come(self, joiner: Union[Joiner, WorkerJoiner]) -> List[Union[Ended, PartFault]]:
+        """What was said since. Where the worker's process is gone, Python joins what that did not tell."""
+        found: List[Union[Ended, PartFault]] = []
+        try:
+            for said in joiner.come():
+                found.append(said)
+        except Gone:
+            joiner.end()
+            self._joiner = Joiner(self._job.shape, None, self._scratch, self._job.paths)
+            for it in [it for it in self._joined if it.place is None][len(found):]:
+                self._joiner.give(it.round.parts())
+        return found
 
     def _is_time(self) -> bool:
         """Whether a check is to begin: the last one, or one that ends long before that has to begin."""
