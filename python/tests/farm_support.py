@@ -9,7 +9,7 @@ import tempfile
 import unittest
 from functools import lru_cache
 from pathlib import Path
-from typing import Callable, Dict, Iterable, List, Optional, Tuple
+from typing import Callable, Dict, Iterable, List, Optional, Sequence, Tuple
 
 from model_support import TOP
 
@@ -122,6 +122,9 @@ class PlainEngine:
 
     def workers(self) -> Dict[str, str]:
         return {f"at-{name}": name for name in self.names}
+
+    def ahead(self, run: str, name: str, parts: Sequence[Sequence[bytes]], count: int) -> None:
+        """These workers take records with their orders alone."""
 
     def ready(self, problem: bytes, paths: int) -> None:
         pass

@@ -148,6 +148,29 @@ class OfOneMachine(Folder):
             farmed(example(NAME), other, PlainEngine("a"), 9, 2)
         self.assertEqual(journal.read_bytes(), other.read_bytes())
 
+    def answered(self, seed: int, *parts: List[bytes], ahead: int = 0) -> List[bytes]:
+        """What a process answers that joins these parts, so many of which it is handed before the order."""
+        living = Living(LIVING, example(NAME), 1)
+        self.addCleanup(living.end)
+        living.ahead(parts[:ahead], len(parts))
+        self.assertTrue(living.may_join(parts))
+        for others in ([[b"another"], *parts[1:]], parts[:-1]):
+            self.assertEqual(living.may_join(others), not ahead)
+        if parts:
+            living.join(parts)
+        living.train(seed, 1, 1 << 20, 60)
+        found = living.answer()
+        while found is None:
+            living.wait(1)
+            found = living.answer()
+        return found
+
+    def test_records_that_are_handed_over_before_the_order(self) -> None:
+        """They are the front of the order, which brings the others, and of no other order."""
+        parts = [self.answered(seed) for seed in (7, 8, 9)]
+        for ahead in (1, 2, 3):
+            self.assertEqual(self.answered(10, *parts, ahead=ahead), self.answered(10, *parts))
+
     def test_without_such_a_program(self) -> None:
         """Its orders are done by runs of the built program, each in a thread."""
         self.living("")

@@ -84,6 +84,10 @@ class Asking:
             self._given[part] = Given(address, there[address], order["order"], call, begun, order["most"], is_whole)
         self._require_workers()
 
+    def ahead(self, run: str, name: str, parts: Sequence[Sequence[bytes]], count: int) -> None:
+        """Tells workers of the first of so many parts of a round, whose records their next orders will bring."""
+        self._engine.ahead(run, name, parts, count)
+
     def _is_free(self, address: str, name: str) -> bool:
         late = self._late.get(address)
         if late is not None and late.state() == RUNNING:

@@ -8,7 +8,7 @@ import importlib
 import time
 import warnings
 from contextlib import suppress
-from typing import Any, Callable, Dict, Iterable, Optional, Protocol
+from typing import Any, Callable, Dict, Iterable, Optional, Protocol, Sequence
 
 from .errors import FarmError, WorkerFault, WorkerLeft
 from .work import Order, answer, forget
@@ -41,6 +41,9 @@ class Engine(Protocol):
 
     def ready(self, problem: bytes, paths: int) -> None:
         """Is told of what problem the first orders will be, and of how many paths an iteration, so that workers may begin to read it."""
+
+    def ahead(self, run: str, name: str, parts: Sequence[Sequence[bytes]], count: int) -> None:
+        """Is told of the records of the first parts of a round, of so many in all, which orders behind it will bring: workers may take them before."""
 
     def begin(self, address: str, order: Order) -> Call:
         """Gives an order to a worker."""
@@ -162,6 +165,9 @@ class DaskEngine:
 
     def ready(self, problem: bytes, paths: int) -> None:
         """As `Engine.ready`. Workers elsewhere are told by their first order."""
+
+    def ahead(self, run: str, name: str, parts: Sequence[Sequence[bytes]], count: int) -> None:
+        """As `Engine.ahead`. Workers elsewhere are told by their next order."""
 
     def begin(self, address: str, order: Order) -> Call:
         """As `Engine.begin`."""

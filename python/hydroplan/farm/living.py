@@ -34,14 +34,22 @@ class ProcessFault(HydroplanError):
         """Whether somebody else ended it."""
 
 
-def joining(parts: Sequence[Sequence[bytes]]) -> List[Piece]:
-    """The order that joins the records of so many parts, in pieces."""
-    pieces: List[Piece] = [b"J" + len(parts).to_bytes(2, "big")]
-    for records in parts:
-        pieces.append(len(records).to_bytes(4, "big"))
-        for payload in records:
-            pieces += (len(payload).to_bytes(4, "big"), payload)
+def front_of_joining(count: int) -> Piece:
+    """The front of the order that joins the records of so many parts."""
+    return b"J" + count.to_bytes(2, "big")
+
+
+def framed_part(records: Sequence[bytes]) -> List[Piece]:
+    """The records of a part in such an order, in pieces."""
+    pieces: List[Piece] = [len(records).to_bytes(4, "big")]
+    for payload in records:
+        pieces += (len(payload).to_bytes(4, "big"), payload)
     return pieces
+
+
+def joining(parts: Sequence[Sequence[bytes]]) -> List[Piece]:
+    """The order that joins the records of parts, in pieces."""
+    return [front_of_joining(len(parts)), *(piece for records in parts for piece in framed_part(records))]
 
 
 def behind(pieces: List[Piece], written: int) -> List[Piece]:
@@ -64,6 +72,10 @@ class Living:
         """The program, the problem, and the paths of an iteration."""
         self.name, self.own_name = "", ""
         self.own: List[bytes] = []
+        self._ahead: List[Sequence[bytes]] = []
+        """The parts of the next round to join that were written before its order."""
+        self._ahead_of = 0
+        """How many parts that round has."""
         self.is_second = False
         """Whether it is there in the place of one that was killed at the same order."""
         self._process = Process(command(program, [])) if early is None else early.process
@@ -84,9 +96,24 @@ class Living:
             poll.poll(max(0, until - time.monotonic()) * 1000)
             self._write()
 
+    def ahead(self, parts: Sequence[Sequence[bytes]], count: int) -> None:
+        """Writes the first of so many parts that it will be asked to join next, as far as they are there. It joins them once its answer is out."""
+        if not self._ahead and parts:
+            self._left.append(front_of_joining(count))
+        for records in parts[len(self._ahead):]:
+            self._left += framed_part(records)
+            self._ahead.append(records)
+        self._ahead_of = count
+        self._write()
+
+    def may_join(self, parts: Sequence[Sequence[bytes]]) -> bool:
+        """Whether these are what was written ahead, with the rest of the parts."""
+        return not self._ahead or (len(parts) == self._ahead_of and all(mine == its for mine, its in zip(self._ahead, parts)))
+
     def join(self, parts: Sequence[Sequence[bytes]]) -> None:
-        """Has it join the records of parts, when it is next asked to train."""
-        self._left += joining(parts)
+        """Has it join the records of parts, when it is next asked to train: those that were not written ahead."""
+        self.ahead(parts, len(parts))
+        self._ahead = []
 
     def train(self, seed: int, count: int, most: int, seconds: float) -> None:
         """Begins to train so many iterations, whose records have so many bytes at most."""

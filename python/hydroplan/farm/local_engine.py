@@ -10,7 +10,7 @@ import select
 import threading
 import time
 from pathlib import Path
-from typing import Callable, Dict, Iterable, Optional
+from typing import Callable, Dict, Iterable, Optional, Sequence
 
 from .engine import DONE, RUNNING, Call
 from .errors import WorkerFault
@@ -81,6 +81,11 @@ class LocalEngine:
             until = time.monotonic() + MOST_FEEDING
             for living in begun:
                 living.feed(until)
+
+    def ahead(self, run: str, name: str, parts: Sequence[Sequence[bytes]], count: int) -> None:
+        """As `Engine.ahead`."""
+        for worker in self._workers.values():
+            worker.ahead(run, name, parts, count)
 
     def begin(self, address: str, order: Order) -> Call:
         """As `Engine.begin`."""

@@ -63,6 +63,10 @@ class Round:
         """The parts that nobody answered yet."""
         return [it for it in range(len(self.counts)) if it not in self.answers]
 
+    def first_parts(self) -> List[List[bytes]]:
+        """The records of the first parts, up to one that nobody answered yet."""
+        return [self.answers[it] for it in range(min(self.missing(), default=len(self.counts)))]
+
     def parts(self) -> List[List[bytes]]:
         """The records of all parts."""
         return [self.answers[it] for it in range(len(self.counts))]

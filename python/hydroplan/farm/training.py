@@ -173,6 +173,13 @@ class FarmTraining:
         current.answers[came.part] = found
         current.owners[came.part] = Owner(came.address, came.name, came.order, came.seconds / wanted)
         self._known[came.address] = (current.name, came.order)
+        self._tell_ahead(current)
+
+    def _tell_ahead(self, current: Round) -> None:
+        """Tells workers of the first parts of a round that are there, unless it is the last one."""
+        parts = current.first_parts()
+        if parts and current.records + sum(current.counts) < self._job.count:
+            self._asking.ahead(self._job.run, current.name, parts, len(current.counts))
 
     def _take_failure(self, current: Round, came: Came, said: bytes) -> None:
         """Does a part itself where a worker says that the program fails on it: nobody is believed that a problem has no solution.
