@@ -1,7 +1,7 @@
 """Processes that begin before most modules are there, since Python takes longer to read these than the processes take to begin.
 
-That is so only where the words plainly ask for the training of a new journal on this machine, by the programs in `bin`. Whoever comes later
-takes the processes by what they are of; those that nobody takes are ended.
+They begin early where the words plainly ask for the training of a new journal on this machine, by the programs in `bin`. Whoever comes later
+takes those of the same program, problem and paths. The others are ended.
 """
 from __future__ import annotations
 
